@@ -1,0 +1,4 @@
+pub mod Tables
+pub mod Refusals
+pub mod Word
+pub mod Plan

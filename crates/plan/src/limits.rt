@@ -1,0 +1,162 @@
+// Tests 2 to 7: a header's counts, and the limits of a plan.
+use crate::header::Header;
+use crate::Entry;
+use crate::Plan;
+ghost use mathlib.Core.Path.{_≡_};
+ghost use mathlib.Core.Bool.{not};
+ghost use Prim.Native.Nat.{_+_, _*_, _≤_, _<_};
+ghost use lib.ListN.{getD};
+ghost use Rattle.model.specs.Tables.{any, sum};
+ghost use Rattle.model.specs.Refusals.{condition, firstOf};
+ghost use Rattle.model.specs.Plan.{entryFits, samePair, countTest, frameTest, limitTests};
+ghost use Rattle.plan.specs.Reading.{headerFor, entryFor, noEntry, planFor};
+
+// Test 2: n out of range, offset not 12, or length not 12 + 4n.
+pub fn miscounts(h: Header) -> bool
+    ensures { λ r. ⌜ r ≡ condition (countTest (headerFor h)) ⌝ }
+{
+    if h.count < 1 || 16 < h.count {
+        return true;
+    }
+    h.offset != 12 || h.total != 12 + 4 * h.count
+}
+
+// Test 3: F, W or N out of range, or T above 256.
+fn misframes(slots: usize, frames: usize, buffer: usize) -> bool
+    ensures { λ r. ⌜ r ≡ condition (frameTest slots frames buffer) ⌝ }
+{
+    if slots < 1 || 64 < slots {
+        return true;
+    }
+    if frames < 2 || 8 < frames {
+        return true;
+    }
+    if buffer < 1 || 4095 < buffer {
+        return true;
+    }
+    256 < slots * frames
+}
+
+// Whether an entry keeps its limits in frames of so many slots.
+fn fits(e: Entry, slots: usize) -> bool
+    ensures { λ r. ⌜ r ≡ entryFits slots (entryFor e) ⌝ }
+{
+    if e.share < 1 || slots < e.share as usize {
+        return false;
+    }
+    if e.cells < 1 {
+        return false;
+    }
+    if 63 < e.source || 63 < e.destination {
+        return false;
+    }
+    e.source != e.destination
+}
+
+// Test 4: some entry breaks its limits.
+fn misfits(entries: [Entry; 16], count: usize, slots: usize) -> bool
+    requires { ⌜ count ≤ 16 ⌝ }
+    ensures { λ r. ⌜ r ≡ any count (λ i. not (entryFits slots (entryFor (getD entries i noEntry)))) ⌝ }
+{
+    let mut i = 0;
+    while i < count {
+        let e = entries[i];
+        if !fits(e, slots) {
+            return true;
+        }
+        i += 1;
+    }
+    false
+}
+
+fn same_pair(a: Entry, b: Entry) -> bool
+    ensures { λ r. ⌜ r ≡ samePair (entryFor a) (entryFor b) ⌝ }
+{
+    a.source == b.source && a.destination == b.destination
+}
+
+// Whether an entry before entry i has the same source and destination.
+fn repeats(entries: [Entry; 16], i: usize) -> bool
+    requires { ⌜ i < 16 ⌝ }
+    ensures { λ r. ⌜ r ≡ any i (λ j. samePair (entryFor (getD entries j noEntry)) (entryFor (getD entries i noEntry))) ⌝ }
+{
+    let e = entries[i];
+    let mut j = 0;
+    while j < i {
+        let d = entries[j];
+        if same_pair(d, e) {
+            return true;
+        }
+        j += 1;
+    }
+    false
+}
+
+// Test 5: two entries with equal source and destination.
+fn any_repeats(entries: [Entry; 16], count: usize) -> bool
+    requires { ⌜ count ≤ 16 ⌝ }
+    ensures { λ r. ⌜ r ≡ any count (λ i. any i (λ j. samePair (entryFor (getD entries j noEntry)) (entryFor (getD entries i noEntry)))) ⌝ }
+{
+    let mut i = 0;
+    while i < count {
+        if repeats(entries, i) {
+            return true;
+        }
+        i += 1;
+    }
+    false
+}
+
+// The sum of the shares of the first `count` entries.
+fn shares(entries: [Entry; 16], count: usize) -> usize
+    requires { ⌜ count ≤ 16 ⌝ }
+    ensures { λ r. ⌜ r ≡ sum count (λ i. getD entries i noEntry .share) ⌝ }
+{
+    let mut total = 0;
+    let mut i = 0;
+    while i < count {
+        let e = entries[i];
+        total += e.share as usize;
+        i += 1;
+    }
+    total
+}
+
+// The sum of the cells of the first `count` entries.
+fn cells(entries: [Entry; 16], count: usize) -> usize
+    requires { ⌜ count ≤ 16 ⌝ }
+    ensures { λ r. ⌜ r ≡ sum count (λ i. getD entries i noEntry .cells) ⌝ }
+{
+    let mut total = 0;
+    let mut i = 0;
+    while i < count {
+        let e = entries[i];
+        total += e.cells as usize;
+        i += 1;
+    }
+    total
+}
+
+// Tests 3 to 7: the number of the first that applies, and 0 where none does.
+pub fn broken(p: Plan) -> u8
+    requires { ⌜ p .count ≤ 16 ⌝ }
+    ensures { λ r. ⌜ r ≡ firstOf (limitTests (planFor p)) ⌝ }
+{
+    if misframes(p.slots, p.frames, p.buffer) {
+        return 3;
+    }
+    let entries = p.entries;
+    if misfits(entries, p.count, p.slots) {
+        return 4;
+    }
+    if any_repeats(entries, p.count) {
+        return 5;
+    }
+    if p.slots < shares(entries, p.count) {
+        return 6;
+    }
+    if p.buffer < cells(entries, p.count) {
+        return 7;
+    }
+    0
+}
