@@ -1,15 +1,15 @@
 -- What is known of an accepted plan, from its refusal being 0. Assumes nothing.
-use Prim.Native.Nat.{ℕ, zero, suc, _≤_}
+use Prim.Native.Nat.{ℕ, zero, suc, _+_, _*_, _≤_}
 use mathlib.Core.Path.{_≡_, refl, ap}
 use mathlib.Core.List.{List}
 use mathlib.Core.Bool.{Bool, true, false, not}
 use native.Mathlib.Omega.{arith}
 use lib.ListN.{length, drop}
 use lib.Dec.{eqb}
-use borrow.Author.Tests.{ltb-false, eqb-false, eq-eqb, not-false}
+use borrow.Author.Tests.{ltb-false, eqb-true, eqb-false, eq-eqb, not-false}
 use Rattle.model.specs.Tables.{table}
-use Rattle.model.specs.Refusals.{firstOf}
-use Rattle.model.specs.Plan.{Plan, Entry, positions, flowCount, entry, headerOf, entryOf, planOf, entryFits, samePair, limitTests, refusal, FittingEntry, Accepted}
+use Rattle.model.specs.Refusals.{condition, firstOf}
+use Rattle.model.specs.Plan.{Plan, Entry, positions, flowCount, entry, Header, headerOf, entryOf, planOf, entryFits, samePair, countTest, limitTests, refusal, FittingEntry, Accepted}
 use Rattle.model.proofs.Tests.{and-true, or-false, within-true, in-range, any-none, line-passed}
 
 pub length-table : {A : Type 0} (n : ℕ) (f : ℕ → A) → length (table n f) ≡ n
@@ -76,11 +76,27 @@ limits-passed P some-flow few e =
         let n : _≡_ {A = ℕ} 0 1 = cc in
         omega arith
 
+-- a header whose counts pass test 2
+pub record Counted (h : Header) : Type 0 where
+  pub some-flow : 1 ≤ h .count
+  pub flows-most : h .count ≤ 16
+  pub total-is : h .total ≡ 12 + 4 * h .count
+
+pub counts-passed : (h : Header) → condition (countTest h) ≡ false → Counted h
+counts-passed h e =
+    let a = or-false _ _ e in
+    let n = in-range 1 16 (h .count) (or-false _ _ (a .0) .0) in
+    record {
+      some-flow = n .0;
+      flows-most = n .1;
+      total-is = eqb-true (h .total) (12 + 4 * h .count) (not-false _ (a .1));
+    }
+
 pub accepted : (b : List ℕ) → refusal b ≡ 0 → Accepted (planOf b)
 unfolding refusal
 accepted b e =
     let l1 = line-passed 0 _ _ e in
     let l2 = line-passed 1 _ _ (l1 .1) in
-    let n = in-range 1 16 (headerOf b .count) (or-false _ _ (or-false _ _ (l2 .0) .0) .0) in
+    let n = counts-passed (headerOf b) (l2 .0) in
     let count = length-table {A = Entry} (headerOf b .count) (entryOf (drop 12 b)) in
     limits-passed (planOf b) (omega arith) (omega arith) (l2 .1)

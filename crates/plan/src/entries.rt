@@ -7,7 +7,7 @@ ghost use Rattle.model.specs.Plan.{entryOf, entriesOf};
 ghost use Rattle.plan.specs.Reading.{noEntries, entryFor, storedEntries};
 
 // Sixteen entries, all zero.
-pub fn none() -> [Entry; 16]
+pub(crate) fn none() -> [Entry; 16]
     ensures { λ r. ⌜ r ≡ noEntries ⌝ }
 {
     let none = Entry {
@@ -34,7 +34,7 @@ fn entry(part: &[u8], i: usize) -> Entry
 }
 
 // The first `count` entries of the flow part, and all zero after them.
-pub fn read_entries(part: &[u8], count: usize) -> [Entry; 16]
+pub(crate) fn read_entries(part: &[u8], count: usize) -> [Entry; 16]
     requires { ⌜ (count ≤ 16) × (4 * count ≤ length (now part)) ⌝ }
     ensures { λ r. ⌜ r ≡ storedEntries (entriesOf count (now (part .entry))) ⌝ }
 {

@@ -5,7 +5,7 @@ ghost use lib.ListN.{length};
 ghost use Rattle.model.specs.Plan.{field16, headerOf};
 ghost use Rattle.plan.specs.Reading.{headerFor};
 
-pub struct Header {
+pub(crate) struct Header {
     pub total: usize,
     pub count: usize,
     pub offset: usize,
@@ -28,7 +28,7 @@ fn field(bytes: &[u8], at: usize) -> usize
     wide(bytes[at]) + 256 * wide(bytes[at + 1])
 }
 
-pub fn read_header(bytes: &[u8]) -> Header
+pub(crate) fn read_header(bytes: &[u8]) -> Header
     requires { ⌜ 12 ≤ length (now bytes) ⌝ }
     ensures { λ r. ⌜ headerFor r ≡ headerOf (now (bytes .entry)) ⌝ }
 {

@@ -1,7 +1,8 @@
 // A link's plan: its bytes read, tested, and accepted or refused by a number from 1 to 7.
-mod header;
 mod entries;
+mod header;
 mod limits;
+
 ghost use mathlib.Core.Path.{_≡_};
 ghost use Prim.Native.Nat.{_<_};
 ghost use Rattle.model.specs.Plan as model;

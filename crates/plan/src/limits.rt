@@ -1,37 +1,56 @@
 // Tests 2 to 7: a header's counts, and the limits of a plan.
-use crate::header::Header;
 use crate::Entry;
 use crate::Plan;
+use crate::header::Header;
 ghost use mathlib.Core.Path.{_≡_};
 ghost use mathlib.Core.Bool.{not};
 ghost use Prim.Native.Nat.{_+_, _*_, _≤_, _<_};
 ghost use lib.ListN.{getD};
-ghost use Rattle.model.specs.Tables.{any, sum};
+ghost use Rattle.model.specs.Tables.{any, sum, within};
 ghost use Rattle.model.specs.Refusals.{condition, firstOf};
 ghost use Rattle.model.specs.Plan.{entryFits, samePair, countTest, frameTest, limitTests};
 ghost use Rattle.plan.specs.Reading.{headerFor, entryFor, noEntry, planFor};
 
+// The sums of some entries' shares and cells.
+pub(crate) struct Sums {
+    pub shares: usize,
+    pub cells: usize,
+}
+
+// Whether x lies within low to high.
+fn inside(low: usize, high: usize, x: usize) -> bool
+    ensures { λ r. ⌜ r ≡ within low high x ⌝ }
+{
+    if x < low {
+        return false;
+    }
+    x <= high
+}
+
 // Test 2: n out of range, offset not 12, or length not 12 + 4n.
-pub fn miscounts(h: Header) -> bool
+pub(crate) fn miscounts(h: Header) -> bool
     ensures { λ r. ⌜ r ≡ condition (countTest (headerFor h)) ⌝ }
 {
-    if h.count < 1 || 16 < h.count {
+    if !inside(1, 16, h.count) {
         return true;
     }
-    h.offset != 12 || h.total != 12 + 4 * h.count
+    if h.offset != 12 {
+        return true;
+    }
+    h.total != 12 + 4 * h.count
 }
 
 // Test 3: F, W or N out of range, or T above 256.
 fn misframes(slots: usize, frames: usize, buffer: usize) -> bool
     ensures { λ r. ⌜ r ≡ condition (frameTest slots frames buffer) ⌝ }
 {
-    if slots < 1 || 64 < slots {
+    if !inside(1, 64, slots) {
         return true;
     }
-    if frames < 2 || 8 < frames {
+    if !inside(2, 8, frames) {
         return true;
     }
-    if buffer < 1 || 4095 < buffer {
+    if !inside(1, 4095, buffer) {
         return true;
     }
     256 < slots * frames
@@ -41,13 +60,16 @@ fn misframes(slots: usize, frames: usize, buffer: usize) -> bool
 fn fits(e: Entry, slots: usize) -> bool
     ensures { λ r. ⌜ r ≡ entryFits slots (entryFor e) ⌝ }
 {
-    if e.share < 1 || slots < e.share as usize {
+    if !inside(1, slots, e.share as usize) {
         return false;
     }
-    if e.cells < 1 {
+    if !inside(1, 255, e.cells as usize) {
         return false;
     }
-    if 63 < e.source || 63 < e.destination {
+    if !inside(0, 63, e.source as usize) {
+        return false;
+    }
+    if !inside(0, 63, e.destination as usize) {
         return false;
     }
     e.source != e.destination
@@ -72,7 +94,10 @@ fn misfits(entries: [Entry; 16], count: usize, slots: usize) -> bool
 fn same_pair(a: Entry, b: Entry) -> bool
     ensures { λ r. ⌜ r ≡ samePair (entryFor a) (entryFor b) ⌝ }
 {
-    a.source == b.source && a.destination == b.destination
+    if a.source != b.source {
+        return false;
+    }
+    a.destination == b.destination
 }
 
 // Whether an entry before entry i has the same source and destination.
@@ -107,38 +132,25 @@ fn any_repeats(entries: [Entry; 16], count: usize) -> bool
     false
 }
 
-// The sum of the shares of the first `count` entries.
-fn shares(entries: [Entry; 16], count: usize) -> usize
+// What the first `count` entries take together.
+fn totals(entries: [Entry; 16], count: usize) -> Sums
     requires { ⌜ count ≤ 16 ⌝ }
-    ensures { λ r. ⌜ r ≡ sum count (λ i. getD entries i noEntry .share) ⌝ }
+    ensures { λ r. ⌜ (r .shares ≡ sum count (λ i. getD entries i noEntry .share)) × (r .cells ≡ sum count (λ i. getD entries i noEntry .cells)) ⌝ }
 {
-    let mut total = 0;
+    let mut shares = 0;
+    let mut cells = 0;
     let mut i = 0;
     while i < count {
         let e = entries[i];
-        total += e.share as usize;
+        shares += e.share as usize;
+        cells += e.cells as usize;
         i += 1;
     }
-    total
-}
-
-// The sum of the cells of the first `count` entries.
-fn cells(entries: [Entry; 16], count: usize) -> usize
-    requires { ⌜ count ≤ 16 ⌝ }
-    ensures { λ r. ⌜ r ≡ sum count (λ i. getD entries i noEntry .cells) ⌝ }
-{
-    let mut total = 0;
-    let mut i = 0;
-    while i < count {
-        let e = entries[i];
-        total += e.cells as usize;
-        i += 1;
-    }
-    total
+    Sums { shares, cells }
 }
 
 // Tests 3 to 7: the number of the first that applies, and 0 where none does.
-pub fn broken(p: Plan) -> u8
+pub(crate) fn broken(p: Plan) -> u8
     requires { ⌜ p .count ≤ 16 ⌝ }
     ensures { λ r. ⌜ r ≡ firstOf (limitTests (planFor p)) ⌝ }
 {
@@ -152,10 +164,11 @@ pub fn broken(p: Plan) -> u8
     if any_repeats(entries, p.count) {
         return 5;
     }
-    if p.slots < shares(entries, p.count) {
+    let t = totals(entries, p.count);
+    if p.slots < t.shares {
         return 6;
     }
-    if p.buffer < cells(entries, p.count) {
+    if p.buffer < t.cells {
         return 7;
     }
     0

@@ -1,0 +1,5 @@
+pub mod Tests
+pub mod Tables
+pub mod Stored
+pub mod PlanLimits
+pub mod Reader
