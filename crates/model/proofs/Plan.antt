@@ -1,20 +1,16 @@
 -- What is known of an accepted plan, from its refusal being 0. Assumes nothing.
-use Prim.Native.Nat.{ℕ, zero, suc, _+_, _*_, _≤_}
-use mathlib.Core.Path.{_≡_, refl, ap}
+use Prim.Native.Nat.{ℕ, _+_, _*_, _≤_}
+use mathlib.Core.Path.{_≡_, refl}
 use mathlib.Core.List.{List}
 use mathlib.Core.Bool.{Bool, true, false, not}
 use native.Mathlib.Omega.{arith}
-use lib.ListN.{length, drop}
+use lib.ListN.{drop}
 use lib.Dec.{eqb}
 use borrow.Author.Tests.{ltb-false, eqb-true, eqb-false, eq-eqb, not-false}
-use Rattle.model.specs.Tables.{table}
 use Rattle.model.specs.Refusals.{condition, firstOf}
 use Rattle.model.specs.Plan.{Plan, Entry, positions, flowCount, entry, Header, headerOf, entryOf, planOf, entryFits, samePair, countTest, limitTests, refusal, FittingEntry, Accepted}
+use Rattle.model.proofs.Tables.{length-table}
 use Rattle.model.proofs.Tests.{and-true, or-false, within-true, in-range, any-none, line-passed}
-
-pub length-table : {A : Type 0} (n : ℕ) (f : ℕ → A) → length (table n f) ≡ n
-length-table zero f = refl
-length-table (suc n) f = ap suc (length-table n (λ k. f (suc k)))
 
 -- an entry that passes the test of its limits
 pub fitting-entry : (P : Plan) (e : Entry) → entryFits (P .slots) e ≡ true → FittingEntry P e
@@ -43,11 +39,11 @@ fitting-entry P e q =
 -- a plan of 1 to 16 flows that passes tests 3 to 7
 pub limits-passed : (P : Plan) → 1 ≤ flowCount P → flowCount P ≤ 16 → firstOf (limitTests P) ≡ 0 → Accepted P
 limits-passed P some-flow few e =
-    let l3 = line-passed 2 _ _ e in
-    let l4 = line-passed 3 _ _ (l3 .1) in
-    let l5 = line-passed 4 _ _ (l4 .1) in
-    let l6 = line-passed 5 _ _ (l5 .1) in
-    let l7 = line-passed 6 _ _ (l6 .1) in
+    let l3 = line-passed _ 2 _ e in
+    let l4 = line-passed _ 3 _ (l3 .1) in
+    let l5 = line-passed _ 4 _ (l4 .1) in
+    let l6 = line-passed _ 5 _ (l5 .1) in
+    let l7 = line-passed _ 6 _ (l6 .1) in
     let a = or-false _ _ (l3 .0) in
     let b = or-false _ _ (a .0) in
     let c = or-false _ _ (b .0) in
@@ -95,8 +91,8 @@ counts-passed h e =
 pub accepted : (b : List ℕ) → refusal b ≡ 0 → Accepted (planOf b)
 unfolding refusal
 accepted b e =
-    let l1 = line-passed 0 _ _ e in
-    let l2 = line-passed 1 _ _ (l1 .1) in
+    let l1 = line-passed _ 0 _ e in
+    let l2 = line-passed _ 1 _ (l1 .1) in
     let n = counts-passed (headerOf b) (l2 .0) in
     let count = length-table {A = Entry} (headerOf b .count) (entryOf (drop 12 b)) in
     limits-passed (planOf b) (omega arith) (omega arith) (l2 .1)

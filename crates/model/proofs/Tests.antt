@@ -13,6 +13,10 @@ pub and-true : (a b : Bool) → a && b ≡ true → (a ≡ true) × (b ≡ true)
 and-true true b e = (refl, e)
 and-true false b e = (cc, cc)
 
+pub and-false : (a : Bool) → a && false ≡ false
+and-false true = refl
+and-false false = refl
+
 pub or-false : (a b : Bool) → a || b ≡ false → (a ≡ false) × (b ≡ false)
 or-false true b e = (e, cc)
 or-false false b e = (refl, e)
@@ -49,7 +53,7 @@ any-hit (suc n) f k h e = go (λ l. any-hit n f k l e) (decLt k n)
     go rest (no l) = let z : n ≡ k = omega arith in rw (ap f z ∙ e)
 
 -- a table of refusals that gives 0, whose first number is not 0
-pub line-passed : (r : ℕ) (b : Bool) (rest : List Line) → firstOf (suc r when b ∷ rest) ≡ 0 → (b ≡ false) × (firstOf rest ≡ 0)
+pub line-passed : (b : Bool) (r : ℕ) (rest : List Line) → firstOf (suc r when b ∷ rest) ≡ 0 → (b ≡ false) × (firstOf rest ≡ 0)
 unfolding firstOf
-line-passed r true rest e = absurd (omega arith)
-line-passed r false rest e = (refl, e)
+line-passed true r rest e = absurd (omega arith)
+line-passed false r rest e = (refl, e)

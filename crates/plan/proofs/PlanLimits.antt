@@ -10,9 +10,8 @@ use Rattle.plan.specs.declared.Plan.{Plan}
 use Rattle.model.specs.Tables.{any, sum}
 use Rattle.model.specs.Refusals.{_when_, condition, firstOf}
 use Rattle.model.specs.Plan as model
-use Rattle.model.proofs.Plan.{length-table}
+use Rattle.model.proofs.Tables.{length-table, getD-table}
 use Rattle.plan.specs.Reading.{entryFor, noEntry, planFor}
-use Rattle.plan.proofs.Tables.{getD-table}
 
 any-same : (n : ℕ) (f g : ℕ → Bool) → ((i : ℕ) → i < n → f i ≡ g i) → any n f ≡ any n g
 unfolding any

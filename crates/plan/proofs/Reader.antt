@@ -17,9 +17,8 @@ use Rattle.model.specs.Tables.{table}
 use Rattle.model.specs.Refusals.{condition, firstOf}
 use Rattle.model.specs.Plan as model
 use Rattle.model.proofs.Plan as of-plan
-use Rattle.model.proofs.Plan.{length-table}
+use Rattle.model.proofs.Tables.{length-table, getD-table, getD-table-past, table-same}
 use Rattle.plan.specs.Reading.{headerFor, entryFor, noEntry, planFor, storedEntry, storedEntries, stored, verdictFor, planAfter, readOf, Valid}
-use Rattle.plan.proofs.Tables.{getD-table, getD-table-past, table-same}
 
 -- what the reader promises of the outcome r of the bytes b
 abbrev pub Reads : List ℕ → Outcome → Type 0

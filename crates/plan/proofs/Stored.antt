@@ -13,7 +13,7 @@ use Rattle.plan.specs.declared.Verdict.the-variants.{Refused}
 use Rattle.model.specs.Tables.{table}
 use Rattle.model.specs.Plan as model
 use Rattle.plan.specs.Reading.{noEntry, noEntries, storedEntry, storedEntries, verdictFor, planAfter}
-use Rattle.plan.proofs.Tables.{getD-table, getD-table-past, table-same, set-table}
+use Rattle.model.proofs.Tables.{getD-table, getD-table-past, table-same, set-table}
 
 -- the entries of a flow part as far as entry i, and all zero after them
 unfoldable pub readUpTo : List ℕ → ℕ → List Entry
