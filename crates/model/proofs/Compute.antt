@@ -1,0 +1,26 @@
+-- Names for sets of definitions: a proof by computation that unfolds the name unfolds the set. Assumes nothing.
+use Rattle.model.specs.Tables.{every, any, sum, firstFrom, ahead, tally}
+use Rattle.model.specs.Refusals.{firstOf}
+use Rattle.model.specs.Plan.{refusal, entryFits}
+use Rattle.model.specs.Window.{rank, passed, fromOn, everyFrom}
+use Rattle.model.specs.Fresh.{fresh}
+use Rattle.model.specs.Request.{valid, search, sought, booked, refusedAtNewest, answered, requestAfter, request}
+use Rattle.model.specs.Credit.{lowered, creditAfter, credit}
+use Rattle.model.specs.Tick.{recycled, advanced, tick}
+use Rattle.model.specs.History.{ticks, slotAfter, changes, wellFormed, grants, credits, refusals}
+use Rattle.model.specs.Card.{play}
+
+-- a plan's refusal
+unfoldable pub plans-compute : Unit {0}
+unfolding any sum firstOf refusal entryFits
+plans-compute = tt
+
+-- the calls of the paper's card, and a list of calls played
+unfoldable pub calls-compute : Unit {0}
+unfolding every firstFrom ahead firstOf rank passed fromOn everyFrom fresh valid search sought booked refusedAtNewest answered requestAfter request lowered creditAfter credit recycled advanced tick play
+calls-compute = tt
+
+-- what is counted over a history
+unfoldable pub counts-compute : Unit {0}
+unfolding ahead tally ticks slotAfter changes wellFormed grants credits refusals
+counts-compute = tt

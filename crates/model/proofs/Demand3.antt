@@ -1,0 +1,100 @@
+-- Demand 3: the card of document 01 meets it. Assumes nothing.
+use Prim.Native.Nat.{ℕ, suc, _+_, _-_, _*_, _≤_, _<_}
+use mathlib.Core.Path.{_≡_, refl, subst}
+use mathlib.Core.List.{[], _∷_}
+use mathlib.Core.Bool.{true}
+use native.Mathlib.Omega.{arith}
+use lib.Dec.{eqb}
+use borrow.Author.Tests.{eqb-true, eq-eqb}
+use Rattle.model.specs.Tables.{sum}
+use Rattle.model.specs.Plan.{Plan, flowCount, entry, Accepted}
+use Rattle.model.specs.Calls.{Event, History}
+use Rattle.model.specs.Link.{Link}
+use Rattle.model.specs.History.{Mark, ticks, changes, frameOf, grants, granted, grantedIn, ofFlow, inFrame}
+use Rattle.model.specs.Claim.{Each, Persistent, Demand3}
+use Rattle.model.specs.Card.{Meets, paper}
+use Rattle.model.proofs.Tests.{and-true}
+use Rattle.model.proofs.Tallies.{all-map, sum-le, sum-const, sum-tail, tally-join, tally-split, Classed}
+use Rattle.model.proofs.Slots.{frame-high}
+use Rattle.model.proofs.Invariant.{Granted}
+use Rattle.model.proofs.Histories.{changes-are}
+use Rattle.model.proofs.After.{AskedOn, After}
+use Rattle.model.proofs.Runs.{after-run}
+
+each-map : (Q R : Event → History → Type 0) → ((e : Event) (h : History) → Q e h → R e h) → (h : History) → Each Q h → Each R h
+each-map Q R f [] a = tt
+each-map Q R f (e ∷ h) a = (f e h (a .0), each-map Q R f h (a .1))
+
+module _ (l : Link) (h : History) (g : After (l .plan) l h) (i : ℕ) (known : i < flowCount (l .plan)) where
+  abbrev P : Plan
+  P = l .plan
+
+  abbrev share : ℕ
+  share = entry (l .plan) i .share
+
+  abbrev inEach : ℕ → ℕ
+  inEach f = grantedIn (l .plan) h i f
+
+  -- the frames that have begun: those already gone, and the window's
+  abbrev begun : ℕ
+  begun = P .frames + changes P h
+
+  ok : Accepted P
+  ok = g .invariant .current .accepted
+
+  change-count : changes P h ≡ frameOf P (ticks h)
+  change-count = changes-are P ok h
+
+  in-frame : (f : ℕ) → inEach f ≤ share
+  in-frame = g .invariant .injects i known .in-frames
+
+  -- flow i's grants, frame by frame
+  frames-cover : granted P h i ≤ sum begun inEach
+  frames-cover = tally-split begun (ofFlow i) (inFrame P i) (grants P h) (all-map _ _ in-one (grants P h) (g .invariant .grants-in))
+    where
+      in-one : (m : Mark) → Granted P (ticks h) 0 m → ofFlow i m ≡ true → Classed begun (inFrame P i) m
+      in-one m x e = record {
+        class = frameOf P (m .slot);
+        below = frame-high ok begun (m .slot) (rw change-count (omega (arith, x .begun)));
+        belongs = rw (e, eq-eqb (frameOf P (m .slot)) (frameOf P (m .slot)) refl);
+      }
+
+  frames-exclude : sum begun inEach ≤ granted P h i
+  frames-exclude =
+      tally-join begun (ofFlow i) (inFrame P i) (λ m j k p q. let a = frame-is m j p in let b = frame-is m k q in omega arith)
+      (λ m j below p. and-true (ofFlow i m) (eqb (frameOf P (m .slot)) j) p .0) (grants P h)
+    where
+      frame-is : (m : Mark) (j : ℕ) → inFrame P i j m ≡ true → frameOf P (m .slot) ≡ j
+      frame-is m j p = eqb-true (frameOf P (m .slot)) j (and-true (ofFlow i m) (eqb (frameOf P (m .slot)) j) p .1)
+
+  most : granted P h i ≤ begun * share
+  most = omega (arith, frames-cover, sum-le begun inEach (λ f. share) (λ f below. in-frame f), sum-const begun share)
+
+  least : Persistent P i h → (P .frames - 1 + changes P h) * share ≤ granted P h i
+  least p =
+      let n = P .frames - 1 + changes P h in
+      let asked : AskedOn P h i = record {
+        ready = p .ready-at-each-request;
+        refused-before = λ f lt. p .refused-in-each-frame f (omega (arith, change-count));
+      } in
+      let full = g .least i known asked .after-a-refusal (p .refused-in-each-frame (frameOf P (ticks h)) (omega (arith, change-count))) in
+      let two = ok .two-frames in
+      let one-more : begun ≡ suc n = omega arith in
+      let all-but-first : n * share ≤ sum (suc n) inEach = sum-tail n share inEach (λ f since below. full f since (omega (arith, change-count))) in
+      let together : sum (suc n) inEach ≤ granted P h i = subst (λ m. sum m inEach ≤ granted P h i) one-more frames-exclude in
+      omega arith
+
+  demand3 : Demand3 P i h
+  demand3 = record {
+    most = most;
+    most-in-a-frame = in-frame;
+    least = least;
+    one-owner = g .invariant .once;
+    within-cells = each-map _ _ (λ e h c. c .held i known) h (g .events);
+    within-a-window = each-map _ _ (λ e h c. c .soon) h (g .events);
+    comes-up = each-map _ _ (λ e h c. c .comes-up) h (g .events);
+    granted-words = each-map _ _ (λ e h c. c .word) h (g .events);
+  }
+
+pub meets : Meets paper
+meets = after-run (λ P l h. (i : ℕ) → i < flowCount P → Demand3 P i h) demand3

@@ -1,0 +1,70 @@
+-- What is counted over a history: frame changes, well-formed words, and refusals by frame. Assumes nothing.
+use Prim.Native.Nat.{ℕ, suc, _+_, _%_, _<_}
+use mathlib.Core.Path.{_≡_, refl, sym, ap, _∙_}
+use mathlib.Core.List.{[], _∷_}
+use mathlib.Core.Bool.{Bool, true, false, not, _&&_}
+use native.Mathlib.Nat.{zero-div}
+use native.Mathlib.Omega.{arith}
+use lib.Dec.{ltb, eqb}
+use borrow.Author.Tests.{eqb-true, eqb-false}
+use Rattle.model.specs.Tables.{bit, tally}
+use Rattle.model.specs.Refusals.{firstOf, _when_}
+use Rattle.model.specs.Word.{flowOf, destinationOf, departureOf}
+use Rattle.model.specs.Plan.{Plan, positions, flowCount, entry, Accepted}
+use Rattle.model.specs.Calls.{History, requested, credited, ticked, accepted, refused}
+use Rattle.model.specs.Request.{wordTests}
+use Rattle.model.specs.History.{ticks, changes, frameOf, wellFormed, refusals, refusedIn}
+use Rattle.model.proofs.Slots.{frame-stays, frame-changes, frames-go-on}
+use Rattle.model.proofs.Marks.{mark, in-frame-skip}
+
+-- A word is well formed exactly if it passes its tests.
+three-tests : (a b c : Bool) → a && b && c ≡ eqb (firstOf (8 when not a ∷ 9 when not b ∷ 10 when not c ∷ [])) 0
+unfolding firstOf
+three-tests true true true = refl
+three-tests true true false = refl
+three-tests true false c = refl
+three-tests false b c = refl
+
+pub well-formed-is : (P : Plan) (w : ℕ) → wellFormed P w ≡ eqb (firstOf (wordTests P w)) 0
+unfolding wellFormed
+well-formed-is P w =
+    three-tests (ltb (flowOf w) (flowCount P)) (eqb (destinationOf w) (entry P (flowOf w) .destination)) (ltb (departureOf w) (positions P))
+
+-- ---- frames
+
+pub changes-are : (P : Plan) → Accepted P → (h : History) → changes P h ≡ frameOf P (ticks h)
+unfolding changes ticks
+changes-are P ok [] = sym (zero-div (P .slots))
+changes-are P ok (requested w a ∷ h) = changes-are P ok h
+changes-are P ok (credited i p a ∷ h) = changes-are P ok h
+changes-are P ok (ticked x ∷ h) = go (changes-are P ok h) (eqb (suc (ticks h) % P .slots) 0) refl
+  where
+    go : changes P h ≡ frameOf P (ticks h) → (b : Bool) → eqb (suc (ticks h) % P .slots) 0 ≡ b
+        → bit (eqb (suc (ticks h) % P .slots) 0) + changes P h ≡ frameOf P (suc (ticks h))
+    go rest true e = omega (arith, ap bit e, frame-changes ok (ticks h) (eqb-true (suc (ticks h) % P .slots) 0 e))
+    go rest false e = omega (arith, ap bit e, frame-stays ok (ticks h) (eqb-false (suc (ticks h) % P .slots) 0 e))
+
+-- ---- refusals
+
+pub refusals-with : (P : Plan) (w r : ℕ) (h : History) → wellFormed P w ≡ true
+    → refusals P (requested w (refused r) ∷ h) ≡ mark (flowOf w) (ticks h) ∷ refusals P h
+unfolding refusals
+refusals-with P w r h e = rw e
+
+pub refusals-without : (P : Plan) (w r : ℕ) (h : History) → wellFormed P w ≡ false → refusals P (requested w (refused r) ∷ h) ≡ refusals P h
+unfolding refusals
+refusals-without P w r h e = rw e
+
+-- no request was refused in a frame to come
+pub refused-later : (P : Plan) → Accepted P → (i f : ℕ) (h : History) → frameOf P (ticks h) < f → refusedIn P h i f ≡ 0
+unfolding refusals ticks tally
+refused-later P ok i f [] lt = refl
+refused-later P ok i f (requested w (accepted v) ∷ h) lt = refused-later P ok i f h lt
+refused-later P ok i f (requested w (refused r) ∷ h) lt = go (refused-later P ok i f h lt) (wellFormed P w) refl
+  where
+    go : refusedIn P h i f ≡ 0 → (b : Bool) → wellFormed P w ≡ b → refusedIn P (requested w (refused r) ∷ h) i f ≡ 0
+    go rest true e = rw (refusals-with P w r h e) (in-frame-skip P i f (mark (flowOf w) (ticks h)) (refusals P h) (λ z. omega arith) ∙ rest)
+    go rest false e = rw (refusals-without P w r h e) rest
+refused-later P ok i f (credited j p a ∷ h) lt = refused-later P ok i f h lt
+refused-later P ok i f (ticked x ∷ h) lt =
+    refused-later P ok i f h (omega (arith, frames-go-on ok (ticks h)))

@@ -1,0 +1,148 @@
+-- The cards of document 01's "Link cards we would send back", and its "Three slips that would pass the sparse flight" as cards. Assumes nothing.
+--
+-- Each is the paper's card but for one fault.
+use Prim.Native.Nat.{ℕ, zero, suc, _-_, _%_}
+use mathlib.Core.List.{List, _∷_, []}
+use mathlib.Core.Bool.{Bool, not, cond}
+use lib.Dec.{ltb, eqb}
+use lib.ListN.{replicate}
+use mathlib.Core.Option.{none}
+use Rattle.model.specs.Tables.{table, firstFrom, ahead}
+use Rattle.model.specs.Refusals.{Line, firstOf, _when_}
+use Rattle.model.specs.Word.{flowOf, depart}
+use Rattle.model.specs.Plan.{Plan, positions, flowCount}
+use Rattle.model.specs.Calls.{Grant, Receipt, Turn, accepted, refused}
+use Rattle.model.specs.Window.{passed, everyFrom, frameAt, start, next, newest}
+use Rattle.model.specs.Link.{Link, Step, window, flow, holding, share, withFlows, withHeld}
+use Rattle.model.specs.Request.{Found, nowhere, wordTests, valid, orElse, search, answered}
+use Rattle.model.specs.Credit.{creditAfter}
+use Rattle.model.specs.Tick.{nextPosition}
+use Rattle.model.specs.Card.{Card, paper}
+
+-- ---- the paper's card with another fresh, request, credit or tick
+
+abbrev both : {A : Type 0} → Step A → Link × A
+both step = (step .link, step .answer)
+
+abbrev withFresh : (Plan → Link) → Card
+withFresh fresh = record { State = Link; fresh = fresh; request = paper .request; credit = paper .credit; tick = paper .tick }
+
+abbrev withRequest : (Link → ℕ → Link × Grant) → Card
+withRequest request = record { State = Link; fresh = paper .fresh; request = request; credit = paper .credit; tick = paper .tick }
+
+abbrev withCredit : (Link → ℕ → ℕ → Link × Receipt) → Card
+withCredit credit = record { State = Link; fresh = paper .fresh; request = paper .request; credit = credit; tick = paper .tick }
+
+abbrev withTick : (Link → Link × Turn) → Card
+withTick tick = record { State = Link; fresh = paper .fresh; request = paper .request; credit = paper .credit; tick = tick }
+
+-- ---- "Link cards we would send back"
+
+-- "refuses every request": with any number, whatever it does to the link
+abbrev pub refusesAll : (Link → ℕ → Link × ℕ) → Card
+refusesAll refusal = withRequest (λ l w. (refusal l w .0, refused (refusal l w .1)))
+
+-- "grants one position every time": position p, whatever it does to the link
+abbrev pub grantsOne : ℕ → (Link → ℕ → Link) → Card
+grantsOne p next = withRequest (λ l w. (next l w, accepted (depart w p)))
+
+-- "writes no booking down": the owners stay as they are
+abbrev unwritten : Link → Link → Link
+unwritten l next = record { plan = next .plan; current = next .current; owners = l .owners; flows = next .flows }
+
+abbrev pub writesNoBooking : Card
+writesNoBooking = withRequest (λ l w. (unwritten l (paper .request l w .0), paper .request l w .1))
+
+-- "books well in the first window, later only refuses": the state has the number of ticks
+pub record Counted : Type 0 where
+  pub link : Link
+  pub ticks : ℕ
+
+abbrev counted : {A : Type 0} → ℕ → Link × A → Counted × A
+counted ticks r = (record { link = r .0; ticks = ticks }, r .1)
+
+abbrev pub firstWindowOnly : Card
+firstWindowOnly = record {
+  State = Counted;
+  fresh = λ P. record { link = paper .fresh P; ticks = 0 };
+  request = λ s w. cond (ltb (s .ticks) (positions (s .link .plan))) (counted (s .ticks) (paper .request (s .link) w)) (s, refused 12);
+  credit = λ s i p. counted (s .ticks) (paper .credit (s .link) i p);
+  tick = λ s. counted (suc (s .ticks)) (paper .tick (s .link));
+}
+
+-- the credit's tests, with another one of what the flow holds
+abbrev creditTestsWith : (Link → ℕ → ℕ → Bool) → Link → ℕ → ℕ → List Line
+creditTestsWith holds l i p =
+    8 when not (ltb i (flowCount (l .plan)))
+    ∷ 13 when not (ltb p (positions (l .plan)))
+    ∷ 14 when passed (window l) p
+    ∷ 15 when not (holds l i p)
+    ∷ []
+
+abbrev withHoldingTest : (Link → ℕ → ℕ → Bool) → Card
+withHoldingTest holds = withCredit (λ l i p. both (creditAfter (firstOf (creditTestsWith holds l i p)) l i p))
+
+-- "invents the holding": credits are tested against an invented one
+abbrev pub inventsHolding : (Link → ℕ → ℕ → ℕ) → Card
+inventsHolding invented = withHoldingTest (λ l i p. everyFrom (window l) p (λ q. ltb 0 (invented l i q)))
+
+-- "reports 11 before booking anything": each flow starts in the newest frame with C = 0
+abbrev pub startsAtZero : Card
+startsAtZero = withFresh (λ P. record {
+  plan = P;
+  current = 0;
+  owners = replicate (positions P) none;
+  flows = table (flowCount P) (λ i. record { injection = P .frames - 1; remainder = 0; held = replicate (positions P) 0 });
+})
+
+-- ---- "Three slips that would pass the sparse flight"
+
+-- "Testing a credit against the holding at its own position only"
+abbrev pub testsOwnPosition : Card
+testsOwnPosition = withHoldingTest (λ l i p. ltb 0 (holding l i p))
+
+-- the paper's request with another search
+abbrev searched : (Link → ℕ → Found) → ℕ → Link → ℕ → Link × Grant
+searched sought zero l w = both (answered l w (sought l (flowOf w)))
+searched sought (suc r) l w = (l, refused (suc r))
+
+abbrev withSearch : (Link → ℕ → Found) → Card
+withSearch sought = withRequest (λ l w. searched sought (firstOf (wordTests (l .plan) w)) l w)
+
+-- "Ending the last frame's walk at position 0 without going round": the walk of frame W - 1 never meets 0, and goes on through the 256 entries
+module _ (l : Link) (i : ℕ) where
+  abbrev walked : ℕ → ℕ
+  walked j = cond (eqb (suc j) (l .plan .frames)) (256 - start (window l) j) (l .plan .slots)
+
+  abbrev foundPastEnd : ℕ → ℕ → Found → Found
+  foundPastEnd j c rest = orElse (window l) (valid l i) (share l i) j c (firstFrom (walked j) (start (window l) j) (valid l i)) rest
+
+  abbrev searchPastEnd : (more j c : ℕ) → Found
+  searchPastEnd zero j zero = nowhere 0
+  searchPastEnd zero j (suc c) = foundPastEnd j c (nowhere (suc c))
+  searchPastEnd (suc more) j zero = searchPastEnd more (next (window l) j) (share l i)
+  searchPastEnd (suc more) j (suc c) = foundPastEnd j c (searchPastEnd more (next (window l) j) (share l i))
+
+  abbrev soughtPastEnd : Found
+  soughtPastEnd = searchPastEnd (ahead (l .plan .frames) (flow l i .injection) (newest (window l))) (flow l i .injection) (flow l i .remainder)
+
+abbrev pub walksPastEnd : Card
+walksPastEnd = withSearch soughtPastEnd
+
+-- the same slip in the walk over frames: it goes on to frame W - 1, and not round to the newest frame
+abbrev soughtBeforeEnd : Link → ℕ → Found
+soughtBeforeEnd l i =
+    search (window l) (valid l i) (share l i) (l .plan .frames - 1 - flow l i .injection) (flow l i .injection) (flow l i .remainder)
+
+abbrev pub stopsAtLastFrame : Card
+stopsAtLastFrame = withSearch soughtBeforeEnd
+
+-- "Dropping a flow's holding when its frame is recycled": at a frame change nothing is held in the frame that becomes the newest
+abbrev dropped : Link → Link
+dropped l =
+    withFlows l
+    (λ i. withHeld (flow l i) (table (positions (l .plan)) (λ q. cond (eqb (frameAt (window l) q) (newest (window l))) 0 (holding l i q))))
+
+abbrev pub dropsHoldings : Card
+dropsHoldings =
+    withTick (λ l. (cond (eqb (nextPosition l % l .plan .slots) 0) (dropped (paper .tick l .0)) (paper .tick l .0), paper .tick l .1))

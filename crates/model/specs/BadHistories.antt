@@ -1,0 +1,65 @@
+-- Histories that demand 3 rules out: each breaks one part of it and has all the others. Assumes nothing.
+use Prim.Native.Nat.{ℕ, _+_}
+use mathlib.Core.List.{List, _∷_, [], reverse}
+use mathlib.Core.Option.{some, none}
+use Rattle.model.specs.PlanBytes.{plan2, listing, roomy}
+use Rattle.model.specs.Plan.{planOf}
+use Rattle.model.specs.Calls.{Event, requested, credited, ticked, accepted, refused}
+use Rattle.model.specs.Parts.{Part, BreaksAlone}
+
+-- a plan's bytes, events of flow 0 and others, oldest first, and the part that they break for flow 0
+pub record BadHistory : Type 0 where
+  pub part : Part
+  pub bytes : List ℕ
+  pub events : List Event
+
+abbrev pub Breaks : BadHistory → Type 0
+Breaks b = BreaksAlone (b .part) (planOf (b .bytes)) 0 (reverse (b .events))
+
+abbrev pub AllBreak : List BadHistory → Type 0
+AllBreak [] = Unit {0}
+AllBreak (b ∷ bs) = Breaks b × AllBreak bs
+
+-- flow 0's request, granted position p
+abbrev granted : ℕ → Event
+granted p = requested 0x24000000 (accepted (0x24000000 + p))
+
+unfoldable pub badHistories : List BadHistory
+badHistories =
+    -- five slots with a share of 2, two frames and no frame change: slots 1, 2, 4 and 5, and after a tick slot 8, in frame 2
+    record { part = Part.most; bytes = plan2 4 2 16 2 8 2 8; events = granted 1 ∷ granted 2 ∷ granted 4 ∷ granted 5 ∷ ticked (some 0) ∷ granted 0 ∷ [] }
+    -- three slots of frame 1
+    ∷ record { part = Part.most-in-a-frame; bytes = roomy; events = granted 4 ∷ granted 5 ∷ granted 6 ∷ [] }
+    -- one slot where the least count is 2, with a cell free
+    ∷ record { part = Part.least; bytes = listing; events = granted 1 ∷ requested 0x24000400 (refused 12) ∷ [] }
+    -- slot 1 for both flows
+    ∷ record { part = Part.one-owner; bytes = listing; events = granted 1 ∷ requested 0x24100000 (accepted 0x24100001) ∷ [] }
+    -- three slots held with 2 cells
+    ∷ record { part = Part.within-cells; bytes = listing; events = granted 1 ∷ granted 4 ∷ granted 5 ∷ [] }
+    -- a credit with nothing held
+    ∷ record { part = Part.within-cells; bytes = listing; events = credited 0 1 (accepted tt) ∷ [] }
+    -- a credit from slot 2 on, where 2 are held, but from slot 5 on none
+    ∷ record {
+      part = Part.within-cells;
+      bytes = listing;
+      events = granted 1 ∷ granted 2 ∷ credited 0 5 (accepted tt) ∷ credited 0 5 (accepted tt) ∷ credited 0 2 (accepted tt) ∷ [];
+    }
+    -- position 0 before the first tick is slot 8
+    ∷ record { part = Part.within-a-window; bytes = listing; events = granted 0 ∷ [] }
+    -- a granted slot comes up idle, and for another flow
+    ∷ record { part = Part.comes-up; bytes = listing; events = granted 1 ∷ ticked none ∷ [] }
+    ∷ record { part = Part.comes-up; bytes = listing; events = granted 1 ∷ ticked (some 1) ∷ [] }
+    -- a slot that nobody was granted comes up for a flow, and for a number that is no flow
+    ∷ record { part = Part.comes-up; bytes = listing; events = ticked (some 1) ∷ [] }
+    ∷ record { part = Part.comes-up; bytes = listing; events = ticked (some 7) ∷ [] }
+    -- the answer has another node, flow and quantum number
+    ∷ record { part = Part.granted-words; bytes = listing; events = requested 0x24000000 (accepted 0x28000001) ∷ [] }
+    ∷ record { part = Part.granted-words; bytes = listing; events = requested 0x24000000 (accepted 0x24100001) ∷ [] }
+    ∷ record { part = Part.granted-words; bytes = listing; events = requested 0x24000000 (accepted 0x24000401) ∷ [] }
+    -- the answer's departure is not below T
+    ∷ record { part = Part.granted-words; bytes = listing; events = granted 9 ∷ [] }
+    -- the asked word has another node than the plan's, flow 2 of two, and departure T
+    ∷ record { part = Part.granted-words; bytes = listing; events = requested 0x20000000 (accepted 0x20000001) ∷ [] }
+    ∷ record { part = Part.granted-words; bytes = listing; events = requested 0x24200000 (accepted 0x24200001) ∷ [] }
+    ∷ record { part = Part.granted-words; bytes = listing; events = requested 0x24000008 (accepted 0x24000001) ∷ [] }
+    ∷ []

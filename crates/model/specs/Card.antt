@@ -1,0 +1,57 @@
+-- A link card: a state and four functions of the calls' types; a list of calls played on it; and what it is to meet demand 3. Assumes nothing.
+use Prim.Native.Nat.{ℕ, _<_}
+use mathlib.Core.Path.{_≡_}
+use mathlib.Core.List.{List, _∷_, []}
+use Rattle.model.specs.Plan.{Plan, flowCount, planOf, refusal}
+use Rattle.model.specs.Calls.{Call, Grant, Receipt, Turn, History, requested, credited, ticked}
+use Rattle.model.specs.Claim.{Demand3}
+use Rattle.model.specs.Link.{Link}
+use Rattle.model.specs.Fresh as fresh
+use Rattle.model.specs.Request as request
+use Rattle.model.specs.Credit as credit
+use Rattle.model.specs.Tick as tick
+
+pub record Card : Type 1 where
+  pub State : Type 0
+  pub fresh : Plan → State
+  pub request : State → ℕ → State × Grant
+  pub credit : State → ℕ → ℕ → State × Receipt
+  pub tick : State → State × Turn
+
+-- a card after some calls, with their events
+pub record Played (c : Card) : Type 0 where
+  pub state : c .State
+  pub history : History
+
+-- "each later one the link exactly as the call before handed it back"
+abbrev pub step : (c : Card) → Played c → Call → Played c
+step c r (Call.request w) = record { state = c .request (r .state) w .0; history = requested w (c .request (r .state) w .1) ∷ r .history }
+step c r (Call.credit i p) = record { state = c .credit (r .state) i p .0; history = credited i p (c .credit (r .state) i p .1) ∷ r .history }
+step c r Call.tick = record { state = c .tick (r .state) .0; history = ticked (c .tick (r .state) .1) ∷ r .history }
+
+unfoldable pub play : (c : Card) → Played c → List Call → Played c
+play c r [] = r
+play c r (x ∷ xs) = play c (step c r x) xs
+
+-- "The first call gets the link that fresh made from an accepted plan"
+abbrev pub started : (c : Card) → Plan → Played c
+started c P = record { state = c .fresh P; history = [] }
+
+abbrev pub run : (c : Card) → Plan → List Call → Played c
+run c P calls = play c (started c P) calls
+
+-- Demand 3 of a card: for the bytes of every accepted plan, every list of calls and every flow.
+abbrev pub Meets : Card → Type 0
+Meets c =
+    (bytes : List ℕ) → refusal bytes ≡ 0 → (calls : List Call) (i : ℕ) → i < flowCount (planOf bytes)
+    → Demand3 (planOf bytes) i (run c (planOf bytes) calls .history)
+
+-- the card of document 01
+abbrev pub paper : Card
+paper = record {
+  State = Link;
+  fresh = fresh.fresh;
+  request = λ l w. (request.request l w .link, request.request l w .answer);
+  credit = λ l i p. (credit.credit l i p .link, credit.credit l i p .answer);
+  tick = λ l. (tick.tick l .link, tick.tick l .answer);
+}

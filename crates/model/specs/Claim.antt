@@ -1,0 +1,86 @@
+-- Demand 3: one claim about the events of a whole list of calls. Document 01, "What demand 3 counts". It names no link. Assumes nothing.
+--
+-- What it cannot see is demand 2's, and is said by the equations of each call: 11 and 12 exchanged, what C is after a refusal, credits refused
+-- that should be taken, and requests refused to a stream that once failed to ask until it was refused.
+use Prim.Native.Nat.{ℕ, _+_, _-_, _*_, _≤_, _<_}
+use mathlib.Core.Path.{_≡_}
+use mathlib.Core.Logic.{_↔_}
+use mathlib.Core.List.{_∷_, []}
+use mathlib.Core.Option.{some}
+use mathlib.Core.Bool.{true}
+use Rattle.model.specs.Word.{flowOf, departureOf, depart}
+use Rattle.model.specs.Plan.{Plan, positions, entry}
+use Rattle.model.specs.Calls.{Event, History, requested, credited, ticked, accepted, refused}
+use Rattle.model.specs.History.{ticks, slotAfter, changes, wellFormed, granted, grantedIn, grantedUpTo, creditedUpTo, refusedIn, ownersOf, Owns}
+
+-- Q holds of each event and what was before it.
+abbrev pub Each : (Event → History → Type 0) → History → Type 0
+Each Q [] = Unit {0}
+Each Q (e ∷ h) = Q e h × Each Q h
+
+-- ---- the stream that asks until it is refused
+
+-- what the least count asks of each well-formed request of flow i, with word w, after h
+pub record Ready (P : Plan) (i w : ℕ) (h : History) : Type 0 where
+  -- it holds fewer than its cells in every slot from the current one on
+  pub room : (s : ℕ) → ticks h ≤ s → grantedUpTo P h i s < creditedUpTo P h i s + entry P i .cells
+
+-- "Each request means each of its well-formed requests."
+abbrev pub ReadyAt : Plan → ℕ → Event → History → Type 0
+ReadyAt P i (requested w a) h = wellFormed P w ≡ true → flowOf w ≡ i → Ready P i w h
+ReadyAt P i (credited j p a) h = Unit {0}
+ReadyAt P i (ticked x) h = Unit {0}
+
+-- "in each of the frames 0 to k, one of its well-formed requests is refused"
+pub record Persistent (P : Plan) (i : ℕ) (h : History) : Type 0 where
+  pub refused-in-each-frame : (f : ℕ) → f ≤ changes P h → 0 < refusedIn P h i f
+  pub ready-at-each-request : Each (ReadyAt P i) h
+
+-- ---- the parts of the claim
+
+-- A granted word v is the asked word w with another departure, a position; and w was well formed.
+pub record GrantedWord (P : Plan) (w v : ℕ) : Type 0 where
+  pub asked-well-formed : wellFormed P w ≡ true
+  pub same-but-departure : v ≡ depart w (departureOf v)
+  pub position : departureOf v < positions P
+
+abbrev pub GrantedWordAt : Plan → Event → History → Type 0
+GrantedWordAt P (requested w (accepted v)) h = GrantedWord P w v
+GrantedWordAt P (requested w (refused r)) h = Unit {0}
+GrantedWordAt P (credited j p a) h = Unit {0}
+GrantedWordAt P (ticked x) h = Unit {0}
+
+-- "A slot granted after t ticks has a number below t + T."
+abbrev pub SoonAt : Plan → Event → History → Type 0
+SoonAt P (requested w (accepted v)) h = slotAfter P (ticks h) (departureOf v) < ticks h + positions P
+SoonAt P (requested w (refused r)) h = Unit {0}
+SoonAt P (credited j p a) h = Unit {0}
+SoonAt P (ticked x) h = Unit {0}
+
+-- "Tick number s answers a flow exactly when an earlier request of that flow was granted slot s, and else idle."
+abbrev pub ComesUpAt : Plan → Event → History → Type 0
+ComesUpAt P (requested w a) h = Unit {0}
+ComesUpAt P (credited j p a) h = Unit {0}
+ComesUpAt P (ticked x) h = (i : ℕ) → (x ≡ some i) ↔ Owns P h i (ticks h + 1)
+
+-- "What a stream holds at slot s is its granted slots up to and including s, less its taken credits for slots up to and including s."
+pub record Held (P : Plan) (i : ℕ) (h : History) (s : ℕ) : Type 0 where
+  pub held : ℕ
+  pub is : grantedUpTo P h i s ≡ creditedUpTo P h i s + held
+  pub within : held ≤ entry P i .cells
+
+-- "It never holds more than its cells at any slot, after any call."
+abbrev pub HeldAt : Plan → ℕ → Event → History → Type 0
+HeldAt P i e h = (s : ℕ) → Held P i (e ∷ h) s
+
+-- ---- the claim, for flow i
+
+pub record Demand3 (P : Plan) (i : ℕ) (h : History) : Type 0 where
+  pub most : granted P h i ≤ (P .frames + changes P h) * entry P i .share
+  pub most-in-a-frame : (f : ℕ) → grantedIn P h i f ≤ entry P i .share
+  pub least : Persistent P i h → (P .frames - 1 + changes P h) * entry P i .share ≤ granted P h i
+  pub one-owner : (s : ℕ) → ownersOf P h s ≤ 1
+  pub within-cells : Each (HeldAt P i) h
+  pub within-a-window : Each (SoonAt P) h
+  pub comes-up : Each (ComesUpAt P) h
+  pub granted-words : Each (GrantedWordAt P) h

@@ -1,0 +1,78 @@
+-- The booking table of one link: who booked each position, and what each flow holds. Document 01, "Slots, frames, positions". Assumes nothing.
+use Prim.Native.Nat.{ℕ}
+use mathlib.Core.List.{List, []}
+use mathlib.Core.Option.{Option, none}
+use mathlib.Core.Bool.{cond}
+use lib.ListN.{getD}
+use lib.Dec.{eqb}
+use Rattle.model.specs.Tables.{table}
+use Rattle.model.specs.Plan.{Plan, positions, flowCount, entry}
+use Rattle.model.specs.Window.{Window, fromOn}
+
+pub record Flow : Type 0 where
+  pub injection : ℕ  -- IF
+  pub remainder : ℕ  -- C
+  pub held : List ℕ  -- what the flow holds at each position
+
+pub record Link : Type 0 where
+  pub plan : Plan
+  pub current : ℕ  -- CP
+  pub owners : List (Option ℕ)  -- the flow that booked each position
+  pub flows : List Flow
+
+-- what a call hands back: the next link and its answer
+pub record Step (A : Type 0) : Type 0 where
+  pub link : Link
+  pub answer : A
+
+abbrev pub window : Link → Window
+window l = record { slots = l .plan .slots; frames = l .plan .frames; current = l .current }
+
+-- ---- what is read of a link
+
+abbrev pub noFlow : Flow
+noFlow = record { injection = 0; remainder = 0; held = [] }
+
+abbrev pub owner : Link → ℕ → Option ℕ
+owner l p = getD (l .owners) p none
+
+abbrev pub flow : Link → ℕ → Flow
+flow l i = getD (l .flows) i noFlow
+
+-- what flow i holds at position p
+abbrev pub holding : Link → ℕ → ℕ → ℕ
+holding l i p = getD (flow l i .held) p 0
+
+abbrev pub share : Link → ℕ → ℕ
+share l i = entry (l .plan) i .share
+
+abbrev pub cells : Link → ℕ → ℕ
+cells l i = entry (l .plan) i .cells
+
+-- ---- a link with a part changed, and the others left
+
+abbrev pub withCurrent : Link → ℕ → Link
+withCurrent l p = record { plan = l .plan; current = p; owners = l .owners; flows = l .flows }
+
+-- the owner of each position p is f p
+abbrev pub withOwners : Link → (ℕ → Option ℕ) → Link
+withOwners l f = record { plan = l .plan; current = l .current; owners = table (positions (l .plan)) f; flows = l .flows }
+
+-- the part of each flow i is f i
+abbrev pub withFlows : Link → (ℕ → Flow) → Link
+withFlows l f = record { plan = l .plan; current = l .current; owners = l .owners; flows = table (flowCount (l .plan)) f }
+
+abbrev pub withFlow : Link → ℕ → Flow → Link
+withFlow l i x = withFlows l (λ j. cond (eqb j i) x (flow l j))
+
+-- ---- a flow's part with another injection frame and remainder, or other holdings
+
+abbrev pub movedTo : Flow → ℕ → ℕ → Flow
+movedTo x j c = record { injection = j; remainder = c; held = x .held }
+
+abbrev pub withHeld : Flow → List ℕ → Flow
+withHeld x h = record { injection = x .injection; remainder = x .remainder; held = h }
+
+-- flow i's holdings, changed by f at position p and at all later positions
+abbrev pub heldFrom : Link → ℕ → ℕ → (ℕ → ℕ) → List ℕ
+heldFrom l i p f = table (positions (l .plan)) (λ q. cond (fromOn (window l) p q) (f (holding l i q)) (holding l i q))

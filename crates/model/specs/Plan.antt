@@ -1,0 +1,152 @@
+-- The plan, its bytes and refusals 1 to 7. Document 01, "Plan bytes" and "Where a call is turned back". Assumes nothing.
+use Prim.Native.Nat.{ℕ, _+_, _*_, _≤_, _<_}
+use mathlib.Core.Path.{_≡_}
+use mathlib.Core.List.{List, _∷_, []}
+use mathlib.Core.Bool.{Bool, not, _&&_, _||_}
+use lib.ListN.{length, getD, drop}
+use lib.Dec.{ltb, eqb}
+use Rattle.model.specs.Tables.{table, any, sum, within}
+use Rattle.model.specs.Refusals.{Line, firstOf, _when_}
+
+-- ---- the plan
+
+-- "four bytes: share, cells, source node, destination node"
+pub record Entry : Type 0 where
+  pub share : ℕ
+  pub cells : ℕ
+  pub source : ℕ
+  pub destination : ℕ
+
+pub record Plan : Type 0 where
+  pub slots : ℕ  -- F, the slots of a frame
+  pub frames : ℕ  -- W, the frames of the window
+  pub buffer : ℕ  -- N, the quanta that the next board's buffer holds
+  pub entries : List Entry
+
+abbrev pub noEntry : Entry
+noEntry = record { share = 0; cells = 0; source = 0; destination = 0 }
+
+-- T = F × W
+abbrev pub positions : Plan → ℕ
+positions P = P .slots * P .frames
+
+-- n
+abbrev pub flowCount : Plan → ℕ
+flowCount P = length (P .entries)
+
+-- "A flow's number is its entry's place, from 0."
+abbrev pub entry : Plan → ℕ → Entry
+entry P i = getD (P .entries) i noEntry
+
+-- ---- the bytes
+
+-- "All header fields are 16-bit, low byte first: total length; flow count n; offset of the flow part; F; W; N."
+pub record Header : Type 0 where
+  pub total : ℕ
+  pub count : ℕ
+  pub offset : ℕ
+  pub slots : ℕ
+  pub frames : ℕ
+  pub buffer : ℕ
+
+-- the 16-bit field at a place
+abbrev pub field16 : List ℕ → ℕ → ℕ
+field16 b at = getD b at 0 + 256 * getD b (at + 1) 0
+
+abbrev pub headerOf : List ℕ → Header
+headerOf b = record {
+  total = field16 b 0;
+  count = field16 b 2;
+  offset = field16 b 4;
+  slots = field16 b 6;
+  frames = field16 b 8;
+  buffer = field16 b 10;
+}
+
+-- "It has n entries of four bytes"
+abbrev pub entryOf : List ℕ → ℕ → Entry
+entryOf part i = record {
+  share = getD part (4 * i) 0;
+  cells = getD part (4 * i + 1) 0;
+  source = getD part (4 * i + 2) 0;
+  destination = getD part (4 * i + 3) 0;
+}
+
+-- "The flow part starts at the header's offset, which is 12, and is read as a part on its own."
+abbrev pub entriesOf : ℕ → List ℕ → List Entry
+entriesOf n part = table n (entryOf part)
+
+-- the plan of a header and its entries
+abbrev pub planWith : Header → List Entry → Plan
+planWith h es = record { slots = h .slots; frames = h .frames; buffer = h .buffer; entries = es }
+
+abbrev pub planOf : List ℕ → Plan
+planOf b = planWith (headerOf b) (entriesOf (headerOf b .count) (drop 12 b))
+
+-- ---- the refusals
+
+-- "share 1 to F, cells 1 to 255, nodes 0 to 63. Source and destination differ."
+unfoldable pub entryFits : ℕ → Entry → Bool
+entryFits F e =
+    within 1 F (e .share) && within 1 255 (e .cells) && within 0 63 (e .source) && within 0 63 (e .destination)
+    && not (eqb (e .source) (e .destination))
+
+abbrev pub samePair : Entry → Entry → Bool
+samePair a b = eqb (a .source) (b .source) && eqb (a .destination) (b .destination)
+
+-- Tests 2 to 7 need no bytes, only a header and a plan, so that a writer makes them on the same numbers.
+
+-- "n out of range, offset not 12, or length not 12 + 4n"
+abbrev pub countTest : Header → Line
+countTest h = 2 when (not (within 1 16 (h .count)) || not (eqb (h .offset) 12) || not (eqb (h .total) (12 + 4 * h .count)))
+
+-- "F, W or N out of range, or T above 256"
+abbrev pub frameTest : ℕ → ℕ → ℕ → Line
+frameTest F W N = 3 when (not (within 1 64 F) || not (within 2 8 W) || not (within 1 4095 N) || ltb 256 (F * W))
+
+abbrev pub limitTests : Plan → List Line
+limitTests P =
+    frameTest (P .slots) (P .frames) (P .buffer)
+    -- "some entry breaks its limits"
+    ∷ 4 when any (flowCount P) (λ i. not (entryFits (P .slots) (entry P i)))
+    -- "two entries with equal source and destination"
+    ∷ 5 when any (flowCount P) (λ i. any i (λ j. samePair (entry P j) (entry P i)))
+    -- "their sum is above F"
+    ∷ 6 when ltb (P .slots) (sum (flowCount P) (λ i. entry P i .share))
+    -- "their sum is above N"
+    ∷ 7 when ltb (P .buffer) (sum (flowCount P) (λ i. entry P i .cells))
+    ∷ []
+
+-- "fewer than 12 bytes, or not the stated length"
+abbrev pub lengthTest : List ℕ → Line
+lengthTest b = 1 when (ltb (length b) 12 || not (eqb (length b) (headerOf b .total)))
+
+-- the refusal of a plan's bytes, and 0 where the plan is accepted
+unfoldable pub refusal : List ℕ → ℕ
+refusal b = firstOf (lengthTest b ∷ countTest (headerOf b) ∷ limitTests (planOf b))
+
+-- ---- what is known of an accepted plan
+
+pub record FittingEntry (P : Plan) (e : Entry) : Type 0 where
+  pub some-share : 1 ≤ e .share
+  pub share-most : e .share ≤ P .slots
+  pub some-cell : 1 ≤ e .cells
+  pub cells-most : e .cells ≤ 255
+  pub source-most : e .source ≤ 63
+  pub destination-most : e .destination ≤ 63
+  pub ends-differ : e .source ≡ e .destination → ⊥
+
+pub record Accepted (P : Plan) : Type 0 where
+  pub some-flow : 1 ≤ flowCount P
+  pub flows-most : flowCount P ≤ 16
+  pub some-slot : 1 ≤ P .slots
+  pub slots-most : P .slots ≤ 64
+  pub two-frames : 2 ≤ P .frames
+  pub frames-most : P .frames ≤ 8
+  pub some-place : 1 ≤ P .buffer
+  pub buffer-most : P .buffer ≤ 4095
+  pub positions-most : positions P ≤ 256
+  pub entries-fit : (i : ℕ) → i < flowCount P → FittingEntry P (entry P i)
+  pub pairs-differ : (i j : ℕ) → i < flowCount P → j < i → entry P j .source ≡ entry P i .source → entry P j .destination ≡ entry P i .destination → ⊥
+  pub shares-fit : sum (flowCount P) (λ i. entry P i .share) ≤ P .slots
+  pub cells-fit : sum (flowCount P) (λ i. entry P i .cells) ≤ P .buffer

@@ -1,0 +1,39 @@
+-- The bytes of plans, for examples. Document 01, "Plan bytes". Assumes nothing.
+use Prim.Native.Nat.{ℕ, _+_, _*_, _/_, _%_}
+use mathlib.Core.List.{List, _∷_, [], _++_, foldr}
+use lib.ListN.{length}
+
+-- a 16-bit number, low byte first
+abbrev pub field : ℕ → List ℕ
+field x = x % 256 ∷ x / 256 ∷ []
+
+abbrev pub header : (total n offset F W N : ℕ) → List ℕ
+header total n offset F W N = field total ++ field n ++ field offset ++ field F ++ field W ++ field N
+
+abbrev pub part : (share cells source destination : ℕ) → List ℕ
+part share cells source destination = share ∷ cells ∷ source ∷ destination ∷ []
+
+abbrev pub plan : (F W N : ℕ) → List (List ℕ) → List ℕ
+plan F W N parts = header (12 + 4 * length parts) (length parts) 12 F W N ++ foldr _++_ [] parts
+
+-- one flow, from node 1 to node 9
+abbrev pub plan1 : (F W N share cells : ℕ) → List ℕ
+plan1 F W N share cells = plan F W N (part share cells 1 9 ∷ [])
+
+-- two flows, from nodes 1 and 2 to node 9
+abbrev pub plan2 : (F W N share0 cells0 share1 cells1 : ℕ) → List ℕ
+plan2 F W N share0 cells0 share1 cells1 = plan F W N (part share0 cells0 1 9 ∷ part share1 cells1 2 9 ∷ [])
+
+-- F = 4, W = 2, N = 4, two flows with share 2 and 2 cells: the listing's bytes
+abbrev pub listing : List ℕ
+listing =
+    0x14 ∷ 0x00 ∷ 0x02 ∷ 0x00 ∷ 0x0C ∷ 0x00 ∷ 0x04 ∷ 0x00 ∷ 0x02 ∷ 0x00 ∷ 0x04 ∷ 0x00
+    ∷ 0x02 ∷ 0x02 ∷ 0x01 ∷ 0x09 ∷ 0x02 ∷ 0x02 ∷ 0x02 ∷ 0x09 ∷ []
+
+-- the same with 4 cells each and N = 8, so that a flow's shares run out before its cells
+abbrev pub roomy : List ℕ
+roomy = plan2 4 2 8 2 4 2 4
+
+-- F = 1, W = 2, N = 4, one flow with share 1 and 4 cells
+abbrev pub single : List ℕ
+single = plan1 1 2 4 1 4

@@ -1,0 +1,93 @@
+-- The request. Document 01, "The four calls", "Request", and refusals 8 to 12. Assumes nothing.
+use Prim.Native.Nat.{ℕ, zero, suc}
+use mathlib.Core.List.{List, _∷_, []}
+use mathlib.Core.Option.{Option, some, none}
+use mathlib.Core.Bool.{Bool, true, false, not, _&&_, cond}
+use lib.Dec.{ltb, eqb}
+use Rattle.model.specs.Tables.{firstFrom, ahead}
+use Rattle.model.specs.Refusals.{Line, firstOf, _when_}
+use Rattle.model.specs.Word.{flowOf, destinationOf, departureOf, depart}
+use Rattle.model.specs.Plan.{Plan, positions, flowCount, entry}
+use Rattle.model.specs.Calls.{Grant, accepted, refused}
+use Rattle.model.specs.Window.{Window, start, next, newest, passed, everyFrom}
+use Rattle.model.specs.Link.{Link, Step, window, owner, flow, holding, share, cells, withOwners, withFlow, movedTo, withHeld, heldFrom}
+
+-- ---- the word's own tests
+
+abbrev pub wordTests : Plan → ℕ → List Line
+wordTests P w =
+    -- "flow not below n"
+    8 when not (ltb (flowOf w) (flowCount P))
+    -- "not the plan's"
+    ∷ 9 when not (eqb (destinationOf w) (entry P (flowOf w) .destination))
+    -- "not below T"
+    ∷ 10 when not (ltb (departureOf w) (positions P))
+    ∷ []
+
+-- ---- the search
+
+abbrev pub unbooked : Option ℕ → Bool
+unbooked none = true
+unbooked (some i) = false
+
+-- "unbooked, later than CP when in HF, and the flow holds fewer than its cells there and at every later position of the window"
+unfoldable pub valid : Link → ℕ → ℕ → Bool
+valid l i p =
+    unbooked (owner l p) && not (passed (window l) p)
+    && everyFrom (window l) p (λ q. ltb (holding l i q) (cells l i))
+
+-- What the search comes to: the position to book, its frame and what C falls to; or no position, and what C then is.
+pub data Found : Type 0 where
+  found : (frame remainder position : ℕ) → Found
+  nowhere : (remainder : ℕ) → Found
+
+-- The search looks for a position that passes the test `ok`.
+module _ (w : Window) (ok : ℕ → Bool) (share : ℕ) where
+  -- the earliest position of frame j that is ok
+  abbrev pub earliest : ℕ → Option ℕ
+  earliest j = firstFrom (w .slots) (start w j) ok
+
+  abbrev pub orElse : ℕ → ℕ → Option ℕ → Found → Found
+  orElse j c (some p) rest = found j c p
+  orElse j c none rest = rest
+
+  -- The rule at frame j with remainder C, where `more` frames come after j up to the newest: "If C is above 0, the earliest valid position of IF
+  -- is booked, C falls by one"; "If C is 0 or there is none, and IF isn't newest, IF goes to the next frame, C becomes the share, and the rule applies again."
+  unfoldable pub search : ℕ → ℕ → ℕ → Found
+  search zero j zero = nowhere 0
+  search zero j (suc c) = orElse j c (earliest j) (nowhere (suc c))
+  search (suc more) j zero = search more (next w j) share
+  search (suc more) j (suc c) = orElse j c (earliest j) (search more (next w j) share)
+
+-- the search of flow i, from its injection frame to the newest
+unfoldable pub sought : Link → ℕ → Found
+sought l i =
+    search (window l) (valid l i) (share l i) (ahead (l .plan .frames) (flow l i .injection) (newest (window l)))
+    (flow l i .injection) (flow l i .remainder)
+
+-- ---- what the request does
+
+-- flow i books position p of frame j, with C left
+unfoldable pub booked : Link → ℕ → ℕ → ℕ → ℕ → Link
+booked l i j c p =
+    withFlow (withOwners l (λ q. cond (eqb q p) (some i) (owner l q))) i
+    (withHeld (movedTo (flow l i) j c) (heldFrom l i p suc))
+
+-- "11 and 12 leave IF newest, with C as the request rule leaves it, and nothing else changed."
+unfoldable pub refusedAtNewest : Link → ℕ → ℕ → Link
+refusedAtNewest l i c = withFlow l i (movedTo (flow l i) (newest (window l)) c)
+
+unfoldable pub answered : Link → ℕ → Found → Step Grant
+answered l w (found j c p) = record { link = booked l (flowOf w) j c p; answer = accepted (depart w p) }
+-- "C is 0"
+answered l w (nowhere zero) = record { link = refusedAtNewest l (flowOf w) 0; answer = refused 11 }
+-- "C above 0, no valid position"
+answered l w (nowhere (suc c)) = record { link = refusedAtNewest l (flowOf w) (suc c); answer = refused 12 }
+
+-- the request, where the word's own tests give the number r
+unfoldable pub requestAfter : ℕ → Link → ℕ → Step Grant
+requestAfter zero l w = answered l w (sought l (flowOf w))
+requestAfter (suc r) l w = record { link = l; answer = refused (suc r) }
+
+unfoldable pub request : Link → ℕ → Step Grant
+request l w = requestAfter (firstOf (wordTests (l .plan) w)) l w

@@ -1,0 +1,4 @@
+pub mod Tests
+pub mod Stored
+pub mod PlanLimits
+pub mod Reader
