@@ -1,5 +1,5 @@
 -- What the reader answers, by the place where it returns. Assumes nothing.
-use Prim.Native.Nat.{ℕ, _-_, _*_, _<_, _≤_}
+use Prim.Native.Nat.{ℕ, zero, suc, _-_, _*_, _<_, _≤_}
 use mathlib.Core.Path.{_≡_, sym, ap, _∙_, subst}
 use mathlib.Core.List.{List}
 use mathlib.Core.Bool.{true, false}
@@ -22,7 +22,12 @@ use Rattle.plan.specs.Reading.{headerFor, entryFor, noEntry, planFor, st
 
 -- what the reader promises of the outcome r of the bytes b
 abbrev pub Reads : List ℕ → Outcome → Type 0
-Reads b r = (r ≡ readOf b) × (model.refusal b ≡ 0 → Valid (r .plan))
+Reads b r = (r ≡ readOf b) × (r .verdict ≡ Accepted → Valid (r .plan))
+
+never-accepted : (n : ℕ) → 0 < n → verdictFor n ≡ Accepted → ⊥
+unfolding verdictFor
+never-accepted zero h e = omega arith
+never-accepted (suc n) h e = let z : _≡_ {A = ℕ} 0 1 = cc in omega arith
 
 -- a refusal
 pub refused-reads : (b : List ℕ) (r : Outcome) (n : ℕ) → 0 < n → model.refusal b ≡ n → r .verdict ≡ verdictFor n
@@ -31,7 +36,7 @@ unfolding readOf
 refused-reads b r n pos e v p =
     let verdict = v ∙ ap verdictFor (sym e) in
     let plan = p (model.planOf b) ∙ ap (λ k. planAfter k (model.planOf b)) (sym e) in
-    (λ k. record { verdict = verdict k; plan = plan k }, λ z. absurd (omega arith))
+    (λ k. record { verdict = verdict k; plan = plan k }, λ z. absurd (never-accepted n pos (sym v ∙ z)))
 
 -- ---- the refusal of the bytes, test by test
 

@@ -58,7 +58,7 @@ fn refused(number: u8) -> Outcome
 // Reads a plan's bytes. The tests are made in the order of their numbers, and the first that applies is the refusal.
 pub fn read(bytes: &[u8]) -> Outcome
     ensures is { λ r. ⌜ r ≡ readOf (now (bytes .entry)) ⌝ }
-    ensures valid { λ r. ⌜ (model.refusal (now (bytes .entry)) ≡ 0 → Valid (r .plan)) ⌝ }
+    ensures valid { λ r. ⌜ (r .verdict ≡ Verdict.Accepted → Valid (r .plan)) ⌝ }
 {
     if bytes.len() < 12 {
         return refused(1);
