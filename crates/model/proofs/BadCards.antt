@@ -10,12 +10,12 @@ use Rattle.model.specs.Word.{departureOf, depart}
 use Rattle.model.specs.Plan.{flowCount, planOf, refusal}
 use Rattle.model.specs.Calls.{Call, History, requested, credited, accepted, refused}
 use Rattle.model.specs.History.{slotAfter}
-use Rattle.model.specs.Link.{Link}
+use Rattle.model.specs.Link.{Link, holding}
 use Rattle.model.specs.Card.{Card, Meets, run, paper}
 use Rattle.model.specs.PlanBytes.{listing, single}
 use Rattle.model.specs.Edges.{Passes, markedEdges}
 use Rattle.model.specs.Parts.{Part}
-use Rattle.model.specs.BadCards.{refusesAll, grantsOne, writesNoBooking, firstWindowOnly, inventsHolding, startsAtZero, testsOwnPosition, walksPastEnd, stopsAtLastFrame, dropsHoldings}
+use Rattle.model.specs.BadCards.{refusesAll, refusesFlow1, grantsOne, writesNoBooking, firstWindowOnly, inventsHolding, fullest, startsAtZero, testsOwnPosition, walksPastEnd, stopsAtLastFrame, dropsHoldings}
 use Rattle.model.proofs.Compute.{plans-compute, calls-compute, counts-compute}
 use Rattle.model.proofs.Decisions.{IsNo, refuted}
 use Rattle.model.proofs.Decide.{decided, part-of}
@@ -54,6 +54,13 @@ events-compute = tt
 pub refuses-all : (refusal : Link → ℕ → Link × ℕ) → Meets (refusesAll refusal) → ⊥
 unfolding events-compute
 refuses-all refusal = sent-back (refusesAll refusal) two-flows (Call.request 0x24000000 ∷ []) Part.least tt
+
+pub refuses-flow-1 : Meets refusesFlow1 → ⊥
+unfolding events-compute
+refuses-flow-1 meets =
+    let calls = Call.request 0x24100000 ∷ [] in
+    refuted (decided Part.least (planOf listing) 1 (run refusesFlow1 (planOf listing) calls .history)) tt
+    (part-of (meets listing refl calls 1 (lit< tt)) Part.least)
 
 -- three grants, where the most count is 2
 pub grants-one-most : (p : ℕ) (next : Link → ℕ → Link) → Meets (grantsOne p next) → ⊥
@@ -101,18 +108,26 @@ abbrev listingBegins : History
 listingBegins = requested 0x24000800 (refused 12) ∷ requested 0x24000400 (accepted 0x24000402) ∷ requested 0x24000000 (accepted 0x24000001) ∷ []
 
 pub invented-answers :
-    run (inventsHolding (λ l i q. 0)) (planOf listing) listingCalls .history ≡ requested 0x24000800 (refused 12) ∷ credited 0 4 (refused 15) ∷ listingBegins
+    run (inventsHolding holding (λ l i q. 0)) (planOf listing) listingCalls .history ≡ requested 0x24000800 (refused 12) ∷ credited 0 4 (refused 15) ∷ listingBegins
 unfolding calls-compute
 invented-answers = refl
 
-pub invents-holding : run (inventsHolding (λ l i q. 0)) (planOf listing) listingCalls .history ≡ run paper (planOf listing) listingCalls .history → ⊥
+pub invents-holding : run (inventsHolding holding (λ l i q. 0)) (planOf listing) listingCalls .history ≡ run paper (planOf listing) listingCalls .history → ⊥
 unfolding calls-compute
 invents-holding e = let z : _≡_ {A = ℕ} 0 1 = cc in omega arith
 
+-- Where it invents, for requests, that a flow which holds all of its cells somewhere holds them everywhere, it takes the listing's credit and then
+-- refuses the request with 12, where the paper's card grants 4. Demand 3 does not see it: the request is made with both cells held at slot 2.
+pub invented-full :
+    run (inventsHolding fullest holding) (planOf listing) listingCalls .history
+    ≡ requested 0x24000800 (refused 12) ∷ credited 0 4 (accepted tt) ∷ listingBegins
+unfolding calls-compute
+invented-full = refl
+
 -- Where it invents a cell held everywhere, it takes a credit with nothing held, and demand 3 sends it back.
-pub invents-a-cell : Meets (inventsHolding (λ l i q. 1)) → ⊥
+pub invents-a-cell : Meets (inventsHolding holding (λ l i q. 1)) → ⊥
 unfolding events-compute
-invents-a-cell = sent-back (inventsHolding (λ l i q. 1)) two-flows (Call.credit 0 1 ∷ []) Part.within-cells tt
+invents-a-cell = sent-back (inventsHolding holding (λ l i q. 1)) two-flows (Call.credit 0 1 ∷ []) Part.within-cells tt
 
 -- ---- "Three slips that would pass the sparse flight"
 

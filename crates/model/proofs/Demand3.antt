@@ -7,18 +7,19 @@ use native.Mathlib.Omega.{arith}
 use lib.Dec.{eqb}
 use borrow.Author.Tests.{eqb-true, eq-eqb}
 use Rattle.model.specs.Tables.{sum}
-use Rattle.model.specs.Plan.{Plan, flowCount, entry, Accepted}
+use Rattle.model.specs.Plan.{Plan, flowCount, entry, planOf, Accepted}
 use Rattle.model.specs.Calls.{Event, History}
 use Rattle.model.specs.Link.{Link}
 use Rattle.model.specs.History.{Mark, ticks, changes, frameOf, grants, granted, grantedIn, ofFlow, inFrame}
 use Rattle.model.specs.Claim.{Each, Persistent, Demand3}
-use Rattle.model.specs.Card.{Meets, paper}
+use Rattle.model.specs.Card.{Meets, MeetsOn, paper}
 use Rattle.model.proofs.Tests.{and-true}
 use Rattle.model.proofs.Tallies.{all-map, sum-le, sum-const, sum-tail, tally-join, tally-split, Classed}
 use Rattle.model.proofs.Slots.{frame-high}
 use Rattle.model.proofs.Invariant.{Granted}
 use Rattle.model.proofs.Histories.{changes-are}
 use Rattle.model.proofs.After.{AskedOn, After}
+use Rattle.model.proofs.Plan.{accepted}
 use Rattle.model.proofs.Runs.{after-run}
 
 each-map : (Q R : Event → History → Type 0) → ((e : Event) (h : History) → Q e h → R e h) → (h : History) → Each Q h → Each R h
@@ -96,5 +97,9 @@ module _ (l : Link) (h : History) (g : After (l .plan) l h) (i : ℕ) (known : i
     granted-words = each-map _ _ (λ e h c. c .word) h (g .events);
   }
 
+-- demand 3 on any plan that keeps the limits, and so on the plan of any bytes that are accepted
+pub meets-accepted : (P : Plan) → Accepted P → MeetsOn paper P
+meets-accepted = after-run (λ P l h. (i : ℕ) → i < flowCount P → Demand3 P i h) demand3
+
 pub meets : Meets paper
-meets = after-run (λ P l h. (i : ℕ) → i < flowCount P → Demand3 P i h) demand3
+meets bytes passes = meets-accepted (planOf bytes) (accepted bytes passes)

@@ -31,6 +31,7 @@ pub mod After
 pub mod Runs
 pub mod Demand3
 pub mod Holding
+pub mod Buffer
 -- edges, cards that demand 3 sends back, and a stream that meets the premise of the least count
 pub mod Compute
 pub mod Edges
@@ -39,3 +40,4 @@ pub mod Decide
 pub mod BadHistories
 pub mod BadCards
 pub mod Witness
+pub mod PlanKept

@@ -13,7 +13,7 @@ use borrow.Author.Tests.{ltb-true, ne-eqb, not-false}
 use Rattle.model.specs.Tables.{tally}
 use Rattle.model.specs.Refusals.{firstOf}
 use Rattle.model.specs.Word.{flowOf, departureOf, depart}
-use Rattle.model.specs.Plan.{Plan, flowCount, planOf, refusal, Accepted}
+use Rattle.model.specs.Plan.{Plan, flowCount, Accepted}
 use Rattle.model.specs.Calls.{Call, Grant, Turn, History, requested, credited, ticked, accepted, refused}
 use Rattle.model.specs.Window.{newest}
 use Rattle.model.specs.Link.{Link, window, flow, movedTo, withHeld, heldFrom}
@@ -23,7 +23,6 @@ use Rattle.model.specs.Credit.{creditTests, lowered, creditAfter, credit
 use Rattle.model.specs.Tick.{advanced, tick}
 use Rattle.model.specs.History.{ticks, frameOf, grants, credits, refusals, refusedIn, wellFormed, inFrame, Owns}
 use Rattle.model.specs.Card.{Played, paper, step, play, started, run}
-use Rattle.model.proofs.Plan as plan
 use Rattle.model.proofs.Tests.{line-passed}
 use Rattle.model.proofs.Word.{departure-depart}
 use Rattle.model.proofs.Slots.{frame-stays, frame-changes}
@@ -217,9 +216,8 @@ after-fresh ok = record { plan-is = refl; invariant = fresh-keeps ok; events = t
 
 -- What holds of each link that stands after a history holds after every list of calls.
 pub after-run : (Q : Plan → Link → History → Type 0) → ((l : Link) (h : History) → After (l .plan) l h → Q (l .plan) l h)
-    → (bytes : List ℕ) → refusal bytes ≡ 0
-    → (calls : List Call) → Q (planOf bytes) (run paper (planOf bytes) calls .state) (run paper (planOf bytes) calls .history)
-after-run Q holds bytes passes calls =
-    let r = run paper (planOf bytes) calls in
-    let g = after-calls (started paper (planOf bytes)) calls (after-fresh (plan.accepted bytes passes)) in
-    subst (λ P. Known P r → Q P (r .state) (r .history)) (g .plan-is) (holds (r .state) (r .history)) g
+    → (P : Plan) → Accepted P → (calls : List Call) → Q P (run paper P calls .state) (run paper P calls .history)
+after-run Q holds P ok calls =
+    let r = run paper P calls in
+    let g = after-calls (started paper P) calls (after-fresh ok) in
+    subst (λ R. Known R r → Q R (r .state) (r .history)) (g .plan-is) (holds (r .state) (r .history)) g

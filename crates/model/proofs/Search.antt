@@ -38,10 +38,10 @@ module _ (w : Window) (ok : ℕ → Bool) (share last : ℕ) (Q : ℕ → ℕ �
   Ends (nowhere c) = Q last c × Fails w ok share (last % w .frames) c
 
   in-frame : (a c : ℕ) → a ≤ last → Q a (suc c) → (rest : Found) → (Fails w ok share (a % w .frames) (suc c) → Ends rest)
-      → Ends (orElse w ok share (a % w .frames) c (earliest w ok share (a % w .frames)) rest)
+      → Ends (orElse (a % w .frames) c (earliest w ok share (a % w .frames)) rest)
   in-frame a c h q rest otherwise = go (earliest w ok share (a % w .frames)) refl
     where
-      go : (o : Option ℕ) → earliest w ok share (a % w .frames) ≡ o → Ends (orElse w ok share (a % w .frames) c o rest)
+      go : (o : Option ℕ) → earliest w ok share (a % w .frames) ≡ o → Ends (orElse (a % w .frames) c o rest)
       go (some p) e = record {
         frame = a;
         frame-le = h;

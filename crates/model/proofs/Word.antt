@@ -4,7 +4,7 @@ use mathlib.Core.Path.{_≡_, sym, ap, _∙_}
 use mathlib.Core.Bool.{true}
 use native.Mathlib.Nat.{div-div-eq-div-mul, div-add-mod', div-one, mod-eq-of-lt}
 use native.Mathlib.Omega.{arith}
-use borrow.Author.Tests.{ltb-true}
+use borrow.Author.Tests.{ltb-true, lt-ltb}
 use Rattle.model.specs.Word.{Fields, destinationOf, flowOf, quantumOf, departureOf, split, join, fits, departing, depart}
 use Rattle.model.proofs.Tests.{and-true}
 
@@ -82,3 +82,12 @@ departure-depart w p h = ap (λ (f : Fields). f .departure) (split-depart w p h)
 
 pub depart-small : (w p : ℕ) → p < 1024 → depart w p < 2 ^ 32
 depart-small w p h = let f = split-fits w in omega arith
+
+-- every word's fields fit their widths, and so do any that are below them
+pub fitting-fits : (f : Fields) → Fitting f → fits f ≡ true
+unfolding fits
+fitting-fits f h =
+    rw (lt-ltb (f .destination) 64 (h .destination), lt-ltb (f .flow) 64 (h .flow), lt-ltb (f .quantum) 1024 (h .quantum), lt-ltb (f .departure) 1024 (h .departure))
+
+pub split-is-fitting : (w : ℕ) → fits (split w) ≡ true
+split-is-fitting w = fitting-fits (split w) (split-fits w)

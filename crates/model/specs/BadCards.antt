@@ -3,18 +3,18 @@
 -- Each is the paper's card but for one fault.
 use Prim.Native.Nat.{ℕ, zero, suc, _-_, _%_}
 use mathlib.Core.List.{List, _∷_, []}
-use mathlib.Core.Bool.{Bool, not, cond}
+use mathlib.Core.Bool.{Bool, not, _&&_, cond}
 use lib.Dec.{ltb, eqb}
 use lib.ListN.{replicate}
 use mathlib.Core.Option.{none}
-use Rattle.model.specs.Tables.{table, firstFrom, ahead}
+use Rattle.model.specs.Tables.{table, every, firstFrom, ahead}
 use Rattle.model.specs.Refusals.{Line, firstOf, _when_}
 use Rattle.model.specs.Word.{flowOf, depart}
 use Rattle.model.specs.Plan.{Plan, positions, flowCount}
 use Rattle.model.specs.Calls.{Grant, Receipt, Turn, accepted, refused}
 use Rattle.model.specs.Window.{passed, everyFrom, frameAt, start, next, newest}
-use Rattle.model.specs.Link.{Link, Step, window, flow, holding, share, withFlows, withHeld}
-use Rattle.model.specs.Request.{Found, nowhere, wordTests, valid, orElse, search, answered}
+use Rattle.model.specs.Link.{Link, Step, window, owner, flow, holding, share, cells, withFlows, withHeld}
+use Rattle.model.specs.Request.{Found, nowhere, wordTests, unbooked, valid, orElse, search, answered}
 use Rattle.model.specs.Credit.{creditAfter}
 use Rattle.model.specs.Tick.{nextPosition}
 use Rattle.model.specs.Card.{Card, paper}
@@ -41,6 +41,10 @@ withTick tick = record { State = Link; fresh = paper .fresh; request = paper .re
 -- "refuses every request": with any number, whatever it does to the link
 abbrev pub refusesAll : (Link → ℕ → Link × ℕ) → Card
 refusesAll refusal = withRequest (λ l w. (refusal l w .0, refused (refusal l w .1)))
+
+-- the same for flow 1 alone: "the claim holds for each" stream
+abbrev pub refusesFlow1 : Card
+refusesFlow1 = withRequest (λ l w. cond (eqb (flowOf w) 1) (l, refused 12) (paper .request l w))
 
 -- "grants one position every time": position p, whatever it does to the link
 abbrev pub grantsOne : ℕ → (Link → ℕ → Link) → Card
@@ -82,10 +86,6 @@ creditTestsWith holds l i p =
 abbrev withHoldingTest : (Link → ℕ → ℕ → Bool) → Card
 withHoldingTest holds = withCredit (λ l i p. both (creditAfter (firstOf (creditTestsWith holds l i p)) l i p))
 
--- "invents the holding": credits are tested against an invented one
-abbrev pub inventsHolding : (Link → ℕ → ℕ → ℕ) → Card
-inventsHolding invented = withHoldingTest (λ l i p. everyFrom (window l) p (λ q. ltb 0 (invented l i q)))
-
 -- "reports 11 before booking anything": each flow starts in the newest frame with C = 0
 abbrev pub startsAtZero : Card
 startsAtZero = withFresh (λ P. record {
@@ -109,13 +109,36 @@ searched sought (suc r) l w = (l, refused (suc r))
 abbrev withSearch : (Link → ℕ → Found) → Card
 withSearch sought = withRequest (λ l w. searched sought (firstOf (wordTests (l .plan) w)) l w)
 
+-- "invents the holding": requests and credits are tested against invented ones
+abbrev validWith : (Link → ℕ → ℕ → ℕ) → Link → ℕ → ℕ → Bool
+validWith invented l i p =
+    unbooked (owner l p) && not (passed (window l) p) && everyFrom (window l) p (λ q. ltb (invented l i q) (cells l i))
+
+abbrev soughtWith : (Link → ℕ → ℕ → ℕ) → Link → ℕ → Found
+soughtWith invented l i =
+    search (window l) (validWith invented l i) (share l i) (ahead (l .plan .frames) (flow l i .injection) (newest (window l)))
+    (flow l i .injection) (flow l i .remainder)
+
+abbrev pub inventsHolding : (forRequests forCredits : Link → ℕ → ℕ → ℕ) → Card
+inventsHolding forRequests forCredits = record {
+  State = Link;
+  fresh = paper .fresh;
+  request = withSearch (soughtWith forRequests) .request;
+  credit = withHoldingTest (λ l i p. everyFrom (window l) p (λ q. ltb 0 (forCredits l i q))) .credit;
+  tick = paper .tick;
+}
+
+-- all of its cells everywhere, where the flow holds them anywhere in the window
+abbrev pub fullest : Link → ℕ → ℕ → ℕ
+fullest l i q = cond (every (positions (l .plan)) (λ p. ltb (holding l i p) (cells l i))) 0 (cells l i)
+
 -- "Ending the last frame's walk at position 0 without going round": the walk of frame W - 1 never meets 0, and goes on through the 256 entries
 module _ (l : Link) (i : ℕ) where
   abbrev walked : ℕ → ℕ
   walked j = cond (eqb (suc j) (l .plan .frames)) (256 - start (window l) j) (l .plan .slots)
 
   abbrev foundPastEnd : ℕ → ℕ → Found → Found
-  foundPastEnd j c rest = orElse (window l) (valid l i) (share l i) j c (firstFrom (walked j) (start (window l) j) (valid l i)) rest
+  foundPastEnd j c rest = orElse j c (firstFrom (walked j) (start (window l) j) (valid l i)) rest
 
   abbrev searchPastEnd : (more j c : ℕ) → Found
   searchPastEnd zero j zero = nowhere 0

@@ -2,7 +2,7 @@
 use Prim.Native.Nat.{ℕ, _+_}
 use mathlib.Core.List.{List, _∷_, [], reverse}
 use mathlib.Core.Option.{some, none}
-use Rattle.model.specs.PlanBytes.{plan2, listing, roomy}
+use Rattle.model.specs.PlanBytes.{plan1, plan2, listing, roomy}
 use Rattle.model.specs.Plan.{planOf}
 use Rattle.model.specs.Calls.{Event, requested, credited, ticked, accepted, refused}
 use Rattle.model.specs.Parts.{Part, BreaksAlone}
@@ -62,4 +62,32 @@ badHistories =
     ∷ record { part = Part.granted-words; bytes = listing; events = requested 0x20000000 (accepted 0x20000001) ∷ [] }
     ∷ record { part = Part.granted-words; bytes = listing; events = requested 0x24200000 (accepted 0x24200001) ∷ [] }
     ∷ record { part = Part.granted-words; bytes = listing; events = requested 0x24000008 (accepted 0x24000001) ∷ [] }
+    -- seven slots after one frame change: two of each of the frames 0 to 2, and after a tick slot 12, in frame 3
+    ∷ record {
+      part = Part.most;
+      bytes = plan2 4 2 16 2 8 2 8;
+      events =
+          granted 1 ∷ granted 2 ∷ granted 4 ∷ granted 5 ∷ ticked (some 0) ∷ ticked (some 0) ∷ ticked none ∷ ticked (some 0) ∷ granted 0 ∷ granted 1
+          ∷ ticked (some 0) ∷ granted 4 ∷ [];
+    }
+    -- three frames and three frame changes: the least count is 5, and four slots are granted
+    ∷ record {
+      part = Part.least;
+      bytes = plan1 1 3 8 1 8;
+      events =
+          granted 1 ∷ granted 2 ∷ requested 0x24000000 (refused 11) ∷ ticked (some 0) ∷ granted 0 ∷ requested 0x24000000 (refused 11)
+          ∷ ticked (some 0) ∷ granted 1 ∷ requested 0x24000000 (refused 11) ∷ ticked (some 0) ∷ requested 0x24000000 (refused 11) ∷ [];
+    }
+    -- both cells are held at slot 2; then, and at no request of its own that is well formed, the flow asks for another node, and flow 1 asks;
+    -- both fall free from slot 3 on, and slot 2 is gone when it asks again
+    ∷ record {
+      part = Part.least;
+      bytes = listing;
+      events =
+          granted 1 ∷ granted 2 ∷ requested 0x20000800 (refused 9) ∷ requested 0x24100000 (accepted 0x24100003)
+          ∷ credited 0 3 (accepted tt) ∷ credited 0 3 (accepted tt) ∷ ticked (some 0) ∷ ticked (some 0) ∷ ticked (some 1)
+          ∷ requested 0x24000800 (refused 12) ∷ ticked none ∷ requested 0x24000800 (refused 12) ∷ [];
+    }
+    -- flow 2 of two, with the node 0 that an entry past the last has
+    ∷ record { part = Part.granted-words; bytes = listing; events = requested 0x00200000 (accepted 0x00200001) ∷ [] }
     ∷ []

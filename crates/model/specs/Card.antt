@@ -40,11 +40,13 @@ started c P = record { state = c .fresh P; history = [] }
 abbrev pub run : (c : Card) → Plan → List Call → Played c
 run c P calls = play c (started c P) calls
 
--- Demand 3 of a card: for the bytes of every accepted plan, every list of calls and every flow.
+-- Demand 3 of a card on one plan: for every list of calls and every flow. Words, flows and positions are any numbers, more than a program can be given.
+abbrev pub MeetsOn : Card → Plan → Type 0
+MeetsOn c P = (calls : List Call) (i : ℕ) → i < flowCount P → Demand3 P i (run c P calls .history)
+
+-- Demand 3 of a card, for the bytes of every accepted plan. That the card below meets it is `meets`, in proofs/Demand3.antt.
 abbrev pub Meets : Card → Type 0
-Meets c =
-    (bytes : List ℕ) → refusal bytes ≡ 0 → (calls : List Call) (i : ℕ) → i < flowCount (planOf bytes)
-    → Demand3 (planOf bytes) i (run c (planOf bytes) calls .history)
+Meets c = (bytes : List ℕ) → refusal bytes ≡ 0 → MeetsOn c (planOf bytes)
 
 -- the card of document 01
 abbrev pub paper : Card

@@ -1,7 +1,16 @@
 -- Demand 3: one claim about the events of a whole list of calls. Document 01, "What demand 3 counts". It names no link. Assumes nothing.
 --
--- What it cannot see is demand 2's, and is said by the equations of each call: 11 and 12 exchanged, what C is after a refusal, credits refused
--- that should be taken, and requests refused to a stream that once failed to ask until it was refused.
+-- With k frame changes so far a stream is granted at most (W + k) × share slots, and at most its share in any frame. One that asks until it is
+-- refused in each of the frames 0 to k, and at each of its well-formed requests holds fewer than its cells in every slot from the current one on,
+-- is granted at least (W - 1 + k) × share.
+--
+-- Demand 3 cannot see what follows; demand 2's equations of each call say it:
+-- - which number a refusal has, and what C and IF are after it;
+-- - which of a frame's valid positions is granted, as long as the counts come out;
+-- - credits refused that should be taken, and credits taken that should be refused with 8, 13 or 14 (of a position p of T or more it counts p modulo T);
+-- - requests refused to a stream that lapsed once: in some frame it was not refused, so that a stream that asks for less than its share has no least
+--   count from the next frame on; or once it asked with all of its cells held in a slot from the current one on, as flow 0 does in the listing's third
+--   call. A card that gives a flow 12 for ever after its first 12 meets demand 3.
 use Prim.Native.Nat.{ℕ, _+_, _-_, _*_, _≤_, _<_}
 use mathlib.Core.Path.{_≡_}
 use mathlib.Core.Logic.{_↔_}
@@ -76,9 +85,13 @@ HeldAt P i e h = (s : ℕ) → Held P i (e ∷ h) s
 -- ---- the claim, for flow i
 
 pub record Demand3 (P : Plan) (i : ℕ) (h : History) : Type 0 where
+  -- at most (W + k) × share slots
   pub most : granted P h i ≤ (P .frames + changes P h) * entry P i .share
+  -- at most its share "in any frame"
   pub most-in-a-frame : (f : ℕ) → grantedIn P h i f ≤ entry P i .share
+  -- at least (W - 1 + k) × share slots, for a stream that asks until it is refused
   pub least : Persistent P i h → (P .frames - 1 + changes P h) * entry P i .share ≤ granted P h i
+  -- "No two grants of the list are of one slot."
   pub one-owner : (s : ℕ) → ownersOf P h s ≤ 1
   pub within-cells : Each (HeldAt P i) h
   pub within-a-window : Each (SoonAt P) h

@@ -316,6 +316,22 @@ callEdges =
     ∷ follows roomy (grant 0 1 ∷ serve 0 ∷ idle ∷ idle ∷ idle ∷ grant 0 5 ∷ grant 0 6 ∷ grant 0 0 ∷ [])
     -- a flow whose IF is not HF keeps its C of 1: it books 5 and then 0; and its booking at 4, in the new head frame, comes up
     ∷ follows roomy (grant 0 1 ∷ grant 0 2 ∷ grant 0 4 ∷ serve 0 ∷ serve 0 ∷ idle ∷ serve 0 ∷ grant 0 5 ∷ credit 0 5 ∷ grant 0 0 ∷ [])
+    -- a cell falls free from the credit's date on and not before: with both held, 4 and 5 are full
+    ∷ follows listing (grant 0 1 ∷ grant 0 2 ∷ credit 0 6 ∷ grant 0 6 ∷ [])
+    -- flow 1's own credits and holdings
+    ∷ follows listing (grant 1 1 ∷ grant 1 2 ∷ reject 0 2 15 ∷ credit 1 5 ∷ credit 1 5 ∷ reject 1 5 15 ∷ [])
+    ∷ follows listing (grant 1 1 ∷ grant 1 2 ∷ serve 1 ∷ serve 1 ∷ idle ∷ idle ∷ refuse 1 12 ∷ [])
+    -- at a frame change flow 1 gets its own share of 3, and moves though flow 0's IF is not HF
+    ∷ follows (plan2 4 2 16 1 8 3 8) (idle ∷ idle ∷ idle ∷ idle ∷ grant 1 5 ∷ grant 1 6 ∷ grant 1 7 ∷ grant 1 0 ∷ grant 1 1 ∷ grant 1 2 ∷ refuse 1 11 ∷ [])
+    ∷ follows roomy (grant 0 1 ∷ grant 0 2 ∷ grant 0 4 ∷ serve 0 ∷ serve 0 ∷ idle ∷ serve 0 ∷ grant 1 5 ∷ [])
+    -- three frames: the recycled frame takes the holding of the window's end, 0, and not of the second frame's, 2
+    ∷ follows (plan1 2 3 4 2 2) (grant 0 1 ∷ grant 0 2 ∷ credit 0 4 ∷ credit 0 4 ∷ serve 0 ∷ serve 0 ∷ grant 0 4 ∷ [])
+    -- three flows
+    ∷ follows (plan 4 2 8 (part 1 2 1 9 ∷ part 1 2 2 9 ∷ part 1 2 3 9 ∷ [])) (grant 2 1 ∷ grant 2 4 ∷ refuse 2 11 ∷ grant 1 2 ∷ serve 2 ∷ serve 1 ∷ idle ∷ serve 2 ∷ credit 2 5 ∷ grant 2 0 ∷ [])
+    -- the quantum number is not tested: the same again after a grant
+    ∷ plays listing (requested 0x24000000 (accepted 0x24000001) ∷ requested 0x24000000 (accepted 0x24000002) ∷ requested 0x240FFC00 (refused 12) ∷ [])
+    -- 8 though node 0 is that of an entry past the last
+    ∷ plays listing (requested 0x00200000 (refused 8) ∷ [])
     ∷ []
 
 unfoldable pub edges : List Case

@@ -15,6 +15,7 @@ pub mod History
 pub mod Claim
 pub mod Card
 pub mod Holding
+pub mod Buffer
 -- worked examples, and cards that are sent back
 pub mod PlanBytes
 pub mod Edges

@@ -41,22 +41,25 @@ pub data Found : Type 0 where
   found : (frame remainder position : ℕ) → Found
   nowhere : (remainder : ℕ) → Found
 
--- The search looks for a position that passes the test `ok`.
+-- the position, where there is one, booked in frame j with C fallen to c; else what the search comes to without it
+abbrev pub orElse : (j c : ℕ) → Option ℕ → Found → Found
+orElse j c (some p) rest = found j c p
+orElse j c none rest = rest
+
+-- The request rule, where a position is valid if it passes `ok`. IF is frame j, C the last argument, and `more` frames come after j up to the newest.
 module _ (w : Window) (ok : ℕ → Bool) (share : ℕ) where
-  -- the earliest position of frame j that is ok
+  -- "the earliest valid position of IF"
   abbrev pub earliest : ℕ → Option ℕ
   earliest j = firstFrom (w .slots) (start w j) ok
 
-  abbrev pub orElse : ℕ → ℕ → Option ℕ → Found → Found
-  orElse j c (some p) rest = found j c p
-  orElse j c none rest = rest
-
-  -- The rule at frame j with remainder C, where `more` frames come after j up to the newest: "If C is above 0, the earliest valid position of IF
-  -- is booked, C falls by one"; "If C is 0 or there is none, and IF isn't newest, IF goes to the next frame, C becomes the share, and the rule applies again."
-  unfoldable pub search : ℕ → ℕ → ℕ → Found
+  unfoldable pub search : (more j remainder : ℕ) → Found
+  -- IF is newest. C is 0: 11
   search zero j zero = nowhere 0
+  -- IF is newest. "If C is above 0, the earliest valid position of IF is booked, C falls by one"; there is none: 12
   search zero j (suc c) = orElse j c (earliest j) (nowhere (suc c))
+  -- "If C is 0 .., and IF isn't newest, IF goes to the next frame, C becomes the share, and the rule applies again."
   search (suc more) j zero = search more (next w j) share
+  -- C is above 0: the earliest valid position; "or there is none": the next frame
   search (suc more) j (suc c) = orElse j c (earliest j) (search more (next w j) share)
 
 -- the search of flow i, from its injection frame to the newest

@@ -40,9 +40,13 @@ rank w p = ahead (size w) (start w (head w)) p
 abbrev pub later : Window → ℕ → ℕ → Bool
 later w p q = ltb (rank w q) (rank w p)
 
+-- p lies in HF
+abbrev pub inHead : Window → ℕ → Bool
+inHead w p = eqb (frameAt w p) (head w)
+
 -- "in HF and not later than CP"
 unfoldable pub passed : Window → ℕ → Bool
-passed w p = eqb (frameAt w p) (head w) && not (later w p (w .current))
+passed w p = inHead w p && not (later w p (w .current))
 
 -- q is p, or later than p
 unfoldable pub fromOn : Window → ℕ → ℕ → Bool
