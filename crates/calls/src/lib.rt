@@ -2,7 +2,8 @@
 mod lines;
 mod records;
 
-pub use lines::{write, write_plan};
+pub use lines::write;
+pub use lines::write_plan;
 pub use records::read;
 
 // A call on a link.

@@ -1,11 +1,12 @@
 // Call records: five bytes each.
 ghost use mathlib.Core.Path.{_≡_};
-ghost use Prim.Native.Nat.{_+_, _<_, _≤_};
+ghost use Prim.Native.Nat.{_+_, _<_};
 ghost use lib.ListN.{length, take, drop};
 ghost use Rattle.model.specs.Plan.{field16};
 ghost use Rattle.model.specs.Record.{field32, callOf};
 ghost use Rattle.calls.specs.Reading.{recordFor};
-use crate::{Call, Record};
+use crate::Call;
+use crate::Record;
 
 fn wide(byte: u8) -> u32
     ensures { λ r. ⌜ (r ≡ byte) × (r < 256) ⌝ }
@@ -47,7 +48,7 @@ pub fn read(records: &[u8], at: usize) -> Record
         if records[at + 4] != 0 {
             return Record::NoCall;
         }
-        let flow = records[at + 1];
+        let flow = wide(records[at + 1]);
         let position = half(records, at + 2);
         return Record::Call(Call::Credit(flow as usize, position as usize));
     }

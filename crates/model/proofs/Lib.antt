@@ -31,6 +31,9 @@ pub mod After
 pub mod Runs
 pub mod Demand3
 pub mod Holding
+-- the program
+pub mod Decimal
+pub mod Records
 -- edges, cards that demand 3 sends back, and a stream that meets the premise of the least count
 pub mod Compute
 pub mod Edges
