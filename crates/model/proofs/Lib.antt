@@ -34,6 +34,7 @@ pub mod Holding
 -- the program
 pub mod Decimal
 pub mod Records
+pub mod Listing
 -- edges, cards that demand 3 sends back, and a stream that meets the premise of the least count
 pub mod Compute
 pub mod Edges

@@ -86,6 +86,12 @@ unfoldable pub linkAfterCalls : Link → List (Option Call) → Link
 linkAfterCalls l [] = l
 linkAfterCalls l (c ∷ cs) = linkAfterCalls (made l c .link) cs
 
+-- the calls that are made, and their events
+abbrev pub present : {A : Type 0} → List (Option A) → List A
+present [] = []
+present (some x ∷ rest) = x ∷ present rest
+present (none ∷ rest) = present rest
+
 -- the lines of a stream of records, from a link
 unfoldable pub listing : Link → List ℕ → List ℕ
 listing l bytes = flatMap lineOf (outcomes l (callsOf bytes))
