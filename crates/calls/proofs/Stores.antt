@@ -45,7 +45,7 @@ puts-same {before} {after} {at} {next} e p = rw e at p
 
 -- what a writer promises of a line
 abbrev pub Written : (line before after : List ℕ) → (at next : ℕ) → Type 0
-Written line before after at next = (after ≡ outWith line before at) × (next ≡ nextAfter line before at)
+Written line before after at next = (after ≡ outWith line before at) × ((next ≡ nextAfter line before at) × (next ≤ at + 7))
 
 pub no-room : (out : List ℕ) (at : ℕ) → length out < 7 → false ≡ room out at
 unfolding room
@@ -65,10 +65,10 @@ module _ {r : Bool} (out : List ℕ) (at : ℕ) (test : r ≡ room out at) where
   unfolding room
   in-room e = leb-true (at + 7) (length out) (sym test ∙ not-false r e)
 
-  pub written : {bytes line after : List ℕ} {next : ℕ} → not r ≡ false → bytes ≡ line → Puts bytes out after at next → Written line out after at next
+  pub written : {bytes line after : List ℕ} {next : ℕ} → not r ≡ false → bytes ≡ line → Puts bytes out after at next → next ≤ at + 7 → Written line out after at next
   unfolding outWith nextAfter
-  written e same p = rw (← same, sym test ∙ not-false r e) (p .stored, p .up-to)
+  written e same p most = rw (← same, sym test ∙ not-false r e) (p .stored, (p .up-to, most))
 
   pub not-written : (line : List ℕ) → not r ≡ true → Written line out out at at
   unfolding outWith nextAfter
-  not-written line e = rw (sym test ∙ not-true r e) (refl, refl)
+  not-written line e = rw (sym test ∙ not-true r e) (refl, (refl, omega arith))

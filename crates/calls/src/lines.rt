@@ -35,7 +35,8 @@ fn put_digit(n: u32, p: u32, out: &mut [u8], at: usize) -> usize
 // A letter and a number below 10,000.
 fn put_number(letter: u8, n: u32, out: &mut [u8], at: usize) -> usize
     requires { ⌜ (n < 10000) × (at + 7 ≤ length (now out)) ⌝ }
-    ensures { λ r. ⌜ Puts (numberLine letter n) (now (out .entry)) (now (out .exit)) at r ⌝ }
+    ensures put { λ r. ⌜ Puts (numberLine letter n) (now (out .entry)) (now (out .exit)) at r ⌝ }
+    ensures most { λ r. ⌜ r ≤ at + 7 ⌝ }
 {
     let a = put_pair(letter, b' ', out, at);
     let b = put_digit(n, 1000, out, a);
@@ -58,6 +59,7 @@ fn has_room(out: &[u8], at: usize) -> bool
 pub fn write(answer: Answer, out: &mut [u8], at: usize) -> usize
     ensures out { λ r. ⌜ now (out .exit) ≡ outWith (lineFor answer) (now (out .entry)) at ⌝ }
     ensures next { λ r. ⌜ r ≡ nextAfter (lineFor answer) (now (out .entry)) at ⌝ }
+    ensures most { λ r. ⌜ r ≤ at + 7 ⌝ }
 {
     if !has_room(out, at) {
         return at;
@@ -86,6 +88,7 @@ pub fn write(answer: Answer, out: &mut [u8], at: usize) -> usize
 pub fn write_plan(number: u8, out: &mut [u8], at: usize) -> usize
     ensures out { λ r. ⌜ now (out .exit) ≡ outWith (planLine number) (now (out .entry)) at ⌝ }
     ensures next { λ r. ⌜ r ≡ nextAfter (planLine number) (now (out .entry)) at ⌝ }
+    ensures most { λ r. ⌜ r ≤ at + 7 ⌝ }
 {
     if !has_room(out, at) {
         return at;

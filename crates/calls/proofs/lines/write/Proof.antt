@@ -27,7 +27,7 @@ module _ (c : tie.Else1) where
   room-there : at + 7 ≤ length out
   room-there = in-room out at (c .before .has-room .ensures) (c .if1 .left)
 
-  line-put : {bytes after : List ℕ} {next : ℕ} → bytes ≡ lineFor answer → Puts bytes out after at next → Written (lineFor answer) out after at next
+  line-put : {bytes after : List ℕ} {next : ℕ} → bytes ≡ lineFor answer → Puts bytes out after at next → next ≤ at + 7 → Written (lineFor answer) out after at next
   line-put = written out at (c .before .has-room .ensures) (c .if1 .left)
 
 has-room-requires : tie.Need-has-room-requires
@@ -51,7 +51,7 @@ same-length-2 c = search needs
 returns-2 : tie.Need-returns-2
 returns-2 c =
     let a = c .before .before .before .before .before in
-    line-put (a .before .before) (ap (λ w. numberLine 71 (w % 1024)) (sym (div-one _)) ∙ ap lineFor (sym (a .answer .given .1))) (c .before .before .put-number .ensures)
+    line-put (a .before .before) (ap (λ w. numberLine 71 (w % 1024)) (sym (div-one _)) ∙ ap lineFor (sym (a .answer .given .1))) (c .before .before .put-number .ensures .0) (omega arith)
 
 enum-told : tie.Need-enum-told
 enum-told c = search needs
@@ -65,7 +65,7 @@ same-length-3 c = search needs
 returns-3 : tie.Need-returns-3
 returns-3 c =
     let a = c .before .before .before .before in
-    line-put (a .before .before) (ap lineFor (sym (a .enum-told .given .1))) (c .before .before .put-pair .ensures)
+    line-put (a .before .before) (ap lineFor (sym (a .enum-told .given .1))) (c .before .before .put-pair .ensures) (omega arith)
 
 enum-known-answer-2 : tie.Need-enum-known-answer-2
 enum-known-answer-2 c = search needs
@@ -82,7 +82,7 @@ same-length-4 c = search needs
 returns-4 : tie.Need-returns-4
 returns-4 c =
     let a = c .before .before .before .before .before in
-    line-put (a .before .before) (ap lineFor (sym (a .answer2 .given .1))) (c .before .before .put-number2 .ensures)
+    line-put (a .before .before) (ap lineFor (sym (a .answer2 .given .1))) (c .before .before .put-number2 .ensures .0) (omega arith)
 
 enum-told-2 : tie.Need-enum-told-2
 enum-told-2 c = search needs
@@ -100,7 +100,7 @@ returns-5 : tie.Need-returns-5
 returns-5 c =
     let b = c .before .before .before .before .before .before in
     let a = b .before .before in
-    line-put (a .before .before) (ap lineFor (sym (a .enum-told2 .given .1))) (puts-then (b .put-pair2 .ensures) (c .before .before .put-pair3 .ensures))
+    line-put (a .before .before) (ap lineFor (sym (a .enum-told2 .given .1))) (puts-then (b .put-pair2 .ensures) (c .before .before .put-pair3 .ensures)) (omega arith)
 
 enum-known-answer-3 : tie.Need-enum-known-answer-3
 enum-known-answer-3 c = search needs
@@ -117,7 +117,7 @@ same-length-6 c = search needs
 returns-6 : tie.Need-returns-6
 returns-6 c =
     let a = c .before .before .before .before .before in
-    line-put (a .before .before) (ap lineFor (sym (a .answer3 .given .1))) (c .before .before .put-number3 .ensures)
+    line-put (a .before .before) (ap lineFor (sym (a .answer3 .given .1))) (c .before .before .put-number3 .ensures .0) (omega arith)
 
 pub write-spec : {M : Type 1} → statement M
 write-spec =

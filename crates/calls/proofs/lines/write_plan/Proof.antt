@@ -24,7 +24,7 @@ same-length-2 c = search needs
 returns-2 : tie.Need-returns-2
 returns-2 c =
     let e = c .before .before .before .before in
-    written _ _ (e .before .has-room .ensures) (e .if1 .left) refl (c .before .before .put-number .ensures)
+    written _ _ (e .before .has-room .ensures) (e .if1 .left) refl (c .before .before .put-number .ensures .0) (omega arith)
 
 pub write-plan-spec : {M : Type 1} → statement M
 write-plan-spec =
