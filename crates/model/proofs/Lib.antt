@@ -32,6 +32,10 @@ pub mod Runs
 pub mod Demand3
 pub mod Holding
 pub mod Buffer
+-- the program
+pub mod Decimal
+pub mod Records
+pub mod Listing
 -- edges, cards that demand 3 sends back, and a stream that meets the premise of the least count
 pub mod Compute
 pub mod Edges

@@ -1,0 +1,10 @@
+pub mod Tables
+pub mod Runs
+pub mod Ranks
+pub mod Searches
+pub mod Plans
+pub mod Links
+pub mod Stored
+pub mod Credits
+pub mod FreshLinks
+pub mod Requests

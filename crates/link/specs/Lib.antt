@@ -1,0 +1,6 @@
+pub mod Runs
+pub mod Window
+pub mod Reading
+pub mod Sound
+pub mod Answers
+pub mod Search

@@ -1,0 +1,59 @@
+// One link of a plan: its current position, the owner of each position, and each flow's part.
+mod positions; // positions and frames, going round
+mod holdings; // what a flow holds at each position
+mod search; // the search for a position to book
+mod fresh;
+mod request;
+mod credit;
+mod tick;
+
+use plan::Plan;
+
+// A flow's part: its injection frame, its remainder, and what it holds at each position.
+pub struct Flow {
+    frame: usize,
+    left: usize,
+    held: [u8; 256],
+}
+
+// A link; 16 is the owner of a position that nobody booked.
+pub struct Link {
+    plan: Plan,
+    cp: usize,
+    owner: [u8; 256],
+    flows: [Flow; 16],
+}
+
+// The answer to a call.
+pub enum Answer {
+    // A request is granted: the word with its position.
+    Granted(u32),
+    // A credit is taken.
+    Taken,
+    // The flow whose slot has come up at a tick.
+    Turn(u8),
+    // Nobody's slot has come up.
+    Idle,
+    // A request or a credit is refused, by a number.
+    Refused(u8),
+}
+
+// What a call hands back.
+pub struct Step {
+    pub link: Link,
+    pub answer: Answer,
+}
+
+// The window of a call: F, W and CP, and the head frame.
+struct Window {
+    slots: usize,
+    frames: usize,
+    current: usize,
+    head: usize,
+}
+
+// What a search comes to: the frame, the remainder and the position to book; or no position, and the remainder.
+enum Found {
+    At(usize, usize, usize),
+    Nowhere(usize),
+}
