@@ -11,12 +11,12 @@ use Rattle.model.specs.Calls.{accepted, refused}
 use Rattle.model.specs.Window.{Window, passed, everyFrom}
 use Rattle.model.specs.Link as model
 use Rattle.model.specs.Credit.{credit, creditAfter, lowered}
-use Rattle.link.specs.declared.Answer.the-variants.{Taken}
+use Rattle.calls.specs.declared.Answer.the-variants.{Taken}
 use Rattle.link.specs.declared.Link.{Link}
 use Rattle.link.specs.Runs.{replaced}
 use Rattle.link.specs.Window.{fromIn}
 use Rattle.link.specs.Reading.{sizeOf, flowAt, withFlow, withHeld, flowOf, linkOf}
-use Rattle.link.specs.Answers.{answerToCredit}
+use Rattle.calls.specs.Reading.{answerToCredit}
 use Rattle.link.specs.Sound.{Sound}
 use Rattle.link.proofs.Ranks.{everyFrom-same}
 use Rattle.link.proofs.Links.{Stepped, read-count, read-flow, read-holding, read-with-flow, sound-with-flow, read-from, sound-from}

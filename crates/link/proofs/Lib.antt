@@ -8,3 +8,4 @@ pub mod Stored
 pub mod Credits
 pub mod FreshLinks
 pub mod Requests
+pub mod Ticks

@@ -16,7 +16,7 @@ use Rattle.model.specs.Plan as paper
 use Rattle.model.specs.Window.{Window, size}
 use Rattle.model.specs.Link as model
 use Rattle.plan.specs.Reading.{entryFor}
-use Rattle.link.specs.declared.Answer.{Answer}
+use Rattle.calls.specs.declared.Answer.{Answer}
 use Rattle.link.specs.declared.Flow.{Flow}
 use Rattle.link.specs.declared.Link.{Link}
 use Rattle.link.specs.declared.Step.{Step}
@@ -34,6 +34,9 @@ Stepped toAnswer m r = (linkOf (r .link) ≡ m .link) × ((r .answer ≡ toAnswe
 
 pub unchanged : {A : Type 0} (toAnswer : A → Answer) (l : Link) (m : model.Step A) (a : A) → Sound l → m ≡ record { link = linkOf l; answer = a } → Stepped toAnswer m (record { link = l; answer = toAnswer a })
 unchanged toAnswer l m a s e = rw e (refl, (refl, s))
+
+pub same-flow : {j j′ c c′ : ℕ} {h h′ : List ℕ} → j ≡ j′ → c ≡ c′ → h ≡ h′ → _≡_ {A = model.Flow} (record { injection = j; remainder = c; held = h }) (record { injection = j′; remainder = c′; held = h′ })
+same-flow d e f = cc
 
 -- ---- what is read of a link
 

@@ -21,13 +21,13 @@ use Rattle.plan.specs.declared.Plan.{Plan}
 use Rattle.plan.specs.Reading.{noEntry, planFor}
 use Rattle.word.specs.declared.Fields.{Fields}
 use Rattle.word.specs.Reading.{fieldsOf}
-use Rattle.link.specs.declared.Answer.the-variants.{Granted, Refused}
+use Rattle.calls.specs.declared.Answer.the-variants.{Granted, Refused}
 use Rattle.link.specs.declared.Flow.{Flow}
 use Rattle.link.specs.declared.Link.{Link}
 use Rattle.link.specs.Runs.{replaced}
 use Rattle.link.specs.Window.{fromIn}
 use Rattle.link.specs.Reading.{sizeOf, entryAt, flowAt, ownerAt, withOwners, withFlow, movedTo, ownerOf, flowOf, linkOf}
-use Rattle.link.specs.Answers.{answerToRequest}
+use Rattle.calls.specs.Reading.{answerToRequest}
 use Rattle.link.specs.Search.{freeFrom}
 use Rattle.link.specs.Sound.{Sound}
 use Rattle.link.proofs.Plans.{plan-count, plan-entry}

@@ -162,10 +162,10 @@ Books w ok (found j c p) = Booking w ok j p
 Books w ok (nowhere c) = Unit {0}
 
 module _ (w : model.Window) (two : 2 ≤ w .frames) (ok : ℕ → Bool) (share : ℕ) where
-  frame-books : (j c : ℕ) (rest : Found) → j < w .frames → Books w ok rest → Books w ok (orElse w ok share j c (earliest w ok share j) rest)
+  frame-books : (j c : ℕ) (rest : Found) → j < w .frames → Books w ok rest → Books w ok (orElse j c (earliest w ok share j) rest)
   frame-books j c rest h b = go (earliest w ok share j) refl
     where
-      go : (o : Option ℕ) → earliest w ok share j ≡ o → Books w ok (orElse w ok share j c o rest)
+      go : (o : Option ℕ) → earliest w ok share j ≡ o → Books w ok (orElse j c o rest)
       go (some p) e =
           let r = firstFrom-hit (w .slots) (j * w .slots) ok p e in
           record { frame = h; position = omega (arith, r .1, frame-fits (w .slots) (w .frames) j h); passes = r .2 }

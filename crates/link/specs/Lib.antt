@@ -2,5 +2,5 @@ pub mod Runs
 pub mod Window
 pub mod Reading
 pub mod Sound
-pub mod Answers
 pub mod Search
+pub mod Run

@@ -2,9 +2,10 @@
 ghost use mathlib.Core.Path.{_≡_};
 ghost use Rattle.model.specs.Credit as model;
 ghost use Rattle.link.specs.Reading.{linkOf};
-ghost use Rattle.link.specs.Answers.{answerToCredit};
+ghost use Rattle.calls.specs.Reading.{answerToCredit};
 ghost use Rattle.link.specs.Sound.{Sound};
-use crate::{Answer, Link, Step};
+use calls::Answer;
+use crate::{Link, Step};
 use crate::holdings::{held_from, lower};
 use crate::positions::window;
 

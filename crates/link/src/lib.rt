@@ -6,7 +6,11 @@ mod fresh;
 mod request;
 mod credit;
 mod tick;
+mod run;
 
+pub use run::Run;
+
+use calls::Answer;
 use plan::Plan;
 
 // A flow's part: its injection frame, its remainder, and what it holds at each position.
@@ -22,20 +26,6 @@ pub struct Link {
     cp: usize,
     owner: [u8; 256],
     flows: [Flow; 16],
-}
-
-// The answer to a call.
-pub enum Answer {
-    // A request is granted: the word with its position.
-    Granted(u32),
-    // A credit is taken.
-    Taken,
-    // The flow whose slot has come up at a tick.
-    Turn(u8),
-    // Nobody's slot has come up.
-    Idle,
-    // A request or a credit is refused, by a number.
-    Refused(u8),
 }
 
 // What a call hands back.

@@ -2,9 +2,10 @@
 ghost use mathlib.Core.Path.{_≡_};
 ghost use Rattle.model.specs.Tick as model;
 ghost use Rattle.link.specs.Reading.{linkOf, ownerOf};
-ghost use Rattle.link.specs.Answers.{answerToTick};
+ghost use Rattle.calls.specs.Reading.{answerToTick};
 ghost use Rattle.link.specs.Sound.{Sound};
-use crate::{Answer, Link, Step};
+use calls::Answer;
+use crate::{Link, Step};
 use crate::holdings::fill;
 use crate::positions::{before, next};
 

@@ -9,7 +9,7 @@ use Rattle.model.specs.Calls.{refused}
 use Rattle.model.specs.Window as model
 use Rattle.link.specs.Window.{windowOf, sizeOf}
 use Rattle.link.specs.Reading.{linkOf}
-use Rattle.link.specs.Answers.{answerToCredit}
+use Rattle.calls.specs.Reading.{answerToCredit}
 use Rattle.link.proofs.Links.{unchanged, read-window, measures, flows-most}
 use Rattle.link.proofs.Credits.{refused-8, refused-13, refused-14, refused-15, credited}
 use Rattle.link.proofs.Link.credit.Statement.{statement}
