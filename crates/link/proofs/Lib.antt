@@ -9,3 +9,4 @@ pub mod Credits
 pub mod FreshLinks
 pub mod Requests
 pub mod Ticks
+pub mod Records

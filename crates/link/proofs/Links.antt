@@ -107,7 +107,7 @@ module _ (l : Link) (s : Sound l) where
     unfolding linkOf
     read-with-flow =
         let e = table-same (l .plan .count) (λ j. flowOf (sizeOf l) (flowAt (withFlow l i f) j)) (λ j. cond (eqb j i) (flowOf (sizeOf l) f) (model.flow (linkOf l) j))
-            (λ j h. set-flow (flowOf (sizeOf l)) j ∙ rw (read-flow l j h)) in
+        (λ j h. set-flow (flowOf (sizeOf l)) j ∙ rw (read-flow l j h)) in
         cc (e, read-count l)
 
     pub sound-with-flow : SoundFlow (sizeOf l) (l .plan .frames) f → Sound (withFlow l i f)

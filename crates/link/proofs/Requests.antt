@@ -152,8 +152,8 @@ module _ (l : Link) (s : Sound l) (v : Window) (is : v ≡ model.window (linkOf 
   unfolding booked
   granted-link j c p h hj hp changed = (
     read-with-flow (withOwners l (set (l .owner) p i)) owned i hi _
-    ∙ ap (λ (m : model.Link). model.withFlow m i (record { injection = j; remainder = c; held = table (sizeOf l) (λ q. getD h q 0) })) (read-with-owner l s p i hp hi)
-    ∙ ap (λ (t : List ℕ). model.withFlow (model.withOwners (linkOf l) (λ q. cond (eqb q p) (some i) (model.owner (linkOf l) q))) i (record { injection = j; remainder = c; held = t })) (read-from l s v is i p hi suc h changed),
+        ∙ ap (λ (m : model.Link). model.withFlow m i (record { injection = j; remainder = c; held = table (sizeOf l) (λ q. getD h q 0) })) (read-with-owner l s p i hp hi)
+        ∙ ap (λ (t : List ℕ). model.withFlow (model.withOwners (linkOf l) (λ q. cond (eqb q p) (some i) (model.owner (linkOf l) q))) i (record { injection = j; remainder = c; held = t })) (read-from l s v is i p hi suc h changed),
     sound-with-flow (withOwners l (set (l .owner) p i)) owned i hi _ (sound-from l s v is i p hi suc h changed j c hj),
   )
     where

@@ -139,6 +139,7 @@ module _ {t : ℕ → Bool} {a : ℕ} where
     where
       wider : Miss t a q → Miss t a (q + 1)
       wider h = record { at = h .at; from = h .from; below = omega (arith, h .below); fails = h .fails }
+
       go : s ≡ true → (x : ℕ) → a ≤ x → x < q + 1 → Dec (x ≡ q) → t x ≡ true
       go y x h₁ h₂ (yes d) = rw d e
       go y x h₁ h₂ (no d) = v .pass y x h₁ (omega arith)

@@ -7,8 +7,10 @@ ghost use Rattle.model.specs.Fresh as model;
 ghost use Rattle.link.specs.Runs.{inRun, replaced};
 ghost use Rattle.link.specs.Reading.{everywhere, nobody, spareFlow, movedTo, linkOf};
 ghost use Rattle.link.specs.Sound.{Sound};
-use crate::{Flow, Link};
-use plan::{Entry, Plan};
+use crate::Flow;
+use crate::Link;
+use plan::Entry;
+use plan::Plan;
 
 fn unbooked() -> [u8; 256]
     ensures { λ r. ⌜ r ≡ everywhere nobody ⌝ }

@@ -2,16 +2,15 @@
 mod positions; // positions and frames, going round
 mod holdings; // what a flow holds at each position
 mod search; // the search for a position to book
+mod credit;
 mod fresh;
 mod request;
-mod credit;
-mod tick;
 mod run;
-
-pub use run::Run;
+mod tick;
 
 use calls::Answer;
 use plan::Plan;
+pub use run::Run;
 
 // A flow's part: its injection frame, its remainder, and what it holds at each position.
 pub struct Flow {

@@ -8,11 +8,14 @@ ghost use Rattle.model.specs.Request as model;
 ghost use Rattle.link.specs.Reading.{linkOf};
 ghost use Rattle.calls.specs.Reading.{answerToRequest};
 ghost use Rattle.link.specs.Sound.{Sound};
-use calls::Answer;
-use crate::{Found, Link, Step};
+use crate::Found;
+use crate::Link;
+use crate::Step;
 use crate::holdings::raise;
 use crate::positions::window;
-use crate::search::{search, valid_rank};
+use crate::search::search;
+use crate::search::valid_rank;
+use calls::Answer;
 use plan::Plan;
 
 // The refusal of a word by its own tests, and 0 where it passes them.

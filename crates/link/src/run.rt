@@ -8,8 +8,11 @@ ghost use Rattle.calls.specs.Lines.{outWith, nextAfter};
 ghost use Rattle.link.specs.Reading.{linkOf};
 ghost use Rattle.link.specs.Sound.{Sound};
 ghost use Rattle.link.specs.Run.{Made, Played};
-use calls::{Answer, Call, Record};
-use crate::{Link, Step};
+use crate::Link;
+use crate::Step;
+use calls::Answer;
+use calls::Call;
+use calls::Record;
 
 // A link after some records, and the place after their lines.
 pub struct Run {
@@ -60,10 +63,7 @@ impl Link {
     {
         let Record::Call(call) = calls::read(records, at) else {
             let next = calls::write(Answer::Refused(16), out, end);
-            return Line {
-                link: self,
-                next,
-            };
+            return Line { link: self, next };
         };
         let step = self.make(call);
         let answer = step.answer;

@@ -9,9 +9,11 @@ ghost use Rattle.model.specs.Window as model;
 ghost use Rattle.model.specs.Request as request;
 ghost use Rattle.link.specs.Window.{windowOf, sizeOf, Proper};
 ghost use Rattle.link.specs.Search.{foundOf, freeFrom};
-use crate::{Window, Found};
+use crate::Found;
+use crate::Window;
 use crate::holdings::room_rank;
-use crate::positions::{ahead, next};
+use crate::positions::ahead;
+use crate::positions::next;
 
 // a - b, and 0 where b is the larger.
 fn over(a: usize, b: usize) -> usize
@@ -41,7 +43,14 @@ pub fn valid_rank(held: &[u8; 256], cells: u8, w: Window) -> usize
 }
 
 // The search from a frame and a remainder up to the newest frame, for an unbooked position whose rank is at least `low`.
-pub fn search(owner: &[u8; 256], w: Window, low: usize, share: usize, first: usize, remainder: usize) -> Found
+pub fn search(
+    owner: &[u8; 256],
+    w: Window,
+    low: usize,
+    share: usize,
+    first: usize,
+    remainder: usize,
+) -> Found
     requires { ⌜ Proper w × (first < w .frames) ⌝ }
     ensures { λ r. ⌜ foundOf r ≡ request.search (windowOf w) (freeFrom (windowOf w) (now (owner .entry)) low) share (tables.ahead (w .frames) first (model.newest (windowOf w))) first remainder ⌝ }
 {

@@ -4,10 +4,12 @@ ghost use Rattle.model.specs.Tick as model;
 ghost use Rattle.link.specs.Reading.{linkOf, ownerOf};
 ghost use Rattle.calls.specs.Reading.{answerToTick};
 ghost use Rattle.link.specs.Sound.{Sound};
-use calls::Answer;
-use crate::{Link, Step};
+use crate::Link;
+use crate::Step;
 use crate::holdings::fill;
-use crate::positions::{before, next};
+use crate::positions::before;
+use crate::positions::next;
+use calls::Answer;
 
 // The answer at a position with this owner.
 fn turn(owner: u8) -> Answer

@@ -57,6 +57,14 @@ listing-meets bytes passes stream i known =
 
 -- ---- a stream in parts
 
+pub listing-none : (l : Link) → listing l [] ≡ []
+unfolding listing flatMap outcomes records
+listing-none l = refl
+
+pub link-after-none : (l : Link) → linkAfter l [] ≡ l
+unfolding linkAfter linkAfterCalls records
+link-after-none l = refl
+
 records-append : (a b : List ℕ) → length a % 5 ≡ 0 → records (a ++ b) ≡ records a ++ records b
 unfolding records
 records-append [] b h = refl

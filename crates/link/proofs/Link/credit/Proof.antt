@@ -1,14 +1,11 @@
 -- `link::Link::credit` meets its contract: each return by the tests on the way. Assumes nothing.
 use borrow.Author.Needs.{needs}
-use Prim.Native.Nat.{ℕ, _<_}
-use Prim.Native.Nat.{ℕ}
-use mathlib.Core.Path.{_≡_, sym, ap, _∙_}
-use mathlib.Core.Bool.{Bool, true, false}
+use Prim.Native.Nat.{_<_}
+use mathlib.Core.Path.{sym, ap, _∙_}
 use native.Mathlib.Omega.{arith}
 use Rattle.model.specs.Calls.{refused}
 use Rattle.model.specs.Window as model
-use Rattle.link.specs.Window.{windowOf, sizeOf}
-use Rattle.link.specs.Reading.{linkOf}
+use Rattle.link.specs.Window.{sizeOf}
 use Rattle.calls.specs.Reading.{answerToCredit}
 use Rattle.link.proofs.Links.{unchanged, read-window, measures, flows-most}
 use Rattle.link.proofs.Credits.{refused-8, refused-13, refused-14, refused-15, credited}

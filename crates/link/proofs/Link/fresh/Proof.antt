@@ -1,6 +1,5 @@
 -- `link::Link::fresh` meets its contract. Assumes nothing.
 use borrow.Author.Needs.{needs}
-use native.Mathlib.Omega.{arith}
 use Rattle.link.proofs.Plans.{count-most}
 use Rattle.link.proofs.FreshLinks.{read-fresh, sound-fresh}
 use Rattle.link.proofs.Link.fresh.Statement.{statement}

@@ -1,12 +1,10 @@
 -- `link::Link::tick` meets its contract. At a frame change the loop has changed the parts of the flows below i. Assumes nothing.
 use borrow.Author.Needs.{needs}
-use Prim.Native.Nat.{ℕ, _+_, _-_, _*_, _/_, _<_, _≤_}
-use Prim.Native.Nat.{ℕ, _+_, _-_, _≤_}
-use mathlib.Core.Path.{_≡_, refl, sym, ap, _∙_}
-use mathlib.Core.List.{List}
+use Prim.Native.Nat.{_+_, _-_, _<_, _≤_}
+use Prim.Native.Nat.{_+_, _-_, _≤_}
+use mathlib.Core.Path.{_≡_, refl, ap, _∙_}
 use mathlib.Core.Logic.{⊎-elim}
 use native.Mathlib.Omega.{arith}
-use Rattle.link.specs.declared.Flow.{Flow}
 use Rattle.link.specs.declared.Link.{Link}
 use Rattle.link.specs.Runs.{inRun, replaced}
 use Rattle.link.specs.Reading.{flowAt, noFlow, withFlows, withFlow}
@@ -152,7 +150,7 @@ loop-again c =
     let v = k .loop .inv .1 in (
       search needs,
       ap (λ (l : Link). withFlow l i (c .if2 .f)) v
-      ∙ ap (withFlows (begun (k .before))) (replaced-more 0 i (changed (change (k .before))) _ noFlow _ (c .if2 .f) refl (omega arith) (turned c ∙ ap (λ (l : Link). changed (change (k .before)) i (flowAt l i)) v)),
+          ∙ ap (withFlows (begun (k .before))) (replaced-more 0 i (changed (change (k .before))) _ noFlow _ (c .if2 .f) refl (omega arith) (turned c ∙ ap (λ (l : Link). changed (change (k .before)) i (flowAt l i)) v)),
     )
 
 element-copy-out-owner-2 : tie.Need-element-copy-out-owner-2 Inv-loop μ-loop
@@ -169,8 +167,8 @@ returns-2 c =
     let done = replaced-done 0 (k .loop .i) (l .plan .count) (changed (change (k .before))) (l .flows) _ refl (omega arith) in
     let n = k .before .before .before .before .before .before .next .ensures in
     let e : k .loop .self ≡ recycled l =
-        k .loop .inv .1 ∙ ap (withFlows (begun (k .before))) done
-        ∙ same-recycled l n (k .before .before .before .next2 .ensures) (k .before .before .before .before .before2 .ensures) (k .before .fill .ensures) in
+    k .loop .inv .1 ∙ ap (withFlows (begun (k .before))) done
+    ∙ same-recycled l n (k .before .before .before .next2 .ensures) (k .before .before .before .before .before2 .ensures) (k .before .fill .ensures) in
     gone-on l (s .pre) e n (k .before .before .before .before .before .if1 .left) (c .turn2 .ensures)
 
 pub tick-spec : {M : Type 1} → statement M

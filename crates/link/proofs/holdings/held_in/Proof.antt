@@ -33,7 +33,9 @@ loop-less c = search needs
 loop-again : tie.Need-loop-again Inv-loop μ-loop
 loop-again c =
     let l = c .before .before .before .loop in (
-      search needs, search needs, search needs,
+      search needs,
+      search needs,
+      search needs,
       ⊎-elim (λ w. all-miss (l .q) (l .inv .0) (rw (w .0 .taken)) (w .1)) (λ w. all-pass (l .inv .3) (some-held _ (w .0 .left)) (w .1)) (c .if1 .came),
     )
 
