@@ -1,7 +1,7 @@
 -- Decimal digits: they come one by one, from the last, and read back to the number. Assumes nothing.
-use Prim.Native.Nat.{ℕ, zero, suc, _+_, _/_, _%_, _≤_, _<_}
-use mathlib.Core.Path.{_≡_, sym, ap, _∙_}
-use mathlib.Core.List.{_∷_, [], _++_}
+use Prim.Native.Nat.{ℕ, zero, suc, _+_, _*_, _-_, _/_, _%_, _≤_, _<_}
+use mathlib.Core.Path.{_≡_, refl, sym, ap, _∙_}
+use mathlib.Core.List.{List, _∷_, [], _++_}
 use native.Mathlib.Decide.{decLt}
 use native.Mathlib.Omega.{arith}
 use borrow.Author.Tests.{lt-ltb, le-ltb}
@@ -33,3 +33,25 @@ decimal-one n h = digits-one n n h
 pub decimal-more : (n : ℕ) → 10 ≤ n → decimal n ≡ decimal (n / 10) ++ ((48 + n % 10) ∷ [])
 unfolding decimal
 decimal-more n h = digits-more n n h ∙ ap (_++ ((48 + n % 10) ∷ [])) (digits-same n (suc (n / 10)) (n / 10) (omega arith) (omega arith))
+
+-- the number that digits are read as
+abbrev pub value : ℕ → List ℕ → ℕ
+value so-far [] = so-far
+value so-far (d ∷ ds) = value (so-far * 10 + (d - 48)) ds
+
+value-append : (n : ℕ) (ds es : List ℕ) → value n (ds ++ es) ≡ value (value n ds) es
+value-append n [] es = refl
+value-append n (d ∷ ds) es = value-append (n * 10 + (d - 48)) ds es
+
+read-back : (k n : ℕ) → n < k → value 0 (digits k n) ≡ n
+read-back zero n h = absurd (omega arith)
+read-back (suc k) n h = go (read-back k (n / 10)) (decLt n 10)
+  where
+    go : (n / 10 < k → value 0 (digits k (n / 10)) ≡ n / 10) → Dec (n < 10) → value 0 (digits (suc k) n) ≡ n
+    go rest (yes l) = ap (value 0) (digits-one k n l) ∙ omega arith
+    go rest (no l) =
+        ap (value 0) (digits-more k n (omega arith)) ∙ value-append 0 (digits k (n / 10)) ((48 + n % 10) ∷ []) ∙ omega (arith, rest (omega arith))
+
+pub decimal-read-back : (n : ℕ) → value 0 (decimal n) ≡ n
+unfolding decimal
+decimal-read-back n = read-back (suc n) n (omega arith)

@@ -37,9 +37,11 @@ returns c =
     let p3 = p4 .before .before .before .before in
     let p2 = p3 .before .before .before .before in
     let p1 = p2 .before .before .before .before in
-    let s = p1 .before .before .before in
-    (puts-same (digit-by-digit (s .args .letter) (s .args .n) (omega arith))
-    (puts-then (puts-then (puts-then (puts-then (p1 .put-pair .ensures) (p2 .put-digit .ensures .0)) (p3 .put-digit2 .ensures .0)) (p4 .put-digit3 .ensures .0)) (p5 .put-pair2 .ensures)), omega arith)
+    let s = p1 .before .before .before in (
+      puts-same (digit-by-digit (s .args .letter) (s .args .n) (omega arith))
+          (puts-then (puts-then (puts-then (puts-then (p1 .put-pair .ensures) (p2 .put-digit .ensures .0)) (p3 .put-digit2 .ensures .0)) (p4 .put-digit3 .ensures .0)) (p5 .put-pair2 .ensures)),
+      omega arith,
+    )
 
 pub put-number-spec : {M : Type 1} → statement M
 put-number-spec =
