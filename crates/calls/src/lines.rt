@@ -1,4 +1,4 @@
-// Lines: a letter, a space, what is said, and a newline. The longest says a number of four digits.
+// Lines: a letter, a space, what is said, and a newline.
 ghost use mathlib.Core.Path.{_≡_};
 ghost use mathlib.Core.List.{_∷_, []};
 ghost use Prim.Native.Nat.{_+_, _<_, _≤_};
@@ -7,8 +7,7 @@ ghost use Rattle.model.specs.Listing.{planLine};
 ghost use Rattle.calls.specs.Reading.{lineFor};
 ghost use Rattle.calls.specs.Lines.{Puts, digitAt, numberLine, room, outWith, nextAfter};
 use crate::Answer;
-
-const LONGEST: usize = 7;
+use crate::LONGEST_LINE;
 
 fn put_pair(a: u8, b: u8, out: &mut [u8], at: usize) -> usize
     requires { ⌜ at + 1 < length (now out) ⌝ }
@@ -49,10 +48,10 @@ fn put_number(letter: u8, n: u32, out: &mut [u8], at: usize) -> usize
 fn has_room(out: &[u8], at: usize) -> bool
     ensures { λ r. ⌜ r ≡ room (now (out .entry)) at ⌝ }
 {
-    if out.len() < LONGEST {
+    if out.len() < LONGEST_LINE {
         return false;
     }
-    at <= out.len() - LONGEST
+    at <= out.len() - LONGEST_LINE
 }
 
 // Writes an answer's line at a place and returns the next place. Where the longest line has no room it writes nothing and returns the same place.
