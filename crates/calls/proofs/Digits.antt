@@ -1,25 +1,16 @@
 -- The digits that are stored one by one are those of the number. Assumes nothing.
-use Prim.Native.Nat.{ℕ, _*_, _/_, _%_, _≤_, _<_}
+use Prim.Native.Nat.{ℕ, _*_, _/_, _%_, _<_}
 use mathlib.Core.Path.{_≡_, sym, ap, _∙_}
 use mathlib.Core.List.{List, _∷_, [], _++_, append-assoc}
 use mathlib.Core.Bool.{cond}
 use native.Mathlib.Decide.{decLt}
 use native.Mathlib.Nat.{div-div-eq-div-mul, mod-eq-of-lt, div-lt-iff-lt-mul, le-div-iff-mul-le}
 use native.Mathlib.Omega.{arith}
-use lib.ListN.{length}
 use lib.Dec.{ltb}
 use borrow.Author.Tests.{lt-ltb, le-ltb}
 use Rattle.model.specs.Listing.{digit, decimal}
 use Rattle.model.proofs.Decimal.{decimal-one, decimal-more}
 use Rattle.calls.specs.Lines.{digitAt, numberLine}
-
-pub one-digit-most : (p n : ℕ) → length (digitAt p n) ≤ 1
-unfolding digitAt
-one-digit-most p n = go (decLt n p)
-  where
-    go : Dec (n < p) → length (digitAt p n) ≤ 1
-    go (yes h) = rw (lt-ltb n p h) (omega arith)
-    go (no h) = rw (le-ltb n p (omega arith)) (omega arith)
 
 -- the digits of n from the place of p on
 from : ℕ → ℕ → List ℕ

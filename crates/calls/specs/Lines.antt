@@ -26,9 +26,9 @@ pub record Puts (bytes before after : List ℕ) (at next : ℕ) : Type 0 where
   pub up-to : next ≡ at + length bytes
   pub length-stays : length after ≡ length before
 
--- the digit of n at the place of p, a power of ten, if n has one there
+-- the digit of n at a place, a power of ten, if n has one there
 unfoldable pub digitAt : ℕ → ℕ → List ℕ
-digitAt p n = cond (ltb n p) [] (digit (n / p % 10) ∷ [])
+digitAt place n = cond (ltb n place) [] (digit (n / place % 10) ∷ [])
 
 -- a letter and a number
 abbrev pub numberLine : ℕ → ℕ → List ℕ

@@ -18,16 +18,16 @@ fn put_pair(a: u8, b: u8, out: &mut [u8], at: usize) -> usize
     at + 2
 }
 
-// The digit of n at the place of p, if n has one there.
-fn put_digit(n: u32, p: u32, out: &mut [u8], at: usize) -> usize
-    requires { ⌜ (0 < p) × (at < length (now out)) ⌝ }
-    ensures put { λ r. ⌜ Puts (digitAt p n) (now (out .entry)) (now (out .exit)) at r ⌝ }
+// The digit of n at a place, thousands, hundreds or tens, if n has one there.
+fn put_digit(n: u32, place: u32, out: &mut [u8], at: usize) -> usize
+    requires { ⌜ (0 < place) × (at < length (now out)) ⌝ }
+    ensures put { λ r. ⌜ Puts (digitAt place n) (now (out .entry)) (now (out .exit)) at r ⌝ }
     ensures one { λ r. ⌜ r ≤ at + 1 ⌝ }
 {
-    if n < p {
+    if n < place {
         return at;
     }
-    out[at] = b'0' + (n / p % 10) as u8;
+    out[at] = b'0' + (n / place % 10) as u8;
     at + 1
 }
 
@@ -54,7 +54,8 @@ fn has_room(out: &[u8], at: usize) -> bool
     at <= out.len() - LONGEST_LINE
 }
 
-// Writes an answer's line at a place and returns the next place. Where the longest line has no room it writes nothing and returns the same place.
+// Writes an answer's line and returns the place after it. Where the longest line has no room it writes nothing and returns the same place.
+// That a line has at most seven bytes is stated so that callers find it.
 pub fn write(answer: Answer, out: &mut [u8], at: usize) -> usize
     ensures out { λ r. ⌜ now (out .exit) ≡ outWith (lineFor answer) (now (out .entry)) at ⌝ }
     ensures next { λ r. ⌜ r ≡ nextAfter (lineFor answer) (now (out .entry)) at ⌝ }

@@ -29,7 +29,7 @@ text (string._∷_ c s) = code c ∷ text s
 abbrev pub digit : ℕ → ℕ
 digit d = code "0" + d
 
--- the decimal digits of a number, without leading zeros, where there are fewer than `most`
+-- the decimal digits of a number, without leading zeros, where there are no more than `most`
 unfoldable pub digits : (most n : ℕ) → List ℕ
 digits zero n = []
 digits (suc k) n = cond (ltb n 10) (digit n ∷ []) (digits k (n / 10) ++ (digit (n % 10) ∷ []))
