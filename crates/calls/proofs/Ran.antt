@@ -1,7 +1,7 @@
 -- For a run over a stream of records: what it has done up to a place of the stream, and one record more. Assumes nothing.
 use Prim.Native.Nat.{ℕ, _+_, _%_, _≤_, _<_}
-use mathlib.Core.Path.{_≡_, refl, sym, ap, _∙_}
-use mathlib.Core.List.{List, [], _++_}
+use mathlib.Core.Path.{_≡_, sym, ap, _∙_}
+use mathlib.Core.List.{List, _++_}
 use mathlib.Core.Option.{Option}
 use native.Mathlib.Omega.{arith}
 use lib.ListN.{length, take, drop, length-append}
@@ -39,11 +39,11 @@ module _ {l₀ : Link} {stream out₀ : List ℕ} {start at : ℕ} {l : Link} {o
   ran-more {l′} {line} {out′} {to′} whole reached room next said written ends =
       let before = listing l₀ (take at stream) in
       let more : listing l₀ (take (at + 5) stream) ≡ before ++ line =
-          listing-more l₀ stream at whole reached ∙ ap (before ++_) (sym (said ∙ ap (λ m. lineOf (made m (callAt stream at) .answer)) (r .link))) in
+      listing-more l₀ stream at whole reached ∙ ap (before ++_) (sym (said ∙ ap (λ m. lineOf (made m (callAt stream at) .answer)) (r .link))) in
       record {
         link = next ∙ ap (λ m. made m (callAt stream at) .link) (r .link) ∙ sym (link-after-more l₀ stream at whole reached);
         lines =
-          written ∙ out-in-room line out to room ∙ (λ i. sets (r .lines i) (r .up-to i) line) ∙ sets-append out₀ start before line
-          ∙ ap (sets out₀ start) (sym more);
+            written ∙ out-in-room line out to room ∙ (λ i. sets (r .lines i) (r .up-to i) line) ∙ sets-append out₀ start before line
+            ∙ ap (sets out₀ start) (sym more);
         up-to = omega (arith, ends, next-in-room line out to room, r .up-to, ap length more, length-append before line);
       }
