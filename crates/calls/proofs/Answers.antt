@@ -1,10 +1,17 @@
--- The line of a call's answer is the call's line. Assumes nothing.
+-- For a caller: the call that a record was read as, and the lines of its answers. Assumes nothing.
 use mathlib.Core.Path.{_≡_, refl}
-use mathlib.Core.Option.{some, none}
+use mathlib.Core.Option.{Option, some, none}
 use Rattle.model.specs.Calls as model
 use Rattle.model.specs.Calls.{accepted, refused}
 use Rattle.model.specs.Listing.{requestLine, creditLine, tickLine}
-use Rattle.calls.specs.Reading.{answerToRequest, answerToCredit, answerToTick, lineFor}
+use Rattle.calls.specs.declared.Record.the-variants.{Call}
+use Rattle.calls.specs.Reading.{recordFor, callIn, answerToRequest, answerToCredit, answerToTick, lineFor}
+
+pub call-in : (c : Option model.Call) → callIn (recordFor c) ≡ c
+call-in (some (model.request word)) = refl
+call-in (some (model.credit flow position)) = refl
+call-in (some model.tick) = refl
+call-in none = refl
 
 pub line-of-request : (a : model.Grant) → lineFor (answerToRequest a) ≡ requestLine a
 line-of-request (accepted word) = refl

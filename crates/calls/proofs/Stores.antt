@@ -14,7 +14,7 @@ use borrow.Author.Tests.{leb-true, le-leb, lt-leb, not-true, not-false}
 use Rattle.calls.specs.Lines.{room, outWith, nextAfter, Puts}
 
 -- what is stored in two runs is stored in one
-sets-append : (l : List ℕ) (i : ℕ) (xs ys : List ℕ) → sets (sets l i xs) (i + length xs) ys ≡ sets l i (xs ++ ys)
+pub sets-append : (l : List ℕ) (i : ℕ) (xs ys : List ℕ) → sets (sets l i xs) (i + length xs) ys ≡ sets l i (xs ++ ys)
 sets-append l i [] ys = ap (λ k. sets l k ys) (add-zero i)
 sets-append l i (x ∷ xs) ys =
     ap (λ k. sets (sets (set l i x) (suc i) xs) k ys) (add-suc i (length xs) ∙ sym (suc-add i (length xs)))
@@ -58,6 +58,20 @@ room-is out at h = go (decLe (at + 7) (length out))
     go : Dec (at + 7 ≤ length out) → leb at (length out - 7) ≡ leb (at + 7) (length out)
     go (yes l) = rw (le-leb at (length out - 7) (omega arith), le-leb (at + 7) (length out) l)
     go (no l) = rw (lt-leb at (length out - 7) (omega arith), lt-leb (at + 7) (length out) (omega arith))
+
+-- what a writer leaves, for a caller that has made room
+module _ (line out : List ℕ) (at : ℕ) (h : at + 7 ≤ length out) where
+  there : room out at ≡ true
+  unfolding room
+  there = le-leb (at + 7) (length out) h
+
+  pub out-in-room : outWith line out at ≡ sets out at line
+  unfolding outWith
+  out-in-room = rw there
+
+  pub next-in-room : nextAfter line out at ≡ at + length line
+  unfolding nextAfter
+  next-in-room = rw there
 
 -- where the test r of the room came out
 module _ {r : Bool} (out : List ℕ) (at : ℕ) (test : r ≡ room out at) where

@@ -6,7 +6,7 @@ use mathlib.Core.Bool.{Bool, cond}
 use lib.ListN.{length}
 use lib.Seq.{sets}
 use lib.Dec.{leb, ltb}
-use Rattle.model.specs.Listing.{decimal, text}
+use Rattle.model.specs.Listing.{text, digit, decimal}
 
 -- whether the longest line has room at a place: a letter, a space, four digits and a newline
 unfoldable pub room : List ℕ → ℕ → Bool
@@ -26,10 +26,10 @@ pub record Puts (bytes before after : List ℕ) (at next : ℕ) : Type 0 where
   pub up-to : next ≡ at + length bytes
   pub length-stays : length after ≡ length before
 
--- the digit of n at the place of p, a power of ten, if n has one there
+-- the digit of n at a place, a power of ten, if n has one there
 unfoldable pub digitAt : ℕ → ℕ → List ℕ
-digitAt p n = cond (ltb n p) [] ((48 + n / p % 10) ∷ [])
+digitAt place n = cond (ltb n place) [] (digit (n / place % 10) ∷ [])
 
 -- a letter and a number
 abbrev pub numberLine : ℕ → ℕ → List ℕ
-numberLine letter n = letter ∷ 32 ∷ decimal n ++ text "\n"
+numberLine letter n = letter ∷ text " " ++ decimal n ++ text "\n"

@@ -24,6 +24,13 @@ abbrev pub recordFor : Option model.Call → Record
 recordFor (some call) = Record.Call (callFor call)
 recordFor none = NoCall
 
+-- the paper's call of a record
+abbrev pub callIn : Record → Option model.Call
+callIn (Record.Call (Request word)) = some (model.request word)
+callIn (Record.Call (Credit flow position)) = some (model.credit flow position)
+callIn (Record.Call Tick) = some model.tick
+callIn NoCall = none
+
 -- ---- answers
 
 -- a request: the granted word, or the number of the refusal

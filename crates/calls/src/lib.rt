@@ -6,6 +6,11 @@ pub use lines::write;
 pub use lines::write_plan;
 pub use records::read;
 
+// The bytes of a call record.
+pub const RECORD: usize = 5;
+// The bytes of the longest line: a letter, a space, four digits and a newline.
+pub const LONGEST_LINE: usize = 7;
+
 // A call on a link.
 pub enum Call {
     // A request has a word.

@@ -1,9 +1,11 @@
 // Plays a file of calls from standard input: a plan, then call records. Writes one line for each to standard output.
 mod input;
 mod output;
+
 use calls::Answer;
 use link::Link;
-use plan::{Plan, Verdict};
+use plan::Plan;
+use plan::Verdict;
 ghost use Prim.Native.Nat.{_≤_};
 ghost use lib.ListN.{length};
 ghost use Rattle.link.specs.Sound.{Sound};
@@ -17,7 +19,7 @@ struct Turn {
 }
 
 // Reads once, plays the whole records and writes their lines.
-fn turn(link: Link, kept: usize, space: &mut [u8], out: &mut [u8]) -> Turn
+fn turn_once(link: Link, kept: usize, space: &mut [u8], out: &mut [u8]) -> Turn
     requires { ⌜ Sound link × (kept ≤ length (now space)) ⌝ }
     ensures sound { λ r. ⌜ Sound (r .link) ⌝ }
     ensures kept { λ r. ⌜ r .kept ≤ length (now (space .exit)) ⌝ }
@@ -52,7 +54,7 @@ fn play(link: Link, space: &mut [u8], out: &mut [u8])
         more: true,
     };
     while now.more && 0 < turns {
-        now = turn(now.link, now.kept, space, out);
+        now = turn_once(now.link, now.kept, space, out);
         turns -= 1;
     }
     if 0 < now.kept {

@@ -57,14 +57,6 @@ listing-meets bytes passes stream i known =
 
 -- ---- a stream in parts
 
-pub listing-none : (l : Link) → listing l [] ≡ []
-unfolding listing flatMap outcomes records
-listing-none l = refl
-
-pub link-after-none : (l : Link) → linkAfter l [] ≡ l
-unfolding linkAfter linkAfterCalls records
-link-after-none l = refl
-
 records-append : (a b : List ℕ) → length a % 5 ≡ 0 → records (a ++ b) ≡ records a ++ records b
 unfolding records
 records-append [] b h = refl
@@ -141,3 +133,12 @@ module _ (l : Link) (b : List ℕ) (at : ℕ) (whole : at % 5 ≡ 0) (reached : 
   link-after-more =
       ap (linkAfter l) (take-add at 5 b) ∙ link-after-append l (take at b) (take 5 (drop at b)) up-to
       ∙ link-after-one (linkAfter l (take at b)) (take 5 (drop at b)) some-byte five-most
+
+-- no record
+pub listing-none : (l : Link) → listing l [] ≡ []
+unfolding listing flatMap records outcomes
+listing-none l = refl
+
+pub link-after-none : (l : Link) → linkAfter l [] ≡ l
+unfolding linkAfter records linkAfterCalls
+link-after-none l = refl

@@ -1,6 +1,6 @@
 -- What the program writes. Document 01, "The program and its listing". Assumes nothing.
 use Prim.Native.Nat.{ℕ, zero, suc, _+_, _/_, _%_}
-use Prim.Native.Char.{code}
+use Prim.Native.Char.{Char, code}
 use Prim.Native.String.{String}
 use Prim.Native.String as string
 use mathlib.Core.List.{List, _∷_, [], _++_, map, flatMap}
@@ -26,17 +26,20 @@ abbrev pub text : String → List ℕ
 text string.[] = []
 text (string._∷_ c s) = code c ∷ text s
 
--- the decimal digits of a number, without leading zeros; `places` is more than there are
-unfoldable pub digits : (places n : ℕ) → List ℕ
+abbrev pub digit : ℕ → ℕ
+digit d = code "0" + d
+
+-- the decimal digits of a number, without leading zeros, where there are no more than `most`
+unfoldable pub digits : (most n : ℕ) → List ℕ
 digits zero n = []
-digits (suc k) n = cond (ltb n 10) ((48 + n) ∷ []) (digits k (n / 10) ++ ((48 + n % 10) ∷ []))
+digits (suc k) n = cond (ltb n 10) (digit n ∷ []) (digits k (n / 10) ++ (digit (n % 10) ∷ []))
 
 unfoldable pub decimal : ℕ → List ℕ
 decimal n = digits (suc n) n
 
 -- a letter, a space, what is said, and a newline
-abbrev pub line : String → List ℕ → List ℕ
-line letter said = text letter ++ text " " ++ said ++ text "\n"
+abbrev pub line : Char → List ℕ → List ℕ
+line letter said = code letter ∷ text " " ++ said ++ text "\n"
 
 -- "`R` and a refusal"
 abbrev pub refusalLine : ℕ → List ℕ

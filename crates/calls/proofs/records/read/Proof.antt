@@ -24,14 +24,14 @@ returns-2 c = let s = c .before .before .before in rw (no-call-at (s .args .reco
 shared-slice-read-kind : tie.Need-shared-slice-read-kind
 shared-slice-read-kind c = search needs
 
-add-whole : tie.Need-add-whole
-add-whole c = search needs
+add-four-bytes : tie.Need-add-four-bytes
+add-four-bytes c = search needs
 
-whole-requires : tie.Need-whole-requires
-whole-requires c κs = search needs
+four-bytes-requires : tie.Need-four-bytes-requires
+four-bytes-requires c κs = search needs
 
 returns-3 : tie.Need-returns-3
-returns-3 c = rw (call-at _ _ (five (c .before .before .before)), c .before .if3 .taken, c .whole .ensures)
+returns-3 c = rw (call-at _ _ (five (c .before .before .before)), c .before .if3 .taken, c .four-bytes .ensures)
 
 add-if5 : tie.Need-add-if5
 add-if5 c = search needs
@@ -51,11 +51,11 @@ shared-slice-read-wide c = search needs
 wide-requires : tie.Need-wide-requires
 wide-requires c κs = search needs
 
-add-half : tie.Need-add-half
-add-half c = search needs
+add-two-bytes : tie.Need-add-two-bytes
+add-two-bytes c = search needs
 
-half-requires : tie.Need-half-requires
-half-requires c κs = search needs
+two-bytes-requires : tie.Need-two-bytes-requires
+two-bytes-requires c κs = search needs
 
 cast-t14 : tie.Need-cast-t14
 cast-t14 c = search needs
@@ -66,27 +66,27 @@ cast-t19 c = search needs
 returns-5 : tie.Need-returns-5
 returns-5 c =
     let t = c .before .before .before .before .before in
-    rw (call-at _ _ (five (t .before .before .before)), t .if4 .taken, c .before .before .before .if5 .left, c .before .wide .ensures .0, c .half .ensures .0)
+    rw (call-at _ _ (five (t .before .before .before)), t .if4 .taken, c .before .before .before .if5 .left, c .before .wide .ensures .0, c .two-bytes .ensures .0)
 
 returns-6 : tie.Need-returns-6
 returns-6 c =
     rw (call-at _ _ (five (c .before .before .before .before)), ne-eqb _ _ (c .before .before .if3 .left), ne-eqb _ _ (c .before .if4 .left), ne-eqb _ _ (c .if6 .taken))
 
-add-whole-2 : tie.Need-add-whole-2
-add-whole-2 c = search needs
+add-four-bytes-2 : tie.Need-add-four-bytes-2
+add-four-bytes-2 c = search needs
 
-whole-requires-2 : tie.Need-whole-requires-2
-whole-requires-2 c κs = search needs
+four-bytes-requires-2 : tie.Need-four-bytes-requires-2
+four-bytes-requires-2 c κs = search needs
 
 returns-7 : tie.Need-returns-7
 returns-7 c =
     let e = c .before .before in
-    rw (call-at _ _ (five (e .before .before .before .before)), e .if6 .left, ne-eqb _ _ (λ z. c .if7 .taken (c .before .whole2 .ensures ∙ z)))
+    rw (call-at _ _ (five (e .before .before .before .before)), e .if6 .left, ne-eqb _ _ (λ z. c .if7 .taken (c .before .four-bytes2 .ensures ∙ z)))
 
 returns-8 : tie.Need-returns-8
 returns-8 c =
     let e = c .before .before in
-    rw (call-at _ _ (five (e .before .before .before .before)), e .if6 .left, sym (c .before .whole2 .ensures) ∙ c .if7 .left)
+    rw (call-at _ _ (five (e .before .before .before .before)), e .if6 .left, sym (c .before .four-bytes2 .ensures) ∙ c .if7 .left)
 
 pub read-spec : {M : Type 1} → statement M
 read-spec =
@@ -96,8 +96,8 @@ read-spec =
     sub-if2
     returns-2
     shared-slice-read-kind
-    add-whole
-    whole-requires
+    add-four-bytes
+    four-bytes-requires
     returns-3
     add-if5
     shared-slice-read-if5
@@ -105,13 +105,13 @@ read-spec =
     add-wide
     shared-slice-read-wide
     wide-requires
-    add-half
-    half-requires
+    add-two-bytes
+    two-bytes-requires
     cast-t14
     cast-t19
     returns-5
     returns-6
-    add-whole-2
-    whole-requires-2
+    add-four-bytes-2
+    four-bytes-requires-2
     returns-7
     returns-8)

@@ -1,10 +1,10 @@
 use mathlib.Core.Path.{ap, _∙_, sym}
-use lib.ListN.{take, drop}
-use Rattle.model.specs.Record.{callOf}
 use Rattle.calls.specs.Lines.{outWith, nextAfter}
 use Rattle.model.specs.Listing.{lineOf, made}
 use Rattle.link.specs.Reading.{linkOf}
-use Rattle.link.proofs.Records.{is-call, is-no-call}
+use Rattle.link.proofs.Records.{reads-as}
+use Rattle.calls.proofs.Ran.{callAt}
+use Rattle.calls.specs.Reading.{callIn}
 -- `link::Link::play` meets its contract: a record that makes no call is refused by 16, and leaves the link. Assumes nothing.
 use borrow.Author.Needs.{needs}
 use Rattle.link.proofs.Link.play.Statement.{statement}
@@ -31,7 +31,7 @@ returns c =
     let s = r .before .before .before .args in
     let l = linkOf (s .self) in
     let w = c .before .before .write .ensures in
-    let none-is = is-no-call (callOf (take 5 (drop (s .at) (s .records .now)))) (sym (r .read .ensures) ∙ c .before .before .before .before .enum-told .given .1) in
+    let none-is = reads-as (callAt (s .records .now) (s .at)) _ (r .read .ensures) ∙ ap callIn (c .before .before .before .before .enum-told .given .1) in
     (ap (λ o. made l o .link) (sym none-is), (w .0 ∙ ap (λ o. outWith (lineOf (made l o .answer)) (s .out .now) (s .end)) (sym none-is), (w .1 .0 ∙ ap (λ o. nextAfter (lineOf (made l o .answer)) (s .out .now) (s .end)) (sym none-is), (w .1 .1, r .before .before .before .pre))))
 
 make-requires : tie.Need-make-requires
@@ -50,7 +50,7 @@ returns-2 c =
     let s = r .before .before .before .args in
     let l = linkOf (s .self) in
     let w = c .before .before .before .write2 .ensures in
-    let call-is = is-call (callOf (take 5 (drop (s .at) (s .records .now)))) _ (sym (r .read .ensures) ∙ m .before .before .call .given .1) in
+    let call-is = reads-as (callAt (s .records .now) (s .at)) _ (r .read .ensures) ∙ ap callIn (m .before .before .call .given .1) in
     let line = m .make .ensures .0 .line-is ∙ ap (λ o. lineOf (made l o .answer)) (sym call-is) in
     (m .make .ensures .0 .link-is ∙ ap (λ o. made l o .link) (sym call-is), (w .0 ∙ ap (λ x. outWith x (s .out .now) (s .end)) line, (w .1 .0 ∙ ap (λ x. nextAfter x (s .out .now) (s .end)) line, (w .1 .1, m .make .ensures .1))))
 

@@ -1,12 +1,9 @@
 -- `link::Link::run` meets its contract. The loop: the records up to a place are played. Assumes nothing.
-use Prim.Native.Nat.{ℕ, _-_, _*_, _≤_}
-use mathlib.Core.Path.{_≡_, refl, ap, _∙_}
-use lib.ListN.{length, take}
-use Rattle.model.specs.Listing.{listing}
-use lib.Seq.{length-sets}
+use Prim.Native.Nat.{_-_, _*_, _≤_}
+use mathlib.Core.Path.{_≡_, ap}
 use Rattle.link.specs.Reading.{linkOf}
 use Rattle.link.specs.Run.{playable}
-use Rattle.link.proofs.Records.{Going, reach, going-on, begun, ended}
+use Rattle.link.proofs.Records.{Going, reach, going-on, begun, ended, same-size}
 use borrow.Author.Needs.{needs}
 use native.Mathlib.Omega.{arith}
 use Rattle.link.proofs.Link.run.Statement.{statement}
@@ -25,7 +22,7 @@ mul-used : tie.Need-mul-used Inv-loop μ-loop
 mul-used c = omega arith
 
 loop-holds : tie.Need-loop-holds Inv-loop μ-loop
-loop-holds c = (omega arith, ap (5 *_) (c .least .ensures), begun _ _ _ _ refl (c .before .before .before .pre))
+loop-holds c = (omega arith, ap (5 *_) (c .least .ensures), begun _ _ _ (c .before .before .before .pre))
 
 play-requires : tie.Need-play-requires Inv-loop μ-loop
 play-requires c κs = c .before .before .loop .inv .2 .sound
@@ -41,12 +38,10 @@ loop-again c =
     let g = c .before .before .before .before .before .before .loop .inv in
     let p = c .before .before .before .play in
     let r = reach _ _ _ (g .1) in
-    (omega (arith, r .whole, g .2 .whole), g .1, going-on (g .2) _ r (c .before .before .before .before .before .loop-test .taken) _ _ _ (p .ensures .0) (p .ensures .1 .1 .0) (p .ensures .1 .0) (p .ensures .1 .1 .1 .0) (p .ensures .1 .1 .1 .1))
+    (omega (arith, r .whole, g .2 .whole), g .1, going-on (g .2) r (c .before .before .before .before .before .loop-test .taken) (p .ensures .0) (p .ensures .1 .0) (p .ensures .1 .1 .0) (p .ensures .1 .1 .1 .0) (p .ensures .1 .1 .1 .1))
 
 same-length : tie.Need-same-length Inv-loop μ-loop
-same-length c =
-    let a = c .before .before .before .before .before .args in
-    ap length (c .before .loop .inv .2 .lines-are) ∙ length-sets {A = ℕ} (a .out .now) 0 (listing (linkOf (a .self)) (take (c .before .loop .at) (a .records .now)))
+same-length c = same-size (c .before .loop .inv .2)
 
 returns : tie.Need-returns Inv-loop μ-loop
 returns c =
