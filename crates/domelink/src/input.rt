@@ -1,7 +1,6 @@
 // Standard input.
-ghost use Prim.Native.Nat.{_+_, _-_, _≤_, _<_};
+ghost use Prim.Native.Nat.{_≤_, _<_};
 ghost use lib.ListN.{length};
-ghost use Rattle.io.specs.Counts.{Counts};
 
 // The longest plan: a header of 12 bytes and 16 entries of four.
 const LONGEST: usize = 76;
@@ -23,7 +22,7 @@ fn fill(space: &mut [u8], from: usize, to: usize) -> bool
 // Reads a plan to the start of the space, first its length and then no more than that; how many bytes it has, or 0 where they are not all there.
 pub(crate) fn read_plan(space: &mut [u8]) -> usize
     requires { ⌜ 76 ≤ length (now space) ⌝ }
-    ensures { λ r. ⌜ Counts r (now (space .exit)) ⌝ }
+    ensures { λ r. ⌜ r ≤ length (now (space .entry)) ⌝ }
 {
     if !fill(space, 0, 2) {
         return 0;
@@ -41,21 +40,27 @@ pub(crate) fn read_plan(space: &mut [u8]) -> usize
     total
 }
 
-// One read to the place after the bytes that are kept; how many bytes there are then. At the end of the input, and where the read fails, no more.
+// One read; how many bytes it brought, none at the end of the input and where it fails.
+fn read_some(part: &mut [u8]) -> usize
+    ensures { λ r. ⌜ r ≤ length (now (part .entry)) ⌝ }
+{
+    let got = libc::read(libc::STDIN_FILENO, part);
+    io::count(got, part)
+}
+
+// One read to the place after the bytes that are kept; how many bytes there are then.
 pub(crate) fn read_on(space: &mut [u8], kept: usize) -> usize
     requires { ⌜ kept ≤ length (now space) ⌝ }
     ensures low { λ r. ⌜ kept ≤ r ⌝ }
-    ensures high { λ r. ⌜ Counts r (now (space .exit)) ⌝ }
+    ensures high { λ r. ⌜ r ≤ length (now (space .entry)) ⌝ }
 {
-    let part = &mut space[kept..];
-    let got = libc::read(libc::STDIN_FILENO, part);
-    kept + io::count(got, part)
+    kept + read_some(&mut space[kept..])
 }
 
 // Moves the bytes from one place up to another to the start; how many they are.
 pub(crate) fn keep(space: &mut [u8], from: usize, to: usize) -> usize
     requires { ⌜ (from ≤ to) × (to ≤ length (now space)) ⌝ }
-    ensures { λ r. ⌜ r ≤ length (now (space .exit)) ⌝ }
+    ensures { λ r. ⌜ r ≤ length (now (space .entry)) ⌝ }
 {
     let rest = to - from;
     let mut i = 0;

@@ -22,7 +22,7 @@ struct Turn {
 fn turn_once(link: Link, kept: usize, space: &mut [u8], out: &mut [u8]) -> Turn
     requires { ⌜ Sound link × (kept ≤ length (now space)) ⌝ }
     ensures sound { λ r. ⌜ Sound (r .link) ⌝ }
-    ensures kept { λ r. ⌜ r .kept ≤ length (now (space .exit)) ⌝ }
+    ensures kept { λ r. ⌜ r .kept ≤ length (now (space .entry)) ⌝ }
 {
     let have = input::read_on(space, kept);
     if have == kept {
