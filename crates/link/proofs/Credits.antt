@@ -2,8 +2,7 @@
 use Prim.Native.Nat.{ℕ, _-_, _≤_, _<_}
 use mathlib.Core.Path.{_≡_, refl, sym, ap, _∙_}
 use mathlib.Core.List.{List}
-use mathlib.Core.Bool.{Bool, true, false}
-use lib.ListN.{getD}
+use mathlib.Core.Bool.{true, false}
 use lib.Dec.{ltb}
 use borrow.Author.Tests.{lt-ltb, le-ltb}
 use Rattle.model.specs.Refusals.{firstOf}
@@ -15,11 +14,13 @@ use Rattle.calls.specs.declared.Answer.the-variants.{Taken}
 use Rattle.link.specs.declared.Link.{Link}
 use Rattle.link.specs.Runs.{replaced}
 use Rattle.link.specs.Window.{fromIn}
-use Rattle.link.specs.Reading.{sizeOf, flowAt, withFlow, withHeld, flowOf, linkOf}
+use Rattle.link.specs.Holdings.{someHeld}
+use Rattle.link.specs.Parts.{sizeOf, flowAt, withFlow, withHeld}
+use Rattle.link.specs.Reading.{flowOf, linkOf}
 use Rattle.calls.specs.Reading.{answerToCredit}
 use Rattle.link.specs.Sound.{Sound}
 use Rattle.link.proofs.Ranks.{everyFrom-same}
-use Rattle.link.proofs.Links.{Stepped, read-count, read-flow, read-holding, read-with-flow, sound-with-flow, read-from, sound-from}
+use Rattle.link.proofs.Links.{Stepped, same-flow, read-count, read-flow, read-holding, read-with-flow, sound-with-flow, read-from, sound-from}
 
 module _ (l : Link) (i p : ℕ) where
   pub refused-8 : l .plan .count ≤ i → credit (linkOf l) i p ≡ record { link = linkOf l; answer = refused 8 }
@@ -40,27 +41,30 @@ module _ (l : Link) (i p : ℕ) where
       refused-14 h = rw (read-count l, lt-ltb i (l .plan .count) hi, lt-ltb p (sizeOf l) hp, passed-same ∙ h)
 
       -- something is held from p on
-      held-same : everyFrom (model.window (linkOf l)) p (λ q. ltb 0 (model.holding (linkOf l) i q)) ≡ everyFrom v p (λ q. ltb 0 (getD (flowAt l i .held) q 0))
+      held-same : everyFrom (model.window (linkOf l)) p (λ q. ltb 0 (model.holding (linkOf l) i q)) ≡ everyFrom v p (someHeld (flowAt l i .held))
       unfolding linkOf
-      held-same = everyFrom-same (model.window (linkOf l)) p (λ q. ltb 0 (model.holding (linkOf l) i q)) (λ q. ltb 0 (getD (flowAt l i .held) q 0)) (λ q b. rw (read-holding l i q hi b)) ∙ ap (λ (x : Window). everyFrom x p (λ q. ltb 0 (getD (flowAt l i .held) q 0))) (sym is)
+      held-same = everyFrom-same (model.window (linkOf l)) p (λ q. ltb 0 (model.holding (linkOf l) i q)) (someHeld (flowAt l i .held)) (λ q b. rw (read-holding l i q hi b)) ∙ ap (λ (x : Window). everyFrom x p (someHeld (flowAt l i .held))) (sym is)
 
       module _ (here : passed v p ≡ false) where
-        pub refused-15 : everyFrom v p (λ q. ltb 0 (getD (flowAt l i .held) q 0)) ≡ false → credit (linkOf l) i p ≡ record { link = linkOf l; answer = refused 15 }
+        pub refused-15 : everyFrom v p (someHeld (flowAt l i .held)) ≡ false → credit (linkOf l) i p ≡ record { link = linkOf l; answer = refused 15 }
         unfolding credit creditAfter firstOf linkOf
         refused-15 h = rw (read-count l, lt-ltb i (l .plan .count) hi, lt-ltb p (sizeOf l) hp, passed-same ∙ here, held-same ∙ h)
 
-        taken : everyFrom v p (λ q. ltb 0 (getD (flowAt l i .held) q 0)) ≡ true → credit (linkOf l) i p ≡ record { link = lowered (linkOf l) i p; answer = accepted tt }
+        taken : everyFrom v p (someHeld (flowAt l i .held)) ≡ true → credit (linkOf l) i p ≡ record { link = lowered (linkOf l) i p; answer = accepted tt }
         unfolding credit creditAfter firstOf linkOf
         taken h = rw (read-count l, lt-ltb i (l .plan .count) hi, lt-ltb p (sizeOf l) hp, passed-same ∙ here, held-same ∙ h)
 
-        pub credited : Sound l → everyFrom v p (λ q. ltb 0 (getD (flowAt l i .held) q 0)) ≡ true
+        pub credited : Sound l → everyFrom v p (someHeld (flowAt l i .held)) ≡ true
             → (h : List ℕ) → h ≡ replaced (fromIn v p) (λ q x. x - 1) (flowAt l i .held)
             → Stepped answerToCredit (credit (linkOf l) i p) (record { link = withFlow l i (withHeld (flowAt l i) h); answer = Taken })
         unfolding lowered
         credited s held h changed = rw (taken held) (link, (refl, sound-with-flow l s i hi _ (sound-from l s v is i p hi (λ x. x - 1) h changed _ _ (s .flows i hi .frame))))
           where
-            same-flow : {x : model.Flow} {t t′ : List ℕ} → x ≡ flowOf (sizeOf l) (flowAt l i) → t ≡ t′ → record { injection = flowAt l i .frame; remainder = flowAt l i .left; held = t } ≡ model.withHeld x t′
-            same-flow d e = rw (d, e)
-
             link : linkOf (withFlow l i (withHeld (flowAt l i) h)) ≡ model.withFlow (linkOf l) i (model.withHeld (model.flow (linkOf l) i) (model.heldFrom (linkOf l) i p (λ x. x - 1)))
-            link = read-with-flow l s i hi _ ∙ ap (model.withFlow (linkOf l) i) (same-flow (read-flow l i hi) (read-from l s v is i p hi (λ x. x - 1) h changed))
+            link =
+                read-with-flow l s i hi _
+                ∙ ap (model.withFlow (linkOf l) i)
+                (same-flow
+                (ap (λ (x : model.Flow). x .injection) (sym (read-flow l i hi)))
+                (ap (λ (x : model.Flow). x .remainder) (sym (read-flow l i hi)))
+                (read-from l s v is i p hi (λ x. x - 1) h changed))

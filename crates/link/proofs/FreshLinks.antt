@@ -1,6 +1,6 @@
 -- The fresh link, as it is read. Assumes nothing.
 use Prim.Native.Nat.{ℕ, _*_, _≤_, _<_}
-use mathlib.Core.Path.{_≡_, refl, sym, ap, _∙_}
+use mathlib.Core.Path.{_≡_, sym, ap, _∙_}
 use mathlib.Core.List.{List}
 use mathlib.Core.Option.{Option, none}
 use native.Mathlib.Nat.{mul-pos}
@@ -17,8 +17,9 @@ use Rattle.plan.specs.Reading as plan
 use Rattle.link.specs.declared.Flow.{Flow}
 use Rattle.link.specs.declared.Link.{Link}
 use Rattle.link.specs.Runs.{inRun, replaced}
-use Rattle.link.specs.Reading.{noFlow, nobody, movedTo, ownerOf, flowOf, linkOf, everywhere, spareFlow}
-use Rattle.link.specs.Sound.{Sound, SoundFlow}
+use Rattle.link.specs.Parts.{noFlow, movedTo}
+use Rattle.link.specs.Reading.{nobody, ownerOf, flowOf, linkOf, everywhere, spareFlow}
+use Rattle.link.specs.Sound.{Sound}
 use Rattle.link.proofs.Tables.{table-same, replicate-table}
 use Rattle.link.proofs.Plans.{plan-count, plan-entry, count-most}
 use Rattle.link.proofs.Runs.{in-run, past-run, length-replaced, replaced-at, replaced-off}

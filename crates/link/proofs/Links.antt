@@ -1,11 +1,10 @@
 -- A link as it is read: what is read of it, a part of it changed, and that what is changed is sound again. Assumes nothing.
-use Prim.Native.Nat.{ℕ, _*_, _≤_, _<_}
-use mathlib.Core.Path.{_≡_, refl, sym, ap, _∙_}
+use Prim.Native.Nat.{ℕ, _≤_, _<_}
+use mathlib.Core.Path.{_≡_, refl, ap, _∙_}
 use mathlib.Core.List.{List}
-use mathlib.Core.Option.{Option, some}
-use mathlib.Core.Bool.{Bool, cond}
-use native.Mathlib.Nat.{mul-pos}
-use native.Mathlib.Decide.{ℕ-discrete, decLt}
+use mathlib.Core.Option.{some}
+use mathlib.Core.Bool.{cond}
+use native.Mathlib.Decide.{ℕ-discrete}
 use native.Mathlib.Omega.{arith}
 use lib.ListN.{length, getD, set, length-set}
 use lib.Seq.{getD-set-same, getD-set-other}
@@ -22,9 +21,10 @@ use Rattle.link.specs.declared.Link.{Link}
 use Rattle.link.specs.declared.Step.{Step}
 use Rattle.link.specs.Runs.{replaced}
 use Rattle.link.specs.Window.{Measures, fromIn}
-use Rattle.link.specs.Reading.{sizeOf, entryAt, flowAt, ownerAt, noFlow, nobody, withOwners, withFlow, movedTo, withHeld, ownerOf, flowOf, linkOf, spareFlow}
+use Rattle.link.specs.Parts.{sizeOf, entryAt, flowAt, ownerAt, noFlow, withOwners, withFlow, movedTo, withHeld}
+use Rattle.link.specs.Reading.{nobody, ownerOf, flowOf, linkOf}
 use Rattle.link.specs.Sound.{Sound, SoundFlow}
-use Rattle.link.proofs.Tables.{getD-table, length-table, table-same}
+use Rattle.link.proofs.Tables.{getD-table, table-same}
 use Rattle.link.proofs.Plans.{plan-count, plan-entry, count-most}
 use Rattle.link.proofs.Runs.{length-replaced, replaced-at, replaced-off}
 
@@ -32,10 +32,14 @@ use Rattle.link.proofs.Runs.{length-replaced, replaced-at, replaced-off
 abbrev pub Stepped : {A : Type 0} → (A → Answer) → model.Step A → Step → Type 0
 Stepped toAnswer m r = (linkOf (r .link) ≡ m .link) × ((r .answer ≡ toAnswer (m .answer)) × Sound (r .link))
 
-pub unchanged : {A : Type 0} (toAnswer : A → Answer) (l : Link) (m : model.Step A) (a : A) → Sound l → m ≡ record { link = linkOf l; answer = a } → Stepped toAnswer m (record { link = l; answer = toAnswer a })
+-- a call that leaves the link as it was
+pub unchanged : {A : Type 0} (toAnswer : A → Answer) (l : Link) (m : model.Step A) (a : A) → Sound l → m ≡ record { link = linkOf l; answer = a }
+    → Stepped toAnswer m (record { link = l; answer = toAnswer a })
 unchanged toAnswer l m a s e = rw e (refl, (refl, s))
 
-pub same-flow : {j j′ c c′ : ℕ} {h h′ : List ℕ} → j ≡ j′ → c ≡ c′ → h ≡ h′ → _≡_ {A = model.Flow} (record { injection = j; remainder = c; held = h }) (record { injection = j′; remainder = c′; held = h′ })
+-- equal parts make equal flows
+pub same-flow : {j j′ c c′ : ℕ} {h h′ : List ℕ} → j ≡ j′ → c ≡ c′ → h ≡ h′
+    → _≡_ {A = model.Flow} (record { injection = j; remainder = c; held = h }) (record { injection = j′; remainder = c′; held = h′ })
 same-flow d e f = cc
 
 -- ---- what is read of a link
@@ -168,7 +172,7 @@ module _ (l : Link) (s : Sound l) where
         ∙ replaced-at _ _ (flowAt l i .held) q 0 (omega (arith, s .flows i hi .long, size-most))
         ∙ rw (lt-ltb q (sizeOf l) b, read-holding l i q hi b)
 
-    pub sound-from : (j c : ℕ) → j < l .plan .frames → SoundFlow (sizeOf l) (l .plan .frames) (record { frame = j; left = c; held = h })
+    pub sound-from : (j c : ℕ) → j < l .plan .frames → SoundFlow (sizeOf l) (l .plan .frames) (withHeld (movedTo (flowAt l i) j c) h)
     unfolding linkOf fromIn
     sound-from j c hj = record {
       frame = hj;

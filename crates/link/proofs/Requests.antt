@@ -13,7 +13,7 @@ use Rattle.model.specs.Tables.{table, ahead}
 use Rattle.model.specs.Refusals.{firstOf}
 use Rattle.model.specs.Word as word
 use Rattle.model.specs.Plan as paper
-use Rattle.model.specs.Calls.{accepted, refused}
+use Rattle.model.specs.Calls.{accepted}
 use Rattle.model.specs.Window.{Window, rank, passed, everyFrom, newest}
 use Rattle.model.specs.Link as model
 use Rattle.model.specs.Request.{wordTests, valid, unbooked, Found, found, nowhere, search, sought, booked, refusedAtNewest, answered, requestAfter, request}
@@ -26,7 +26,9 @@ use Rattle.link.specs.declared.Flow.{Flow}
 use Rattle.link.specs.declared.Link.{Link}
 use Rattle.link.specs.Runs.{replaced}
 use Rattle.link.specs.Window.{fromIn}
-use Rattle.link.specs.Reading.{sizeOf, entryAt, flowAt, ownerAt, withOwners, withFlow, movedTo, ownerOf, flowOf, linkOf}
+use Rattle.link.specs.Holdings.{roomAt}
+use Rattle.link.specs.Parts.{sizeOf, entryAt, flowAt, ownerAt, withOwners, withFlow, movedTo}
+use Rattle.link.specs.Reading.{ownerOf, flowOf, linkOf}
 use Rattle.calls.specs.Reading.{answerToRequest}
 use Rattle.link.specs.Search.{freeFrom}
 use Rattle.link.specs.Sound.{Sound}
@@ -102,13 +104,13 @@ module _ (l : Link) (x n : ℕ) (tests : n ≡ firstOf (wordTests (planFor (l .p
 
 module _ (l : Link) (s : Sound l) (v : Window) (is : v ≡ model.window (linkOf l)) (i : ℕ) (hi : i < l .plan .count) where
   pub record LowFor (low : ℕ) : Type 0 where
-    pub from : (p : ℕ) → p < sizeOf l → leb low (rank v p) ≡ not (passed v p) && everyFrom v p (λ q. ltb (getD (flowAt l i .held) q 0) (entryAt l i .cells))
+    pub from : (p : ℕ) → p < sizeOf l → leb low (rank v p) ≡ not (passed v p) && everyFrom v p (roomAt (flowAt l i .held) (entryAt l i .cells))
 
   -- there is room from p on
-  room-same : (p : ℕ) → everyFrom (model.window (linkOf l)) p (λ q. ltb (model.holding (linkOf l) i q) (model.cells (linkOf l) i)) ≡ everyFrom (model.window (linkOf l)) p (λ q. ltb (getD (flowAt l i .held) q 0) (entryAt l i .cells))
+  room-same : (p : ℕ) → everyFrom (model.window (linkOf l)) p (λ q. ltb (model.holding (linkOf l) i q) (model.cells (linkOf l) i)) ≡ everyFrom (model.window (linkOf l)) p (roomAt (flowAt l i .held) (entryAt l i .cells))
   unfolding linkOf
   room-same p =
-      everyFrom-same (model.window (linkOf l)) p (λ q. ltb (model.holding (linkOf l) i q) (model.cells (linkOf l) i)) (λ q. ltb (getD (flowAt l i .held) q 0) (entryAt l i .cells))
+      everyFrom-same (model.window (linkOf l)) p (λ q. ltb (model.holding (linkOf l) i q) (model.cells (linkOf l) i)) (roomAt (flowAt l i .held) (entryAt l i .cells))
       (λ q b. rw (read-holding l i q hi b, ap (λ (e : paper.Entry). e .cells) (read-entry l i hi)))
 
   module _ (low : ℕ) (bound : LowFor low) where
@@ -116,8 +118,8 @@ module _ (l : Link) (s : Sound l) (v : Window) (is : v ≡ model.window (linkOf 
     unfolding valid freeFrom
     valid-same p hp =
         let late = ap (λ (x : Window). passed x p) (sym is) in
-        let room = room-same p ∙ ap (λ (x : Window). everyFrom x p (λ q. ltb (getD (flowAt l i .held) q 0) (entryAt l i .cells))) (sym is) in
-        rw (read-owner l p hp, late, room, bound .from p hp) (and-assoc (unbooked (ownerOf (ownerAt l p))) (not (passed v p)) (everyFrom v p (λ q. ltb (getD (flowAt l i .held) q 0) (entryAt l i .cells))))
+        let room = room-same p ∙ ap (λ (x : Window). everyFrom x p (roomAt (flowAt l i .held) (entryAt l i .cells))) (sym is) in
+        rw (read-owner l p hp, late, room, bound .from p hp) (and-assoc (unbooked (ownerOf (ownerAt l p))) (not (passed v p)) (everyFrom v p (roomAt (flowAt l i .held) (entryAt l i .cells))))
 
     pub sought-same : sought (linkOf l) i ≡ search v (freeFrom v (l .owner) low) (entryAt l i .share) (ahead (v .frames) (flowAt l i .frame) (newest v)) (flowAt l i .frame) (flowAt l i .left)
     unfolding sought
@@ -140,7 +142,7 @@ module _ (l : Link) (s : Sound l) (v : Window) (is : v ≡ model.window (linkOf 
         two : 2 ≤ v .frames
         two = rw (read-frames l is) (s .plan .accepted .two-frames)
 
-    pub room-there : (p : ℕ) → p < sizeOf l → freeFrom v (l .owner) low p ≡ true → everyFrom v p (λ q. ltb (getD (flowAt l i .held) q 0) (entryAt l i .cells)) ≡ true
+    pub room-there : (p : ℕ) → p < sizeOf l → freeFrom v (l .owner) low p ≡ true → everyFrom v p (roomAt (flowAt l i .held) (entryAt l i .cells)) ≡ true
     unfolding freeFrom
     room-there p hp e = and-right (not (passed v p)) _ (sym (bound .from p hp) ∙ and-right (unbooked (ownerOf (ownerAt l p))) _ e)
 

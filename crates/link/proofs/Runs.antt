@@ -2,7 +2,7 @@
 use Prim.Native.Nat.{ℕ, zero, suc, _+_, _-_, _%_, _≤_, _<_}
 use mathlib.Core.Path.{_≡_, refl, sym, ap, _∙_}
 use mathlib.Core.List.{List, [], _∷_}
-use mathlib.Core.Bool.{Bool, true, false, _&&_, _||_, cond, and-false}
+use mathlib.Core.Bool.{Bool, true, false, _&&_, _||_, cond, and-false, true≢false}
 use native.Mathlib.Decide.{decLt, decLe, ℕ-discrete}
 use native.Mathlib.Omega.{arith}
 use lib.ListN.{length, getD, set, length-set, List·getD-eq-default}
@@ -107,7 +107,10 @@ module _ {A : Type 0} where
 
   pub replaced-more : (a j : ℕ) (f : ℕ → A → A) (xs : List A) (d : A) (ys : List A) (v : A) → ys ≡ replaced (inRun a j) f xs → a ≤ j
       → v ≡ f j (getD ys j d) → set ys j v ≡ replaced (inRun a (j + 1)) f xs
-  replaced-more a j f xs d ys v e l ev = ap (λ (zs : List A). set zs j v) e ∙ ap (set done j) (ev ∙ ap (λ (zs : List A). f j (getD zs j d)) e ∙ ap (f j) here) ∙ ext-getD d (set done j (f j (getD xs j d))) (replaced (inRun a (j + 1)) f xs) (simp (length-set, length-replaced)) (λ i b. go i (rw (length-set, length-replaced) at b) (ℕ-discrete i j))
+  replaced-more a j f xs d ys v e l ev =
+      ap (λ (zs : List A). set zs j v) e
+      ∙ ap (set done j) (ev ∙ ap (λ (zs : List A). f j (getD zs j d)) e ∙ ap (f j) here)
+      ∙ ext-getD d _ _ (simp (length-set, length-replaced)) (λ i b. go i (rw (length-set, length-replaced) at b) (ℕ-discrete i j))
     where
       done : List A
       done = replaced (inRun a j) f xs
@@ -129,10 +132,10 @@ some-held x n = lt-ltb 0 x (omega arith)
 
 module _ {t : ℕ → Bool} {a : ℕ} where
   pub all-none : {q : ℕ} → q ≤ a → All t a q true
-  all-none h = record { pass = λ z x h₁ h₂. absurd (omega arith); miss = λ (z : true ≡ false). absurd (let y : _≡_ {A = ℕ} 0 1 = cc in omega arith) }
+  all-none h = record { pass = λ z x h₁ h₂. absurd (omega arith); miss = λ z. absurd (true≢false z) }
 
   pub all-miss : (q : ℕ) {r : Bool} → a ≤ q → t q ≡ false → r ≡ false → All t a (q + 1) r
-  all-miss q h e z = record { pass = λ z′ x h₁ h₂. absurd (let y : _≡_ {A = Bool} true false = cc in let y : _≡_ {A = ℕ} 0 1 = cc in omega arith); miss = λ _. record { at = q; from = h; below = omega arith; fails = e } }
+  all-miss q h e z = record { pass = λ y. absurd (true≢false (sym y ∙ z)); miss = λ _. record { at = q; from = h; below = omega arith; fails = e } }
 
   pub all-pass : {q : ℕ} {r s : Bool} → All t a q s → t q ≡ true → r ≡ s → All t a (q + 1) r
   all-pass {q} {r} {s} v e z = rw z (record { pass = λ y x h₁ h₂. go y x h₁ h₂ (ℕ-discrete x q); miss = λ y. wider (v .miss y) })

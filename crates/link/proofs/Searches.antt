@@ -1,24 +1,23 @@
 -- Laws of the search: turn by turn, by a test that agrees, and what it finds. Assumes nothing.
-use Prim.Native.Nat.{ℕ, zero, suc, _+_, _-_, _*_, _%_, _≤_, _<_}
-use mathlib.Core.Path.{_≡_, refl, sym, ap, _∙_}
+use Prim.Native.Nat.{ℕ, zero, suc, _+_, _-_, _*_, _≤_, _<_}
+use mathlib.Core.Path.{_≡_, refl, sym, _∙_}
 use mathlib.Core.List.{List}
 use mathlib.Core.Option.{Option, some, none}
-use mathlib.Core.Bool.{Bool, true, false, _&&_, cond, and-false}
+use mathlib.Core.Bool.{Bool, true, false, cond, and-false}
 use native.Mathlib.Nat.{add-zero, sub-zero, mod-lt}
 use native.Mathlib.Numerals.{add-one}
 use native.Mathlib.Decide.{decLt}
 use native.Mathlib.Omega.{arith}
-use lib.Dec.{leb, eqb}
 use lib.ListN.{getD}
 use borrow.Author.Tests.{le-leb, lt-leb, eq-eqb, ne-eqb}
 use Rattle.model.specs.Tables.{firstFrom}
 use Rattle.model.specs.Window as model
-use Rattle.model.specs.Request.{Found, found, nowhere, unbooked, earliest, orElse, search}
+use Rattle.model.specs.Request.{Found, found, nowhere, earliest, orElse, search}
 use Rattle.link.specs.declared.Window.{Window}
 use Rattle.link.specs.Reading.{nobody}
-use Rattle.link.specs.Window.{windowOf, sizeOf, Proper}
+use Rattle.link.specs.Window.{windowOf, Proper}
 use Rattle.link.specs.Search.{freeFrom}
-use Rattle.link.proofs.Ranks.{frame-fits, slot-below, rank-slot}
+use Rattle.link.proofs.Ranks.{frame-fits, rank-slot}
 
 -- ---- the walk over the slots of a frame: of the n positions from a on, the first s have failed
 

@@ -1,26 +1,24 @@
 -- The reading determines a sound link: it is what its reading is stored as. Assumes nothing.
-use Prim.Native.Nat.{ℕ, _≤_, _<_}
+use Prim.Native.Nat.{ℕ, _<_}
 use mathlib.Core.Path.{_≡_, refl, sym, ap, _∙_}
 use mathlib.Core.List.{List}
-use mathlib.Core.Bool.{Bool, true, false, cond}
+use mathlib.Core.Bool.{Bool, true, false}
 use native.Mathlib.Decide.{decLt}
 use native.Mathlib.Omega.{arith}
 use lib.ListN.{getD}
 use lib.Dec.{eqb}
 use borrow.Author.Tests.{eqb-true}
 use Rattle.model.specs.Tables.{table}
-use Rattle.model.specs.Plan as paper
 use Rattle.model.specs.Link as model
-use Rattle.plan.specs.declared.Plan.{Plan}
-use Rattle.plan.specs.declared.Entry.{Entry}
 use Rattle.plan.specs.Reading as plan
 use Rattle.link.specs.declared.Flow.{Flow}
 use Rattle.link.specs.declared.Link.{Link}
-use Rattle.link.specs.Reading.{sizeOf, flowAt, ownerAt, noFlow, nobody, ownerOf, flowOf, linkOf, everywhere, spareFlow, storedOwner, storedFlow, stored}
+use Rattle.link.specs.Parts.{sizeOf, flowAt, ownerAt, noFlow}
+use Rattle.link.specs.Reading.{nobody, ownerOf, flowOf, linkOf, everywhere, storedOwner, storedFlow, stored}
 use Rattle.link.specs.Sound.{Sound, SoundFlow}
-use Rattle.link.proofs.Tables.{getD-table, length-table, table-past, table-of}
+use Rattle.link.proofs.Tables.{getD-table, table-past, table-of}
 use Rattle.link.proofs.Plans.{stored-plan}
-use Rattle.link.proofs.Links.{read-count, read-flow, read-owner}
+use Rattle.link.proofs.Links.{read-flow, read-owner}
 
 owner-back : (x : ℕ) → storedOwner (ownerOf x) ≡ x
 owner-back x = go (eqb x nobody) refl

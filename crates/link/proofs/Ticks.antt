@@ -2,12 +2,12 @@
 use Prim.Native.Nat.{ℕ, _+_, _-_, _*_, _/_, _%_, _≤_, _<_}
 use mathlib.Core.Path.{_≡_, refl, sym, ap, _∙_}
 use mathlib.Core.List.{List}
-use mathlib.Core.Option.{Option, none}
+use mathlib.Core.Option.{none}
 use mathlib.Core.Bool.{Bool, true, false, cond}
-use native.Mathlib.Nat.{mod-lt, mul-pos, suc-mul, div-eq-of-lt-le, div-mul-le-self, lt-div-mul-add}
+use native.Mathlib.Nat.{mod-lt, suc-mul, div-eq-of-lt-le, div-mul-le-self, lt-div-mul-add}
 use native.Mathlib.Decide.{decLt}
 use native.Mathlib.Omega.{arith}
-use lib.ListN.{length, getD}
+use lib.ListN.{getD}
 use lib.Dec.{eqb}
 use borrow.Author.Tests.{eq-eqb, ne-eqb}
 use Rattle.model.specs.Tables.{table}
@@ -20,8 +20,8 @@ use Rattle.calls.specs.declared.Answer.{Answer}
 use Rattle.link.specs.declared.Flow.{Flow}
 use Rattle.link.specs.declared.Link.{Link}
 use Rattle.link.specs.Runs.{inRun, replaced}
-use Rattle.link.specs.Window.{Proper}
-use Rattle.link.specs.Reading.{sizeOf, entryAt, flowAt, ownerAt, noFlow, nobody, withCurrent, movedTo, withHeld, ownerOf, flowOf, linkOf}
+use Rattle.link.specs.Parts.{sizeOf, entryAt, flowAt, ownerAt, noFlow, withCurrent, movedTo, withHeld}
+use Rattle.link.specs.Reading.{nobody, ownerOf, flowOf, linkOf}
 use Rattle.calls.specs.Reading.{answerToTick}
 use Rattle.link.specs.Sound.{Sound, SoundFlow}
 use Rattle.link.proofs.Tables.{table-same}
@@ -107,6 +107,9 @@ module _ (l : Link) (s : Sound l) where
 
   pub last-below : lastAt l < sizeOf l
   last-below = mod-lt _ some-position
+
+  pub head-below : headAt l < l .plan .frames
+  head-below = proper _ _ _ (measures l s) .head-below
 
   pub base-fits : baseAt l + l .plan .slots ≤ sizeOf l
   base-fits = proper _ _ _ (measures l s) .base-fits

@@ -1,55 +1,16 @@
 -- A link read as the paper's: the first T positions, the first n flows; and the paper's link as it is stored. Assumes nothing.
-use Prim.Native.Nat.{ℕ, _*_}
-use mathlib.Core.List.{List, []}
+use Prim.Native.Nat.{ℕ}
+use mathlib.Core.List.{List}
 use mathlib.Core.Option.{Option, some, none}
 use mathlib.Core.Bool.{cond}
-use lib.ListN.{getD, set, replicate}
+use lib.ListN.{getD, replicate}
 use lib.Dec.{eqb}
 use Rattle.link.specs.declared.Flow.{Flow}
 use Rattle.link.specs.declared.Link.{Link}
+use Rattle.link.specs.Parts.{sizeOf, flowAt, ownerAt}
 use Rattle.plan.specs.Reading as plan
-use Rattle.plan.specs.declared.Entry.{Entry}
 use Rattle.model.specs.Tables.{table}
 use Rattle.model.specs.Link as model
-
--- ---- what is read of a link
-
--- T
-abbrev pub sizeOf : Link → ℕ
-sizeOf l = l .plan .slots * l .plan .frames
-
-abbrev pub entryAt : Link → ℕ → Entry
-entryAt l i = getD (l .plan .entries) i plan.noEntry
-
--- past the end of the flows
-abbrev pub noFlow : Flow
-noFlow = record { frame = 0; left = 0; held = [] }
-
-abbrev pub flowAt : Link → ℕ → Flow
-flowAt l i = getD (l .flows) i noFlow
-
-abbrev pub ownerAt : Link → ℕ → ℕ
-ownerAt l p = getD (l .owner) p 0
-
--- ---- a link and a flow with a part changed, and the others left
-
-abbrev pub withCurrent : Link → ℕ → Link
-withCurrent l p = record { plan = l .plan; cp = p; owner = l .owner; flows = l .flows }
-
-abbrev pub withOwners : Link → List ℕ → Link
-withOwners l o = record { plan = l .plan; cp = l .cp; owner = o; flows = l .flows }
-
-abbrev pub withFlows : Link → List Flow → Link
-withFlows l fs = record { plan = l .plan; cp = l .cp; owner = l .owner; flows = fs }
-
-abbrev pub withFlow : Link → ℕ → Flow → Link
-withFlow l i f = withFlows l (set (l .flows) i f)
-
-abbrev pub movedTo : Flow → ℕ → ℕ → Flow
-movedTo f j c = record { frame = j; left = c; held = f .held }
-
-abbrev pub withHeld : Flow → List ℕ → Flow
-withHeld f h = record { frame = f .frame; left = f .left; held = h }
 
 -- ---- read as the paper's
 

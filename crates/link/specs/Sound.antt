@@ -6,7 +6,8 @@ use mathlib.Core.Path.{_≡_}
 use lib.ListN.{length, getD}
 use Rattle.link.specs.declared.Flow.{Flow}
 use Rattle.link.specs.declared.Link.{Link}
-use Rattle.link.specs.Reading.{sizeOf, flowAt, ownerAt, nobody, spareFlow}
+use Rattle.link.specs.Parts.{sizeOf, flowAt, ownerAt}
+use Rattle.link.specs.Reading.{nobody, spareFlow}
 use Rattle.plan.specs.Reading.{Valid}
 
 -- a flow's part: IF is one of W frames, and nothing is held past the T positions

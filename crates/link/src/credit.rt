@@ -4,12 +4,12 @@ ghost use Rattle.model.specs.Credit as model;
 ghost use Rattle.link.specs.Reading.{linkOf};
 ghost use Rattle.calls.specs.Reading.{answerToCredit};
 ghost use Rattle.link.specs.Sound.{Sound};
+use crate::Answer;
 use crate::Link;
 use crate::Step;
 use crate::holdings::held_from;
 use crate::holdings::lower;
 use crate::positions::window;
-use calls::Answer;
 
 impl Link {
     // A flow's cell falls free from a position on.

@@ -1,12 +1,12 @@
 // What a flow holds at each position. "From p on" is p and every later position of the window: one straight run, or two.
 ghost use mathlib.Core.Path.{_≡_};
-ghost use mathlib.Core.Bool.{true, cond};
+ghost use mathlib.Core.Bool.{true};
 ghost use Prim.Native.Nat.{ℕ, suc, _-_, _≤_, _<_};
-ghost use lib.ListN.{getD};
-ghost use lib.Dec.{leb, ltb};
+ghost use lib.Dec.{leb};
 ghost use Rattle.model.specs.Window as model;
 ghost use Rattle.link.specs.Runs.{inRun, replaced, wrapped, All, LastIn};
 ghost use Rattle.link.specs.Window.{windowOf, sizeOf, Proper, fromIn};
+ghost use Rattle.link.specs.Holdings.{someHeld, roomAt};
 use crate::Window;
 use std::num::wrapping_add_u8;
 
@@ -25,7 +25,7 @@ pub fn fill(table: &mut [u8; 256], value: u8, a: usize, e: usize)
 // Whether something is held at every position of the run from a to e.
 fn held_in(held: &[u8; 256], a: usize, e: usize) -> bool
     requires { ⌜ (a ≤ e) × (e ≤ 256) ⌝ }
-    ensures { λ r. ⌜ All (λ q. ltb 0 (getD (now (held .entry)) q 0)) a e r ⌝ }
+    ensures { λ r. ⌜ All (someHeld (now (held .entry))) a e r ⌝ }
 {
     let mut all = true;
     let mut q = a;
@@ -41,7 +41,7 @@ fn held_in(held: &[u8; 256], a: usize, e: usize) -> bool
 // Whether fewer than the cells are held at every position of the run from a to e.
 fn room_in(held: &[u8; 256], cells: u8, a: usize, e: usize) -> bool
     requires { ⌜ (a ≤ e) × (e ≤ 256) ⌝ }
-    ensures { λ r. ⌜ All (λ q. ltb (getD (now (held .entry)) q 0) cells) a e r ⌝ }
+    ensures { λ r. ⌜ All (roomAt (now (held .entry)) cells) a e r ⌝ }
 {
     let mut all = true;
     let mut q = a;
@@ -57,7 +57,7 @@ fn room_in(held: &[u8; 256], cells: u8, a: usize, e: usize) -> bool
 // One more than the last position of a run at which no fewer than the cells are held, or the first position.
 fn last_full(held: &[u8; 256], cells: u8, a: usize, e: usize) -> usize
     requires { ⌜ (a ≤ e) × (e ≤ 256) ⌝ }
-    ensures { λ r. ⌜ LastIn (λ q. ltb (getD (now (held .entry)) q 0) cells) a e r ⌝ }
+    ensures { λ r. ⌜ LastIn (roomAt (now (held .entry)) cells) a e r ⌝ }
 {
     let mut q = e;
     while a < q {
@@ -72,7 +72,7 @@ fn last_full(held: &[u8; 256], cells: u8, a: usize, e: usize) -> usize
 // The rank from which on there is room at every position.
 pub fn room_rank(held: &[u8; 256], cells: u8, w: Window) -> usize
     requires { ⌜ Proper w ⌝ }
-    ensures { λ r. ⌜ ((p : ℕ) → p < sizeOf w → leb r (model.rank (windowOf w) p) ≡ model.everyFrom (windowOf w) p (λ q. ltb (getD (now (held .entry)) q 0) cells)) ⌝ }
+    ensures { λ r. ⌜ ((p : ℕ) → p < sizeOf w → leb r (model.rank (windowOf w) p) ≡ model.everyFrom (windowOf w) p (roomAt (now (held .entry)) cells)) ⌝ }
 {
     let size = w.slots * w.frames;
     let base = w.head * w.slots;
@@ -89,7 +89,7 @@ pub fn room_rank(held: &[u8; 256], cells: u8, w: Window) -> usize
 // Whether something is held from p on.
 pub fn held_from(held: &[u8; 256], w: Window, p: usize) -> bool
     requires { ⌜ Proper w × (p < sizeOf w) ⌝ }
-    ensures { λ r. ⌜ r ≡ model.everyFrom (windowOf w) p (λ q. ltb 0 (getD (now (held .entry)) q 0)) ⌝ }
+    ensures { λ r. ⌜ r ≡ model.everyFrom (windowOf w) p (someHeld (now (held .entry))) ⌝ }
 {
     let base = w.head * w.slots;
     if base <= p {
@@ -136,7 +136,7 @@ fn shift_from(held: &mut [u8; 256], by: u8, w: Window, p: usize)
 
 // The holdings from p on rise by one.
 pub fn raise(held: &mut [u8; 256], w: Window, p: usize, cells: u8)
-    requires { ⌜ Proper w × (p < sizeOf w) × (model.everyFrom (windowOf w) p (λ q. ltb (getD (now held) q 0) cells) ≡ true) ⌝ }
+    requires { ⌜ Proper w × (p < sizeOf w) × (model.everyFrom (windowOf w) p (roomAt (now held) cells) ≡ true) ⌝ }
     ensures { λ r. ⌜ now (held .exit) ≡ replaced (fromIn (windowOf w) p) (λ q x. suc x) (now (held .entry)) ⌝ }
 {
     shift_from(held, 1, w, p);
@@ -144,7 +144,7 @@ pub fn raise(held: &mut [u8; 256], w: Window, p: usize, cells: u8)
 
 // The holdings from p on fall by one.
 pub fn lower(held: &mut [u8; 256], w: Window, p: usize)
-    requires { ⌜ Proper w × (p < sizeOf w) × (model.everyFrom (windowOf w) p (λ q. ltb 0 (getD (now held) q 0)) ≡ true) ⌝ }
+    requires { ⌜ Proper w × (p < sizeOf w) × (model.everyFrom (windowOf w) p (someHeld (now held)) ≡ true) ⌝ }
     ensures { λ r. ⌜ now (held .exit) ≡ replaced (fromIn (windowOf w) p) (λ q x. x - 1) (now (held .entry)) ⌝ }
 {
     shift_from(held, 255, w, p);

@@ -8,6 +8,7 @@ ghost use Rattle.model.specs.Request as model;
 ghost use Rattle.link.specs.Reading.{linkOf};
 ghost use Rattle.calls.specs.Reading.{answerToRequest};
 ghost use Rattle.link.specs.Sound.{Sound};
+use crate::Answer;
 use crate::Found;
 use crate::Link;
 use crate::Step;
@@ -15,7 +16,6 @@ use crate::holdings::raise;
 use crate::positions::window;
 use crate::search::search;
 use crate::search::valid_rank;
-use calls::Answer;
 use plan::Plan;
 
 // The refusal of a word by its own tests, and 0 where it passes them.
@@ -78,19 +78,19 @@ impl Link {
                 raise(&mut f.held, w, position, e.cells);
                 self.flows[i] = f;
                 self.owner[position] = fields.flow;
-                Step {
+                return Step {
                     link: self,
                     answer: Answer::Granted(word::depart(word, position as u8)),
-                }
+                };
             }
             Found::Nowhere(left) => {
                 f.frame = w.newest();
                 f.left = left;
                 self.flows[i] = f;
-                Step {
+                return Step {
                     link: self,
                     answer: nowhere(left),
-                }
+                };
             }
         }
     }

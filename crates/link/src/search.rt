@@ -2,12 +2,12 @@
 ghost use mathlib.Core.Path.{_≡_};
 ghost use mathlib.Core.Bool.{not, _&&_};
 ghost use Prim.Native.Nat.{ℕ, _-_, _<_, max};
-ghost use lib.ListN.{getD};
-ghost use lib.Dec.{leb, ltb};
+ghost use lib.Dec.{leb};
 ghost use Rattle.model.specs.Tables as tables;
 ghost use Rattle.model.specs.Window as model;
 ghost use Rattle.model.specs.Request as request;
 ghost use Rattle.link.specs.Window.{windowOf, sizeOf, Proper};
+ghost use Rattle.link.specs.Holdings.{roomAt};
 ghost use Rattle.link.specs.Search.{foundOf, freeFrom};
 use crate::Found;
 use crate::Window;
@@ -37,7 +37,7 @@ fn larger(a: usize, b: usize) -> usize
 // The rank from which on a position is valid for a flow if nobody booked it: it is late enough, and there is room from it on.
 pub fn valid_rank(held: &[u8; 256], cells: u8, w: Window) -> usize
     requires { ⌜ Proper w ⌝ }
-    ensures { λ r. ⌜ ((p : ℕ) → p < sizeOf w → leb r (model.rank (windowOf w) p) ≡ not (model.passed (windowOf w) p) && model.everyFrom (windowOf w) p (λ q. ltb (getD (now (held .entry)) q 0) cells)) ⌝ }
+    ensures { λ r. ⌜ ((p : ℕ) → p < sizeOf w → leb r (model.rank (windowOf w) p) ≡ not (model.passed (windowOf w) p) && model.everyFrom (windowOf w) p (roomAt (now (held .entry)) cells)) ⌝ }
 {
     larger(room_rank(held, cells, w), w.current + 1 - w.head * w.slots)
 }

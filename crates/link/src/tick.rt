@@ -4,12 +4,12 @@ ghost use Rattle.model.specs.Tick as model;
 ghost use Rattle.link.specs.Reading.{linkOf, ownerOf};
 ghost use Rattle.calls.specs.Reading.{answerToTick};
 ghost use Rattle.link.specs.Sound.{Sound};
+use crate::Answer;
 use crate::Link;
 use crate::Step;
 use crate::holdings::fill;
 use crate::positions::before;
 use crate::positions::next;
-use calls::Answer;
 
 // The answer at a position with this owner.
 fn turn(owner: u8) -> Answer
@@ -29,9 +29,8 @@ impl Link {
         ensures answer { λ r. ⌜ r .answer ≡ answerToTick (model.tick (linkOf self) .answer) ⌝ }
         ensures sound { λ r. ⌜ Sound (r .link) ⌝ }
     {
-        let plan = self.plan;
-        let slots = plan.slots;
-        let size = slots * plan.frames;
+        let slots = self.plan.slots;
+        let size = slots * self.plan.frames;
         let old = self.cp;
         let cp = next(size, old);
         self.cp = cp;
@@ -42,6 +41,7 @@ impl Link {
                 answer: turn(owner),
             };
         }
+        let plan = self.plan;
         let head = old / slots;
         let base = head * slots;
         let last = before(size, base);
@@ -50,12 +50,13 @@ impl Link {
         let mut i = 0;
         while i < plan.count {
             let e = plan.entries[i];
+            let share = e.share as usize;
             let mut f = self.flows[i];
             let held = f.held[last];
             fill(&mut f.held, held, base, base + slots);
             if f.frame == head {
                 f.frame = on;
-                f.left = e.share as usize;
+                f.left = share;
             }
             self.flows[i] = f;
             i += 1;

@@ -8,7 +8,8 @@ use Rattle.model.specs.Window.{Window}
 use Rattle.model.specs.Link as model
 use Rattle.model.specs.Request.{found, sought, answered, request}
 use Rattle.link.specs.declared.Link.{Link}
-use Rattle.link.specs.Reading.{sizeOf, linkOf}
+use Rattle.link.specs.Parts.{sizeOf}
+use Rattle.link.specs.Reading.{linkOf}
 use Rattle.link.specs.Search.{foundOf, freeFrom}
 use Rattle.link.specs.Sound.{Sound}
 use Rattle.link.specs.Window.{windowOf}
@@ -119,8 +120,8 @@ raise-requires c κs =
     let b = booking d in
     (q .before .before .before .before .before .before .before .before .window .ensures .1, b .position, room-there (link-at q) (sound-at q) (window-at q) (window-is q) (flow-at q) (flow-known (word-at q)) (low-at q) (low-known q) _ (position-below d) (b .passes))
 
-mul-t36 : tie.Need-mul-t36
-mul-t36 c = let q = c .before .before .before .before .before in omega (arith, flow-known (word-at q), flows-most _ (sound-at q))
+mul-t35 : tie.Need-mul-t35
+mul-t35 c = let q = c .before .before .before .before .before in omega (arith, flow-known (word-at q), flows-most _ (sound-at q))
 
 element-set-from-self : tie.Need-element-set-from-self
 element-set-from-self c = let q = c .before .before .before .before .before in omega (arith, flow-known (word-at q), flows-most _ (sound-at q))
@@ -140,8 +141,8 @@ enum-known-found-2 c = search needs
 newest-requires : tie.Need-newest-requires
 newest-requires c κs = c .before .before .before .before .before .before .before .before .before .before .before .window .ensures .1
 
-mul-t45 : tie.Need-mul-t45
-mul-t45 c = let q = c .before .before .before .before in omega (arith, flow-known (word-at q), flows-most _ (sound-at q))
+mul-t44 : tie.Need-mul-t44
+mul-t44 c = let q = c .before .before .before .before in omega (arith, flow-known (word-at q), flows-most _ (sound-at q))
 
 element-set-from-self-2 : tie.Need-element-set-from-self-2
 element-set-from-self-2 c = let q = c .before .before .before .before in omega (arith, flow-known (word-at q), flows-most _ (sound-at q))
@@ -184,15 +185,15 @@ request-spec =
     search-requires
     enum-known-found
     raise-requires
-    mul-t36
+    mul-t35
     element-set-from-self
     element-write-self
     cast-depart
     depart-requires
+    returns-2
     enum-known-found-2
     newest-requires
-    mul-t45
+    mul-t44
     element-set-from-self-2
     nowhere-requires
-    returns-2
     returns-3)

@@ -1,6 +1,5 @@
 -- `link::Window::newest` meets its contract. Assumes nothing.
 use borrow.Author.Needs.{needs}
-use native.Mathlib.Omega.{arith}
 use Rattle.link.proofs.Window.newest.Statement.{statement}
 use Rattle.link.proofs.Window.newest.Tie as tie
 

@@ -1,7 +1,6 @@
 -- `link::Window::passed` meets its contract. Assumes nothing.
 use borrow.Author.Needs.{needs}
-use mathlib.Core.Path.{sym, _∙_}
-use native.Mathlib.Omega.{arith}
+use mathlib.Core.Path.{sym}
 use Rattle.link.proofs.Ranks.{passed-is}
 use Rattle.link.proofs.Window.passed.Statement.{statement}
 use Rattle.link.proofs.Window.passed.Tie as tie

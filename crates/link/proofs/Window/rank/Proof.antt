@@ -1,7 +1,6 @@
 -- `link::Window::rank` meets its contract. Assumes nothing.
 use borrow.Author.Needs.{needs}
 use mathlib.Core.Path.{sym, _∙_}
-use native.Mathlib.Omega.{arith}
 use Rattle.link.proofs.Ranks.{rank-is}
 use Rattle.link.proofs.Window.rank.Statement.{statement}
 use Rattle.link.proofs.Window.rank.Tie as tie

@@ -1,6 +1,5 @@
 -- `link::fresh::flow` meets its contract. Assumes nothing.
 use borrow.Author.Needs.{needs}
-use native.Mathlib.Omega.{arith}
 use Rattle.link.proofs.fresh.flow.Statement.{statement}
 use Rattle.link.proofs.fresh.flow.Tie as tie
 

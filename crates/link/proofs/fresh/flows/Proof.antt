@@ -6,7 +6,8 @@ use native.Mathlib.Omega.{arith}
 use lib.ListN.{getD, replicate}
 use Rattle.plan.specs.Reading.{noEntry}
 use Rattle.link.specs.Runs.{inRun, replaced}
-use Rattle.link.specs.Reading.{noFlow, spareFlow, movedTo}
+use Rattle.link.specs.Parts.{noFlow, movedTo}
+use Rattle.link.specs.Reading.{spareFlow}
 use Rattle.link.proofs.Runs.{replaced-none, replaced-more, replaced-done}
 use Rattle.link.proofs.fresh.flows.Statement.{statement}
 use Rattle.link.proofs.fresh.flows.Tie as tie

@@ -1,7 +1,5 @@
 -- `link::fresh::unbooked` meets its contract. Assumes nothing.
-use borrow.Author.Needs.{needs}
 use mathlib.Core.Path.{refl}
-use native.Mathlib.Omega.{arith}
 use Rattle.link.specs.Reading.{everywhere}
 use Rattle.link.proofs.fresh.unbooked.Statement.{statement}
 use Rattle.link.proofs.fresh.unbooked.Tie as tie

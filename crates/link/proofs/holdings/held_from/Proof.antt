@@ -1,6 +1,5 @@
 -- `link::holdings::held_from` meets its contract. Assumes nothing.
 use borrow.Author.Needs.{needs}
-use native.Mathlib.Omega.{arith}
 use Rattle.link.proofs.Ranks.{all-high, all-first, all-low}
 use Rattle.link.proofs.holdings.held_from.Statement.{statement}
 use Rattle.link.proofs.holdings.held_from.Tie as tie

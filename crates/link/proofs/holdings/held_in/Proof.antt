@@ -3,17 +3,14 @@ use borrow.Author.Needs.{needs}
 use Prim.Native.Nat.{_-_, _≤_}
 use mathlib.Core.Logic.{⊎-elim}
 use native.Mathlib.Omega.{arith}
-use lib.ListN.{getD}
-use lib.Dec.{ltb}
-use borrow.Author.Tests.{lt-ltb}
-use borrow.Author.Tests.{lt-ltb, le-ltb}
 use Rattle.link.specs.Runs.{All}
+use Rattle.link.specs.Holdings.{someHeld}
 use Rattle.link.proofs.Runs.{some-held, all-none, all-miss, all-pass, all-done}
 use Rattle.link.proofs.holdings.held_in.Statement.{statement}
 use Rattle.link.proofs.holdings.held_in.Tie as tie
 
 abbrev Inv-loop : tie.InvT-loop
-Inv-loop held a e all₀ q₀ all q = (a ≤ q) × (q ≤ e) × (e ≤ 256) × All (λ x. ltb 0 (getD held x 0)) a q all
+Inv-loop held a e all₀ q₀ all q = (a ≤ q) × (q ≤ e) × (e ≤ 256) × All (someHeld held) a q all
 
 abbrev μ-loop : tie.MeasureT-loop
 μ-loop held a e all₀ q₀ all q = e - q

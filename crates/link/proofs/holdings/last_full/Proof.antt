@@ -2,15 +2,14 @@
 use borrow.Author.Needs.{needs}
 use Prim.Native.Nat.{_-_, _≤_}
 use native.Mathlib.Omega.{arith}
-use lib.ListN.{getD}
-use lib.Dec.{ltb}
 use borrow.Author.Tests.{lt-ltb, le-ltb}
+use Rattle.link.specs.Holdings.{roomAt}
 use Rattle.link.proofs.Runs.{Passes, passes-none, passes-more, last-here, last-none}
 use Rattle.link.proofs.holdings.last_full.Statement.{statement}
 use Rattle.link.proofs.holdings.last_full.Tie as tie
 
 abbrev Inv-loop : tie.InvT-loop
-Inv-loop held cells a e q₀ q = (a ≤ q) × (q ≤ e) × (e ≤ 256) × Passes (λ x. ltb (getD held x 0) cells) q e
+Inv-loop held cells a e q₀ q = (a ≤ q) × (q ≤ e) × (e ≤ 256) × Passes (roomAt held cells) q e
 
 abbrev μ-loop : tie.MeasureT-loop
 μ-loop held cells a e q₀ q = q - a

@@ -1,7 +1,6 @@
 -- `link::holdings::lower` meets its contract: what is above 0 falls by one. Assumes nothing.
 use borrow.Author.Needs.{needs}
 use mathlib.Core.Path.{_∙_}
-use native.Mathlib.Omega.{arith}
 use borrow.Author.Tests.{ltb-true}
 use lib.Dec.{ltb}
 use Rattle.link.proofs.Runs.{wrapped-down}

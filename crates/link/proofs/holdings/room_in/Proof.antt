@@ -3,16 +3,15 @@ use borrow.Author.Needs.{needs}
 use Prim.Native.Nat.{_-_, _≤_}
 use mathlib.Core.Logic.{⊎-elim}
 use native.Mathlib.Omega.{arith}
-use lib.ListN.{getD}
-use lib.Dec.{ltb}
 use borrow.Author.Tests.{lt-ltb, le-ltb}
 use Rattle.link.specs.Runs.{All}
+use Rattle.link.specs.Holdings.{roomAt}
 use Rattle.link.proofs.Runs.{all-none, all-miss, all-pass, all-done}
 use Rattle.link.proofs.holdings.room_in.Statement.{statement}
 use Rattle.link.proofs.holdings.room_in.Tie as tie
 
 abbrev Inv-loop : tie.InvT-loop
-Inv-loop held cells a e all₀ q₀ all q = (a ≤ q) × (q ≤ e) × (e ≤ 256) × All (λ x. ltb (getD held x 0) cells) a q all
+Inv-loop held cells a e all₀ q₀ all q = (a ≤ q) × (q ≤ e) × (e ≤ 256) × All (roomAt held cells) a q all
 
 abbrev μ-loop : tie.MeasureT-loop
 μ-loop held cells a e all₀ q₀ all q = e - q

@@ -1,7 +1,5 @@
 -- `link::holdings::shift_from` meets its contract: from p on are two runs, or one. Assumes nothing.
 use borrow.Author.Needs.{needs}
-use mathlib.Core.Path.{ap, _∙_}
-use native.Mathlib.Omega.{arith}
 use Rattle.link.proofs.Ranks.{replaced-high, replaced-low}
 use Rattle.link.proofs.holdings.shift_from.Statement.{statement}
 use Rattle.link.proofs.holdings.shift_from.Tie as tie

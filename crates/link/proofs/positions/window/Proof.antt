@@ -1,7 +1,6 @@
 -- `link::positions::window` meets its contract. Assumes nothing.
 use borrow.Author.Needs.{needs}
 use mathlib.Core.Path.{refl}
-use native.Mathlib.Omega.{arith}
 use Rattle.link.proofs.Ranks.{proper}
 use Rattle.link.proofs.positions.window.Statement.{statement}
 use Rattle.link.proofs.positions.window.Tie as tie

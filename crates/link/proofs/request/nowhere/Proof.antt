@@ -1,6 +1,4 @@
 -- `link::request::nowhere` meets its contract. Assumes nothing.
-use borrow.Author.Needs.{needs}
-use native.Mathlib.Omega.{arith}
 use borrow.Author.Tests.{eq-eqb, ne-eqb}
 use Rattle.link.proofs.request.nowhere.Statement.{statement}
 use Rattle.link.proofs.request.nowhere.Tie as tie

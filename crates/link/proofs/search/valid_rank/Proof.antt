@@ -2,7 +2,6 @@
 use borrow.Author.Needs.{needs}
 use Prim.Native.Nat.{_+_, _-_}
 use mathlib.Core.Path.{sym}
-use native.Mathlib.Omega.{arith}
 use Rattle.model.specs.Window as model
 use Rattle.link.specs.Window.{windowOf, baseOf}
 use Rattle.link.proofs.Ranks.{late-is, leb-max}

@@ -1,6 +1,4 @@
 -- `link::tick::turn` meets its contract. Assumes nothing.
-use borrow.Author.Needs.{needs}
-use native.Mathlib.Omega.{arith}
 use borrow.Author.Tests.{eq-eqb, ne-eqb}
 use Rattle.link.proofs.tick.turn.Statement.{statement}
 use Rattle.link.proofs.tick.turn.Tie as tie
