@@ -1,65 +1,96 @@
-// Reads a plan on standard input and writes its line: `P` and the refusal, or `P 0`.
+// Plays a file of calls from standard input: a plan, then call records. Writes one line for each to standard output.
+mod input;
+mod output;
+
+use calls::Answer;
+use link::Link;
+use plan::Plan;
 use plan::Verdict;
-ghost use Prim.Native.Nat.{_≤_, _<_};
+ghost use Prim.Native.Nat.{_≤_};
 ghost use lib.ListN.{length};
-ghost use Rattle.io.specs.Counts.{Counts};
+ghost use Rattle.link.specs.Sound.{Sound};
 
-// The longest plan: a header of 12 bytes and 16 entries of four.
-const LONGEST: usize = 76;
-
-fn wide(byte: u8) -> usize
-    ensures { λ r. ⌜ r < 256 ⌝ }
-{
-    byte as usize
+// Where a turn of reading and playing leaves the program.
+struct Turn {
+    link: Link,
+    // bytes of a record that is not whole yet, at the start of the input
+    kept: usize,
+    more: bool,
 }
 
-// Reads as much as the longest plan takes; how many of these bytes are the plan, or 0 where it is not all there.
-fn receive(bytes: &mut [u8]) -> usize
-    requires { ⌜ 76 ≤ length (now bytes) ⌝ }
-    ensures { λ r. ⌜ Counts r (now (bytes .exit)) ⌝ }
+// Reads once, plays the whole records and writes their lines.
+fn turn_once(link: Link, kept: usize, space: &mut [u8], out: &mut [u8]) -> Turn
+    requires { ⌜ Sound link × (kept ≤ length (now space)) ⌝ }
+    ensures sound { λ r. ⌜ Sound (r .link) ⌝ }
+    ensures kept { λ r. ⌜ r .kept ≤ length (now (space .entry)) ⌝ }
 {
-    let got = io::read_full(libc::STDIN_FILENO, bytes);
-    if got < 2 {
-        return 0;
+    let have = input::read_on(space, kept);
+    if have == kept {
+        return Turn {
+            link,
+            kept,
+            more: false,
+        };
     }
-    let total = wide(bytes[0]) + 256 * wide(bytes[1]);
-    if total < 12 {
-        return 0;
+    let played = link.run(&space[..have], out);
+    let written = output::write(out, played.written);
+    let rest = input::keep(space, played.used, have);
+    let link = played.link;
+    Turn {
+        link,
+        kept: rest,
+        more: written,
     }
-    if LONGEST < total {
-        return 0;
-    }
-    if got < total {
-        return 0;
-    }
-    total
 }
 
-// The refusal of a plan's bytes, or 0.
-fn refusal(bytes: &[u8]) -> u8 {
-    let outcome = plan::read(bytes);
+// Plays records to the end of the input; one that is not whole at the end is refused. A proved loop has to end, and nothing says that the input does: it counts its turns down from a number that no run uses up.
+fn play(link: Link, space: &mut [u8], out: &mut [u8])
+    requires { ⌜ Sound link ⌝ }
+{
+    let mut turns = u64::MAX;
+    let mut now = Turn {
+        link,
+        kept: 0,
+        more: true,
+    };
+    while now.more && 0 < turns {
+        now = turn_once(now.link, now.kept, space, out);
+        turns -= 1;
+    }
+    if 0 < now.kept {
+        let end = calls::write(Answer::Refused(16), out, 0);
+        output::write(out, end);
+    }
+}
+
+// Writes the plan's line, and plays what comes after an accepted plan.
+fn begin(space: &mut [u8], out: &mut [u8])
+    requires { ⌜ 76 ≤ length (now space) ⌝ }
+{
+    let total = input::read_plan(space);
+    if total == 0 {
+        let end = calls::write_plan(1, out, 0);
+        output::write(out, end);
+        return;
+    }
+    let outcome = plan::read(&space[..total]);
     let verdict = outcome.verdict;
     match verdict {
-        Verdict::Accepted => 0,
-        Verdict::Refused(number) => number,
+        Verdict::Refused(number) => {
+            let end = calls::write_plan(number, out, 0);
+            output::write(out, end);
+        }
+        Verdict::Accepted => {
+            let end = calls::write_plan(0, out, 0);
+            output::write(out, end);
+            let plan = outcome.plan;
+            play(Link::fresh(plan), space, out);
+        }
     }
-}
-
-// Writes the line of the plan that `bytes` has room for.
-fn answer(bytes: &mut [u8])
-    requires { ⌜ 76 ≤ length (now bytes) ⌝ }
-{
-    let total = receive(bytes);
-    let mut number = 1;
-    if 0 < total {
-        number = refusal(&bytes[..total]);
-    }
-    io::write_all(libc::STDOUT_FILENO, b"P ");
-    io::print_decimal(libc::STDOUT_FILENO, number as u64);
-    io::write_all(libc::STDOUT_FILENO, b"\n");
 }
 
 fn main() {
-    let mut space = [0u8; LONGEST];
-    answer(&mut space);
+    let mut space = [0u8; 65535];
+    let mut out = [0u8; 91749];
+    begin(&mut space, &mut out);
 }

@@ -1,4 +1,5 @@
 -- Names for sets of definitions: a proof by computation that unfolds the name unfolds the set. Assumes nothing.
+use mathlib.Core.List.{flatMap}
 use Rattle.model.specs.Tables.{every, any, sum, firstFrom, ahead, tally}
 use Rattle.model.specs.Refusals.{firstOf}
 use Rattle.model.specs.Plan.{refusal, entryFits}
@@ -7,6 +8,8 @@ use Rattle.model.specs.Fresh.{fresh}
 use Rattle.model.specs.Request.{valid, search, sought, booked, refusedAtNewest, answered, requestAfter, request}
 use Rattle.model.specs.Credit.{lowered, creditAfter, credit}
 use Rattle.model.specs.Tick.{recycled, advanced, tick}
+use Rattle.model.specs.Record.{records, callOf}
+use Rattle.model.specs.Listing.{digits, decimal, outcomes, listing, planMissing, outputAfter, output}
 use Rattle.model.specs.History.{ticks, slotAfter, changes, wellFormed, grants, credits, refusals}
 use Rattle.model.specs.Card.{play}
 
@@ -19,6 +22,11 @@ plans-compute = tt
 unfoldable pub calls-compute : Unit {0}
 unfolding every firstFrom ahead firstOf rank passed fromOn everyFrom fresh valid search sought booked refusedAtNewest answered requestAfter request lowered creditAfter credit recycled advanced tick play
 calls-compute = tt
+
+-- what the program writes
+unfoldable pub program-computes : Unit {0}
+unfolding flatMap records callOf digits decimal outcomes listing planMissing outputAfter output
+program-computes = tt
 
 -- what is counted over a history
 unfoldable pub counts-compute : Unit {0}

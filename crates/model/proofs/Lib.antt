@@ -4,9 +4,12 @@ pub mod Tests
 pub mod Round
 pub mod Tables
 pub mod Tallies
--- the word and the plan
+-- the word, the plan, records and decimal digits
 pub mod Word
 pub mod Plan
+pub mod PlanKept
+pub mod Records
+pub mod Decimal
 -- slots, positions, links and marks
 pub mod Slots
 pub mod Window
@@ -30,6 +33,7 @@ pub mod Histories
 pub mod After
 pub mod Runs
 pub mod Demand3
+pub mod Listing
 pub mod Holding
 pub mod Buffer
 -- edges, cards that demand 3 sends back, and a stream that meets the premise of the least count
@@ -40,4 +44,3 @@ pub mod Decide
 pub mod BadHistories
 pub mod BadCards
 pub mod Witness
-pub mod PlanKept

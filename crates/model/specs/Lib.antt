@@ -10,6 +10,9 @@ pub mod Fresh
 pub mod Request
 pub mod Credit
 pub mod Tick
+-- the program
+pub mod Record
+pub mod Listing
 -- demand 3
 pub mod History
 pub mod Claim

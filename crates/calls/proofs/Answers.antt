@@ -1,0 +1,26 @@
+-- For a caller: the call that a record was read as, and the lines of its answers. Assumes nothing.
+use mathlib.Core.Path.{_≡_, refl}
+use mathlib.Core.Option.{Option, some, none}
+use Rattle.model.specs.Calls as model
+use Rattle.model.specs.Calls.{accepted, refused}
+use Rattle.model.specs.Listing.{requestLine, creditLine, tickLine}
+use Rattle.calls.specs.declared.Record.the-variants.{Call}
+use Rattle.calls.specs.Reading.{recordFor, callIn, answerToRequest, answerToCredit, answerToTick, lineFor}
+
+pub call-in : (c : Option model.Call) → callIn (recordFor c) ≡ c
+call-in (some (model.request word)) = refl
+call-in (some (model.credit flow position)) = refl
+call-in (some model.tick) = refl
+call-in none = refl
+
+pub line-of-request : (a : model.Grant) → lineFor (answerToRequest a) ≡ requestLine a
+line-of-request (accepted word) = refl
+line-of-request (refused number) = refl
+
+pub line-of-credit : (a : model.Receipt) → lineFor (answerToCredit a) ≡ creditLine a
+line-of-credit (accepted _) = refl
+line-of-credit (refused number) = refl
+
+pub line-of-tick : (a : model.Turn) → lineFor (answerToTick a) ≡ tickLine a
+line-of-tick (some flow) = refl
+line-of-tick none = refl

@@ -1,0 +1,57 @@
+-- The crate's calls, records and answers, from the paper's: this paper's number and values for each case. Assumes nothing.
+use Prim.Native.Nat.{ℕ}
+use mathlib.Core.List.{List}
+use mathlib.Core.Option.{Option, some, none}
+use Rattle.calls.specs.declared.Call.{Call}
+use Rattle.calls.specs.declared.Call.the-variants.{Request, Credit, Tick}
+use Rattle.calls.specs.declared.Record.{Record}
+use Rattle.calls.specs.declared.Record.the-variants.{NoCall}
+use Rattle.calls.specs.declared.Answer.{Answer}
+use Rattle.calls.specs.declared.Answer.the-variants.{Granted, Taken, Turn, Idle, Refused}
+use Rattle.model.specs.Calls as model
+use Rattle.model.specs.Calls.{accepted, refused}
+use Rattle.model.specs.Listing.{requestLine, creditLine, tickLine, refusalLine}
+
+-- ---- calls
+
+abbrev pub callFor : model.Call → Call
+callFor (model.request word) = Request word
+callFor (model.credit flow position) = Credit flow position
+callFor model.tick = Tick
+
+-- a record that makes no call is refused by 16
+abbrev pub recordFor : Option model.Call → Record
+recordFor (some call) = Record.Call (callFor call)
+recordFor none = NoCall
+
+-- the paper's call of a record
+abbrev pub callIn : Record → Option model.Call
+callIn (Record.Call (Request word)) = some (model.request word)
+callIn (Record.Call (Credit flow position)) = some (model.credit flow position)
+callIn (Record.Call Tick) = some model.tick
+callIn NoCall = none
+
+-- ---- answers
+
+-- a request: the granted word, or the number of the refusal
+abbrev pub answerToRequest : model.Grant → Answer
+answerToRequest (accepted word) = Granted word
+answerToRequest (refused number) = Refused number
+
+-- a credit: taken, or the number of the refusal
+abbrev pub answerToCredit : model.Receipt → Answer
+answerToCredit (accepted _) = Taken
+answerToCredit (refused number) = Refused number
+
+-- a tick: the flow booked at the new current position, or idle
+abbrev pub answerToTick : model.Turn → Answer
+answerToTick (some flow) = Turn flow
+answerToTick none = Idle
+
+-- the line of an answer
+abbrev pub lineFor : Answer → List ℕ
+lineFor (Granted word) = requestLine (accepted word)
+lineFor Taken = creditLine (accepted tt)
+lineFor (Turn flow) = tickLine (some flow)
+lineFor Idle = tickLine none
+lineFor (Refused number) = refusalLine number

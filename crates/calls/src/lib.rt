@@ -1,0 +1,42 @@
+// Calls and their answers as bytes: call records are read, and a line is written for each answer.
+mod lines;
+mod records;
+
+pub use lines::write;
+pub use lines::write_plan;
+pub use records::read;
+
+// The bytes of a call record.
+pub const RECORD: usize = 5;
+// The bytes of the longest line: a letter, a space, four digits and a newline.
+pub const LONGEST_LINE: usize = 7;
+
+// A call on a link.
+pub enum Call {
+    // A request has a word.
+    Request(u32),
+    // A credit has a flow and a position.
+    Credit(usize, usize),
+    Tick,
+}
+
+// What a call record comes to.
+pub enum Record {
+    Call(Call),
+    // Refusal 16.
+    NoCall,
+}
+
+// What a call is answered.
+pub enum Answer {
+    // A request is granted: the word with its position as departure.
+    Granted(u32),
+    // A credit is taken.
+    Taken,
+    // The flow that is booked at a tick's new position.
+    Turn(u8),
+    // No flow is booked there.
+    Idle,
+    // A request or a credit is refused, by its number.
+    Refused(u8),
+}

@@ -1,0 +1,100 @@
+-- The fresh link, as it is read. Assumes nothing.
+use Prim.Native.Nat.{ℕ, _*_, _≤_, _<_}
+use mathlib.Core.Path.{_≡_, sym, ap, _∙_}
+use mathlib.Core.List.{List}
+use mathlib.Core.Option.{Option, none}
+use native.Mathlib.Nat.{mul-pos}
+use native.Mathlib.Decide.{decLt}
+use native.Mathlib.Omega.{arith}
+use lib.ListN.{length, getD, replicate, length-replicate, getD-replicate, List·getD-eq-default}
+use Rattle.model.specs.Tables.{table}
+use Rattle.model.specs.Plan as paper
+use Rattle.model.specs.Link as model
+use Rattle.model.specs.Fresh.{fresh}
+use Rattle.plan.specs.declared.Plan.{Plan}
+use Rattle.plan.specs.declared.Entry.{Entry}
+use Rattle.plan.specs.Reading as plan
+use Rattle.link.specs.declared.Flow.{Flow}
+use Rattle.link.specs.declared.Link.{Link}
+use Rattle.link.specs.Runs.{inRun, replaced}
+use Rattle.link.specs.Parts.{noFlow, movedTo}
+use Rattle.link.specs.Reading.{nobody, ownerOf, flowOf, linkOf, everywhere, spareFlow}
+use Rattle.link.specs.Sound.{Sound}
+use Rattle.link.proofs.Tables.{table-same, replicate-table}
+use Rattle.link.proofs.Plans.{plan-count, plan-entry, count-most}
+use Rattle.link.proofs.Runs.{in-run, past-run, length-replaced, replaced-at, replaced-off}
+
+-- ---- one value at every position
+
+module _ (v : ℕ) where
+  length-everywhere : length (everywhere v) ≡ 256
+  unfolding everywhere
+  length-everywhere = length-replicate 256 v
+
+  everywhere-at : (q : ℕ) → q < 256 → getD (everywhere v) q 0 ≡ v
+  unfolding everywhere
+  everywhere-at q h = getD-replicate 256 q v 0 h
+
+nothing-at : (q : ℕ) → getD (everywhere 0) q 0 ≡ 0
+nothing-at q = go (decLt q 256)
+  where
+    go : Dec (q < 256) → getD (everywhere 0) q 0 ≡ 0
+    go (yes h) = everywhere-at 0 q h
+    go (no h) = List·getD-eq-default (everywhere 0) 0 (omega (arith, length-everywhere 0))
+
+-- ---- the link
+
+-- a flow's part with its share
+abbrev pub startFlow : Entry → Flow
+startFlow e = movedTo spareFlow 0 (e .share)
+
+abbrev pub freshLink : Plan → Link
+freshLink p = record {
+  plan = p;
+  cp = 0;
+  owner = everywhere nobody;
+  flows = replaced (inRun 0 (p .count)) (λ i f. startFlow (getD (p .entries) i plan.noEntry)) (replicate 16 spareFlow);
+}
+
+module _ (p : Plan) (v : plan.Valid p) where
+  size-most : p .slots * p .frames ≤ 256
+  size-most = v .accepted .positions-most
+
+  flow-at : (i : ℕ) → i < p .count → getD (freshLink p .flows) i noFlow ≡ startFlow (getD (p .entries) i plan.noEntry)
+  flow-at i h = replaced-at _ _ (replicate 16 spareFlow) i noFlow (rw length-replicate (omega (arith, count-most p v))) ∙ rw (in-run 0 (p .count) i (omega arith) h)
+
+  pub read-fresh : linkOf (freshLink p) ≡ fresh (plan.planFor p)
+  unfolding linkOf fresh
+  read-fresh = same owners flows
+    where
+      T : ℕ
+      T = p .slots * p .frames
+
+      owners : table T (λ q. ownerOf (getD (everywhere nobody) q 0)) ≡ replicate T none
+      owners = table-same T _ _ (λ q b. rw (everywhere-at nobody q (omega (arith, size-most)))) ∙ sym (replicate-table T none)
+
+      held : table T (λ q. getD (everywhere 0) q 0) ≡ replicate T 0
+      held = table-same T _ _ (λ q b. nothing-at q) ∙ sym (replicate-table T 0)
+
+      start : ℕ → model.Flow
+      start i = record { injection = 0; remainder = paper.entry (plan.planFor p) i .share; held = replicate T 0 }
+
+      flows : table (p .count) (λ i. flowOf T (getD (freshLink p .flows) i noFlow)) ≡ table (paper.flowCount (plan.planFor p)) start
+      flows =
+          table-same (p .count) _ start (λ i h. rw (flow-at i h, plan-entry p i h, held))
+          ∙ ap (λ (n : ℕ). table n start) (sym (plan-count p))
+
+      same : {o o′ : List (Option ℕ)} {fs fs′ : List model.Flow} → o ≡ o′ → fs ≡ fs′ → _≡_ {A = model.Link} (record { plan = plan.planFor p; current = 0; owners = o; flows = fs }) (record { plan = plan.planFor p; current = 0; owners = o′; flows = fs′ })
+      same d e = cc
+
+  pub sound-fresh : Sound (freshLink p)
+  sound-fresh = record {
+    plan = v;
+    current = mul-pos (v .accepted .some-slot) (omega (arith, v .accepted .two-frames));
+    owners-long = length-everywhere nobody;
+    owners = λ q b n. absurd (n (everywhere-at nobody q b));
+    spare-owners = λ q h b. everywhere-at nobody q b;
+    flows-long = length-replaced _ _ (replicate 16 spareFlow) ∙ length-replicate 16 spareFlow;
+    flows = λ i h. rw (flow-at i h) (record { frame = omega (arith, v .accepted .two-frames); long = length-everywhere 0; spare = λ q _. nothing-at q });
+    spare-flows = λ i h b. replaced-off _ _ (replicate 16 spareFlow) i noFlow (past-run 0 (p .count) i h) ∙ getD-replicate 16 i spareFlow noFlow b;
+  }

@@ -1,0 +1,12 @@
+pub mod Tables
+pub mod Runs
+pub mod Ranks
+pub mod Searches
+pub mod Plans
+pub mod Links
+pub mod Stored
+pub mod Credits
+pub mod FreshLinks
+pub mod Requests
+pub mod Ticks
+pub mod Records

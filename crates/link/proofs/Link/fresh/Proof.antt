@@ -1,0 +1,20 @@
+-- `link::Link::fresh` meets its contract. Assumes nothing.
+use borrow.Author.Needs.{needs}
+use Rattle.link.proofs.Plans.{count-most}
+use Rattle.link.proofs.FreshLinks.{read-fresh, sound-fresh}
+use Rattle.link.proofs.Link.fresh.Statement.{statement}
+use Rattle.link.proofs.Link.fresh.Tie as tie
+
+flows-requires : tie.Need-flows-requires
+flows-requires c κs = count-most _ (c .before .pre)
+
+unbooked-requires : tie.Need-unbooked-requires
+unbooked-requires c κs = search needs
+
+returns : tie.Need-returns
+returns c =
+    let s = c .before .before .before in
+    rw (c .unbooked .ensures, c .before .flows .ensures) (read-fresh _ (s .pre), sound-fresh _ (s .pre))
+
+pub fresh-spec : {M : Type 1} → statement M
+fresh-spec = tie.close (tie.spec flows-requires unbooked-requires returns)

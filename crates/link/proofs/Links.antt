@@ -1,0 +1,181 @@
+-- A link as it is read: what is read of it, a part of it changed, and that what is changed is sound again. Assumes nothing.
+use Prim.Native.Nat.{ℕ, _≤_, _<_}
+use mathlib.Core.Path.{_≡_, refl, ap, _∙_}
+use mathlib.Core.List.{List}
+use mathlib.Core.Option.{some}
+use mathlib.Core.Bool.{cond}
+use native.Mathlib.Decide.{ℕ-discrete}
+use native.Mathlib.Omega.{arith}
+use lib.ListN.{length, getD, set, length-set}
+use lib.Seq.{getD-set-same, getD-set-other}
+use lib.Dec.{eqb}
+use borrow.Author.Tests.{eq-eqb, ne-eqb, lt-ltb, le-ltb}
+use Rattle.model.specs.Tables.{table}
+use Rattle.model.specs.Plan as paper
+use Rattle.model.specs.Window.{Window, size}
+use Rattle.model.specs.Link as model
+use Rattle.plan.specs.Reading.{entryFor}
+use Rattle.calls.specs.declared.Answer.{Answer}
+use Rattle.link.specs.declared.Flow.{Flow}
+use Rattle.link.specs.declared.Link.{Link}
+use Rattle.link.specs.declared.Step.{Step}
+use Rattle.link.specs.Runs.{replaced}
+use Rattle.link.specs.Window.{Measures, fromIn}
+use Rattle.link.specs.Parts.{sizeOf, entryAt, flowAt, ownerAt, noFlow, withOwners, withFlow, movedTo, withHeld}
+use Rattle.link.specs.Reading.{nobody, ownerOf, flowOf, linkOf}
+use Rattle.link.specs.Sound.{Sound, SoundFlow}
+use Rattle.link.proofs.Tables.{getD-table, table-same}
+use Rattle.link.proofs.Plans.{plan-count, plan-entry, count-most}
+use Rattle.link.proofs.Runs.{length-replaced, replaced-at, replaced-off}
+
+-- what a call hands back, as its contract states it
+abbrev pub Stepped : {A : Type 0} → (A → Answer) → model.Step A → Step → Type 0
+Stepped toAnswer m r = (linkOf (r .link) ≡ m .link) × ((r .answer ≡ toAnswer (m .answer)) × Sound (r .link))
+
+-- a call that leaves the link as it was
+pub unchanged : {A : Type 0} (toAnswer : A → Answer) (l : Link) (m : model.Step A) (a : A) → Sound l → m ≡ record { link = linkOf l; answer = a }
+    → Stepped toAnswer m (record { link = l; answer = toAnswer a })
+unchanged toAnswer l m a s e = rw e (refl, (refl, s))
+
+-- equal parts make equal flows
+pub same-flow : {j j′ c c′ : ℕ} {h h′ : List ℕ} → j ≡ j′ → c ≡ c′ → h ≡ h′
+    → _≡_ {A = model.Flow} (record { injection = j; remainder = c; held = h }) (record { injection = j′; remainder = c′; held = h′ })
+same-flow d e f = cc
+
+-- ---- what is read of a link
+
+module _ (l : Link) where
+  pub read-count : paper.flowCount (linkOf l .plan) ≡ l .plan .count
+  unfolding linkOf
+  read-count = plan-count (l .plan)
+
+  pub read-entry : (i : ℕ) → i < l .plan .count → paper.entry (linkOf l .plan) i ≡ entryFor (entryAt l i)
+  unfolding linkOf
+  read-entry i h = plan-entry (l .plan) i h
+
+  pub read-flow : (i : ℕ) → i < l .plan .count → model.flow (linkOf l) i ≡ flowOf (sizeOf l) (flowAt l i)
+  unfolding linkOf
+  read-flow i h = getD-table (l .plan .count) _ i _ h
+
+  pub read-holding : (i p : ℕ) → i < l .plan .count → p < sizeOf l → model.holding (linkOf l) i p ≡ getD (flowAt l i .held) p 0
+  read-holding i p h b = rw (read-flow i h) (getD-table (sizeOf l) _ p 0 b)
+
+  pub read-owner : (p : ℕ) → p < sizeOf l → model.owner (linkOf l) p ≡ ownerOf (ownerAt l p)
+  unfolding linkOf
+  read-owner p b = getD-table (sizeOf l) _ p _ b
+
+  -- the window that a call works with
+  pub read-window : {v : Window} → v ≡ record { slots = l .plan .slots; frames = l .plan .frames; current = l .cp } → v ≡ model.window (linkOf l)
+  unfolding linkOf
+  read-window e = e
+
+  module _ {v : Window} (is : v ≡ model.window (linkOf l)) where
+    pub read-size : size v ≡ sizeOf l
+    unfolding linkOf
+    read-size = ap size is
+
+    pub read-frames : v .frames ≡ l .plan .frames
+    unfolding linkOf
+    read-frames = ap (λ (x : Window). x .frames) is
+
+-- ---- a sound link
+
+module _ (l : Link) (s : Sound l) where
+  pub flows-most : l .plan .count ≤ 16
+  flows-most = count-most (l .plan) (s .plan)
+
+  pub size-most : sizeOf l ≤ 256
+  size-most = s .plan .accepted .positions-most
+
+  pub measures : Measures (l .plan .slots) (l .plan .frames) (l .cp)
+  measures = let a = s .plan .accepted in record {
+    some-slot = a .some-slot;
+    slots-most = a .slots-most;
+    two-frames = a .two-frames;
+    frames-most = a .frames-most;
+    positions-most = a .positions-most;
+    current-below = s .current;
+  }
+
+  -- ---- flow i's part replaced
+
+  module _ (i : ℕ) (hi : i < l .plan .count) (f : Flow) where
+    set-flow : {B : Type 0} (g : Flow → B) (j : ℕ) → g (flowAt (withFlow l i f) j) ≡ cond (eqb j i) (g f) (g (flowAt l j))
+    set-flow g j = go (ℕ-discrete j i)
+      where
+        go : Dec (j ≡ i) → g (getD (set (l .flows) i f) j noFlow) ≡ cond (eqb j i) (g f) (g (flowAt l j))
+        go (yes d) = rw (eq-eqb j i d, d, getD-set-same (l .flows) i f noFlow (omega (arith, s .flows-long, flows-most)))
+        go (no d) = rw (ne-eqb j i d, getD-set-other (l .flows) i j f noFlow d)
+
+    pub read-with-flow : linkOf (withFlow l i f) ≡ model.withFlow (linkOf l) i (flowOf (sizeOf l) f)
+    unfolding linkOf
+    read-with-flow =
+        let e = table-same (l .plan .count) (λ j. flowOf (sizeOf l) (flowAt (withFlow l i f) j)) (λ j. cond (eqb j i) (flowOf (sizeOf l) f) (model.flow (linkOf l) j))
+        (λ j h. set-flow (flowOf (sizeOf l)) j ∙ rw (read-flow l j h)) in
+        cc (e, read-count l)
+
+    pub sound-with-flow : SoundFlow (sizeOf l) (l .plan .frames) f → Sound (withFlow l i f)
+    sound-with-flow v = record {
+      plan = s .plan;
+      current = s .current;
+      owners-long = s .owners-long;
+      owners = s .owners;
+      spare-owners = s .spare-owners;
+      flows-long = length-set (l .flows) i f ∙ s .flows-long;
+      flows = λ j h. each j h (ℕ-discrete j i);
+      spare-flows = λ j h b. getD-set-other (l .flows) i j f noFlow (λ e. omega arith) ∙ s .spare-flows j h b;
+    }
+      where
+        each : (j : ℕ) → j < l .plan .count → Dec (j ≡ i) → SoundFlow (sizeOf l) (l .plan .frames) (flowAt (withFlow l i f) j)
+        each j h (yes e) = rw (e, getD-set-same (l .flows) i f noFlow (omega (arith, s .flows-long, flows-most))) v
+        each j h (no e) = rw (getD-set-other (l .flows) i j f noFlow e) (s .flows j h)
+
+  -- ---- flow i books position p
+
+  module _ (p i : ℕ) (hp : p < sizeOf l) (hi : i < l .plan .count) where
+    pub read-with-owner : linkOf (withOwners l (set (l .owner) p i)) ≡ model.withOwners (linkOf l) (λ q. cond (eqb q p) (some i) (model.owner (linkOf l) q))
+    unfolding linkOf
+    read-with-owner =
+        let e = table-same (sizeOf l) (λ q. ownerOf (getD (set (l .owner) p i) q 0)) (λ q. cond (eqb q p) (some i) (model.owner (linkOf l) q)) (λ q b. go q b (ℕ-discrete q p)) in
+        cc e
+      where
+        go : (q : ℕ) → q < sizeOf l → Dec (q ≡ p) → ownerOf (getD (set (l .owner) p i) q 0) ≡ cond (eqb q p) (some i) (model.owner (linkOf l) q)
+        go q b (yes d) = rw (eq-eqb q p d, d, getD-set-same (l .owner) p i 0 (omega (arith, s .owners-long, size-most)), ne-eqb i nobody (λ e. omega (arith, flows-most)))
+        go q b (no d) = rw (ne-eqb q p d, getD-set-other (l .owner) p q i 0 d, read-owner l q b)
+
+    pub sound-with-owner : Sound (withOwners l (set (l .owner) p i))
+    sound-with-owner = record {
+      plan = s .plan;
+      current = s .current;
+      owners-long = length-set (l .owner) p i ∙ s .owners-long;
+      owners = λ q b n. go q b n (ℕ-discrete q p);
+      spare-owners = λ q h b. getD-set-other (l .owner) p q i 0 (λ e. omega arith) ∙ s .spare-owners q h b;
+      flows-long = s .flows-long;
+      flows = s .flows;
+      spare-flows = s .spare-flows;
+    }
+      where
+        go : (q : ℕ) → q < 256 → (getD (set (l .owner) p i) q 0 ≡ nobody → ⊥) → Dec (q ≡ p) → getD (set (l .owner) p i) q 0 < l .plan .count
+        go q b n (yes d) = rw (d, getD-set-same (l .owner) p i 0 (omega (arith, s .owners-long, size-most))) hi
+        go q b n (no d) = let e = getD-set-other (l .owner) p q i 0 d in rw e (s .owners q b (λ z. n (e ∙ z)))
+
+  -- ---- flow i's holdings changed from position p on
+
+  module _ (v : Window) (is : v ≡ model.window (linkOf l)) (i p : ℕ) (hi : i < l .plan .count) (g : ℕ → ℕ) (h : List ℕ) (changed : h ≡ replaced (fromIn v p) (λ q. g) (flowAt l i .held)) where
+    at-position : (q : ℕ) → getD h q 0 ≡ getD (replaced (fromIn (model.window (linkOf l)) p) (λ q. g) (flowAt l i .held)) q 0
+    at-position q = ap (λ (xs : List ℕ). getD xs q 0) (changed ∙ ap (λ (x : Window). replaced (fromIn x p) (λ q. g) (flowAt l i .held)) is)
+
+    pub read-from : table (sizeOf l) (λ q. getD h q 0) ≡ model.heldFrom (linkOf l) i p g
+    unfolding linkOf fromIn
+    read-from = table-same (sizeOf l) _ _ λ q b.
+        at-position q
+        ∙ replaced-at _ _ (flowAt l i .held) q 0 (omega (arith, s .flows i hi .long, size-most))
+        ∙ rw (lt-ltb q (sizeOf l) b, read-holding l i q hi b)
+
+    pub sound-from : (j c : ℕ) → j < l .plan .frames → SoundFlow (sizeOf l) (l .plan .frames) (withHeld (movedTo (flowAt l i) j c) h)
+    unfolding linkOf fromIn
+    sound-from j c hj = record {
+      frame = hj;
+      long = ap length changed ∙ length-replaced _ _ (flowAt l i .held) ∙ s .flows i hi .long;
+      spare = λ q b. at-position q ∙ replaced-off _ _ (flowAt l i .held) q 0 (rw (le-ltb q (sizeOf l) b)) ∙ s .flows i hi .spare q b;
+    }

@@ -1,0 +1,102 @@
+-- A run over call records: what a record reads as, and what holds after each. Assumes nothing.
+use Prim.Native.Nat.{ℕ, _+_, _*_, _/_, _%_, _≤_, _<_}
+use mathlib.Core.Path.{_≡_, refl, sym, ap, _∙_}
+use mathlib.Core.List.{List}
+use mathlib.Core.Option.{Option}
+use native.Mathlib.Omega.{arith}
+use lib.ListN.{length, take}
+use lib.Seq.{sets, length-sets}
+use Rattle.link.specs.declared.Link.{Link}
+use Rattle.link.specs.declared.Step.{Step}
+use Rattle.calls.specs.declared.Call.{Call}
+use Rattle.calls.specs.declared.Record.{Record}
+use Rattle.calls.specs.declared.Call.the-variants.{Request, Credit, Tick}
+use Rattle.calls.specs.Reading.{recordFor, callIn, lineFor, answerToRequest, answerToCredit, answerToTick}
+use Rattle.calls.proofs.Ran.{Ran, ran-none, callAt, ran-more}
+use Rattle.calls.proofs.Answers.{call-in, line-of-request, line-of-credit, line-of-tick}
+use Rattle.calls.specs.Lines.{outWith, nextAfter}
+use Rattle.model.specs.Calls as calls
+use Rattle.model.specs.Link as model
+use Rattle.model.specs.Request.{request}
+use Rattle.model.specs.Credit.{credit}
+use Rattle.model.specs.Tick.{tick}
+use Rattle.model.specs.Listing.{lineOf, made, listing, linkAfter}
+use Rattle.link.specs.Reading.{linkOf}
+use Rattle.link.specs.Sound.{Sound}
+use Rattle.link.specs.Run.{Made, playable, Played}
+
+-- ---- what a record reads as
+
+-- a record that was read, by the call that it makes
+pub reads-as : (o : Option calls.Call) (r : Record) → r ≡ recordFor o → o ≡ callIn r
+reads-as o r e = sym (call-in o) ∙ ap callIn (sym e)
+
+-- ---- what a call comes to
+
+module _ (l : model.Link) (s : Step) where
+  pub request-made : (w : ℕ) → linkOf (s .link) ≡ request l w .link → s .answer ≡ answerToRequest (request l w .answer) → Made l (Request w) s
+  request-made w e a = record { link-is = e; line-is = ap lineFor a ∙ line-of-request (request l w .answer) }
+
+  pub credit-made : (i p : ℕ) → linkOf (s .link) ≡ credit l i p .link → s .answer ≡ answerToCredit (credit l i p .answer) → Made l (Credit i p) s
+  credit-made i p e a = record { link-is = e; line-is = ap lineFor a ∙ line-of-credit (credit l i p .answer) }
+
+  pub tick-made : linkOf (s .link) ≡ tick l .link → s .answer ≡ answerToTick (tick l .answer) → Made l Tick s
+  tick-made e a = record { link-is = e; line-is = ap lineFor a ∙ line-of-tick (tick l .answer) }
+
+-- ---- one record after the other
+
+-- What holds when the records up to a place are played: l is the link at the start, and `out` the slice for the lines.
+pub record Going (l : model.Link) (records out : List ℕ) (at : ℕ) (link : Link) (end : ℕ) (lines : List ℕ) : Type 0 where
+  pub whole : at % 5 ≡ 0
+  pub ran : Ran l records out 0 at (linkOf link) lines end
+  pub seven-most : 5 * end ≤ 7 * at
+  pub sound : Sound link
+
+-- how far a run goes
+pub record Reach (records out : List ℕ) (used : ℕ) : Type 0 where
+  pub whole : used % 5 ≡ 0
+  pub in-records : used ≤ length records
+  pub in-out : 7 * used ≤ 5 * length out
+
+pub reach : (records out : List ℕ) (used : ℕ) → used ≡ 5 * playable records out → Reach records out used
+reach records out used e =
+    let k = playable records out in
+    let a : k ≤ length records / 5 = omega arith in
+    let b : k ≤ length out / 7 = omega arith in
+    record { whole = omega arith; in-records = omega arith; in-out = omega arith }
+
+-- nothing is played yet
+pub begun : (records out : List ℕ) (link : Link) → Sound link → Going (linkOf link) records out 0 link 0 out
+begun records out link sound = record { whole = refl; ran = ran-none (linkOf link) records out 0; seven-most = omega arith; sound = sound }
+
+module _ {l : model.Link} {records out : List ℕ} {at : ℕ} {link : Link} {end : ℕ} {lines : List ℕ} (g : Going l records out at link end lines) where
+  pub same-size : length lines ≡ length out
+  same-size = ap length (g .ran .lines) ∙ length-sets out 0 (listing l (take at records))
+
+  -- one record more
+  pub going-on : {used : ℕ} → Reach records out used → at < used → {link′ : Link} {end′ : ℕ} {lines′ : List ℕ}
+      → linkOf link′ ≡ made (linkOf link) (callAt records at) .link
+      → lines′ ≡ outWith (lineOf (made (linkOf link) (callAt records at) .answer)) lines end
+      → end′ ≡ nextAfter (lineOf (made (linkOf link) (callAt records at) .answer)) lines end
+      → end′ ≤ end + 7 → Sound link′ → Going l records out (at + 5) link′ end′ lines′
+  going-on {used} r lt next written ends most sound =
+      let here = g .whole in
+      let there = r .whole in
+      let on : at + 5 ≤ used = omega arith in
+      let size = same-size in
+      let room : end + 7 ≤ length lines = omega (arith, g .seven-most, r .in-out) in
+      record {
+        whole = omega arith;
+        ran = ran-more (g .ran) (g .whole) (omega (arith, r .in-records)) room next refl written ends;
+        seven-most = omega (arith, g .seven-most);
+        sound = sound;
+      }
+
+  -- all is played
+  pub ended : {used : ℕ} → used ≡ 5 * playable records out → at ≡ used → Played l records out (linkOf link) used end lines
+  ended e z = record {
+    used-is = e;
+    link-is = g .ran .link ∙ ap (λ n. linkAfter l (take n records)) z;
+    written-is = let u = g .ran .up-to in let v = ap (λ n. length (listing l (take n records))) z in omega arith;
+    out-is = g .ran .lines ∙ ap (λ n. sets out 0 (listing l (take n records))) z;
+  }

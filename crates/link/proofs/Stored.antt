@@ -1,0 +1,62 @@
+-- The reading determines a sound link: it is what its reading is stored as. Assumes nothing.
+use Prim.Native.Nat.{ℕ, _<_}
+use mathlib.Core.Path.{_≡_, refl, sym, ap, _∙_}
+use mathlib.Core.List.{List}
+use mathlib.Core.Bool.{Bool, true, false}
+use native.Mathlib.Decide.{decLt}
+use native.Mathlib.Omega.{arith}
+use lib.ListN.{getD}
+use lib.Dec.{eqb}
+use borrow.Author.Tests.{eqb-true}
+use Rattle.model.specs.Tables.{table}
+use Rattle.model.specs.Link as model
+use Rattle.plan.specs.Reading as plan
+use Rattle.link.specs.declared.Flow.{Flow}
+use Rattle.link.specs.declared.Link.{Link}
+use Rattle.link.specs.Parts.{sizeOf, flowAt, ownerAt, noFlow}
+use Rattle.link.specs.Reading.{nobody, ownerOf, flowOf, linkOf, everywhere, storedOwner, storedFlow, stored}
+use Rattle.link.specs.Sound.{Sound, SoundFlow}
+use Rattle.link.proofs.Tables.{getD-table, table-past, table-of}
+use Rattle.link.proofs.Plans.{stored-plan}
+use Rattle.link.proofs.Links.{read-flow, read-owner}
+
+owner-back : (x : ℕ) → storedOwner (ownerOf x) ≡ x
+owner-back x = go (eqb x nobody) refl
+  where
+    go : (b : Bool) → eqb x nobody ≡ b → storedOwner (ownerOf x) ≡ x
+    go true e = rw e (sym (eqb-true x nobody e))
+    go false e = rw e
+
+flow-back : (T W : ℕ) (f : Flow) → SoundFlow T W f → storedFlow (flowOf T f) ≡ f
+flow-back T W f v = ap (λ (h : List ℕ). record { frame = f .frame; left = f .left; held = h }) (table-of (f .held) 256 _ 0 (v .long) (λ p _. go p (decLt p T)))
+  where
+    go : (p : ℕ) → Dec (p < T) → getD (table T (λ p. getD (f .held) p 0)) p 0 ≡ getD (f .held) p 0
+    go p (yes b) = getD-table T _ p 0 b
+    go p (no b) = table-past T _ p 0 (omega arith) ∙ sym (v .spare p (omega arith))
+
+-- "the reading determines the link"
+pub stored-reading : (l : Link) → Sound l → stored (linkOf l) ≡ l
+unfolding stored linkOf everywhere
+stored-reading l s = λ k. record { plan = stored-plan (l .plan) (s .plan) k; cp = l .cp; owner = owners k; flows = flows k }
+  where
+    owner : (p : ℕ) → p < 256 → Dec (p < sizeOf l) → storedOwner (model.owner (linkOf l) p) ≡ ownerAt l p
+    owner p b (yes h) = ap storedOwner (read-owner l p h) ∙ owner-back (ownerAt l p)
+    owner p b (no h) = ap storedOwner (table-past (sizeOf l) _ p _ (omega arith)) ∙ sym (s .spare-owners p (omega arith) b)
+
+    flow : (i : ℕ) → i < 16 → Dec (i < l .plan .count) → storedFlow (model.flow (linkOf l) i) ≡ flowAt l i
+    flow i b (yes h) = ap storedFlow (read-flow l i h) ∙ flow-back (sizeOf l) (l .plan .frames) (flowAt l i) (s .flows i h)
+    flow i b (no h) = ap storedFlow (table-past (l .plan .count) _ i model.noFlow (omega arith)) ∙ sym (s .spare-flows i (omega arith) b)
+
+    owners : table 256 (λ p. storedOwner (model.owner (linkOf l) p)) ≡ l .owner
+    owners = table-of (l .owner) 256 _ 0 (s .owners-long) (λ p b. owner p b (decLt p (sizeOf l)))
+
+    flows : table 16 (λ i. storedFlow (model.flow (linkOf l) i)) ≡ l .flows
+    flows = table-of (l .flows) 16 _ noFlow (s .flows-long) (λ i b. flow i b (decLt i (l .plan .count)))
+
+-- two sound links with one reading are one link
+pub one-reading : (l k : Link) → Sound l → Sound k → linkOf l ≡ linkOf k → l ≡ k
+one-reading l k s t e = sym (stored-reading l s) ∙ ap stored e ∙ stored-reading k t
+
+-- so a call's contract gives the whole link that it hands back
+pub whole-link : (l : Link) (m : model.Link) → Sound l → linkOf l ≡ m → l ≡ stored m
+whole-link l m s e = sym (stored-reading l s) ∙ ap stored e

@@ -1,0 +1,235 @@
+-- A tick on a link, as it is read. Assumes nothing.
+use Prim.Native.Nat.{ℕ, _+_, _-_, _*_, _/_, _%_, _≤_, _<_}
+use mathlib.Core.Path.{_≡_, refl, sym, ap, _∙_}
+use mathlib.Core.List.{List}
+use mathlib.Core.Option.{none}
+use mathlib.Core.Bool.{Bool, true, false, cond}
+use native.Mathlib.Nat.{mod-lt, suc-mul, div-eq-of-lt-le, div-mul-le-self, lt-div-mul-add}
+use native.Mathlib.Decide.{decLt}
+use native.Mathlib.Omega.{arith}
+use lib.ListN.{getD}
+use lib.Dec.{eqb}
+use borrow.Author.Tests.{eq-eqb, ne-eqb}
+use Rattle.model.specs.Tables.{table}
+use Rattle.model.specs.Plan as paper
+use Rattle.model.specs.Link as model
+use Rattle.model.specs.Tick as tick
+use Rattle.plan.specs.declared.Entry.{Entry}
+use Rattle.plan.specs.Reading.{noEntry}
+use Rattle.calls.specs.declared.Answer.{Answer}
+use Rattle.link.specs.declared.Flow.{Flow}
+use Rattle.link.specs.declared.Link.{Link}
+use Rattle.link.specs.Runs.{inRun, replaced}
+use Rattle.link.specs.Parts.{sizeOf, entryAt, flowAt, ownerAt, noFlow, withCurrent, movedTo, withHeld}
+use Rattle.link.specs.Reading.{nobody, ownerOf, flowOf, linkOf}
+use Rattle.calls.specs.Reading.{answerToTick}
+use Rattle.link.specs.Sound.{Sound, SoundFlow}
+use Rattle.link.proofs.Tables.{table-same}
+use Rattle.link.proofs.Runs.{in-run, before-run, past-run, length-replaced, replaced-at, replaced-off}
+use Rattle.link.proofs.Ranks.{proper}
+use Rattle.link.proofs.Links.{Stepped, same-flow, read-count, read-entry, read-flow, read-holding, read-owner, flows-most, size-most, measures}
+
+-- ---- a flow's part at a frame change
+
+-- the head frame and the next, the head's positions from `first` up to `past`, the last position of the window, and the plan's entries
+pub record Change : Type 0 where
+  pub head : ℕ
+  pub next : ℕ
+  pub first : ℕ
+  pub past : ℕ
+  pub last : ℕ
+  pub entries : List Entry
+
+-- the holding at the last position goes on in the head's
+abbrev pub carried : Change → Flow → Flow
+carried g f = withHeld f (replaced (inRun (g .first) (g .past)) (λ q x. getD (f .held) (g .last) 0) (f .held))
+
+-- and a flow in the head frame leaves it for the next, with its share
+abbrev pub changed : Change → ℕ → Flow → Flow
+changed g i f = cond (eqb (f .frame) (g .head)) (movedTo (carried g f) (g .next) (getD (g .entries) i noEntry .share)) (carried g f)
+
+module _ (g : Change) (i : ℕ) (f f′ : Flow) (h : List ℕ) (filled : h ≡ carried g f .held) where
+  pub leaves-head : f .frame ≡ g .head → f′ ≡ record { frame = g .next; left = getD (g .entries) i noEntry .share; held = h } → f′ ≡ changed g i f
+  leaves-head z is = is ∙ rw (eq-eqb (f .frame) (g .head) z, filled)
+
+  pub keeps-frame : (f .frame ≡ g .head → ⊥) → f′ ≡ withHeld f h → f′ ≡ changed g i f
+  keeps-frame z is = is ∙ rw (ne-eqb (f .frame) (g .head) z, filled)
+
+-- ---- the link after a tick
+
+abbrev pub nextAt : Link → ℕ
+nextAt l = (l .cp + 1) % sizeOf l
+
+abbrev pub headAt : Link → ℕ
+headAt l = l .cp / l .plan .slots
+
+abbrev pub baseAt : Link → ℕ
+baseAt l = headAt l * l .plan .slots
+
+abbrev pub lastAt : Link → ℕ
+lastAt l = (baseAt l + sizeOf l - 1) % sizeOf l
+
+abbrev pub changeAt : Link → Change
+changeAt l = record {
+  head = headAt l;
+  next = (headAt l + 1) % l .plan .frames;
+  first = baseAt l;
+  past = baseAt l + l .plan .slots;
+  last = lastAt l;
+  entries = l .plan .entries;
+}
+
+abbrev pub recycled : Link → Link
+recycled l = record {
+  plan = l .plan;
+  cp = nextAt l;
+  owner = replaced (inRun (baseAt l) (baseAt l + l .plan .slots)) (λ q x. nobody) (l .owner);
+  flows = replaced (inRun 0 (l .plan .count)) (changed (changeAt l)) (l .flows);
+}
+
+-- the same of equal parts
+pub same-recycled : (l : Link) {cp on last : ℕ} {o : List ℕ}
+    → cp ≡ nextAt l → on ≡ (headAt l + 1) % l .plan .frames → last ≡ lastAt l → o ≡ recycled l .owner
+    → record {
+      plan = l .plan;
+      cp = cp;
+      owner = o;
+      flows = replaced (inRun 0 (l .plan .count)) (changed (record { head = headAt l; next = on; first = baseAt l; past = baseAt l + l .plan .slots; last = last; entries = l .plan .entries })) (l .flows);
+    } ≡ recycled l
+same-recycled l a b c d = rw (a, b, c, d)
+
+module _ (l : Link) (s : Sound l) where
+  some-position : 0 < sizeOf l
+  some-position = omega (arith, s .current)
+
+  pub next-below : nextAt l < sizeOf l
+  next-below = mod-lt _ some-position
+
+  pub last-below : lastAt l < sizeOf l
+  last-below = mod-lt _ some-position
+
+  pub head-below : headAt l < l .plan .frames
+  head-below = proper _ _ _ (measures l s) .head-below
+
+  pub base-fits : baseAt l + l .plan .slots ≤ sizeOf l
+  base-fits = proper _ _ _ (measures l s) .base-fits
+
+  -- the head frame's positions
+  head-run : (q : ℕ) → inRun (baseAt l) (baseAt l + l .plan .slots) q ≡ eqb (q / l .plan .slots) (headAt l)
+  head-run q = go (decLt q (baseAt l)) (decLt q (baseAt l + l .plan .slots))
+    where
+      go : Dec (q < baseAt l) → Dec (q < baseAt l + l .plan .slots) → inRun (baseAt l) (baseAt l + l .plan .slots) q ≡ eqb (q / l .plan .slots) (headAt l)
+      go (yes h) d = rw (before-run (baseAt l) (baseAt l + l .plan .slots) q h, ne-eqb (q / l .plan .slots) (headAt l) (λ e. let m = rw e at (div-mul-le-self q (l .plan .slots)) in omega arith))
+      go (no h) (yes d) = rw (in-run (baseAt l) (baseAt l + l .plan .slots) q (omega arith) d, eq-eqb (q / l .plan .slots) (headAt l) (div-eq-of-lt-le (l .plan .slots) (omega arith) (omega (arith, suc-mul (headAt l) (l .plan .slots)))))
+      go (no h) (no d) = rw (past-run (baseAt l) (baseAt l + l .plan .slots) q (omega arith), ne-eqb (q / l .plan .slots) (headAt l) (λ e. let m = rw e at (lt-div-mul-add {a = q} {b = l .plan .slots} (s .plan .accepted .some-slot)) in omega arith))
+
+  -- ---- a flow's part
+
+  flow-changed : (i : ℕ) → i < l .plan .count → flowAt (recycled l) i ≡ changed (changeAt l) i (flowAt l i)
+  flow-changed i h = replaced-at _ _ (l .flows) i noFlow (omega (arith, s .flows-long, flows-most l s)) ∙ rw (in-run 0 (l .plan .count) i (omega arith) h)
+
+  held-changed : (i : ℕ) → i < l .plan .count → table (sizeOf l) (λ q. getD (carried (changeAt l) (flowAt l i) .held) q 0)
+      ≡ table (sizeOf l) (λ q. cond (eqb (q / l .plan .slots) (headAt l)) (model.holding (linkOf l) i (lastAt l)) (model.holding (linkOf l) i q))
+  held-changed i h = table-same (sizeOf l) _ _ λ q b.
+      replaced-at _ _ (flowAt l i .held) q 0 (omega (arith, s .flows i h .long, size-most l s))
+      ∙ rw (head-run q, read-holding l i q h b, read-holding l i (lastAt l) h last-below)
+
+  read-changed : (i : ℕ) → i < l .plan .count → flowOf (sizeOf l) (changed (changeAt l) i (flowAt l i)) ≡ tick.carriedOn (linkOf l) i (tick.leftHead (linkOf l) i)
+  unfolding linkOf
+  read-changed i h = rw injection (go (eqb (flowAt l i .frame) (headAt l)))
+    where
+      injection : model.flow (linkOf l) i .injection ≡ flowAt l i .frame
+      injection = ap (λ (x : model.Flow). x .injection) (read-flow l i h)
+
+      remainder : model.flow (linkOf l) i .remainder ≡ flowAt l i .left
+      remainder = ap (λ (x : model.Flow). x .remainder) (read-flow l i h)
+
+      share : model.share (linkOf l) i ≡ entryAt l i .share
+      share = ap (λ (e : paper.Entry). e .share) (read-entry l i h)
+
+      go : (b : Bool) → flowOf (sizeOf l) (cond b (movedTo (carried (changeAt l) (flowAt l i)) ((headAt l + 1) % l .plan .frames) (entryAt l i .share)) (carried (changeAt l) (flowAt l i)))
+          ≡ tick.carriedOn (linkOf l) i (cond b (model.movedTo (model.flow (linkOf l) i) ((headAt l + 1) % l .plan .frames) (model.share (linkOf l) i)) (model.flow (linkOf l) i))
+      go true = same-flow refl (sym share) (held-changed i h)
+      go false = same-flow (sym injection) (sym remainder) (held-changed i h)
+
+  read-recycled : linkOf (recycled l) ≡ model.withCurrent (tick.recycled (linkOf l)) (nextAt l)
+  unfolding linkOf tick.recycled
+  read-recycled = λ k. record { plan = linkOf l .plan; current = nextAt l; owners = owners k; flows = flows k }
+    where
+      emptied : (b : Bool) (x : ℕ) → ownerOf (cond b nobody x) ≡ cond b none (ownerOf x)
+      emptied true x = refl
+      emptied false x = refl
+
+      owners : table (sizeOf l) (λ q. ownerOf (ownerAt (recycled l) q)) ≡ table (sizeOf l) (λ q. cond (eqb (q / l .plan .slots) (headAt l)) none (model.owner (linkOf l) q))
+      owners = table-same (sizeOf l) _ _ λ q b.
+          ap ownerOf (replaced-at _ _ (l .owner) q 0 (omega (arith, s .owners-long, size-most l s)))
+          ∙ rw (head-run q, read-owner l q b) (emptied (eqb (q / l .plan .slots) (headAt l)) (ownerAt l q))
+
+      flows : table (l .plan .count) (λ i. flowOf (sizeOf l) (flowAt (recycled l) i)) ≡ table (paper.flowCount (linkOf l .plan)) (λ i. tick.carriedOn (linkOf l) i (tick.leftHead (linkOf l) i))
+      flows =
+          table-same (l .plan .count) _ (λ i. tick.carriedOn (linkOf l) i (tick.leftHead (linkOf l) i)) (λ i h. ap (flowOf (sizeOf l)) (flow-changed i h) ∙ read-changed i h)
+          ∙ ap (λ (n : ℕ). table n (λ i. tick.carriedOn (linkOf l) i (tick.leftHead (linkOf l) i))) (sym (read-count l))
+
+  read-advanced : nextAt l % l .plan .slots ≡ 0 → tick.advanced (linkOf l) ≡ linkOf (recycled l)
+  unfolding tick.advanced linkOf
+  read-advanced z = rw (eq-eqb (nextAt l % l .plan .slots) 0 z) (sym read-recycled)
+
+  sound-changed : (i : ℕ) → i < l .plan .count → SoundFlow (sizeOf l) (l .plan .frames) (changed (changeAt l) i (flowAt l i))
+  sound-changed i h = go (eqb (flowAt l i .frame) (headAt l))
+    where
+      part : (j c : ℕ) → j < l .plan .frames → SoundFlow (sizeOf l) (l .plan .frames) (movedTo (carried (changeAt l) (flowAt l i)) j c)
+      part j c b = record {
+        frame = b;
+        long = length-replaced _ _ (flowAt l i .held) ∙ s .flows i h .long;
+        spare = λ q k. replaced-off _ _ (flowAt l i .held) q 0 (past-run _ _ q (omega (arith, base-fits))) ∙ s .flows i h .spare q k;
+      }
+
+      go : (b : Bool) → SoundFlow (sizeOf l) (l .plan .frames) (cond b (movedTo (carried (changeAt l) (flowAt l i)) ((headAt l + 1) % l .plan .frames) (entryAt l i .share)) (carried (changeAt l) (flowAt l i)))
+      go true = part _ _ (mod-lt _ (omega (arith, s .plan .accepted .two-frames)))
+      go false = part _ _ (s .flows i h .frame)
+
+  sound-recycled : Sound (recycled l)
+  sound-recycled = record {
+    plan = s .plan;
+    current = next-below;
+    owners-long = length-replaced _ _ (l .owner) ∙ s .owners-long;
+    owners = λ q b n. owner q b n (inRun (baseAt l) (baseAt l + l .plan .slots) q) refl;
+    spare-owners = λ q h b. replaced-off _ _ (l .owner) q 0 (past-run _ _ q (omega (arith, base-fits))) ∙ s .spare-owners q h b;
+    flows-long = length-replaced _ _ (l .flows) ∙ s .flows-long;
+    flows = λ i h. rw (flow-changed i h) (sound-changed i h);
+    spare-flows = λ i h b. replaced-off _ _ (l .flows) i noFlow (past-run 0 (l .plan .count) i h) ∙ s .spare-flows i h b;
+  }
+    where
+      owner : (q : ℕ) → q < 256 → (ownerAt (recycled l) q ≡ nobody → ⊥) → (t : Bool) → inRun (baseAt l) (baseAt l + l .plan .slots) q ≡ t → ownerAt (recycled l) q < l .plan .count
+      owner q b n true e = absurd (n (replaced-at (inRun (baseAt l) (baseAt l + l .plan .slots)) (λ q x. nobody) (l .owner) q 0 (omega (arith, s .owners-long)) ∙ rw e))
+      owner q b n false e = let z = replaced-off (inRun (baseAt l) (baseAt l + l .plan .slots)) (λ q x. nobody) (l .owner) q 0 e in rw z (s .owners q b (λ y. n (z ∙ y)))
+
+  sound-moved : Sound (withCurrent l (nextAt l))
+  sound-moved = record {
+    plan = s .plan;
+    current = next-below;
+    owners-long = s .owners-long;
+    owners = s .owners;
+    spare-owners = s .spare-owners;
+    flows-long = s .flows-long;
+    flows = s .flows;
+    spare-flows = s .spare-flows;
+  }
+
+  -- ---- the answer
+
+  turned : (r : Link) → Sound r → tick.tick (linkOf l) ≡ record { link = linkOf r; answer = model.owner (linkOf r) (r .cp) }
+      → Stepped answerToTick (tick.tick (linkOf l)) (record { link = r; answer = answerToTick (ownerOf (ownerAt r (r .cp))) })
+  turned r v e = rw e (refl, (ap answerToTick (sym (read-owner r (r .cp) (v .current))), v))
+
+  pub stayed : (nextAt l % l .plan .slots ≡ 0 → ⊥) → Stepped answerToTick (tick.tick (linkOf l)) (record { link = withCurrent l (nextAt l); answer = answerToTick (ownerOf (ownerAt l (nextAt l))) })
+  unfolding tick.tick tick.advanced linkOf
+  stayed n = turned (withCurrent l (nextAt l)) sound-moved (rw (ne-eqb _ _ n))
+
+  went-on : nextAt l % l .plan .slots ≡ 0 → Stepped answerToTick (tick.tick (linkOf l)) (record { link = recycled l; answer = answerToTick (ownerOf (ownerAt (recycled l) (nextAt l))) })
+  unfolding tick.tick linkOf
+  went-on z = turned (recycled l) sound-recycled (ap (λ (m : model.Link). record { link = m; answer = model.owner m (nextAt l) }) (read-advanced z))
+
+  pub gone-on : {r : Link} {p : ℕ} {a : Answer} → r ≡ recycled l → p ≡ nextAt l → p % l .plan .slots ≡ 0 → a ≡ answerToTick (ownerOf (ownerAt r p))
+      → Stepped answerToTick (tick.tick (linkOf l)) (record { link = r; answer = a })
+  gone-on {r} {p} {a} is here z answer = rw (answer, is, here) (went-on (rw here at z))

@@ -1,0 +1,74 @@
+-- `link::fresh::flows` meets its contract. Assumes nothing.
+use borrow.Author.Needs.{needs}
+use Prim.Native.Nat.{_-_, _≤_}
+use mathlib.Core.Path.{_≡_, ap, _∙_}
+use native.Mathlib.Omega.{arith}
+use lib.ListN.{getD, replicate}
+use Rattle.plan.specs.Reading.{noEntry}
+use Rattle.link.specs.Runs.{inRun, replaced}
+use Rattle.link.specs.Parts.{noFlow, movedTo}
+use Rattle.link.specs.Reading.{spareFlow}
+use Rattle.link.proofs.Runs.{replaced-none, replaced-more, replaced-done}
+use Rattle.link.proofs.fresh.flows.Statement.{statement}
+use Rattle.link.proofs.fresh.flows.Tie as tie
+
+abbrev Inv-loop : tie.InvT-loop
+Inv-loop count entries all₀ i₀ all i = (i ≤ count) × (all ≡ replaced (inRun 0 i) (λ k f. movedTo spareFlow 0 (getD entries k noEntry .share)) (replicate 16 spareFlow))
+
+abbrev μ-loop : tie.MeasureT-loop
+μ-loop count entries all₀ i₀ all i = count - i
+
+flow-requires : tie.Need-flow-requires Inv-loop μ-loop
+flow-requires c κs = search needs
+
+loop-holds : tie.Need-loop-holds Inv-loop μ-loop
+loop-holds c = (search needs, ap (replicate 16) (c .flow .ensures) ∙ replaced-none 0 _ _ noFlow)
+
+mul-e : tie.Need-mul-e Inv-loop μ-loop
+mul-e c = search needs
+
+array-copy-out-e : tie.Need-array-copy-out-e Inv-loop μ-loop
+array-copy-out-e c = search needs
+
+cast-flow : tie.Need-cast-flow Inv-loop μ-loop
+cast-flow c = search needs
+
+flow-requires-2 : tie.Need-flow-requires-2 Inv-loop μ-loop
+flow-requires-2 c κs = search needs
+
+mul-all : tie.Need-mul-all Inv-loop μ-loop
+mul-all c = search needs
+
+array-set-from-all : tie.Need-array-set-from-all Inv-loop μ-loop
+array-set-from-all c = search needs
+
+add-i : tie.Need-add-i Inv-loop μ-loop
+add-i c = search needs
+
+loop-less : tie.Need-loop-less Inv-loop μ-loop
+loop-less c = search needs
+
+loop-again : tie.Need-loop-again Inv-loop μ-loop
+loop-again c = (search needs, replaced-more _ _ _ _ noFlow _ _ (c .before .before .before .before .loop .inv .1) (omega arith) (c .flow2 .ensures))
+
+returns : tie.Need-returns Inv-loop μ-loop
+returns c = replaced-done _ _ _ _ _ _ (c .before .loop .inv .1) (omega arith)
+
+pub flows-spec : {M : Type 1} → statement M
+flows-spec =
+    tie.close
+    (tie.spec
+    Inv-loop
+    μ-loop
+    flow-requires
+    loop-holds
+    mul-e
+    array-copy-out-e
+    cast-flow
+    flow-requires-2
+    mul-all
+    array-set-from-all
+    add-i
+    loop-less
+    loop-again
+    returns)

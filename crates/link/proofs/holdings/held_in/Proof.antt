@@ -1,0 +1,45 @@
+-- `link::holdings::held_in` meets its contract. Assumes nothing.
+use borrow.Author.Needs.{needs}
+use Prim.Native.Nat.{_-_, _≤_}
+use mathlib.Core.Logic.{⊎-elim}
+use native.Mathlib.Omega.{arith}
+use Rattle.link.specs.Runs.{All}
+use Rattle.link.specs.Holdings.{someHeld}
+use Rattle.link.proofs.Runs.{some-held, all-none, all-miss, all-pass, all-done}
+use Rattle.link.proofs.holdings.held_in.Statement.{statement}
+use Rattle.link.proofs.holdings.held_in.Tie as tie
+
+abbrev Inv-loop : tie.InvT-loop
+Inv-loop held a e all₀ q₀ all q = (a ≤ q) × (q ≤ e) × (e ≤ 256) × All (someHeld held) a q all
+
+abbrev μ-loop : tie.MeasureT-loop
+μ-loop held a e all₀ q₀ all q = e - q
+
+loop-holds : tie.Need-loop-holds Inv-loop μ-loop
+loop-holds c = (search needs, search needs, search needs, all-none (omega arith))
+
+element-copy-out-if1 : tie.Need-element-copy-out-if1 Inv-loop μ-loop
+element-copy-out-if1 c = search needs
+
+add-q : tie.Need-add-q Inv-loop μ-loop
+add-q c = search needs
+
+loop-less : tie.Need-loop-less Inv-loop μ-loop
+loop-less c = search needs
+
+loop-again : tie.Need-loop-again Inv-loop μ-loop
+loop-again c =
+    let l = c .before .before .before .loop in (
+      search needs,
+      search needs,
+      search needs,
+      ⊎-elim (λ w. all-miss (l .q) (l .inv .0) (rw (w .0 .taken)) (w .1)) (λ w. all-pass (l .inv .3) (some-held _ (w .0 .left)) (w .1)) (c .if1 .came),
+    )
+
+returns : tie.Need-returns Inv-loop μ-loop
+returns c = all-done (c .before .loop .inv .3) (omega arith)
+
+pub held-in-spec : {M : Type 1} → statement M
+held-in-spec =
+    tie.close
+    (tie.spec Inv-loop μ-loop loop-holds element-copy-out-if1 add-q loop-less loop-again returns)

@@ -1,0 +1,72 @@
+// The fresh link.
+ghost use mathlib.Core.Path.{_≡_};
+ghost use Prim.Native.Nat.{_≤_};
+ghost use lib.ListN.{getD, replicate};
+ghost use Rattle.plan.specs.Reading.{Valid, planFor, noEntry};
+ghost use Rattle.model.specs.Fresh as model;
+ghost use Rattle.link.specs.Runs.{inRun, replaced};
+ghost use Rattle.link.specs.Parts.{movedTo};
+ghost use Rattle.link.specs.Reading.{everywhere, nobody, spareFlow, linkOf};
+ghost use Rattle.link.specs.Sound.{Sound};
+use crate::Flow;
+use crate::Link;
+use plan::Entry;
+use plan::Plan;
+
+fn unbooked() -> [u8; 256]
+    ensures { λ r. ⌜ r ≡ everywhere nobody ⌝ }
+{
+    [16u8; 256]
+}
+
+fn unheld() -> [u8; 256]
+    ensures { λ r. ⌜ r ≡ everywhere 0 ⌝ }
+{
+    [0u8; 256]
+}
+
+// A flow's part in frame 0, with a remainder.
+fn flow(left: usize) -> Flow
+    ensures { λ r. ⌜ r ≡ movedTo spareFlow 0 left ⌝ }
+{
+    let held = unheld();
+    Flow {
+        frame: 0,
+        left,
+        held,
+    }
+}
+
+// The parts of n flows, each with its share.
+fn flows(entries: [Entry; 16], count: usize) -> [Flow; 16]
+    requires { ⌜ count ≤ 16 ⌝ }
+    ensures { λ r. ⌜ r ≡ replaced (inRun 0 count) (λ i f. movedTo spareFlow 0 (getD entries i noEntry .share)) (replicate 16 spareFlow) ⌝ }
+{
+    let spare = flow(0);
+    let mut all = [spare; 16];
+    let mut i = 0;
+    while i < count {
+        let e = entries[i];
+        all[i] = flow(e.share as usize);
+        i += 1;
+    }
+    all
+}
+
+impl Link {
+    pub fn fresh(plan: Plan) -> Link
+        requires { ⌜ Valid plan ⌝ }
+        ensures link { λ r. ⌜ linkOf r ≡ model.fresh (planFor plan) ⌝ }
+        ensures sound { λ r. ⌜ Sound r ⌝ }
+    {
+        let entries = plan.entries;
+        let flows = flows(entries, plan.count);
+        let owner = unbooked();
+        Link {
+            plan,
+            cp: 0,
+            owner,
+            flows,
+        }
+    }
+}

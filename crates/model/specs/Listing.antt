@@ -1,0 +1,128 @@
+-- What the program writes. Document 01, "The program and its listing". Assumes nothing.
+use Prim.Native.Nat.{ℕ, zero, suc, _+_, _/_, _%_}
+use Prim.Native.Char.{Char, code}
+use Prim.Native.String.{String}
+use Prim.Native.String as string
+use mathlib.Core.List.{List, _∷_, [], _++_, map, flatMap}
+use mathlib.Core.Option.{Option, some, none}
+use mathlib.Core.Bool.{Bool, not, _||_, cond}
+use lib.ListN.{length, take, drop}
+use lib.Dec.{ltb}
+use Rattle.model.specs.Tables.{within}
+use Rattle.model.specs.Word.{departureOf}
+use Rattle.model.specs.Plan.{field16, planOf, refusal}
+use Rattle.model.specs.Calls.{Call, Event, Grant, Receipt, Turn, requested, credited, ticked, accepted, refused}
+use Rattle.model.specs.Link.{Link, Step}
+use Rattle.model.specs.Fresh.{fresh}
+use Rattle.model.specs.Request.{request}
+use Rattle.model.specs.Credit.{credit}
+use Rattle.model.specs.Tick.{tick}
+use Rattle.model.specs.Record.{records, callOf}
+
+-- ---- lines
+
+-- the bytes of a text
+abbrev pub text : String → List ℕ
+text string.[] = []
+text (string._∷_ c s) = code c ∷ text s
+
+abbrev pub digit : ℕ → ℕ
+digit d = code "0" + d
+
+-- the decimal digits of a number, without leading zeros, where there are no more than `most`
+unfoldable pub digits : (most n : ℕ) → List ℕ
+digits zero n = []
+digits (suc k) n = cond (ltb n 10) (digit n ∷ []) (digits k (n / 10) ++ (digit (n % 10) ∷ []))
+
+unfoldable pub decimal : ℕ → List ℕ
+decimal n = digits (suc n) n
+
+-- a letter, a space, what is said, and a newline
+abbrev pub line : Char → List ℕ → List ℕ
+line letter said = code letter ∷ text " " ++ said ++ text "\n"
+
+-- "`R` and a refusal"
+abbrev pub refusalLine : ℕ → List ℕ
+refusalLine number = line "R" (decimal number)
+
+-- "`G` and the position granted", the departure of the granted word
+abbrev pub requestLine : Grant → List ℕ
+requestLine (accepted word) = line "G" (decimal (departureOf word))
+requestLine (refused number) = refusalLine number
+
+-- "`C` for a credit"
+abbrev pub creditLine : Receipt → List ℕ
+creditLine (accepted _) = text "C\n"
+creditLine (refused number) = refusalLine number
+
+-- "`T` and the flow or `-`"
+abbrev pub tickLine : Turn → List ℕ
+tickLine (some flow) = line "T" (decimal flow)
+tickLine none = line "T" (text "-")
+
+-- "It writes one line for each": the line of a call with its answer, or of a record that makes no call
+abbrev pub lineOf : Option Event → List ℕ
+lineOf (some (requested w a)) = requestLine a
+lineOf (some (credited i p a)) = creditLine a
+lineOf (some (ticked x)) = tickLine x
+lineOf none = refusalLine 16
+
+-- ---- a stream of records
+
+-- the calls that records make
+abbrev pub callsOf : List ℕ → List (Option Call)
+callsOf bytes = map callOf (records bytes)
+
+-- A record's call on a link, and what it comes to. "16 is tested before the call that the record would make", and leaves the link unchanged.
+abbrev pub made : Link → Option Call → Step (Option Event)
+made l (some (Call.request w)) = record { link = request l w .link; answer = some (requested w (request l w .answer)) }
+made l (some (Call.credit i p)) = record { link = credit l i p .link; answer = some (credited i p (credit l i p .answer)) }
+made l (some Call.tick) = record { link = tick l .link; answer = some (ticked (tick l .answer)) }
+made l none = record { link = l; answer = none }
+
+-- what each record comes to, oldest first
+unfoldable pub outcomes : Link → List (Option Call) → List (Option Event)
+outcomes l [] = []
+outcomes l (c ∷ cs) = made l c .answer ∷ outcomes (made l c .link) cs
+
+unfoldable pub linkAfterCalls : Link → List (Option Call) → Link
+linkAfterCalls l [] = l
+linkAfterCalls l (c ∷ cs) = linkAfterCalls (made l c .link) cs
+
+-- the calls that are made, and their events
+abbrev pub present : {A : Type 0} → List (Option A) → List A
+present [] = []
+present (some x ∷ rest) = x ∷ present rest
+present (none ∷ rest) = present rest
+
+-- the lines of a stream of records, from a link
+unfoldable pub listing : Link → List ℕ → List ℕ
+listing l bytes = flatMap lineOf (outcomes l (callsOf bytes))
+
+-- the link after a stream of records
+unfoldable pub linkAfter : Link → List ℕ → Link
+linkAfter l bytes = linkAfterCalls l (callsOf bytes)
+
+-- ---- the program
+
+abbrev pub planLine : ℕ → List ℕ
+planLine number = line "P" (decimal number)
+
+-- "L being the first two bytes as a number"
+abbrev pub planLength : List ℕ → ℕ
+planLength input = field16 input 0
+
+-- "fewer than two bytes or fewer than L stand there, or L isn't 12 to 76"
+unfoldable pub planMissing : List ℕ → Bool
+planMissing input = ltb (length input) 2 || ltb (length input) (planLength input) || not (within 12 76 (planLength input))
+
+-- "it writes `P` and the refusal and ends, or it writes `P 0` and goes on"
+unfoldable pub outputAfter : (number : ℕ) → (plan rest : List ℕ) → List ℕ
+outputAfter zero plan rest = planLine 0 ++ listing (fresh (planOf plan)) rest
+outputAfter (suc r) plan rest = planLine (suc r)
+
+-- "The plan is its first L bytes", and "After an accepted plan come 5-byte records".
+unfoldable pub output : List ℕ → List ℕ
+output input =
+    let plan = take (planLength input) input in
+    cond (planMissing input) (planLine 1) (outputAfter (refusal plan) plan (drop (planLength input) input))

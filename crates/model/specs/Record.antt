@@ -1,0 +1,42 @@
+-- Call records. Document 01, "The program and its listing", and refusal 16. Assumes nothing.
+use Prim.Native.Nat.{ℕ, _+_, _*_, _/_, _%_}
+use mathlib.Core.List.{List, _∷_, []}
+use mathlib.Core.Option.{Option, some, none}
+use mathlib.Core.Bool.{Bool, _&&_, cond}
+use lib.ListN.{length, getD}
+use lib.Dec.{leb, eqb}
+use Rattle.model.specs.Plan.{field16}
+use Rattle.model.specs.Calls.{Call}
+
+-- "5-byte records", of which the last may be short
+unfoldable pub records : List ℕ → List (List ℕ)
+records [] = []
+records (a ∷ []) = (a ∷ []) ∷ []
+records (a ∷ b ∷ []) = (a ∷ b ∷ []) ∷ []
+records (a ∷ b ∷ c ∷ []) = (a ∷ b ∷ c ∷ []) ∷ []
+records (a ∷ b ∷ c ∷ d ∷ []) = (a ∷ b ∷ c ∷ d ∷ []) ∷ []
+records (a ∷ b ∷ c ∷ d ∷ e ∷ rest) = (a ∷ b ∷ c ∷ d ∷ e ∷ []) ∷ records rest
+
+-- the 32-bit field at a place, low byte first
+abbrev pub field32 : List ℕ → ℕ → ℕ
+field32 r at = field16 r at + 65536 * field16 r (at + 2)
+
+-- whether a record has its five bytes, and the kind k
+abbrev pub isKind : ℕ → List ℕ → Bool
+isKind k r = leb 5 (length r) && eqb (getD r 0 0) k
+
+-- the call that a record makes; none where 16 applies: "unknown kind, a nonzero filler, or fewer than 5 bytes"
+unfoldable pub callOf : List ℕ → Option Call
+callOf r =
+    -- "1 and a word, low byte first"
+    cond (isKind 1 r) (some (Call.request (field32 r 1)))
+    -- "2, flow, position (two bytes, low first), 0"
+    (cond (isKind 2 r && eqb (getD r 4 0) 0) (some (Call.credit (getD r 1 0) (field16 r 2)))
+    -- "3 and four zeros"
+    (cond (isKind 3 r && eqb (field32 r 1) 0) (some Call.tick) none))
+
+-- the record of a call
+unfoldable pub recordOf : Call → List ℕ
+recordOf (Call.request w) = 1 ∷ w % 256 ∷ w / 256 % 256 ∷ w / 65536 % 256 ∷ w / 16777216 ∷ []
+recordOf (Call.credit i p) = 2 ∷ i ∷ p % 256 ∷ p / 256 ∷ 0 ∷ []
+recordOf Call.tick = 3 ∷ 0 ∷ 0 ∷ 0 ∷ 0 ∷ []
