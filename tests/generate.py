@@ -1,0 +1,59 @@
+"""Call files from seeds: the same seed gives the same bytes everywhere."""
+
+import kinds
+import plans
+from dice import Dice
+
+# One round of seeds; a "plan" entry is a damaged plan.
+ROUND = (
+    "dense", "plan", "late", "small", "plan", "tight", "wild", "plan",
+    "mixed", "noise", "plan", "tight", "late", "plan", "full", "small",
+    "plan", "tight", "tail", "plan",
+)
+# Every 25th seed makes a long file, of these kinds in turn.
+LONG_EVERY = 25
+LONG = ("dense", "tight", "late", "mixed", "small", "full")
+LONG_CALLS = 20000
+
+MAKERS = {
+    "dense": (kinds.dense_file, 600, 3000),
+    "full": (kinds.full_file, 400, 2000),
+    "late": (kinds.late_file, 200, 2000),
+    "small": (kinds.small_file, 50, 1200),
+    "tight": (kinds.tight_file, 50, 1500),
+    "mixed": (kinds.mixed_file, 100, 1500),
+    "wild": (kinds.wild_file, 100, 600),
+    "noise": (kinds.noise_file, 0, 400),
+    "tail": (kinds.tail_file, 0, 0),
+}
+
+
+def kind_of(seed):
+    """The name of the kind of file that a seed makes."""
+    if seed % LONG_EVERY == LONG_EVERY - 1:
+        return "long " + LONG[seed // LONG_EVERY % len(LONG)]
+    return ROUND[seed % len(ROUND)]
+
+
+def chosen_damages(dice, seed):
+    """Single damages go by turn, so that a long run has each; between them
+    come two damages at once, to try the order of the tests."""
+    turn = (seed // len(ROUND) * ROUND.count("plan")
+            + ROUND[:seed % len(ROUND)].count("plan"))
+    if turn % 3 < 2:
+        single = turn // 3 * 2 + turn % 3
+        return [plans.SINGLE[single % len(plans.SINGLE)]]
+    return plans.two_damages(dice)
+
+
+def generate(seed):
+    """The bytes of the call file of a seed."""
+    dice = Dice(seed)
+    kind = kind_of(seed)
+    if kind == "plan":
+        return kinds.plan_file(dice, chosen_damages(dice, seed)).data()
+    if kind.startswith("long "):
+        maker = MAKERS[kind[5:]][0]
+        return maker(dice, LONG_CALLS + dice.below(5000)).data()
+    maker, fewest, most = MAKERS[kind]
+    return maker(dice, dice.between(fewest, most)).data()

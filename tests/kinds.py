@@ -1,0 +1,326 @@
+"""The kinds of traffic in generated files.
+
+Each kind takes the dice and about how many calls to write, and gives a file.
+"""
+
+import plans
+import records
+from callfile import CallFile
+
+
+# ----------------------------------------------------------- odd calls
+
+def odd_word(dice, file):
+    """A request with one or two fields off, or any 32 bits at all."""
+    if dice.chance(20):
+        return b"\x01" + dice.data(4)
+    flow = dice.below(file.flows)
+    destination = file.plan.destination(flow)
+    departure = dice.pick([0, file.slots - 1, dice.below(file.slots)])
+    for _ in range(dice.between(1, 2)):
+        fault = dice.below(3)
+        if fault == 0:
+            flow = dice.pick([file.flows, 63, dice.below(64)])
+        elif fault == 1:
+            destination = dice.below(64)
+        else:
+            departure = dice.pick([file.slots, 1023, file.slots - 1,
+                                   dice.below(1024)])
+    return records.request(destination, min(flow, 63), dice.below(1024),
+                           min(departure, 1023))
+
+
+def odd_credit(dice, file):
+    """A credit at a border: of the flows, of T, of the head frame."""
+    flow = dice.below(file.flows)
+    if dice.chance(25):
+        flow = dice.pick([file.flows, 63, 64, 255, dice.below(256)])
+    now = file.now()
+    head = now - now % file.plan.frame_slots
+    position = dice.pick([
+        now % file.slots, (now + 1) % file.slots, head % file.slots,
+        (head - 1) % file.slots, file.last_slot() % file.slots,
+        file.slots - 1, file.slots, 65535, dice.below(65536),
+        dice.below(file.slots), 256 + dice.below(file.slots)])
+    return records.credit(flow, position)
+
+
+def broken_record(dice, file):
+    """An unknown kind or a nonzero filler."""
+    choice = dice.below(3)
+    if choice == 0:
+        return bytes([dice.pick([0, 4, 5, 128, 255, dice.between(4, 255)])]
+                     ) + dice.data(4)
+    if choice == 1:
+        return records.credit(dice.below(file.flows + 1), dice.below(file.slots),
+                              filler=dice.pick([1, 255, dice.between(1, 255)]))
+    record = bytearray(records.TICK)
+    record[dice.between(1, 4)] = dice.between(1, 255)
+    return bytes(record)
+
+
+def odd_call(dice, file):
+    file.record(dice.pick([odd_word, odd_credit, broken_record])(dice, file))
+
+
+# ----------------------------------------------------- dense flights
+
+def dense_file(dice, calls):
+    """Bursts of 16 flows into a full frame; cells come back late."""
+    file = CallFile(plans.dense_plan(dice))
+    delay = dice.pick([0, 5, 40, 130])
+    waiting = []                # (slot at which the credit is sent, flow)
+    while file.calls() < calls:
+        flow = dice.below(file.flows)
+        for _ in range(dice.between(1, 8)):
+            file.ask(flow)
+        steps = dice.pick([0, 0, 1, 2, 4, 9])
+        if dice.chance(2):
+            steps = 64
+        for _ in range(steps):
+            came = file.tick()
+            if came is not None:
+                waiting.append((file.now() + dice.between(0, delay), came))
+        while waiting and waiting[0][0] <= file.now():
+            _, flow = waiting.pop(0)
+            file.give(flow, file.date(file.now() + dice.between(1, 30)))
+    return file
+
+
+def full_file(dice, calls):
+    """One flow with the whole frame; holdings up to 255."""
+    frame_slots, window_frames = dice.pick([(64, 4), (32, 8), (51, 5), (64, 3)])
+    cells = dice.pick([255, 255, 254, 128, 200])
+    file = CallFile(plans.Draft(frame_slots, window_frames,
+                                [[frame_slots, cells, 1, 2]]))
+    held = 0
+    while file.calls() < calls:
+        for _ in range(dice.pick([1, 20, 300])):
+            if file.ask(0) is None:
+                break
+        for _ in range(dice.pick([1, 5, 64])):
+            held += file.tick() is not None
+        back = dice.between(0, min(held, 40))
+        for _ in range(back):
+            held -= file.give(0, file.date(file.now() + dice.between(1, 80)))
+    return file
+
+
+# ------------------------------------------------------- late credits
+
+def late_file(dice, calls):
+    """Few cells, and credits dated well after the slot they are for."""
+    def few(share):
+        return dice.between(1, 2 + share)
+    file = CallFile(plans.any_plan(dice, cells=few))
+    out = [[] for _ in range(file.flows)]
+    while file.calls() < calls:
+        flow = dice.below(file.flows)
+        for _ in range(dice.between(1, 3)):
+            slot = file.ask(flow)
+            if slot is not None:
+                out[flow].append(slot)
+        if dice.chance(60) and out[flow]:
+            slot = out[flow].pop(dice.below(len(out[flow])))
+            late = dice.between(0, file.slots)
+            if file.give(flow, file.date(slot + late)) and dice.chance(30):
+                # Once more, dated earlier: may be taken only if the flow
+                # still holds a cell at every later slot.
+                file.give(flow, file.later_slot(dice))
+        if dice.chance(10):
+            file.give(flow, file.later_slot(dice))
+        for _ in range(dice.pick([0, 0, 1, 2, file.plan.frame_slots])):
+            file.tick()
+    return file
+
+
+# ------------------------------------------------------- small frames
+
+def small_file(dice, calls):
+    """F of 1 to 3 and windows of 2 to 8 frames; any mix of calls."""
+    file = CallFile(plans.small_plan(dice))
+    asks = dice.between(20, 60)
+    gives = dice.between(5, 30)
+    odds = dice.pick([0, 0, 5])
+    while file.calls() < calls:
+        lot = dice.below(100)
+        if lot < asks:
+            file.ask(dice.below(file.flows))
+        elif lot < asks + gives:
+            file.give(dice.below(file.flows), file.later_slot(dice))
+        elif lot < asks + gives + odds:
+            odd_call(dice, file)
+        else:
+            file.tick()
+    return file
+
+
+# -------------------------------------------------------- tight stream
+
+class Stream:
+    """A flow that asks until refused in every frame.
+
+    A cell is free again `stay` slots after the slot it was taken for.  Its
+    credit is given as soon as that date lies in the window.
+    """
+
+    def __init__(self, file, flow, stay):
+        self.file = file
+        self.flow = flow
+        self.stay = stay
+        self.dates = []
+
+    def settle(self):
+        """Give the credits whose dates have come into the window."""
+        last = self.file.last_slot()
+        for date in [date for date in self.dates if date <= last]:
+            self.file.give(self.flow, self.file.date(date))
+        self.dates = [date for date in self.dates if date > last]
+
+    def ask(self):
+        self.settle()
+        slot = self.file.ask(self.flow)
+        if slot is not None:
+            self.dates.append(slot + self.stay)
+        return slot
+
+    def ask_until_refused(self):
+        while self.ask() is not None:
+            pass
+
+
+def tight_plan(dice, stay):
+    """Cells for all grants of any `stay` slots in a row, and one to spare."""
+    frame_slots, window_frames = any_tight_frame(dice)
+    flows = dice.between(1, min(8, frame_slots))
+    frames = (stay - 1 + frame_slots - 1) // frame_slots + 1
+    spare = 0 if dice.chance(15) else 1
+    return plans.draft(dice, frame_slots, window_frames, flows,
+                       lambda share: min(stay, share * frames) + spare)
+
+
+def any_tight_frame(dice):
+    if dice.chance(50):
+        return dice.between(1, 6), dice.between(2, 8)
+    return plans.any_frame(dice)
+
+
+def tight_frame(dice, file, streams, first):
+    """One frame: each stream asks until refused at some slot of it."""
+    when = [dice.below(file.plan.frame_slots) for _ in streams]
+    crowd = dice.pick([0, 10, 40])
+    for offset in range(file.plan.frame_slots):
+        if offset or not first:
+            file.tick()
+        for stream, slot in zip(streams, when):
+            if offset == slot:
+                stream.ask_until_refused()
+            elif dice.chance(5):
+                stream.ask()
+        if dice.chance(crowd):
+            odd_call(dice, file)
+        elif dice.chance(crowd):
+            file.ask(dice.below(file.flows))
+
+
+def tight_file(dice, calls):
+    stay = dice.pick([1, 1, 2, 3, 5, 8])
+    file = CallFile(tight_plan(dice, stay))
+    flows = list(range(file.flows))
+    dice.shuffle(flows)
+    chosen = flows[:dice.between(1, file.flows)]
+    streams = [Stream(file, flow, stay) for flow in chosen]
+    tight_frame(dice, file, streams, first=True)
+    frames = 1
+    while file.calls() < calls or frames < 4:
+        tight_frame(dice, file, streams, first=False)
+        frames += 1
+    return file
+
+
+# ----------------------------------------------------- mixed and wild
+
+def mixed_file(dice, calls):
+    """Any plan and any calls, most of them well formed."""
+    file = CallFile(plans.any_plan(dice))
+    weights = [dice.between(1, 9) for _ in range(5)]
+    acts = [kind for kind in range(5) for _ in range(weights[kind])]
+    while file.calls() < calls:
+        act = dice.pick(acts)
+        flow = dice.below(file.flows)
+        if act == 0:
+            file.ask(flow, departure=dice.below(file.slots))
+        elif act == 1:
+            for _ in range(dice.between(2, 12)):
+                file.ask(flow)
+        elif act == 2:
+            file.give(flow, file.later_slot(dice))
+        elif act == 3:
+            for _ in range(dice.between(1, 6)):
+                file.tick()
+        else:
+            odd_call(dice, file)
+    return file
+
+
+def wild_file(dice, calls):
+    """Mostly odd words and credits, on a link that goes on working."""
+    file = CallFile(plans.any_plan(dice))
+    while file.calls() < calls:
+        for _ in range(dice.between(1, 4)):
+            odd_call(dice, file)
+        if dice.chance(50):
+            file.ask(dice.below(file.flows), departure=dice.below(file.slots))
+        if dice.chance(30):
+            file.tick()
+    return file
+
+
+# --------------------------------------------------- noise and tails
+
+def noise_file(dice, calls):
+    """Random bytes after a good plan, many with a known kind in front."""
+    file = CallFile(plans.any_plan(dice))
+    known = dice.pick([0, 50, 90])
+    for _ in range(calls):
+        record = bytearray(dice.data(5))
+        if dice.chance(known):
+            record[0] = dice.between(1, 3)
+        if dice.chance(known):
+            record[4] = 0
+        file.record(bytes(record))
+    file.parts.append(dice.data(dice.below(5)))
+    return file
+
+
+def tail_file(dice, calls):
+    """Good calls, then a last record of 1 to 4 bytes."""
+    file = mixed_file(dice, dice.pick([0, 0, 1, 20]))
+    last = dice.pick([records.TICK, odd_credit(dice, file),
+                      odd_word(dice, file), dice.data(5)])
+    file.parts.append(last[:dice.between(1, 4)])
+    return file
+
+
+# ------------------------------------------------------------- plans
+
+class Bytes:
+    """A file that is bytes from the start."""
+
+    def __init__(self, data):
+        self._data = data
+
+    def data(self):
+        return self._data
+
+
+def plan_file(dice, damages):
+    """A damaged plan, with some calls after it in case it is accepted."""
+    plan = plans.any_plan(dice)
+    for _, damage in damages:
+        damage(plan, dice)
+    calls = [records.TICK, records.credit(0, 1)]
+    calls += [records.request(plan.entries[0][3] & 63, 0)] * dice.below(4)
+    if plan.keep is not None:       # a cut plan is the end of the file
+        calls = []
+    return Bytes(plan.data() + b"".join(calls))
