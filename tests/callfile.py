@@ -19,6 +19,8 @@ class CallFile:
         self.flows = self.plan.flows
         self.slots = self.plan.slots
         self.quantum = [0] * self.flows
+        # Granted slots of each flow, in the order of the grants.
+        self.grants = [[] for _ in range(self.flows)]
 
     def data(self):
         return b"".join(self.parts)
@@ -28,7 +30,11 @@ class CallFile:
 
     def record(self, record):
         self.parts.append(record)
-        return answer(self.link, record)
+        letter, number = answer(self.link, record)
+        if letter == "G":
+            flow = int.from_bytes(record[1:5], "little") >> 20 & 63
+            self.grants[flow].append(self.link.slot_of(number))
+        return letter, number
 
     # ---- well-formed calls
 
@@ -41,7 +47,7 @@ class CallFile:
         if letter == "R":
             return None
         self.quantum[flow] = (self.quantum[flow] + 1) % 1024
-        return self.link.slot_of(number)
+        return self.grants[flow][-1]
 
     def give(self, flow, slot):
         """A credit dated a slot.  Whether it was taken."""

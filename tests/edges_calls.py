@@ -9,7 +9,7 @@ REFUSALS = [
     # Flow before destination before departure; nothing of it changes the
     # link, so the next good request gets what a fresh link gives.
     edge("refusals 8 to 10 in order", BASE,
-         (ask(2), "R 8"), (ask(63), "R 8"),
+         (ask(2), "R 8"), (ask(32), "R 8"), (ask(63), "R 8"),
          (ask(2, to=8, departure=8), "R 8"),
          (ask(0, to=8), "R 9"), (ask(0, to=10), "R 9"),
          (ask(1, to=8, departure=8), "R 9"),
@@ -79,6 +79,15 @@ REQUESTS = [
          (ask(0), "G 0"),           # slot 8, newest
          (ask(0), "R 11")),
 
+    # The same where C was not used up: the rest of frame 0 is lost, and
+    # frame 1 has the whole share of 2.
+    edge("a rest of C is lost at a frame change", plan(4, 2, (2, 9)),
+         (ask(0), "G 1"),           # C is 1
+         (TICK, "T 0"), (TICK, "T -"), (TICK, "T -"), (TICK, "T -"),
+         (ask(0), "G 5"), (ask(0), "G 6"),
+         (ask(0), "G 0"), (ask(0), "G 1"),      # slots 8 and 9
+         (ask(0), "R 11")),
+
     # A flow that is already ahead of the old head keeps its frame and C.
     edge("C is kept by a flow that is ahead", plan(4, 2, (2, 8)),
          (ask(0), "G 1"), (ask(0), "G 2"), (ask(0), "G 4"),
@@ -126,6 +135,12 @@ CREDITS = [
          (credit(0, 1), "C"),
          (credit(0, 1), "R 15"),
          (ask(0), "G 4")),          # 12 left IF at frame 1
+
+    # Each flow has cells of its own: flow 0's credit leaves flow 1's cell.
+    edge("a credit is for one flow", BASE,
+         (ask(0), "G 1"), (ask(1), "G 2"),
+         (credit(0, 3), "C"), (credit(0, 3), "R 15"),
+         (credit(1, 3), "C"), (credit(1, 3), "R 15")),
 
     # Dated before the grant there is nothing held yet.
     edge("a credit dated before the grant", BASE,

@@ -7,19 +7,21 @@ from dice import Dice
 # One round of seeds; a "plan" entry is a damaged plan.
 ROUND = (
     "dense", "plan", "late", "small", "plan", "tight", "wild", "plan",
-    "mixed", "noise", "plan", "tight", "late", "plan", "full", "small",
-    "plan", "tight", "tail", "plan",
+    "mixed", "noise", "plan", "tight", "late", "plan", "full", "turns",
+    "plan", "tight", "tail", "plan", "small", "tight",
 )
 # Every 25th seed makes a long file, of these kinds in turn.
 LONG_EVERY = 25
-LONG = ("dense", "tight", "late", "mixed", "small", "full")
+LONG = ("dense", "tight", "late", "turns", "mixed", "small", "full")
 LONG_CALLS = 20000
+TURNS_CALLS = 100000            # for "turns": more than 65,536 ticks
 
 MAKERS = {
     "dense": (kinds.dense_file, 600, 3000),
     "full": (kinds.full_file, 400, 2000),
     "late": (kinds.late_file, 200, 2000),
     "small": (kinds.small_file, 50, 1200),
+    "turns": (kinds.turns_file, 100, 1500),
     "tight": (kinds.tight_file, 50, 1500),
     "mixed": (kinds.mixed_file, 100, 1500),
     "wild": (kinds.wild_file, 100, 600),
@@ -54,6 +56,7 @@ def generate(seed):
         return kinds.plan_file(dice, chosen_damages(dice, seed)).data()
     if kind.startswith("long "):
         maker = MAKERS[kind[5:]][0]
-        return maker(dice, LONG_CALLS + dice.below(5000)).data()
+        fewest = TURNS_CALLS if kind == "long turns" else LONG_CALLS
+        return maker(dice, fewest + dice.below(5000)).data()
     maker, fewest, most = MAKERS[kind]
     return maker(dice, dice.between(fewest, most)).data()

@@ -49,8 +49,9 @@ def broken_record(dice, file):
     """An unknown kind or a nonzero filler."""
     choice = dice.below(3)
     if choice == 0:
-        return bytes([dice.pick([0, 4, 5, 128, 255, dice.between(4, 255)])]
-                     ) + dice.data(4)
+        kind = dice.pick([0, 4, 5, 128, 255, dice.between(4, 255)])
+        rest = dice.pick([bytes(4), dice.data(4), odd_credit(dice, file)[1:]])
+        return bytes([kind]) + rest
     if choice == 1:
         return records.credit(dice.below(file.flows + 1), dice.below(file.slots),
                               filler=dice.pick([1, 255, dice.between(1, 255)]))
@@ -168,10 +169,14 @@ class Stream:
         self.file = file
         self.flow = flow
         self.stay = stay
-        self.dates = []
+        self.dates = []             # of credits still to give
+        self.noted = 0              # grants whose date stands there
 
     def settle(self):
         """Give the credits whose dates have come into the window."""
+        grants = self.file.grants[self.flow]
+        self.dates += [slot + self.stay for slot in grants[self.noted:]]
+        self.noted = len(grants)
         last = self.file.last_slot()
         for date in [date for date in self.dates if date <= last]:
             self.file.give(self.flow, self.file.date(date))
@@ -179,10 +184,7 @@ class Stream:
 
     def ask(self):
         self.settle()
-        slot = self.file.ask(self.flow)
-        if slot is not None:
-            self.dates.append(slot + self.stay)
-        return slot
+        return self.file.ask(self.flow)
 
     def ask_until_refused(self):
         while self.ask() is not None:
@@ -220,7 +222,9 @@ def tight_frame(dice, file, streams, first):
         if dice.chance(crowd):
             odd_call(dice, file)
         elif dice.chance(crowd):
-            file.ask(dice.below(file.flows))
+            flow = dice.below(file.flows)
+            if all(flow != stream.flow for stream in streams):
+                file.ask(flow)
 
 
 def tight_file(dice, calls):
@@ -235,6 +239,23 @@ def tight_file(dice, calls):
     while file.calls() < calls or frames < 4:
         tight_frame(dice, file, streams, first=False)
         frames += 1
+    return file
+
+
+# --------------------------------------------------------- many turns
+
+def turns_file(dice, calls):
+    """Mostly ticks: the window goes round again and again, with few calls
+    in between."""
+    file = CallFile(plans.any_plan(dice))
+    while file.calls() < calls:
+        flow = dice.below(file.flows)
+        for _ in range(dice.between(0, 3)):
+            file.ask(flow)
+        for _ in range(dice.below(2 * file.plan.frame_slots)):
+            came = file.tick()
+            if came is not None:
+                file.give(came, file.later_slot(dice))
     return file
 
 
