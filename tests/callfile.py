@@ -39,7 +39,7 @@ class CallFile:
     # ---- well-formed calls
 
     def ask(self, flow, departure=None):
-        """A request with the flow's next quantum.  The slot granted or None."""
+        """A request with the flow's next quantum.  The slot, or None."""
         if departure is None:
             departure = self.link.ticks % self.slots
         letter, number = self.record(records.request(

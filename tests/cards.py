@@ -37,7 +37,8 @@ CARDS = [
           (ask(0), "G 2"), (ask(0), "G 3")), "more than its share in frame 1"),
     # (W + k) x share = 2 with k = 0; position 0 is slot 4, in frame 2.
     (edge("grants more than the most", ONE,
-          (ask(0), "G 1"), (ask(0), "G 2"), (ask(0), "G 0")), "above the most"),
+          (ask(0), "G 1"), (ask(0), "G 2"), (ask(0), "G 0")),
+     "above the most"),
     (edge("grants the current position", ONE,
           (ask(0), "G 0")), "slot 4 is not below t + T"),
     (edge("grants a position past T", ONE,

@@ -222,7 +222,8 @@ def check(data, lines):
     verdict = Verdict()
     if not lines or lines[0] != "P 0":
         if len(lines) != 1:
-            verdict.faults.append("a refused plan needs one line")
+            verdict.faults.append("the plan was not accepted, and %d lines"
+                                  % len(lines))
         return verdict
     if not countable(data):
         verdict.faults.append("accepted a plan that has no slots or flows")

@@ -1,7 +1,8 @@
 """Call files from seeds: the same seed gives the same bytes everywhere."""
 
+import damage
 import kinds
-import plans
+import tight
 from dice import Dice
 
 # One round of seeds; a "plan" entry is a damaged plan.
@@ -22,7 +23,7 @@ MAKERS = {
     "late": (kinds.late_file, 200, 2000),
     "small": (kinds.small_file, 50, 1200),
     "turns": (kinds.turns_file, 100, 1500),
-    "tight": (kinds.tight_file, 50, 1500),
+    "tight": (tight.tight_file, 50, 1500),
     "mixed": (kinds.mixed_file, 100, 1500),
     "wild": (kinds.wild_file, 100, 600),
     "noise": (kinds.noise_file, 0, 400),
@@ -44,8 +45,8 @@ def chosen_damages(dice, seed):
             + ROUND[:seed % len(ROUND)].count("plan"))
     if turn % 3 < 2:
         single = turn // 3 * 2 + turn % 3
-        return [plans.SINGLE[single % len(plans.SINGLE)]]
-    return plans.two_damages(dice)
+        return [damage.SINGLE[single % len(damage.SINGLE)]]
+    return damage.two_damages(dice)
 
 
 def generate(seed):

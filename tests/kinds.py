@@ -6,62 +6,7 @@ Each kind takes the dice and about how many calls to write, and gives a file.
 import plans
 import records
 from callfile import CallFile
-
-
-# ----------------------------------------------------------- odd calls
-
-def odd_word(dice, file):
-    """A request with one or two fields off, or any 32 bits at all."""
-    if dice.chance(20):
-        return b"\x01" + dice.data(4)
-    flow = dice.below(file.flows)
-    destination = file.plan.destination(flow)
-    departure = dice.pick([0, file.slots - 1, dice.below(file.slots)])
-    for _ in range(dice.between(1, 2)):
-        fault = dice.below(3)
-        if fault == 0:
-            flow = dice.pick([file.flows, 63, dice.below(64)])
-        elif fault == 1:
-            destination = dice.below(64)
-        else:
-            departure = dice.pick([file.slots, 1023, file.slots - 1,
-                                   dice.below(1024)])
-    return records.request(destination, min(flow, 63), dice.below(1024),
-                           min(departure, 1023))
-
-
-def odd_credit(dice, file):
-    """A credit at a border: of the flows, of T, of the head frame."""
-    flow = dice.below(file.flows)
-    if dice.chance(25):
-        flow = dice.pick([file.flows, 63, 64, 255, dice.below(256)])
-    now = file.now()
-    head = now - now % file.plan.frame_slots
-    position = dice.pick([
-        now % file.slots, (now + 1) % file.slots, head % file.slots,
-        (head - 1) % file.slots, file.last_slot() % file.slots,
-        file.slots - 1, file.slots, 65535, dice.below(65536),
-        dice.below(file.slots), 256 + dice.below(file.slots)])
-    return records.credit(flow, position)
-
-
-def broken_record(dice, file):
-    """An unknown kind or a nonzero filler."""
-    choice = dice.below(3)
-    if choice == 0:
-        kind = dice.pick([0, 4, 5, 128, 255, dice.between(4, 255)])
-        rest = dice.pick([bytes(4), dice.data(4), odd_credit(dice, file)[1:]])
-        return bytes([kind]) + rest
-    if choice == 1:
-        return records.credit(dice.below(file.flows + 1), dice.below(file.slots),
-                              filler=dice.pick([1, 255, dice.between(1, 255)]))
-    record = bytearray(records.TICK)
-    record[dice.between(1, 4)] = dice.between(1, 255)
-    return bytes(record)
-
-
-def odd_call(dice, file):
-    file.record(dice.pick([odd_word, odd_credit, broken_record])(dice, file))
+from odd_calls import odd_call, odd_credit, odd_word
 
 
 # ----------------------------------------------------- dense flights
@@ -90,7 +35,8 @@ def dense_file(dice, calls):
 
 def full_file(dice, calls):
     """One flow with the whole frame; holdings up to 255."""
-    frame_slots, window_frames = dice.pick([(64, 4), (32, 8), (51, 5), (64, 3)])
+    frame_slots, window_frames = dice.pick(
+        [(64, 4), (32, 8), (51, 5), (64, 3)])
     cells = dice.pick([255, 255, 254, 128, 200])
     file = CallFile(plans.Draft(frame_slots, window_frames,
                                 [[frame_slots, cells, 1, 2]]))
@@ -153,92 +99,6 @@ def small_file(dice, calls):
             odd_call(dice, file)
         else:
             file.tick()
-    return file
-
-
-# -------------------------------------------------------- tight stream
-
-class Stream:
-    """A flow that asks until refused in every frame.
-
-    A cell is free again `stay` slots after the slot it was taken for.  Its
-    credit is given as soon as that date lies in the window.
-    """
-
-    def __init__(self, file, flow, stay):
-        self.file = file
-        self.flow = flow
-        self.stay = stay
-        self.dates = []             # of credits still to give
-        self.noted = 0              # grants whose date stands there
-
-    def settle(self):
-        """Give the credits whose dates have come into the window."""
-        grants = self.file.grants[self.flow]
-        self.dates += [slot + self.stay for slot in grants[self.noted:]]
-        self.noted = len(grants)
-        last = self.file.last_slot()
-        for date in [date for date in self.dates if date <= last]:
-            self.file.give(self.flow, self.file.date(date))
-        self.dates = [date for date in self.dates if date > last]
-
-    def ask(self):
-        self.settle()
-        return self.file.ask(self.flow)
-
-    def ask_until_refused(self):
-        while self.ask() is not None:
-            pass
-
-
-def tight_plan(dice, stay):
-    """Cells for all grants of any `stay` slots in a row, and one to spare."""
-    frame_slots, window_frames = any_tight_frame(dice)
-    flows = dice.between(1, min(8, frame_slots))
-    frames = (stay - 1 + frame_slots - 1) // frame_slots + 1
-    spare = 0 if dice.chance(15) else 1
-    return plans.draft(dice, frame_slots, window_frames, flows,
-                       lambda share: min(stay, share * frames) + spare)
-
-
-def any_tight_frame(dice):
-    if dice.chance(50):
-        return dice.between(1, 6), dice.between(2, 8)
-    return plans.any_frame(dice)
-
-
-def tight_frame(dice, file, streams, first):
-    """One frame: each stream asks until refused at some slot of it."""
-    when = [dice.below(file.plan.frame_slots) for _ in streams]
-    crowd = dice.pick([0, 10, 40])
-    for offset in range(file.plan.frame_slots):
-        if offset or not first:
-            file.tick()
-        for stream, slot in zip(streams, when):
-            if offset == slot:
-                stream.ask_until_refused()
-            elif dice.chance(5):
-                stream.ask()
-        if dice.chance(crowd):
-            odd_call(dice, file)
-        elif dice.chance(crowd):
-            flow = dice.below(file.flows)
-            if all(flow != stream.flow for stream in streams):
-                file.ask(flow)
-
-
-def tight_file(dice, calls):
-    stay = dice.pick([1, 1, 2, 3, 5, 8])
-    file = CallFile(tight_plan(dice, stay))
-    flows = list(range(file.flows))
-    dice.shuffle(flows)
-    chosen = flows[:dice.between(1, file.flows)]
-    streams = [Stream(file, flow, stay) for flow in chosen]
-    tight_frame(dice, file, streams, first=True)
-    frames = 1
-    while file.calls() < calls or frames < 4:
-        tight_frame(dice, file, streams, first=False)
-        frames += 1
     return file
 
 

@@ -8,7 +8,8 @@ import tempfile
 import termios
 import time
 
-LIMIT = 60              # seconds for one file
+LIMIT = 20              # seconds for one file
+NO_END = "no end after %d seconds" % LIMIT
 
 
 class Played:
@@ -38,9 +39,10 @@ def run_program(program, source):
         done = subprocess.run([program], stdin=source, timeout=LIMIT,
                               stdout=subprocess.PIPE, stderr=subprocess.PIPE)
     except subprocess.TimeoutExpired:
-        return Played(b"", "no end after %d seconds" % LIMIT, LIMIT)
+        return Played(b"", NO_END, LIMIT)
     seconds = time.perf_counter() - start
-    return Played(done.stdout, trouble_of(done.returncode, done.stderr), seconds)
+    trouble = trouble_of(done.returncode, done.stderr)
+    return Played(done.stdout, trouble, seconds)
 
 
 def play(program, data):
@@ -76,7 +78,8 @@ def feed(process, pipe, data, size):
 def play_in_pieces(program, data, size):
     """Play a call file through a pipe, `size` bytes at a time."""
     start = time.perf_counter()
-    with tempfile.TemporaryFile() as output, tempfile.TemporaryFile() as errors:
+    with tempfile.TemporaryFile() as output, \
+            tempfile.TemporaryFile() as errors:
         process = subprocess.Popen([program], stdin=subprocess.PIPE,
                                    stdout=output, stderr=errors, bufsize=0)
         feed(process, process.stdin.fileno(), data, size)
@@ -87,7 +90,7 @@ def play_in_pieces(program, data, size):
         except subprocess.TimeoutExpired:
             process.kill()
             process.wait()
-            trouble = "no end after %d seconds" % LIMIT
+            trouble = NO_END
         output.seek(0)
         errors.seek(0)
         listing, complaint = output.read(), errors.read()

@@ -12,6 +12,7 @@ from simulator import simulate
 NUMBERS = range(1, 17)          # document 01's refusals
 PIECES = (1, 2, 3, 4, 7, 64)    # bytes at a time
 FEW = 4000                      # bytes of a file that is fed in pieces
+PATIENCE = 3                    # runs without end, then the rest is left out
 
 
 def first_difference(expected, got):
@@ -24,7 +25,8 @@ def first_difference(expected, got):
         have = found[place] if place < len(found) else None
         if want != have:
             break
-    return "line %d: expected %s, got %s" % (place + 1, shown(want), shown(have))
+    return "line %d: expected %s, got %s" % (
+        place + 1, shown(want), shown(have))
 
 
 def shown(text):
@@ -41,6 +43,10 @@ def as_lines(output):
     return output.decode("latin-1").splitlines()
 
 
+class GaveUp(Exception):
+    """The program did not end too often."""
+
+
 class Suite:
     def __init__(self, program):
         self.program = program
@@ -53,6 +59,7 @@ class Suite:
         self.met_later = 0          # the same with k of 2 and more
         self.largest_k = -1         # over all runs, the edges' too
         self.seen = set()           # refusal numbers in the listings
+        self.without_end = 0
         self.start = time.perf_counter()
 
     def test(self, name, *troubles):
@@ -75,6 +82,9 @@ class Suite:
         fault = verdict.faults and "demand 3, " + verdict.faults[0]
         self.test(name, first_difference(expected, played.output),
                   played.trouble, fault, *more)
+        self.without_end += played.trouble == play.NO_END
+        if self.without_end >= PATIENCE:
+            raise GaveUp
         return verdict
 
     def play_edge(self, edge):
@@ -129,7 +139,7 @@ class Suite:
 
     def summary(self, name):
         seconds = time.perf_counter() - self.start
-        speed = self.calls / self.program_seconds if self.program_seconds else 0
+        speed = self.calls / max(self.program_seconds, 1e-9)
         print("%s: %d edges, %d files, %d calls, %d calls a second"
               % (name, len(EDGES), self.files, self.calls, speed))
         print("premise of the least count met by %d files, by %d with k of 2 "
@@ -146,8 +156,7 @@ def small_files(seed):
         seed += 1
 
 
-def run_all(program, count, seed, name):
-    suite = Suite(program)
+def play_all(suite, count, seed):
     for edge in EDGES:
         suite.play_edge(edge)
     suite.play_cards()
@@ -155,5 +164,14 @@ def run_all(program, count, seed, name):
     for number in range(seed, seed + count):
         suite.play_seed(number)
     suite.totals()
+
+
+def run_all(program, count, seed, name):
+    """Play everything; how many tests passed and how many failed."""
+    suite = Suite(program)
+    try:
+        play_all(suite, count, seed)
+    except GaveUp:
+        print("gave up: %d runs without end" % PATIENCE)
     suite.summary(name)
     return suite.passed, suite.failed
