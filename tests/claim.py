@@ -61,7 +61,7 @@ class Run:
         self.verdict.faults.append("line %d: %s" % (self.place, text))
 
     def slot_after_now(self, position):
-        """The first slot after the current one that has this position."""
+        """Where this position comes next."""
         return self.now + 1 + (position - self.now - 1) % self.total
 
     def levels(self, flow):
@@ -87,7 +87,7 @@ class Run:
                 return
 
     def check_owner(self, flow, slot, position):
-        """No two grants of one slot, and each below t + T."""
+        """A slot has one owner, and lies less than T after the current."""
         if position >= self.total:
             self.fault("granted position %d is not below T" % position)
         if slot >= self.now + self.total:
@@ -170,7 +170,7 @@ class Run:
         self.move(flow, self.slot_after_now(position), -1)
 
     def tick(self, number):
-        """Tick number s answers the flow that was granted slot s."""
+        """A slot comes up for its owner, or idle if it has none."""
         self.now += 1
         expected = str(self.owner.get(self.now, "-"))
         if number != expected:

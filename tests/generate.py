@@ -5,14 +5,13 @@ import kinds
 import tight
 from dice import Dice
 
-# One round of seeds; a "plan" entry is a damaged plan.
+# One round of seeds.  "plan" is a damaged plan; "long" is a long file, of
+# the kinds in LONG by turn.
 ROUND = (
     "dense", "plan", "late", "small", "plan", "tight", "wild", "plan",
     "mixed", "noise", "plan", "tight", "late", "plan", "full", "turns",
-    "plan", "tight", "tail", "plan", "small", "tight",
+    "plan", "tight", "tail", "plan", "small", "tight", "long",
 )
-# Every 25th seed makes a long file, of these kinds in turn.
-LONG_EVERY = 25
 LONG = ("dense", "tight", "late", "turns", "mixed", "small", "full")
 LONG_CALLS = 20000
 TURNS_CALLS = 100000            # for "turns": more than 65,536 ticks
@@ -33,9 +32,10 @@ MAKERS = {
 
 def kind_of(seed):
     """The name of the kind of file that a seed makes."""
-    if seed % LONG_EVERY == LONG_EVERY - 1:
-        return "long " + LONG[seed // LONG_EVERY % len(LONG)]
-    return ROUND[seed % len(ROUND)]
+    kind = ROUND[seed % len(ROUND)]
+    if kind == "long":
+        return "long " + LONG[seed // len(ROUND) % len(LONG)]
+    return kind
 
 
 def chosen_damages(dice, seed):

@@ -31,8 +31,8 @@ class Link:
         return self.head_frame() + self.plan.window_frames - 1
 
     def slot_of(self, position):
-        """Doc 01, What demand 3 counts, on slots: the first slot after the
-        current one whose number modulo T is the position."""
+        """Where the position comes next.  Doc 01, What demand 3 counts, on
+        the slot that a position means."""
         slot = self.ticks - self.ticks % self.plan.slots + position
         return slot if slot > self.ticks else slot + self.plan.slots
 

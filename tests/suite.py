@@ -11,6 +11,8 @@ from simulator import simulate
 
 NUMBERS = range(1, 17)          # document 01's refusals
 PIECES = (1, 2, 3, 4, 7, 64)    # bytes at a time
+PIECED = ("the listing of document 01", "a last record of 3 bytes",
+          "plan: 19 bytes that say 20")
 FEW = 4000                      # bytes of a file that is fed in pieces
 PATIENCE = 3                    # runs without end, then the rest is left out
 
@@ -118,14 +120,12 @@ class Suite:
             self.test("card: " + name, wrong)
 
     def all_pieces(self, seed):
-        """Three edges and some small generated files, in pieces."""
-        small = [edge for edge in EDGES if edge.name in (
-            "the listing of document 01", "a last record of 3 bytes",
-            "plan: 19 bytes that say 20")]
+        """Some edges and some small generated files, in pieces."""
+        named = {edge.name: edge for edge in EDGES}
         for size in PIECES:
-            for edge in small:
-                self.play_pieces("edge: " + edge.name, edge.data,
-                                 edge.lines, size)
+            for name in PIECED:
+                self.play_pieces("edge: " + name, named[name].data,
+                                 named[name].lines, size)
         for size, (name, data) in zip(PIECES, small_files(seed)):
             self.play_pieces(name, data, simulate(data), size)
 
