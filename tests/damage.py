@@ -31,6 +31,10 @@ def add_to_flows(step):
     return change
 
 
+def no_flows(plan, dice):
+    plan.entries = []
+
+
 def cut(plan, dice):
     plan.keep = dice.below(12 + 4 * len(plan.entries))
 
@@ -39,6 +43,11 @@ def frame_over(plan, dice):
     """F and W in their ranges, T just above 256."""
     plan.frame_slots, plan.window_frames = dice.pick(
         [(64, 5), (52, 5), (43, 6), (37, 7), (33, 8), (64, 8)])
+
+
+def frame_long(plan, dice):
+    """F one too many, T in its range."""
+    plan.frame_slots, plan.window_frames = 65, dice.between(2, 3)
 
 
 def frame_full(plan, dice):
@@ -85,6 +94,15 @@ def shares_add_to(step):
     return change
 
 
+def shares_of_256(plan, dice):
+    """Shares of 64 that add to a multiple of 256."""
+    more_flows(plan, 4 * dice.between(1, 4))
+    del plan.entries[len(plan.entries) // 4 * 4:]
+    plan.frame_slots, plan.window_frames = 64, dice.between(2, 4)
+    for entry in plan.entries:
+        entry[0] = 64
+
+
 def cells_add_to(step):
     """Cells that add to N plus the step."""
     def change(plan, dice):
@@ -129,19 +147,21 @@ DAMAGES = {
         + [("longer by %d" % step, add_to_length(step)) for step in (1, 3, 4)]
         + [("shorter by %d" % step, add_to_length(-step)) for step in (1, 4)]
         + field("flows", 0, 17, 256, 257, 65535)
+        + [("no flows", no_flows)]
         + [("one flow more", add_to_flows(1)),
            ("one flow less", add_to_flows(-1)),
            ("256 flows more", add_to_flows(256))]
         + field("offset", 0, 11, 13, 16, 268, 65535)),
-    3: (field("frame_slots", 0, 65, 257, 65535)
+    3: (field("frame_slots", 0, 257, 65535)
         + field("window_frames", 0, 1, 9, 258, 65535)
         + field("buffer", 0, 4096, 65535)
-        + [("T over", frame_over)]),
+        + [("T over", frame_over), ("F over", frame_long)]),
     4: (entry_byte(0, 0, 255) + entry_byte(1, 0)
         + entry_byte(2, 64, 255) + entry_byte(3, 64, 255)
         + [("share over F", share_over), ("same ends", same_ends)]),
     5: [("pair again", pair_again)],
-    6: [("shares add to F + 1", shares_add_to(1))],
+    6: [("shares add to F + 1", shares_add_to(1)),
+        ("shares of 64", shares_of_256)],
     7: [("cells add to N + 1", cells_add_to(1))],
 }
 SINGLE = [damage for group in sorted(DAMAGES) for damage in DAMAGES[group]]

@@ -12,6 +12,8 @@ class Dice:
 
     def below(self, limit):
         """A number from 0 to limit - 1."""
+        if limit < 1:
+            raise ValueError("nothing to choose from")
         width = max(1, (limit - 1).bit_length())
         while True:
             number = self._bits(width)

@@ -50,7 +50,8 @@ REFUSALS = [
     # Kinds other than 1 to 3, and fillers, before any test of the call.
     edge("refusal 16", BASE,
          (bytes([0, 0, 0, 0, 0]), "R 16"), (bytes([4, 0, 0, 0, 0]), "R 16"),
-         (bytes([255, 0, 0, 0, 36]), "R 16"),
+         (bytes([255, 0, 0, 0, 36]), "R 16"), (b"\x05" + ask(0)[1:], "R 16"),
+         (b"\x06" + credit(0, 1)[1:], "R 16"), (b"\x07" + TICK[1:], "R 16"),
          (credit(0, 1, filler=1), "R 16"),
          (credit(9, 99, filler=255), "R 16"),
          (bytes([3, 1, 0, 0, 0]), "R 16"), (bytes([3, 0, 1, 0, 0]), "R 16"),

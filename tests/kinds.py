@@ -201,7 +201,8 @@ def plan_file(dice, damages):
     for _, damage in damages:
         damage(plan, dice)
     calls = [records.TICK, records.credit(0, 1)]
-    calls += [records.request(plan.entries[0][3] & 63, 0)] * dice.below(4)
+    if plan.entries:
+        calls += [records.request(plan.entries[0][3] & 63, 0)] * dice.below(4)
     if plan.keep is not None:       # a cut plan is the end of the file
         calls = []
     return Bytes(plan.data() + b"".join(calls))
