@@ -4,6 +4,7 @@ import time
 
 import cards
 import claim
+import edges_docs
 import generate
 import play
 from edges import EDGES
@@ -97,6 +98,19 @@ class Suite:
                    play.play(self.program, edge.data),
                    wrong and "the simulator, " + wrong)
 
+    def play_docs(self):
+        """Each input of docs/REFUSALS.md ends in the line beside it."""
+        examples = edges_docs.examples()
+        for number, data, last in examples:
+            lines = simulate(data)
+            wrong = lines[-1] != last and "ends in %s" % lines[-1]
+            self.judge("docs: refusal %d" % number, data,
+                       listing_bytes(lines), play.play(self.program, data),
+                       wrong)
+        missing = set(NUMBERS) - {number for number, _, _ in examples}
+        self.test("docs: every refusal has an input",
+                  missing and "none for %s" % sorted(missing))
+
     def play_seed(self, seed):
         data = generate.generate(seed)
         lines = simulate(data)
@@ -159,6 +173,7 @@ def small_files(seed):
 def play_all(suite, count, seed):
     for edge in EDGES:
         suite.play_edge(edge)
+    suite.play_docs()
     suite.play_cards()
     suite.all_pieces(seed)
     for number in range(seed, seed + count):
