@@ -1,0 +1,153 @@
+//! Measures single calls. It reads a call file from standard input, plays it
+//! from memory many times over and times each run of calls of one kind. The
+//! lowest time of each run counts, less the clock's own.
+
+#[allow(dead_code)]
+mod scheduler;
+
+use scheduler::{Link, Plan};
+use std::hint::black_box;
+use std::io::{self, Read};
+use std::time::{Duration, Instant};
+
+/// Times that the file is played, unless the command line says otherwise.
+const REPEATS: usize = 200;
+/// Shorter runs are played but not counted: the clock would weigh too much.
+const SHORTEST: usize = 8;
+
+#[derive(Clone, Copy, PartialEq, Eq)]
+enum Kind {
+    Request,
+    Credit,
+    Tick,
+}
+
+/// Calls of one kind that follow each other. A call is its four bytes after
+/// the kind, as a number.
+struct Run {
+    kind: Kind,
+    calls: Vec<u32>,
+    lowest: Duration,
+}
+
+impl Run {
+    #[inline]
+    fn play(&self, link: &mut Link) {
+        match self.kind {
+            Kind::Request => self.calls.iter().for_each(|&call| {
+                let _ = black_box(link.request(black_box(call)));
+            }),
+            Kind::Credit => self.calls.iter().for_each(|&call| {
+                let [flow, low, high, _] = black_box(call).to_le_bytes();
+                let position = u16::from_le_bytes([low, high]);
+                let _ = black_box(link.credit(flow.into(), position.into()));
+            }),
+            Kind::Tick => self.calls.iter().for_each(|_| {
+                black_box(link.tick());
+            }),
+        }
+    }
+}
+
+/// Splits the records into runs of one kind.
+fn split_runs(records: &[u8]) -> Option<Vec<Run>> {
+    let mut runs: Vec<Run> = Vec::new();
+    for record in records.chunks_exact(5) {
+        let kind = match record[0] {
+            1 => Kind::Request,
+            2 => Kind::Credit,
+            3 => Kind::Tick,
+            _ => return None,
+        };
+        if runs.last().is_none_or(|run| run.kind != kind) {
+            runs.push(Run {
+                kind,
+                calls: Vec::new(),
+                lowest: Duration::MAX,
+            });
+        }
+        let call = u32::from_le_bytes(record[1..].try_into().ok()?);
+        runs.last_mut()?.calls.push(call);
+    }
+    Some(runs)
+}
+
+/// Plays every run on a fresh link and keeps its lowest time.
+fn time_runs(plan: &Plan, runs: &mut [Run]) {
+    let mut link = black_box(Link::fresh(plan));
+    for run in runs {
+        let begin = Instant::now();
+        run.play(&mut link);
+        run.lowest = run.lowest.min(begin.elapsed());
+    }
+}
+
+/// Plays the whole file with the clock read only at its ends.
+fn time_file(plan: &Plan, runs: &[Run]) -> Duration {
+    let mut link = black_box(Link::fresh(plan));
+    let begin = Instant::now();
+    runs.iter().for_each(|run| run.play(&mut link));
+    begin.elapsed()
+}
+
+/// What it costs to read the clock twice.
+fn time_clock() -> Duration {
+    (0..100_000)
+        .map(|_| Instant::now().elapsed())
+        .min()
+        .unwrap_or_default()
+}
+
+/// Prints the nanoseconds of one call of a kind.
+fn report(name: &str, kind: Kind, runs: &[Run], clock: Duration) {
+    let (mut calls, mut counted, mut spent) = (0, 0, Duration::ZERO);
+    for run in runs.iter().filter(|run| run.kind == kind) {
+        calls += run.calls.len();
+        if run.calls.len() >= SHORTEST {
+            counted += run.calls.len();
+            spent += run.lowest.saturating_sub(clock);
+        }
+    }
+    if counted == 0 {
+        println!("{name:8}      - ns  (no run of {SHORTEST} calls)");
+        return;
+    }
+    let each = spent.as_nanos() as f64 / counted as f64;
+    println!("{name:8} {each:6.1} ns  ({counted} of {calls} counted)");
+}
+
+fn main() -> io::Result<()> {
+    let repeats = std::env::args()
+        .nth(1)
+        .and_then(|count| count.parse().ok())
+        .unwrap_or(REPEATS);
+    let mut bytes = Vec::new();
+    io::stdin().read_to_end(&mut bytes)?;
+    let read = || {
+        let length = usize::from(u16::from_le_bytes([*bytes.first()?, *bytes.get(1)?]));
+        let plan = Plan::read(bytes.get(..length)?).ok()?;
+        Some((plan, split_runs(&bytes[length..])?))
+    };
+    let Some((plan, mut runs)) = read() else {
+        eprintln!("standard input is not a call file");
+        std::process::exit(2);
+    };
+    let clock = time_clock();
+    let mut whole = Duration::MAX;
+    for _ in 0..repeats {
+        time_runs(&plan, &mut runs);
+        whole = whole.min(time_file(&plan, &runs));
+    }
+    let (slots, frames, flows) = (plan.slots, plan.frames, plan.entries.len());
+    println!("F = {slots}, W = {frames}, n = {flows}, lowest of {repeats}");
+    report("request", Kind::Request, &runs, clock);
+    report("credit", Kind::Credit, &runs, clock);
+    report("tick", Kind::Tick, &runs, clock);
+    let calls: usize = runs.iter().map(|run| run.calls.len()).sum();
+    let each = whole.as_nanos() as f64 / calls.max(1) as f64;
+    println!(
+        "{:8} {each:6.1} ns  ({calls} calls without the clock)",
+        "any"
+    );
+    Ok(())
+}

@@ -1,0 +1,77 @@
+"""A call file under construction, played on a link while it is written.
+
+The link tells what each call answered, so that later calls can follow it:
+ask until refused, give back a cell that was really taken, and so on.
+"""
+
+import records
+from simulator import Link, answer, read_plan
+
+
+class CallFile:
+    def __init__(self, draft):
+        plan_bytes = draft.data()
+        refusal, self.plan = read_plan(plan_bytes)
+        if refusal:
+            raise ValueError("a good plan was meant, refusal %d" % refusal)
+        self.parts = [plan_bytes]
+        self.link = Link(self.plan)
+        self.flows = self.plan.flows
+        self.slots = self.plan.slots
+        self.quantum = [0] * self.flows
+        # Granted slots of each flow, in the order of the grants.
+        self.grants = [[] for _ in range(self.flows)]
+
+    def data(self):
+        return b"".join(self.parts)
+
+    def calls(self):
+        return len(self.parts) - 1
+
+    def record(self, record):
+        self.parts.append(record)
+        letter, number = answer(self.link, record)
+        if letter == "G":
+            flow = int.from_bytes(record[1:5], "little") >> 20 & 63
+            self.grants[flow].append(self.link.slot_of(number))
+        return letter, number
+
+    # ---- well-formed calls
+
+    def ask(self, flow, departure=None):
+        """A request with the flow's next quantum.  The slot, or None."""
+        if departure is None:
+            departure = self.link.ticks % self.slots
+        letter, number = self.record(records.request(
+            self.plan.destination(flow), flow, self.quantum[flow], departure))
+        if letter == "R":
+            return None
+        self.quantum[flow] = (self.quantum[flow] + 1) % 1024
+        return self.grants[flow][-1]
+
+    def give(self, flow, slot):
+        """A credit dated a slot.  Whether it was taken."""
+        return self.record(
+            records.credit(flow, slot % self.slots))[0] == "C"
+
+    def tick(self):
+        """The flow that the slot came up for, or None."""
+        number = self.record(records.TICK)[1]
+        return None if number == "-" else number
+
+    # ---- where things stand
+
+    def now(self):
+        return self.link.ticks
+
+    def last_slot(self):
+        """The last slot of the window."""
+        return (self.link.newest_frame() + 1) * self.plan.frame_slots - 1
+
+    def later_slot(self, dice):
+        """Some slot after the current one, in the window."""
+        return dice.between(self.now() + 1, self.last_slot())
+
+    def date(self, slot):
+        """The slot, moved into the part of the window that is to come."""
+        return min(max(slot, self.now() + 1), self.last_slot())

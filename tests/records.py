@@ -1,0 +1,31 @@
+"""The bytes of plans and calls, for those who write call files."""
+
+import struct
+
+
+def plan(frame_slots, window_frames, buffer, entries,
+         length=None, flows=None, offset=12):
+    """Plan bytes; `length` and `flows` are what the entries say unless given.
+    An entry is (share, cells, source, destination)."""
+    if flows is None:
+        flows = len(entries)
+    if length is None:
+        length = 12 + 4 * len(entries)
+    header = struct.pack("<6H", length, flows, offset,
+                         frame_slots, window_frames, buffer)
+    return header + b"".join(bytes(entry) for entry in entries)
+
+
+def word(destination, flow, quantum=0, departure=0):
+    return destination << 26 | flow << 20 | quantum << 10 | departure
+
+
+def request(destination, flow, quantum=0, departure=0):
+    return struct.pack("<BI", 1, word(destination, flow, quantum, departure))
+
+
+def credit(flow, position, filler=0):
+    return struct.pack("<BBHB", 2, flow, position, filler)
+
+
+TICK = bytes([3, 0, 0, 0, 0])
