@@ -16,7 +16,7 @@ use Rattle.link.specs.Runs.{replaced}
 use Rattle.link.specs.Window.{fromIn}
 use Rattle.link.specs.Holdings.{someHeld}
 use Rattle.link.specs.Parts.{sizeOf, flowAt, withFlow, withHeld}
-use Rattle.link.specs.Reading.{flowOf, linkOf}
+use Rattle.link.specs.Reading.{linkOf}
 use Rattle.calls.specs.Reading.{answerToCredit}
 use Rattle.link.specs.Sound.{Sound}
 use Rattle.link.proofs.Ranks.{everyFrom-same}

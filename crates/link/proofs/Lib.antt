@@ -5,8 +5,9 @@ pub mod Searches
 pub mod Plans
 pub mod Links
 pub mod Stored
-pub mod Credits
 pub mod FreshLinks
+pub mod Words
 pub mod Requests
+pub mod Credits
 pub mod Ticks
 pub mod Records

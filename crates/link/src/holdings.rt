@@ -11,7 +11,7 @@ use crate::Window;
 use std::num::wrapping_add_u8;
 
 // One value at every position of the run from a to e.
-pub fn fill(table: &mut [u8; 256], value: u8, a: usize, e: usize)
+pub(crate) fn fill(table: &mut [u8; 256], value: u8, a: usize, e: usize)
     requires { ⌜ (a ≤ e) × (e ≤ 256) ⌝ }
     ensures { λ r. ⌜ now (table .exit) ≡ replaced (inRun a e) (λ q x. value) (now (table .entry)) ⌝ }
 {
@@ -70,7 +70,7 @@ fn last_full(held: &[u8; 256], cells: u8, a: usize, e: usize) -> usize
 }
 
 // The rank from which on there is room at every position.
-pub fn room_rank(held: &[u8; 256], cells: u8, w: Window) -> usize
+pub(crate) fn room_rank(held: &[u8; 256], cells: u8, w: Window) -> usize
     requires { ⌜ Proper w ⌝ }
     ensures { λ r. ⌜ ((p : ℕ) → p < sizeOf w → leb r (model.rank (windowOf w) p) ≡ model.everyFrom (windowOf w) p (roomAt (now (held .entry)) cells)) ⌝ }
 {
@@ -87,7 +87,7 @@ pub fn room_rank(held: &[u8; 256], cells: u8, w: Window) -> usize
 }
 
 // Whether something is held from p on.
-pub fn held_from(held: &[u8; 256], w: Window, p: usize) -> bool
+pub(crate) fn held_from(held: &[u8; 256], w: Window, p: usize) -> bool
     requires { ⌜ Proper w × (p < sizeOf w) ⌝ }
     ensures { λ r. ⌜ r ≡ model.everyFrom (windowOf w) p (someHeld (now (held .entry))) ⌝ }
 {
@@ -135,7 +135,7 @@ fn shift_from(held: &mut [u8; 256], by: u8, w: Window, p: usize)
 }
 
 // The holdings from p on rise by one.
-pub fn raise(held: &mut [u8; 256], w: Window, p: usize, cells: u8)
+pub(crate) fn raise(held: &mut [u8; 256], w: Window, p: usize, cells: u8)
     requires { ⌜ Proper w × (p < sizeOf w) × (model.everyFrom (windowOf w) p (roomAt (now held) cells) ≡ true) ⌝ }
     ensures { λ r. ⌜ now (held .exit) ≡ replaced (fromIn (windowOf w) p) (λ q x. suc x) (now (held .entry)) ⌝ }
 {
@@ -143,7 +143,7 @@ pub fn raise(held: &mut [u8; 256], w: Window, p: usize, cells: u8)
 }
 
 // The holdings from p on fall by one.
-pub fn lower(held: &mut [u8; 256], w: Window, p: usize)
+pub(crate) fn lower(held: &mut [u8; 256], w: Window, p: usize)
     requires { ⌜ Proper w × (p < sizeOf w) × (model.everyFrom (windowOf w) p (someHeld (now held)) ≡ true) ⌝ }
     ensures { λ r. ⌜ now (held .exit) ≡ replaced (fromIn (windowOf w) p) (λ q x. x - 1) (now (held .entry)) ⌝ }
 {

@@ -5,13 +5,12 @@ mod search; // the search for a position to book
 mod credit;
 mod fresh;
 mod request;
-mod tick;
 mod run;
-
-pub use run::Run;
+mod tick;
 
 use calls::Answer;
 use plan::Plan;
+pub use run::Run;
 
 // A flow's part: its injection frame, its remainder, and what it holds at each position.
 pub struct Flow {

@@ -7,7 +7,7 @@ ghost use Rattle.link.specs.Window.{windowOf, sizeOf, Measures, Proper};
 use crate::Window;
 
 // How far `to` lies ahead of `at`, going round m places.
-pub fn ahead(m: usize, at: usize, to: usize) -> usize
+pub(crate) fn ahead(m: usize, at: usize, to: usize) -> usize
     requires { ⌜ (at < m) × (to < m) × (m ≤ 256) ⌝ }
     ensures { λ r. ⌜ r ≡ tables.ahead m at to ⌝ }
 {
@@ -18,7 +18,7 @@ pub fn ahead(m: usize, at: usize, to: usize) -> usize
 }
 
 // One place on, going round m places.
-pub fn next(m: usize, at: usize) -> usize
+pub(crate) fn next(m: usize, at: usize) -> usize
     requires { ⌜ (at < m) × (m ≤ 256) ⌝ }
     ensures { λ r. ⌜ r ≡ (at + 1) % m ⌝ }
 {
@@ -29,7 +29,7 @@ pub fn next(m: usize, at: usize) -> usize
 }
 
 // One place back, going round m places.
-pub fn before(m: usize, at: usize) -> usize
+pub(crate) fn before(m: usize, at: usize) -> usize
     requires { ⌜ (at < m) × (m ≤ 256) ⌝ }
     ensures { λ r. ⌜ r ≡ (at + m - 1) % m ⌝ }
 {
@@ -40,7 +40,7 @@ pub fn before(m: usize, at: usize) -> usize
 }
 
 // The window of F slots to a frame, W frames and the current position CP.
-pub fn window(slots: usize, frames: usize, current: usize) -> Window
+pub(crate) fn window(slots: usize, frames: usize, current: usize) -> Window
     requires { ⌜ Measures slots frames current ⌝ }
     ensures is { λ r. ⌜ windowOf r ≡ record { slots = slots; frames = frames; current = current } ⌝ }
     ensures proper { λ r. ⌜ Proper r ⌝ }
@@ -55,7 +55,7 @@ pub fn window(slots: usize, frames: usize, current: usize) -> Window
 
 impl Window {
     // How far a position lies on from the first one of the head frame.
-    pub fn rank(self, p: usize) -> usize
+    pub(crate) fn rank(self, p: usize) -> usize
         requires { ⌜ Proper self × (p < sizeOf self) ⌝ }
         ensures { λ r. ⌜ r ≡ model.rank (windowOf self) p ⌝ }
     {
@@ -63,14 +63,14 @@ impl Window {
     }
 
     // Whether a position lies in the head frame and is not later than CP.
-    pub fn passed(self, p: usize) -> bool
+    pub(crate) fn passed(self, p: usize) -> bool
         requires { ⌜ Proper self × (p < sizeOf self) ⌝ }
         ensures { λ r. ⌜ r ≡ model.passed (windowOf self) p ⌝ }
     {
         self.rank(p) <= self.current - self.head * self.slots
     }
 
-    pub fn newest(self) -> usize
+    pub(crate) fn newest(self) -> usize
         requires { ⌜ Proper self ⌝ }
         ensures { λ r. ⌜ r ≡ model.newest (windowOf self) ⌝ }
     {

@@ -35,7 +35,7 @@ fn larger(a: usize, b: usize) -> usize
 }
 
 // The rank from which on a position is valid for a flow if nobody booked it: it is late enough, and there is room from it on.
-pub fn valid_rank(held: &[u8; 256], cells: u8, w: Window) -> usize
+pub(crate) fn valid_rank(held: &[u8; 256], cells: u8, w: Window) -> usize
     requires { ⌜ Proper w ⌝ }
     ensures { λ r. ⌜ ((p : ℕ) → p < sizeOf w → leb r (model.rank (windowOf w) p) ≡ not (model.passed (windowOf w) p) && model.everyFrom (windowOf w) p (roomAt (now (held .entry)) cells)) ⌝ }
 {
@@ -43,7 +43,7 @@ pub fn valid_rank(held: &[u8; 256], cells: u8, w: Window) -> usize
 }
 
 // The search from a frame and a remainder up to the newest frame, for an unbooked position whose rank is at least `low`.
-pub fn search(
+pub(crate) fn search(
     owner: &[u8; 256],
     w: Window,
     low: usize,

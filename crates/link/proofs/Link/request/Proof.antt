@@ -4,18 +4,15 @@ use Prim.Native.Nat.{ℕ, _<_}
 use mathlib.Core.Path.{_≡_, sym, ap, _∙_}
 use native.Mathlib.Omega.{arith}
 use Rattle.model.specs.Word.{flowOf}
-use Rattle.model.specs.Window.{Window}
-use Rattle.model.specs.Link as model
 use Rattle.model.specs.Request.{found, sought, answered, request}
 use Rattle.link.specs.declared.Link.{Link}
 use Rattle.link.specs.Parts.{sizeOf}
 use Rattle.link.specs.Reading.{linkOf}
 use Rattle.link.specs.Search.{foundOf, freeFrom}
-use Rattle.link.specs.Sound.{Sound}
 use Rattle.link.specs.Window.{windowOf}
 use Rattle.link.proofs.Links.{read-window, read-size, read-frames, measures, flows-most, size-most}
 use Rattle.link.proofs.Searches.{Booking}
-use Rattle.link.proofs.Requests.{refused-word, asked, field-below, LowFor, sought-same, found-at, room-there, granted-link, refused-link, granted, refused-newest}
+use Rattle.link.proofs.Requests.{refused-word, asked, field-below, Asking, LowFor, sought-same, found-at, room-there, read-granted, sound-granted, read-refused, sound-refused, granted, refused-newest}
 use Rattle.link.proofs.Link.request.Statement.{statement}
 use Rattle.link.proofs.Link.request.Tie as tie
 
@@ -29,48 +26,51 @@ start c = c .before .before .before .before .before
 flow-known : (c : tie.After-struct-known) → c .before .split .result .flow < start c .args .t1 .plan .count
 flow-known c = field-below (start c .args .t1) _ _ (c .before .before .before .refusal .ensures) (c .before .before .if1 .left) _ (c .before .split .ensures)
 
--- the link, the flow and the window of a search
+-- where the word was split, and where the window was made
 abbrev word-at : tie.After-search → tie.After-struct-known
 word-at c = c .before .before .before .before .before .before .before .before .before .before
 
-abbrev link-at : tie.After-search → Link
-link-at c = start (word-at c) .args .t1
+abbrev window-at : tie.After-search → tie.After-window
+window-at c = c .before .before .before .before .before .before .before .before
 
-abbrev sound-at : (c : tie.After-search) → Sound (link-at c)
-sound-at c = start (word-at c) .pre
-
-abbrev flow-at : tie.After-search → ℕ
-flow-at c = word-at c .before .split .result .flow
-
-abbrev window-at : tie.After-search → Window
-window-at c = windowOf (c .before .before .before .before .before .before .before .before .window .result)
-
-window-is : (c : tie.After-search) → window-at c ≡ model.window (linkOf (link-at c))
-window-is c = read-window (link-at c) (c .before .before .before .before .before .before .before .before .window .ensures .0)
+-- whose search it is
+abbrev asking : tie.After-search → Asking
+asking c = record {
+  link = start (word-at c) .args .t1;
+  sound = start (word-at c) .pre;
+  window = windowOf (window-at c .window .result);
+  window-is = read-window (start (word-at c) .args .t1) (window-at c .window .ensures .0);
+  flow = word-at c .before .split .result .flow;
+  flow-below = flow-known (word-at c);
+}
 
 -- the rank from which on positions are late enough and have room
 abbrev low-at : tie.After-search → ℕ
 low-at c = c .before .before .before .before .valid-rank .result
 
-low-known : (c : tie.After-search) → LowFor (link-at c) (sound-at c) (window-at c) (window-is c) (flow-at c) (flow-known (word-at c)) (low-at c)
-low-known c = record { from = λ p h. c .before .before .before .before .valid-rank .ensures p (rw (read-size (link-at c) (window-is c)) h) }
+low-known : (c : tie.After-search) → LowFor (asking c) (low-at c)
+low-known c = record { from = λ p h. c .before .before .before .before .valid-rank .ensures p (rw (read-size (asking c .link) (asking c .window-is)) h) }
 
-searched : (c : tie.After-search) → foundOf (c .search .result) ≡ sought (linkOf (link-at c)) (flow-at c)
-searched c = c .search .ensures ∙ sym (sought-same (link-at c) (sound-at c) (window-at c) (window-is c) (flow-at c) (flow-known (word-at c)) (low-at c) (low-known c))
+searched : (c : tie.After-search) → foundOf (c .search .result) ≡ sought (linkOf (asking c .link)) (asking c .flow)
+searched c = c .search .ensures ∙ sym (sought-same (asking c) (low-at c) (low-known c))
 
 -- the word passed its own tests
-asked-at : (c : tie.After-search) → request (linkOf (link-at c)) (start (word-at c) .args .word) ≡ answered (linkOf (link-at c)) (start (word-at c) .args .word) (sought (linkOf (link-at c)) (flowOf (start (word-at c) .args .word)))
-asked-at c = let k = word-at c .before .before in asked (link-at c) _ _ (k .before .refusal .ensures) (k .if1 .left)
+abbrev Asked : Link → ℕ → Type 0
+Asked l x = request (linkOf l) x ≡ answered (linkOf l) x (sought (linkOf l) (flowOf x))
+
+asked-at : (c : tie.After-search) → Asked (asking c .link) (start (word-at c) .args .word)
+asked-at c = let k = word-at c .before .before in asked (asking c .link) _ _ (k .before .refusal .ensures) (k .if1 .left)
 
 -- the position that was found
-found-is : (c : tie.After-found) → found (c .found .given .0 .0) (c .found .given .0 .1 .0) (c .found .given .0 .1 .1 .0) ≡ sought (linkOf (link-at (c .before .before))) (flow-at (c .before .before))
+found-is : (c : tie.After-found) → found (c .found .given .0 .0) (c .found .given .0 .1 .0) (c .found .given .0 .1 .1 .0) ≡ sought (linkOf (asking (c .before .before) .link)) (asking (c .before .before) .flow)
 found-is c = ap foundOf (sym (c .found .given .1)) ∙ searched (c .before .before)
 
-booking : (c : tie.After-found) → Booking (window-at (c .before .before)) (freeFrom (window-at (c .before .before)) (link-at (c .before .before) .owner) (low-at (c .before .before))) (c .found .given .0 .0) (c .found .given .0 .1 .1 .0)
-booking c = let q = c .before .before in found-at (link-at q) (sound-at q) (window-at q) (window-is q) (flow-at q) (flow-known (word-at q)) (low-at q) (low-known q) _ _ _ (found-is c)
+booking : (c : tie.After-found)
+    → Booking (asking (c .before .before) .window) (freeFrom (asking (c .before .before) .window) (asking (c .before .before) .link .owner) (low-at (c .before .before))) (c .found .given .0 .0) (c .found .given .0 .1 .1 .0)
+booking c = let q = c .before .before in found-at (asking q) (low-at q) (low-known q) _ _ _ (found-is c)
 
-position-below : (c : tie.After-found) → c .found .given .0 .1 .1 .0 < sizeOf (link-at (c .before .before))
-position-below c = rw (read-size (link-at (c .before .before)) (window-is (c .before .before))) at (booking c .position)
+position-below : (c : tie.After-found) → c .found .given .0 .1 .1 .0 < sizeOf (asking (c .before .before) .link)
+position-below c = let q = asking (c .before .before) in rw (read-size (q .link) (q .window-is)) at (booking c .position)
 
 -- ---- the needs
 
@@ -118,19 +118,19 @@ raise-requires c κs =
     let d = c .before .before in
     let q = d .before .before in
     let b = booking d in
-    (q .before .before .before .before .before .before .before .before .window .ensures .1, b .position, room-there (link-at q) (sound-at q) (window-at q) (window-is q) (flow-at q) (flow-known (word-at q)) (low-at q) (low-known q) _ (position-below d) (b .passes))
+    (window-at q .window .ensures .1, b .position, room-there (asking q) (low-at q) (low-known q) _ (position-below d) (b .passes))
 
 mul-t35 : tie.Need-mul-t35
-mul-t35 c = let q = c .before .before .before .before .before in omega (arith, flow-known (word-at q), flows-most _ (sound-at q))
+mul-t35 c = let q = c .before .before .before .before .before in omega (arith, flow-known (word-at q), flows-most _ (asking q .sound))
 
 element-set-from-self : tie.Need-element-set-from-self
-element-set-from-self c = let q = c .before .before .before .before .before in omega (arith, flow-known (word-at q), flows-most _ (sound-at q))
+element-set-from-self c = let q = c .before .before .before .before .before in omega (arith, flow-known (word-at q), flows-most _ (asking q .sound))
 
 element-write-self : tie.Need-element-write-self
-element-write-self c = let d = c .before .before .before in omega (arith, position-below d, size-most _ (sound-at (d .before .before)))
+element-write-self c = let d = c .before .before .before in omega (arith, position-below d, size-most _ (asking (d .before .before) .sound))
 
 cast-depart : tie.Need-cast-depart
-cast-depart c = let d = c .before .before .before in omega (arith, position-below d, size-most _ (sound-at (d .before .before)))
+cast-depart c = let d = c .before .before .before in omega (arith, position-below d, size-most _ (asking (d .before .before) .sound))
 
 depart-requires : tie.Need-depart-requires
 depart-requires c κs = search needs
@@ -142,10 +142,10 @@ newest-requires : tie.Need-newest-requires
 newest-requires c κs = c .before .before .before .before .before .before .before .before .before .before .before .window .ensures .1
 
 mul-t44 : tie.Need-mul-t44
-mul-t44 c = let q = c .before .before .before .before in omega (arith, flow-known (word-at q), flows-most _ (sound-at q))
+mul-t44 c = let q = c .before .before .before .before in omega (arith, flow-known (word-at q), flows-most _ (asking q .sound))
 
 element-set-from-self-2 : tie.Need-element-set-from-self-2
-element-set-from-self-2 c = let q = c .before .before .before .before in omega (arith, flow-known (word-at q), flows-most _ (sound-at q))
+element-set-from-self-2 c = let q = c .before .before .before .before in omega (arith, flow-known (word-at q), flows-most _ (asking q .sound))
 
 nowhere-requires : tie.Need-nowhere-requires
 nowhere-requires c κs = search needs
@@ -154,18 +154,20 @@ returns-2 : tie.Need-returns-2
 returns-2 c =
     let d = c .before .before .before .before in
     let q = d .before .before in
-    let b = booking d in
+    let frame-below = rw (read-frames (asking q .link) (asking q .window-is)) at (booking d .frame) in
     rw (c .depart .ensures)
-    (granted (link-at q) _ _ (word-at q .before .split .ensures) (asked-at q) _ _ _ _ (found-is d)
-    (granted-link (link-at q) (sound-at q) (window-at q) (window-is q) (flow-at q) (flow-known (word-at q)) _ _ _ _ (rw (read-frames (link-at q) (window-is q)) at (b .frame)) (position-below d) (c .before .raise .ensures)))
+    (granted (asking q .link) _ _ (word-at q .before .split .ensures) (asked-at q) _ _ _ _ (found-is d)
+    (read-granted (asking q) _ _ _ _ (position-below d) (c .before .raise .ensures))
+    (sound-granted (asking q) _ _ _ _ (position-below d) (c .before .raise .ensures) frame-below))
 
 returns-3 : tie.Need-returns-3
 returns-3 c =
     let d = c .before .before .before in
     let q = d .before .before in
     rw (c .nowhere .ensures, c .before .newest .ensures)
-    (refused-newest (link-at q) _ _ (word-at q .before .split .ensures) (asked-at q) _ _ (ap foundOf (sym (d .found2 .given .1)) ∙ searched q)
-    (refused-link (link-at q) (sound-at q) (window-at q) (window-is q) (flow-at q) (flow-known (word-at q)) _))
+    (refused-newest (asking q .link) _ _ (word-at q .before .split .ensures) (asked-at q) _ _ (ap foundOf (sym (d .found2 .given .1)) ∙ searched q)
+    (read-refused (asking q) _)
+    (sound-refused (asking q) _))
 
 pub request-spec : {M : Type 1} → statement M
 request-spec =

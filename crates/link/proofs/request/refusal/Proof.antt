@@ -2,7 +2,7 @@
 use borrow.Author.Needs.{needs}
 use native.Mathlib.Omega.{arith}
 use Rattle.link.proofs.Plans.{count-most}
-use Rattle.link.proofs.Requests.{word-8, word-9, word-10, word-passes}
+use Rattle.link.proofs.Words.{word-8, word-9, word-10, word-passes}
 use Rattle.link.proofs.request.refusal.Statement.{statement}
 use Rattle.link.proofs.request.refusal.Tie as tie
 
