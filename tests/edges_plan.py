@@ -53,31 +53,30 @@ COUNTS = [
     ("offset 268, low byte 12", plan(4, 2, 4, TWO, offset=268), 2),
 ]
 
-FRAMES = [
-    ("F = 0", plan(0, 2, 4, TWO), 3),
-    ("F = 1", plan(1, 2, 4, one()), 0),
-    ("F = 64", plan(64, 2, 4, TWO), 0),
-    ("F = 65", plan(65, 2, 4, TWO), 3),
-    ("F = 260, low byte 4", plan(260, 2, 4, TWO), 3),
-    ("W = 0", plan(4, 0, 4, TWO), 3),
-    ("W = 1", plan(4, 1, 4, TWO), 3),
-    ("W = 2", plan(4, 2, 4, TWO), 0),
-    ("W = 8", plan(4, 8, 4, TWO), 0),
-    ("W = 9", plan(4, 9, 4, TWO), 3),
-    ("W = 258, low byte 2", plan(4, 258, 4, TWO), 3),
-    ("N = 0", plan(4, 2, 0, TWO), 3),
-    ("N = 1", plan(4, 2, 1, one()), 0),
-    ("N = 4095", plan(4, 2, 4095, TWO), 0),
-    ("N = 4096", plan(4, 2, 4096, TWO), 3),
-    ("N = 4100, low twelve bits 4", plan(4, 2, 4100, TWO), 3),
-    ("T = 64 x 4 = 256", plan(64, 4, 4, TWO), 0),
-    ("T = 64 x 5 = 320", plan(64, 5, 4, TWO), 3),
-    ("T = 32 x 8 = 256", plan(32, 8, 4, TWO), 0),
-    ("T = 33 x 8 = 264", plan(33, 8, 4, TWO), 3),
-    ("T = 51 x 5 = 255", plan(51, 5, 4, TWO), 0),
-    ("T = 43 x 6 = 258", plan(43, 6, 4, TWO), 3),
-    ("T = 64 x 8 = 512", plan(64, 8, 4, TWO), 3),
+# (field, values that are accepted, values that are refused with 3).  The low
+# bytes of F = 260 and W = 258 are good, and the low twelve bits of N = 4100.
+SIZES = [
+    ("F", (1, 64), (0, 65, 260)),
+    ("W", (2, 8), (0, 1, 9, 258)),
+    ("N", (1, 4095), (0, 4096, 4100)),
 ]
+
+# (F, W, number): T = F x W is at most 256.
+WINDOWS = [
+    (64, 4, 0), (64, 5, 3), (32, 8, 0), (33, 8, 3), (51, 5, 0), (43, 6, 3),
+    (64, 8, 3),
+]
+
+
+def sized(field, value, number):
+    sizes = {"F": 4, "W": 2, "N": 4, field: value}
+    return "%s = %d" % (field, value), plan(*sizes.values(), one()), number
+
+
+FRAMES = [sized(field, value, number) for field, good, bad in SIZES
+          for number, values in ((0, good), (3, bad)) for value in values]
+FRAMES += [("T = %d x %d" % (slots, frames), plan(slots, frames, 4, TWO),
+            number) for slots, frames, number in WINDOWS]
 
 ENTRIES = [
     ("share 0", plan(4, 2, 4, one(share=0)), 4),

@@ -174,19 +174,16 @@ def play_all(suite, count, seed):
     for edge in EDGES:
         suite.play_edge(edge)
     suite.play_docs()
-    suite.play_cards()
     suite.all_pieces(seed)
     for number in range(seed, seed + count):
         suite.play_seed(number)
     suite.totals()
 
 
-def run_all(program, count, seed, name):
-    """Play everything; how many tests passed and how many failed."""
-    suite = Suite(program)
+def run_all(suite, count, seed, name):
+    """Play everything through the suite's program, and print a summary."""
     try:
         play_all(suite, count, seed)
     except GaveUp:
         print("gave up: %d runs without end" % PATIENCE)
     suite.summary(name)
-    return suite.passed, suite.failed

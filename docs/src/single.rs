@@ -49,6 +49,32 @@ impl Run {
     }
 }
 
+/// Makes one call and gives its answer as a number.
+fn answer(link: &mut Link, kind: Kind, call: u32) -> u64 {
+    let [flow, low, high, _] = call.to_le_bytes();
+    let position = u16::from_le_bytes([low, high]);
+    match kind {
+        Kind::Request => link.request(call).map_or_else(u64::from, u64::from),
+        Kind::Credit => match link.credit(flow.into(), position.into()) {
+            Ok(()) => 1,
+            Err(number) => number.into(),
+        },
+        Kind::Tick => link.tick().map_or(16, u64::from),
+    }
+}
+
+/// The sum of each run's last answer: a program that played the same calls has
+/// the same sum.
+fn sum_answers(plan: &Plan, runs: &[Run]) -> u64 {
+    let mut link = Link::fresh(plan);
+    let last = |run: &Run| {
+        let answers = run.calls.iter();
+        let answers = answers.map(|&call| answer(&mut link, run.kind, call));
+        answers.last().unwrap_or(0)
+    };
+    runs.iter().map(last).sum()
+}
+
 /// Splits the records into runs of one kind.
 fn split_runs(records: &[u8]) -> Option<Vec<Run>> {
     let mut runs: Vec<Run> = Vec::new();
@@ -149,5 +175,6 @@ fn main() -> io::Result<()> {
         "{:8} {each:6.1} ns  ({calls} calls without the clock)",
         "any"
     );
+    println!("answers {}", sum_answers(&plan, &runs));
     Ok(())
 }

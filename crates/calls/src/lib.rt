@@ -4,6 +4,7 @@ mod records;
 
 pub use lines::write;
 pub use lines::write_plan;
+pub use lines::write_refusal;
 pub use records::read;
 
 // The bytes of a call record.

@@ -84,14 +84,32 @@ pub fn write(answer: Answer, out: &mut [u8], at: usize) -> usize
     }
 }
 
+// A letter and a number, by the same rule.
+fn put_line(letter: u8, number: u8, out: &mut [u8], at: usize) -> usize
+    ensures out { λ r. ⌜ now (out .exit) ≡ outWith (numberLine letter number) (now (out .entry)) at ⌝ }
+    ensures next { λ r. ⌜ r ≡ nextAfter (numberLine letter number) (now (out .entry)) at ⌝ }
+    ensures most { λ r. ⌜ r ≤ at + 7 ⌝ }
+{
+    if !has_room(out, at) {
+        return at;
+    }
+    put_number(letter, number as u32, out, at)
+}
+
 // The same for a plan's line: `P` and the refusal, or `P 0`.
 pub fn write_plan(number: u8, out: &mut [u8], at: usize) -> usize
     ensures out { λ r. ⌜ now (out .exit) ≡ outWith (planLine number) (now (out .entry)) at ⌝ }
     ensures next { λ r. ⌜ r ≡ nextAfter (planLine number) (now (out .entry)) at ⌝ }
     ensures most { λ r. ⌜ r ≤ at + 7 ⌝ }
 {
-    if !has_room(out, at) {
-        return at;
-    }
-    put_number(b'P', number as u32, out, at)
+    put_line(b'P', number, out, at)
+}
+
+// The same for a refusal.
+pub fn write_refusal(number: u8, out: &mut [u8], at: usize) -> usize
+    ensures out { λ r. ⌜ now (out .exit) ≡ outWith (lineFor (Answer.Refused number)) (now (out .entry)) at ⌝ }
+    ensures next { λ r. ⌜ r ≡ nextAfter (lineFor (Answer.Refused number)) (now (out .entry)) at ⌝ }
+    ensures most { λ r. ⌜ r ≤ at + 7 ⌝ }
+{
+    put_line(b'R', number, out, at)
 }

@@ -2,7 +2,6 @@
 mod input;
 mod output;
 
-use calls::Answer;
 use link::Link;
 use plan::Plan;
 use plan::Verdict;
@@ -58,7 +57,7 @@ fn play(link: Link, space: &mut [u8], out: &mut [u8])
         turns -= 1;
     }
     if 0 < now.kept {
-        let end = calls::write(Answer::Refused(16), out, 0);
+        let end = calls::write_refusal(16, out, 0);
         output::write(out, end);
     }
 }

@@ -1,70 +1,102 @@
 -- A credit on a link, as it is read. Assumes nothing.
-use Prim.Native.Nat.{ℕ, _-_, _≤_, _<_}
+use Prim.Native.Nat.{ℕ, zero, suc, _-_, _≤_, _<_}
 use mathlib.Core.Path.{_≡_, refl, sym, ap, _∙_}
 use mathlib.Core.List.{List}
 use mathlib.Core.Bool.{true, false}
 use lib.Dec.{ltb}
-use borrow.Author.Tests.{lt-ltb, le-ltb}
+use lib.ListN.{length}
+use borrow.Author.Tests.{lt-ltb, le-ltb, ltb-true}
 use Rattle.model.specs.Refusals.{firstOf}
-use Rattle.model.specs.Calls.{accepted, refused}
+use Rattle.model.specs.Calls.{accepted}
 use Rattle.model.specs.Window.{Window, passed, everyFrom}
 use Rattle.model.specs.Link as model
-use Rattle.model.specs.Credit.{credit, creditAfter, lowered}
-use Rattle.calls.specs.declared.Answer.the-variants.{Taken}
-use Rattle.link.specs.declared.Link.{Link}
-use Rattle.link.specs.Runs.{replaced}
-use Rattle.link.specs.Window.{fromIn}
-use Rattle.link.specs.Holdings.{someHeld}
-use Rattle.link.specs.Parts.{sizeOf, flowAt, withFlow, withHeld}
-use Rattle.link.specs.Reading.{linkOf}
+use Rattle.model.specs.Credit.{creditTests, credit, creditAfter, lowered}
+use Rattle.calls.specs.declared.Answer.the-variants.{Taken, Refused}
 use Rattle.calls.specs.Reading.{answerToCredit}
+use Rattle.link.specs.declared.Link.{Link}
+use Rattle.link.specs.declared.Window as code
+use Rattle.link.specs.Runs.{replaced, wrapped}
+use Rattle.link.specs.Rows.{row, withRow}
+use Rattle.link.specs.Window.{windowOf, Proper, fromIn}
+use Rattle.link.specs.Holdings.{someHeld}
+use Rattle.link.specs.Parts.{sizeOf, flowAt, withFlows, withFlow, withHeld}
+use Rattle.link.specs.Reading.{linkOf}
 use Rattle.link.specs.Sound.{Sound}
-use Rattle.link.proofs.Ranks.{everyFrom-same}
-use Rattle.link.proofs.Links.{Stepped, same-flow, read-count, read-flow, read-holding, read-with-flow, sound-with-flow, read-from, sound-from}
+use Rattle.link.specs.Change.{Stepped, Creditable}
+use Rattle.link.proofs.Runs.{wrapped-down}
+use Rattle.link.proofs.Ranks.{everyFrom-same, replaced-from}
+use Rattle.link.proofs.Links.{same-flow, read-count, read-flow, read-holding, read-size, read-with-flow, sound-with-flow, read-from, long-from, sound-from}
+use Rattle.link.proofs.Changes.{same-flows}
+
+-- ---- the tests
 
 module _ (l : Link) (i p : ℕ) where
-  pub refused-8 : l .plan .count ≤ i → credit (linkOf l) i p ≡ record { link = linkOf l; answer = refused 8 }
-  unfolding credit creditAfter firstOf
-  refused-8 h = rw (read-count l, le-ltb i (l .plan .count) h)
+  pub tests-8 : l .plan .count ≤ i → 8 ≡ firstOf (creditTests (linkOf l) i p)
+  unfolding firstOf
+  tests-8 h = rw (read-count l, le-ltb i (l .plan .count) h)
 
   module _ (hi : i < l .plan .count) where
-    pub refused-13 : sizeOf l ≤ p → credit (linkOf l) i p ≡ record { link = linkOf l; answer = refused 13 }
-    unfolding credit creditAfter firstOf linkOf
-    refused-13 h = rw (read-count l, lt-ltb i (l .plan .count) hi, le-ltb p (sizeOf l) h)
+    pub tests-13 : sizeOf l ≤ p → 13 ≡ firstOf (creditTests (linkOf l) i p)
+    unfolding firstOf linkOf
+    tests-13 h = rw (read-count l, lt-ltb i (l .plan .count) hi, le-ltb p (sizeOf l) h)
 
     module _ (hp : p < sizeOf l) (v : Window) (is : v ≡ model.window (linkOf l)) where
       passed-same : passed (model.window (linkOf l)) p ≡ passed v p
       passed-same = ap (λ (x : Window). passed x p) (sym is)
 
-      pub refused-14 : passed v p ≡ true → credit (linkOf l) i p ≡ record { link = linkOf l; answer = refused 14 }
-      unfolding credit creditAfter firstOf linkOf
-      refused-14 h = rw (read-count l, lt-ltb i (l .plan .count) hi, lt-ltb p (sizeOf l) hp, passed-same ∙ h)
+      pub tests-14 : passed v p ≡ true → 14 ≡ firstOf (creditTests (linkOf l) i p)
+      unfolding firstOf linkOf
+      tests-14 h = rw (read-count l, lt-ltb i (l .plan .count) hi, lt-ltb p (sizeOf l) hp, passed-same ∙ h)
 
       -- something is held from p on
-      held-same : everyFrom (model.window (linkOf l)) p (λ q. ltb 0 (model.holding (linkOf l) i q)) ≡ everyFrom v p (someHeld (flowAt l i .held))
+      held-same : everyFrom (model.window (linkOf l)) p (λ q. ltb 0 (model.holding (linkOf l) i q)) ≡ everyFrom v p (someHeld (row (l .held) i))
       unfolding linkOf
-      held-same = everyFrom-same (model.window (linkOf l)) p (λ q. ltb 0 (model.holding (linkOf l) i q)) (someHeld (flowAt l i .held)) (λ q b. rw (read-holding l i q hi b)) ∙ ap (λ (x : Window). everyFrom x p (someHeld (flowAt l i .held))) (sym is)
+      held-same = everyFrom-same (model.window (linkOf l)) p (λ q. ltb 0 (model.holding (linkOf l) i q)) (someHeld (row (l .held) i)) (λ q b. rw (read-holding l i q hi b)) ∙ ap (λ (x : Window). everyFrom x p (someHeld (row (l .held) i))) (sym is)
 
       module _ (here : passed v p ≡ false) where
-        pub refused-15 : everyFrom v p (someHeld (flowAt l i .held)) ≡ false → credit (linkOf l) i p ≡ record { link = linkOf l; answer = refused 15 }
-        unfolding credit creditAfter firstOf linkOf
-        refused-15 h = rw (read-count l, lt-ltb i (l .plan .count) hi, lt-ltb p (sizeOf l) hp, passed-same ∙ here, held-same ∙ h)
+        pub tests-15 : everyFrom v p (someHeld (row (l .held) i)) ≡ false → 15 ≡ firstOf (creditTests (linkOf l) i p)
+        unfolding firstOf linkOf
+        tests-15 h = rw (read-count l, lt-ltb i (l .plan .count) hi, lt-ltb p (sizeOf l) hp, passed-same ∙ here, held-same ∙ h)
 
-        taken : everyFrom v p (someHeld (flowAt l i .held)) ≡ true → credit (linkOf l) i p ≡ record { link = lowered (linkOf l) i p; answer = accepted tt }
-        unfolding credit creditAfter firstOf linkOf
-        taken h = rw (read-count l, lt-ltb i (l .plan .count) hi, lt-ltb p (sizeOf l) hp, passed-same ∙ here, held-same ∙ h)
+        pub tests-pass : everyFrom v p (someHeld (row (l .held) i)) ≡ true → 0 ≡ firstOf (creditTests (linkOf l) i p)
+        unfolding firstOf linkOf
+        tests-pass h = rw (read-count l, lt-ltb i (l .plan .count) hi, lt-ltb p (sizeOf l) hp, passed-same ∙ here, held-same ∙ h)
 
-        pub credited : Sound l → everyFrom v p (someHeld (flowAt l i .held)) ≡ true
-            → (h : List ℕ) → h ≡ replaced (fromIn v p) (λ q x. x - 1) (flowAt l i .held)
-            → Stepped answerToCredit (credit (linkOf l) i p) (record { link = withFlow l i (withHeld (flowAt l i) h); answer = Taken })
-        unfolding lowered
-        credited s held h changed = rw (taken held) (link, (refl, sound-with-flow l s i hi _ (sound-from l s v is i p hi (λ x. x - 1) h changed _ _ (s .flows i hi .frame))))
-          where
-            link : linkOf (withFlow l i (withHeld (flowAt l i) h)) ≡ model.withFlow (linkOf l) i (model.withHeld (model.flow (linkOf l) i) (model.heldFrom (linkOf l) i p (λ x. x - 1)))
-            link =
-                read-with-flow l s i hi _
-                ∙ ap (model.withFlow (linkOf l) i)
-                (same-flow
-                (ap (λ (x : model.Flow). x .injection) (sym (read-flow l i hi)))
-                (ap (λ (x : model.Flow). x .remainder) (sym (read-flow l i hi)))
-                (read-from l s v is i p hi (λ x. x - 1) h changed))
+-- ---- what a credit comes to
+
+module _ (l : Link) (s : Sound l) (i p n : ℕ) (tests : n ≡ firstOf (creditTests (linkOf l) i p)) where
+  pub refused-credit : (n ≡ 0 → ⊥) → Stepped answerToCredit (credit (linkOf l) i p) (record { link = l; answer = Refused n })
+  unfolding credit creditAfter
+  refused-credit nonzero = rw (← tests) (go n nonzero)
+    where
+      go : (k : ℕ) → (k ≡ 0 → ⊥) → Stepped answerToCredit (creditAfter k (linkOf l) i p) (record { link = l; answer = Refused k })
+      go zero none = absurd (none refl)
+      go (suc r) none = (refl, (refl, s))
+
+  taken : n ≡ 0 → credit (linkOf l) i p ≡ record { link = lowered (linkOf l) i p; answer = accepted tt }
+  unfolding credit creditAfter
+  taken z = rw (← tests, z)
+
+  module _ (w : code.Window) (proper : Proper w) (is : windowOf w ≡ model.window (linkOf l)) (z : n ≡ 0) (c : Creditable (l .plan .count) w (l .held) i p) where
+    -- what flow i holds then
+    abbrev pub lower : List ℕ
+    lower = replaced (fromIn (windowOf w) p) (λ q x. wrapped 255 x) (row (l .held) i)
+
+    lower-is : lower ≡ replaced (fromIn (windowOf w) p) (λ q x. x - 1) (row (l .held) i)
+    lower-is = replaced-from w proper p (c .position) (λ x. ltb 0 x) (wrapped 255) (λ x. x - 1) (row (l .held) i) (λ x e. wrapped-down x (ltb-true 0 x e)) (c .some-held)
+
+    long : length lower ≡ 256
+    long = long-from l s (windowOf w) is i p (c .flow) (λ x. x - 1) lower lower-is
+
+    lower-link : linkOf (withFlow l i (withHeld (flowAt l i) lower)) ≡ lowered (linkOf l) i p
+    unfolding lowered
+    lower-link =
+        read-with-flow l s i (c .flow) _ long
+        ∙ ap (model.withFlow (linkOf l) i)
+        (same-flow
+        (ap (λ (x : model.Flow). x .injection) (sym (read-flow l i (c .flow))))
+        (ap (λ (x : model.Flow). x .remainder) (sym (read-flow l i (c .flow))))
+        (read-from l s (windowOf w) is i p (c .flow) (λ x. x - 1) lower lower-is))
+
+    pub taken-credit : {h : List ℕ} → h ≡ withRow (l .held) i lower → Stepped answerToCredit (credit (linkOf l) i p) (record { link = withFlows l (l .flows) h; answer = Taken })
+    taken-credit e = rw (taken z, e, same-flows l i lower) (lower-link, (refl, sound-with-flow l s i (c .flow) _ long (sound-from l s (windowOf w) is i p (c .flow) (λ x. x - 1) lower lower-is _ _ (s .flows i (c .flow) .frame))))

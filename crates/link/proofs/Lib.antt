@@ -1,13 +1,15 @@
 pub mod Tables
 pub mod Runs
+pub mod Rows
 pub mod Ranks
+pub mod Spans
 pub mod Searches
 pub mod Plans
 pub mod Links
 pub mod Stored
 pub mod FreshLinks
-pub mod Words
-pub mod Requests
+pub mod Changes
 pub mod Credits
+pub mod Requests
 pub mod Ticks
 pub mod Records

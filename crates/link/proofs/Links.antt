@@ -3,7 +3,7 @@ use Prim.Native.Nat.{ℕ, _≤_, _<_}
 use mathlib.Core.Path.{_≡_, refl, ap, _∙_}
 use mathlib.Core.List.{List}
 use mathlib.Core.Option.{some}
-use mathlib.Core.Bool.{cond}
+use mathlib.Core.Bool.{Bool, true, false, cond}
 use native.Mathlib.Decide.{ℕ-discrete}
 use native.Mathlib.Omega.{arith}
 use lib.ListN.{length, getD, set, length-set}
@@ -16,21 +16,17 @@ use Rattle.model.specs.Window.{Window, size}
 use Rattle.model.specs.Link as model
 use Rattle.plan.specs.Reading.{entryFor}
 use Rattle.calls.specs.declared.Answer.{Answer}
-use Rattle.link.specs.declared.Flow.{Flow}
 use Rattle.link.specs.declared.Link.{Link}
-use Rattle.link.specs.declared.Step.{Step}
 use Rattle.link.specs.Runs.{replaced}
 use Rattle.link.specs.Window.{Measures, fromIn}
-use Rattle.link.specs.Parts.{sizeOf, entryAt, flowAt, ownerAt, noFlow, withOwners, withFlow, movedTo, withHeld}
+use Rattle.link.specs.Parts.{Part, sizeOf, entryAt, flowAt, ownerAt, noFlow, withOwners, withFlow, movedTo, withHeld}
 use Rattle.link.specs.Reading.{nobody, ownerOf, flowOf, linkOf}
 use Rattle.link.specs.Sound.{Sound, SoundFlow}
+use Rattle.link.specs.Change.{Stepped}
 use Rattle.link.proofs.Tables.{getD-table, table-same}
 use Rattle.link.proofs.Plans.{plan-count, plan-entry, count-most}
+use Rattle.link.proofs.Rows.{length-row, length-with-row, row-with-same, row-with-other}
 use Rattle.link.proofs.Runs.{length-replaced, replaced-at, replaced-off}
-
--- what a call hands back, as its contract states it
-abbrev pub Stepped : {A : Type 0} → (A → Answer) → model.Step A → Step → Type 0
-Stepped toAnswer m r = (linkOf (r .link) ≡ m .link) × ((r .answer ≡ toAnswer (m .answer)) × Sound (r .link))
 
 -- a call that leaves the link as it was
 pub unchanged : {A : Type 0} (toAnswer : A → Answer) (l : Link) (m : model.Step A) (a : A) → Sound l → m ≡ record { link = linkOf l; answer = a }
@@ -99,20 +95,33 @@ module _ (l : Link) (s : Sound l) where
 
   -- ---- flow i's part replaced
 
-  module _ (i : ℕ) (hi : i < l .plan .count) (f : Flow) where
-    set-flow : {B : Type 0} (g : Flow → B) (j : ℕ) → g (flowAt (withFlow l i f) j) ≡ cond (eqb j i) (g f) (g (flowAt l j))
-    set-flow g j = go (ℕ-discrete j i)
+  module _ (i : ℕ) (hi : i < l .plan .count) (f : Part) (long : length (f .held) ≡ 256) where
+    below : i < 16
+    below = omega (arith, flows-most)
+
+    same-flow-at : flowAt (withFlow l i f) i ≡ f
+    same-flow-at = rw (getD-set-same (l .flows) i (record { frame = f .frame; left = f .left }) noFlow (omega (arith, s .flows-long, below)), row-with-same (l .held) i (f .held) (s .held-long) below long)
+
+    other-flow-at : (j : ℕ) → (j ≡ i → ⊥) → flowAt (withFlow l i f) j ≡ flowAt l j
+    other-flow-at j d = rw (getD-set-other (l .flows) i j (record { frame = f .frame; left = f .left }) noFlow d, row-with-other (l .held) i (f .held) j d)
+
+    set-flow : (j : ℕ) → flowAt (withFlow l i f) j ≡ cond (eqb j i) f (flowAt l j)
+    set-flow j = go (ℕ-discrete j i)
       where
-        go : Dec (j ≡ i) → g (getD (set (l .flows) i f) j noFlow) ≡ cond (eqb j i) (g f) (g (flowAt l j))
-        go (yes d) = rw (eq-eqb j i d, d, getD-set-same (l .flows) i f noFlow (omega (arith, s .flows-long, flows-most)))
-        go (no d) = rw (ne-eqb j i d, getD-set-other (l .flows) i j f noFlow d)
+        go : Dec (j ≡ i) → flowAt (withFlow l i f) j ≡ cond (eqb j i) f (flowAt l j)
+        go (yes d) = ap (flowAt (withFlow l i f)) d ∙ same-flow-at ∙ rw (eq-eqb j i d)
+        go (no d) = other-flow-at j d ∙ rw (ne-eqb j i d)
 
     pub read-with-flow : linkOf (withFlow l i f) ≡ model.withFlow (linkOf l) i (flowOf (sizeOf l) f)
     unfolding linkOf
     read-with-flow =
         let e = table-same (l .plan .count) (λ j. flowOf (sizeOf l) (flowAt (withFlow l i f) j)) (λ j. cond (eqb j i) (flowOf (sizeOf l) f) (model.flow (linkOf l) j))
-        (λ j h. set-flow (flowOf (sizeOf l)) j ∙ rw (read-flow l j h)) in
+        (λ j h. ap (flowOf (sizeOf l)) (set-flow j) ∙ either (eqb j i) (flowAt l j) ∙ rw (read-flow l j h)) in
         cc (e, read-count l)
+      where
+        either : (b : Bool) (g : Part) → flowOf (sizeOf l) (cond b f g) ≡ cond b (flowOf (sizeOf l) f) (flowOf (sizeOf l) g)
+        either true g = refl
+        either false g = refl
 
     pub sound-with-flow : SoundFlow (sizeOf l) (l .plan .frames) f → Sound (withFlow l i f)
     sound-with-flow v = record {
@@ -121,14 +130,15 @@ module _ (l : Link) (s : Sound l) where
       owners-long = s .owners-long;
       owners = s .owners;
       spare-owners = s .spare-owners;
-      flows-long = length-set (l .flows) i f ∙ s .flows-long;
+      flows-long = length-set (l .flows) i (record { frame = f .frame; left = f .left }) ∙ s .flows-long;
+      held-long = length-with-row (l .held) i (f .held) ∙ s .held-long;
       flows = λ j h. each j h (ℕ-discrete j i);
-      spare-flows = λ j h b. getD-set-other (l .flows) i j f noFlow (λ e. omega arith) ∙ s .spare-flows j h b;
+      spare-flows = λ j h b. other-flow-at j (λ e. omega arith) ∙ s .spare-flows j h b;
     }
       where
         each : (j : ℕ) → j < l .plan .count → Dec (j ≡ i) → SoundFlow (sizeOf l) (l .plan .frames) (flowAt (withFlow l i f) j)
-        each j h (yes e) = rw (e, getD-set-same (l .flows) i f noFlow (omega (arith, s .flows-long, flows-most))) v
-        each j h (no e) = rw (getD-set-other (l .flows) i j f noFlow e) (s .flows j h)
+        each j h (yes e) = rw (e, same-flow-at) v
+        each j h (no e) = rw (other-flow-at j e) (s .flows j h)
 
   -- ---- flow i books position p
 
@@ -151,6 +161,7 @@ module _ (l : Link) (s : Sound l) where
       owners = λ q b n. go q b n (ℕ-discrete q p);
       spare-owners = λ q h b. getD-set-other (l .owner) p q i 0 (λ e. omega arith) ∙ s .spare-owners q h b;
       flows-long = s .flows-long;
+      held-long = s .held-long;
       flows = s .flows;
       spare-flows = s .spare-flows;
     }
@@ -169,13 +180,15 @@ module _ (l : Link) (s : Sound l) where
     unfolding linkOf fromIn
     read-from = table-same (sizeOf l) _ _ λ q b.
         at-position q
-        ∙ replaced-at _ _ (flowAt l i .held) q 0 (omega (arith, s .flows i hi .long, size-most))
+        ∙ replaced-at _ _ (flowAt l i .held) q 0 (omega (arith, length-row (l .held) i, size-most))
         ∙ rw (lt-ltb q (sizeOf l) b, read-holding l i q hi b)
+
+    pub long-from : length h ≡ 256
+    long-from = ap length changed ∙ length-replaced _ _ (flowAt l i .held) ∙ length-row (l .held) i
 
     pub sound-from : (j c : ℕ) → j < l .plan .frames → SoundFlow (sizeOf l) (l .plan .frames) (withHeld (movedTo (flowAt l i) j c) h)
     unfolding linkOf fromIn
     sound-from j c hj = record {
       frame = hj;
-      long = ap length changed ∙ length-replaced _ _ (flowAt l i .held) ∙ s .flows i hi .long;
       spare = λ q b. at-position q ∙ replaced-off _ _ (flowAt l i .held) q 0 (rw (le-ltb q (sizeOf l) b)) ∙ s .flows i hi .spare q b;
     }

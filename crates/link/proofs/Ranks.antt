@@ -1,22 +1,22 @@
 -- Positions going round: ranks as differences, and "from p on" as straight runs. Assumes nothing.
-use Prim.Native.Nat.{ℕ, suc, _+_, _-_, _*_, _/_, _≤_, _<_, max, _%_}
+use Prim.Native.Nat.{ℕ, suc, _+_, _-_, _*_, _/_, _%_, _≤_, _<_, max}
 use mathlib.Core.Path.{_≡_, refl, sym, ap, _∙_}
 use mathlib.Core.List.{List}
 use mathlib.Core.Bool.{Bool, true, false, not, _&&_, _||_, cond, and-false}
-use native.Mathlib.Nat.{mod-eq-of-lt, add-mod-right, mul-le-mul-right, suc-mul, mul-comm, div-eq-of-lt-le, div-mul-le-self, lt-div-mul-add, div-lt-iff-lt-mul}
+use native.Mathlib.Nat.{mod-lt, mod-self, div-add-mod', mul-mod-left, mul-div-left, add-mul, zero-mul, one-mul, mod-eq-of-lt, add-mod-right, mul-le-mul-right, suc-mul, mul-comm, div-eq-of-lt-le, div-mul-le-self, lt-div-mul-add, div-lt-iff-lt-mul}
 use native.Mathlib.Decide.{decLt, decLe}
 use native.Mathlib.Omega.{arith}
 use lib.Dec.{leb, ltb, eqb}
 use lib.ListN.{getD}
 use borrow.Author.Tests.{le-leb, lt-leb, lt-ltb, le-ltb, eq-eqb, leb-true}
-use Rattle.model.specs.Tables.{ahead}
+use Rattle.model.specs.Tables.{ahead, every}
 use Rattle.model.specs.Window as model
 use Rattle.model.specs.Window.{rank, passed, fromOn, everyFrom}
 use Rattle.link.specs.declared.Window.{Window}
 use Rattle.link.specs.Runs.{inRun, replaced, All, LastIn}
-use Rattle.link.specs.Window.{windowOf, sizeOf, baseOf, Measures, Proper, fromIn}
+use Rattle.link.specs.Window.{windowOf, sizeOf, baseOf, Measures, Proper, Ticked, fromIn}
 use Rattle.link.proofs.Tables.{every-intro, every-at, every-miss, every-same}
-use Rattle.link.proofs.Runs.{in-run, before-run, past-run, replaced-same, replaced-twice}
+use Rattle.link.proofs.Runs.{in-run, before-run, past-run, replaced-same}
 
 -- ---- going round m places
 
@@ -43,6 +43,65 @@ proper slots frames current m =
     let high = lt-div-mul-add {a = current} {b = slots} (m .some-slot) in
     let below : current / slots < frames = div-lt-iff-lt-mul (m .some-slot) .1 (rw mul-comm (m .current-below)) in
     record { measures = m; head-is = refl; head-below = below; base-low = low; base-high = high; base-fits = frame-fits slots frames (current / slots) below }
+
+-- ---- one position on
+
+module _ (w : Window) (v : Proper w) where
+  pub ticked-on : w .current + 1 < baseOf w + w .slots → Ticked w (record { slots = w .slots; frames = w .frames; current = w .current + 1; head = w .head })
+  ticked-on h =
+      let m = v .measures in
+      let same : (w .current + 1) / w .slots ≡ w .head = div-eq-of-lt-le (w .slots) (omega (arith, v .base-low)) (omega (arith, suc-mul (w .head) (w .slots))) in
+      let over = div-add-mod' (w .current + 1) (w .slots) in record {
+        window-is = ap (λ (c : ℕ). record { slots = w .slots; frames = w .frames; current = c }) (sym (mod-eq-of-lt (omega (arith, v .base-fits))));
+        proper = record {
+          measures = record { some-slot = m .some-slot; slots-most = m .slots-most; two-frames = m .two-frames; frames-most = m .frames-most; positions-most = m .positions-most; current-below = omega (arith, v .base-fits) };
+          head-is = sym same;
+          head-below = v .head-below;
+          base-low = omega (arith, v .base-low);
+          base-high = h;
+          base-fits = v .base-fits;
+        };
+        stays = λ _ z. let e = rw (same, z) at over in omega (arith, v .base-low, e);
+        leaves = λ n. absurd (n refl);
+      }
+
+  pub ticked-over : baseOf w + w .slots ≤ w .current + 1 → (head : ℕ) → head ≡ (w .head + 1) % w .frames
+      → Ticked w (record { slots = w .slots; frames = w .frames; current = head * w .slots; head = head })
+  ticked-over h head is =
+      let m = v .measures in
+      let below : head < w .frames = rw is (mod-lt _ (omega (arith, m .two-frames))) in
+      let fits = frame-fits (w .slots) (w .frames) head below in record {
+        window-is = ap (λ (c : ℕ). record { slots = w .slots; frames = w .frames; current = c }) (first (decLt (w .head + 1) (w .frames)));
+        proper = record {
+          measures = record { some-slot = m .some-slot; slots-most = m .slots-most; two-frames = m .two-frames; frames-most = m .frames-most; positions-most = m .positions-most; current-below = omega (arith, fits, m .some-slot) };
+          head-is = sym (mul-div-left head (m .some-slot));
+          head-below = below;
+          base-low = omega arith;
+          base-high = omega (arith, m .some-slot);
+          base-fits = fits;
+        };
+        stays = λ e _. another (decLt (w .head + 1) (w .frames)) e;
+        leaves = λ _. (mul-mod-left head (w .slots), is);
+      }
+    where
+      next-base : w .current + 1 ≡ (w .head + 1) * w .slots
+      next-base = omega (arith, v .base-high, add-mul (w .head) 1 (w .slots), one-mul (w .slots))
+
+      on : w .head + 1 < w .frames → head ≡ w .head + 1
+      on d = is ∙ mod-eq-of-lt d
+
+      round : (w .head + 1 < w .frames → ⊥) → head ≡ 0
+      round d = let e : w .head + 1 ≡ w .frames = omega (arith, v .head-below) in is ∙ rw e (mod-self (w .frames))
+
+      first : Dec (w .head + 1 < w .frames) → head * w .slots ≡ (w .current + 1) % sizeOf w
+      first (yes d) = rw (on d, next-base) (sym (mod-eq-of-lt (omega (arith, frame-fits (w .slots) (w .frames) (w .head + 1) d, v .measures .some-slot))))
+      first (no d) =
+          let e : w .head + 1 ≡ w .frames = omega (arith, v .head-below) in
+          rw (round d, next-base, e, mul-comm (w .frames) (w .slots), zero-mul (w .slots)) (sym (mod-self (sizeOf w)))
+
+      another : Dec (w .head + 1 < w .frames) → head ≡ w .head → ⊥
+      another (yes d) e = omega (arith, on d, e)
+      another (no d) e = omega (arith, round d, e, v .measures .two-frames)
 
 -- two tests that agree at every position
 pub everyFrom-same : (w : model.Window) (p : ℕ) (t t′ : ℕ → Bool) → ((q : ℕ) → q < model.size w → t q ≡ t′ q) → everyFrom w p t ≡ everyFrom w p t′
@@ -116,35 +175,33 @@ module _ (w : Window) (v : Proper w) where
     unfolding fromIn fromOn
     from-is q l = rw (lt-ltb q (sizeOf w) l)
 
-    from-past : (q : ℕ) → sizeOf w ≤ q → fromIn (windowOf w) p q ≡ false
+    pub from-past : (q : ℕ) → sizeOf w ≤ q → fromIn (windowOf w) p q ≡ false
     unfolding fromIn
     from-past q l = rw (le-ltb q (sizeOf w) l)
 
-    -- the run from p to the end, and that from 0 to the head
-    from-high : baseOf w ≤ p → (q : ℕ) → inRun 0 (baseOf w) q || inRun p (sizeOf w) q ≡ fromIn (windowOf w) p q
-    from-high h q = go (decLt q (baseOf w)) (decLt q p) (decLt q (sizeOf w))
+    -- from the head to p: the positions before p
+    pub from-high : baseOf w ≤ p → (q : ℕ) → q < sizeOf w → inRun (baseOf w) p q ≡ not (fromIn (windowOf w) p q)
+    from-high h q l = rw (from-is q l) (go (decLt q (baseOf w)) (decLt q p))
       where
         r : rankAt p ≡ p - baseOf w
         r = rank-high p lp h
 
-        go : Dec (q < baseOf w) → Dec (q < p) → Dec (q < sizeOf w) → inRun 0 (baseOf w) q || inRun p (sizeOf w) q ≡ fromIn (windowOf w) p q
-        go (yes a) b c = rw (in-run 0 (baseOf w) q (omega arith) a, from-is q (omega arith), le-leb (rankAt p) (rankAt q) (omega (arith, r, rank-low q a)))
-        go (no a) (yes b) c = rw (past-run 0 (baseOf w) q (omega arith), before-run p (sizeOf w) q b, from-is q (omega arith), lt-leb (rankAt p) (rankAt q) (omega (arith, r, rank-high q (omega arith) (omega arith))))
-        go (no a) (no b) (yes c) = rw (past-run 0 (baseOf w) q (omega arith), in-run p (sizeOf w) q (omega arith) c, from-is q c, le-leb (rankAt p) (rankAt q) (omega (arith, r, rank-high q c (omega arith))))
-        go (no a) (no b) (no c) = rw (past-run 0 (baseOf w) q (omega arith), past-run p (sizeOf w) q (omega arith), from-past q (omega arith))
+        go : Dec (q < baseOf w) → Dec (q < p) → inRun (baseOf w) p q ≡ not (leb (rankAt p) (rankAt q))
+        go (yes a) b = rw (before-run (baseOf w) p q a, le-leb (rankAt p) (rankAt q) (omega (arith, r, rank-low q a)))
+        go (no a) (yes b) = rw (in-run (baseOf w) p q (omega arith) b, lt-leb (rankAt p) (rankAt q) (omega (arith, r, rank-high q l (omega arith))))
+        go (no a) (no b) = rw (past-run (baseOf w) p q (omega arith), le-leb (rankAt p) (rankAt q) (omega (arith, r, rank-high q l (omega arith))))
 
-    -- the run from p to the head
-    from-low : p < baseOf w → (q : ℕ) → inRun p (baseOf w) q ≡ fromIn (windowOf w) p q
-    from-low h q = go (decLt q p) (decLt q (baseOf w)) (decLt q (sizeOf w))
+    -- from p to the head
+    pub from-low : p < baseOf w → (q : ℕ) → q < sizeOf w → inRun p (baseOf w) q ≡ fromIn (windowOf w) p q
+    from-low h q l = rw (from-is q l) (go (decLt q p) (decLt q (baseOf w)))
       where
         r : rankAt p ≡ p + sizeOf w - baseOf w
         r = rank-low p h
 
-        go : Dec (q < p) → Dec (q < baseOf w) → Dec (q < sizeOf w) → inRun p (baseOf w) q ≡ fromIn (windowOf w) p q
-        go (yes a) b c = rw (before-run p (baseOf w) q a, from-is q (omega arith), lt-leb (rankAt p) (rankAt q) (omega (arith, r, rank-low q (omega arith))))
-        go (no a) (yes b) c = rw (in-run p (baseOf w) q (omega arith) b, from-is q (omega arith), le-leb (rankAt p) (rankAt q) (omega (arith, r, rank-low q b)))
-        go (no a) (no b) (yes c) = rw (past-run p (baseOf w) q (omega arith), from-is q c, lt-leb (rankAt p) (rankAt q) (omega (arith, r, rank-high q c (omega arith))))
-        go (no a) (no b) (no c) = rw (past-run p (baseOf w) q (omega arith), from-past q (omega arith))
+        go : Dec (q < p) → Dec (q < baseOf w) → inRun p (baseOf w) q ≡ leb (rankAt p) (rankAt q)
+        go (yes a) b = rw (before-run p (baseOf w) q a, lt-leb (rankAt p) (rankAt q) (omega (arith, r, rank-low q (omega arith))))
+        go (no a) (yes b) = rw (in-run p (baseOf w) q (omega arith) b, le-leb (rankAt p) (rankAt q) (omega (arith, r, rank-low q b)))
+        go (no a) (no b) = rw (past-run p (baseOf w) q (omega arith), lt-leb (rankAt p) (rankAt q) (omega (arith, r, rank-high q l (omega arith))))
 
   -- ---- a test from p on
 
@@ -170,47 +227,21 @@ module _ (w : Window) (v : Proper w) where
         go (yes l) = rw (rw (lt-ltb q (sizeOf w) l) at f) at (every-at (sizeOf w) _ q e l)
         go (no l) = cc (rw (le-ltb q (sizeOf w) (omega arith)) at f)
 
-    pub all-high : baseOf w ≤ p → All t p (sizeOf w) true → (r : Bool) → All t 0 (baseOf w) r → r ≡ everyFrom (windowOf w) p t
-    all-high h x true y = sym (every-from (λ q l k. go q l k (decLt q (baseOf w))))
+    -- a test that passes every position before p
+    pub all-from : (s : ℕ → Bool) (r : Bool) → ((q : ℕ) → q < sizeOf w → s q ≡ not (fromIn (windowOf w) p q) || t q) → All s 0 (sizeOf w) r → r ≡ everyFrom (windowOf w) p t
+    unfolding everyFrom fromIn
+    all-from s r same x = go r x
       where
-        go : (q : ℕ) → q < sizeOf w → rankAt p ≤ rankAt q → Dec (q < baseOf w) → t q ≡ true
-        go q l k (yes d) = y .pass refl q (omega arith) d
-        go q l k (no d) = x .pass refl q (omega (arith, rank-high p lp h, rank-high q l (omega arith))) l
-    all-high h x false y =
-        let m = y .miss refl in
-        sym (miss-from (m .at) (omega (arith, m .below)) (omega (arith, m .below, rank-high p lp h, rank-low (m .at) (m .below))) (m .fails))
+        at : (q : ℕ) → q < sizeOf w → s q ≡ not (fromOn (windowOf w) p q) || t q
+        at q l = rw (lt-ltb q (sizeOf w) l) at (same q l)
 
-    pub all-first : baseOf w ≤ p → All t p (sizeOf w) false → false ≡ everyFrom (windowOf w) p t
-    all-first h x =
-        let m = x .miss refl in
-        sym (miss-from (m .at) (m .below) (omega (arith, m .from, rank-high p lp h, rank-high (m .at) (m .below) (omega (arith, m .from)))) (m .fails))
-
-    pub all-low : p < baseOf w → (r : Bool) → All t p (baseOf w) r → r ≡ everyFrom (windowOf w) p t
-    all-low h true x = sym (every-from (λ q l k. go q l k (decLt q (baseOf w))))
-      where
-        go : (q : ℕ) → q < sizeOf w → rankAt p ≤ rankAt q → Dec (q < baseOf w) → t q ≡ true
-        go q l k (yes d) = x .pass refl q (omega (arith, rank-low p h, rank-low q d)) d
-        go q l k (no d) = absurd (omega (arith, rank-low p h, rank-high q l (omega arith)))
-    all-low h false x =
-        let m = x .miss refl in
-        sym (miss-from (m .at) (omega (arith, m .below)) (omega (arith, m .from, m .below, rank-low p h, rank-low (m .at) (m .below))) (m .fails))
+        go : (r : Bool) → All s 0 (sizeOf w) r → r ≡ every (sizeOf w) (λ q. not (fromOn (windowOf w) p q) || t q)
+        go true y = sym (every-intro (sizeOf w) _ (λ q l. sym (at q l) ∙ y .pass refl q (omega arith) l))
+        go false y = let m = y .miss refl in sym (every-miss (sizeOf w) _ (m .at) (m .below) (sym (at (m .at) (m .below)) ∙ m .fails))
 
   -- ---- elements replaced from p on
 
   module _ (p : ℕ) (lp : p < sizeOf w) where
-    pub replaced-high : baseOf w ≤ p → (f : ℕ → ℕ → ℕ) (xs : List ℕ) → replaced (inRun 0 (baseOf w)) f (replaced (inRun p (sizeOf w)) f xs) ≡ replaced (fromIn (windowOf w) p) f xs
-    replaced-high h f xs = replaced-twice _ _ f xs 0 apart ∙ replaced-same _ _ f f xs 0 (λ i _. rw (from-high p lp h i))
-      where
-        apart : (i : ℕ) → inRun 0 (baseOf w) i && inRun p (sizeOf w) i ≡ false
-        apart i = go (decLt i (baseOf w))
-          where
-            go : Dec (i < baseOf w) → inRun 0 (baseOf w) i && inRun p (sizeOf w) i ≡ false
-            go (yes a) = rw (before-run p (sizeOf w) i (omega arith), and-false)
-            go (no a) = rw (past-run 0 (baseOf w) i (omega arith))
-
-    pub replaced-low : p < baseOf w → (f : ℕ → ℕ → ℕ) (xs : List ℕ) → replaced (inRun p (baseOf w)) f xs ≡ replaced (fromIn (windowOf w) p) f xs
-    replaced-low h f xs = replaced-same _ _ f f xs 0 (λ i _. rw (from-low p lp h i))
-
     -- by two functions that agree where a test holds from p on
     pub replaced-from : (t : ℕ → Bool) (f g : ℕ → ℕ) (xs : List ℕ) → ((x : ℕ) → t x ≡ true → f x ≡ g x)
         → everyFrom (windowOf w) p (λ q. t (getD xs q 0)) ≡ true → replaced (fromIn (windowOf w) p) (λ q. f) xs ≡ replaced (fromIn (windowOf w) p) (λ q. g) xs

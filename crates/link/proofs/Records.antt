@@ -4,12 +4,17 @@ use mathlib.Core.Path.{_≡_, refl, sym, ap, _∙_}
 use mathlib.Core.List.{List}
 use mathlib.Core.Option.{Option}
 use native.Mathlib.Omega.{arith}
-use lib.ListN.{length, take}
+use lib.ListN.{length, getD, take}
 use lib.Seq.{sets, length-sets}
 use Rattle.link.specs.declared.Link.{Link}
 use Rattle.link.specs.declared.Step.{Step}
-use Rattle.calls.specs.declared.Call.{Call}
+use Rattle.link.specs.declared.Window.{Window}
+use Rattle.plan.specs.declared.Plan.{Plan}
+use Rattle.plan.specs.Reading.{noEntry}
+use Rattle.calls.specs.declared.Answer.{Answer}
+use Rattle.calls.specs.declared.Answer.the-variants.{Refused}
 use Rattle.calls.specs.declared.Record.{Record}
+use Rattle.calls.specs.declared.Record.the-variants.{NoCall}
 use Rattle.calls.specs.declared.Call.the-variants.{Request, Credit, Tick}
 use Rattle.calls.specs.Reading.{recordFor, callIn, lineFor, answerToRequest, answerToCredit, answerToTick}
 use Rattle.calls.proofs.Ran.{Ran, ran-none, callAt, ran-more}
@@ -17,13 +22,19 @@ use Rattle.calls.proofs.Answers.{call-in, line-of-request, line-of-credit, line
 use Rattle.calls.specs.Lines.{outWith, nextAfter}
 use Rattle.model.specs.Calls as calls
 use Rattle.model.specs.Link as model
+use Rattle.model.specs.Window as model-window
 use Rattle.model.specs.Request.{request}
 use Rattle.model.specs.Credit.{credit}
 use Rattle.model.specs.Tick.{tick}
 use Rattle.model.specs.Listing.{lineOf, made, listing, linkAfter}
+use Rattle.link.specs.Window.{windowOf, Proper, Ticked}
+use Rattle.link.specs.Parts.{noFlow, withCurrent}
 use Rattle.link.specs.Reading.{linkOf}
 use Rattle.link.specs.Sound.{Sound}
-use Rattle.link.specs.Run.{Made, playable, Played}
+use Rattle.link.specs.Change.{Stepped, placed, Around, Of}
+use Rattle.link.specs.Run.{playable, Played}
+use Rattle.link.proofs.Links.{flows-most, read-window}
+use Rattle.link.proofs.Changes.{place-below}
 
 -- ---- what a record reads as
 
@@ -33,15 +44,75 @@ reads-as o r e = sym (call-in o) ∙ ap callIn (sym e)
 
 -- ---- what a call comes to
 
+-- s is the link after a call or after none, sound, with an answer whose line is the paper's
+pub record Made (l : model.Link) (o : Option calls.Call) (s : Step) : Type 0 where
+  pub link-is : linkOf (s .link) ≡ made l o .link
+  pub line-is : lineFor (s .answer) ≡ lineOf (made l o .answer)
+  pub sound : Sound (s .link)
+
 module _ (l : model.Link) (s : Step) where
-  pub request-made : (w : ℕ) → linkOf (s .link) ≡ request l w .link → s .answer ≡ answerToRequest (request l w .answer) → Made l (Request w) s
-  request-made w e a = record { link-is = e; line-is = ap lineFor a ∙ line-of-request (request l w .answer) }
+  pub request-made : (w : ℕ) → Stepped answerToRequest (request l w) s → Made l (callIn (Record.Call (Request w))) s
+  request-made w e = record { link-is = e .0; line-is = ap lineFor (e .1 .0) ∙ line-of-request (request l w .answer); sound = e .1 .1 }
 
-  pub credit-made : (i p : ℕ) → linkOf (s .link) ≡ credit l i p .link → s .answer ≡ answerToCredit (credit l i p .answer) → Made l (Credit i p) s
-  credit-made i p e a = record { link-is = e; line-is = ap lineFor a ∙ line-of-credit (credit l i p .answer) }
+  pub credit-made : (i p : ℕ) → Stepped answerToCredit (credit l i p) s → Made l (callIn (Record.Call (Credit i p))) s
+  credit-made i p e = record { link-is = e .0; line-is = ap lineFor (e .1 .0) ∙ line-of-credit (credit l i p .answer); sound = e .1 .1 }
 
-  pub tick-made : linkOf (s .link) ≡ tick l .link → s .answer ≡ answerToTick (tick l .answer) → Made l Tick s
-  tick-made e a = record { link-is = e; line-is = ap lineFor a ∙ line-of-tick (tick l .answer) }
+  pub tick-made : Stepped answerToTick (tick l) s → Made l (callIn (Record.Call Tick)) s
+  tick-made e = record { link-is = e .0; line-is = ap lineFor (e .1 .0) ∙ line-of-tick (tick l .answer); sound = e .1 .1 }
+
+pub none-made : (l : Link) → Sound l → Made (linkOf l) (callIn NoCall) (record { link = l; answer = Refused 16 })
+none-made l s = record { link-is = refl; line-is = refl; sound = s }
+
+-- ---- between records
+
+-- While records are played the current position is kept in the window: this is the link.
+abbrev pub playedAt : Link → Window → Link
+playedAt link w = withCurrent link (w .current)
+
+-- the plan, the window and the link belong together
+pub record Playing (plan : Plan) (w : Window) (link : Link) : Type 0 where
+  pub plan-is : plan ≡ link .plan
+  pub window-is : windowOf w ≡ record { slots = link .plan .slots; frames = link .plan .frames; current = w .current }
+  pub proper : Proper w
+
+pub playing-first : {w : Window} (link : Link) → windowOf w ≡ record { slots = link .plan .slots; frames = link .plan .frames; current = link .cp } → Proper w → Playing (link .plan) w link
+playing-first {w} link is v =
+    let slots = ap (λ (x : model-window.Window). x .slots) is in
+    let frames = ap (λ (x : model-window.Window). x .frames) is in
+    record { plan-is = refl; window-is = λ k. record { slots = slots k; frames = frames k; current = w .current }; proper = v }
+
+module _ {plan : Plan} {w : Window} {link : Link} (p : Playing plan w link) where
+  pub playing-on : {link′ : Link} → link′ .plan ≡ link .plan → Playing plan w link′
+  playing-on e = record { plan-is = p .plan-is ∙ sym e; window-is = rw e (p .window-is); proper = p .proper }
+
+  pub playing-ticked : {on : Window} {link′ : Link} → Ticked w on → link′ .plan ≡ link .plan → Playing plan on link′
+  playing-ticked {on} t e =
+      let slots = ap (λ (x : model-window.Window). x .slots) (t .window-is) ∙ ap (λ (x : model-window.Window). x .slots) (p .window-is) in
+      let frames = ap (λ (x : model-window.Window). x .frames) (t .window-is) ∙ ap (λ (x : model-window.Window). x .frames) (p .window-is) in
+      record { plan-is = p .plan-is ∙ sym e; window-is = rw e (λ k. record { slots = slots k; frames = frames k; current = on .current }); proper = t .proper }
+
+  module _ (s : Sound (playedAt link w)) where
+    pub around-there : Around (playedAt link w) (plan .count) w (link .held)
+    around-there = record { sound = s; count-is = ap (λ (x : Plan). x .count) (p .plan-is); proper = p .proper; window-is = read-window (playedAt link w) (p .window-is); held-is = refl }
+
+    pub of-there : (i : ℕ) → Of (playedAt link w) (plan .count) (getD (plan .entries) i noEntry) w (link .owner) (link .held) i (getD (link .flows) i noFlow)
+    of-there i = record { around = around-there; owner-is = refl; entry-is = ap (λ (x : Plan). getD (x .entries) i noEntry) (p .plan-is); flow-is = refl }
+
+    pub below-there : (i x : ℕ) → i ≡ placed (plan .count) x → i < 16
+    below-there i x e = place-below (playedAt link w) s i x (e ∙ ap (λ (y : Plan). placed (y .count) x) (p .plan-is))
+
+    pub flows-there : plan .count ≤ 16
+    flows-there = rw (p .plan-is) (flows-most (playedAt link w) s)
+
+-- what a record comes to
+pub record Came (l : model.Link) (o : Option calls.Call) (plan : Plan) (w : Window) (s : Step) : Type 0 where
+  pub comes : Made l o (record { link = playedAt (s .link) w; answer = s .answer })
+  pub playing : Playing plan w (s .link)
+
+-- the same of equal parts
+pub same-came : {l : model.Link} {o p : Option calls.Call} {plan : Plan} {v w : Window} {x y : Link} {a b : Answer} → o ≡ p → x ≡ y → w ≡ v → a ≡ b
+    → Came l p plan v (record { link = y; answer = b }) → Came l o plan w (record { link = x; answer = a })
+same-came d e f g m = rw (d, e, f, g) m
 
 -- ---- one record after the other
 

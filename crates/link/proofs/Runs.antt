@@ -2,13 +2,13 @@
 use Prim.Native.Nat.{ℕ, zero, suc, _+_, _-_, _%_, _≤_, _<_}
 use mathlib.Core.Path.{_≡_, refl, sym, ap, _∙_}
 use mathlib.Core.List.{List, [], _∷_}
-use mathlib.Core.Bool.{Bool, true, false, _&&_, _||_, cond, and-false, true≢false}
+use mathlib.Core.Bool.{Bool, true, false, _&&_, cond, and-false, true≢false}
 use native.Mathlib.Decide.{decLt, decLe, ℕ-discrete}
 use native.Mathlib.Omega.{arith}
 use lib.ListN.{length, getD, set, length-set, List·getD-eq-default}
-use lib.Dec.{leb, ltb}
-use lib.Seq.{ext-getD, getD-set-same, getD-set-other}
-use borrow.Author.Tests.{le-leb, lt-leb, lt-ltb, le-ltb}
+use lib.Dec.{leb, ltb, eqb}
+use lib.Seq.{ext-getD, getD-set-same, getD-set-other, set-getD}
+use borrow.Author.Tests.{le-leb, lt-leb, lt-ltb, le-ltb, eq-eqb, ne-eqb}
 use Rattle.link.specs.Runs.{inRun, replaced, wrapped, Miss, All, LastIn}
 
 -- ---- a run
@@ -38,11 +38,17 @@ run-more a e q n = go (decLt q e)
 
 pub wrapped-is : (by x : ℕ) → by < 256 → x < 256 → (x + by) % 256 ≡ wrapped by x
 unfolding wrapped
-wrapped-is by x hb hx = go (decLt (x + by) 256)
+wrapped-is by x hb hx = go (ℕ-discrete by 0) (decLt (x + by) 256)
   where
-    go : Dec (x + by < 256) → (x + by) % 256 ≡ cond (ltb (x + by) 256) (x + by) (x + by - 256)
-    go (yes h) = rw (lt-ltb (x + by) 256 h) (omega arith)
-    go (no h) = rw (le-ltb (x + by) 256 (omega arith)) (omega arith)
+    go : Dec (by ≡ 0) → Dec (x + by < 256) → (x + by) % 256 ≡ cond (eqb by 0) x (cond (ltb (x + by) 256) (x + by) (x + by - 256))
+    go (yes z) h = rw (eq-eqb by 0 z) (omega arith)
+    go (no z) (yes h) = rw (ne-eqb by 0 z, lt-ltb (x + by) 256 h) (omega arith)
+    go (no z) (no h) = rw (ne-eqb by 0 z, le-ltb (x + by) 256 (omega arith)) (omega arith)
+
+-- by 0
+pub wrapped-not : (x : ℕ) → wrapped 0 x ≡ x
+unfolding wrapped
+wrapped-not x = refl
 
 pub wrapped-up : (x : ℕ) → x < 255 → wrapped 1 x ≡ suc x
 unfolding wrapped
@@ -83,19 +89,6 @@ module _ {A : Type 0} where
       let l = rw length-replaced at h in
       replaced-at t f xs i d l ∙ e i l ∙ sym (replaced-at t′ f′ xs i d l)
 
-  -- two tests that no position passes both
-  pub replaced-twice : (t t′ : ℕ → Bool) (f : ℕ → A → A) (xs : List A) (d : A) → ((i : ℕ) → t i && t′ i ≡ false)
-      → replaced t f (replaced t′ f xs) ≡ replaced (λ i. t i || t′ i) f xs
-  replaced-twice t t′ f xs d n =
-      ext-getD d _ _ (simp length-replaced) λ i h.
-      let l = rw (length-replaced, length-replaced) at h in
-      replaced-at t f _ i d (rw length-replaced l) ∙ rw (replaced-at t′ f xs i d l) (go i (t i) (t′ i) (n i)) ∙ sym (replaced-at _ f xs i d l)
-    where
-      go : (i : ℕ) (b b′ : Bool) → b && b′ ≡ false → cond b (f i (cond b′ (f i (getD xs i d)) (getD xs i d))) (cond b′ (f i (getD xs i d)) (getD xs i d)) ≡ cond (b || b′) (f i (getD xs i d)) (getD xs i d)
-      go i true true e = cc
-      go i true false e = refl
-      go i false b′ e = refl
-
   -- ---- a loop that has replaced the run from a to j
 
   pub replaced-none : (a : ℕ) (f : ℕ → A → A) (xs : List A) (d : A) → xs ≡ replaced (inRun a a) f xs
@@ -122,13 +115,15 @@ module _ {A : Type 0} where
       go i b (yes q) = let h = rw q at b in rw q (getD-set-same done j _ d (rw length-replaced h) ∙ sym (replaced-at _ f xs j d h ∙ rw (in-run a (j + 1) j l (omega arith))))
       go i b (no q) = getD-set-other done j i _ d q ∙ replaced-at _ f xs i d b ∙ rw (← run-more a j i q) (sym (replaced-at _ f xs i d b))
 
+  -- the element at j is as it was
+  pub replaced-kept : (a j : ℕ) (f : ℕ → A → A) (xs : List A) (d : A) (ys : List A) → ys ≡ replaced (inRun a j) f xs → a ≤ j
+      → f j (getD ys j d) ≡ getD ys j d → ys ≡ replaced (inRun a (j + 1)) f xs
+  replaced-kept a j f xs d ys e l z = sym (set-getD ys j d) ∙ replaced-more a j f xs d ys (getD ys j d) e l (sym z)
+
   pub replaced-done : (a j e : ℕ) (f : ℕ → A → A) (xs ys : List A) → ys ≡ replaced (inRun a j) f xs → j ≡ e → ys ≡ replaced (inRun a e) f xs
   replaced-done a j e f xs ys q p = rw (← p) q
 
 -- ---- a loop that has tested the run from a to q
-
-pub some-held : (x : ℕ) → (x ≡ 0 → ⊥) → ltb 0 x ≡ true
-some-held x n = lt-ltb 0 x (omega arith)
 
 module _ {t : ℕ → Bool} {a : ℕ} where
   pub all-none : {q : ℕ} → q ≤ a → All t a q true

@@ -1,14 +1,14 @@
 -- Laws of the search: turn by turn, by a test that agrees, and what it finds. Assumes nothing.
-use Prim.Native.Nat.{ℕ, zero, suc, _+_, _-_, _*_, _≤_, _<_}
+use Prim.Native.Nat.{ℕ, zero, suc, _+_, _-_, _*_, _≤_, _<_, min}
 use mathlib.Core.Path.{_≡_, refl, sym, _∙_}
 use mathlib.Core.List.{List}
 use mathlib.Core.Option.{Option, some, none}
-use mathlib.Core.Bool.{Bool, true, false, cond, and-false}
+use mathlib.Core.Bool.{Bool, true, false, _&&_, cond, and-false}
 use native.Mathlib.Nat.{add-zero, sub-zero, mod-lt}
-use native.Mathlib.Numerals.{add-one}
-use native.Mathlib.Decide.{decLt}
+use native.Mathlib.Decide.{decLt, ℕ-discrete}
 use native.Mathlib.Omega.{arith}
 use lib.ListN.{getD}
+use lib.Dec.{leb, eqb}
 use borrow.Author.Tests.{le-leb, lt-leb, eq-eqb, ne-eqb}
 use Rattle.model.specs.Tables.{firstFrom}
 use Rattle.model.specs.Window as model
@@ -28,7 +28,7 @@ module _ {ok : ℕ → Bool} {a n : ℕ} where
   scan-none : Scan ok a n 0
   scan-none = record { rest = rw (add-zero a, sub-zero n) }
 
-  pub scan-step : {s : ℕ} → Scan ok a n s → s < n → ok (a + s) ≡ false → Scan ok a n (s + 1)
+  scan-step : {s : ℕ} → Scan ok a n s → s < n → ok (a + s) ≡ false → Scan ok a n (s + 1)
   unfolding firstFrom
   scan-step {s} v h z =
       let k : n - s ≡ suc (n - (s + 1)) = omega arith in
@@ -45,15 +45,35 @@ module _ {ok : ℕ → Bool} {a n : ℕ} where
   unfolding firstFrom
   scan-out {s} v h = let k : n - s ≡ 0 = omega arith in v .rest ∙ rw k
 
-  -- the walk starts at slot s: those before fail
-  pub scan-from : (s : ℕ) → ((k : ℕ) → k < s → k < n → ok (a + k) ≡ false) → Scan ok a n s
-  unfolding firstFrom
-  scan-from zero z = scan-none
-  scan-from (suc s) z = go (decLt s n) (scan-from s (λ k h b. z k (omega arith) b))
+-- ---- the least slot that passes: of the n positions from a on, the first s are walked, and `best` is the first slot of them that passes, or 255
+
+pub record Least (ok : ℕ → Bool) (a n s best : ℕ) : Type 0 where
+  pub most : best ≤ 255
+  pub none : best ≡ 255 → Scan ok a n s
+  pub some : best < 255 → (best < s) × Scan ok a n best × (ok (a + best) ≡ true)
+
+module _ {ok : ℕ → Bool} {a n : ℕ} where
+  pub least-none : Least ok a n 0 255
+  least-none = record { most = omega arith; none = λ _. scan-none; some = λ h. absurd (omega arith) }
+
+  -- one slot more
+  pub least-more : {s best best′ : ℕ} → Least ok a n s best → s < n → s < 255 → best′ ≡ min best (cond (ok (a + s)) s 255) → Least ok a n (s + 1) best′
+  least-more {s} {best} {best′} v h b e = go (ok (a + s)) refl e (decLt best 255)
     where
-      go : Dec (s < n) → Scan ok a n s → Scan ok a n (suc s)
-      go (yes h) v = rw (← add-one s) (scan-step v h (z s (omega arith) h))
-      go (no h) v = let k : n - suc s ≡ 0 = omega arith in record { rest = scan-out v (omega arith) ∙ rw k }
+      kept : best < 255 → best′ ≡ best → Least ok a n (s + 1) best′
+      kept l z = rw z (record { most = v .most; none = λ x. absurd (omega arith); some = λ _. let u = v .some l in (omega (arith, u .0), u .1, u .2) })
+
+      go : (t : Bool) → ok (a + s) ≡ t → best′ ≡ min best (cond t s 255) → Dec (best < 255) → Least ok a n (s + 1) best′
+      go true q z (yes l) = kept l (let u = v .some l .0 in omega arith)
+      go false q z (yes l) = kept l (omega arith)
+      go true q z (no l) =
+          let m = v .most in
+          let y : best′ ≡ s = omega arith in
+          rw y (record { most = omega arith; none = λ x. absurd (omega arith); some = λ _. (omega arith, v .none (omega arith), q) })
+      go false q z (no l) =
+          let m = v .most in
+          let y : best′ ≡ 255 = omega arith in
+          rw y (record { most = omega arith; none = λ _. scan-step (v .none (omega arith)) h q; some = λ x. absurd (omega arith) })
 
 -- ---- the walk over the frames
 
@@ -104,17 +124,35 @@ module _ {w : model.Window} {ok : ℕ → Bool} {share : ℕ} where
 -- ---- the test of a slot of frame j: unbooked, and of a rank of at least `low`
 
 module _ (w : Window) (v : Proper w) (owners : List ℕ) (low j : ℕ) (hj : j < w .frames) (s : ℕ) (hs : s < w .slots) where
-  pub slot-early : s < low - model.rank (windowOf w) (j * w .slots) → freeFrom (windowOf w) owners low (j * w .slots + s) ≡ false
+  slot-early : s < low - model.rank (windowOf w) (j * w .slots) → freeFrom (windowOf w) owners low (j * w .slots + s) ≡ false
   unfolding freeFrom
   slot-early h = rw (rank-slot w v j s hj hs, lt-leb low (model.rank (windowOf w) (j * w .slots) + s) (omega arith), and-false)
 
-  pub slot-taken : (getD owners (j * w .slots + s) 0 ≡ nobody → ⊥) → freeFrom (windowOf w) owners low (j * w .slots + s) ≡ false
+  slot-taken : (getD owners (j * w .slots + s) 0 ≡ nobody → ⊥) → freeFrom (windowOf w) owners low (j * w .slots + s) ≡ false
   unfolding freeFrom
   slot-taken n = rw (ne-eqb _ _ n)
 
-  pub slot-free : low - model.rank (windowOf w) (j * w .slots) ≤ s → getD owners (j * w .slots + s) 0 ≡ nobody → freeFrom (windowOf w) owners low (j * w .slots + s) ≡ true
+  slot-free : low - model.rank (windowOf w) (j * w .slots) ≤ s → getD owners (j * w .slots + s) 0 ≡ nobody → freeFrom (windowOf w) owners low (j * w .slots + s) ≡ true
   unfolding freeFrom
   slot-free h e = rw (eq-eqb _ _ e, rank-slot w v j s hj hs, le-leb low (model.rank (windowOf w) (j * w .slots) + s) (omega arith))
+
+  -- the first slot that is late enough as a byte, which is no matter as there are at most 64 slots
+  slot-tested : freeFrom (windowOf w) owners low (j * w .slots + s) ≡ eqb (getD owners (j * w .slots + s) 0) nobody && leb (min (low - model.rank (windowOf w) (j * w .slots)) 255) s
+  slot-tested = go (ℕ-discrete _ _) (decLt _ _)
+    where
+      few : s < 64
+      few = omega (arith, v .measures .slots-most)
+
+      go : Dec (getD owners (j * w .slots + s) 0 ≡ nobody) → Dec (s < low - model.rank (windowOf w) (j * w .slots))
+          → freeFrom (windowOf w) owners low (j * w .slots + s) ≡ eqb (getD owners (j * w .slots + s) 0) nobody && leb (min (low - model.rank (windowOf w) (j * w .slots)) 255) s
+      go (no n) x = slot-taken n ∙ rw (ne-eqb _ _ n)
+      go (yes e) (yes h) = slot-early h ∙ rw (lt-leb (min (low - model.rank (windowOf w) (j * w .slots)) 255) s (omega (arith, few)), and-false)
+      go (yes e) (no h) = slot-free (omega arith) e ∙ rw (eq-eqb _ _ e, le-leb (min (low - model.rank (windowOf w) (j * w .slots)) 255) s (omega (arith, few)))
+
+  -- what a turn of the walk over the slots compares: the slot x if it passes the test with the byte b
+  pub slot-candidate : (x b : ℕ) → x ≡ s → b ≡ min (low - model.rank (windowOf w) (j * w .slots)) 255
+      → cond (eqb (getD owners (j * w .slots + s) 0) nobody && leb b x) x 255 ≡ cond (freeFrom (windowOf w) owners low (j * w .slots + s)) s 255
+  slot-candidate x b ex eb = rw (ex, eb, slot-tested)
 
 -- ---- two tests that agree at every position
 

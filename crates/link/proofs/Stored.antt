@@ -1,11 +1,11 @@
 -- The reading determines a sound link: it is what its reading is stored as. Assumes nothing.
-use Prim.Native.Nat.{ℕ, _<_}
+use Prim.Native.Nat.{ℕ, _+_, _*_, _/_, _%_, _<_}
 use mathlib.Core.Path.{_≡_, refl, sym, ap, _∙_}
 use mathlib.Core.List.{List}
 use mathlib.Core.Bool.{Bool, true, false}
 use native.Mathlib.Decide.{decLt}
 use native.Mathlib.Omega.{arith}
-use lib.ListN.{getD}
+use lib.ListN.{getD, getD-replicate}
 use lib.Dec.{eqb}
 use borrow.Author.Tests.{eqb-true}
 use Rattle.model.specs.Tables.{table}
@@ -13,10 +13,11 @@ use Rattle.model.specs.Link as model
 use Rattle.plan.specs.Reading as plan
 use Rattle.link.specs.declared.Flow.{Flow}
 use Rattle.link.specs.declared.Link.{Link}
-use Rattle.link.specs.Parts.{sizeOf, flowAt, ownerAt, noFlow}
-use Rattle.link.specs.Reading.{nobody, ownerOf, flowOf, linkOf, everywhere, storedOwner, storedFlow, stored}
+use Rattle.link.specs.Parts.{Part, sizeOf, flowAt, ownerAt, noFlow}
+use Rattle.link.specs.Reading.{nobody, ownerOf, flowOf, linkOf, everywhere, storedOwner, stored}
 use Rattle.link.specs.Sound.{Sound, SoundFlow}
 use Rattle.link.proofs.Tables.{getD-table, table-past, table-of}
+use Rattle.link.proofs.Rows.{row-at}
 use Rattle.link.proofs.Plans.{stored-plan}
 use Rattle.link.proofs.Links.{read-flow, read-owner}
 
@@ -27,31 +28,52 @@ owner-back x = go (eqb x nobody) refl
     go true e = rw e (sym (eqb-true x nobody e))
     go false e = rw e
 
-flow-back : (T W : ℕ) (f : Flow) → SoundFlow T W f → storedFlow (flowOf T f) ≡ f
-flow-back T W f v = ap (λ (h : List ℕ). record { frame = f .frame; left = f .left; held = h }) (table-of (f .held) 256 _ 0 (v .long) (λ p _. go p (decLt p T)))
+held-back : (T W : ℕ) (f : Part) → SoundFlow T W f → (p : ℕ) → getD (flowOf T f .held) p 0 ≡ getD (f .held) p 0
+held-back T W f v p = go (decLt p T)
   where
-    go : (p : ℕ) → Dec (p < T) → getD (table T (λ p. getD (f .held) p 0)) p 0 ≡ getD (f .held) p 0
-    go p (yes b) = getD-table T _ p 0 b
-    go p (no b) = table-past T _ p 0 (omega arith) ∙ sym (v .spare p (omega arith))
+    go : Dec (p < T) → getD (table T (λ p. getD (f .held) p 0)) p 0 ≡ getD (f .held) p 0
+    go (yes b) = getD-table T _ p 0 b
+    go (no b) = table-past T _ p 0 (omega arith) ∙ sym (v .spare p (omega arith))
 
 -- "the reading determines the link"
 pub stored-reading : (l : Link) → Sound l → stored (linkOf l) ≡ l
 unfolding stored linkOf everywhere
-stored-reading l s = λ k. record { plan = stored-plan (l .plan) (s .plan) k; cp = l .cp; owner = owners k; flows = flows k }
+stored-reading l s = λ k. record { plan = stored-plan (l .plan) (s .plan) k; cp = l .cp; owner = owners k; flows = flows k; held = held k }
   where
     owner : (p : ℕ) → p < 256 → Dec (p < sizeOf l) → storedOwner (model.owner (linkOf l) p) ≡ ownerAt l p
     owner p b (yes h) = ap storedOwner (read-owner l p h) ∙ owner-back (ownerAt l p)
     owner p b (no h) = ap storedOwner (table-past (sizeOf l) _ p _ (omega arith)) ∙ sym (s .spare-owners p (omega arith) b)
 
-    flow : (i : ℕ) → i < 16 → Dec (i < l .plan .count) → storedFlow (model.flow (linkOf l) i) ≡ flowAt l i
-    flow i b (yes h) = ap storedFlow (read-flow l i h) ∙ flow-back (sizeOf l) (l .plan .frames) (flowAt l i) (s .flows i h)
-    flow i b (no h) = ap storedFlow (table-past (l .plan .count) _ i model.noFlow (omega arith)) ∙ sym (s .spare-flows i (omega arith) b)
+    -- past the plan's flows
+    no-flow : (i : ℕ) → (i < l .plan .count → ⊥) → model.flow (linkOf l) i ≡ model.noFlow
+    no-flow i n = table-past (l .plan .count) _ i model.noFlow (omega arith)
+
+    flow : (i : ℕ) → i < 16 → Dec (i < l .plan .count)
+        → _≡_ {A = Flow} (record { frame = model.flow (linkOf l) i .injection; left = model.flow (linkOf l) i .remainder }) (getD (l .flows) i noFlow)
+    flow i b (yes h) = ap (λ (f : model.Flow). record { frame = f .injection; left = f .remainder }) (read-flow l i h)
+    flow i b (no h) = ap (λ (f : model.Flow). record { frame = f .injection; left = f .remainder }) (no-flow i h) ∙ sym (ap (λ (f : Part). record { frame = f .frame; left = f .left }) (s .spare-flows i (omega arith) b))
+
+    holding : (i p : ℕ) → i < 16 → p < 256 → Dec (i < l .plan .count) → model.holding (linkOf l) i p ≡ getD (flowAt l i .held) p 0
+    holding i p b c (yes h) = ap (λ (f : model.Flow). getD (f .held) p 0) (read-flow l i h) ∙ held-back (sizeOf l) (l .plan .frames) (flowAt l i) (s .flows i h) p
+    holding i p b c (no h) =
+        ap (λ (f : model.Flow). getD (f .held) p 0) (no-flow i h)
+        ∙ sym (ap (λ (f : Part). getD (f .held) p 0) (s .spare-flows i (omega arith) b) ∙ getD-replicate 256 p 0 0 c)
+
+    place : (k : ℕ) → k < 4096 → model.holding (linkOf l) (k / 256) (k % 256) ≡ getD (l .held) k 0
+    place k b =
+        let e : 256 * (k / 256) + k % 256 ≡ k = omega arith in
+        holding (k / 256) (k % 256) (omega arith) (omega arith) (decLt (k / 256) (l .plan .count))
+        ∙ row-at (l .held) (k / 256) (k % 256) (omega arith)
+        ∙ ap (λ (x : ℕ). getD (l .held) x 0) e
 
     owners : table 256 (λ p. storedOwner (model.owner (linkOf l) p)) ≡ l .owner
     owners = table-of (l .owner) 256 _ 0 (s .owners-long) (λ p b. owner p b (decLt p (sizeOf l)))
 
-    flows : table 16 (λ i. storedFlow (model.flow (linkOf l) i)) ≡ l .flows
+    flows : table 16 (λ i. record { frame = model.flow (linkOf l) i .injection; left = model.flow (linkOf l) i .remainder }) ≡ l .flows
     flows = table-of (l .flows) 16 _ noFlow (s .flows-long) (λ i b. flow i b (decLt i (l .plan .count)))
+
+    held : table 4096 (λ k. model.holding (linkOf l) (k / 256) (k % 256)) ≡ l .held
+    held = table-of (l .held) 4096 _ 0 (s .held-long) place
 
 -- two sound links with one reading are one link
 pub one-reading : (l k : Link) → Sound l → Sound k → linkOf l ≡ linkOf k → l ≡ k

@@ -1,6 +1,6 @@
 -- A tick on a link, as it is read. Assumes nothing.
 use Prim.Native.Nat.{ℕ, _+_, _-_, _*_, _/_, _%_, _≤_, _<_}
-use mathlib.Core.Path.{_≡_, refl, sym, ap, _∙_}
+use mathlib.Core.Path.{_≡_, refl, sym, ap, _∙_, subst}
 use mathlib.Core.List.{List}
 use mathlib.Core.Option.{none}
 use mathlib.Core.Bool.{Bool, true, false, cond}
@@ -12,6 +12,7 @@ use lib.Dec.{eqb}
 use borrow.Author.Tests.{eq-eqb, ne-eqb}
 use Rattle.model.specs.Tables.{table}
 use Rattle.model.specs.Plan as paper
+use Rattle.model.specs.Window.{Window as Seen}
 use Rattle.model.specs.Link as model
 use Rattle.model.specs.Tick as tick
 use Rattle.plan.specs.declared.Entry.{Entry}
@@ -19,15 +20,21 @@ use Rattle.plan.specs.Reading.{noEntry}
 use Rattle.calls.specs.declared.Answer.{Answer}
 use Rattle.link.specs.declared.Flow.{Flow}
 use Rattle.link.specs.declared.Link.{Link}
+use Rattle.link.specs.declared.Step.{Step}
+use Rattle.link.specs.declared.Window.{Window}
 use Rattle.link.specs.Runs.{inRun, replaced}
-use Rattle.link.specs.Parts.{sizeOf, entryAt, flowAt, ownerAt, noFlow, withCurrent, movedTo, withHeld}
+use Rattle.link.specs.Rows.{row, carriedRows}
+use Rattle.link.specs.Window as window
+use Rattle.link.specs.Parts.{Part, sizeOf, entryAt, partOf, flowAt, ownerAt, noFlow, leftHead, withCurrent, movedTo, withHeld}
 use Rattle.link.specs.Reading.{nobody, ownerOf, flowOf, linkOf}
 use Rattle.calls.specs.Reading.{answerToTick}
 use Rattle.link.specs.Sound.{Sound, SoundFlow}
 use Rattle.link.proofs.Tables.{table-same}
 use Rattle.link.proofs.Runs.{in-run, before-run, past-run, length-replaced, replaced-at, replaced-off}
+use Rattle.link.proofs.Rows.{length-row, length-carried, row-carried, row-not-carried}
 use Rattle.link.proofs.Ranks.{proper}
-use Rattle.link.proofs.Links.{Stepped, same-flow, read-count, read-entry, read-flow, read-holding, read-owner, flows-most, size-most, measures}
+use Rattle.link.specs.Change.{Stepped}
+use Rattle.link.proofs.Links.{same-flow, read-count, read-entry, read-flow, read-holding, read-owner, flows-most, size-most, measures}
 
 -- ---- a flow's part at a frame change
 
@@ -41,19 +48,12 @@ pub record Change : Type 0 where
   pub entries : List Entry
 
 -- the holding at the last position goes on in the head's
-abbrev pub carried : Change → Flow → Flow
+abbrev pub carried : Change → Part → Part
 carried g f = withHeld f (replaced (inRun (g .first) (g .past)) (λ q x. getD (f .held) (g .last) 0) (f .held))
 
 -- and a flow in the head frame leaves it for the next, with its share
-abbrev pub changed : Change → ℕ → Flow → Flow
+abbrev pub changed : Change → ℕ → Part → Part
 changed g i f = cond (eqb (f .frame) (g .head)) (movedTo (carried g f) (g .next) (getD (g .entries) i noEntry .share)) (carried g f)
-
-module _ (g : Change) (i : ℕ) (f f′ : Flow) (h : List ℕ) (filled : h ≡ carried g f .held) where
-  pub leaves-head : f .frame ≡ g .head → f′ ≡ record { frame = g .next; left = getD (g .entries) i noEntry .share; held = h } → f′ ≡ changed g i f
-  leaves-head z is = is ∙ rw (eq-eqb (f .frame) (g .head) z, filled)
-
-  pub keeps-frame : (f .frame ≡ g .head → ⊥) → f′ ≡ withHeld f h → f′ ≡ changed g i f
-  keeps-frame z is = is ∙ rw (ne-eqb (f .frame) (g .head) z, filled)
 
 -- ---- the link after a tick
 
@@ -84,19 +84,9 @@ recycled l = record {
   plan = l .plan;
   cp = nextAt l;
   owner = replaced (inRun (baseAt l) (baseAt l + l .plan .slots)) (λ q x. nobody) (l .owner);
-  flows = replaced (inRun 0 (l .plan .count)) (changed (changeAt l)) (l .flows);
+  flows = replaced (inRun 0 (l .plan .count)) (λ i f. leftHead (headAt l) ((headAt l + 1) % l .plan .frames) (entryAt l i .share) f) (l .flows);
+  held = carriedRows (l .plan .count) (lastAt l) (baseAt l) (baseAt l + l .plan .slots) (l .held);
 }
-
--- the same of equal parts
-pub same-recycled : (l : Link) {cp on last : ℕ} {o : List ℕ}
-    → cp ≡ nextAt l → on ≡ (headAt l + 1) % l .plan .frames → last ≡ lastAt l → o ≡ recycled l .owner
-    → record {
-      plan = l .plan;
-      cp = cp;
-      owner = o;
-      flows = replaced (inRun 0 (l .plan .count)) (changed (record { head = headAt l; next = on; first = baseAt l; past = baseAt l + l .plan .slots; last = last; entries = l .plan .entries })) (l .flows);
-    } ≡ recycled l
-same-recycled l a b c d = rw (a, b, c, d)
 
 module _ (l : Link) (s : Sound l) where
   some-position : 0 < sizeOf l
@@ -126,12 +116,30 @@ module _ (l : Link) (s : Sound l) where
   -- ---- a flow's part
 
   flow-changed : (i : ℕ) → i < l .plan .count → flowAt (recycled l) i ≡ changed (changeAt l) i (flowAt l i)
-  flow-changed i h = replaced-at _ _ (l .flows) i noFlow (omega (arith, s .flows-long, flows-most l s)) ∙ rw (in-run 0 (l .plan .count) i (omega arith) h)
+  flow-changed i h =
+      let b = flows-most l s in
+      let e : getD (recycled l .flows) i noFlow ≡ leftHead (headAt l) ((headAt l + 1) % l .plan .frames) (entryAt l i .share) (getD (l .flows) i noFlow) =
+      replaced-at _ _ (l .flows) i noFlow (omega (arith, s .flows-long)) ∙ rw (in-run 0 (l .plan .count) i (omega arith) h) in
+      let last : lastAt l < 256 = omega (arith, last-below, size-most l s) in
+      ap (λ (f : Flow). partOf f (row (recycled l .held) i)) e
+      ∙ ap (partOf _) (row-carried (l .plan .count) (lastAt l) (baseAt l) (baseAt l + l .plan .slots) (l .held) i h (omega arith) (s .held-long) last)
+      ∙ either (eqb (getD (l .flows) i noFlow .frame) (headAt l))
+    where
+      either : (b : Bool)
+          → partOf (cond b (record { frame = (headAt l + 1) % l .plan .frames; left = entryAt l i .share }) (getD (l .flows) i noFlow)) (carried (changeAt l) (flowAt l i) .held)
+          ≡ cond b (movedTo (carried (changeAt l) (flowAt l i)) ((headAt l + 1) % l .plan .frames) (entryAt l i .share)) (carried (changeAt l) (flowAt l i))
+      either true = refl
+      either false = refl
+
+  spare-stays : (i : ℕ) → l .plan .count ≤ i → flowAt (recycled l) i ≡ flowAt l i
+  spare-stays i h =
+      let e : getD (recycled l .flows) i noFlow ≡ getD (l .flows) i noFlow = replaced-off _ _ (l .flows) i noFlow (past-run 0 (l .plan .count) i h) in
+      rw (e, row-not-carried (l .plan .count) (lastAt l) (baseAt l) (baseAt l + l .plan .slots) (l .held) i h)
 
   held-changed : (i : ℕ) → i < l .plan .count → table (sizeOf l) (λ q. getD (carried (changeAt l) (flowAt l i) .held) q 0)
       ≡ table (sizeOf l) (λ q. cond (eqb (q / l .plan .slots) (headAt l)) (model.holding (linkOf l) i (lastAt l)) (model.holding (linkOf l) i q))
   held-changed i h = table-same (sizeOf l) _ _ λ q b.
-      replaced-at _ _ (flowAt l i .held) q 0 (omega (arith, s .flows i h .long, size-most l s))
+      replaced-at _ _ (flowAt l i .held) q 0 (omega (arith, length-row (l .held) i, size-most l s))
       ∙ rw (head-run q, read-holding l i q h b, read-holding l i (lastAt l) h last-below)
 
   read-changed : (i : ℕ) → i < l .plan .count → flowOf (sizeOf l) (changed (changeAt l) i (flowAt l i)) ≡ tick.carriedOn (linkOf l) i (tick.leftHead (linkOf l) i)
@@ -180,7 +188,6 @@ module _ (l : Link) (s : Sound l) where
       part : (j c : ℕ) → j < l .plan .frames → SoundFlow (sizeOf l) (l .plan .frames) (movedTo (carried (changeAt l) (flowAt l i)) j c)
       part j c b = record {
         frame = b;
-        long = length-replaced _ _ (flowAt l i .held) ∙ s .flows i h .long;
         spare = λ q k. replaced-off _ _ (flowAt l i .held) q 0 (past-run _ _ q (omega (arith, base-fits))) ∙ s .flows i h .spare q k;
       }
 
@@ -196,8 +203,9 @@ module _ (l : Link) (s : Sound l) where
     owners = λ q b n. owner q b n (inRun (baseAt l) (baseAt l + l .plan .slots) q) refl;
     spare-owners = λ q h b. replaced-off _ _ (l .owner) q 0 (past-run _ _ q (omega (arith, base-fits))) ∙ s .spare-owners q h b;
     flows-long = length-replaced _ _ (l .flows) ∙ s .flows-long;
+    held-long = length-carried (l .plan .count) (lastAt l) (baseAt l) (baseAt l + l .plan .slots) (l .held) ∙ s .held-long;
     flows = λ i h. rw (flow-changed i h) (sound-changed i h);
-    spare-flows = λ i h b. replaced-off _ _ (l .flows) i noFlow (past-run 0 (l .plan .count) i h) ∙ s .spare-flows i h b;
+    spare-flows = λ i h b. spare-stays i h ∙ s .spare-flows i h b;
   }
     where
       owner : (q : ℕ) → q < 256 → (ownerAt (recycled l) q ≡ nobody → ⊥) → (t : Bool) → inRun (baseAt l) (baseAt l + l .plan .slots) q ≡ t → ownerAt (recycled l) q < l .plan .count
@@ -212,6 +220,7 @@ module _ (l : Link) (s : Sound l) where
     owners = s .owners;
     spare-owners = s .spare-owners;
     flows-long = s .flows-long;
+    held-long = s .held-long;
     flows = s .flows;
     spare-flows = s .spare-flows;
   }
@@ -222,7 +231,7 @@ module _ (l : Link) (s : Sound l) where
       → Stepped answerToTick (tick.tick (linkOf l)) (record { link = r; answer = answerToTick (ownerOf (ownerAt r (r .cp))) })
   turned r v e = rw e (refl, (ap answerToTick (sym (read-owner r (r .cp) (v .current))), v))
 
-  pub stayed : (nextAt l % l .plan .slots ≡ 0 → ⊥) → Stepped answerToTick (tick.tick (linkOf l)) (record { link = withCurrent l (nextAt l); answer = answerToTick (ownerOf (ownerAt l (nextAt l))) })
+  stayed : (nextAt l % l .plan .slots ≡ 0 → ⊥) → Stepped answerToTick (tick.tick (linkOf l)) (record { link = withCurrent l (nextAt l); answer = answerToTick (ownerOf (ownerAt l (nextAt l))) })
   unfolding tick.tick tick.advanced linkOf
   stayed n = turned (withCurrent l (nextAt l)) sound-moved (rw (ne-eqb _ _ n))
 
@@ -230,6 +239,57 @@ module _ (l : Link) (s : Sound l) where
   unfolding tick.tick linkOf
   went-on z = turned (recycled l) sound-recycled (ap (λ (m : model.Link). record { link = m; answer = model.owner m (nextAt l) }) (read-advanced z))
 
-  pub gone-on : {r : Link} {p : ℕ} {a : Answer} → r ≡ recycled l → p ≡ nextAt l → p % l .plan .slots ≡ 0 → a ≡ answerToTick (ownerOf (ownerAt r p))
-      → Stepped answerToTick (tick.tick (linkOf l)) (record { link = r; answer = a })
-  gone-on {r} {p} {a} is here z answer = rw (answer, is, here) (went-on (rw here at z))
+  -- ---- the window one position on
+
+  module _ {w on : Window} (is : window.windowOf w ≡ record { slots = l .plan .slots; frames = l .plan .frames; current = l .cp }) (v : window.Proper w) (t : window.Ticked w on) where
+    window-is : w ≡ record { slots = l .plan .slots; frames = l .plan .frames; current = l .cp; head = headAt l }
+    window-is =
+        let head = v .head-is ∙ ap (λ (x : Seen). x .current / x .slots) is in λ k.
+        record { slots = is k .slots; frames = is k .frames; current = is k .current; head = head k }
+
+    next-is : on .current ≡ nextAt l
+    next-is = ap (λ (x : Seen). x .current) (t .window-is) ∙ ap (λ (x : Window). (x .current + 1) % window.sizeOf x) window-is
+
+    slots-are : w .slots ≡ l .plan .slots
+    slots-are = ap (λ (x : Window). x .slots) window-is
+
+    -- the head frame stays
+    pub head-stays : {a : Answer} → on .head ≡ w .head → a ≡ answerToTick (ownerOf (ownerAt l (on .current)))
+        → Stepped answerToTick (tick.tick (linkOf l)) (record { link = withCurrent l (on .current); answer = a })
+    head-stays e answer = rw (answer, next-is) (stayed (λ z. t .stays e (rw (next-is, slots-are) z)))
+
+    -- the head frame is left
+    pub head-left : {a : Answer} {o h : List ℕ} {fs : List Flow} → (on .head ≡ w .head → ⊥)
+        → o ≡ replaced (inRun (window.baseOf w) (window.baseOf w + w .slots)) (λ q x. nobody) (l .owner)
+        → h ≡ carriedRows (l .plan .count) ((window.baseOf w + window.sizeOf w - 1) % window.sizeOf w) (window.baseOf w) (window.baseOf w + w .slots) (l .held)
+        → fs ≡ replaced (inRun 0 (l .plan .count)) (λ i f. leftHead (w .head) (on .head) (entryAt l i .share) f) (l .flows)
+        → a ≡ answerToTick (ownerOf (getD o (on .current) 0))
+        → Stepped answerToTick (tick.tick (linkOf l)) (record { link = record { plan = l .plan; cp = on .current; owner = o; flows = fs; held = h }; answer = a })
+    head-left {a} {o} {h} {fs} n owners held flows answer = subst (Stepped answerToTick (tick.tick (linkOf l))) (sym same) (went-on (rw (← next-is, ← slots-are) (t .leaves n .0)))
+      where
+        owners-are : o ≡ recycled l .owner
+        owners-are = owners ∙ ap (λ (x : Window). replaced (inRun (window.baseOf x) (window.baseOf x + x .slots)) (λ q x. nobody) (l .owner)) window-is
+
+        held-is : h ≡ recycled l .held
+        held-is = held ∙ ap (λ (x : Window). carriedRows (l .plan .count) ((window.baseOf x + window.sizeOf x - 1) % window.sizeOf x) (window.baseOf x) (window.baseOf x + x .slots) (l .held)) window-is
+
+        flows-are : fs ≡ recycled l .flows
+        flows-are =
+            flows
+            ∙ ap (λ (j : ℕ). replaced (inRun 0 (l .plan .count)) (λ i f. leftHead (w .head) j (entryAt l i .share) f) (l .flows)) (t .leaves n .1)
+            ∙ ap (λ (x : Window). replaced (inRun 0 (l .plan .count)) (λ i f. leftHead (x .head) ((x .head + 1) % x .frames) (entryAt l i .share) f) (l .flows)) window-is
+
+        link-is : record { plan = l .plan; cp = on .current; owner = o; flows = fs; held = h } ≡ recycled l
+        link-is = λ k. record { plan = l .plan; cp = next-is k; owner = owners-are k; flows = flows-are k; held = held-is k }
+
+        answer-is : a ≡ answerToTick (ownerOf (ownerAt (recycled l) (nextAt l)))
+        answer-is = answer ∙ ap (λ (x : Link). answerToTick (ownerOf (ownerAt x (x .cp)))) link-is
+
+        same : _≡_ {A = Step} (record { link = record { plan = l .plan; cp = on .current; owner = o; flows = fs; held = h }; answer = a }) (record { link = recycled l; answer = answerToTick (ownerOf (ownerAt (recycled l) (nextAt l))) })
+        same = λ k. record { link = link-is k; answer = answer-is k }
+
+-- the same of an equal link, whose owner at its current position is answered
+pub same-turn : (l : Link) {a : Answer} (p : ℕ) {x y : Link} → x ≡ y → a ≡ answerToTick (ownerOf (ownerAt x p))
+    → (a ≡ answerToTick (ownerOf (ownerAt y p)) → Stepped answerToTick (tick.tick (linkOf l)) (record { link = withCurrent y p; answer = a }))
+    → Stepped answerToTick (tick.tick (linkOf l)) (record { link = withCurrent x p; answer = a })
+same-turn l {a} p e answer then = subst (λ (z : Link). a ≡ answerToTick (ownerOf (ownerAt z p)) → Stepped answerToTick (tick.tick (linkOf l)) (record { link = withCurrent z p; answer = a })) (sym e) then answer

@@ -1,8 +1,10 @@
 pub mod Runs
+pub mod Rows
 pub mod Window
 pub mod Holdings
 pub mod Parts
 pub mod Reading
 pub mod Sound
+pub mod Change
 pub mod Search
 pub mod Run

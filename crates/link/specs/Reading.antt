@@ -1,13 +1,12 @@
 -- A link read as the paper's: the first T positions, the first n flows; and the paper's link as it is stored. Assumes nothing.
-use Prim.Native.Nat.{ℕ}
+use Prim.Native.Nat.{ℕ, _/_, _%_}
 use mathlib.Core.List.{List}
 use mathlib.Core.Option.{Option, some, none}
 use mathlib.Core.Bool.{cond}
 use lib.ListN.{getD, replicate}
 use lib.Dec.{eqb}
-use Rattle.link.specs.declared.Flow.{Flow}
 use Rattle.link.specs.declared.Link.{Link}
-use Rattle.link.specs.Parts.{sizeOf, flowAt, ownerAt}
+use Rattle.link.specs.Parts.{Part, sizeOf, flowAt, ownerAt}
 use Rattle.plan.specs.Reading as plan
 use Rattle.model.specs.Tables.{table}
 use Rattle.model.specs.Link as model
@@ -22,7 +21,7 @@ abbrev pub ownerOf : ℕ → Option ℕ
 ownerOf x = cond (eqb x nobody) none (some x)
 
 -- the holdings at the first T positions
-abbrev pub flowOf : ℕ → Flow → model.Flow
+abbrev pub flowOf : ℕ → Part → model.Flow
 flowOf T f = record { injection = f .frame; remainder = f .left; held = table T (λ p. getD (f .held) p 0) }
 
 unfoldable pub linkOf : Link → model.Link
@@ -39,21 +38,23 @@ linkOf l = record {
 unfoldable pub everywhere : ℕ → List ℕ
 everywhere v = replicate 256 v
 
+-- nothing at any place of 16 rows
+unfoldable pub heldNowhere : List ℕ
+heldNowhere = replicate 4096 0
+
 -- what stands in the place of a flow that the plan does not have
-abbrev pub spareFlow : Flow
+abbrev pub spareFlow : Part
 spareFlow = record { frame = 0; left = 0; held = everywhere 0 }
 
 abbrev pub storedOwner : Option ℕ → ℕ
 storedOwner none = nobody
 storedOwner (some i) = i
 
-abbrev pub storedFlow : model.Flow → Flow
-storedFlow x = record { frame = x .injection; left = x .remainder; held = table 256 (λ p. getD (x .held) p 0) }
-
 unfoldable pub stored : model.Link → Link
 stored m = record {
   plan = plan.stored (m .plan);
   cp = m .current;
   owner = table 256 (λ p. storedOwner (model.owner m p));
-  flows = table 16 (λ i. storedFlow (model.flow m i));
+  flows = table 16 (λ i. record { frame = model.flow m i .injection; left = model.flow m i .remainder });
+  held = table 4096 (λ k. model.holding m (k / 256) (k % 256));
 }

@@ -4,18 +4,8 @@ use mathlib.Core.Path.{_≡_}
 use mathlib.Core.List.{List}
 use lib.ListN.{length, take}
 use lib.Seq.{sets}
-use Rattle.link.specs.declared.Step.{Step}
-use Rattle.calls.specs.declared.Call.{Call}
-use Rattle.calls.specs.declared.Record.{Record}
-use Rattle.calls.specs.Reading.{lineFor, callIn}
 use Rattle.model.specs.Link.{Link}
-use Rattle.model.specs.Listing.{lineOf, made, listing, linkAfter}
-use Rattle.link.specs.Reading.{linkOf}
-
--- r is the link after a call, with an answer whose line is the paper's.
-pub record Made (l : Link) (call : Call) (r : Step) : Type 0 where
-  pub link-is : linkOf (r .link) ≡ made l (callIn (Record.Call call)) .link
-  pub line-is : lineFor (r .answer) ≡ lineOf (made l (callIn (Record.Call call)) .answer)
+use Rattle.model.specs.Listing.{listing, linkAfter}
 
 -- how many whole records there are, and no more than there is room for, seven bytes a line
 abbrev pub playable : (records out : List ℕ) → ℕ

@@ -3,7 +3,7 @@ use Prim.Native.Nat.{ℕ, suc, _+_, _-_, _≤_, _<_}
 use mathlib.Core.Path.{_≡_}
 use mathlib.Core.List.{List, [], _∷_}
 use mathlib.Core.Bool.{Bool, true, false, _&&_, cond}
-use lib.Dec.{leb, ltb}
+use lib.Dec.{leb, ltb, eqb}
 
 -- the run from a to e: the positions a, a + 1, .., e - 1
 unfoldable pub inRun : ℕ → ℕ → ℕ → Bool
@@ -17,7 +17,7 @@ module _ {A : Type 0} where
 
 -- a byte moved by a number, modulo 256
 unfoldable pub wrapped : ℕ → ℕ → ℕ
-wrapped by x = cond (ltb (x + by) 256) (x + by) (x + by - 256)
+wrapped by x = cond (eqb by 0) x (cond (ltb (x + by) 256) (x + by) (x + by - 256))
 
 -- a position of the run from a to e that fails t
 pub record Miss (t : ℕ → Bool) (a e : ℕ) : Type 0 where

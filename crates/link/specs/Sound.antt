@@ -4,16 +4,14 @@
 use Prim.Native.Nat.{ℕ, _≤_, _<_}
 use mathlib.Core.Path.{_≡_}
 use lib.ListN.{length, getD}
-use Rattle.link.specs.declared.Flow.{Flow}
 use Rattle.link.specs.declared.Link.{Link}
-use Rattle.link.specs.Parts.{sizeOf, flowAt, ownerAt}
+use Rattle.link.specs.Parts.{Part, sizeOf, flowAt, ownerAt}
 use Rattle.link.specs.Reading.{nobody, spareFlow}
 use Rattle.plan.specs.Reading.{Valid}
 
 -- a flow's part: IF is one of W frames, and nothing is held past the T positions
-pub record SoundFlow (T W : ℕ) (f : Flow) : Type 0 where
+pub record SoundFlow (T W : ℕ) (f : Part) : Type 0 where
   pub frame : f .frame < W
-  pub long : length (f .held) ≡ 256
   pub spare : (p : ℕ) → T ≤ p → getD (f .held) p 0 ≡ 0
 
 pub record Sound (l : Link) : Type 0 where
@@ -24,5 +22,6 @@ pub record Sound (l : Link) : Type 0 where
   pub owners : (p : ℕ) → p < 256 → (ownerAt l p ≡ nobody → ⊥) → ownerAt l p < l .plan .count
   pub spare-owners : (p : ℕ) → sizeOf l ≤ p → p < 256 → ownerAt l p ≡ nobody
   pub flows-long : length (l .flows) ≡ 16
+  pub held-long : length (l .held) ≡ 4096
   pub flows : (i : ℕ) → i < l .plan .count → SoundFlow (sizeOf l) (l .plan .frames) (flowAt l i)
   pub spare-flows : (i : ℕ) → l .plan .count ≤ i → i < 16 → flowAt l i ≡ spareFlow

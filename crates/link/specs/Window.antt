@@ -1,5 +1,5 @@
 -- The window that a call works with, read as the paper's. Assumes nothing.
-use Prim.Native.Nat.{ℕ, _+_, _*_, _/_, _≤_, _<_}
+use Prim.Native.Nat.{ℕ, _+_, _*_, _/_, _%_, _≤_, _<_}
 use mathlib.Core.Path.{_≡_}
 use mathlib.Core.Bool.{Bool, _&&_}
 use lib.Dec.{ltb}
@@ -34,6 +34,13 @@ pub record Proper (w : Window) : Type 0 where
   pub base-low : baseOf w ≤ w .current
   pub base-high : w .current < baseOf w + w .slots
   pub base-fits : baseOf w + w .slots ≤ sizeOf w
+
+-- on is the window one position on from w; its head is another one exactly at the first position of a frame
+pub record Ticked (w on : Window) : Type 0 where
+  pub window-is : windowOf on ≡ record { slots = w .slots; frames = w .frames; current = (w .current + 1) % sizeOf w }
+  pub proper : Proper on
+  pub stays : on .head ≡ w .head → on .current % w .slots ≡ 0 → ⊥
+  pub leaves : (on .head ≡ w .head → ⊥) → (on .current % w .slots ≡ 0) × (on .head ≡ (w .head + 1) % w .frames)
 
 -- q is a position of the window: p, or one later than p
 unfoldable pub fromIn : model.Window → ℕ → ℕ → Bool

@@ -1,15 +1,48 @@
 // The credit.
 ghost use mathlib.Core.Path.{_≡_};
+ghost use Prim.Native.Nat.{_≤_};
+ghost use Rattle.model.specs.Refusals.{firstOf};
 ghost use Rattle.model.specs.Credit as model;
-ghost use Rattle.link.specs.Reading.{linkOf};
 ghost use Rattle.calls.specs.Reading.{answerToCredit};
+ghost use Rattle.link.specs.Reading.{linkOf};
 ghost use Rattle.link.specs.Sound.{Sound};
+ghost use Rattle.link.specs.Window.{Proper};
+ghost use Rattle.link.specs.declared.Link.{Link};
+ghost use Rattle.link.specs.Change.{Around, Creditable};
 use crate::Answer;
 use crate::Link;
 use crate::Step;
+use crate::Window;
 use crate::holdings::held_from;
-use crate::holdings::lower;
+use crate::holdings::shift_from;
 use crate::positions::window;
+
+// The refusal of a credit, and 0 where it is taken: n flows, the window, and what each flow holds.
+pub(crate) fn refusal(
+    count: usize,
+    w: Window,
+    held: &[u8; 4096],
+    flow: usize,
+    position: usize,
+) -> u8
+    requires { ⌜ Proper w × (count ≤ 16) ⌝ }
+    ensures is { λ r. ⌜ ((l : Link) → Around l count w (now (held .entry)) → r ≡ firstOf (model.creditTests (linkOf l) flow position)) ⌝ }
+    ensures taken { λ r. ⌜ (r ≡ 0 → Creditable count w (now (held .entry)) flow position) ⌝ }
+{
+    if count <= flow {
+        return 8;
+    }
+    if w.slots * w.frames <= position {
+        return 13;
+    }
+    if w.passed(position) {
+        return 14;
+    }
+    if held_from(held, flow, w, position) {
+        return 0;
+    }
+    15
+}
 
 impl Link {
     // A flow's cell falls free from a position on.
@@ -19,37 +52,18 @@ impl Link {
         ensures answer { λ r. ⌜ r .answer ≡ answerToCredit (model.credit (linkOf self) flow position .answer) ⌝ }
         ensures sound { λ r. ⌜ Sound (r .link) ⌝ }
     {
-        if self.plan.count <= flow {
-            return Step {
-                link: self,
-                answer: Answer::Refused(8),
-            };
-        }
-        if self.plan.slots * self.plan.frames <= position {
-            return Step {
-                link: self,
-                answer: Answer::Refused(13),
-            };
-        }
         let w = window(self.plan.slots, self.plan.frames, self.cp);
-        if w.passed(position) {
+        let number = refusal(self.plan.count, w, &self.held, flow, position);
+        if number != 0 {
             return Step {
                 link: self,
-                answer: Answer::Refused(14),
+                answer: Answer::Refused(number),
             };
         }
-        let mut f = self.flows[flow];
-        if held_from(&f.held, w, position) {
-            lower(&mut f.held, w, position);
-            self.flows[flow] = f;
-            return Step {
-                link: self,
-                answer: Answer::Taken,
-            };
-        }
+        shift_from(&mut self.held, 255, flow, w, position);
         Step {
             link: self,
-            answer: Answer::Refused(15),
+            answer: Answer::Taken,
         }
     }
 }

@@ -1,46 +1,37 @@
-// What a flow holds at each position. "From p on" is p and every later position of the window: one straight run, or two.
+// What each flow holds at each position: what flow i holds at position p stands at 256 * i + p.
 ghost use mathlib.Core.Path.{_≡_};
-ghost use mathlib.Core.Bool.{true};
-ghost use Prim.Native.Nat.{ℕ, suc, _-_, _≤_, _<_};
-ghost use lib.Dec.{leb};
+ghost use mathlib.Core.Bool.{cond};
+ghost use Prim.Native.Nat.{ℕ, _+_, _-_, _≤_, _<_, max};
+ghost use lib.Dec.{leb, ltb};
+ghost use lib.ListN.{getD};
 ghost use Rattle.model.specs.Window as model;
 ghost use Rattle.link.specs.Runs.{inRun, replaced, wrapped, All, LastIn};
 ghost use Rattle.link.specs.Window.{windowOf, sizeOf, Proper, fromIn};
+ghost use Rattle.link.specs.Rows.{row, withRow};
 ghost use Rattle.link.specs.Holdings.{someHeld, roomAt};
 use crate::Window;
-use std::num::wrapping_add_u8;
+use crate::bytes::chosen;
+use crate::bytes::greater;
+use crate::bytes::lesser;
+use crate::bytes::moved;
+use crate::bytes::on_by_one;
+use crate::bytes::to_zero;
 
-// One value at every position of the run from a to e.
-pub(crate) fn fill(table: &mut [u8; 256], value: u8, a: usize, e: usize)
-    requires { ⌜ (a ≤ e) × (e ≤ 256) ⌝ }
-    ensures { λ r. ⌜ now (table .exit) ≡ replaced (inRun a e) (λ q x. value) (now (table .entry)) ⌝ }
+// One value at every place of the run from a to e.
+pub(crate) fn fill(held: &mut [u8; 4096], value: u8, a: usize, e: usize)
+    requires { ⌜ (a ≤ e) × (e ≤ 4096) ⌝ }
+    ensures { λ r. ⌜ now (held .exit) ≡ replaced (inRun a e) (λ q x. value) (now (held .entry)) ⌝ }
 {
     let mut q = a;
     while q < e {
-        table[q] = value;
+        held[q] = value;
         q += 1;
     }
 }
 
-// Whether something is held at every position of the run from a to e.
-fn held_in(held: &[u8; 256], a: usize, e: usize) -> bool
-    requires { ⌜ (a ≤ e) × (e ≤ 256) ⌝ }
-    ensures { λ r. ⌜ All (someHeld (now (held .entry))) a e r ⌝ }
-{
-    let mut all = true;
-    let mut q = a;
-    while q < e {
-        if held[q] == 0 {
-            all = false;
-        }
-        q += 1;
-    }
-    all
-}
-
-// Whether fewer than the cells are held at every position of the run from a to e.
-fn room_in(held: &[u8; 256], cells: u8, a: usize, e: usize) -> bool
-    requires { ⌜ (a ≤ e) × (e ≤ 256) ⌝ }
+// Whether fewer than the cells are held at every place of the run from a to e.
+fn room_in(held: &[u8; 4096], cells: u8, a: usize, e: usize) -> bool
+    requires { ⌜ (a ≤ e) × (e ≤ 4096) ⌝ }
     ensures { λ r. ⌜ All (roomAt (now (held .entry)) cells) a e r ⌝ }
 {
     let mut all = true;
@@ -54,9 +45,9 @@ fn room_in(held: &[u8; 256], cells: u8, a: usize, e: usize) -> bool
     all
 }
 
-// One more than the last position of a run at which no fewer than the cells are held, or the first position.
-fn last_full(held: &[u8; 256], cells: u8, a: usize, e: usize) -> usize
-    requires { ⌜ (a ≤ e) × (e ≤ 256) ⌝ }
+// One more than the last place of a run at which no fewer than the cells are held, or the first place.
+fn last_full(held: &[u8; 4096], cells: u8, a: usize, e: usize) -> usize
+    requires { ⌜ (a ≤ e) × (e ≤ 4096) ⌝ }
     ensures { λ r. ⌜ LastIn (roomAt (now (held .entry)) cells) a e r ⌝ }
 {
     let mut q = e;
@@ -69,83 +60,89 @@ fn last_full(held: &[u8; 256], cells: u8, a: usize, e: usize) -> usize
     q
 }
 
-// The rank from which on there is room at every position.
-pub(crate) fn room_rank(held: &[u8; 256], cells: u8, w: Window) -> usize
-    requires { ⌜ Proper w ⌝ }
-    ensures { λ r. ⌜ ((p : ℕ) → p < sizeOf w → leb r (model.rank (windowOf w) p) ≡ model.everyFrom (windowOf w) p (roomAt (now (held .entry)) cells)) ⌝ }
+// The rank from which on flow i has room at every position.
+pub(crate) fn room_rank(held: &[u8; 4096], i: usize, cells: u8, w: Window) -> usize
+    requires { ⌜ Proper w × (i < 16) ⌝ }
+    ensures { λ r. ⌜ ((p : ℕ) → p < sizeOf w → leb r (model.rank (windowOf w) p) ≡ model.everyFrom (windowOf w) p (roomAt (row (now (held .entry)) i) cells)) ⌝ }
 {
-    let size = w.slots * w.frames;
-    let base = w.head * w.slots;
-    if room_in(held, cells, 0, size) {
+    let first = 256 * i;
+    let head = first + w.head * w.slots;
+    let past = first + w.slots * w.frames;
+    if room_in(held, cells, first, past) {
         return 0;
     }
-    let k = last_full(held, cells, 0, base);
-    if 0 < k {
-        return k + size - base;
+    let k = last_full(held, cells, first, head);
+    if first < k {
+        return k + past - first - head;
     }
-    last_full(held, cells, base, size) - base
+    last_full(held, cells, head, past) - head
 }
 
-// Whether something is held from p on.
-pub(crate) fn held_from(held: &[u8; 256], w: Window, p: usize) -> bool
-    requires { ⌜ Proper w × (p < sizeOf w) ⌝ }
-    ensures { λ r. ⌜ r ≡ model.everyFrom (windowOf w) p (someHeld (now (held .entry))) ⌝ }
+// Whether at every place from a to e something is held, or the pad is not 0: `inner` at `count` places from `start` on, counted from a, and `outer` at the others.
+fn held_in(
+    held: &[u8; 4096],
+    a: usize,
+    e: usize,
+    start: u8,
+    count: u8,
+    inner: u8,
+    outer: u8,
+) -> bool
+    requires { ⌜ (a ≤ e) × (e ≤ 4096) × (e ≤ a + 256) × (start + count ≤ 256) ⌝ }
+    ensures { λ r. ⌜ All (λ k. ltb 0 (max (getD (now (held .entry)) k 0) (cond (inRun start (start + count) (k - a)) inner outer))) a e r ⌝ }
 {
+    let mut least = 255u8;
+    let mut q = a;
+    let mut x = to_zero(start);
+    while q < e {
+        let pad = chosen(x, count, inner, outer);
+        least = lesser(least, greater(held[q], pad));
+        x = on_by_one(x);
+        q += 1;
+    }
+    0 < least
+}
+
+// Whether flow i holds something from p on.
+pub(crate) fn held_from(held: &[u8; 4096], i: usize, w: Window, p: usize) -> bool
+    requires { ⌜ Proper w × (p < sizeOf w) × (i < 16) ⌝ }
+    ensures { λ r. ⌜ r ≡ model.everyFrom (windowOf w) p (someHeld (row (now (held .entry)) i)) ⌝ }
+{
+    let first = 256 * i;
+    let past = first + w.slots * w.frames;
     let base = w.head * w.slots;
     if base <= p {
-        if held_in(held, p, w.slots * w.frames) {
-            return held_in(held, 0, base);
-        }
-        return false;
+        return held_in(held, first, past, base as u8, (p - base) as u8, 255, 0);
     }
-    held_in(held, p, base)
+    held_in(held, first, past, p as u8, (base - p) as u8, 0, 255)
 }
 
-// A byte moved by a number modulo 256.
-fn moved(x: u8, by: u8) -> u8
-    ensures { λ r. ⌜ r ≡ wrapped by x ⌝ }
-{
-    wrapping_add_u8(x, by)
-}
-
-// The holdings of the run from a to e, each moved by a number modulo 256.
-fn shift(held: &mut [u8; 256], by: u8, a: usize, e: usize)
-    requires { ⌜ (a ≤ e) × (e ≤ 256) ⌝ }
-    ensures { λ r. ⌜ now (held .exit) ≡ replaced (inRun a e) (λ q x. wrapped by x) (now (held .entry)) ⌝ }
+// The holdings from a to e moved modulo 256: by `inner` at `count` places from `start` on, counted from a, and by `outer` at the others.
+fn shift(held: &mut [u8; 4096], a: usize, e: usize, start: u8, count: u8, inner: u8, outer: u8)
+    requires { ⌜ (a ≤ e) × (e ≤ 4096) × (e ≤ a + 256) × (start + count ≤ 256) ⌝ }
+    ensures { λ r. ⌜ now (held .exit) ≡ replaced (inRun a e) (λ k x. wrapped (cond (inRun start (start + count) (k - a)) inner outer) x) (now (held .entry)) ⌝ }
 {
     let mut q = a;
+    let mut x = to_zero(start);
     while q < e {
+        let by = chosen(x, count, inner, outer);
         held[q] = moved(held[q], by);
+        x = on_by_one(x);
         q += 1;
     }
 }
 
-// The holdings from p on, each moved by a number modulo 256.
-fn shift_from(held: &mut [u8; 256], by: u8, w: Window, p: usize)
-    requires { ⌜ Proper w × (p < sizeOf w) ⌝ }
-    ensures { λ r. ⌜ now (held .exit) ≡ replaced (fromIn (windowOf w) p) (λ q x. wrapped by x) (now (held .entry)) ⌝ }
+// Flow i's holdings from p on, each moved by a number modulo 256.
+pub(crate) fn shift_from(held: &mut [u8; 4096], by: u8, i: usize, w: Window, p: usize)
+    requires { ⌜ Proper w × (p < sizeOf w) × (i < 16) ⌝ }
+    ensures { λ r. ⌜ now (held .exit) ≡ withRow (now (held .entry)) i (replaced (fromIn (windowOf w) p) (λ q x. wrapped by x) (row (now (held .entry)) i)) ⌝ }
 {
+    let first = 256 * i;
+    let past = first + w.slots * w.frames;
     let base = w.head * w.slots;
     if base <= p {
-        shift(held, by, p, w.slots * w.frames);
-        shift(held, by, 0, base);
+        shift(held, first, past, base as u8, (p - base) as u8, 0, by);
         return;
     }
-    shift(held, by, p, base);
-}
-
-// The holdings from p on rise by one.
-pub(crate) fn raise(held: &mut [u8; 256], w: Window, p: usize, cells: u8)
-    requires { ⌜ Proper w × (p < sizeOf w) × (model.everyFrom (windowOf w) p (roomAt (now held) cells) ≡ true) ⌝ }
-    ensures { λ r. ⌜ now (held .exit) ≡ replaced (fromIn (windowOf w) p) (λ q x. suc x) (now (held .entry)) ⌝ }
-{
-    shift_from(held, 1, w, p);
-}
-
-// The holdings from p on fall by one.
-pub(crate) fn lower(held: &mut [u8; 256], w: Window, p: usize)
-    requires { ⌜ Proper w × (p < sizeOf w) × (model.everyFrom (windowOf w) p (someHeld (now held)) ≡ true) ⌝ }
-    ensures { λ r. ⌜ now (held .exit) ≡ replaced (fromIn (windowOf w) p) (λ q x. x - 1) (now (held .entry)) ⌝ }
-{
-    shift_from(held, 255, w, p);
+    shift(held, first, past, p as u8, (base - p) as u8, by, 0);
 }

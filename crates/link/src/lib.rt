@@ -1,7 +1,9 @@
 // One link of a plan: its current position, the owner of each position, and each flow's part.
 mod positions; // positions and frames, going round
-mod holdings; // what a flow holds at each position
+mod bytes; // the lesser and the larger byte, and bytes going round
+mod holdings; // what each flow holds at each position
 mod search; // the search for a position to book
+mod change; // what a request stores
 mod credit;
 mod fresh;
 mod request;
@@ -12,19 +14,19 @@ use calls::Answer;
 use plan::Plan;
 pub use run::Run;
 
-// A flow's part: its injection frame, its remainder, and what it holds at each position.
+// A flow's injection frame and its remainder.
 pub struct Flow {
     frame: usize,
     left: usize,
-    held: [u8; 256],
 }
 
-// A link; 16 is the owner of a position that nobody booked.
+// A link; 16 is the owner of a position that nobody booked. What flow i holds at position p stands at 256 * i + p.
 pub struct Link {
     plan: Plan,
     cp: usize,
     owner: [u8; 256],
     flows: [Flow; 16],
+    held: [u8; 4096],
 }
 
 // What a call hands back.

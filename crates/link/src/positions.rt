@@ -3,7 +3,7 @@ ghost use mathlib.Core.Path.{_≡_};
 ghost use Prim.Native.Nat.{_+_, _-_, _*_, _/_, _%_, _≤_, _<_};
 ghost use Rattle.model.specs.Tables as tables;
 ghost use Rattle.model.specs.Window as model;
-ghost use Rattle.link.specs.Window.{windowOf, sizeOf, Measures, Proper};
+ghost use Rattle.link.specs.Window.{windowOf, sizeOf, Measures, Proper, Ticked};
 use crate::Window;
 
 // How far `to` lies ahead of `at`, going round m places.
@@ -75,5 +75,28 @@ impl Window {
         ensures { λ r. ⌜ r ≡ model.newest (windowOf self) ⌝ }
     {
         before(self.frames, self.head)
+    }
+
+    // The window one position on.
+    pub(crate) fn ticked(self) -> Window
+        requires { ⌜ Proper self ⌝ }
+        ensures is { λ r. ⌜ Ticked self r ⌝ }
+    {
+        let current = self.current + 1;
+        if current < self.head * self.slots + self.slots {
+            return Window {
+                slots: self.slots,
+                frames: self.frames,
+                current,
+                head: self.head,
+            };
+        }
+        let head = next(self.frames, self.head);
+        Window {
+            slots: self.slots,
+            frames: self.frames,
+            current: head * self.slots,
+            head,
+        }
     }
 }

@@ -1,38 +1,47 @@
 // The request.
 ghost use mathlib.Core.Path.{_≡_};
 ghost use mathlib.Core.Bool.{cond};
+ghost use Prim.Native.Nat.{_*_, _<_};
 ghost use lib.Dec.{eqb};
-ghost use Rattle.plan.specs.Reading.{Valid, planFor};
+ghost use lib.ListN.{getD};
+ghost use Rattle.plan.specs.Reading.{planFor, noEntry};
+ghost use Rattle.plan.specs.declared.Plan.{Plan};
 ghost use Rattle.model.specs.Refusals.{firstOf};
+ghost use Rattle.model.specs.Word.{flowOf};
 ghost use Rattle.model.specs.Request as model;
-ghost use Rattle.link.specs.Reading.{linkOf};
 ghost use Rattle.calls.specs.Reading.{answerToRequest};
+ghost use Rattle.link.specs.declared.Link.{Link};
+ghost use Rattle.link.specs.Reading.{linkOf};
 ghost use Rattle.link.specs.Sound.{Sound};
+ghost use Rattle.link.specs.Window.{sizeOf};
+ghost use Rattle.link.specs.Change as change;
+ghost use Rattle.link.specs.Change.{Given, Of, changed, Stepped};
 use crate::Answer;
+use crate::Flow;
 use crate::Found;
 use crate::Link;
 use crate::Step;
-use crate::holdings::raise;
+use crate::Window;
+use crate::change::Change;
+use crate::change::placed;
+use crate::holdings::shift_from;
 use crate::positions::window;
 use crate::search::search;
 use crate::search::valid_rank;
-use plan::Plan;
+use plan::Entry;
 
-// The refusal of a word by its own tests, and 0 where it passes them.
-fn refusal(plan: Plan, word: u32) -> u8
-    requires { ⌜ Valid plan ⌝ }
-    ensures { λ r. ⌜ r ≡ firstOf (model.wordTests (planFor plan) word) ⌝ }
+// The refusal of a word by its own tests, and 0 where it passes them: n flows, the entry of the word's flow, and T.
+fn refusal(count: usize, e: Entry, size: usize, word: u32) -> u8
+    ensures { λ r. ⌜ ((p : Plan) → p .count ≡ count → getD (p .entries) (change.placed count (flowOf word)) noEntry ≡ e → p .slots * p .frames ≡ size → r ≡ firstOf (model.wordTests (planFor p) word)) ⌝ }
 {
     let fields = word::split(word);
-    let i = fields.flow as usize;
-    if plan.count <= i {
+    if count <= fields.flow as usize {
         return 8;
     }
-    let e = plan.entries[i];
     if fields.destination != e.destination {
         return 9;
     }
-    if plan.slots * plan.frames <= fields.departure as usize {
+    if size <= fields.departure as usize {
         return 10;
     }
     0
@@ -48,6 +57,64 @@ fn nowhere(left: usize) -> Answer
     Answer::Refused(12)
 }
 
+// The flow of a word, or 0 where the plan does not have it.
+pub(crate) fn asker(count: usize, word: u32) -> usize
+    ensures { λ r. ⌜ r ≡ change.placed count (flowOf word) ⌝ }
+{
+    let fields = word::split(word);
+    placed(count, fields.flow as usize)
+}
+
+// The change by a word that asks for a slot, where its flow is i.
+pub(crate) fn ask<'a>(
+    count: usize,
+    e: Entry,
+    w: Window,
+    owner: &'a [u8; 256],
+    held: &'a [u8; 4096],
+    i: usize,
+    flow: Flow,
+    word: u32,
+) -> Change
+    requires { ⌜ Given count e w (now owner) (now held) i flow × (i ≡ change.placed count (flowOf word)) ⌝ }
+    ensures is { λ r. ⌜ ((l : Link) → Of l count e w (now (owner .entry)) (now (held .entry)) i flow → Stepped answerToRequest (model.request (linkOf l) word) (changed l i r)) ⌝ }
+    ensures place { λ r. ⌜ r .position < sizeOf w ⌝ }
+{
+    let number = refusal(count, e, w.slots * w.frames, word);
+    if number != 0 {
+        return Change {
+            flow,
+            position: 0,
+            owner: owner[0],
+            granted: false,
+            answer: Answer::Refused(number),
+        };
+    }
+    let low = valid_rank(held, i, e.cells, w);
+    let found = search(owner, w, low, e.share as usize, flow.frame, flow.left);
+    match found {
+        Found::At(frame, left, position) => {
+            return Change {
+                flow: Flow { frame, left },
+                position,
+                owner: i as u8,
+                granted: true,
+                answer: Answer::Granted(word::depart(word, position as u8)),
+            };
+        }
+        Found::Nowhere(left) => {
+            let frame = w.newest();
+            return Change {
+                flow: Flow { frame, left },
+                position: 0,
+                owner: owner[0],
+                granted: false,
+                answer: nowhere(left),
+            };
+        }
+    }
+}
+
 impl Link {
     // A word asks for a slot.
     pub fn request(mut self, word: u32) -> Step
@@ -57,41 +124,19 @@ impl Link {
         ensures sound { λ r. ⌜ Sound (r .link) ⌝ }
     {
         let plan = self.plan;
-        let number = refusal(plan, word);
-        if number != 0 {
-            return Step {
-                link: self,
-                answer: Answer::Refused(number),
-            };
-        }
-        let fields = word::split(word);
-        let i = fields.flow as usize;
+        let i = asker(plan.count, word);
         let e = plan.entries[i];
+        let flow = self.flows[i];
         let w = window(plan.slots, plan.frames, self.cp);
-        let mut f = self.flows[i];
-        let low = valid_rank(&f.held, e.cells, w);
-        let found = search(&self.owner, w, low, e.share as usize, f.frame, f.left);
-        match found {
-            Found::At(frame, left, position) => {
-                f.frame = frame;
-                f.left = left;
-                raise(&mut f.held, w, position, e.cells);
-                self.flows[i] = f;
-                self.owner[position] = fields.flow;
-                return Step {
-                    link: self,
-                    answer: Answer::Granted(word::depart(word, position as u8)),
-                };
-            }
-            Found::Nowhere(left) => {
-                f.frame = w.newest();
-                f.left = left;
-                self.flows[i] = f;
-                return Step {
-                    link: self,
-                    answer: nowhere(left),
-                };
-            }
+        let change = ask(plan.count, e, w, &self.owner, &self.held, i, flow, word);
+        let flow = change.flow;
+        self.flows[i] = flow;
+        let position = change.position;
+        self.owner[position] = change.owner;
+        if change.granted {
+            shift_from(&mut self.held, 1, i, w, position);
         }
+        let answer = change.answer;
+        Step { link: self, answer }
     }
 }

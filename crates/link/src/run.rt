@@ -1,15 +1,19 @@
 // A run over a slice of call records.
 ghost use mathlib.Core.Path.{_≡_};
-ghost use Prim.Native.Nat.{_+_, _≤_, min};
-ghost use lib.ListN.{take, drop};
-ghost use Rattle.model.specs.Record.{callOf};
-ghost use Rattle.model.specs.Listing.{lineOf, made};
-ghost use Rattle.calls.specs.Lines.{outWith, nextAfter};
+ghost use Prim.Native.Nat.{min};
 ghost use Rattle.link.specs.Reading.{linkOf};
 ghost use Rattle.link.specs.Sound.{Sound};
-ghost use Rattle.link.specs.Run.{Made, Played};
+ghost use Rattle.link.specs.Run.{Played};
 use crate::Link;
-use crate::Step;
+use crate::credit::refusal;
+use crate::holdings::shift_from;
+use crate::positions::window;
+use crate::request::ask;
+use crate::request::asker;
+use crate::tick::carry_head;
+use crate::tick::empty_head;
+use crate::tick::leave_head;
+use crate::tick::turn;
 use calls::Answer;
 use calls::Call;
 use calls::Record;
@@ -23,12 +27,6 @@ pub struct Run {
     pub written: usize,
 }
 
-// A link after a record, and the place after its line.
-struct Line {
-    link: Link,
-    next: usize,
-}
-
 fn least(a: usize, b: usize) -> usize
     ensures { λ r. ⌜ r ≡ min a b ⌝ }
 {
@@ -39,39 +37,6 @@ fn least(a: usize, b: usize) -> usize
 }
 
 impl Link {
-    // A call.
-    fn make(self, call: Call) -> Step
-        requires { ⌜ Sound self ⌝ }
-        ensures made { λ r. ⌜ Made (linkOf self) call r ⌝ }
-        ensures sound { λ r. ⌜ Sound (r .link) ⌝ }
-    {
-        match call {
-            Call::Request(word) => self.request(word),
-            Call::Credit(flow, position) => self.credit(flow, position),
-            Call::Tick => self.tick(),
-        }
-    }
-
-    // The record at a place is played, and its line written at another.
-    fn play(self, records: &[u8], at: usize, out: &mut [u8], end: usize) -> Line
-        requires { ⌜ Sound self ⌝ }
-        ensures link { λ r. ⌜ linkOf (r .link) ≡ made (linkOf self) (callOf (take 5 (drop at (now (records .entry))))) .link ⌝ }
-        ensures out { λ r. ⌜ now (out .exit) ≡ outWith (lineOf (made (linkOf self) (callOf (take 5 (drop at (now (records .entry))))) .answer)) (now (out .entry)) end ⌝ }
-        ensures next { λ r. ⌜ r .next ≡ nextAfter (lineOf (made (linkOf self) (callOf (take 5 (drop at (now (records .entry))))) .answer)) (now (out .entry)) end ⌝ }
-        ensures most { λ r. ⌜ r .next ≤ end + 7 ⌝ }
-        ensures sound { λ r. ⌜ Sound (r .link) ⌝ }
-    {
-        let Record::Call(call) = calls::read(records, at) else {
-            let next = calls::write(Answer::Refused(16), out, end);
-            return Line { link: self, next };
-        };
-        let step = self.make(call);
-        let answer = step.answer;
-        let next = calls::write(answer, out, end);
-        let link = step.link;
-        Line { link, next }
-    }
-
     // Plays the records of a slice and writes their lines from the start of `out` on: every whole record, or as many as `out` has room for, seven bytes each.
     pub fn run(self, records: &[u8], out: &mut [u8]) -> Run
         requires { ⌜ Sound self ⌝ }
@@ -80,14 +45,59 @@ impl Link {
     {
         let used = 5 * least(records.len() / 5, out.len() / 7);
         let mut link = self;
+        let plan = link.plan;
+        let mut w = window(plan.slots, plan.frames, link.cp);
         let mut at = 0;
         let mut end = 0;
         while at < used {
-            let line = link.play(records, at, out, end);
-            link = line.link;
-            end = line.next;
+            let Record::Call(call) = calls::read(records, at) else {
+                end = calls::write_refusal(16, out, end);
+                at += 5;
+                continue;
+            };
+            let mut answer = Answer::Idle;
+            match call {
+                Call::Request(word) => {
+                    let i = asker(plan.count, word);
+                    let e = plan.entries[i];
+                    let flow = link.flows[i];
+                    let change = ask(plan.count, e, w, &link.owner, &link.held, i, flow, word);
+                    let flow = change.flow;
+                    link.flows[i] = flow;
+                    let position = change.position;
+                    link.owner[position] = change.owner;
+                    if change.granted {
+                        shift_from(&mut link.held, 1, i, w, position);
+                    }
+                    answer = change.answer;
+                }
+                Call::Credit(flow, position) => {
+                    let number = refusal(plan.count, w, &link.held, flow, position);
+                    if number != 0 {
+                        answer = Answer::Refused(number);
+                    } else {
+                        shift_from(&mut link.held, 255, flow, w, position);
+                        answer = Answer::Taken;
+                    }
+                }
+                Call::Tick => {
+                    let on = w.ticked();
+                    if on.head != w.head {
+                        empty_head(&mut link.owner, w);
+                        carry_head(&mut link.held, plan.count, w);
+                        let flows = leave_head(link.flows, plan, w.head, on.head);
+                        link.flows = flows;
+                    }
+                    w = on;
+                    let cp = on.current;
+                    let owner = link.owner[cp];
+                    answer = turn(owner);
+                }
+            }
+            end = calls::write(answer, out, end);
             at += 5;
         }
+        link.cp = w.current;
         Run {
             link,
             used,

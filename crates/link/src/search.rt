@@ -1,16 +1,19 @@
 // The search for a position to book.
 ghost use mathlib.Core.Path.{_≡_};
-ghost use mathlib.Core.Bool.{not, _&&_};
-ghost use Prim.Native.Nat.{ℕ, _-_, _<_, max};
-ghost use lib.Dec.{leb};
+ghost use mathlib.Core.Bool.{not, _&&_, cond};
+ghost use Prim.Native.Nat.{ℕ, _-_, _<_, max, min};
+ghost use lib.Dec.{leb, eqb};
 ghost use Rattle.model.specs.Tables as tables;
 ghost use Rattle.model.specs.Window as model;
 ghost use Rattle.model.specs.Request as request;
 ghost use Rattle.link.specs.Window.{windowOf, sizeOf, Proper};
+ghost use Rattle.link.specs.Reading.{nobody};
+ghost use Rattle.link.specs.Rows.{row};
 ghost use Rattle.link.specs.Holdings.{roomAt};
 ghost use Rattle.link.specs.Search.{foundOf, freeFrom};
 use crate::Found;
 use crate::Window;
+use crate::bytes::lesser;
 use crate::holdings::room_rank;
 use crate::positions::ahead;
 use crate::positions::next;
@@ -35,11 +38,37 @@ fn larger(a: usize, b: usize) -> usize
 }
 
 // The rank from which on a position is valid for a flow if nobody booked it: it is late enough, and there is room from it on.
-pub(crate) fn valid_rank(held: &[u8; 256], cells: u8, w: Window) -> usize
-    requires { ⌜ Proper w ⌝ }
-    ensures { λ r. ⌜ ((p : ℕ) → p < sizeOf w → leb r (model.rank (windowOf w) p) ≡ not (model.passed (windowOf w) p) && model.everyFrom (windowOf w) p (roomAt (now (held .entry)) cells)) ⌝ }
+pub(crate) fn valid_rank(held: &[u8; 4096], i: usize, cells: u8, w: Window) -> usize
+    requires { ⌜ Proper w × (i < 16) ⌝ }
+    ensures { λ r. ⌜ ((p : ℕ) → p < sizeOf w → leb r (model.rank (windowOf w) p) ≡ not (model.passed (windowOf w) p) && model.everyFrom (windowOf w) p (roomAt (row (now (held .entry)) i) cells)) ⌝ }
 {
-    larger(room_rank(held, cells, w), w.current + 1 - w.head * w.slots)
+    larger(
+        room_rank(held, i, cells, w),
+        w.current + 1 - w.head * w.slots,
+    )
+}
+
+// The number as a byte, and 255 where it is larger.
+fn narrow(a: usize) -> u8
+    ensures { λ r. ⌜ r ≡ min a 255 ⌝ }
+{
+    if a < 255 {
+        return a as u8;
+    }
+    255
+}
+
+// Slot x if nobody owns it and it is not before `low`, else 255.
+fn candidate(owner: u8, x: u8, low: u8) -> u8
+    ensures { λ r. ⌜ r ≡ cond (eqb owner nobody && leb low x) x 255 ⌝ }
+{
+    if owner != 16 {
+        return 255;
+    }
+    if x < low {
+        return 255;
+    }
+    x
 }
 
 // The search from a frame and a remainder up to the newest frame, for an unbooked position whose rank is at least `low`.
@@ -62,13 +91,18 @@ pub(crate) fn search(
     'search: loop {
         if 0 < left {
             let start = frame * slots;
-            let mut s = over(low, w.rank(start));
+            let first_slot = narrow(over(low, w.rank(start)));
+            let mut best = 255u8;
+            let mut x = 0u8;
+            let mut s = 0;
             while s < slots {
-                if owner[start + s] == 16 {
-                    found = Found::At(frame, left - 1, start + s);
-                    break 'search;
-                }
+                best = lesser(best, candidate(owner[start + s], x, first_slot));
+                x += 1;
                 s += 1;
+            }
+            if best < 255 {
+                found = Found::At(frame, left - 1, start + best as usize);
+                break 'search;
             }
         }
         if more == 0 {

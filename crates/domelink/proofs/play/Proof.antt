@@ -1,10 +1,10 @@
-use borrow.Author.Tests.{ltb-true}
 -- `domelink::play` is safe and ends: the turns count down. Assumes nothing.
 use Prim.Native.Nat.{_≤_}
 use mathlib.Core.Path.{_≡_, refl, _∙_}
 use lib.ListN.{length}
 use Rattle.link.specs.Sound.{Sound}
 use borrow.Author.Needs.{needs}
+use borrow.Author.Tests.{ltb-true}
 use native.Mathlib.Omega.{arith}
 use Rattle.domelink.proofs.play.Statement.{statement}
 use Rattle.domelink.proofs.play.Tie as tie
@@ -33,17 +33,17 @@ loop-again c =
     let i = c .before .before .before .before .before .before .before .before .before .loop .inv in
     (omega (arith, t .ensures .1, t .kept .1 .1 .0), t .ensures .0, t .kept .1 .1 .0 ∙ i .2, t .kept .1 .1 .1 .0 ∙ i .3)
 
+write-refusal-requires : tie.Need-write-refusal-requires Inv-loop μ-loop
+write-refusal-requires c κs = search needs
+
 write-requires : tie.Need-write-requires Inv-loop μ-loop
 write-requires c κs = search needs
-
-write-requires-2 : tie.Need-write-requires-2 Inv-loop μ-loop
-write-requires-2 c κs = search needs
 
 same-length : tie.Need-same-length Inv-loop μ-loop
 same-length c = c .before .before .before .before .before .before .before .before .before .loop .inv .2
 
 same-length-2 : tie.Need-same-length-2 Inv-loop μ-loop
-same-length-2 c = c .before .before .before .before .write .kept .1 .0 ∙ c .before .before .before .before .before .before .before .before .before .loop .inv .3
+same-length-2 c = c .before .before .before .before .write-refusal .kept .1 .0 ∙ c .before .before .before .before .before .before .before .before .before .loop .inv .3
 
 returns : tie.Need-returns Inv-loop μ-loop
 returns c = search needs
@@ -68,8 +68,8 @@ play-spec =
     sub-turns
     loop-less
     loop-again
+    write-refusal-requires
     write-requires
-    write-requires-2
     same-length
     same-length-2
     returns

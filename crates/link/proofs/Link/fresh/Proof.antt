@@ -11,10 +11,13 @@ flows-requires c κs = count-most _ (c .before .pre)
 unbooked-requires : tie.Need-unbooked-requires
 unbooked-requires c κs = search needs
 
+unheld-requires : tie.Need-unheld-requires
+unheld-requires c κs = search needs
+
 returns : tie.Need-returns
 returns c =
-    let s = c .before .before .before in
-    rw (c .unbooked .ensures, c .before .flows .ensures) (read-fresh _ (s .pre), sound-fresh _ (s .pre))
+    let s = c .before .before .before .before in
+    rw (c .unheld .ensures, c .before .unbooked .ensures, c .before .before .flows .ensures) (read-fresh _ (s .pre), sound-fresh _ (s .pre))
 
 pub fresh-spec : {M : Type 1} → statement M
-fresh-spec = tie.close (tie.spec flows-requires unbooked-requires returns)
+fresh-spec = tie.close (tie.spec flows-requires unbooked-requires unheld-requires returns)

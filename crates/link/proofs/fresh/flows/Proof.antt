@@ -1,28 +1,24 @@
 -- `link::fresh::flows` meets its contract. Assumes nothing.
 use borrow.Author.Needs.{needs}
 use Prim.Native.Nat.{_-_, _≤_}
-use mathlib.Core.Path.{_≡_, ap, _∙_}
+use mathlib.Core.Path.{_≡_, refl}
 use native.Mathlib.Omega.{arith}
 use lib.ListN.{getD, replicate}
 use Rattle.plan.specs.Reading.{noEntry}
 use Rattle.link.specs.Runs.{inRun, replaced}
-use Rattle.link.specs.Parts.{noFlow, movedTo}
-use Rattle.link.specs.Reading.{spareFlow}
+use Rattle.link.specs.Parts.{noFlow}
 use Rattle.link.proofs.Runs.{replaced-none, replaced-more, replaced-done}
 use Rattle.link.proofs.fresh.flows.Statement.{statement}
 use Rattle.link.proofs.fresh.flows.Tie as tie
 
 abbrev Inv-loop : tie.InvT-loop
-Inv-loop count entries all₀ i₀ all i = (i ≤ count) × (all ≡ replaced (inRun 0 i) (λ k f. movedTo spareFlow 0 (getD entries k noEntry .share)) (replicate 16 spareFlow))
+Inv-loop count entries all₀ i₀ all i = (i ≤ count) × (all ≡ replaced (inRun 0 i) (λ k f. record { frame = 0; left = getD entries k noEntry .share }) (replicate 16 noFlow))
 
 abbrev μ-loop : tie.MeasureT-loop
 μ-loop count entries all₀ i₀ all i = count - i
 
-flow-requires : tie.Need-flow-requires Inv-loop μ-loop
-flow-requires c κs = search needs
-
 loop-holds : tie.Need-loop-holds Inv-loop μ-loop
-loop-holds c = (search needs, ap (replicate 16) (c .flow .ensures) ∙ replaced-none 0 _ _ noFlow)
+loop-holds c = (search needs, replaced-none 0 _ _ noFlow)
 
 mul-e : tie.Need-mul-e Inv-loop μ-loop
 mul-e c = search needs
@@ -30,11 +26,8 @@ mul-e c = search needs
 array-copy-out-e : tie.Need-array-copy-out-e Inv-loop μ-loop
 array-copy-out-e c = search needs
 
-cast-flow : tie.Need-cast-flow Inv-loop μ-loop
-cast-flow c = search needs
-
-flow-requires-2 : tie.Need-flow-requires-2 Inv-loop μ-loop
-flow-requires-2 c κs = search needs
+cast-t9 : tie.Need-cast-t9 Inv-loop μ-loop
+cast-t9 c = search needs
 
 mul-all : tie.Need-mul-all Inv-loop μ-loop
 mul-all c = search needs
@@ -49,7 +42,7 @@ loop-less : tie.Need-loop-less Inv-loop μ-loop
 loop-less c = search needs
 
 loop-again : tie.Need-loop-again Inv-loop μ-loop
-loop-again c = (search needs, replaced-more _ _ _ _ noFlow _ _ (c .before .before .before .before .loop .inv .1) (omega arith) (c .flow2 .ensures))
+loop-again c = (search needs, replaced-more _ _ _ _ noFlow _ _ (c .before .before .before .loop .inv .1) (omega arith) refl)
 
 returns : tie.Need-returns Inv-loop μ-loop
 returns c = replaced-done _ _ _ _ _ _ (c .before .loop .inv .1) (omega arith)
@@ -60,12 +53,10 @@ flows-spec =
     (tie.spec
     Inv-loop
     μ-loop
-    flow-requires
     loop-holds
     mul-e
     array-copy-out-e
-    cast-flow
-    flow-requires-2
+    cast-t9
     mul-all
     array-set-from-all
     add-i

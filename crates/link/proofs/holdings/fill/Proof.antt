@@ -9,16 +9,16 @@ use Rattle.link.proofs.holdings.fill.Statement.{statement}
 use Rattle.link.proofs.holdings.fill.Tie as tie
 
 abbrev Inv-loop : tie.InvT-loop
-Inv-loop table₀ value a e q₀ table q = (a ≤ q) × (q ≤ e) × (e ≤ 256) × (table ≡ replaced (inRun a q) (λ k x. value) table₀)
+Inv-loop held₀ value a e q₀ held q = (a ≤ q) × (q ≤ e) × (e ≤ 4096) × (held ≡ replaced (inRun a q) (λ k x. value) held₀)
 
 abbrev μ-loop : tie.MeasureT-loop
-μ-loop table₀ value a e q₀ table q = e - q
+μ-loop held₀ value a e q₀ held q = e - q
 
 loop-holds : tie.Need-loop-holds Inv-loop μ-loop
 loop-holds c = (search needs, search needs, search needs, replaced-none _ _ _ 0)
 
-element-write-table : tie.Need-element-write-table Inv-loop μ-loop
-element-write-table c = search needs
+element-write-held : tie.Need-element-write-held Inv-loop μ-loop
+element-write-held c = search needs
 
 add-q : tie.Need-add-q Inv-loop μ-loop
 add-q c = search needs
@@ -35,4 +35,4 @@ returns c = replaced-done _ _ _ _ _ _ (c .before .loop .inv .3) (omega arith)
 pub fill-spec : {M : Type 1} → statement M
 fill-spec =
     tie.close
-    (tie.spec Inv-loop μ-loop loop-holds element-write-table add-q loop-less loop-again returns)
+    (tie.spec Inv-loop μ-loop loop-holds element-write-held add-q loop-less loop-again returns)

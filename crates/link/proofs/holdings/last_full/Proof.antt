@@ -9,7 +9,7 @@ use Rattle.link.proofs.holdings.last_full.Statement.{statement}
 use Rattle.link.proofs.holdings.last_full.Tie as tie
 
 abbrev Inv-loop : tie.InvT-loop
-Inv-loop held cells a e q₀ q = (a ≤ q) × (q ≤ e) × (e ≤ 256) × Passes (roomAt held cells) q e
+Inv-loop held cells a e q₀ q = (a ≤ q) × (q ≤ e) × (e ≤ 4096) × Passes (roomAt held cells) q e
 
 abbrev μ-loop : tie.MeasureT-loop
 μ-loop held cells a e q₀ q = q - a

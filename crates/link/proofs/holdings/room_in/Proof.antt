@@ -11,7 +11,7 @@ use Rattle.link.proofs.holdings.room_in.Statement.{statement}
 use Rattle.link.proofs.holdings.room_in.Tie as tie
 
 abbrev Inv-loop : tie.InvT-loop
-Inv-loop held cells a e all₀ q₀ all q = (a ≤ q) × (q ≤ e) × (e ≤ 256) × All (roomAt held cells) a q all
+Inv-loop held cells a e all₀ q₀ all q = (a ≤ q) × (q ≤ e) × (e ≤ 4096) × All (roomAt held cells) a q all
 
 abbrev μ-loop : tie.MeasureT-loop
 μ-loop held cells a e all₀ q₀ all q = e - q

@@ -27,7 +27,7 @@ returns : tie.Need-returns
 returns c =
     let k = c .before .before .before in
     let w = k .before .args .w in λ p l.
-    rw (c .larger .ensures, late-is w (k .before .pre) p l, ← k .room-rank .ensures p l) (sym (leb-max (k .room-rank .result) (w .current + 1 - baseOf w) (model.rank (windowOf w) p)))
+    rw (c .larger .ensures, late-is w (k .before .pre .0) p l, ← k .room-rank .ensures p l) (sym (leb-max (k .room-rank .result) (w .current + 1 - baseOf w) (model.rank (windowOf w) p)))
 
 pub valid-rank-spec : {M : Type 1} → statement M
 valid-rank-spec =

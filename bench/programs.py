@@ -1,0 +1,93 @@
+"""The programs that are measured: built, named, and played on call files."""
+
+import hashlib
+import subprocess
+import time
+from datetime import datetime
+from pathlib import Path
+
+ROOT = Path(__file__).resolve().parent.parent
+PROVED = ("domelink", "single")
+PLAIN = ("play", "calls", "single")
+RUSTC = ["rustc", "--edition", "2021", "-C", "opt-level=3",
+         "-C", "codegen-units=1"]
+
+
+def proved(name):
+    return ROOT / "target/bin" / name
+
+
+def build(folder):
+    """The plain Rust programs, and the proved ones where they are missing or
+    their sources have changed: rt leaves a program that is up to date."""
+    for name in PLAIN:
+        subprocess.run(RUSTC + [str(ROOT / "docs/src" / (name + ".rs")),
+                                "-o", str(folder / name)], check=True)
+    subprocess.run(["rt", "check", *PROVED], cwd=ROOT, check=True,
+                   stdout=subprocess.DEVNULL)
+
+
+def said(*words):
+    """What a command writes, or "unknown"."""
+    try:
+        done = subprocess.run(words, cwd=ROOT, text=True, capture_output=True)
+    except FileNotFoundError:
+        return "unknown"
+    return done.stdout.strip() or "unknown"
+
+
+def build_of(name):
+    made = datetime.fromtimestamp(proved(name).stat().st_mtime)
+    digest = hashlib.sha256(proved(name).read_bytes()).hexdigest()
+    return "%s: built %s, sha256 %s" % (
+        name, made.strftime("%Y-%m-%d %H:%M"), digest[:12])
+
+
+def builds():
+    """What is measured: the commit, the proved programs and the compiler."""
+    commit = said("git", "describe", "--always", "--dirty")
+    return ["commit " + commit, *map(build_of, PROVED),
+            said("rustc", "--version")]
+
+
+def make(folder, kind, count, *options):
+    """A call file of a kind."""
+    path = folder / ("-".join((kind, str(count)) + options) + ".calls")
+    with open(path, "wb") as out:
+        subprocess.run([str(folder / "calls"), kind, str(count), *options],
+                       stdout=out, stderr=subprocess.DEVNULL, check=True)
+    return path
+
+
+def played(program, path):
+    """What a program writes of a call file."""
+    with open(path, "rb") as source:
+        return subprocess.run([str(program)], stdin=source, check=True,
+                              stdout=subprocess.PIPE).stdout
+
+
+def seconds(program, path):
+    with open(path, "rb") as source:
+        start = time.perf_counter()
+        subprocess.run([str(program)], stdin=source, check=True,
+                       stdout=subprocess.DEVNULL)
+        return time.perf_counter() - start
+
+
+def same_listings(pair, path):
+    if played(pair[0], path) != played(pair[1], path):
+        raise SystemExit("%s: the listings differ" % path.name)
+
+
+def fastest(folder, paths, rounds):
+    """For each call file the best time of domelink and of plain Rust.  Files
+    and programs take turns: the machine's slow times meet them all."""
+    pair = (proved("domelink"), folder / "play")
+    for path in paths:
+        same_listings(pair, path)
+    best = [[float("inf")] * len(pair) for _ in paths]
+    for _ in range(rounds):
+        for times, path in zip(best, paths):
+            for place, program in enumerate(pair):
+                times[place] = min(times[place], seconds(program, path))
+    return best

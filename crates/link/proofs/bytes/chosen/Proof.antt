@@ -1,0 +1,13 @@
+-- `link::bytes::chosen` meets its contract. Assumes nothing.
+use borrow.Author.Tests.{lt-ltb, le-ltb}
+use Rattle.link.proofs.bytes.chosen.Statement.{statement}
+use Rattle.link.proofs.bytes.chosen.Tie as tie
+
+returns : tie.Need-returns
+returns c = rw (lt-ltb _ _ (c .if1 .taken))
+
+returns-2 : tie.Need-returns-2
+returns-2 c = rw (le-ltb _ _ (c .if1 .left))
+
+pub chosen-spec : {M : Type 1} → statement M
+chosen-spec = tie.close (tie.spec returns returns-2)

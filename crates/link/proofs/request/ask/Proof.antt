@@ -1,0 +1,247 @@
+-- `link::request::ask` meets its contract: refused by the word's own tests, granted what the search found, or refused at the newest frame. Assumes nothing.
+use borrow.Author.Needs.{needs}
+use Prim.Native.Nat.{ℕ, suc, _*_, _<_}
+use mathlib.Core.Path.{_≡_, refl, sym, ap, _∙_, subst}
+use mathlib.Core.List.{List}
+use mathlib.Core.Bool.{not, _&&_}
+use native.Mathlib.Omega.{arith}
+use lib.Dec.{ltb}
+use lib.ListN.{getD}
+use borrow.Author.Tests.{ltb-true}
+use Rattle.plan.specs.declared.Entry.{Entry}
+use Rattle.plan.specs.Reading.{noEntry, planFor}
+use Rattle.model.specs.Word.{flowOf}
+use Rattle.model.specs.Refusals.{firstOf}
+use Rattle.model.specs.Tables.{ahead}
+use Rattle.model.specs.Window.{Window, passed, everyFrom, newest}
+use Rattle.model.specs.Link as model
+use Rattle.model.specs.Request as paper
+use Rattle.model.specs.Request.{found, sought, answered, request}
+use Rattle.calls.specs.Reading.{answerToRequest}
+use Rattle.link.specs.declared.Flow.{Flow}
+use Rattle.link.specs.declared.Link.{Link}
+use Rattle.link.specs.Runs.{replaced, wrapped}
+use Rattle.link.specs.Rows.{row}
+use Rattle.link.specs.Parts.{sizeOf, entryAt}
+use Rattle.link.specs.Holdings.{roomAt}
+use Rattle.link.specs.Reading.{linkOf}
+use Rattle.link.specs.Search.{foundOf, freeFrom}
+use Rattle.link.specs.Window.{windowOf, fromIn}
+use Rattle.link.specs.Change.{placed, Of, Stepped}
+use Rattle.link.proofs.Runs.{wrapped-up}
+use Rattle.link.proofs.Ranks.{replaced-from}
+use Rattle.link.proofs.Changes.{same-link, same-owner}
+use Rattle.link.proofs.Links.{read-size, read-frames, flows-most, size-most}
+use Rattle.link.proofs.Searches.{Booking}
+use Rattle.link.proofs.Requests.{refused-word, asked, asks-for, asker-below, LowFor, sought-same, found-at, room-there, granted-link, refused-link, granted, refused-newest}
+use Rattle.link.proofs.request.ask.Statement.{statement}
+use Rattle.link.proofs.request.ask.Tie as tie
+
+-- ---- what is known on the way
+
+-- a link with these parts, where the function is entered
+abbrev OfAt : tie.Start → Link → Type 0
+OfAt s l = Of l (s .args .count) (s .args .e) (s .args .w) (s .args .owner .now) (s .args .held .now) (s .args .i) (s .args .flow)
+
+abbrev entered : tie.After-refusal → tie.Start
+entered c = c .before .before
+
+module _ (c : tie.After-refusal) (l : Link) (o : OfAt (entered c) l) where
+  tests-are : c .refusal .result ≡ firstOf (paper.wordTests (planFor (l .plan)) (entered c .args .word))
+  tests-are = c .refusal .ensures (l .plan) (sym (o .around .count-is)) (ap (λ (k : ℕ). getD (l .plan .entries) k noEntry) (sym (entered c .pre .1)) ∙ sym (o .entry-is)) (sym (read-size l (o .around .window-is)))
+
+  placed-is : entered c .args .i ≡ placed (l .plan .count) (flowOf (entered c .args .word))
+  placed-is = entered c .pre .1 ∙ ap (λ (n : ℕ). placed n (flowOf (entered c .args .word))) (o .around .count-is)
+
+-- the word passed its own tests: its flow is one of the plan's
+module _ (c : tie.Else1) (l : Link) (o : OfAt (entered (c .before)) l) where
+  asks-at : flowOf (entered (c .before) .args .word) ≡ entered (c .before) .args .i
+  asks-at = asks-for l _ _ (tests-are (c .before) l o) (c .if1 .left) _ (placed-is (c .before) l o)
+
+  flow-known : entered (c .before) .args .i < l .plan .count
+  flow-known = asker-below l _ _ (tests-are (c .before) l o) (c .if1 .left) _ (placed-is (c .before) l o)
+
+flow-below : (c : tie.Else1) → entered (c .before) .args .i < 16
+flow-below c =
+    let g = entered (c .before) .pre .0 in
+    omega (arith, flow-known c (g .link) (g .of), flows-most _ (g .of .around .sound))
+
+-- where the word passed, and where the function is entered
+abbrev passed-at : tie.After-search → tie.Else1
+passed-at c = c .before .before .before
+
+abbrev start : tie.After-search → tie.Start
+start c = entered (passed-at c .before)
+
+abbrev flow-at : tie.After-search → ℕ
+flow-at c = start c .args .i
+
+abbrev window-at : tie.After-search → Window
+window-at c = windowOf (start c .args .w)
+
+-- the rank from which on positions are late enough and have room
+abbrev low-at : tie.After-search → ℕ
+low-at c = c .before .before .valid-rank .result
+
+module _ (c : tie.After-search) (l : Link) (o : OfAt (start c) l) where
+  window-is : window-at c ≡ model.window (linkOf l)
+  window-is = o .around .window-is
+
+  flow-there : flow-at c < l .plan .count
+  flow-there = flow-known (passed-at c) l o
+
+  low-known : LowFor l (o .around .sound) (window-at c) window-is (flow-at c) flow-there (low-at c)
+  low-known = record {
+    from = λ p h.
+        c .before .before .valid-rank .ensures p (rw (read-size l window-is) h)
+        ∙ ap (λ (x : List ℕ). not (passed (window-at c) p) && everyFrom (window-at c) p (roomAt (row x (flow-at c)) (start c .args .e .cells))) (o .around .held-is)
+        ∙ ap (λ (x : Entry). not (passed (window-at c) p) && everyFrom (window-at c) p (roomAt (row (l .held) (flow-at c)) (x .cells))) (o .entry-is);
+  }
+
+  found-from : List ℕ → Entry → Flow → paper.Found
+  found-from owner e f = paper.search (window-at c) (freeFrom (window-at c) owner (low-at c)) (e .share) (ahead (window-at c .frames) (f .frame) (newest (window-at c))) (f .frame) (f .left)
+
+  searched : foundOf (c .search .result) ≡ sought (linkOf l) (flow-at c)
+  unfolding found-from
+  searched =
+      c .search .ensures
+      ∙ ap (λ (x : List ℕ). found-from x (start c .args .e) (start c .args .flow)) (o .owner-is)
+      ∙ ap (λ (x : Entry). found-from (l .owner) x (start c .args .flow)) (o .entry-is)
+      ∙ ap (λ (x : Flow). found-from (l .owner) (entryAt l (flow-at c)) x) (o .flow-is)
+      ∙ sym (sought-same l (o .around .sound) (window-at c) window-is (flow-at c) flow-there (low-at c) low-known)
+
+  asked-at : request (linkOf l) (start c .args .word) ≡ answered (linkOf l) (start c .args .word) (sought (linkOf l) (flowOf (start c .args .word)))
+  asked-at = asked l _ _ (tests-are (passed-at c .before) l o) (passed-at c .if1 .left)
+
+-- the position that was found
+module _ (c : tie.After-found) (l : Link) (o : OfAt (start (c .before .before)) l) where
+  abbrev position-at : ℕ
+  position-at = c .found .given .0 .1 .1 .0
+
+  found-is : found (c .found .given .0 .0) (c .found .given .0 .1 .0) position-at ≡ sought (linkOf l) (flow-at (c .before .before))
+  found-is = ap foundOf (sym (c .found .given .1)) ∙ searched (c .before .before) l o
+
+  booking : Booking (window-at (c .before .before)) (freeFrom (window-at (c .before .before)) (l .owner) (low-at (c .before .before))) (c .found .given .0 .0) position-at
+  booking = let q = c .before .before in found-at l (o .around .sound) (window-at q) (window-is q l o) (flow-at q) (flow-there q l o) (low-at q) (low-known q l o) _ _ _ found-is
+
+  position-below : position-at < sizeOf l
+  position-below = rw (read-size l (window-is (c .before .before) l o)) at (booking .position)
+
+  -- what the flow holds then
+  raised : replaced (fromIn (model.window (linkOf l)) position-at) (λ q x. wrapped 1 x) (row (l .held) (flow-at (c .before .before))) ≡ replaced (fromIn (model.window (linkOf l)) position-at) (λ q x. suc x) (row (l .held) (flow-at (c .before .before)))
+  raised =
+      let q = c .before .before in
+      let most = o .around .sound .plan .accepted in
+      subst (λ (x : Window). replaced (fromIn x position-at) (λ q x. wrapped 1 x) (row (l .held) (flow-at q)) ≡ replaced (fromIn x position-at) (λ q x. suc x) (row (l .held) (flow-at q))) (window-is q l o)
+      (replaced-from (start q .args .w) (o .around .proper) position-at (booking .position) (λ x. ltb x (entryAt l (flow-at q) .cells)) (wrapped 1) suc (row (l .held) (flow-at q))
+      (λ x e. wrapped-up x (let z = ap (λ (y : Entry). y .cells) (o .entry-is) in omega (arith, ltb-true x _ e, z)))
+      (room-there l (o .around .sound) (window-at q) (window-is q l o) (flow-at q) (flow-there q l o) (low-at q) (low-known q l o) _ position-below (booking .passes)))
+
+position-fits : (c : tie.After-found) → position-at c (start (c .before .before) .pre .0 .link) (start (c .before .before) .pre .0 .of) < 256
+position-fits c = let g = start (c .before .before) .pre .0 in omega (arith, position-below c (g .link) (g .of), size-most _ (g .of .around .sound))
+
+-- ---- the needs
+
+mul-refusal : tie.Need-mul-refusal
+mul-refusal c = let g = c .before .pre .0 in omega (arith, g .of .around .proper .measures .positions-most)
+
+refusal-requires : tie.Need-refusal-requires
+refusal-requires c κs = search needs
+
+element-copy-out-t21 : tie.Need-element-copy-out-t21
+element-copy-out-t21 c = search needs
+
+some-position : (s : tie.Start) → 0 < s .args .w .slots * s .args .w .frames
+some-position s = let m = s .pre .0 .of .around .proper .measures in omega (arith, m .current-below)
+
+returns : tie.Need-returns
+returns c =
+    let k = c .before .before in
+    let s = entered k in
+    (λ l o. subst (Stepped answerToRequest (request (linkOf l) (s .args .word))) (same-link l _ 0 _ (ap (λ (x : List ℕ). getD x 0 0) (o .owner-is)) (o .flow-is)) (refused-word l _ _ (tests-are k l o) (o .around .sound) (c .before .if1 .taken)), some-position s)
+
+valid-rank-requires : tie.Need-valid-rank-requires
+valid-rank-requires c κs = (entered (c .before) .pre .0 .of .around .proper, flow-below c)
+
+cast-search : tie.Need-cast-search
+cast-search c = search needs
+
+search-requires : tie.Need-search-requires
+search-requires c κs =
+    let e = c .before .before in
+    let g = entered (e .before) .pre .0 in
+    let o = g .of in
+    (o .around .proper, rw (read-frames _ (o .around .window-is), o .flow-is) (o .around .sound .flows _ (flow-known e (g .link) o) .frame))
+
+enum-known-found : tie.Need-enum-known-found
+enum-known-found c = search needs
+
+cast-t24 : tie.Need-cast-t24
+cast-t24 c = omega (arith, flow-below (passed-at (c .before .before .before)))
+
+cast-depart : tie.Need-cast-depart
+cast-depart c = omega (arith, position-fits (c .before))
+
+depart-requires : tie.Need-depart-requires
+depart-requires c κs = search needs
+
+returns-2 : tie.Need-returns-2
+returns-2 c =
+    let d = c .before .before in
+    let q = d .before .before in
+    let g = start q .pre .0 in (
+      λ l o.
+          let b = booking d l o in
+          rw (c .depart .ensures)
+          (granted l _ _ (asks-at (passed-at q) l o) (asked-at q l o) _ _ _ _ (found-is d l o)
+          (granted-link l (o .around .sound) (model.window (linkOf l)) refl (flow-at q) (flow-there q l o) _ _ _ _ (rw (read-frames l (window-is q l o)) at (b .frame)) (position-below d l o) (raised d l o))),
+      booking d (g .link) (g .of) .position,
+    )
+
+enum-known-found-2 : tie.Need-enum-known-found-2
+enum-known-found-2 c = search needs
+
+newest-requires : tie.Need-newest-requires
+newest-requires c κs = start (c .before .before .before) .pre .0 .of .around .proper
+
+element-copy-out-t31 : tie.Need-element-copy-out-t31
+element-copy-out-t31 c = search needs
+
+nowhere-requires : tie.Need-nowhere-requires
+nowhere-requires c κs = search needs
+
+returns-3 : tie.Need-returns-3
+returns-3 c =
+    let n = c .before .before in
+    let d = n .before .before in
+    let q = d .before .before in
+    let s = start q in (
+      λ l o.
+          rw (c .nowhere .ensures, n .newest .ensures)
+          (subst (Stepped answerToRequest (request (linkOf l) (s .args .word))) (same-owner l (flow-at q) 0 _ (record { frame = newest (window-at q); left = d .found2 .given .0 .0 }) (ap (λ (x : List ℕ). getD x 0 0) (o .owner-is)))
+          (refused-newest l _ _ (asks-at (passed-at q) l o) (asked-at q l o) _ _ (ap foundOf (sym (d .found2 .given .1)) ∙ searched q l o)
+          (refused-link l (o .around .sound) (window-at q) (window-is q l o) (flow-at q) (flow-there q l o) _))),
+      some-position s,
+    )
+
+pub ask-spec : {M : Type 1} → statement M
+ask-spec =
+    tie.close
+    (tie.spec
+    mul-refusal
+    refusal-requires
+    element-copy-out-t21
+    returns
+    valid-rank-requires
+    cast-search
+    search-requires
+    enum-known-found
+    cast-t24
+    cast-depart
+    depart-requires
+    returns-2
+    enum-known-found-2
+    newest-requires
+    element-copy-out-t31
+    nowhere-requires
+    returns-3)

@@ -1,0 +1,68 @@
+-- What a request stores: a flow's frame and remainder, the owner of a position, and what the flow holds from it on. Assumes nothing.
+use Prim.Native.Nat.{ℕ, _<_}
+use mathlib.Core.Path.{_≡_}
+use mathlib.Core.List.{List}
+use mathlib.Core.Bool.{cond, true}
+use lib.ListN.{getD, set}
+use lib.Dec.{ltb}
+use Rattle.calls.specs.declared.Answer.{Answer}
+use Rattle.plan.specs.declared.Entry.{Entry}
+use Rattle.model.specs.Link as model
+use Rattle.model.specs.Window.{everyFrom}
+use Rattle.link.specs.declared.change.Change.{Change}
+use Rattle.link.specs.declared.Flow.{Flow}
+use Rattle.link.specs.declared.Link.{Link}
+use Rattle.link.specs.declared.Step.{Step}
+use Rattle.link.specs.declared.Window.{Window}
+use Rattle.link.specs.Runs.{replaced, wrapped}
+use Rattle.link.specs.Rows.{row, withRow}
+use Rattle.link.specs.Window.{windowOf, sizeOf, Proper, fromIn}
+use Rattle.link.specs.Holdings.{someHeld}
+use Rattle.link.specs.Parts.{noFlow, entryAt, withOwners, withFlows}
+use Rattle.link.specs.Reading.{linkOf}
+use Rattle.link.specs.Sound.{Sound}
+
+-- what a call hands back, as its contract states it
+abbrev pub Stepped : {A : Type 0} → (A → Answer) → model.Step A → Step → Type 0
+Stepped toAnswer m r = (linkOf (r .link) ≡ m .link) × ((r .answer ≡ toAnswer (m .answer)) × Sound (r .link))
+
+-- flow i of a plan of n flows, and 0 where there is none
+abbrev pub placed : ℕ → ℕ → ℕ
+placed n i = cond (ltb i n) i 0
+
+-- l is a sound link of n flows with this window and these holdings
+pub record Around (l : Link) (n : ℕ) (w : Window) (held : List ℕ) : Type 0 where
+  pub sound : Sound l
+  pub count-is : n ≡ l .plan .count
+  pub proper : Proper w
+  pub window-is : windowOf w ≡ model.window (linkOf l)
+  pub held-is : held ≡ l .held
+
+-- something is held at the position and from it on by one of n flows
+pub record Creditable (n : ℕ) (w : Window) (held : List ℕ) (i p : ℕ) : Type 0 where
+  pub flow : i < n
+  pub position : p < sizeOf w
+  pub some-held : everyFrom (windowOf w) p (someHeld (row held i)) ≡ true
+
+-- and it has these owners, and its flow i this entry, frame and remainder
+pub record Of (l : Link) (n : ℕ) (e : Entry) (w : Window) (owner held : List ℕ) (i : ℕ) (f : Flow) : Type 0 where
+  pub around : Around l n w held
+  pub owner-is : owner ≡ l .owner
+  pub entry-is : e ≡ entryAt l i
+  pub flow-is : f ≡ getD (l .flows) i noFlow
+
+-- these are parts of some such link
+pub record Given (n : ℕ) (e : Entry) (w : Window) (owner held : List ℕ) (i : ℕ) (f : Flow) : Type 0 where
+  pub link : Link
+  pub of : Of link n e w owner held i f
+
+-- flow i's holdings from p on, each moved by a number
+abbrev pub shifted : Link → (by i p : ℕ) → List ℕ
+shifted l by i p = withRow (l .held) i (replaced (fromIn (model.window (linkOf l)) p) (λ q x. wrapped by x) (row (l .held) i))
+
+-- the link with what a request of flow i stores, and the answer
+abbrev pub changed : Link → ℕ → Change → Step
+changed l i c = record {
+  link = withFlows (withOwners l (set (l .owner) (c .position) (c .owner))) (set (l .flows) i (c .flow)) (cond (c .granted) (shifted l 1 i (c .position)) (l .held));
+  answer = c .answer;
+}

@@ -1,0 +1,67 @@
+// The clock.
+use libc::types::timespec;
+ghost use Prim.Native.Nat.{_≤_};
+
+// The time on a clock that never goes back, as the system has it.
+fn instant() -> timespec {
+    let mut time = timespec {
+        tv_sec: 0,
+        tv_nsec: 0,
+    };
+    libc::clock_gettime(libc::CLOCK_MONOTONIC, &mut time);
+    time
+}
+
+// A number of the system's, as one from 0 to the most.
+fn within(n: i64, most: u64) -> u64
+    ensures { λ r. ⌜ r ≤ most ⌝ }
+{
+    if n < 0 {
+        return 0;
+    }
+    least(n as u64, most)
+}
+
+// The time on the clock in nanoseconds.
+pub(crate) fn nanoseconds() -> u64 {
+    let time = instant();
+    1000000000 * within(time.tv_sec, 4294967295) + within(time.tv_nsec, 999999999)
+}
+
+// The nanoseconds since a time.
+pub(crate) fn since(begin: u64) -> u64 {
+    less(nanoseconds(), begin)
+}
+
+// The first less the second, and 0 where that is below 0.
+pub(crate) fn less(a: u64, b: u64) -> u64 {
+    if a < b {
+        return 0;
+    }
+    a - b
+}
+
+// The lower of two numbers.
+pub(crate) fn least(a: u64, b: u64) -> u64
+    ensures { λ r. ⌜ r ≤ b ⌝ }
+{
+    if a < b {
+        return a;
+    }
+    b
+}
+
+// Times that the clock is read.
+const READINGS: usize = 100000;
+
+// What it costs to read the clock twice: the lowest of many.
+pub(crate) fn cost() -> u64 {
+    let mut lowest = u64::MAX;
+    let mut i = 0;
+    while i < READINGS {
+        let begin = nanoseconds();
+        lowest = least(lowest, since(begin));
+        i += 1;
+    }
+    lowest
+}

@@ -1,0 +1,107 @@
+// Measures single calls by value. It reads a call file of at most 4096 calls from standard input, plays it many times and times each run of calls of one kind. The lowest time of each run counts, less the clock's own.
+mod clock;
+mod file;
+mod report;
+mod timed;
+
+use calls::Answer;
+use file::MOST;
+use link::Link;
+use link::Step;
+use plan::Plan;
+use plan::Verdict;
+ghost use Prim.Native.Nat.{_≤_};
+ghost use Rattle.plan.specs.Reading.{Valid};
+
+// Times that the file is played.
+const REPEATS: usize = 200;
+
+// An answer as a number. What is played has to be used, or the compiler could leave it out.
+fn number(answer: Answer) -> u64 {
+    match answer {
+        Answer::Granted(word) => word as u64,
+        Answer::Taken => 1,
+        Answer::Turn(flow) => flow as u64,
+        Answer::Idle => 16,
+        Answer::Refused(number) => number as u64,
+    }
+}
+
+// Plays the calls on a fresh link and keeps the lowest time of each run, at the run's first call; the sum of the runs' last answers.
+fn play(
+    plan: Plan,
+    kinds: &[u8; MOST],
+    words: &[u32; MOST],
+    lowest: &mut [u64; MOST],
+    count: usize,
+) -> u64
+    requires { ⌜ Valid plan × (count ≤ 4096) ⌝ }
+{
+    let link = Link::fresh(plan);
+    let mut step = Step {
+        link,
+        answer: Answer::Idle,
+    };
+    let mut sum = 0;
+    let mut from = 0;
+    while from < count {
+        let to = file::run_end(kinds, from, count);
+        let t = timed::run(step, kinds[from], words, from, to);
+        step = t.step;
+        lowest[from] = clock::least(lowest[from], t.spent);
+        let answer = step.answer;
+        sum = std::num::wrapping_add_u64(sum, number(answer));
+        from = to;
+    }
+    sum
+}
+
+// Plays the records many times over, and prints.
+fn measure(plan: Plan, records: &[u8])
+    requires { ⌜ Valid plan ⌝ }
+{
+    let mut kinds = [0u8; MOST];
+    let mut words = [0u32; MOST];
+    let mut lowest = [u64::MAX; MOST];
+    let count = file::split(records, &mut kinds, &mut words);
+    let cost = clock::cost();
+    let mut sum = 0;
+    for _ in 0..REPEATS {
+        sum = play(plan, &kinds, &words, &mut lowest, count);
+    }
+    report::line(b"request", 1, &kinds, &lowest, count, cost);
+    report::line(b"credit", 2, &kinds, &lowest, count, cost);
+    report::line(b"tick", 3, &kinds, &lowest, count, cost);
+    report::print(b"answers ");
+    report::print_number(sum);
+    report::print(b"\n");
+}
+
+// Reads the plan at the start of the bytes, and measures the calls after it; false where no plan that is accepted stands there.
+fn begin(bytes: &[u8]) -> bool {
+    if bytes.len() < 12 {
+        return false;
+    }
+    let total = file::two_bytes(bytes, 0) as usize;
+    if bytes.len() < total {
+        return false;
+    }
+    let outcome = plan::read(&bytes[..total]);
+    let verdict = outcome.verdict;
+    match verdict {
+        Verdict::Refused(_) => false,
+        Verdict::Accepted => {
+            let plan = outcome.plan;
+            measure(plan, &bytes[total..]);
+            true
+        }
+    }
+}
+
+fn main() {
+    let mut space = [0u8; 20556];
+    let got = io::read_full(libc::STDIN_FILENO, &mut space);
+    if !begin(&space[..got]) {
+        report::print(b"no calls\n");
+    }
+}

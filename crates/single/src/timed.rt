@@ -1,0 +1,76 @@
+// Calls of one kind, by value, one after the other, and the time that they take.
+ghost use Prim.Native.Nat.{_≤_};
+ghost use Rattle.link.specs.Sound.{Sound};
+use crate::clock;
+use crate::file::MOST;
+use link::Step;
+
+// A link after some calls, with the last answer, and the nanoseconds that they took.
+pub(crate) struct Timed {
+    pub step: Step,
+    pub spent: u64,
+}
+
+fn requests(first: Step, words: &[u32; MOST], from: usize, to: usize) -> Timed
+    requires { ⌜ Sound (first .link) × (to ≤ 4096) ⌝ }
+    ensures { λ r. ⌜ Sound (r .step .link) ⌝ }
+{
+    let mut step = first;
+    let begin = clock::nanoseconds();
+    for i in from..to {
+        step = step.link.request(words[i]);
+    }
+    let spent = clock::since(begin);
+    Timed { step, spent }
+}
+
+// The flow of a credit: the low byte.
+fn flow(word: u32) -> usize {
+    (word % 256) as usize
+}
+
+// The position of a credit: the two bytes after.
+fn position(word: u32) -> usize {
+    (word / 256 % 65536) as usize
+}
+
+fn credits(first: Step, words: &[u32; MOST], from: usize, to: usize) -> Timed
+    requires { ⌜ Sound (first .link) × (to ≤ 4096) ⌝ }
+    ensures { λ r. ⌜ Sound (r .step .link) ⌝ }
+{
+    let mut step = first;
+    let begin = clock::nanoseconds();
+    for i in from..to {
+        let word = words[i];
+        step = step.link.credit(flow(word), position(word));
+    }
+    let spent = clock::since(begin);
+    Timed { step, spent }
+}
+
+fn ticks(first: Step, from: usize, to: usize) -> Timed
+    requires { ⌜ Sound (first .link) ⌝ }
+    ensures { λ r. ⌜ Sound (r .step .link) ⌝ }
+{
+    let mut step = first;
+    let begin = clock::nanoseconds();
+    for _ in from..to {
+        step = step.link.tick();
+    }
+    let spent = clock::since(begin);
+    Timed { step, spent }
+}
+
+// Plays the calls of a kind from one place to another.
+pub(crate) fn run(step: Step, kind: u8, words: &[u32; MOST], from: usize, to: usize) -> Timed
+    requires { ⌜ Sound (step .link) × (to ≤ 4096) ⌝ }
+    ensures { λ r. ⌜ Sound (r .step .link) ⌝ }
+{
+    if kind == 1 {
+        return requests(step, words, from, to);
+    }
+    if kind == 2 {
+        return credits(step, words, from, to);
+    }
+    ticks(step, from, to)
+}
