@@ -26,6 +26,6 @@ def show(folder, count, rounds):
         print("|---|---|---|---|---|---|")
         for size in rows:
             ours, theirs = best[size]
-            print("| %d | %d | %d | %.0f | %.1f | %.1f |" % (
+            print("| %d | %d | %d | %.0f | %.1f | %.2f |" % (
                 *size, 1e9 * ours / count, 1e9 * theirs / count,
                 ours / theirs))

@@ -1,7 +1,10 @@
 """The programs that are measured: built, named, and played on call files."""
 
 import hashlib
+import os
+import re
 import subprocess
+import sys
 import time
 from datetime import datetime
 from pathlib import Path
@@ -11,10 +14,23 @@ PROVED = ("domelink", "single")
 PLAIN = ("play", "calls", "single")
 RUSTC = ["rustc", "--edition", "2021", "-C", "opt-level=3",
          "-C", "codegen-units=1"]
+LAST = 20               # lines shown of a check that failed
 
 
 def proved(name):
     return ROOT / "target/bin" / name
+
+
+def prove():
+    """Proves and compiles the proved programs; stops where that fails."""
+    done = subprocess.run(["rt", "check", *PROVED], cwd=ROOT,
+                          stdout=subprocess.PIPE, stderr=subprocess.STDOUT,
+                          encoding="utf-8", errors="replace")
+    if done.returncode != 0:
+        for line in done.stdout.splitlines()[-LAST:]:
+            print(line, file=sys.stderr)
+        raise SystemExit("rt check %s failed with status %d: nothing is "
+                         "measured" % (" ".join(PROVED), done.returncode))
 
 
 def build(folder):
@@ -23,8 +39,7 @@ def build(folder):
     for name in PLAIN:
         subprocess.run(RUSTC + [str(ROOT / "docs/src" / (name + ".rs")),
                                 "-o", str(folder / name)], check=True)
-    subprocess.run(["rt", "check", *PROVED], cwd=ROOT, check=True,
-                   stdout=subprocess.DEVNULL)
+    prove()
 
 
 def said(*words):
@@ -43,11 +58,25 @@ def build_of(name):
         name, made.strftime("%Y-%m-%d %H:%M"), digest[:12])
 
 
+def processors():
+    """The processor's name, where the system tells it, and the number of
+    processors."""
+    try:
+        text = Path("/proc/cpuinfo").read_text(errors="replace")
+    except OSError:
+        text = ""
+    found = re.search(r"^model name\s*:\s*(.+)$", text, re.MULTILINE)
+    name = found.group(1).strip() if found else "unknown"
+    return "processor %s, number of processors %s" % (
+        name, os.cpu_count() or "unknown")
+
+
 def builds():
-    """What is measured: the commit, the proved programs and the compiler."""
+    """What is measured and where: the commit, the proved programs, the
+    compiler and the processors."""
     commit = said("git", "describe", "--always", "--dirty")
     return ["commit " + commit, *map(build_of, PROVED),
-            said("rustc", "--version")]
+            said("rustc", "--version"), processors()]
 
 
 def make(folder, kind, count, *options):

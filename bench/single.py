@@ -35,5 +35,5 @@ def show(folder, rounds):
     by_value, by_reference = measure(folder, rounds)
     for kind, ours in by_value.items():
         theirs = by_reference[kind]
-        print("%-8s by value %6.1f ns   by &mut %6.1f ns   ratio %5.1f"
+        print("%-8s by value %6.1f ns   by &mut %6.1f ns   ratio %6.2f"
               % (kind, ours, theirs, ours / theirs))

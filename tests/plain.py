@@ -1,4 +1,4 @@
-"""The plain Rust scheduler of docs/src as a third opinion: its own tests, and
+"""The plain Rust scheduler of docs/src as a third account: its own tests, and
 the same files played through it."""
 
 import subprocess

@@ -12,7 +12,7 @@ use std::time::{Duration, Instant};
 
 /// Times that the file is played, unless the command line says otherwise.
 const REPEATS: usize = 200;
-/// Shorter runs are played but not counted: the clock would weigh too much.
+/// Shorter runs are played but not counted: the clock would be too large a part of the time.
 const SHORTEST: usize = 8;
 
 #[derive(Clone, Copy, PartialEq, Eq)]
@@ -30,49 +30,38 @@ struct Run {
     lowest: Duration,
 }
 
-impl Run {
-    #[inline]
-    fn play(&self, link: &mut Link) {
-        match self.kind {
-            Kind::Request => self.calls.iter().for_each(|&call| {
-                let _ = black_box(link.request(black_box(call)));
-            }),
-            Kind::Credit => self.calls.iter().for_each(|&call| {
-                let [flow, low, high, _] = black_box(call).to_le_bytes();
-                let position = u16::from_le_bytes([low, high]);
-                let _ = black_box(link.credit(flow.into(), position.into()));
-            }),
-            Kind::Tick => self.calls.iter().for_each(|_| {
-                black_box(link.tick());
-            }),
-        }
-    }
+/// Makes a request; its answer as a number.
+fn request(link: &mut Link, call: u32) -> u64 {
+    link.request(call).map_or_else(u64::from, u64::from)
 }
 
-/// Makes one call and gives its answer as a number.
-fn answer(link: &mut Link, kind: Kind, call: u32) -> u64 {
+/// Sends a credit; its answer as a number.
+fn credit(link: &mut Link, call: u32) -> u64 {
     let [flow, low, high, _] = call.to_le_bytes();
     let position = u16::from_le_bytes([low, high]);
-    match kind {
-        Kind::Request => link.request(call).map_or_else(u64::from, u64::from),
-        Kind::Credit => match link.credit(flow.into(), position.into()) {
-            Ok(()) => 1,
-            Err(number) => number.into(),
-        },
-        Kind::Tick => link.tick().map_or(16, u64::from),
+    match link.credit(flow.into(), position.into()) {
+        Ok(()) => 1,
+        Err(number) => number.into(),
     }
 }
 
-/// The sum of each run's last answer: a program that played the same calls has
-/// the same sum.
-fn sum_answers(plan: &Plan, runs: &[Run]) -> u64 {
-    let mut link = Link::fresh(plan);
-    let last = |run: &Run| {
-        let answers = run.calls.iter();
-        let answers = answers.map(|&call| answer(&mut link, run.kind, call));
-        answers.last().unwrap_or(0)
-    };
-    runs.iter().map(last).sum()
+/// Makes a tick; its answer as a number.
+fn tick(link: &mut Link) -> u64 {
+    link.tick().map_or(16, u64::from)
+}
+
+impl Run {
+    /// Makes the calls and adds up their answers. Every answer is used within
+    /// the time, or the compiler could leave out what makes it.
+    #[inline]
+    fn play(&self, link: &mut Link) -> u64 {
+        let calls = self.calls.iter();
+        match self.kind {
+            Kind::Request => calls.map(|&call| request(link, call)).sum(),
+            Kind::Credit => calls.map(|&call| credit(link, call)).sum(),
+            Kind::Tick => calls.map(|_| tick(link)).sum(),
+        }
+    }
 }
 
 /// Splits the records into runs of one kind.
@@ -98,21 +87,25 @@ fn split_runs(records: &[u8]) -> Option<Vec<Run>> {
     Some(runs)
 }
 
-/// Plays every run on a fresh link and keeps its lowest time.
-fn time_runs(plan: &Plan, runs: &mut [Run]) {
-    let mut link = black_box(Link::fresh(plan));
+/// Plays every run on a fresh link and keeps its lowest time; the sum of all
+/// answers.
+fn time_runs(plan: &Plan, runs: &mut [Run]) -> u64 {
+    let mut link = Link::fresh(plan);
+    let mut sum = 0;
     for run in runs {
         let begin = Instant::now();
-        run.play(&mut link);
+        sum += run.play(&mut link);
         run.lowest = run.lowest.min(begin.elapsed());
     }
+    sum
 }
 
 /// Plays the whole file with the clock read only at its ends.
 fn time_file(plan: &Plan, runs: &[Run]) -> Duration {
-    let mut link = black_box(Link::fresh(plan));
+    let mut link = Link::fresh(plan);
     let begin = Instant::now();
-    runs.iter().for_each(|run| run.play(&mut link));
+    let answers = runs.iter().map(|run| run.play(&mut link));
+    black_box(answers.sum::<u64>());
     begin.elapsed()
 }
 
@@ -159,9 +152,9 @@ fn main() -> io::Result<()> {
         std::process::exit(2);
     };
     let clock = time_clock();
-    let mut whole = Duration::MAX;
+    let (mut whole, mut sum) = (Duration::MAX, 0);
     for _ in 0..repeats {
-        time_runs(&plan, &mut runs);
+        sum = time_runs(&plan, &mut runs);
         whole = whole.min(time_file(&plan, &runs));
     }
     let (slots, frames, flows) = (plan.slots, plan.frames, plan.entries.len());
@@ -175,6 +168,6 @@ fn main() -> io::Result<()> {
         "{:8} {each:6.1} ns  ({calls} calls without the clock)",
         "any"
     );
-    println!("answers {}", sum_answers(&plan, &runs));
+    println!("answers {sum}");
     Ok(())
 }

@@ -1,4 +1,4 @@
-// Lines: a letter, a space, what is said, and a newline.
+// Lines: a letter, then a space and what is said unless the letter is C, and a newline.
 ghost use mathlib.Core.Path.{_≡_};
 ghost use mathlib.Core.List.{_∷_, []};
 ghost use Prim.Native.Nat.{_+_, _<_, _≤_};
@@ -84,7 +84,7 @@ pub fn write(answer: Answer, out: &mut [u8], at: usize) -> usize
     }
 }
 
-// A letter and a number, by the same rule.
+// A letter and a number, where the longest line has room; otherwise nothing is written and the same place is returned.
 fn put_line(letter: u8, number: u8, out: &mut [u8], at: usize) -> usize
     ensures out { λ r. ⌜ now (out .exit) ≡ outWith (numberLine letter number) (now (out .entry)) at ⌝ }
     ensures next { λ r. ⌜ r ≡ nextAfter (numberLine letter number) (now (out .entry)) at ⌝ }
@@ -96,7 +96,7 @@ fn put_line(letter: u8, number: u8, out: &mut [u8], at: usize) -> usize
     put_number(letter, number as u32, out, at)
 }
 
-// The same for a plan's line: `P` and the refusal, or `P 0`.
+// Writes a plan's line, `P` and the refusal or `P 0`, and returns the place after it; without room as in `write`.
 pub fn write_plan(number: u8, out: &mut [u8], at: usize) -> usize
     ensures out { λ r. ⌜ now (out .exit) ≡ outWith (planLine number) (now (out .entry)) at ⌝ }
     ensures next { λ r. ⌜ r ≡ nextAfter (planLine number) (now (out .entry)) at ⌝ }
@@ -105,7 +105,7 @@ pub fn write_plan(number: u8, out: &mut [u8], at: usize) -> usize
     put_line(b'P', number, out, at)
 }
 
-// The same for a refusal.
+// Writes the line of a refusal, the one that `write` writes for that answer.
 pub fn write_refusal(number: u8, out: &mut [u8], at: usize) -> usize
     ensures out { λ r. ⌜ now (out .exit) ≡ outWith (lineFor (Answer.Refused number)) (now (out .entry)) at ⌝ }
     ensures next { λ r. ⌜ r ≡ nextAfter (lineFor (Answer.Refused number)) (now (out .entry)) at ⌝ }

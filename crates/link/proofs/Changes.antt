@@ -1,4 +1,4 @@
--- What a call is given of a link, and what it stores: a store of what stands there already changes nothing. Assumes nothing.
+-- What a call is given of a link, and what it stores. Assumes nothing.
 use Prim.Native.Nat.{ℕ, _<_}
 use mathlib.Core.Path.{_≡_, refl, sym, ap, _∙_}
 use mathlib.Core.List.{List}
@@ -15,13 +15,14 @@ use Rattle.link.specs.declared.Flow.{Flow}
 use Rattle.link.specs.declared.Link.{Link}
 use Rattle.link.specs.declared.Step.{Step}
 use Rattle.link.specs.declared.Window.{Window}
-use Rattle.link.specs.Runs.{replaced, wrapped}
 use Rattle.link.specs.Rows.{row, withRow}
-use Rattle.link.specs.Window.{windowOf, Proper, fromIn}
-use Rattle.link.specs.Parts.{entryAt, flowAt, ownerAt, noFlow, partOf, withOwners, withFlows, withFlow, withHeld}
+use Rattle.link.specs.Window.{windowOf, Proper}
+use Rattle.link.specs.Holdings.{shifted}
+use Rattle.link.specs.Parts.{entryAt, partAt, noFlow, partOf, withOwners, withFlows}
 use Rattle.link.specs.Reading.{linkOf}
 use Rattle.link.specs.Sound.{Sound}
-use Rattle.link.specs.Change.{placed, Around, Of, Given, changed}
+use Rattle.link.specs.Change.{placed, Around, PartsOf, Given, changed}
+use Rattle.link.proofs.Parts.{withFlow, withHeld}
 use Rattle.link.proofs.Rows.{with-own-row}
 use Rattle.link.proofs.Links.{flows-most, read-window}
 
@@ -42,40 +43,42 @@ module _ (l : Link) (s : Sound l) {w : Window} (is : windowOf w ≡ record { slo
   pub around : Around l (l .plan .count) w (l .held)
   around = record { sound = s; count-is = refl; proper = v; window-is = read-window l is; held-is = refl }
 
-  pub of-flow : (i : ℕ) → Of l (l .plan .count) (entryAt l i) w (l .owner) (l .held) i (getD (l .flows) i noFlow)
+  pub of-flow : (i : ℕ) → PartsOf l (l .plan .count) (entryAt l i) w (l .owner) (l .held) i (getD (l .flows) i noFlow)
   of-flow i = record { around = around; owner-is = refl; entry-is = refl; flow-is = refl }
 
   pub given : (i : ℕ) → Given (l .plan .count) (entryAt l i) w (l .owner) (l .held) i (getD (l .flows) i noFlow)
   given i = record { link = l; of = of-flow i }
 
--- ---- a store of what stands there already
+-- ---- a change that books nothing
 
-module _ (l : Link) (i p : ℕ) (a : Answer) where
-  -- the flow, the owner and the holdings stay
-  pub same-link : {o : ℕ} {f : Flow} → o ≡ ownerAt l p → f ≡ getD (l .flows) i noFlow
-      → _≡_ {A = Step} (record { link = l; answer = a }) (changed l i (record { flow = f; position = p; owner = o; granted = false; answer = a }))
-  same-link {o} {f} d e =
-      ap (λ (x : List ℕ). record { link = withOwners l x; answer = a }) (sym (set-getD (l .owner) p 0) ∙ ap (set (l .owner) p) (sym d))
-      ∙ ap (λ (x : List Flow). record { link = withFlows (withOwners l (set (l .owner) p o)) x (l .held); answer = a }) (sym (set-getD (l .flows) i noFlow) ∙ ap (set (l .flows) i) (sym e))
+module _ (l : Link) (i : ℕ) (a : Answer) where
+  -- the flow stays
+  pub same-link : {f : Flow} → f ≡ getD (l .flows) i noFlow
+      → _≡_ {A = Step} (record { link = l; answer = a }) (record { link = withFlows l (set (l .flows) i f) (l .held); answer = a })
+  same-link e = ap (λ (x : List Flow). record { link = withFlows l x (l .held); answer = a }) (sym (set-getD (l .flows) i noFlow) ∙ ap (set (l .flows) i) (sym e))
 
-  -- the owner and the holdings stay
-  pub same-owner : {o : ℕ} (f : Flow) → o ≡ ownerAt l p
-      → _≡_ {A = Step} (record { link = withFlow l i (partOf f (row (l .held) i)); answer = a }) (changed l i (record { flow = f; position = p; owner = o; granted = false; answer = a }))
-  same-owner {o} f d =
-      ap (λ (x : List ℕ). record { link = withFlows l (set (l .flows) i f) x; answer = a }) (with-own-row (l .held) i)
-      ∙ ap (λ (x : List ℕ). record { link = withFlows (withOwners l x) (set (l .flows) i f) (l .held); answer = a }) (sym (set-getD (l .owner) p 0) ∙ ap (set (l .owner) p) (sym d))
+  -- the holdings stay
+  pub same-held : (f : Flow)
+      → _≡_ {A = Step} (record { link = withFlow l i (partOf f (row (l .held) i)); answer = a }) (record { link = withFlows l (set (l .flows) i f) (l .held); answer = a })
+  same-held f = ap (λ (x : List ℕ). record { link = withFlows l (set (l .flows) i f) x; answer = a }) (with-own-row (l .held) i)
+
+  pub same-moved : (f : Flow) {j c : ℕ} → f .frame ≡ j → f .left ≡ c
+      → _≡_ {A = Step} (record { link = withFlow l i (record { frame = j; left = c; held = row (l .held) i }); answer = a }) (record { link = withFlows l (set (l .flows) i f) (l .held); answer = a })
+  same-moved f {j} {c} d e =
+      ap (λ (x : ℕ). record { link = withFlow l i (record { frame = x; left = c; held = row (l .held) i }); answer = a }) (sym d)
+      ∙ ap (λ (x : ℕ). record { link = withFlow l i (record { frame = f .frame; left = x; held = row (l .held) i }); answer = a }) (sym e)
+      ∙ same-held f
 
 -- holdings alone that change
-pub same-flows : (l : Link) (i : ℕ) (h : List ℕ) → withFlows l (l .flows) (withRow (l .held) i h) ≡ withFlow l i (withHeld (flowAt l i) h)
+pub same-flows : (l : Link) (i : ℕ) (h : List ℕ) → withFlows l (l .flows) (withRow (l .held) i h) ≡ withFlow l i (withHeld (partAt l i) h)
 same-flows l i h = ap (λ (x : List Flow). withFlows l x (withRow (l .held) i h)) (sym (set-getD (l .flows) i noFlow))
 
--- a change that was stored
-module _ (l : Link) (i : ℕ) (c : Change) where
-  pub stored-raise : (w : Window) → windowOf w ≡ model.window (linkOf l) → c .granted ≡ true → {h : List ℕ}
-      → h ≡ withRow (l .held) i (replaced (fromIn (windowOf w) (c .position)) (λ q x. wrapped 1 x) (row (l .held) i))
-      → _≡_ {A = Step} (changed l i c) (record { link = withFlows (withOwners l (set (l .owner) (c .position) (c .owner))) (set (l .flows) i (c .flow)) h; answer = c .answer })
-  stored-raise w is z e = rw (z, e, is)
+-- ---- a change that was stored
 
-  pub stored-stay : c .granted ≡ false
-      → _≡_ {A = Step} (changed l i c) (record { link = withFlows (withOwners l (set (l .owner) (c .position) (c .owner))) (set (l .flows) i (c .flow)) (l .held); answer = c .answer })
-  stored-stay z = rw z
+module _ (l : Link) (i : ℕ) (c : Change) where
+  pub stored-booking : (w : Window) → windowOf w ≡ model.window (linkOf l) → c .granted ≡ true → {h : List ℕ} → h ≡ shifted (windowOf w) 1 i (c .position) (l .held)
+      → _≡_ {A = Step} (changed l i c) (record { link = withFlows (withOwners l (set (l .owner) (c .position) i)) (set (l .flows) i (c .flow)) h; answer = c .answer })
+  stored-booking w is z e = rw (z, e, is)
+
+  pub stored-flow : c .granted ≡ false → _≡_ {A = Step} (changed l i c) (record { link = withFlows l (set (l .flows) i (c .flow)) (l .held); answer = c .answer })
+  stored-flow z = rw z

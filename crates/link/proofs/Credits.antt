@@ -19,13 +19,14 @@ use Rattle.link.specs.Runs.{replaced, wrapped}
 use Rattle.link.specs.Rows.{row, withRow}
 use Rattle.link.specs.Window.{windowOf, Proper, fromIn}
 use Rattle.link.specs.Holdings.{someHeld}
-use Rattle.link.specs.Parts.{sizeOf, flowAt, withFlows, withFlow, withHeld}
+use Rattle.link.specs.Parts.{sizeOf, partAt, withFlows}
 use Rattle.link.specs.Reading.{linkOf}
 use Rattle.link.specs.Sound.{Sound}
 use Rattle.link.specs.Change.{Stepped, Creditable}
+use Rattle.link.proofs.Parts.{withFlow, withHeld}
 use Rattle.link.proofs.Runs.{wrapped-down}
 use Rattle.link.proofs.Ranks.{everyFrom-same, replaced-from}
-use Rattle.link.proofs.Links.{same-flow, read-count, read-flow, read-holding, read-size, read-with-flow, sound-with-flow, read-from, long-from, sound-from}
+use Rattle.link.proofs.Links.{same-flow, read-count, read-flow, read-holding, read-with-flow, sound-with-flow, read-from, long-from, sound-from}
 use Rattle.link.proofs.Changes.{same-flows}
 
 -- ---- the tests
@@ -88,7 +89,7 @@ module _ (l : Link) (s : Sound l) (i p n : ℕ) (tests : n ≡ firstOf (creditTe
     long : length lower ≡ 256
     long = long-from l s (windowOf w) is i p (c .flow) (λ x. x - 1) lower lower-is
 
-    lower-link : linkOf (withFlow l i (withHeld (flowAt l i) lower)) ≡ lowered (linkOf l) i p
+    lower-link : linkOf (withFlow l i (withHeld (partAt l i) lower)) ≡ lowered (linkOf l) i p
     unfolding lowered
     lower-link =
         read-with-flow l s i (c .flow) _ long

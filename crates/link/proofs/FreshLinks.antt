@@ -1,5 +1,5 @@
 -- The fresh link, as it is read. Assumes nothing.
-use Prim.Native.Nat.{ℕ, _+_, _*_, _≤_, _<_}
+use Prim.Native.Nat.{ℕ, _*_, _≤_, _<_}
 use mathlib.Core.Path.{_≡_, sym, ap, _∙_}
 use mathlib.Core.List.{List}
 use mathlib.Core.Option.{Option, none}
@@ -17,13 +17,13 @@ use Rattle.plan.specs.Reading as plan
 use Rattle.link.specs.declared.Flow.{Flow}
 use Rattle.link.specs.declared.Link.{Link}
 use Rattle.link.specs.Runs.{inRun, replaced}
-use Rattle.link.specs.Rows.{row}
-use Rattle.link.specs.Parts.{noFlow, partOf, flowAt}
-use Rattle.link.specs.Reading.{nobody, ownerOf, flowOf, linkOf, everywhere, heldNowhere}
+use Rattle.link.specs.Rows.{row, sixteenRows}
+use Rattle.link.specs.Parts.{noFlow, partOf, partAt}
+use Rattle.link.specs.Reading.{nobody, ownerOf, flowOf, linkOf, everywhere}
 use Rattle.link.specs.Sound.{Sound}
 use Rattle.link.proofs.Tables.{table-same, replicate-table}
 use Rattle.link.proofs.Plans.{plan-count, plan-entry, count-most}
-use Rattle.link.proofs.Rows.{row-is}
+use Rattle.link.proofs.Rows.{length-sixteen, row-of-sixteen}
 use Rattle.link.proofs.Runs.{in-run, past-run, length-replaced, replaced-at, replaced-off}
 
 -- ---- one value at every position
@@ -45,9 +45,8 @@ nothing-at q = go (decLt q 256)
     go (no h) = List·getD-eq-default (everywhere 0) 0 (omega (arith, length-everywhere 0))
 
 -- nothing is held in a row
-nothing-in-row : (i : ℕ) → i < 16 → row heldNowhere i ≡ everywhere 0
-unfolding heldNowhere
-nothing-in-row i h = row-is _ i _ (length-everywhere 0) (λ p b. getD-replicate 4096 (256 * i + p) 0 0 (omega arith) ∙ sym (everywhere-at 0 p b))
+nothing-in-row : (i : ℕ) → i < 16 → row (sixteenRows (everywhere 0)) i ≡ everywhere 0
+nothing-in-row i h = row-of-sixteen (everywhere 0) i h (length-everywhere 0)
 
 -- ---- the link
 
@@ -61,14 +60,14 @@ freshLink p = record {
   cp = 0;
   owner = everywhere nobody;
   flows = replaced (inRun 0 (p .count)) (λ i f. startFlow (getD (p .entries) i plan.noEntry)) (replicate 16 noFlow);
-  held = heldNowhere;
+  held = sixteenRows (everywhere 0);
 }
 
 module _ (p : Plan) (v : plan.Valid p) where
   size-most : p .slots * p .frames ≤ 256
   size-most = v .accepted .positions-most
 
-  flow-at : (i : ℕ) → i < p .count → flowAt (freshLink p) i ≡ partOf (startFlow (getD (p .entries) i plan.noEntry)) (everywhere 0)
+  flow-at : (i : ℕ) → i < p .count → partAt (freshLink p) i ≡ partOf (startFlow (getD (p .entries) i plan.noEntry)) (everywhere 0)
   flow-at i h =
       let b = count-most p v in
       let e : getD (freshLink p .flows) i noFlow ≡ startFlow (getD (p .entries) i plan.noEntry) =
@@ -91,17 +90,13 @@ module _ (p : Plan) (v : plan.Valid p) where
       start : ℕ → model.Flow
       start i = record { injection = 0; remainder = paper.entry (plan.planFor p) i .share; held = replicate T 0 }
 
-      flows : table (p .count) (λ i. flowOf T (flowAt (freshLink p) i)) ≡ table (paper.flowCount (plan.planFor p)) start
+      flows : table (p .count) (λ i. flowOf T (partAt (freshLink p) i)) ≡ table (paper.flowCount (plan.planFor p)) start
       flows =
           table-same (p .count) _ start (λ i h. ap (flowOf T) (flow-at i h) ∙ rw (plan-entry p i h, held))
           ∙ ap (λ (n : ℕ). table n start) (sym (plan-count p))
 
       same : {o o′ : List (Option ℕ)} {fs fs′ : List model.Flow} → o ≡ o′ → fs ≡ fs′ → _≡_ {A = model.Link} (record { plan = plan.planFor p; current = 0; owners = o; flows = fs }) (record { plan = plan.planFor p; current = 0; owners = o′; flows = fs′ })
       same d e = cc
-
-  long : length heldNowhere ≡ 4096
-  unfolding heldNowhere
-  long = length-replicate {A = ℕ} 4096 0
 
   pub sound-fresh : Sound (freshLink p)
   sound-fresh = record {
@@ -111,7 +106,7 @@ module _ (p : Plan) (v : plan.Valid p) where
     owners = λ q b n. absurd (n (everywhere-at nobody q b));
     spare-owners = λ q h b. everywhere-at nobody q b;
     flows-long = length-replaced _ _ (replicate 16 noFlow) ∙ length-replicate 16 noFlow;
-    held-long = long;
+    held-long = length-sixteen (everywhere 0);
     flows = λ i h. rw (flow-at i h) (record { frame = omega (arith, v .accepted .two-frames); spare = λ q _. nothing-at q });
     spare-flows = λ i h b.
         let e : getD (freshLink p .flows) i noFlow ≡ noFlow = replaced-off _ _ (replicate 16 noFlow) i noFlow (past-run 0 (p .count) i h) ∙ getD-replicate 16 i noFlow noFlow b in

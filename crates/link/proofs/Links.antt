@@ -19,10 +19,11 @@ use Rattle.calls.specs.declared.Answer.{Answer}
 use Rattle.link.specs.declared.Link.{Link}
 use Rattle.link.specs.Runs.{replaced}
 use Rattle.link.specs.Window.{Measures, fromIn}
-use Rattle.link.specs.Parts.{Part, sizeOf, entryAt, flowAt, ownerAt, noFlow, withOwners, withFlow, movedTo, withHeld}
+use Rattle.link.specs.Parts.{Part, sizeOf, entryAt, partAt, ownerAt, noFlow, withOwners}
 use Rattle.link.specs.Reading.{nobody, ownerOf, flowOf, linkOf}
 use Rattle.link.specs.Sound.{Sound, SoundFlow}
 use Rattle.link.specs.Change.{Stepped}
+use Rattle.link.proofs.Parts.{withFlow, movedTo, withHeld}
 use Rattle.link.proofs.Tables.{getD-table, table-same}
 use Rattle.link.proofs.Plans.{plan-count, plan-entry, count-most}
 use Rattle.link.proofs.Rows.{length-row, length-with-row, row-with-same, row-with-other}
@@ -49,11 +50,11 @@ module _ (l : Link) where
   unfolding linkOf
   read-entry i h = plan-entry (l .plan) i h
 
-  pub read-flow : (i : ℕ) → i < l .plan .count → model.flow (linkOf l) i ≡ flowOf (sizeOf l) (flowAt l i)
+  pub read-flow : (i : ℕ) → i < l .plan .count → model.flow (linkOf l) i ≡ flowOf (sizeOf l) (partAt l i)
   unfolding linkOf
   read-flow i h = getD-table (l .plan .count) _ i _ h
 
-  pub read-holding : (i p : ℕ) → i < l .plan .count → p < sizeOf l → model.holding (linkOf l) i p ≡ getD (flowAt l i .held) p 0
+  pub read-holding : (i p : ℕ) → i < l .plan .count → p < sizeOf l → model.holding (linkOf l) i p ≡ getD (partAt l i .held) p 0
   read-holding i p h b = rw (read-flow i h) (getD-table (sizeOf l) _ p 0 b)
 
   pub read-owner : (p : ℕ) → p < sizeOf l → model.owner (linkOf l) p ≡ ownerOf (ownerAt l p)
@@ -99,24 +100,24 @@ module _ (l : Link) (s : Sound l) where
     below : i < 16
     below = omega (arith, flows-most)
 
-    same-flow-at : flowAt (withFlow l i f) i ≡ f
+    same-flow-at : partAt (withFlow l i f) i ≡ f
     same-flow-at = rw (getD-set-same (l .flows) i (record { frame = f .frame; left = f .left }) noFlow (omega (arith, s .flows-long, below)), row-with-same (l .held) i (f .held) (s .held-long) below long)
 
-    other-flow-at : (j : ℕ) → (j ≡ i → ⊥) → flowAt (withFlow l i f) j ≡ flowAt l j
+    other-flow-at : (j : ℕ) → (j ≡ i → ⊥) → partAt (withFlow l i f) j ≡ partAt l j
     other-flow-at j d = rw (getD-set-other (l .flows) i j (record { frame = f .frame; left = f .left }) noFlow d, row-with-other (l .held) i (f .held) j d)
 
-    set-flow : (j : ℕ) → flowAt (withFlow l i f) j ≡ cond (eqb j i) f (flowAt l j)
+    set-flow : (j : ℕ) → partAt (withFlow l i f) j ≡ cond (eqb j i) f (partAt l j)
     set-flow j = go (ℕ-discrete j i)
       where
-        go : Dec (j ≡ i) → flowAt (withFlow l i f) j ≡ cond (eqb j i) f (flowAt l j)
-        go (yes d) = ap (flowAt (withFlow l i f)) d ∙ same-flow-at ∙ rw (eq-eqb j i d)
+        go : Dec (j ≡ i) → partAt (withFlow l i f) j ≡ cond (eqb j i) f (partAt l j)
+        go (yes d) = ap (partAt (withFlow l i f)) d ∙ same-flow-at ∙ rw (eq-eqb j i d)
         go (no d) = other-flow-at j d ∙ rw (ne-eqb j i d)
 
     pub read-with-flow : linkOf (withFlow l i f) ≡ model.withFlow (linkOf l) i (flowOf (sizeOf l) f)
     unfolding linkOf
     read-with-flow =
-        let e = table-same (l .plan .count) (λ j. flowOf (sizeOf l) (flowAt (withFlow l i f) j)) (λ j. cond (eqb j i) (flowOf (sizeOf l) f) (model.flow (linkOf l) j))
-        (λ j h. ap (flowOf (sizeOf l)) (set-flow j) ∙ either (eqb j i) (flowAt l j) ∙ rw (read-flow l j h)) in
+        let e = table-same (l .plan .count) (λ j. flowOf (sizeOf l) (partAt (withFlow l i f) j)) (λ j. cond (eqb j i) (flowOf (sizeOf l) f) (model.flow (linkOf l) j))
+        (λ j h. ap (flowOf (sizeOf l)) (set-flow j) ∙ either (eqb j i) (partAt l j) ∙ rw (read-flow l j h)) in
         cc (e, read-count l)
       where
         either : (b : Bool) (g : Part) → flowOf (sizeOf l) (cond b f g) ≡ cond b (flowOf (sizeOf l) f) (flowOf (sizeOf l) g)
@@ -136,7 +137,7 @@ module _ (l : Link) (s : Sound l) where
       spare-flows = λ j h b. other-flow-at j (λ e. omega arith) ∙ s .spare-flows j h b;
     }
       where
-        each : (j : ℕ) → j < l .plan .count → Dec (j ≡ i) → SoundFlow (sizeOf l) (l .plan .frames) (flowAt (withFlow l i f) j)
+        each : (j : ℕ) → j < l .plan .count → Dec (j ≡ i) → SoundFlow (sizeOf l) (l .plan .frames) (partAt (withFlow l i f) j)
         each j h (yes e) = rw (e, same-flow-at) v
         each j h (no e) = rw (other-flow-at j e) (s .flows j h)
 
@@ -172,23 +173,23 @@ module _ (l : Link) (s : Sound l) where
 
   -- ---- flow i's holdings changed from position p on
 
-  module _ (v : Window) (is : v ≡ model.window (linkOf l)) (i p : ℕ) (hi : i < l .plan .count) (g : ℕ → ℕ) (h : List ℕ) (changed : h ≡ replaced (fromIn v p) (λ q. g) (flowAt l i .held)) where
-    at-position : (q : ℕ) → getD h q 0 ≡ getD (replaced (fromIn (model.window (linkOf l)) p) (λ q. g) (flowAt l i .held)) q 0
-    at-position q = ap (λ (xs : List ℕ). getD xs q 0) (changed ∙ ap (λ (x : Window). replaced (fromIn x p) (λ q. g) (flowAt l i .held)) is)
+  module _ (v : Window) (is : v ≡ model.window (linkOf l)) (i p : ℕ) (hi : i < l .plan .count) (g : ℕ → ℕ) (h : List ℕ) (changed : h ≡ replaced (fromIn v p) (λ q. g) (partAt l i .held)) where
+    at-position : (q : ℕ) → getD h q 0 ≡ getD (replaced (fromIn (model.window (linkOf l)) p) (λ q. g) (partAt l i .held)) q 0
+    at-position q = ap (λ (xs : List ℕ). getD xs q 0) (changed ∙ ap (λ (x : Window). replaced (fromIn x p) (λ q. g) (partAt l i .held)) is)
 
     pub read-from : table (sizeOf l) (λ q. getD h q 0) ≡ model.heldFrom (linkOf l) i p g
     unfolding linkOf fromIn
     read-from = table-same (sizeOf l) _ _ λ q b.
         at-position q
-        ∙ replaced-at _ _ (flowAt l i .held) q 0 (omega (arith, length-row (l .held) i, size-most))
+        ∙ replaced-at _ _ (partAt l i .held) q 0 (omega (arith, length-row (l .held) i, size-most))
         ∙ rw (lt-ltb q (sizeOf l) b, read-holding l i q hi b)
 
     pub long-from : length h ≡ 256
-    long-from = ap length changed ∙ length-replaced _ _ (flowAt l i .held) ∙ length-row (l .held) i
+    long-from = ap length changed ∙ length-replaced _ _ (partAt l i .held) ∙ length-row (l .held) i
 
-    pub sound-from : (j c : ℕ) → j < l .plan .frames → SoundFlow (sizeOf l) (l .plan .frames) (withHeld (movedTo (flowAt l i) j c) h)
+    pub sound-from : (j c : ℕ) → j < l .plan .frames → SoundFlow (sizeOf l) (l .plan .frames) (withHeld (movedTo (partAt l i) j c) h)
     unfolding linkOf fromIn
     sound-from j c hj = record {
       frame = hj;
-      spare = λ q b. at-position q ∙ replaced-off _ _ (flowAt l i .held) q 0 (rw (le-ltb q (sizeOf l) b)) ∙ s .flows i hi .spare q b;
+      spare = λ q b. at-position q ∙ replaced-off _ _ (partAt l i .held) q 0 (rw (le-ltb q (sizeOf l) b)) ∙ s .flows i hi .spare q b;
     }

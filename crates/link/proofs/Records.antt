@@ -28,11 +28,12 @@ use Rattle.model.specs.Credit.{credit}
 use Rattle.model.specs.Tick.{tick}
 use Rattle.model.specs.Listing.{lineOf, made, listing, linkAfter}
 use Rattle.link.specs.Window.{windowOf, Proper, Ticked}
-use Rattle.link.specs.Parts.{noFlow, withCurrent}
+use Rattle.link.specs.Parts.{noFlow}
 use Rattle.link.specs.Reading.{linkOf}
 use Rattle.link.specs.Sound.{Sound}
-use Rattle.link.specs.Change.{Stepped, placed, Around, Of}
+use Rattle.link.specs.Change.{Stepped, placed, Around, PartsOf}
 use Rattle.link.specs.Run.{playable, Played}
+use Rattle.link.proofs.Parts.{withCurrent}
 use Rattle.link.proofs.Links.{flows-most, read-window}
 use Rattle.link.proofs.Changes.{place-below}
 
@@ -95,7 +96,7 @@ module _ {plan : Plan} {w : Window} {link : Link} (p : Playing plan w link) wher
     pub around-there : Around (playedAt link w) (plan .count) w (link .held)
     around-there = record { sound = s; count-is = ap (λ (x : Plan). x .count) (p .plan-is); proper = p .proper; window-is = read-window (playedAt link w) (p .window-is); held-is = refl }
 
-    pub of-there : (i : ℕ) → Of (playedAt link w) (plan .count) (getD (plan .entries) i noEntry) w (link .owner) (link .held) i (getD (link .flows) i noFlow)
+    pub of-there : (i : ℕ) → PartsOf (playedAt link w) (plan .count) (getD (plan .entries) i noEntry) w (link .owner) (link .held) i (getD (link .flows) i noFlow)
     of-there i = record { around = around-there; owner-is = refl; entry-is = ap (λ (x : Plan). getD (x .entries) i noEntry) (p .plan-is); flow-is = refl }
 
     pub below-there : (i x : ℕ) → i ≡ placed (plan .count) x → i < 16

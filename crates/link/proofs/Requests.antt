@@ -28,14 +28,15 @@ use Rattle.link.specs.declared.Link.{Link}
 use Rattle.link.specs.Runs.{replaced}
 use Rattle.link.specs.Window.{fromIn}
 use Rattle.link.specs.Holdings.{roomAt}
-use Rattle.link.specs.Parts.{sizeOf, entryAt, flowAt, ownerAt, withOwners, withFlow, movedTo}
+use Rattle.link.specs.Parts.{sizeOf, entryAt, partAt, ownerAt, withOwners}
 use Rattle.link.specs.Reading.{ownerOf, flowOf, linkOf}
 use Rattle.calls.specs.Reading.{answerToRequest}
 use Rattle.link.specs.Search.{freeFrom}
 use Rattle.link.specs.Sound.{Sound}
+use Rattle.link.proofs.Parts.{withFlow, movedTo}
 use Rattle.link.proofs.Plans.{plan-count, plan-entry}
 use Rattle.link.proofs.Rows.{length-row}
-use Rattle.link.proofs.Ranks.{everyFrom-same}
+use Rattle.link.proofs.Ranks.{ahead-on, everyFrom-same}
 use Rattle.link.proofs.Searches.{search-same, search-books, Booking, Books}
 use Rattle.link.specs.Change.{Stepped, placed}
 use Rattle.link.proofs.Links.{read-entry, read-flow, read-holding, read-owner, read-with-flow, sound-with-flow, read-with-owner, sound-with-owner, read-from, long-from, sound-from, read-size, read-frames}
@@ -118,13 +119,13 @@ module _ (l : Link) (x n : ℕ) (tests : n ≡ firstOf (wordTests (planFor (l .p
 
 module _ (l : Link) (s : Sound l) (v : Window) (is : v ≡ model.window (linkOf l)) (i : ℕ) (hi : i < l .plan .count) where
   pub record LowFor (low : ℕ) : Type 0 where
-    pub from : (p : ℕ) → p < sizeOf l → leb low (rank v p) ≡ not (passed v p) && everyFrom v p (roomAt (flowAt l i .held) (entryAt l i .cells))
+    pub from : (p : ℕ) → p < sizeOf l → leb low (rank v p) ≡ not (passed v p) && everyFrom v p (roomAt (partAt l i .held) (entryAt l i .cells))
 
   -- there is room from p on
-  room-same : (p : ℕ) → everyFrom (model.window (linkOf l)) p (λ q. ltb (model.holding (linkOf l) i q) (model.cells (linkOf l) i)) ≡ everyFrom (model.window (linkOf l)) p (roomAt (flowAt l i .held) (entryAt l i .cells))
+  room-same : (p : ℕ) → everyFrom (model.window (linkOf l)) p (λ q. ltb (model.holding (linkOf l) i q) (model.cells (linkOf l) i)) ≡ everyFrom (model.window (linkOf l)) p (roomAt (partAt l i .held) (entryAt l i .cells))
   unfolding linkOf
   room-same p =
-      everyFrom-same (model.window (linkOf l)) p (λ q. ltb (model.holding (linkOf l) i q) (model.cells (linkOf l) i)) (roomAt (flowAt l i .held) (entryAt l i .cells))
+      everyFrom-same (model.window (linkOf l)) p (λ q. ltb (model.holding (linkOf l) i q) (model.cells (linkOf l) i)) (roomAt (partAt l i .held) (entryAt l i .cells))
       (λ q b. rw (read-holding l i q hi b, ap (λ (e : paper.Entry). e .cells) (read-entry l i hi)))
 
   module _ (low : ℕ) (bound : LowFor low) where
@@ -132,10 +133,10 @@ module _ (l : Link) (s : Sound l) (v : Window) (is : v ≡ model.window (linkOf 
     unfolding valid freeFrom
     valid-same p hp =
         let late = ap (λ (x : Window). passed x p) (sym is) in
-        let room = room-same p ∙ ap (λ (x : Window). everyFrom x p (roomAt (flowAt l i .held) (entryAt l i .cells))) (sym is) in
-        rw (read-owner l p hp, late, room, bound .from p hp) (and-assoc (unbooked (ownerOf (ownerAt l p))) (not (passed v p)) (everyFrom v p (roomAt (flowAt l i .held) (entryAt l i .cells))))
+        let room = room-same p ∙ ap (λ (x : Window). everyFrom x p (roomAt (partAt l i .held) (entryAt l i .cells))) (sym is) in
+        rw (read-owner l p hp, late, room, bound .from p hp) (and-assoc (unbooked (ownerOf (ownerAt l p))) (not (passed v p)) (everyFrom v p (roomAt (partAt l i .held) (entryAt l i .cells))))
 
-    pub sought-same : sought (linkOf l) i ≡ search v (freeFrom v (l .owner) low) (entryAt l i .share) (ahead (v .frames) (flowAt l i .frame) (newest v)) (flowAt l i .frame) (flowAt l i .left)
+    pub sought-same : sought (linkOf l) i ≡ search v (freeFrom v (l .owner) low) (entryAt l i .share) (ahead (v .frames) (partAt l i .frame) (newest v)) (partAt l i .frame) (partAt l i .left)
     unfolding sought
     sought-same =
         let j = ap (λ (x : model.Flow). x .injection) (read-flow l i hi) in
@@ -144,7 +145,7 @@ module _ (l : Link) (s : Sound l) (v : Window) (is : v ≡ model.window (linkOf 
         rw (j, c, e) (ap from-frame (sym is) ∙ search-same v two (valid (linkOf l) i) (entryAt l i .share) _ (λ p h. valid-same p (rw (← read-size l is) h)) _ _ _ (rw (read-frames l is) (s .flows i hi .frame)))
       where
         from-frame : Window → Found
-        from-frame x = search x (valid (linkOf l) i) (entryAt l i .share) (ahead (x .frames) (flowAt l i .frame) (newest x)) (flowAt l i .frame) (flowAt l i .left)
+        from-frame x = search x (valid (linkOf l) i) (entryAt l i .share) (ahead (x .frames) (partAt l i .frame) (newest x)) (partAt l i .frame) (partAt l i .left)
 
         two : 2 ≤ v .frames
         two = rw (read-frames l is) (s .plan .accepted .two-frames)
@@ -156,13 +157,23 @@ module _ (l : Link) (s : Sound l) (v : Window) (is : v ≡ model.window (linkOf 
         two : 2 ≤ v .frames
         two = rw (read-frames l is) (s .plan .accepted .two-frames)
 
-    pub room-there : (p : ℕ) → p < sizeOf l → freeFrom v (l .owner) low p ≡ true → everyFrom v p (roomAt (flowAt l i .held) (entryAt l i .cells)) ≡ true
+    pub room-there : (p : ℕ) → p < sizeOf l → freeFrom v (l .owner) low p ≡ true → everyFrom v p (roomAt (partAt l i .held) (entryAt l i .cells)) ≡ true
     unfolding freeFrom
     room-there p hp e = and-right (not (passed v p)) _ (sym (bound .from p hp) ∙ and-right (unbooked (ownerOf (ownerAt l p))) _ e)
 
+  -- in the newest frame, with nothing left of the share
+  pub spent-at-newest : partAt l i .frame ≡ newest v → partAt l i .left ≡ 0 → nowhere 0 ≡ sought (linkOf l) i
+  unfolding sought search
+  spent-at-newest e z =
+      let j = ap (λ (x : model.Flow). x .injection) (read-flow l i hi) ∙ e ∙ ap newest is in
+      let c = ap (λ (x : model.Flow). x .remainder) (read-flow l i hi) ∙ z in
+      let below : newest (model.window (linkOf l)) < model.window (linkOf l) .frames = mod-lt _ (rw (← ap (λ (x : Window). x .frames) is, read-frames l is) (omega (arith, s .plan .accepted .two-frames))) in
+      let none : ahead (model.window (linkOf l) .frames) (newest (model.window (linkOf l))) (newest (model.window (linkOf l))) ≡ 0 = ahead-on _ _ _ (omega arith) below ∙ omega arith in
+      rw (j, c, none)
+
   -- ---- the link after it
 
-  pub granted-link : (j c p : ℕ) (h : List ℕ) → j < l .plan .frames → p < sizeOf l → h ≡ replaced (fromIn v p) (λ q. suc) (flowAt l i .held)
+  pub granted-link : (j c p : ℕ) (h : List ℕ) → j < l .plan .frames → p < sizeOf l → h ≡ replaced (fromIn v p) (λ q. suc) (partAt l i .held)
       → (linkOf (withFlow (withOwners l (set (l .owner) p i)) i (record { frame = j; left = c; held = h })) ≡ booked (linkOf l) i j c p)
       × Sound (withFlow (withOwners l (set (l .owner) p i)) i (record { frame = j; left = c; held = h }))
   unfolding booked
@@ -180,15 +191,15 @@ module _ (l : Link) (s : Sound l) (v : Window) (is : v ≡ model.window (linkOf 
       long = long-from l s v is i p hi suc h changed
 
   pub refused-link : (c : ℕ)
-      → (linkOf (withFlow l i (movedTo (flowAt l i) (newest v) c)) ≡ refusedAtNewest (linkOf l) i c) × Sound (withFlow l i (movedTo (flowAt l i) (newest v) c))
+      → (linkOf (withFlow l i (movedTo (partAt l i) (newest v) c)) ≡ refusedAtNewest (linkOf l) i c) × Sound (withFlow l i (movedTo (partAt l i) (newest v) c))
   unfolding refusedAtNewest
   refused-link c = (
     read-with-flow l s i hi _ (length-row (l .held) i) ∙ same-flow (ap newest is) (read-flow l i hi),
     sound-with-flow l s i hi _ (length-row (l .held) i) (record { frame = rw (← read-frames l is) (mod-lt _ (rw (read-frames l is) (omega (arith, s .plan .accepted .two-frames)))); spare = s .flows i hi .spare }),
   )
     where
-      same-flow : {j j′ : ℕ} {x : model.Flow} → j ≡ j′ → x ≡ flowOf (sizeOf l) (flowAt l i)
-          → model.withFlow (linkOf l) i (record { injection = j; remainder = c; held = flowOf (sizeOf l) (flowAt l i) .held }) ≡ model.withFlow (linkOf l) i (model.movedTo x j′ c)
+      same-flow : {j j′ : ℕ} {x : model.Flow} → j ≡ j′ → x ≡ flowOf (sizeOf l) (partAt l i)
+          → model.withFlow (linkOf l) i (record { injection = j; remainder = c; held = flowOf (sizeOf l) (partAt l i) .held }) ≡ model.withFlow (linkOf l) i (model.movedTo x j′ c)
       same-flow d e = rw (d, e)
 
 -- ---- what a request comes to

@@ -10,7 +10,7 @@ use lib.Dec.{ltb}
 use lib.Seq.{ext-getD}
 use borrow.Author.Tests.{lt-ltb, le-ltb}
 use Rattle.link.specs.Runs.{inRun, replaced}
-use Rattle.link.specs.Rows.{row, withRow, carriedRows}
+use Rattle.link.specs.Rows.{row, sixteenRows, withRow, carriedRows}
 use Rattle.link.proofs.Tables.{getD-table, length-table, table-same, table-of}
 use Rattle.link.proofs.Runs.{in-run, before-run, past-run, length-replaced, replaced-at, replaced-off}
 
@@ -30,6 +30,27 @@ row-is h i r e same = table-of r 256 _ 0 e same
 pub same-row : (h h′ : List ℕ) (i : ℕ) → ((p : ℕ) → p < 256 → getD h (256 * i + p) 0 ≡ getD h′ (256 * i + p) 0) → row h i ≡ row h′ i
 unfolding row
 same-row h h′ i e = table-same 256 _ _ e
+
+-- ---- one row, sixteen times
+
+module _ (r : List ℕ) where
+  pub length-sixteen : length (sixteenRows r) ≡ 4096
+  unfolding sixteenRows
+  length-sixteen = length-table 4096 (λ k. getD r (k % 256) 0)
+
+  pub sixteen-at : (k : ℕ) → k < 4096 → getD (sixteenRows r) k 0 ≡ getD r (k % 256) 0
+  unfolding sixteenRows
+  sixteen-at k b = getD-table 4096 (λ k. getD r (k % 256) 0) k 0 b
+
+  pub row-of-sixteen : (i : ℕ) → i < 16 → length r ≡ 256 → row (sixteenRows r) i ≡ r
+  row-of-sixteen i h e = row-is _ i r e (λ p b. let m : (256 * i + p) % 256 ≡ p = omega arith in sixteen-at (256 * i + p) (omega arith) ∙ ap (λ (q : ℕ). getD r q 0) m)
+
+  -- a loop that has put all places
+  pub sixteen-done : (xs ys : List ℕ) → length xs ≡ 4096 → ys ≡ replaced (inRun 0 4096) (λ k x. getD r (k % 256) 0) xs → ys ≡ sixteenRows r
+  sixteen-done xs ys e is =
+      is ∙ ext-getD 0 _ _ (length-replaced _ _ xs ∙ e ∙ sym length-sixteen) λ k b.
+      let l = rw length-replaced at b in
+      replaced-at _ _ xs k 0 l ∙ rw (in-run 0 4096 k (omega arith) (omega (arith, e))) (sym (sixteen-at k (omega (arith, e))))
 
 -- ---- one row replaced
 

@@ -16,7 +16,7 @@ use Rattle.model.specs.Request.{Found, found, nowhere, earliest, orElse, search
 use Rattle.link.specs.declared.Window.{Window}
 use Rattle.link.specs.Reading.{nobody}
 use Rattle.link.specs.Window.{windowOf, Proper}
-use Rattle.link.specs.Search.{freeFrom}
+use Rattle.link.specs.Search.{freeFrom, Earliest}
 use Rattle.link.proofs.Ranks.{frame-fits, rank-slot}
 
 -- ---- the walk over the slots of a frame: of the n positions from a on, the first s have failed
@@ -25,7 +25,7 @@ pub record Scan (ok : ℕ → Bool) (a n s : ℕ) : Type 0 where
   pub rest : firstFrom n a ok ≡ firstFrom (n - s) (a + s) ok
 
 module _ {ok : ℕ → Bool} {a n : ℕ} where
-  scan-none : Scan ok a n 0
+  pub scan-none : Scan ok a n 0
   scan-none = record { rest = rw (add-zero a, sub-zero n) }
 
   scan-step : {s : ℕ} → Scan ok a n s → s < n → ok (a + s) ≡ false → Scan ok a n (s + 1)
@@ -45,35 +45,43 @@ module _ {ok : ℕ → Bool} {a n : ℕ} where
   unfolding firstFrom
   scan-out {s} v h = let k : n - s ≡ 0 = omega arith in v .rest ∙ rw k
 
--- ---- the least slot that passes: of the n positions from a on, the first s are walked, and `best` is the first slot of them that passes, or 255
+-- the slots from s up to e fail
+pub scan-on : {ok : ℕ → Bool} {a n s : ℕ} (e : ℕ) → Scan ok a n s → s ≤ e → e ≤ n → ((k : ℕ) → s ≤ k → k < e → ok (a + k) ≡ false) → Scan ok a n e
+scan-on {ok} {a} {n} {s} e v h b z = go (e - s) e (omega arith) b z
+  where
+    go : (d e : ℕ) → e ≡ s + d → e ≤ n → ((k : ℕ) → s ≤ k → k < e → ok (a + k) ≡ false) → Scan ok a n e
+    go zero e q b z = let y : e ≡ s = omega arith in rw y v
+    go (suc d) e q b z =
+        let y : e ≡ (s + d) + 1 = omega arith in
+        rw y (scan-step (go d (s + d) refl (omega arith) (λ k h₁ h₂. z k h₁ (omega arith))) (omega arith) (z (s + d) (omega arith) (omega arith)))
 
-pub record Least (ok : ℕ → Bool) (a n s best : ℕ) : Type 0 where
-  pub most : best ≤ 255
-  pub none : best ≡ 255 → Scan ok a n s
-  pub some : best < 255 → (best < s) × Scan ok a n best × (ok (a + best) ≡ true)
+-- ---- the earliest slot of some, one more looked at a turn
 
-module _ {ok : ℕ → Bool} {a n : ℕ} where
-  pub least-none : Least ok a n 0 255
-  least-none = record { most = omega arith; none = λ _. scan-none; some = λ h. absurd (omega arith) }
+module _ {t : ℕ → Bool} {from : ℕ} where
+  pub earliest-none : Earliest t from from 255
+  earliest-none = record { most = omega arith; fails = λ k h₁ h₂. absurd (omega arith); passes = λ h. absurd (omega arith) }
 
-  -- one slot more
-  pub least-more : {s best best′ : ℕ} → Least ok a n s best → s < n → s < 255 → best′ ≡ min best (cond (ok (a + s)) s 255) → Least ok a n (s + 1) best′
-  least-more {s} {best} {best′} v h b e = go (ok (a + s)) refl e (decLt best 255)
+  pub earliest-more : {s best best′ : ℕ} → Earliest t from s best → from ≤ s → s < 255 → best′ ≡ min best (cond (t s) s 255) → Earliest t from (s + 1) best′
+  earliest-more {s} {best} {best′} v l b e = go (t s) refl e (decLt best 255)
     where
-      kept : best < 255 → best′ ≡ best → Least ok a n (s + 1) best′
-      kept l z = rw z (record { most = v .most; none = λ x. absurd (omega arith); some = λ _. let u = v .some l in (omega (arith, u .0), u .1, u .2) })
+      kept : best < 255 → best′ ≡ best → Earliest t from (s + 1) best′
+      kept h z = let u = v .passes h in rw z (record { most = v .most; fails = λ k h₁ h₂ h₃. v .fails k h₁ (omega (arith, u .1)) h₃; passes = λ _. (u .0, omega (arith, u .1), u .2) })
 
-      go : (t : Bool) → ok (a + s) ≡ t → best′ ≡ min best (cond t s 255) → Dec (best < 255) → Least ok a n (s + 1) best′
-      go true q z (yes l) = kept l (let u = v .some l .0 in omega arith)
-      go false q z (yes l) = kept l (omega arith)
-      go true q z (no l) =
+      failed-here : t s ≡ false → (best < 255 → ⊥) → (k : ℕ) → from ≤ k → k < s + 1 → Dec (k ≡ s) → t k ≡ false
+      failed-here q h k h₁ h₂ (yes d) = rw d q
+      failed-here q h k h₁ h₂ (no d) = v .fails k h₁ (omega arith) (omega arith)
+
+      go : (p : Bool) → t s ≡ p → best′ ≡ min best (cond p s 255) → Dec (best < 255) → Earliest t from (s + 1) best′
+      go true q z (yes h) = kept h (let u = v .passes h .1 in omega arith)
+      go false q z (yes h) = kept h (omega arith)
+      go true q z (no h) =
           let m = v .most in
           let y : best′ ≡ s = omega arith in
-          rw y (record { most = omega arith; none = λ x. absurd (omega arith); some = λ _. (omega arith, v .none (omega arith), q) })
-      go false q z (no l) =
+          rw y (record { most = omega arith; fails = λ k h₁ h₂ h₃. v .fails k h₁ h₃ (omega arith); passes = λ _. (l, omega arith, q) })
+      go false q z (no h) =
           let m = v .most in
           let y : best′ ≡ 255 = omega arith in
-          rw y (record { most = omega arith; none = λ _. scan-step (v .none (omega arith)) h q; some = λ x. absurd (omega arith) })
+          rw y (record { most = omega arith; fails = λ k h₁ h₂ h₃. failed-here q h k h₁ h₂ (ℕ-discrete k s); passes = λ x. absurd (omega arith) })
 
 -- ---- the walk over the frames
 
@@ -137,7 +145,7 @@ module _ (w : Window) (v : Proper w) (owners : List ℕ) (low j : ℕ) (hj : j <
   slot-free h e = rw (eq-eqb _ _ e, rank-slot w v j s hj hs, le-leb low (model.rank (windowOf w) (j * w .slots) + s) (omega arith))
 
   -- the first slot that is late enough as a byte, which is no matter as there are at most 64 slots
-  slot-tested : freeFrom (windowOf w) owners low (j * w .slots + s) ≡ eqb (getD owners (j * w .slots + s) 0) nobody && leb (min (low - model.rank (windowOf w) (j * w .slots)) 255) s
+  pub slot-tested : freeFrom (windowOf w) owners low (j * w .slots + s) ≡ eqb (getD owners (j * w .slots + s) 0) nobody && leb (min (low - model.rank (windowOf w) (j * w .slots)) 255) s
   slot-tested = go (ℕ-discrete _ _) (decLt _ _)
     where
       few : s < 64
@@ -148,11 +156,6 @@ module _ (w : Window) (v : Proper w) (owners : List ℕ) (low j : ℕ) (hj : j <
       go (no n) x = slot-taken n ∙ rw (ne-eqb _ _ n)
       go (yes e) (yes h) = slot-early h ∙ rw (lt-leb (min (low - model.rank (windowOf w) (j * w .slots)) 255) s (omega (arith, few)), and-false)
       go (yes e) (no h) = slot-free (omega arith) e ∙ rw (eq-eqb _ _ e, le-leb (min (low - model.rank (windowOf w) (j * w .slots)) 255) s (omega (arith, few)))
-
-  -- what a turn of the walk over the slots compares: the slot x if it passes the test with the byte b
-  pub slot-candidate : (x b : ℕ) → x ≡ s → b ≡ min (low - model.rank (windowOf w) (j * w .slots)) 255
-      → cond (eqb (getD owners (j * w .slots + s) 0) nobody && leb b x) x 255 ≡ cond (freeFrom (windowOf w) owners low (j * w .slots + s)) s 255
-  slot-candidate x b ex eb = rw (ex, eb, slot-tested)
 
 -- ---- two tests that agree at every position
 

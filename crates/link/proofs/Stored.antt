@@ -1,7 +1,6 @@
 -- The reading determines a sound link: it is what its reading is stored as. Assumes nothing.
 use Prim.Native.Nat.{ℕ, _+_, _*_, _/_, _%_, _<_}
 use mathlib.Core.Path.{_≡_, refl, sym, ap, _∙_}
-use mathlib.Core.List.{List}
 use mathlib.Core.Bool.{Bool, true, false}
 use native.Mathlib.Decide.{decLt}
 use native.Mathlib.Omega.{arith}
@@ -10,10 +9,9 @@ use lib.Dec.{eqb}
 use borrow.Author.Tests.{eqb-true}
 use Rattle.model.specs.Tables.{table}
 use Rattle.model.specs.Link as model
-use Rattle.plan.specs.Reading as plan
 use Rattle.link.specs.declared.Flow.{Flow}
 use Rattle.link.specs.declared.Link.{Link}
-use Rattle.link.specs.Parts.{Part, sizeOf, flowAt, ownerAt, noFlow}
+use Rattle.link.specs.Parts.{Part, sizeOf, partAt, ownerAt, noFlow}
 use Rattle.link.specs.Reading.{nobody, ownerOf, flowOf, linkOf, everywhere, storedOwner, stored}
 use Rattle.link.specs.Sound.{Sound, SoundFlow}
 use Rattle.link.proofs.Tables.{getD-table, table-past, table-of}
@@ -53,8 +51,8 @@ stored-reading l s = λ k. record { plan = stored-plan (l .plan) (s .plan) k; cp
     flow i b (yes h) = ap (λ (f : model.Flow). record { frame = f .injection; left = f .remainder }) (read-flow l i h)
     flow i b (no h) = ap (λ (f : model.Flow). record { frame = f .injection; left = f .remainder }) (no-flow i h) ∙ sym (ap (λ (f : Part). record { frame = f .frame; left = f .left }) (s .spare-flows i (omega arith) b))
 
-    holding : (i p : ℕ) → i < 16 → p < 256 → Dec (i < l .plan .count) → model.holding (linkOf l) i p ≡ getD (flowAt l i .held) p 0
-    holding i p b c (yes h) = ap (λ (f : model.Flow). getD (f .held) p 0) (read-flow l i h) ∙ held-back (sizeOf l) (l .plan .frames) (flowAt l i) (s .flows i h) p
+    holding : (i p : ℕ) → i < 16 → p < 256 → Dec (i < l .plan .count) → model.holding (linkOf l) i p ≡ getD (partAt l i .held) p 0
+    holding i p b c (yes h) = ap (λ (f : model.Flow). getD (f .held) p 0) (read-flow l i h) ∙ held-back (sizeOf l) (l .plan .frames) (partAt l i) (s .flows i h) p
     holding i p b c (no h) =
         ap (λ (f : model.Flow). getD (f .held) p 0) (no-flow i h)
         ∙ sym (ap (λ (f : Part). getD (f .held) p 0) (s .spare-flows i (omega arith) b) ∙ getD-replicate 256 p 0 0 c)

@@ -25,10 +25,11 @@ use Rattle.link.specs.declared.Window.{Window}
 use Rattle.link.specs.Runs.{inRun, replaced}
 use Rattle.link.specs.Rows.{row, carriedRows}
 use Rattle.link.specs.Window as window
-use Rattle.link.specs.Parts.{Part, sizeOf, entryAt, partOf, flowAt, ownerAt, noFlow, leftHead, withCurrent, movedTo, withHeld}
+use Rattle.link.specs.Parts.{Part, sizeOf, entryAt, partOf, partAt, ownerAt, noFlow, leftHead}
 use Rattle.link.specs.Reading.{nobody, ownerOf, flowOf, linkOf}
 use Rattle.calls.specs.Reading.{answerToTick}
 use Rattle.link.specs.Sound.{Sound, SoundFlow}
+use Rattle.link.proofs.Parts.{withCurrent, movedTo, withHeld}
 use Rattle.link.proofs.Tables.{table-same}
 use Rattle.link.proofs.Runs.{in-run, before-run, past-run, length-replaced, replaced-at, replaced-off}
 use Rattle.link.proofs.Rows.{length-row, length-carried, row-carried, row-not-carried}
@@ -115,7 +116,7 @@ module _ (l : Link) (s : Sound l) where
 
   -- ---- a flow's part
 
-  flow-changed : (i : ℕ) → i < l .plan .count → flowAt (recycled l) i ≡ changed (changeAt l) i (flowAt l i)
+  flow-changed : (i : ℕ) → i < l .plan .count → partAt (recycled l) i ≡ changed (changeAt l) i (partAt l i)
   flow-changed i h =
       let b = flows-most l s in
       let e : getD (recycled l .flows) i noFlow ≡ leftHead (headAt l) ((headAt l + 1) % l .plan .frames) (entryAt l i .share) (getD (l .flows) i noFlow) =
@@ -126,36 +127,36 @@ module _ (l : Link) (s : Sound l) where
       ∙ either (eqb (getD (l .flows) i noFlow .frame) (headAt l))
     where
       either : (b : Bool)
-          → partOf (cond b (record { frame = (headAt l + 1) % l .plan .frames; left = entryAt l i .share }) (getD (l .flows) i noFlow)) (carried (changeAt l) (flowAt l i) .held)
-          ≡ cond b (movedTo (carried (changeAt l) (flowAt l i)) ((headAt l + 1) % l .plan .frames) (entryAt l i .share)) (carried (changeAt l) (flowAt l i))
+          → partOf (cond b (record { frame = (headAt l + 1) % l .plan .frames; left = entryAt l i .share }) (getD (l .flows) i noFlow)) (carried (changeAt l) (partAt l i) .held)
+          ≡ cond b (movedTo (carried (changeAt l) (partAt l i)) ((headAt l + 1) % l .plan .frames) (entryAt l i .share)) (carried (changeAt l) (partAt l i))
       either true = refl
       either false = refl
 
-  spare-stays : (i : ℕ) → l .plan .count ≤ i → flowAt (recycled l) i ≡ flowAt l i
+  spare-stays : (i : ℕ) → l .plan .count ≤ i → partAt (recycled l) i ≡ partAt l i
   spare-stays i h =
       let e : getD (recycled l .flows) i noFlow ≡ getD (l .flows) i noFlow = replaced-off _ _ (l .flows) i noFlow (past-run 0 (l .plan .count) i h) in
       rw (e, row-not-carried (l .plan .count) (lastAt l) (baseAt l) (baseAt l + l .plan .slots) (l .held) i h)
 
-  held-changed : (i : ℕ) → i < l .plan .count → table (sizeOf l) (λ q. getD (carried (changeAt l) (flowAt l i) .held) q 0)
+  held-changed : (i : ℕ) → i < l .plan .count → table (sizeOf l) (λ q. getD (carried (changeAt l) (partAt l i) .held) q 0)
       ≡ table (sizeOf l) (λ q. cond (eqb (q / l .plan .slots) (headAt l)) (model.holding (linkOf l) i (lastAt l)) (model.holding (linkOf l) i q))
   held-changed i h = table-same (sizeOf l) _ _ λ q b.
-      replaced-at _ _ (flowAt l i .held) q 0 (omega (arith, length-row (l .held) i, size-most l s))
+      replaced-at _ _ (partAt l i .held) q 0 (omega (arith, length-row (l .held) i, size-most l s))
       ∙ rw (head-run q, read-holding l i q h b, read-holding l i (lastAt l) h last-below)
 
-  read-changed : (i : ℕ) → i < l .plan .count → flowOf (sizeOf l) (changed (changeAt l) i (flowAt l i)) ≡ tick.carriedOn (linkOf l) i (tick.leftHead (linkOf l) i)
+  read-changed : (i : ℕ) → i < l .plan .count → flowOf (sizeOf l) (changed (changeAt l) i (partAt l i)) ≡ tick.carriedOn (linkOf l) i (tick.leftHead (linkOf l) i)
   unfolding linkOf
-  read-changed i h = rw injection (go (eqb (flowAt l i .frame) (headAt l)))
+  read-changed i h = rw injection (go (eqb (partAt l i .frame) (headAt l)))
     where
-      injection : model.flow (linkOf l) i .injection ≡ flowAt l i .frame
+      injection : model.flow (linkOf l) i .injection ≡ partAt l i .frame
       injection = ap (λ (x : model.Flow). x .injection) (read-flow l i h)
 
-      remainder : model.flow (linkOf l) i .remainder ≡ flowAt l i .left
+      remainder : model.flow (linkOf l) i .remainder ≡ partAt l i .left
       remainder = ap (λ (x : model.Flow). x .remainder) (read-flow l i h)
 
       share : model.share (linkOf l) i ≡ entryAt l i .share
       share = ap (λ (e : paper.Entry). e .share) (read-entry l i h)
 
-      go : (b : Bool) → flowOf (sizeOf l) (cond b (movedTo (carried (changeAt l) (flowAt l i)) ((headAt l + 1) % l .plan .frames) (entryAt l i .share)) (carried (changeAt l) (flowAt l i)))
+      go : (b : Bool) → flowOf (sizeOf l) (cond b (movedTo (carried (changeAt l) (partAt l i)) ((headAt l + 1) % l .plan .frames) (entryAt l i .share)) (carried (changeAt l) (partAt l i)))
           ≡ tick.carriedOn (linkOf l) i (cond b (model.movedTo (model.flow (linkOf l) i) ((headAt l + 1) % l .plan .frames) (model.share (linkOf l) i)) (model.flow (linkOf l) i))
       go true = same-flow refl (sym share) (held-changed i h)
       go false = same-flow (sym injection) (sym remainder) (held-changed i h)
@@ -173,7 +174,7 @@ module _ (l : Link) (s : Sound l) where
           ap ownerOf (replaced-at _ _ (l .owner) q 0 (omega (arith, s .owners-long, size-most l s)))
           ∙ rw (head-run q, read-owner l q b) (emptied (eqb (q / l .plan .slots) (headAt l)) (ownerAt l q))
 
-      flows : table (l .plan .count) (λ i. flowOf (sizeOf l) (flowAt (recycled l) i)) ≡ table (paper.flowCount (linkOf l .plan)) (λ i. tick.carriedOn (linkOf l) i (tick.leftHead (linkOf l) i))
+      flows : table (l .plan .count) (λ i. flowOf (sizeOf l) (partAt (recycled l) i)) ≡ table (paper.flowCount (linkOf l .plan)) (λ i. tick.carriedOn (linkOf l) i (tick.leftHead (linkOf l) i))
       flows =
           table-same (l .plan .count) _ (λ i. tick.carriedOn (linkOf l) i (tick.leftHead (linkOf l) i)) (λ i h. ap (flowOf (sizeOf l)) (flow-changed i h) ∙ read-changed i h)
           ∙ ap (λ (n : ℕ). table n (λ i. tick.carriedOn (linkOf l) i (tick.leftHead (linkOf l) i))) (sym (read-count l))
@@ -182,16 +183,16 @@ module _ (l : Link) (s : Sound l) where
   unfolding tick.advanced linkOf
   read-advanced z = rw (eq-eqb (nextAt l % l .plan .slots) 0 z) (sym read-recycled)
 
-  sound-changed : (i : ℕ) → i < l .plan .count → SoundFlow (sizeOf l) (l .plan .frames) (changed (changeAt l) i (flowAt l i))
-  sound-changed i h = go (eqb (flowAt l i .frame) (headAt l))
+  sound-changed : (i : ℕ) → i < l .plan .count → SoundFlow (sizeOf l) (l .plan .frames) (changed (changeAt l) i (partAt l i))
+  sound-changed i h = go (eqb (partAt l i .frame) (headAt l))
     where
-      part : (j c : ℕ) → j < l .plan .frames → SoundFlow (sizeOf l) (l .plan .frames) (movedTo (carried (changeAt l) (flowAt l i)) j c)
+      part : (j c : ℕ) → j < l .plan .frames → SoundFlow (sizeOf l) (l .plan .frames) (movedTo (carried (changeAt l) (partAt l i)) j c)
       part j c b = record {
         frame = b;
-        spare = λ q k. replaced-off _ _ (flowAt l i .held) q 0 (past-run _ _ q (omega (arith, base-fits))) ∙ s .flows i h .spare q k;
+        spare = λ q k. replaced-off _ _ (partAt l i .held) q 0 (past-run _ _ q (omega (arith, base-fits))) ∙ s .flows i h .spare q k;
       }
 
-      go : (b : Bool) → SoundFlow (sizeOf l) (l .plan .frames) (cond b (movedTo (carried (changeAt l) (flowAt l i)) ((headAt l + 1) % l .plan .frames) (entryAt l i .share)) (carried (changeAt l) (flowAt l i)))
+      go : (b : Bool) → SoundFlow (sizeOf l) (l .plan .frames) (cond b (movedTo (carried (changeAt l) (partAt l i)) ((headAt l + 1) % l .plan .frames) (entryAt l i .share)) (carried (changeAt l) (partAt l i)))
       go true = part _ _ (mod-lt _ (omega (arith, s .plan .accepted .two-frames)))
       go false = part _ _ (s .flows i h .frame)
 

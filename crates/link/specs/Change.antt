@@ -1,4 +1,4 @@
--- What a request stores: a flow's frame and remainder, the owner of a position, and what the flow holds from it on. Assumes nothing.
+-- What a call is given of a link, what it changes, and what it hands back. Assumes nothing.
 use Prim.Native.Nat.{ℕ, _<_}
 use mathlib.Core.Path.{_≡_}
 use mathlib.Core.List.{List}
@@ -14,10 +14,9 @@ use Rattle.link.specs.declared.Flow.{Flow}
 use Rattle.link.specs.declared.Link.{Link}
 use Rattle.link.specs.declared.Step.{Step}
 use Rattle.link.specs.declared.Window.{Window}
-use Rattle.link.specs.Runs.{replaced, wrapped}
-use Rattle.link.specs.Rows.{row, withRow}
-use Rattle.link.specs.Window.{windowOf, sizeOf, Proper, fromIn}
-use Rattle.link.specs.Holdings.{someHeld}
+use Rattle.link.specs.Rows.{row}
+use Rattle.link.specs.Window.{windowOf, sizeOf, Proper}
+use Rattle.link.specs.Holdings.{someHeld, shifted}
 use Rattle.link.specs.Parts.{noFlow, entryAt, withOwners, withFlows}
 use Rattle.link.specs.Reading.{linkOf}
 use Rattle.link.specs.Sound.{Sound}
@@ -30,6 +29,8 @@ Stepped toAnswer m r = (linkOf (r .link) ≡ m .link) × ((r .answer ≡ toAnswe
 abbrev pub placed : ℕ → ℕ → ℕ
 placed n i = cond (ltb i n) i 0
 
+-- ---- what a call is given of a link
+
 -- l is a sound link of n flows with this window and these holdings
 pub record Around (l : Link) (n : ℕ) (w : Window) (held : List ℕ) : Type 0 where
   pub sound : Sound l
@@ -38,31 +39,31 @@ pub record Around (l : Link) (n : ℕ) (w : Window) (held : List ℕ) : Type 0 w
   pub window-is : windowOf w ≡ model.window (linkOf l)
   pub held-is : held ≡ l .held
 
--- something is held at the position and from it on by one of n flows
-pub record Creditable (n : ℕ) (w : Window) (held : List ℕ) (i p : ℕ) : Type 0 where
-  pub flow : i < n
-  pub position : p < sizeOf w
-  pub some-held : everyFrom (windowOf w) p (someHeld (row held i)) ≡ true
-
--- and it has these owners, and its flow i this entry, frame and remainder
-pub record Of (l : Link) (n : ℕ) (e : Entry) (w : Window) (owner held : List ℕ) (i : ℕ) (f : Flow) : Type 0 where
+-- l is such a link with these owners, and its flow i has this entry, frame and remainder
+pub record PartsOf (l : Link) (n : ℕ) (e : Entry) (w : Window) (owner held : List ℕ) (i : ℕ) (f : Flow) : Type 0 where
   pub around : Around l n w held
   pub owner-is : owner ≡ l .owner
   pub entry-is : e ≡ entryAt l i
   pub flow-is : f ≡ getD (l .flows) i noFlow
 
--- these are parts of some such link
+-- these are parts of some link
 pub record Given (n : ℕ) (e : Entry) (w : Window) (owner held : List ℕ) (i : ℕ) (f : Flow) : Type 0 where
   pub link : Link
-  pub of : Of link n e w owner held i f
+  pub of : PartsOf link n e w owner held i f
 
--- flow i's holdings from p on, each moved by a number
-abbrev pub shifted : Link → (by i p : ℕ) → List ℕ
-shifted l by i p = withRow (l .held) i (replaced (fromIn (model.window (linkOf l)) p) (λ q x. wrapped by x) (row (l .held) i))
+-- ---- what a call changes
 
--- the link with what a request of flow i stores, and the answer
+-- the link after a change by flow i, and the answer: the flow's frame and remainder are stored, and a position is booked where one is granted
 abbrev pub changed : Link → ℕ → Change → Step
 changed l i c = record {
-  link = withFlows (withOwners l (set (l .owner) (c .position) (c .owner))) (set (l .flows) i (c .flow)) (cond (c .granted) (shifted l 1 i (c .position)) (l .held));
+  link = cond (c .granted)
+      (withFlows (withOwners l (set (l .owner) (c .position) i)) (set (l .flows) i (c .flow)) (shifted (model.window (linkOf l)) 1 i (c .position) (l .held)))
+      (withFlows l (set (l .flows) i (c .flow)) (l .held));
   answer = c .answer;
 }
+
+-- flow i is one of n, p is a position, and the flow holds something there and at every later position
+pub record Creditable (n : ℕ) (w : Window) (held : List ℕ) (i p : ℕ) : Type 0 where
+  pub flow : i < n
+  pub position : p < sizeOf w
+  pub some-held : everyFrom (windowOf w) p (someHeld (row held i)) ≡ true

@@ -2,11 +2,11 @@
 use Prim.Native.Nat.{ℕ, _*_}
 use mathlib.Core.List.{List}
 use mathlib.Core.Bool.{cond}
-use lib.ListN.{getD, set}
+use lib.ListN.{getD}
 use lib.Dec.{eqb}
 use Rattle.link.specs.declared.Flow.{Flow}
 use Rattle.link.specs.declared.Link.{Link}
-use Rattle.link.specs.Rows.{row, withRow}
+use Rattle.link.specs.Rows.{row}
 use Rattle.plan.specs.declared.Entry.{Entry}
 use Rattle.plan.specs.Reading.{noEntry}
 
@@ -32,32 +32,21 @@ pub record Part : Type 0 where
 abbrev pub partOf : Flow → List ℕ → Part
 partOf f h = record { frame = f .frame; left = f .left; held = h }
 
-abbrev pub flowAt : Link → ℕ → Part
-flowAt l i = partOf (getD (l .flows) i noFlow) (row (l .held) i)
+abbrev pub partAt : Link → ℕ → Part
+partAt l i = partOf (getD (l .flows) i noFlow) (row (l .held) i)
 
 abbrev pub ownerAt : Link → ℕ → ℕ
 ownerAt l p = getD (l .owner) p 0
 
--- ---- a link and a flow's part with something changed, and the rest left
-
-abbrev pub withCurrent : Link → ℕ → Link
-withCurrent l p = record { plan = l .plan; cp = p; owner = l .owner; flows = l .flows; held = l .held }
+-- ---- a link and a flow with something changed, and the rest left
 
 abbrev pub withOwners : Link → List ℕ → Link
 withOwners l o = record { plan = l .plan; cp = l .cp; owner = o; flows = l .flows; held = l .held }
 
+-- other flows, and other holdings
 abbrev pub withFlows : Link → List Flow → List ℕ → Link
 withFlows l fs h = record { plan = l .plan; cp = l .cp; owner = l .owner; flows = fs; held = h }
-
-abbrev pub withFlow : Link → ℕ → Part → Link
-withFlow l i f = withFlows l (set (l .flows) i (record { frame = f .frame; left = f .left })) (withRow (l .held) i (f .held))
 
 -- a flow that was in the head frame goes on in the next one, with its share
 abbrev pub leftHead : (head on share : ℕ) → Flow → Flow
 leftHead head on share f = cond (eqb (f .frame) head) (record { frame = on; left = share }) f
-
-abbrev pub movedTo : Part → ℕ → ℕ → Part
-movedTo f j c = record { frame = j; left = c; held = f .held }
-
-abbrev pub withHeld : Part → List ℕ → Part
-withHeld f h = record { frame = f .frame; left = f .left; held = h }

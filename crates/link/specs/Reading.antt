@@ -6,7 +6,7 @@ use mathlib.Core.Bool.{cond}
 use lib.ListN.{getD, replicate}
 use lib.Dec.{eqb}
 use Rattle.link.specs.declared.Link.{Link}
-use Rattle.link.specs.Parts.{Part, sizeOf, flowAt, ownerAt}
+use Rattle.link.specs.Parts.{Part, sizeOf, partAt, ownerAt}
 use Rattle.plan.specs.Reading as plan
 use Rattle.model.specs.Tables.{table}
 use Rattle.model.specs.Link as model
@@ -29,7 +29,7 @@ linkOf l = record {
   plan = plan.planFor (l .plan);
   current = l .cp;
   owners = table (sizeOf l) (λ p. ownerOf (ownerAt l p));
-  flows = table (l .plan .count) (λ i. flowOf (sizeOf l) (flowAt l i));
+  flows = table (l .plan .count) (λ i. flowOf (sizeOf l) (partAt l i));
 }
 
 -- ---- the paper's link as it is stored: 256 positions and 16 flows
@@ -37,10 +37,6 @@ linkOf l = record {
 -- one value at each of 256 positions
 unfoldable pub everywhere : ℕ → List ℕ
 everywhere v = replicate 256 v
-
--- nothing at any place of 16 rows
-unfoldable pub heldNowhere : List ℕ
-heldNowhere = replicate 4096 0
 
 -- what stands in the place of a flow that the plan does not have
 abbrev pub spareFlow : Part

@@ -10,6 +10,10 @@ use Rattle.link.specs.Runs.{inRun, replaced}
 unfoldable pub row : List ℕ → ℕ → List ℕ
 row h i = table 256 (λ p. getD h (256 * i + p) 0)
 
+-- one row, sixteen times
+unfoldable pub sixteenRows : List ℕ → List ℕ
+sixteenRows r = table 4096 (λ k. getD r (k % 256) 0)
+
 -- the table with row i replaced
 unfoldable pub withRow : List ℕ → ℕ → List ℕ → List ℕ
 withRow h i r = replaced (inRun (256 * i) (256 * i + 256)) (λ k x. getD r (k - 256 * i) 0) h

@@ -1,4 +1,4 @@
--- Lists by position: positions that pass a test replaced, a test of every position of a run, and the last one that fails it. Assumes nothing.
+-- Lists by position: positions that pass a test replaced, a test of every position of a run, the last one that fails it, and a byte moved modulo 256. Assumes nothing.
 use Prim.Native.Nat.{ℕ, suc, _+_, _-_, _≤_, _<_}
 use mathlib.Core.Path.{_≡_}
 use mathlib.Core.List.{List, [], _∷_}
@@ -15,7 +15,7 @@ module _ {A : Type 0} where
   replaced t f [] = []
   replaced t f (x ∷ xs) = cond (t 0) (f 0 x) x ∷ replaced (λ i. t (suc i)) (λ i. f (suc i)) xs
 
--- a byte moved by a number, modulo 256
+-- a byte moved by a number, modulo 256; 0 leaves any number as it is
 unfoldable pub wrapped : ℕ → ℕ → ℕ
 wrapped by x = cond (eqb by 0) x (cond (ltb (x + by) 256) (x + by) (x + by - 256))
 

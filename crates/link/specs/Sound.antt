@@ -1,11 +1,9 @@
 -- The invariant of a link: what every call asks of it and ensures again. Assumes nothing.
---
--- What N5 asks of an image besides (bookings, remainders and holdings that agree) is a list of facts over the link as it is read, `linkOf l`.
 use Prim.Native.Nat.{ℕ, _≤_, _<_}
 use mathlib.Core.Path.{_≡_}
 use lib.ListN.{length, getD}
 use Rattle.link.specs.declared.Link.{Link}
-use Rattle.link.specs.Parts.{Part, sizeOf, flowAt, ownerAt}
+use Rattle.link.specs.Parts.{Part, sizeOf, partAt, ownerAt}
 use Rattle.link.specs.Reading.{nobody, spareFlow}
 use Rattle.plan.specs.Reading.{Valid}
 
@@ -23,5 +21,5 @@ pub record Sound (l : Link) : Type 0 where
   pub spare-owners : (p : ℕ) → sizeOf l ≤ p → p < 256 → ownerAt l p ≡ nobody
   pub flows-long : length (l .flows) ≡ 16
   pub held-long : length (l .held) ≡ 4096
-  pub flows : (i : ℕ) → i < l .plan .count → SoundFlow (sizeOf l) (l .plan .frames) (flowAt l i)
-  pub spare-flows : (i : ℕ) → l .plan .count ≤ i → i < 16 → flowAt l i ≡ spareFlow
+  pub flows : (i : ℕ) → i < l .plan .count → SoundFlow (sizeOf l) (l .plan .frames) (partAt l i)
+  pub spare-flows : (i : ℕ) → l .plan .count ≤ i → i < 16 → partAt l i ≡ spareFlow

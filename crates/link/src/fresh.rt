@@ -5,8 +5,9 @@ ghost use lib.ListN.{getD, replicate};
 ghost use Rattle.plan.specs.Reading.{Valid, planFor, noEntry};
 ghost use Rattle.model.specs.Fresh as model;
 ghost use Rattle.link.specs.Runs.{inRun, replaced};
+ghost use Rattle.link.specs.Rows.{sixteenRows};
 ghost use Rattle.link.specs.Parts.{noFlow};
-ghost use Rattle.link.specs.Reading.{everywhere, heldNowhere, nobody, linkOf};
+ghost use Rattle.link.specs.Reading.{everywhere, nobody, linkOf};
 ghost use Rattle.link.specs.Sound.{Sound};
 use crate::Flow;
 use crate::Link;
@@ -19,13 +20,26 @@ fn unbooked() -> [u8; 256]
     [16u8; 256]
 }
 
-fn unheld() -> [u8; 4096]
-    ensures { λ r. ⌜ r ≡ heldNowhere ⌝ }
+fn unheld() -> [u8; 256]
+    ensures { λ r. ⌜ r ≡ everywhere 0 ⌝ }
 {
-    [0u8; 4096]
+    [0u8; 256]
 }
 
-// The parts of n flows, each with its share.
+// A flow's holdings in each of the 16 rows.
+fn rows(held: [u8; 256]) -> [u8; 4096]
+    ensures { λ r. ⌜ r ≡ sixteenRows held ⌝ }
+{
+    let mut all = [0u8; 4096];
+    let mut k = 0;
+    while k < 4096 {
+        all[k] = held[k % 256];
+        k += 1;
+    }
+    all
+}
+
+// The frames and remainders of n flows, each with its share.
 fn flows(entries: [Entry; 16], count: usize) -> [Flow; 16]
     requires { ⌜ count ≤ 16 ⌝ }
     ensures { λ r. ⌜ r ≡ replaced (inRun 0 count) (λ i f. record { frame = 0; left = getD entries i noEntry .share }) (replicate 16 noFlow) ⌝ }
@@ -53,7 +67,7 @@ impl Link {
         let entries = plan.entries;
         let flows = flows(entries, plan.count);
         let owner = unbooked();
-        let held = unheld();
+        let held = rows(unheld());
         Link {
             plan,
             cp: 0,

@@ -1,4 +1,6 @@
 // What each flow holds at each position: what flow i holds at position p stands at 256 * i + p.
+// From p on means at p and at every later position. With h the first position of the head frame: where h <= p, these are p to T - 1 and 0 to h - 1; where p < h, they are p to h - 1.
+// A test or a change from p on is one pass over all T places; at the other places it uses a value that leaves the result as it is.
 ghost use mathlib.Core.Path.{_≡_};
 ghost use mathlib.Core.Bool.{cond};
 ghost use Prim.Native.Nat.{ℕ, _+_, _-_, _≤_, _<_, max};
@@ -6,16 +8,16 @@ ghost use lib.Dec.{leb, ltb};
 ghost use lib.ListN.{getD};
 ghost use Rattle.model.specs.Window as model;
 ghost use Rattle.link.specs.Runs.{inRun, replaced, wrapped, All, LastIn};
-ghost use Rattle.link.specs.Window.{windowOf, sizeOf, Proper, fromIn};
-ghost use Rattle.link.specs.Rows.{row, withRow};
-ghost use Rattle.link.specs.Holdings.{someHeld, roomAt};
+ghost use Rattle.link.specs.Window.{windowOf, sizeOf, Proper};
+ghost use Rattle.link.specs.Rows.{row};
+ghost use Rattle.link.specs.Holdings.{someHeld, roomAt, shifted};
 use crate::Window;
-use crate::bytes::chosen;
-use crate::bytes::greater;
-use crate::bytes::lesser;
-use crate::bytes::moved;
-use crate::bytes::on_by_one;
-use crate::bytes::to_zero;
+use crate::numbers::chosen;
+use crate::numbers::larger_byte;
+use crate::numbers::moved;
+use crate::numbers::on_by_one;
+use crate::numbers::smaller_byte;
+use crate::numbers::to_zero;
 
 // One value at every place of the run from a to e.
 pub(crate) fn fill(held: &mut [u8; 4096], value: u8, a: usize, e: usize)
@@ -78,7 +80,7 @@ pub(crate) fn room_rank(held: &[u8; 4096], i: usize, cells: u8, w: Window) -> us
     last_full(held, cells, head, past) - head
 }
 
-// Whether at every place from a to e something is held, or the pad is not 0: `inner` at `count` places from `start` on, counted from a, and `outer` at the others.
+// Whether at every place of the run from a to e something is held or the pad is above 0. The pad is `inner` at the `count` places from a + `start` on, and `outer` at the others.
 fn held_in(
     held: &[u8; 4096],
     a: usize,
@@ -93,10 +95,11 @@ fn held_in(
 {
     let mut least = 255u8;
     let mut q = a;
+    // how far q lies on from a + start, modulo 256: below `count` at the inner places
     let mut x = to_zero(start);
     while q < e {
         let pad = chosen(x, count, inner, outer);
-        least = lesser(least, greater(held[q], pad));
+        least = smaller_byte(least, larger_byte(held[q], pad));
         x = on_by_one(x);
         q += 1;
     }
@@ -117,12 +120,13 @@ pub(crate) fn held_from(held: &[u8; 4096], i: usize, w: Window, p: usize) -> boo
     held_in(held, first, past, p as u8, (base - p) as u8, 0, 255)
 }
 
-// The holdings from a to e moved modulo 256: by `inner` at `count` places from `start` on, counted from a, and by `outer` at the others.
+// The holdings of the run from a to e moved modulo 256: by `inner` at the `count` places from a + `start` on, and by `outer` at the others.
 fn shift(held: &mut [u8; 4096], a: usize, e: usize, start: u8, count: u8, inner: u8, outer: u8)
     requires { ⌜ (a ≤ e) × (e ≤ 4096) × (e ≤ a + 256) × (start + count ≤ 256) ⌝ }
     ensures { λ r. ⌜ now (held .exit) ≡ replaced (inRun a e) (λ k x. wrapped (cond (inRun start (start + count) (k - a)) inner outer) x) (now (held .entry)) ⌝ }
 {
     let mut q = a;
+    // how far q lies on from a + start, modulo 256
     let mut x = to_zero(start);
     while q < e {
         let by = chosen(x, count, inner, outer);
@@ -132,10 +136,10 @@ fn shift(held: &mut [u8; 4096], a: usize, e: usize, start: u8, count: u8, inner:
     }
 }
 
-// Flow i's holdings from p on, each moved by a number modulo 256.
+// Flow i's holdings from p on, each moved by a number modulo 256: 1 is one more, 255 one fewer.
 pub(crate) fn shift_from(held: &mut [u8; 4096], by: u8, i: usize, w: Window, p: usize)
     requires { ⌜ Proper w × (p < sizeOf w) × (i < 16) ⌝ }
-    ensures { λ r. ⌜ now (held .exit) ≡ withRow (now (held .entry)) i (replaced (fromIn (windowOf w) p) (λ q x. wrapped by x) (row (now (held .entry)) i)) ⌝ }
+    ensures { λ r. ⌜ now (held .exit) ≡ shifted (windowOf w) by i p (now (held .entry)) ⌝ }
 {
     let first = 256 * i;
     let past = first + w.slots * w.frames;

@@ -1,9 +1,9 @@
-// One link of a plan: its current position, the owner of each position, and each flow's part.
+// One link of a plan: its current position, the owner of each position, each flow's frame and remainder, and what each flow holds.
 mod positions; // positions and frames, going round
-mod bytes; // the lesser and the larger byte, and bytes going round
+mod numbers; // the smaller, the larger, and sums modulo 256
 mod holdings; // what each flow holds at each position
 mod search; // the search for a position to book
-mod change; // what a request stores
+mod change; // what a request changes
 mod credit;
 mod fresh;
 mod request;

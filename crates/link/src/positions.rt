@@ -1,6 +1,6 @@
 // Positions and frames, going round.
 ghost use mathlib.Core.Path.{_≡_};
-ghost use Prim.Native.Nat.{_+_, _-_, _*_, _/_, _%_, _≤_, _<_};
+ghost use Prim.Native.Nat.{_+_, _-_, _%_, _≤_, _<_};
 ghost use Rattle.model.specs.Tables as tables;
 ghost use Rattle.model.specs.Window as model;
 ghost use Rattle.link.specs.Window.{windowOf, sizeOf, Measures, Proper, Ticked};

@@ -15,7 +15,7 @@ ghost use Rattle.link.specs.Reading.{linkOf};
 ghost use Rattle.link.specs.Sound.{Sound};
 ghost use Rattle.link.specs.Window.{sizeOf};
 ghost use Rattle.link.specs.Change as change;
-ghost use Rattle.link.specs.Change.{Given, Of, changed, Stepped};
+ghost use Rattle.link.specs.Change.{Given, PartsOf, changed, Stepped};
 use crate::Answer;
 use crate::Flow;
 use crate::Found;
@@ -24,13 +24,14 @@ use crate::Step;
 use crate::Window;
 use crate::change::Change;
 use crate::change::placed;
+use crate::change::refused;
 use crate::holdings::shift_from;
 use crate::positions::window;
 use crate::search::search;
 use crate::search::valid_rank;
 use plan::Entry;
 
-// The refusal of a word by its own tests, and 0 where it passes them: n flows, the entry of the word's flow, and T.
+// The refusal of a word by its own tests, and 0 where it passes them: n flows, the entry of the word's flow (of flow 0 where there is none), and T.
 fn refusal(count: usize, e: Entry, size: usize, word: u32) -> u8
     ensures { λ r. ⌜ ((p : Plan) → p .count ≡ count → getD (p .entries) (change.placed count (flowOf word)) noEntry ≡ e → p .slots * p .frames ≡ size → r ≡ firstOf (model.wordTests (planFor p) word)) ⌝ }
 {
@@ -47,14 +48,14 @@ fn refusal(count: usize, e: Entry, size: usize, word: u32) -> u8
     0
 }
 
-// The answer where the search ends with no position, at the newest frame, with a remainder.
-fn nowhere(left: usize) -> Answer
-    ensures { λ r. ⌜ r ≡ Answer.Refused (cond (eqb left 0) 11 12) ⌝ }
+// The refusal where the search ends with no position, at the newest frame, with a remainder. A spent share is refused before the search, so that only 12 comes from here.
+fn nowhere(left: usize) -> u8
+    ensures { λ r. ⌜ r ≡ cond (eqb left 0) 11 12 ⌝ }
 {
     if left == 0 {
-        return Answer::Refused(11);
+        return 11;
     }
-    Answer::Refused(12)
+    12
 }
 
 // The flow of a word, or 0 where the plan does not have it.
@@ -65,7 +66,7 @@ pub(crate) fn asker(count: usize, word: u32) -> usize
     placed(count, fields.flow as usize)
 }
 
-// The change by a word that asks for a slot, where its flow is i.
+// The change by a word that asks for a slot. Its flow is i; i is 0 where the plan does not have it.
 pub(crate) fn ask<'a>(
     count: usize,
     e: Entry,
@@ -77,18 +78,17 @@ pub(crate) fn ask<'a>(
     word: u32,
 ) -> Change
     requires { ⌜ Given count e w (now owner) (now held) i flow × (i ≡ change.placed count (flowOf word)) ⌝ }
-    ensures is { λ r. ⌜ ((l : Link) → Of l count e w (now (owner .entry)) (now (held .entry)) i flow → Stepped answerToRequest (model.request (linkOf l) word) (changed l i r)) ⌝ }
+    ensures is { λ r. ⌜ ((l : Link) → PartsOf l count e w (now (owner .entry)) (now (held .entry)) i flow → Stepped answerToRequest (model.request (linkOf l) word) (changed l i r)) ⌝ }
     ensures place { λ r. ⌜ r .position < sizeOf w ⌝ }
 {
     let number = refusal(count, e, w.slots * w.frames, word);
     if number != 0 {
-        return Change {
-            flow,
-            position: 0,
-            owner: owner[0],
-            granted: false,
-            answer: Answer::Refused(number),
-        };
+        return refused(flow, number);
+    }
+    let newest = w.newest();
+    // the share is spent up to the newest frame: there is nothing to search
+    if flow.left == 0 && flow.frame == newest {
+        return refused(flow, 11);
     }
     let low = valid_rank(held, i, e.cells, w);
     let found = search(owner, w, low, e.share as usize, flow.frame, flow.left);
@@ -97,20 +97,17 @@ pub(crate) fn ask<'a>(
             return Change {
                 flow: Flow { frame, left },
                 position,
-                owner: i as u8,
                 granted: true,
                 answer: Answer::Granted(word::depart(word, position as u8)),
             };
         }
         Found::Nowhere(left) => {
-            let frame = w.newest();
-            return Change {
-                flow: Flow { frame, left },
-                position: 0,
-                owner: owner[0],
-                granted: false,
-                answer: nowhere(left),
+            let number = nowhere(left);
+            let flow = Flow {
+                frame: newest,
+                left,
             };
+            return refused(flow, number);
         }
     }
 }
@@ -131,9 +128,9 @@ impl Link {
         let change = ask(plan.count, e, w, &self.owner, &self.held, i, flow, word);
         let flow = change.flow;
         self.flows[i] = flow;
-        let position = change.position;
-        self.owner[position] = change.owner;
         if change.granted {
+            let position = change.position;
+            self.owner[position] = i as u8;
             shift_from(&mut self.held, 1, i, w, position);
         }
         let answer = change.answer;

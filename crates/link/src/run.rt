@@ -1,12 +1,12 @@
 // A run over a slice of call records.
 ghost use mathlib.Core.Path.{_≡_};
-ghost use Prim.Native.Nat.{min};
 ghost use Rattle.link.specs.Reading.{linkOf};
 ghost use Rattle.link.specs.Sound.{Sound};
 ghost use Rattle.link.specs.Run.{Played};
 use crate::Link;
 use crate::credit::refusal;
 use crate::holdings::shift_from;
+use crate::numbers::smaller;
 use crate::positions::window;
 use crate::request::ask;
 use crate::request::asker;
@@ -16,24 +16,17 @@ use crate::tick::leave_head;
 use crate::tick::turn;
 use calls::Answer;
 use calls::Call;
+use calls::LONGEST_LINE;
+use calls::RECORD;
 use calls::Record;
 
-// A link after some records, and the place after their lines.
+// A link after some records, and how many bytes the records and their lines have.
 pub struct Run {
     pub link: Link,
     // bytes of the records that were played
     pub used: usize,
     // bytes of their lines
     pub written: usize,
-}
-
-fn least(a: usize, b: usize) -> usize
-    ensures { λ r. ⌜ r ≡ min a b ⌝ }
-{
-    if a < b {
-        return a;
-    }
-    b
 }
 
 impl Link {
@@ -43,7 +36,7 @@ impl Link {
         ensures { λ r. ⌜ Played (linkOf self) (now (records .entry)) (now (out .entry)) (linkOf (r .link)) (r .used) (r .written) (now (out .exit)) ⌝ }
         ensures sound { λ r. ⌜ Sound (r .link) ⌝ }
     {
-        let used = 5 * least(records.len() / 5, out.len() / 7);
+        let used = RECORD * smaller(records.len() / RECORD, out.len() / LONGEST_LINE);
         let mut link = self;
         let plan = link.plan;
         let mut w = window(plan.slots, plan.frames, link.cp);
@@ -52,9 +45,10 @@ impl Link {
         while at < used {
             let Record::Call(call) = calls::read(records, at) else {
                 end = calls::write_refusal(16, out, end);
-                at += 5;
+                at += RECORD;
                 continue;
             };
+            // Each arm stores what the method of its call stores, but for CP, which stays in w until the end.
             let mut answer = Answer::Idle;
             match call {
                 Call::Request(word) => {
@@ -64,9 +58,9 @@ impl Link {
                     let change = ask(plan.count, e, w, &link.owner, &link.held, i, flow, word);
                     let flow = change.flow;
                     link.flows[i] = flow;
-                    let position = change.position;
-                    link.owner[position] = change.owner;
                     if change.granted {
+                        let position = change.position;
+                        link.owner[position] = i as u8;
                         shift_from(&mut link.held, 1, i, w, position);
                     }
                     answer = change.answer;
@@ -95,7 +89,7 @@ impl Link {
                 }
             }
             end = calls::write(answer, out, end);
-            at += 5;
+            at += RECORD;
         }
         link.cp = w.current;
         Run {

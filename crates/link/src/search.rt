@@ -1,8 +1,9 @@
 // The search for a position to book.
 ghost use mathlib.Core.Path.{_≡_};
 ghost use mathlib.Core.Bool.{not, _&&_, cond};
-ghost use Prim.Native.Nat.{ℕ, _-_, _<_, max, min};
+ghost use Prim.Native.Nat.{ℕ, _+_, _≤_, _<_};
 ghost use lib.Dec.{leb, eqb};
+ghost use lib.ListN.{getD};
 ghost use Rattle.model.specs.Tables as tables;
 ghost use Rattle.model.specs.Window as model;
 ghost use Rattle.model.specs.Request as request;
@@ -10,32 +11,17 @@ ghost use Rattle.link.specs.Window.{windowOf, sizeOf, Proper};
 ghost use Rattle.link.specs.Reading.{nobody};
 ghost use Rattle.link.specs.Rows.{row};
 ghost use Rattle.link.specs.Holdings.{roomAt};
-ghost use Rattle.link.specs.Search.{foundOf, freeFrom};
+ghost use Rattle.link.specs.Search.{foundOf, freeFrom, Earliest};
 use crate::Found;
 use crate::Window;
-use crate::bytes::lesser;
 use crate::holdings::room_rank;
+use crate::numbers::larger;
+use crate::numbers::narrow;
+use crate::numbers::over;
+use crate::numbers::smaller;
+use crate::numbers::smaller_byte;
 use crate::positions::ahead;
 use crate::positions::next;
-
-// a - b, and 0 where b is the larger.
-fn over(a: usize, b: usize) -> usize
-    ensures { λ r. ⌜ r ≡ a - b ⌝ }
-{
-    if a <= b {
-        return 0;
-    }
-    a - b
-}
-
-fn larger(a: usize, b: usize) -> usize
-    ensures { λ r. ⌜ r ≡ max a b ⌝ }
-{
-    if a < b {
-        return b;
-    }
-    a
-}
 
 // The rank from which on a position is valid for a flow if nobody booked it: it is late enough, and there is room from it on.
 pub(crate) fn valid_rank(held: &[u8; 4096], i: usize, cells: u8, w: Window) -> usize
@@ -46,16 +32,6 @@ pub(crate) fn valid_rank(held: &[u8; 4096], i: usize, cells: u8, w: Window) -> u
         room_rank(held, i, cells, w),
         w.current + 1 - w.head * w.slots,
     )
-}
-
-// The number as a byte, and 255 where it is larger.
-fn narrow(a: usize) -> u8
-    ensures { λ r. ⌜ r ≡ min a 255 ⌝ }
-{
-    if a < 255 {
-        return a as u8;
-    }
-    255
 }
 
 // Slot x if nobody owns it and it is not before `low`, else 255.
@@ -71,6 +47,25 @@ fn candidate(owner: u8, x: u8, low: u8) -> u8
     x
 }
 
+// The earliest slot of a frame, from one slot up to another, that nobody owns and that is not before `low`, or 255.
+fn earliest(owner: &[u8; 256], start: usize, from: usize, to: usize, low: u8) -> u8
+    requires { ⌜ (from ≤ to) × (to ≤ 64) × (start + to ≤ 256) ⌝ }
+    ensures { λ r. ⌜ Earliest (λ k. eqb (getD (now (owner .entry)) (start + k) 0) nobody && leb low k) from to r ⌝ }
+{
+    let mut best = 255u8;
+    let mut x = from as u8;
+    let mut s = from;
+    while s < to {
+        best = smaller_byte(best, candidate(owner[start + s], x, low));
+        x += 1;
+        s += 1;
+    }
+    best
+}
+
+// How many slots of a frame are looked at together.
+const TOGETHER: usize = 32;
+
 // The search from a frame and a remainder up to the newest frame, for an unbooked position whose rank is at least `low`.
 pub(crate) fn search(
     owner: &[u8; 256],
@@ -83,26 +78,24 @@ pub(crate) fn search(
     requires { ⌜ Proper w × (first < w .frames) ⌝ }
     ensures { λ r. ⌜ foundOf r ≡ request.search (windowOf w) (freeFrom (windowOf w) (now (owner .entry)) low) share (tables.ahead (w .frames) first (model.newest (windowOf w))) first remainder ⌝ }
 {
-    let slots = w.slots;
     let mut frame = first;
     let mut left = remainder;
     let mut more = ahead(w.frames, frame, w.newest());
     let mut found = Found::Nowhere(remainder);
     'search: loop {
         if 0 < left {
-            let start = frame * slots;
-            let first_slot = narrow(over(low, w.rank(start)));
-            let mut best = 255u8;
-            let mut x = 0u8;
+            let start = frame * w.slots;
+            // the first slot of the frame with a rank of at least `low`
+            let late = narrow(over(low, w.rank(start)));
             let mut s = 0;
-            while s < slots {
-                best = lesser(best, candidate(owner[start + s], x, first_slot));
-                x += 1;
-                s += 1;
-            }
-            if best < 255 {
-                found = Found::At(frame, left - 1, start + best as usize);
-                break 'search;
+            while s < w.slots {
+                let e = smaller(s + TOGETHER, w.slots);
+                let slot = earliest(owner, start, s, e, late);
+                if slot < 255 {
+                    found = Found::At(frame, left - 1, start + slot as usize);
+                    break 'search;
+                }
+                s = e;
             }
         }
         if more == 0 {

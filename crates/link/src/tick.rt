@@ -31,7 +31,7 @@ pub(crate) fn turn(owner: u8) -> Answer
     Answer::Turn(owner)
 }
 
-// The positions of the run from a to e without an owner.
+// Takes the owner from every position of the run from a to e.
 fn empty(owner: &mut [u8; 256], a: usize, e: usize)
     requires { ⌜ (a ≤ e) × (e ≤ 256) ⌝ }
     ensures { λ r. ⌜ now (owner .exit) ≡ replaced (inRun a e) (λ q x. nobody) (now (owner .entry)) ⌝ }
@@ -78,7 +78,7 @@ pub(crate) fn leave_head(flows: [Flow; 16], plan: Plan, head: usize, on: usize) 
     all
 }
 
-// The head frame without an owner.
+// Takes the owner from every position of the head frame.
 pub(crate) fn empty_head(owner: &mut [u8; 256], w: Window)
     requires { ⌜ Proper w ⌝ }
     ensures { λ r. ⌜ now (owner .exit) ≡ replaced (inRun (baseOf w) (baseOf w + w .slots)) (λ q x. nobody) (now (owner .entry)) ⌝ }

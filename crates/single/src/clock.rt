@@ -12,7 +12,7 @@ fn instant() -> timespec {
     time
 }
 
-// A number of the system's, as one from 0 to the most.
+// A number from the system, brought into 0 to `most`.
 fn within(n: i64, most: u64) -> u64
     ensures { λ r. ⌜ r ≤ most ⌝ }
 {
@@ -30,11 +30,11 @@ pub(crate) fn nanoseconds() -> u64 {
 
 // The nanoseconds since a time.
 pub(crate) fn since(begin: u64) -> u64 {
-    less(nanoseconds(), begin)
+    difference(nanoseconds(), begin)
 }
 
-// The first less the second, and 0 where that is below 0.
-pub(crate) fn less(a: u64, b: u64) -> u64 {
+// The first number minus the second, and 0 where that is below 0.
+pub(crate) fn difference(a: u64, b: u64) -> u64 {
     if a < b {
         return 0;
     }
@@ -51,7 +51,7 @@ pub(crate) fn least(a: u64, b: u64) -> u64
     b
 }
 
-// Times that the clock is read.
+// Times that the clock's cost is taken.
 const READINGS: usize = 100000;
 
 // What it costs to read the clock twice: the lowest of many.

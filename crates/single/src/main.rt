@@ -16,18 +16,10 @@ ghost use Rattle.plan.specs.Reading.{Valid};
 // Times that the file is played.
 const REPEATS: usize = 200;
 
-// An answer as a number. What is played has to be used, or the compiler could leave it out.
-fn number(answer: Answer) -> u64 {
-    match answer {
-        Answer::Granted(word) => word as u64,
-        Answer::Taken => 1,
-        Answer::Turn(flow) => flow as u64,
-        Answer::Idle => 16,
-        Answer::Refused(number) => number as u64,
-    }
-}
+// The bytes of the longest file that is played: a plan of 16 flows has 76 bytes, and a call has 5.
+const LONGEST: usize = 76 + 5 * MOST;
 
-// Plays the calls on a fresh link and keeps the lowest time of each run, at the run's first call; the sum of the runs' last answers.
+// Plays the calls on a fresh link and keeps the lowest time of each run, at the run's first call; the sum of all answers.
 fn play(
     plan: Plan,
     kinds: &[u8; MOST],
@@ -49,8 +41,7 @@ fn play(
         let t = timed::run(step, kinds[from], words, from, to);
         step = t.step;
         lowest[from] = clock::least(lowest[from], t.spent);
-        let answer = step.answer;
-        sum = std::num::wrapping_add_u64(sum, number(answer));
+        sum = std::num::wrapping_add_u64(sum, t.sum);
         from = to;
     }
     sum
@@ -99,7 +90,7 @@ fn begin(bytes: &[u8]) -> bool {
 }
 
 fn main() {
-    let mut space = [0u8; 20556];
+    let mut space = [0u8; LONGEST];
     let got = io::read_full(libc::STDIN_FILENO, &mut space);
     if !begin(&space[..got]) {
         report::print(b"no calls\n");

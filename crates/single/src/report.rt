@@ -4,7 +4,7 @@ use crate::clock;
 use crate::file;
 use crate::file::MOST;
 
-// Shorter runs are played but not counted: the clock would weigh too much.
+// Shorter runs are played but not counted: the clock would be too large a part of the time.
 const SHORTEST: usize = 8;
 
 // The calls of a kind that are counted, and their nanoseconds.
@@ -23,7 +23,7 @@ fn total(kind: u8, kinds: &[u8; MOST], lowest: &[u64; MOST], count: usize, cost:
         let to = file::run_end(kinds, from, count);
         if kinds[from] == kind && SHORTEST <= to - from {
             calls = std::num::wrapping_add_u64(calls, (to - from) as u64);
-            spent = std::num::wrapping_add_u64(spent, clock::less(lowest[from], cost));
+            spent = std::num::wrapping_add_u64(spent, clock::difference(lowest[from], cost));
         }
         from = to;
     }
@@ -38,7 +38,7 @@ pub(crate) fn print_number(number: u64) {
     io::print_decimal(libc::STDOUT_FILENO, number);
 }
 
-// The digit after the point of a quotient whose remainder is given.
+// The digit after the point of a quotient whose remainder is given. A remainder is below the number of calls, which is at most 4096; the test is there so that ten times the remainder is proved not to overflow.
 fn tenths(rest: u64, calls: u64) -> u64
     requires { ⌜ 0 < calls ⌝ }
 {

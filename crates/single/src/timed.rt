@@ -3,12 +3,30 @@ ghost use Prim.Native.Nat.{_≤_};
 ghost use Rattle.link.specs.Sound.{Sound};
 use crate::clock;
 use crate::file::MOST;
+use calls::Answer;
 use link::Step;
 
-// A link after some calls, with the last answer, and the nanoseconds that they took.
+// A link after some calls, with the last answer; the sum of their answers, and the nanoseconds that they took.
 pub(crate) struct Timed {
     pub step: Step,
+    pub sum: u64,
     pub spent: u64,
+}
+
+// An answer as a number.
+fn number(answer: Answer) -> u64 {
+    match answer {
+        Answer::Granted(word) => word as u64,
+        Answer::Taken => 1,
+        Answer::Turn(flow) => flow as u64,
+        Answer::Idle => 16,
+        Answer::Refused(number) => number as u64,
+    }
+}
+
+// A sum of answers and one answer more. Every answer is used within the time, or the compiler could leave out what makes it.
+fn add(sum: u64, answer: Answer) -> u64 {
+    std::num::wrapping_add_u64(sum, number(answer))
 }
 
 fn requests(first: Step, words: &[u32; MOST], from: usize, to: usize) -> Timed
@@ -16,12 +34,15 @@ fn requests(first: Step, words: &[u32; MOST], from: usize, to: usize) -> Timed
     ensures { λ r. ⌜ Sound (r .step .link) ⌝ }
 {
     let mut step = first;
+    let mut sum = 0;
     let begin = clock::nanoseconds();
     for i in from..to {
         step = step.link.request(words[i]);
+        let answer = step.answer;
+        sum = add(sum, answer);
     }
     let spent = clock::since(begin);
-    Timed { step, spent }
+    Timed { step, sum, spent }
 }
 
 // The flow of a credit: the low byte.
@@ -39,13 +60,16 @@ fn credits(first: Step, words: &[u32; MOST], from: usize, to: usize) -> Timed
     ensures { λ r. ⌜ Sound (r .step .link) ⌝ }
 {
     let mut step = first;
+    let mut sum = 0;
     let begin = clock::nanoseconds();
     for i in from..to {
         let word = words[i];
         step = step.link.credit(flow(word), position(word));
+        let answer = step.answer;
+        sum = add(sum, answer);
     }
     let spent = clock::since(begin);
-    Timed { step, spent }
+    Timed { step, sum, spent }
 }
 
 fn ticks(first: Step, from: usize, to: usize) -> Timed
@@ -53,12 +77,15 @@ fn ticks(first: Step, from: usize, to: usize) -> Timed
     ensures { λ r. ⌜ Sound (r .step .link) ⌝ }
 {
     let mut step = first;
+    let mut sum = 0;
     let begin = clock::nanoseconds();
     for _ in from..to {
         step = step.link.tick();
+        let answer = step.answer;
+        sum = add(sum, answer);
     }
     let spent = clock::since(begin);
-    Timed { step, spent }
+    Timed { step, sum, spent }
 }
 
 // Plays the calls of a kind from one place to another.

@@ -41,9 +41,6 @@ mul-lowest c = search needs
 element-write-lowest : tie.Need-element-write-lowest Inv-loop μ-loop
 element-write-lowest c = search needs
 
-number-requires : tie.Need-number-requires Inv-loop μ-loop
-number-requires c κs = search needs
-
 wrapping-add-u64-requires : tie.Need-wrapping-add-u64-requires Inv-loop μ-loop
 wrapping-add-u64-requires c κs = search needs
 
@@ -72,7 +69,6 @@ play-spec =
     least-requires
     mul-lowest
     element-write-lowest
-    number-requires
     wrapping-add-u64-requires
     loop-less
     loop-again

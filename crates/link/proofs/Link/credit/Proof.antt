@@ -1,8 +1,5 @@
 -- `link::Link::credit` meets its contract. Assumes nothing.
-use borrow.Author.Needs.{needs}
-use mathlib.Core.Path.{_≡_, ap, _∙_}
 use native.Mathlib.Omega.{arith}
-use Rattle.model.specs.Window as model
 use Rattle.link.proofs.Links.{measures, flows-most, read-window}
 use Rattle.link.proofs.Changes.{around}
 use Rattle.link.proofs.Credits.{refused-credit, taken-credit}

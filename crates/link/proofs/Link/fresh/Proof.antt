@@ -14,10 +14,14 @@ unbooked-requires c κs = search needs
 unheld-requires : tie.Need-unheld-requires
 unheld-requires c κs = search needs
 
+rows-requires : tie.Need-rows-requires
+rows-requires c κs = search needs
+
 returns : tie.Need-returns
 returns c =
-    let s = c .before .before .before .before in
-    rw (c .unheld .ensures, c .before .unbooked .ensures, c .before .before .flows .ensures) (read-fresh _ (s .pre), sound-fresh _ (s .pre))
+    let h = c .before in
+    let s = h .before .before .before .before in
+    rw (c .rows .ensures, h .unheld .ensures, h .before .unbooked .ensures, h .before .before .flows .ensures) (read-fresh _ (s .pre), sound-fresh _ (s .pre))
 
 pub fresh-spec : {M : Type 1} → statement M
-fresh-spec = tie.close (tie.spec flows-requires unbooked-requires unheld-requires returns)
+fresh-spec = tie.close (tie.spec flows-requires unbooked-requires unheld-requires rows-requires returns)

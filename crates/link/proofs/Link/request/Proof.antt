@@ -9,7 +9,7 @@ use Rattle.link.specs.Window.{sizeOf}
 use Rattle.link.specs.Reading.{linkOf}
 use Rattle.link.specs.Change.{Stepped, changed}
 use Rattle.link.proofs.Links.{measures, read-window}
-use Rattle.link.proofs.Changes.{place-below, of-flow, given, stored-raise, stored-stay}
+use Rattle.link.proofs.Changes.{place-below, of-flow, given, stored-booking, stored-flow}
 use Rattle.link.proofs.Link.request.Statement.{statement}
 use Rattle.link.proofs.Link.request.Tie as tie
 
@@ -69,8 +69,11 @@ mul-flow-2 c = omega (arith, asker-below (asked-at (made-at c)))
 element-set-from-flow : tie.Need-element-set-from-flow
 element-set-from-flow c = asker-below (asked-at (made-at c))
 
+cast-self : tie.Need-cast-self
+cast-self c = omega (arith, asker-below (asked-at (made-at (c .before))))
+
 element-write-self : tie.Need-element-write-self
-element-write-self c = omega (arith, position-below c, made-at c .window .ensures .1 .measures .positions-most)
+element-write-self c = omega (arith, position-below (c .before), made-at (c .before) .window .ensures .1 .measures .positions-most)
 
 shift-from-requires : tie.Need-shift-from-requires
 shift-from-requires c κs =
@@ -83,14 +86,14 @@ returns c =
     let f = t .before in
     let w = made-at f in
     let l = start w .args .t1 in
-    subst (Stepped answerToRequest (model.request (linkOf l) (start w .args .word))) (stored-raise l _ (f .before .ask .result) (w .window .result) (read-window l (w .window .ensures .0)) (t .if1 .taken) (c .shift-from .ensures)) (changed-is f)
+    subst (Stepped answerToRequest (model.request (linkOf l) (start w .args .word))) (stored-booking l _ (f .before .ask .result) (w .window .result) (read-window l (w .window .ensures .0)) (t .if1 .taken) (c .shift-from .ensures)) (changed-is f)
 
 returns-2 : tie.Need-returns-2
 returns-2 c =
     let f = c .before in
     let w = made-at f in
     let l = start w .args .t1 in
-    subst (Stepped answerToRequest (model.request (linkOf l) (start w .args .word))) (stored-stay l _ (f .before .ask .result) (c .if1 .left)) (changed-is f)
+    subst (Stepped answerToRequest (model.request (linkOf l) (start w .args .word))) (stored-flow l _ (f .before .ask .result) (c .if1 .left)) (changed-is f)
 
 pub request-spec : {M : Type 1} → statement M
 request-spec =
@@ -105,6 +108,7 @@ request-spec =
     ask-requires
     mul-flow-2
     element-set-from-flow
+    cast-self
     element-write-self
     shift-from-requires
     returns

@@ -23,12 +23,13 @@ use Rattle.link.specs.declared.Window.{Window}
 use Rattle.link.specs.Runs.{inRun, replaced}
 use Rattle.link.specs.Rows.{carriedRows}
 use Rattle.link.specs.Window.{windowOf, sizeOf, baseOf}
-use Rattle.link.specs.Parts.{leftHead, withCurrent}
+use Rattle.link.specs.Parts.{leftHead}
 use Rattle.link.specs.Reading.{linkOf}
 use Rattle.link.specs.Sound.{Sound}
 use Rattle.link.specs.Change.{Stepped, Creditable}
 use Rattle.link.specs.Run.{playable}
-use Rattle.link.proofs.Changes.{stored-raise, stored-stay}
+use Rattle.link.proofs.Parts.{withCurrent}
+use Rattle.link.proofs.Changes.{stored-booking, stored-flow}
 use Rattle.link.proofs.Credits.{refused-credit, taken-credit}
 use Rattle.link.proofs.Links.{measures, read-window}
 use Rattle.link.proofs.Ticks.{head-stays, head-left, same-turn}
@@ -127,12 +128,12 @@ module _ (c : tie.At-match2-came Inv-loop μ-loop) where
       let v = p .proper in
       ⊎-elim
       (λ b. same-came (call-is (c .before) ∙ ap of-call (b .1 .given .1)) (b .14) (b .15) (b .16) (record {
-        comes = request-made (linkOf l) _ _ (subst (Stepped answerToRequest (model.request (linkOf l) _)) (stored-raise l _ (b .9 .result) w window-is (b .11 .taken) (b .13 .ensures)) (b .9 .ensures .0 l (of-there p s _)));
+        comes = request-made (linkOf l) _ _ (subst (Stepped answerToRequest (model.request (linkOf l) _)) (stored-booking l _ (b .9 .result) w window-is (b .11 .taken) (b .13 .ensures)) (b .9 .ensures .0 l (of-there p s _)));
         playing = playing-on p refl;
       }))
       (⊎-elim
       (λ b. same-came (call-is (c .before) ∙ ap of-call (b .1 .given .1)) (b .12) (b .13) (b .14) (record {
-        comes = request-made (linkOf l) _ _ (subst (Stepped answerToRequest (model.request (linkOf l) _)) (stored-stay l _ (b .9 .result) (b .11 .left)) (b .9 .ensures .0 l (of-there p s _)));
+        comes = request-made (linkOf l) _ _ (subst (Stepped answerToRequest (model.request (linkOf l) _)) (stored-flow l _ (b .9 .result) (b .11 .left)) (b .9 .ensures .0 l (of-there p s _)));
         playing = playing-on p refl;
       }))
       (⊎-elim
@@ -159,8 +160,8 @@ module _ (c : tie.At-match2-came Inv-loop μ-loop) where
 
 -- ---- the needs
 
-least-requires : tie.Need-least-requires Inv-loop μ-loop
-least-requires c κs = search needs
+smaller-requires : tie.Need-smaller-requires Inv-loop μ-loop
+smaller-requires c κs = search needs
 
 mul-used : tie.Need-mul-used Inv-loop μ-loop
 mul-used c = omega arith
@@ -173,7 +174,7 @@ loop-holds c =
     let s = c .before .before .before .before .before in
     let l = s .args .self in
     let e : withCurrent l (c .window .result .current) ≡ l = ap (λ (x : seen.Window). withCurrent l (x .current)) (c .window .ensures .0) in
-    (omega arith, ap (5 *_) (c .before .before .least .ensures), playing-first l (c .window .ensures .0) (c .window .ensures .1), rw e (begun _ _ l (s .pre)))
+    (omega arith, ap (5 *_) (c .before .before .smaller .ensures), playing-first l (c .window .ensures .0) (c .window .ensures .1), rw e (begun _ _ l (s .pre)))
 
 read-requires : tie.Need-read-requires Inv-loop μ-loop
 read-requires c κs = search needs
@@ -240,8 +241,11 @@ mul-flow-2 c = omega (arith, asker-below (asker-at c))
 element-set-from-flow : tie.Need-element-set-from-flow Inv-loop μ-loop
 element-set-from-flow c = asker-below (asker-at c)
 
+cast-link : tie.Need-cast-link Inv-loop μ-loop
+cast-link c = omega (arith, asker-below (asker-at (c .before)))
+
 element-write-link : tie.Need-element-write-link Inv-loop μ-loop
-element-write-link c = omega (arith, c .before .ask .ensures .1, playing-at (asked-at (asker-at c)) .proper .measures .positions-most)
+element-write-link c = omega (arith, c .before .before .ask .ensures .1, playing-at (asked-at (asker-at (c .before))) .proper .measures .positions-most)
 
 shift-from-requires : tie.Need-shift-from-requires Inv-loop μ-loop
 shift-from-requires c κs =
@@ -327,7 +331,7 @@ run-spec =
     (tie.spec
     Inv-loop
     μ-loop
-    least-requires
+    smaller-requires
     mul-used
     window-requires
     loop-holds
@@ -347,6 +351,7 @@ run-spec =
     ask-requires
     mul-flow-2
     element-set-from-flow
+    cast-link
     element-write-link
     shift-from-requires
     enum-known-call-3

@@ -27,14 +27,14 @@ loop-holds c = (search needs, search needs, search needs, search needs, search n
 chosen-requires : tie.Need-chosen-requires Inv-loop μ-loop
 chosen-requires c κs = search needs
 
-element-copy-out-greater : tie.Need-element-copy-out-greater Inv-loop μ-loop
-element-copy-out-greater c = search needs
+element-copy-out-larger-byte : tie.Need-element-copy-out-larger-byte Inv-loop μ-loop
+element-copy-out-larger-byte c = search needs
 
-greater-requires : tie.Need-greater-requires Inv-loop μ-loop
-greater-requires c κs = search needs
+larger-byte-requires : tie.Need-larger-byte-requires Inv-loop μ-loop
+larger-byte-requires c κs = search needs
 
-lesser-requires : tie.Need-lesser-requires Inv-loop μ-loop
-lesser-requires c κs = search needs
+smaller-byte-requires : tie.Need-smaller-byte-requires Inv-loop μ-loop
+smaller-byte-requires c κs = search needs
 
 on-by-one-requires : tie.Need-on-by-one-requires Inv-loop μ-loop
 on-by-one-requires c κs = search needs
@@ -57,7 +57,7 @@ loop-again c =
       search needs,
       search needs,
       next-place _ _ (l .q) (l .x) _ (omega arith) (l .inv .0) (l .inv .5) (c .on-by-one .ensures),
-      rw (c .before .lesser .ensures) (all-least (l .least) (c .before .before .greater .result) (l .inv .6) (l .inv .0) (sym (ap (ltb 0) (c .before .before .greater .ensures ∙ ap (max _) pad)))),
+      rw (c .before .smaller-byte .ensures) (all-least (l .least) (c .before .before .larger-byte .result) (l .inv .6) (l .inv .0) (sym (ap (ltb 0) (c .before .before .larger-byte .ensures ∙ ap (max _) pad)))),
     )
 
 returns : tie.Need-returns Inv-loop μ-loop
@@ -72,9 +72,9 @@ held-in-spec =
     to-zero-requires
     loop-holds
     chosen-requires
-    element-copy-out-greater
-    greater-requires
-    lesser-requires
+    element-copy-out-larger-byte
+    larger-byte-requires
+    smaller-byte-requires
     on-by-one-requires
     add-q
     loop-less

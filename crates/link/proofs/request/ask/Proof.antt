@@ -7,7 +7,7 @@ use mathlib.Core.Bool.{not, _&&_}
 use native.Mathlib.Omega.{arith}
 use lib.Dec.{ltb}
 use lib.ListN.{getD}
-use borrow.Author.Tests.{ltb-true}
+use borrow.Author.Tests.{ltb-true, eqb-true}
 use Rattle.plan.specs.declared.Entry.{Entry}
 use Rattle.plan.specs.Reading.{noEntry, planFor}
 use Rattle.model.specs.Word.{flowOf}
@@ -27,13 +27,13 @@ use Rattle.link.specs.Holdings.{roomAt}
 use Rattle.link.specs.Reading.{linkOf}
 use Rattle.link.specs.Search.{foundOf, freeFrom}
 use Rattle.link.specs.Window.{windowOf, fromIn}
-use Rattle.link.specs.Change.{placed, Of, Stepped}
+use Rattle.link.specs.Change.{placed, PartsOf, Stepped}
 use Rattle.link.proofs.Runs.{wrapped-up}
 use Rattle.link.proofs.Ranks.{replaced-from}
-use Rattle.link.proofs.Changes.{same-link, same-owner}
+use Rattle.link.proofs.Changes.{same-link, same-held, same-moved}
 use Rattle.link.proofs.Links.{read-size, read-frames, flows-most, size-most}
 use Rattle.link.proofs.Searches.{Booking}
-use Rattle.link.proofs.Requests.{refused-word, asked, asks-for, asker-below, LowFor, sought-same, found-at, room-there, granted-link, refused-link, granted, refused-newest}
+use Rattle.link.proofs.Requests.{refused-word, asked, asks-for, asker-below, LowFor, sought-same, found-at, room-there, spent-at-newest, granted-link, refused-link, granted, refused-newest}
 use Rattle.link.proofs.request.ask.Statement.{statement}
 use Rattle.link.proofs.request.ask.Tie as tie
 
@@ -41,7 +41,7 @@ use Rattle.link.proofs.request.ask.Tie as tie
 
 -- a link with these parts, where the function is entered
 abbrev OfAt : tie.Start → Link → Type 0
-OfAt s l = Of l (s .args .count) (s .args .e) (s .args .w) (s .args .owner .now) (s .args .held .now) (s .args .i) (s .args .flow)
+OfAt s l = PartsOf l (s .args .count) (s .args .e) (s .args .w) (s .args .owner .now) (s .args .held .now) (s .args .i) (s .args .flow)
 
 abbrev entered : tie.After-refusal → tie.Start
 entered c = c .before .before
@@ -66,9 +66,12 @@ flow-below c =
     let g = entered (c .before) .pre .0 in
     omega (arith, flow-known c (g .link) (g .of), flows-most _ (g .of .around .sound))
 
--- where the word passed, and where the function is entered
+-- where the newest frame is known, where the word passed, and where the function is entered
+abbrev newest-at : tie.After-search → tie.After-newest
+newest-at c = c .before .before .before .before .before
+
 abbrev passed-at : tie.After-search → tie.Else1
-passed-at c = c .before .before .before
+passed-at c = newest-at c .before
 
 abbrev start : tie.After-search → tie.Start
 start c = entered (passed-at c .before)
@@ -148,27 +151,53 @@ mul-refusal c = let g = c .before .pre .0 in omega (arith, g .of .around .proper
 refusal-requires : tie.Need-refusal-requires
 refusal-requires c κs = search needs
 
-element-copy-out-t21 : tie.Need-element-copy-out-t21
-element-copy-out-t21 c = search needs
-
 some-position : (s : tie.Start) → 0 < s .args .w .slots * s .args .w .frames
 some-position s = let m = s .pre .0 .of .around .proper .measures in omega (arith, m .current-below)
+
+refused-requires : tie.Need-refused-requires
+refused-requires c κs = search needs
 
 returns : tie.Need-returns
 returns c =
     let k = c .before .before in
     let s = entered k in
-    (λ l o. subst (Stepped answerToRequest (request (linkOf l) (s .args .word))) (same-link l _ 0 _ (ap (λ (x : List ℕ). getD x 0 0) (o .owner-is)) (o .flow-is)) (refused-word l _ _ (tests-are k l o) (o .around .sound) (c .before .if1 .taken)), some-position s)
+    rw (c .refused .ensures)
+    (λ l o. subst (Stepped answerToRequest (request (linkOf l) (s .args .word))) (same-link l _ _ (o .flow-is)) (refused-word l _ _ (tests-are k l o) (o .around .sound) (c .before .if1 .taken)), some-position s)
+
+newest-requires : tie.Need-newest-requires
+newest-requires c κs = entered (c .before) .pre .0 .of .around .proper
+
+refused-requires-2 : tie.Need-refused-requires-2
+refused-requires-2 c κs = search needs
+
+returns-2 : tie.Need-returns-2
+returns-2 c =
+    let t = c .before .before .before in
+    let n = t .before .before in
+    let e = n .before in
+    let s = entered (e .before) in
+    let i = s .args .i in
+    rw (c .refused2 .ensures) (
+      λ l o.
+          let v = o .around in
+          let frame : s .args .flow .frame ≡ newest (windowOf (s .args .w)) = eqb-true _ _ (c .before .if3 .taken) ∙ n .newest .ensures in
+          let left : s .args .flow .left ≡ 0 = t .if2 .taken in
+          let none = spent-at-newest l (v .sound) _ (v .window-is) i (flow-known e l o) (sym (ap (λ (x : Flow). x .frame) (o .flow-is)) ∙ frame) (sym (ap (λ (x : Flow). x .left) (o .flow-is)) ∙ left) in
+          subst (Stepped answerToRequest (request (linkOf l) (s .args .word))) (same-moved l i _ (s .args .flow) frame left)
+          (refused-newest l _ _ (asks-at e l o) (asked l _ _ (tests-are (e .before) l o) (e .if1 .left)) 0 _ none
+          (refused-link l (v .sound) _ (v .window-is) i (flow-known e l o) 0)),
+      some-position s,
+    )
 
 valid-rank-requires : tie.Need-valid-rank-requires
-valid-rank-requires c κs = (entered (c .before) .pre .0 .of .around .proper, flow-below c)
+valid-rank-requires c κs = let e = c .before .before .before in (entered (e .before) .pre .0 .of .around .proper, flow-below e)
 
 cast-search : tie.Need-cast-search
 cast-search c = search needs
 
 search-requires : tie.Need-search-requires
 search-requires c κs =
-    let e = c .before .before in
+    let e = c .before .before .before .before .before in
     let g = entered (e .before) .pre .0 in
     let o = g .of in
     (o .around .proper, rw (read-frames _ (o .around .window-is), o .flow-is) (o .around .sound .flows _ (flow-known e (g .link) o) .frame))
@@ -176,17 +205,14 @@ search-requires c κs =
 enum-known-found : tie.Need-enum-known-found
 enum-known-found c = search needs
 
-cast-t24 : tie.Need-cast-t24
-cast-t24 c = omega (arith, flow-below (passed-at (c .before .before .before)))
-
 cast-depart : tie.Need-cast-depart
 cast-depart c = omega (arith, position-fits (c .before))
 
 depart-requires : tie.Need-depart-requires
 depart-requires c κs = search needs
 
-returns-2 : tie.Need-returns-2
-returns-2 c =
+returns-3 : tie.Need-returns-3
+returns-3 c =
     let d = c .before .before in
     let q = d .before .before in
     let g = start q .pre .0 in (
@@ -201,24 +227,21 @@ returns-2 c =
 enum-known-found-2 : tie.Need-enum-known-found-2
 enum-known-found-2 c = search needs
 
-newest-requires : tie.Need-newest-requires
-newest-requires c κs = start (c .before .before .before) .pre .0 .of .around .proper
-
-element-copy-out-t31 : tie.Need-element-copy-out-t31
-element-copy-out-t31 c = search needs
-
 nowhere-requires : tie.Need-nowhere-requires
 nowhere-requires c κs = search needs
 
-returns-3 : tie.Need-returns-3
-returns-3 c =
-    let n = c .before .before in
-    let d = n .before .before in
+refused-requires-3 : tie.Need-refused-requires-3
+refused-requires-3 c κs = search needs
+
+returns-4 : tie.Need-returns-4
+returns-4 c =
+    let d = c .before .before .before in
     let q = d .before .before in
-    let s = start q in (
+    let s = start q in
+    rw (c .refused3 .ensures) (
       λ l o.
-          rw (c .nowhere .ensures, n .newest .ensures)
-          (subst (Stepped answerToRequest (request (linkOf l) (s .args .word))) (same-owner l (flow-at q) 0 _ (record { frame = newest (window-at q); left = d .found2 .given .0 .0 }) (ap (λ (x : List ℕ). getD x 0 0) (o .owner-is)))
+          rw (c .before .nowhere .ensures, newest-at q .newest .ensures)
+          (subst (Stepped answerToRequest (request (linkOf l) (s .args .word))) (same-held l (flow-at q) _ (record { frame = newest (window-at q); left = d .found2 .given .0 .0 }))
           (refused-newest l _ _ (asks-at (passed-at q) l o) (asked-at q l o) _ _ (ap foundOf (sym (d .found2 .given .1)) ∙ searched q l o)
           (refused-link l (o .around .sound) (window-at q) (window-is q l o) (flow-at q) (flow-there q l o) _))),
       some-position s,
@@ -230,18 +253,19 @@ ask-spec =
     (tie.spec
     mul-refusal
     refusal-requires
-    element-copy-out-t21
+    refused-requires
     returns
+    newest-requires
+    refused-requires-2
+    returns-2
     valid-rank-requires
     cast-search
     search-requires
     enum-known-found
-    cast-t24
     cast-depart
     depart-requires
-    returns-2
+    returns-3
     enum-known-found-2
-    newest-requires
-    element-copy-out-t31
     nowhere-requires
-    returns-3)
+    refused-requires-3
+    returns-4)

@@ -1,6 +1,6 @@
 -- `link::request::refusal` meets its contract: each return by the tests on the way. Assumes nothing.
 use borrow.Author.Needs.{needs}
-use mathlib.Core.Path.{_≡_, ap, _∙_}
+use mathlib.Core.Path.{ap, _∙_}
 use Rattle.plan.specs.declared.Entry.{Entry}
 use Rattle.link.proofs.Requests.{entry-there, word-8, word-9, word-10, word-passes}
 use Rattle.link.proofs.request.refusal.Statement.{statement}

@@ -28,14 +28,14 @@ sub-wrapping-add-u64 c = search needs
 wrapping-add-u64-requires : tie.Need-wrapping-add-u64-requires Inv-loop μ-loop
 wrapping-add-u64-requires c κs = search needs
 
-mul-less : tie.Need-mul-less Inv-loop μ-loop
-mul-less c = search needs
+mul-difference : tie.Need-mul-difference Inv-loop μ-loop
+mul-difference c = search needs
 
-element-copy-out-less : tie.Need-element-copy-out-less Inv-loop μ-loop
-element-copy-out-less c = search needs
+element-copy-out-difference : tie.Need-element-copy-out-difference Inv-loop μ-loop
+element-copy-out-difference c = search needs
 
-less-requires : tie.Need-less-requires Inv-loop μ-loop
-less-requires c κs = search needs
+difference-requires : tie.Need-difference-requires Inv-loop μ-loop
+difference-requires c κs = search needs
 
 wrapping-add-u64-requires-2 : tie.Need-wrapping-add-u64-requires-2 Inv-loop μ-loop
 wrapping-add-u64-requires-2 c κs = search needs
@@ -67,9 +67,9 @@ total-spec =
     sub-if2
     sub-wrapping-add-u64
     wrapping-add-u64-requires
-    mul-less
-    element-copy-out-less
-    less-requires
+    mul-difference
+    element-copy-out-difference
+    difference-requires
     wrapping-add-u64-requires-2
     loop-less
     loop-again

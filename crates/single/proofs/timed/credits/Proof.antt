@@ -6,10 +6,10 @@ use Rattle.single.proofs.timed.credits.Statement.{statement}
 use Rattle.single.proofs.timed.credits.Tie as tie
 
 abbrev Inv-loop : tie.InvT-loop
-Inv-loop words from to step₀ begin i₀ step i = Sound (step .link)
+Inv-loop words from to step₀ sum₀ begin i₀ step sum i = Sound (step .link)
 
 abbrev μ-loop : tie.MeasureT-loop
-μ-loop words from to step₀ begin i₀ step i = to - i
+μ-loop words from to step₀ sum₀ begin i₀ step sum i = to - i
 
 nanoseconds-requires : tie.Need-nanoseconds-requires Inv-loop μ-loop
 nanoseconds-requires c κs = search needs
@@ -31,6 +31,9 @@ position-requires c κs = search needs
 
 credit-requires : tie.Need-credit-requires Inv-loop μ-loop
 credit-requires c κs = search needs
+
+add-requires : tie.Need-add-requires Inv-loop μ-loop
+add-requires c κs = search needs
 
 add-i : tie.Need-add-i Inv-loop μ-loop
 add-i c = search needs
@@ -60,6 +63,7 @@ credits-spec =
     flow-requires
     position-requires
     credit-requires
+    add-requires
     add-i
     loop-less
     loop-again

@@ -6,10 +6,10 @@ use Rattle.single.proofs.timed.requests.Statement.{statement}
 use Rattle.single.proofs.timed.requests.Tie as tie
 
 abbrev Inv-loop : tie.InvT-loop
-Inv-loop words from to step₀ begin i₀ step i = Sound (step .link)
+Inv-loop words from to step₀ sum₀ begin i₀ step sum i = Sound (step .link)
 
 abbrev μ-loop : tie.MeasureT-loop
-μ-loop words from to step₀ begin i₀ step i = to - i
+μ-loop words from to step₀ sum₀ begin i₀ step sum i = to - i
 
 nanoseconds-requires : tie.Need-nanoseconds-requires Inv-loop μ-loop
 nanoseconds-requires c κs = search needs
@@ -25,6 +25,9 @@ element-copy-out-request c = search needs
 
 request-requires : tie.Need-request-requires Inv-loop μ-loop
 request-requires c κs = search needs
+
+add-requires : tie.Need-add-requires Inv-loop μ-loop
+add-requires c κs = search needs
 
 add-i : tie.Need-add-i Inv-loop μ-loop
 add-i c = search needs
@@ -52,6 +55,7 @@ requests-spec =
     mul-request
     element-copy-out-request
     request-requires
+    add-requires
     add-i
     loop-less
     loop-again

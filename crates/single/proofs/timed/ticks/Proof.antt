@@ -6,10 +6,10 @@ use Rattle.single.proofs.timed.ticks.Statement.{statement}
 use Rattle.single.proofs.timed.ticks.Tie as tie
 
 abbrev Inv-loop : tie.InvT-loop
-Inv-loop from to step₀ begin counter₀ step counter = Sound (step .link)
+Inv-loop from to step₀ sum₀ begin counter₀ step sum counter = Sound (step .link)
 
 abbrev μ-loop : tie.MeasureT-loop
-μ-loop from to step₀ begin counter₀ step counter = to - counter
+μ-loop from to step₀ sum₀ begin counter₀ step sum counter = to - counter
 
 nanoseconds-requires : tie.Need-nanoseconds-requires Inv-loop μ-loop
 nanoseconds-requires c κs = search needs
@@ -19,6 +19,9 @@ loop-holds c = search needs
 
 tick-requires : tie.Need-tick-requires Inv-loop μ-loop
 tick-requires c κs = search needs
+
+add-requires : tie.Need-add-requires Inv-loop μ-loop
+add-requires c κs = search needs
 
 add-counter : tie.Need-add-counter Inv-loop μ-loop
 add-counter c = search needs
@@ -44,6 +47,7 @@ ticks-spec =
     nanoseconds-requires
     loop-holds
     tick-requires
+    add-requires
     add-counter
     loop-less
     loop-again

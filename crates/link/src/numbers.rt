@@ -1,4 +1,4 @@
-// Bytes: the lesser, the larger, one of two, and sums modulo 256.
+// Numbers and bytes: the smaller, the larger, one of two, differences, and sums modulo 256.
 ghost use mathlib.Core.Path.{_≡_};
 ghost use mathlib.Core.Bool.{cond};
 ghost use Prim.Native.Nat.{_+_, _-_, _%_, max, min};
@@ -7,7 +7,7 @@ ghost use Rattle.link.specs.Runs.{wrapped};
 use std::num::wrapping_add_u8;
 use std::num::wrapping_sub_u8;
 
-pub(crate) fn lesser(a: u8, b: u8) -> u8
+pub(crate) fn smaller(a: usize, b: usize) -> usize
     ensures { λ r. ⌜ r ≡ min a b ⌝ }
 {
     if a < b {
@@ -16,7 +16,7 @@ pub(crate) fn lesser(a: u8, b: u8) -> u8
     b
 }
 
-pub(crate) fn greater(a: u8, b: u8) -> u8
+pub(crate) fn larger(a: usize, b: usize) -> usize
     ensures { λ r. ⌜ r ≡ max a b ⌝ }
 {
     if a < b {
@@ -25,7 +25,45 @@ pub(crate) fn greater(a: u8, b: u8) -> u8
     a
 }
 
-// One byte below a bound, and another from it on.
+// a - b, and 0 where b is the larger.
+pub(crate) fn over(a: usize, b: usize) -> usize
+    ensures { λ r. ⌜ r ≡ a - b ⌝ }
+{
+    if a <= b {
+        return 0;
+    }
+    a - b
+}
+
+// The number as a byte, and 255 where it is larger.
+pub(crate) fn narrow(a: usize) -> u8
+    ensures { λ r. ⌜ r ≡ min a 255 ⌝ }
+{
+    if a < 255 {
+        return a as u8;
+    }
+    255
+}
+
+pub(crate) fn smaller_byte(a: u8, b: u8) -> u8
+    ensures { λ r. ⌜ r ≡ min a b ⌝ }
+{
+    if a < b {
+        return a;
+    }
+    b
+}
+
+pub(crate) fn larger_byte(a: u8, b: u8) -> u8
+    ensures { λ r. ⌜ r ≡ max a b ⌝ }
+{
+    if a < b {
+        return b;
+    }
+    a
+}
+
+// `below` where x is below a bound, else `other`.
 pub(crate) fn chosen(x: u8, bound: u8, below: u8, other: u8) -> u8
     ensures { λ r. ⌜ r ≡ cond (ltb x bound) below other ⌝ }
 {

@@ -1,7 +1,7 @@
--- `link::bytes::chosen` meets its contract. Assumes nothing.
+-- `link::numbers::chosen` meets its contract. Assumes nothing.
 use borrow.Author.Tests.{lt-ltb, le-ltb}
-use Rattle.link.proofs.bytes.chosen.Statement.{statement}
-use Rattle.link.proofs.bytes.chosen.Tie as tie
+use Rattle.link.proofs.numbers.chosen.Statement.{statement}
+use Rattle.link.proofs.numbers.chosen.Tie as tie
 
 returns : tie.Need-returns
 returns c = rw (lt-ltb _ _ (c .if1 .taken))

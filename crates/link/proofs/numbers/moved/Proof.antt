@@ -1,10 +1,10 @@
--- `link::bytes::moved` meets its contract. Assumes nothing.
+-- `link::numbers::moved` meets its contract. Assumes nothing.
 use borrow.Author.Needs.{needs}
 use mathlib.Core.Path.{_∙_}
 use native.Mathlib.Omega.{arith}
 use Rattle.link.proofs.Runs.{wrapped-is}
-use Rattle.link.proofs.bytes.moved.Statement.{statement}
-use Rattle.link.proofs.bytes.moved.Tie as tie
+use Rattle.link.proofs.numbers.moved.Statement.{statement}
+use Rattle.link.proofs.numbers.moved.Tie as tie
 
 wrapping-add-u8-requires : tie.Need-wrapping-add-u8-requires
 wrapping-add-u8-requires c κs = search needs
