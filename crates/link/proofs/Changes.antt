@@ -5,9 +5,11 @@ use mathlib.Core.List.{List}
 use mathlib.Core.Bool.{Bool, true, false}
 use native.Mathlib.Omega.{arith}
 use lib.Dec.{ltb}
-use borrow.Author.Tests.{lt-ltb, ltb-true}
+use borrow.Author.Tests.{ltb-true}
 use lib.ListN.{getD, set}
 use lib.Seq.{set-getD}
+use Rattle.plan.specs.declared.Plan.{Plan}
+use Rattle.plan.specs.Reading.{noEntry}
 use Rattle.calls.specs.declared.Answer.{Answer}
 use Rattle.model.specs.Link as model
 use Rattle.link.specs.declared.change.Change.{Change}
@@ -18,36 +20,35 @@ use Rattle.link.specs.declared.Window.{Window}
 use Rattle.link.specs.Rows.{row, withRow}
 use Rattle.link.specs.Window.{windowOf, Proper}
 use Rattle.link.specs.Holdings.{shifted}
-use Rattle.link.specs.Parts.{entryAt, partAt, noFlow, partOf, withOwners, withFlows}
+use Rattle.link.specs.Parts.{partAt, noFlow, partOf, withOwners, withFlows}
 use Rattle.link.specs.Reading.{linkOf}
 use Rattle.link.specs.Sound.{Sound}
-use Rattle.link.specs.Change.{placed, Around, PartsOf, Given, changed}
+use Rattle.link.specs.Change.{placed, Around, PartsOf, changed}
 use Rattle.link.proofs.Parts.{withFlow, withHeld}
 use Rattle.link.proofs.Rows.{with-own-row}
 use Rattle.link.proofs.Links.{flows-most, read-window}
 
--- the place of a flow
-pub place-below : (l : Link) → Sound l → (i x : ℕ) → i ≡ placed (l .plan .count) x → i < 16
-place-below l s i x e = go (ltb x (l .plan .count)) refl
-  where
-    go : (b : Bool) → ltb x (l .plan .count) ≡ b → i < 16
-    go true z = let h = ltb-true x (l .plan .count) z in let d : i ≡ x = e ∙ rw z in omega (arith, h, d, flows-most l s)
-    go false z = let d : i ≡ 0 = e ∙ rw z in omega (arith, d)
+-- ---- what a call is given of a sound link, by its plan and its window
 
-pub place-is : (n i x : ℕ) → i ≡ placed n x → x < n → i ≡ x
-place-is n i x e h = e ∙ rw (lt-ltb x n h)
+module _ (l : Link) (s : Sound l) {plan : Plan} (plan-is : plan ≡ l .plan) where
+  -- the place of a flow
+  pub place-below : (i x : ℕ) → i ≡ placed (plan .count) x → i < 16
+  place-below i x e = go (ltb x (plan .count)) refl
+    where
+      go : (b : Bool) → ltb x (plan .count) ≡ b → i < 16
+      go true z =
+          let h = ltb-true x (plan .count) z in
+          let d : i ≡ x = e ∙ rw z in
+          let n = ap (λ (p : Plan). p .count) plan-is in
+          omega (arith, h, d, n, flows-most l s)
+      go false z = let d : i ≡ 0 = e ∙ rw z in omega (arith, d)
 
--- ---- what a call is given of a sound link
+  module _ {w : Window} (is : windowOf w ≡ record { slots = l .plan .slots; frames = l .plan .frames; current = l .cp }) (v : Proper w) where
+    pub around : Around l (plan .count) w (l .held)
+    around = record { sound = s; count-is = ap (λ (p : Plan). p .count) plan-is; proper = v; window-is = read-window l is; held-is = refl }
 
-module _ (l : Link) (s : Sound l) {w : Window} (is : windowOf w ≡ record { slots = l .plan .slots; frames = l .plan .frames; current = l .cp }) (v : Proper w) where
-  pub around : Around l (l .plan .count) w (l .held)
-  around = record { sound = s; count-is = refl; proper = v; window-is = read-window l is; held-is = refl }
-
-  pub of-flow : (i : ℕ) → PartsOf l (l .plan .count) (entryAt l i) w (l .owner) (l .held) i (getD (l .flows) i noFlow)
-  of-flow i = record { around = around; owner-is = refl; entry-is = refl; flow-is = refl }
-
-  pub given : (i : ℕ) → Given (l .plan .count) (entryAt l i) w (l .owner) (l .held) i (getD (l .flows) i noFlow)
-  given i = record { link = l; of = of-flow i }
+    pub parts-of : (i : ℕ) → PartsOf l (plan .count) (getD (plan .entries) i noEntry) w (l .owner) (l .held) i (getD (l .flows) i noFlow)
+    parts-of i = record { around = around; owner-is = refl; entry-is = ap (λ (p : Plan). getD (p .entries) i noEntry) plan-is; flow-is = refl }
 
 -- ---- a change that books nothing
 

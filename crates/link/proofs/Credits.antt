@@ -16,9 +16,9 @@ use Rattle.calls.specs.Reading.{answerToCredit}
 use Rattle.link.specs.declared.Link.{Link}
 use Rattle.link.specs.declared.Window as code
 use Rattle.link.specs.Runs.{replaced, wrapped}
-use Rattle.link.specs.Rows.{row, withRow}
+use Rattle.link.specs.Rows.{row}
 use Rattle.link.specs.Window.{windowOf, Proper, fromIn}
-use Rattle.link.specs.Holdings.{someHeld}
+use Rattle.link.specs.Holdings.{someHeld, shifted}
 use Rattle.link.specs.Parts.{sizeOf, partAt, withFlows}
 use Rattle.link.specs.Reading.{linkOf}
 use Rattle.link.specs.Sound.{Sound}
@@ -80,7 +80,7 @@ module _ (l : Link) (s : Sound l) (i p n : ℕ) (tests : n ≡ firstOf (creditTe
 
   module _ (w : code.Window) (proper : Proper w) (is : windowOf w ≡ model.window (linkOf l)) (z : n ≡ 0) (c : Creditable (l .plan .count) w (l .held) i p) where
     -- what flow i holds then
-    abbrev pub lower : List ℕ
+    abbrev lower : List ℕ
     lower = replaced (fromIn (windowOf w) p) (λ q x. wrapped 255 x) (row (l .held) i)
 
     lower-is : lower ≡ replaced (fromIn (windowOf w) p) (λ q x. x - 1) (row (l .held) i)
@@ -99,5 +99,5 @@ module _ (l : Link) (s : Sound l) (i p n : ℕ) (tests : n ≡ firstOf (creditTe
         (ap (λ (x : model.Flow). x .remainder) (sym (read-flow l i (c .flow))))
         (read-from l s (windowOf w) is i p (c .flow) (λ x. x - 1) lower lower-is))
 
-    pub taken-credit : {h : List ℕ} → h ≡ withRow (l .held) i lower → Stepped answerToCredit (credit (linkOf l) i p) (record { link = withFlows l (l .flows) h; answer = Taken })
+    pub taken-credit : {h : List ℕ} → h ≡ shifted (windowOf w) 255 i p (l .held) → Stepped answerToCredit (credit (linkOf l) i p) (record { link = withFlows l (l .flows) h; answer = Taken })
     taken-credit e = rw (taken z, e, same-flows l i lower) (lower-link, (refl, sound-with-flow l s i (c .flow) _ long (sound-from l s (windowOf w) is i p (c .flow) (λ x. x - 1) lower lower-is _ _ (s .flows i (c .flow) .frame))))

@@ -15,24 +15,17 @@ use Rattle.model.specs.Plan as paper
 use Rattle.model.specs.Window.{Window, size}
 use Rattle.model.specs.Link as model
 use Rattle.plan.specs.Reading.{entryFor}
-use Rattle.calls.specs.declared.Answer.{Answer}
 use Rattle.link.specs.declared.Link.{Link}
 use Rattle.link.specs.Runs.{replaced}
 use Rattle.link.specs.Window.{Measures, fromIn}
 use Rattle.link.specs.Parts.{Part, sizeOf, entryAt, partAt, ownerAt, noFlow, withOwners}
 use Rattle.link.specs.Reading.{nobody, ownerOf, flowOf, linkOf}
 use Rattle.link.specs.Sound.{Sound, SoundFlow}
-use Rattle.link.specs.Change.{Stepped}
 use Rattle.link.proofs.Parts.{withFlow, movedTo, withHeld}
 use Rattle.link.proofs.Tables.{getD-table, table-same}
 use Rattle.link.proofs.Plans.{plan-count, plan-entry, count-most}
 use Rattle.link.proofs.Rows.{length-row, length-with-row, row-with-same, row-with-other}
 use Rattle.link.proofs.Runs.{length-replaced, replaced-at, replaced-off}
-
--- a call that leaves the link as it was
-pub unchanged : {A : Type 0} (toAnswer : A → Answer) (l : Link) (m : model.Step A) (a : A) → Sound l → m ≡ record { link = linkOf l; answer = a }
-    → Stepped toAnswer m (record { link = l; answer = toAnswer a })
-unchanged toAnswer l m a s e = rw e (refl, (refl, s))
 
 -- equal parts make equal flows
 pub same-flow : {j j′ c c′ : ℕ} {h h′ : List ℕ} → j ≡ j′ → c ≡ c′ → h ≡ h′

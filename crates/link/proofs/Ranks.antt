@@ -112,10 +112,6 @@ module _ (w : Window) (v : Proper w) where
   abbrev rankAt : ℕ → ℕ
   rankAt p = rank (windowOf w) p
 
-  -- a slot of a frame is a position
-  pub slot-below : {j s : ℕ} → j < w .frames → s < w .slots → j * w .slots + s < sizeOf w
-  slot-below {j} {s} h b = omega (arith, frame-fits (w .slots) (w .frames) j h)
-
   -- ---- the rank of a position
 
   pub rank-is : (p : ℕ) → rankAt p ≡ ahead (sizeOf w) (baseOf w) p

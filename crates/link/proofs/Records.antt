@@ -4,13 +4,12 @@ use mathlib.Core.Path.{_≡_, refl, sym, ap, _∙_}
 use mathlib.Core.List.{List}
 use mathlib.Core.Option.{Option}
 use native.Mathlib.Omega.{arith}
-use lib.ListN.{length, getD, take}
+use lib.ListN.{length, take}
 use lib.Seq.{sets, length-sets}
 use Rattle.link.specs.declared.Link.{Link}
 use Rattle.link.specs.declared.Step.{Step}
 use Rattle.link.specs.declared.Window.{Window}
 use Rattle.plan.specs.declared.Plan.{Plan}
-use Rattle.plan.specs.Reading.{noEntry}
 use Rattle.calls.specs.declared.Answer.{Answer}
 use Rattle.calls.specs.declared.Answer.the-variants.{Refused}
 use Rattle.calls.specs.declared.Record.{Record}
@@ -22,20 +21,17 @@ use Rattle.calls.proofs.Answers.{call-in, line-of-request, line-of-credit, line
 use Rattle.calls.specs.Lines.{outWith, nextAfter}
 use Rattle.model.specs.Calls as calls
 use Rattle.model.specs.Link as model
-use Rattle.model.specs.Window as model-window
+use Rattle.model.specs.Window as seen
 use Rattle.model.specs.Request.{request}
 use Rattle.model.specs.Credit.{credit}
 use Rattle.model.specs.Tick.{tick}
 use Rattle.model.specs.Listing.{lineOf, made, listing, linkAfter}
 use Rattle.link.specs.Window.{windowOf, Proper, Ticked}
-use Rattle.link.specs.Parts.{noFlow}
 use Rattle.link.specs.Reading.{linkOf}
 use Rattle.link.specs.Sound.{Sound}
-use Rattle.link.specs.Change.{Stepped, placed, Around, PartsOf}
+use Rattle.link.specs.Change.{Stepped}
 use Rattle.link.specs.Run.{playable, Played}
 use Rattle.link.proofs.Parts.{withCurrent}
-use Rattle.link.proofs.Links.{flows-most, read-window}
-use Rattle.link.proofs.Changes.{place-below}
 
 -- ---- what a record reads as
 
@@ -78,8 +74,8 @@ pub record Playing (plan : Plan) (w : Window) (link : Link) : Type 0 where
 
 pub playing-first : {w : Window} (link : Link) → windowOf w ≡ record { slots = link .plan .slots; frames = link .plan .frames; current = link .cp } → Proper w → Playing (link .plan) w link
 playing-first {w} link is v =
-    let slots = ap (λ (x : model-window.Window). x .slots) is in
-    let frames = ap (λ (x : model-window.Window). x .frames) is in
+    let slots = ap (λ (x : seen.Window). x .slots) is in
+    let frames = ap (λ (x : seen.Window). x .frames) is in
     record { plan-is = refl; window-is = λ k. record { slots = slots k; frames = frames k; current = w .current }; proper = v }
 
 module _ {plan : Plan} {w : Window} {link : Link} (p : Playing plan w link) where
@@ -88,22 +84,9 @@ module _ {plan : Plan} {w : Window} {link : Link} (p : Playing plan w link) wher
 
   pub playing-ticked : {on : Window} {link′ : Link} → Ticked w on → link′ .plan ≡ link .plan → Playing plan on link′
   playing-ticked {on} t e =
-      let slots = ap (λ (x : model-window.Window). x .slots) (t .window-is) ∙ ap (λ (x : model-window.Window). x .slots) (p .window-is) in
-      let frames = ap (λ (x : model-window.Window). x .frames) (t .window-is) ∙ ap (λ (x : model-window.Window). x .frames) (p .window-is) in
+      let slots = ap (λ (x : seen.Window). x .slots) (t .window-is) ∙ ap (λ (x : seen.Window). x .slots) (p .window-is) in
+      let frames = ap (λ (x : seen.Window). x .frames) (t .window-is) ∙ ap (λ (x : seen.Window). x .frames) (p .window-is) in
       record { plan-is = p .plan-is ∙ sym e; window-is = rw e (λ k. record { slots = slots k; frames = frames k; current = on .current }); proper = t .proper }
-
-  module _ (s : Sound (playedAt link w)) where
-    pub around-there : Around (playedAt link w) (plan .count) w (link .held)
-    around-there = record { sound = s; count-is = ap (λ (x : Plan). x .count) (p .plan-is); proper = p .proper; window-is = read-window (playedAt link w) (p .window-is); held-is = refl }
-
-    pub of-there : (i : ℕ) → PartsOf (playedAt link w) (plan .count) (getD (plan .entries) i noEntry) w (link .owner) (link .held) i (getD (link .flows) i noFlow)
-    of-there i = record { around = around-there; owner-is = refl; entry-is = ap (λ (x : Plan). getD (x .entries) i noEntry) (p .plan-is); flow-is = refl }
-
-    pub below-there : (i x : ℕ) → i ≡ placed (plan .count) x → i < 16
-    below-there i x e = place-below (playedAt link w) s i x (e ∙ ap (λ (y : Plan). placed (y .count) x) (p .plan-is))
-
-    pub flows-there : plan .count ≤ 16
-    flows-there = rw (p .plan-is) (flows-most (playedAt link w) s)
 
 -- what a record comes to
 pub record Came (l : model.Link) (o : Option calls.Call) (plan : Plan) (w : Window) (s : Step) : Type 0 where

@@ -11,7 +11,7 @@ use lib.Dec.{ltb}
 use borrow.Author.Tests.{lt-ltb, le-ltb}
 use Rattle.model.specs.Window.{everyFrom}
 use Rattle.link.specs.declared.Window.{Window}
-use Rattle.link.specs.Holdings.{someHeld, roomAt}
+use Rattle.link.specs.Holdings.{someHeld, roomAt, shifted}
 use Rattle.link.specs.Rows.{row, withRow}
 use Rattle.link.specs.Runs.{inRun, replaced, wrapped, All, LastIn}
 use Rattle.link.specs.Window.{windowOf, sizeOf, baseOf, Proper, fromIn}
@@ -143,7 +143,7 @@ module _ (w : Window) (v : Proper w) (p : ℕ) (lp : p < sizeOf w) where
     -- what is held moves from p on, and nowhere else
     pub shift-span : (by : ℕ) → ((q : ℕ) → q < sizeOf w → cond (inRun start (start + count) q) inner outer ≡ cond (fromIn (windowOf w) p q) by 0)
         → replaced (inRun (256 * i) (256 * i + sizeOf w)) (λ k x. wrapped (cond (inRun start (start + count) (k - 256 * i)) inner outer) x) h
-        ≡ withRow h i (replaced (fromIn (windowOf w) p) (λ q x. wrapped by x) (row h i))
+        ≡ shifted (windowOf w) by i p h
     shift-span by pad =
         replaced-in-row h i (sizeOf w) _ (λ q x. wrapped (cond (inRun start (start + count) q) inner outer) x) _ (v .measures .positions-most)
         (λ q x l. rw (pad q l) (go (fromIn (windowOf w) p q) x)) (from-past w v p lp)

@@ -12,11 +12,9 @@ use lib.Dec.{eqb}
 use borrow.Author.Tests.{eq-eqb, ne-eqb}
 use Rattle.model.specs.Tables.{table}
 use Rattle.model.specs.Plan as paper
-use Rattle.model.specs.Window.{Window as Seen}
+use Rattle.model.specs.Window as seen
 use Rattle.model.specs.Link as model
 use Rattle.model.specs.Tick as tick
-use Rattle.plan.specs.declared.Entry.{Entry}
-use Rattle.plan.specs.Reading.{noEntry}
 use Rattle.calls.specs.declared.Answer.{Answer}
 use Rattle.link.specs.declared.Flow.{Flow}
 use Rattle.link.specs.declared.Link.{Link}
@@ -29,7 +27,7 @@ use Rattle.link.specs.Parts.{Part, sizeOf, entryAt, partOf, partAt, owne
 use Rattle.link.specs.Reading.{nobody, ownerOf, flowOf, linkOf}
 use Rattle.calls.specs.Reading.{answerToTick}
 use Rattle.link.specs.Sound.{Sound, SoundFlow}
-use Rattle.link.proofs.Parts.{withCurrent, movedTo, withHeld}
+use Rattle.link.proofs.Parts.{withCurrent}
 use Rattle.link.proofs.Tables.{table-same}
 use Rattle.link.proofs.Runs.{in-run, before-run, past-run, length-replaced, replaced-at, replaced-off}
 use Rattle.link.proofs.Rows.{length-row, length-carried, row-carried, row-not-carried}
@@ -37,72 +35,54 @@ use Rattle.link.proofs.Ranks.{proper}
 use Rattle.link.specs.Change.{Stepped}
 use Rattle.link.proofs.Links.{same-flow, read-count, read-entry, read-flow, read-holding, read-owner, flows-most, size-most, measures}
 
--- ---- a flow's part at a frame change
-
--- the head frame and the next, the head's positions from `first` up to `past`, the last position of the window, and the plan's entries
-pub record Change : Type 0 where
-  pub head : ℕ
-  pub next : ℕ
-  pub first : ℕ
-  pub past : ℕ
-  pub last : ℕ
-  pub entries : List Entry
-
--- the holding at the last position goes on in the head's
-abbrev pub carried : Change → Part → Part
-carried g f = withHeld f (replaced (inRun (g .first) (g .past)) (λ q x. getD (f .held) (g .last) 0) (f .held))
-
--- and a flow in the head frame leaves it for the next, with its share
-abbrev pub changed : Change → ℕ → Part → Part
-changed g i f = cond (eqb (f .frame) (g .head)) (movedTo (carried g f) (g .next) (getD (g .entries) i noEntry .share)) (carried g f)
-
 -- ---- the link after a tick
 
-abbrev pub nextAt : Link → ℕ
+abbrev nextAt : Link → ℕ
 nextAt l = (l .cp + 1) % sizeOf l
 
-abbrev pub headAt : Link → ℕ
+abbrev headAt : Link → ℕ
 headAt l = l .cp / l .plan .slots
 
-abbrev pub baseAt : Link → ℕ
+abbrev baseAt : Link → ℕ
 baseAt l = headAt l * l .plan .slots
 
-abbrev pub lastAt : Link → ℕ
+abbrev lastAt : Link → ℕ
 lastAt l = (baseAt l + sizeOf l - 1) % sizeOf l
 
-abbrev pub changeAt : Link → Change
-changeAt l = record {
-  head = headAt l;
-  next = (headAt l + 1) % l .plan .frames;
-  first = baseAt l;
-  past = baseAt l + l .plan .slots;
-  last = lastAt l;
-  entries = l .plan .entries;
-}
+-- the frame that comes after the head
+abbrev onAt : Link → ℕ
+onAt l = (headAt l + 1) % l .plan .frames
 
-abbrev pub recycled : Link → Link
+abbrev recycled : Link → Link
 recycled l = record {
   plan = l .plan;
   cp = nextAt l;
   owner = replaced (inRun (baseAt l) (baseAt l + l .plan .slots)) (λ q x. nobody) (l .owner);
-  flows = replaced (inRun 0 (l .plan .count)) (λ i f. leftHead (headAt l) ((headAt l + 1) % l .plan .frames) (entryAt l i .share) f) (l .flows);
+  flows = replaced (inRun 0 (l .plan .count)) (λ i f. leftHead (headAt l) (onAt l) (entryAt l i .share) f) (l .flows);
   held = carriedRows (l .plan .count) (lastAt l) (baseAt l) (baseAt l + l .plan .slots) (l .held);
 }
+
+-- a flow's part after a frame change: it leaves the head frame with its share, and the holding at the last position goes on in the head's
+abbrev heldAfter : Link → ℕ → List ℕ
+heldAfter l i = replaced (inRun (baseAt l) (baseAt l + l .plan .slots)) (λ q x. getD (row (l .held) i) (lastAt l) 0) (row (l .held) i)
+
+abbrev partAfter : Link → ℕ → Part
+partAfter l i = partOf (leftHead (headAt l) (onAt l) (entryAt l i .share) (getD (l .flows) i noFlow)) (heldAfter l i)
 
 module _ (l : Link) (s : Sound l) where
   some-position : 0 < sizeOf l
   some-position = omega (arith, s .current)
 
-  pub next-below : nextAt l < sizeOf l
+  next-below : nextAt l < sizeOf l
   next-below = mod-lt _ some-position
 
-  pub last-below : lastAt l < sizeOf l
+  last-below : lastAt l < sizeOf l
   last-below = mod-lt _ some-position
 
-  pub head-below : headAt l < l .plan .frames
+  head-below : headAt l < l .plan .frames
   head-below = proper _ _ _ (measures l s) .head-below
 
-  pub base-fits : baseAt l + l .plan .slots ≤ sizeOf l
+  base-fits : baseAt l + l .plan .slots ≤ sizeOf l
   base-fits = proper _ _ _ (measures l s) .base-fits
 
   -- the head frame's positions
@@ -116,36 +96,29 @@ module _ (l : Link) (s : Sound l) where
 
   -- ---- a flow's part
 
-  flow-changed : (i : ℕ) → i < l .plan .count → partAt (recycled l) i ≡ changed (changeAt l) i (partAt l i)
-  flow-changed i h =
+  part-after : (i : ℕ) → i < l .plan .count → partAt (recycled l) i ≡ partAfter l i
+  part-after i h =
       let b = flows-most l s in
-      let e : getD (recycled l .flows) i noFlow ≡ leftHead (headAt l) ((headAt l + 1) % l .plan .frames) (entryAt l i .share) (getD (l .flows) i noFlow) =
+      let e : getD (recycled l .flows) i noFlow ≡ leftHead (headAt l) (onAt l) (entryAt l i .share) (getD (l .flows) i noFlow) =
       replaced-at _ _ (l .flows) i noFlow (omega (arith, s .flows-long)) ∙ rw (in-run 0 (l .plan .count) i (omega arith) h) in
       let last : lastAt l < 256 = omega (arith, last-below, size-most l s) in
       ap (λ (f : Flow). partOf f (row (recycled l .held) i)) e
       ∙ ap (partOf _) (row-carried (l .plan .count) (lastAt l) (baseAt l) (baseAt l + l .plan .slots) (l .held) i h (omega arith) (s .held-long) last)
-      ∙ either (eqb (getD (l .flows) i noFlow .frame) (headAt l))
-    where
-      either : (b : Bool)
-          → partOf (cond b (record { frame = (headAt l + 1) % l .plan .frames; left = entryAt l i .share }) (getD (l .flows) i noFlow)) (carried (changeAt l) (partAt l i) .held)
-          ≡ cond b (movedTo (carried (changeAt l) (partAt l i)) ((headAt l + 1) % l .plan .frames) (entryAt l i .share)) (carried (changeAt l) (partAt l i))
-      either true = refl
-      either false = refl
 
   spare-stays : (i : ℕ) → l .plan .count ≤ i → partAt (recycled l) i ≡ partAt l i
   spare-stays i h =
       let e : getD (recycled l .flows) i noFlow ≡ getD (l .flows) i noFlow = replaced-off _ _ (l .flows) i noFlow (past-run 0 (l .plan .count) i h) in
       rw (e, row-not-carried (l .plan .count) (lastAt l) (baseAt l) (baseAt l + l .plan .slots) (l .held) i h)
 
-  held-changed : (i : ℕ) → i < l .plan .count → table (sizeOf l) (λ q. getD (carried (changeAt l) (partAt l i) .held) q 0)
+  held-after : (i : ℕ) → i < l .plan .count → table (sizeOf l) (λ q. getD (heldAfter l i) q 0)
       ≡ table (sizeOf l) (λ q. cond (eqb (q / l .plan .slots) (headAt l)) (model.holding (linkOf l) i (lastAt l)) (model.holding (linkOf l) i q))
-  held-changed i h = table-same (sizeOf l) _ _ λ q b.
+  held-after i h = table-same (sizeOf l) _ _ λ q b.
       replaced-at _ _ (partAt l i .held) q 0 (omega (arith, length-row (l .held) i, size-most l s))
       ∙ rw (head-run q, read-holding l i q h b, read-holding l i (lastAt l) h last-below)
 
-  read-changed : (i : ℕ) → i < l .plan .count → flowOf (sizeOf l) (changed (changeAt l) i (partAt l i)) ≡ tick.carriedOn (linkOf l) i (tick.leftHead (linkOf l) i)
+  read-after : (i : ℕ) → i < l .plan .count → flowOf (sizeOf l) (partAfter l i) ≡ tick.carriedOn (linkOf l) i (tick.leftHead (linkOf l) i)
   unfolding linkOf
-  read-changed i h = rw injection (go (eqb (partAt l i .frame) (headAt l)))
+  read-after i h = rw injection (go (eqb (partAt l i .frame) (headAt l)))
     where
       injection : model.flow (linkOf l) i .injection ≡ partAt l i .frame
       injection = ap (λ (x : model.Flow). x .injection) (read-flow l i h)
@@ -156,10 +129,10 @@ module _ (l : Link) (s : Sound l) where
       share : model.share (linkOf l) i ≡ entryAt l i .share
       share = ap (λ (e : paper.Entry). e .share) (read-entry l i h)
 
-      go : (b : Bool) → flowOf (sizeOf l) (cond b (movedTo (carried (changeAt l) (partAt l i)) ((headAt l + 1) % l .plan .frames) (entryAt l i .share)) (carried (changeAt l) (partAt l i)))
-          ≡ tick.carriedOn (linkOf l) i (cond b (model.movedTo (model.flow (linkOf l) i) ((headAt l + 1) % l .plan .frames) (model.share (linkOf l) i)) (model.flow (linkOf l) i))
-      go true = same-flow refl (sym share) (held-changed i h)
-      go false = same-flow (sym injection) (sym remainder) (held-changed i h)
+      go : (b : Bool) → flowOf (sizeOf l) (partOf (cond b (record { frame = onAt l; left = entryAt l i .share }) (getD (l .flows) i noFlow)) (heldAfter l i))
+          ≡ tick.carriedOn (linkOf l) i (cond b (model.movedTo (model.flow (linkOf l) i) (onAt l) (model.share (linkOf l) i)) (model.flow (linkOf l) i))
+      go true = same-flow refl (sym share) (held-after i h)
+      go false = same-flow (sym injection) (sym remainder) (held-after i h)
 
   read-recycled : linkOf (recycled l) ≡ model.withCurrent (tick.recycled (linkOf l)) (nextAt l)
   unfolding linkOf tick.recycled
@@ -176,25 +149,22 @@ module _ (l : Link) (s : Sound l) where
 
       flows : table (l .plan .count) (λ i. flowOf (sizeOf l) (partAt (recycled l) i)) ≡ table (paper.flowCount (linkOf l .plan)) (λ i. tick.carriedOn (linkOf l) i (tick.leftHead (linkOf l) i))
       flows =
-          table-same (l .plan .count) _ (λ i. tick.carriedOn (linkOf l) i (tick.leftHead (linkOf l) i)) (λ i h. ap (flowOf (sizeOf l)) (flow-changed i h) ∙ read-changed i h)
+          table-same (l .plan .count) _ (λ i. tick.carriedOn (linkOf l) i (tick.leftHead (linkOf l) i)) (λ i h. ap (flowOf (sizeOf l)) (part-after i h) ∙ read-after i h)
           ∙ ap (λ (n : ℕ). table n (λ i. tick.carriedOn (linkOf l) i (tick.leftHead (linkOf l) i))) (sym (read-count l))
 
   read-advanced : nextAt l % l .plan .slots ≡ 0 → tick.advanced (linkOf l) ≡ linkOf (recycled l)
   unfolding tick.advanced linkOf
   read-advanced z = rw (eq-eqb (nextAt l % l .plan .slots) 0 z) (sym read-recycled)
 
-  sound-changed : (i : ℕ) → i < l .plan .count → SoundFlow (sizeOf l) (l .plan .frames) (changed (changeAt l) i (partAt l i))
-  sound-changed i h = go (eqb (partAt l i .frame) (headAt l))
+  sound-after : (i : ℕ) → i < l .plan .count → SoundFlow (sizeOf l) (l .plan .frames) (partAfter l i)
+  sound-after i h = record {
+    frame = go (eqb (partAt l i .frame) (headAt l));
+    spare = λ q k. replaced-off _ _ (partAt l i .held) q 0 (past-run _ _ q (omega (arith, base-fits))) ∙ s .flows i h .spare q k;
+  }
     where
-      part : (j c : ℕ) → j < l .plan .frames → SoundFlow (sizeOf l) (l .plan .frames) (movedTo (carried (changeAt l) (partAt l i)) j c)
-      part j c b = record {
-        frame = b;
-        spare = λ q k. replaced-off _ _ (partAt l i .held) q 0 (past-run _ _ q (omega (arith, base-fits))) ∙ s .flows i h .spare q k;
-      }
-
-      go : (b : Bool) → SoundFlow (sizeOf l) (l .plan .frames) (cond b (movedTo (carried (changeAt l) (partAt l i)) ((headAt l + 1) % l .plan .frames) (entryAt l i .share)) (carried (changeAt l) (partAt l i)))
-      go true = part _ _ (mod-lt _ (omega (arith, s .plan .accepted .two-frames)))
-      go false = part _ _ (s .flows i h .frame)
+      go : (b : Bool) → cond b (record { frame = onAt l; left = entryAt l i .share }) (getD (l .flows) i noFlow) .frame < l .plan .frames
+      go true = mod-lt _ (omega (arith, s .plan .accepted .two-frames))
+      go false = s .flows i h .frame
 
   sound-recycled : Sound (recycled l)
   sound-recycled = record {
@@ -205,7 +175,7 @@ module _ (l : Link) (s : Sound l) where
     spare-owners = λ q h b. replaced-off _ _ (l .owner) q 0 (past-run _ _ q (omega (arith, base-fits))) ∙ s .spare-owners q h b;
     flows-long = length-replaced _ _ (l .flows) ∙ s .flows-long;
     held-long = length-carried (l .plan .count) (lastAt l) (baseAt l) (baseAt l + l .plan .slots) (l .held) ∙ s .held-long;
-    flows = λ i h. rw (flow-changed i h) (sound-changed i h);
+    flows = λ i h. rw (part-after i h) (sound-after i h);
     spare-flows = λ i h b. spare-stays i h ∙ s .spare-flows i h b;
   }
     where
@@ -245,11 +215,11 @@ module _ (l : Link) (s : Sound l) where
   module _ {w on : Window} (is : window.windowOf w ≡ record { slots = l .plan .slots; frames = l .plan .frames; current = l .cp }) (v : window.Proper w) (t : window.Ticked w on) where
     window-is : w ≡ record { slots = l .plan .slots; frames = l .plan .frames; current = l .cp; head = headAt l }
     window-is =
-        let head = v .head-is ∙ ap (λ (x : Seen). x .current / x .slots) is in λ k.
+        let head = v .head-is ∙ ap (λ (x : seen.Window). x .current / x .slots) is in λ k.
         record { slots = is k .slots; frames = is k .frames; current = is k .current; head = head k }
 
     next-is : on .current ≡ nextAt l
-    next-is = ap (λ (x : Seen). x .current) (t .window-is) ∙ ap (λ (x : Window). (x .current + 1) % window.sizeOf x) window-is
+    next-is = ap (λ (x : seen.Window). x .current) (t .window-is) ∙ ap (λ (x : Window). (x .current + 1) % window.sizeOf x) window-is
 
     slots-are : w .slots ≡ l .plan .slots
     slots-are = ap (λ (x : Window). x .slots) window-is

@@ -1,4 +1,5 @@
 -- `link::Link::credit` meets its contract. Assumes nothing.
+use mathlib.Core.Path.{refl}
 use native.Mathlib.Omega.{arith}
 use Rattle.link.proofs.Links.{measures, flows-most, read-window}
 use Rattle.link.proofs.Changes.{around}
@@ -19,7 +20,7 @@ returns c =
     let r = c .before in
     let k = r .before .before .before in
     let s = k .before in
-    refused-credit (s .args .t1) (s .pre) _ _ _ (r .refusal .ensures .0 (s .args .t1) (around (s .args .t1) (s .pre) (k .window .ensures .0) (k .window .ensures .1))) (c .if1 .taken)
+    refused-credit (s .args .t1) (s .pre) _ _ _ (r .refusal .ensures .0 (s .args .t1) (around (s .args .t1) (s .pre) refl (k .window .ensures .0) (k .window .ensures .1))) (c .if1 .taken)
 
 shift-from-requires : tie.Need-shift-from-requires
 shift-from-requires c κs =
@@ -36,7 +37,7 @@ returns-2 c =
     let k = r .before .before .before in
     let s = k .before in
     let l = s .args .t1 in
-    taken-credit l (s .pre) _ _ _ (r .refusal .ensures .0 l (around l (s .pre) (k .window .ensures .0) (k .window .ensures .1))) _ (k .window .ensures .1) (read-window l (k .window .ensures .0)) (e .if1 .left)
+    taken-credit l (s .pre) _ _ _ (r .refusal .ensures .0 l (around l (s .pre) refl (k .window .ensures .0) (k .window .ensures .1))) _ (k .window .ensures .1) (read-window l (k .window .ensures .0)) (e .if1 .left)
     (r .refusal .ensures .1 (e .if1 .left)) (c .shift-from .ensures)
 
 pub credit-spec : {M : Type 1} → statement M

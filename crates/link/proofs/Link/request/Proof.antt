@@ -1,7 +1,7 @@
 -- `link::Link::request` meets its contract. Assumes nothing.
 use borrow.Author.Needs.{needs}
 use Prim.Native.Nat.{_<_}
-use mathlib.Core.Path.{subst}
+use mathlib.Core.Path.{refl, subst}
 use native.Mathlib.Omega.{arith}
 use Rattle.model.specs.Request as model
 use Rattle.calls.specs.Reading.{answerToRequest}
@@ -9,14 +9,14 @@ use Rattle.link.specs.Window.{sizeOf}
 use Rattle.link.specs.Reading.{linkOf}
 use Rattle.link.specs.Change.{Stepped, changed}
 use Rattle.link.proofs.Links.{measures, read-window}
-use Rattle.link.proofs.Changes.{place-below, of-flow, given, stored-booking, stored-flow}
+use Rattle.link.proofs.Changes.{place-below, parts-of, stored-booking, stored-flow}
 use Rattle.link.proofs.Link.request.Statement.{statement}
 use Rattle.link.proofs.Link.request.Tie as tie
 
 -- ---- what is known on the way
 
 asker-below : (c : tie.After-asker) → c .asker .result < 16
-asker-below c = place-below _ (c .before .before .pre) _ _ (c .asker .ensures)
+asker-below c = place-below _ (c .before .before .pre) refl _ _ (c .asker .ensures)
 
 -- where the flow is known, where the window is made, and where the function is entered
 abbrev asked-at : tie.After-window → tie.After-asker
@@ -36,7 +36,7 @@ position-below c = c .before .ask .ensures .1
 changed-is : (c : tie.After-flow2) → Stepped answerToRequest (model.request (linkOf (start (made-at c) .args .t1)) (start (made-at c) .args .word)) (changed (start (made-at c) .args .t1) (asked-at (made-at c) .asker .result) (c .before .ask .result))
 changed-is c =
     let w = made-at c in
-    c .before .ask .ensures .0 (start w .args .t1) (of-flow (start w .args .t1) (start w .pre) (w .window .ensures .0) (w .window .ensures .1) _)
+    c .before .ask .ensures .0 (start w .args .t1) (parts-of (start w .args .t1) (start w .pre) refl (w .window .ensures .0) (w .window .ensures .1) _)
 
 -- ---- the needs
 
@@ -61,7 +61,7 @@ window-requires c κs = measures _ (c .before .before .before .before .pre)
 ask-requires : tie.Need-ask-requires
 ask-requires c κs =
     let w = c .before .before .before in
-    (given (start w .args .t1) (start w .pre) (w .window .ensures .0) (w .window .ensures .1) _, asked-at w .asker .ensures)
+    (record { link = start w .args .t1; of = parts-of (start w .args .t1) (start w .pre) refl (w .window .ensures .0) (w .window .ensures .1) _ }, asked-at w .asker .ensures)
 
 mul-flow-2 : tie.Need-mul-flow-2
 mul-flow-2 c = omega (arith, asker-below (asked-at (made-at c)))

@@ -23,17 +23,17 @@ use Rattle.link.specs.declared.Window.{Window}
 use Rattle.link.specs.Runs.{inRun, replaced}
 use Rattle.link.specs.Rows.{carriedRows}
 use Rattle.link.specs.Window.{windowOf, sizeOf, baseOf}
-use Rattle.link.specs.Parts.{leftHead}
+use Rattle.link.specs.Parts.{noFlow, leftHead}
 use Rattle.link.specs.Reading.{linkOf}
 use Rattle.link.specs.Sound.{Sound}
-use Rattle.link.specs.Change.{Stepped, Creditable}
+use Rattle.link.specs.Change.{Stepped, Around, PartsOf, Creditable}
 use Rattle.link.specs.Run.{playable}
 use Rattle.link.proofs.Parts.{withCurrent}
-use Rattle.link.proofs.Changes.{stored-booking, stored-flow}
+use Rattle.link.proofs.Changes.{place-below, around, parts-of, stored-booking, stored-flow}
 use Rattle.link.proofs.Credits.{refused-credit, taken-credit}
-use Rattle.link.proofs.Links.{measures, read-window}
+use Rattle.link.proofs.Links.{measures, flows-most, read-window}
 use Rattle.link.proofs.Ticks.{head-stays, head-left, same-turn}
-use Rattle.link.proofs.Records.{reads-as, request-made, credit-made, tick-made, none-made, playedAt, Playing, playing-first, playing-on, playing-ticked, around-there, of-there, below-there, flows-there, Came, same-came, Going, reach, going-on, begun, ended, same-size}
+use Rattle.link.proofs.Records.{reads-as, request-made, credit-made, tick-made, none-made, playedAt, Playing, playing-first, playing-on, playing-ticked, Came, same-came, Going, reach, going-on, begun, ended, same-size}
 use Rattle.link.proofs.Link.run.Statement.{statement}
 use Rattle.link.proofs.Link.run.Tie as tie
 
@@ -72,6 +72,16 @@ module _ (c : tie.After-read Inv-loop μ-loop) where
   abbrev call-at : Option calls.Call
   call-at = callAt records-at (c .before .before .loop .at)
 
+  -- what is given of it
+  flows-at : plan-at .count ≤ 16
+  flows-at = rw (playing-at .plan-is) (flows-most now-at sound-at)
+
+  around-at : Around now-at (plan-at .count) window-at (link-at .held)
+  around-at = around now-at sound-at (playing-at .plan-is) (playing-at .window-is) (playing-at .proper)
+
+  parts-at : (i : ℕ) → PartsOf now-at (plan-at .count) (getD (plan-at .entries) i noEntry) window-at (link-at .owner) (link-at .held) i (getD (link-at .flows) i noFlow)
+  parts-at = parts-of now-at sound-at (playing-at .plan-is) (playing-at .window-is) (playing-at .proper)
+
 -- where a call is read
 abbrev read-at : tie.After-known-told Inv-loop μ-loop → tie.After-read Inv-loop μ-loop
 read-at c = c .before .before .before
@@ -88,7 +98,7 @@ abbrev asked-at : tie.After-asker Inv-loop μ-loop → tie.After-read Inv-loop �
 asked-at c = read-at (c .before .before .before .before)
 
 asker-below : (c : tie.After-asker Inv-loop μ-loop) → c .asker .result < 16
-asker-below c = below-there (playing-at (asked-at c)) (sound-at (asked-at c)) _ _ (c .asker .ensures)
+asker-below c = place-below (now-at (asked-at c)) (sound-at (asked-at c)) (playing-at (asked-at c) .plan-is) _ _ (c .asker .ensures)
 
 abbrev asker-at : tie.After-flow2 Inv-loop μ-loop → tie.After-asker Inv-loop μ-loop
 asker-at c = c .before .before .before .before .before .before .before
@@ -128,22 +138,22 @@ module _ (c : tie.At-match2-came Inv-loop μ-loop) where
       let v = p .proper in
       ⊎-elim
       (λ b. same-came (call-is (c .before) ∙ ap of-call (b .1 .given .1)) (b .14) (b .15) (b .16) (record {
-        comes = request-made (linkOf l) _ _ (subst (Stepped answerToRequest (model.request (linkOf l) _)) (stored-booking l _ (b .9 .result) w window-is (b .11 .taken) (b .13 .ensures)) (b .9 .ensures .0 l (of-there p s _)));
+        comes = request-made (linkOf l) _ _ (subst (Stepped answerToRequest (model.request (linkOf l) _)) (stored-booking l _ (b .9 .result) w window-is (b .11 .taken) (b .13 .ensures)) (b .9 .ensures .0 l (parts-at before-at _)));
         playing = playing-on p refl;
       }))
       (⊎-elim
       (λ b. same-came (call-is (c .before) ∙ ap of-call (b .1 .given .1)) (b .12) (b .13) (b .14) (record {
-        comes = request-made (linkOf l) _ _ (subst (Stepped answerToRequest (model.request (linkOf l) _)) (stored-flow l _ (b .9 .result) (b .11 .left)) (b .9 .ensures .0 l (of-there p s _)));
+        comes = request-made (linkOf l) _ _ (subst (Stepped answerToRequest (model.request (linkOf l) _)) (stored-flow l _ (b .9 .result) (b .11 .left)) (b .9 .ensures .0 l (parts-at before-at _)));
         playing = playing-on p refl;
       }))
       (⊎-elim
       (λ b. same-came (call-is (c .before) ∙ ap of-call (b .1 .given .1)) (b .7) (b .8) (b .9) (record {
-        comes = credit-made (linkOf l) _ _ _ (refused-credit l s _ _ _ (b .5 .ensures .0 l (around-there p s)) (b .6 .taken));
+        comes = credit-made (linkOf l) _ _ _ (refused-credit l s _ _ _ (b .5 .ensures .0 l (around-at before-at)) (b .6 .taken));
         playing = p;
       }))
       (⊎-elim
       (λ b. same-came (call-is (c .before) ∙ ap of-call (b .1 .given .1)) (b .9) (b .10) (b .11) (record {
-        comes = credit-made (linkOf l) _ _ _ (taken-credit l s _ _ _ (b .5 .ensures .0 l (around-there p s)) w v window-is (b .6 .left) (creditable (b .5 .ensures .1 (b .6 .left))) (b .8 .ensures));
+        comes = credit-made (linkOf l) _ _ _ (taken-credit l s _ _ _ (b .5 .ensures .0 l (around-at before-at)) w v window-is (b .6 .left) (creditable (b .5 .ensures .1 (b .6 .left))) (b .8 .ensures));
         playing = playing-on p refl;
       }))
       (λ b. same-came (call-is (c .before) ∙ ap of-call (b .1 .given .1)) (b .8) (b .9) (b .10) (record {
@@ -233,7 +243,7 @@ ask-requires : tie.Need-ask-requires Inv-loop μ-loop
 ask-requires c κs =
     let i = c .before .before .before .before .before in
     let a = asked-at i in
-    (record { link = now-at a; of = of-there (playing-at a) (sound-at a) _ }, i .asker .ensures)
+    (record { link = now-at a; of = parts-at a _ }, i .asker .ensures)
 
 mul-flow-2 : tie.Need-mul-flow-2 Inv-loop μ-loop
 mul-flow-2 c = omega (arith, asker-below (asker-at c))
@@ -258,14 +268,14 @@ enum-known-call-3 c = search needs
 refusal-requires : tie.Need-refusal-requires Inv-loop μ-loop
 refusal-requires c κs =
     let a = read-at (c .before .before .before .before .before) in
-    (playing-at a .proper, flows-there (playing-at a) (sound-at a))
+    (playing-at a .proper, flows-at a)
 
 shift-from-requires-2 : tie.Need-shift-from-requires-2 Inv-loop μ-loop
 shift-from-requires-2 c κs =
     let r = c .before .before in
     let a = credited-at r in
     let d = r .refusal .ensures .1 (c .before .if2 .left) in
-    (playing-at a .proper, d .position, omega (arith, d .flow, flows-there (playing-at a) (sound-at a)))
+    (playing-at a .proper, d .position, omega (arith, d .flow, flows-at a))
 
 enum-told-2 : tie.Need-enum-told-2 Inv-loop μ-loop
 enum-told-2 c = search needs
@@ -279,12 +289,12 @@ empty-head-requires c κs = playing-at (ticked-at (c .before .before)) .proper
 carry-head-requires : tie.Need-carry-head-requires Inv-loop μ-loop
 carry-head-requires c κs =
     let a = ticked-at (c .before .before .before .before) in
-    (playing-at a .proper, flows-there (playing-at a) (sound-at a))
+    (playing-at a .proper, flows-at a)
 
 leave-head-requires : tie.Need-leave-head-requires Inv-loop μ-loop
 leave-head-requires c κs =
     let a = ticked-at (c .before .before .before .before .before .before) in
-    flows-there (playing-at a) (sound-at a)
+    flows-at a
 
 element-copy-out-owner : tie.Need-element-copy-out-owner Inv-loop μ-loop
 element-copy-out-owner c = let m = c .before .before .before .ticked .ensures .proper .measures in omega (arith, m .current-below, m .positions-most)
