@@ -16,9 +16,9 @@ use Rattle.link.specs.declared.change.Change.{Change}
 use Rattle.link.specs.declared.Flow.{Flow}
 use Rattle.link.specs.declared.Link.{Link}
 use Rattle.link.specs.declared.Step.{Step}
-use Rattle.link.specs.declared.Window.{Window}
+use Rattle.window.specs.declared.Window.{Window}
 use Rattle.link.specs.Rows.{row, withRow}
-use Rattle.link.specs.Window.{windowOf, Proper}
+use Rattle.window.specs.Window.{windowOf, Proper}
 use Rattle.link.specs.Holdings.{shifted}
 use Rattle.link.specs.Parts.{partAt, noFlow, partOf, withOwners, withFlows}
 use Rattle.link.specs.Reading.{linkOf}

@@ -14,18 +14,18 @@ use Rattle.model.specs.Credit.{creditTests, credit, creditAfter, lowered}
 use Rattle.calls.specs.declared.Answer.the-variants.{Taken, Refused}
 use Rattle.calls.specs.Reading.{answerToCredit}
 use Rattle.link.specs.declared.Link.{Link}
-use Rattle.link.specs.declared.Window as code
-use Rattle.link.specs.Runs.{replaced, wrapped}
+use Rattle.window.specs.declared.Window as code
+use Rattle.window.specs.Runs.{replaced, wrapped}
 use Rattle.link.specs.Rows.{row}
-use Rattle.link.specs.Window.{windowOf, Proper, fromIn}
+use Rattle.window.specs.Window.{windowOf, Proper, fromIn}
 use Rattle.link.specs.Holdings.{someHeld, shifted}
 use Rattle.link.specs.Parts.{sizeOf, partAt, withFlows}
 use Rattle.link.specs.Reading.{linkOf}
 use Rattle.link.specs.Sound.{Sound}
 use Rattle.link.specs.Change.{Stepped, Creditable}
 use Rattle.link.proofs.Parts.{withFlow, withHeld}
-use Rattle.link.proofs.Runs.{wrapped-down}
-use Rattle.link.proofs.Ranks.{everyFrom-same, replaced-from}
+use Rattle.window.proofs.Runs.{wrapped-down}
+use Rattle.window.proofs.Ranks.{everyFrom-same, replaced-from}
 use Rattle.link.proofs.Links.{same-flow, read-count, read-flow, read-holding, read-with-flow, sound-with-flow, read-from, long-from, sound-from}
 use Rattle.link.proofs.Changes.{same-flows}
 

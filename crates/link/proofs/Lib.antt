@@ -1,8 +1,5 @@
-pub mod Tables
 pub mod Parts
-pub mod Runs
 pub mod Rows
-pub mod Ranks
 pub mod Spans
 pub mod Searches
 pub mod Plans

@@ -16,16 +16,16 @@ use Rattle.model.specs.Window.{Window, size}
 use Rattle.model.specs.Link as model
 use Rattle.plan.specs.Reading.{entryFor}
 use Rattle.link.specs.declared.Link.{Link}
-use Rattle.link.specs.Runs.{replaced}
-use Rattle.link.specs.Window.{Measures, fromIn}
+use Rattle.window.specs.Runs.{replaced}
+use Rattle.window.specs.Window.{Measures, fromIn}
 use Rattle.link.specs.Parts.{Part, sizeOf, entryAt, partAt, ownerAt, noFlow, withOwners}
 use Rattle.link.specs.Reading.{nobody, ownerOf, flowOf, linkOf}
 use Rattle.link.specs.Sound.{Sound, SoundFlow}
 use Rattle.link.proofs.Parts.{withFlow, movedTo, withHeld}
-use Rattle.link.proofs.Tables.{getD-table, table-same}
+use Rattle.window.proofs.Tables.{getD-table, table-same}
 use Rattle.link.proofs.Plans.{plan-count, plan-entry, count-most}
 use Rattle.link.proofs.Rows.{length-row, length-with-row, row-with-same, row-with-other}
-use Rattle.link.proofs.Runs.{length-replaced, replaced-at, replaced-off}
+use Rattle.window.proofs.Runs.{length-replaced, replaced-at, replaced-off}
 
 -- equal parts make equal flows
 pub same-flow : {j j′ c c′ : ℕ} {h h′ : List ℕ} → j ≡ j′ → c ≡ c′ → h ≡ h′

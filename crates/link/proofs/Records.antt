@@ -8,7 +8,7 @@ use lib.ListN.{length, take}
 use lib.Seq.{sets, length-sets}
 use Rattle.link.specs.declared.Link.{Link}
 use Rattle.link.specs.declared.Step.{Step}
-use Rattle.link.specs.declared.Window.{Window}
+use Rattle.window.specs.declared.Window.{Window}
 use Rattle.plan.specs.declared.Plan.{Plan}
 use Rattle.calls.specs.declared.Answer.{Answer}
 use Rattle.calls.specs.declared.Answer.the-variants.{Refused}
@@ -26,7 +26,7 @@ use Rattle.model.specs.Request.{request}
 use Rattle.model.specs.Credit.{credit}
 use Rattle.model.specs.Tick.{tick}
 use Rattle.model.specs.Listing.{lineOf, made, listing, linkAfter}
-use Rattle.link.specs.Window.{windowOf, Proper, Ticked}
+use Rattle.window.specs.Window.{windowOf, Proper, Ticked}
 use Rattle.link.specs.Reading.{linkOf}
 use Rattle.link.specs.Sound.{Sound}
 use Rattle.link.specs.Change.{Stepped}

@@ -9,10 +9,10 @@ use lib.ListN.{length, getD}
 use lib.Dec.{ltb}
 use lib.Seq.{ext-getD}
 use borrow.Author.Tests.{lt-ltb, le-ltb}
-use Rattle.link.specs.Runs.{inRun, replaced}
+use Rattle.window.specs.Runs.{inRun, replaced}
 use Rattle.link.specs.Rows.{row, sixteenRows, withRow, carriedRows}
-use Rattle.link.proofs.Tables.{getD-table, length-table, table-same, table-of}
-use Rattle.link.proofs.Runs.{in-run, before-run, past-run, length-replaced, replaced-at, replaced-off}
+use Rattle.window.proofs.Tables.{getD-table, length-table, table-same, table-of}
+use Rattle.window.proofs.Runs.{in-run, before-run, past-run, length-replaced, replaced-at, replaced-off}
 
 pub length-row : (h : List ℕ) (i : ℕ) → length (row h i) ≡ 256
 unfolding row

@@ -13,11 +13,11 @@ use borrow.Author.Tests.{le-leb, lt-leb, eq-eqb, ne-eqb}
 use Rattle.model.specs.Tables.{firstFrom}
 use Rattle.model.specs.Window as model
 use Rattle.model.specs.Request.{Found, found, nowhere, earliest, orElse, search}
-use Rattle.link.specs.declared.Window.{Window}
+use Rattle.window.specs.declared.Window.{Window}
 use Rattle.link.specs.Reading.{nobody}
-use Rattle.link.specs.Window.{windowOf, Proper}
+use Rattle.window.specs.Window.{windowOf, Proper}
 use Rattle.link.specs.Search.{freeFrom, Earliest}
-use Rattle.link.proofs.Ranks.{frame-fits, rank-slot}
+use Rattle.window.proofs.Ranks.{frame-fits, rank-slot}
 
 -- ---- the walk over the slots of a frame: of the n positions from a on, the first s have failed
 

@@ -10,14 +10,14 @@ use lib.ListN.{length, getD}
 use lib.Dec.{ltb}
 use borrow.Author.Tests.{lt-ltb, le-ltb}
 use Rattle.model.specs.Window.{everyFrom}
-use Rattle.link.specs.declared.Window.{Window}
+use Rattle.window.specs.declared.Window.{Window}
 use Rattle.link.specs.Holdings.{someHeld, roomAt, shifted}
 use Rattle.link.specs.Rows.{row, withRow}
-use Rattle.link.specs.Runs.{inRun, replaced, wrapped, All, LastIn}
-use Rattle.link.specs.Window.{windowOf, sizeOf, baseOf, Proper, fromIn}
-use Rattle.link.proofs.Ranks.{from-high, from-low, from-past, all-from}
+use Rattle.window.specs.Runs.{inRun, replaced, wrapped, All, LastIn}
+use Rattle.window.specs.Window.{windowOf, sizeOf, baseOf, Proper, fromIn}
+use Rattle.window.proofs.Ranks.{from-high, from-low, from-past, all-from}
 use Rattle.link.proofs.Rows.{length-row, row-at, with-row-is}
-use Rattle.link.proofs.Runs.{in-run, before-run, past-run, wrapped-not, length-replaced, replaced-at, replaced-off, all-miss, all-pass}
+use Rattle.window.proofs.Runs.{in-run, before-run, past-run, wrapped-not, length-replaced, replaced-at, replaced-off, all-miss, all-pass}
 
 -- ---- a span of `count` places from `start` on
 

@@ -14,7 +14,7 @@ use Rattle.link.specs.declared.Link.{Link}
 use Rattle.link.specs.Parts.{Part, sizeOf, partAt, ownerAt, noFlow}
 use Rattle.link.specs.Reading.{nobody, ownerOf, flowOf, linkOf, everywhere, storedOwner, stored}
 use Rattle.link.specs.Sound.{Sound, SoundFlow}
-use Rattle.link.proofs.Tables.{getD-table, table-past, table-of}
+use Rattle.window.proofs.Tables.{getD-table, table-past, table-of}
 use Rattle.link.proofs.Rows.{row-at}
 use Rattle.link.proofs.Plans.{stored-plan}
 use Rattle.link.proofs.Links.{read-flow, read-owner}

@@ -13,9 +13,9 @@ use Rattle.link.specs.declared.change.Change.{Change}
 use Rattle.link.specs.declared.Flow.{Flow}
 use Rattle.link.specs.declared.Link.{Link}
 use Rattle.link.specs.declared.Step.{Step}
-use Rattle.link.specs.declared.Window.{Window}
+use Rattle.window.specs.declared.Window.{Window}
 use Rattle.link.specs.Rows.{row}
-use Rattle.link.specs.Window.{windowOf, sizeOf, Proper}
+use Rattle.window.specs.Window.{windowOf, sizeOf, Proper}
 use Rattle.link.specs.Holdings.{someHeld, shifted}
 use Rattle.link.specs.Parts.{noFlow, entryAt, withOwners, withFlows}
 use Rattle.link.specs.Reading.{linkOf}

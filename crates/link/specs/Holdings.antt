@@ -5,9 +5,9 @@ use mathlib.Core.Bool.{Bool}
 use lib.ListN.{getD}
 use lib.Dec.{ltb}
 use Rattle.model.specs.Window.{Window}
-use Rattle.link.specs.Runs.{replaced, wrapped}
+use Rattle.window.specs.Runs.{replaced, wrapped}
 use Rattle.link.specs.Rows.{row, withRow}
-use Rattle.link.specs.Window.{fromIn}
+use Rattle.window.specs.Window.{fromIn}
 
 -- something is held at place q
 abbrev pub someHeld : List ℕ → ℕ → Bool

@@ -1,6 +1,4 @@
-pub mod Runs
 pub mod Rows
-pub mod Window
 pub mod Holdings
 pub mod Parts
 pub mod Reading

@@ -5,7 +5,7 @@ use mathlib.Core.Bool.{_&&_}
 use lib.ListN.{getD}
 use lib.Dec.{ltb}
 use Rattle.model.specs.Tables.{table}
-use Rattle.link.specs.Runs.{inRun, replaced}
+use Rattle.window.specs.Runs.{inRun, replaced}
 
 unfoldable pub row : List ℕ → ℕ → List ℕ
 row h i = table 256 (λ p. getD h (256 * i + p) 0)

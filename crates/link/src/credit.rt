@@ -6,16 +6,16 @@ ghost use Rattle.model.specs.Credit as model;
 ghost use Rattle.calls.specs.Reading.{answerToCredit};
 ghost use Rattle.link.specs.Reading.{linkOf};
 ghost use Rattle.link.specs.Sound.{Sound};
-ghost use Rattle.link.specs.Window.{Proper};
+ghost use Rattle.window.specs.Window.{Proper};
 ghost use Rattle.link.specs.declared.Link.{Link};
 ghost use Rattle.link.specs.Change.{Around, Creditable};
 use crate::Answer;
 use crate::Link;
 use crate::Step;
-use crate::Window;
 use crate::holdings::held_from;
 use crate::holdings::shift_from;
-use crate::positions::window;
+use window::Window;
+use window::positions::window;
 
 // The refusal of a credit, and 0 where it is taken: n flows, the window, and what each flow holds.
 pub(crate) fn refusal(

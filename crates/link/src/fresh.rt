@@ -4,7 +4,7 @@ ghost use Prim.Native.Nat.{_≤_};
 ghost use lib.ListN.{getD, replicate};
 ghost use Rattle.plan.specs.Reading.{Valid, planFor, noEntry};
 ghost use Rattle.model.specs.Fresh as model;
-ghost use Rattle.link.specs.Runs.{inRun, replaced};
+ghost use Rattle.window.specs.Runs.{inRun, replaced};
 ghost use Rattle.link.specs.Rows.{sixteenRows};
 ghost use Rattle.link.specs.Parts.{noFlow};
 ghost use Rattle.link.specs.Reading.{everywhere, nobody, linkOf};

@@ -7,17 +7,17 @@ ghost use Prim.Native.Nat.{ℕ, _+_, _-_, _≤_, _<_, max};
 ghost use lib.Dec.{leb, ltb};
 ghost use lib.ListN.{getD};
 ghost use Rattle.model.specs.Window as model;
-ghost use Rattle.link.specs.Runs.{inRun, replaced, wrapped, All, LastIn};
-ghost use Rattle.link.specs.Window.{windowOf, sizeOf, Proper};
+ghost use Rattle.window.specs.Runs.{inRun, replaced, wrapped, All, LastIn};
+ghost use Rattle.window.specs.Window.{windowOf, sizeOf, Proper};
 ghost use Rattle.link.specs.Rows.{row};
 ghost use Rattle.link.specs.Holdings.{someHeld, roomAt, shifted};
-use crate::Window;
-use crate::numbers::chosen;
-use crate::numbers::larger_byte;
-use crate::numbers::moved;
-use crate::numbers::on_by_one;
-use crate::numbers::smaller_byte;
-use crate::numbers::to_zero;
+use window::Window;
+use window::numbers::chosen;
+use window::numbers::larger_byte;
+use window::numbers::moved;
+use window::numbers::on_by_one;
+use window::numbers::smaller_byte;
+use window::numbers::to_zero;
 
 // One value at every place of the run from a to e.
 pub(crate) fn fill(held: &mut [u8; 4096], value: u8, a: usize, e: usize)

@@ -1,6 +1,4 @@
 // One link of a plan: its current position, the owner of each position, each flow's frame and remainder, and what each flow holds.
-mod positions; // positions and frames, going round
-mod numbers; // the smaller, the larger, and sums modulo 256
 mod holdings; // what each flow holds at each position
 mod search; // the search for a position to book
 mod change; // what a request changes
@@ -33,14 +31,6 @@ pub struct Link {
 pub struct Step {
     pub link: Link,
     pub answer: Answer,
-}
-
-// The window of a call: F, W and CP, and the head frame.
-struct Window {
-    slots: usize,
-    frames: usize,
-    current: usize,
-    head: usize,
 }
 
 // What a search comes to: the frame, the remainder and the position to book; or no position, and the remainder.

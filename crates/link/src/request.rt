@@ -13,7 +13,7 @@ ghost use Rattle.calls.specs.Reading.{answerToRequest};
 ghost use Rattle.link.specs.declared.Link.{Link};
 ghost use Rattle.link.specs.Reading.{linkOf};
 ghost use Rattle.link.specs.Sound.{Sound};
-ghost use Rattle.link.specs.Window.{sizeOf};
+ghost use Rattle.window.specs.Window.{sizeOf};
 ghost use Rattle.link.specs.Change as change;
 ghost use Rattle.link.specs.Change.{Given, PartsOf, changed, Stepped};
 use crate::Answer;
@@ -21,15 +21,15 @@ use crate::Flow;
 use crate::Found;
 use crate::Link;
 use crate::Step;
-use crate::Window;
 use crate::change::Change;
 use crate::change::placed;
 use crate::change::refused;
 use crate::holdings::shift_from;
-use crate::positions::window;
 use crate::search::search;
 use crate::search::valid_rank;
 use plan::Entry;
+use window::Window;
+use window::positions::window;
 
 // The refusal of a word by its own tests, and 0 where it passes them: n flows, the entry of the word's flow (of flow 0 where there is none), and T.
 fn refusal(count: usize, e: Entry, size: usize, word: u32) -> u8

@@ -6,8 +6,6 @@ ghost use Rattle.link.specs.Run.{Played};
 use crate::Link;
 use crate::credit::refusal;
 use crate::holdings::shift_from;
-use crate::numbers::smaller;
-use crate::positions::window;
 use crate::request::ask;
 use crate::request::asker;
 use crate::tick::carry_head;
@@ -19,6 +17,8 @@ use calls::Call;
 use calls::LONGEST_LINE;
 use calls::RECORD;
 use calls::Record;
+use window::numbers::smaller;
+use window::positions::window;
 
 // A link after some records, and how many bytes the records and their lines have.
 pub struct Run {

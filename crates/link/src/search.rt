@@ -7,21 +7,21 @@ ghost use lib.ListN.{getD};
 ghost use Rattle.model.specs.Tables as tables;
 ghost use Rattle.model.specs.Window as model;
 ghost use Rattle.model.specs.Request as request;
-ghost use Rattle.link.specs.Window.{windowOf, sizeOf, Proper};
+ghost use Rattle.window.specs.Window.{windowOf, sizeOf, Proper};
 ghost use Rattle.link.specs.Reading.{nobody};
 ghost use Rattle.link.specs.Rows.{row};
 ghost use Rattle.link.specs.Holdings.{roomAt};
 ghost use Rattle.link.specs.Search.{foundOf, freeFrom, Earliest};
 use crate::Found;
-use crate::Window;
 use crate::holdings::room_rank;
-use crate::numbers::larger;
-use crate::numbers::narrow;
-use crate::numbers::over;
-use crate::numbers::smaller;
-use crate::numbers::smaller_byte;
-use crate::positions::ahead;
-use crate::positions::next;
+use window::Window;
+use window::numbers::larger;
+use window::numbers::narrow;
+use window::numbers::over;
+use window::numbers::smaller;
+use window::numbers::smaller_byte;
+use window::positions::ahead;
+use window::positions::next;
 
 // The rank from which on a position is valid for a flow if nobody booked it: it is late enough, and there is room from it on.
 pub(crate) fn valid_rank(held: &[u8; 4096], i: usize, cells: u8, w: Window) -> usize

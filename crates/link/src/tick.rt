@@ -5,9 +5,9 @@ ghost use lib.ListN.{getD};
 ghost use Rattle.model.specs.Tick as model;
 ghost use Rattle.plan.specs.Reading.{noEntry};
 ghost use Rattle.calls.specs.Reading.{answerToTick};
-ghost use Rattle.link.specs.Runs.{inRun, replaced};
+ghost use Rattle.window.specs.Runs.{inRun, replaced};
 ghost use Rattle.link.specs.Rows.{carriedRows};
-ghost use Rattle.link.specs.Window.{sizeOf, baseOf, Proper};
+ghost use Rattle.window.specs.Window.{sizeOf, baseOf, Proper};
 ghost use Rattle.link.specs.Parts.{leftHead};
 ghost use Rattle.link.specs.Reading.{nobody, linkOf, ownerOf};
 ghost use Rattle.link.specs.Sound.{Sound};
@@ -15,11 +15,11 @@ use crate::Answer;
 use crate::Flow;
 use crate::Link;
 use crate::Step;
-use crate::Window;
 use crate::holdings::fill;
-use crate::positions::before;
-use crate::positions::window;
 use plan::Plan;
+use window::Window;
+use window::positions::before;
+use window::positions::window;
 
 // The answer at a position with this owner.
 pub(crate) fn turn(owner: u8) -> Answer

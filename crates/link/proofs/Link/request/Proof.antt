@@ -5,7 +5,7 @@ use mathlib.Core.Path.{refl, subst}
 use native.Mathlib.Omega.{arith}
 use Rattle.model.specs.Request as model
 use Rattle.calls.specs.Reading.{answerToRequest}
-use Rattle.link.specs.Window.{sizeOf}
+use Rattle.window.specs.Window.{sizeOf}
 use Rattle.link.specs.Reading.{linkOf}
 use Rattle.link.specs.Change.{Stepped, changed}
 use Rattle.link.proofs.Links.{measures, read-window}

@@ -19,10 +19,10 @@ use Rattle.model.specs.Request as model
 use Rattle.model.specs.Window as seen
 use Rattle.calls.specs.Lines.{outWith, nextAfter}
 use Rattle.link.specs.declared.Link.{Link}
-use Rattle.link.specs.declared.Window.{Window}
-use Rattle.link.specs.Runs.{inRun, replaced}
+use Rattle.window.specs.declared.Window.{Window}
+use Rattle.window.specs.Runs.{inRun, replaced}
 use Rattle.link.specs.Rows.{carriedRows}
-use Rattle.link.specs.Window.{windowOf, sizeOf, baseOf}
+use Rattle.window.specs.Window.{windowOf, sizeOf, baseOf}
 use Rattle.link.specs.Parts.{noFlow, leftHead}
 use Rattle.link.specs.Reading.{linkOf}
 use Rattle.link.specs.Sound.{Sound}

@@ -6,7 +6,7 @@ use mathlib.Core.List.{List}
 use native.Mathlib.Omega.{arith}
 use Rattle.model.specs.Window as model
 use Rattle.link.specs.declared.Link.{Link}
-use Rattle.link.specs.Window.{windowOf}
+use Rattle.window.specs.Window.{windowOf}
 use Rattle.link.specs.Holdings.{someHeld}
 use Rattle.link.specs.Rows.{row}
 use Rattle.link.specs.Parts.{sizeOf}

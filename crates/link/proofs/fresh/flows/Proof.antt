@@ -5,9 +5,9 @@ use mathlib.Core.Path.{_≡_, refl}
 use native.Mathlib.Omega.{arith}
 use lib.ListN.{getD, replicate}
 use Rattle.plan.specs.Reading.{noEntry}
-use Rattle.link.specs.Runs.{inRun, replaced}
+use Rattle.window.specs.Runs.{inRun, replaced}
 use Rattle.link.specs.Parts.{noFlow}
-use Rattle.link.proofs.Runs.{replaced-none, replaced-more, replaced-done}
+use Rattle.window.proofs.Runs.{replaced-none, replaced-more, replaced-done}
 use Rattle.link.proofs.fresh.flows.Statement.{statement}
 use Rattle.link.proofs.fresh.flows.Tie as tie
 

@@ -4,8 +4,8 @@ use Prim.Native.Nat.{ℕ, _-_, _%_, _≤_}
 use mathlib.Core.Path.{_≡_, refl}
 use native.Mathlib.Omega.{arith}
 use lib.ListN.{length, getD, length-replicate}
-use Rattle.link.specs.Runs.{inRun, replaced}
-use Rattle.link.proofs.Runs.{replaced-none, replaced-more, replaced-done}
+use Rattle.window.specs.Runs.{inRun, replaced}
+use Rattle.window.proofs.Runs.{replaced-none, replaced-more, replaced-done}
 use Rattle.link.proofs.Rows.{sixteen-done}
 use Rattle.link.proofs.fresh.rows.Statement.{statement}
 use Rattle.link.proofs.fresh.rows.Tie as tie

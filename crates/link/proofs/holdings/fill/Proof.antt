@@ -3,8 +3,8 @@ use borrow.Author.Needs.{needs}
 use Prim.Native.Nat.{_-_, _≤_}
 use mathlib.Core.Path.{_≡_, refl}
 use native.Mathlib.Omega.{arith}
-use Rattle.link.specs.Runs.{inRun, replaced}
-use Rattle.link.proofs.Runs.{replaced-none, replaced-more, replaced-done}
+use Rattle.window.specs.Runs.{inRun, replaced}
+use Rattle.window.proofs.Runs.{replaced-none, replaced-more, replaced-done}
 use Rattle.link.proofs.holdings.fill.Statement.{statement}
 use Rattle.link.proofs.holdings.fill.Tie as tie
 

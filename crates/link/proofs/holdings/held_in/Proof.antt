@@ -6,8 +6,8 @@ use mathlib.Core.Bool.{cond}
 use native.Mathlib.Omega.{arith}
 use lib.ListN.{getD}
 use lib.Dec.{ltb}
-use Rattle.link.specs.Runs.{inRun, All}
-use Rattle.link.proofs.Runs.{all-none, all-done}
+use Rattle.window.specs.Runs.{inRun, All}
+use Rattle.window.proofs.Runs.{all-none, all-done}
 use Rattle.link.proofs.Spans.{pad-is, next-place, all-least}
 use Rattle.link.proofs.holdings.held_in.Statement.{statement}
 use Rattle.link.proofs.holdings.held_in.Tie as tie

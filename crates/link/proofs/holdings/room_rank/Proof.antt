@@ -3,8 +3,8 @@ use borrow.Author.Needs.{needs}
 use Prim.Native.Nat.{_+_, _-_, _*_}
 use mathlib.Core.Path.{_≡_, refl}
 use native.Mathlib.Omega.{arith}
-use Rattle.link.specs.Window.{sizeOf, baseOf}
-use Rattle.link.proofs.Ranks.{rank-from, from-all, from-last-low, from-last-high}
+use Rattle.window.specs.Window.{sizeOf, baseOf}
+use Rattle.window.proofs.Ranks.{rank-from, from-all, from-last-low, from-last-high}
 use Rattle.link.proofs.Spans.{all-room, last-room}
 use Rattle.link.proofs.holdings.room_rank.Statement.{statement}
 use Rattle.link.proofs.holdings.room_rank.Tie as tie

@@ -5,8 +5,8 @@ use mathlib.Core.Path.{_≡_, ap, _∙_}
 use mathlib.Core.Bool.{cond}
 use native.Mathlib.Omega.{arith}
 use lib.ListN.{getD}
-use Rattle.link.specs.Runs.{inRun, replaced, wrapped}
-use Rattle.link.proofs.Runs.{replaced-none, replaced-more, replaced-done}
+use Rattle.window.specs.Runs.{inRun, replaced, wrapped}
+use Rattle.window.proofs.Runs.{replaced-none, replaced-more, replaced-done}
 use Rattle.link.proofs.Spans.{pad-is, next-place}
 use Rattle.link.proofs.holdings.shift.Statement.{statement}
 use Rattle.link.proofs.holdings.shift.Tie as tie

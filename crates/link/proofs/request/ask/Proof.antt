@@ -20,16 +20,16 @@ use Rattle.model.specs.Request.{found, sought, answered, request}
 use Rattle.calls.specs.Reading.{answerToRequest}
 use Rattle.link.specs.declared.Flow.{Flow}
 use Rattle.link.specs.declared.Link.{Link}
-use Rattle.link.specs.Runs.{replaced, wrapped}
+use Rattle.window.specs.Runs.{replaced, wrapped}
 use Rattle.link.specs.Rows.{row}
 use Rattle.link.specs.Parts.{sizeOf, entryAt}
 use Rattle.link.specs.Holdings.{roomAt}
 use Rattle.link.specs.Reading.{linkOf}
 use Rattle.link.specs.Search.{foundOf, freeFrom}
-use Rattle.link.specs.Window.{windowOf, fromIn}
+use Rattle.window.specs.Window.{windowOf, fromIn}
 use Rattle.link.specs.Change.{placed, PartsOf, Stepped}
-use Rattle.link.proofs.Runs.{wrapped-up}
-use Rattle.link.proofs.Ranks.{replaced-from}
+use Rattle.window.proofs.Runs.{wrapped-up}
+use Rattle.window.proofs.Ranks.{replaced-from}
 use Rattle.link.proofs.Changes.{same-link, same-held, same-moved}
 use Rattle.link.proofs.Links.{read-size, read-frames, flows-most, size-most}
 use Rattle.link.proofs.Searches.{Booking}

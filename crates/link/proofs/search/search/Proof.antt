@@ -11,11 +11,11 @@ use lib.Dec.{eqb, leb}
 use lib.ListN.{getD}
 use Rattle.model.specs.Tables as tables
 use Rattle.model.specs.Window as model
-use Rattle.link.specs.declared.Window.{Window}
+use Rattle.window.specs.declared.Window.{Window}
 use Rattle.link.specs.Reading.{nobody}
-use Rattle.link.specs.Window.{windowOf, sizeOf}
+use Rattle.window.specs.Window.{windowOf, sizeOf}
 use Rattle.link.specs.Search.{freeFrom}
-use Rattle.link.proofs.Ranks.{frame-fits}
+use Rattle.window.proofs.Ranks.{frame-fits}
 use Rattle.link.proofs.Searches.{Scan, scan-none, scan-on, Fails, Walk, spent, failed, walk-on, walk-last, walk-hit, slot-tested}
 use Rattle.link.proofs.search.search.Statement.{statement}
 use Rattle.link.proofs.search.search.Tie as tie

@@ -3,8 +3,8 @@ use borrow.Author.Needs.{needs}
 use Prim.Native.Nat.{_+_, _-_}
 use mathlib.Core.Path.{sym}
 use Rattle.model.specs.Window as model
-use Rattle.link.specs.Window.{windowOf, baseOf}
-use Rattle.link.proofs.Ranks.{late-is, leb-max}
+use Rattle.window.specs.Window.{windowOf, baseOf}
+use Rattle.window.proofs.Ranks.{late-is, leb-max}
 use Rattle.link.proofs.search.valid_rank.Statement.{statement}
 use Rattle.link.proofs.search.valid_rank.Tie as tie
 

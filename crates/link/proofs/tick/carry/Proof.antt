@@ -5,7 +5,7 @@ use mathlib.Core.Path.{_≡_, ap, _∙_}
 use mathlib.Core.List.{List}
 use native.Mathlib.Omega.{arith}
 use lib.ListN.{getD}
-use Rattle.link.specs.Runs.{replaced}
+use Rattle.window.specs.Runs.{replaced}
 use Rattle.link.specs.Rows.{carriedRows}
 use Rattle.link.proofs.Rows.{carried-none, carried-more}
 use Rattle.link.proofs.tick.carry.Statement.{statement}

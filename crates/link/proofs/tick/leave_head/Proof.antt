@@ -7,9 +7,9 @@ use native.Mathlib.Omega.{arith}
 use lib.ListN.{getD}
 use borrow.Author.Tests.{eq-eqb, ne-eqb}
 use Rattle.plan.specs.Reading.{noEntry}
-use Rattle.link.specs.Runs.{inRun, replaced}
+use Rattle.window.specs.Runs.{inRun, replaced}
 use Rattle.link.specs.Parts.{noFlow, leftHead}
-use Rattle.link.proofs.Runs.{replaced-none, replaced-more, replaced-kept, replaced-done}
+use Rattle.window.proofs.Runs.{replaced-none, replaced-more, replaced-kept, replaced-done}
 use Rattle.link.proofs.tick.leave_head.Statement.{statement}
 use Rattle.link.proofs.tick.leave_head.Tie as tie
 
