@@ -17,15 +17,15 @@ use Rattle.link.specs.declared.Flow.{Flow}
 use Rattle.link.specs.declared.Link.{Link}
 use Rattle.link.specs.declared.Step.{Step}
 use Rattle.window.specs.declared.Window.{Window}
-use Rattle.link.specs.Rows.{row, withRow}
+use Rattle.tables.specs.Rows.{row, withRow}
 use Rattle.window.specs.Window.{windowOf, Proper}
-use Rattle.link.specs.Holdings.{shifted}
+use Rattle.tables.specs.Holdings.{shifted}
 use Rattle.link.specs.Parts.{partAt, noFlow, partOf, withOwners, withFlows}
 use Rattle.link.specs.Reading.{linkOf}
 use Rattle.link.specs.Sound.{Sound}
 use Rattle.link.specs.Change.{placed, Around, PartsOf, changed}
 use Rattle.link.proofs.Parts.{withFlow, withHeld}
-use Rattle.link.proofs.Rows.{with-own-row}
+use Rattle.tables.proofs.Rows.{with-own-row}
 use Rattle.link.proofs.Links.{flows-most, read-window}
 
 -- ---- what a call is given of a sound link, by its plan and its window

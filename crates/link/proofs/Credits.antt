@@ -16,9 +16,9 @@ use Rattle.calls.specs.Reading.{answerToCredit}
 use Rattle.link.specs.declared.Link.{Link}
 use Rattle.window.specs.declared.Window as code
 use Rattle.window.specs.Runs.{replaced, wrapped}
-use Rattle.link.specs.Rows.{row}
+use Rattle.tables.specs.Rows.{row}
 use Rattle.window.specs.Window.{windowOf, Proper, fromIn}
-use Rattle.link.specs.Holdings.{someHeld, shifted}
+use Rattle.tables.specs.Holdings.{someHeld, shifted}
 use Rattle.link.specs.Parts.{sizeOf, partAt, withFlows}
 use Rattle.link.specs.Reading.{linkOf}
 use Rattle.link.specs.Sound.{Sound}

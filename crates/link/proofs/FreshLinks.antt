@@ -17,13 +17,14 @@ use Rattle.plan.specs.Reading as plan
 use Rattle.link.specs.declared.Flow.{Flow}
 use Rattle.link.specs.declared.Link.{Link}
 use Rattle.window.specs.Runs.{inRun, replaced}
-use Rattle.link.specs.Rows.{row, sixteenRows}
+use Rattle.tables.specs.Rows.{row, sixteenRows}
 use Rattle.link.specs.Parts.{noFlow, partOf, partAt}
-use Rattle.link.specs.Reading.{nobody, ownerOf, flowOf, linkOf, everywhere}
+use Rattle.tables.specs.Owners.{nobody, ownerOf, everywhere}
+use Rattle.link.specs.Reading.{flowOf, linkOf}
 use Rattle.link.specs.Sound.{Sound}
 use Rattle.window.proofs.Tables.{table-same, replicate-table}
 use Rattle.link.proofs.Plans.{plan-count, plan-entry, count-most}
-use Rattle.link.proofs.Rows.{length-sixteen, row-of-sixteen}
+use Rattle.tables.proofs.Rows.{length-sixteen, row-of-sixteen}
 use Rattle.window.proofs.Runs.{in-run, past-run, length-replaced, replaced-at, replaced-off}
 
 -- ---- one value at every position

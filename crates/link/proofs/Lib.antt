@@ -1,7 +1,4 @@
 pub mod Parts
-pub mod Rows
-pub mod Spans
-pub mod Searches
 pub mod Plans
 pub mod Links
 pub mod Stored

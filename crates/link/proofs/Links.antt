@@ -19,12 +19,13 @@ use Rattle.link.specs.declared.Link.{Link}
 use Rattle.window.specs.Runs.{replaced}
 use Rattle.window.specs.Window.{Measures, fromIn}
 use Rattle.link.specs.Parts.{Part, sizeOf, entryAt, partAt, ownerAt, noFlow, withOwners}
-use Rattle.link.specs.Reading.{nobody, ownerOf, flowOf, linkOf}
+use Rattle.tables.specs.Owners.{nobody, ownerOf}
+use Rattle.link.specs.Reading.{flowOf, linkOf}
 use Rattle.link.specs.Sound.{Sound, SoundFlow}
 use Rattle.link.proofs.Parts.{withFlow, movedTo, withHeld}
 use Rattle.window.proofs.Tables.{getD-table, table-same}
 use Rattle.link.proofs.Plans.{plan-count, plan-entry, count-most}
-use Rattle.link.proofs.Rows.{length-row, length-with-row, row-with-same, row-with-other}
+use Rattle.tables.proofs.Rows.{length-row, length-with-row, row-with-same, row-with-other}
 use Rattle.window.proofs.Runs.{length-replaced, replaced-at, replaced-off}
 
 -- equal parts make equal flows

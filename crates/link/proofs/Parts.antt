@@ -3,7 +3,7 @@ use Prim.Native.Nat.{ℕ}
 use mathlib.Core.List.{List}
 use lib.ListN.{set}
 use Rattle.link.specs.declared.Link.{Link}
-use Rattle.link.specs.Rows.{withRow}
+use Rattle.tables.specs.Rows.{withRow}
 use Rattle.link.specs.Parts.{Part, withFlows}
 
 abbrev pub withCurrent : Link → ℕ → Link

@@ -27,17 +27,18 @@ use Rattle.link.specs.declared.Flow.{Flow}
 use Rattle.link.specs.declared.Link.{Link}
 use Rattle.window.specs.Runs.{replaced}
 use Rattle.window.specs.Window.{fromIn}
-use Rattle.link.specs.Holdings.{roomAt}
+use Rattle.tables.specs.Holdings.{roomAt}
 use Rattle.link.specs.Parts.{sizeOf, entryAt, partAt, ownerAt, withOwners}
-use Rattle.link.specs.Reading.{ownerOf, flowOf, linkOf}
+use Rattle.tables.specs.Owners.{ownerOf}
+use Rattle.link.specs.Reading.{flowOf, linkOf}
 use Rattle.calls.specs.Reading.{answerToRequest}
-use Rattle.link.specs.Search.{freeFrom}
+use Rattle.tables.specs.Search.{freeFrom}
 use Rattle.link.specs.Sound.{Sound}
 use Rattle.link.proofs.Parts.{withFlow, movedTo}
 use Rattle.link.proofs.Plans.{plan-count, plan-entry}
-use Rattle.link.proofs.Rows.{length-row}
+use Rattle.tables.proofs.Rows.{length-row}
 use Rattle.window.proofs.Ranks.{ahead-on, everyFrom-same}
-use Rattle.link.proofs.Searches.{search-same, search-books, Booking, Books}
+use Rattle.tables.proofs.Searches.{search-same, search-books, Booking, Books}
 use Rattle.link.specs.Change.{Stepped, placed}
 use Rattle.link.proofs.Links.{read-entry, read-flow, read-holding, read-owner, read-with-flow, sound-with-flow, read-with-owner, sound-with-owner, read-from, long-from, sound-from, read-size, read-frames}
 

@@ -12,10 +12,11 @@ use Rattle.model.specs.Link as model
 use Rattle.link.specs.declared.Flow.{Flow}
 use Rattle.link.specs.declared.Link.{Link}
 use Rattle.link.specs.Parts.{Part, sizeOf, partAt, ownerAt, noFlow}
-use Rattle.link.specs.Reading.{nobody, ownerOf, flowOf, linkOf, everywhere, storedOwner, stored}
+use Rattle.tables.specs.Owners.{nobody, ownerOf, everywhere}
+use Rattle.link.specs.Reading.{flowOf, linkOf, storedOwner, stored}
 use Rattle.link.specs.Sound.{Sound, SoundFlow}
 use Rattle.window.proofs.Tables.{getD-table, table-past, table-of}
-use Rattle.link.proofs.Rows.{row-at}
+use Rattle.tables.proofs.Rows.{row-at}
 use Rattle.link.proofs.Plans.{stored-plan}
 use Rattle.link.proofs.Links.{read-flow, read-owner}
 

@@ -21,16 +21,17 @@ use Rattle.link.specs.declared.Link.{Link}
 use Rattle.link.specs.declared.Step.{Step}
 use Rattle.window.specs.declared.Window.{Window}
 use Rattle.window.specs.Runs.{inRun, replaced}
-use Rattle.link.specs.Rows.{row, carriedRows}
+use Rattle.tables.specs.Rows.{row, carriedRows}
 use Rattle.window.specs.Window as window
 use Rattle.link.specs.Parts.{Part, sizeOf, entryAt, partOf, partAt, ownerAt, noFlow, leftHead}
-use Rattle.link.specs.Reading.{nobody, ownerOf, flowOf, linkOf}
+use Rattle.tables.specs.Owners.{nobody, ownerOf}
+use Rattle.link.specs.Reading.{flowOf, linkOf}
 use Rattle.calls.specs.Reading.{answerToTick}
 use Rattle.link.specs.Sound.{Sound, SoundFlow}
 use Rattle.link.proofs.Parts.{withCurrent}
 use Rattle.window.proofs.Tables.{table-same}
 use Rattle.window.proofs.Runs.{in-run, before-run, past-run, length-replaced, replaced-at, replaced-off}
-use Rattle.link.proofs.Rows.{length-row, length-carried, row-carried, row-not-carried}
+use Rattle.tables.proofs.Rows.{length-row, length-carried, row-carried, row-not-carried}
 use Rattle.window.proofs.Ranks.{proper}
 use Rattle.link.specs.Change.{Stepped}
 use Rattle.link.proofs.Links.{same-flow, read-count, read-entry, read-flow, read-holding, read-owner, flows-most, size-most, measures}

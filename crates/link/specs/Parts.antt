@@ -6,7 +6,7 @@ use lib.ListN.{getD}
 use lib.Dec.{eqb}
 use Rattle.link.specs.declared.Flow.{Flow}
 use Rattle.link.specs.declared.Link.{Link}
-use Rattle.link.specs.Rows.{row}
+use Rattle.tables.specs.Rows.{row}
 use Rattle.plan.specs.declared.Entry.{Entry}
 use Rattle.plan.specs.Reading.{noEntry}
 

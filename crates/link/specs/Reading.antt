@@ -2,9 +2,8 @@
 use Prim.Native.Nat.{ℕ, _/_, _%_}
 use mathlib.Core.List.{List}
 use mathlib.Core.Option.{Option, some, none}
-use mathlib.Core.Bool.{cond}
-use lib.ListN.{getD, replicate}
-use lib.Dec.{eqb}
+use lib.ListN.{getD}
+use Rattle.tables.specs.Owners.{nobody, ownerOf, everywhere}
 use Rattle.link.specs.declared.Link.{Link}
 use Rattle.link.specs.Parts.{Part, sizeOf, partAt, ownerAt}
 use Rattle.plan.specs.Reading as plan
@@ -12,13 +11,6 @@ use Rattle.model.specs.Tables.{table}
 use Rattle.model.specs.Link as model
 
 -- ---- read as the paper's
-
--- the owner of a position that nobody booked
-abbrev pub nobody : ℕ
-nobody = 16
-
-abbrev pub ownerOf : ℕ → Option ℕ
-ownerOf x = cond (eqb x nobody) none (some x)
 
 -- the holdings at the first T positions
 abbrev pub flowOf : ℕ → Part → model.Flow
@@ -33,10 +25,6 @@ linkOf l = record {
 }
 
 -- ---- the paper's link as it is stored: 256 positions and 16 flows
-
--- one value at each of 256 positions
-unfoldable pub everywhere : ℕ → List ℕ
-everywhere v = replicate 256 v
 
 -- what stands in the place of a flow that the plan does not have
 abbrev pub spareFlow : Part

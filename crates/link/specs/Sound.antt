@@ -4,7 +4,8 @@ use mathlib.Core.Path.{_≡_}
 use lib.ListN.{length, getD}
 use Rattle.link.specs.declared.Link.{Link}
 use Rattle.link.specs.Parts.{Part, sizeOf, partAt, ownerAt}
-use Rattle.link.specs.Reading.{nobody, spareFlow}
+use Rattle.tables.specs.Owners.{nobody}
+use Rattle.link.specs.Reading.{spareFlow}
 use Rattle.plan.specs.Reading.{Valid}
 
 -- a flow's part: IF is one of W frames, and nothing is held past the T positions

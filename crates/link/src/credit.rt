@@ -12,8 +12,8 @@ ghost use Rattle.link.specs.Change.{Around, Creditable};
 use crate::Answer;
 use crate::Link;
 use crate::Step;
-use crate::holdings::held_from;
-use crate::holdings::shift_from;
+use tables::holdings::held_from;
+use tables::holdings::shift_from;
 use window::Window;
 use window::positions::window;
 

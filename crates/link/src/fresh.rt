@@ -5,39 +5,16 @@ ghost use lib.ListN.{getD, replicate};
 ghost use Rattle.plan.specs.Reading.{Valid, planFor, noEntry};
 ghost use Rattle.model.specs.Fresh as model;
 ghost use Rattle.window.specs.Runs.{inRun, replaced};
-ghost use Rattle.link.specs.Rows.{sixteenRows};
 ghost use Rattle.link.specs.Parts.{noFlow};
-ghost use Rattle.link.specs.Reading.{everywhere, nobody, linkOf};
+ghost use Rattle.link.specs.Reading.{linkOf};
 ghost use Rattle.link.specs.Sound.{Sound};
 use crate::Flow;
 use crate::Link;
 use plan::Entry;
 use plan::Plan;
-
-fn unbooked() -> [u8; 256]
-    ensures { λ r. ⌜ r ≡ everywhere nobody ⌝ }
-{
-    [16u8; 256]
-}
-
-fn unheld() -> [u8; 256]
-    ensures { λ r. ⌜ r ≡ everywhere 0 ⌝ }
-{
-    [0u8; 256]
-}
-
-// A flow's holdings in each of the 16 rows.
-fn rows(held: [u8; 256]) -> [u8; 4096]
-    ensures { λ r. ⌜ r ≡ sixteenRows held ⌝ }
-{
-    let mut all = [0u8; 4096];
-    let mut k = 0;
-    while k < 4096 {
-        all[k] = held[k % 256];
-        k += 1;
-    }
-    all
-}
+use tables::holdings::rows;
+use tables::holdings::unheld;
+use tables::owners::unbooked;
 
 // The frames and remainders of n flows, each with its share.
 fn flows(entries: [Entry; 16], count: usize) -> [Flow; 16]

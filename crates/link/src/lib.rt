@@ -1,6 +1,4 @@
 // One link of a plan: its current position, the owner of each position, each flow's frame and remainder, and what each flow holds.
-mod holdings; // what each flow holds at each position
-mod search; // the search for a position to book
 mod change; // what a request changes
 mod credit;
 mod fresh;
@@ -31,10 +29,4 @@ pub struct Link {
 pub struct Step {
     pub link: Link,
     pub answer: Answer,
-}
-
-// What a search comes to: the frame, the remainder and the position to book; or no position, and the remainder.
-enum Found {
-    At(usize, usize, usize),
-    Nowhere(usize),
 }

@@ -21,7 +21,7 @@ use Rattle.calls.specs.Lines.{outWith, nextAfter}
 use Rattle.link.specs.declared.Link.{Link}
 use Rattle.window.specs.declared.Window.{Window}
 use Rattle.window.specs.Runs.{inRun, replaced}
-use Rattle.link.specs.Rows.{carriedRows}
+use Rattle.tables.specs.Rows.{carriedRows}
 use Rattle.window.specs.Window.{windowOf, sizeOf, baseOf}
 use Rattle.link.specs.Parts.{noFlow, leftHead}
 use Rattle.link.specs.Reading.{linkOf}

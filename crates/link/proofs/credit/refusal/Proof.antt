@@ -7,8 +7,8 @@ use native.Mathlib.Omega.{arith}
 use Rattle.model.specs.Window as model
 use Rattle.link.specs.declared.Link.{Link}
 use Rattle.window.specs.Window.{windowOf}
-use Rattle.link.specs.Holdings.{someHeld}
-use Rattle.link.specs.Rows.{row}
+use Rattle.tables.specs.Holdings.{someHeld}
+use Rattle.tables.specs.Rows.{row}
 use Rattle.link.specs.Parts.{sizeOf}
 use Rattle.link.specs.Change.{Around}
 use Rattle.link.proofs.Links.{read-size}

@@ -21,18 +21,18 @@ use Rattle.calls.specs.Reading.{answerToRequest}
 use Rattle.link.specs.declared.Flow.{Flow}
 use Rattle.link.specs.declared.Link.{Link}
 use Rattle.window.specs.Runs.{replaced, wrapped}
-use Rattle.link.specs.Rows.{row}
+use Rattle.tables.specs.Rows.{row}
 use Rattle.link.specs.Parts.{sizeOf, entryAt}
-use Rattle.link.specs.Holdings.{roomAt}
+use Rattle.tables.specs.Holdings.{roomAt}
 use Rattle.link.specs.Reading.{linkOf}
-use Rattle.link.specs.Search.{foundOf, freeFrom}
+use Rattle.tables.specs.Search.{foundOf, freeFrom}
 use Rattle.window.specs.Window.{windowOf, fromIn}
 use Rattle.link.specs.Change.{placed, PartsOf, Stepped}
 use Rattle.window.proofs.Runs.{wrapped-up}
 use Rattle.window.proofs.Ranks.{replaced-from}
 use Rattle.link.proofs.Changes.{same-link, same-held, same-moved}
 use Rattle.link.proofs.Links.{read-size, read-frames, flows-most, size-most}
-use Rattle.link.proofs.Searches.{Booking}
+use Rattle.tables.proofs.Searches.{Booking}
 use Rattle.link.proofs.Requests.{refused-word, asked, asks-for, asker-below, LowFor, sought-same, found-at, room-there, spent-at-newest, granted-link, refused-link, granted, refused-newest}
 use Rattle.link.proofs.request.ask.Statement.{statement}
 use Rattle.link.proofs.request.ask.Tie as tie

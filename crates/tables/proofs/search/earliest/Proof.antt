@@ -1,0 +1,83 @@
+-- `link::search::earliest` meets its contract. Assumes nothing.
+use borrow.Author.Needs.{needs}
+use Prim.Native.Nat.{ℕ, _+_, _-_, _≤_, min}
+use mathlib.Core.Path.{_≡_, ap, _∙_}
+use mathlib.Core.Bool.{_&&_, cond}
+use native.Mathlib.Omega.{arith}
+use lib.Dec.{eqb, leb}
+use lib.ListN.{getD}
+use Rattle.tables.specs.Owners.{nobody}
+use Rattle.tables.specs.Search.{Earliest}
+use Rattle.tables.proofs.Searches.{earliest-none, earliest-more}
+use Rattle.tables.proofs.search.earliest.Statement.{statement}
+use Rattle.tables.proofs.search.earliest.Tie as tie
+
+abbrev Inv-loop : tie.InvT-loop
+Inv-loop owner start from to low best₀ x₀ s₀ best x s = (x ≡ s) × (from ≤ s) × (s ≤ to) × Earliest (λ k. eqb (getD owner (start + k) 0) nobody && leb low k) from s best
+
+abbrev μ-loop : tie.MeasureT-loop
+μ-loop owner start from to low best₀ x₀ s₀ best x s = to - s
+
+cast-x : tie.Need-cast-x Inv-loop μ-loop
+cast-x c = search needs
+
+loop-holds : tie.Need-loop-holds Inv-loop μ-loop
+loop-holds c = (search needs, search needs, search needs, earliest-none)
+
+add-candidate : tie.Need-add-candidate Inv-loop μ-loop
+add-candidate c = search needs
+
+element-copy-out-candidate : tie.Need-element-copy-out-candidate Inv-loop μ-loop
+element-copy-out-candidate c = search needs
+
+candidate-requires : tie.Need-candidate-requires Inv-loop μ-loop
+candidate-requires c κs = search needs
+
+smaller-byte-requires : tie.Need-smaller-byte-requires Inv-loop μ-loop
+smaller-byte-requires c κs = search needs
+
+add-x : tie.Need-add-x Inv-loop μ-loop
+add-x c = search needs
+
+add-s : tie.Need-add-s Inv-loop μ-loop
+add-s c = search needs
+
+loop-less : tie.Need-loop-less Inv-loop μ-loop
+loop-less c = search needs
+
+loop-again : tie.Need-loop-again Inv-loop μ-loop
+loop-again c =
+    let i = c .before .before .before in
+    let k = i .before .loop in
+    let v = k .inv in
+    let a = i .before .before .args in (
+      search needs,
+      search needs,
+      search needs,
+      earliest-more (v .3) (v .1) (omega arith)
+          (c .smaller-byte .ensures ∙ ap (min (k .best)) (c .before .candidate .ensures ∙ ap (λ (x : ℕ). cond (eqb (getD (a .owner .now) (a .start + k .s) 0) nobody && leb (a .low) x) x 255) (v .0))),
+    )
+
+returns : tie.Need-returns Inv-loop μ-loop
+returns c =
+    let v = c .before .loop .inv in
+    let e : c .before .loop .s ≡ c .before .before .args .to = omega arith in
+    rw e at (v .3)
+
+pub earliest-spec : {M : Type 1} → statement M
+earliest-spec =
+    tie.close
+    (tie.spec
+    Inv-loop
+    μ-loop
+    cast-x
+    loop-holds
+    add-candidate
+    element-copy-out-candidate
+    candidate-requires
+    smaller-byte-requires
+    add-x
+    add-s
+    loop-less
+    loop-again
+    returns)

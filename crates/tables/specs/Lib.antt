@@ -1,0 +1,4 @@
+pub mod Owners
+pub mod Rows
+pub mod Holdings
+pub mod Search
