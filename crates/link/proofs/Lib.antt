@@ -7,4 +7,3 @@ pub mod Changes
 pub mod Credits
 pub mod Requests
 pub mod Ticks
-pub mod Records

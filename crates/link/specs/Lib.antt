@@ -2,4 +2,3 @@ pub mod Parts
 pub mod Reading
 pub mod Sound
 pub mod Change
-pub mod Run

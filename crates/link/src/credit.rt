@@ -18,13 +18,7 @@ use window::Window;
 use window::positions::window;
 
 // The refusal of a credit, and 0 where it is taken: n flows, the window, and what each flow holds.
-pub(crate) fn refusal(
-    count: usize,
-    w: Window,
-    held: &[u8; 4096],
-    flow: usize,
-    position: usize,
-) -> u8
+pub fn refusal(count: usize, w: Window, held: &[u8; 4096], flow: usize, position: usize) -> u8
     requires { ⌜ Proper w × (count ≤ 16) ⌝ }
     ensures is { λ r. ⌜ ((l : Link) → Around l count w (now (held .entry)) → r ≡ firstOf (model.creditTests (linkOf l) flow position)) ⌝ }
     ensures taken { λ r. ⌜ (r ≡ 0 → Creditable count w (now (held .entry)) flow position) ⌝ }

@@ -59,7 +59,7 @@ fn nowhere(left: usize) -> u8
 }
 
 // The flow of a word, or 0 where the plan does not have it.
-pub(crate) fn asker(count: usize, word: u32) -> usize
+pub fn asker(count: usize, word: u32) -> usize
     ensures { λ r. ⌜ r ≡ change.placed count (flowOf word) ⌝ }
 {
     let fields = word::split(word);
@@ -67,7 +67,7 @@ pub(crate) fn asker(count: usize, word: u32) -> usize
 }
 
 // The change by a word that asks for a slot. Its flow is i; i is 0 where the plan does not have it.
-pub(crate) fn ask<'a>(
+pub fn ask<'a>(
     count: usize,
     e: Entry,
     w: Window,

@@ -20,7 +20,7 @@ use tables::owners::empty_head;
 use window::positions::window;
 
 // The answer at a position with this owner.
-pub(crate) fn turn(owner: u8) -> Answer
+pub fn turn(owner: u8) -> Answer
     ensures { λ r. ⌜ r ≡ answerToTick (ownerOf owner) ⌝ }
 {
     if owner == 16 {
@@ -30,7 +30,7 @@ pub(crate) fn turn(owner: u8) -> Answer
 }
 
 // The flows of a plan, those in the head frame moved to the next one with their share.
-pub(crate) fn leave_head(flows: [Flow; 16], plan: Plan, head: usize, on: usize) -> [Flow; 16]
+pub fn leave_head(flows: [Flow; 16], plan: Plan, head: usize, on: usize) -> [Flow; 16]
     requires { ⌜ plan .count ≤ 16 ⌝ }
     ensures { λ r. ⌜ r ≡ replaced (inRun 0 (plan .count)) (λ i f. leftHead head on (getD (plan .entries) i noEntry .share) f) flows ⌝ }
 {

@@ -2,7 +2,7 @@
 use mathlib.Core.Path.{sym, _∙_}
 use lib.ListN.{take, length-take}
 use lib.Seq.{length-take-le}
-use Rattle.link.proofs.Records.{reach}
+use Rattle.run.proofs.Records.{reach}
 use native.Mathlib.Omega.{arith}
 use borrow.Author.Needs.{needs}
 use Rattle.domelink.proofs.turn_once.Statement.{statement}
@@ -17,21 +17,21 @@ same-length c = search needs
 returns : tie.Need-returns
 returns c = search needs
 
-slice-reshare-prefix-run : tie.Need-slice-reshare-prefix-run
-slice-reshare-prefix-run c = omega (arith, c .before .before .before .read-on .kept .0, c .before .before .before .read-on .ensures)
+slice-reshare-prefix-play : tie.Need-slice-reshare-prefix-play
+slice-reshare-prefix-play c = omega (arith, c .before .before .before .read-on .kept .0, c .before .before .before .read-on .ensures)
 
-slice-aggregate-run : tie.Need-slice-aggregate-run
-slice-aggregate-run c = sym (length-take-le _ _ (omega (arith, c .before .before .before .before .read-on .kept .0, c .before .before .before .before .read-on .ensures)))
+slice-aggregate-play : tie.Need-slice-aggregate-play
+slice-aggregate-play c = sym (length-take-le _ _ (omega (arith, c .before .before .before .before .read-on .kept .0, c .before .before .before .before .read-on .ensures)))
 
-run-requires : tie.Need-run-requires
-run-requires c κs = search needs
+play-requires : tie.Need-play-requires
+play-requires c κs = search needs
 
 write-requires : tie.Need-write-requires
 write-requires c κs = search needs
 
 keep-requires : tie.Need-keep-requires
 keep-requires c κs =
-    let r = c .before .before .before .before .before .run in
+    let r = c .before .before .before .before .before .play in
     let o = c .before .before .before .before .before .before .before .before .before .before .before .read-on in
     let have = take (o .result) (o .last .0) in
     let played = reach have (c .before .before .before .before .before .before .before .before .before .before .before .before .before .before .before .args .out .now) (r .result .used) (r .ensures .0 .used-is) in
@@ -41,13 +41,13 @@ same-length-2 : tie.Need-same-length-2
 same-length-2 c = c .before .before .before .keep .kept .0 ∙ c .before .before .before .before .before .before .before .before .before .before .before .before .before .before .before .read-on .kept .0
 
 same-length-3 : tie.Need-same-length-3
-same-length-3 c = c .before .before .before .before .before .before .before .before .before .run .kept .1 .1 .0
+same-length-3 c = c .before .before .before .before .before .before .before .before .before .play .kept .1 .1 .0
 
 returns-2 : tie.Need-returns-2
 returns-2 c =
     let k = c .before .before .before .keep in
     let o = c .before .before .before .before .before .before .before .before .before .before .before .before .before .before .before .read-on in
-    (c .before .before .before .before .before .before .before .before .before .run .ensures .1, omega (arith, k .ensures, o .kept .0))
+    (c .before .before .before .before .before .before .before .before .before .play .ensures .1, omega (arith, k .ensures, o .kept .0))
 
 pub turn-once-spec : {M : Type 1} → statement M
 turn-once-spec =
@@ -56,9 +56,9 @@ turn-once-spec =
     read-on-requires
     same-length
     returns
-    slice-reshare-prefix-run
-    slice-aggregate-run
-    run-requires
+    slice-reshare-prefix-play
+    slice-aggregate-play
+    play-requires
     write-requires
     keep-requires
     same-length-2

@@ -27,11 +27,11 @@ use Rattle.model.specs.Credit.{credit}
 use Rattle.model.specs.Tick.{tick}
 use Rattle.model.specs.Listing.{lineOf, made, listing, linkAfter}
 use Rattle.window.specs.Window.{windowOf, Proper, Ticked}
 use Rattle.link.specs.Reading.{linkOf}
 use Rattle.link.specs.Sound.{Sound}
 use Rattle.link.specs.Change.{Stepped}
-use Rattle.link.specs.Run.{playable, Played}
+use Rattle.run.specs.Run.{playable, Played}
 use Rattle.link.proofs.Parts.{withCurrent}
 
 -- ---- what a record reads as
 

@@ -18,24 +18,24 @@ use Rattle.model.specs.Link as paper
 use Rattle.model.specs.Request as model
 use Rattle.model.specs.Window as seen
 use Rattle.calls.specs.Lines.{outWith, nextAfter}
 use Rattle.link.specs.declared.Link.{Link}
 use Rattle.window.specs.declared.Window.{Window}
 use Rattle.window.specs.Runs.{inRun, replaced}
 use Rattle.tables.specs.Rows.{carriedRows}
 use Rattle.window.specs.Window.{windowOf, sizeOf, baseOf}
 use Rattle.link.specs.Parts.{noFlow, leftHead}
 use Rattle.link.specs.Reading.{linkOf}
 use Rattle.link.specs.Sound.{Sound}
 use Rattle.link.specs.Change.{Stepped, Around, PartsOf, Creditable}
-use Rattle.link.specs.Run.{playable}
+use Rattle.run.specs.Run.{playable}
 use Rattle.link.proofs.Parts.{withCurrent}
 use Rattle.link.proofs.Changes.{place-below, around, parts-of, stored-booking, stored-flow}
 use Rattle.link.proofs.Credits.{refused-credit, taken-credit}
 use Rattle.link.proofs.Links.{measures, flows-most, read-window}
 use Rattle.link.proofs.Ticks.{head-stays, head-left, same-turn}
-use Rattle.link.proofs.Records.{reads-as, request-made, credit-made, tick-made, none-made, playedAt, Playing, playing-first, playing-on, playing-ticked, Came, same-came, Going, reach, going-on, begun, ended, same-size}
-use Rattle.link.proofs.Link.run.Statement.{statement}
-use Rattle.link.proofs.Link.run.Tie as tie
+use Rattle.run.proofs.Records.{reads-as, request-made, credit-made, tick-made, none-made, playedAt, Playing, playing-first, playing-on, playing-ticked, Came, same-came, Going, reach, going-on, begun, ended, same-size}
+use Rattle.run.proofs.play.Statement.{statement}
+use Rattle.run.proofs.play.Tie as tie
 
 abbrev Inv-loop : tie.InvT-loop
 Inv-loop records out₀ used link₀ plan w₀ at₀ end₀ out link w at end = (at ≤ used) × (used ≡ 5 * playable records out₀) × Playing plan w link × Going (linkOf link₀) records out₀ at (playedAt link w) end out
@@ -53,7 +53,7 @@ module _ (c : tie.After-read Inv-loop μ-loop) where
   window-at = c .before .before .loop .w
 
   abbrev plan-at : Plan
-  plan-at = c .before .before .before .before .before .before .before .before .args .self .plan
+  plan-at = c .before .before .before .before .before .before .before .before .args .start .plan
 
   abbrev records-at : List ℕ
   records-at = c .before .before .before .before .before .before .before .before .args .records .now
@@ -182,7 +182,7 @@ window-requires c κs = measures _ (c .before .before .before .before .pre)
 loop-holds : tie.Need-loop-holds Inv-loop μ-loop
 loop-holds c =
     let s = c .before .before .before .before .before in
-    let l = s .args .self in
+    let l = s .args .start in
     let e : withCurrent l (c .window .result .current) ≡ l = ap (λ (x : seen.Window). withCurrent l (x .current)) (c .window .ensures .0) in
     (omega arith, ap (5 *_) (c .before .before .smaller .ensures), playing-first l (c .window .ensures .0) (c .window .ensures .1), rw e (begun _ _ l (s .pre)))
 
@@ -335,8 +335,8 @@ returns c =
     let g = c .before .loop .inv in
     (ended (g .3) (g .1) (omega arith), g .3 .sound)
 
-pub run-spec : {M : Type 1} → statement M
-run-spec =
+pub play-spec : {M : Type 1} → statement M
+play-spec =
     tie.close
     (tie.spec
     Inv-loop
