@@ -16,7 +16,8 @@ use Rattle.tables.specs.Owners.{nobody, ownerOf, everywhere}
 use Rattle.link.specs.Reading.{flowOf, linkOf, storedOwner, stored}
 use Rattle.link.specs.Sound.{Sound, SoundFlow}
 use Rattle.window.proofs.Tables.{getD-table, table-past, table-of}
-use Rattle.tables.proofs.Rows.{row-at}
+use Rattle.tables.specs.Rows.{rowsOf}
+use Rattle.tables.proofs.Rows.{rows-of}
 use Rattle.link.proofs.Plans.{stored-plan}
 use Rattle.link.proofs.Links.{read-flow, read-owner}
 
@@ -58,21 +59,14 @@ stored-reading l s = λ k. record { plan = stored-plan (l .plan) (s .plan) k; cp
         ap (λ (f : model.Flow). getD (f .held) p 0) (no-flow i h)
         ∙ sym (ap (λ (f : Part). getD (f .held) p 0) (s .spare-flows i (omega arith) b) ∙ getD-replicate 256 p 0 0 c)
 
-    place : (k : ℕ) → k < 4096 → model.holding (linkOf l) (k / 256) (k % 256) ≡ getD (l .held) k 0
-    place k b =
-        let e : 256 * (k / 256) + k % 256 ≡ k = omega arith in
-        holding (k / 256) (k % 256) (omega arith) (omega arith) (decLt (k / 256) (l .plan .count))
-        ∙ row-at (l .held) (k / 256) (k % 256) (omega arith)
-        ∙ ap (λ (x : ℕ). getD (l .held) x 0) e
-
     owners : table 256 (λ p. storedOwner (model.owner (linkOf l) p)) ≡ l .owner
     owners = table-of (l .owner) 256 _ 0 (s .owners-long) (λ p b. owner p b (decLt p (sizeOf l)))
 
     flows : table 16 (λ i. record { frame = model.flow (linkOf l) i .injection; left = model.flow (linkOf l) i .remainder }) ≡ l .flows
     flows = table-of (l .flows) 16 _ noFlow (s .flows-long) (λ i b. flow i b (decLt i (l .plan .count)))
 
-    held : table 4096 (λ k. model.holding (linkOf l) (k / 256) (k % 256)) ≡ l .held
-    held = table-of (l .held) 4096 _ 0 (s .held-long) place
+    held : rowsOf (model.holding (linkOf l)) ≡ l .held
+    held = rows-of (l .held) _ (s .held-long) (λ i p b c. holding i p b c (decLt i (l .plan .count)))
 
 -- two sound links with one reading are one link
 pub one-reading : (l k : Link) → Sound l → Sound k → linkOf l ≡ linkOf k → l ≡ k

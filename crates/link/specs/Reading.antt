@@ -1,8 +1,9 @@
 -- A link read as the paper's: the first T positions, the first n flows; and the paper's link as it is stored. Assumes nothing.
-use Prim.Native.Nat.{ℕ, _/_, _%_}
+use Prim.Native.Nat.{ℕ}
 use mathlib.Core.List.{List}
 use mathlib.Core.Option.{Option, some, none}
 use lib.ListN.{getD}
+use Rattle.tables.specs.Rows.{rowsOf}
 use Rattle.tables.specs.Owners.{nobody, ownerOf, everywhere}
 use Rattle.link.specs.declared.Link.{Link}
 use Rattle.link.specs.Parts.{Part, sizeOf, partAt, ownerAt}
@@ -40,5 +41,5 @@ stored m = record {
   cp = m .current;
   owner = table 256 (λ p. storedOwner (model.owner m p));
   flows = table 16 (λ i. record { frame = model.flow m i .injection; left = model.flow m i .remainder });
-  held = table 4096 (λ k. model.holding m (k / 256) (k % 256));
+  held = rowsOf (model.holding m);
 }

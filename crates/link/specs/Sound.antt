@@ -3,6 +3,7 @@ use Prim.Native.Nat.{ℕ, _≤_, _<_}
 use mathlib.Core.Path.{_≡_}
 use lib.ListN.{length, getD}
 use Rattle.link.specs.declared.Link.{Link}
+use Rattle.tables.specs.Rows.{Sixteen}
 use Rattle.link.specs.Parts.{Part, sizeOf, partAt, ownerAt}
 use Rattle.tables.specs.Owners.{nobody}
 use Rattle.link.specs.Reading.{spareFlow}
@@ -21,6 +22,6 @@ pub record Sound (l : Link) : Type 0 where
   pub owners : (p : ℕ) → p < 256 → (ownerAt l p ≡ nobody → ⊥) → ownerAt l p < l .plan .count
   pub spare-owners : (p : ℕ) → sizeOf l ≤ p → p < 256 → ownerAt l p ≡ nobody
   pub flows-long : length (l .flows) ≡ 16
-  pub held-long : length (l .held) ≡ 4096
+  pub held-long : Sixteen (l .held)
   pub flows : (i : ℕ) → i < l .plan .count → SoundFlow (sizeOf l) (l .plan .frames) (partAt l i)
   pub spare-flows : (i : ℕ) → l .plan .count ≤ i → i < 16 → partAt l i ≡ spareFlow

@@ -12,13 +12,14 @@ ghost use Rattle.link.specs.Change.{Around, Creditable};
 use crate::Answer;
 use crate::Link;
 use crate::Step;
+use tables::holdings::Holdings;
 use tables::holdings::held_from;
 use tables::holdings::shift_from;
 use window::Window;
 use window::positions::window;
 
 // The refusal of a credit, and 0 where it is taken: n flows, the window, and what each flow holds.
-pub fn refusal(count: usize, w: Window, held: &[u8; 4096], flow: usize, position: usize) -> u8
+pub fn refusal(count: usize, w: Window, held: &Holdings, flow: usize, position: usize) -> u8
     requires { ⌜ Proper w × (count ≤ 16) ⌝ }
     ensures is { λ r. ⌜ ((l : Link) → Around l count w (now (held .entry)) → r ≡ firstOf (model.creditTests (linkOf l) flow position)) ⌝ }
     ensures taken { λ r. ⌜ (r ≡ 0 → Creditable count w (now (held .entry)) flow position) ⌝ }

@@ -7,6 +7,7 @@ pub mod tick;
 
 use calls::Answer;
 use plan::Plan;
+use tables::holdings::Holdings;
 
 // A flow's injection frame and its remainder.
 pub struct Flow {
@@ -20,7 +21,7 @@ pub struct Link {
     pub cp: usize,
     pub owner: [u8; 256],
     pub flows: [Flow; 16],
-    pub held: [u8; 4096],
+    pub held: Holdings,
 }
 
 // What a call hands back.

@@ -25,6 +25,7 @@ use crate::change::placed;
 use crate::change::refused;
 use plan::Entry;
 use tables::Found;
+use tables::holdings::Holdings;
 use tables::holdings::shift_from;
 use tables::search::search;
 use tables::search::valid_rank;
@@ -72,7 +73,7 @@ pub fn ask<'a>(
     e: Entry,
     w: Window,
     owner: &'a [u8; 256],
-    held: &'a [u8; 4096],
+    held: &'a Holdings,
     i: usize,
     flow: Flow,
     word: u32,

@@ -10,7 +10,7 @@ use lib.Dec.{ltb}
 use lib.Seq.{ext-getD}
 use borrow.Author.Tests.{lt-ltb, le-ltb}
 use Rattle.window.specs.Runs.{inRun, replaced}
-use Rattle.tables.specs.Rows.{row, sixteenRows, withRow, carriedRows}
+use Rattle.tables.specs.Rows.{row, Sixteen, rowsOf, sixteenRows, withRow, carriedRows}
 use Rattle.window.proofs.Tables.{getD-table, length-table, table-same, table-of}
 use Rattle.window.proofs.Runs.{in-run, before-run, past-run, length-replaced, replaced-at, replaced-off}
 
@@ -33,8 +33,15 @@ same-row h h′ i e = table-same 256 _ _ e
 
 -- ---- one row, sixteen times
 
+-- a table whose places are all given is that table
+pub rows-of : (h : List ℕ) (f : ℕ → ℕ → ℕ) → Sixteen h → ((i p : ℕ) → i < 16 → p < 256 → f i p ≡ getD (row h i) p 0) → rowsOf f ≡ h
+unfolding rowsOf
+rows-of h f long same = table-of h 4096 _ 0 long (λ k b.
+    let e : 256 * (k / 256) + k % 256 ≡ k = omega arith in
+    same (k / 256) (k % 256) (omega arith) (omega arith) ∙ row-at h (k / 256) (k % 256) (omega arith) ∙ ap (λ (x : ℕ). getD h x 0) e)
+
 module _ (r : List ℕ) where
-  pub length-sixteen : length (sixteenRows r) ≡ 4096
+  pub length-sixteen : Sixteen (sixteenRows r)
   unfolding sixteenRows
   length-sixteen = length-table 4096 (λ k. getD r (k % 256) 0)
 
@@ -73,7 +80,7 @@ module _ (h : List ℕ) (i : ℕ) (r : List ℕ) where
   unfolding withRow
   with-row-past k b = replaced-off _ _ h k 0 (past-run (256 * i) (256 * i + 256) k b)
 
-  pub row-with-same : length h ≡ 4096 → i < 16 → length r ≡ 256 → row (withRow h i r) i ≡ r
+  pub row-with-same : Sixteen h → i < 16 → length r ≡ 256 → row (withRow h i r) i ≡ r
   row-with-same e b l = row-is _ i r l (λ p lp. with-row-in p lp (omega (arith, e)))
 
   pub row-with-other : (j : ℕ) → (j ≡ i → ⊥) → row (withRow h i r) j ≡ row h j
@@ -106,7 +113,7 @@ module _ (n last a e : ℕ) (h : List ℕ) where
   unfolding carriedRows
   length-carried = length-replaced _ _ h
 
-  pub row-carried : (i : ℕ) → i < n → i < 16 → length h ≡ 4096 → last < 256
+  pub row-carried : (i : ℕ) → i < n → i < 16 → Sixteen h → last < 256
       → row (carriedRows n last a e h) i ≡ replaced (inRun a e) (λ q x. getD (row h i) last 0) (row h i)
   unfolding carriedRows
   row-carried i b l z lb = row-is _ i _ (length-replaced _ _ (row h i) ∙ length-row h i) λ p lp.

@@ -21,8 +21,10 @@ use window::numbers::smaller_byte;
 use window::numbers::to_zero;
 use window::positions::before;
 
+pub type Holdings = [u8; 4096];
+
 // One value at every place of the run from a to e.
-fn fill(held: &mut [u8; 4096], value: u8, a: usize, e: usize)
+fn fill(held: &mut Holdings, value: u8, a: usize, e: usize)
     requires { ⌜ (a ≤ e) × (e ≤ 4096) ⌝ }
     ensures { λ r. ⌜ now (held .exit) ≡ replaced (inRun a e) (λ q x. value) (now (held .entry)) ⌝ }
 {
@@ -34,7 +36,7 @@ fn fill(held: &mut [u8; 4096], value: u8, a: usize, e: usize)
 }
 
 // Whether fewer than the cells are held at every place of the run from a to e.
-fn room_in(held: &[u8; 4096], cells: u8, a: usize, e: usize) -> bool
+fn room_in(held: &Holdings, cells: u8, a: usize, e: usize) -> bool
     requires { ⌜ (a ≤ e) × (e ≤ 4096) ⌝ }
     ensures { λ r. ⌜ All (roomAt (now (held .entry)) cells) a e r ⌝ }
 {
@@ -50,7 +52,7 @@ fn room_in(held: &[u8; 4096], cells: u8, a: usize, e: usize) -> bool
 }
 
 // One more than the last place of a run at which no fewer than the cells are held, or the first place.
-fn last_full(held: &[u8; 4096], cells: u8, a: usize, e: usize) -> usize
+fn last_full(held: &Holdings, cells: u8, a: usize, e: usize) -> usize
     requires { ⌜ (a ≤ e) × (e ≤ 4096) ⌝ }
     ensures { λ r. ⌜ LastIn (roomAt (now (held .entry)) cells) a e r ⌝ }
 {
@@ -65,7 +67,7 @@ fn last_full(held: &[u8; 4096], cells: u8, a: usize, e: usize) -> usize
 }
 
 // The rank from which on flow i has room at every position.
-pub(crate) fn room_rank(held: &[u8; 4096], i: usize, cells: u8, w: Window) -> usize
+pub(crate) fn room_rank(held: &Holdings, i: usize, cells: u8, w: Window) -> usize
     requires { ⌜ Proper w × (i < 16) ⌝ }
     ensures { λ r. ⌜ ((p : ℕ) → p < sizeOf w → leb r (model.rank (windowOf w) p) ≡ model.everyFrom (windowOf w) p (roomAt (row (now (held .entry)) i) cells)) ⌝ }
 {
@@ -83,15 +85,7 @@ pub(crate) fn room_rank(held: &[u8; 4096], i: usize, cells: u8, w: Window) -> us
 }
 
 // Whether at every place of the run from a to e something is held or the pad is above 0. The pad is `inner` at the `count` places from a + `start` on, and `outer` at the others.
-fn held_in(
-    held: &[u8; 4096],
-    a: usize,
-    e: usize,
-    start: u8,
-    count: u8,
-    inner: u8,
-    outer: u8,
-) -> bool
+fn held_in(held: &Holdings, a: usize, e: usize, start: u8, count: u8, inner: u8, outer: u8) -> bool
     requires { ⌜ (a ≤ e) × (e ≤ 4096) × (e ≤ a + 256) × (start + count ≤ 256) ⌝ }
     ensures { λ r. ⌜ All (λ k. ltb 0 (max (getD (now (held .entry)) k 0) (cond (inRun start (start + count) (k - a)) inner outer))) a e r ⌝ }
 {
@@ -109,7 +103,7 @@ fn held_in(
 }
 
 // Whether flow i holds something from p on.
-pub fn held_from(held: &[u8; 4096], i: usize, w: Window, p: usize) -> bool
+pub fn held_from(held: &Holdings, i: usize, w: Window, p: usize) -> bool
     requires { ⌜ Proper w × (p < sizeOf w) × (i < 16) ⌝ }
     ensures { λ r. ⌜ r ≡ model.everyFrom (windowOf w) p (someHeld (row (now (held .entry)) i)) ⌝ }
 {
@@ -123,7 +117,7 @@ pub fn held_from(held: &[u8; 4096], i: usize, w: Window, p: usize) -> bool
 }
 
 // The holdings of the run from a to e moved modulo 256: by `inner` at the `count` places from a + `start` on, and by `outer` at the others.
-fn shift(held: &mut [u8; 4096], a: usize, e: usize, start: u8, count: u8, inner: u8, outer: u8)
+fn shift(held: &mut Holdings, a: usize, e: usize, start: u8, count: u8, inner: u8, outer: u8)
     requires { ⌜ (a ≤ e) × (e ≤ 4096) × (e ≤ a + 256) × (start + count ≤ 256) ⌝ }
     ensures { λ r. ⌜ now (held .exit) ≡ replaced (inRun a e) (λ k x. wrapped (cond (inRun start (start + count) (k - a)) inner outer) x) (now (held .entry)) ⌝ }
 {
@@ -139,7 +133,7 @@ fn shift(held: &mut [u8; 4096], a: usize, e: usize, start: u8, count: u8, inner:
 }
 
 // Flow i's holdings from p on, each moved by a number modulo 256: 1 is one more, 255 one fewer.
-pub fn shift_from(held: &mut [u8; 4096], by: u8, i: usize, w: Window, p: usize)
+pub fn shift_from(held: &mut Holdings, by: u8, i: usize, w: Window, p: usize)
     requires { ⌜ Proper w × (p < sizeOf w) × (i < 16) ⌝ }
     ensures { λ r. ⌜ now (held .exit) ≡ shifted (windowOf w) by i p (now (held .entry)) ⌝ }
 {
@@ -160,7 +154,7 @@ pub fn unheld() -> [u8; 256]
 }
 
 // A flow's holdings in each of the 16 rows.
-pub fn rows(held: [u8; 256]) -> [u8; 4096]
+pub fn rows(held: [u8; 256]) -> Holdings
     ensures { λ r. ⌜ r ≡ sixteenRows held ⌝ }
 {
     let mut all = [0u8; 4096];
@@ -173,7 +167,7 @@ pub fn rows(held: [u8; 256]) -> [u8; 4096]
 }
 
 // What each of n flows holds at the last position goes on at the positions from a to e.
-fn carry(held: &mut [u8; 4096], count: usize, last: usize, a: usize, e: usize)
+fn carry(held: &mut Holdings, count: usize, last: usize, a: usize, e: usize)
     requires { ⌜ (count ≤ 16) × (last < 256) × (a ≤ e) × (e ≤ 256) ⌝ }
     ensures { λ r. ⌜ now (held .exit) ≡ carriedRows count last a e (now (held .entry)) ⌝ }
 {
@@ -187,7 +181,7 @@ fn carry(held: &mut [u8; 4096], count: usize, last: usize, a: usize, e: usize)
 }
 
 // What each of n flows holds at the last position goes on in the head frame.
-pub fn carry_head(held: &mut [u8; 4096], count: usize, w: Window)
+pub fn carry_head(held: &mut Holdings, count: usize, w: Window)
     requires { ⌜ Proper w × (count ≤ 16) ⌝ }
     ensures { λ r. ⌜ now (held .exit) ≡ carriedRows count ((baseOf w + sizeOf w - 1) % sizeOf w) (baseOf w) (baseOf w + w .slots) (now (held .entry)) ⌝ }
 {

@@ -13,6 +13,7 @@ ghost use Rattle.tables.specs.Rows.{row};
 ghost use Rattle.tables.specs.Holdings.{roomAt};
 ghost use Rattle.tables.specs.Search.{foundOf, freeFrom, Earliest};
 use crate::Found;
+use crate::holdings::Holdings;
 use crate::holdings::room_rank;
 use window::Window;
 use window::numbers::larger;
@@ -24,7 +25,7 @@ use window::positions::ahead;
 use window::positions::next;
 
 // The rank from which on a position is valid for a flow if nobody booked it: it is late enough, and there is room from it on.
-pub fn valid_rank(held: &[u8; 4096], i: usize, cells: u8, w: Window) -> usize
+pub fn valid_rank(held: &Holdings, i: usize, cells: u8, w: Window) -> usize
     requires { ⌜ Proper w × (i < 16) ⌝ }
     ensures { λ r. ⌜ ((p : ℕ) → p < sizeOf w → leb r (model.rank (windowOf w) p) ≡ not (model.passed (windowOf w) p) && model.everyFrom (windowOf w) p (roomAt (row (now (held .entry)) i) cells)) ⌝ }
 {
