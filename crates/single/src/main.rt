@@ -1,15 +1,15 @@
 // Measures single calls by value. It reads a call file of at most 4096 calls from standard input, plays it many times and times each run of calls of one kind. The lowest time of each run counts, less the clock's own.
-mod clock;
-mod file;
-mod report;
 mod timed;
 
 use calls::Answer;
-use file::MOST;
 use link::Link;
 use link::Step;
 use plan::Plan;
 use plan::Verdict;
+use timing::clock;
+use timing::file;
+use timing::file::MOST;
+use timing::report;
 ghost use Prim.Native.Nat.{_≤_};
 ghost use Rattle.plan.specs.Reading.{Valid};
 

@@ -1,10 +1,10 @@
 // Calls of one kind, by value, one after the other, and the time that they take.
 ghost use Prim.Native.Nat.{_≤_};
 ghost use Rattle.link.specs.Sound.{Sound};
-use crate::clock;
-use crate::file::MOST;
 use calls::Answer;
 use link::Step;
+use timing::clock;
+use timing::file::MOST;
 
 // A link after some calls, with the last answer; the sum of their answers, and the nanoseconds that they took.
 pub(crate) struct Timed {

@@ -3,7 +3,7 @@ ghost use Prim.Native.Nat.{_≤_, _<_, _+_, _*_};
 ghost use lib.ListN.{length};
 
 // The most calls that are played.
-pub(crate) const MOST: usize = 4096;
+pub const MOST: usize = 4096;
 
 fn wide(byte: u8) -> u32
     ensures { λ r. ⌜ r < 256 ⌝ }
@@ -12,7 +12,7 @@ fn wide(byte: u8) -> u32
 }
 
 // The number of two bytes, low byte first.
-pub(crate) fn two_bytes(bytes: &[u8], at: usize) -> u32
+pub fn two_bytes(bytes: &[u8], at: usize) -> u32
     requires { ⌜ at + 1 < length (now bytes) ⌝ }
     ensures { λ r. ⌜ r < 65536 ⌝ }
 {
@@ -30,7 +30,7 @@ fn records_in(bytes: usize) -> usize
 }
 
 // Reads the records into their kinds and the numbers of the four bytes after, up to one that is of no kind; how many there are.
-pub(crate) fn split(records: &[u8], kinds: &mut [u8; MOST], words: &mut [u32; MOST]) -> usize
+pub fn split(records: &[u8], kinds: &mut [u8; MOST], words: &mut [u32; MOST]) -> usize
     ensures { λ r. ⌜ r ≤ 4096 ⌝ }
 {
     let count = records_in(records.len());
@@ -48,7 +48,7 @@ pub(crate) fn split(records: &[u8], kinds: &mut [u8; MOST], words: &mut [u32; MO
 }
 
 // The place after the run of calls of one kind that starts at a place.
-pub(crate) fn run_end(kinds: &[u8; MOST], from: usize, count: usize) -> usize
+pub fn run_end(kinds: &[u8; MOST], from: usize, count: usize) -> usize
     requires { ⌜ (from < count) × (count ≤ 4096) ⌝ }
     ensures more { λ r. ⌜ from < r ⌝ }
     ensures most { λ r. ⌜ r ≤ count ⌝ }

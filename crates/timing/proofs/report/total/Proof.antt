@@ -1,8 +1,8 @@
 -- `single::report::total` is safe and ends. Assumes nothing.
 use Prim.Native.Nat.{_≤_, _-_}
 use borrow.Author.Needs.{needs}
-use Rattle.single.proofs.report.total.Statement.{statement}
-use Rattle.single.proofs.report.total.Tie as tie
+use Rattle.timing.proofs.report.total.Statement.{statement}
+use Rattle.timing.proofs.report.total.Tie as tie
 
 abbrev Inv-loop : tie.InvT-loop
 Inv-loop kind kinds lowest count cost calls₀ spent₀ from₀ calls spent from = from ≤ count

@@ -1,8 +1,8 @@
 -- `single::file::run_end` is safe and ends. Assumes nothing.
 use Prim.Native.Nat.{_≤_, _<_, _-_}
 use borrow.Author.Needs.{needs}
-use Rattle.single.proofs.file.run_end.Statement.{statement}
-use Rattle.single.proofs.file.run_end.Tie as tie
+use Rattle.timing.proofs.file.run_end.Statement.{statement}
+use Rattle.timing.proofs.file.run_end.Tie as tie
 
 abbrev Inv-loop : tie.InvT-loop
 Inv-loop kinds from count kind to₀ to = (from < to) × (to ≤ count)

@@ -1,8 +1,8 @@
 -- `single::clock::cost` is safe and ends. Assumes nothing.
 use Prim.Native.Nat.{_≤_, _-_}
 use borrow.Author.Needs.{needs}
-use Rattle.single.proofs.clock.cost.Statement.{statement}
-use Rattle.single.proofs.clock.cost.Tie as tie
+use Rattle.timing.proofs.clock.cost.Statement.{statement}
+use Rattle.timing.proofs.clock.cost.Tie as tie
 
 abbrev Inv-loop : tie.InvT-loop
 Inv-loop lowest₀ i₀ lowest i = i ≤ 100000

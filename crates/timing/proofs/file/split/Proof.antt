@@ -1,8 +1,8 @@
 -- `single::file::split` is safe and ends. Assumes nothing.
 use Prim.Native.Nat.{_≤_, _-_}
 use borrow.Author.Needs.{needs}
-use Rattle.single.proofs.file.split.Statement.{statement}
-use Rattle.single.proofs.file.split.Tie as tie
+use Rattle.timing.proofs.file.split.Statement.{statement}
+use Rattle.timing.proofs.file.split.Tie as tie
 
 abbrev Inv-loop : tie.InvT-loop
 Inv-loop records kinds₀ words₀ count i₀ kinds words i = i ≤ count

@@ -30,11 +30,11 @@ fn total(kind: u8, kinds: &[u8; MOST], lowest: &[u64; MOST], count: usize, cost:
     Counted { calls, spent }
 }
 
-pub(crate) fn print(text: &[u8]) {
+pub fn print(text: &[u8]) {
     io::write_all(libc::STDOUT_FILENO, text);
 }
 
-pub(crate) fn print_number(number: u64) {
+pub fn print_number(number: u64) {
     io::print_decimal(libc::STDOUT_FILENO, number);
 }
 
@@ -49,7 +49,7 @@ fn tenths(rest: u64, calls: u64) -> u64
 }
 
 // Prints the nanoseconds of one call of a kind, with one digit after the point.
-pub(crate) fn line(
+pub fn line(
     name: &[u8],
     kind: u8,
     kinds: &[u8; MOST],

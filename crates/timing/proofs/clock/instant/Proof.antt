@@ -45,10 +45,10 @@ use Rattle.libc.proofs.clock_gettime as gettime
 use Rattle.libc.proofs.clock_gettime.Symbol as gettime-def
 use Rattle.libc.proofs.clock_gettime.Symbol.{name as #libc·clock-gettime}
 use Rattle.libc.proofs.clock_gettime.Met as gettime-thm
-use Rattle.single.proofs.clock.instant.Key.{name as #single·clock·instant}
-use Rattle.single.proofs.clock.instant as instant
-use Rattle.single.proofs.clock.instant.Statement as stated
-use Rattle.single.proofs.clock.instant.Code as code
+use Rattle.timing.proofs.clock.instant.Key.{name as #single·clock·instant}
+use Rattle.timing.proofs.clock.instant as instant
+use Rattle.timing.proofs.clock.instant.Statement as stated
+use Rattle.timing.proofs.clock.instant.Code as code
 
 abbrev stayed : Stays (instant.ended .signature .params) (instant.ended .kept)
 stayed = tt

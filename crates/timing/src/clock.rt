@@ -23,18 +23,18 @@ fn within(n: i64, most: u64) -> u64
 }
 
 // The time on the clock in nanoseconds.
-pub(crate) fn nanoseconds() -> u64 {
+pub fn nanoseconds() -> u64 {
     let time = instant();
     1000000000 * within(time.tv_sec, 4294967295) + within(time.tv_nsec, 999999999)
 }
 
 // The nanoseconds since a time.
-pub(crate) fn since(begin: u64) -> u64 {
+pub fn since(begin: u64) -> u64 {
     difference(nanoseconds(), begin)
 }
 
 // The first number minus the second, and 0 where that is below 0.
-pub(crate) fn difference(a: u64, b: u64) -> u64 {
+pub fn difference(a: u64, b: u64) -> u64 {
     if a < b {
         return 0;
     }
@@ -42,7 +42,7 @@ pub(crate) fn difference(a: u64, b: u64) -> u64 {
 }
 
 // The lower of two numbers.
-pub(crate) fn least(a: u64, b: u64) -> u64
+pub fn least(a: u64, b: u64) -> u64
     ensures { λ r. ⌜ r ≤ b ⌝ }
 {
     if a < b {
@@ -55,7 +55,7 @@ pub(crate) fn least(a: u64, b: u64) -> u64
 const READINGS: usize = 100000;
 
 // What it costs to read the clock twice: the lowest of many.
-pub(crate) fn cost() -> u64 {
+pub fn cost() -> u64 {
     let mut lowest = u64::MAX;
     let mut i = 0;
     while i < READINGS {

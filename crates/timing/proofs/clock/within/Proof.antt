@@ -9,8 +9,8 @@ use mir.Val.{Fits, SFits}
 use mir.ValLaws.{toZ-ofZ}
 use native.Mathlib.Nat.{lt-of-lt-of-le}
 use borrow.Author.Needs.{needs}
-use Rattle.single.proofs.clock.within.Statement.{statement}
-use Rattle.single.proofs.clock.within.Tie as tie
+use Rattle.timing.proofs.clock.within.Statement.{statement}
+use Rattle.timing.proofs.clock.within.Tie as tie
 
 castable : (z : ℤ) → SFits w64 z → ltZ z (pos 0) ≡ false → T (nonNeg z) × Fits w64 (natAbs z)
 castable (pos n) f e = (tt, record { fits = lt-of-lt-of-le (f .sfits) (lit≤ tt) })
