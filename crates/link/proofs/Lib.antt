@@ -1,9 +1,9 @@
 pub mod Parts
-pub mod Plans
+mod Plans
 pub mod Links
 pub mod Stored
-pub mod FreshLinks
+mod FreshLinks
 pub mod Changes
 pub mod Credits
-pub mod Requests
+mod Requests
 pub mod Ticks

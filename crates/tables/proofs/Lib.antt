@@ -1,3 +1,3 @@
 pub mod Rows
-pub mod Spans
+mod Spans
 pub mod Searches

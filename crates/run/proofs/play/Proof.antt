@@ -1,4 +1,4 @@
--- `link::Link::run` meets its contract. The loop: the records up to a place are played, and the window has the current position. Assumes nothing.
+-- `run::play` meets its contract. The loop: the records up to a place are played, and the window has the current position. Assumes nothing.
 use Prim.Native.Nat.{ℕ, _+_, _-_, _*_, _%_, _≤_, _<_}
 use mathlib.Core.Path.{_≡_, refl, ap, _∙_, subst}
 use mathlib.Core.Logic.{⊎-elim}

@@ -1,4 +1,4 @@
--- `link::tick::carry` meets its contract: a turn carries one row more. Assumes nothing.
+-- `tables::holdings::carry` meets its contract: a turn carries one row more. Assumes nothing.
 use borrow.Author.Needs.{needs}
 use Prim.Native.Nat.{ℕ, _+_, _-_, _*_, _≤_}
 use mathlib.Core.Path.{_≡_, ap, _∙_}

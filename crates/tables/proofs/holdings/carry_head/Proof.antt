@@ -1,4 +1,4 @@
--- `link::tick::carry_head` meets its contract. Assumes nothing.
+-- `tables::holdings::carry_head` meets its contract. Assumes nothing.
 use borrow.Author.Needs.{needs}
 use Prim.Native.Nat.{_*_, _<_}
 use native.Mathlib.Nat.{mod-lt}

@@ -1,4 +1,4 @@
--- `link::holdings::fill` meets its contract. Assumes nothing.
+-- `tables::holdings::fill` meets its contract. Assumes nothing.
 use borrow.Author.Needs.{needs}
 use Prim.Native.Nat.{_-_, _≤_}
 use mathlib.Core.Path.{_≡_, refl}

@@ -1,4 +1,4 @@
--- `link::holdings::held_from` meets its contract. Assumes nothing.
+-- `tables::holdings::held_from` meets its contract. Assumes nothing.
 use borrow.Author.Needs.{needs}
 use native.Mathlib.Omega.{arith}
 use Rattle.tables.proofs.Spans.{pad-high, pad-low, held-span}

@@ -1,4 +1,4 @@
--- `link::holdings::held_in` meets its contract. Assumes nothing.
+-- `tables::holdings::held_in` meets its contract. Assumes nothing.
 use borrow.Author.Needs.{needs}
 use Prim.Native.Nat.{_+_, _-_, _%_, _≤_, max}
 use mathlib.Core.Path.{_≡_, sym, ap, _∙_}

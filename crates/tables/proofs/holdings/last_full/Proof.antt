@@ -1,4 +1,4 @@
--- `link::holdings::last_full` meets its contract. Assumes nothing.
+-- `tables::holdings::last_full` meets its contract. Assumes nothing.
 use borrow.Author.Needs.{needs}
 use Prim.Native.Nat.{_-_, _≤_}
 use native.Mathlib.Omega.{arith}

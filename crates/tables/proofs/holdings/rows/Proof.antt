@@ -1,4 +1,4 @@
--- `link::fresh::rows` meets its contract. Assumes nothing.
+-- `tables::holdings::rows` meets its contract. Assumes nothing.
 use borrow.Author.Needs.{needs}
 use Prim.Native.Nat.{ℕ, _-_, _%_, _≤_}
 use mathlib.Core.Path.{_≡_, refl}

@@ -1,4 +1,4 @@
--- `link::holdings::shift` meets its contract. Assumes nothing.
+-- `tables::holdings::shift` meets its contract. Assumes nothing.
 use borrow.Author.Needs.{needs}
 use Prim.Native.Nat.{_+_, _-_, _%_, _≤_}
 use mathlib.Core.Path.{_≡_, ap, _∙_}

@@ -1,4 +1,4 @@
--- `link::fresh::unheld` meets its contract. Assumes nothing.
+-- `tables::holdings::unheld` meets its contract. Assumes nothing.
 use mathlib.Core.Path.{refl}
 use Rattle.tables.specs.Owners.{everywhere}
 use Rattle.tables.proofs.holdings.unheld.Statement.{statement}

@@ -1,4 +1,4 @@
--- `link::tick::empty` meets its contract. Assumes nothing.
+-- `tables::owners::empty` meets its contract. Assumes nothing.
 use borrow.Author.Needs.{needs}
 use Prim.Native.Nat.{_-_, _≤_}
 use mathlib.Core.Path.{_≡_, refl}

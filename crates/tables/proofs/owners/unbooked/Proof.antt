@@ -1,4 +1,4 @@
--- `link::fresh::unbooked` meets its contract. Assumes nothing.
+-- `tables::owners::unbooked` meets its contract. Assumes nothing.
 use mathlib.Core.Path.{refl}
 use Rattle.tables.specs.Owners.{everywhere}
 use Rattle.tables.proofs.owners.unbooked.Statement.{statement}

@@ -1,4 +1,4 @@
--- `link::search::candidate` meets its contract. Assumes nothing.
+-- `tables::search::candidate` meets its contract. Assumes nothing.
 use mathlib.Core.Bool.{and-false}
 use borrow.Author.Tests.{le-leb, lt-leb, eq-eqb, ne-eqb}
 use Rattle.tables.proofs.search.candidate.Statement.{statement}

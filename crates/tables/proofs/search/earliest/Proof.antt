@@ -1,4 +1,4 @@
--- `link::search::earliest` meets its contract. Assumes nothing.
+-- `tables::search::earliest` meets its contract. Assumes nothing.
 use borrow.Author.Needs.{needs}
 use Prim.Native.Nat.{ℕ, _+_, _-_, _≤_, min}
 use mathlib.Core.Path.{_≡_, ap, _∙_}

@@ -1,4 +1,4 @@
--- `link::search::search` meets its contract. What is left to search comes to what the whole search does: over the slots of a frame (`Scan`), and over
+-- `tables::search::search` meets its contract. What is left to search comes to what the whole search does: over the slots of a frame (`Scan`), and over
 -- the frames (`Walk`). Assumes nothing.
 use borrow.Author.Needs.{needs}
 use Prim.Native.Nat.{ℕ, _+_, _-_, _*_, _≤_, _<_, min}

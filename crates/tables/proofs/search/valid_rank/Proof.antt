@@ -1,4 +1,4 @@
--- `link::search::valid_rank` meets its contract: two lower bounds on ranks are one. Assumes nothing.
+-- `tables::search::valid_rank` meets its contract: two lower bounds on ranks are one. Assumes nothing.
 use borrow.Author.Needs.{needs}
 use Prim.Native.Nat.{_+_, _-_}
 use mathlib.Core.Path.{sym}

@@ -1,4 +1,4 @@
--- `single::clock::cost` is safe and ends. Assumes nothing.
+-- `timing::clock::cost` is safe and ends. Assumes nothing.
 use Prim.Native.Nat.{_≤_, _-_}
 use borrow.Author.Needs.{needs}
 use Rattle.timing.proofs.clock.cost.Statement.{statement}

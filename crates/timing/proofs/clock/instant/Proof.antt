@@ -1,4 +1,4 @@
--- `single::clock::instant` is safe and ends: a walk of its MIR, by hand. The local is lent to `clock_gettime` for a lifetime that is made for the call, and comes back at the last value that the call left.
+-- `timing::clock::instant` is safe and ends: a walk of its MIR, by hand. The local is lent to `clock_gettime` for a lifetime that is made for the call, and comes back at the last value that the call left.
 -- All that the proof knows of `clock_gettime` is that it meets its contract. Assumes nothing else.
 use mathlib.Core.Path.{refl}
 use Prim.Native.Nat.{ℕ}

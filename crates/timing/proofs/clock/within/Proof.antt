@@ -1,4 +1,4 @@
--- `single::clock::within` is safe: a number that is not below 0 is cast. Assumes nothing.
+-- `timing::clock::within` is safe: a number that is not below 0 is cast. Assumes nothing.
 use mathlib.Core.Path.{_≡_, sym, subst}
 use mathlib.Core.Bool.{false}
 use lib.Dec.{T, lit≤}

@@ -1,4 +1,4 @@
--- `single::file::run_end` is safe and ends. Assumes nothing.
+-- `timing::file::run_end` is safe and ends. Assumes nothing.
 use Prim.Native.Nat.{_≤_, _<_, _-_}
 use borrow.Author.Needs.{needs}
 use Rattle.timing.proofs.file.run_end.Statement.{statement}

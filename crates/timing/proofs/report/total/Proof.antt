@@ -1,4 +1,4 @@
--- `single::report::total` is safe and ends. Assumes nothing.
+-- `timing::report::total` is safe and ends. Assumes nothing.
 use Prim.Native.Nat.{_≤_, _-_}
 use borrow.Author.Needs.{needs}
 use Rattle.timing.proofs.report.total.Statement.{statement}

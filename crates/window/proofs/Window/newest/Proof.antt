@@ -1,4 +1,4 @@
--- `link::Window::newest` meets its contract. Assumes nothing.
+-- `window::Window::newest` meets its contract. Assumes nothing.
 use borrow.Author.Needs.{needs}
 use Rattle.window.proofs.Window.newest.Statement.{statement}
 use Rattle.window.proofs.Window.newest.Tie as tie

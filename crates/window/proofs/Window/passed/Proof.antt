@@ -1,4 +1,4 @@
--- `link::Window::passed` meets its contract. Assumes nothing.
+-- `window::Window::passed` meets its contract. Assumes nothing.
 use borrow.Author.Needs.{needs}
 use mathlib.Core.Path.{sym}
 use Rattle.window.proofs.Ranks.{passed-is}

@@ -1,4 +1,4 @@
--- `link::Window::rank` meets its contract. Assumes nothing.
+-- `window::Window::rank` meets its contract. Assumes nothing.
 use borrow.Author.Needs.{needs}
 use mathlib.Core.Path.{sym, _∙_}
 use Rattle.window.proofs.Ranks.{rank-is}

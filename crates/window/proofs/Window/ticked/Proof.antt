@@ -1,4 +1,4 @@
--- `link::Window::ticked` meets its contract. Assumes nothing.
+-- `window::Window::ticked` meets its contract. Assumes nothing.
 use borrow.Author.Needs.{needs}
 use native.Mathlib.Omega.{arith}
 use native.Mathlib.Nat.{mod-lt}

@@ -1,4 +1,4 @@
--- `link::numbers::chosen` meets its contract. Assumes nothing.
+-- `window::numbers::chosen` meets its contract. Assumes nothing.
 use borrow.Author.Tests.{lt-ltb, le-ltb}
 use Rattle.window.proofs.numbers.chosen.Statement.{statement}
 use Rattle.window.proofs.numbers.chosen.Tie as tie

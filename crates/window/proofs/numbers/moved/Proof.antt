@@ -1,4 +1,4 @@
--- `link::numbers::moved` meets its contract. Assumes nothing.
+-- `window::numbers::moved` meets its contract. Assumes nothing.
 use borrow.Author.Needs.{needs}
 use mathlib.Core.Path.{_∙_}
 use native.Mathlib.Omega.{arith}

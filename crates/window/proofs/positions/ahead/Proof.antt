@@ -1,4 +1,4 @@
--- `link::positions::ahead` meets its contract: a difference, or one modulo m. Assumes nothing.
+-- `window::positions::ahead` meets its contract: a difference, or one modulo m. Assumes nothing.
 use borrow.Author.Needs.{needs}
 use mathlib.Core.Path.{sym}
 use native.Mathlib.Omega.{arith}

@@ -1,4 +1,4 @@
--- `link::positions::before` meets its contract: one place back is how far ahead of place 1 it lies. Assumes nothing.
+-- `window::positions::before` meets its contract: one place back is how far ahead of place 1 it lies. Assumes nothing.
 use borrow.Author.Needs.{needs}
 use mathlib.Core.Path.{sym}
 use native.Mathlib.Nat.{mod-eq-of-lt, zero-add}

@@ -1,4 +1,4 @@
--- `link::positions::next` meets its contract. Assumes nothing.
+-- `window::positions::next` meets its contract. Assumes nothing.
 use borrow.Author.Needs.{needs}
 use mathlib.Core.Path.{sym}
 use native.Mathlib.Nat.{mod-self, mod-eq-of-lt}

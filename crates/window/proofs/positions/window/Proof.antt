@@ -1,4 +1,4 @@
--- `link::positions::window` meets its contract. Assumes nothing.
+-- `window::positions::window` meets its contract. Assumes nothing.
 use borrow.Author.Needs.{needs}
 use mathlib.Core.Path.{refl}
 use Rattle.window.proofs.Ranks.{proper}
