@@ -31,7 +31,7 @@ fn turn_once(link: Link, kept: usize, space: &mut [u8], out: &mut [u8]) -> Turn
             more: false,
         };
     }
-    let played = run::play(link, &space[..have], out);
+    let played = playback::play(link, &space[..have], out);
     let written = output::write(out, played.written);
     let rest = input::keep(space, played.used, have);
     let link = played.link;

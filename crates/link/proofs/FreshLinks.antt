@@ -16,7 +16,7 @@ use Rattle.plan.specs.declared.Entry.{Entry}
 use Rattle.plan.specs.Reading as plan
 use Rattle.link.specs.declared.Flow.{Flow}
 use Rattle.link.specs.declared.Link.{Link}
-use Rattle.window.specs.Runs.{inRun, replaced}
+use Rattle.window.specs.Ranges.{inRange, replaced}
 use Rattle.tables.specs.Rows.{row, sixteenRows}
 use Rattle.link.specs.Parts.{noFlow, partOf, partAt}
 use Rattle.tables.specs.Owners.{nobody, ownerOf, everywhere}
@@ -25,7 +25,7 @@ use Rattle.link.specs.Sound.{Sound}
 use Rattle.window.proofs.Tables.{table-same, replicate-table}
 use Rattle.link.proofs.Plans.{plan-count, plan-entry, count-most}
 use Rattle.tables.proofs.Rows.{length-sixteen, row-of-sixteen}
-use Rattle.window.proofs.Runs.{in-run, past-run, length-replaced, replaced-at, replaced-off}
+use Rattle.window.proofs.Ranges.{in-range, past-range, length-replaced, replaced-at, replaced-off}
 
 -- ---- one value at every position
 
@@ -60,7 +60,7 @@ freshLink p = record {
   plan = p;
   cp = 0;
   owner = everywhere nobody;
-  flows = replaced (inRun 0 (p .count)) (λ i f. startFlow (getD (p .entries) i plan.noEntry)) (replicate 16 noFlow);
+  flows = replaced (inRange 0 (p .count)) (λ i f. startFlow (getD (p .entries) i plan.noEntry)) (replicate 16 noFlow);
   held = sixteenRows (everywhere 0);
 }
 
@@ -72,7 +72,7 @@ module _ (p : Plan) (v : plan.Valid p) where
   flow-at i h =
       let b = count-most p v in
       let e : getD (freshLink p .flows) i noFlow ≡ startFlow (getD (p .entries) i plan.noEntry) =
-      replaced-at _ _ (replicate 16 noFlow) i noFlow (rw length-replicate (omega arith)) ∙ rw (in-run 0 (p .count) i (omega arith) h) in
+      replaced-at _ _ (replicate 16 noFlow) i noFlow (rw length-replicate (omega arith)) ∙ rw (in-range 0 (p .count) i (omega arith) h) in
       rw (e, nothing-in-row i (omega arith))
 
   pub read-fresh : linkOf (freshLink p) ≡ fresh (plan.planFor p)
@@ -110,6 +110,6 @@ module _ (p : Plan) (v : plan.Valid p) where
     held-long = length-sixteen (everywhere 0);
     flows = λ i h. rw (flow-at i h) (record { frame = omega (arith, v .accepted .two-frames); spare = λ q _. nothing-at q });
     spare-flows = λ i h b.
-        let e : getD (freshLink p .flows) i noFlow ≡ noFlow = replaced-off _ _ (replicate 16 noFlow) i noFlow (past-run 0 (p .count) i h) ∙ getD-replicate 16 i noFlow noFlow b in
+        let e : getD (freshLink p .flows) i noFlow ≡ noFlow = replaced-off _ _ (replicate 16 noFlow) i noFlow (past-range 0 (p .count) i h) ∙ getD-replicate 16 i noFlow noFlow b in
         rw (e, nothing-in-row i b);
   }

@@ -16,7 +16,7 @@ use Rattle.model.specs.Window.{Window, size}
 use Rattle.model.specs.Link as model
 use Rattle.plan.specs.Reading.{entryFor}
 use Rattle.link.specs.declared.Link.{Link}
-use Rattle.window.specs.Runs.{replaced}
+use Rattle.window.specs.Ranges.{replaced}
 use Rattle.window.specs.Window.{Measures, fromIn}
 use Rattle.link.specs.Parts.{Part, sizeOf, entryAt, partAt, ownerAt, noFlow, withOwners}
 use Rattle.tables.specs.Owners.{nobody, ownerOf}
@@ -26,7 +26,7 @@ use Rattle.link.proofs.Parts.{withFlow, movedTo, withHeld}
 use Rattle.window.proofs.Tables.{getD-table, table-same}
 use Rattle.link.proofs.Plans.{plan-count, plan-entry, count-most}
 use Rattle.tables.proofs.Rows.{length-row, length-with-row, row-with-same, row-with-other}
-use Rattle.window.proofs.Runs.{length-replaced, replaced-at, replaced-off}
+use Rattle.window.proofs.Ranges.{length-replaced, replaced-at, replaced-off}
 
 -- equal parts make equal flows
 pub same-flow : {j j′ c c′ : ℕ} {h h′ : List ℕ} → j ≡ j′ → c ≡ c′ → h ≡ h′

@@ -25,7 +25,7 @@ use Rattle.word.specs.Reading.{fieldsOf}
 use Rattle.calls.specs.declared.Answer.the-variants.{Granted, Refused}
 use Rattle.link.specs.declared.Flow.{Flow}
 use Rattle.link.specs.declared.Link.{Link}
-use Rattle.window.specs.Runs.{replaced}
+use Rattle.window.specs.Ranges.{replaced}
 use Rattle.window.specs.Window.{fromIn}
 use Rattle.tables.specs.Holdings.{roomAt}
 use Rattle.link.specs.Parts.{sizeOf, entryAt, partAt, ownerAt, withOwners}

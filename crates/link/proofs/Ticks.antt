@@ -20,7 +20,7 @@ use Rattle.link.specs.declared.Flow.{Flow}
 use Rattle.link.specs.declared.Link.{Link}
 use Rattle.link.specs.declared.Step.{Step}
 use Rattle.window.specs.declared.Window.{Window}
-use Rattle.window.specs.Runs.{inRun, replaced}
+use Rattle.window.specs.Ranges.{inRange, replaced}
 use Rattle.tables.specs.Rows.{row, carriedRows}
 use Rattle.window.specs.Window as window
 use Rattle.link.specs.Parts.{Part, sizeOf, entryAt, partOf, partAt, ownerAt, noFlow, leftHead}
@@ -30,7 +30,7 @@ use Rattle.calls.specs.Reading.{answerToTick}
 use Rattle.link.specs.Sound.{Sound, SoundFlow}
 use Rattle.link.proofs.Parts.{withCurrent}
 use Rattle.window.proofs.Tables.{table-same}
-use Rattle.window.proofs.Runs.{in-run, before-run, past-run, length-replaced, replaced-at, replaced-off}
+use Rattle.window.proofs.Ranges.{in-range, before-range, past-range, length-replaced, replaced-at, replaced-off}
 use Rattle.tables.proofs.Rows.{length-row, length-carried, row-carried, row-not-carried}
 use Rattle.window.proofs.Ranks.{proper}
 use Rattle.link.specs.Change.{Stepped}
@@ -58,14 +58,14 @@ abbrev recycled : Link → Link
 recycled l = record {
   plan = l .plan;
   cp = nextAt l;
-  owner = replaced (inRun (baseAt l) (baseAt l + l .plan .slots)) (λ q x. nobody) (l .owner);
-  flows = replaced (inRun 0 (l .plan .count)) (λ i f. leftHead (headAt l) (onAt l) (entryAt l i .share) f) (l .flows);
+  owner = replaced (inRange (baseAt l) (baseAt l + l .plan .slots)) (λ q x. nobody) (l .owner);
+  flows = replaced (inRange 0 (l .plan .count)) (λ i f. leftHead (headAt l) (onAt l) (entryAt l i .share) f) (l .flows);
   held = carriedRows (l .plan .count) (lastAt l) (baseAt l) (baseAt l + l .plan .slots) (l .held);
 }
 
 -- a flow's part after a frame change: it leaves the head frame with its share, and the holding at the last position goes on in the head's
 abbrev heldAfter : Link → ℕ → List ℕ
-heldAfter l i = replaced (inRun (baseAt l) (baseAt l + l .plan .slots)) (λ q x. getD (row (l .held) i) (lastAt l) 0) (row (l .held) i)
+heldAfter l i = replaced (inRange (baseAt l) (baseAt l + l .plan .slots)) (λ q x. getD (row (l .held) i) (lastAt l) 0) (row (l .held) i)
 
 abbrev partAfter : Link → ℕ → Part
 partAfter l i = partOf (leftHead (headAt l) (onAt l) (entryAt l i .share) (getD (l .flows) i noFlow)) (heldAfter l i)
@@ -87,13 +87,13 @@ module _ (l : Link) (s : Sound l) where
   base-fits = proper _ _ _ (measures l s) .base-fits
 
   -- the head frame's positions
-  head-run : (q : ℕ) → inRun (baseAt l) (baseAt l + l .plan .slots) q ≡ eqb (q / l .plan .slots) (headAt l)
-  head-run q = go (decLt q (baseAt l)) (decLt q (baseAt l + l .plan .slots))
+  head-range : (q : ℕ) → inRange (baseAt l) (baseAt l + l .plan .slots) q ≡ eqb (q / l .plan .slots) (headAt l)
+  head-range q = go (decLt q (baseAt l)) (decLt q (baseAt l + l .plan .slots))
     where
-      go : Dec (q < baseAt l) → Dec (q < baseAt l + l .plan .slots) → inRun (baseAt l) (baseAt l + l .plan .slots) q ≡ eqb (q / l .plan .slots) (headAt l)
-      go (yes h) d = rw (before-run (baseAt l) (baseAt l + l .plan .slots) q h, ne-eqb (q / l .plan .slots) (headAt l) (λ e. let m = rw e at (div-mul-le-self q (l .plan .slots)) in omega arith))
-      go (no h) (yes d) = rw (in-run (baseAt l) (baseAt l + l .plan .slots) q (omega arith) d, eq-eqb (q / l .plan .slots) (headAt l) (div-eq-of-lt-le (l .plan .slots) (omega arith) (omega (arith, suc-mul (headAt l) (l .plan .slots)))))
-      go (no h) (no d) = rw (past-run (baseAt l) (baseAt l + l .plan .slots) q (omega arith), ne-eqb (q / l .plan .slots) (headAt l) (λ e. let m = rw e at (lt-div-mul-add {a = q} {b = l .plan .slots} (s .plan .accepted .some-slot)) in omega arith))
+      go : Dec (q < baseAt l) → Dec (q < baseAt l + l .plan .slots) → inRange (baseAt l) (baseAt l + l .plan .slots) q ≡ eqb (q / l .plan .slots) (headAt l)
+      go (yes h) d = rw (before-range (baseAt l) (baseAt l + l .plan .slots) q h, ne-eqb (q / l .plan .slots) (headAt l) (λ e. let m = rw e at (div-mul-le-self q (l .plan .slots)) in omega arith))
+      go (no h) (yes d) = rw (in-range (baseAt l) (baseAt l + l .plan .slots) q (omega arith) d, eq-eqb (q / l .plan .slots) (headAt l) (div-eq-of-lt-le (l .plan .slots) (omega arith) (omega (arith, suc-mul (headAt l) (l .plan .slots)))))
+      go (no h) (no d) = rw (past-range (baseAt l) (baseAt l + l .plan .slots) q (omega arith), ne-eqb (q / l .plan .slots) (headAt l) (λ e. let m = rw e at (lt-div-mul-add {a = q} {b = l .plan .slots} (s .plan .accepted .some-slot)) in omega arith))
 
   -- ---- a flow's part
 
@@ -101,21 +101,21 @@ module _ (l : Link) (s : Sound l) where
   part-after i h =
       let b = flows-most l s in
       let e : getD (recycled l .flows) i noFlow ≡ leftHead (headAt l) (onAt l) (entryAt l i .share) (getD (l .flows) i noFlow) =
-      replaced-at _ _ (l .flows) i noFlow (omega (arith, s .flows-long)) ∙ rw (in-run 0 (l .plan .count) i (omega arith) h) in
+      replaced-at _ _ (l .flows) i noFlow (omega (arith, s .flows-long)) ∙ rw (in-range 0 (l .plan .count) i (omega arith) h) in
       let last : lastAt l < 256 = omega (arith, last-below, size-most l s) in
       ap (λ (f : Flow). partOf f (row (recycled l .held) i)) e
       ∙ ap (partOf _) (row-carried (l .plan .count) (lastAt l) (baseAt l) (baseAt l + l .plan .slots) (l .held) i h (omega arith) (s .held-long) last)
 
   spare-stays : (i : ℕ) → l .plan .count ≤ i → partAt (recycled l) i ≡ partAt l i
   spare-stays i h =
-      let e : getD (recycled l .flows) i noFlow ≡ getD (l .flows) i noFlow = replaced-off _ _ (l .flows) i noFlow (past-run 0 (l .plan .count) i h) in
+      let e : getD (recycled l .flows) i noFlow ≡ getD (l .flows) i noFlow = replaced-off _ _ (l .flows) i noFlow (past-range 0 (l .plan .count) i h) in
       rw (e, row-not-carried (l .plan .count) (lastAt l) (baseAt l) (baseAt l + l .plan .slots) (l .held) i h)
 
   held-after : (i : ℕ) → i < l .plan .count → table (sizeOf l) (λ q. getD (heldAfter l i) q 0)
       ≡ table (sizeOf l) (λ q. cond (eqb (q / l .plan .slots) (headAt l)) (model.holding (linkOf l) i (lastAt l)) (model.holding (linkOf l) i q))
   held-after i h = table-same (sizeOf l) _ _ λ q b.
       replaced-at _ _ (partAt l i .held) q 0 (omega (arith, length-row (l .held) i, size-most l s))
-      ∙ rw (head-run q, read-holding l i q h b, read-holding l i (lastAt l) h last-below)
+      ∙ rw (head-range q, read-holding l i q h b, read-holding l i (lastAt l) h last-below)
 
   read-after : (i : ℕ) → i < l .plan .count → flowOf (sizeOf l) (partAfter l i) ≡ tick.carriedOn (linkOf l) i (tick.leftHead (linkOf l) i)
   unfolding linkOf
@@ -146,7 +146,7 @@ module _ (l : Link) (s : Sound l) where
       owners : table (sizeOf l) (λ q. ownerOf (ownerAt (recycled l) q)) ≡ table (sizeOf l) (λ q. cond (eqb (q / l .plan .slots) (headAt l)) none (model.owner (linkOf l) q))
       owners = table-same (sizeOf l) _ _ λ q b.
           ap ownerOf (replaced-at _ _ (l .owner) q 0 (omega (arith, s .owners-long, size-most l s)))
-          ∙ rw (head-run q, read-owner l q b) (emptied (eqb (q / l .plan .slots) (headAt l)) (ownerAt l q))
+          ∙ rw (head-range q, read-owner l q b) (emptied (eqb (q / l .plan .slots) (headAt l)) (ownerAt l q))
 
       flows : table (l .plan .count) (λ i. flowOf (sizeOf l) (partAt (recycled l) i)) ≡ table (paper.flowCount (linkOf l .plan)) (λ i. tick.carriedOn (linkOf l) i (tick.leftHead (linkOf l) i))
       flows =
@@ -160,7 +160,7 @@ module _ (l : Link) (s : Sound l) where
   sound-after : (i : ℕ) → i < l .plan .count → SoundFlow (sizeOf l) (l .plan .frames) (partAfter l i)
   sound-after i h = record {
     frame = go (eqb (partAt l i .frame) (headAt l));
-    spare = λ q k. replaced-off _ _ (partAt l i .held) q 0 (past-run _ _ q (omega (arith, base-fits))) ∙ s .flows i h .spare q k;
+    spare = λ q k. replaced-off _ _ (partAt l i .held) q 0 (past-range _ _ q (omega (arith, base-fits))) ∙ s .flows i h .spare q k;
   }
     where
       go : (b : Bool) → cond b (record { frame = onAt l; left = entryAt l i .share }) (getD (l .flows) i noFlow) .frame < l .plan .frames
@@ -172,17 +172,17 @@ module _ (l : Link) (s : Sound l) where
     plan = s .plan;
     current = next-below;
     owners-long = length-replaced _ _ (l .owner) ∙ s .owners-long;
-    owners = λ q b n. owner q b n (inRun (baseAt l) (baseAt l + l .plan .slots) q) refl;
-    spare-owners = λ q h b. replaced-off _ _ (l .owner) q 0 (past-run _ _ q (omega (arith, base-fits))) ∙ s .spare-owners q h b;
+    owners = λ q b n. owner q b n (inRange (baseAt l) (baseAt l + l .plan .slots) q) refl;
+    spare-owners = λ q h b. replaced-off _ _ (l .owner) q 0 (past-range _ _ q (omega (arith, base-fits))) ∙ s .spare-owners q h b;
     flows-long = length-replaced _ _ (l .flows) ∙ s .flows-long;
     held-long = length-carried (l .plan .count) (lastAt l) (baseAt l) (baseAt l + l .plan .slots) (l .held) ∙ s .held-long;
     flows = λ i h. rw (part-after i h) (sound-after i h);
     spare-flows = λ i h b. spare-stays i h ∙ s .spare-flows i h b;
   }
     where
-      owner : (q : ℕ) → q < 256 → (ownerAt (recycled l) q ≡ nobody → ⊥) → (t : Bool) → inRun (baseAt l) (baseAt l + l .plan .slots) q ≡ t → ownerAt (recycled l) q < l .plan .count
-      owner q b n true e = absurd (n (replaced-at (inRun (baseAt l) (baseAt l + l .plan .slots)) (λ q x. nobody) (l .owner) q 0 (omega (arith, s .owners-long)) ∙ rw e))
-      owner q b n false e = let z = replaced-off (inRun (baseAt l) (baseAt l + l .plan .slots)) (λ q x. nobody) (l .owner) q 0 e in rw z (s .owners q b (λ y. n (z ∙ y)))
+      owner : (q : ℕ) → q < 256 → (ownerAt (recycled l) q ≡ nobody → ⊥) → (t : Bool) → inRange (baseAt l) (baseAt l + l .plan .slots) q ≡ t → ownerAt (recycled l) q < l .plan .count
+      owner q b n true e = absurd (n (replaced-at (inRange (baseAt l) (baseAt l + l .plan .slots)) (λ q x. nobody) (l .owner) q 0 (omega (arith, s .owners-long)) ∙ rw e))
+      owner q b n false e = let z = replaced-off (inRange (baseAt l) (baseAt l + l .plan .slots)) (λ q x. nobody) (l .owner) q 0 e in rw z (s .owners q b (λ y. n (z ∙ y)))
 
   sound-moved : Sound (withCurrent l (nextAt l))
   sound-moved = record {
@@ -232,15 +232,15 @@ module _ (l : Link) (s : Sound l) where
 
     -- the head frame is left
     pub head-left : {a : Answer} {o h : List ℕ} {fs : List Flow} → (on .head ≡ w .head → ⊥)
-        → o ≡ replaced (inRun (window.baseOf w) (window.baseOf w + w .slots)) (λ q x. nobody) (l .owner)
+        → o ≡ replaced (inRange (window.baseOf w) (window.baseOf w + w .slots)) (λ q x. nobody) (l .owner)
         → h ≡ carriedRows (l .plan .count) ((window.baseOf w + window.sizeOf w - 1) % window.sizeOf w) (window.baseOf w) (window.baseOf w + w .slots) (l .held)
-        → fs ≡ replaced (inRun 0 (l .plan .count)) (λ i f. leftHead (w .head) (on .head) (entryAt l i .share) f) (l .flows)
+        → fs ≡ replaced (inRange 0 (l .plan .count)) (λ i f. leftHead (w .head) (on .head) (entryAt l i .share) f) (l .flows)
         → a ≡ answerToTick (ownerOf (getD o (on .current) 0))
         → Stepped answerToTick (tick.tick (linkOf l)) (record { link = record { plan = l .plan; cp = on .current; owner = o; flows = fs; held = h }; answer = a })
     head-left {a} {o} {h} {fs} n owners held flows answer = subst (Stepped answerToTick (tick.tick (linkOf l))) (sym same) (went-on (rw (← next-is, ← slots-are) (t .leaves n .0)))
       where
         owners-are : o ≡ recycled l .owner
-        owners-are = owners ∙ ap (λ (x : Window). replaced (inRun (window.baseOf x) (window.baseOf x + x .slots)) (λ q x. nobody) (l .owner)) window-is
+        owners-are = owners ∙ ap (λ (x : Window). replaced (inRange (window.baseOf x) (window.baseOf x + x .slots)) (λ q x. nobody) (l .owner)) window-is
 
         held-is : h ≡ recycled l .held
         held-is = held ∙ ap (λ (x : Window). carriedRows (l .plan .count) ((window.baseOf x + window.sizeOf x - 1) % window.sizeOf x) (window.baseOf x) (window.baseOf x + x .slots) (l .held)) window-is
@@ -248,8 +248,8 @@ module _ (l : Link) (s : Sound l) where
         flows-are : fs ≡ recycled l .flows
         flows-are =
             flows
-            ∙ ap (λ (j : ℕ). replaced (inRun 0 (l .plan .count)) (λ i f. leftHead (w .head) j (entryAt l i .share) f) (l .flows)) (t .leaves n .1)
-            ∙ ap (λ (x : Window). replaced (inRun 0 (l .plan .count)) (λ i f. leftHead (x .head) ((x .head + 1) % x .frames) (entryAt l i .share) f) (l .flows)) window-is
+            ∙ ap (λ (j : ℕ). replaced (inRange 0 (l .plan .count)) (λ i f. leftHead (w .head) j (entryAt l i .share) f) (l .flows)) (t .leaves n .1)
+            ∙ ap (λ (x : Window). replaced (inRange 0 (l .plan .count)) (λ i f. leftHead (x .head) ((x .head + 1) % x .frames) (entryAt l i .share) f) (l .flows)) window-is
 
         link-is : record { plan = l .plan; cp = on .current; owner = o; flows = fs; held = h } ≡ recycled l
         link-is = λ k. record { plan = l .plan; cp = next-is k; owner = owners-are k; flows = flows-are k; held = held-is k }

@@ -4,7 +4,7 @@ ghost use Prim.Native.Nat.{_≤_};
 ghost use lib.ListN.{getD, replicate};
 ghost use Rattle.plan.specs.Reading.{Valid, planFor, noEntry};
 ghost use Rattle.model.specs.Fresh as model;
-ghost use Rattle.window.specs.Runs.{inRun, replaced};
+ghost use Rattle.window.specs.Ranges.{inRange, replaced};
 ghost use Rattle.link.specs.Parts.{noFlow};
 ghost use Rattle.link.specs.Reading.{linkOf};
 ghost use Rattle.link.specs.Sound.{Sound};
@@ -19,7 +19,7 @@ use tables::owners::unbooked;
 // The frames and remainders of n flows, each with its share.
 fn flows(entries: [Entry; 16], count: usize) -> [Flow; 16]
     requires { ⌜ count ≤ 16 ⌝ }
-    ensures { λ r. ⌜ r ≡ replaced (inRun 0 count) (λ i f. record { frame = 0; left = getD entries i noEntry .share }) (replicate 16 noFlow) ⌝ }
+    ensures { λ r. ⌜ r ≡ replaced (inRange 0 count) (λ i f. record { frame = 0; left = getD entries i noEntry .share }) (replicate 16 noFlow) ⌝ }
 {
     let spare = Flow { frame: 0, left: 0 };
     let mut all = [spare; 16];

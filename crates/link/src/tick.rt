@@ -5,7 +5,7 @@ ghost use lib.ListN.{getD};
 ghost use Rattle.model.specs.Tick as model;
 ghost use Rattle.plan.specs.Reading.{noEntry};
 ghost use Rattle.calls.specs.Reading.{answerToTick};
-ghost use Rattle.window.specs.Runs.{inRun, replaced};
+ghost use Rattle.window.specs.Ranges.{inRange, replaced};
 ghost use Rattle.link.specs.Parts.{leftHead};
 ghost use Rattle.tables.specs.Owners.{ownerOf};
 ghost use Rattle.link.specs.Reading.{linkOf};
@@ -32,7 +32,7 @@ pub fn turn(owner: u8) -> Answer
 // The flows of a plan, those in the head frame moved to the next one with their share.
 pub fn leave_head(flows: [Flow; 16], plan: Plan, head: usize, on: usize) -> [Flow; 16]
     requires { ⌜ plan .count ≤ 16 ⌝ }
-    ensures { λ r. ⌜ r ≡ replaced (inRun 0 (plan .count)) (λ i f. leftHead head on (getD (plan .entries) i noEntry .share) f) flows ⌝ }
+    ensures { λ r. ⌜ r ≡ replaced (inRange 0 (plan .count)) (λ i f. leftHead head on (getD (plan .entries) i noEntry .share) f) flows ⌝ }
 {
     let mut all = flows;
     let mut i = 0;

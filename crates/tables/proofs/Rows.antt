@@ -1,4 +1,4 @@
--- Laws of a table of rows: what stands in a row, one row replaced, and a run of every row replaced. Assumes nothing.
+-- Laws of a table of rows: what stands in a row, one row replaced, and a range of every row replaced. Assumes nothing.
 use Prim.Native.Nat.{ℕ, _+_, _-_, _*_, _/_, _%_, _≤_, _<_}
 use mathlib.Core.Path.{_≡_, refl, sym, ap, _∙_}
 use mathlib.Core.List.{List}
@@ -9,10 +9,10 @@ use lib.ListN.{length, getD}
 use lib.Dec.{ltb}
 use lib.Seq.{ext-getD}
 use borrow.Author.Tests.{lt-ltb, le-ltb}
-use Rattle.window.specs.Runs.{inRun, replaced}
+use Rattle.window.specs.Ranges.{inRange, replaced}
 use Rattle.tables.specs.Rows.{row, Sixteen, rowsOf, sixteenRows, withRow, carriedRows}
 use Rattle.window.proofs.Tables.{getD-table, length-table, table-same, table-of}
-use Rattle.window.proofs.Runs.{in-run, before-run, past-run, length-replaced, replaced-at, replaced-off}
+use Rattle.window.proofs.Ranges.{in-range, before-range, past-range, length-replaced, replaced-at, replaced-off}
 
 pub length-row : (h : List ℕ) (i : ℕ) → length (row h i) ≡ 256
 unfolding row
@@ -53,11 +53,11 @@ module _ (r : List ℕ) where
   row-of-sixteen i h e = row-is _ i r e (λ p b. let m : (256 * i + p) % 256 ≡ p = omega arith in sixteen-at (256 * i + p) (omega arith) ∙ ap (λ (q : ℕ). getD r q 0) m)
 
   -- a loop that has put all places
-  pub sixteen-done : (xs ys : List ℕ) → length xs ≡ 4096 → ys ≡ replaced (inRun 0 4096) (λ k x. getD r (k % 256) 0) xs → ys ≡ sixteenRows r
+  pub sixteen-done : (xs ys : List ℕ) → length xs ≡ 4096 → ys ≡ replaced (inRange 0 4096) (λ k x. getD r (k % 256) 0) xs → ys ≡ sixteenRows r
   sixteen-done xs ys e is =
       is ∙ ext-getD 0 _ _ (length-replaced _ _ xs ∙ e ∙ sym length-sixteen) λ k b.
       let l = rw length-replaced at b in
-      replaced-at _ _ xs k 0 l ∙ rw (in-run 0 4096 k (omega arith) (omega (arith, e))) (sym (sixteen-at k (omega (arith, e))))
+      replaced-at _ _ xs k 0 l ∙ rw (in-range 0 4096 k (omega arith) (omega (arith, e))) (sym (sixteen-at k (omega (arith, e))))
 
 -- ---- one row replaced
 
@@ -70,15 +70,15 @@ module _ (h : List ℕ) (i : ℕ) (r : List ℕ) where
   unfolding withRow
   with-row-in p b l =
       let e : 256 * i + p - 256 * i ≡ p = omega arith in
-      replaced-at _ _ h (256 * i + p) 0 l ∙ rw (in-run (256 * i) (256 * i + 256) (256 * i + p) (omega arith) (omega arith), e)
+      replaced-at _ _ h (256 * i + p) 0 l ∙ rw (in-range (256 * i) (256 * i + 256) (256 * i + p) (omega arith) (omega arith), e)
 
   with-row-before : (k : ℕ) → k < 256 * i → getD (withRow h i r) k 0 ≡ getD h k 0
   unfolding withRow
-  with-row-before k b = replaced-off _ _ h k 0 (before-run (256 * i) (256 * i + 256) k b)
+  with-row-before k b = replaced-off _ _ h k 0 (before-range (256 * i) (256 * i + 256) k b)
 
   with-row-past : (k : ℕ) → 256 * i + 256 ≤ k → getD (withRow h i r) k 0 ≡ getD h k 0
   unfolding withRow
-  with-row-past k b = replaced-off _ _ h k 0 (past-run (256 * i) (256 * i + 256) k b)
+  with-row-past k b = replaced-off _ _ h k 0 (past-range (256 * i) (256 * i + 256) k b)
 
   pub row-with-same : Sixteen h → i < 16 → length r ≡ 256 → row (withRow h i r) i ≡ r
   row-with-same e b l = row-is _ i r l (λ p lp. with-row-in p lp (omega (arith, e)))
@@ -106,7 +106,7 @@ module _ (h : List ℕ) (i : ℕ) (r : List ℕ) where
 pub with-own-row : (h : List ℕ) (i : ℕ) → withRow h i (row h i) ≡ h
 with-own-row h i = sym (with-row-is h i (row h i) h refl (λ p b _. sym (row-at h i p b)) (λ _ _. refl) (λ _ _. refl))
 
--- ---- a run of each of the first n rows replaced
+-- ---- a range of each of the first n rows replaced
 
 module _ (n last a e : ℕ) (h : List ℕ) where
   pub length-carried : length (carriedRows n last a e h) ≡ length h
@@ -114,7 +114,7 @@ module _ (n last a e : ℕ) (h : List ℕ) where
   length-carried = length-replaced _ _ h
 
   pub row-carried : (i : ℕ) → i < n → i < 16 → Sixteen h → last < 256
-      → row (carriedRows n last a e h) i ≡ replaced (inRun a e) (λ q x. getD (row h i) last 0) (row h i)
+      → row (carriedRows n last a e h) i ≡ replaced (inRange a e) (λ q x. getD (row h i) last 0) (row h i)
   unfolding carriedRows
   row-carried i b l z lb = row-is _ i _ (length-replaced _ _ (row h i) ∙ length-row h i) λ p lp.
       let d : (256 * i + p) / 256 ≡ i = omega arith in
@@ -130,13 +130,13 @@ module _ (n last a e : ℕ) (h : List ℕ) where
 
 -- ---- a loop that has carried the first n rows
 
-run-on : (s a e p : ℕ) → inRun (s + a) (s + e) (s + p) ≡ inRun a e p
-run-on s a e p = go (decLt p a) (decLt p e)
+range-on : (s a e p : ℕ) → inRange (s + a) (s + e) (s + p) ≡ inRange a e p
+range-on s a e p = go (decLt p a) (decLt p e)
   where
-    go : Dec (p < a) → Dec (p < e) → inRun (s + a) (s + e) (s + p) ≡ inRun a e p
-    go (yes h) x = before-run (s + a) (s + e) (s + p) (omega arith) ∙ sym (before-run a e p h)
-    go (no h) (yes x) = in-run (s + a) (s + e) (s + p) (omega arith) (omega arith) ∙ sym (in-run a e p (omega arith) x)
-    go (no h) (no x) = past-run (s + a) (s + e) (s + p) (omega arith) ∙ sym (past-run a e p (omega arith))
+    go : Dec (p < a) → Dec (p < e) → inRange (s + a) (s + e) (s + p) ≡ inRange a e p
+    go (yes h) x = before-range (s + a) (s + e) (s + p) (omega arith) ∙ sym (before-range a e p h)
+    go (no h) (yes x) = in-range (s + a) (s + e) (s + p) (omega arith) (omega arith) ∙ sym (in-range a e p (omega arith) x)
+    go (no h) (no x) = past-range (s + a) (s + e) (s + p) (omega arith) ∙ sym (past-range a e p (omega arith))
 
 module _ (last a e : ℕ) (h : List ℕ) where
   pub carried-none : h ≡ carriedRows 0 last a e h
@@ -144,28 +144,28 @@ module _ (last a e : ℕ) (h : List ℕ) where
   carried-none = ext-getD 0 _ _ (sym (length-replaced _ _ h)) (λ k b. sym (replaced-off _ _ h k 0 (rw (le-ltb (k / 256) 0 (omega arith)))))
 
   pub carried-more : (n v : ℕ) → e ≤ 256 → last < 256 → v ≡ getD (carriedRows n last a e h) (256 * n + last) 0
-      → replaced (inRun (256 * n + a) (256 * n + e)) (λ q x. v) (carriedRows n last a e h) ≡ carriedRows (n + 1) last a e h
+      → replaced (inRange (256 * n + a) (256 * n + e)) (λ q x. v) (carriedRows n last a e h) ≡ carriedRows (n + 1) last a e h
   unfolding carriedRows
   carried-more n v eb lb ev =
       ext-getD 0 _ _ (length-replaced _ _ carried ∙ length-replaced _ _ h ∙ sym (length-replaced _ _ h)) λ k b.
       let l = rw (length-replaced, length-replaced) at b in
       replaced-at _ _ carried k 0 (rw length-replaced l)
-      ∙ ap (cond (inRun (256 * n + a) (256 * n + e) k) v) (replaced-at _ _ h k 0 l)
+      ∙ ap (cond (inRange (256 * n + a) (256 * n + e) k) v) (replaced-at _ _ h k 0 l)
       ∙ go k (decLt (k / 256) n) (ℕ-discrete (k / 256) n)
       ∙ sym (replaced-at _ _ h k 0 l)
     where
       carried : List ℕ
-      carried = replaced (λ k. ltb (k / 256) n && inRun a e (k % 256)) (λ k x. getD h (256 * (k / 256) + last) 0) h
+      carried = replaced (λ k. ltb (k / 256) n && inRange a e (k % 256)) (λ k x. getD h (256 * (k / 256) + last) 0) h
 
       value : v ≡ getD h (256 * n + last) 0
       value = let d : (256 * n + last) / 256 ≡ n = omega arith in ev ∙ replaced-off _ _ h (256 * n + last) 0 (rw (d, le-ltb n n (omega arith)))
 
       go : (k : ℕ) → Dec (k / 256 < n) → Dec (k / 256 ≡ n)
-          → cond (inRun (256 * n + a) (256 * n + e) k) v (cond (ltb (k / 256) n && inRun a e (k % 256)) (getD h (256 * (k / 256) + last) 0) (getD h k 0))
-          ≡ cond (ltb (k / 256) (n + 1) && inRun a e (k % 256)) (getD h (256 * (k / 256) + last) 0) (getD h k 0)
-      go k (yes d) x = rw (before-run (256 * n + a) (256 * n + e) k (omega arith), lt-ltb (k / 256) n d, lt-ltb (k / 256) (n + 1) (omega arith))
+          → cond (inRange (256 * n + a) (256 * n + e) k) v (cond (ltb (k / 256) n && inRange a e (k % 256)) (getD h (256 * (k / 256) + last) 0) (getD h k 0))
+          ≡ cond (ltb (k / 256) (n + 1) && inRange a e (k % 256)) (getD h (256 * (k / 256) + last) 0) (getD h k 0)
+      go k (yes d) x = rw (before-range (256 * n + a) (256 * n + e) k (omega arith), lt-ltb (k / 256) n d, lt-ltb (k / 256) (n + 1) (omega arith))
       go k (no d) (yes x) =
-          let m : inRun (256 * n + a) (256 * n + e) k ≡ inRun a e (k % 256) = ap (inRun (256 * n + a) (256 * n + e)) (omega arith) ∙ run-on (256 * n) a e (k % 256) in
+          let m : inRange (256 * n + a) (256 * n + e) k ≡ inRange a e (k % 256) = ap (inRange (256 * n + a) (256 * n + e)) (omega arith) ∙ range-on (256 * n) a e (k % 256) in
           rw (m, le-ltb (k / 256) n (omega arith), lt-ltb (k / 256) (n + 1) (omega arith), x, value)
       go k (no d) (no x) =
-          rw (past-run (256 * n + a) (256 * n + e) k (omega arith), le-ltb (k / 256) n (omega arith), le-ltb (k / 256) (n + 1) (omega arith))
+          rw (past-range (256 * n + a) (256 * n + e) k (omega arith), le-ltb (k / 256) n (omega arith), le-ltb (k / 256) (n + 1) (omega arith))

@@ -7,7 +7,7 @@ ghost use Prim.Native.Nat.{ℕ, _+_, _-_, _%_, _≤_, _<_, max};
 ghost use lib.Dec.{leb, ltb};
 ghost use lib.ListN.{getD};
 ghost use Rattle.model.specs.Window as model;
-ghost use Rattle.window.specs.Runs.{inRun, replaced, wrapped, All, LastIn};
+ghost use Rattle.window.specs.Ranges.{inRange, replaced, wrapped, All, LastIn};
 ghost use Rattle.window.specs.Window.{windowOf, sizeOf, baseOf, Proper};
 ghost use Rattle.tables.specs.Rows.{row, sixteenRows, carriedRows};
 ghost use Rattle.tables.specs.Holdings.{someHeld, roomAt, shifted};
@@ -23,10 +23,10 @@ use window::positions::before;
 
 pub type Holdings = [u8; 4096];
 
-// One value at every place of the run from a to e.
+// One value at every place of the range from a to e.
 fn fill(held: &mut Holdings, value: u8, a: usize, e: usize)
     requires { ⌜ (a ≤ e) × (e ≤ 4096) ⌝ }
-    ensures { λ r. ⌜ now (held .exit) ≡ replaced (inRun a e) (λ q x. value) (now (held .entry)) ⌝ }
+    ensures { λ r. ⌜ now (held .exit) ≡ replaced (inRange a e) (λ q x. value) (now (held .entry)) ⌝ }
 {
     let mut q = a;
     while q < e {
@@ -35,7 +35,7 @@ fn fill(held: &mut Holdings, value: u8, a: usize, e: usize)
     }
 }
 
-// Whether fewer than the cells are held at every place of the run from a to e.
+// Whether fewer than the cells are held at every place of the range from a to e.
 fn room_in(held: &Holdings, cells: u8, a: usize, e: usize) -> bool
     requires { ⌜ (a ≤ e) × (e ≤ 4096) ⌝ }
     ensures { λ r. ⌜ All (roomAt (now (held .entry)) cells) a e r ⌝ }
@@ -51,7 +51,7 @@ fn room_in(held: &Holdings, cells: u8, a: usize, e: usize) -> bool
     all
 }
 
-// One more than the last place of a run at which no fewer than the cells are held, or the first place.
+// One more than the last place of a range at which no fewer than the cells are held, or the first place.
 fn last_full(held: &Holdings, cells: u8, a: usize, e: usize) -> usize
     requires { ⌜ (a ≤ e) × (e ≤ 4096) ⌝ }
     ensures { λ r. ⌜ LastIn (roomAt (now (held .entry)) cells) a e r ⌝ }
@@ -84,10 +84,10 @@ pub(crate) fn room_rank(held: &Holdings, i: usize, cells: u8, w: Window) -> usiz
     last_full(held, cells, head, past) - head
 }
 
-// Whether at every place of the run from a to e something is held or the pad is above 0. The pad is `inner` at the `count` places from a + `start` on, and `outer` at the others.
+// Whether at every place of the range from a to e something is held or the pad is above 0. The pad is `inner` at the `count` places from a + `start` on, and `outer` at the others.
 fn held_in(held: &Holdings, a: usize, e: usize, start: u8, count: u8, inner: u8, outer: u8) -> bool
     requires { ⌜ (a ≤ e) × (e ≤ 4096) × (e ≤ a + 256) × (start + count ≤ 256) ⌝ }
-    ensures { λ r. ⌜ All (λ k. ltb 0 (max (getD (now (held .entry)) k 0) (cond (inRun start (start + count) (k - a)) inner outer))) a e r ⌝ }
+    ensures { λ r. ⌜ All (λ k. ltb 0 (max (getD (now (held .entry)) k 0) (cond (inRange start (start + count) (k - a)) inner outer))) a e r ⌝ }
 {
     let mut least = 255u8;
     let mut q = a;
@@ -116,10 +116,10 @@ pub fn held_from(held: &Holdings, i: usize, w: Window, p: usize) -> bool
     held_in(held, first, past, p as u8, (base - p) as u8, 0, 255)
 }
 
-// The holdings of the run from a to e moved modulo 256: by `inner` at the `count` places from a + `start` on, and by `outer` at the others.
+// The holdings of the range from a to e moved modulo 256: by `inner` at the `count` places from a + `start` on, and by `outer` at the others.
 fn shift(held: &mut Holdings, a: usize, e: usize, start: u8, count: u8, inner: u8, outer: u8)
     requires { ⌜ (a ≤ e) × (e ≤ 4096) × (e ≤ a + 256) × (start + count ≤ 256) ⌝ }
-    ensures { λ r. ⌜ now (held .exit) ≡ replaced (inRun a e) (λ k x. wrapped (cond (inRun start (start + count) (k - a)) inner outer) x) (now (held .entry)) ⌝ }
+    ensures { λ r. ⌜ now (held .exit) ≡ replaced (inRange a e) (λ k x. wrapped (cond (inRange start (start + count) (k - a)) inner outer) x) (now (held .entry)) ⌝ }
 {
     let mut q = a;
     // how far q lies on from a + start, modulo 256

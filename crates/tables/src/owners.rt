@@ -1,7 +1,7 @@
 // The owner of each position.
 ghost use mathlib.Core.Path.{_≡_};
 ghost use Prim.Native.Nat.{_+_, _≤_};
-ghost use Rattle.window.specs.Runs.{inRun, replaced};
+ghost use Rattle.window.specs.Ranges.{inRange, replaced};
 ghost use Rattle.window.specs.Window.{baseOf, Proper};
 ghost use Rattle.tables.specs.Owners.{nobody, everywhere};
 use window::Window;
@@ -12,10 +12,10 @@ pub fn unbooked() -> [u8; 256]
     [16u8; 256]
 }
 
-// Takes the owner from every position of the run from a to e.
+// Takes the owner from every position of the range from a to e.
 fn empty(owner: &mut [u8; 256], a: usize, e: usize)
     requires { ⌜ (a ≤ e) × (e ≤ 256) ⌝ }
-    ensures { λ r. ⌜ now (owner .exit) ≡ replaced (inRun a e) (λ q x. nobody) (now (owner .entry)) ⌝ }
+    ensures { λ r. ⌜ now (owner .exit) ≡ replaced (inRange a e) (λ q x. nobody) (now (owner .entry)) ⌝ }
 {
     let mut q = a;
     while q < e {
@@ -27,7 +27,7 @@ fn empty(owner: &mut [u8; 256], a: usize, e: usize)
 // Takes the owner from every position of the head frame.
 pub fn empty_head(owner: &mut [u8; 256], w: Window)
     requires { ⌜ Proper w ⌝ }
-    ensures { λ r. ⌜ now (owner .exit) ≡ replaced (inRun (baseOf w) (baseOf w + w .slots)) (λ q x. nobody) (now (owner .entry)) ⌝ }
+    ensures { λ r. ⌜ now (owner .exit) ≡ replaced (inRange (baseOf w) (baseOf w + w .slots)) (λ q x. nobody) (now (owner .entry)) ⌝ }
 {
     let base = w.head * w.slots;
     empty(owner, base, base + w.slots);

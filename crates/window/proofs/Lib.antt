@@ -1,3 +1,3 @@
 pub mod Tables
-pub mod Runs
+pub mod Ranges
 pub mod Ranks

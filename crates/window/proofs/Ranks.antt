@@ -1,4 +1,4 @@
--- Positions going round: ranks as differences, and "from p on" as straight runs. Assumes nothing.
+-- Positions going round: ranks as differences, and "from p on" as straight ranges. Assumes nothing.
 use Prim.Native.Nat.{ℕ, suc, _+_, _-_, _*_, _/_, _%_, _≤_, _<_, max}
 use mathlib.Core.Path.{_≡_, refl, sym, ap, _∙_}
 use mathlib.Core.List.{List}
@@ -13,10 +13,10 @@ use Rattle.model.specs.Tables.{ahead, every}
 use Rattle.model.specs.Window as model
 use Rattle.model.specs.Window.{rank, passed, fromOn, everyFrom}
 use Rattle.window.specs.declared.Window.{Window}
-use Rattle.window.specs.Runs.{inRun, replaced, All, LastIn}
+use Rattle.window.specs.Ranges.{inRange, replaced, All, LastIn}
 use Rattle.window.specs.Window.{windowOf, sizeOf, baseOf, Measures, Proper, Ticked, fromIn}
 use Rattle.window.proofs.Tables.{every-intro, every-at, every-miss, every-same}
-use Rattle.window.proofs.Runs.{in-run, before-run, past-run, replaced-same}
+use Rattle.window.proofs.Ranges.{in-range, before-range, past-range, replaced-same}
 
 -- ---- going round m places
 
@@ -176,28 +176,28 @@ module _ (w : Window) (v : Proper w) where
     from-past q l = rw (le-ltb q (sizeOf w) l)
 
     -- from the head to p: the positions before p
-    pub from-high : baseOf w ≤ p → (q : ℕ) → q < sizeOf w → inRun (baseOf w) p q ≡ not (fromIn (windowOf w) p q)
+    pub from-high : baseOf w ≤ p → (q : ℕ) → q < sizeOf w → inRange (baseOf w) p q ≡ not (fromIn (windowOf w) p q)
     from-high h q l = rw (from-is q l) (go (decLt q (baseOf w)) (decLt q p))
       where
         r : rankAt p ≡ p - baseOf w
         r = rank-high p lp h
 
-        go : Dec (q < baseOf w) → Dec (q < p) → inRun (baseOf w) p q ≡ not (leb (rankAt p) (rankAt q))
-        go (yes a) b = rw (before-run (baseOf w) p q a, le-leb (rankAt p) (rankAt q) (omega (arith, r, rank-low q a)))
-        go (no a) (yes b) = rw (in-run (baseOf w) p q (omega arith) b, lt-leb (rankAt p) (rankAt q) (omega (arith, r, rank-high q l (omega arith))))
-        go (no a) (no b) = rw (past-run (baseOf w) p q (omega arith), le-leb (rankAt p) (rankAt q) (omega (arith, r, rank-high q l (omega arith))))
+        go : Dec (q < baseOf w) → Dec (q < p) → inRange (baseOf w) p q ≡ not (leb (rankAt p) (rankAt q))
+        go (yes a) b = rw (before-range (baseOf w) p q a, le-leb (rankAt p) (rankAt q) (omega (arith, r, rank-low q a)))
+        go (no a) (yes b) = rw (in-range (baseOf w) p q (omega arith) b, lt-leb (rankAt p) (rankAt q) (omega (arith, r, rank-high q l (omega arith))))
+        go (no a) (no b) = rw (past-range (baseOf w) p q (omega arith), le-leb (rankAt p) (rankAt q) (omega (arith, r, rank-high q l (omega arith))))
 
     -- from p to the head
-    pub from-low : p < baseOf w → (q : ℕ) → q < sizeOf w → inRun p (baseOf w) q ≡ fromIn (windowOf w) p q
+    pub from-low : p < baseOf w → (q : ℕ) → q < sizeOf w → inRange p (baseOf w) q ≡ fromIn (windowOf w) p q
     from-low h q l = rw (from-is q l) (go (decLt q p) (decLt q (baseOf w)))
       where
         r : rankAt p ≡ p + sizeOf w - baseOf w
         r = rank-low p h
 
-        go : Dec (q < p) → Dec (q < baseOf w) → inRun p (baseOf w) q ≡ leb (rankAt p) (rankAt q)
-        go (yes a) b = rw (before-run p (baseOf w) q a, lt-leb (rankAt p) (rankAt q) (omega (arith, r, rank-low q (omega arith))))
-        go (no a) (yes b) = rw (in-run p (baseOf w) q (omega arith) b, le-leb (rankAt p) (rankAt q) (omega (arith, r, rank-low q b)))
-        go (no a) (no b) = rw (past-run p (baseOf w) q (omega arith), lt-leb (rankAt p) (rankAt q) (omega (arith, r, rank-high q l (omega arith))))
+        go : Dec (q < p) → Dec (q < baseOf w) → inRange p (baseOf w) q ≡ leb (rankAt p) (rankAt q)
+        go (yes a) b = rw (before-range p (baseOf w) q a, lt-leb (rankAt p) (rankAt q) (omega (arith, r, rank-low q (omega arith))))
+        go (no a) (yes b) = rw (in-range p (baseOf w) q (omega arith) b, le-leb (rankAt p) (rankAt q) (omega (arith, r, rank-low q b)))
+        go (no a) (no b) = rw (past-range p (baseOf w) q (omega arith), lt-leb (rankAt p) (rankAt q) (omega (arith, r, rank-high q l (omega arith))))
 
   -- ---- a test from p on
 

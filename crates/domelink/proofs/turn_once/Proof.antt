@@ -2,7 +2,7 @@
 use mathlib.Core.Path.{sym, _∙_}
 use lib.ListN.{take, length-take}
 use lib.Seq.{length-take-le}
-use Rattle.run.proofs.Records.{reach}
+use Rattle.playback.proofs.Records.{reach}
 use native.Mathlib.Omega.{arith}
 use borrow.Author.Needs.{needs}
 use Rattle.domelink.proofs.turn_once.Statement.{statement}

@@ -5,14 +5,14 @@ use mathlib.Core.Path.{_≡_, refl}
 use native.Mathlib.Omega.{arith}
 use lib.ListN.{getD, replicate}
 use Rattle.plan.specs.Reading.{noEntry}
-use Rattle.window.specs.Runs.{inRun, replaced}
+use Rattle.window.specs.Ranges.{inRange, replaced}
 use Rattle.link.specs.Parts.{noFlow}
-use Rattle.window.proofs.Runs.{replaced-none, replaced-more, replaced-done}
+use Rattle.window.proofs.Ranges.{replaced-none, replaced-more, replaced-done}
 use Rattle.link.proofs.fresh.flows.Statement.{statement}
 use Rattle.link.proofs.fresh.flows.Tie as tie
 
 abbrev Inv-loop : tie.InvT-loop
-Inv-loop count entries all₀ i₀ all i = (i ≤ count) × (all ≡ replaced (inRun 0 i) (λ k f. record { frame = 0; left = getD entries k noEntry .share }) (replicate 16 noFlow))
+Inv-loop count entries all₀ i₀ all i = (i ≤ count) × (all ≡ replaced (inRange 0 i) (λ k f. record { frame = 0; left = getD entries k noEntry .share }) (replicate 16 noFlow))
 
 abbrev μ-loop : tie.MeasureT-loop
 μ-loop count entries all₀ i₀ all i = count - i

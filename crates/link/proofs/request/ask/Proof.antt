@@ -20,7 +20,7 @@ use Rattle.model.specs.Request.{found, sought, answered, request}
 use Rattle.calls.specs.Reading.{answerToRequest}
 use Rattle.link.specs.declared.Flow.{Flow}
 use Rattle.link.specs.declared.Link.{Link}
-use Rattle.window.specs.Runs.{replaced, wrapped}
+use Rattle.window.specs.Ranges.{replaced, wrapped}
 use Rattle.tables.specs.Rows.{row}
 use Rattle.link.specs.Parts.{sizeOf, entryAt}
 use Rattle.tables.specs.Holdings.{roomAt}
@@ -28,7 +28,7 @@ use Rattle.link.specs.Reading.{linkOf}
 use Rattle.tables.specs.Search.{foundOf, freeFrom}
 use Rattle.window.specs.Window.{windowOf, fromIn}
 use Rattle.link.specs.Change.{placed, PartsOf, Stepped}
-use Rattle.window.proofs.Runs.{wrapped-up}
+use Rattle.window.proofs.Ranges.{wrapped-up}
 use Rattle.window.proofs.Ranks.{replaced-from}
 use Rattle.link.proofs.Changes.{same-link, same-held, same-moved}
 use Rattle.link.proofs.Links.{read-size, read-frames, flows-most, size-most}

@@ -7,14 +7,14 @@ use native.Mathlib.Omega.{arith}
 use lib.ListN.{getD}
 use borrow.Author.Tests.{eq-eqb, ne-eqb}
 use Rattle.plan.specs.Reading.{noEntry}
-use Rattle.window.specs.Runs.{inRun, replaced}
+use Rattle.window.specs.Ranges.{inRange, replaced}
 use Rattle.link.specs.Parts.{noFlow, leftHead}
-use Rattle.window.proofs.Runs.{replaced-none, replaced-more, replaced-kept, replaced-done}
+use Rattle.window.proofs.Ranges.{replaced-none, replaced-more, replaced-kept, replaced-done}
 use Rattle.link.proofs.tick.leave_head.Statement.{statement}
 use Rattle.link.proofs.tick.leave_head.Tie as tie
 
 abbrev Inv-loop : tie.InvT-loop
-Inv-loop head on plan all₀ i₀ all i = (i ≤ plan .count) × (all ≡ replaced (inRun 0 i) (λ k f. leftHead head on (getD (plan .entries) k noEntry .share) f) all₀)
+Inv-loop head on plan all₀ i₀ all i = (i ≤ plan .count) × (all ≡ replaced (inRange 0 i) (λ k f. leftHead head on (getD (plan .entries) k noEntry .share) f) all₀)
 
 abbrev μ-loop : tie.MeasureT-loop
 μ-loop head on plan all₀ i₀ all i = plan .count - i

@@ -5,7 +5,7 @@ use mathlib.Core.Path.{_≡_, ap, _∙_}
 use mathlib.Core.List.{List}
 use native.Mathlib.Omega.{arith}
 use lib.ListN.{getD}
-use Rattle.window.specs.Runs.{replaced}
+use Rattle.window.specs.Ranges.{replaced}
 use Rattle.tables.specs.Rows.{carriedRows}
 use Rattle.tables.proofs.Rows.{carried-none, carried-more}
 use Rattle.tables.proofs.holdings.carry.Statement.{statement}

@@ -3,13 +3,13 @@ use borrow.Author.Needs.{needs}
 use Prim.Native.Nat.{_-_, _≤_}
 use mathlib.Core.Path.{_≡_, refl}
 use native.Mathlib.Omega.{arith}
-use Rattle.window.specs.Runs.{inRun, replaced}
-use Rattle.window.proofs.Runs.{replaced-none, replaced-more, replaced-done}
+use Rattle.window.specs.Ranges.{inRange, replaced}
+use Rattle.window.proofs.Ranges.{replaced-none, replaced-more, replaced-done}
 use Rattle.tables.proofs.holdings.fill.Statement.{statement}
 use Rattle.tables.proofs.holdings.fill.Tie as tie
 
 abbrev Inv-loop : tie.InvT-loop
-Inv-loop held₀ value a e q₀ held q = (a ≤ q) × (q ≤ e) × (e ≤ 4096) × (held ≡ replaced (inRun a q) (λ k x. value) held₀)
+Inv-loop held₀ value a e q₀ held q = (a ≤ q) × (q ≤ e) × (e ≤ 4096) × (held ≡ replaced (inRange a q) (λ k x. value) held₀)
 
 abbrev μ-loop : tie.MeasureT-loop
 μ-loop held₀ value a e q₀ held q = e - q

@@ -6,14 +6,14 @@ use mathlib.Core.Bool.{cond}
 use native.Mathlib.Omega.{arith}
 use lib.ListN.{getD}
 use lib.Dec.{ltb}
-use Rattle.window.specs.Runs.{inRun, All}
-use Rattle.window.proofs.Runs.{all-none, all-done}
+use Rattle.window.specs.Ranges.{inRange, All}
+use Rattle.window.proofs.Ranges.{all-none, all-done}
 use Rattle.tables.proofs.Spans.{pad-is, next-place, all-least}
 use Rattle.tables.proofs.holdings.held_in.Statement.{statement}
 use Rattle.tables.proofs.holdings.held_in.Tie as tie
 
 abbrev Inv-loop : tie.InvT-loop
-Inv-loop held a e start count inner outer least₀ q₀ x₀ least q x = (a ≤ q) × (q ≤ e) × (e ≤ 4096) × (e ≤ a + 256) × (start + count ≤ 256) × (x ≡ (q - a + 256 - start) % 256) × All (λ k. ltb 0 (max (getD held k 0) (cond (inRun start (start + count) (k - a)) inner outer))) a q (ltb 0 least)
+Inv-loop held a e start count inner outer least₀ q₀ x₀ least q x = (a ≤ q) × (q ≤ e) × (e ≤ 4096) × (e ≤ a + 256) × (start + count ≤ 256) × (x ≡ (q - a + 256 - start) % 256) × All (λ k. ltb 0 (max (getD held k 0) (cond (inRange start (start + count) (k - a)) inner outer))) a q (ltb 0 least)
 
 abbrev μ-loop : tie.MeasureT-loop
 μ-loop held a e start count inner outer least₀ q₀ x₀ least q x = e - q

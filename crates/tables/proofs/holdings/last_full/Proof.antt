@@ -4,7 +4,7 @@ use Prim.Native.Nat.{_-_, _≤_}
 use native.Mathlib.Omega.{arith}
 use borrow.Author.Tests.{lt-ltb, le-ltb}
 use Rattle.tables.specs.Holdings.{roomAt}
-use Rattle.window.proofs.Runs.{Passes, passes-none, passes-more, last-here, last-none}
+use Rattle.window.proofs.Ranges.{Passes, passes-none, passes-more, last-here, last-none}
 use Rattle.tables.proofs.holdings.last_full.Statement.{statement}
 use Rattle.tables.proofs.holdings.last_full.Tie as tie
 

@@ -4,9 +4,9 @@ use Prim.Native.Nat.{_-_, _≤_}
 use mathlib.Core.Logic.{⊎-elim}
 use native.Mathlib.Omega.{arith}
 use borrow.Author.Tests.{lt-ltb, le-ltb}
-use Rattle.window.specs.Runs.{All}
+use Rattle.window.specs.Ranges.{All}
 use Rattle.tables.specs.Holdings.{roomAt}
-use Rattle.window.proofs.Runs.{all-none, all-miss, all-pass, all-done}
+use Rattle.window.proofs.Ranges.{all-none, all-miss, all-pass, all-done}
 use Rattle.tables.proofs.holdings.room_in.Statement.{statement}
 use Rattle.tables.proofs.holdings.room_in.Tie as tie
 

@@ -4,14 +4,14 @@ use Prim.Native.Nat.{ℕ, _-_, _%_, _≤_}
 use mathlib.Core.Path.{_≡_, refl}
 use native.Mathlib.Omega.{arith}
 use lib.ListN.{length, getD, length-replicate}
-use Rattle.window.specs.Runs.{inRun, replaced}
-use Rattle.window.proofs.Runs.{replaced-none, replaced-more, replaced-done}
+use Rattle.window.specs.Ranges.{inRange, replaced}
+use Rattle.window.proofs.Ranges.{replaced-none, replaced-more, replaced-done}
 use Rattle.tables.proofs.Rows.{sixteen-done}
 use Rattle.tables.proofs.holdings.rows.Statement.{statement}
 use Rattle.tables.proofs.holdings.rows.Tie as tie
 
 abbrev Inv-loop : tie.InvT-loop
-Inv-loop held all₀ k₀ all k = (k ≤ 4096) × (length all₀ ≡ 4096) × (all ≡ replaced (inRun 0 k) (λ q x. getD held (q % 256) 0) all₀)
+Inv-loop held all₀ k₀ all k = (k ≤ 4096) × (length all₀ ≡ 4096) × (all ≡ replaced (inRange 0 k) (λ q x. getD held (q % 256) 0) all₀)
 
 abbrev μ-loop : tie.MeasureT-loop
 μ-loop held all₀ k₀ all k = 4096 - k

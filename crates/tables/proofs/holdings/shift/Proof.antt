@@ -5,14 +5,14 @@ use mathlib.Core.Path.{_≡_, ap, _∙_}
 use mathlib.Core.Bool.{cond}
 use native.Mathlib.Omega.{arith}
 use lib.ListN.{getD}
-use Rattle.window.specs.Runs.{inRun, replaced, wrapped}
-use Rattle.window.proofs.Runs.{replaced-none, replaced-more, replaced-done}
+use Rattle.window.specs.Ranges.{inRange, replaced, wrapped}
+use Rattle.window.proofs.Ranges.{replaced-none, replaced-more, replaced-done}
 use Rattle.tables.proofs.Spans.{pad-is, next-place}
 use Rattle.tables.proofs.holdings.shift.Statement.{statement}
 use Rattle.tables.proofs.holdings.shift.Tie as tie
 
 abbrev Inv-loop : tie.InvT-loop
-Inv-loop held₀ a e start count inner outer q₀ x₀ held q x = (a ≤ q) × (q ≤ e) × (e ≤ 4096) × (e ≤ a + 256) × (start + count ≤ 256) × (x ≡ (q - a + 256 - start) % 256) × (held ≡ replaced (inRun a q) (λ k x. wrapped (cond (inRun start (start + count) (k - a)) inner outer) x) held₀)
+Inv-loop held₀ a e start count inner outer q₀ x₀ held q x = (a ≤ q) × (q ≤ e) × (e ≤ 4096) × (e ≤ a + 256) × (start + count ≤ 256) × (x ≡ (q - a + 256 - start) % 256) × (held ≡ replaced (inRange a q) (λ k x. wrapped (cond (inRange start (start + count) (k - a)) inner outer) x) held₀)
 
 abbrev μ-loop : tie.MeasureT-loop
 μ-loop held₀ a e start count inner outer q₀ x₀ held q x = e - q

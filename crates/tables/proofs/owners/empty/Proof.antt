@@ -3,14 +3,14 @@ use borrow.Author.Needs.{needs}
 use Prim.Native.Nat.{_-_, _≤_}
 use mathlib.Core.Path.{_≡_, refl}
 use native.Mathlib.Omega.{arith}
-use Rattle.window.specs.Runs.{inRun, replaced}
+use Rattle.window.specs.Ranges.{inRange, replaced}
 use Rattle.tables.specs.Owners.{nobody}
-use Rattle.window.proofs.Runs.{replaced-none, replaced-more, replaced-done}
+use Rattle.window.proofs.Ranges.{replaced-none, replaced-more, replaced-done}
 use Rattle.tables.proofs.owners.empty.Statement.{statement}
 use Rattle.tables.proofs.owners.empty.Tie as tie
 
 abbrev Inv-loop : tie.InvT-loop
-Inv-loop owner₀ a e q₀ owner q = (a ≤ q) × (q ≤ e) × (e ≤ 256) × (owner ≡ replaced (inRun a q) (λ k x. nobody) owner₀)
+Inv-loop owner₀ a e q₀ owner q = (a ≤ q) × (q ≤ e) × (e ≤ 256) × (owner ≡ replaced (inRange a q) (λ k x. nobody) owner₀)
 
 abbrev μ-loop : tie.MeasureT-loop
 μ-loop owner₀ a e q₀ owner q = e - q

@@ -1,4 +1,4 @@
--- `run::play` meets its contract. The loop: the records up to a place are played, and the window has the current position. Assumes nothing.
+-- `playback::play` meets its contract. The loop: the records up to a place are played, and the window has the current position. Assumes nothing.
 use Prim.Native.Nat.{ℕ, _+_, _-_, _*_, _%_, _≤_, _<_}
 use mathlib.Core.Path.{_≡_, refl, ap, _∙_, subst}
 use mathlib.Core.Logic.{⊎-elim}
@@ -12,7 +12,7 @@ use Rattle.plan.specs.Reading.{noEntry}
 use Rattle.calls.specs.declared.Call.{Call}
 use Rattle.calls.specs.declared.Record.{Record}
 use Rattle.calls.specs.Reading.{callIn, answerToRequest}
-use Rattle.calls.proofs.Ran.{callAt}
+use Rattle.calls.proofs.PlayedTo.{callAt}
 use Rattle.model.specs.Calls as calls
 use Rattle.model.specs.Link as paper
 use Rattle.model.specs.Request as model
@@ -20,22 +20,22 @@ use Rattle.model.specs.Window as seen
 use Rattle.calls.specs.Lines.{outWith, nextAfter}
 use Rattle.link.specs.declared.Link.{Link}
 use Rattle.window.specs.declared.Window.{Window}
-use Rattle.window.specs.Runs.{inRun, replaced}
+use Rattle.window.specs.Ranges.{inRange, replaced}
 use Rattle.tables.specs.Rows.{carriedRows}
 use Rattle.window.specs.Window.{windowOf, sizeOf, baseOf}
 use Rattle.link.specs.Parts.{noFlow, leftHead}
 use Rattle.link.specs.Reading.{linkOf}
 use Rattle.link.specs.Sound.{Sound}
 use Rattle.link.specs.Change.{Stepped, Around, PartsOf, Creditable}
-use Rattle.run.specs.Run.{playable}
+use Rattle.playback.specs.Playback.{playable}
 use Rattle.link.proofs.Parts.{withCurrent}
 use Rattle.link.proofs.Changes.{place-below, around, parts-of, stored-booking, stored-flow}
 use Rattle.link.proofs.Credits.{refused-credit, taken-credit}
 use Rattle.link.proofs.Links.{measures, flows-most, read-window}
 use Rattle.link.proofs.Ticks.{head-stays, head-left, same-turn}
-use Rattle.run.proofs.Records.{reads-as, request-made, credit-made, tick-made, none-made, playedAt, Playing, playing-first, playing-on, playing-ticked, Came, same-came, Going, reach, going-on, begun, ended, same-size}
-use Rattle.run.proofs.play.Statement.{statement}
-use Rattle.run.proofs.play.Tie as tie
+use Rattle.playback.proofs.Records.{reads-as, request-made, credit-made, tick-made, none-made, playedAt, Playing, playing-first, playing-on, playing-ticked, Came, same-came, Going, reach, going-on, begun, ended, same-size}
+use Rattle.playback.proofs.play.Statement.{statement}
+use Rattle.playback.proofs.play.Tie as tie
 
 abbrev Inv-loop : tie.InvT-loop
 Inv-loop records out₀ used link₀ plan w₀ at₀ end₀ out link w at end = (at ≤ used) × (used ≡ 5 * playable records out₀) × Playing plan w link × Going (linkOf link₀) records out₀ at (playedAt link w) end out
@@ -161,7 +161,7 @@ module _ (c : tie.At-match2-came Inv-loop μ-loop) where
             (⊎-elim
             (λ t. same-turn l (b .2 .result .current) (ap (λ (x : Link). playedAt x (b .2 .result)) (t .7)) (b .7 .ensures) (head-left l s is v (b .2 .ensures) (t .0 .taken) (t .2 .ensures)
             (t .4 .ensures ∙ ap (λ (x : Plan). carriedRows (x .count) ((baseOf w + sizeOf w - 1) % sizeOf w) (baseOf w) (baseOf w + w .slots) (l .held)) (p .plan-is))
-            (t .6 .ensures ∙ ap (λ (x : Plan). replaced (inRun 0 (x .count)) (λ i f. leftHead (w .head) (b .2 .result .head) (getD (x .entries) i noEntry .share) f) (l .flows)) (p .plan-is))))
+            (t .6 .ensures ∙ ap (λ (x : Plan). replaced (inRange 0 (x .count)) (λ i f. leftHead (w .head) (b .2 .result .head) (getD (x .entries) i noEntry .share) f) (l .flows)) (p .plan-is))))
             (λ t. same-turn l (b .2 .result .current) (ap (λ (x : Link). playedAt x (b .2 .result)) (t .1)) (b .7 .ensures) (head-stays l s is v (b .2 .ensures) (t .0 .left)))
             (b .5 .came));
         playing = playing-ticked p (b .2 .ensures) (⊎-elim (λ t. ap (λ (x : Link). x .plan) (t .7)) (λ t. ap (λ (x : Link). x .plan) (t .1)) (b .5 .came));

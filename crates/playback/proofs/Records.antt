@@ -1,4 +1,4 @@
--- A run over call records: what a record reads as, and what holds after each. Assumes nothing.
+-- Call records played in place: what a record reads as, and what holds after each. Assumes nothing.
 use Prim.Native.Nat.{ℕ, _+_, _*_, _/_, _%_, _≤_, _<_}
 use mathlib.Core.Path.{_≡_, refl, sym, ap, _∙_}
 use mathlib.Core.List.{List}
@@ -16,7 +16,7 @@ use Rattle.calls.specs.declared.Record.{Record}
 use Rattle.calls.specs.declared.Record.the-variants.{NoCall}
 use Rattle.calls.specs.declared.Call.the-variants.{Request, Credit, Tick}
 use Rattle.calls.specs.Reading.{recordFor, callIn, lineFor, answerToRequest, answerToCredit, answerToTick}
-use Rattle.calls.proofs.Ran.{Ran, ran-none, callAt, ran-more}
+use Rattle.calls.proofs.PlayedTo.{PlayedTo, played-none, callAt, played-more}
 use Rattle.calls.proofs.Answers.{call-in, line-of-request, line-of-credit, line-of-tick}
 use Rattle.calls.specs.Lines.{outWith, nextAfter}
 use Rattle.model.specs.Calls as calls
@@ -30,7 +30,7 @@ use Rattle.window.specs.Window.{windowOf, Proper, Ticked}
 use Rattle.link.specs.Reading.{linkOf}
 use Rattle.link.specs.Sound.{Sound}
 use Rattle.link.specs.Change.{Stepped}
-use Rattle.run.specs.Run.{playable, Played}
+use Rattle.playback.specs.Playback.{playable, PlayedRecords}
 use Rattle.link.proofs.Parts.{withCurrent}
 
 -- ---- what a record reads as
@@ -103,11 +103,11 @@ same-came d e f g m = rw (d, e, f, g) m
 -- What holds when the records up to a place are played: l is the link at the start, and `out` the slice for the lines.
 pub record Going (l : model.Link) (records out : List ℕ) (at : ℕ) (link : Link) (end : ℕ) (lines : List ℕ) : Type 0 where
   pub whole : at % 5 ≡ 0
-  pub ran : Ran l records out 0 at (linkOf link) lines end
+  pub played : PlayedTo l records out 0 at (linkOf link) lines end
   pub seven-most : 5 * end ≤ 7 * at
   pub sound : Sound link
 
--- how far a run goes
+-- how far the records go
 pub record Reach (records out : List ℕ) (used : ℕ) : Type 0 where
   pub whole : used % 5 ≡ 0
   pub in-records : used ≤ length records
@@ -122,11 +122,11 @@ reach records out used e =
 
 -- nothing is played yet
 pub begun : (records out : List ℕ) (link : Link) → Sound link → Going (linkOf link) records out 0 link 0 out
-begun records out link sound = record { whole = refl; ran = ran-none (linkOf link) records out 0; seven-most = omega arith; sound = sound }
+begun records out link sound = record { whole = refl; played = played-none (linkOf link) records out 0; seven-most = omega arith; sound = sound }
 
 module _ {l : model.Link} {records out : List ℕ} {at : ℕ} {link : Link} {end : ℕ} {lines : List ℕ} (g : Going l records out at link end lines) where
   pub same-size : length lines ≡ length out
-  same-size = ap length (g .ran .lines) ∙ length-sets out 0 (listing l (take at records))
+  same-size = ap length (g .played .lines) ∙ length-sets out 0 (listing l (take at records))
 
   -- one record more
   pub going-on : {used : ℕ} → Reach records out used → at < used → {link′ : Link} {end′ : ℕ} {lines′ : List ℕ}
@@ -142,16 +142,16 @@ module _ {l : model.Link} {records out : List ℕ} {at : ℕ} {link : Link} {end
       let room : end + 7 ≤ length lines = omega (arith, g .seven-most, r .in-out) in
       record {
         whole = omega arith;
-        ran = ran-more (g .ran) (g .whole) (omega (arith, r .in-records)) room next refl written ends;
+        played = played-more (g .played) (g .whole) (omega (arith, r .in-records)) room next refl written ends;
         seven-most = omega (arith, g .seven-most);
         sound = sound;
       }
 
   -- all is played
-  pub ended : {used : ℕ} → used ≡ 5 * playable records out → at ≡ used → Played l records out (linkOf link) used end lines
+  pub ended : {used : ℕ} → used ≡ 5 * playable records out → at ≡ used → PlayedRecords l records out (linkOf link) used end lines
   ended e z = record {
     used-is = e;
-    link-is = g .ran .link ∙ ap (λ n. linkAfter l (take n records)) z;
-    written-is = let u = g .ran .up-to in let v = ap (λ n. length (listing l (take n records))) z in omega arith;
-    out-is = g .ran .lines ∙ ap (λ n. sets out 0 (listing l (take n records))) z;
+    link-is = g .played .link ∙ ap (λ n. linkAfter l (take n records)) z;
+    written-is = let u = g .played .up-to in let v = ap (λ n. length (listing l (take n records))) z in omega arith;
+    out-is = g .played .lines ∙ ap (λ n. sets out 0 (listing l (take n records))) z;
   }

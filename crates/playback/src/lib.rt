@@ -1,8 +1,8 @@
-// A run over a slice of call records.
+// Call records of a slice played in place.
 ghost use mathlib.Core.Path.{_≡_};
 ghost use Rattle.link.specs.Reading.{linkOf};
 ghost use Rattle.link.specs.Sound.{Sound};
-ghost use Rattle.run.specs.Run.{Played};
+ghost use Rattle.playback.specs.Playback.{PlayedRecords};
 use calls::Answer;
 use calls::Call;
 use calls::LONGEST_LINE;
@@ -21,7 +21,7 @@ use window::numbers::smaller;
 use window::positions::window;
 
 // A link after some records, and how many bytes the records and their lines have.
-pub struct Run {
+pub struct Playback {
     pub link: Link,
     // bytes of the records that were played
     pub used: usize,
@@ -30,9 +30,9 @@ pub struct Run {
 }
 
 // Plays the records of a slice and writes their lines from the start of `out` on: every whole record, or as many as `out` has room for, seven bytes each.
-pub fn play(start: Link, records: &[u8], out: &mut [u8]) -> Run
+pub fn play(start: Link, records: &[u8], out: &mut [u8]) -> Playback
     requires { ⌜ Sound start ⌝ }
-    ensures { λ r. ⌜ Played (linkOf start) (now (records .entry)) (now (out .entry)) (linkOf (r .link)) (r .used) (r .written) (now (out .exit)) ⌝ }
+    ensures { λ r. ⌜ PlayedRecords (linkOf start) (now (records .entry)) (now (out .entry)) (linkOf (r .link)) (r .used) (r .written) (now (out .exit)) ⌝ }
     ensures sound { λ r. ⌜ Sound (r .link) ⌝ }
 {
     let used = RECORD * smaller(records.len() / RECORD, out.len() / LONGEST_LINE);
@@ -91,7 +91,7 @@ pub fn play(start: Link, records: &[u8], out: &mut [u8]) -> Run
         at += RECORD;
     }
     link.cp = w.current;
-    Run {
+    Playback {
         link,
         used,
         written: end,

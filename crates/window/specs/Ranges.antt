@@ -1,13 +1,13 @@
--- Lists by position: positions that pass a test replaced, a test of every position of a run, the last one that fails it, and a byte moved modulo 256. Assumes nothing.
+-- Lists by position: positions that pass a test replaced, a test of every position of a range, the last one that fails it, and a byte moved modulo 256. Assumes nothing.
 use Prim.Native.Nat.{ℕ, suc, _+_, _-_, _≤_, _<_}
 use mathlib.Core.Path.{_≡_}
 use mathlib.Core.List.{List, [], _∷_}
 use mathlib.Core.Bool.{Bool, true, false, _&&_, cond}
 use lib.Dec.{leb, ltb, eqb}
 
--- the run from a to e: the positions a, a + 1, .., e - 1
-unfoldable pub inRun : ℕ → ℕ → ℕ → Bool
-inRun a e q = leb a q && ltb q e
+-- the range from a to e: the positions a, a + 1, .., e - 1
+unfoldable pub inRange : ℕ → ℕ → ℕ → Bool
+inRange a e q = leb a q && ltb q e
 
 -- the list with its elements replaced at the positions that pass t: x at position i by f i x
 module _ {A : Type 0} where
@@ -19,19 +19,19 @@ module _ {A : Type 0} where
 unfoldable pub wrapped : ℕ → ℕ → ℕ
 wrapped by x = cond (eqb by 0) x (cond (ltb (x + by) 256) (x + by) (x + by - 256))
 
--- a position of the run from a to e that fails t
+-- a position of the range from a to e that fails t
 pub record Miss (t : ℕ → Bool) (a e : ℕ) : Type 0 where
   pub at : ℕ
   pub from : a ≤ at
   pub below : at < e
   pub fails : t at ≡ false
 
--- r says whether every position of the run from a to e passes t
+-- r says whether every position of the range from a to e passes t
 pub record All (t : ℕ → Bool) (a e : ℕ) (r : Bool) : Type 0 where
   pub pass : r ≡ true → (q : ℕ) → a ≤ q → q < e → t q ≡ true
   pub miss : r ≡ false → Miss t a e
 
--- r is one more than the last position of the run from a to e that fails t, or a
+-- r is one more than the last position of the range from a to e that fails t, or a
 pub record LastIn (t : ℕ → Bool) (a e r : ℕ) : Type 0 where
   pub low : a ≤ r
   pub high : r ≤ e

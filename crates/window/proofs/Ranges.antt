@@ -1,4 +1,4 @@
--- Laws of runs of positions: a loop that replaces one element a turn, a loop that tests one a turn, and a search back. Assumes nothing.
+-- Laws of ranges of positions: a loop that replaces one element a turn, a loop that tests one a turn, and a search back. Assumes nothing.
 use Prim.Native.Nat.{ℕ, zero, suc, _+_, _-_, _%_, _≤_, _<_}
 use mathlib.Core.Path.{_≡_, refl, sym, ap, _∙_}
 use mathlib.Core.List.{List, [], _∷_}
@@ -9,26 +9,26 @@ use lib.ListN.{length, getD, set, length-set, List·getD-eq-default}
 use lib.Dec.{leb, ltb, eqb}
 use lib.Seq.{ext-getD, getD-set-same, getD-set-other, set-getD}
 use borrow.Author.Tests.{le-leb, lt-leb, lt-ltb, le-ltb, eq-eqb, ne-eqb}
-use Rattle.window.specs.Runs.{inRun, replaced, wrapped, Miss, All, LastIn}
+use Rattle.window.specs.Ranges.{inRange, replaced, wrapped, Miss, All, LastIn}
 
--- ---- a run
+-- ---- a range
 
-pub in-run : (a e q : ℕ) → a ≤ q → q < e → inRun a e q ≡ true
-unfolding inRun
-in-run a e q h k = rw (le-leb a q h, lt-ltb q e k)
+pub in-range : (a e q : ℕ) → a ≤ q → q < e → inRange a e q ≡ true
+unfolding inRange
+in-range a e q h k = rw (le-leb a q h, lt-ltb q e k)
 
-pub before-run : (a e q : ℕ) → q < a → inRun a e q ≡ false
-unfolding inRun
-before-run a e q h = rw (lt-leb a q h)
+pub before-range : (a e q : ℕ) → q < a → inRange a e q ≡ false
+unfolding inRange
+before-range a e q h = rw (lt-leb a q h)
 
-pub past-run : (a e q : ℕ) → e ≤ q → inRun a e q ≡ false
-unfolding inRun
-past-run a e q h = rw (le-ltb q e h, and-false)
+pub past-range : (a e q : ℕ) → e ≤ q → inRange a e q ≡ false
+unfolding inRange
+past-range a e q h = rw (le-ltb q e h, and-false)
 
 -- one position more
-run-more : (a e q : ℕ) → (q ≡ e → ⊥) → inRun a (e + 1) q ≡ inRun a e q
-unfolding inRun
-run-more a e q n = go (decLt q e)
+range-more : (a e q : ℕ) → (q ≡ e → ⊥) → inRange a (e + 1) q ≡ inRange a e q
+unfolding inRange
+range-more a e q n = go (decLt q e)
   where
     go : Dec (q < e) → leb a q && ltb q (e + 1) ≡ leb a q && ltb q e
     go (yes h) = rw (lt-ltb q e h, lt-ltb q (e + 1) (omega arith))
@@ -89,41 +89,41 @@ module _ {A : Type 0} where
       let l = rw length-replaced at h in
       replaced-at t f xs i d l ∙ e i l ∙ sym (replaced-at t′ f′ xs i d l)
 
-  -- ---- a loop that has replaced the run from a to j
+  -- ---- a loop that has replaced the range from a to j
 
-  pub replaced-none : (a : ℕ) (f : ℕ → A → A) (xs : List A) (d : A) → xs ≡ replaced (inRun a a) f xs
+  pub replaced-none : (a : ℕ) (f : ℕ → A → A) (xs : List A) (d : A) → xs ≡ replaced (inRange a a) f xs
   replaced-none a f xs d = ext-getD d _ _ (sym (length-replaced _ f xs)) (λ i h. sym (replaced-off _ f xs i d (go i (decLt i a))))
     where
-      go : (i : ℕ) → Dec (i < a) → inRun a a i ≡ false
-      go i (yes h) = before-run a a i h
-      go i (no h) = past-run a a i (omega arith)
+      go : (i : ℕ) → Dec (i < a) → inRange a a i ≡ false
+      go i (yes h) = before-range a a i h
+      go i (no h) = past-range a a i (omega arith)
 
-  pub replaced-more : (a j : ℕ) (f : ℕ → A → A) (xs : List A) (d : A) (ys : List A) (v : A) → ys ≡ replaced (inRun a j) f xs → a ≤ j
-      → v ≡ f j (getD ys j d) → set ys j v ≡ replaced (inRun a (j + 1)) f xs
+  pub replaced-more : (a j : ℕ) (f : ℕ → A → A) (xs : List A) (d : A) (ys : List A) (v : A) → ys ≡ replaced (inRange a j) f xs → a ≤ j
+      → v ≡ f j (getD ys j d) → set ys j v ≡ replaced (inRange a (j + 1)) f xs
   replaced-more a j f xs d ys v e l ev =
       ap (λ (zs : List A). set zs j v) e
       ∙ ap (set done j) (ev ∙ ap (λ (zs : List A). f j (getD zs j d)) e ∙ ap (f j) here)
       ∙ ext-getD d _ _ (simp (length-set, length-replaced)) (λ i b. go i (rw (length-set, length-replaced) at b) (ℕ-discrete i j))
     where
       done : List A
-      done = replaced (inRun a j) f xs
+      done = replaced (inRange a j) f xs
 
       here : getD done j d ≡ getD xs j d
-      here = replaced-off (inRun a j) f xs j d (past-run a j j (omega arith))
+      here = replaced-off (inRange a j) f xs j d (past-range a j j (omega arith))
 
-      go : (i : ℕ) → i < length xs → Dec (i ≡ j) → getD (set done j (f j (getD xs j d))) i d ≡ getD (replaced (inRun a (j + 1)) f xs) i d
-      go i b (yes q) = let h = rw q at b in rw q (getD-set-same done j _ d (rw length-replaced h) ∙ sym (replaced-at _ f xs j d h ∙ rw (in-run a (j + 1) j l (omega arith))))
-      go i b (no q) = getD-set-other done j i _ d q ∙ replaced-at _ f xs i d b ∙ rw (← run-more a j i q) (sym (replaced-at _ f xs i d b))
+      go : (i : ℕ) → i < length xs → Dec (i ≡ j) → getD (set done j (f j (getD xs j d))) i d ≡ getD (replaced (inRange a (j + 1)) f xs) i d
+      go i b (yes q) = let h = rw q at b in rw q (getD-set-same done j _ d (rw length-replaced h) ∙ sym (replaced-at _ f xs j d h ∙ rw (in-range a (j + 1) j l (omega arith))))
+      go i b (no q) = getD-set-other done j i _ d q ∙ replaced-at _ f xs i d b ∙ rw (← range-more a j i q) (sym (replaced-at _ f xs i d b))
 
   -- the element at j is as it was
-  pub replaced-kept : (a j : ℕ) (f : ℕ → A → A) (xs : List A) (d : A) (ys : List A) → ys ≡ replaced (inRun a j) f xs → a ≤ j
-      → f j (getD ys j d) ≡ getD ys j d → ys ≡ replaced (inRun a (j + 1)) f xs
+  pub replaced-kept : (a j : ℕ) (f : ℕ → A → A) (xs : List A) (d : A) (ys : List A) → ys ≡ replaced (inRange a j) f xs → a ≤ j
+      → f j (getD ys j d) ≡ getD ys j d → ys ≡ replaced (inRange a (j + 1)) f xs
   replaced-kept a j f xs d ys e l z = sym (set-getD ys j d) ∙ replaced-more a j f xs d ys (getD ys j d) e l (sym z)
 
-  pub replaced-done : (a j e : ℕ) (f : ℕ → A → A) (xs ys : List A) → ys ≡ replaced (inRun a j) f xs → j ≡ e → ys ≡ replaced (inRun a e) f xs
+  pub replaced-done : (a j e : ℕ) (f : ℕ → A → A) (xs ys : List A) → ys ≡ replaced (inRange a j) f xs → j ≡ e → ys ≡ replaced (inRange a e) f xs
   replaced-done a j e f xs ys q p = rw (← p) q
 
--- ---- a loop that has tested the run from a to q
+-- ---- a loop that has tested the range from a to q
 
 module _ {t : ℕ → Bool} {a : ℕ} where
   pub all-none : {q : ℕ} → q ≤ a → All t a q true
@@ -147,7 +147,7 @@ module _ {t : ℕ → Bool} {a : ℕ} where
 
 -- ---- a search back that has come to q
 
--- every position of the run from q to e passes
+-- every position of the range from q to e passes
 pub record Passes (t : ℕ → Bool) (q e : ℕ) : Type 0 where
   pub pass : (x : ℕ) → q ≤ x → x < e → t x ≡ true
 
