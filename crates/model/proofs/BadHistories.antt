@@ -1,4 +1,4 @@
--- Each history of the table breaks its part of demand 3, and has all the others. Assumes nothing.
+-- Each history of the table breaks its clause of demand 3, and keeps all the others. Assumes nothing.
 use mathlib.Core.Logic.{Dec·and}
 use mathlib.Core.List.{List, _∷_, [], reverse}
 use Rattle.model.specs.Plan.{planOf}
@@ -9,7 +9,7 @@ use Rattle.model.proofs.Decide.{alone}
 
 all-break : (bs : List BadHistory) → Dec (AllBreak bs)
 all-break [] = yes tt
-all-break (b ∷ bs) = Dec·and (alone (b .part) (planOf (b .bytes)) 0 (reverse (b .events))) (all-break bs)
+all-break (b ∷ bs) = Dec·and (alone (b .clause) (planOf (b .bytes)) 0 (reverse (b .events))) (all-break bs)
 
 pub bad-histories-break : AllBreak badHistories
 unfolding all-break alone badHistories counts-compute

@@ -1,22 +1,23 @@
--- Whether a history has each part of demand 3 is decided by computation. Assumes nothing.
+-- Whether a history keeps each clause of demand 3 is decided by computation. Assumes nothing.
 use Prim.Native.Nat.{ℕ, suc, _+_, _-_, _≤_, _<_, max}
 use mathlib.Core.Path.{_≡_, refl, sym, ap, _∙_, subst}
-use mathlib.Core.Logic.{Dec·and, Dec·not}
+use mathlib.Core.Logic.{_↔_, Dec·and, Dec·not}
 use mathlib.Core.List.{List, _∷_, []}
 use mathlib.Core.Option.{Option, some, none}
 use mathlib.Core.Bool.{Bool, false, _&&_, and-true, and-false}
 use native.Mathlib.Omega.{arith}
 use native.Mathlib.Decide.{decLe, decLt, ℕ-discrete}
 use lib.Dec.{lit<}
-use lib.ListN.{getD}
+use lib.ListN.{length, getD}
 use borrow.Author.Tests.{le-leb, ne-eqb}
 use Rattle.model.specs.Tables.{tally}
 use Rattle.model.specs.Word.{flowOf, departureOf, depart}
 use Rattle.model.specs.Plan.{Plan, positions, entry}
-use Rattle.model.specs.Calls.{Event, History, requested, credited, ticked, accepted, refused}
-use Rattle.model.specs.History.{Mark, ticks, changes, wellFormed, grants, credits, frameOf, ofFlow, atSlot, inFrame, upTo, grantedIn, grantedUpTo, creditedUpTo}
-use Rattle.model.specs.Claim.{Each, Ready, ReadyAt, Persistent, GrantedWordAt, SoonAt, ComesUpAt, Held, HeldAt, Demand3}
-use Rattle.model.specs.Parts.{Part, Says, BreaksAlone}
+use Rattle.model.specs.Calls.{Event, History, Turn, requested, credited, ticked, accepted, refused}
+use Rattle.model.specs.History.{Mark, ticks, changes, wellFormed, grants, credits, frameOf, ofFlow, atSlot, inFrame, upTo, grantedIn, grantedUpTo, creditedUpTo, Owns}
+use Rattle.model.specs.Claim.{Each, AtRequest, AtGrant, AtTick, Ready, ReadyAt, Persistent, Held, HeldAt, SoonAt, ComesUpAt, GrantedWord, GrantedWordAt}
+use Rattle.model.specs.Claim.{Clause, Says}
+use Rattle.model.specs.BadHistories.{BreaksAlone}
 use Rattle.model.proofs.Decisions.{same, implies, is-true, all-below, everywhere}
 
 -- ---- marks, and numbers past all of them
@@ -59,22 +60,39 @@ module _ (P : Plan) (h : History) (i : ℕ) (s u : ℕ) (s-past : end P h ≤ s)
   unfolding end
   same-credited = up-to-past i s (credits P h) (omega arith) ∙ sym (up-to-past i u (credits P h) (omega arith))
 
+-- ---- an event of a kind
+
+unfoldable pub at-request : {Q : ℕ → History → Type 0} → ((w : ℕ) (h : History) → Dec (Q w h)) → (e : Event) (h : History) → Dec (AtRequest Q e h)
+at-request d (requested w a) h = d w h
+at-request d (credited j p a) h = yes tt
+at-request d (ticked x) h = yes tt
+
+unfoldable pub at-grant : {Q : ℕ → ℕ → History → Type 0} → ((w v : ℕ) (h : History) → Dec (Q w v h)) → (e : Event) (h : History) → Dec (AtGrant Q e h)
+at-grant d (requested w (accepted v)) h = d w v h
+at-grant d (requested w (refused r)) h = yes tt
+at-grant d (credited j p a) h = yes tt
+at-grant d (ticked x) h = yes tt
+
+unfoldable pub at-tick : {Q : Turn → History → Type 0} → ((x : Turn) (h : History) → Dec (Q x h)) → (e : Event) (h : History) → Dec (AtTick Q e h)
+at-tick d (requested w a) h = yes tt
+at-tick d (credited j p a) h = yes tt
+at-tick d (ticked x) h = d x h
+
 -- ---- the claims of one event
 
 unfoldable pub soon : (P : Plan) (e : Event) (h : History) → Dec (SoonAt P e h)
-soon P (requested w (accepted v)) h = decLt _ _
-soon P (requested w (refused r)) h = yes tt
-soon P (credited j p a) h = yes tt
-soon P (ticked x) h = yes tt
+unfolding at-grant
+soon P = at-grant (λ w v h. decLt _ _)
 
 unfoldable pub granted-word : (P : Plan) (e : Event) (h : History) → Dec (GrantedWordAt P e h)
-granted-word P (requested w (accepted v)) h =
-    same (λ r. record { asked-well-formed = r .0; same-but-departure = r .1 .0; position = r .1 .1 })
-    (λ g. (g .asked-well-formed, (g .same-but-departure, g .position)))
-    (Dec·and (is-true (wellFormed P w)) (Dec·and (ℕ-discrete v (depart w (departureOf v))) (decLt (departureOf v) (positions P))))
-granted-word P (requested w (refused r)) h = yes tt
-granted-word P (credited j p a) h = yes tt
-granted-word P (ticked x) h = yes tt
+unfolding at-grant
+granted-word P = at-grant (λ w v h. word w v)
+  where
+    word : (w v : ℕ) → Dec (GrantedWord P w v)
+    word w v =
+        same (λ r. record { asked-well-formed = r .0; same-but-departure = r .1 .0; position = r .1 .1 })
+        (λ g. (g .asked-well-formed, (g .same-but-departure, g .position)))
+        (Dec·and (is-true (wellFormed P w)) (Dec·and (ℕ-discrete v (depart w (departureOf v))) (decLt (departureOf v) (positions P))))
 
 unfoldable pub answers-flow : (x : Option ℕ) (i : ℕ) → Dec (x ≡ some i)
 answers-flow none i = no (λ e. let z : _≡_ {A = ℕ} 0 1 = cc in omega arith)
@@ -91,16 +109,18 @@ past-answer none i le e = let z : _≡_ {A = ℕ} 0 1 = cc in omega arith
 past-answer (some j) i le e = let z : j ≡ i = cc in omega arith
 
 unfoldable pub comes-up : (P : Plan) (e : Event) (h : History) → Dec (ComesUpAt P e h)
-comes-up P (requested w a) h = yes tt
-comes-up P (credited j p a) h = yes tt
-comes-up P (ticked x) h =
-    everywhere (max (aboveAnswer x) (above (λ m. m .flow) (grants P h)))
-    (λ i. Dec·and (implies (answers-flow x i) (decLt _ _)) (implies (decLt _ _) (answers-flow x i)))
-    (λ below i past. (λ e. absurd (past-answer x i (omega arith) e), λ owns. absurd (omega (arith, no-owner i (omega arith)))))
+unfolding at-tick
+comes-up P = at-tick answered
   where
-    no-owner : (i : ℕ) → above (λ m. m .flow) (grants P h) ≤ i → tally (λ m. ofFlow i m && atSlot (ticks h + 1) m) (grants P h) ≡ 0
-    no-owner i past =
+    no-owner : (h : History) (i : ℕ) → above (λ m. m .flow) (grants P h) ≤ i → tally (λ m. ofFlow i m && atSlot (ticks h + 1) m) (grants P h) ≡ 0
+    no-owner h i past =
         none-past (λ m. m .flow) (λ m. ofFlow i m && atSlot (ticks h + 1) m) i (grants P h) past (λ m lt. rw (ne-eqb (m .flow) i (omega arith)))
+
+    answered : (x : Turn) (h : History) → Dec ((i : ℕ) → (x ≡ some i) ↔ Owns P h i (ticks h + 1))
+    answered x h =
+        everywhere (max (aboveAnswer x) (above (λ m. m .flow) (grants P h)))
+        (λ i. Dec·and (implies (answers-flow x i) (decLt _ _)) (implies (decLt _ _) (answers-flow x i)))
+        (λ below i past. (λ e. absurd (past-answer x i (omega arith) e), λ owns. absurd (omega (arith, no-owner h i (omega arith)))))
 
 unfoldable pub held : (P : Plan) (i : ℕ) (h : History) (s : ℕ) → Dec (Held P i h s)
 held P i h s = same to from (Dec·and (decLe _ _) (decLe _ _))
@@ -140,9 +160,8 @@ ready P i w h =
         omega arith
 
 unfoldable pub ready-at : (P : Plan) (i : ℕ) (e : Event) (h : History) → Dec (ReadyAt P i e h)
-ready-at P i (requested w a) h = implies (is-true (wellFormed P w)) (implies (ℕ-discrete (flowOf w) i) (ready P i w h))
-ready-at P i (credited j p a) h = yes tt
-ready-at P i (ticked x) h = yes tt
+unfolding at-request
+ready-at P i = at-request (λ w h. implies (is-true (wellFormed P w)) (implies (ℕ-discrete (flowOf w) i) (ready P i w h)))
 
 -- ---- the claims of a history
 
@@ -151,88 +170,68 @@ each d [] = yes tt
 each d (e ∷ h) = Dec·and (d e h) (each d h)
 
 unfoldable pub persistent : (P : Plan) (i : ℕ) (h : History) → Dec (Persistent P i h)
-unfolding Dec·and decLe decLt ℕ-discrete same implies is-true all-below everywhere above end ready ready-at each
+unfolding Dec·and decLe decLt ℕ-discrete same implies is-true all-below everywhere above end at-request ready ready-at each
 persistent P i h =
     same (λ r. record { refused-in-each-frame = λ f le. r .0 f (omega arith); ready-at-each-request = r .1 })
     (λ p. ((λ f lt. p .refused-in-each-frame f (omega arith)), p .ready-at-each-request))
     (Dec·and (all-below (suc (changes P h)) (λ f. decLt _ _)) (each (ready-at P i) h))
 
-unfoldable pub decided : (part : Part) (P : Plan) (i : ℕ) (h : History) → Dec (Says part P i h)
-unfolding persistent soon granted-word answers-flow aboveAnswer comes-up held held-at
-decided Part.most P i h = decLe _ _
-decided Part.most-in-a-frame P i h =
+unfoldable pub decided : (clause : Clause) (P : Plan) (i : ℕ) (h : History) → Dec (Says clause P i h)
+unfolding persistent at-grant at-tick soon granted-word answers-flow aboveAnswer comes-up held held-at
+decided Clause.most P i h = decLe _ _
+decided Clause.most-in-a-frame P i h =
     everywhere (above (λ m. frameOf P (m .slot)) (grants P h)) (λ f. decLe _ _) (λ below f past. let z = none-in f past in omega arith)
   where
     none-in : (f : ℕ) → above (λ m. frameOf P (m .slot)) (grants P h) ≤ f → grantedIn P h i f ≡ 0
     none-in f past =
         none-past (λ m. frameOf P (m .slot)) (inFrame P i f) f (grants P h) past
         (λ m lt. rw (ne-eqb (frameOf P (m .slot)) f (omega arith)) (and-false (ofFlow i m)))
-decided Part.least P i h = implies (persistent P i h) (decLe _ _)
-decided Part.one-owner P i h =
+decided Clause.least P i h = implies (persistent P i h) (decLe _ _)
+decided Clause.one-owner P i h =
     everywhere (above (λ m. m .slot) (grants P h)) (λ s. decLe _ _)
     (λ below s past. let z = none-past (λ m. m .slot) (atSlot s) s (grants P h) past (λ m lt. ne-eqb (m .slot) s (omega arith)) in omega arith)
-decided Part.within-cells P i h = each (held-at P i) h
-decided Part.within-a-window P i h = each (soon P) h
-decided Part.comes-up P i h = each (comes-up P) h
-decided Part.granted-words P i h = each (granted-word P) h
+decided Clause.within-cells P i h = each (held-at P i) h
+decided Clause.within-a-window P i h = each (soon P) h
+decided Clause.comes-up P i h = each (comes-up P) h
+decided Clause.granted-words P i h = each (granted-word P) h
 
--- ---- the parts are the claim
+-- ---- one clause broken, and no other
 
-pub part-of : {P : Plan} {i : ℕ} {h : History} → Demand3 P i h → (part : Part) → Says part P i h
-part-of d Part.most = d .most
-part-of d Part.most-in-a-frame = d .most-in-a-frame
-part-of d Part.least = d .least
-part-of d Part.one-owner = d .one-owner
-part-of d Part.within-cells = d .within-cells
-part-of d Part.within-a-window = d .within-a-window
-part-of d Part.comes-up = d .comes-up
-part-of d Part.granted-words = d .granted-words
+abbrev pub clauses : List Clause
+clauses =
+    Clause.most ∷ Clause.most-in-a-frame ∷ Clause.least ∷ Clause.within-cells ∷ Clause.one-owner ∷ Clause.within-a-window ∷ Clause.comes-up
+    ∷ Clause.granted-words ∷ []
 
-pub whole : {P : Plan} {i : ℕ} {h : History} → ((part : Part) → Says part P i h) → Demand3 P i h
-whole says = record {
-  most = says Part.most;
-  most-in-a-frame = says Part.most-in-a-frame;
-  least = says Part.least;
-  one-owner = says Part.one-owner;
-  within-cells = says Part.within-cells;
-  within-a-window = says Part.within-a-window;
-  comes-up = says Part.comes-up;
-  granted-words = says Part.granted-words;
-}
+abbrev pub clauseAt : ℕ → Clause
+clauseAt k = getD clauses k Clause.most
 
--- ---- one part broken, and no other
-
-abbrev pub parts : List Part
-parts =
-    Part.most ∷ Part.most-in-a-frame ∷ Part.least ∷ Part.one-owner ∷ Part.within-cells ∷ Part.within-a-window ∷ Part.comes-up ∷ Part.granted-words ∷ []
-
-abbrev pub partAt : ℕ → Part
-partAt k = getD parts k Part.most
-
--- the place of a part in the list
-pub record Place (part : Part) : Type 0 where
+-- the place of a clause in the list
+pub record Place (clause : Clause) : Type 0 where
   pub number : ℕ
-  pub below : number < 8
-  pub is : partAt number ≡ part
+  pub below : number < length clauses
+  pub is : clauseAt number ≡ clause
 
-unfoldable pub place : (part : Part) → Place part
-place Part.most = record { number = 0; below = lit< tt; is = refl }
-place Part.most-in-a-frame = record { number = 1; below = lit< tt; is = refl }
-place Part.least = record { number = 2; below = lit< tt; is = refl }
-place Part.one-owner = record { number = 3; below = lit< tt; is = refl }
-place Part.within-cells = record { number = 4; below = lit< tt; is = refl }
-place Part.within-a-window = record { number = 5; below = lit< tt; is = refl }
-place Part.comes-up = record { number = 6; below = lit< tt; is = refl }
-place Part.granted-words = record { number = 7; below = lit< tt; is = refl }
+unfoldable pub place : (clause : Clause) → Place clause
+place Clause.most = record { number = 0; below = lit< tt; is = refl }
+place Clause.most-in-a-frame = record { number = 1; below = lit< tt; is = refl }
+place Clause.least = record { number = 2; below = lit< tt; is = refl }
+place Clause.within-cells = record { number = 3; below = lit< tt; is = refl }
+place Clause.one-owner = record { number = 4; below = lit< tt; is = refl }
+place Clause.within-a-window = record { number = 5; below = lit< tt; is = refl }
+place Clause.comes-up = record { number = 6; below = lit< tt; is = refl }
+place Clause.granted-words = record { number = 7; below = lit< tt; is = refl }
 
-unfoldable pub same-part : (a b : Part) → Dec (a ≡ b)
-same-part a b = same (λ e. sym (place a .is) ∙ ap partAt e ∙ place b .is) (ap (λ c. place c .number)) (ℕ-discrete (place a .number) (place b .number))
+unfoldable pub same-clause : (a b : Clause) → Dec (a ≡ b)
+same-clause a b =
+    same (λ e. sym (place a .is) ∙ ap clauseAt e ∙ place b .is) (ap (λ c. place c .number)) (ℕ-discrete (place a .number) (place b .number))
 
-unfoldable pub all-parts : {Q : Part → Type 0} → ((part : Part) → Dec (Q part)) → Dec ((part : Part) → Q part)
-all-parts {Q} d = same (λ r part. subst Q (place part .is) (r (place part .number) (place part .below))) (λ all k lt. all (partAt k)) (all-below 8 (λ k. d (partAt k)))
+unfoldable pub all-clauses : {Q : Clause → Type 0} → ((clause : Clause) → Dec (Q clause)) → Dec ((clause : Clause) → Q clause)
+all-clauses {Q} d =
+    same (λ r clause. subst Q (place clause .is) (r (place clause .number) (place clause .below))) (λ all k lt. all (clauseAt k))
+    (all-below (length clauses) (λ k. d (clauseAt k)))
 
-unfoldable pub alone : (part : Part) (P : Plan) (i : ℕ) (h : History) → Dec (BreaksAlone part P i h)
-unfolding Dec·not decided place same-part all-parts
-alone part P i h =
+unfoldable pub alone : (clause : Clause) (P : Plan) (i : ℕ) (h : History) → Dec (BreaksAlone clause P i h)
+unfolding Dec·not decided place same-clause all-clauses
+alone clause P i h =
     same (λ r. record { breaks = r .0; keeps-the-others = r .1 }) (λ b. (b .breaks, b .keeps-the-others))
-    (Dec·and (Dec·not (decided part P i h)) (all-parts (λ other. implies (Dec·not (same-part other part)) (decided other P i h))))
+    (Dec·and (Dec·not (decided clause P i h)) (all-clauses (λ other. implies (Dec·not (same-clause other clause)) (decided other P i h))))

@@ -22,6 +22,5 @@ pub mod Buffer
 -- worked examples, and cards that are sent back
 pub mod PlanBytes
 pub mod Edges
-pub mod Parts
 pub mod BadHistories
 pub mod BadCards
