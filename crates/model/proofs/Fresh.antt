@@ -5,11 +5,11 @@ use mathlib.Core.List.{[]}
 use mathlib.Core.Option.{none}
 use native.Mathlib.Nat.{zero-div, zero-mod, mod-lt, mod-eq-of-lt}
 use native.Mathlib.Omega.{arith}
-use lib.ListN.{replicate, getD-replicate}
+use lib.ListN.{getD-replicate}
 use Rattle.model.specs.Tables.{tally}
-use Rattle.model.specs.Plan.{Plan, positions, flowCount, entry, Accepted}
-use Rattle.model.specs.Link.{Flow, flow}
-use Rattle.model.specs.Fresh.{fresh}
+use Rattle.model.specs.Plan.{Plan, positions, flowCount, Accepted}
+use Rattle.model.specs.Link.{flow}
+use Rattle.model.specs.Fresh.{freshFlow, fresh}
 use Rattle.model.specs.History.{frameOf}
 use Rattle.model.proofs.Slots.{some-frame, some-position}
 use Rattle.model.proofs.Links.{flow-withFlows}
@@ -21,12 +21,9 @@ abbrev pub nothingYet : Ledger
 nothingYet = record { now = 0; origin = 0; grants = []; raises = []; credits = [] }
 
 module _ {P : Plan} (ok : Accepted P) where
-  abbrev untouched : ℕ → Flow
-  untouched i = record { injection = 0; remainder = entry P i .share; held = replicate (positions P) 0 }
-
-  flow-is : (i : ℕ) → i < flowCount P → flow (fresh P) i ≡ untouched i
+  flow-is : (i : ℕ) → i < flowCount P → flow (fresh P) i ≡ freshFlow P i
   unfolding fresh
-  flow-is i known = flow-withFlows (fresh P) untouched i known
+  flow-is i known = flow-withFlows (fresh P) (freshFlow P) i known
 
   pub fresh-keeps : Invariant (fresh P) nothingYet
   unfolding fresh ownerIn tally
