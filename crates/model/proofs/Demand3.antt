@@ -51,7 +51,7 @@ module _ (l : Link) (h : History) (g : After (l .plan) l h) (i : ℕ) (known : i
 
   -- flow i's grants, frame by frame
   frames-cover : granted P h i ≤ sum begun inEach
-  frames-cover = tally-split begun (ofFlow i) (inFrame P i) (grants P h) (all-map _ _ in-one (grants P h) (g .invariant .grants-in))
+  frames-cover = tally-split begun (ofFlow i) (inFrame P i) (grants P h) (all-map _ _ in-one (grants P h) (g .invariant .marks .grants-in))
     where
       in-one : (m : Mark) → Granted P (ticks h) 0 m → ofFlow i m ≡ true → Classed begun (inFrame P i) m
       in-one m x e = record {
@@ -90,7 +90,7 @@ module _ (l : Link) (h : History) (g : After (l .plan) l h) (i : ℕ) (known : i
   demand3 Clause.most-in-a-frame = in-frame
   demand3 Clause.least = least
   demand3 Clause.within-cells = each-map _ _ (λ e h c. c .held i known) h (g .events)
-  demand3 Clause.one-owner = g .invariant .once
+  demand3 Clause.one-owner = g .invariant .bookings .once
   demand3 Clause.within-a-window = each-map _ _ (λ e h c. c .soon) h (g .events)
   demand3 Clause.comes-up = each-map _ _ (λ e h c. c .comes-up) h (g .events)
   demand3 Clause.granted-words = each-map _ _ (λ e h c. c .word) h (g .events)

@@ -29,12 +29,11 @@ module _ {P : Plan} (ok : Accepted P) where
   unfolding fresh ownerIn tally
   fresh-keeps = record {
     current = record { accepted = ok; current-is = sym (zero-mod (positions P)) };
-    owners-are = λ s w. getD-replicate (positions P) (s % positions P) none none (mod-lt s (some-position ok));
-    origin-le = omega arith;
-    grants-in = tt;
-    raises-in = tt;
-    credits-in = tt;
-    once = λ s. omega arith;
+    marks = record { origin-le = omega arith; grants-in = tt; raises-in = tt; credits-in = tt };
+    bookings = record {
+      owners-are = λ s w. getD-replicate (positions P) (s % positions P) none none (mod-lt s (some-position ok));
+      once = λ s. omega arith;
+    };
     injects = λ i known. subst (Injects P (frameOf P 0) [] i) (sym (flow-is i known)) (record {
       frame = 0;
       low = omega (arith, zero-div (P .slots));

@@ -5,7 +5,7 @@ use mathlib.Core.List.{_∷_}
 use native.Mathlib.Nat.{mod-lt}
 use native.Mathlib.Omega.{arith}
 use lib.Arith.{digits-div}
-use Rattle.model.specs.Plan.{Plan, positions, flowCount, entry, Accepted}
+use Rattle.model.specs.Plan.{Plan, positions, flowCount, entry}
 use Rattle.model.specs.Window.{newest}
 use Rattle.model.specs.Link.{Link, window}
 use Rattle.model.specs.Request.{found, nowhere, valid, booked, refusedAtNewest}
@@ -13,7 +13,7 @@ use Rattle.model.specs.History.{slotAfter, frameOf}
 use Rattle.model.specs.Holding.{InWindow}
 use Rattle.model.proofs.Round.{mod-unique}
 use Rattle.model.proofs.Slots.{some-frame, some-position, frame-slot-in-window, window-below, position-of, slotAfter-is}
-use Rattle.model.proofs.Window.{newest-is}
+use Rattle.model.proofs.Window.{Current, newest-is}
 use Rattle.model.proofs.Marks.{mark, marksIn, in-frame-skip}
 use Rattle.model.proofs.Invariant.{Ledger, withGrant, Invariant}
 use Rattle.model.proofs.Bookings.{Open, valid-open, moved-keeps, booked-keeps}
@@ -21,23 +21,13 @@ use Rattle.model.proofs.Least.{Full, Least, least-granted}
 use Rattle.model.proofs.Sought.{Persists, Sought, newestFrame, full-behind}
 
 module _ {l : Link} {L : Ledger} (v : Invariant l L) {i : ℕ} (known : i < flowCount (l .plan)) (R : ℕ → ℕ) where
-  abbrev P : Plan
-  P = l .plan
-
-  abbrev F : ℕ
-  F = l .plan .slots
-
-  abbrev W : ℕ
-  W = l .plan .frames
+  open Link l using (plan as P)
+  open Plan P using (slots as F, frames as W)
+  open Ledger L using (now as t)
+  open Current (v .current) using (accepted as ok)
 
   abbrev T : ℕ
-  T = positions (l .plan)
-
-  abbrev t : ℕ
-  t = L .now
-
-  ok : Accepted P
-  ok = v .current .accepted
+  T = positions P
 
   -- ---- a grant: frame j, remainder c, position p
 

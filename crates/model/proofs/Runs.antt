@@ -192,7 +192,7 @@ module _ {l : Link} {h : History} (g : After (l .plan) l h) where
     where
       comes-up : (i : ℕ) → (tick l .answer ≡ some i) ↔ Owns P h i (t + 1)
       comes-up i =
-          rw (advances v .answer-is, add-one t) (owned i (suc t) (grants P h) (v .once (suc t)))
+          rw (advances v .answer-is, add-one t) (owned i (suc t) (grants P h) (v .bookings .once (suc t)))
 
 -- ---- a list of calls
 

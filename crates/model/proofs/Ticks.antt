@@ -19,32 +19,22 @@ use Rattle.model.specs.Tick.{leftHead, carriedOn, recycled, nextPosition
 use Rattle.model.specs.History.{Mark, frameOf, atSlot}
 use Rattle.model.specs.Holding.{frameStart, InWindow}
 use Rattle.model.proofs.Round.{mod-unique}
-use Rattle.model.proofs.Tallies.{All, all-map, tally-none}
+use Rattle.model.proofs.Tallies.{all-map, tally-none}
 use Rattle.model.proofs.Slots.{some-frame, some-position, frame-low, frame-high, frame-stays, frame-changes, frames-go-on, current-in-window, last-in-window, frame-of-position, place-of-position}
 use Rattle.model.proofs.Window.{Current, head-is, last-is}
 use Rattle.model.proofs.Links.{owner-withOwners, flow-withFlows, carriedOn-at}
 use Rattle.model.proofs.Marks.{marksUpTo, up-to-past}
 use Rattle.model.proofs.Owners.{ownerIn, unowned}
-use Rattle.model.proofs.Invariant.{Ledger, atNextSlot, Begun, Granted, Injects, HoldsAt, Holds, Invariant}
+use Rattle.model.proofs.Invariant.{Ledger, atNextSlot, Begun, Granted, MarksIn, Injects, HoldsAt, Holds, Invariant}
 
 module _ {l : Link} {L : Ledger} (v : Invariant l L) where
-  abbrev P : Plan
-  P = l .plan
-
-  abbrev F : ℕ
-  F = l .plan .slots
-
-  abbrev W : ℕ
-  W = l .plan .frames
+  open Link l using (plan as P)
+  open Plan P using (slots as F, frames as W)
+  open Ledger L using (now as t)
+  open Current (v .current) using (accepted as ok)
 
   abbrev T : ℕ
-  T = positions (l .plan)
-
-  abbrev t : ℕ
-  t = L .now
-
-  ok : Accepted P
-  ok = v .current .accepted
+  T = positions P
 
   next-position : nextPosition l ≡ suc t % T
   next-position = ap (λ c. (c + 1) % T) (v .current .current-is) ∙ mod-add-mod t T 1 ∙ ap (_% T) (add-one t)
@@ -55,24 +45,27 @@ module _ {l : Link} {L : Ledger} (v : Invariant l L) where
   starts-go-on : frameStart P t ≤ frameStart P (suc t)
   starts-go-on = mul-le-mul-right F (frames-go-on ok t)
 
-  still-begun : (B : List Mark) → All (Begun P t) B → All (Begun P (suc t)) B
-  still-begun = all-map _ _ (λ m b. omega (arith, starts-go-on))
+  marks-stay : MarksIn P (atNextSlot L)
+  marks-stay = record {
+    origin-le = omega (arith, v .marks .origin-le, frames-go-on ok t);
+    grants-in = all-map _ _ granted (L .grants) (v .marks .grants-in);
+    raises-in = all-map _ _ begun (L .raises) (v .marks .raises-in);
+    credits-in = all-map _ _ begun (L .credits) (v .marks .credits-in);
+  }
+    where
+      begun : (m : Mark) → Begun P t m → Begun P (suc t) m
+      begun m b = omega (arith, starts-go-on)
 
-  still-granted : All (Granted P (suc t) (L .origin)) (L .grants)
-  still-granted =
-      all-map _ _ (λ m g. record { known = g .known; begun = omega (arith, g .begun, starts-go-on); since = g .since }) (L .grants) (v .grants-in)
+      granted : (m : Mark) → Granted P t (L .origin) m → Granted P (suc t) (L .origin) m
+      granted m g = record { known = g .known; begun = begun m (g .begun); since = g .since }
 
   -- ---- in the same frame
 
   in-frame : (suc t % F ≡ 0 → ⊥) → Invariant (withCurrent l (nextPosition l)) (atNextSlot L)
   in-frame d = record {
     current = next-current;
-    owners-are = λ s w. v .owners-are s (before s w);
-    origin-le = rw same (v .origin-le);
-    grants-in = still-granted;
-    raises-in = still-begun (L .raises) (v .raises-in);
-    credits-in = still-begun (L .credits) (v .credits-in);
-    once = v .once;
+    marks = marks-stay;
+    bookings = record { owners-are = λ s w. v .bookings .owners-are s (before s w); once = v .bookings .once };
     injects = λ i h. rw same (v .injects i h);
     holds = λ i h s. let x = v .holds i h s in record { at-slot = λ w. x .at-slot (before s w); covered = x .covered; within = x .within };
   }
@@ -124,11 +117,11 @@ module _ {l : Link} {L : Ledger} (v : Invariant l L) where
     before s w h = record { low = omega (arith, w .low, next-start); high = h }
 
     owner-is : (s : ℕ) → InWindow P (suc t) s → Dec (s < end) → cond (inHead (s % T)) none (owner l (s % T)) ≡ ownerIn (L .grants) s
-    owner-is s w (yes h) = rw (kept s w h) (v .owners-are s (before s w h))
+    owner-is s w (yes h) = rw (kept s w h) (v .bookings .owners-are s (before s w h))
     owner-is s w (no h) = rw (added s w (omega arith)) (sym (unowned s (L .grants) .1 none-yet))
       where
         none-yet : tally (atSlot s) (L .grants) ≡ 0
-        none-yet = tally-none (atSlot s) (L .grants) (all-map _ _ (λ m g. ne-eqb (m .slot) s (λ e. omega (arith, g .begun))) (L .grants) (v .grants-in))
+        none-yet = tally-none (atSlot s) (L .grants) (all-map _ _ (λ m g. ne-eqb (m .slot) s (λ e. omega (arith, g .begun))) (L .grants) (v .marks .grants-in))
 
     -- "holdings go on"
     held : (i : ℕ) → i < flowCount P → (x : Flow) → Holds P (suc t) (L .raises) (L .credits) i (carriedOn l i x)
@@ -147,8 +140,8 @@ module _ {l : Link} {L : Ledger} (v : Invariant l L) where
             omega (
               arith,
               v .holds i known (end - 1) .at-slot (last-in-window ok t),
-              up-to-past i end s (end - 1) (L .raises) (v .raises-in) (omega arith) (omega arith),
-              up-to-past i end s (end - 1) (L .credits) (v .credits-in) (omega arith) (omega arith),
+              up-to-past i end s (end - 1) (L .raises) (v .marks .raises-in) (omega arith) (omega arith),
+              up-to-past i end s (end - 1) (L .credits) (v .marks .credits-in) (omega arith) (omega arith),
             )
 
     injects-on : (i : ℕ) → i < flowCount P → Injects P (frameOf P (suc t)) (L .grants) i (leftHead l i)
@@ -190,12 +183,11 @@ module _ {l : Link} {L : Ledger} (v : Invariant l L) where
     unfolding recycled
     at-change = record {
       current = next-current;
-      owners-are = λ s w. owner-withOwners l _ (s % T) (mod-lt s (some-position ok)) ∙ owner-is s w (decLt s end);
-      origin-le = omega (arith, v .origin-le, step);
-      grants-in = still-granted;
-      raises-in = still-begun (L .raises) (v .raises-in);
-      credits-in = still-begun (L .credits) (v .credits-in);
-      once = v .once;
+      marks = marks-stay;
+      bookings = record {
+        owners-are = λ s w. owner-withOwners l _ (s % T) (mod-lt s (some-position ok)) ∙ owner-is s w (decLt s end);
+        once = v .bookings .once;
+      };
       injects = λ i h. subst (Injects P (frameOf P (suc t)) (L .grants) i) (sym (flow-withFlows l _ i h)) (injects-on i h);
       holds = λ i h. subst (Holds P (suc t) (L .raises) (L .credits) i) (sym (flow-withFlows l _ i h)) (held i h (leftHead l i));
     }
@@ -222,7 +214,7 @@ module _ {l : Link} {L : Ledger} (v : Invariant l L) where
           record {
             plan-is = refl;
             keeps = at-change change;
-            answer-is = ap (owner (recycled l)) next-position ∙ at-change change .owners-are (suc t) (current-in-window ok (suc t));
+            answer-is = ap (owner (recycled l)) next-position ∙ at-change change .bookings .owners-are (suc t) (current-in-window ok (suc t));
             flows-in-frame = λ d. absurd (d change);
           }
       go false e =
@@ -230,6 +222,6 @@ module _ {l : Link} {L : Ledger} (v : Invariant l L) where
           record {
             plan-is = refl;
             keeps = in-frame d;
-            answer-is = ap (owner l) next-position ∙ in-frame d .owners-are (suc t) (current-in-window ok (suc t));
+            answer-is = ap (owner l) next-position ∙ in-frame d .bookings .owners-are (suc t) (current-in-window ok (suc t));
             flows-in-frame = λ d i. refl;
           }
