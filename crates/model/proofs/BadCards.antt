@@ -16,9 +16,9 @@ use Rattle.model.specs.Card.{Card, Meets, run, paper}
 use Rattle.model.specs.PlanBytes.{listing, single}
 use Rattle.model.specs.Edges.{Passes, markedEdges}
 use Rattle.model.specs.BadCards.{refusesAll, refusesFlow1, grantsOne, writesNoBooking, firstWindowOnly, inventsHolding, fullest, startsAtZero, testsOwnPosition, walksPastEnd, stopsAtLastFrame, dropsHoldings}
-use Rattle.model.proofs.Compute.{plans-compute, calls-compute, counts-compute}
-use Rattle.model.proofs.Decisions.{IsNo, refuted}
-use Rattle.model.proofs.Decide.{decided}
+use Rattle.model.proofs.Unfoldings.{plans-compute, calls-compute, counts-compute}
+use Rattle.model.proofs.Decidable.{IsNo, refuted}
+use Rattle.model.proofs.ClaimDecided.{decided}
 
 -- the bytes of an accepted plan
 record Sample : Type 0 where

@@ -3,9 +3,9 @@ use mathlib.Core.Logic.{Dec·and}
 use mathlib.Core.List.{List, _∷_, [], reverse}
 use Rattle.model.specs.Plan.{planOf}
 use Rattle.model.specs.BadHistories.{BadHistory, AllBreak, badHistories}
-use Rattle.model.proofs.Compute.{counts-compute}
-use Rattle.model.proofs.Decisions.{proved}
-use Rattle.model.proofs.Decide.{alone}
+use Rattle.model.proofs.Unfoldings.{counts-compute}
+use Rattle.model.proofs.Decidable.{proved}
+use Rattle.model.proofs.ClaimDecided.{alone}
 
 all-break : (bs : List BadHistory) → Dec (AllBreak bs)
 all-break [] = yes tt

@@ -17,10 +17,10 @@ use Rattle.model.proofs.Tests.{and-true}
 use Rattle.model.proofs.Tallies.{all-map, sum-le, sum-const, sum-tail, tally-join, tally-split, Classed}
 use Rattle.model.proofs.Slots.{frame-high}
 use Rattle.model.proofs.Invariant.{Granted}
-use Rattle.model.proofs.Histories.{changes-are}
-use Rattle.model.proofs.After.{AskedOn, After}
+use Rattle.model.proofs.HistoryCounts.{changes-are}
+use Rattle.model.proofs.AfterHistory.{AskedOn, After}
 use Rattle.model.proofs.Plan.{accepted}
-use Rattle.model.proofs.Runs.{after-run}
+use Rattle.model.proofs.AfterCalls.{after-run}
 
 each-map : (Q R : Event → History → Type 0) → ((e : Event) (h : History) → Q e h → R e h) → (h : History) → Each Q h → Each R h
 each-map Q R f [] a = tt

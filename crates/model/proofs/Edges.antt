@@ -2,7 +2,7 @@
 use mathlib.Core.Path.{refl}
 use Rattle.model.specs.Card.{paper}
 use Rattle.model.specs.Edges.{Passes, edges}
-use Rattle.model.proofs.Compute.{plans-compute, calls-compute, program-computes}
+use Rattle.model.proofs.Unfoldings.{plans-compute, calls-compute, program-computes}
 
 pub edges-hold : Passes paper edges
 unfolding edges plans-compute calls-compute program-computes

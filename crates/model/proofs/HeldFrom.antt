@@ -15,7 +15,7 @@ use Rattle.model.specs.History.{Mark}
 use Rattle.model.specs.Holding.{InWindow}
 use Rattle.model.proofs.Slots.{some-position}
 use Rattle.model.proofs.Window.{Current, fromOn-is, everyFrom-at}
-use Rattle.model.proofs.Links.{heldFrom-at}
+use Rattle.model.proofs.LinkUpdates.{heldFrom-at}
 use Rattle.model.proofs.Marks.{mark, marksUpTo, up-to-hit, up-to-skip, up-to-other}
 use Rattle.model.proofs.Invariant.{Ledger, HoldsAt, Room, Invariant, from-the-window}
 

@@ -13,7 +13,7 @@ use Rattle.model.specs.History.{Mark, frameOf, atSlot}
 use Rattle.model.specs.Holding.{frameStart, InWindow}
 use Rattle.model.proofs.Tallies.{All}
 use Rattle.model.proofs.Marks.{marksIn, marksUpTo, up-to-past}
-use Rattle.model.proofs.Owners.{ownerIn}
+use Rattle.model.proofs.SlotOwners.{ownerIn}
 use Rattle.model.proofs.Slots.{some-position, last-in-window}
 use Rattle.model.proofs.Window.{Current}
 

@@ -7,40 +7,43 @@ pub mod Tallies
 -- the word, the plan, records and decimal digits
 pub mod Word
 pub mod Plan
-pub mod PlanKept
+pub mod PlanWithinLimits
 pub mod Records
 pub mod Decimal
 -- slots, positions, links and marks
 pub mod Slots
 pub mod Window
-pub mod Links
+pub mod LinkUpdates
 pub mod Marks
-pub mod Owners
+pub mod SlotOwners
 -- the invariant, and what keeps it
 pub mod Invariant
 pub mod HeldFrom
-pub mod Bookings
-pub mod Credits
-pub mod Shares
-pub mod Search
-pub mod Least
-pub mod Sought
-pub mod Requests
-pub mod Ticks
-pub mod Fresh
+pub mod BookingKeeps
+pub mod CreditKeeps
+pub mod UnbookedSlots
+pub mod SearchedFrames
+pub mod LeastCount
+pub mod RequestSearch
+pub mod RequestKeeps
+pub mod TickKeeps
+pub mod FreshKeeps
 -- histories, and demand 3
-pub mod Histories
-pub mod After
-pub mod Runs
+pub mod HistoryCounts
+pub mod AfterHistory
+pub mod AfterRequest
+pub mod AfterCredit
+pub mod AfterTick
+pub mod AfterCalls
 pub mod Demand3
 pub mod Listing
 pub mod Holding
 pub mod Buffer
 -- edges, cards that demand 3 sends back, and a stream that meets the premise of the least count
-pub mod Compute
+pub mod Unfoldings
 pub mod Edges
-pub mod Decisions
-pub mod Decide
+pub mod Decidable
+pub mod ClaimDecided
 pub mod BadHistories
 pub mod BadCards
-pub mod Witness
+pub mod PersistentStream

@@ -22,9 +22,9 @@ use Rattle.model.proofs.Round.{mod-unique}
 use Rattle.model.proofs.Tallies.{all-map, tally-none}
 use Rattle.model.proofs.Slots.{some-frame, some-position, frame-low, frame-high, frame-stays, frame-changes, frames-go-on, current-in-window, last-in-window, frame-of-position, place-of-position}
 use Rattle.model.proofs.Window.{Current, head-is, last-is}
-use Rattle.model.proofs.Links.{owner-withOwners, flow-withFlows, carriedOn-at}
+use Rattle.model.proofs.LinkUpdates.{owner-withOwners, flow-withFlows, carriedOn-at}
 use Rattle.model.proofs.Marks.{marksUpTo, up-to-past}
-use Rattle.model.proofs.Owners.{ownerIn, unowned}
+use Rattle.model.proofs.SlotOwners.{ownerIn, unowned}
 use Rattle.model.proofs.Invariant.{Ledger, atNextSlot, Begun, Granted, MarksIn, Injects, HoldsAt, Holds, Invariant}
 
 module _ {l : Link} {L : Ledger} (v : Invariant l L) where

@@ -15,20 +15,20 @@ use Rattle.model.specs.Holding.{InWindow}
 use Rattle.model.proofs.Tests.{line-passed}
 use Rattle.model.proofs.Slots.{slotAt, slotAt-in-window, slotAt-position, slotAfter-is}
 use Rattle.model.proofs.Window.{Current, passed-is}
-use Rattle.model.proofs.Links.{each-flow}
+use Rattle.model.proofs.LinkUpdates.{each-flow}
 use Rattle.model.proofs.Marks.{mark}
 use Rattle.model.proofs.Invariant.{Ledger, withCredit, Injects, Holds, Invariant}
 use Rattle.model.proofs.HeldFrom.{NeverEmpty, never-empty-from, lower-own, lower-other}
 
 -- a credit that passes its tests
-pub record Passes (l : Link) (i p : ℕ) : Type 0 where
+pub record CreditPasses (l : Link) (i p : ℕ) : Type 0 where
   pub known : i < flowCount (l .plan)
   pub position : p < positions (l .plan)
   pub later : passed (window l) p ≡ false
   pub holds : everyFrom (window l) p (λ q. ltb 0 (holding l i q)) ≡ true
 
-pub passes : (l : Link) (i p : ℕ) → firstOf (creditTests l i p) ≡ 0 → Passes l i p
-passes l i p e =
+pub credit-passes : (l : Link) (i p : ℕ) → firstOf (creditTests l i p) ≡ 0 → CreditPasses l i p
+credit-passes l i p e =
     let l8 = line-passed _ 7 _ e in
     let l13 = line-passed _ 12 _ (l8 .1) in
     let l14 = line-passed _ 13 _ (l13 .1) in
@@ -40,7 +40,7 @@ passes l i p e =
       holds = not-false _ (l15 .0);
     }
 
-module _ {l : Link} {L : Ledger} (v : Invariant l L) {i p : ℕ} (c : Passes l i p) where
+module _ {l : Link} {L : Ledger} (v : Invariant l L) {i p : ℕ} (c : CreditPasses l i p) where
   open Link l using (plan as P)
   open Ledger L using (now as t)
   open Current (v .current) using (accepted as ok)

@@ -21,8 +21,8 @@ use Rattle.model.proofs.Round.{mod-unique}
 use Rattle.model.proofs.Tallies.{tally-hit, tally-skip}
 use Rattle.model.proofs.Slots.{some-position}
 use Rattle.model.proofs.Window.{Current, passed-is, everyFrom-intro}
-use Rattle.model.proofs.Links.{owner-withOwners, each-flow}
-use Rattle.model.proofs.Owners.{ownerIn, unowned}
+use Rattle.model.proofs.LinkUpdates.{owner-withOwners, each-flow}
+use Rattle.model.proofs.SlotOwners.{ownerIn, unowned}
 use Rattle.model.proofs.Marks.{mark, marksIn, in-frame-hit, in-frame-skip, in-frame-other}
 use Rattle.model.proofs.Invariant.{Ledger, withGrant, Spent, Injecting, Injects, Holds, Room, Invariant}
 use Rattle.model.proofs.HeldFrom.{raise-own, raise-other, room-from}

@@ -12,10 +12,10 @@ use Rattle.model.specs.Link.{flow}
 use Rattle.model.specs.Fresh.{freshFlow, fresh}
 use Rattle.model.specs.History.{frameOf}
 use Rattle.model.proofs.Slots.{some-frame, some-position}
-use Rattle.model.proofs.Links.{flow-withFlows}
-use Rattle.model.proofs.Owners.{ownerIn}
+use Rattle.model.proofs.LinkUpdates.{flow-withFlows}
+use Rattle.model.proofs.SlotOwners.{ownerIn}
 use Rattle.model.proofs.Invariant.{Ledger, Injects, Holds, Invariant}
-use Rattle.model.proofs.Least.{Least}
+use Rattle.model.proofs.LeastCount.{Least}
 
 abbrev pub nothingYet : Ledger
 nothingYet = record { now = 0; origin = 0; grants = []; raises = []; credits = [] }

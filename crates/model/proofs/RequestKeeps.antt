@@ -16,9 +16,9 @@ use Rattle.model.proofs.Slots.{some-frame, some-position, frame-slot-in
 use Rattle.model.proofs.Window.{Current, newest-is}
 use Rattle.model.proofs.Marks.{mark, marksIn, in-frame-skip}
 use Rattle.model.proofs.Invariant.{Ledger, withGrant, Invariant}
-use Rattle.model.proofs.Bookings.{Open, valid-open, moved-keeps, booked-keeps}
-use Rattle.model.proofs.Least.{Full, Least, least-granted}
-use Rattle.model.proofs.Sought.{Persists, Sought, newestFrame, full-behind}
+use Rattle.model.proofs.BookingKeeps.{Open, valid-open, moved-keeps, booked-keeps}
+use Rattle.model.proofs.LeastCount.{Full, Least, least-granted}
+use Rattle.model.proofs.RequestSearch.{Persists, Searched, newestFrame, full-behind}
 
 module _ {l : Link} {L : Ledger} (v : Invariant l L) {i : ℕ} (known : i < flowCount (l .plan)) (R : ℕ → ℕ) where
   open Link l using (plan as P)
@@ -37,7 +37,7 @@ module _ {l : Link} {L : Ledger} (v : Invariant l L) {i : ℕ} (known : i < flow
     pub keeps : Invariant (booked l i j c p) (withGrant L (mark i (slotAfter P t p)))
     pub least : Persists v known R → Least P (frameOf P t) (L .origin) (mark i (slotAfter P t p) ∷ L .grants) R i j
 
-  pub after-grant : (j c p : ℕ) → Sought v known R (found j c p) → AfterGrant j c p
+  pub after-grant : (j c p : ℕ) → Searched v known R (found j c p) → AfterGrant j c p
   after-grant j c p r = record {
     position = subst (_< T) at-p (mod-lt s (some-position ok));
     soon = rw slot-is (window-below ok t s w);
@@ -103,7 +103,7 @@ module _ {l : Link} {L : Ledger} (v : Invariant l L) {i : ℕ} (known : i < flow
     pub keeps : Invariant (refusedAtNewest l i c) L
     pub least : Persists v known R → (S : ℕ → ℕ) → Least P (frameOf P t) (L .origin) (L .grants) S i (newest (window l))
 
-  pub after-refusal : (c : ℕ) → Sought v known R (nowhere c) → AfterRefusal c
+  pub after-refusal : (c : ℕ) → Searched v known R (nowhere c) → AfterRefusal c
   unfolding refusedAtNewest
   after-refusal c r = record {
     keeps = rw (newest-is (v .current)) (moved-keeps v known newest-frame c (r .0 .low) high (r .0 .spends));

@@ -19,10 +19,10 @@ use Rattle.model.proofs.Slots.{some-frame, frame-ends, frame-slot-in-wi
 use Rattle.model.proofs.Window.{Current, newest-is}
 use Rattle.model.proofs.Marks.{marksIn}
 use Rattle.model.proofs.Invariant.{Ledger, Spent, Injects, Room, Invariant}
-use Rattle.model.proofs.Bookings.{open-valid}
-use Rattle.model.proofs.Shares.{not-all-booked}
-use Rattle.model.proofs.Search.{Fails, Ends, search-ends}
-use Rattle.model.proofs.Least.{Full, Least}
+use Rattle.model.proofs.BookingKeeps.{open-valid}
+use Rattle.model.proofs.UnbookedSlots.{not-all-booked}
+use Rattle.model.proofs.SearchedFrames.{Fails, Ends, search-ends}
+use Rattle.model.proofs.LeastCount.{Full, Least}
 
 module _ {l : Link} {L : Ledger} (v : Invariant l L) {i : ℕ} (known : i < flowCount (l .plan)) where
   open Link l using (plan as P)
@@ -106,12 +106,12 @@ module _ {l : Link} {L : Ledger} (v : Invariant l L) {i : ℕ} (known : i < flow
       full = full-behind a c (omega arith) q fails;
     }
 
-    abbrev pub Sought : Found → Type 0
-    Sought = Ends (window l) (valid l i) (share l i) newestFrame Reached
+    abbrev pub Searched : Found → Type 0
+    Searched = Ends (window l) (valid l i) (share l i) newestFrame Reached
 
-    pub sought-ends : Sought (sought l i)
+    pub request-searched : Searched (sought l i)
     unfolding sought
-    sought-ends =
+    request-searched =
         rw (more, f .injection-is)
         (search-ends (window l) (valid l i) (share l i) newestFrame Reached goes-on (newestFrame - f .frame) (f .frame) (flow l i .remainder)
         (omega (arith, f .high)) first)

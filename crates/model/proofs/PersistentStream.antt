@@ -10,9 +10,9 @@ use Rattle.model.specs.History.{changes, credits, ofFlow, granted}
 use Rattle.model.specs.Claim.{Persistent}
 use Rattle.model.specs.Card.{run, paper}
 use Rattle.model.specs.PlanBytes.{plan2}
-use Rattle.model.proofs.Compute.{plans-compute, calls-compute, counts-compute}
-use Rattle.model.proofs.Decisions.{proved}
-use Rattle.model.proofs.Decide.{persistent}
+use Rattle.model.proofs.Unfoldings.{plans-compute, calls-compute, counts-compute}
+use Rattle.model.proofs.Decidable.{proved}
+use Rattle.model.proofs.ClaimDecided.{persistent}
 
 -- F = 2, W = 2, two flows with share 1 and 2 cells
 abbrev bytes : List ℕ

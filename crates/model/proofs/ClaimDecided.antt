@@ -18,7 +18,7 @@ use Rattle.model.specs.History.{Mark, ticks, changes, wellFormed, grants
 use Rattle.model.specs.Claim.{Each, AtRequest, AtGrant, AtTick, Ready, ReadyAt, Persistent, Held, HeldAt, SoonAt, ComesUpAt, GrantedWord, GrantedWordAt}
 use Rattle.model.specs.Claim.{Clause, Says}
 use Rattle.model.specs.BadHistories.{BreaksAlone}
-use Rattle.model.proofs.Decisions.{same, implies, is-true, all-below, everywhere}
+use Rattle.model.proofs.Decidable.{same, implies, is-true, all-below, everywhere}
 
 -- ---- marks, and numbers past all of them
 
