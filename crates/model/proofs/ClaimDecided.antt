@@ -1,79 +1,40 @@
--- Whether a history keeps each clause of demand 3 is decided by computation. Assumes nothing.
+-- Whether a history keeps a clause of demand 3 is decided by computation. Assumes nothing.
 use Prim.Native.Nat.{ℕ, suc, _+_, _-_, _≤_, _<_, max}
-use mathlib.Core.Path.{_≡_, refl, sym, ap, _∙_, subst}
-use mathlib.Core.Logic.{_↔_, Dec·and, Dec·not}
-use mathlib.Core.List.{List, _∷_, []}
+use mathlib.Core.Path.{_≡_, refl, ap}
+use mathlib.Core.Logic.{_↔_, Dec·and}
+use mathlib.Core.List.{_∷_, []}
 use mathlib.Core.Option.{Option, some, none}
-use mathlib.Core.Bool.{Bool, false, _&&_, and-true, and-false}
+use mathlib.Core.Bool.{_&&_, and-false}
 use native.Mathlib.Omega.{arith}
 use native.Mathlib.Decide.{decLe, decLt, ℕ-discrete}
-use lib.Dec.{lit<}
-use lib.ListN.{length, getD}
-use borrow.Author.Tests.{le-leb, ne-eqb}
+use borrow.Author.Tests.{ne-eqb}
 use Rattle.model.specs.Tables.{tally}
 use Rattle.model.specs.Word.{flowOf, departureOf, depart}
 use Rattle.model.specs.Plan.{Plan, positions, entry}
 use Rattle.model.specs.Calls.{Event, History, Turn, requested, credited, ticked, accepted, refused}
-use Rattle.model.specs.History.{Mark, ticks, changes, wellFormed, grants, credits, frameOf, ofFlow, atSlot, inFrame, upTo, grantedIn, grantedUpTo, creditedUpTo, Owns}
-use Rattle.model.specs.Claim.{Each, AtRequest, AtGrant, AtTick, Ready, ReadyAt, Persistent, Held, HeldAt, SoonAt, ComesUpAt, GrantedWord, GrantedWordAt}
-use Rattle.model.specs.Claim.{Clause, Says}
-use Rattle.model.specs.BadHistories.{BreaksAlone}
+use Rattle.model.specs.History.{ticks, changes, wellFormed, grants, frameOf, ofFlow, atSlot, inFrame, grantedIn, grantedUpTo, creditedUpTo, Owns}
+use Rattle.model.specs.Claim.{Each, AtRequest, AtGrant, AtTick, Ready, ReadyAt, Persistent, Held, HeldAt, SoonAt, ComesUpAt}
+use Rattle.model.specs.Claim.{GrantedWord, GrantedWordAt, Clause, Says}
 use Rattle.model.proofs.Decidable.{same, implies, is-true, all-below, everywhere}
-
--- ---- marks, and numbers past all of them
-
--- a number above the key of every mark
-unfoldable pub above : (Mark → ℕ) → List Mark → ℕ
-above key [] = 0
-above key (m ∷ ms) = max (suc (key m)) (above key ms)
-
--- Tests that agree on the keys below k agree in number, where k is past the marks.
-same-past : (key : Mark → ℕ) (p q : Mark → Bool) (k : ℕ) (ms : List Mark) → above key ms ≤ k → ((m : Mark) → key m < k → p m ≡ q m)
-    → tally p ms ≡ tally q ms
-unfolding above tally
-same-past key p q k [] le agree = refl
-same-past key p q k (m ∷ ms) le agree = cc (agree m (omega arith), same-past key p q k ms (omega arith) agree)
-
-tally-none : {A : Type 0} (xs : List A) → tally (λ x. false) xs ≡ 0
-unfolding tally
-tally-none [] = refl
-tally-none (x ∷ xs) = omega (arith, tally-none xs)
-
-pub none-past : (key : Mark → ℕ) (p : Mark → Bool) (k : ℕ) (ms : List Mark) → above key ms ≤ k → ((m : Mark) → key m < k → p m ≡ false) → tally p ms ≡ 0
-none-past key p k ms le none-below = same-past key p (λ m. false) k ms le none-below ∙ tally-none ms
-
--- past the marks, those up to s are all
-up-to-past : (i s : ℕ) (ms : List Mark) → above (λ m. m .slot) ms ≤ s → tally (upTo i s) ms ≡ tally (ofFlow i) ms
-up-to-past i s ms le =
-    same-past (λ m. m .slot) (upTo i s) (ofFlow i) s ms le (λ m lt. rw (le-leb (m .slot) s (omega arith)) (and-true (ofFlow i m)))
-
--- a slot past all grants and taken credits
-unfoldable pub end : Plan → History → ℕ
-end P h = max (above (λ m. m .slot) (grants P h)) (above (λ m. m .slot) (credits P h))
-
-module _ (P : Plan) (h : History) (i : ℕ) (s u : ℕ) (s-past : end P h ≤ s) (u-past : end P h ≤ u) where
-  pub same-granted : grantedUpTo P h i s ≡ grantedUpTo P h i u
-  unfolding end
-  same-granted = up-to-past i s (grants P h) (omega arith) ∙ sym (up-to-past i u (grants P h) (omega arith))
-
-  pub same-credited : creditedUpTo P h i s ≡ creditedUpTo P h i u
-  unfolding end
-  same-credited = up-to-past i s (credits P h) (omega arith) ∙ sym (up-to-past i u (credits P h) (omega arith))
+use Rattle.model.proofs.PastMarks.{above, none-past, end, same-granted, same-credited}
 
 -- ---- an event of a kind
 
-unfoldable pub at-request : {Q : ℕ → History → Type 0} → ((w : ℕ) (h : History) → Dec (Q w h)) → (e : Event) (h : History) → Dec (AtRequest Q e h)
+unfoldable pub at-request : {Q : ℕ → History → Type 0} → ((w : ℕ) (h : History) → Dec (Q w h))
+    → (e : Event) (h : History) → Dec (AtRequest Q e h)
 at-request d (requested w a) h = d w h
 at-request d (credited j p a) h = yes tt
 at-request d (ticked x) h = yes tt
 
-unfoldable pub at-grant : {Q : ℕ → ℕ → History → Type 0} → ((w v : ℕ) (h : History) → Dec (Q w v h)) → (e : Event) (h : History) → Dec (AtGrant Q e h)
+unfoldable pub at-grant : {Q : ℕ → ℕ → History → Type 0} → ((w v : ℕ) (h : History) → Dec (Q w v h))
+    → (e : Event) (h : History) → Dec (AtGrant Q e h)
 at-grant d (requested w (accepted v)) h = d w v h
 at-grant d (requested w (refused r)) h = yes tt
 at-grant d (credited j p a) h = yes tt
 at-grant d (ticked x) h = yes tt
 
-unfoldable pub at-tick : {Q : Turn → History → Type 0} → ((x : Turn) (h : History) → Dec (Q x h)) → (e : Event) (h : History) → Dec (AtTick Q e h)
+unfoldable pub at-tick : {Q : Turn → History → Type 0} → ((x : Turn) (h : History) → Dec (Q x h))
+    → (e : Event) (h : History) → Dec (AtTick Q e h)
 at-tick d (requested w a) h = yes tt
 at-tick d (credited j p a) h = yes tt
 at-tick d (ticked x) h = d x h
@@ -114,7 +75,8 @@ comes-up P = at-tick answered
   where
     no-owner : (h : History) (i : ℕ) → above (λ m. m .flow) (grants P h) ≤ i → tally (λ m. ofFlow i m && atSlot (ticks h + 1) m) (grants P h) ≡ 0
     no-owner h i past =
-        none-past (λ m. m .flow) (λ m. ofFlow i m && atSlot (ticks h + 1) m) i (grants P h) past (λ m lt. rw (ne-eqb (m .flow) i (omega arith)))
+        none-past (λ m. m .flow) (λ m. ofFlow i m && atSlot (ticks h + 1) m) i (grants P h) past
+        (λ m lt. rw (ne-eqb (m .flow) i (omega arith)))
 
     answered : (x : Turn) (h : History) → Dec ((i : ℕ) → (x ≡ some i) ↔ Owns P h i (ticks h + 1))
     answered x h =
@@ -180,7 +142,7 @@ unfoldable pub decided : (clause : Clause) (P : Plan) (i : ℕ) (h : History) �
 unfolding persistent at-grant at-tick soon granted-word answers-flow aboveAnswer comes-up held held-at
 decided Clause.most P i h = decLe _ _
 decided Clause.most-in-a-frame P i h =
-    everywhere (above (λ m. frameOf P (m .slot)) (grants P h)) (λ f. decLe _ _) (λ below f past. let z = none-in f past in omega arith)
+    everywhere (above (λ m. frameOf P (m .slot)) (grants P h)) (λ f. decLe _ _) (λ below f past. omega (arith, none-in f past))
   where
     none-in : (f : ℕ) → above (λ m. frameOf P (m .slot)) (grants P h) ≤ f → grantedIn P h i f ≡ 0
     none-in f past =
@@ -189,49 +151,8 @@ decided Clause.most-in-a-frame P i h =
 decided Clause.least P i h = implies (persistent P i h) (decLe _ _)
 decided Clause.one-owner P i h =
     everywhere (above (λ m. m .slot) (grants P h)) (λ s. decLe _ _)
-    (λ below s past. let z = none-past (λ m. m .slot) (atSlot s) s (grants P h) past (λ m lt. ne-eqb (m .slot) s (omega arith)) in omega arith)
+    (λ below s past. omega (arith, none-past (λ m. m .slot) (atSlot s) s (grants P h) past (λ m lt. ne-eqb (m .slot) s (omega arith))))
 decided Clause.within-cells P i h = each (held-at P i) h
 decided Clause.within-a-window P i h = each (soon P) h
 decided Clause.comes-up P i h = each (comes-up P) h
 decided Clause.granted-words P i h = each (granted-word P) h
-
--- ---- one clause broken, and no other
-
-abbrev pub clauses : List Clause
-clauses =
-    Clause.most ∷ Clause.most-in-a-frame ∷ Clause.least ∷ Clause.within-cells ∷ Clause.one-owner ∷ Clause.within-a-window ∷ Clause.comes-up
-    ∷ Clause.granted-words ∷ []
-
-abbrev pub clauseAt : ℕ → Clause
-clauseAt k = getD clauses k Clause.most
-
--- the place of a clause in the list
-pub record Place (clause : Clause) : Type 0 where
-  pub number : ℕ
-  pub below : number < length clauses
-  pub is : clauseAt number ≡ clause
-
-unfoldable pub place : (clause : Clause) → Place clause
-place Clause.most = record { number = 0; below = lit< tt; is = refl }
-place Clause.most-in-a-frame = record { number = 1; below = lit< tt; is = refl }
-place Clause.least = record { number = 2; below = lit< tt; is = refl }
-place Clause.within-cells = record { number = 3; below = lit< tt; is = refl }
-place Clause.one-owner = record { number = 4; below = lit< tt; is = refl }
-place Clause.within-a-window = record { number = 5; below = lit< tt; is = refl }
-place Clause.comes-up = record { number = 6; below = lit< tt; is = refl }
-place Clause.granted-words = record { number = 7; below = lit< tt; is = refl }
-
-unfoldable pub same-clause : (a b : Clause) → Dec (a ≡ b)
-same-clause a b =
-    same (λ e. sym (place a .is) ∙ ap clauseAt e ∙ place b .is) (ap (λ c. place c .number)) (ℕ-discrete (place a .number) (place b .number))
-
-unfoldable pub all-clauses : {Q : Clause → Type 0} → ((clause : Clause) → Dec (Q clause)) → Dec ((clause : Clause) → Q clause)
-all-clauses {Q} d =
-    same (λ r clause. subst Q (place clause .is) (r (place clause .number) (place clause .below))) (λ all k lt. all (clauseAt k))
-    (all-below (length clauses) (λ k. d (clauseAt k)))
-
-unfoldable pub alone : (clause : Clause) (P : Plan) (i : ℕ) (h : History) → Dec (BreaksAlone clause P i h)
-unfolding Dec·not decided place same-clause all-clauses
-alone clause P i h =
-    same (λ r. record { breaks = r .0; keeps-the-others = r .1 }) (λ b. (b .breaks, b .keeps-the-others))
-    (Dec·and (Dec·not (decided clause P i h)) (all-clauses (λ other. implies (Dec·not (same-clause other clause)) (decided other P i h))))

@@ -4,12 +4,13 @@ pub mod Tests
 pub mod Round
 pub mod Tables
 pub mod Tallies
--- the word, the plan, records and decimal digits
+-- the word, the plan, records, decimal digits and the listing
 pub mod Word
 pub mod Plan
 pub mod PlanWithinLimits
 pub mod Records
 pub mod Decimal
+pub mod Listing
 -- slots, positions, links and marks
 pub mod Slots
 pub mod Window
@@ -36,13 +37,14 @@ pub mod AfterCredit
 pub mod AfterTick
 pub mod AfterCalls
 pub mod Demand3
-pub mod Listing
+pub mod ListingMeets
 pub mod Holding
 pub mod Buffer
 -- edges, cards that demand 3 sends back, and a stream that meets the premise of the least count
 pub mod Unfoldings
 pub mod Edges
 pub mod Decidable
+pub mod PastMarks
 pub mod ClaimDecided
 pub mod BadHistories
 pub mod BadCards

@@ -14,7 +14,7 @@ use Rattle.model.specs.Tables.{table}
 use Rattle.model.specs.Word.{depart}
 use Rattle.model.specs.Plan.{positions, planOf, refusal}
 use Rattle.model.specs.Calls.{Call, Event, History, requested, credited, ticked, accepted, refused}
-use Rattle.model.specs.PlanBytes.{header, part, plan, plan1, plan2, listing, roomy, single}
+use Rattle.model.specs.PlanBytes.{header, entry, plan, plan1, plan2, listing, roomy, single}
 use Rattle.model.specs.Card.{Card, run}
 use Rattle.model.specs.Listing.{text, output}
 
@@ -59,7 +59,7 @@ Passes c cases = map (λ e. outcome c (e .trial)) cases ≡ map (λ e. e .expect
 
 -- k flows with share 1 and one cell, where F = N = k
 abbrev planOfMany : ℕ → List ℕ
-planOfMany k = plan k 2 k (table k (λ i. part 1 1 i 63))
+planOfMany k = plan k 2 k (table k (λ i. entry 1 1 i 63))
 
 abbrev accepts : List ℕ → Case
 accepts bytes = record { trial = link bytes []; expected = events [] }
@@ -151,7 +151,7 @@ markedEdges =
 
 -- one entry in a plan with F = 4, W = 2, N = 8
 abbrev sole : (share cells source destination : ℕ) → List ℕ
-sole share cells source destination = plan 4 2 8 (part share cells source destination ∷ [])
+sole share cells source destination = plan 4 2 8 (entry share cells source destination ∷ [])
 
 abbrev framed : (F W N : ℕ) → List ℕ
 framed F W N = plan1 F W N 1 1
@@ -162,25 +162,25 @@ planEdges =
     refuses 1 []  -- no bytes
     ∷ refuses 1 (take 11 (header 11 1 12 4 2 8))  -- 11 bytes, as stated
     ∷ refuses 1 (header 16 1 12 4 2 8)  -- 12 bytes where 16 are stated
-    ∷ refuses 1 (header 20 1 12 4 2 8 ++ part 1 1 1 9)  -- 16 bytes where 20 are stated
-    ∷ refuses 1 (header 16 1 12 4 2 8 ++ part 1 1 1 9 ++ part 1 1 2 9)  -- 20 bytes where 16 are stated
-    ∷ refuses 1 (header 272 1 12 4 2 8 ++ part 1 1 1 9)  -- 272 stated, whose low byte is 16
+    ∷ refuses 1 (header 20 1 12 4 2 8 ++ entry 1 1 1 9)  -- 16 bytes where 20 are stated
+    ∷ refuses 1 (header 16 1 12 4 2 8 ++ entry 1 1 1 9 ++ entry 1 1 2 9)  -- 20 bytes where 16 are stated
+    ∷ refuses 1 (header 272 1 12 4 2 8 ++ entry 1 1 1 9)  -- 272 stated, whose low byte is 16
     -- 2: n from 1 to 16
     ∷ refuses 2 (header 12 0 12 4 2 8)  -- 0
-    ∷ accepts (header 16 1 12 4 2 8 ++ part 1 1 1 9)  -- 1
+    ∷ accepts (header 16 1 12 4 2 8 ++ entry 1 1 1 9)  -- 1
     ∷ accepts (planOfMany 16)  -- 16
     ∷ refuses 2 (planOfMany 17)  -- 17
-    ∷ refuses 2 (header 16 257 12 4 2 8 ++ part 1 1 1 9)  -- 257, whose low byte is 1
+    ∷ refuses 2 (header 16 257 12 4 2 8 ++ entry 1 1 1 9)  -- 257, whose low byte is 1
     -- 2: the offset is 12
-    ∷ refuses 2 (header 16 1 0 4 2 8 ++ part 1 1 1 9)  -- 0
-    ∷ refuses 2 (header 16 1 11 4 2 8 ++ part 1 1 1 9)  -- 11
-    ∷ refuses 2 (header 16 1 13 4 2 8 ++ part 1 1 1 9)  -- 13
-    ∷ refuses 2 (header 16 1 268 4 2 8 ++ part 1 1 1 9)  -- 268, whose low byte is 12
+    ∷ refuses 2 (header 16 1 0 4 2 8 ++ entry 1 1 1 9)  -- 0
+    ∷ refuses 2 (header 16 1 11 4 2 8 ++ entry 1 1 1 9)  -- 11
+    ∷ refuses 2 (header 16 1 13 4 2 8 ++ entry 1 1 1 9)  -- 13
+    ∷ refuses 2 (header 16 1 268 4 2 8 ++ entry 1 1 1 9)  -- 268, whose low byte is 12
     -- 2: the length is 12 + 4n
     ∷ refuses 2 (header 12 1 12 4 2 8)  -- 12, with n = 1
-    ∷ refuses 2 (header 17 1 12 4 2 8 ++ part 1 1 1 9 ++ (0 ∷ []))  -- 17, with n = 1
-    ∷ refuses 2 (header 20 1 12 4 2 8 ++ part 1 1 1 9 ++ part 1 1 2 9)  -- 20, with n = 1
-    ∷ refuses 2 (header 16 2 12 4 2 8 ++ part 1 1 1 9)  -- 16, with n = 2
+    ∷ refuses 2 (header 17 1 12 4 2 8 ++ entry 1 1 1 9 ++ (0 ∷ []))  -- 17, with n = 1
+    ∷ refuses 2 (header 20 1 12 4 2 8 ++ entry 1 1 1 9 ++ entry 1 1 2 9)  -- 20, with n = 1
+    ∷ refuses 2 (header 16 2 12 4 2 8 ++ entry 1 1 1 9)  -- 16, with n = 2
     -- 3: F from 1 to 64
     ∷ refuses 3 (framed 0 2 8)  -- 0
     ∷ accepts (framed 1 2 8)  -- 1
@@ -223,27 +223,27 @@ planEdges =
     ∷ refuses 4 (plan2 4 2 8 1 0 1 1)  -- the first
     ∷ refuses 4 (plan2 4 2 8 1 1 1 0)  -- the last
     -- 5: source and destination
-    ∷ refuses 5 (plan 4 2 8 (part 1 1 1 9 ∷ part 1 1 1 9 ∷ []))  -- both are equal
-    ∷ accepts (plan 4 2 8 (part 1 1 1 9 ∷ part 1 1 1 8 ∷ []))  -- the sources are
-    ∷ accepts (plan 4 2 8 (part 1 1 1 9 ∷ part 1 1 2 9 ∷ []))  -- the destinations are
-    ∷ accepts (plan 4 2 8 (part 1 1 1 9 ∷ part 1 1 9 1 ∷ []))  -- there and back
-    ∷ refuses 5 (plan 4 2 8 (part 1 1 1 9 ∷ part 1 1 2 9 ∷ part 1 1 1 9 ∷ []))  -- of the first and the last of three
-    ∷ refuses 5 (plan 4 2 8 (part 1 1 1 9 ∷ part 1 1 2 9 ∷ part 1 1 2 9 ∷ []))  -- of the last two
+    ∷ refuses 5 (plan 4 2 8 (entry 1 1 1 9 ∷ entry 1 1 1 9 ∷ []))  -- both are equal
+    ∷ accepts (plan 4 2 8 (entry 1 1 1 9 ∷ entry 1 1 1 8 ∷ []))  -- the sources are
+    ∷ accepts (plan 4 2 8 (entry 1 1 1 9 ∷ entry 1 1 2 9 ∷ []))  -- the destinations are
+    ∷ accepts (plan 4 2 8 (entry 1 1 1 9 ∷ entry 1 1 9 1 ∷ []))  -- there and back
+    ∷ refuses 5 (plan 4 2 8 (entry 1 1 1 9 ∷ entry 1 1 2 9 ∷ entry 1 1 1 9 ∷ []))  -- of the first and the last of three
+    ∷ refuses 5 (plan 4 2 8 (entry 1 1 1 9 ∷ entry 1 1 2 9 ∷ entry 1 1 2 9 ∷ []))  -- of the last two
     -- 6: the sum of all shares
-    ∷ accepts (plan 4 2 8 (part 2 1 1 9 ∷ part 1 1 2 9 ∷ part 1 1 3 9 ∷ []))  -- F
-    ∷ refuses 6 (plan 4 2 8 (part 2 1 1 9 ∷ part 2 1 2 9 ∷ part 1 1 3 9 ∷ []))  -- F + 1
-    ∷ refuses 6 (plan 64 2 8 (part 64 1 1 9 ∷ part 64 1 2 9 ∷ part 64 1 3 9 ∷ part 64 1 4 9 ∷ []))  -- 256, whose low byte is 0
+    ∷ accepts (plan 4 2 8 (entry 2 1 1 9 ∷ entry 1 1 2 9 ∷ entry 1 1 3 9 ∷ []))  -- F
+    ∷ refuses 6 (plan 4 2 8 (entry 2 1 1 9 ∷ entry 2 1 2 9 ∷ entry 1 1 3 9 ∷ []))  -- F + 1
+    ∷ refuses 6 (plan 64 2 8 (entry 64 1 1 9 ∷ entry 64 1 2 9 ∷ entry 64 1 3 9 ∷ entry 64 1 4 9 ∷ []))  -- 256, whose low byte is 0
     -- 7: the sum of all cells
-    ∷ accepts (plan 4 2 5 (part 1 2 1 9 ∷ part 1 2 2 9 ∷ part 1 1 3 9 ∷ []))  -- N
-    ∷ refuses 7 (plan 4 2 4 (part 1 2 1 9 ∷ part 1 2 2 9 ∷ part 1 1 3 9 ∷ []))  -- N + 1
+    ∷ accepts (plan 4 2 5 (entry 1 2 1 9 ∷ entry 1 2 2 9 ∷ entry 1 1 3 9 ∷ []))  -- N
+    ∷ refuses 7 (plan 4 2 4 (entry 1 2 1 9 ∷ entry 1 2 2 9 ∷ entry 1 1 3 9 ∷ []))  -- N + 1
     ∷ accepts (plan2 4 2 510 2 255 2 255)  -- N, more than a byte
     ∷ refuses 7 (plan2 4 2 509 2 255 2 255)  -- N + 1, more than a byte
     -- "The first that applies"
     ∷ refuses 1 (header 16 0 12 4 2 8)  -- 1 and 2
-    ∷ refuses 2 (header 16 1 13 0 2 8 ++ part 1 1 1 9)  -- 2 and 3
+    ∷ refuses 2 (header 16 1 13 0 2 8 ++ entry 1 1 1 9)  -- 2 and 3
     ∷ refuses 3 (plan1 4 9 8 0 1)  -- 3 and 4
-    ∷ refuses 4 (plan 4 2 8 (part 1 1 9 9 ∷ part 1 1 9 9 ∷ []))  -- 4 and 5
-    ∷ refuses 5 (plan 4 2 8 (part 2 1 1 9 ∷ part 3 1 1 9 ∷ []))  -- 5 and 6
+    ∷ refuses 4 (plan 4 2 8 (entry 1 1 9 9 ∷ entry 1 1 9 9 ∷ []))  -- 4 and 5
+    ∷ refuses 5 (plan 4 2 8 (entry 2 1 1 9 ∷ entry 3 1 1 9 ∷ []))  -- 5 and 6
     ∷ refuses 6 (plan2 4 2 3 2 2 3 2)  -- 6 and 7
     ∷ []
 
@@ -260,7 +260,7 @@ callEdges =
     plays listing (requested 0x24200000 (refused 8) ∷ requested 0x27F00000 (refused 8) ∷ requested 0x24000000 (accepted 0x24000001) ∷ [])
     -- 9: node 8; and where flow 1's node is 8, node 9 for flow 1
     ∷ plays listing (requested 0x20000000 (refused 9) ∷ requested 0x24000000 (accepted 0x24000001) ∷ [])
-    ∷ plays (plan 4 2 8 (part 2 2 1 9 ∷ part 2 2 2 8 ∷ [])) (requested 0x24100000 (refused 9) ∷ requested 0x20100000 (accepted 0x20100001) ∷ [])
+    ∷ plays (plan 4 2 8 (entry 2 2 1 9 ∷ entry 2 2 2 8 ∷ [])) (requested 0x24100000 (refused 9) ∷ requested 0x20100000 (accepted 0x20100001) ∷ [])
     -- 10: departures 256 and 1,023
     ∷ plays listing (requested 0x24000100 (refused 10) ∷ requested 0x240003FF (refused 10) ∷ requested 0x24000000 (accepted 0x24000001) ∷ [])
     -- departure T gives 10, T - 1 passes
@@ -334,7 +334,7 @@ callEdges =
     -- three frames: the recycled frame takes the holding of the window's end, 0, and not of the second frame's, 2
     ∷ follows (plan1 2 3 4 2 2) (grant 0 1 ∷ grant 0 2 ∷ credit 0 4 ∷ credit 0 4 ∷ serve 0 ∷ serve 0 ∷ grant 0 4 ∷ [])
     -- three flows
-    ∷ follows (plan 4 2 8 (part 1 2 1 9 ∷ part 1 2 2 9 ∷ part 1 2 3 9 ∷ [])) (grant 2 1 ∷ grant 2 4 ∷ refuse 2 11 ∷ grant 1 2 ∷ serve 2 ∷ serve 1 ∷ idle ∷ serve 2 ∷ credit 2 5 ∷ grant 2 0 ∷ [])
+    ∷ follows (plan 4 2 8 (entry 1 2 1 9 ∷ entry 1 2 2 9 ∷ entry 1 2 3 9 ∷ [])) (grant 2 1 ∷ grant 2 4 ∷ refuse 2 11 ∷ grant 1 2 ∷ serve 2 ∷ serve 1 ∷ idle ∷ serve 2 ∷ credit 2 5 ∷ grant 2 0 ∷ [])
     -- the quantum number is not tested: the same again after a grant
     ∷ plays listing (requested 0x24000000 (accepted 0x24000001) ∷ requested 0x24000000 (accepted 0x24000002) ∷ requested 0x240FFC00 (refused 12) ∷ [])
     -- 8 though node 0 is that of an entry past the last
@@ -371,7 +371,7 @@ programEdges =
     -- one byte fewer than stated
     ∷ writes (take 19 listing) "P 1\n"
     -- lengths 11, 76 and 77, and 276, whose low byte is 20
-    ∷ writes (header 11 1 12 4 2 8 ++ part 1 1 1 9) "P 1\n"
+    ∷ writes (header 11 1 12 4 2 8 ++ entry 1 1 1 9) "P 1\n"
     ∷ writes (planOfMany 16) "P 0\n"
     ∷ writes (header 77 1 12 4 2 8 ++ replicate 65 0) "P 1\n"
     ∷ writes (header 276 2 12 4 2 4 ++ replicate 264 0) "P 1\n"

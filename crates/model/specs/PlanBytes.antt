@@ -10,19 +10,19 @@ field x = x % 256 ∷ x / 256 ∷ []
 abbrev pub header : (total n offset F W N : ℕ) → List ℕ
 header total n offset F W N = field total ++ field n ++ field offset ++ field F ++ field W ++ field N
 
-abbrev pub part : (share cells source destination : ℕ) → List ℕ
-part share cells source destination = share ∷ cells ∷ source ∷ destination ∷ []
+abbrev pub entry : (share cells source destination : ℕ) → List ℕ
+entry share cells source destination = share ∷ cells ∷ source ∷ destination ∷ []
 
 abbrev pub plan : (F W N : ℕ) → List (List ℕ) → List ℕ
-plan F W N parts = header (12 + 4 * length parts) (length parts) 12 F W N ++ foldr _++_ [] parts
+plan F W N entries = header (12 + 4 * length entries) (length entries) 12 F W N ++ foldr _++_ [] entries
 
 -- one flow, from node 1 to node 9
 abbrev pub plan1 : (F W N share cells : ℕ) → List ℕ
-plan1 F W N share cells = plan F W N (part share cells 1 9 ∷ [])
+plan1 F W N share cells = plan F W N (entry share cells 1 9 ∷ [])
 
 -- two flows, from nodes 1 and 2 to node 9
 abbrev pub plan2 : (F W N share0 cells0 share1 cells1 : ℕ) → List ℕ
-plan2 F W N share0 cells0 share1 cells1 = plan F W N (part share0 cells0 1 9 ∷ part share1 cells1 2 9 ∷ [])
+plan2 F W N share0 cells0 share1 cells1 = plan F W N (entry share0 cells0 1 9 ∷ entry share1 cells1 2 9 ∷ [])
 
 -- F = 4, W = 2, N = 4, two flows with share 2 and 2 cells: the listing's bytes
 abbrev pub listing : List ℕ
