@@ -14,7 +14,8 @@ use Rattle.model.specs.Link.{Link, holding}
 use Rattle.model.specs.Claim.{Clause}
 use Rattle.model.specs.Card.{Card, Meets, run, paper}
 use Rattle.model.specs.PlanBytes.{listing, single}
-use Rattle.model.specs.Edges.{Passes, markedEdges}
+use Rattle.model.specs.EdgeCases.{Passes}
+use Rattle.model.specs.Edges.{markedEdges}
 use Rattle.model.specs.BadCards.{refusesAll, refusesFlow1, grantsOne, writesNoBooking, firstWindowOnly, inventsHolding, fullest, startsAtZero, testsOwnPosition, walksPastEnd, stopsAtLastFrame, dropsHoldings}
 use Rattle.model.proofs.Unfoldings.{plans-compute, calls-compute, counts-compute}
 use Rattle.model.proofs.Decidable.{IsNo, refuted}

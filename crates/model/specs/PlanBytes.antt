@@ -2,6 +2,7 @@
 use Prim.Native.Nat.{ℕ, _+_, _*_, _/_, _%_}
 use mathlib.Core.List.{List, _∷_, [], _++_, foldr}
 use lib.ListN.{length}
+use Rattle.model.specs.Tables.{table}
 
 -- a 16-bit number, low byte first
 abbrev pub field : ℕ → List ℕ
@@ -23,6 +24,10 @@ plan1 F W N share cells = plan F W N (entry share cells 1 9 ∷ [])
 -- two flows, from nodes 1 and 2 to node 9
 abbrev pub plan2 : (F W N share0 cells0 share1 cells1 : ℕ) → List ℕ
 plan2 F W N share0 cells0 share1 cells1 = plan F W N (entry share0 cells0 1 9 ∷ entry share1 cells1 2 9 ∷ [])
+
+-- k flows with share 1 and one cell, where F = N = k
+abbrev pub planOfMany : ℕ → List ℕ
+planOfMany k = plan k 2 k (table k (λ i. entry 1 1 i 63))
 
 -- F = 4, W = 2, N = 4, two flows with share 2 and 2 cells: the listing's bytes
 abbrev pub listing : List ℕ
