@@ -16,7 +16,8 @@ use Rattle.model.specs.Card.{Card, Meets, run, paper}
 use Rattle.model.specs.PlanBytes.{listing, single}
 use Rattle.model.specs.EdgeCases.{Passes}
 use Rattle.model.specs.Edges.{markedEdges}
-use Rattle.model.specs.BadCards.{refusesAll, refusesFlow1, grantsOne, writesNoBooking, firstWindowOnly, inventsHolding, fullest, startsAtZero, testsOwnPosition, walksPastEnd, stopsAtLastFrame, dropsHoldings}
+use Rattle.model.specs.BadCards.{refusesAll, refusesFlow1, grantsOne, writesNoBooking, firstWindowOnly, inventsHolding, fullest, startsAtZero}
+use Rattle.model.specs.BadCards.{testsOwnPosition, walksPastEnd, stopsAtLastFrame, dropsHoldings}
 use Rattle.model.proofs.Unfoldings.{plans-compute, calls-compute, counts-compute}
 use Rattle.model.proofs.Decidable.{IsNo, refuted}
 use Rattle.model.proofs.ClaimDecided.{decided}
@@ -89,7 +90,8 @@ pub first-window-only : Meets firstWindowOnly → ⊥
 unfolding events-compute
 first-window-only =
     sent-back firstWindowOnly one-flow
-    (Call.request 0x24000000 ∷ Call.request 0x24000400 ∷ Call.tick ∷ Call.request 0x24000401 ∷ Call.request 0x24000801 ∷ Call.tick ∷ Call.request 0x24000800 ∷ [])
+    (Call.request 0x24000000 ∷ Call.request 0x24000400 ∷ Call.tick ∷ Call.request 0x24000401 ∷ Call.request 0x24000801 ∷ Call.tick
+    ∷ Call.request 0x24000800 ∷ [])
     Clause.least tt
 
 -- the first request is refused with 11
@@ -109,11 +111,13 @@ abbrev listingBegins : History
 listingBegins = requested 0x24000800 (refused 12) ∷ requested 0x24000400 (accepted 0x24000402) ∷ requested 0x24000000 (accepted 0x24000001) ∷ []
 
 pub invented-answers :
-    run (inventsHolding holding (λ l i q. 0)) (planOf listing) listingCalls .history ≡ requested 0x24000800 (refused 12) ∷ credited 0 4 (refused 15) ∷ listingBegins
+    run (inventsHolding holding (λ l i q. 0)) (planOf listing) listingCalls .history
+    ≡ requested 0x24000800 (refused 12) ∷ credited 0 4 (refused 15) ∷ listingBegins
 unfolding calls-compute
 invented-answers = refl
 
-pub invents-holding : run (inventsHolding holding (λ l i q. 0)) (planOf listing) listingCalls .history ≡ run paper (planOf listing) listingCalls .history → ⊥
+pub invents-holding :
+    run (inventsHolding holding (λ l i q. 0)) (planOf listing) listingCalls .history ≡ run paper (planOf listing) listingCalls .history → ⊥
 unfolding calls-compute
 invents-holding e = let z : _≡_ {A = ℕ} 0 1 = cc in omega arith
 

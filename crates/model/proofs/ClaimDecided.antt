@@ -12,7 +12,8 @@ use Rattle.model.specs.Tables.{tally}
 use Rattle.model.specs.Word.{flowOf, departureOf, depart}
 use Rattle.model.specs.Plan.{Plan, positions, entry}
 use Rattle.model.specs.Calls.{Event, History, Turn, requested, credited, ticked, accepted, refused}
-use Rattle.model.specs.History.{ticks, changes, wellFormed, grants, frameOf, ofFlow, atSlot, inFrame, grantedIn, grantedUpTo, creditedUpTo, Owns}
+use Rattle.model.specs.History.{ticks, changes, wellFormed, grants, frameOf, ofFlow, atSlot, inFrame}
+use Rattle.model.specs.History.{grantedIn, grantedUpTo, creditedUpTo, Owns}
 use Rattle.model.specs.Claim.{Each, AtRequest, AtGrant, AtTick, Ready, ReadyAt, Persistent, Held, HeldAt, SoonAt, ComesUpAt}
 use Rattle.model.specs.Claim.{GrantedWord, GrantedWordAt, Clause, Says}
 use Rattle.model.proofs.Decidable.{same, implies, is-true, all-below, everywhere}

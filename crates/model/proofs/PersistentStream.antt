@@ -1,4 +1,5 @@
--- A stream that meets the premise of the least count over two frame changes, beside another flow and with credits taken; it is granted exactly the least count. Assumes nothing.
+-- A stream that meets the premise of the least count over two frame changes, beside another flow and with credits taken. It is granted exactly the
+-- least count. Assumes nothing.
 use Prim.Native.Nat.{ℕ, _-_, _+_, _*_}
 use mathlib.Core.Path.{_≡_, refl}
 use mathlib.Core.List.{List, _∷_, [], reverse}

@@ -17,9 +17,16 @@ use Rattle.model.proofs.Tests.{and-true}
 
 -- the five bytes at a place
 five-at : (b : List ℕ) (at : ℕ) → at + 5 ≤ length b
-    → take 5 (drop at b) ≡ getD b at 0 ∷ getD b (suc at) 0 ∷ getD b (suc (suc at)) 0 ∷ getD b (suc (suc (suc at))) 0 ∷ getD b (suc (suc (suc (suc at)))) 0 ∷ []
+    → take 5 (drop at b)
+    ≡ getD b at 0 ∷ getD b (suc at) 0 ∷ getD b (suc (suc at)) 0 ∷ getD b (suc (suc (suc at))) 0 ∷ getD b (suc (suc (suc (suc at)))) 0 ∷ []
 five-at b at h =
-    rw (drop-cons b at 0 (omega arith), drop-cons b (suc at) 0 (omega arith), drop-cons b (suc (suc at)) 0 (omega arith), drop-cons b (suc (suc (suc at))) 0 (omega arith), drop-cons b (suc (suc (suc (suc at)))) 0 (omega arith))
+    rw (
+      drop-cons b at 0 (omega arith),
+      drop-cons b (suc at) 0 (omega arith),
+      drop-cons b (suc (suc at)) 0 (omega arith),
+      drop-cons b (suc (suc (suc at))) 0 (omega arith),
+      drop-cons b (suc (suc (suc (suc at)))) 0 (omega arith),
+    )
 
 -- the call of the record at a place that has five bytes
 pub call-at : (b : List ℕ) (at : ℕ) → at + 5 ≤ length b
@@ -88,9 +95,9 @@ module _ (k a b c d : ℕ) (a-byte : a < 256) (b-byte : b < 256) (c-byte : c < 2
   pub record-of-call : (x : RecordCall) → callOf five ≡ some x → recordOf x ≡ five
   unfolding callOf
   record-of-call x is =
-      ⊎-elim (λ p. named (is-request (eqb-true k 1 (p .0))) (p .1))
-      (λ other. ⊎-elim (λ p. let b = and-true (eqb k 2) (eqb d 0) (p .0) in named (is-credit (eqb-true k 2 (b .0)) (eqb-true d 0 (b .1))) (p .1))
-      (λ other. ⊎-elim (λ p. let b = and-true (eqb k 3) (eqb (field32 five 1) 0) (p .0) in named (is-tick (eqb-true k 3 (b .0)) (eqb-true (field32 five 1) 0 (b .1))) (p .1))
+      ⊎-elim request
+      (λ other. ⊎-elim credit
+      (λ other. ⊎-elim tick
       (λ none-is. let z : _≡_ {A = ℕ} 0 1 = cc in absurd (omega arith))
       (picked (eqb k 3 && eqb (field32 five 1) 0) other))
       (picked (eqb k 2 && eqb d 0) other))
@@ -98,3 +105,14 @@ module _ (k a b c d : ℕ) (a-byte : a < 256) (b-byte : b < 256) (c-byte : c < 2
     where
       named : {y : RecordCall} → recordOf y ≡ five → some y ≡ some x → recordOf x ≡ five
       named {y} r e = let same : y ≡ x = cc in rw same at r
+
+      request : (eqb k 1 ≡ true) × (some (RecordCall.request (field32 five 1)) ≡ some x) → recordOf x ≡ five
+      request p = named (is-request (eqb-true k 1 (p .0))) (p .1)
+
+      credit : (eqb k 2 && eqb d 0 ≡ true) × (some (RecordCall.credit a (field16 five 2)) ≡ some x) → recordOf x ≡ five
+      credit p = let both = and-true (eqb k 2) (eqb d 0) (p .0) in named (is-credit (eqb-true k 2 (both .0)) (eqb-true d 0 (both .1))) (p .1)
+
+      tick : (eqb k 3 && eqb (field32 five 1) 0 ≡ true) × (some RecordCall.tick ≡ some x) → recordOf x ≡ five
+      tick p =
+          let both = and-true (eqb k 3) (eqb (field32 five 1) 0) (p .0) in
+          named (is-tick (eqb-true k 3 (both .0)) (eqb-true (field32 five 1) 0 (both .1))) (p .1)

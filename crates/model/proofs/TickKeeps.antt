@@ -20,7 +20,8 @@ use Rattle.model.specs.History.{Mark, frameOf, atSlot}
 use Rattle.model.specs.Holding.{frameStart, InWindow}
 use Rattle.model.proofs.Round.{mod-unique}
 use Rattle.model.proofs.Tallies.{all-map, tally-none}
-use Rattle.model.proofs.Slots.{some-frame, some-position, frame-low, frame-high, frame-stays, frame-changes, frames-go-on, current-in-window, last-in-window, frame-of-position, place-of-position}
+use Rattle.model.proofs.Slots.{some-frame, some-position, frame-low, frame-high, frame-stays, frame-changes, frames-go-on}
+use Rattle.model.proofs.Slots.{current-in-window, last-in-window, frame-of-position, place-of-position}
 use Rattle.model.proofs.Window.{Current, head-is, last-is}
 use Rattle.model.proofs.LinkUpdates.{owner-withOwners, flow-withFlows, carriedOn-at}
 use Rattle.model.proofs.Marks.{marksUpTo, up-to-past}
@@ -121,7 +122,9 @@ module _ {l : Link} {L : Ledger} (v : Invariant l L) where
     owner-is s w (no h) = rw (added s w (omega arith)) (sym (unowned s (L .grants) .1 none-yet))
       where
         none-yet : tally (atSlot s) (L .grants) ≡ 0
-        none-yet = tally-none (atSlot s) (L .grants) (all-map _ _ (λ m g. ne-eqb (m .slot) s (λ e. omega (arith, g .begun))) (L .grants) (v .marks .grants-in))
+        none-yet =
+            tally-none (atSlot s) (L .grants)
+            (all-map _ _ (λ m g. ne-eqb (m .slot) s (λ e. omega (arith, g .begun))) (L .grants) (v .marks .grants-in))
 
     -- "holdings go on"
     held : (i : ℕ) → i < flowCount P → (x : Flow) → Holds P (suc t) (L .raises) (L .credits) i (carriedOn l i x)

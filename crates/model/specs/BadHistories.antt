@@ -32,7 +32,11 @@ granted p = requested 0x24000000 (accepted (0x24000000 + p))
 unfoldable pub badHistories : List BadHistory
 badHistories =
     -- five slots with a share of 2, two frames and no frame change: slots 1, 2, 4 and 5, and after a tick slot 8, in frame 2
-    record { clause = Clause.most; bytes = plan2 4 2 16 2 8 2 8; events = granted 1 ∷ granted 2 ∷ granted 4 ∷ granted 5 ∷ ticked (some 0) ∷ granted 0 ∷ [] }
+    record {
+      clause = Clause.most;
+      bytes = plan2 4 2 16 2 8 2 8;
+      events = granted 1 ∷ granted 2 ∷ granted 4 ∷ granted 5 ∷ ticked (some 0) ∷ granted 0 ∷ [];
+    }
     -- three slots of frame 1
     ∷ record { clause = Clause.most-in-a-frame; bytes = roomy; events = granted 4 ∷ granted 5 ∷ granted 6 ∷ [] }
     -- one slot where the least count is 2, with a cell free

@@ -6,7 +6,15 @@ use Prim.Native.Nat.{ℕ}
 use mathlib.Core.List.{List, _∷_, []}
 use Rattle.model.specs.Calls.{requested, accepted, refused}
 use Rattle.model.specs.PlanBytes.{entry, plan, plan1, plan2, listing, roomy, single}
-use Rattle.model.specs.EdgeCases.{Trial, Outcome, Case, Answered, grant, refuse, credit, reject, serve, idle, plays, follows}
+use Rattle.model.specs.EdgeCases.{Trial, Outcome, Case, Answered, grant, refuse, credit, reject, serve, idle, idles, plays, follows}
+
+-- F = 4, W = 2, two flows with shares 1 and 3 and room for all of them
+abbrev oneAndThree : List ℕ
+oneAndThree = plan2 4 2 16 1 8 3 8
+
+-- F = 4, W = 2, three flows with share 1 and 2 cells
+abbrev threeFlows : List ℕ
+threeFlows = plan 4 2 8 (entry 1 2 1 9 ∷ entry 1 2 2 9 ∷ entry 1 2 3 9 ∷ [])
 
 -- F = 2, W = 3, share 1: from frame 1 the walk takes 3, 4 and 0, and after the next frame change 2; each comes up once
 abbrev threeFrames : List Answered
@@ -33,7 +41,7 @@ callEdges =
     -- each flow has its own cells: with 1 and 3 of them, flow 0 books once and flow 1 three times
     ∷ follows (plan2 4 2 4 2 1 2 3) (grant 0 1 ∷ refuse 0 12 ∷ grant 1 2 ∷ grant 1 3 ∷ grant 1 4 ∷ refuse 1 12 ∷ [])
     -- each flow has its own share: with 1 and 3, flow 0 books one position of each frame and flow 1 the other three that are left
-    ∷ follows (plan2 4 2 16 1 8 3 8) (grant 0 1 ∷ grant 0 4 ∷ refuse 0 11 ∷ grant 1 2 ∷ grant 1 3 ∷ grant 1 5 ∷ grant 1 6 ∷ grant 1 7 ∷ refuse 1 11 ∷ [])
+    ∷ follows oneAndThree (grant 0 1 ∷ grant 0 4 ∷ refuse 0 11 ∷ grant 1 2 ∷ grant 1 3 ∷ grant 1 5 ∷ grant 1 6 ∷ grant 1 7 ∷ refuse 1 11 ∷ [])
     -- a frame whose positions are all booked is walked past: F = 2, shares 1 and 1, and the head frame has position 1 alone
     ∷ follows (plan2 2 2 8 1 4 1 4) (grant 0 1 ∷ grant 1 2 ∷ grant 0 3 ∷ refuse 0 11 ∷ refuse 1 11 ∷ [])
     -- C stays 0 after 11: two positions in each of two frames
@@ -49,7 +57,7 @@ callEdges =
     -- 14: before CP and at CP, though the flow holds a cell at CP; after CP the credit is taken
     ∷ follows listing (grant 0 1 ∷ grant 0 2 ∷ serve 0 ∷ reject 0 0 14 ∷ reject 0 1 14 ∷ credit 0 2 ∷ [])
     -- 14 in a head frame that is not frame 0: positions 4 and 5 at CP = 5; 6 is later, 0 and 3 lie in the newest frame
-    ∷ follows listing (idle ∷ idle ∷ idle ∷ idle ∷ idle ∷ reject 0 4 14 ∷ reject 0 5 14 ∷ reject 0 6 15 ∷ reject 0 0 15 ∷ reject 0 3 15 ∷ grant 0 6 ∷ [])
+    ∷ follows listing (idles 5 (reject 0 4 14 ∷ reject 0 5 14 ∷ reject 0 6 15 ∷ reject 0 0 15 ∷ reject 0 3 15 ∷ grant 0 6 ∷ []))
     -- 15 because the flow doesn't hold there, though it does from 2 on
     ∷ follows listing (grant 1 1 ∷ grant 0 2 ∷ reject 0 1 15 ∷ credit 0 2 ∷ [])
     -- slip 1, a credit tested at its own position: both cells are free from 5 on, so that none can fall free from 2 on
@@ -57,15 +65,15 @@ callEdges =
     -- slip 1, in between: from 2 on the flow holds 2, at 3 it holds 0, and from 4 on 1
     ∷ follows listing (grant 0 1 ∷ grant 0 2 ∷ credit 0 3 ∷ credit 0 3 ∷ grant 0 4 ∷ reject 0 2 15 ∷ credit 0 4 ∷ [])
     -- slip 1, going round: in the head frame 4 to 7, position 1 is later than 6, 7 and 0, where the flow holds 2
-    ∷ follows listing (idle ∷ idle ∷ idle ∷ idle ∷ grant 0 5 ∷ grant 0 6 ∷ credit 0 1 ∷ credit 0 1 ∷ reject 0 6 15 ∷ reject 0 7 15 ∷ reject 0 0 15 ∷ [])
+    ∷ follows listing (idles 4 (grant 0 5 ∷ grant 0 6 ∷ credit 0 1 ∷ credit 0 1 ∷ reject 0 6 15 ∷ reject 0 7 15 ∷ reject 0 0 15 ∷ []))
     -- going round: what is booked at 5 is held at 1, once
-    ∷ follows listing (idle ∷ idle ∷ idle ∷ idle ∷ grant 0 5 ∷ credit 0 1 ∷ reject 0 1 15 ∷ [])
+    ∷ follows listing (idles 4 (grant 0 5 ∷ credit 0 1 ∷ reject 0 1 15 ∷ []))
     -- slip 2, the last frame's walk: at CP = 7 it has no position left, and the search goes round to 0
-    ∷ follows listing (idle ∷ idle ∷ idle ∷ idle ∷ idle ∷ idle ∷ idle ∷ grant 0 0 ∷ [])
+    ∷ follows listing (idles 7 (grant 0 0 ∷ []))
     -- slip 2, the last frame's positions are booked: F = 2, W = 2, and flow 1 finds frame 1 full at CP = 2
     ∷ follows (plan2 2 2 8 1 4 1 4) (idle ∷ idle ∷ grant 0 3 ∷ grant 1 0 ∷ [])
     -- slip 2, the walk over frames: from frame 1 it goes round to the newest frame, frame 0
-    ∷ follows roomy (idle ∷ idle ∷ idle ∷ idle ∷ grant 0 5 ∷ grant 0 6 ∷ grant 0 0 ∷ grant 0 1 ∷ refuse 0 11 ∷ [])
+    ∷ follows roomy (idles 4 (grant 0 5 ∷ grant 0 6 ∷ grant 0 0 ∷ grant 0 1 ∷ refuse 0 11 ∷ []))
     -- the newest frame is frame 0, then frame 1 again
     ∷ follows single (grant 0 1 ∷ serve 0 ∷ grant 0 0 ∷ refuse 0 11 ∷ serve 0 ∷ grant 0 1 ∷ [])
     -- three frames of two slots, share 1
@@ -75,7 +83,7 @@ callEdges =
     -- a frame that comes round again has the holdings of the window's end, 0, and not those that stood there, 1 and 2
     ∷ follows listing (grant 0 1 ∷ grant 0 2 ∷ credit 0 5 ∷ credit 0 5 ∷ serve 0 ∷ serve 0 ∷ idle ∷ idle ∷ grant 0 5 ∷ [])
     -- the same at the second frame change: the window's end is then position 3, where 0 is held, and not 7, where 2 are held
-    ∷ follows listing (idle ∷ idle ∷ idle ∷ idle ∷ grant 0 5 ∷ grant 0 6 ∷ credit 0 1 ∷ credit 0 1 ∷ serve 0 ∷ serve 0 ∷ idle ∷ idle ∷ grant 0 1 ∷ [])
+    ∷ follows listing (idles 4 (grant 0 5 ∷ grant 0 6 ∷ credit 0 1 ∷ credit 0 1 ∷ serve 0 ∷ serve 0 ∷ idle ∷ idle ∷ grant 0 1 ∷ []))
     -- the old head's positions are emptied: positions 1 and 2 come round idle
     ∷ follows listing (grant 0 1 ∷ serve 0 ∷ grant 1 2 ∷ serve 1 ∷ idle ∷ idle ∷ credit 0 5 ∷ idle ∷ idle ∷ idle ∷ idle ∷ idle ∷ idle ∷ [])
     -- at a frame change a flow with IF = HF gets its share anew, though its C was 1: it books 5 and 6 before 0
@@ -88,12 +96,12 @@ callEdges =
     ∷ follows listing (grant 1 1 ∷ grant 1 2 ∷ reject 0 2 15 ∷ credit 1 5 ∷ credit 1 5 ∷ reject 1 5 15 ∷ [])
     ∷ follows listing (grant 1 1 ∷ grant 1 2 ∷ serve 1 ∷ serve 1 ∷ idle ∷ idle ∷ refuse 1 12 ∷ [])
     -- at a frame change flow 1 gets its own share of 3, and moves though flow 0's IF is not HF
-    ∷ follows (plan2 4 2 16 1 8 3 8) (idle ∷ idle ∷ idle ∷ idle ∷ grant 1 5 ∷ grant 1 6 ∷ grant 1 7 ∷ grant 1 0 ∷ grant 1 1 ∷ grant 1 2 ∷ refuse 1 11 ∷ [])
+    ∷ follows oneAndThree (idles 4 (grant 1 5 ∷ grant 1 6 ∷ grant 1 7 ∷ grant 1 0 ∷ grant 1 1 ∷ grant 1 2 ∷ refuse 1 11 ∷ []))
     ∷ follows roomy (grant 0 1 ∷ grant 0 2 ∷ grant 0 4 ∷ serve 0 ∷ serve 0 ∷ idle ∷ serve 0 ∷ grant 1 5 ∷ [])
     -- three frames: the recycled frame takes the holding of the window's end, 0, and not of the second frame's, 2
     ∷ follows (plan1 2 3 4 2 2) (grant 0 1 ∷ grant 0 2 ∷ credit 0 4 ∷ credit 0 4 ∷ serve 0 ∷ serve 0 ∷ grant 0 4 ∷ [])
     -- three flows
-    ∷ follows (plan 4 2 8 (entry 1 2 1 9 ∷ entry 1 2 2 9 ∷ entry 1 2 3 9 ∷ [])) (grant 2 1 ∷ grant 2 4 ∷ refuse 2 11 ∷ grant 1 2 ∷ serve 2 ∷ serve 1 ∷ idle ∷ serve 2 ∷ credit 2 5 ∷ grant 2 0 ∷ [])
+    ∷ follows threeFlows (grant 2 1 ∷ grant 2 4 ∷ refuse 2 11 ∷ grant 1 2 ∷ serve 2 ∷ serve 1 ∷ idle ∷ serve 2 ∷ credit 2 5 ∷ grant 2 0 ∷ [])
     -- the quantum number is not tested: the same again after a grant
     ∷ plays listing (requested 0x24000000 (accepted 0x24000001) ∷ requested 0x24000000 (accepted 0x24000002) ∷ requested 0x240FFC00 (refused 12) ∷ [])
     -- 8 though node 0 is that of an entry past the last

@@ -81,6 +81,11 @@ pub data Answered : Type 0 where
   serve : (flow : ℕ) → Answered
   idle : Answered
 
+-- k idle ticks, and then the rest
+abbrev pub idles : ℕ → List Answered → List Answered
+idles zero rest = rest
+idles (suc k) rest = idle ∷ idles k rest
+
 abbrev wordOf : (flow quantum departure : ℕ) → ℕ
 wordOf flow quantum departure = 0x24000000 + 0x100000 * flow + 0x400 * (quantum % 1024) + departure
 

@@ -4,7 +4,7 @@ use mathlib.Core.List.{List, _∷_, [], _++_}
 use mathlib.Core.Option.{some}
 use Rattle.model.specs.Calls.{Event, requested, credited, ticked, accepted, refused}
 use Rattle.model.specs.PlanBytes.{plan2, listing, single}
-use Rattle.model.specs.EdgeCases.{Trial, Outcome, Case, Answered, grant, refuse, credit, reject, idle, accepts, refuses, plays, follows}
+use Rattle.model.specs.EdgeCases.{Trial, Outcome, Case, Answered, grant, refuse, credit, reject, idles, accepts, refuses, plays, follows}
 use Rattle.model.specs.PlanEdges.{planEdges}
 use Rattle.model.specs.CallEdges.{callEdges}
 use Rattle.model.specs.ProgramEdges.{programEdges}
@@ -42,7 +42,7 @@ markedEdges =
     -- P: on a fresh link, a credit dated CP
     ∷ follows listing (reject 0 0 14 ∷ [])
     -- P: at CP = 3 an untouched flow books 4
-    ∷ follows listing (idle ∷ idle ∷ idle ∷ grant 0 4 ∷ [])
+    ∷ follows listing (idles 3 (grant 0 4 ∷ []))
     -- P: the granted word
     ∷ record { trial = Trial.granting 0x24000000 1; expected = Outcome.word 0x24000001 }
     -- P: F = 1, W = 2, share 1

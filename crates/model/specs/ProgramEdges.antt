@@ -13,11 +13,15 @@ listingRecords =
     0x01 ∷ 0x00 ∷ 0x00 ∷ 0x00 ∷ 0x24 ∷ 0x01 ∷ 0x00 ∷ 0x04 ∷ 0x00 ∷ 0x24 ∷ 0x01 ∷ 0x00 ∷ 0x08 ∷ 0x00 ∷ 0x24 ∷ 0x02 ∷ 0x00 ∷ 0x04 ∷ 0x00 ∷ 0x00
     ∷ 0x01 ∷ 0x00 ∷ 0x08 ∷ 0x00 ∷ 0x24 ∷ 0x01 ∷ 0x00 ∷ 0x00 ∷ 0x10 ∷ 0x24 ∷ 0x03 ∷ 0x00 ∷ 0x00 ∷ 0x00 ∷ 0x00 ∷ []
 
+-- a record of five bytes
+abbrev five : (kind a b c d : ℕ) → List ℕ
+five kind a b c d = kind ∷ a ∷ b ∷ c ∷ d ∷ []
+
 abbrev requestRecord : List ℕ
-requestRecord = 1 ∷ 0x00 ∷ 0x00 ∷ 0x00 ∷ 0x24 ∷ []
+requestRecord = five 1 0x00 0x00 0x00 0x24
 
 abbrev tickRecord : List ℕ
-tickRecord = 3 ∷ 0 ∷ 0 ∷ 0 ∷ 0 ∷ []
+tickRecord = five 3 0 0 0 0
 
 unfoldable pub programEdges : List Case
 programEdges =
@@ -42,14 +46,14 @@ programEdges =
     ∷ writes (listing ++ tickRecord ++ (3 ∷ [])) "P 0\nT -\nR 16\n"
     ∷ writes (listing ++ requestRecord ++ take 4 requestRecord) "P 0\nG 1\nR 16\n"
     -- unknown kinds 0, 4 and 255; the link is unchanged
-    ∷ writes (listing ++ (0 ∷ 0 ∷ 0 ∷ 0 ∷ 0 ∷ []) ++ (4 ∷ 0 ∷ 0 ∷ 0 ∷ 0 ∷ []) ++ (255 ∷ 0 ∷ 0 ∷ 0 ∷ 0x24 ∷ []) ++ requestRecord) "P 0\nR 16\nR 16\nR 16\nG 1\n"
+    ∷ writes (listing ++ five 0 0 0 0 0 ++ five 4 0 0 0 0 ++ five 255 0 0 0 0x24 ++ requestRecord) "P 0\nR 16\nR 16\nR 16\nG 1\n"
     -- nonzero fillers: a credit's, and each of a tick's
-    ∷ writes (listing ++ requestRecord ++ (2 ∷ 0 ∷ 1 ∷ 0 ∷ 1 ∷ []) ++ (2 ∷ 0 ∷ 1 ∷ 0 ∷ 0 ∷ [])) "P 0\nG 1\nR 16\nC\n"
-    ∷ writes (listing ++ (3 ∷ 1 ∷ 0 ∷ 0 ∷ 0 ∷ []) ++ (3 ∷ 0 ∷ 1 ∷ 0 ∷ 0 ∷ []) ++ (3 ∷ 0 ∷ 0 ∷ 1 ∷ 0 ∷ []) ++ (3 ∷ 0 ∷ 0 ∷ 0 ∷ 1 ∷ [])) "P 0\nR 16\nR 16\nR 16\nR 16\n"
+    ∷ writes (listing ++ requestRecord ++ five 2 0 1 0 1 ++ five 2 0 1 0 0) "P 0\nG 1\nR 16\nC\n"
+    ∷ writes (listing ++ five 3 1 0 0 0 ++ five 3 0 1 0 0 ++ five 3 0 0 1 0 ++ five 3 0 0 0 1) "P 0\nR 16\nR 16\nR 16\nR 16\n"
     -- 16 comes before the call that the record would make: flow 2 of two gives 8
-    ∷ writes (listing ++ (2 ∷ 2 ∷ 1 ∷ 0 ∷ 1 ∷ []) ++ (2 ∷ 2 ∷ 1 ∷ 0 ∷ 0 ∷ [])) "P 0\nR 16\nR 8\n"
+    ∷ writes (listing ++ five 2 2 1 0 1 ++ five 2 2 1 0 0) "P 0\nR 16\nR 8\n"
     -- a position has two bytes, low first: 256 is no position, 1 is
-    ∷ writes (listing ++ requestRecord ++ (2 ∷ 0 ∷ 0 ∷ 1 ∷ 0 ∷ []) ++ (2 ∷ 0 ∷ 1 ∷ 0 ∷ 0 ∷ [])) "P 0\nG 1\nR 13\nC\n"
+    ∷ writes (listing ++ requestRecord ++ five 2 0 0 1 0 ++ five 2 0 1 0 0) "P 0\nG 1\nR 13\nC\n"
     -- two digits
     ∷ writes (plan1 16 2 8 1 1 ++ foldr _++_ [] (replicate 9 tickRecord) ++ requestRecord) "P 0\nT -\nT -\nT -\nT -\nT -\nT -\nT -\nT -\nT -\nG 10\n"
     ∷ []
