@@ -14,7 +14,7 @@ use borrow.Author.Tests.{eqb-true, eqb-false, eq-eqb, ne-eqb}
 use Rattle.model.specs.Tables.{tally}
 use Rattle.model.specs.Plan.{Plan, positions, flowCount, Accepted}
 use Rattle.model.specs.Window.{head, next, frameAt}
-use Rattle.model.specs.Link.{Link, Flow, window, owner, flow, holding, share, withCurrent, movedTo}
+use Rattle.model.specs.Link.{Link, Flow, window, owner, flow, holding, share, withCurrent, withTaken, movedTo}
 use Rattle.model.specs.Tick.{leftHead, carriedOn, recycled, nextPosition, advanced}
 use Rattle.model.specs.History.{Mark, frameOf, atSlot}
 use Rattle.model.specs.Holding.{frameStart, InWindow}
@@ -26,7 +26,7 @@ use Rattle.model.proofs.Window.{Current, head-is, last-is}
 use Rattle.model.proofs.LinkUpdates.{owner-withOwners, flow-withFlows, carriedOn-at}
 use Rattle.model.proofs.Marks.{marksUpTo, up-to-past}
 use Rattle.model.proofs.SlotOwners.{ownerIn, unowned}
-use Rattle.model.proofs.Invariant.{Ledger, atNextSlot, Begun, Granted, MarksIn, Injects, HoldsAt, Holds, Invariant}
+use Rattle.model.proofs.Invariant.{Ledger, atNextSlot, Begun, Granted, MarksIn, Injects, HoldsAt, Holds, Owned, Invariant}
 
 module _ {l : Link} {L : Ledger} (v : Invariant l L) where
   open Link l using (plan as P)
@@ -60,13 +60,22 @@ module _ {l : Link} {L : Ledger} (v : Invariant l L) where
       granted : (m : Mark) → Granted P t (L .origin) m → Granted P (suc t) (L .origin) m
       granted m g = record { known = g .known; begun = begun m (g .begun); since = g .since }
 
+  -- the mark is off
+  owned-on : Owned (suc t) (L .grants) (L .raises) false
+  owned-on = record {
+    one-owner = v .owned .one-owner;
+    to-come = λ s lt. v .owned .to-come s (omega arith);
+    unmarked = λ e. v .owned .to-come (suc t) (omega arith);
+  }
+
   -- ---- in the same frame
 
-  in-frame : (suc t % F ≡ 0 → ⊥) → Invariant (withCurrent l (nextPosition l)) (atNextSlot L)
+  in-frame : (suc t % F ≡ 0 → ⊥) → Invariant (withTaken (withCurrent l (nextPosition l)) false) (atNextSlot L)
   in-frame d = record {
     current = next-current;
     marks = marks-stay;
     bookings = record { owners-are = λ s w. v .bookings .owners-are s (before s w); once = v .bookings .once };
+    owned = owned-on;
     injects = λ i h. rw same (v .injects i h);
     holds = λ i h s. let x = v .holds i h s in record { at-slot = λ w. x .at-slot (before s w); covered = x .covered; within = x .within };
   }
@@ -182,7 +191,7 @@ module _ {l : Link} {L : Ledger} (v : Invariant l L) where
               in-frames = f .in-frames;
             }
 
-    at-change : Invariant (withCurrent (recycled l) (nextPosition l)) (atNextSlot L)
+    at-change : Invariant (withTaken (withCurrent (recycled l) (nextPosition l)) false) (atNextSlot L)
     unfolding recycled
     at-change = record {
       current = next-current;
@@ -191,6 +200,7 @@ module _ {l : Link} {L : Ledger} (v : Invariant l L) where
         owners-are = λ s w. owner-withOwners l _ (s % T) (mod-lt s (some-position ok)) ∙ owner-is s w (decLt s end);
         once = v .bookings .once;
       };
+      owned = owned-on;
       injects = λ i h. subst (Injects P (frameOf P (suc t)) (L .grants) i) (sym (flow-withFlows l _ i h)) (injects-on i h);
       holds = λ i h. subst (Holds P (suc t) (L .raises) (L .credits) i) (sym (flow-withFlows l _ i h)) (held i h (leftHead l i));
     }
@@ -211,7 +221,7 @@ module _ {l : Link} {L : Ledger} (v : Invariant l L) where
       place : nextPosition l % F ≡ suc t % F
       place = ap (_% F) next-position ∙ place-of-position ok (suc t)
 
-      go : (b : Bool) → eqb (nextPosition l % F) 0 ≡ b → Advances (withCurrent (cond b (recycled l) l) (nextPosition l))
+      go : (b : Bool) → eqb (nextPosition l % F) 0 ≡ b → Advances (withTaken (withCurrent (cond b (recycled l) l) (nextPosition l)) false)
       go true e =
           let change : suc t % F ≡ 0 = sym place ∙ eqb-true (nextPosition l % F) 0 e in
           record {

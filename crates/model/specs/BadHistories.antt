@@ -5,7 +5,7 @@ use mathlib.Core.List.{List, _∷_, [], reverse}
 use mathlib.Core.Option.{some, none}
 use Rattle.model.specs.PlanBytes.{plan1, plan2, listing, roomy}
 use Rattle.model.specs.Plan.{Plan, planOf}
-use Rattle.model.specs.Calls.{Event, History, requested, credited, ticked, accepted, refused}
+use Rattle.model.specs.Calls.{Event, History, requested, credited, ticked, lent, accepted, refused}
 use Rattle.model.specs.Claim.{Clause, Says}
 
 pub record BreaksAlone (clause : Clause) (P : Plan) (i : ℕ) (h : History) : Type 0 where
@@ -99,4 +99,19 @@ badHistories =
     }
     -- flow 2 of two, with the node 0 that an entry past the last has
     ∷ record { clause = Clause.granted-words; bytes = listing; events = requested 0x00200000 (accepted 0x00200001) ∷ [] }
+    -- slot 1 is booked by flow 0 and lent to flow 1; slot 0 is lent to both
+    ∷ record { clause = Clause.one-owner; bytes = listing; events = granted 1 ∷ ticked (some 0) ∷ lent 2 (accepted 1) ∷ [] }
+    ∷ record { clause = Clause.one-owner; bytes = listing; events = lent 1 (accepted 0) ∷ lent 2 (accepted 1) ∷ [] }
+    -- three lent slots held with 2 cells; and two lent and one granted
+    ∷ record {
+      clause = Clause.within-cells;
+      bytes = listing;
+      events = lent 1 (accepted 0) ∷ ticked none ∷ lent 1 (accepted 0) ∷ ticked none ∷ lent 1 (accepted 0) ∷ [];
+    }
+    ∷ record { clause = Clause.within-cells; bytes = listing; events = lent 1 (accepted 0) ∷ granted 1 ∷ granted 2 ∷ [] }
+    -- a lent slot does not come up at its tick
+    ∷ record { clause = Clause.comes-up; bytes = listing; events = ticked none ∷ lent 1 (accepted 0) ∷ ticked (some 0) ∷ [] }
+    -- lent to a flow that the mask does not have, and to flow 2 of two
+    ∷ record { clause = Clause.lent-flows; bytes = listing; events = lent 1 (accepted 1) ∷ [] }
+    ∷ record { clause = Clause.lent-flows; bytes = listing; events = lent 4 (accepted 2) ∷ [] }
     ∷ []

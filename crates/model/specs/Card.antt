@@ -1,15 +1,16 @@
--- A link card: a state and four functions of the calls' types; a list of calls played on it; and what it is to meet demand 3. Assumes nothing.
+-- A link card: a state and a function for each call; a list of calls played on it; and what it is to meet demand 3. Assumes nothing.
 use Prim.Native.Nat.{ℕ, _<_}
 use mathlib.Core.Path.{_≡_}
 use mathlib.Core.List.{List, _∷_, []}
 use Rattle.model.specs.Plan.{Plan, flowCount, planOf, refusal}
-use Rattle.model.specs.Calls.{Call, Grant, Receipt, Turn, History, requested, credited, ticked}
+use Rattle.model.specs.Calls.{Call, Grant, Receipt, Turn, Loan, History, requested, credited, ticked, lent}
 use Rattle.model.specs.Claim.{Demand3}
 use Rattle.model.specs.Link.{Link}
 use Rattle.model.specs.Fresh as fresh
 use Rattle.model.specs.Request as request
 use Rattle.model.specs.Credit as credit
 use Rattle.model.specs.Tick as tick
+use Rattle.model.specs.Lend as lend
 
 pub record Card : Type 1 where
   pub State : Type 0
@@ -17,6 +18,7 @@ pub record Card : Type 1 where
   pub request : State → ℕ → State × Grant
   pub credit : State → ℕ → ℕ → State × Receipt
   pub tick : State → State × Turn
+  pub lend : State → (mask choice : ℕ) → State × Loan
 
 -- a card after some calls, with their events
 pub record Played (c : Card) : Type 0 where
@@ -28,6 +30,7 @@ abbrev pub step : (c : Card) → Played c → Call → Played c
 step c r (Call.request w) = record { state = c .request (r .state) w .0; history = requested w (c .request (r .state) w .1) ∷ r .history }
 step c r (Call.credit i p) = record { state = c .credit (r .state) i p .0; history = credited i p (c .credit (r .state) i p .1) ∷ r .history }
 step c r Call.tick = record { state = c .tick (r .state) .0; history = ticked (c .tick (r .state) .1) ∷ r .history }
+step c r (Call.lend m x) = record { state = c .lend (r .state) m x .0; history = lent m (c .lend (r .state) m x .1) ∷ r .history }
 
 unfoldable pub play : (c : Card) → Played c → List Call → Played c
 play c r [] = r
@@ -49,7 +52,7 @@ MeetsOn c P = (calls : List Call) (i : ℕ) → i < flowCount P → Demand3 P i 
 abbrev pub Meets : Card → Type 0
 Meets c = (bytes : List ℕ) → refusal bytes ≡ 0 → MeetsOn c (planOf bytes)
 
--- the card of document 01
+-- the card of documents 01 and 02
 abbrev pub paper : Card
 paper = record {
   State = Link;
@@ -57,4 +60,5 @@ paper = record {
   request = λ l w. (request.request l w .link, request.request l w .answer);
   credit = λ l i p. (credit.credit l i p .link, credit.credit l i p .answer);
   tick = λ l. (tick.tick l .link, tick.tick l .answer);
+  lend = λ l m x. (lend.lend l m x .link, lend.lend l m x .answer);
 }
