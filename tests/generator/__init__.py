@@ -1,0 +1,1 @@
+"""The generator: call files from seeds, the same bytes for a seed everywhere."""
