@@ -1,30 +1,57 @@
-"""The link as the history of its grants and taken credits.
+"""The link as the history of its calls.
 
-Slots and frames are numbered without end.  Nothing is kept modulo T: what a
-flow holds at a slot is counted from its granted slots and its taken credits.
-Positions appear only where a call comes in or an answer goes out.
+Slots and frames are numbered without end.  There is no table of the window:
+the granted slots and the slots of the taken credits are written down, and
+what a flow holds is counted from them.  Positions appear only where a call
+comes in or an answer goes out.
 """
 
-from bisect import bisect_right
+from itertools import accumulate
+
+
+class Flow:
+    """One flow of a fresh link.  Doc 01, Fresh."""
+
+    def __init__(self, share):
+        self.frame = 0              # IF, a frame number
+        self.left = share           # C
+        self.granted = []           # slots, from the head frame on
+        self.credited = []          # slots of taken credits, likewise
+        self.before = 0             # granted less credited before these
+
+    def fold(self, first):
+        """Counts what lies before a slot into one number."""
+        self.before += (sum(slot < first for slot in self.granted)
+                        - sum(slot < first for slot in self.credited))
+        self.granted = [slot for slot in self.granted if slot >= first]
+        self.credited = [slot for slot in self.credited if slot >= first]
 
 
 class Link:
     def __init__(self, plan):
-        # Doc 01, Fresh.
-        flows = range(plan.flows)
         self.plan = plan
-        self.ticks = 0                          # slot `ticks` is current
-        self.owner = {}                         # granted slot -> flow
-        self.granted = [[] for _ in flows]      # sorted granted slots
-        self.returned = [[] for _ in flows]     # sorted slots of taken credits
-        self.frame = [0 for _ in flows]         # IF, a frame number
-        self.left = [plan.share(flow) for flow in flows]        # C
+        self.ticks = 0              # slot `ticks` is current
+        self.owner = {}             # granted slot -> flow
+        self.flows = [Flow(plan.share(flow)) for flow in range(plan.flows)]
+
+    # ---- frames and slots of the window
+
+    def frame_of(self, slot):
+        return slot // self.plan.frame_slots
 
     def head_frame(self):
-        return self.ticks // self.plan.frame_slots
+        return self.frame_of(self.ticks)
 
     def newest_frame(self):
         return self.head_frame() + self.plan.window_frames - 1
+
+    def slots_of(self, frame):
+        first = frame * self.plan.frame_slots
+        return range(first, first + self.plan.frame_slots)
+
+    def first_slot(self):
+        """The first slot of the window."""
+        return self.head_frame() * self.plan.frame_slots
 
     def slot_of(self, position):
         """Where the position comes next.  Doc 01, What demand 3 counts, on
@@ -34,13 +61,23 @@ class Link:
 
     def in_window(self, slot):
         """A position of HF not later than CP is a slot past the window."""
-        return slot // self.plan.frame_slots <= self.newest_frame()
+        return self.frame_of(slot) <= self.newest_frame()
 
-    def holds(self, flow, slot):
-        """Doc 01, Holding: granted less returned up to and including slot."""
-        return (bisect_right(self.granted[flow], slot)
-                - bisect_right(self.returned[flow], slot))
+    # ---- holdings
 
-    def holds_at_the_end(self, flow):
-        """No grant or credit lies past the window, so its end counts all."""
-        return len(self.granted[flow]) - len(self.returned[flow])
+    def holdings(self, number):
+        """What a flow holds at each slot of the window, in their order:
+        granted slots up to and including it, less taken credits up to and
+        including it.  Doc 01, Holding."""
+        flow, first = self.flows[number], self.first_slot()
+        change = [0] * self.plan.slots
+        change[0] = flow.before
+        for slot in flow.granted:
+            change[slot - first] += 1
+        for slot in flow.credited:
+            change[slot - first] -= 1
+        return list(accumulate(change))
+
+    def from_slot(self, slot, holdings):
+        """The holdings at a slot of the window and at every later one."""
+        return holdings[slot - self.first_slot():]

@@ -1,56 +1,49 @@
 """Request, as document 01 has it."""
 
-from bisect import insort
+
+def later_than_current(link, slot):
+    """Later than CP when in HF."""
+    return slot > link.ticks or link.frame_of(slot) != link.head_frame()
 
 
-def first_slot_with_room(link, flow):
-    """The first slot after the current one from which on the flow holds fewer
-    than its cells, or None.
-
-    A holding falls only at the slot of a credit.  So the last slot at which
-    the flow is full is the window's end, or stands right before a credit.
-    """
-    cells = link.plan.cells(flow)
-    if link.holds_at_the_end(flow) >= cells:
-        return None
-    first = link.ticks + 1
-    for slot in reversed(link.returned[flow]):
-        if slot <= first:
-            break
-        if link.holds(flow, slot - 1) >= cells:
-            return slot
-    return first
+def valid(link, slot, holdings, cells):
+    """Unbooked, later than CP when in HF, and the flow holds fewer than its
+    cells there and at every later slot of the window."""
+    return (slot not in link.owner
+            and later_than_current(link, slot)
+            and max(link.from_slot(slot, holdings)) < cells)
 
 
-def earliest_unbooked(link, frame, first):
-    """The earliest slot of the frame, from `first` on, that nobody has."""
-    start = frame * link.plan.frame_slots
-    for slot in range(max(start, first), start + link.plan.frame_slots):
-        if slot not in link.owner:
+def earliest_valid(link, number, holdings):
+    """The earliest valid slot of the flow's injection frame, or None."""
+    cells = link.plan.cells(number)
+    for slot in link.slots_of(link.flows[number].frame):
+        if valid(link, slot, holdings, cells):
             return slot
     return None
 
 
-def book(link, flow, slot):
-    link.owner[slot] = flow
-    insort(link.granted[flow], slot)
-    link.left[flow] -= 1
+def book(link, number, slot):
+    flow = link.flows[number]
+    link.owner[slot] = number
+    flow.granted.append(slot)
+    flow.left -= 1
 
 
-def search(link, flow):
-    """From the remainder on: walk from IF to the newest frame.  The booked
-    slot and 0, or None and the refusal."""
-    first = first_slot_with_room(link, flow)
+def search(link, number):
+    """The slot that is booked and 0, or None and the refusal."""
+    flow = link.flows[number]
+    holdings = link.holdings(number)
     while True:
-        if link.left[flow] > 0 and first is not None:
-            slot = earliest_unbooked(link, link.frame[flow], first)
+        if flow.left > 0:
+            slot = earliest_valid(link, number, holdings)
             if slot is not None:
-                book(link, flow, slot)
+                book(link, number, slot)
                 return slot, 0
-        if link.frame[flow] == link.newest_frame():
-            return None, 11 if link.left[flow] == 0 else 12
-        link.frame[flow] += 1
-        link.left[flow] = link.plan.share(flow)
+        if flow.frame == link.newest_frame():
+            return None, 11 if flow.left == 0 else 12
+        flow.frame += 1
+        flow.left = link.plan.share(number)
 
 
 def word_refusal(plan, word):

@@ -2,12 +2,13 @@
 
 
 def change_frame(link, old_head):
-    """Flows still at the old head go on with a full share.  Slots of the old
-    head need no clearing, their numbers don't come again."""
-    for flow in range(link.plan.flows):
-        if link.frame[flow] == old_head:
-            link.frame[flow] += 1
-            link.left[flow] = link.plan.share(flow)
+    """Flows still at the old head go on with a full share.  Its slots need no
+    emptying, since their numbers don't come again; holdings go on."""
+    for number, flow in enumerate(link.flows):
+        if flow.frame == old_head:
+            flow.frame += 1
+            flow.left = link.plan.share(number)
+        flow.fold(link.first_slot())
 
 
 def tick(link):
