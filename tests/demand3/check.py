@@ -10,9 +10,9 @@ import struct
 
 from demand3.history import History, Verdict
 
-# For each kind of record: the bytes that have to be 0, the lines that can
-# answer it, and what they tell.
-CALLS = {
+# A program's kinds of records: for each the bytes that have to be 0, the lines
+# that can answer it, and what they tell.
+DOMELINK = {
     1: ((), re.compile(r"(G|R) (\d+)\Z"), History.request),
     2: ((4,), re.compile(r"(C)()\Z|(R) (\d+)\Z"), History.credit),
     3: ((1, 2, 3, 4), re.compile(r"(T) (\d+|-)\Z"), History.tick),
@@ -20,18 +20,18 @@ CALLS = {
 REFUSED = re.compile(r"R (\d+)\Z")
 
 
-def is_call(record):
+def is_call(record, kinds):
     """Whether the record makes a call at all (else it is refused with 16)."""
-    return (len(record) == 5 and record[0] in CALLS
-            and not any(record[place] for place in CALLS[record[0]][0]))
+    return (len(record) == 5 and record[0] in kinds
+            and not any(record[place] for place in kinds[record[0]][0]))
 
 
-def take_line(history, record, text):
-    if not is_call(record):
+def take_line(history, record, text, kinds):
+    if not is_call(record, kinds):
         if not REFUSED.match(text):
             history.fault("no call, yet answered %r" % text)
         return
-    _, lines, tell = CALLS[record[0]]
+    _, lines, tell = kinds[record[0]]
     found = lines.match(text)
     if not found:
         history.fault("a call of kind %d answered %r" % (record[0], text))
@@ -50,7 +50,7 @@ def countable(data):
             and frame_slots > 0 and window_frames > 0)
 
 
-def check(data, lines):
+def check(data, lines, kinds=DOMELINK):
     """The verdict on the listing `lines` of the call file `data`."""
     verdict = Verdict()
     if not lines or lines[0] != "P 0":
@@ -69,5 +69,5 @@ def check(data, lines):
                               % (len(records), len(lines) - 1))
     for record, text in zip(records, lines[1:]):
         history.place += 1
-        take_line(history, record, text)
+        take_line(history, record, text, kinds)
     return verdict

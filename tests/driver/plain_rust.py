@@ -30,18 +30,20 @@ def build(source, program, *options):
                    str(SOURCES / source), "-o", program)
 
 
-def plain_rust(folder):
+def own_tests(suite, folder):
+    tests = folder + "/tests"
+    suite.test("the scheduler's own tests",
+               build("scheduler.rs", tests, "--test") or trouble(tests))
+
+
+def plain_rust(folder, only):
     """Its suite; the program is built in the folder if that works."""
     suite = Suite("plain Rust")
+    if not only:
+        own_tests(suite, folder)
     wrong = build("play.rs", folder + "/play")
     if wrong:
         suite.test("play.rs is compiled", wrong)
     else:
         suite.program = folder + "/play"
     return suite
-
-
-def own_tests(suite, folder):
-    tests = folder + "/tests"
-    suite.test("the scheduler's own tests",
-               build("scheduler.rs", tests, "--test") or trouble(tests))

@@ -1,6 +1,6 @@
 """Edges of the call records: refusal 16, and where the plan ends."""
 
-from edges.edge_maker import BASE, Edge, TICK, ask, credit, edge, plan
+from edges.edge_maker import BASE, Edge, TICK, ask, credit, edge
 
 NO_CALLS = [
     # Kinds other than 1 to 3, and fillers, before any test of the call.

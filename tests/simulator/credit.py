@@ -19,5 +19,5 @@ def credit(link, flow, position):
     refusal = refusal_of(link, flow, position)
     if refusal:
         return "R", refusal
-    link.flows[flow].credited.append(link.slot_of(position))
+    link.flows[flow].back_from.append(link.slot_of(position))
     return "C", None

@@ -15,16 +15,18 @@ class Flow:
     def __init__(self, share):
         self.frame = 0              # IF, a frame number
         self.left = share           # C
-        self.granted = []           # slots, from the head frame on
-        self.credited = []          # slots of taken credits, likewise
-        self.before = 0             # granted less credited before these
+        # Slots from which on a cell is held, and from which on it is back:
+        # granted slots and those of taken credits, from the head frame on.
+        self.held_from = []
+        self.back_from = []
+        self.before = 0             # the former less the latter before it
 
     def fold(self, first):
         """Counts what lies before a slot into one number."""
-        self.before += (sum(slot < first for slot in self.granted)
-                        - sum(slot < first for slot in self.credited))
-        self.granted = [slot for slot in self.granted if slot >= first]
-        self.credited = [slot for slot in self.credited if slot >= first]
+        self.before += (sum(slot < first for slot in self.held_from)
+                        - sum(slot < first for slot in self.back_from))
+        self.held_from = [slot for slot in self.held_from if slot >= first]
+        self.back_from = [slot for slot in self.back_from if slot >= first]
 
 
 class Link:
@@ -72,9 +74,9 @@ class Link:
         flow, first = self.flows[number], self.first_slot()
         change = [0] * self.plan.slots
         change[0] = flow.before
-        for slot in flow.granted:
+        for slot in flow.held_from:
             change[slot - first] += 1
-        for slot in flow.credited:
+        for slot in flow.back_from:
             change[slot - first] -= 1
         return list(accumulate(change))
 

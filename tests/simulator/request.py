@@ -26,7 +26,7 @@ def earliest_valid(link, number, holdings):
 def book(link, number, slot):
     flow = link.flows[number]
     link.owner[slot] = number
-    flow.granted.append(slot)
+    flow.held_from.append(slot)
     flow.left -= 1
 
 
