@@ -1,10 +1,14 @@
 """A command started as a user starts it, and how it has to end."""
 
+import fcntl
+import os
 import subprocess
 from pathlib import Path
 
 ROOT = Path(__file__).resolve().parents[2]
 LIMIT = 60              # seconds
+PIPE_SIZE = 4096
+SET_PIPE_SIZE = 1031    # Linux: F_SETPIPE_SZ, which Python names from 3.10 on
 
 
 class Ended:
@@ -23,6 +27,19 @@ def start(words, **options):
                           stderr=subprocess.PIPE, **options)
     return Ended(done.returncode, done.stdout,
                  done.stderr.decode(errors="replace"))
+
+
+def into_full_pipe(words, **options):
+    """How a command ends whose output goes to a small pipe that doesn't wait
+    and that nobody reads meanwhile; its output is what stands there then."""
+    reader, writer = os.pipe()
+    fcntl.fcntl(writer, SET_PIPE_SIZE, PIPE_SIZE)
+    os.set_blocking(writer, False)
+    ended = start(words, stdout=writer, **options)
+    os.close(writer)
+    with os.fdopen(reader, "rb") as pipe:
+        ended.output = pipe.read()
+    return ended
 
 
 def redirected(redirection, *words):

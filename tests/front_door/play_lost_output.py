@@ -5,7 +5,8 @@ import subprocess
 
 import call_bytes
 from edges.edge_maker import BASE
-from front_door.command import LIMIT, redirected, start, trouble
+from front_door.command import (
+    LIMIT, into_full_pipe, redirected, start, trouble)
 from front_door.play_tree import NOT_WHOLE, named
 
 
@@ -32,7 +33,16 @@ def reader_leaves(tree):
     process.stderr.close()
     if process.wait(timeout=LIMIT) != NOT_WHOLE:
         return "status %d" % process.returncode
-    return None if "play: output was lost" in errors else repr(errors)
+    return None if "output was lost" in errors else repr(errors)
+
+
+def reader_is_slow(tree):
+    """The pipe is full and doesn't wait."""
+    calls = tree.write("many", BASE + 5000 * call_bytes.TICK)
+    ended = into_full_pipe([tree.play, calls])
+    if not (b"P 0\n" + 5000 * b"T -\n").startswith(ended.output):
+        return "ends in %r" % ended.output[-20:]
+    return trouble(ended, NOT_WHOLE, says="output was lost")
 
 
 def program_breaks_off(tree):
@@ -51,8 +61,8 @@ def program_says_so(tree):
                    "domelink: output was lost")
 
 
-TESTS = (closed_output, full_disk, reader_leaves, program_breaks_off,
-         program_says_so)
+TESTS = (closed_output, full_disk, reader_leaves, reader_is_slow,
+         program_breaks_off, program_says_so)
 
 
 def tests(program):
