@@ -36,6 +36,8 @@ module _ {l : Link} {L : Ledger} (v : Invariant l L) (change : suc (L .now) % l 
   abbrev T : ℕ
   T = positions P
 
+  -- ---- the old head's positions and the new window's slots
+
   -- q is a position of the old head
   abbrev inOldHead : ℕ → Bool
   inOldHead = inHead (window l)
@@ -73,6 +75,8 @@ module _ {l : Link} {L : Ledger} (v : Invariant l L) (change : suc (L .now) % l 
   before : (s : ℕ) → InWindow P (suc t) s → s < end → InWindow P t s
   before s w h = record { low = omega (arith, w .low, next-start); high = h }
 
+  -- ---- "the old head's positions are emptied"
+
   owner-is : (s : ℕ) → InWindow P (suc t) s → Dec (s < end) → cond (inOldHead (s % T)) none (owner l (s % T)) ≡ ownerIn (L .grants) s
   owner-is s w (yes h) = rw (kept s w h) (v .bookings .owners-are s (before s w h))
   owner-is s w (no h) = rw (added s w (omega arith)) (sym (unowned s (L .grants) .1 none-yet))
@@ -82,7 +86,8 @@ module _ {l : Link} {L : Ledger} (v : Invariant l L) (change : suc (L .now) % l 
           tally-none (atSlot s) (L .grants)
           (all-map _ _ (λ m g. ne-eqb (m .slot) s (λ e. omega (arith, g .begun))) (L .grants) (v .marks .grants-in))
 
-  -- "holdings go on"
+  -- ---- "(holdings go on)"
+
   held : (i : ℕ) → i < flowCount P → (x : Flow) → Holds P (suc t) (L .raises) (L .credits) i (carriedOn l i x)
   held i known x s = record { at-slot = λ w. at-slot w (decLt s end); covered = h .covered; within = h .within }
     where
@@ -102,6 +107,8 @@ module _ {l : Link} {L : Ledger} (v : Invariant l L) (change : suc (L .now) % l 
             up-to-past i end s (end - 1) (L .raises) (v .marks .raises-in) (omega arith) (omega arith),
             up-to-past i end s (end - 1) (L .credits) (v .marks .credits-in) (omega arith) (omega arith),
           )
+
+  -- ---- "every flow with IF = HF moves to the next frame with C = share"
 
   injects-on : (i : ℕ) → i < flowCount P → Injects P (frameOf P (suc t)) (L .grants) i (leftHead l i)
   injects-on i known = go (eqb (flow l i .injection) (head (window l))) refl
@@ -137,6 +144,8 @@ module _ {l : Link} {L : Ledger} (v : Invariant l L) (change : suc (L .now) % l 
             spends = f .spends;
             in-frames = f .in-frames;
           }
+
+  -- ---- the frame change
 
   pub frame-change-keeps : Invariant (withCurrent (recycled l) (nextPosition l)) (atNextSlot L)
   unfolding recycled

@@ -58,10 +58,11 @@ module _ {l : Link} {L : Ledger} (v : Invariant l L) where
       go : (b : Bool) → eqb (nextPosition l % F) 0 ≡ b → Advances (withCurrent (cond b (recycled l) l) (nextPosition l))
       go true e =
           let change : suc t % F ≡ 0 = sym place ∙ eqb-true (nextPosition l % F) 0 e in
+          let keeps = frame-change-keeps v change in
           record {
             plan-is = refl;
-            keeps = frame-change-keeps v change;
-            answer-is = ap (owner (recycled l)) (next-position v) ∙ frame-change-keeps v change .bookings .owners-are (suc t) (current-in-window ok (suc t));
+            keeps = keeps;
+            answer-is = ap (owner (recycled l)) (next-position v) ∙ keeps .bookings .owners-are (suc t) (current-in-window ok (suc t));
             flows-in-frame = λ d. absurd (d change);
           }
       go false e =
