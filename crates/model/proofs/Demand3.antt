@@ -11,16 +11,16 @@ use Rattle.model.specs.Plan.{Plan, flowCount, entry, planOf, Accepted}
 use Rattle.model.specs.Calls.{Event, History}
 use Rattle.model.specs.Link.{Link}
 use Rattle.model.specs.History.{Mark, ticks, changes, frameOf, grants, granted, grantedIn, ofFlow, inFrame}
-use Rattle.model.specs.Claim.{Each, Persistent, Demand3}
+use Rattle.model.specs.Claim.{Each, Persistent, Clause, Demand3}
 use Rattle.model.specs.Card.{Meets, MeetsOn, paper}
 use Rattle.model.proofs.Tests.{and-true}
 use Rattle.model.proofs.Tallies.{all-map, sum-le, sum-const, sum-tail, tally-join, tally-split, Classed}
 use Rattle.model.proofs.Slots.{frame-high}
 use Rattle.model.proofs.Invariant.{Granted}
-use Rattle.model.proofs.Histories.{changes-are}
-use Rattle.model.proofs.After.{AskedOn, After}
+use Rattle.model.proofs.HistoryCounts.{changes-are}
+use Rattle.model.proofs.AfterHistory.{AskedOn, After}
 use Rattle.model.proofs.Plan.{accepted}
-use Rattle.model.proofs.Runs.{after-run}
+use Rattle.model.proofs.AfterCalls.{after-run}
 
 each-map : (Q R : Event → History → Type 0) → ((e : Event) (h : History) → Q e h → R e h) → (h : History) → Each Q h → Each R h
 each-map Q R f [] a = tt
@@ -51,7 +51,7 @@ module _ (l : Link) (h : History) (g : After (l .plan) l h) (i : ℕ) (known : i
 
   -- flow i's grants, frame by frame
   frames-cover : granted P h i ≤ sum begun inEach
-  frames-cover = tally-split begun (ofFlow i) (inFrame P i) (grants P h) (all-map _ _ in-one (grants P h) (g .invariant .grants-in))
+  frames-cover = tally-split begun (ofFlow i) (inFrame P i) (grants P h) (all-map _ _ in-one (grants P h) (g .invariant .marks .grants-in))
     where
       in-one : (m : Mark) → Granted P (ticks h) 0 m → ofFlow i m ≡ true → Classed begun (inFrame P i) m
       in-one m x e = record {
@@ -86,16 +86,14 @@ module _ (l : Link) (h : History) (g : After (l .plan) l h) (i : ℕ) (known : i
       omega arith
 
   demand3 : Demand3 P i h
-  demand3 = record {
-    most = most;
-    most-in-a-frame = in-frame;
-    least = least;
-    one-owner = g .invariant .once;
-    within-cells = each-map _ _ (λ e h c. c .held i known) h (g .events);
-    within-a-window = each-map _ _ (λ e h c. c .soon) h (g .events);
-    comes-up = each-map _ _ (λ e h c. c .comes-up) h (g .events);
-    granted-words = each-map _ _ (λ e h c. c .word) h (g .events);
-  }
+  demand3 Clause.most = most
+  demand3 Clause.most-in-a-frame = in-frame
+  demand3 Clause.least = least
+  demand3 Clause.within-cells = each-map _ _ (λ e h c. c .held i known) h (g .events)
+  demand3 Clause.one-owner = g .invariant .bookings .once
+  demand3 Clause.within-a-window = each-map _ _ (λ e h c. c .soon) h (g .events)
+  demand3 Clause.comes-up = each-map _ _ (λ e h c. c .comes-up) h (g .events)
+  demand3 Clause.granted-words = each-map _ _ (λ e h c. c .word) h (g .events)
 
 -- demand 3 on any plan that keeps the limits, and so on the plan of any bytes that are accepted
 pub meets-accepted : (P : Plan) → Accepted P → MeetsOn paper P

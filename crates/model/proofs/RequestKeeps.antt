@@ -5,7 +5,7 @@ use mathlib.Core.List.{_∷_}
 use native.Mathlib.Nat.{mod-lt}
 use native.Mathlib.Omega.{arith}
 use lib.Arith.{digits-div}
-use Rattle.model.specs.Plan.{Plan, positions, flowCount, entry, Accepted}
+use Rattle.model.specs.Plan.{Plan, positions, flowCount, entry}
 use Rattle.model.specs.Window.{newest}
 use Rattle.model.specs.Link.{Link, window}
 use Rattle.model.specs.Request.{found, nowhere, valid, booked, refusedAtNewest}
@@ -13,31 +13,21 @@ use Rattle.model.specs.History.{slotAfter, frameOf}
 use Rattle.model.specs.Holding.{InWindow}
 use Rattle.model.proofs.Round.{mod-unique}
 use Rattle.model.proofs.Slots.{some-frame, some-position, frame-slot-in-window, window-below, position-of, slotAfter-is}
-use Rattle.model.proofs.Window.{newest-is}
+use Rattle.model.proofs.Window.{Current, newest-is}
 use Rattle.model.proofs.Marks.{mark, marksIn, in-frame-skip}
 use Rattle.model.proofs.Invariant.{Ledger, withGrant, Invariant}
-use Rattle.model.proofs.Bookings.{Open, valid-open, moved-keeps, booked-keeps}
-use Rattle.model.proofs.Least.{Full, Least, least-granted}
-use Rattle.model.proofs.Sought.{Persists, Sought, newestFrame, full-behind}
+use Rattle.model.proofs.BookingKeeps.{Open, valid-open, moved-keeps, booked-keeps}
+use Rattle.model.proofs.LeastCount.{Full, Least, least-granted}
+use Rattle.model.proofs.RequestSearch.{Persists, Searched, newestFrame, full-behind}
 
 module _ {l : Link} {L : Ledger} (v : Invariant l L) {i : ℕ} (known : i < flowCount (l .plan)) (R : ℕ → ℕ) where
-  abbrev P : Plan
-  P = l .plan
-
-  abbrev F : ℕ
-  F = l .plan .slots
-
-  abbrev W : ℕ
-  W = l .plan .frames
+  open Link l using (plan as P)
+  open Plan P using (slots as F, frames as W)
+  open Ledger L using (now as t)
+  open Current (v .current) using (accepted as ok)
 
   abbrev T : ℕ
-  T = positions (l .plan)
-
-  abbrev t : ℕ
-  t = L .now
-
-  ok : Accepted P
-  ok = v .current .accepted
+  T = positions P
 
   -- ---- a grant: frame j, remainder c, position p
 
@@ -47,7 +37,7 @@ module _ {l : Link} {L : Ledger} (v : Invariant l L) {i : ℕ} (known : i < flow
     pub keeps : Invariant (booked l i j c p) (withGrant L (mark i (slotAfter P t p)))
     pub least : Persists v known R → Least P (frameOf P t) (L .origin) (mark i (slotAfter P t p) ∷ L .grants) R i j
 
-  pub after-grant : (j c p : ℕ) → Sought v known R (found j c p) → AfterGrant j c p
+  pub after-grant : (j c p : ℕ) → Searched v known R (found j c p) → AfterGrant j c p
   after-grant j c p r = record {
     position = subst (_< T) at-p (mod-lt s (some-position ok));
     soon = rw slot-is (window-below ok t s w);
@@ -113,10 +103,10 @@ module _ {l : Link} {L : Ledger} (v : Invariant l L) {i : ℕ} (known : i < flow
     pub keeps : Invariant (refusedAtNewest l i c) L
     pub least : Persists v known R → (S : ℕ → ℕ) → Least P (frameOf P t) (L .origin) (L .grants) S i (newest (window l))
 
-  pub after-refusal : (c : ℕ) → Sought v known R (nowhere c) → AfterRefusal c
+  pub after-refusal : (c : ℕ) → Searched v known R (nowhere c) → AfterRefusal c
   unfolding refusedAtNewest
   after-refusal c r = record {
-    keeps = rw (newest-is (v .current)) (moved-keeps v known newest-frame c (r .0 .low) high (r .0 .spends));
+    keeps = rw (newest-is (v .current)) (moved-keeps v known newest-frame c (r .reached .low) high (r .reached .spends));
     least = λ p S. record {
       before-injection = λ b low high e f since below. full p f since (omega arith);
       after-a-change = λ since f since′ below. full p f since′ (omega arith);
@@ -131,4 +121,4 @@ module _ {l : Link} {L : Ledger} (v : Invariant l L) {i : ℕ} (known : i < flow
       high = omega (arith, some-frame ok)
 
       full : Persists v known R → Full P (L .origin) (L .grants) i (frameOf P t + W)
-      full p f since below = full-behind v known R newest-frame c high (r .0) (r .1) p f since (omega arith)
+      full p f since below = full-behind v known R newest-frame c high (r .reached) (r .fails) p f since (omega arith)

@@ -36,6 +36,9 @@ apart a b d = go (ℕ-discrete (a .source) (b .source)) (ℕ-discrete (a .destin
     go (yes s) (no t) = rw (eq-eqb (a .source) (b .source) s, ne-eqb (a .destination) (b .destination) t)
     go (no s) t = rw (ne-eqb (a .source) (b .source) s)
 
+pairs-apart : (P : Plan) → Accepted P → (i : ℕ) → i < flowCount P → any i (λ j. samePair (entry P j) (entry P i)) ≡ false
+pairs-apart P ok i h = none-any i _ (λ j k. apart (entry P j) (entry P i) (ok .pairs-differ i j h k))
+
 pub limits-kept : (P : Plan) → Accepted P → firstOf (limitTests P) ≡ 0
 unfolding firstOf
 limits-kept P ok =
@@ -45,7 +48,7 @@ limits-kept P ok =
       kept 1 4095 (P .buffer) (ok .some-place) (ok .buffer-most),
       le-ltb 256 (P .slots * P .frames) (ok .positions-most),
       none-any (flowCount P) (λ i. not (entryFits (P .slots) (entry P i))) (λ i h. entry-kept P (entry P i) (ok .entries-fit i h)),
-      none-any (flowCount P) (λ i. any i (λ j. samePair (entry P j) (entry P i))) (λ i h. none-any i _ (λ j k. apart (entry P j) (entry P i) (ok .pairs-differ i j h k))),
+      none-any (flowCount P) (λ i. any i (λ j. samePair (entry P j) (entry P i))) (pairs-apart P ok),
       le-ltb (P .slots) _ (ok .shares-fit),
       le-ltb (P .buffer) _ (ok .cells-fit),
     ) refl

@@ -20,9 +20,9 @@ use Rattle.model.proofs.Tests.{and-true}
 use Rattle.model.proofs.Round.{mod-unique}
 use Rattle.model.proofs.Tallies.{tally-hit, tally-skip}
 use Rattle.model.proofs.Slots.{some-position}
-use Rattle.model.proofs.Window.{passed-is, everyFrom-intro}
-use Rattle.model.proofs.Links.{owner-withOwners, each-flow}
-use Rattle.model.proofs.Owners.{ownerIn, unowned}
+use Rattle.model.proofs.Window.{Current, passed-is, everyFrom-intro}
+use Rattle.model.proofs.LinkUpdates.{owner-withOwners, each-flow}
+use Rattle.model.proofs.SlotOwners.{ownerIn, unowned}
 use Rattle.model.proofs.Marks.{mark, marksIn, in-frame-hit, in-frame-skip, in-frame-other}
 use Rattle.model.proofs.Invariant.{Ledger, withGrant, Spent, Injecting, Injects, Holds, Room, Invariant}
 use Rattle.model.proofs.HeldFrom.{raise-own, raise-other, room-from}
@@ -47,14 +47,12 @@ unbooked-none none e = refl
 unbooked-none (some i) e = cc
 
 module _ {l : Link} {L : Ledger} (v : Invariant l L) {i : ℕ} (known : i < flowCount (l .plan)) where
-  abbrev P : Plan
-  P = l .plan
+  open Link l using (plan as P)
+  open Ledger L using (now as t)
+  open Current (v .current) using (accepted as ok)
 
   abbrev T : ℕ
-  T = positions (l .plan)
-
-  abbrev t : ℕ
-  t = L .now
+  T = positions P
 
   abbrev fewer : ℕ → Bool
   fewer q = ltb (holding l i q) (cells l i)
@@ -72,7 +70,7 @@ module _ {l : Link} {L : Ledger} (v : Invariant l L) {i : ℕ} (known : i < flow
       let both = and-true (unbooked (owner l (s % T)) && not (passed (window l) (s % T))) (everyFrom (window l) (s % T) fewer) e in
       let first = and-true (unbooked (owner l (s % T))) (not (passed (window l) (s % T))) (both .0) in
       record {
-        not-granted = unowned s (L .grants) .0 (sym (v .owners-are s w) ∙ unbooked-none (owner l (s % T)) (first .0));
+        not-granted = unowned s (L .grants) .0 (sym (v .bookings .owners-are s w) ∙ unbooked-none (owner l (s % T)) (first .0));
         to-come = leb-false s t (sym (passed-is (v .current) s w) ∙ not-true (passed (window l) (s % T)) (first .1));
         room = room-from v known w (both .1);
       }
@@ -81,7 +79,7 @@ module _ {l : Link} {L : Ledger} (v : Invariant l L) {i : ℕ} (known : i < flow
   unfolding valid
   open-valid s w o =
       rw (
-        v .owners-are s w ∙ unowned s (L .grants) .1 (o .not-granted),
+        v .bookings .owners-are s w ∙ unowned s (L .grants) .1 (o .not-granted),
         passed-is (v .current) s w ∙ lt-leb s t (o .to-come),
         everyFrom-intro (v .current) s fewer w
             (λ r wr le. lt-ltb (holding l i (r % T)) (cells l i) (omega (arith, v .holds i known r .at-slot wr, o .room r le))),
@@ -93,12 +91,8 @@ module _ {l : Link} {L : Ledger} (v : Invariant l L) {i : ℕ} (known : i < flow
       → Invariant (withFlow l i (movedTo (flow l i) (a % P .frames) c)) L
   moved-keeps a c low high sp = record {
     current = v .current;
-    owners-are = v .owners-are;
-    origin-le = v .origin-le;
-    grants-in = v .grants-in;
-    raises-in = v .raises-in;
-    credits-in = v .credits-in;
-    once = v .once;
+    marks = v .marks;
+    bookings = v .bookings;
     injects = each-flow l (Injects P (frameOf P t) (L .grants)) i x own (λ j h d. v .injects j h);
     holds = each-flow l (Holds P t (L .raises) (L .credits)) i x (v .holds i known) (λ j h d. v .holds j h);
   }
@@ -131,27 +125,31 @@ module _ {l : Link} {L : Ledger} (v : Invariant l L) {i : ℕ} (known : i < flow
     owner-is : (r : ℕ) → InWindow P t r → (b : Bool) → eqb s r ≡ b
         → cond (eqb (r % T) (s % T)) (some i) (owner l (r % T)) ≡ cond (eqb s r) (some i) (ownerIn (L .grants) r)
     owner-is r wr true e = rw (e, eq-eqb (r % T) (s % T) (ap (_% T) (sym (eqb-true s r e))))
-    owner-is r wr false e = rw (e, ne-eqb (r % T) (s % T) differ, v .owners-are r wr)
+    owner-is r wr false e = rw (e, ne-eqb (r % T) (s % T) differ, v .bookings .owners-are r wr)
       where
         differ : r % T ≡ s % T → ⊥
-        differ q = eqb-false s r e (mod-unique (some-position (v .current .accepted)) (w .low) (w .high) (wr .low) (wr .high) (sym q))
+        differ q = eqb-false s r e (mod-unique (some-position ok) (w .low) (w .high) (wr .low) (wr .high) (sym q))
 
     once-more : Open s → (r : ℕ) (b : Bool) → eqb s r ≡ b → tally (atSlot r) (m ∷ L .grants) ≤ 1
     once-more o r true e =
         let none-yet : tally (atSlot r) (L .grants) ≡ 0 = ap (λ k. tally (atSlot k) (L .grants)) (sym (eqb-true s r e)) ∙ o .not-granted in
         omega (arith, tally-hit (atSlot r) m (L .grants) e)
-    once-more o r false e = omega (arith, tally-skip (atSlot r) m (L .grants) e, v .once r)
+    once-more o r false e = omega (arith, tally-skip (atSlot r) m (L .grants) e, v .bookings .once r)
 
     pub booked-keeps : Open s → frameOf P t ≤ a → a < frameOf P t + P .frames → Invariant (booked l i (a % P .frames) c (s % T)) (withGrant L m)
     unfolding booked ownerIn
     booked-keeps o low high = record {
       current = v .current;
-      owners-are = λ r wr. owner-withOwners l _ (r % T) (mod-lt r (some-position (v .current .accepted))) ∙ owner-is r wr (eqb s r) refl;
-      origin-le = v .origin-le;
-      grants-in = (record { known = known; begun = w .high; since = omega (arith, v .origin-le) }, v .grants-in);
-      raises-in = (w .high, v .raises-in);
-      credits-in = v .credits-in;
-      once = λ r. once-more o r (eqb s r) refl;
+      marks = record {
+        origin-le = v .marks .origin-le;
+        grants-in = (record { known = known; begun = w .high; since = omega (arith, v .marks .origin-le) }, v .marks .grants-in);
+        raises-in = (w .high, v .marks .raises-in);
+        credits-in = v .marks .credits-in;
+      };
+      bookings = record {
+        owners-are = λ r wr. owner-withOwners l _ (r % T) (mod-lt r (some-position ok)) ∙ owner-is r wr (eqb s r) refl;
+        once = λ r. once-more o r (eqb s r) refl;
+      };
       injects = each-flow l (Injects P (frameOf P t) (m ∷ L .grants)) i x own (λ j h d. injecting-other (v .injects j h) m (λ e. d (sym e)));
       holds =
           each-flow l (Holds P t (m ∷ L .raises) (L .credits)) i x (raise-own v known w (o .room))

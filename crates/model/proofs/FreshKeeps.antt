@@ -5,39 +5,35 @@ use mathlib.Core.List.{[]}
 use mathlib.Core.Option.{none}
 use native.Mathlib.Nat.{zero-div, zero-mod, mod-lt, mod-eq-of-lt}
 use native.Mathlib.Omega.{arith}
-use lib.ListN.{replicate, getD-replicate}
+use lib.ListN.{getD-replicate}
 use Rattle.model.specs.Tables.{tally}
-use Rattle.model.specs.Plan.{Plan, positions, flowCount, entry, Accepted}
-use Rattle.model.specs.Link.{Flow, flow}
-use Rattle.model.specs.Fresh.{fresh}
+use Rattle.model.specs.Plan.{Plan, positions, flowCount, Accepted}
+use Rattle.model.specs.Link.{flow}
+use Rattle.model.specs.Fresh.{freshFlow, fresh}
 use Rattle.model.specs.History.{frameOf}
 use Rattle.model.proofs.Slots.{some-frame, some-position}
-use Rattle.model.proofs.Links.{flow-withFlows}
-use Rattle.model.proofs.Owners.{ownerIn}
+use Rattle.model.proofs.LinkUpdates.{flow-withFlows}
+use Rattle.model.proofs.SlotOwners.{ownerIn}
 use Rattle.model.proofs.Invariant.{Ledger, Injects, Holds, Invariant}
-use Rattle.model.proofs.Least.{Least}
+use Rattle.model.proofs.LeastCount.{Least}
 
 abbrev pub nothingYet : Ledger
 nothingYet = record { now = 0; origin = 0; grants = []; raises = []; credits = [] }
 
 module _ {P : Plan} (ok : Accepted P) where
-  abbrev untouched : ℕ → Flow
-  untouched i = record { injection = 0; remainder = entry P i .share; held = replicate (positions P) 0 }
-
-  flow-is : (i : ℕ) → i < flowCount P → flow (fresh P) i ≡ untouched i
+  flow-is : (i : ℕ) → i < flowCount P → flow (fresh P) i ≡ freshFlow P i
   unfolding fresh
-  flow-is i known = flow-withFlows (fresh P) untouched i known
+  flow-is i known = flow-withFlows (fresh P) (freshFlow P) i known
 
   pub fresh-keeps : Invariant (fresh P) nothingYet
   unfolding fresh ownerIn tally
   fresh-keeps = record {
     current = record { accepted = ok; current-is = sym (zero-mod (positions P)) };
-    owners-are = λ s w. getD-replicate (positions P) (s % positions P) none none (mod-lt s (some-position ok));
-    origin-le = omega arith;
-    grants-in = tt;
-    raises-in = tt;
-    credits-in = tt;
-    once = λ s. omega arith;
+    marks = record { origin-le = omega arith; grants-in = tt; raises-in = tt; credits-in = tt };
+    bookings = record {
+      owners-are = λ s w. getD-replicate (positions P) (s % positions P) none none (mod-lt s (some-position ok));
+      once = λ s. omega arith;
+    };
     injects = λ i known. subst (Injects P (frameOf P 0) [] i) (sym (flow-is i known)) (record {
       frame = 0;
       low = omega (arith, zero-div (P .slots));

@@ -16,29 +16,22 @@ use Rattle.model.proofs.Round.{ahead-mod}
 use Rattle.model.proofs.Tables.{firstFrom-none}
 use Rattle.model.proofs.Tallies.{all-map}
 use Rattle.model.proofs.Slots.{some-frame, frame-ends, frame-slot-in-window, position-of}
-use Rattle.model.proofs.Window.{newest-is}
+use Rattle.model.proofs.Window.{Current, newest-is}
 use Rattle.model.proofs.Marks.{marksIn}
 use Rattle.model.proofs.Invariant.{Ledger, Spent, Injects, Room, Invariant}
-use Rattle.model.proofs.Bookings.{open-valid}
-use Rattle.model.proofs.Shares.{not-all-booked}
-use Rattle.model.proofs.Search.{Fails, Ends, search-ends}
-use Rattle.model.proofs.Least.{Full, Least}
+use Rattle.model.proofs.BookingKeeps.{open-valid}
+use Rattle.model.proofs.UnbookedSlots.{not-all-booked}
+use Rattle.model.proofs.SearchedFrames.{Fails, Ends, search-ends}
+use Rattle.model.proofs.LeastCount.{Full, Least}
 
 module _ {l : Link} {L : Ledger} (v : Invariant l L) {i : ℕ} (known : i < flowCount (l .plan)) where
-  abbrev P : Plan
-  P = l .plan
-
-  abbrev F : ℕ
-  F = l .plan .slots
-
-  abbrev W : ℕ
-  W = l .plan .frames
+  open Link l using (plan as P)
+  open Plan P using (slots as F, frames as W)
+  open Ledger L using (now as t)
+  open Current (v .current) using (accepted as ok)
 
   abbrev T : ℕ
-  T = positions (l .plan)
-
-  abbrev t : ℕ
-  t = L .now
+  T = positions P
 
   -- With remainder c the search finds no position in frame a.
   abbrev pub FailsIn : ℕ → ℕ → Type 0
@@ -61,15 +54,15 @@ module _ {l : Link} {L : Ledger} (v : Invariant l L) {i : ℕ} (known : i < flow
         → marksIn P i a (L .grants) ≡ entry P i .share
     full-if-fails a zero low high sp fails = omega (arith, sp .spent)
     full-if-fails a (suc c) low high sp fails =
-        absurd (not-all-booked (v .current .accepted) (L .grants) (all-map _ _ (λ m g. g .known) (L .grants) (v .grants-in)) a i c known
+        absurd (not-all-booked ok (L .grants) (all-map _ _ (λ m g. g .known) (L .grants) (v .marks .grants-in)) a i c known
         (λ j h. v .injects j h .in-frames a) (sp .spent) booked)
       where
         booked : (x : ℕ) → x < F → 0 < tally (atSlot (a * F + x)) (L .grants)
         booked x h =
             let not-ok = firstFrom-none F (a % W * F) (valid l i) fails (a % W * F + x) (omega arith) (omega arith) in
             let after : suc (frameOf P t) * F ≤ a * F = mul-le-mul-right F low in
-            not-valid (a * F + x) (frame-slot-in-window (v .current .accepted) t a x (omega arith) high h)
-            (omega (arith, frame-ends (v .current .accepted) t)) (ap (valid l i) (position-of (v .current .accepted) a x h) ∙ not-ok)
+            not-valid (a * F + x) (frame-slot-in-window ok t a x (omega arith) high h)
+            (omega (arith, frame-ends ok t)) (ap (valid l i) (position-of ok a x h) ∙ not-ok)
 
   -- ---- the search, where R f counts the flow's refusals in frame f
 
@@ -94,7 +87,7 @@ module _ {l : Link} {L : Ledger} (v : Invariant l L) {i : ℕ} (known : i < flow
     full-behind a c high q fails p f since below = go (decLt f a)
       where
         here : Dec (a ≤ frameOf P t) → L .origin < a → marksIn P i a (L .grants) ≡ entry P i .share
-        here (yes h) since = p .least .after-a-change (omega (arith, q .low)) a since (omega (arith, q .low, v .current .accepted .two-frames))
+        here (yes h) since = p .least .after-a-change (omega (arith, q .low)) a since (omega (arith, q .low, ok .two-frames))
         here (no h) since = full-if-fails (p .room) a c (omega arith) high (q .spends) fails
 
         go : Dec (f < a) → marksIn P i f (L .grants) ≡ entry P i .share
@@ -113,12 +106,12 @@ module _ {l : Link} {L : Ledger} (v : Invariant l L) {i : ℕ} (known : i < flow
       full = full-behind a c (omega arith) q fails;
     }
 
-    abbrev pub Sought : Found → Type 0
-    Sought = Ends (window l) (valid l i) (share l i) newestFrame Reached
+    abbrev pub Searched : Found → Type 0
+    Searched = Ends (window l) (valid l i) (share l i) newestFrame Reached
 
-    pub sought-ends : Sought (sought l i)
+    pub request-searched : Searched (sought l i)
     unfolding sought
-    sought-ends =
+    request-searched =
         rw (more, f .injection-is)
         (search-ends (window l) (valid l i) (share l i) newestFrame Reached goes-on (newestFrame - f .frame) (f .frame) (flow l i .remainder)
         (omega (arith, f .high)) first)
@@ -128,7 +121,7 @@ module _ {l : Link} {L : Ledger} (v : Invariant l L) {i : ℕ} (known : i < flow
 
         more : ahead W (flow l i .injection) (newest (window l)) ≡ newestFrame - f .frame
         more =
-            let some = some-frame (v .current .accepted) in
+            let some = some-frame ok in
             ap (λ x. ahead W x (newest (window l))) (f .injection-is) ∙ ap (ahead W (f .frame % W)) (newest-is (v .current))
             ∙ ahead-mod some {b = f .frame} {x = newestFrame} (omega (arith, f .high)) (omega (arith, f .low))
 

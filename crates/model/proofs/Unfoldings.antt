@@ -1,4 +1,4 @@
--- Names for sets of definitions: a proof by computation that unfolds the name unfolds the set. Assumes nothing.
+-- Sets of definitions to unfold: a proof by computation that unfolds the name of a set unfolds what is in it. Assumes nothing.
 use mathlib.Core.List.{flatMap}
 use Rattle.model.specs.Tables.{every, any, sum, firstFrom, ahead, tally}
 use Rattle.model.specs.Refusals.{firstOf}
@@ -18,9 +18,18 @@ unfoldable pub plans-compute : Unit {0}
 unfolding any sum firstOf refusal entryFits
 plans-compute = tt
 
+-- which position is later
+unfoldable pub window-computes : Unit {0}
+unfolding every ahead rank passed fromOn everyFrom
+window-computes = tt
+
+unfoldable pub requests-compute : Unit {0}
+unfolding firstFrom firstOf window-computes valid search sought booked refusedAtNewest answered requestAfter request
+requests-compute = tt
+
 -- the calls of the paper's card, and a list of calls played
 unfoldable pub calls-compute : Unit {0}
-unfolding every firstFrom ahead firstOf rank passed fromOn everyFrom fresh valid search sought booked refusedAtNewest answered requestAfter request lowered creditAfter credit recycled advanced tick play
+unfolding fresh requests-compute lowered creditAfter credit recycled advanced tick play
 calls-compute = tt
 
 -- what the program writes

@@ -9,7 +9,7 @@ use Rattle.model.specs.Link.{Link, Flow, flow}
 use Rattle.model.specs.History.{ticks, frameOf, grants, credits, refusedIn, grantedUpTo, creditedUpTo}
 use Rattle.model.specs.Claim.{Each, ReadyAt, HeldAt, SoonAt, ComesUpAt, GrantedWordAt}
 use Rattle.model.proofs.Invariant.{Ledger, HoldsAt, Invariant}
-use Rattle.model.proofs.Least.{Least}
+use Rattle.model.proofs.LeastCount.{Least}
 
 -- the ledger of a history
 abbrev pub ledgerOf : Plan → History → Ledger
@@ -27,11 +27,11 @@ pub record AskedOn (P : Plan) (h : History) (i : ℕ) : Type 0 where
   pub ready : Each (ReadyAt P i) h
   pub refused-before : (f : ℕ) → f < frameOf P (ticks h) → 0 < refusedIn P h i f
 
-pub asked-before : {P : Plan} {e : Event} {h : History} {i : ℕ} → AskedOn P (e ∷ h) i → ((f : ℕ) → f < frameOf P (ticks h) → 0 < refusedIn P h i f)
-    → AskedOn P h i
+pub asked-before : {P : Plan} {e : Event} {h : History} {i : ℕ} → AskedOn P (e ∷ h) i
+    → ((f : ℕ) → f < frameOf P (ticks h) → 0 < refusedIn P h i f) → AskedOn P h i
 asked-before asked so-far = record { ready = asked .ready .1; refused-before = so-far }
 
--- what the least count needs of flow i, where its part of the link is x
+-- what the least count needs of flow i, where the link has x for it
 abbrev pub LeastOf : Plan → History → ℕ → Flow → Type 0
 LeastOf P h i x = AskedOn P h i → Least P (frameOf P (ticks h)) 0 (grants P h) (refusedIn P h i) i (x .injection)
 
@@ -42,14 +42,24 @@ pub record After (P : Plan) (l : Link) (h : History) : Type 0 where
   pub events : Each (Claimed P) h
   pub least : (i : ℕ) → i < flowCount P → LeastOf P h i (flow l i)
 
--- Link k stands after one event more. What the flows hold is in the invariant.
-pub after-event : {P : Plan} {l : Link} {h : History} → After P l h → (k : Link) (e : Event) → k .plan ≡ P → Invariant k (ledgerOf P (e ∷ h))
-    → SoonAt P e h → ComesUpAt P e h → GrantedWordAt P e h → ((i : ℕ) → i < flowCount P → LeastOf P (e ∷ h) i (flow k i)) → After P k (e ∷ h)
-after-event {P} {l} {h} g k e plan v soon up word least = record {
-  plan-is = plan;
-  invariant = v;
-  events = (record { held = held; soon = soon; comes-up = up; word = word }, g .events);
-  least = least;
+-- ---- one event more
+
+-- what is to be known for link k to stand after event e
+pub record OneMore (P : Plan) (k : Link) (e : Event) (h : History) : Type 0 where
+  pub plan-is : k .plan ≡ P
+  pub keeps : Invariant k (ledgerOf P (e ∷ h))
+  pub soon : SoonAt P e h
+  pub comes-up : ComesUpAt P e h
+  pub word : GrantedWordAt P e h
+  pub least : (i : ℕ) → i < flowCount P → LeastOf P (e ∷ h) i (flow k i)
+
+-- What the flows hold is in the invariant.
+pub after-event : {P : Plan} {l k : Link} {e : Event} {h : History} → After P l h → OneMore P k e h → After P k (e ∷ h)
+after-event {P} {l} {k} {e} {h} g more = record {
+  plan-is = more .plan-is;
+  invariant = more .keeps;
+  events = (record { held = held; soon = more .soon; comes-up = more .comes-up; word = more .word }, g .events);
+  least = more .least;
 }
   where
     HoldsIn : Plan → ℕ → ℕ → Type 0
@@ -57,7 +67,7 @@ after-event {P} {l} {h} g k e plan v soon up word least = record {
 
     held : (i : ℕ) → i < flowCount P → HeldAt P i e h
     held i known s =
-        let x = subst (λ Q. i < flowCount Q → HoldsIn Q i s) plan (λ q. v .holds i q s) known in
+        let x = subst (λ Q. i < flowCount Q → HoldsIn Q i s) (more .plan-is) (λ q. more .keeps .holds i q s) known in
         record {
           held = grantedUpTo P (e ∷ h) i s - creditedUpTo P (e ∷ h) i s;
           is = omega (arith, x .covered);
