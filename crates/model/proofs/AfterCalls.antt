@@ -1,6 +1,5 @@
 -- A list of calls: the link that a run of the paper's card comes to stands after the run's history. Assumes nothing.
-use Prim.Native.Nat.{ℕ}
-use mathlib.Core.Path.{_≡_, refl, subst}
+use mathlib.Core.Path.{refl, subst}
 use mathlib.Core.List.{List, [], _∷_}
 use Rattle.model.specs.Tables.{tally}
 use Rattle.model.specs.Plan.{Plan, Accepted}
@@ -30,7 +29,8 @@ after-call r (Call.lend m x) g = after-lend g m x
 after-calls : {P : Plan} (r : Played paper) (calls : List Call) → Known P r → Known P (play paper r calls)
 unfolding play
 after-calls r [] g = g
-after-calls r (c ∷ calls) g = after-calls (step paper r c) calls (subst (λ P. Known P r → Known P (step paper r c)) (g .plan-is) (after-call r c) g)
+after-calls r (c ∷ calls) g =
+    after-calls (step paper r c) calls (subst (λ P. Known P r → Known P (step paper r c)) (g .plan-is) (after-call r c) g)
 
 after-fresh : {P : Plan} → Accepted P → After P (fresh P) []
 unfolding fresh ticks grants raises credits refusals tally

@@ -1,5 +1,5 @@
 -- A request on a link that stands after a history. Assumes nothing.
-use Prim.Native.Nat.{ℕ, zero, suc, _%_, _<_}
+use Prim.Native.Nat.{ℕ, zero, suc, _<_}
 use mathlib.Core.Path.{_≡_, refl, sym, ap, _∙_}
 use mathlib.Core.List.{_∷_}
 use mathlib.Core.Bool.{true, false}
@@ -17,7 +17,6 @@ use Rattle.model.specs.Request.{Found, found, nowhere, wordTests, sought
 use Rattle.model.specs.History.{ticks, frameOf, grants, credits, refusals, refusedIn, wellFormed, inFrame, upTo}
 use Rattle.model.proofs.Tests.{line-passed}
 use Rattle.model.proofs.Word.{departure-depart}
-use Rattle.model.proofs.Window.{Current}
 use Rattle.model.proofs.LinkUpdates.{each-flow}
 use Rattle.model.proofs.Marks.{mark, in-frame-skip, in-frame-other}
 use Rattle.model.proofs.LeastCount.{Least, least-recounted, least-other}

@@ -1,9 +1,7 @@
 -- A tick on a link that stands after a history. Assumes nothing.
-use Prim.Native.Nat.{ℕ, suc, _+_, _%_, _<_}
+use Prim.Native.Nat.{ℕ, suc, _%_, _<_}
 use mathlib.Core.Path.{_≡_, ap}
-use mathlib.Core.Logic.{_↔_}
 use mathlib.Core.List.{_∷_}
-use mathlib.Core.Option.{some}
 use native.Mathlib.Decide.{ℕ-discrete}
 use native.Mathlib.Numerals.{add-one}
 use native.Mathlib.Omega.{arith}
@@ -11,7 +9,8 @@ use Rattle.model.specs.Plan.{flowCount}
 use Rattle.model.specs.Calls.{Turn, History, ticked}
 use Rattle.model.specs.Link.{Link, flow}
 use Rattle.model.specs.Tick.{advanced, tick}
-use Rattle.model.specs.History.{ticks, frameOf, grants, credits, refusals, Owns}
+use Rattle.model.specs.History.{ticks, frameOf, grants, credits, refusals}
+use Rattle.model.specs.Claim.{ComesUpAt}
 use Rattle.model.proofs.Slots.{frame-stays, frame-changes}
 use Rattle.model.proofs.Window.{Current}
 use Rattle.model.proofs.SlotOwners.{owned}
@@ -47,7 +46,7 @@ module _ {l : Link} {h : History} (g : After (l .plan) l h) where
       }
 
   -- the answer is the flow that was granted the slot
-  comes-up : (i : ℕ) → (tick l .answer ≡ some i) ↔ Owns P h i (t + 1)
+  comes-up : ComesUpAt P (ticked (tick l .answer)) h
   unfolding tick
   comes-up i = rw (on .answer-is, add-one t) (owned i (suc t) (grants P h) (v .bookings .once (suc t)))
 

@@ -6,7 +6,7 @@ use mathlib.Core.Bool.{true, false}
 use lib.Dec.{ltb}
 use borrow.Author.Tests.{ltb-true, leb-false, not-false}
 use Rattle.model.specs.Refusals.{firstOf}
-use Rattle.model.specs.Plan.{Plan, positions, flowCount}
+use Rattle.model.specs.Plan.{positions, flowCount}
 use Rattle.model.specs.Window.{passed, everyFrom}
 use Rattle.model.specs.Link.{Link, Flow, window, flow, holding, withHeld, heldFrom}
 use Rattle.model.specs.Credit.{creditTests, lowered}

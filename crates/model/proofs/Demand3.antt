@@ -11,11 +11,12 @@ use Rattle.model.specs.Plan.{Plan, flowCount, entry, planOf, Accepted}
 use Rattle.model.specs.Calls.{Event, History}
 use Rattle.model.specs.Link.{Link}
 use Rattle.model.specs.History.{Mark, ticks, changes, frameOf, grants, granted, grantedIn, ofFlow, atSlot, inFrame}
-use Rattle.model.specs.Claim.{Each, Persistent, Clause, Demand3}
+use Rattle.model.specs.Claim.{Each, Clause, Says, Demand3}
 use Rattle.model.specs.Card.{Meets, MeetsOn, paper}
 use Rattle.model.proofs.Tests.{and-true}
 use Rattle.model.proofs.Tallies.{all-map, sum-le, sum-const, sum-tail, tally-join, tally-split, Classed}
 use Rattle.model.proofs.Slots.{frame-high}
+use Rattle.model.proofs.Window.{Current}
 use Rattle.model.proofs.Invariant.{Granted}
 use Rattle.model.proofs.HistoryCounts.{changes-are, raises-are}
 use Rattle.model.proofs.AfterHistory.{AskedOn, After}
@@ -27,26 +28,23 @@ each-map Q R f [] a = tt
 each-map Q R f (e ∷ h) a = (f e h (a .0), each-map Q R f h (a .1))
 
 module _ (l : Link) (h : History) (g : After (l .plan) l h) (i : ℕ) (known : i < flowCount (l .plan)) where
-  abbrev P : Plan
-  P = l .plan
+  open Link l using (plan as P)
+  open Current (g .invariant .current) using (accepted as ok)
 
   abbrev share : ℕ
-  share = entry (l .plan) i .share
+  share = entry P i .share
 
   abbrev inEach : ℕ → ℕ
-  inEach f = grantedIn (l .plan) h i f
+  inEach f = grantedIn P h i f
 
   -- the frames that have begun: those already gone, and the window's
   abbrev begun : ℕ
   begun = P .frames + changes P h
 
-  ok : Accepted P
-  ok = g .invariant .current .accepted
-
   change-count : changes P h ≡ frameOf P (ticks h)
   change-count = changes-are P ok h
 
-  in-frame : (f : ℕ) → inEach f ≤ share
+  in-frame : Says Clause.most-in-a-frame P i h
   in-frame = g .invariant .injects i known .in-frames
 
   -- flow i's grants, frame by frame
@@ -68,10 +66,10 @@ module _ (l : Link) (h : History) (g : After (l .plan) l h) (i : ℕ) (known : i
       frame-is : (m : Mark) (j : ℕ) → inFrame P i j m ≡ true → frameOf P (m .slot) ≡ j
       frame-is m j p = eqb-true (frameOf P (m .slot)) j (and-true (ofFlow i m) (eqb (frameOf P (m .slot)) j) p .1)
 
-  most : granted P h i ≤ begun * share
+  most : Says Clause.most P i h
   most = omega (arith, frames-cover, sum-le begun inEach (λ f. share) (λ f below. in-frame f), sum-const begun share)
 
-  least : Persistent P i h → (P .frames - 1 + changes P h) * share ≤ granted P h i
+  least : Says Clause.least P i h
   least p =
       let n = P .frames - 1 + changes P h in
       let asked : AskedOn P h i = record {

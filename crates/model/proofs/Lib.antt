@@ -28,6 +28,8 @@ pub mod SearchedFrames
 pub mod LeastCount
 pub mod RequestSearch
 pub mod RequestKeeps
+pub mod NextSlot
+pub mod FrameChangeKeeps
 pub mod TickKeeps
 pub mod FreshKeeps
 -- histories, and demand 3

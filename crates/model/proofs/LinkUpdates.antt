@@ -1,4 +1,4 @@
--- What is read of a link after a part of it is changed. Assumes nothing.
+-- What is read of a link after an update. Assumes nothing.
 use Prim.Native.Nat.{ℕ, _<_}
 use mathlib.Core.Path.{_≡_, refl, sym, _∙_, subst}
 use mathlib.Core.Option.{Option, none}
@@ -26,7 +26,7 @@ module _ (l : Link) where
   pub flow-other : (i : ℕ) (x : Flow) (j : ℕ) → j < flowCount (l .plan) → (j ≡ i → ⊥) → flow (withFlow l i x) j ≡ flow l j
   flow-other i x j h d = flow-withFlows _ j h ∙ rw (ne-eqb j i d)
 
-  -- Q holds of every flow's part where flow i's is x, if it holds of x and of the other flows' parts.
+  -- Q holds of every flow where flow i is x, if it holds of x and of the other flows.
   pub each-flow : (Q : ℕ → Flow → Type 0) (i : ℕ) (x : Flow) → Q i x → ((j : ℕ) → j < flowCount (l .plan) → (j ≡ i → ⊥) → Q j (flow l j))
       → (j : ℕ) → j < flowCount (l .plan) → Q j (flow (withFlow l i x) j)
   each-flow Q i x own others j h = go (ℕ-discrete j i)

@@ -3,7 +3,7 @@ use Prim.Native.Nat.{ℕ, _<_}
 use mathlib.Core.Path.{_≡_, refl, sym, ap, _∙_, subst}
 use mathlib.Core.List.{List, [], _∷_, map, reverse, reverseAux, reverse-reverse}
 use mathlib.Core.Option.{Option, some, none}
-use Rattle.model.specs.Plan.{Plan, flowCount, planOf, refusal}
+use Rattle.model.specs.Plan.{flowCount, planOf, refusal}
 use Rattle.model.specs.Calls.{Call, History}
 use Rattle.model.specs.Link.{Link}
 use Rattle.model.specs.Fresh.{fresh}

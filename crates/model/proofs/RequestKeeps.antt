@@ -106,7 +106,7 @@ module _ {l : Link} {L : Ledger} (v : Invariant l L) {i : ℕ} (known : i < flow
   pub after-refusal : (c : ℕ) → Searched v known R (nowhere c) → AfterRefusal c
   unfolding refusedAtNewest
   after-refusal c r = record {
-    keeps = rw (newest-is (v .current)) (moved-keeps v known newest-frame c (r .0 .low) high (r .0 .spends));
+    keeps = rw (newest-is (v .current)) (moved-keeps v known newest-frame c (r .reached .low) high (r .reached .spends));
     least = λ p S. record {
       before-injection = λ b low high e f since below. full p f since (omega arith);
       after-a-change = λ since f since′ below. full p f since′ (omega arith);
@@ -121,4 +121,4 @@ module _ {l : Link} {L : Ledger} (v : Invariant l L) {i : ℕ} (known : i < flow
       high = omega (arith, some-frame ok)
 
       full : Persists v known R → Full P (L .origin) (L .grants) i (frameOf P t + W)
-      full p f since below = full-behind v known R newest-frame c high (r .0) (r .1) p f since (omega arith)
+      full p f since below = full-behind v known R newest-frame c high (r .reached) (r .fails) p f since (omega arith)

@@ -33,9 +33,13 @@ module _ (w : Window) (ok : ℕ → Bool) (share last : ℕ) (Q : ℕ → ℕ �
     pub reached : Q frame (suc c)
     pub hit : Hit (w .slots) (start w (frame % w .frames)) p ok
 
+  pub record FoundNowhere (c : ℕ) : Type 0 where
+    pub reached : Q last c
+    pub fails : Fails w ok share (last % w .frames) c
+
   abbrev pub Ends : Found → Type 0
   Ends (found j c p) = FoundIn j c p
-  Ends (nowhere c) = Q last c × Fails w ok share (last % w .frames) c
+  Ends (nowhere c) = FoundNowhere c
 
   in-frame : (a c : ℕ) → a ≤ last → Q a (suc c) → (rest : Found) → (Fails w ok share (a % w .frames) (suc c) → Ends rest)
       → Ends (orElse (a % w .frames) c (earliest w ok share (a % w .frames)) rest)
@@ -54,11 +58,11 @@ module _ (w : Window) (ok : ℕ → Bool) (share last : ℕ) (Q : ℕ → ℕ �
   pub search-ends : ((a c : ℕ) → a < last → Q a c → Fails w ok share (a % w .frames) c → Q (suc a) share)
       → (more a c : ℕ) → a + more ≡ last → Q a c → Ends (search w ok share more (a % w .frames) c)
   unfolding search
-  search-ends goes-on zero a zero e q = let z : a ≡ last = omega arith in (subst (λ x. Q x 0) z q, tt)
+  search-ends goes-on zero a zero e q = let z : a ≡ last = omega arith in record { reached = subst (λ x. Q x 0) z q; fails = tt }
   search-ends goes-on zero a (suc c) e q =
       in-frame a c (omega arith) q (nowhere (suc c)) λ fails.
       let z : a ≡ last = omega arith in
-      (subst (λ x. Q x (suc c)) z q, subst (λ x. Fails w ok share (x % w .frames) (suc c)) z fails)
+      record { reached = subst (λ x. Q x (suc c)) z q; fails = subst (λ x. Fails w ok share (x % w .frames) (suc c)) z fails }
   search-ends goes-on (suc more) a zero e q = rw (next-is w a) (search-ends goes-on more (suc a) share (omega arith) (goes-on a 0 (omega arith) q tt))
   search-ends goes-on (suc more) a (suc c) e q =
       in-frame a c (omega arith) q (search w ok share more (next w (a % w .frames)) share) λ fails.

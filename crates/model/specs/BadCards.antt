@@ -11,16 +11,13 @@ use Rattle.model.specs.Word.{flowOf, depart}
 use Rattle.model.specs.Plan.{Plan, positions, flowCount}
 use Rattle.model.specs.Calls.{Grant, Receipt, Turn, Loan, accepted, refused}
 use Rattle.model.specs.Window.{passed, everyFrom, frameAt, start, next, newest}
-use Rattle.model.specs.Link.{Link, Step, window, owner, flow, holding, share, cells, linkWith, withFlows, movedTo, withHeld}
+use Rattle.model.specs.Link.{Link, window, owner, flow, holding, share, cells, linkWith, withFlows, movedTo, withHeld}
 use Rattle.model.specs.Request.{Found, nowhere, wordTests, unbooked, valid, orElse, search, answered}
 use Rattle.model.specs.Credit.{creditAfter}
 use Rattle.model.specs.Tick.{nextPosition}
-use Rattle.model.specs.Card.{Card, paper}
+use Rattle.model.specs.Card.{Card, both, paper}
 
 -- ---- the paper's card with another function for one call
-
-abbrev pub both : {A : Type 0} → Step A → Link × A
-both step = (step .link, step .answer)
 
 abbrev cardWith : (Plan → Link) → (Link → ℕ → Link × Grant) → (Link → ℕ → ℕ → Link × Receipt) → (Link → Link × Turn)
     → (Link → ℕ → ℕ → Link × Loan) → Card

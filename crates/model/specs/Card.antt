@@ -3,9 +3,9 @@ use Prim.Native.Nat.{ℕ, _<_}
 use mathlib.Core.Path.{_≡_}
 use mathlib.Core.List.{List, _∷_, []}
 use Rattle.model.specs.Plan.{Plan, flowCount, planOf, refusal}
-use Rattle.model.specs.Calls.{Call, Grant, Receipt, Turn, Loan, History, requested, credited, ticked, lent}
+use Rattle.model.specs.Calls.{Call, Grant, Receipt, Turn, Loan, Event, History, requested, credited, ticked, lent}
 use Rattle.model.specs.Claim.{Demand3}
-use Rattle.model.specs.Link.{Link}
+use Rattle.model.specs.Link.{Link, Step}
 use Rattle.model.specs.Fresh as fresh
 use Rattle.model.specs.Request as request
 use Rattle.model.specs.Credit as credit
@@ -25,12 +25,16 @@ pub record Played (c : Card) : Type 0 where
   pub state : c .State
   pub history : History
 
+-- a call's next state, and the event of its answer
+abbrev pub next : {c : Card} {A : Type 0} → Played c → (A → Event) → c .State × A → Played c
+next r event handed = record { state = handed .0; history = event (handed .1) ∷ r .history }
+
 -- "each later one the link exactly as the call before handed it back"
 abbrev pub step : (c : Card) → Played c → Call → Played c
-step c r (Call.request w) = record { state = c .request (r .state) w .0; history = requested w (c .request (r .state) w .1) ∷ r .history }
-step c r (Call.credit i p) = record { state = c .credit (r .state) i p .0; history = credited i p (c .credit (r .state) i p .1) ∷ r .history }
-step c r Call.tick = record { state = c .tick (r .state) .0; history = ticked (c .tick (r .state) .1) ∷ r .history }
-step c r (Call.lend m x) = record { state = c .lend (r .state) m x .0; history = lent m (c .lend (r .state) m x .1) ∷ r .history }
+step c r (Call.request w) = next r (requested w) (c .request (r .state) w)
+step c r (Call.credit i p) = next r (credited i p) (c .credit (r .state) i p)
+step c r Call.tick = next r ticked (c .tick (r .state))
+step c r (Call.lend m x) = next r (lent m) (c .lend (r .state) m x)
 
 unfoldable pub play : (c : Card) → Played c → List Call → Played c
 play c r [] = r
@@ -53,12 +57,15 @@ abbrev pub Meets : Card → Type 0
 Meets c = (bytes : List ℕ) → refusal bytes ≡ 0 → MeetsOn c (planOf bytes)
 
 -- the card of documents 01 and 02
+abbrev pub both : {A : Type 0} → Step A → Link × A
+both handed = (handed .link, handed .answer)
+
 abbrev pub paper : Card
 paper = record {
   State = Link;
   fresh = fresh.fresh;
-  request = λ l w. (request.request l w .link, request.request l w .answer);
-  credit = λ l i p. (credit.credit l i p .link, credit.credit l i p .answer);
-  tick = λ l. (tick.tick l .link, tick.tick l .answer);
-  lend = λ l m x. (lend.lend l m x .link, lend.lend l m x .answer);
+  request = λ l w. both (request.request l w);
+  credit = λ l i p. both (credit.credit l i p);
+  tick = λ l. both (tick.tick l);
+  lend = λ l m x. both (lend.lend l m x);
 }

@@ -1,5 +1,4 @@
 -- The one table of edge cases: those that document 01 marks P, and more, by plan, calls, lends and program, that tell wrong readings apart. Assumes nothing.
-use Prim.Native.Nat.{ℕ}
 use mathlib.Core.List.{List, _∷_, [], _++_}
 use mathlib.Core.Option.{some}
 use Rattle.model.specs.Calls.{Event, requested, credited, ticked, accepted, refused}

@@ -92,11 +92,15 @@ lineOf none = refusalLine 16
 abbrev pub callsOf : List ℕ → List (Option RecordCall)
 callsOf bytes = map callOf (records bytes)
 
+-- a call that is made, as what its record comes to
+abbrev pub cameTo : {A : Type 0} → (A → RecordEvent) → Step A → Step (Option RecordEvent)
+cameTo event handed = record { link = handed .link; answer = some (event (handed .answer)) }
+
 -- A record's call on a link, and what it comes to. "16 is tested before the call that the record would make", and leaves the link unchanged.
 abbrev pub made : Link → Option RecordCall → Step (Option RecordEvent)
-made l (some (RecordCall.request w)) = record { link = request l w .link; answer = some (RecordEvent.requested w (request l w .answer)) }
-made l (some (RecordCall.credit i p)) = record { link = credit l i p .link; answer = some (RecordEvent.credited i p (credit l i p .answer)) }
-made l (some RecordCall.tick) = record { link = tick l .link; answer = some (RecordEvent.ticked (tick l .answer)) }
+made l (some (RecordCall.request w)) = cameTo (RecordEvent.requested w) (request l w)
+made l (some (RecordCall.credit i p)) = cameTo (RecordEvent.credited i p) (credit l i p)
+made l (some RecordCall.tick) = cameTo RecordEvent.ticked (tick l)
 made l none = record { link = l; answer = none }
 
 -- what each record comes to, oldest first
