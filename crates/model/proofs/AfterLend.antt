@@ -17,7 +17,7 @@ use Rattle.model.proofs.Tables.{firstFrom-some}
 use Rattle.model.proofs.Window.{Current}
 use Rattle.model.proofs.LinkUpdates.{each-flow}
 use Rattle.model.proofs.HistoryCounts.{raises}
-use Rattle.model.proofs.LendKeeps.{Idle, lend-passes, lent-keeps}
+use Rattle.model.proofs.LendKeeps.{LendPasses, lend-passes, lent-keeps}
 use Rattle.model.proofs.AfterHistory.{asked-before, LeastOf, After, after-event}
 
 module _ {l : Link} {h : History} (g : After (l .plan) l h) (mask choice : ℕ) where
@@ -42,7 +42,7 @@ module _ {l : Link} {h : History} (g : After (l .plan) l h) (mask choice : ℕ) 
     least = least-kept (refused r);
   })
 
-  lent-to : Idle l → (i : ℕ) → i < flowCount P → takes l mask i ≡ true → After P (lentTo l i) (lent mask (accepted i) ∷ h)
+  lent-to : LendPasses l mask → (i : ℕ) → i < flowCount P → takes l mask i ≡ true → After P (lentTo l i) (lent mask (accepted i) ∷ h)
   unfolding ticks grants raises credits lentTo
   lent-to free i known takes =
       let both = and-true (inMask mask i) (canTake l i) takes in
@@ -52,13 +52,13 @@ module _ {l : Link} {h : History} (g : After (l .plan) l h) (mask choice : ℕ) 
         soon = tt;
         comes-up = tt;
         word = tt;
-        loan = record { known = known; in-mask = both .0 };
+        loan = record { mask-below = free .mask-below; known = known; in-mask = both .0 };
         least =
             each-flow l (LeastOf P (lent mask (accepted i) ∷ h)) i (withHeld (flow l i) (heldFrom l i (l .current) suc))
             (least-kept (accepted i) i known) (λ q known d. least-kept (accepted i) q known);
       })
 
-  found : Idle l → (o : Option ℕ) → chosen l mask choice ≡ o → After P (lentAfter l o .link) (lent mask (lentAfter l o .answer) ∷ h)
+  found : LendPasses l mask → (o : Option ℕ) → chosen l mask choice ≡ o → After P (lentAfter l o .link) (lent mask (lentAfter l o .answer) ∷ h)
   unfolding chosen lentAfter
   found free none e = not-lent 18
   found free (some k) e =

@@ -1,5 +1,5 @@
 -- Whether a history keeps a clause of demand 3 is decided by computation. Assumes nothing.
-use Prim.Native.Nat.{ℕ, suc, _+_, _-_, _≤_, _<_, max}
+use Prim.Native.Nat.{ℕ, suc, _+_, _-_, _^_, _≤_, _<_, max}
 use mathlib.Core.Path.{_≡_, ap}
 use mathlib.Core.Logic.{_↔_, Dec·and}
 use mathlib.Core.List.{List, _∷_, []}
@@ -13,7 +13,7 @@ use Rattle.model.specs.Word.{flowOf, departureOf, depart}
 use Rattle.model.specs.Plan.{Plan, positions, flowCount, entry}
 use Rattle.model.specs.Calls.{Event, History, Turn, requested, credited, ticked, lent, accepted, refused, inMask}
 use Rattle.model.specs.History.{ticks, changes, Mark, wellFormed, grants, lends, frameOf, ofFlow, atSlot, inFrame}
-use Rattle.model.specs.History.{grantedIn, grantedUpTo, lentUpTo, creditedUpTo, Owns}
+use Rattle.model.specs.History.{grantedIn, grantedUpTo, lentUpTo, creditedUpTo, WasGranted}
 use Rattle.model.specs.Claim.{Each, AtRequest, AtGrant, AtTick, AtLoan, Ready, ReadyAt, Persistent, Held, HeldAt, SoonAt, ComesUpAt}
 use Rattle.model.specs.Claim.{GrantedWord, GrantedWordAt, LentFlow, LentFlowAt, Clause, Says}
 use Rattle.model.proofs.Decidable.{same, implies, is-true, all-below, everywhere}
@@ -72,8 +72,8 @@ lent-flow P = at-loan (λ m i. flow m i)
   where
     flow : (m i : ℕ) → Dec (LentFlow P m i)
     flow m i =
-        same (λ r. record { known = r .0; in-mask = r .1 }) (λ f. (f .known, f .in-mask))
-        (Dec·and (decLt i (flowCount P)) (is-true (inMask m i)))
+        same (λ r. record { mask-below = r .0; known = r .1 .0; in-mask = r .1 .1 }) (λ f. (f .mask-below, (f .known, f .in-mask)))
+        (Dec·and (decLt m (2 ^ flowCount P)) (Dec·and (decLt i (flowCount P)) (is-true (inMask m i))))
 
 unfoldable pub answers-flow : (x : Option ℕ) (i : ℕ) → Dec (x ≡ some i)
 answers-flow none i = no (λ e. let z : _≡_ {A = ℕ} 0 1 = cc in omega arith)
@@ -98,7 +98,7 @@ comes-up P = at-tick answered
         none-past (λ m. m .flow) (λ m. ofFlow i m && atSlot (ticks h + 1) m) i (grants P h) past
         (λ m lt. rw (ne-eqb (m .flow) i (omega arith)))
 
-    answered : (x : Turn) (h : History) → Dec ((i : ℕ) → (x ≡ some i) ↔ Owns P h i (ticks h + 1))
+    answered : (x : Turn) (h : History) → Dec ((i : ℕ) → (x ≡ some i) ↔ WasGranted P h i (ticks h + 1))
     answered x h =
         everywhere (max (aboveAnswer x) (above (λ m. m .flow) (grants P h)))
         (λ i. Dec·and (implies (answers-flow x i) (decLt _ _)) (implies (decLt _ _) (answers-flow x i)))

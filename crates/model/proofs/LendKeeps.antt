@@ -1,11 +1,11 @@
 -- A lend that is answered keeps the invariant. Assumes nothing.
-use Prim.Native.Nat.{ℕ, suc, _%_, _<_}
+use Prim.Native.Nat.{ℕ, suc, _%_, _^_, _<_}
 use mathlib.Core.Path.{_≡_, sym, ap, _∙_, subst}
 use mathlib.Core.List.{_∷_}
 use mathlib.Core.Bool.{true, false, not, _||_}
 use native.Mathlib.Omega.{arith}
 use lib.Dec.{ltb}
-use borrow.Author.Tests.{ne-eqb, not-false}
+use borrow.Author.Tests.{leb-false, ne-eqb, not-false}
 use Rattle.model.specs.Tables.{tally}
 use Rattle.model.specs.Refusals.{firstOf}
 use Rattle.model.specs.Plan.{Plan, positions, flowCount}
@@ -25,19 +25,20 @@ use Rattle.model.proofs.SlotOwners.{unowned, unbooked-none, once-more}
 use Rattle.model.proofs.Invariant.{Ledger, withLoan, Injects, Holds, Room, Owned, Invariant}
 use Rattle.model.proofs.HeldFrom.{raise-own, raise-other, room-from}
 
--- the current slot is free
-pub record Idle (l : Link) : Type 0 where
+-- the mask has flows of the plan only, and the current slot is free
+pub record LendPasses (l : Link) (mask : ℕ) : Type 0 where
+  pub mask-below : mask < 2 ^ flowCount (l .plan)
   pub not-booked : unbooked (owner l (l .current)) ≡ true
   pub not-marked : l .taken ≡ false
 
-pub lend-passes : (l : Link) (mask : ℕ) → firstOf (lendTests l mask) ≡ 0 → Idle l
+pub lend-passes : (l : Link) (mask : ℕ) → firstOf (lendTests l mask) ≡ 0 → LendPasses l mask
 lend-passes l mask e =
     let l8 = line-passed _ 7 _ e in
     let l17 = line-passed _ 16 _ (l8 .1) in
     let free = or-false (not (unbooked (owner l (l .current)))) (l .taken) (l17 .0) in
-    record { not-booked = not-false _ (free .0); not-marked = free .1 }
+    record { mask-below = leb-false _ mask (l8 .0); not-booked = not-false _ (free .0); not-marked = free .1 }
 
-module _ {l : Link} {L : Ledger} (v : Invariant l L) (free : Idle l) {i : ℕ} (known : i < flowCount (l .plan)) (can : canTake l i ≡ true) where
+module _ {l : Link} {L : Ledger} (v : Invariant l L) {mask : ℕ} (free : LendPasses l mask) {i : ℕ} (known : i < flowCount (l .plan)) (can : canTake l i ≡ true) where
   open Link l using (plan as P)
   open Ledger L using (now as t)
   open Current (v .current) using (accepted as ok)

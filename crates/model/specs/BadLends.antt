@@ -8,7 +8,7 @@ use Rattle.model.specs.Plan.{flowCount}
 use Rattle.model.specs.Calls.{Loan, accepted, refused, inMask}
 use Rattle.model.specs.Link.{Link, owner, flow, withFlow, withTaken, withHeld, heldFrom}
 use Rattle.model.specs.Request.{unbooked}
-use Rattle.model.specs.Lend.{takes, lentTo}
+use Rattle.model.specs.Lend.{canTake, takes, lentTo}
 use Rattle.model.specs.Card.{Card, paper}
 use Rattle.model.specs.BadCards.{withTick, withLend}
 
@@ -48,7 +48,7 @@ lendsToFull = lendsBy isIdle (λ l m i. inMask m i) lentTo
 
 -- lends to a flow that the mask does not have
 abbrev pub ignoresMask : Card
-ignoresMask = lendsBy isIdle (λ l m i. true) lentTo
+ignoresMask = lendsBy isIdle (λ l m i. canTake l i) lentTo
 
 -- lets the mark stand past the tick
 abbrev pub keepsMark : Card

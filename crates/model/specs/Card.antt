@@ -47,8 +47,8 @@ started c P = record { state = c .fresh P; history = [] }
 abbrev pub run : (c : Card) → Plan → List Call → Played c
 run c P calls = play c (started c P) calls
 
--- Demand 3 of a card on one plan: for every list of calls and every flow. Words, flows and positions are any numbers, more than a program can be
--- given.
+-- Demand 3 of a card on one plan: for every list of calls, refused ones too, and every flow. Words, flows, positions, masks and
+-- choices are any numbers, more than a program can be given.
 abbrev pub MeetsOn : Card → Plan → Type 0
 MeetsOn c P = (calls : List Call) (i : ℕ) → i < flowCount P → Demand3 P i (run c P calls .history)
 

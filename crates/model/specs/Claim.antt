@@ -1,4 +1,5 @@
--- Demand 3: one claim about the events of a whole list of calls. Document 01, "What demand 3 counts"; document 02, N1. It names no link. Assumes nothing.
+-- Demand 3: one claim about the events of a whole list of calls. Document 01, "What demand 3 counts"; document 02, N1. It names no
+-- link. Assumes nothing.
 --
 -- With k frame changes so far a stream is granted at most (W + k) × share slots, and at most its share in any frame. One that asks until it is
 -- refused in each of the frames 0 to k, and at each of its well-formed requests holds fewer than its cells in every slot from the current one on,
@@ -11,8 +12,10 @@
 --   modulo T);
 -- - requests refused to a stream that lapsed once: in some frame it was not refused, so that a stream that asks for less than its share has no least
 --   count from the next frame on; or once it asked with all of its cells held in a slot from the current one on, as flow 0 does in the listing's
---   third call. A card that gives a flow 12 for ever after its first 12 meets demand 3.
-use Prim.Native.Nat.{ℕ, _+_, _-_, _*_, _≤_, _<_}
+--   third call. A card that gives a flow 12 for ever after its first 12 meets demand 3;
+-- - lends refused that should be answered, and with which number; a mark that stands past the tick, or that a refused lend sets; a lent slot booked in
+--   the table of owners; what is held of a lent slot in slots that are gone, or in the current one.
+use Prim.Native.Nat.{ℕ, _+_, _-_, _*_, _^_, _≤_, _<_}
 use mathlib.Core.Path.{_≡_}
 use mathlib.Core.Logic.{_↔_}
 use mathlib.Core.List.{_∷_, []}
@@ -22,7 +25,7 @@ use Rattle.model.specs.Word.{flowOf, departureOf, depart}
 use Rattle.model.specs.Plan.{Plan, positions, flowCount, entry}
 use Rattle.model.specs.Calls.{Event, History, Turn, requested, credited, ticked, lent, accepted, refused, inMask}
 use Rattle.model.specs.History.{ticks, changes, slotAfter, wellFormed}
-use Rattle.model.specs.History.{granted, grantedIn, refusedIn, grantedUpTo, lentUpTo, creditedUpTo, ownersOf, Owns}
+use Rattle.model.specs.History.{granted, grantedIn, refusedIn, grantedUpTo, lentUpTo, creditedUpTo, ownersOf, WasGranted}
 
 -- ---- each event, and what was before it
 
@@ -95,7 +98,7 @@ SoonAt P = AtGrant (λ w v h. slotAfter P (ticks h) (departureOf v) < ticks h + 
 
 -- "Tick number s answers a flow exactly when an earlier request of that flow was granted slot s, and else idle."
 abbrev pub ComesUpAt : Plan → Event → History → Type 0
-ComesUpAt P = AtTick (λ x h. (i : ℕ) → (x ≡ some i) ↔ Owns P h i (ticks h + 1))
+ComesUpAt P = AtTick (λ x h. (i : ℕ) → (x ≡ some i) ↔ WasGranted P h i (ticks h + 1))
 
 -- A granted word v is the asked word w with another departure, a position; and w was well formed.
 pub record GrantedWord (P : Plan) (w v : ℕ) : Type 0 where
@@ -106,8 +109,9 @@ pub record GrantedWord (P : Plan) (w v : ℕ) : Type 0 where
 abbrev pub GrantedWordAt : Plan → Event → History → Type 0
 GrantedWordAt P = AtGrant (λ w v h. GrantedWord P w v)
 
--- Document 02, N1: "The slot goes to some flow of the mask".
+-- Document 02, N1: "The slot goes to some flow of the mask", and the mask has no bit at n or above.
 pub record LentFlow (P : Plan) (m i : ℕ) : Type 0 where
+  pub mask-below : m < 2 ^ flowCount P
   pub known : i < flowCount P
   pub in-mask : inMask m i ≡ true
 
@@ -117,7 +121,7 @@ LentFlowAt P = AtLoan (LentFlow P)
 -- ---- the clauses of the claim
 
 pub data Clause : Type 0 where
-  -- the most and the least that is granted
+  -- the most and the least that is granted; document 02, N1: they "speak of booked slots only"
   most most-in-a-frame least : Clause
   -- over the whole list
   within-cells one-owner within-a-window comes-up granted-words lent-flows : Clause

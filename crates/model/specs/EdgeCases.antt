@@ -70,6 +70,10 @@ callMade (lent m (refused r)) = Call.lend m 0
 abbrev pub plays : List ℕ → List Event → Case
 plays bytes es = record { trial = link bytes (map callMade es); expected = events es }
 
+-- calls and the answers that they are to have
+abbrev pub answers : List ℕ → List Call → List Event → Case
+answers bytes calls es = record { trial = link bytes calls; expected = events es }
+
 -- A call of a player and its answer. Its requests have destination 9, the flow's quantum number (the same again after a refusal) and the current
 -- position as departure.
 pub data Answered : Type 0 where

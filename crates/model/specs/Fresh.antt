@@ -21,5 +21,5 @@ fresh P = record {
   current = 0;
   owners = replicate (positions P) none;
   flows = table (flowCount P) (freshFlow P);
-  taken = false;
+  taken = false;  -- document 02, N1: nothing is lent
 }

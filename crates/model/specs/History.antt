@@ -1,4 +1,4 @@
--- What is counted over the events of a list of calls. Document 01, "What demand 3 counts". It names no link. Assumes nothing.
+-- What is counted over the events of a list of calls. Document 01, "What demand 3 counts"; document 02, N1. It names no link. Assumes nothing.
 use Prim.Native.Nat.{ℕ, suc, _+_, _/_, _%_, _<_}
 use mathlib.Core.List.{List, _∷_, []}
 use mathlib.Core.Bool.{Bool, _&&_, cond}
@@ -128,5 +128,5 @@ abbrev pub ownersOf : Plan → History → ℕ → ℕ
 ownersOf P h s = tally (atSlot s) (grants P h) + tally (atSlot s) (lends h)
 
 -- Flow i was granted slot s.
-abbrev pub Owns : Plan → History → ℕ → ℕ → Type 0
-Owns P h i s = 0 < tally (λ m. ofFlow i m && atSlot s m) (grants P h)
+abbrev pub WasGranted : Plan → History → ℕ → ℕ → Type 0
+WasGranted P h i s = 0 < tally (λ m. ofFlow i m && atSlot s m) (grants P h)

@@ -33,7 +33,7 @@ unfoldable pub lentTo : Link → ℕ → Link
 lentTo l i = withTaken (withFlow l i (withHeld (flow l i) (heldFrom l i (l .current) suc))) true
 
 -- "Which flow of the mask that can take the slot gets it is left open". Here it is the first of them from flow `choice` on, going round the n flows:
--- each of them is the first for some choice, and whether there is one doesn't depend on it. Nothing else of the definitions names the choice.
+-- each of them is the first for some choice, and whether there is one doesn't depend on it (proofs/LendChoice.antt). Only this looks at the choice.
 unfoldable pub chosen : Link → (mask choice : ℕ) → Option ℕ
 chosen l mask choice = firstFrom (flowCount (l .plan)) choice (λ k. takes l mask (k % flowCount (l .plan)))
 

@@ -7,7 +7,8 @@ use Rattle.model.specs.Tables.{table}
 use Rattle.model.specs.Plan.{positions}
 use Rattle.model.specs.Calls.{Turn}
 use Rattle.model.specs.Window.{head, next, inHead, last}
-use Rattle.model.specs.Link.{Link, Flow, Step, window, owner, flow, holding, share, withCurrent, withOwners, withFlows, withTaken, movedTo, withHeld}
+use Rattle.model.specs.Link.{Link, Flow, Step, window, owner, flow, holding, share}
+use Rattle.model.specs.Link.{withCurrent, withOwners, withFlows, withTaken, movedTo, withHeld}
 
 -- "CP goes on by one modulo T."
 abbrev pub nextPosition : Link → ℕ
