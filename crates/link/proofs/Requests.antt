@@ -37,7 +37,8 @@ use Rattle.link.specs.Sound.{Sound}
 use Rattle.link.proofs.Parts.{withFlow, movedTo}
 use Rattle.link.proofs.Plans.{plan-count, plan-entry}
 use Rattle.tables.proofs.Rows.{length-row}
-use Rattle.window.proofs.Ranks.{ahead-on, everyFrom-same}
+use Rattle.window.proofs.GoingRound.{ahead-on}
+use Rattle.window.proofs.FromOn.{everyFrom-same}
 use Rattle.tables.proofs.Searches.{search-same, search-books, Booking, Books}
 use Rattle.link.specs.Change.{Stepped, placed}
 use Rattle.link.proofs.Links.{read-entry, read-flow, read-holding, read-owner, read-with-flow, sound-with-flow, read-with-owner, sound-with-owner, read-from, long-from, sound-from, read-size, read-frames}

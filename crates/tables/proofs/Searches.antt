@@ -17,7 +17,8 @@ use Rattle.window.specs.declared.Window.{Window}
 use Rattle.tables.specs.Owners.{nobody}
 use Rattle.window.specs.Window.{windowOf, Proper}
 use Rattle.tables.specs.Search.{freeFrom, Earliest}
-use Rattle.window.proofs.Ranks.{frame-fits, rank-slot}
+use Rattle.window.proofs.Windows.{frame-fits}
+use Rattle.window.proofs.Ranks.{rank-slot}
 
 -- ---- the walk over the slots of a frame: of the n positions from a on, the first s have failed
 

@@ -35,6 +35,11 @@ pub record Proper (w : Window) : Type 0 where
   pub base-high : w .current < baseOf w + w .slots
   pub base-fits : baseOf w + w .slots ≤ sizeOf w
 
+-- p is a position of a window
+pub record InWindow (w : Window) (p : ℕ) : Type 0 where
+  pub proper : Proper w
+  pub below : p < sizeOf w
+
 -- on is the window one position on from w; its head is another one exactly at the first position of a frame
 pub record Ticked (w on : Window) : Type 0 where
   pub window-is : windowOf on ≡ record { slots = w .slots; frames = w .frames; current = (w .current + 1) % sizeOf w }

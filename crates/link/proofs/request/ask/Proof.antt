@@ -20,7 +20,8 @@ use Rattle.model.specs.Request.{found, sought, answered, request}
 use Rattle.calls.specs.Reading.{answerToRequest}
 use Rattle.link.specs.declared.Flow.{Flow}
 use Rattle.link.specs.declared.Link.{Link}
-use Rattle.window.specs.Ranges.{replaced, wrapped}
+use Rattle.window.specs.Bytes.{wrapped}
+use Rattle.window.specs.Ranges.{replaced}
 use Rattle.tables.specs.Rows.{row}
 use Rattle.link.specs.Parts.{sizeOf, entryAt}
 use Rattle.tables.specs.Holdings.{roomAt}
@@ -28,8 +29,8 @@ use Rattle.link.specs.Reading.{linkOf}
 use Rattle.tables.specs.Search.{foundOf, freeFrom}
 use Rattle.window.specs.Window.{windowOf, fromIn}
 use Rattle.link.specs.Change.{placed, PartsOf, Stepped}
-use Rattle.window.proofs.Ranges.{wrapped-up}
-use Rattle.window.proofs.Ranks.{replaced-from}
+use Rattle.window.proofs.Bytes.{wrapped-up}
+use Rattle.window.proofs.FromOn.{replaced-from}
 use Rattle.link.proofs.Changes.{same-link, same-held, same-moved}
 use Rattle.link.proofs.Links.{read-size, read-frames, flows-most, size-most}
 use Rattle.tables.proofs.Searches.{Booking}

@@ -4,7 +4,7 @@ use Prim.Native.Nat.{_+_, _-_, _*_}
 use mathlib.Core.Path.{_≡_, refl}
 use native.Mathlib.Omega.{arith}
 use Rattle.window.specs.Window.{sizeOf, baseOf}
-use Rattle.window.proofs.Ranks.{rank-from, from-all, from-last-low, from-last-high}
+use Rattle.window.proofs.PassesFrom.{passes-is, passes-all, passes-low, passes-high}
 use Rattle.tables.proofs.Spans.{all-room, last-room}
 use Rattle.tables.proofs.holdings.room_rank.Statement.{statement}
 use Rattle.tables.proofs.holdings.room_rank.Tie as tie
@@ -31,7 +31,7 @@ returns : tie.Need-returns
 returns c =
     let s = c .before .before .before .before in
     let v = s .pre .0 in
-    rank-from _ v _ _ (from-all _ v _ (all-room _ (s .args .i) _ 0 _ (v .measures .positions-most) (omega arith) refl (rw (c .if1 .taken) at (c .before .room-in .ensures))))
+    passes-is _ v _ _ (passes-all _ v _ (all-room _ (s .args .i) _ 0 _ (v .measures .positions-most) (omega arith) refl (rw (c .if1 .taken) at (c .before .room-in .ensures))))
 
 last-full-requires : tie.Need-last-full-requires
 last-full-requires c κs = search needs
@@ -53,7 +53,7 @@ returns-2 c =
     let first = 256 * s .args .i in
     let x = c .before .last-full .ensures in
     let e : c .before .last-full .result + (first + sizeOf w) - first - (first + baseOf w) ≡ c .before .last-full .result - first + sizeOf w - baseOf w = omega (arith, x .low, v .base-fits) in
-    λ p l. rw e (rank-from w v _ _ (from-last-low w v _ _ (last-room _ (s .args .i) _ 0 (baseOf w) (omega arith) (omega arith) refl x) (omega arith)) p l)
+    λ p l. rw e (passes-is w v _ _ (passes-low w v _ _ (last-room _ (s .args .i) _ 0 (baseOf w) (omega arith) (omega arith) refl x) (omega arith)) p l)
 
 last-full-requires-2 : tie.Need-last-full-requires-2
 last-full-requires-2 c κs = search needs
@@ -70,7 +70,7 @@ returns-3 c =
     let z : c .before .before .last-full .result - first ≡ 0 = omega (arith, c .before .if2 .left) in
     let y = rw z at (last-room (s .args .held .now) (s .args .i) (s .args .cells) 0 (baseOf w) (omega arith) (omega arith) refl (c .before .before .last-full .ensures)) in
     let e : c .last-full2 .result - (first + baseOf w) ≡ c .last-full2 .result - first - baseOf w = omega arith in
-    λ p l. rw e (rank-from w v _ _ (from-last-high w v _ _ y (last-room _ (s .args .i) _ (baseOf w) (sizeOf w) (v .measures .positions-most) refl refl (c .last-full2 .ensures))) p l)
+    λ p l. rw e (passes-is w v _ _ (passes-high w v _ _ y (last-room _ (s .args .i) _ (baseOf w) (sizeOf w) (v .measures .positions-most) refl refl (c .last-full2 .ensures))) p l)
 
 pub room-rank-spec : {M : Type 1} → statement M
 room-rank-spec =

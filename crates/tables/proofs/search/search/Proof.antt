@@ -15,7 +15,7 @@ use Rattle.window.specs.declared.Window.{Window}
 use Rattle.tables.specs.Owners.{nobody}
 use Rattle.window.specs.Window.{windowOf, sizeOf}
 use Rattle.tables.specs.Search.{freeFrom}
-use Rattle.window.proofs.Ranks.{frame-fits}
+use Rattle.window.proofs.Windows.{frame-fits}
 use Rattle.tables.proofs.Searches.{Scan, scan-none, scan-on, Fails, Walk, spent, failed, walk-on, walk-last, walk-hit, slot-tested}
 use Rattle.tables.proofs.search.search.Statement.{statement}
 use Rattle.tables.proofs.search.search.Tie as tie
@@ -85,7 +85,7 @@ newest-requires : tie.Need-newest-requires Inv-loop μ-loop Inv-search μ-search
 newest-requires c κs = search needs
 
 ahead-requires : tie.Need-ahead-requires Inv-loop μ-loop Inv-search μ-search
-ahead-requires c κs = (search needs, rw (c .newest .ensures) (mod-lt _ (omega arith)), search needs)
+ahead-requires c κs = (search needs, rw (c .newest .ensures) (mod-lt _ (omega arith)))
 
 search-holds : tie.Need-search-holds Inv-loop μ-loop Inv-search μ-search
 search-holds c = (search needs, record { same = rw (c .ahead .ensures, c .before .newest .ensures) })
@@ -94,7 +94,7 @@ mul-start : tie.Need-mul-start Inv-loop μ-loop Inv-search μ-search
 mul-start c = omega (arith, frame-there (c .before .before))
 
 rank-requires : tie.Need-rank-requires Inv-loop μ-loop Inv-search μ-search
-rank-requires c κs = (start (c .before .before) .pre .0, omega (arith, frame-there (c .before .before)))
+rank-requires c κs = record { proper = start (c .before .before) .pre .0; below = omega (arith, frame-there (c .before .before)) }
 
 over-requires : tie.Need-over-requires Inv-loop μ-loop Inv-search μ-search
 over-requires c κs = search needs
