@@ -9,7 +9,7 @@ use borrow.Author.Tests.{le-leb, lt-leb}
 use Rattle.model.specs.Window.{everyFrom}
 use Rattle.window.specs.declared.Window.{Window}
 use Rattle.window.specs.Ranges.{All, LastIn}
-use Rattle.window.specs.Window.{windowOf, sizeOf, baseOf, Proper}
+use Rattle.window.specs.Window.{windowOf, sizeOf, baseOf, Proper, FromRank}
 use Rattle.window.proofs.Ranks.{rankIn, rank-high, rank-low}
 use Rattle.window.proofs.FromOn.{every-from, miss-from}
 
@@ -19,12 +19,12 @@ pub record PassesFrom (w : Window) (t : ℕ → Bool) (r : ℕ) : Type 0 where
   pub miss : (p : ℕ) → p < sizeOf w → rankIn w p < r → everyFrom (windowOf w) p t ≡ false
 
 module _ (w : Window) (v : Proper w) (t : ℕ → Bool) where
-  pub passes-is : (r : ℕ) → PassesFrom w t r → (p : ℕ) → p < sizeOf w → leb r (rankIn w p) ≡ everyFrom (windowOf w) p t
-  passes-is r x p l = go (decLe r (rankIn w p))
+  pub passes-from : {r : ℕ} → PassesFrom w t r → FromRank w (λ p. everyFrom (windowOf w) p t) r
+  passes-from {r} x = record { is = λ p l. go p l (decLe r (rankIn w p)) }
     where
-      go : Dec (r ≤ rankIn w p) → leb r (rankIn w p) ≡ everyFrom (windowOf w) p t
-      go (yes d) = rw (le-leb r (rankIn w p) d) (sym (every-from w v p l t (λ q lq h. x .pass q lq (omega arith))))
-      go (no d) = rw (lt-leb r (rankIn w p) (omega arith)) (sym (x .miss p l (omega arith)))
+      go : (p : ℕ) → p < sizeOf w → Dec (r ≤ rankIn w p) → leb r (rankIn w p) ≡ everyFrom (windowOf w) p t
+      go p l (yes d) = rw (le-leb r (rankIn w p) d) (sym (every-from w v p l t (λ q lq h. x .pass q lq (omega arith))))
+      go p l (no d) = rw (lt-leb r (rankIn w p) (omega arith)) (sym (x .miss p l (omega arith)))
 
   -- all positions pass
   pub passes-all : All t 0 (sizeOf w) true → PassesFrom w t 0

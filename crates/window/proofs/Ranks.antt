@@ -2,7 +2,7 @@
 -- Assumes nothing.
 use Prim.Native.Nat.{ℕ, suc, _+_, _-_, _*_, _/_, _≤_, _<_, max}
 use mathlib.Core.Path.{_≡_, _∙_}
-use mathlib.Core.Bool.{not, _&&_, and-false}
+use mathlib.Core.Bool.{Bool, not, _&&_, and-false}
 use native.Mathlib.Nat.{div-eq-of-lt-le, mul-le-mul-right, suc-mul}
 use native.Mathlib.Decide.{decLe}
 use native.Mathlib.Omega.{arith}
@@ -11,7 +11,7 @@ use borrow.Author.Tests.{le-leb, lt-leb, lt-ltb, le-ltb, eq-eqb}
 use Rattle.model.specs.Tables.{ahead}
 use Rattle.model.specs.Window.{rank, passed}
 use Rattle.window.specs.declared.Window.{Window}
-use Rattle.window.specs.Window.{windowOf, sizeOf, baseOf, Proper}
+use Rattle.window.specs.Window.{windowOf, sizeOf, baseOf, Proper, FromRank}
 use Rattle.window.proofs.GoingRound.{ahead-on, ahead-over}
 use Rattle.window.proofs.Windows.{frame-fits}
 
@@ -72,20 +72,21 @@ module _ (w : Window) (v : Proper w) where
       go (no d) h = rw (lt-ltb (currentRank w) (rankIn w p) (omega arith), lt-leb (rankIn w p) (currentRank w) (omega arith), and-false)
 
   -- not passed: of a higher rank than CP
-  pub late-is : (p : ℕ) → p < sizeOf w → not (passed (windowOf w) p) ≡ leb (w .current + 1 - baseOf w) (rankIn w p)
-  late-is p l = rw (passed-is p l) (go (decLe (rankIn w p) (currentRank w)))
+  pub late-from : FromRank w (λ p. not (passed (windowOf w) p)) (w .current + 1 - baseOf w)
+  late-from = record { is = λ p l. rw (passed-is p l) (go p (decLe (rankIn w p) (currentRank w))) }
     where
-      go : Dec (rankIn w p ≤ currentRank w) → not (leb (rankIn w p) (currentRank w)) ≡ leb (w .current + 1 - baseOf w) (rankIn w p)
-      go (yes d) =
+      go : (p : ℕ) → Dec (rankIn w p ≤ currentRank w)
+          → leb (w .current + 1 - baseOf w) (rankIn w p) ≡ not (leb (rankIn w p) (currentRank w))
+      go p (yes d) =
           rw (le-leb (rankIn w p) (currentRank w) d, lt-leb (w .current + 1 - baseOf w) (rankIn w p) (omega (arith, v .base-low)))
-      go (no d) =
+      go p (no d) =
           rw (lt-leb (rankIn w p) (currentRank w) (omega arith), le-leb (w .current + 1 - baseOf w) (rankIn w p) (omega (arith, v .base-low)))
 
--- two lower bounds on a rank are one
-pub leb-max : (a b r : ℕ) → leb b r && leb a r ≡ leb (max a b) r
-leb-max a b r = go (decLe b r) (decLe a r)
+-- two lower bounds on ranks are one
+pub both-from : {w : Window} {t u : ℕ → Bool} {a b : ℕ} → FromRank w t a → FromRank w u b → FromRank w (λ p. u p && t p) (max a b)
+both-from {w} {t} {u} {a} {b} x y = record { is = λ p l. rw (← x .is p l, ← y .is p l) (go (rankIn w p) (decLe b (rankIn w p)) (decLe a (rankIn w p))) }
   where
-    go : Dec (b ≤ r) → Dec (a ≤ r) → leb b r && leb a r ≡ leb (max a b) r
-    go (yes d) (yes e) = rw (le-leb b r d, le-leb a r e, le-leb (max a b) r (omega arith))
-    go (yes d) (no e) = rw (le-leb b r d, lt-leb a r (omega arith), lt-leb (max a b) r (omega arith))
-    go (no d) e = rw (lt-leb b r (omega arith), lt-leb (max a b) r (omega arith))
+    go : (r : ℕ) → Dec (b ≤ r) → Dec (a ≤ r) → leb (max a b) r ≡ leb b r && leb a r
+    go r (yes d) (yes e) = rw (le-leb b r d, le-leb a r e, le-leb (max a b) r (omega arith))
+    go r (yes d) (no e) = rw (le-leb b r d, lt-leb a r (omega arith), lt-leb (max a b) r (omega arith))
+    go r (no d) e = rw (lt-leb b r (omega arith), lt-leb (max a b) r (omega arith))
