@@ -4,9 +4,8 @@ use Prim.Native.Nat.{ℕ, suc, _*_, _<_}
 use mathlib.Core.Path.{_≡_, refl, sym, ap, _∙_, subst}
 use mathlib.Core.List.{List}
 use native.Mathlib.Omega.{arith}
-use lib.Dec.{ltb}
 use lib.ListN.{getD}
-use borrow.Author.Tests.{ltb-true, eqb-true}
+use borrow.Author.Tests.{eqb-true}
 use Rattle.plan.specs.declared.Entry.{Entry}
 use Rattle.plan.specs.Reading.{noEntry, planFor}
 use Rattle.model.specs.Word.{flowOf}
@@ -18,18 +17,17 @@ use Rattle.model.specs.Request.{found, sought, answered, request}
 use Rattle.calls.specs.Reading.{answerToRequest}
 use Rattle.link.specs.declared.Flow.{Flow}
 use Rattle.link.specs.declared.Link.{Link}
-use Rattle.window.specs.Bytes.{wrapped}
 use Rattle.window.specs.Ranges.{replaced}
 use Rattle.tables.specs.Rows.{row}
 use Rattle.link.specs.Parts.{sizeOf, entryAt}
 use Rattle.link.specs.Reading.{linkOf}
+use Rattle.tables.specs.Holdings.{shiftedRow}
 use Rattle.tables.specs.Search.{foundOf, validAt, searchFrom}
 use Rattle.window.specs.Window.{windowOf, fromIn}
 use Rattle.link.specs.Change.{placed, PartsOf, Stepped}
-use Rattle.window.proofs.Bytes.{wrapped-up}
-use Rattle.window.proofs.FromOn.{replaced-from}
 use Rattle.link.proofs.Changes.{same-link, same-held, same-moved}
 use Rattle.link.proofs.Links.{read-size, read-frames, flows-most, size-most}
+use Rattle.tables.proofs.HoldingChanges.{one-more}
 use Rattle.tables.proofs.ValidPositions.{valid-room}
 use Rattle.tables.proofs.FoundPosition.{Booking}
 use Rattle.link.proofs.Requests.{refused-word, asked, asks-for, asker-below, sought-same, found-at, spent-at-newest, granted-link, refused-link, granted, refused-newest}
@@ -119,14 +117,15 @@ module _ (c : tie.After-found) (l : Link) (o : OfAt (start (c .before .before)) 
   position-below = rw (read-size l (window-is (c .before .before) l o)) at (booking .position)
 
   -- what the flow holds then
-  raised : replaced (fromIn (model.window (linkOf l)) position-at) (λ q x. wrapped 1 x) (row (l .held) (flow-at (c .before .before))) ≡ replaced (fromIn (model.window (linkOf l)) position-at) (λ q x. suc x) (row (l .held) (flow-at (c .before .before)))
+  raised : shiftedRow (model.window (linkOf l)) 1 position-at (row (l .held) (flow-at (c .before .before)))
+      ≡ replaced (fromIn (model.window (linkOf l)) position-at) (λ q. suc) (row (l .held) (flow-at (c .before .before)))
   raised =
       let q = c .before .before in
-      let most = o .around .sound .plan .accepted in
-      subst (λ (x : Window). replaced (fromIn x position-at) (λ q x. wrapped 1 x) (row (l .held) (flow-at q)) ≡ replaced (fromIn x position-at) (λ q x. suc x) (row (l .held) (flow-at q))) (window-is q l o)
-      (replaced-from (start q .args .w) (o .around .proper) position-at (booking .position) (λ x. ltb x (entryAt l (flow-at q) .cells)) (wrapped 1) suc (row (l .held) (flow-at q))
-      (λ x e. wrapped-up x (let z = ap (λ (y : Entry). y .cells) (o .entry-is) in omega (arith, ltb-true x _ e, z)))
-      (valid-room (window-at q) (l .owner) (row (l .held) (flow-at q)) _ _ (booking .passes)))
+      let held = row (l .held) (flow-at q) in
+      let cells = ap (λ (y : Entry). y .cells) (o .entry-is) in
+      subst (λ (x : Window). shiftedRow x 1 position-at held ≡ replaced (fromIn x position-at) (λ q. suc) held) (window-is q l o)
+      (one-more (start q .args .w) (o .around .proper) position-at (booking .position) held _ (omega (arith, cells))
+      (valid-room (window-at q) (l .owner) held _ _ (booking .passes)))
 
 position-fits : (c : tie.After-found) → position-at c (start (c .before .before) .pre .0 .link) (start (c .before .before) .pre .0 .of) < 256
 position-fits c = let g = start (c .before .before) .pre .0 in omega (arith, position-below c (g .link) (g .of), size-most _ (g .of .around .sound))
