@@ -9,7 +9,8 @@ ghost use lib.ListN.{getD};
 ghost use Rattle.model.specs.Window as model;
 ghost use Rattle.window.specs.Bytes.{wrapped};
 ghost use Rattle.window.specs.Ranges.{inRange, replaced, All, LastIn};
-ghost use Rattle.window.specs.Window.{windowOf, sizeOf, Proper, FromRank};
+ghost use Rattle.window.specs.Window.{windowOf, Proper, FromRank};
+ghost use Rattle.tables.specs.Asked.{FlowAt, FlowsOf};
 ghost use Rattle.tables.specs.Owners.{everywhere};
 ghost use Rattle.tables.specs.Rows.{row, sixteenRows, carriedRows};
 ghost use Rattle.tables.specs.Padded.{pad, InRow};
@@ -107,7 +108,7 @@ fn held_in(held: &Holdings, a: usize, e: usize, start: u8, count: u8, inner: u8,
 
 // Whether flow i holds something from p on.
 pub fn held_from(held: &Holdings, i: usize, w: Window, p: usize) -> bool
-    requires { ⌜ Proper w × (p < sizeOf w) × (i < 16) ⌝ }
+    requires { ⌜ FlowAt w i p ⌝ }
     ensures { λ r. ⌜ r ≡ model.everyFrom (windowOf w) p (someHeld (row (now (held .entry)) i)) ⌝ }
 {
     let first = 256 * i;
@@ -138,7 +139,7 @@ fn shift(held: &mut Holdings, a: usize, e: usize, start: u8, count: u8, inner: u
 
 // Flow i's holdings from p on, each moved by a number modulo 256: 1 is one more, 255 one fewer.
 pub fn shift_from(held: &mut Holdings, by: u8, i: usize, w: Window, p: usize)
-    requires { ⌜ Proper w × (p < sizeOf w) × (i < 16) ⌝ }
+    requires { ⌜ FlowAt w i p ⌝ }
     ensures { λ r. ⌜ now (held .exit) ≡ shifted (windowOf w) by i p (now (held .entry)) ⌝ }
 {
     let first = 256 * i;
@@ -186,7 +187,7 @@ fn carry(held: &mut Holdings, count: usize, last: usize, a: usize, e: usize)
 
 // What each of n flows holds at the last position goes on in the head frame.
 pub fn carry_head(held: &mut Holdings, count: usize, w: Window)
-    requires { ⌜ Proper w × (count ≤ 16) ⌝ }
+    requires { ⌜ FlowsOf w count ⌝ }
     ensures { λ r. ⌜ now (held .exit) ≡ carried w count (now (held .entry)) ⌝ }
 {
     let base = w.head * w.slots;

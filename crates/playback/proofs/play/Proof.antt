@@ -260,7 +260,7 @@ element-write-link c = omega (arith, c .before .before .ask .ensures .1, playing
 shift-from-requires : tie.Need-shift-from-requires Inv-loop μ-loop
 shift-from-requires c κs =
     let f = c .before .before in
-    (playing-at (asked-at (asker-at f)) .proper, f .before .ask .ensures .1, asker-below (asker-at f))
+    record { proper = playing-at (asked-at (asker-at f)) .proper; flow = asker-below (asker-at f); position = f .before .ask .ensures .1 }
 
 enum-known-call-3 : tie.Need-enum-known-call-3 Inv-loop μ-loop
 enum-known-call-3 c = search needs
@@ -275,7 +275,7 @@ shift-from-requires-2 c κs =
     let r = c .before .before in
     let a = credited-at r in
     let d = r .refusal .ensures .1 (c .before .if2 .left) in
-    (playing-at a .proper, d .position, omega (arith, d .flow, flows-at a))
+    record { proper = playing-at a .proper; flow = omega (arith, d .flow, flows-at a); position = d .position }
 
 enum-told-2 : tie.Need-enum-told-2 Inv-loop μ-loop
 enum-told-2 c = search needs
@@ -289,7 +289,7 @@ empty-head-requires c κs = playing-at (ticked-at (c .before .before)) .proper
 carry-head-requires : tie.Need-carry-head-requires Inv-loop μ-loop
 carry-head-requires c κs =
     let a = ticked-at (c .before .before .before .before) in
-    (playing-at a .proper, flows-at a)
+    record { proper = playing-at a .proper; few = flows-at a }
 
 leave-head-requires : tie.Need-leave-head-requires Inv-loop μ-loop
 leave-head-requires c κs =

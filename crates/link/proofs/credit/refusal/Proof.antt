@@ -60,7 +60,7 @@ returns-3 c =
 held-from-requires : tie.Need-held-from-requires
 held-from-requires c κs =
     let e = c .before .before in
-    (start e .pre .0, e .if2 .left, omega (arith, e .before .before .if1 .left, start e .pre .1))
+    record { proper = start e .pre .0; flow = omega (arith, e .before .before .if1 .left, start e .pre .1); position = e .if2 .left }
 
 returns-4 : tie.Need-returns-4
 returns-4 c =

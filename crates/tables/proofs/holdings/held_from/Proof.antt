@@ -29,8 +29,8 @@ returns : tie.Need-returns
 returns c =
     let t = c .before in
     let s = t .before .before .before in
-    let pads = pads-high (s .args .w) (s .pre .0) (s .args .p) (s .pre .1) (t .if1 .taken) 0 255 in
-    held-padded _ (s .pre .0) _ (s .pre .1) _ (s .args .i) pads _ (c .held-in .ensures)
+    let pads = pads-high (s .args .w) (s .pre .proper) (s .args .p) (s .pre .position) (t .if1 .taken) 0 255 in
+    held-padded _ (s .pre .proper) _ (s .pre .position) _ (s .args .i) pads _ (c .held-in .ensures)
 
 cast-held-in-3 : tie.Need-cast-held-in-3
 cast-held-in-3 c = search needs
@@ -48,8 +48,8 @@ returns-2 : tie.Need-returns-2
 returns-2 c =
     let t = c .before in
     let s = t .before .before .before in
-    let pads = pads-low (s .args .w) (s .pre .0) (s .args .p) (s .pre .1) (t .if1 .left) 0 255 in
-    held-padded _ (s .pre .0) _ (s .pre .1) _ (s .args .i) pads _ (c .held-in2 .ensures)
+    let pads = pads-low (s .args .w) (s .pre .proper) (s .args .p) (s .pre .position) (t .if1 .left) 0 255 in
+    held-padded _ (s .pre .proper) _ (s .pre .position) _ (s .args .i) pads _ (c .held-in2 .ensures)
 
 pub held-from-spec : {M : Type 1} → statement M
 held-from-spec =

@@ -29,8 +29,8 @@ returns : tie.Need-returns
 returns c =
     let t = c .before .before in
     let s = t .before .before .before in
-    let pads = pads-high (s .args .w) (s .pre .0) (s .args .p) (s .pre .1) (t .if1 .taken) (s .args .by) 0 in
-    rw (c .shift .ensures) (shifted-padded _ (s .pre .0) _ (s .pre .1) _ (s .args .i) _ pads)
+    let pads = pads-high (s .args .w) (s .pre .proper) (s .args .p) (s .pre .position) (t .if1 .taken) (s .args .by) 0 in
+    rw (c .shift .ensures) (shifted-padded _ (s .pre .proper) _ (s .pre .position) _ (s .args .i) _ pads)
 
 cast-shift-3 : tie.Need-cast-shift-3
 cast-shift-3 c = search needs
@@ -48,8 +48,8 @@ returns-2 : tie.Need-returns-2
 returns-2 c =
     let t = c .before .before in
     let s = t .before .before .before in
-    let pads = pads-low (s .args .w) (s .pre .0) (s .args .p) (s .pre .1) (t .if1 .left) (s .args .by) 0 in
-    rw (c .shift2 .ensures) (shifted-padded _ (s .pre .0) _ (s .pre .1) _ (s .args .i) _ pads)
+    let pads = pads-low (s .args .w) (s .pre .proper) (s .args .p) (s .pre .position) (t .if1 .left) (s .args .by) 0 in
+    rw (c .shift2 .ensures) (shifted-padded _ (s .pre .proper) _ (s .pre .position) _ (s .args .i) _ pads)
 
 pub shift-from-spec : {M : Type 1} → statement M
 shift-from-spec =
