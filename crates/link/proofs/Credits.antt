@@ -5,7 +5,7 @@ use mathlib.Core.List.{List}
 use mathlib.Core.Bool.{true, false}
 use lib.Dec.{ltb}
 use lib.ListN.{length}
-use borrow.Author.Tests.{lt-ltb, le-ltb, ltb-true}
+use borrow.Author.Tests.{lt-ltb, le-ltb}
 use Rattle.model.specs.Refusals.{firstOf}
 use Rattle.model.specs.Calls.{accepted}
 use Rattle.model.specs.Window.{Window, passed, everyFrom}
@@ -15,17 +15,17 @@ use Rattle.calls.specs.declared.Answer.the-variants.{Taken, Refused}
 use Rattle.calls.specs.Reading.{answerToCredit}
 use Rattle.link.specs.declared.Link.{Link}
 use Rattle.window.specs.declared.Window as code
-use Rattle.window.specs.Ranges.{replaced, wrapped}
+use Rattle.window.specs.Ranges.{replaced}
 use Rattle.tables.specs.Rows.{row}
 use Rattle.window.specs.Window.{windowOf, Proper, fromIn}
-use Rattle.tables.specs.Holdings.{someHeld, shifted}
+use Rattle.tables.specs.Holdings.{someHeld, shiftedRow, shifted}
 use Rattle.link.specs.Parts.{sizeOf, partAt, withFlows}
 use Rattle.link.specs.Reading.{linkOf}
 use Rattle.link.specs.Sound.{Sound}
 use Rattle.link.specs.Change.{Stepped, Creditable}
 use Rattle.link.proofs.Parts.{withFlow, withHeld}
-use Rattle.window.proofs.Ranges.{wrapped-down}
-use Rattle.window.proofs.Ranks.{everyFrom-same, replaced-from}
+use Rattle.window.proofs.FromOn.{everyFrom-same}
+use Rattle.tables.proofs.HoldingChanges.{one-fewer}
 use Rattle.link.proofs.Links.{same-flow, read-count, read-flow, read-holding, read-with-flow, sound-with-flow, read-from, long-from, sound-from}
 use Rattle.link.proofs.Changes.{same-flows}
 
@@ -81,10 +81,10 @@ module _ (l : Link) (s : Sound l) (i p n : ℕ) (tests : n ≡ firstOf (creditTe
   module _ (w : code.Window) (proper : Proper w) (is : windowOf w ≡ model.window (linkOf l)) (z : n ≡ 0) (c : Creditable (l .plan .count) w (l .held) i p) where
     -- what flow i holds then
     abbrev lower : List ℕ
-    lower = replaced (fromIn (windowOf w) p) (λ q x. wrapped 255 x) (row (l .held) i)
+    lower = shiftedRow (windowOf w) 255 p (row (l .held) i)
 
     lower-is : lower ≡ replaced (fromIn (windowOf w) p) (λ q x. x - 1) (row (l .held) i)
-    lower-is = replaced-from w proper p (c .position) (λ x. ltb 0 x) (wrapped 255) (λ x. x - 1) (row (l .held) i) (λ x e. wrapped-down x (ltb-true 0 x e)) (c .some-held)
+    lower-is = one-fewer w proper p (c .position) (row (l .held) i) (c .some-held)
 
     long : length lower ≡ 256
     long = long-from l s (windowOf w) is i p (c .flow) (λ x. x - 1) lower lower-is

@@ -23,7 +23,7 @@ use Rattle.tables.specs.Owners.{nobody, ownerOf}
 use Rattle.link.specs.Reading.{flowOf, linkOf}
 use Rattle.link.specs.Sound.{Sound, SoundFlow}
 use Rattle.link.proofs.Parts.{withFlow, movedTo, withHeld}
-use Rattle.window.proofs.Tables.{getD-table, table-same}
+use Rattle.window.proofs.Tabulated.{getD-table, table-same}
 use Rattle.link.proofs.Plans.{plan-count, plan-entry, count-most}
 use Rattle.tables.proofs.Rows.{length-row, length-with-row, row-with-same, row-with-other}
 use Rattle.window.proofs.Ranges.{length-replaced, replaced-at, replaced-off}

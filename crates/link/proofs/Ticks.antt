@@ -21,18 +21,20 @@ use Rattle.link.specs.declared.Link.{Link}
 use Rattle.link.specs.declared.Step.{Step}
 use Rattle.window.specs.declared.Window.{Window}
 use Rattle.window.specs.Ranges.{inRange, replaced}
-use Rattle.tables.specs.Rows.{row, carriedRows}
+use Rattle.tables.specs.Rows.{row}
+use Rattle.tables.specs.Holdings.{carriedRow, carried}
 use Rattle.window.specs.Window as window
 use Rattle.link.specs.Parts.{Part, sizeOf, entryAt, partOf, partAt, ownerAt, noFlow, leftHead}
-use Rattle.tables.specs.Owners.{nobody, ownerOf}
+use Rattle.tables.specs.Owners.{nobody, ownerOf, emptied}
 use Rattle.link.specs.Reading.{flowOf, linkOf}
 use Rattle.calls.specs.Reading.{answerToTick}
 use Rattle.link.specs.Sound.{Sound, SoundFlow}
 use Rattle.link.proofs.Parts.{withCurrent}
-use Rattle.window.proofs.Tables.{table-same}
+use Rattle.window.proofs.Tabulated.{table-same}
 use Rattle.window.proofs.Ranges.{in-range, before-range, past-range, length-replaced, replaced-at, replaced-off}
-use Rattle.tables.proofs.Rows.{length-row, length-carried, row-carried, row-not-carried}
-use Rattle.window.proofs.Ranks.{proper}
+use Rattle.tables.proofs.Rows.{length-row}
+use Rattle.tables.proofs.HoldingChanges.{carried-long, row-carried, row-not-carried}
+use Rattle.window.proofs.Windows.{proper}
 use Rattle.link.specs.Change.{Stepped}
 use Rattle.link.proofs.Links.{same-flow, read-count, read-entry, read-flow, read-holding, read-owner, flows-most, size-most, measures}
 
@@ -54,18 +56,22 @@ lastAt l = (baseAt l + sizeOf l - 1) % sizeOf l
 abbrev onAt : Link → ℕ
 onAt l = (headAt l + 1) % l .plan .frames
 
+-- the window of a call on it
+abbrev windowAt : Link → Window
+windowAt l = record { slots = l .plan .slots; frames = l .plan .frames; current = l .cp; head = headAt l }
+
 abbrev recycled : Link → Link
 recycled l = record {
   plan = l .plan;
   cp = nextAt l;
-  owner = replaced (inRange (baseAt l) (baseAt l + l .plan .slots)) (λ q x. nobody) (l .owner);
+  owner = emptied (windowAt l) (l .owner);
   flows = replaced (inRange 0 (l .plan .count)) (λ i f. leftHead (headAt l) (onAt l) (entryAt l i .share) f) (l .flows);
-  held = carriedRows (l .plan .count) (lastAt l) (baseAt l) (baseAt l + l .plan .slots) (l .held);
+  held = carried (windowAt l) (l .plan .count) (l .held);
 }
 
 -- a flow's part after a frame change: it leaves the head frame with its share, and the holding at the last position goes on in the head's
 abbrev heldAfter : Link → ℕ → List ℕ
-heldAfter l i = replaced (inRange (baseAt l) (baseAt l + l .plan .slots)) (λ q x. getD (row (l .held) i) (lastAt l) 0) (row (l .held) i)
+heldAfter l i = carriedRow (windowAt l) (row (l .held) i)
 
 abbrev partAfter : Link → ℕ → Part
 partAfter l i = partOf (leftHead (headAt l) (onAt l) (entryAt l i .share) (getD (l .flows) i noFlow)) (heldAfter l i)
@@ -80,11 +86,14 @@ module _ (l : Link) (s : Sound l) where
   last-below : lastAt l < sizeOf l
   last-below = mod-lt _ some-position
 
+  window-proper : window.Proper (windowAt l)
+  window-proper = proper _ _ _ (measures l s)
+
   head-below : headAt l < l .plan .frames
-  head-below = proper _ _ _ (measures l s) .head-below
+  head-below = window-proper .head-below
 
   base-fits : baseAt l + l .plan .slots ≤ sizeOf l
-  base-fits = proper _ _ _ (measures l s) .base-fits
+  base-fits = window-proper .base-fits
 
   -- the head frame's positions
   head-range : (q : ℕ) → inRange (baseAt l) (baseAt l + l .plan .slots) q ≡ eqb (q / l .plan .slots) (headAt l)
@@ -102,14 +111,13 @@ module _ (l : Link) (s : Sound l) where
       let b = flows-most l s in
       let e : getD (recycled l .flows) i noFlow ≡ leftHead (headAt l) (onAt l) (entryAt l i .share) (getD (l .flows) i noFlow) =
       replaced-at _ _ (l .flows) i noFlow (omega (arith, s .flows-long)) ∙ rw (in-range 0 (l .plan .count) i (omega arith) h) in
-      let last : lastAt l < 256 = omega (arith, last-below, size-most l s) in
       ap (λ (f : Flow). partOf f (row (recycled l .held) i)) e
-      ∙ ap (partOf _) (row-carried (l .plan .count) (lastAt l) (baseAt l) (baseAt l + l .plan .slots) (l .held) i h (omega arith) (s .held-long) last)
+      ∙ ap (partOf _) (row-carried (windowAt l) window-proper (l .plan .count) (l .held) (s .held-long) i h (omega arith))
 
   spare-stays : (i : ℕ) → l .plan .count ≤ i → partAt (recycled l) i ≡ partAt l i
   spare-stays i h =
       let e : getD (recycled l .flows) i noFlow ≡ getD (l .flows) i noFlow = replaced-off _ _ (l .flows) i noFlow (past-range 0 (l .plan .count) i h) in
-      rw (e, row-not-carried (l .plan .count) (lastAt l) (baseAt l) (baseAt l + l .plan .slots) (l .held) i h)
+      rw (e, row-not-carried (windowAt l) (l .plan .count) (l .held) i h)
 
   held-after : (i : ℕ) → i < l .plan .count → table (sizeOf l) (λ q. getD (heldAfter l i) q 0)
       ≡ table (sizeOf l) (λ q. cond (eqb (q / l .plan .slots) (headAt l)) (model.holding (linkOf l) i (lastAt l)) (model.holding (linkOf l) i q))
@@ -175,7 +183,7 @@ module _ (l : Link) (s : Sound l) where
     owners = λ q b n. owner q b n (inRange (baseAt l) (baseAt l + l .plan .slots) q) refl;
     spare-owners = λ q h b. replaced-off _ _ (l .owner) q 0 (past-range _ _ q (omega (arith, base-fits))) ∙ s .spare-owners q h b;
     flows-long = length-replaced _ _ (l .flows) ∙ s .flows-long;
-    held-long = length-carried (l .plan .count) (lastAt l) (baseAt l) (baseAt l + l .plan .slots) (l .held) ∙ s .held-long;
+    held-long = carried-long (windowAt l) window-proper (l .plan .count) (l .held) (s .held-long);
     flows = λ i h. rw (part-after i h) (sound-after i h);
     spare-flows = λ i h b. spare-stays i h ∙ s .spare-flows i h b;
   }
@@ -214,7 +222,7 @@ module _ (l : Link) (s : Sound l) where
   -- ---- the window one position on
 
   module _ {w on : Window} (is : window.windowOf w ≡ record { slots = l .plan .slots; frames = l .plan .frames; current = l .cp }) (v : window.Proper w) (t : window.Ticked w on) where
-    window-is : w ≡ record { slots = l .plan .slots; frames = l .plan .frames; current = l .cp; head = headAt l }
+    window-is : w ≡ windowAt l
     window-is =
         let head = v .head-is ∙ ap (λ (x : seen.Window). x .current / x .slots) is in λ k.
         record { slots = is k .slots; frames = is k .frames; current = is k .current; head = head k }
@@ -232,18 +240,18 @@ module _ (l : Link) (s : Sound l) where
 
     -- the head frame is left
     pub head-left : {a : Answer} {o h : List ℕ} {fs : List Flow} → (on .head ≡ w .head → ⊥)
-        → o ≡ replaced (inRange (window.baseOf w) (window.baseOf w + w .slots)) (λ q x. nobody) (l .owner)
-        → h ≡ carriedRows (l .plan .count) ((window.baseOf w + window.sizeOf w - 1) % window.sizeOf w) (window.baseOf w) (window.baseOf w + w .slots) (l .held)
+        → o ≡ emptied w (l .owner)
+        → h ≡ carried w (l .plan .count) (l .held)
         → fs ≡ replaced (inRange 0 (l .plan .count)) (λ i f. leftHead (w .head) (on .head) (entryAt l i .share) f) (l .flows)
         → a ≡ answerToTick (ownerOf (getD o (on .current) 0))
         → Stepped answerToTick (tick.tick (linkOf l)) (record { link = record { plan = l .plan; cp = on .current; owner = o; flows = fs; held = h }; answer = a })
     head-left {a} {o} {h} {fs} n owners held flows answer = subst (Stepped answerToTick (tick.tick (linkOf l))) (sym same) (went-on (rw (← next-is, ← slots-are) (t .leaves n .0)))
       where
         owners-are : o ≡ recycled l .owner
-        owners-are = owners ∙ ap (λ (x : Window). replaced (inRange (window.baseOf x) (window.baseOf x + x .slots)) (λ q x. nobody) (l .owner)) window-is
+        owners-are = owners ∙ ap (λ (x : Window). emptied x (l .owner)) window-is
 
         held-is : h ≡ recycled l .held
-        held-is = held ∙ ap (λ (x : Window). carriedRows (l .plan .count) ((window.baseOf x + window.sizeOf x - 1) % window.sizeOf x) (window.baseOf x) (window.baseOf x + x .slots) (l .held)) window-is
+        held-is = held ∙ ap (λ (x : Window). carried x (l .plan .count) (l .held)) window-is
 
         flows-are : fs ≡ recycled l .flows
         flows-are =

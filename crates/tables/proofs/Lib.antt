@@ -1,3 +1,15 @@
+-- rows of holdings: where they stand, and what others know of them
+mod Places
 pub mod Rows
-mod Spans
-pub mod Searches
+mod RowRanges
+mod CarriedRows
+pub mod HoldingChanges
+-- one pass over a row
+mod Padded
+mod PaddedFrom
+-- the search
+mod SlotWalk
+mod EarliestSlot
+mod FrameWalk
+pub mod ValidPositions
+pub mod FoundPosition

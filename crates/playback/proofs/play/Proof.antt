@@ -1,5 +1,5 @@
 -- `playback::play` meets its contract. The loop: the records up to a place are played, and the window has the current position. Assumes nothing.
-use Prim.Native.Nat.{ℕ, _+_, _-_, _*_, _%_, _≤_, _<_}
+use Prim.Native.Nat.{ℕ, _-_, _*_, _≤_, _<_}
 use mathlib.Core.Path.{_≡_, refl, ap, _∙_, subst}
 use mathlib.Core.Logic.{⊎-elim}
 use mathlib.Core.List.{List}
@@ -21,8 +21,8 @@ use Rattle.calls.specs.Lines.{outWith, nextAfter}
 use Rattle.link.specs.declared.Link.{Link}
 use Rattle.window.specs.declared.Window.{Window}
 use Rattle.window.specs.Ranges.{inRange, replaced}
-use Rattle.tables.specs.Rows.{carriedRows}
-use Rattle.window.specs.Window.{windowOf, sizeOf, baseOf}
+use Rattle.tables.specs.Holdings.{carried}
+use Rattle.window.specs.Window.{windowOf}
 use Rattle.link.specs.Parts.{noFlow, leftHead}
 use Rattle.link.specs.Reading.{linkOf}
 use Rattle.link.specs.Sound.{Sound}
@@ -160,7 +160,7 @@ module _ (c : tie.At-match2-came Inv-loop μ-loop) where
         comes = tick-made (linkOf l) _
             (⊎-elim
             (λ t. same-turn l (b .2 .result .current) (ap (λ (x : Link). playedAt x (b .2 .result)) (t .7)) (b .7 .ensures) (head-left l s is v (b .2 .ensures) (t .0 .taken) (t .2 .ensures)
-            (t .4 .ensures ∙ ap (λ (x : Plan). carriedRows (x .count) ((baseOf w + sizeOf w - 1) % sizeOf w) (baseOf w) (baseOf w + w .slots) (l .held)) (p .plan-is))
+            (t .4 .ensures ∙ ap (λ (x : Plan). carried w (x .count) (l .held)) (p .plan-is))
             (t .6 .ensures ∙ ap (λ (x : Plan). replaced (inRange 0 (x .count)) (λ i f. leftHead (w .head) (b .2 .result .head) (getD (x .entries) i noEntry .share) f) (l .flows)) (p .plan-is))))
             (λ t. same-turn l (b .2 .result .current) (ap (λ (x : Link). playedAt x (b .2 .result)) (t .1)) (b .7 .ensures) (head-stays l s is v (b .2 .ensures) (t .0 .left)))
             (b .5 .came));
@@ -260,7 +260,7 @@ element-write-link c = omega (arith, c .before .before .ask .ensures .1, playing
 shift-from-requires : tie.Need-shift-from-requires Inv-loop μ-loop
 shift-from-requires c κs =
     let f = c .before .before in
-    (playing-at (asked-at (asker-at f)) .proper, f .before .ask .ensures .1, asker-below (asker-at f))
+    record { proper = playing-at (asked-at (asker-at f)) .proper; flow = asker-below (asker-at f); position = f .before .ask .ensures .1 }
 
 enum-known-call-3 : tie.Need-enum-known-call-3 Inv-loop μ-loop
 enum-known-call-3 c = search needs
@@ -275,7 +275,7 @@ shift-from-requires-2 c κs =
     let r = c .before .before in
     let a = credited-at r in
     let d = r .refusal .ensures .1 (c .before .if2 .left) in
-    (playing-at a .proper, d .position, omega (arith, d .flow, flows-at a))
+    record { proper = playing-at a .proper; flow = omega (arith, d .flow, flows-at a); position = d .position }
 
 enum-told-2 : tie.Need-enum-told-2 Inv-loop μ-loop
 enum-told-2 c = search needs
@@ -289,7 +289,7 @@ empty-head-requires c κs = playing-at (ticked-at (c .before .before)) .proper
 carry-head-requires : tie.Need-carry-head-requires Inv-loop μ-loop
 carry-head-requires c κs =
     let a = ticked-at (c .before .before .before .before) in
-    (playing-at a .proper, flows-at a)
+    record { proper = playing-at a .proper; few = flows-at a }
 
 leave-head-requires : tie.Need-leave-head-requires Inv-loop μ-loop
 leave-head-requires c κs =

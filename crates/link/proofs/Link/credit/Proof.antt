@@ -28,7 +28,7 @@ shift-from-requires c κs =
     let r = e .before in
     let k = r .before .before .before in
     let d = r .refusal .ensures .1 (e .if1 .left) in
-    (k .window .ensures .1, d .position, omega (arith, d .flow, flows-most _ (k .before .pre)))
+    record { proper = k .window .ensures .1; flow = omega (arith, d .flow, flows-most _ (k .before .pre)); position = d .position }
 
 returns-2 : tie.Need-returns-2
 returns-2 c =

@@ -78,7 +78,7 @@ element-write-self c = omega (arith, position-below (c .before), made-at (c .bef
 shift-from-requires : tie.Need-shift-from-requires
 shift-from-requires c κs =
     let f = c .before .before in
-    (made-at f .window .ensures .1, position-below f, asker-below (asked-at (made-at f)))
+    record { proper = made-at f .window .ensures .1; flow = asker-below (asked-at (made-at f)); position = position-below f }
 
 returns : tie.Need-returns
 returns c =

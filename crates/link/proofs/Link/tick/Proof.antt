@@ -19,7 +19,7 @@ empty-head-requires c κs = search needs
 carry-head-requires : tie.Need-carry-head-requires
 carry-head-requires c κs =
     let w = c .before .before .before .before .before .before .before in
-    (w .window .ensures .1, flows-most _ (w .before .before .pre))
+    record { proper = w .window .ensures .1; few = flows-most _ (w .before .before .pre) }
 
 leave-head-requires : tie.Need-leave-head-requires
 leave-head-requires c κs = flows-most _ (c .before .before .before .before .before .before .before .before .before .before .before .pre)
