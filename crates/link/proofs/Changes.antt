@@ -20,11 +20,10 @@ use Rattle.window.specs.declared.Window.{Window}
 use Rattle.tables.specs.Rows.{row, withRow}
 use Rattle.window.specs.Window.{windowOf, Proper}
 use Rattle.tables.specs.Holdings.{shifted}
-use Rattle.link.specs.Parts.{partAt, noFlow, partOf, withOwners, withFlows}
+use Rattle.link.specs.Parts.{partAt, noFlow, partOf, movedTo, withHeld, withOwners, withFlows, withHoldings, withPart}
 use Rattle.link.specs.Reading.{linkOf}
 use Rattle.link.specs.Sound.{Sound}
 use Rattle.link.specs.Change.{placed, Around, PartsOf, changed}
-use Rattle.link.proofs.Parts.{withFlow, withHeld}
 use Rattle.tables.proofs.Rows.{with-own-row}
 use Rattle.link.proofs.Links.{flows-most, read-window}
 
@@ -55,31 +54,28 @@ module _ (l : Link) (s : Sound l) {plan : Plan} (plan-is : plan ≡ l .plan) whe
 module _ (l : Link) (i : ℕ) (a : Answer) where
   -- the flow stays
   pub same-link : {f : Flow} → f ≡ getD (l .flows) i noFlow
-      → _≡_ {A = Step} (record { link = l; answer = a }) (record { link = withFlows l (set (l .flows) i f) (l .held); answer = a })
-  same-link e = ap (λ (x : List Flow). record { link = withFlows l x (l .held); answer = a }) (sym (set-getD (l .flows) i noFlow) ∙ ap (set (l .flows) i) (sym e))
+      → _≡_ {A = Step} (record { link = l; answer = a }) (record { link = withFlows l (set (l .flows) i f); answer = a })
+  same-link e = ap (λ (x : List Flow). record { link = withFlows l x; answer = a }) (sym (set-getD (l .flows) i noFlow) ∙ ap (set (l .flows) i) (sym e))
 
   -- the holdings stay
   pub same-held : (f : Flow)
-      → _≡_ {A = Step} (record { link = withFlow l i (partOf f (row (l .held) i)); answer = a }) (record { link = withFlows l (set (l .flows) i f) (l .held); answer = a })
-  same-held f = ap (λ (x : List ℕ). record { link = withFlows l (set (l .flows) i f) x; answer = a }) (with-own-row (l .held) i)
+      → _≡_ {A = Step} (record { link = withPart l i (partOf f (row (l .held) i)); answer = a }) (record { link = withFlows l (set (l .flows) i f); answer = a })
+  same-held f = ap (λ (x : List ℕ). record { link = withHoldings (withFlows l (set (l .flows) i f)) x; answer = a }) (with-own-row (l .held) i)
 
   pub same-moved : (f : Flow) {j c : ℕ} → f .frame ≡ j → f .left ≡ c
-      → _≡_ {A = Step} (record { link = withFlow l i (record { frame = j; left = c; held = row (l .held) i }); answer = a }) (record { link = withFlows l (set (l .flows) i f) (l .held); answer = a })
-  same-moved f {j} {c} d e =
-      ap (λ (x : ℕ). record { link = withFlow l i (record { frame = x; left = c; held = row (l .held) i }); answer = a }) (sym d)
-      ∙ ap (λ (x : ℕ). record { link = withFlow l i (record { frame = f .frame; left = x; held = row (l .held) i }); answer = a }) (sym e)
-      ∙ same-held f
+      → _≡_ {A = Step} (record { link = withPart l i (partOf (movedTo f j c) (row (l .held) i)); answer = a }) (record { link = withFlows l (set (l .flows) i f); answer = a })
+  same-moved f d e = (λ k. record { link = withPart l i (partOf (movedTo f (sym d k) (sym e k)) (row (l .held) i)); answer = a }) ∙ same-held f
 
 -- holdings alone that change
-pub same-flows : (l : Link) (i : ℕ) (h : List ℕ) → withFlows l (l .flows) (withRow (l .held) i h) ≡ withFlow l i (withHeld (partAt l i) h)
-same-flows l i h = ap (λ (x : List Flow). withFlows l x (withRow (l .held) i h)) (sym (set-getD (l .flows) i noFlow))
+pub same-flows : (l : Link) (i : ℕ) (h : List ℕ) → withHoldings l (withRow (l .held) i h) ≡ withPart l i (withHeld (partAt l i) h)
+same-flows l i h = ap (λ (x : List Flow). withHoldings (withFlows l x) (withRow (l .held) i h)) (sym (set-getD (l .flows) i noFlow))
 
 -- ---- a change that was stored
 
 module _ (l : Link) (i : ℕ) (c : Change) where
   pub stored-booking : (w : Window) → windowOf w ≡ model.window (linkOf l) → c .granted ≡ true → {h : List ℕ} → h ≡ shifted (windowOf w) 1 i (c .position) (l .held)
-      → _≡_ {A = Step} (changed l i c) (record { link = withFlows (withOwners l (set (l .owner) (c .position) i)) (set (l .flows) i (c .flow)) h; answer = c .answer })
+      → _≡_ {A = Step} (changed l i c) (record { link = withHoldings (withFlows (withOwners l (set (l .owner) (c .position) i)) (set (l .flows) i (c .flow))) h; answer = c .answer })
   stored-booking w is z e = rw (z, e, is)
 
-  pub stored-flow : c .granted ≡ false → _≡_ {A = Step} (changed l i c) (record { link = withFlows l (set (l .flows) i (c .flow)) (l .held); answer = c .answer })
+  pub stored-flow : c .granted ≡ false → _≡_ {A = Step} (changed l i c) (record { link = withFlows l (set (l .flows) i (c .flow)); answer = c .answer })
   stored-flow z = rw z

@@ -19,14 +19,13 @@ use Rattle.window.specs.Ranges.{replaced, wrapped}
 use Rattle.tables.specs.Rows.{row}
 use Rattle.window.specs.Window.{windowOf, Proper, fromIn}
 use Rattle.tables.specs.Holdings.{someHeld, shifted}
-use Rattle.link.specs.Parts.{sizeOf, partAt, withFlows}
+use Rattle.link.specs.Parts.{sizeOf, partAt, withHeld, withHoldings, withPart}
 use Rattle.link.specs.Reading.{linkOf}
 use Rattle.link.specs.Sound.{Sound}
 use Rattle.link.specs.Change.{Stepped, Creditable}
-use Rattle.link.proofs.Parts.{withFlow, withHeld}
 use Rattle.window.proofs.Ranges.{wrapped-down}
 use Rattle.window.proofs.Ranks.{everyFrom-same, replaced-from}
-use Rattle.link.proofs.Links.{same-flow, read-count, read-flow, read-holding, read-with-flow, sound-with-flow, read-from, long-from, sound-from}
+use Rattle.link.proofs.Links.{read-count, read-flow, read-holding, read-with-flow, sound-with-flow, read-from, long-from, sound-from}
 use Rattle.link.proofs.Changes.{same-flows}
 
 -- ---- the tests
@@ -89,15 +88,11 @@ module _ (l : Link) (s : Sound l) (i p n : ℕ) (tests : n ≡ firstOf (creditTe
     long : length lower ≡ 256
     long = long-from l s (windowOf w) is i p (c .flow) (λ x. x - 1) lower lower-is
 
-    lower-link : linkOf (withFlow l i (withHeld (partAt l i) lower)) ≡ lowered (linkOf l) i p
+    lower-link : linkOf (withPart l i (withHeld (partAt l i) lower)) ≡ lowered (linkOf l) i p
     unfolding lowered
     lower-link =
         read-with-flow l s i (c .flow) _ long
-        ∙ ap (model.withFlow (linkOf l) i)
-        (same-flow
-        (ap (λ (x : model.Flow). x .injection) (sym (read-flow l i (c .flow))))
-        (ap (λ (x : model.Flow). x .remainder) (sym (read-flow l i (c .flow))))
-        (read-from l s (windowOf w) is i p (c .flow) (λ x. x - 1) lower lower-is))
+        ∙ (λ k. model.withFlow (linkOf l) i (model.withHeld (sym (read-flow l i (c .flow)) k) (read-from l s (windowOf w) is i p (c .flow) (λ x. x - 1) lower lower-is k)))
 
-    pub taken-credit : {h : List ℕ} → h ≡ shifted (windowOf w) 255 i p (l .held) → Stepped answerToCredit (credit (linkOf l) i p) (record { link = withFlows l (l .flows) h; answer = Taken })
+    pub taken-credit : {h : List ℕ} → h ≡ shifted (windowOf w) 255 i p (l .held) → Stepped answerToCredit (credit (linkOf l) i p) (record { link = withHoldings l h; answer = Taken })
     taken-credit e = rw (taken z, e, same-flows l i lower) (lower-link, (refl, sound-with-flow l s i (c .flow) _ long (sound-from l s (windowOf w) is i p (c .flow) (λ x. x - 1) lower lower-is _ _ (s .flows i (c .flow) .frame))))

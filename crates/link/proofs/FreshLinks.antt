@@ -18,7 +18,7 @@ use Rattle.link.specs.declared.Flow.{Flow}
 use Rattle.link.specs.declared.Link.{Link}
 use Rattle.window.specs.Ranges.{inRange, replaced}
 use Rattle.tables.specs.Rows.{row, sixteenRows}
-use Rattle.link.specs.Parts.{noFlow, partOf, partAt}
+use Rattle.link.specs.Parts.{noFlow, partOf, partAt, movedTo}
 use Rattle.tables.specs.Owners.{nobody, ownerOf, everywhere}
 use Rattle.link.specs.Reading.{flowOf, linkOf}
 use Rattle.link.specs.Sound.{Sound}
@@ -53,7 +53,7 @@ nothing-in-row i h = row-of-sixteen (everywhere 0) i h (length-everywhere 0)
 
 -- a flow's frame and its share
 abbrev pub startFlow : Entry → Flow
-startFlow e = record { frame = 0; left = e .share }
+startFlow e = movedTo noFlow 0 (e .share)
 
 abbrev pub freshLink : Plan → Link
 freshLink p = record {

@@ -1,4 +1,3 @@
-pub mod Parts
 mod Plans
 pub mod Links
 pub mod Stored

@@ -14,24 +14,21 @@ use Rattle.model.specs.Tables.{table}
 use Rattle.model.specs.Plan as paper
 use Rattle.model.specs.Window.{Window, size}
 use Rattle.model.specs.Link as model
+use Rattle.plan.specs.declared.Plan.{Plan}
 use Rattle.plan.specs.Reading.{entryFor}
+use Rattle.link.specs.declared.Flow.{Flow}
 use Rattle.link.specs.declared.Link.{Link}
 use Rattle.window.specs.Ranges.{replaced}
 use Rattle.window.specs.Window.{Measures, fromIn}
-use Rattle.link.specs.Parts.{Part, sizeOf, entryAt, partAt, ownerAt, noFlow, withOwners}
+use Rattle.link.specs.Parts.{Part, sizeFor, sizeOf, entryAt, partOf, partIn, partAt, ownerAt, noFlow, movedTo, linkWith, withOwners, withPart}
 use Rattle.tables.specs.Owners.{nobody, ownerOf}
-use Rattle.link.specs.Reading.{flowOf, linkOf}
+use Rattle.link.specs.Reading.{spareFlow, flowOf, linkOf}
 use Rattle.link.specs.Sound.{Sound, SoundFlow}
-use Rattle.link.proofs.Parts.{withFlow, movedTo, withHeld}
 use Rattle.window.proofs.Tables.{getD-table, table-same}
 use Rattle.link.proofs.Plans.{plan-count, plan-entry, count-most}
+use Rattle.tables.specs.Rows.{Sixteen}
 use Rattle.tables.proofs.Rows.{length-row, length-with-row, row-with-same, row-with-other}
 use Rattle.window.proofs.Ranges.{length-replaced, replaced-at, replaced-off}
-
--- equal parts make equal flows
-pub same-flow : {j j′ c c′ : ℕ} {h h′ : List ℕ} → j ≡ j′ → c ≡ c′ → h ≡ h′
-    → _≡_ {A = model.Flow} (record { injection = j; remainder = c; held = h }) (record { injection = j′; remainder = c′; held = h′ })
-same-flow d e f = cc
 
 -- ---- what is read of a link
 
@@ -71,6 +68,19 @@ module _ (l : Link) where
 
 -- ---- a sound link
 
+-- the invariant, of the owners of a link with this plan
+pub record SoundOwners (plan : Plan) (owner : List ℕ) : Type 0 where
+  pub long : length owner ≡ 256
+  pub owned : (p : ℕ) → p < 256 → (getD owner p 0 ≡ nobody → ⊥) → getD owner p 0 < plan .count
+  pub spare : (p : ℕ) → sizeFor plan ≤ p → p < 256 → getD owner p 0 ≡ nobody
+
+-- and of its flows and holdings
+pub record SoundFlows (plan : Plan) (flows : List Flow) (held : List ℕ) : Type 0 where
+  pub long : length flows ≡ 16
+  pub rows : Sixteen held
+  pub each : (i : ℕ) → i < plan .count → SoundFlow plan (partIn flows held i)
+  pub spare : (i : ℕ) → plan .count ≤ i → i < 16 → partIn flows held i ≡ spareFlow
+
 module _ (l : Link) (s : Sound l) where
   pub flows-most : l .plan .count ≤ 16
   flows-most = count-most (l .plan) (s .plan)
@@ -88,29 +98,49 @@ module _ (l : Link) (s : Sound l) where
     current-below = s .current;
   }
 
+  -- another current position, other owners, flows and holdings, each sound
+  pub sound-with : {p : ℕ} {o : List ℕ} {fs : List Flow} {h : List ℕ} → p < sizeOf l → SoundOwners (l .plan) o → SoundFlows (l .plan) fs h → Sound (linkWith l p o fs h)
+  sound-with current owners flows = record {
+    plan = s .plan;
+    current = current;
+    owners-long = owners .long;
+    owners = owners .owned;
+    spare-owners = owners .spare;
+    flows-long = flows .long;
+    held-long = flows .rows;
+    flows = flows .each;
+    spare-flows = flows .spare;
+  }
+
+  pub sound-owners : SoundOwners (l .plan) (l .owner)
+  sound-owners = record { long = s .owners-long; owned = s .owners; spare = s .spare-owners }
+
+  pub sound-flows : SoundFlows (l .plan) (l .flows) (l .held)
+  sound-flows = record { long = s .flows-long; rows = s .held-long; each = s .flows; spare = s .spare-flows }
+
   -- ---- flow i's part replaced
 
   module _ (i : ℕ) (hi : i < l .plan .count) (f : Part) (long : length (f .held) ≡ 256) where
     below : i < 16
     below = omega (arith, flows-most)
 
-    same-flow-at : partAt (withFlow l i f) i ≡ f
-    same-flow-at = rw (getD-set-same (l .flows) i (record { frame = f .frame; left = f .left }) noFlow (omega (arith, s .flows-long, below)), row-with-same (l .held) i (f .held) (s .held-long) below long)
+    same-flow-at : partAt (withPart l i f) i ≡ f
+    same-flow-at = rw (getD-set-same (l .flows) i (f .flow) noFlow (omega (arith, s .flows-long, below)), row-with-same (l .held) i (f .held) (s .held-long) below long)
 
-    other-flow-at : (j : ℕ) → (j ≡ i → ⊥) → partAt (withFlow l i f) j ≡ partAt l j
-    other-flow-at j d = rw (getD-set-other (l .flows) i j (record { frame = f .frame; left = f .left }) noFlow d, row-with-other (l .held) i (f .held) j d)
+    other-flow-at : (j : ℕ) → (j ≡ i → ⊥) → partAt (withPart l i f) j ≡ partAt l j
+    other-flow-at j d = rw (getD-set-other (l .flows) i j (f .flow) noFlow d, row-with-other (l .held) i (f .held) j d)
 
-    set-flow : (j : ℕ) → partAt (withFlow l i f) j ≡ cond (eqb j i) f (partAt l j)
+    set-flow : (j : ℕ) → partAt (withPart l i f) j ≡ cond (eqb j i) f (partAt l j)
     set-flow j = go (ℕ-discrete j i)
       where
-        go : Dec (j ≡ i) → partAt (withFlow l i f) j ≡ cond (eqb j i) f (partAt l j)
-        go (yes d) = ap (partAt (withFlow l i f)) d ∙ same-flow-at ∙ rw (eq-eqb j i d)
+        go : Dec (j ≡ i) → partAt (withPart l i f) j ≡ cond (eqb j i) f (partAt l j)
+        go (yes d) = ap (partAt (withPart l i f)) d ∙ same-flow-at ∙ rw (eq-eqb j i d)
         go (no d) = other-flow-at j d ∙ rw (ne-eqb j i d)
 
-    pub read-with-flow : linkOf (withFlow l i f) ≡ model.withFlow (linkOf l) i (flowOf (sizeOf l) f)
+    pub read-with-flow : linkOf (withPart l i f) ≡ model.withFlow (linkOf l) i (flowOf (sizeOf l) f)
     unfolding linkOf
     read-with-flow =
-        let e = table-same (l .plan .count) (λ j. flowOf (sizeOf l) (partAt (withFlow l i f) j)) (λ j. cond (eqb j i) (flowOf (sizeOf l) f) (model.flow (linkOf l) j))
+        let e = table-same (l .plan .count) (λ j. flowOf (sizeOf l) (partAt (withPart l i f) j)) (λ j. cond (eqb j i) (flowOf (sizeOf l) f) (model.flow (linkOf l) j))
         (λ j h. ap (flowOf (sizeOf l)) (set-flow j) ∙ either (eqb j i) (partAt l j) ∙ rw (read-flow l j h)) in
         cc (e, read-count l)
       where
@@ -118,20 +148,15 @@ module _ (l : Link) (s : Sound l) where
         either true g = refl
         either false g = refl
 
-    pub sound-with-flow : SoundFlow (sizeOf l) (l .plan .frames) f → Sound (withFlow l i f)
-    sound-with-flow v = record {
-      plan = s .plan;
-      current = s .current;
-      owners-long = s .owners-long;
-      owners = s .owners;
-      spare-owners = s .spare-owners;
-      flows-long = length-set (l .flows) i (record { frame = f .frame; left = f .left }) ∙ s .flows-long;
-      held-long = length-with-row (l .held) i (f .held) ∙ s .held-long;
-      flows = λ j h. each j h (ℕ-discrete j i);
-      spare-flows = λ j h b. other-flow-at j (λ e. omega arith) ∙ s .spare-flows j h b;
-    }
+    pub sound-with-flow : SoundFlow (l .plan) f → Sound (withPart l i f)
+    sound-with-flow v = sound-with (s .current) sound-owners (record {
+      long = length-set (l .flows) i (f .flow) ∙ s .flows-long;
+      rows = length-with-row (l .held) i (f .held) ∙ s .held-long;
+      each = λ j h. each j h (ℕ-discrete j i);
+      spare = λ j h b. other-flow-at j (λ e. omega arith) ∙ s .spare-flows j h b;
+    })
       where
-        each : (j : ℕ) → j < l .plan .count → Dec (j ≡ i) → SoundFlow (sizeOf l) (l .plan .frames) (partAt (withFlow l i f) j)
+        each : (j : ℕ) → j < l .plan .count → Dec (j ≡ i) → SoundFlow (l .plan) (partAt (withPart l i f) j)
         each j h (yes e) = rw (e, same-flow-at) v
         each j h (no e) = rw (other-flow-at j e) (s .flows j h)
 
@@ -149,17 +174,11 @@ module _ (l : Link) (s : Sound l) where
         go q b (no d) = rw (ne-eqb q p d, getD-set-other (l .owner) p q i 0 d, read-owner l q b)
 
     pub sound-with-owner : Sound (withOwners l (set (l .owner) p i))
-    sound-with-owner = record {
-      plan = s .plan;
-      current = s .current;
-      owners-long = length-set (l .owner) p i ∙ s .owners-long;
-      owners = λ q b n. go q b n (ℕ-discrete q p);
-      spare-owners = λ q h b. getD-set-other (l .owner) p q i 0 (λ e. omega arith) ∙ s .spare-owners q h b;
-      flows-long = s .flows-long;
-      held-long = s .held-long;
-      flows = s .flows;
-      spare-flows = s .spare-flows;
-    }
+    sound-with-owner = sound-with (s .current) (record {
+      long = length-set (l .owner) p i ∙ s .owners-long;
+      owned = λ q b n. go q b n (ℕ-discrete q p);
+      spare = λ q h b. getD-set-other (l .owner) p q i 0 (λ e. omega arith) ∙ s .spare-owners q h b;
+    }) sound-flows
       where
         go : (q : ℕ) → q < 256 → (getD (set (l .owner) p i) q 0 ≡ nobody → ⊥) → Dec (q ≡ p) → getD (set (l .owner) p i) q 0 < l .plan .count
         go q b n (yes d) = rw (d, getD-set-same (l .owner) p i 0 (omega (arith, s .owners-long, size-most))) hi
@@ -181,7 +200,7 @@ module _ (l : Link) (s : Sound l) where
     pub long-from : length h ≡ 256
     long-from = ap length changed ∙ length-replaced _ _ (partAt l i .held) ∙ length-row (l .held) i
 
-    pub sound-from : (j c : ℕ) → j < l .plan .frames → SoundFlow (sizeOf l) (l .plan .frames) (withHeld (movedTo (partAt l i) j c) h)
+    pub sound-from : (j c : ℕ) → j < l .plan .frames → SoundFlow (l .plan) (partOf (movedTo (partAt l i .flow) j c) h)
     unfolding linkOf fromIn
     sound-from j c hj = record {
       frame = hj;

@@ -28,14 +28,14 @@ use Rattle.link.specs.declared.Link.{Link}
 use Rattle.window.specs.Ranges.{replaced}
 use Rattle.window.specs.Window.{fromIn}
 use Rattle.tables.specs.Holdings.{roomAt}
-use Rattle.link.specs.Parts.{sizeOf, entryAt, partAt, ownerAt, withOwners}
+use Rattle.link.specs.Parts.{sizeOf, entryAt, partOf, partAt, ownerAt, movedTo, withOwners, withPart}
 use Rattle.tables.specs.Owners.{ownerOf}
 use Rattle.link.specs.Reading.{flowOf, linkOf}
 use Rattle.calls.specs.Reading.{answerToRequest}
 use Rattle.tables.specs.Search.{freeFrom}
 use Rattle.link.specs.Sound.{Sound}
-use Rattle.link.proofs.Parts.{withFlow, movedTo}
 use Rattle.link.proofs.Plans.{plan-count, plan-entry}
+use Rattle.tables.specs.Rows.{row}
 use Rattle.tables.proofs.Rows.{length-row}
 use Rattle.window.proofs.Ranks.{ahead-on, everyFrom-same}
 use Rattle.tables.proofs.Searches.{search-same, search-books, Booking, Books}
@@ -137,7 +137,7 @@ module _ (l : Link) (s : Sound l) (v : Window) (is : v ≡ model.window (linkOf 
         let room = room-same p ∙ ap (λ (x : Window). everyFrom x p (roomAt (partAt l i .held) (entryAt l i .cells))) (sym is) in
         rw (read-owner l p hp, late, room, bound .from p hp) (and-assoc (unbooked (ownerOf (ownerAt l p))) (not (passed v p)) (everyFrom v p (roomAt (partAt l i .held) (entryAt l i .cells))))
 
-    pub sought-same : sought (linkOf l) i ≡ search v (freeFrom v (l .owner) low) (entryAt l i .share) (ahead (v .frames) (partAt l i .frame) (newest v)) (partAt l i .frame) (partAt l i .left)
+    pub sought-same : sought (linkOf l) i ≡ search v (freeFrom v (l .owner) low) (entryAt l i .share) (ahead (v .frames) (partAt l i .flow .frame) (newest v)) (partAt l i .flow .frame) (partAt l i .flow .left)
     unfolding sought
     sought-same =
         let j = ap (λ (x : model.Flow). x .injection) (read-flow l i hi) in
@@ -146,7 +146,7 @@ module _ (l : Link) (s : Sound l) (v : Window) (is : v ≡ model.window (linkOf 
         rw (j, c, e) (ap from-frame (sym is) ∙ search-same v two (valid (linkOf l) i) (entryAt l i .share) _ (λ p h. valid-same p (rw (← read-size l is) h)) _ _ _ (rw (read-frames l is) (s .flows i hi .frame)))
       where
         from-frame : Window → Found
-        from-frame x = search x (valid (linkOf l) i) (entryAt l i .share) (ahead (x .frames) (partAt l i .frame) (newest x)) (partAt l i .frame) (partAt l i .left)
+        from-frame x = search x (valid (linkOf l) i) (entryAt l i .share) (ahead (x .frames) (partAt l i .flow .frame) (newest x)) (partAt l i .flow .frame) (partAt l i .flow .left)
 
         two : 2 ≤ v .frames
         two = rw (read-frames l is) (s .plan .accepted .two-frames)
@@ -163,7 +163,7 @@ module _ (l : Link) (s : Sound l) (v : Window) (is : v ≡ model.window (linkOf 
     room-there p hp e = and-right (not (passed v p)) _ (sym (bound .from p hp) ∙ and-right (unbooked (ownerOf (ownerAt l p))) _ e)
 
   -- in the newest frame, with nothing left of the share
-  pub spent-at-newest : partAt l i .frame ≡ newest v → partAt l i .left ≡ 0 → nowhere 0 ≡ sought (linkOf l) i
+  pub spent-at-newest : partAt l i .flow .frame ≡ newest v → partAt l i .flow .left ≡ 0 → nowhere 0 ≡ sought (linkOf l) i
   unfolding sought search
   spent-at-newest e z =
       let j = ap (λ (x : model.Flow). x .injection) (read-flow l i hi) ∙ e ∙ ap newest is in
@@ -175,8 +175,8 @@ module _ (l : Link) (s : Sound l) (v : Window) (is : v ≡ model.window (linkOf 
   -- ---- the link after it
 
   pub granted-link : (j c p : ℕ) (h : List ℕ) → j < l .plan .frames → p < sizeOf l → h ≡ replaced (fromIn v p) (λ q. suc) (partAt l i .held)
-      → (linkOf (withFlow (withOwners l (set (l .owner) p i)) i (record { frame = j; left = c; held = h })) ≡ booked (linkOf l) i j c p)
-      × Sound (withFlow (withOwners l (set (l .owner) p i)) i (record { frame = j; left = c; held = h }))
+      → (linkOf (withPart (withOwners l (set (l .owner) p i)) i (partOf (movedTo (partAt l i .flow) j c) h)) ≡ booked (linkOf l) i j c p)
+      × Sound (withPart (withOwners l (set (l .owner) p i)) i (partOf (movedTo (partAt l i .flow) j c) h))
   unfolding booked
   granted-link j c p h hj hp changed = (
     read-with-flow (withOwners l (set (l .owner) p i)) owned i hi _ long
@@ -192,7 +192,7 @@ module _ (l : Link) (s : Sound l) (v : Window) (is : v ≡ model.window (linkOf 
       long = long-from l s v is i p hi suc h changed
 
   pub refused-link : (c : ℕ)
-      → (linkOf (withFlow l i (movedTo (partAt l i) (newest v) c)) ≡ refusedAtNewest (linkOf l) i c) × Sound (withFlow l i (movedTo (partAt l i) (newest v) c))
+      → (linkOf (withPart l i (partOf (movedTo (partAt l i .flow) (newest v) c) (row (l .held) i))) ≡ refusedAtNewest (linkOf l) i c) × Sound (withPart l i (partOf (movedTo (partAt l i .flow) (newest v) c) (row (l .held) i)))
   unfolding refusedAtNewest
   refused-link c = (
     read-with-flow l s i hi _ (length-row (l .held) i) ∙ same-flow (ap newest is) (read-flow l i hi),

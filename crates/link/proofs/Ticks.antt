@@ -23,18 +23,17 @@ use Rattle.window.specs.declared.Window.{Window}
 use Rattle.window.specs.Ranges.{inRange, replaced}
 use Rattle.tables.specs.Rows.{row, carriedRows}
 use Rattle.window.specs.Window as window
-use Rattle.link.specs.Parts.{Part, sizeOf, entryAt, partOf, partAt, ownerAt, noFlow, leftHead}
+use Rattle.link.specs.Parts.{Part, sizeOf, entryAt, partOf, partAt, ownerAt, noFlow, movedTo, linkWith, withCurrent, leftHead}
 use Rattle.tables.specs.Owners.{nobody, ownerOf}
 use Rattle.link.specs.Reading.{flowOf, linkOf}
 use Rattle.calls.specs.Reading.{answerToTick}
 use Rattle.link.specs.Sound.{Sound, SoundFlow}
-use Rattle.link.proofs.Parts.{withCurrent}
 use Rattle.window.proofs.Tables.{table-same}
 use Rattle.window.proofs.Ranges.{in-range, before-range, past-range, length-replaced, replaced-at, replaced-off}
 use Rattle.tables.proofs.Rows.{length-row, length-carried, row-carried, row-not-carried}
 use Rattle.window.proofs.Ranks.{proper}
 use Rattle.link.specs.Change.{Stepped}
-use Rattle.link.proofs.Links.{same-flow, read-count, read-entry, read-flow, read-holding, read-owner, flows-most, size-most, measures}
+use Rattle.link.proofs.Links.{read-count, read-entry, read-flow, read-holding, read-owner, flows-most, size-most, measures, sound-with, sound-owners, sound-flows}
 
 -- ---- the link after a tick
 
@@ -55,13 +54,11 @@ abbrev onAt : Link → ℕ
 onAt l = (headAt l + 1) % l .plan .frames
 
 abbrev recycled : Link → Link
-recycled l = record {
-  plan = l .plan;
-  cp = nextAt l;
-  owner = replaced (inRange (baseAt l) (baseAt l + l .plan .slots)) (λ q x. nobody) (l .owner);
-  flows = replaced (inRange 0 (l .plan .count)) (λ i f. leftHead (headAt l) (onAt l) (entryAt l i .share) f) (l .flows);
-  held = carriedRows (l .plan .count) (lastAt l) (baseAt l) (baseAt l + l .plan .slots) (l .held);
-}
+recycled l =
+    linkWith l (nextAt l)
+    (replaced (inRange (baseAt l) (baseAt l + l .plan .slots)) (λ q x. nobody) (l .owner))
+    (replaced (inRange 0 (l .plan .count)) (λ i f. leftHead (headAt l) (onAt l) (entryAt l i .share) f) (l .flows))
+    (carriedRows (l .plan .count) (lastAt l) (baseAt l) (baseAt l + l .plan .slots) (l .held))
 
 -- a flow's part after a frame change: it leaves the head frame with its share, and the holding at the last position goes on in the head's
 abbrev heldAfter : Link → ℕ → List ℕ
@@ -119,25 +116,22 @@ module _ (l : Link) (s : Sound l) where
 
   read-after : (i : ℕ) → i < l .plan .count → flowOf (sizeOf l) (partAfter l i) ≡ tick.carriedOn (linkOf l) i (tick.leftHead (linkOf l) i)
   unfolding linkOf
-  read-after i h = rw injection (go (eqb (partAt l i .frame) (headAt l)))
+  read-after i h = rw injection (go (eqb (partAt l i .flow .frame) (headAt l)))
     where
-      injection : model.flow (linkOf l) i .injection ≡ partAt l i .frame
+      injection : model.flow (linkOf l) i .injection ≡ partAt l i .flow .frame
       injection = ap (λ (x : model.Flow). x .injection) (read-flow l i h)
-
-      remainder : model.flow (linkOf l) i .remainder ≡ partAt l i .left
-      remainder = ap (λ (x : model.Flow). x .remainder) (read-flow l i h)
 
       share : model.share (linkOf l) i ≡ entryAt l i .share
       share = ap (λ (e : paper.Entry). e .share) (read-entry l i h)
 
-      go : (b : Bool) → flowOf (sizeOf l) (partOf (cond b (record { frame = onAt l; left = entryAt l i .share }) (getD (l .flows) i noFlow)) (heldAfter l i))
+      go : (b : Bool) → flowOf (sizeOf l) (partOf (cond b (movedTo (getD (l .flows) i noFlow) (onAt l) (entryAt l i .share)) (getD (l .flows) i noFlow)) (heldAfter l i))
           ≡ tick.carriedOn (linkOf l) i (cond b (model.movedTo (model.flow (linkOf l) i) (onAt l) (model.share (linkOf l) i)) (model.flow (linkOf l) i))
-      go true = same-flow refl (sym share) (held-after i h)
-      go false = same-flow (sym injection) (sym remainder) (held-after i h)
+      go true = λ k. model.withHeld (model.movedTo (sym (read-flow l i h) k) (onAt l) (sym share k)) (held-after i h k)
+      go false = λ k. model.withHeld (sym (read-flow l i h) k) (held-after i h k)
 
   read-recycled : linkOf (recycled l) ≡ model.withCurrent (tick.recycled (linkOf l)) (nextAt l)
   unfolding linkOf tick.recycled
-  read-recycled = λ k. record { plan = linkOf l .plan; current = nextAt l; owners = owners k; flows = flows k }
+  read-recycled = cc (owners, flows)
     where
       emptied : (b : Bool) (x : ℕ) → ownerOf (cond b nobody x) ≡ cond b none (ownerOf x)
       emptied true x = refl
@@ -157,45 +151,36 @@ module _ (l : Link) (s : Sound l) where
   unfolding tick.advanced linkOf
   read-advanced z = rw (eq-eqb (nextAt l % l .plan .slots) 0 z) (sym read-recycled)
 
-  sound-after : (i : ℕ) → i < l .plan .count → SoundFlow (sizeOf l) (l .plan .frames) (partAfter l i)
+  sound-after : (i : ℕ) → i < l .plan .count → SoundFlow (l .plan) (partAfter l i)
   sound-after i h = record {
-    frame = go (eqb (partAt l i .frame) (headAt l));
+    frame = go (eqb (partAt l i .flow .frame) (headAt l));
     spare = λ q k. replaced-off _ _ (partAt l i .held) q 0 (past-range _ _ q (omega (arith, base-fits))) ∙ s .flows i h .spare q k;
   }
     where
-      go : (b : Bool) → cond b (record { frame = onAt l; left = entryAt l i .share }) (getD (l .flows) i noFlow) .frame < l .plan .frames
+      go : (b : Bool) → cond b (movedTo (getD (l .flows) i noFlow) (onAt l) (entryAt l i .share)) (getD (l .flows) i noFlow) .frame < l .plan .frames
       go true = mod-lt _ (omega (arith, s .plan .accepted .two-frames))
       go false = s .flows i h .frame
 
   sound-recycled : Sound (recycled l)
-  sound-recycled = record {
-    plan = s .plan;
-    current = next-below;
-    owners-long = length-replaced _ _ (l .owner) ∙ s .owners-long;
-    owners = λ q b n. owner q b n (inRange (baseAt l) (baseAt l + l .plan .slots) q) refl;
-    spare-owners = λ q h b. replaced-off _ _ (l .owner) q 0 (past-range _ _ q (omega (arith, base-fits))) ∙ s .spare-owners q h b;
-    flows-long = length-replaced _ _ (l .flows) ∙ s .flows-long;
-    held-long = length-carried (l .plan .count) (lastAt l) (baseAt l) (baseAt l + l .plan .slots) (l .held) ∙ s .held-long;
-    flows = λ i h. rw (part-after i h) (sound-after i h);
-    spare-flows = λ i h b. spare-stays i h ∙ s .spare-flows i h b;
-  }
+  sound-recycled = sound-with l s next-below
+      (record {
+        long = length-replaced _ _ (l .owner) ∙ s .owners-long;
+        owned = λ q b n. owner q b n (inRange (baseAt l) (baseAt l + l .plan .slots) q) refl;
+        spare = λ q h b. replaced-off _ _ (l .owner) q 0 (past-range _ _ q (omega (arith, base-fits))) ∙ s .spare-owners q h b;
+      })
+      (record {
+        long = length-replaced _ _ (l .flows) ∙ s .flows-long;
+        rows = length-carried (l .plan .count) (lastAt l) (baseAt l) (baseAt l + l .plan .slots) (l .held) ∙ s .held-long;
+        each = λ i h. rw (part-after i h) (sound-after i h);
+        spare = λ i h b. spare-stays i h ∙ s .spare-flows i h b;
+      })
     where
       owner : (q : ℕ) → q < 256 → (ownerAt (recycled l) q ≡ nobody → ⊥) → (t : Bool) → inRange (baseAt l) (baseAt l + l .plan .slots) q ≡ t → ownerAt (recycled l) q < l .plan .count
       owner q b n true e = absurd (n (replaced-at (inRange (baseAt l) (baseAt l + l .plan .slots)) (λ q x. nobody) (l .owner) q 0 (omega (arith, s .owners-long)) ∙ rw e))
       owner q b n false e = let z = replaced-off (inRange (baseAt l) (baseAt l + l .plan .slots)) (λ q x. nobody) (l .owner) q 0 e in rw z (s .owners q b (λ y. n (z ∙ y)))
 
   sound-moved : Sound (withCurrent l (nextAt l))
-  sound-moved = record {
-    plan = s .plan;
-    current = next-below;
-    owners-long = s .owners-long;
-    owners = s .owners;
-    spare-owners = s .spare-owners;
-    flows-long = s .flows-long;
-    held-long = s .held-long;
-    flows = s .flows;
-    spare-flows = s .spare-flows;
-  }
+  sound-moved = sound-with l s next-below (sound-owners l s) (sound-flows l s)
 
   -- ---- the answer
 
@@ -236,7 +221,7 @@ module _ (l : Link) (s : Sound l) where
         → h ≡ carriedRows (l .plan .count) ((window.baseOf w + window.sizeOf w - 1) % window.sizeOf w) (window.baseOf w) (window.baseOf w + w .slots) (l .held)
         → fs ≡ replaced (inRange 0 (l .plan .count)) (λ i f. leftHead (w .head) (on .head) (entryAt l i .share) f) (l .flows)
         → a ≡ answerToTick (ownerOf (getD o (on .current) 0))
-        → Stepped answerToTick (tick.tick (linkOf l)) (record { link = record { plan = l .plan; cp = on .current; owner = o; flows = fs; held = h }; answer = a })
+        → Stepped answerToTick (tick.tick (linkOf l)) (record { link = linkWith l (on .current) o fs h; answer = a })
     head-left {a} {o} {h} {fs} n owners held flows answer = subst (Stepped answerToTick (tick.tick (linkOf l))) (sym same) (went-on (rw (← next-is, ← slots-are) (t .leaves n .0)))
       where
         owners-are : o ≡ recycled l .owner
@@ -251,13 +236,13 @@ module _ (l : Link) (s : Sound l) where
             ∙ ap (λ (j : ℕ). replaced (inRange 0 (l .plan .count)) (λ i f. leftHead (w .head) j (entryAt l i .share) f) (l .flows)) (t .leaves n .1)
             ∙ ap (λ (x : Window). replaced (inRange 0 (l .plan .count)) (λ i f. leftHead (x .head) ((x .head + 1) % x .frames) (entryAt l i .share) f) (l .flows)) window-is
 
-        link-is : record { plan = l .plan; cp = on .current; owner = o; flows = fs; held = h } ≡ recycled l
-        link-is = λ k. record { plan = l .plan; cp = next-is k; owner = owners-are k; flows = flows-are k; held = held-is k }
+        link-is : linkWith l (on .current) o fs h ≡ recycled l
+        link-is = λ k. linkWith l (next-is k) (owners-are k) (flows-are k) (held-is k)
 
         answer-is : a ≡ answerToTick (ownerOf (ownerAt (recycled l) (nextAt l)))
         answer-is = answer ∙ ap (λ (x : Link). answerToTick (ownerOf (ownerAt x (x .cp)))) link-is
 
-        same : _≡_ {A = Step} (record { link = record { plan = l .plan; cp = on .current; owner = o; flows = fs; held = h }; answer = a }) (record { link = recycled l; answer = answerToTick (ownerOf (ownerAt (recycled l) (nextAt l))) })
+        same : _≡_ {A = Step} (record { link = linkWith l (on .current) o fs h; answer = a }) (record { link = recycled l; answer = answerToTick (ownerOf (ownerAt (recycled l) (nextAt l))) })
         same = λ k. record { link = link-is k; answer = answer-is k }
 
 -- the same of an equal link, whose owner at its current position is answered

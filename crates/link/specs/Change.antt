@@ -17,7 +17,7 @@ use Rattle.window.specs.declared.Window.{Window}
 use Rattle.tables.specs.Rows.{row}
 use Rattle.window.specs.Window.{windowOf, sizeOf, Proper}
 use Rattle.tables.specs.Holdings.{someHeld, shifted}
-use Rattle.link.specs.Parts.{noFlow, entryAt, withOwners, withFlows}
+use Rattle.link.specs.Parts.{noFlow, entryAt, withOwners, withFlows, withHoldings}
 use Rattle.link.specs.Reading.{linkOf}
 use Rattle.link.specs.Sound.{Sound}
 
@@ -57,8 +57,8 @@ pub record Given (n : ℕ) (e : Entry) (w : Window) (owner held : List ℕ) (i :
 abbrev pub changed : Link → ℕ → Change → Step
 changed l i c = record {
   link = cond (c .granted)
-      (withFlows (withOwners l (set (l .owner) (c .position) i)) (set (l .flows) i (c .flow)) (shifted (model.window (linkOf l)) 1 i (c .position) (l .held)))
-      (withFlows l (set (l .flows) i (c .flow)) (l .held));
+      (withHoldings (withFlows (withOwners l (set (l .owner) (c .position) i)) (set (l .flows) i (c .flow))) (shifted (model.window (linkOf l)) 1 i (c .position) (l .held)))
+      (withFlows l (set (l .flows) i (c .flow)));
   answer = c .answer;
 }
 

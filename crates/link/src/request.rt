@@ -96,7 +96,7 @@ pub fn ask<'a>(
     match found {
         Found::At(frame, left, position) => {
             return Change {
-                flow: Flow { frame, left },
+                flow: flow.moved_to(frame, left),
                 position,
                 granted: true,
                 answer: Answer::Granted(word::depart(word, position as u8)),
@@ -104,11 +104,7 @@ pub fn ask<'a>(
         }
         Found::Nowhere(left) => {
             let number = nowhere(left);
-            let flow = Flow {
-                frame: newest,
-                left,
-            };
-            return refused(flow, number);
+            return refused(flow.moved_to(newest, left), number);
         }
     }
 }

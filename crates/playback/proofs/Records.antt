@@ -31,7 +31,7 @@ use Rattle.link.specs.Reading.{linkOf}
 use Rattle.link.specs.Sound.{Sound}
 use Rattle.link.specs.Change.{Stepped}
 use Rattle.playback.specs.Playback.{playable, PlayedRecords}
-use Rattle.link.proofs.Parts.{withCurrent}
+use Rattle.link.specs.Parts.{withCurrent}
 
 -- ---- what a record reads as
 

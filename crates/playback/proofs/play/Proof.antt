@@ -28,7 +28,7 @@ use Rattle.link.specs.Reading.{linkOf}
 use Rattle.link.specs.Sound.{Sound}
 use Rattle.link.specs.Change.{Stepped, Around, PartsOf, Creditable}
 use Rattle.playback.specs.Playback.{playable}
-use Rattle.link.proofs.Parts.{withCurrent}
+use Rattle.link.specs.Parts.{withCurrent}
 use Rattle.link.proofs.Changes.{place-below, around, parts-of, stored-booking, stored-flow}
 use Rattle.link.proofs.Credits.{refused-credit, taken-credit}
 use Rattle.link.proofs.Links.{measures, flows-most, read-window}

@@ -22,7 +22,7 @@ use Rattle.link.specs.declared.Flow.{Flow}
 use Rattle.link.specs.declared.Link.{Link}
 use Rattle.window.specs.Ranges.{replaced, wrapped}
 use Rattle.tables.specs.Rows.{row}
-use Rattle.link.specs.Parts.{sizeOf, entryAt}
+use Rattle.link.specs.Parts.{sizeOf, entryAt, movedTo}
 use Rattle.tables.specs.Holdings.{roomAt}
 use Rattle.link.specs.Reading.{linkOf}
 use Rattle.tables.specs.Search.{foundOf, freeFrom}
@@ -205,20 +205,23 @@ search-requires c κs =
 enum-known-found : tie.Need-enum-known-found
 enum-known-found c = search needs
 
+moved-to-requires : tie.Need-moved-to-requires
+moved-to-requires c κs = search needs
+
 cast-depart : tie.Need-cast-depart
-cast-depart c = omega (arith, position-fits (c .before))
+cast-depart c = omega (arith, position-fits (c .before .before))
 
 depart-requires : tie.Need-depart-requires
 depart-requires c κs = search needs
 
 returns-3 : tie.Need-returns-3
 returns-3 c =
-    let d = c .before .before in
+    let d = c .before .before .before in
     let q = d .before .before in
     let g = start q .pre .0 in (
       λ l o.
           let b = booking d l o in
-          rw (c .depart .ensures)
+          rw (c .depart .ensures, c .before .moved-to .ensures)
           (granted l _ _ (asks-at (passed-at q) l o) (asked-at q l o) _ _ _ _ (found-is d l o)
           (granted-link l (o .around .sound) (model.window (linkOf l)) refl (flow-at q) (flow-there q l o) _ _ _ _ (rw (read-frames l (window-is q l o)) at (b .frame)) (position-below d l o) (raised d l o))),
       booking d (g .link) (g .of) .position,
@@ -230,18 +233,21 @@ enum-known-found-2 c = search needs
 nowhere-requires : tie.Need-nowhere-requires
 nowhere-requires c κs = search needs
 
+moved-to-requires-2 : tie.Need-moved-to-requires-2
+moved-to-requires-2 c κs = search needs
+
 refused-requires-3 : tie.Need-refused-requires-3
 refused-requires-3 c κs = search needs
 
 returns-4 : tie.Need-returns-4
 returns-4 c =
-    let d = c .before .before .before in
+    let d = c .before .before .before .before in
     let q = d .before .before in
     let s = start q in
     rw (c .refused3 .ensures) (
       λ l o.
-          rw (c .before .nowhere .ensures, newest-at q .newest .ensures)
-          (subst (Stepped answerToRequest (request (linkOf l) (s .args .word))) (same-held l (flow-at q) _ (record { frame = newest (window-at q); left = d .found2 .given .0 .0 }))
+          rw (c .before .before .nowhere .ensures, c .before .moved-to2 .ensures, newest-at q .newest .ensures)
+          (subst (Stepped answerToRequest (request (linkOf l) (s .args .word))) (same-held l (flow-at q) _ (movedTo (s .args .flow) (newest (window-at q)) (d .found2 .given .0 .0)))
           (refused-newest l _ _ (asks-at (passed-at q) l o) (asked-at q l o) _ _ (ap foundOf (sym (d .found2 .given .1)) ∙ searched q l o)
           (refused-link l (o .around .sound) (window-at q) (window-is q l o) (flow-at q) (flow-there q l o) _))),
       some-position s,
@@ -262,10 +268,12 @@ ask-spec =
     cast-search
     search-requires
     enum-known-found
+    moved-to-requires
     cast-depart
     depart-requires
     returns-3
     enum-known-found-2
     nowhere-requires
+    moved-to-requires-2
     refused-requires-3
     returns-4)

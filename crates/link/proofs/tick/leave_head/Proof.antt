@@ -34,8 +34,11 @@ mul-f c = search needs
 array-copy-out-f : tie.Need-array-copy-out-f Inv-loop μ-loop
 array-copy-out-f c = search needs
 
-cast-t18 : tie.Need-cast-t18 Inv-loop μ-loop
-cast-t18 c = search needs
+cast-moved-to : tie.Need-cast-moved-to Inv-loop μ-loop
+cast-moved-to c = search needs
+
+moved-to-requires : tie.Need-moved-to-requires Inv-loop μ-loop
+moved-to-requires c κs = search needs
 
 mul-all : tie.Need-mul-all Inv-loop μ-loop
 mul-all c = search needs
@@ -53,7 +56,7 @@ loop-again : tie.Need-loop-again Inv-loop μ-loop
 loop-again c =
     let l = c .before .before .before .before .before .loop in (
       search needs,
-      ⊎-elim (λ w. w .2 ∙ replaced-more 0 (l .i) _ _ noFlow _ _ (l .inv .1) (omega arith) (rw (eq-eqb _ _ (w .0 .taken))))
+      ⊎-elim (λ w. w .3 ∙ replaced-more 0 (l .i) _ _ noFlow _ _ (l .inv .1) (omega arith) (w .2 .ensures ∙ rw (eq-eqb _ _ (w .0 .taken))))
           (λ w. w .1 ∙ replaced-kept 0 (l .i) _ _ noFlow _ (l .inv .1) (omega arith) (rw (ne-eqb _ _ (w .0 .left))))
           (c .if1 .came),
     )
@@ -72,7 +75,8 @@ leave-head-spec =
     element-copy-out-e
     mul-f
     array-copy-out-f
-    cast-t18
+    cast-moved-to
+    moved-to-requires
     mul-all
     array-set-from-all
     add-i
