@@ -19,14 +19,16 @@ use Rattle.window.specs.Ranges.{replaced, wrapped}
 use Rattle.tables.specs.Rows.{row}
 use Rattle.window.specs.Window.{windowOf, Proper, fromIn}
 use Rattle.tables.specs.Holdings.{someHeld, shifted}
-use Rattle.link.specs.Parts.{sizeOf, partAt, withHeld, withHoldings, withPart}
+use Rattle.link.specs.Layout.{sizeOf, flowAt}
+use Rattle.link.specs.Updates.{withHeld, withHoldings, withFlow}
 use Rattle.link.specs.Reading.{linkOf}
 use Rattle.link.specs.Sound.{Sound}
-use Rattle.link.specs.Change.{Stepped, Creditable}
+use Rattle.link.specs.Given.{Creditable}
+use Rattle.link.specs.Asked.{Stepped}
 use Rattle.window.proofs.Ranges.{wrapped-down}
 use Rattle.window.proofs.Ranks.{everyFrom-same, replaced-from}
 use Rattle.link.proofs.Links.{read-count, read-flow, read-holding, read-with-flow, sound-with-flow, read-from, long-from, sound-from}
-use Rattle.link.proofs.Changes.{same-flows}
+use Rattle.link.proofs.Given.{same-flows}
 
 -- ---- the tests
 
@@ -88,7 +90,7 @@ module _ (l : Link) (s : Sound l) (i p n : ℕ) (tests : n ≡ firstOf (creditTe
     long : length lower ≡ 256
     long = long-from l s (windowOf w) is i p (c .flow) (λ x. x - 1) lower lower-is
 
-    lower-link : linkOf (withPart l i (withHeld (partAt l i) lower)) ≡ lowered (linkOf l) i p
+    lower-link : linkOf (withFlow l i (withHeld (flowAt l i) lower)) ≡ lowered (linkOf l) i p
     unfolding lowered
     lower-link =
         read-with-flow l s i (c .flow) _ long

@@ -2,7 +2,7 @@ mod Plans
 pub mod Links
 pub mod Stored
 mod FreshLinks
-pub mod Changes
+pub mod Given
 pub mod Credits
 mod Requests
 pub mod Ticks

@@ -1,4 +1,4 @@
--- A link as it is read: what is read of it, a part of it changed, and that what is changed is sound again. Assumes nothing.
+-- A link as it is read: what is read of it, an updated link, and that it is sound again. Assumes nothing.
 use Prim.Native.Nat.{ℕ, _≤_, _<_}
 use mathlib.Core.Path.{_≡_, refl, ap, _∙_}
 use mathlib.Core.List.{List}
@@ -20,7 +20,8 @@ use Rattle.link.specs.declared.Flow.{Flow}
 use Rattle.link.specs.declared.Link.{Link}
 use Rattle.window.specs.Ranges.{replaced}
 use Rattle.window.specs.Window.{Measures, fromIn}
-use Rattle.link.specs.Parts.{Part, sizeFor, sizeOf, entryAt, partOf, partIn, partAt, ownerAt, noFlow, movedTo, linkWith, withOwners, withPart}
+use Rattle.link.specs.Layout.{FlowRow, sizeFor, sizeOf, entryAt, flowRow, flowIn, flowAt, ownerAt, noFlow}
+use Rattle.link.specs.Updates.{movedTo, linkWith, withOwners, withFlow}
 use Rattle.tables.specs.Owners.{nobody, ownerOf}
 use Rattle.link.specs.Reading.{spareFlow, flowOf, linkOf}
 use Rattle.link.specs.Sound.{Sound, SoundFlow}
@@ -41,11 +42,11 @@ module _ (l : Link) where
   unfolding linkOf
   read-entry i h = plan-entry (l .plan) i h
 
-  pub read-flow : (i : ℕ) → i < l .plan .count → model.flow (linkOf l) i ≡ flowOf (sizeOf l) (partAt l i)
+  pub read-flow : (i : ℕ) → i < l .plan .count → model.flow (linkOf l) i ≡ flowOf (sizeOf l) (flowAt l i)
   unfolding linkOf
   read-flow i h = getD-table (l .plan .count) _ i _ h
 
-  pub read-holding : (i p : ℕ) → i < l .plan .count → p < sizeOf l → model.holding (linkOf l) i p ≡ getD (partAt l i .held) p 0
+  pub read-holding : (i p : ℕ) → i < l .plan .count → p < sizeOf l → model.holding (linkOf l) i p ≡ getD (flowAt l i .held) p 0
   read-holding i p h b = rw (read-flow i h) (getD-table (sizeOf l) _ p 0 b)
 
   pub read-owner : (p : ℕ) → p < sizeOf l → model.owner (linkOf l) p ≡ ownerOf (ownerAt l p)
@@ -78,8 +79,8 @@ pub record SoundOwners (plan : Plan) (owner : List ℕ) : Type 0 where
 pub record SoundFlows (plan : Plan) (flows : List Flow) (held : List ℕ) : Type 0 where
   pub long : length flows ≡ 16
   pub rows : Sixteen held
-  pub each : (i : ℕ) → i < plan .count → SoundFlow plan (partIn flows held i)
-  pub spare : (i : ℕ) → plan .count ≤ i → i < 16 → partIn flows held i ≡ spareFlow
+  pub each : (i : ℕ) → i < plan .count → SoundFlow plan (flowIn flows held i)
+  pub spare : (i : ℕ) → plan .count ≤ i → i < 16 → flowIn flows held i ≡ spareFlow
 
 module _ (l : Link) (s : Sound l) where
   pub flows-most : l .plan .count ≤ 16
@@ -118,37 +119,37 @@ module _ (l : Link) (s : Sound l) where
   pub sound-flows : SoundFlows (l .plan) (l .flows) (l .held)
   sound-flows = record { long = s .flows-long; rows = s .held-long; each = s .flows; spare = s .spare-flows }
 
-  -- ---- flow i's part replaced
+  -- ---- flow i replaced
 
-  module _ (i : ℕ) (hi : i < l .plan .count) (f : Part) (long : length (f .held) ≡ 256) where
+  module _ (i : ℕ) (hi : i < l .plan .count) (f : FlowRow) (long : length (f .held) ≡ 256) where
     below : i < 16
     below = omega (arith, flows-most)
 
-    same-flow-at : partAt (withPart l i f) i ≡ f
+    same-flow-at : flowAt (withFlow l i f) i ≡ f
     same-flow-at = rw (getD-set-same (l .flows) i (f .flow) noFlow (omega (arith, s .flows-long, below)), row-with-same (l .held) i (f .held) (s .held-long) below long)
 
-    other-flow-at : (j : ℕ) → (j ≡ i → ⊥) → partAt (withPart l i f) j ≡ partAt l j
+    other-flow-at : (j : ℕ) → (j ≡ i → ⊥) → flowAt (withFlow l i f) j ≡ flowAt l j
     other-flow-at j d = rw (getD-set-other (l .flows) i j (f .flow) noFlow d, row-with-other (l .held) i (f .held) j d)
 
-    set-flow : (j : ℕ) → partAt (withPart l i f) j ≡ cond (eqb j i) f (partAt l j)
+    set-flow : (j : ℕ) → flowAt (withFlow l i f) j ≡ cond (eqb j i) f (flowAt l j)
     set-flow j = go (ℕ-discrete j i)
       where
-        go : Dec (j ≡ i) → partAt (withPart l i f) j ≡ cond (eqb j i) f (partAt l j)
-        go (yes d) = ap (partAt (withPart l i f)) d ∙ same-flow-at ∙ rw (eq-eqb j i d)
+        go : Dec (j ≡ i) → flowAt (withFlow l i f) j ≡ cond (eqb j i) f (flowAt l j)
+        go (yes d) = ap (flowAt (withFlow l i f)) d ∙ same-flow-at ∙ rw (eq-eqb j i d)
         go (no d) = other-flow-at j d ∙ rw (ne-eqb j i d)
 
-    pub read-with-flow : linkOf (withPart l i f) ≡ model.withFlow (linkOf l) i (flowOf (sizeOf l) f)
+    pub read-with-flow : linkOf (withFlow l i f) ≡ model.withFlow (linkOf l) i (flowOf (sizeOf l) f)
     unfolding linkOf
     read-with-flow =
-        let e = table-same (l .plan .count) (λ j. flowOf (sizeOf l) (partAt (withPart l i f) j)) (λ j. cond (eqb j i) (flowOf (sizeOf l) f) (model.flow (linkOf l) j))
-        (λ j h. ap (flowOf (sizeOf l)) (set-flow j) ∙ either (eqb j i) (partAt l j) ∙ rw (read-flow l j h)) in
+        let e = table-same (l .plan .count) (λ j. flowOf (sizeOf l) (flowAt (withFlow l i f) j)) (λ j. cond (eqb j i) (flowOf (sizeOf l) f) (model.flow (linkOf l) j))
+        (λ j h. ap (flowOf (sizeOf l)) (set-flow j) ∙ either (eqb j i) (flowAt l j) ∙ rw (read-flow l j h)) in
         cc (e, read-count l)
       where
-        either : (b : Bool) (g : Part) → flowOf (sizeOf l) (cond b f g) ≡ cond b (flowOf (sizeOf l) f) (flowOf (sizeOf l) g)
+        either : (b : Bool) (g : FlowRow) → flowOf (sizeOf l) (cond b f g) ≡ cond b (flowOf (sizeOf l) f) (flowOf (sizeOf l) g)
         either true g = refl
         either false g = refl
 
-    pub sound-with-flow : SoundFlow (l .plan) f → Sound (withPart l i f)
+    pub sound-with-flow : SoundFlow (l .plan) f → Sound (withFlow l i f)
     sound-with-flow v = sound-with (s .current) sound-owners (record {
       long = length-set (l .flows) i (f .flow) ∙ s .flows-long;
       rows = length-with-row (l .held) i (f .held) ∙ s .held-long;
@@ -156,7 +157,7 @@ module _ (l : Link) (s : Sound l) where
       spare = λ j h b. other-flow-at j (λ e. omega arith) ∙ s .spare-flows j h b;
     })
       where
-        each : (j : ℕ) → j < l .plan .count → Dec (j ≡ i) → SoundFlow (l .plan) (partAt (withPart l i f) j)
+        each : (j : ℕ) → j < l .plan .count → Dec (j ≡ i) → SoundFlow (l .plan) (flowAt (withFlow l i f) j)
         each j h (yes e) = rw (e, same-flow-at) v
         each j h (no e) = rw (other-flow-at j e) (s .flows j h)
 
@@ -186,23 +187,23 @@ module _ (l : Link) (s : Sound l) where
 
   -- ---- flow i's holdings changed from position p on
 
-  module _ (v : Window) (is : v ≡ model.window (linkOf l)) (i p : ℕ) (hi : i < l .plan .count) (g : ℕ → ℕ) (h : List ℕ) (changed : h ≡ replaced (fromIn v p) (λ q. g) (partAt l i .held)) where
-    at-position : (q : ℕ) → getD h q 0 ≡ getD (replaced (fromIn (model.window (linkOf l)) p) (λ q. g) (partAt l i .held)) q 0
-    at-position q = ap (λ (xs : List ℕ). getD xs q 0) (changed ∙ ap (λ (x : Window). replaced (fromIn x p) (λ q. g) (partAt l i .held)) is)
+  module _ (v : Window) (is : v ≡ model.window (linkOf l)) (i p : ℕ) (hi : i < l .plan .count) (g : ℕ → ℕ) (h : List ℕ) (changed : h ≡ replaced (fromIn v p) (λ q. g) (flowAt l i .held)) where
+    at-position : (q : ℕ) → getD h q 0 ≡ getD (replaced (fromIn (model.window (linkOf l)) p) (λ q. g) (flowAt l i .held)) q 0
+    at-position q = ap (λ (xs : List ℕ). getD xs q 0) (changed ∙ ap (λ (x : Window). replaced (fromIn x p) (λ q. g) (flowAt l i .held)) is)
 
     pub read-from : table (sizeOf l) (λ q. getD h q 0) ≡ model.heldFrom (linkOf l) i p g
     unfolding linkOf fromIn
     read-from = table-same (sizeOf l) _ _ λ q b.
         at-position q
-        ∙ replaced-at _ _ (partAt l i .held) q 0 (omega (arith, length-row (l .held) i, size-most))
+        ∙ replaced-at _ _ (flowAt l i .held) q 0 (omega (arith, length-row (l .held) i, size-most))
         ∙ rw (lt-ltb q (sizeOf l) b, read-holding l i q hi b)
 
     pub long-from : length h ≡ 256
-    long-from = ap length changed ∙ length-replaced _ _ (partAt l i .held) ∙ length-row (l .held) i
+    long-from = ap length changed ∙ length-replaced _ _ (flowAt l i .held) ∙ length-row (l .held) i
 
-    pub sound-from : (j c : ℕ) → j < l .plan .frames → SoundFlow (l .plan) (partOf (movedTo (partAt l i .flow) j c) h)
+    pub sound-from : (j c : ℕ) → j < l .plan .frames → SoundFlow (l .plan) (flowRow (movedTo (flowAt l i .flow) j c) h)
     unfolding linkOf fromIn
     sound-from j c hj = record {
       frame = hj;
-      spare = λ q b. at-position q ∙ replaced-off _ _ (partAt l i .held) q 0 (rw (le-ltb q (sizeOf l) b)) ∙ s .flows i hi .spare q b;
+      spare = λ q b. at-position q ∙ replaced-off _ _ (flowAt l i .held) q 0 (rw (le-ltb q (sizeOf l) b)) ∙ s .flows i hi .spare q b;
     }

@@ -28,7 +28,8 @@ use Rattle.link.specs.declared.Link.{Link}
 use Rattle.window.specs.Ranges.{replaced}
 use Rattle.window.specs.Window.{fromIn}
 use Rattle.tables.specs.Holdings.{roomAt}
-use Rattle.link.specs.Parts.{sizeOf, entryAt, partOf, partAt, ownerAt, movedTo, withOwners, withPart}
+use Rattle.link.specs.Layout.{sizeOf, entryAt, flowRow, flowAt, ownerAt}
+use Rattle.link.specs.Updates.{movedTo, withOwners, withFlow}
 use Rattle.tables.specs.Owners.{ownerOf}
 use Rattle.link.specs.Reading.{flowOf, linkOf}
 use Rattle.calls.specs.Reading.{answerToRequest}
@@ -39,7 +40,8 @@ use Rattle.tables.specs.Rows.{row}
 use Rattle.tables.proofs.Rows.{length-row}
 use Rattle.window.proofs.Ranks.{ahead-on, everyFrom-same}
 use Rattle.tables.proofs.Searches.{search-same, search-books, Booking, Books}
-use Rattle.link.specs.Change.{Stepped, placed}
+use Rattle.link.specs.Given.{placed}
+use Rattle.link.specs.Asked.{Stepped}
 use Rattle.link.proofs.Links.{read-entry, read-flow, read-holding, read-owner, read-with-flow, sound-with-flow, read-with-owner, sound-with-owner, read-from, long-from, sound-from, read-size, read-frames}
 
 and-right : (a b : Bool) → a && b ≡ true → b ≡ true
@@ -120,13 +122,13 @@ module _ (l : Link) (x n : ℕ) (tests : n ≡ firstOf (wordTests (planFor (l .p
 
 module _ (l : Link) (s : Sound l) (v : Window) (is : v ≡ model.window (linkOf l)) (i : ℕ) (hi : i < l .plan .count) where
   pub record LowFor (low : ℕ) : Type 0 where
-    pub from : (p : ℕ) → p < sizeOf l → leb low (rank v p) ≡ not (passed v p) && everyFrom v p (roomAt (partAt l i .held) (entryAt l i .cells))
+    pub from : (p : ℕ) → p < sizeOf l → leb low (rank v p) ≡ not (passed v p) && everyFrom v p (roomAt (flowAt l i .held) (entryAt l i .cells))
 
   -- there is room from p on
-  room-same : (p : ℕ) → everyFrom (model.window (linkOf l)) p (λ q. ltb (model.holding (linkOf l) i q) (model.cells (linkOf l) i)) ≡ everyFrom (model.window (linkOf l)) p (roomAt (partAt l i .held) (entryAt l i .cells))
+  room-same : (p : ℕ) → everyFrom (model.window (linkOf l)) p (λ q. ltb (model.holding (linkOf l) i q) (model.cells (linkOf l) i)) ≡ everyFrom (model.window (linkOf l)) p (roomAt (flowAt l i .held) (entryAt l i .cells))
   unfolding linkOf
   room-same p =
-      everyFrom-same (model.window (linkOf l)) p (λ q. ltb (model.holding (linkOf l) i q) (model.cells (linkOf l) i)) (roomAt (partAt l i .held) (entryAt l i .cells))
+      everyFrom-same (model.window (linkOf l)) p (λ q. ltb (model.holding (linkOf l) i q) (model.cells (linkOf l) i)) (roomAt (flowAt l i .held) (entryAt l i .cells))
       (λ q b. rw (read-holding l i q hi b, ap (λ (e : paper.Entry). e .cells) (read-entry l i hi)))
 
   module _ (low : ℕ) (bound : LowFor low) where
@@ -134,10 +136,10 @@ module _ (l : Link) (s : Sound l) (v : Window) (is : v ≡ model.window (linkOf 
     unfolding valid freeFrom
     valid-same p hp =
         let late = ap (λ (x : Window). passed x p) (sym is) in
-        let room = room-same p ∙ ap (λ (x : Window). everyFrom x p (roomAt (partAt l i .held) (entryAt l i .cells))) (sym is) in
-        rw (read-owner l p hp, late, room, bound .from p hp) (and-assoc (unbooked (ownerOf (ownerAt l p))) (not (passed v p)) (everyFrom v p (roomAt (partAt l i .held) (entryAt l i .cells))))
+        let room = room-same p ∙ ap (λ (x : Window). everyFrom x p (roomAt (flowAt l i .held) (entryAt l i .cells))) (sym is) in
+        rw (read-owner l p hp, late, room, bound .from p hp) (and-assoc (unbooked (ownerOf (ownerAt l p))) (not (passed v p)) (everyFrom v p (roomAt (flowAt l i .held) (entryAt l i .cells))))
 
-    pub sought-same : sought (linkOf l) i ≡ search v (freeFrom v (l .owner) low) (entryAt l i .share) (ahead (v .frames) (partAt l i .flow .frame) (newest v)) (partAt l i .flow .frame) (partAt l i .flow .left)
+    pub sought-same : sought (linkOf l) i ≡ search v (freeFrom v (l .owner) low) (entryAt l i .share) (ahead (v .frames) (flowAt l i .flow .frame) (newest v)) (flowAt l i .flow .frame) (flowAt l i .flow .left)
     unfolding sought
     sought-same =
         let j = ap (λ (x : model.Flow). x .injection) (read-flow l i hi) in
@@ -146,7 +148,7 @@ module _ (l : Link) (s : Sound l) (v : Window) (is : v ≡ model.window (linkOf 
         rw (j, c, e) (ap from-frame (sym is) ∙ search-same v two (valid (linkOf l) i) (entryAt l i .share) _ (λ p h. valid-same p (rw (← read-size l is) h)) _ _ _ (rw (read-frames l is) (s .flows i hi .frame)))
       where
         from-frame : Window → Found
-        from-frame x = search x (valid (linkOf l) i) (entryAt l i .share) (ahead (x .frames) (partAt l i .flow .frame) (newest x)) (partAt l i .flow .frame) (partAt l i .flow .left)
+        from-frame x = search x (valid (linkOf l) i) (entryAt l i .share) (ahead (x .frames) (flowAt l i .flow .frame) (newest x)) (flowAt l i .flow .frame) (flowAt l i .flow .left)
 
         two : 2 ≤ v .frames
         two = rw (read-frames l is) (s .plan .accepted .two-frames)
@@ -158,12 +160,12 @@ module _ (l : Link) (s : Sound l) (v : Window) (is : v ≡ model.window (linkOf 
         two : 2 ≤ v .frames
         two = rw (read-frames l is) (s .plan .accepted .two-frames)
 
-    pub room-there : (p : ℕ) → p < sizeOf l → freeFrom v (l .owner) low p ≡ true → everyFrom v p (roomAt (partAt l i .held) (entryAt l i .cells)) ≡ true
+    pub room-there : (p : ℕ) → p < sizeOf l → freeFrom v (l .owner) low p ≡ true → everyFrom v p (roomAt (flowAt l i .held) (entryAt l i .cells)) ≡ true
     unfolding freeFrom
     room-there p hp e = and-right (not (passed v p)) _ (sym (bound .from p hp) ∙ and-right (unbooked (ownerOf (ownerAt l p))) _ e)
 
   -- in the newest frame, with nothing left of the share
-  pub spent-at-newest : partAt l i .flow .frame ≡ newest v → partAt l i .flow .left ≡ 0 → nowhere 0 ≡ sought (linkOf l) i
+  pub spent-at-newest : flowAt l i .flow .frame ≡ newest v → flowAt l i .flow .left ≡ 0 → nowhere 0 ≡ sought (linkOf l) i
   unfolding sought search
   spent-at-newest e z =
       let j = ap (λ (x : model.Flow). x .injection) (read-flow l i hi) ∙ e ∙ ap newest is in
@@ -174,9 +176,9 @@ module _ (l : Link) (s : Sound l) (v : Window) (is : v ≡ model.window (linkOf 
 
   -- ---- the link after it
 
-  pub granted-link : (j c p : ℕ) (h : List ℕ) → j < l .plan .frames → p < sizeOf l → h ≡ replaced (fromIn v p) (λ q. suc) (partAt l i .held)
-      → (linkOf (withPart (withOwners l (set (l .owner) p i)) i (partOf (movedTo (partAt l i .flow) j c) h)) ≡ booked (linkOf l) i j c p)
-      × Sound (withPart (withOwners l (set (l .owner) p i)) i (partOf (movedTo (partAt l i .flow) j c) h))
+  pub granted-link : (j c p : ℕ) (h : List ℕ) → j < l .plan .frames → p < sizeOf l → h ≡ replaced (fromIn v p) (λ q. suc) (flowAt l i .held)
+      → (linkOf (withFlow (withOwners l (set (l .owner) p i)) i (flowRow (movedTo (flowAt l i .flow) j c) h)) ≡ booked (linkOf l) i j c p)
+      × Sound (withFlow (withOwners l (set (l .owner) p i)) i (flowRow (movedTo (flowAt l i .flow) j c) h))
   unfolding booked
   granted-link j c p h hj hp changed = (
     read-with-flow (withOwners l (set (l .owner) p i)) owned i hi _ long
@@ -192,15 +194,15 @@ module _ (l : Link) (s : Sound l) (v : Window) (is : v ≡ model.window (linkOf 
       long = long-from l s v is i p hi suc h changed
 
   pub refused-link : (c : ℕ)
-      → (linkOf (withPart l i (partOf (movedTo (partAt l i .flow) (newest v) c) (row (l .held) i))) ≡ refusedAtNewest (linkOf l) i c) × Sound (withPart l i (partOf (movedTo (partAt l i .flow) (newest v) c) (row (l .held) i)))
+      → (linkOf (withFlow l i (flowRow (movedTo (flowAt l i .flow) (newest v) c) (row (l .held) i))) ≡ refusedAtNewest (linkOf l) i c) × Sound (withFlow l i (flowRow (movedTo (flowAt l i .flow) (newest v) c) (row (l .held) i)))
   unfolding refusedAtNewest
   refused-link c = (
     read-with-flow l s i hi _ (length-row (l .held) i) ∙ same-flow (ap newest is) (read-flow l i hi),
     sound-with-flow l s i hi _ (length-row (l .held) i) (record { frame = rw (← read-frames l is) (mod-lt _ (rw (read-frames l is) (omega (arith, s .plan .accepted .two-frames)))); spare = s .flows i hi .spare }),
   )
     where
-      same-flow : {j j′ : ℕ} {x : model.Flow} → j ≡ j′ → x ≡ flowOf (sizeOf l) (partAt l i)
-          → model.withFlow (linkOf l) i (record { injection = j; remainder = c; held = flowOf (sizeOf l) (partAt l i) .held }) ≡ model.withFlow (linkOf l) i (model.movedTo x j′ c)
+      same-flow : {j j′ : ℕ} {x : model.Flow} → j ≡ j′ → x ≡ flowOf (sizeOf l) (flowAt l i)
+          → model.withFlow (linkOf l) i (record { injection = j; remainder = c; held = flowOf (sizeOf l) (flowAt l i) .held }) ≡ model.withFlow (linkOf l) i (model.movedTo x j′ c)
       same-flow d e = rw (d, e)
 
 -- ---- what a request comes to

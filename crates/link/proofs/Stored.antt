@@ -11,7 +11,7 @@ use Rattle.model.specs.Tables.{table}
 use Rattle.model.specs.Link as model
 use Rattle.plan.specs.declared.Plan.{Plan}
 use Rattle.link.specs.declared.Link.{Link}
-use Rattle.link.specs.Parts.{Part, sizeFor, sizeOf, partAt, ownerAt, noFlow}
+use Rattle.link.specs.Layout.{FlowRow, sizeFor, sizeOf, flowAt, ownerAt, noFlow}
 use Rattle.tables.specs.Owners.{nobody, ownerOf, everywhere}
 use Rattle.link.specs.Reading.{flowOf, linkOf, storedOwner, storedFlow, stored}
 use Rattle.link.specs.Sound.{Sound, SoundFlow}
@@ -28,7 +28,7 @@ owner-back x = go (eqb x nobody) refl
     go true e = rw e (sym (eqb-true x nobody e))
     go false e = rw e
 
-held-back : (plan : Plan) (f : Part) → SoundFlow plan f → (p : ℕ) → getD (flowOf (sizeFor plan) f .held) p 0 ≡ getD (f .held) p 0
+held-back : (plan : Plan) (f : FlowRow) → SoundFlow plan f → (p : ℕ) → getD (flowOf (sizeFor plan) f .held) p 0 ≡ getD (f .held) p 0
 held-back plan f v p = go (decLt p (sizeFor plan))
   where
     go : Dec (p < sizeFor plan) → getD (table (sizeFor plan) (λ p. getD (f .held) p 0)) p 0 ≡ getD (f .held) p 0
@@ -51,13 +51,13 @@ stored-reading l s = λ k. record { plan = stored-plan (l .plan) (s .plan) k; cp
     flow : (i : ℕ) → i < 16 → Dec (i < l .plan .count)
         → storedFlow (model.flow (linkOf l) i) ≡ getD (l .flows) i noFlow
     flow i b (yes h) = ap storedFlow (read-flow l i h)
-    flow i b (no h) = ap storedFlow (no-flow i h) ∙ sym (ap (λ (x : Part). x .flow) (s .spare-flows i (omega arith) b))
+    flow i b (no h) = ap storedFlow (no-flow i h) ∙ sym (ap (λ (x : FlowRow). x .flow) (s .spare-flows i (omega arith) b))
 
-    holding : (i p : ℕ) → i < 16 → p < 256 → Dec (i < l .plan .count) → model.holding (linkOf l) i p ≡ getD (partAt l i .held) p 0
-    holding i p b c (yes h) = ap (λ (f : model.Flow). getD (f .held) p 0) (read-flow l i h) ∙ held-back (l .plan) (partAt l i) (s .flows i h) p
+    holding : (i p : ℕ) → i < 16 → p < 256 → Dec (i < l .plan .count) → model.holding (linkOf l) i p ≡ getD (flowAt l i .held) p 0
+    holding i p b c (yes h) = ap (λ (f : model.Flow). getD (f .held) p 0) (read-flow l i h) ∙ held-back (l .plan) (flowAt l i) (s .flows i h) p
     holding i p b c (no h) =
         ap (λ (f : model.Flow). getD (f .held) p 0) (no-flow i h)
-        ∙ sym (ap (λ (f : Part). getD (f .held) p 0) (s .spare-flows i (omega arith) b) ∙ getD-replicate 256 p 0 0 c)
+        ∙ sym (ap (λ (f : FlowRow). getD (f .held) p 0) (s .spare-flows i (omega arith) b) ∙ getD-replicate 256 p 0 0 c)
 
     owners : table 256 (λ p. storedOwner (model.owner (linkOf l) p)) ≡ l .owner
     owners = table-of (l .owner) 256 _ 0 (s .owners-long) (λ p b. owner p b (decLt p (sizeOf l)))

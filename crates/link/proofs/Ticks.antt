@@ -23,7 +23,8 @@ use Rattle.window.specs.declared.Window.{Window}
 use Rattle.window.specs.Ranges.{inRange, replaced}
 use Rattle.tables.specs.Rows.{row, carriedRows}
 use Rattle.window.specs.Window as window
-use Rattle.link.specs.Parts.{Part, sizeOf, entryAt, partOf, partAt, ownerAt, noFlow, movedTo, linkWith, withCurrent, leftHead}
+use Rattle.link.specs.Layout.{FlowRow, sizeOf, entryAt, flowRow, flowAt, ownerAt, noFlow}
+use Rattle.link.specs.Updates.{movedTo, linkWith, withCurrent, leftHead}
 use Rattle.tables.specs.Owners.{nobody, ownerOf}
 use Rattle.link.specs.Reading.{flowOf, linkOf}
 use Rattle.calls.specs.Reading.{answerToTick}
@@ -32,7 +33,7 @@ use Rattle.window.proofs.Tables.{table-same}
 use Rattle.window.proofs.Ranges.{in-range, before-range, past-range, length-replaced, replaced-at, replaced-off}
 use Rattle.tables.proofs.Rows.{length-row, length-carried, row-carried, row-not-carried}
 use Rattle.window.proofs.Ranks.{proper}
-use Rattle.link.specs.Change.{Stepped}
+use Rattle.link.specs.Asked.{Stepped}
 use Rattle.link.proofs.Links.{read-count, read-entry, read-flow, read-holding, read-owner, flows-most, size-most, measures, sound-with, sound-owners, sound-flows}
 
 -- ---- the link after a tick
@@ -60,12 +61,12 @@ recycled l =
     (replaced (inRange 0 (l .plan .count)) (λ i f. leftHead (headAt l) (onAt l) (entryAt l i .share) f) (l .flows))
     (carriedRows (l .plan .count) (lastAt l) (baseAt l) (baseAt l + l .plan .slots) (l .held))
 
--- a flow's part after a frame change: it leaves the head frame with its share, and the holding at the last position goes on in the head's
+-- a flow after a frame change: it leaves the head frame with its share, and the holding at the last position goes on in the head's
 abbrev heldAfter : Link → ℕ → List ℕ
 heldAfter l i = replaced (inRange (baseAt l) (baseAt l + l .plan .slots)) (λ q x. getD (row (l .held) i) (lastAt l) 0) (row (l .held) i)
 
-abbrev partAfter : Link → ℕ → Part
-partAfter l i = partOf (leftHead (headAt l) (onAt l) (entryAt l i .share) (getD (l .flows) i noFlow)) (heldAfter l i)
+abbrev flowAfter : Link → ℕ → FlowRow
+flowAfter l i = flowRow (leftHead (headAt l) (onAt l) (entryAt l i .share) (getD (l .flows) i noFlow)) (heldAfter l i)
 
 module _ (l : Link) (s : Sound l) where
   some-position : 0 < sizeOf l
@@ -92,18 +93,18 @@ module _ (l : Link) (s : Sound l) where
       go (no h) (yes d) = rw (in-range (baseAt l) (baseAt l + l .plan .slots) q (omega arith) d, eq-eqb (q / l .plan .slots) (headAt l) (div-eq-of-lt-le (l .plan .slots) (omega arith) (omega (arith, suc-mul (headAt l) (l .plan .slots)))))
       go (no h) (no d) = rw (past-range (baseAt l) (baseAt l + l .plan .slots) q (omega arith), ne-eqb (q / l .plan .slots) (headAt l) (λ e. let m = rw e at (lt-div-mul-add {a = q} {b = l .plan .slots} (s .plan .accepted .some-slot)) in omega arith))
 
-  -- ---- a flow's part
+  -- ---- a flow
 
-  part-after : (i : ℕ) → i < l .plan .count → partAt (recycled l) i ≡ partAfter l i
-  part-after i h =
+  flow-after : (i : ℕ) → i < l .plan .count → flowAt (recycled l) i ≡ flowAfter l i
+  flow-after i h =
       let b = flows-most l s in
       let e : getD (recycled l .flows) i noFlow ≡ leftHead (headAt l) (onAt l) (entryAt l i .share) (getD (l .flows) i noFlow) =
       replaced-at _ _ (l .flows) i noFlow (omega (arith, s .flows-long)) ∙ rw (in-range 0 (l .plan .count) i (omega arith) h) in
       let last : lastAt l < 256 = omega (arith, last-below, size-most l s) in
-      ap (λ (f : Flow). partOf f (row (recycled l .held) i)) e
-      ∙ ap (partOf _) (row-carried (l .plan .count) (lastAt l) (baseAt l) (baseAt l + l .plan .slots) (l .held) i h (omega arith) (s .held-long) last)
+      ap (λ (f : Flow). flowRow f (row (recycled l .held) i)) e
+      ∙ ap (flowRow _) (row-carried (l .plan .count) (lastAt l) (baseAt l) (baseAt l + l .plan .slots) (l .held) i h (omega arith) (s .held-long) last)
 
-  spare-stays : (i : ℕ) → l .plan .count ≤ i → partAt (recycled l) i ≡ partAt l i
+  spare-stays : (i : ℕ) → l .plan .count ≤ i → flowAt (recycled l) i ≡ flowAt l i
   spare-stays i h =
       let e : getD (recycled l .flows) i noFlow ≡ getD (l .flows) i noFlow = replaced-off _ _ (l .flows) i noFlow (past-range 0 (l .plan .count) i h) in
       rw (e, row-not-carried (l .plan .count) (lastAt l) (baseAt l) (baseAt l + l .plan .slots) (l .held) i h)
@@ -111,20 +112,20 @@ module _ (l : Link) (s : Sound l) where
   held-after : (i : ℕ) → i < l .plan .count → table (sizeOf l) (λ q. getD (heldAfter l i) q 0)
       ≡ table (sizeOf l) (λ q. cond (eqb (q / l .plan .slots) (headAt l)) (model.holding (linkOf l) i (lastAt l)) (model.holding (linkOf l) i q))
   held-after i h = table-same (sizeOf l) _ _ λ q b.
-      replaced-at _ _ (partAt l i .held) q 0 (omega (arith, length-row (l .held) i, size-most l s))
+      replaced-at _ _ (flowAt l i .held) q 0 (omega (arith, length-row (l .held) i, size-most l s))
       ∙ rw (head-range q, read-holding l i q h b, read-holding l i (lastAt l) h last-below)
 
-  read-after : (i : ℕ) → i < l .plan .count → flowOf (sizeOf l) (partAfter l i) ≡ tick.carriedOn (linkOf l) i (tick.leftHead (linkOf l) i)
+  read-after : (i : ℕ) → i < l .plan .count → flowOf (sizeOf l) (flowAfter l i) ≡ tick.carriedOn (linkOf l) i (tick.leftHead (linkOf l) i)
   unfolding linkOf
-  read-after i h = rw injection (go (eqb (partAt l i .flow .frame) (headAt l)))
+  read-after i h = rw injection (go (eqb (flowAt l i .flow .frame) (headAt l)))
     where
-      injection : model.flow (linkOf l) i .injection ≡ partAt l i .flow .frame
+      injection : model.flow (linkOf l) i .injection ≡ flowAt l i .flow .frame
       injection = ap (λ (x : model.Flow). x .injection) (read-flow l i h)
 
       share : model.share (linkOf l) i ≡ entryAt l i .share
       share = ap (λ (e : paper.Entry). e .share) (read-entry l i h)
 
-      go : (b : Bool) → flowOf (sizeOf l) (partOf (cond b (movedTo (getD (l .flows) i noFlow) (onAt l) (entryAt l i .share)) (getD (l .flows) i noFlow)) (heldAfter l i))
+      go : (b : Bool) → flowOf (sizeOf l) (flowRow (cond b (movedTo (getD (l .flows) i noFlow) (onAt l) (entryAt l i .share)) (getD (l .flows) i noFlow)) (heldAfter l i))
           ≡ tick.carriedOn (linkOf l) i (cond b (model.movedTo (model.flow (linkOf l) i) (onAt l) (model.share (linkOf l) i)) (model.flow (linkOf l) i))
       go true = λ k. model.withHeld (model.movedTo (sym (read-flow l i h) k) (onAt l) (sym share k)) (held-after i h k)
       go false = λ k. model.withHeld (sym (read-flow l i h) k) (held-after i h k)
@@ -142,19 +143,19 @@ module _ (l : Link) (s : Sound l) where
           ap ownerOf (replaced-at _ _ (l .owner) q 0 (omega (arith, s .owners-long, size-most l s)))
           ∙ rw (head-range q, read-owner l q b) (emptied (eqb (q / l .plan .slots) (headAt l)) (ownerAt l q))
 
-      flows : table (l .plan .count) (λ i. flowOf (sizeOf l) (partAt (recycled l) i)) ≡ table (paper.flowCount (linkOf l .plan)) (λ i. tick.carriedOn (linkOf l) i (tick.leftHead (linkOf l) i))
+      flows : table (l .plan .count) (λ i. flowOf (sizeOf l) (flowAt (recycled l) i)) ≡ table (paper.flowCount (linkOf l .plan)) (λ i. tick.carriedOn (linkOf l) i (tick.leftHead (linkOf l) i))
       flows =
-          table-same (l .plan .count) _ (λ i. tick.carriedOn (linkOf l) i (tick.leftHead (linkOf l) i)) (λ i h. ap (flowOf (sizeOf l)) (part-after i h) ∙ read-after i h)
+          table-same (l .plan .count) _ (λ i. tick.carriedOn (linkOf l) i (tick.leftHead (linkOf l) i)) (λ i h. ap (flowOf (sizeOf l)) (flow-after i h) ∙ read-after i h)
           ∙ ap (λ (n : ℕ). table n (λ i. tick.carriedOn (linkOf l) i (tick.leftHead (linkOf l) i))) (sym (read-count l))
 
   read-advanced : nextAt l % l .plan .slots ≡ 0 → tick.advanced (linkOf l) ≡ linkOf (recycled l)
   unfolding tick.advanced linkOf
   read-advanced z = rw (eq-eqb (nextAt l % l .plan .slots) 0 z) (sym read-recycled)
 
-  sound-after : (i : ℕ) → i < l .plan .count → SoundFlow (l .plan) (partAfter l i)
+  sound-after : (i : ℕ) → i < l .plan .count → SoundFlow (l .plan) (flowAfter l i)
   sound-after i h = record {
-    frame = go (eqb (partAt l i .flow .frame) (headAt l));
-    spare = λ q k. replaced-off _ _ (partAt l i .held) q 0 (past-range _ _ q (omega (arith, base-fits))) ∙ s .flows i h .spare q k;
+    frame = go (eqb (flowAt l i .flow .frame) (headAt l));
+    spare = λ q k. replaced-off _ _ (flowAt l i .held) q 0 (past-range _ _ q (omega (arith, base-fits))) ∙ s .flows i h .spare q k;
   }
     where
       go : (b : Bool) → cond b (movedTo (getD (l .flows) i noFlow) (onAt l) (entryAt l i .share)) (getD (l .flows) i noFlow) .frame < l .plan .frames
@@ -171,7 +172,7 @@ module _ (l : Link) (s : Sound l) where
       (record {
         long = length-replaced _ _ (l .flows) ∙ s .flows-long;
         rows = length-carried (l .plan .count) (lastAt l) (baseAt l) (baseAt l + l .plan .slots) (l .held) ∙ s .held-long;
-        each = λ i h. rw (part-after i h) (sound-after i h);
+        each = λ i h. rw (flow-after i h) (sound-after i h);
         spare = λ i h b. spare-stays i h ∙ s .spare-flows i h b;
       })
     where

@@ -6,7 +6,8 @@ use Rattle.tables.specs.Rows.{rowsOf}
 use Rattle.tables.specs.Owners.{nobody, ownerOf, everywhere}
 use Rattle.link.specs.declared.Flow.{Flow}
 use Rattle.link.specs.declared.Link.{Link}
-use Rattle.link.specs.Parts.{Part, sizeOf, noFlow, partOf, partAt, ownerAt, movedTo}
+use Rattle.link.specs.Layout.{FlowRow, sizeOf, noFlow, flowRow, flowAt, ownerAt}
+use Rattle.link.specs.Updates.{movedTo}
 use Rattle.plan.specs.Reading as plan
 use Rattle.model.specs.Tables.{table}
 use Rattle.model.specs.Link as model
@@ -14,7 +15,7 @@ use Rattle.model.specs.Link as model
 -- ---- read as the paper's
 
 -- the holdings at the first T positions
-abbrev pub flowOf : ℕ → Part → model.Flow
+abbrev pub flowOf : ℕ → FlowRow → model.Flow
 flowOf T x = record { injection = x .flow .frame; remainder = x .flow .left; held = table T (λ p. getD (x .held) p 0) }
 
 unfoldable pub linkOf : Link → model.Link
@@ -22,14 +23,14 @@ linkOf l = record {
   plan = plan.planFor (l .plan);
   current = l .cp;
   owners = table (sizeOf l) (λ p. ownerOf (ownerAt l p));
-  flows = table (l .plan .count) (λ i. flowOf (sizeOf l) (partAt l i));
+  flows = table (l .plan .count) (λ i. flowOf (sizeOf l) (flowAt l i));
 }
 
 -- ---- the paper's link as it is stored: 256 positions and 16 flows
 
 -- what stands in the place of a flow that the plan does not have
-abbrev pub spareFlow : Part
-spareFlow = partOf noFlow (everywhere 0)
+abbrev pub spareFlow : FlowRow
+spareFlow = flowRow noFlow (everywhere 0)
 
 abbrev pub storedOwner : Option ℕ → ℕ
 storedOwner none = nobody

@@ -8,7 +8,7 @@ ghost use Rattle.link.specs.Reading.{linkOf};
 ghost use Rattle.link.specs.Sound.{Sound};
 ghost use Rattle.window.specs.Window.{Proper};
 ghost use Rattle.link.specs.declared.Link.{Link};
-ghost use Rattle.link.specs.Change.{Around, Creditable};
+ghost use Rattle.link.specs.Given.{Around, Creditable};
 use crate::Answer;
 use crate::Link;
 use crate::Step;

@@ -1,8 +1,8 @@
 // One link of a plan: its current position, the owner of each position, each flow's frame and remainder, and what each flow holds.
 ghost use mathlib.Core.Path.{_≡_};
-ghost use Rattle.link.specs.Parts.{movedTo};
+ghost use Rattle.link.specs.Updates.{movedTo};
 
-pub mod change; // what a request changes
+pub mod asked; // what a request comes to
 pub mod credit;
 mod fresh;
 pub mod request;

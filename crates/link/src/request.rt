@@ -14,15 +14,14 @@ ghost use Rattle.link.specs.declared.Link.{Link};
 ghost use Rattle.link.specs.Reading.{linkOf};
 ghost use Rattle.link.specs.Sound.{Sound};
 ghost use Rattle.window.specs.Window.{sizeOf};
-ghost use Rattle.link.specs.Change as change;
-ghost use Rattle.link.specs.Change.{Given, PartsOf, changed, Stepped};
+ghost use Rattle.link.specs.Given.{placed, Given, GivenOf};
+ghost use Rattle.link.specs.Asked.{after, Stepped};
 use crate::Answer;
 use crate::Flow;
 use crate::Link;
 use crate::Step;
-use crate::change::Change;
-use crate::change::placed;
-use crate::change::refused;
+use crate::asked::Asked;
+use crate::asked::refused;
 use plan::Entry;
 use tables::Found;
 use tables::holdings::Holdings;
@@ -34,7 +33,7 @@ use window::positions::window;
 
 // The refusal of a word by its own tests, and 0 where it passes them: n flows, the entry of the word's flow (of flow 0 where there is none), and T.
 fn refusal(count: usize, e: Entry, size: usize, word: u32) -> u8
-    ensures { λ r. ⌜ ((p : Plan) → p .count ≡ count → getD (p .entries) (change.placed count (flowOf word)) noEntry ≡ e → p .slots * p .frames ≡ size → r ≡ firstOf (model.wordTests (planFor p) word)) ⌝ }
+    ensures { λ r. ⌜ ((p : Plan) → p .count ≡ count → getD (p .entries) (placed count (flowOf word)) noEntry ≡ e → p .slots * p .frames ≡ size → r ≡ firstOf (model.wordTests (planFor p) word)) ⌝ }
 {
     let fields = word::split(word);
     if count <= fields.flow as usize {
@@ -59,15 +58,25 @@ fn nowhere(left: usize) -> u8
     12
 }
 
+// Flow i of a plan of n flows, and 0 where there is none.
+fn placed(count: usize, i: usize) -> usize
+    ensures { λ r. ⌜ r ≡ placed count i ⌝ }
+{
+    if i < count {
+        return i;
+    }
+    0
+}
+
 // The flow of a word, or 0 where the plan does not have it.
 pub fn asker(count: usize, word: u32) -> usize
-    ensures { λ r. ⌜ r ≡ change.placed count (flowOf word) ⌝ }
+    ensures { λ r. ⌜ r ≡ placed count (flowOf word) ⌝ }
 {
     let fields = word::split(word);
     placed(count, fields.flow as usize)
 }
 
-// The change by a word that asks for a slot. Its flow is i; i is 0 where the plan does not have it.
+// What a word that asks for a slot comes to. Its flow is i; i is 0 where the plan does not have it.
 pub fn ask<'a>(
     count: usize,
     e: Entry,
@@ -77,9 +86,9 @@ pub fn ask<'a>(
     i: usize,
     flow: Flow,
     word: u32,
-) -> Change
-    requires { ⌜ Given count e w (now owner) (now held) i flow × (i ≡ change.placed count (flowOf word)) ⌝ }
-    ensures is { λ r. ⌜ ((l : Link) → PartsOf l count e w (now (owner .entry)) (now (held .entry)) i flow → Stepped answerToRequest (model.request (linkOf l) word) (changed l i r)) ⌝ }
+) -> Asked
+    requires { ⌜ Given count e w (now owner) (now held) i flow × (i ≡ placed count (flowOf word)) ⌝ }
+    ensures is { λ r. ⌜ ((l : Link) → GivenOf l count e w (now (owner .entry)) (now (held .entry)) i flow → Stepped answerToRequest (model.request (linkOf l) word) (after l i r)) ⌝ }
     ensures place { λ r. ⌜ r .position < sizeOf w ⌝ }
 {
     let number = refusal(count, e, w.slots * w.frames, word);
@@ -95,7 +104,7 @@ pub fn ask<'a>(
     let found = search(owner, w, low, e.share as usize, flow.frame, flow.left);
     match found {
         Found::At(frame, left, position) => {
-            return Change {
+            return Asked {
                 flow: flow.moved_to(frame, left),
                 position,
                 granted: true,
@@ -122,15 +131,15 @@ impl Link {
         let e = plan.entries[i];
         let flow = self.flows[i];
         let w = window(plan.slots, plan.frames, self.cp);
-        let change = ask(plan.count, e, w, &self.owner, &self.held, i, flow, word);
-        let flow = change.flow;
+        let asked = ask(plan.count, e, w, &self.owner, &self.held, i, flow, word);
+        let flow = asked.flow;
         self.flows[i] = flow;
-        if change.granted {
-            let position = change.position;
+        if asked.granted {
+            let position = asked.position;
             self.owner[position] = i as u8;
             shift_from(&mut self.held, 1, i, w, position);
         }
-        let answer = change.answer;
+        let answer = asked.answer;
         Step { link: self, answer }
     }
 }

@@ -6,7 +6,7 @@ ghost use Rattle.model.specs.Tick as model;
 ghost use Rattle.plan.specs.Reading.{noEntry};
 ghost use Rattle.calls.specs.Reading.{answerToTick};
 ghost use Rattle.window.specs.Ranges.{inRange, replaced};
-ghost use Rattle.link.specs.Parts.{leftHead};
+ghost use Rattle.link.specs.Updates.{leftHead};
 ghost use Rattle.tables.specs.Owners.{ownerOf};
 ghost use Rattle.link.specs.Reading.{linkOf};
 ghost use Rattle.link.specs.Sound.{Sound};

@@ -29,9 +29,9 @@ use Rattle.model.specs.Listing.{lineOf, made, listing, linkAfter}
 use Rattle.window.specs.Window.{windowOf, Proper, Ticked}
 use Rattle.link.specs.Reading.{linkOf}
 use Rattle.link.specs.Sound.{Sound}
-use Rattle.link.specs.Change.{Stepped}
+use Rattle.link.specs.Asked.{Stepped}
 use Rattle.playback.specs.Playback.{playable, PlayedRecords}
-use Rattle.link.specs.Parts.{withCurrent}
+use Rattle.link.specs.Updates.{withCurrent}
 
 -- ---- what a record reads as
 
@@ -93,7 +93,7 @@ pub record Came (l : model.Link) (o : Option calls.Call) (plan : Plan) (w : Wind
   pub comes : Made l o (record { link = playedAt (s .link) w; answer = s .answer })
   pub playing : Playing plan w (s .link)
 
--- the same of equal parts
+-- the same of what is equal
 pub same-came : {l : model.Link} {o p : Option calls.Call} {plan : Plan} {v w : Window} {x y : Link} {a b : Answer} → o ≡ p → x ≡ y → w ≡ v → a ≡ b
     → Came l p plan v (record { link = y; answer = b }) → Came l o plan w (record { link = x; answer = a })
 same-came d e f g m = rw (d, e, f, g) m

@@ -54,15 +54,15 @@ pub fn play(start: Link, records: &[u8], out: &mut [u8]) -> Playback
                 let i = asker(plan.count, word);
                 let e = plan.entries[i];
                 let flow = link.flows[i];
-                let change = ask(plan.count, e, w, &link.owner, &link.held, i, flow, word);
-                let flow = change.flow;
+                let asked = ask(plan.count, e, w, &link.owner, &link.held, i, flow, word);
+                let flow = asked.flow;
                 link.flows[i] = flow;
-                if change.granted {
-                    let position = change.position;
+                if asked.granted {
+                    let position = asked.position;
                     link.owner[position] = i as u8;
                     shift_from(&mut link.held, 1, i, w, position);
                 }
-                answer = change.answer;
+                answer = asked.answer;
             }
             Call::Credit(flow, position) => {
                 let number = refusal(plan.count, w, &link.held, flow, position);

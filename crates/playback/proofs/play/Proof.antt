@@ -23,13 +23,15 @@ use Rattle.window.specs.declared.Window.{Window}
 use Rattle.window.specs.Ranges.{inRange, replaced}
 use Rattle.tables.specs.Rows.{carriedRows}
 use Rattle.window.specs.Window.{windowOf, sizeOf, baseOf}
-use Rattle.link.specs.Parts.{noFlow, leftHead}
+use Rattle.link.specs.Layout.{noFlow}
+use Rattle.link.specs.Updates.{leftHead}
 use Rattle.link.specs.Reading.{linkOf}
 use Rattle.link.specs.Sound.{Sound}
-use Rattle.link.specs.Change.{Stepped, Around, PartsOf, Creditable}
+use Rattle.link.specs.Given.{Around, GivenOf, Creditable}
+use Rattle.link.specs.Asked.{Stepped}
 use Rattle.playback.specs.Playback.{playable}
-use Rattle.link.specs.Parts.{withCurrent}
-use Rattle.link.proofs.Changes.{place-below, around, parts-of, stored-booking, stored-flow}
+use Rattle.link.specs.Updates.{withCurrent}
+use Rattle.link.proofs.Given.{place-below, around, given-of, stored-booking, stored-flow}
 use Rattle.link.proofs.Credits.{refused-credit, taken-credit}
 use Rattle.link.proofs.Links.{measures, flows-most, read-window}
 use Rattle.link.proofs.Ticks.{head-stays, head-left, same-turn}
@@ -79,8 +81,8 @@ module _ (c : tie.After-read Inv-loop μ-loop) where
   around-at : Around now-at (plan-at .count) window-at (link-at .held)
   around-at = around now-at sound-at (playing-at .plan-is) (playing-at .window-is) (playing-at .proper)
 
-  parts-at : (i : ℕ) → PartsOf now-at (plan-at .count) (getD (plan-at .entries) i noEntry) window-at (link-at .owner) (link-at .held) i (getD (link-at .flows) i noFlow)
-  parts-at = parts-of now-at sound-at (playing-at .plan-is) (playing-at .window-is) (playing-at .proper)
+  given-at : (i : ℕ) → GivenOf now-at (plan-at .count) (getD (plan-at .entries) i noEntry) window-at (link-at .owner) (link-at .held) i (getD (link-at .flows) i noFlow)
+  given-at = given-of now-at sound-at (playing-at .plan-is) (playing-at .window-is) (playing-at .proper)
 
 -- where a call is read
 abbrev read-at : tie.After-known-told Inv-loop μ-loop → tie.After-read Inv-loop μ-loop
@@ -138,12 +140,12 @@ module _ (c : tie.At-match2-came Inv-loop μ-loop) where
       let v = p .proper in
       ⊎-elim
       (λ b. same-came (call-is (c .before) ∙ ap of-call (b .1 .given .1)) (b .14) (b .15) (b .16) (record {
-        comes = request-made (linkOf l) _ _ (subst (Stepped answerToRequest (model.request (linkOf l) _)) (stored-booking l _ (b .9 .result) w window-is (b .11 .taken) (b .13 .ensures)) (b .9 .ensures .0 l (parts-at before-at _)));
+        comes = request-made (linkOf l) _ _ (subst (Stepped answerToRequest (model.request (linkOf l) _)) (stored-booking l _ (b .9 .result) w window-is (b .11 .taken) (b .13 .ensures)) (b .9 .ensures .0 l (given-at before-at _)));
         playing = playing-on p refl;
       }))
       (⊎-elim
       (λ b. same-came (call-is (c .before) ∙ ap of-call (b .1 .given .1)) (b .12) (b .13) (b .14) (record {
-        comes = request-made (linkOf l) _ _ (subst (Stepped answerToRequest (model.request (linkOf l) _)) (stored-flow l _ (b .9 .result) (b .11 .left)) (b .9 .ensures .0 l (parts-at before-at _)));
+        comes = request-made (linkOf l) _ _ (subst (Stepped answerToRequest (model.request (linkOf l) _)) (stored-flow l _ (b .9 .result) (b .11 .left)) (b .9 .ensures .0 l (given-at before-at _)));
         playing = playing-on p refl;
       }))
       (⊎-elim
@@ -243,7 +245,7 @@ ask-requires : tie.Need-ask-requires Inv-loop μ-loop
 ask-requires c κs =
     let i = c .before .before .before .before .before in
     let a = asked-at i in
-    (record { link = now-at a; of = parts-at a _ }, i .asker .ensures)
+    (record { link = now-at a; of = given-at a _ }, i .asker .ensures)
 
 mul-flow-2 : tie.Need-mul-flow-2 Inv-loop μ-loop
 mul-flow-2 c = omega (arith, asker-below (asker-at c))

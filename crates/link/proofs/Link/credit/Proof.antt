@@ -2,7 +2,7 @@
 use mathlib.Core.Path.{refl}
 use native.Mathlib.Omega.{arith}
 use Rattle.link.proofs.Links.{measures, flows-most, read-window}
-use Rattle.link.proofs.Changes.{around}
+use Rattle.link.proofs.Given.{around}
 use Rattle.link.proofs.Credits.{refused-credit, taken-credit}
 use Rattle.link.proofs.Link.credit.Statement.{statement}
 use Rattle.link.proofs.Link.credit.Tie as tie

@@ -7,9 +7,9 @@ use Rattle.model.specs.Request as model
 use Rattle.calls.specs.Reading.{answerToRequest}
 use Rattle.window.specs.Window.{sizeOf}
 use Rattle.link.specs.Reading.{linkOf}
-use Rattle.link.specs.Change.{Stepped, changed}
+use Rattle.link.specs.Asked.{Stepped, after}
 use Rattle.link.proofs.Links.{measures, read-window}
-use Rattle.link.proofs.Changes.{place-below, parts-of, stored-booking, stored-flow}
+use Rattle.link.proofs.Given.{place-below, given-of, stored-booking, stored-flow}
 use Rattle.link.proofs.Link.request.Statement.{statement}
 use Rattle.link.proofs.Link.request.Tie as tie
 
@@ -32,11 +32,11 @@ made-at c = c .before .before .before .before .before
 position-below : (c : tie.After-flow2) → c .before .ask .result .position < sizeOf (made-at c .window .result)
 position-below c = c .before .ask .ensures .1
 
--- what the change comes to
-changed-is : (c : tie.After-flow2) → Stepped answerToRequest (model.request (linkOf (start (made-at c) .args .t1)) (start (made-at c) .args .word)) (changed (start (made-at c) .args .t1) (asked-at (made-at c) .asker .result) (c .before .ask .result))
+-- what is stored, by the contract of `ask`
+changed-is : (c : tie.After-flow2) → Stepped answerToRequest (model.request (linkOf (start (made-at c) .args .t1)) (start (made-at c) .args .word)) (after (start (made-at c) .args .t1) (asked-at (made-at c) .asker .result) (c .before .ask .result))
 changed-is c =
     let w = made-at c in
-    c .before .ask .ensures .0 (start w .args .t1) (parts-of (start w .args .t1) (start w .pre) refl (w .window .ensures .0) (w .window .ensures .1) _)
+    c .before .ask .ensures .0 (start w .args .t1) (given-of (start w .args .t1) (start w .pre) refl (w .window .ensures .0) (w .window .ensures .1) _)
 
 -- ---- the needs
 
@@ -61,7 +61,7 @@ window-requires c κs = measures _ (c .before .before .before .before .pre)
 ask-requires : tie.Need-ask-requires
 ask-requires c κs =
     let w = c .before .before .before in
-    (record { link = start w .args .t1; of = parts-of (start w .args .t1) (start w .pre) refl (w .window .ensures .0) (w .window .ensures .1) _ }, asked-at w .asker .ensures)
+    (record { link = start w .args .t1; of = given-of (start w .args .t1) (start w .pre) refl (w .window .ensures .0) (w .window .ensures .1) _ }, asked-at w .asker .ensures)
 
 mul-flow-2 : tie.Need-mul-flow-2
 mul-flow-2 c = omega (arith, asker-below (asked-at (made-at c)))

@@ -9,8 +9,8 @@ use Rattle.link.specs.declared.Link.{Link}
 use Rattle.window.specs.Window.{windowOf}
 use Rattle.tables.specs.Holdings.{someHeld}
 use Rattle.tables.specs.Rows.{row}
-use Rattle.link.specs.Parts.{sizeOf}
-use Rattle.link.specs.Change.{Around}
+use Rattle.link.specs.Layout.{sizeOf}
+use Rattle.link.specs.Given.{Around}
 use Rattle.link.proofs.Links.{read-size}
 use Rattle.link.proofs.Credits.{tests-8, tests-13, tests-14, tests-15, tests-pass}
 use Rattle.link.proofs.credit.refusal.Statement.{statement}

@@ -6,7 +6,8 @@ use native.Mathlib.Omega.{arith}
 use lib.ListN.{getD, replicate}
 use Rattle.plan.specs.Reading.{noEntry}
 use Rattle.window.specs.Ranges.{inRange, replaced}
-use Rattle.link.specs.Parts.{noFlow, movedTo}
+use Rattle.link.specs.Layout.{noFlow}
+use Rattle.link.specs.Updates.{movedTo}
 use Rattle.window.proofs.Ranges.{replaced-none, replaced-more, replaced-done}
 use Rattle.link.proofs.fresh.flows.Statement.{statement}
 use Rattle.link.proofs.fresh.flows.Tie as tie

@@ -22,15 +22,17 @@ use Rattle.link.specs.declared.Flow.{Flow}
 use Rattle.link.specs.declared.Link.{Link}
 use Rattle.window.specs.Ranges.{replaced, wrapped}
 use Rattle.tables.specs.Rows.{row}
-use Rattle.link.specs.Parts.{sizeOf, entryAt, movedTo}
+use Rattle.link.specs.Layout.{sizeOf, entryAt}
+use Rattle.link.specs.Updates.{movedTo}
 use Rattle.tables.specs.Holdings.{roomAt}
 use Rattle.link.specs.Reading.{linkOf}
 use Rattle.tables.specs.Search.{foundOf, freeFrom}
 use Rattle.window.specs.Window.{windowOf, fromIn}
-use Rattle.link.specs.Change.{placed, PartsOf, Stepped}
+use Rattle.link.specs.Given.{placed, GivenOf}
+use Rattle.link.specs.Asked.{Stepped}
 use Rattle.window.proofs.Ranges.{wrapped-up}
 use Rattle.window.proofs.Ranks.{replaced-from}
-use Rattle.link.proofs.Changes.{same-link, same-held, same-moved}
+use Rattle.link.proofs.Given.{same-link, same-held, same-moved}
 use Rattle.link.proofs.Links.{read-size, read-frames, flows-most, size-most}
 use Rattle.tables.proofs.Searches.{Booking}
 use Rattle.link.proofs.Requests.{refused-word, asked, asks-for, asker-below, LowFor, sought-same, found-at, room-there, spent-at-newest, granted-link, refused-link, granted, refused-newest}
@@ -41,7 +43,7 @@ use Rattle.link.proofs.request.ask.Tie as tie
 
 -- a link with these parts, where the function is entered
 abbrev OfAt : tie.Start → Link → Type 0
-OfAt s l = PartsOf l (s .args .count) (s .args .e) (s .args .w) (s .args .owner .now) (s .args .held .now) (s .args .i) (s .args .flow)
+OfAt s l = GivenOf l (s .args .count) (s .args .e) (s .args .w) (s .args .owner .now) (s .args .held .now) (s .args .i) (s .args .flow)
 
 abbrev entered : tie.After-refusal → tie.Start
 entered c = c .before .before

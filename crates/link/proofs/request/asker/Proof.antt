@@ -1,7 +1,7 @@
 -- `link::request::asker` meets its contract. Assumes nothing.
 use borrow.Author.Needs.{needs}
 use mathlib.Core.Path.{sym, ap, _∙_}
-use Rattle.link.specs.Change.{placed}
+use Rattle.link.specs.Given.{placed}
 use Rattle.link.proofs.Requests.{of-word}
 use Rattle.link.proofs.request.asker.Statement.{statement}
 use Rattle.link.proofs.request.asker.Tie as tie

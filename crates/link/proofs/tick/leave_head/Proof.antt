@@ -8,7 +8,8 @@ use lib.ListN.{getD}
 use borrow.Author.Tests.{eq-eqb, ne-eqb}
 use Rattle.plan.specs.Reading.{noEntry}
 use Rattle.window.specs.Ranges.{inRange, replaced}
-use Rattle.link.specs.Parts.{noFlow, leftHead}
+use Rattle.link.specs.Layout.{noFlow}
+use Rattle.link.specs.Updates.{leftHead}
 use Rattle.window.proofs.Ranges.{replaced-none, replaced-more, replaced-kept, replaced-done}
 use Rattle.link.proofs.tick.leave_head.Statement.{statement}
 use Rattle.link.proofs.tick.leave_head.Tie as tie

@@ -12,7 +12,7 @@ use Rattle.plan.specs.declared.Plan.{Plan}
 use Rattle.plan.specs.Reading.{noEntry}
 use Rattle.calls.specs.declared.Answer.{Answer}
 use Rattle.model.specs.Link as model
-use Rattle.link.specs.declared.change.Change.{Change}
+use Rattle.link.specs.declared.asked.Asked.{Asked}
 use Rattle.link.specs.declared.Flow.{Flow}
 use Rattle.link.specs.declared.Link.{Link}
 use Rattle.link.specs.declared.Step.{Step}
@@ -20,10 +20,12 @@ use Rattle.window.specs.declared.Window.{Window}
 use Rattle.tables.specs.Rows.{row, withRow}
 use Rattle.window.specs.Window.{windowOf, Proper}
 use Rattle.tables.specs.Holdings.{shifted}
-use Rattle.link.specs.Parts.{partAt, noFlow, partOf, movedTo, withHeld, withOwners, withFlows, withHoldings, withPart}
+use Rattle.link.specs.Layout.{flowAt, noFlow, flowRow}
+use Rattle.link.specs.Updates.{movedTo, withHeld, withOwners, withFlows, withHoldings, withFlow}
 use Rattle.link.specs.Reading.{linkOf}
 use Rattle.link.specs.Sound.{Sound}
-use Rattle.link.specs.Change.{placed, Around, PartsOf, changed}
+use Rattle.link.specs.Given.{placed, Around, GivenOf}
+use Rattle.link.specs.Asked.{after}
 use Rattle.tables.proofs.Rows.{with-own-row}
 use Rattle.link.proofs.Links.{flows-most, read-window}
 
@@ -46,10 +48,10 @@ module _ (l : Link) (s : Sound l) {plan : Plan} (plan-is : plan ≡ l .plan) whe
     pub around : Around l (plan .count) w (l .held)
     around = record { sound = s; count-is = ap (λ (p : Plan). p .count) plan-is; proper = v; window-is = read-window l is; held-is = refl }
 
-    pub parts-of : (i : ℕ) → PartsOf l (plan .count) (getD (plan .entries) i noEntry) w (l .owner) (l .held) i (getD (l .flows) i noFlow)
-    parts-of i = record { around = around; owner-is = refl; entry-is = ap (λ (p : Plan). getD (p .entries) i noEntry) plan-is; flow-is = refl }
+    pub given-of : (i : ℕ) → GivenOf l (plan .count) (getD (plan .entries) i noEntry) w (l .owner) (l .held) i (getD (l .flows) i noFlow)
+    given-of i = record { around = around; owner-is = refl; entry-is = ap (λ (p : Plan). getD (p .entries) i noEntry) plan-is; flow-is = refl }
 
--- ---- a change that books nothing
+-- ---- a request that books nothing
 
 module _ (l : Link) (i : ℕ) (a : Answer) where
   -- the flow stays
@@ -59,23 +61,23 @@ module _ (l : Link) (i : ℕ) (a : Answer) where
 
   -- the holdings stay
   pub same-held : (f : Flow)
-      → _≡_ {A = Step} (record { link = withPart l i (partOf f (row (l .held) i)); answer = a }) (record { link = withFlows l (set (l .flows) i f); answer = a })
+      → _≡_ {A = Step} (record { link = withFlow l i (flowRow f (row (l .held) i)); answer = a }) (record { link = withFlows l (set (l .flows) i f); answer = a })
   same-held f = ap (λ (x : List ℕ). record { link = withHoldings (withFlows l (set (l .flows) i f)) x; answer = a }) (with-own-row (l .held) i)
 
   pub same-moved : (f : Flow) {j c : ℕ} → f .frame ≡ j → f .left ≡ c
-      → _≡_ {A = Step} (record { link = withPart l i (partOf (movedTo f j c) (row (l .held) i)); answer = a }) (record { link = withFlows l (set (l .flows) i f); answer = a })
-  same-moved f d e = (λ k. record { link = withPart l i (partOf (movedTo f (sym d k) (sym e k)) (row (l .held) i)); answer = a }) ∙ same-held f
+      → _≡_ {A = Step} (record { link = withFlow l i (flowRow (movedTo f j c) (row (l .held) i)); answer = a }) (record { link = withFlows l (set (l .flows) i f); answer = a })
+  same-moved f d e = (λ k. record { link = withFlow l i (flowRow (movedTo f (sym d k) (sym e k)) (row (l .held) i)); answer = a }) ∙ same-held f
 
--- holdings alone that change
-pub same-flows : (l : Link) (i : ℕ) (h : List ℕ) → withHoldings l (withRow (l .held) i h) ≡ withPart l i (withHeld (partAt l i) h)
+-- other holdings alone
+pub same-flows : (l : Link) (i : ℕ) (h : List ℕ) → withHoldings l (withRow (l .held) i h) ≡ withFlow l i (withHeld (flowAt l i) h)
 same-flows l i h = ap (λ (x : List Flow). withHoldings (withFlows l x) (withRow (l .held) i h)) (sym (set-getD (l .flows) i noFlow))
 
--- ---- a change that was stored
+-- ---- a request that was stored
 
-module _ (l : Link) (i : ℕ) (c : Change) where
+module _ (l : Link) (i : ℕ) (c : Asked) where
   pub stored-booking : (w : Window) → windowOf w ≡ model.window (linkOf l) → c .granted ≡ true → {h : List ℕ} → h ≡ shifted (windowOf w) 1 i (c .position) (l .held)
-      → _≡_ {A = Step} (changed l i c) (record { link = withHoldings (withFlows (withOwners l (set (l .owner) (c .position) i)) (set (l .flows) i (c .flow))) h; answer = c .answer })
+      → _≡_ {A = Step} (after l i c) (record { link = withHoldings (withFlows (withOwners l (set (l .owner) (c .position) i)) (set (l .flows) i (c .flow))) h; answer = c .answer })
   stored-booking w is z e = rw (z, e, is)
 
-  pub stored-flow : c .granted ≡ false → _≡_ {A = Step} (changed l i c) (record { link = withFlows l (set (l .flows) i (c .flow)); answer = c .answer })
+  pub stored-flow : c .granted ≡ false → _≡_ {A = Step} (after l i c) (record { link = withFlows l (set (l .flows) i (c .flow)); answer = c .answer })
   stored-flow z = rw z
