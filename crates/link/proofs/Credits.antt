@@ -15,7 +15,8 @@ use Rattle.calls.specs.declared.Answer.the-variants.{Taken, Refused}
 use Rattle.calls.specs.Reading.{answerToCredit}
 use Rattle.link.specs.declared.Link.{Link}
 use Rattle.window.specs.declared.Window as code
-use Rattle.window.specs.Ranges.{replaced, wrapped}
+use Rattle.window.specs.Bytes.{wrapped}
+use Rattle.window.specs.Ranges.{replaced}
 use Rattle.tables.specs.Rows.{row}
 use Rattle.window.specs.Window.{windowOf, Proper, fromIn}
 use Rattle.tables.specs.Holdings.{someHeld, shifted}
@@ -25,8 +26,8 @@ use Rattle.link.specs.Reading.{linkOf}
 use Rattle.link.specs.Sound.{Sound}
 use Rattle.link.specs.Given.{Creditable}
 use Rattle.link.specs.Asked.{Stepped}
-use Rattle.window.proofs.Ranges.{wrapped-down}
-use Rattle.window.proofs.Ranks.{everyFrom-same, replaced-from}
+use Rattle.window.proofs.Bytes.{wrapped-down}
+use Rattle.window.proofs.FromOn.{everyFrom-same, replaced-from}
 use Rattle.link.proofs.Links.{read-count, read-flow, read-holding, read-with-flow, sound-with-flow, read-from, long-from, sound-from}
 use Rattle.link.proofs.Given.{same-flows}
 

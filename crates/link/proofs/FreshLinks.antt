@@ -23,7 +23,7 @@ use Rattle.link.specs.Updates.{movedTo}
 use Rattle.tables.specs.Owners.{nobody, ownerOf, everywhere}
 use Rattle.link.specs.Reading.{flowOf, linkOf}
 use Rattle.link.specs.Sound.{Sound}
-use Rattle.window.proofs.Tables.{table-same, replicate-table}
+use Rattle.window.proofs.Tabulated.{table-same, replicate-table}
 use Rattle.link.proofs.Plans.{plan-count, plan-entry, count-most}
 use Rattle.tables.proofs.Rows.{length-sixteen, row-of-sixteen}
 use Rattle.window.proofs.Ranges.{in-range, past-range, length-replaced, replaced-at, replaced-off}

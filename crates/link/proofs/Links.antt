@@ -25,7 +25,7 @@ use Rattle.link.specs.Updates.{movedTo, linkWith, withOwners, withFlow}
 use Rattle.tables.specs.Owners.{nobody, ownerOf}
 use Rattle.link.specs.Reading.{spareFlow, flowOf, linkOf}
 use Rattle.link.specs.Sound.{Sound, SoundFlow}
-use Rattle.window.proofs.Tables.{getD-table, table-same}
+use Rattle.window.proofs.Tabulated.{getD-table, table-same}
 use Rattle.link.proofs.Plans.{plan-count, plan-entry, count-most}
 use Rattle.tables.specs.Rows.{Sixteen}
 use Rattle.tables.proofs.Rows.{length-row, length-with-row, row-with-same, row-with-other}

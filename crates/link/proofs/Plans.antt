@@ -7,7 +7,7 @@ use lib.ListN.{getD}
 use Rattle.model.specs.Plan as paper
 use Rattle.plan.specs.declared.Plan.{Plan}
 use Rattle.plan.specs.Reading.{entryFor, noEntry, planFor, storedEntry, storedEntries, stored, Valid}
-use Rattle.window.proofs.Tables.{getD-table, length-table, table-past, table-of}
+use Rattle.window.proofs.Tabulated.{getD-table, length-table, table-past, table-of}
 
 module _ (p : Plan) where
   pub plan-count : paper.flowCount (planFor p) ≡ p .count

@@ -3,20 +3,20 @@ use Prim.Native.Nat.{ℕ, zero, suc, _*_, _≤_, _<_}
 use mathlib.Core.Path.{_≡_, refl, sym, ap, _∙_, subst}
 use mathlib.Core.List.{List}
 use mathlib.Core.Option.{some}
-use mathlib.Core.Bool.{Bool, true, false, not, _&&_, cond, and-assoc}
+use mathlib.Core.Bool.{Bool, true, false, not, cond}
 use native.Mathlib.Nat.{mod-lt}
 use native.Mathlib.Omega.{arith}
 use lib.ListN.{length, getD, set}
-use lib.Dec.{leb, ltb, eqb}
+use lib.Dec.{ltb, eqb}
 use borrow.Author.Tests.{lt-ltb, le-ltb, ltb-true, eq-eqb, ne-eqb}
 use Rattle.model.specs.Tables.{table, ahead}
 use Rattle.model.specs.Refusals.{firstOf}
 use Rattle.model.specs.Word as word
 use Rattle.model.specs.Plan as paper
 use Rattle.model.specs.Calls.{accepted}
-use Rattle.model.specs.Window.{Window, rank, passed, everyFrom, newest}
+use Rattle.model.specs.Window.{Window, everyFrom, newest}
 use Rattle.model.specs.Link as model
-use Rattle.model.specs.Request.{wordTests, valid, unbooked, Found, found, nowhere, search, sought, booked, refusedAtNewest, answered, requestAfter, request}
+use Rattle.model.specs.Request.{wordTests, valid, Found, found, nowhere, search, sought, booked, refusedAtNewest, answered, requestAfter, request}
 use Rattle.plan.specs.declared.Plan.{Plan}
 use Rattle.plan.specs.declared.Entry.{Entry}
 use Rattle.plan.specs.Reading.{noEntry, planFor}
@@ -28,25 +28,22 @@ use Rattle.link.specs.declared.Link.{Link}
 use Rattle.window.specs.Ranges.{replaced}
 use Rattle.window.specs.Window.{fromIn}
 use Rattle.tables.specs.Holdings.{roomAt}
-use Rattle.link.specs.Layout.{sizeOf, entryAt, flowRow, flowAt, ownerAt}
+use Rattle.link.specs.Layout.{sizeOf, entryAt, flowRow, flowAt}
 use Rattle.link.specs.Updates.{movedTo, withOwners, withFlow}
-use Rattle.tables.specs.Owners.{ownerOf}
 use Rattle.link.specs.Reading.{flowOf, linkOf}
 use Rattle.calls.specs.Reading.{answerToRequest}
-use Rattle.tables.specs.Search.{freeFrom}
+use Rattle.tables.specs.Search.{validAt, searchFrom}
 use Rattle.link.specs.Sound.{Sound}
 use Rattle.link.proofs.Plans.{plan-count, plan-entry}
 use Rattle.tables.specs.Rows.{row}
 use Rattle.tables.proofs.Rows.{length-row}
-use Rattle.window.proofs.Ranks.{ahead-on, everyFrom-same}
-use Rattle.tables.proofs.Searches.{search-same, search-books, Booking, Books}
+use Rattle.window.proofs.GoingRound.{ahead-on}
+use Rattle.window.proofs.FromOn.{everyFrom-same}
+use Rattle.tables.proofs.ValidPositions.{search-same}
+use Rattle.tables.proofs.FoundPosition.{search-books, Booking, Books}
 use Rattle.link.specs.Given.{placed}
 use Rattle.link.specs.Asked.{Stepped}
 use Rattle.link.proofs.Links.{read-entry, read-flow, read-holding, read-owner, read-with-flow, sound-with-flow, read-with-owner, sound-with-owner, read-from, long-from, sound-from, read-size, read-frames}
-
-and-right : (a b : Bool) → a && b ≡ true → b ≡ true
-and-right true b e = e
-and-right false b e = cc
 
 -- ---- the word's own tests
 
@@ -118,51 +115,45 @@ module _ (l : Link) (x n : ℕ) (tests : n ≡ firstOf (wordTests (planFor (l .p
       pub asker-below : i < l .plan .count
       asker-below = rw asks-for at flow-below
 
--- ---- the search of flow i, where positions from the rank `low` on are late enough and have room
+-- ---- the search of flow i
 
 module _ (l : Link) (s : Sound l) (v : Window) (is : v ≡ model.window (linkOf l)) (i : ℕ) (hi : i < l .plan .count) where
-  pub record LowFor (low : ℕ) : Type 0 where
-    pub from : (p : ℕ) → p < sizeOf l → leb low (rank v p) ≡ not (passed v p) && everyFrom v p (roomAt (flowAt l i .held) (entryAt l i .cells))
+  -- position p is valid for it
+  abbrev pub validHere : ℕ → Bool
+  validHere p = validAt v (l .owner) (flowAt l i .held) (entryAt l i .cells) p
 
   -- there is room from p on
-  room-same : (p : ℕ) → everyFrom (model.window (linkOf l)) p (λ q. ltb (model.holding (linkOf l) i q) (model.cells (linkOf l) i)) ≡ everyFrom (model.window (linkOf l)) p (roomAt (flowAt l i .held) (entryAt l i .cells))
+  room-same : (p : ℕ) → everyFrom (model.window (linkOf l)) p (λ q. ltb (model.holding (linkOf l) i q) (model.cells (linkOf l) i))
+      ≡ everyFrom (model.window (linkOf l)) p (roomAt (flowAt l i .held) (entryAt l i .cells))
   unfolding linkOf
   room-same p =
       everyFrom-same (model.window (linkOf l)) p (λ q. ltb (model.holding (linkOf l) i q) (model.cells (linkOf l) i)) (roomAt (flowAt l i .held) (entryAt l i .cells))
       (λ q b. rw (read-holding l i q hi b, ap (λ (e : paper.Entry). e .cells) (read-entry l i hi)))
 
-  module _ (low : ℕ) (bound : LowFor low) where
-    valid-same : (p : ℕ) → p < sizeOf l → valid (linkOf l) i p ≡ freeFrom v (l .owner) low p
-    unfolding valid freeFrom
-    valid-same p hp =
-        let late = ap (λ (x : Window). passed x p) (sym is) in
-        let room = room-same p ∙ ap (λ (x : Window). everyFrom x p (roomAt (flowAt l i .held) (entryAt l i .cells))) (sym is) in
-        rw (read-owner l p hp, late, room, bound .from p hp) (and-assoc (unbooked (ownerOf (ownerAt l p))) (not (passed v p)) (everyFrom v p (roomAt (flowAt l i .held) (entryAt l i .cells))))
+  valid-same : (p : ℕ) → p < sizeOf l → valid (linkOf l) i p ≡ validHere p
+  unfolding valid validAt
+  valid-same p hp = rw (is, read-owner l p hp, room-same p)
 
-    pub sought-same : sought (linkOf l) i ≡ search v (freeFrom v (l .owner) low) (entryAt l i .share) (ahead (v .frames) (flowAt l i .flow .frame) (newest v)) (flowAt l i .flow .frame) (flowAt l i .flow .left)
-    unfolding sought
-    sought-same =
-        let j = ap (λ (x : model.Flow). x .injection) (read-flow l i hi) in
-        let c = ap (λ (x : model.Flow). x .remainder) (read-flow l i hi) in
-        let e = ap (λ (x : paper.Entry). x .share) (read-entry l i hi) in
-        rw (j, c, e) (ap from-frame (sym is) ∙ search-same v two (valid (linkOf l) i) (entryAt l i .share) _ (λ p h. valid-same p (rw (← read-size l is) h)) _ _ _ (rw (read-frames l is) (s .flows i hi .frame)))
-      where
-        from-frame : Window → Found
-        from-frame x = search x (valid (linkOf l) i) (entryAt l i .share) (ahead (x .frames) (flowAt l i .flow .frame) (newest x)) (flowAt l i .flow .frame) (flowAt l i .flow .left)
+  two : 2 ≤ v .frames
+  two = rw (read-frames l is) (s .plan .accepted .two-frames)
 
-        two : 2 ≤ v .frames
-        two = rw (read-frames l is) (s .plan .accepted .two-frames)
+  frame-there : flowAt l i .flow .frame < v .frames
+  frame-there = rw (read-frames l is) (s .flows i hi .frame)
 
-    -- what is found: a position of the window, with room from it on
-    pub found-at : (j c p : ℕ) → found j c p ≡ sought (linkOf l) i → Booking v (freeFrom v (l .owner) low) j p
-    found-at j c p e = subst (Books v (freeFrom v (l .owner) low)) (sym (e ∙ sought-same)) (search-books v two _ _ _ _ _ (rw (read-frames l is) (s .flows i hi .frame)))
-      where
-        two : 2 ≤ v .frames
-        two = rw (read-frames l is) (s .plan .accepted .two-frames)
+  pub sought-same : sought (linkOf l) i ≡ searchFrom v validHere (entryAt l i .share) (flowAt l i .flow .frame) (flowAt l i .flow .left)
+  unfolding sought
+  sought-same =
+      let j = ap (λ (x : model.Flow). x .injection) (read-flow l i hi) in
+      let c = ap (λ (x : model.Flow). x .remainder) (read-flow l i hi) in
+      let e = ap (λ (x : paper.Entry). x .share) (read-entry l i hi) in
+      rw (j, c, e) (ap from-frame (sym is) ∙ search-same v two (valid (linkOf l) i) validHere (λ p h. valid-same p (rw (← read-size l is) h)) _ _ _ _ frame-there)
+    where
+      from-frame : Window → Found
+      from-frame x = searchFrom x (valid (linkOf l) i) (entryAt l i .share) (flowAt l i .flow .frame) (flowAt l i .flow .left)
 
-    pub room-there : (p : ℕ) → p < sizeOf l → freeFrom v (l .owner) low p ≡ true → everyFrom v p (roomAt (flowAt l i .held) (entryAt l i .cells)) ≡ true
-    unfolding freeFrom
-    room-there p hp e = and-right (not (passed v p)) _ (sym (bound .from p hp) ∙ and-right (unbooked (ownerOf (ownerAt l p))) _ e)
+  -- what is found: a position of the window that is valid
+  pub found-at : (j c p : ℕ) → found j c p ≡ sought (linkOf l) i → Booking v validHere j p
+  found-at j c p e = subst (Books v validHere) (sym (e ∙ sought-same)) (search-books v two _ _ _ _ _ frame-there)
 
   -- in the newest frame, with nothing left of the share
   pub spent-at-newest : flowAt l i .flow .frame ≡ newest v → flowAt l i .flow .left ≡ 0 → nowhere 0 ≡ sought (linkOf l) i

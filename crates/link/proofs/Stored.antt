@@ -15,7 +15,7 @@ use Rattle.link.specs.Layout.{FlowRow, sizeFor, sizeOf, flowAt, ownerAt,
 use Rattle.tables.specs.Owners.{nobody, ownerOf, everywhere}
 use Rattle.link.specs.Reading.{flowOf, linkOf, storedOwner, storedFlow, stored}
 use Rattle.link.specs.Sound.{Sound, SoundFlow}
-use Rattle.window.proofs.Tables.{getD-table, table-past, table-of}
+use Rattle.window.proofs.Tabulated.{getD-table, table-past, table-of}
 use Rattle.tables.specs.Rows.{rowsOf}
 use Rattle.tables.proofs.Rows.{rows-of}
 use Rattle.link.proofs.Plans.{stored-plan}

@@ -29,10 +29,10 @@ use Rattle.tables.specs.Owners.{nobody, ownerOf}
 use Rattle.link.specs.Reading.{flowOf, linkOf}
 use Rattle.calls.specs.Reading.{answerToTick}
 use Rattle.link.specs.Sound.{Sound, SoundFlow}
-use Rattle.window.proofs.Tables.{table-same}
+use Rattle.window.proofs.Tabulated.{table-same}
 use Rattle.window.proofs.Ranges.{in-range, before-range, past-range, length-replaced, replaced-at, replaced-off}
 use Rattle.tables.proofs.Rows.{length-row, length-carried, row-carried, row-not-carried}
-use Rattle.window.proofs.Ranks.{proper}
+use Rattle.window.proofs.Windows.{proper}
 use Rattle.link.specs.Asked.{Stepped}
 use Rattle.link.proofs.Links.{read-count, read-entry, read-flow, read-holding, read-owner, flows-most, size-most, measures, sound-with, sound-owners, sound-flows}
 

@@ -26,8 +26,7 @@ use plan::Entry;
 use tables::Found;
 use tables::holdings::Holdings;
 use tables::holdings::shift_from;
-use tables::search::search;
-use tables::search::valid_rank;
+use tables::search::find;
 use window::Window;
 use window::positions::window;
 
@@ -100,8 +99,16 @@ pub fn ask<'a>(
     if flow.left == 0 && flow.frame == newest {
         return refused(flow, 11);
     }
-    let low = valid_rank(held, i, e.cells, w);
-    let found = search(owner, w, low, e.share as usize, flow.frame, flow.left);
+    let found = find(
+        owner,
+        held,
+        i,
+        e.cells,
+        w,
+        e.share as usize,
+        flow.frame,
+        flow.left,
+    );
     match found {
         Found::At(frame, left, position) => {
             return Asked {

@@ -1,3 +1,9 @@
+-- holdings
 pub mod Rows
 mod Spans
-pub mod Searches
+-- the search
+mod SlotWalk
+mod EarliestSlot
+mod FrameWalk
+pub mod ValidPositions
+pub mod FoundPosition

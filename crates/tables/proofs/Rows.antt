@@ -11,7 +11,7 @@ use lib.Seq.{ext-getD}
 use borrow.Author.Tests.{lt-ltb, le-ltb}
 use Rattle.window.specs.Ranges.{inRange, replaced}
 use Rattle.tables.specs.Rows.{row, Sixteen, rowsOf, sixteenRows, withRow, carriedRows}
-use Rattle.window.proofs.Tables.{getD-table, length-table, table-same, table-of}
+use Rattle.window.proofs.Tabulated.{getD-table, length-table, table-same, table-of}
 use Rattle.window.proofs.Ranges.{in-range, before-range, past-range, length-replaced, replaced-at, replaced-off}
 
 pub length-row : (h : List ℕ) (i : ℕ) → length (row h i) ≡ 256

@@ -13,11 +13,13 @@ use Rattle.model.specs.Window.{everyFrom}
 use Rattle.window.specs.declared.Window.{Window}
 use Rattle.tables.specs.Holdings.{someHeld, roomAt, shifted}
 use Rattle.tables.specs.Rows.{row, withRow}
-use Rattle.window.specs.Ranges.{inRange, replaced, wrapped, All, LastIn}
+use Rattle.window.specs.Bytes.{wrapped}
+use Rattle.window.specs.Ranges.{inRange, replaced, All, LastIn}
 use Rattle.window.specs.Window.{windowOf, sizeOf, baseOf, Proper, fromIn}
-use Rattle.window.proofs.Ranks.{from-high, from-low, from-past, all-from}
+use Rattle.window.proofs.FromOn.{from-high, from-low, from-past, all-from}
 use Rattle.tables.proofs.Rows.{length-row, row-at, with-row-is}
-use Rattle.window.proofs.Ranges.{in-range, before-range, past-range, wrapped-not, length-replaced, replaced-at, replaced-off, all-miss, all-pass}
+use Rattle.window.proofs.Bytes.{wrapped-not}
+use Rattle.window.proofs.Ranges.{in-range, before-range, past-range, length-replaced, replaced-at, replaced-off, all-miss, all-pass}
 
 -- ---- a span of `count` places from `start` on
 

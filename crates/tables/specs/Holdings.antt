@@ -5,7 +5,8 @@ use mathlib.Core.Bool.{Bool}
 use lib.ListN.{getD}
 use lib.Dec.{ltb}
 use Rattle.model.specs.Window.{Window}
-use Rattle.window.specs.Ranges.{replaced, wrapped}
+use Rattle.window.specs.Bytes.{wrapped}
+use Rattle.window.specs.Ranges.{replaced}
 use Rattle.tables.specs.Rows.{row, withRow}
 use Rattle.window.specs.Window.{fromIn}
 

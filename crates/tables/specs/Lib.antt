@@ -1,4 +1,5 @@
 pub mod Owners
 pub mod Rows
 pub mod Holdings
+pub mod Asked
 pub mod Search

@@ -3,12 +3,13 @@
 // A test or a change from p on is one pass over all T places; at the other places it uses a value that leaves the result as it is.
 ghost use mathlib.Core.Path.{_≡_};
 ghost use mathlib.Core.Bool.{cond};
-ghost use Prim.Native.Nat.{ℕ, _+_, _-_, _%_, _≤_, _<_, max};
-ghost use lib.Dec.{leb, ltb};
+ghost use Prim.Native.Nat.{_+_, _-_, _%_, _≤_, _<_, max};
+ghost use lib.Dec.{ltb};
 ghost use lib.ListN.{getD};
 ghost use Rattle.model.specs.Window as model;
-ghost use Rattle.window.specs.Ranges.{inRange, replaced, wrapped, All, LastIn};
-ghost use Rattle.window.specs.Window.{windowOf, sizeOf, baseOf, Proper};
+ghost use Rattle.window.specs.Bytes.{wrapped};
+ghost use Rattle.window.specs.Ranges.{inRange, replaced, All, LastIn};
+ghost use Rattle.window.specs.Window.{windowOf, sizeOf, baseOf, Proper, FromRank};
 ghost use Rattle.tables.specs.Rows.{row, sixteenRows, carriedRows};
 ghost use Rattle.tables.specs.Holdings.{someHeld, roomAt, shifted};
 ghost use Rattle.tables.specs.Owners.{everywhere};
@@ -69,7 +70,7 @@ fn last_full(held: &Holdings, cells: u8, a: usize, e: usize) -> usize
 // The rank from which on flow i has room at every position.
 pub(crate) fn room_rank(held: &Holdings, i: usize, cells: u8, w: Window) -> usize
     requires { ⌜ Proper w × (i < 16) ⌝ }
-    ensures { λ r. ⌜ ((p : ℕ) → p < sizeOf w → leb r (model.rank (windowOf w) p) ≡ model.everyFrom (windowOf w) p (roomAt (row (now (held .entry)) i) cells)) ⌝ }
+    ensures { λ r. ⌜ FromRank w (λ p. model.everyFrom (windowOf w) p (roomAt (row (now (held .entry)) i) cells)) r ⌝ }
 {
     let first = 256 * i;
     let head = first + w.head * w.slots;

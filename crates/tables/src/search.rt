@@ -1,17 +1,14 @@
 // The search for a position to book.
 ghost use mathlib.Core.Path.{_≡_};
-ghost use mathlib.Core.Bool.{not, _&&_, cond};
-ghost use Prim.Native.Nat.{ℕ, _+_, _≤_, _<_};
+ghost use mathlib.Core.Bool.{_&&_, cond};
+ghost use Prim.Native.Nat.{_+_, _≤_, _<_};
 ghost use lib.Dec.{leb, eqb};
 ghost use lib.ListN.{getD};
-ghost use Rattle.model.specs.Tables as tables;
-ghost use Rattle.model.specs.Window as model;
-ghost use Rattle.model.specs.Request as request;
-ghost use Rattle.window.specs.Window.{windowOf, sizeOf, Proper};
+ghost use Rattle.window.specs.Window.{windowOf, Proper};
+ghost use Rattle.tables.specs.Asked.{FlowFrom};
 ghost use Rattle.tables.specs.Owners.{nobody};
 ghost use Rattle.tables.specs.Rows.{row};
-ghost use Rattle.tables.specs.Holdings.{roomAt};
-ghost use Rattle.tables.specs.Search.{foundOf, freeFrom, Earliest};
+ghost use Rattle.tables.specs.Search.{foundOf, validAt, searchFrom, freeFrom, LateWithRoom, Earliest};
 use crate::Found;
 use crate::holdings::Holdings;
 use crate::holdings::room_rank;
@@ -25,9 +22,9 @@ use window::positions::ahead;
 use window::positions::next;
 
 // The rank from which on a position is valid for a flow if nobody booked it: it is late enough, and there is room from it on.
-pub fn valid_rank(held: &Holdings, i: usize, cells: u8, w: Window) -> usize
+fn valid_rank(held: &Holdings, i: usize, cells: u8, w: Window) -> usize
     requires { ⌜ Proper w × (i < 16) ⌝ }
-    ensures { λ r. ⌜ ((p : ℕ) → p < sizeOf w → leb r (model.rank (windowOf w) p) ≡ not (model.passed (windowOf w) p) && model.everyFrom (windowOf w) p (roomAt (row (now (held .entry)) i) cells)) ⌝ }
+    ensures { λ r. ⌜ LateWithRoom w (row (now (held .entry)) i) cells r ⌝ }
 {
     larger(
         room_rank(held, i, cells, w),
@@ -68,7 +65,7 @@ fn earliest(owner: &[u8; 256], start: usize, from: usize, to: usize, low: u8) ->
 const TOGETHER: usize = 32;
 
 // The search from a frame and a remainder up to the newest frame, for an unbooked position whose rank is at least `low`.
-pub fn search(
+fn search(
     owner: &[u8; 256],
     w: Window,
     low: usize,
@@ -77,7 +74,7 @@ pub fn search(
     remainder: usize,
 ) -> Found
     requires { ⌜ Proper w × (first < w .frames) ⌝ }
-    ensures { λ r. ⌜ foundOf r ≡ request.search (windowOf w) (freeFrom (windowOf w) (now (owner .entry)) low) share (tables.ahead (w .frames) first (model.newest (windowOf w))) first remainder ⌝ }
+    ensures { λ r. ⌜ foundOf r ≡ searchFrom (windowOf w) (freeFrom (windowOf w) (now (owner .entry)) low) share first remainder ⌝ }
 {
     let mut frame = first;
     let mut left = remainder;
@@ -108,4 +105,22 @@ pub fn search(
         left = share;
     }
     found
+}
+
+// The search of flow i from a frame and a remainder up to the newest frame, for a position that is valid for it.
+pub fn find<'a>(
+    owner: &'a [u8; 256],
+    held: &'a Holdings,
+    i: usize,
+    cells: u8,
+    w: Window,
+    share: usize,
+    first: usize,
+    remainder: usize,
+) -> Found
+    requires { ⌜ FlowFrom w i first ⌝ }
+    ensures { λ r. ⌜ foundOf r ≡ searchFrom (windowOf w) (validAt (windowOf w) (now (owner .entry)) (row (now (held .entry)) i) cells) share first remainder ⌝ }
+{
+    let low = valid_rank(held, i, cells, w);
+    search(owner, w, low, share, first, remainder)
 }

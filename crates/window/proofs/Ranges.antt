@@ -1,15 +1,15 @@
--- Laws of ranges of positions: a loop that replaces one element a turn, a loop that tests one a turn, and a search back. Assumes nothing.
-use Prim.Native.Nat.{ℕ, zero, suc, _+_, _-_, _%_, _≤_, _<_}
+-- Ranges of positions: what lies in one, its elements replaced one at a step, a test of them one at a step, and a search back. Assumes nothing.
+use Prim.Native.Nat.{ℕ, zero, suc, _+_, _-_, _≤_, _<_}
 use mathlib.Core.Path.{_≡_, refl, sym, ap, _∙_}
 use mathlib.Core.List.{List, [], _∷_}
 use mathlib.Core.Bool.{Bool, true, false, _&&_, cond, and-false, true≢false}
 use native.Mathlib.Decide.{decLt, decLe, ℕ-discrete}
 use native.Mathlib.Omega.{arith}
 use lib.ListN.{length, getD, set, length-set, List·getD-eq-default}
-use lib.Dec.{leb, ltb, eqb}
+use lib.Dec.{leb, ltb}
 use lib.Seq.{ext-getD, getD-set-same, getD-set-other, set-getD}
-use borrow.Author.Tests.{le-leb, lt-leb, lt-ltb, le-ltb, eq-eqb, ne-eqb}
-use Rattle.window.specs.Ranges.{inRange, replaced, wrapped, Miss, All, LastIn}
+use borrow.Author.Tests.{le-leb, lt-leb, lt-ltb, le-ltb}
+use Rattle.window.specs.Ranges.{inRange, replaced, Miss, All, LastIn}
 
 -- ---- a range
 
@@ -25,6 +25,13 @@ pub past-range : (a e q : ℕ) → e ≤ q → inRange a e q ≡ false
 unfolding inRange
 past-range a e q h = rw (le-ltb q e h, and-false)
 
+empty-range : (a i : ℕ) → inRange a a i ≡ false
+empty-range a i = go (decLt i a)
+  where
+    go : Dec (i < a) → inRange a a i ≡ false
+    go (yes h) = before-range a a i h
+    go (no h) = past-range a a i (omega arith)
+
 -- one position more
 range-more : (a e q : ℕ) → (q ≡ e → ⊥) → inRange a (e + 1) q ≡ inRange a e q
 unfolding inRange
@@ -34,30 +41,6 @@ range-more a e q n = go (decLt q e)
     go (yes h) = rw (lt-ltb q e h, lt-ltb q (e + 1) (omega arith))
     go (no h) = rw (le-ltb q e (omega arith), le-ltb q (e + 1) (omega arith))
 
--- ---- a byte moved modulo 256
-
-pub wrapped-is : (by x : ℕ) → by < 256 → x < 256 → (x + by) % 256 ≡ wrapped by x
-unfolding wrapped
-wrapped-is by x hb hx = go (ℕ-discrete by 0) (decLt (x + by) 256)
-  where
-    go : Dec (by ≡ 0) → Dec (x + by < 256) → (x + by) % 256 ≡ cond (eqb by 0) x (cond (ltb (x + by) 256) (x + by) (x + by - 256))
-    go (yes z) h = rw (eq-eqb by 0 z) (omega arith)
-    go (no z) (yes h) = rw (ne-eqb by 0 z, lt-ltb (x + by) 256 h) (omega arith)
-    go (no z) (no h) = rw (ne-eqb by 0 z, le-ltb (x + by) 256 (omega arith)) (omega arith)
-
--- by 0
-pub wrapped-not : (x : ℕ) → wrapped 0 x ≡ x
-unfolding wrapped
-wrapped-not x = refl
-
-pub wrapped-up : (x : ℕ) → x < 255 → wrapped 1 x ≡ suc x
-unfolding wrapped
-wrapped-up x h = rw (lt-ltb (x + 1) 256 (omega arith)) (omega arith)
-
-pub wrapped-down : (x : ℕ) → 0 < x → wrapped 255 x ≡ x - 1
-unfolding wrapped
-wrapped-down x h = rw (le-ltb (x + 255) 256 (omega arith)) (omega arith)
-
 -- ---- elements replaced
 
 module _ {A : Type 0} where
@@ -66,19 +49,23 @@ module _ {A : Type 0} where
   length-replaced t f [] = refl
   length-replaced t f (x ∷ xs) = ap suc (length-replaced (λ i. t (suc i)) (λ i. f (suc i)) xs)
 
-  pub replaced-at : (t : ℕ → Bool) (f : ℕ → A → A) (xs : List A) (i : ℕ) (d : A) → i < length xs → getD (replaced t f xs) i d ≡ cond (t i) (f i (getD xs i d)) (getD xs i d)
+  pub replaced-at : (t : ℕ → Bool) (f : ℕ → A → A) (xs : List A) (i : ℕ) (d : A) → i < length xs
+      → getD (replaced t f xs) i d ≡ cond (t i) (f i (getD xs i d)) (getD xs i d)
   unfolding replaced
   replaced-at t f [] i d h = absurd (omega arith)
   replaced-at t f (x ∷ xs) zero d h = refl
   replaced-at t f (x ∷ xs) (suc i) d h = replaced-at (λ i. t (suc i)) (λ i. f (suc i)) xs i d (omega arith)
 
   -- where the test fails, the element is as it was
-  pub replaced-off : (t : ℕ → Bool) (f : ℕ → A → A) (xs : List A) (i : ℕ) (d : A) → t i ≡ false → getD (replaced t f xs) i d ≡ getD xs i d
+  pub replaced-off : (t : ℕ → Bool) (f : ℕ → A → A) (xs : List A) (i : ℕ) (d : A) → t i ≡ false
+      → getD (replaced t f xs) i d ≡ getD xs i d
   replaced-off t f xs i d e = go (decLt i (length xs))
     where
       go : Dec (i < length xs) → getD (replaced t f xs) i d ≡ getD xs i d
       go (yes h) = replaced-at t f xs i d h ∙ rw e
-      go (no h) = List·getD-eq-default (replaced t f xs) d (rw length-replaced (omega arith)) ∙ sym (List·getD-eq-default xs d (omega arith))
+      go (no h) =
+          List·getD-eq-default (replaced t f xs) d (rw length-replaced (omega arith))
+          ∙ sym (List·getD-eq-default xs d (omega arith))
 
   -- the same replaced by two tests and functions that agree on what is there
   pub replaced-same : (t t′ : ℕ → Bool) (f f′ : ℕ → A → A) (xs : List A) (d : A)
@@ -92,14 +79,11 @@ module _ {A : Type 0} where
   -- ---- a loop that has replaced the range from a to j
 
   pub replaced-none : (a : ℕ) (f : ℕ → A → A) (xs : List A) (d : A) → xs ≡ replaced (inRange a a) f xs
-  replaced-none a f xs d = ext-getD d _ _ (sym (length-replaced _ f xs)) (λ i h. sym (replaced-off _ f xs i d (go i (decLt i a))))
-    where
-      go : (i : ℕ) → Dec (i < a) → inRange a a i ≡ false
-      go i (yes h) = before-range a a i h
-      go i (no h) = past-range a a i (omega arith)
+  replaced-none a f xs d = ext-getD d _ _ (sym (length-replaced _ f xs)) (λ i h. sym (replaced-off _ f xs i d (empty-range a i)))
 
-  pub replaced-more : (a j : ℕ) (f : ℕ → A → A) (xs : List A) (d : A) (ys : List A) (v : A) → ys ≡ replaced (inRange a j) f xs → a ≤ j
-      → v ≡ f j (getD ys j d) → set ys j v ≡ replaced (inRange a (j + 1)) f xs
+  pub replaced-more : (a j : ℕ) (f : ℕ → A → A) (xs : List A) (d : A) (ys : List A) (v : A)
+      → ys ≡ replaced (inRange a j) f xs → a ≤ j → v ≡ f j (getD ys j d)
+      → set ys j v ≡ replaced (inRange a (j + 1)) f xs
   replaced-more a j f xs d ys v e l ev =
       ap (λ (zs : List A). set zs j v) e
       ∙ ap (set done j) (ev ∙ ap (λ (zs : List A). f j (getD zs j d)) e ∙ ap (f j) here)
@@ -111,16 +95,23 @@ module _ {A : Type 0} where
       here : getD done j d ≡ getD xs j d
       here = replaced-off (inRange a j) f xs j d (past-range a j j (omega arith))
 
-      go : (i : ℕ) → i < length xs → Dec (i ≡ j) → getD (set done j (f j (getD xs j d))) i d ≡ getD (replaced (inRange a (j + 1)) f xs) i d
-      go i b (yes q) = let h = rw q at b in rw q (getD-set-same done j _ d (rw length-replaced h) ∙ sym (replaced-at _ f xs j d h ∙ rw (in-range a (j + 1) j l (omega arith))))
+      go : (i : ℕ) → i < length xs → Dec (i ≡ j)
+          → getD (set done j (f j (getD xs j d))) i d ≡ getD (replaced (inRange a (j + 1)) f xs) i d
+      go i b (yes q) =
+          let h = rw q at b in
+          let put = getD-set-same done j (f j (getD xs j d)) d (rw length-replaced h) in
+          let inside = in-range a (j + 1) j l (omega arith) in
+          rw q (put ∙ sym (replaced-at _ f xs j d h ∙ rw inside))
       go i b (no q) = getD-set-other done j i _ d q ∙ replaced-at _ f xs i d b ∙ rw (← range-more a j i q) (sym (replaced-at _ f xs i d b))
 
   -- the element at j is as it was
-  pub replaced-kept : (a j : ℕ) (f : ℕ → A → A) (xs : List A) (d : A) (ys : List A) → ys ≡ replaced (inRange a j) f xs → a ≤ j
-      → f j (getD ys j d) ≡ getD ys j d → ys ≡ replaced (inRange a (j + 1)) f xs
+  pub replaced-kept : (a j : ℕ) (f : ℕ → A → A) (xs : List A) (d : A) (ys : List A)
+      → ys ≡ replaced (inRange a j) f xs → a ≤ j → f j (getD ys j d) ≡ getD ys j d
+      → ys ≡ replaced (inRange a (j + 1)) f xs
   replaced-kept a j f xs d ys e l z = sym (set-getD ys j d) ∙ replaced-more a j f xs d ys (getD ys j d) e l (sym z)
 
-  pub replaced-done : (a j e : ℕ) (f : ℕ → A → A) (xs ys : List A) → ys ≡ replaced (inRange a j) f xs → j ≡ e → ys ≡ replaced (inRange a e) f xs
+  pub replaced-done : (a j e : ℕ) (f : ℕ → A → A) (xs ys : List A) → ys ≡ replaced (inRange a j) f xs → j ≡ e
+      → ys ≡ replaced (inRange a e) f xs
   replaced-done a j e f xs ys q p = rw (← p) q
 
 -- ---- a loop that has tested the range from a to q
@@ -130,7 +121,10 @@ module _ {t : ℕ → Bool} {a : ℕ} where
   all-none h = record { pass = λ z x h₁ h₂. absurd (omega arith); miss = λ z. absurd (true≢false z) }
 
   pub all-miss : (q : ℕ) {r : Bool} → a ≤ q → t q ≡ false → r ≡ false → All t a (q + 1) r
-  all-miss q h e z = record { pass = λ y. absurd (true≢false (sym y ∙ z)); miss = λ _. record { at = q; from = h; below = omega arith; fails = e } }
+  all-miss q h e z = record {
+    pass = λ y. absurd (true≢false (sym y ∙ z));
+    miss = λ _. record { at = q; from = h; below = omega arith; fails = e };
+  }
 
   pub all-pass : {q : ℕ} {r s : Bool} → All t a q s → t q ≡ true → r ≡ s → All t a (q + 1) r
   all-pass {q} {r} {s} v e z = rw z (record { pass = λ y x h₁ h₂. go y x h₁ h₂ (ℕ-discrete x q); miss = λ y. wider (v .miss y) })
@@ -163,7 +157,12 @@ module _ {t : ℕ → Bool} {e : ℕ} where
       go x h₁ h₂ (no d) = let y : x ≡ q - 1 = omega arith in rw y z
 
   pub last-here : {a q : ℕ} → Passes t q e → a ≤ q → q ≤ e → t (q - 1) ≡ false → LastIn t a e q
-  last-here {a} {q} v h₁ h₂ z = record { low = h₁; high = h₂; miss = λ x h y. let y′ : x ≡ q - 1 = omega arith in rw y′ z; pass = v .pass }
+  last-here {a} {q} v h₁ h₂ z = record {
+    low = h₁;
+    high = h₂;
+    miss = λ x h y. let y′ : x ≡ q - 1 = omega arith in rw y′ z;
+    pass = v .pass;
+  }
 
   pub last-none : {a q : ℕ} → Passes t q e → q ≡ a → q ≤ e → LastIn t a e q
   last-none v h h₂ = record { low = omega arith; high = h₂; miss = λ x h₁ y. absurd (omega arith); pass = v .pass }

@@ -1,9 +1,9 @@
--- Lists by position: positions that pass a test replaced, a test of every position of a range, the last one that fails it, and a byte moved modulo 256. Assumes nothing.
-use Prim.Native.Nat.{ℕ, suc, _+_, _-_, _≤_, _<_}
+-- Ranges of positions: elements of a list replaced, a test of every position of a range, and the last one that fails it. Assumes nothing.
+use Prim.Native.Nat.{ℕ, suc, _+_, _≤_, _<_}
 use mathlib.Core.Path.{_≡_}
 use mathlib.Core.List.{List, [], _∷_}
 use mathlib.Core.Bool.{Bool, true, false, _&&_, cond}
-use lib.Dec.{leb, ltb, eqb}
+use lib.Dec.{leb, ltb}
 
 -- the range from a to e: the positions a, a + 1, .., e - 1
 unfoldable pub inRange : ℕ → ℕ → ℕ → Bool
@@ -14,10 +14,6 @@ module _ {A : Type 0} where
   unfoldable pub replaced : (ℕ → Bool) → (ℕ → A → A) → List A → List A
   replaced t f [] = []
   replaced t f (x ∷ xs) = cond (t 0) (f 0 x) x ∷ replaced (λ i. t (suc i)) (λ i. f (suc i)) xs
-
--- a byte moved by a number, modulo 256; 0 leaves any number as it is
-unfoldable pub wrapped : ℕ → ℕ → ℕ
-wrapped by x = cond (eqb by 0) x (cond (ltb (x + by) 256) (x + by) (x + by - 256))
 
 -- a position of the range from a to e that fails t
 pub record Miss (t : ℕ → Bool) (a e : ℕ) : Type 0 where

@@ -2,7 +2,7 @@
 use Prim.Native.Nat.{ℕ, _+_, _*_, _/_, _%_, _≤_, _<_}
 use mathlib.Core.Path.{_≡_}
 use mathlib.Core.Bool.{Bool, _&&_}
-use lib.Dec.{ltb}
+use lib.Dec.{leb, ltb}
 use Rattle.window.specs.declared.Window.{Window}
 use Rattle.model.specs.Window as model
 
@@ -34,6 +34,15 @@ pub record Proper (w : Window) : Type 0 where
   pub base-low : baseOf w ≤ w .current
   pub base-high : w .current < baseOf w + w .slots
   pub base-fits : baseOf w + w .slots ≤ sizeOf w
+
+-- p is a position of a window
+pub record InWindow (w : Window) (p : ℕ) : Type 0 where
+  pub proper : Proper w
+  pub below : p < sizeOf w
+
+-- t passes the positions of rank r or more, and no others
+pub record FromRank (w : Window) (t : ℕ → Bool) (r : ℕ) : Type 0 where
+  pub is : (p : ℕ) → p < sizeOf w → leb r (model.rank (windowOf w) p) ≡ t p
 
 -- on is the window one position on from w; its head is another one exactly at the first position of a frame
 pub record Ticked (w on : Window) : Type 0 where

@@ -3,7 +3,7 @@ ghost use mathlib.Core.Path.{_≡_};
 ghost use mathlib.Core.Bool.{cond};
 ghost use Prim.Native.Nat.{_+_, _-_, _%_, max, min};
 ghost use lib.Dec.{ltb};
-ghost use Rattle.window.specs.Ranges.{wrapped};
+ghost use Rattle.window.specs.Bytes.{wrapped};
 use std::num::wrapping_add_u8;
 use std::num::wrapping_sub_u8;
 

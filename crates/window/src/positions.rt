@@ -1,25 +1,25 @@
 // Positions and frames, going round.
 ghost use mathlib.Core.Path.{_≡_};
-ghost use Prim.Native.Nat.{_+_, _-_, _%_, _≤_, _<_};
+ghost use Prim.Native.Nat.{_+_, _-_, _%_, _<_};
 ghost use Rattle.model.specs.Tables as tables;
 ghost use Rattle.model.specs.Window as model;
-ghost use Rattle.window.specs.Window.{windowOf, sizeOf, Measures, Proper, Ticked};
+ghost use Rattle.window.specs.Window.{windowOf, Measures, Proper, InWindow, Ticked};
 use crate::Window;
 
 // How far `to` lies ahead of `at`, going round m places.
 pub fn ahead(m: usize, at: usize, to: usize) -> usize
-    requires { ⌜ (at < m) × (to < m) × (m ≤ 256) ⌝ }
+    requires { ⌜ (at < m) × (to < m) ⌝ }
     ensures { λ r. ⌜ r ≡ tables.ahead m at to ⌝ }
 {
     if at <= to {
         return to - at;
     }
-    to + m - at
+    m - (at - to)
 }
 
 // One place on, going round m places.
 pub fn next(m: usize, at: usize) -> usize
-    requires { ⌜ (at < m) × (m ≤ 256) ⌝ }
+    requires { ⌜ at < m ⌝ }
     ensures { λ r. ⌜ r ≡ (at + 1) % m ⌝ }
 {
     if at + 1 == m {
@@ -30,7 +30,7 @@ pub fn next(m: usize, at: usize) -> usize
 
 // One place back, going round m places.
 pub fn before(m: usize, at: usize) -> usize
-    requires { ⌜ (at < m) × (m ≤ 256) ⌝ }
+    requires { ⌜ at < m ⌝ }
     ensures { λ r. ⌜ r ≡ (at + m - 1) % m ⌝ }
 {
     if at == 0 {
@@ -56,7 +56,7 @@ pub fn window(slots: usize, frames: usize, current: usize) -> Window
 impl Window {
     // How far a position lies on from the first one of the head frame.
     pub fn rank(self, p: usize) -> usize
-        requires { ⌜ Proper self × (p < sizeOf self) ⌝ }
+        requires { ⌜ InWindow self p ⌝ }
         ensures { λ r. ⌜ r ≡ model.rank (windowOf self) p ⌝ }
     {
         ahead(self.slots * self.frames, self.head * self.slots, p)
@@ -64,7 +64,7 @@ impl Window {
 
     // Whether a position lies in the head frame and is not later than CP.
     pub fn passed(self, p: usize) -> bool
-        requires { ⌜ Proper self × (p < sizeOf self) ⌝ }
+        requires { ⌜ InWindow self p ⌝ }
         ensures { λ r. ⌜ r ≡ model.passed (windowOf self) p ⌝ }
     {
         self.rank(p) <= self.current - self.head * self.slots

@@ -50,7 +50,7 @@ returns-2 : tie.Need-returns-2
 returns-2 c = (λ l a. tests-13 l _ _ (rw (← a .count-is) (c .before .before .if1 .left)) (rw (← read-size l (a .window-is)) (c .if2 .taken)), λ z. absurd (omega (arith, z)))
 
 passed-requires : tie.Need-passed-requires
-passed-requires c κs = (start c .pre .0, c .if2 .left)
+passed-requires c κs = record { proper = start c .pre .0; below = c .if2 .left }
 
 returns-3 : tie.Need-returns-3
 returns-3 c =

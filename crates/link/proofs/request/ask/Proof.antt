@@ -3,7 +3,6 @@ use borrow.Author.Needs.{needs}
 use Prim.Native.Nat.{ℕ, suc, _*_, _<_}
 use mathlib.Core.Path.{_≡_, refl, sym, ap, _∙_, subst}
 use mathlib.Core.List.{List}
-use mathlib.Core.Bool.{not, _&&_}
 use native.Mathlib.Omega.{arith}
 use lib.Dec.{ltb}
 use lib.ListN.{getD}
@@ -12,30 +11,30 @@ use Rattle.plan.specs.declared.Entry.{Entry}
 use Rattle.plan.specs.Reading.{noEntry, planFor}
 use Rattle.model.specs.Word.{flowOf}
 use Rattle.model.specs.Refusals.{firstOf}
-use Rattle.model.specs.Tables.{ahead}
-use Rattle.model.specs.Window.{Window, passed, everyFrom, newest}
+use Rattle.model.specs.Window.{Window, newest}
 use Rattle.model.specs.Link as model
 use Rattle.model.specs.Request as paper
 use Rattle.model.specs.Request.{found, sought, answered, request}
 use Rattle.calls.specs.Reading.{answerToRequest}
 use Rattle.link.specs.declared.Flow.{Flow}
 use Rattle.link.specs.declared.Link.{Link}
-use Rattle.window.specs.Ranges.{replaced, wrapped}
+use Rattle.window.specs.Bytes.{wrapped}
+use Rattle.window.specs.Ranges.{replaced}
 use Rattle.tables.specs.Rows.{row}
 use Rattle.link.specs.Layout.{sizeOf, entryAt}
 use Rattle.link.specs.Updates.{movedTo}
-use Rattle.tables.specs.Holdings.{roomAt}
 use Rattle.link.specs.Reading.{linkOf}
-use Rattle.tables.specs.Search.{foundOf, freeFrom}
+use Rattle.tables.specs.Search.{foundOf, validAt, searchFrom}
 use Rattle.window.specs.Window.{windowOf, fromIn}
 use Rattle.link.specs.Given.{placed, GivenOf}
 use Rattle.link.specs.Asked.{Stepped}
-use Rattle.window.proofs.Ranges.{wrapped-up}
-use Rattle.window.proofs.Ranks.{replaced-from}
+use Rattle.window.proofs.Bytes.{wrapped-up}
+use Rattle.window.proofs.FromOn.{replaced-from}
 use Rattle.link.proofs.Given.{same-link, same-held, same-moved}
 use Rattle.link.proofs.Links.{read-size, read-frames, flows-most, size-most}
-use Rattle.tables.proofs.Searches.{Booking}
-use Rattle.link.proofs.Requests.{refused-word, asked, asks-for, asker-below, LowFor, sought-same, found-at, room-there, spent-at-newest, granted-link, refused-link, granted, refused-newest}
+use Rattle.tables.proofs.ValidPositions.{valid-room}
+use Rattle.tables.proofs.FoundPosition.{Booking}
+use Rattle.link.proofs.Requests.{refused-word, asked, asks-for, asker-below, sought-same, found-at, spent-at-newest, granted-link, refused-link, granted, refused-newest}
 use Rattle.link.proofs.request.ask.Statement.{statement}
 use Rattle.link.proofs.request.ask.Tie as tie
 
@@ -69,51 +68,40 @@ flow-below c =
     omega (arith, flow-known c (g .link) (g .of), flows-most _ (g .of .around .sound))
 
 -- where the newest frame is known, where the word passed, and where the function is entered
-abbrev newest-at : tie.After-search → tie.After-newest
-newest-at c = c .before .before .before .before .before
+abbrev newest-at : tie.After-find → tie.After-newest
+newest-at c = c .before .before .before .before
 
-abbrev passed-at : tie.After-search → tie.Else1
+abbrev passed-at : tie.After-find → tie.Else1
 passed-at c = newest-at c .before
 
-abbrev start : tie.After-search → tie.Start
+abbrev start : tie.After-find → tie.Start
 start c = entered (passed-at c .before)
 
-abbrev flow-at : tie.After-search → ℕ
+abbrev flow-at : tie.After-find → ℕ
 flow-at c = start c .args .i
 
-abbrev window-at : tie.After-search → Window
+abbrev window-at : tie.After-find → Window
 window-at c = windowOf (start c .args .w)
 
--- the rank from which on positions are late enough and have room
-abbrev low-at : tie.After-search → ℕ
-low-at c = c .before .before .valid-rank .result
-
-module _ (c : tie.After-search) (l : Link) (o : OfAt (start c) l) where
+module _ (c : tie.After-find) (l : Link) (o : OfAt (start c) l) where
   window-is : window-at c ≡ model.window (linkOf l)
   window-is = o .around .window-is
 
   flow-there : flow-at c < l .plan .count
   flow-there = flow-known (passed-at c) l o
 
-  low-known : LowFor l (o .around .sound) (window-at c) window-is (flow-at c) flow-there (low-at c)
-  low-known = record {
-    from = λ p h.
-        c .before .before .valid-rank .ensures p (rw (read-size l window-is) h)
-        ∙ ap (λ (x : List ℕ). not (passed (window-at c) p) && everyFrom (window-at c) p (roomAt (row x (flow-at c)) (start c .args .e .cells))) (o .around .held-is)
-        ∙ ap (λ (x : Entry). not (passed (window-at c) p) && everyFrom (window-at c) p (roomAt (row (l .held) (flow-at c)) (x .cells))) (o .entry-is);
-  }
+  found-from : (owner held : List ℕ) → Entry → Flow → paper.Found
+  found-from owner held e f = searchFrom (window-at c) (validAt (window-at c) owner (row held (flow-at c)) (e .cells)) (e .share) (f .frame) (f .left)
 
-  found-from : List ℕ → Entry → Flow → paper.Found
-  found-from owner e f = paper.search (window-at c) (freeFrom (window-at c) owner (low-at c)) (e .share) (ahead (window-at c .frames) (f .frame) (newest (window-at c))) (f .frame) (f .left)
-
-  searched : foundOf (c .search .result) ≡ sought (linkOf l) (flow-at c)
+  searched : foundOf (c .find .result) ≡ sought (linkOf l) (flow-at c)
   unfolding found-from
   searched =
-      c .search .ensures
-      ∙ ap (λ (x : List ℕ). found-from x (start c .args .e) (start c .args .flow)) (o .owner-is)
-      ∙ ap (λ (x : Entry). found-from (l .owner) x (start c .args .flow)) (o .entry-is)
-      ∙ ap (λ (x : Flow). found-from (l .owner) (entryAt l (flow-at c)) x) (o .flow-is)
-      ∙ sym (sought-same l (o .around .sound) (window-at c) window-is (flow-at c) flow-there (low-at c) low-known)
+      c .find .ensures
+      ∙ ap (λ (x : List ℕ). found-from x (start c .args .held .now) (start c .args .e) (start c .args .flow)) (o .owner-is)
+      ∙ ap (λ (x : List ℕ). found-from (l .owner) x (start c .args .e) (start c .args .flow)) (o .around .held-is)
+      ∙ ap (λ (x : Entry). found-from (l .owner) (l .held) x (start c .args .flow)) (o .entry-is)
+      ∙ ap (λ (x : Flow). found-from (l .owner) (l .held) (entryAt l (flow-at c)) x) (o .flow-is)
+      ∙ sym (sought-same l (o .around .sound) (window-at c) window-is (flow-at c) flow-there)
 
   asked-at : request (linkOf l) (start c .args .word) ≡ answered (linkOf l) (start c .args .word) (sought (linkOf l) (flowOf (start c .args .word)))
   asked-at = asked l _ _ (tests-are (passed-at c .before) l o) (passed-at c .if1 .left)
@@ -126,8 +114,8 @@ module _ (c : tie.After-found) (l : Link) (o : OfAt (start (c .before .before)) 
   found-is : found (c .found .given .0 .0) (c .found .given .0 .1 .0) position-at ≡ sought (linkOf l) (flow-at (c .before .before))
   found-is = ap foundOf (sym (c .found .given .1)) ∙ searched (c .before .before) l o
 
-  booking : Booking (window-at (c .before .before)) (freeFrom (window-at (c .before .before)) (l .owner) (low-at (c .before .before))) (c .found .given .0 .0) position-at
-  booking = let q = c .before .before in found-at l (o .around .sound) (window-at q) (window-is q l o) (flow-at q) (flow-there q l o) (low-at q) (low-known q l o) _ _ _ found-is
+  booking : Booking (window-at (c .before .before)) (validAt (window-at (c .before .before)) (l .owner) (row (l .held) (flow-at (c .before .before))) (entryAt l (flow-at (c .before .before)) .cells)) (c .found .given .0 .0) position-at
+  booking = let q = c .before .before in found-at l (o .around .sound) (window-at q) (window-is q l o) (flow-at q) (flow-there q l o) _ _ _ found-is
 
   position-below : position-at < sizeOf l
   position-below = rw (read-size l (window-is (c .before .before) l o)) at (booking .position)
@@ -140,7 +128,7 @@ module _ (c : tie.After-found) (l : Link) (o : OfAt (start (c .before .before)) 
       subst (λ (x : Window). replaced (fromIn x position-at) (λ q x. wrapped 1 x) (row (l .held) (flow-at q)) ≡ replaced (fromIn x position-at) (λ q x. suc x) (row (l .held) (flow-at q))) (window-is q l o)
       (replaced-from (start q .args .w) (o .around .proper) position-at (booking .position) (λ x. ltb x (entryAt l (flow-at q) .cells)) (wrapped 1) suc (row (l .held) (flow-at q))
       (λ x e. wrapped-up x (let z = ap (λ (y : Entry). y .cells) (o .entry-is) in omega (arith, ltb-true x _ e, z)))
-      (room-there l (o .around .sound) (window-at q) (window-is q l o) (flow-at q) (flow-there q l o) (low-at q) (low-known q l o) _ position-below (booking .passes)))
+      (valid-room (window-at q) (l .owner) (row (l .held) (flow-at q)) _ _ (booking .passes)))
 
 position-fits : (c : tie.After-found) → position-at c (start (c .before .before) .pre .0 .link) (start (c .before .before) .pre .0 .of) < 256
 position-fits c = let g = start (c .before .before) .pre .0 in omega (arith, position-below c (g .link) (g .of), size-most _ (g .of .around .sound))
@@ -191,18 +179,19 @@ returns-2 c =
       some-position s,
     )
 
-valid-rank-requires : tie.Need-valid-rank-requires
-valid-rank-requires c κs = let e = c .before .before .before in (entered (e .before) .pre .0 .of .around .proper, flow-below e)
+cast-find : tie.Need-cast-find
+cast-find c = search needs
 
-cast-search : tie.Need-cast-search
-cast-search c = search needs
-
-search-requires : tie.Need-search-requires
-search-requires c κs =
-    let e = c .before .before .before .before .before in
+find-requires : tie.Need-find-requires
+find-requires c κs =
+    let e = c .before .before .before .before in
     let g = entered (e .before) .pre .0 in
     let o = g .of in
-    (o .around .proper, rw (read-frames _ (o .around .window-is), o .flow-is) (o .around .sound .flows _ (flow-known e (g .link) o) .frame))
+    record {
+      proper = o .around .proper;
+      flow = flow-below e;
+      frame = rw (read-frames _ (o .around .window-is), o .flow-is) (o .around .sound .flows _ (flow-known e (g .link) o) .frame);
+    }
 
 enum-known-found : tie.Need-enum-known-found
 enum-known-found c = search needs
@@ -266,9 +255,8 @@ ask-spec =
     newest-requires
     refused-requires-2
     returns-2
-    valid-rank-requires
-    cast-search
-    search-requires
+    cast-find
+    find-requires
     enum-known-found
     moved-to-requires
     cast-depart

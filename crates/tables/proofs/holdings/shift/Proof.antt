@@ -5,7 +5,8 @@ use mathlib.Core.Path.{_≡_, ap, _∙_}
 use mathlib.Core.Bool.{cond}
 use native.Mathlib.Omega.{arith}
 use lib.ListN.{getD}
-use Rattle.window.specs.Ranges.{inRange, replaced, wrapped}
+use Rattle.window.specs.Bytes.{wrapped}
+use Rattle.window.specs.Ranges.{inRange, replaced}
 use Rattle.window.proofs.Ranges.{replaced-none, replaced-more, replaced-done}
 use Rattle.tables.proofs.Spans.{pad-is, next-place}
 use Rattle.tables.proofs.holdings.shift.Statement.{statement}

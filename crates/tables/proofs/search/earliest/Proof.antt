@@ -8,7 +8,7 @@ use lib.Dec.{eqb, leb}
 use lib.ListN.{getD}
 use Rattle.tables.specs.Owners.{nobody}
 use Rattle.tables.specs.Search.{Earliest}
-use Rattle.tables.proofs.Searches.{earliest-none, earliest-more}
+use Rattle.tables.proofs.EarliestSlot.{earliest-none, earliest-more}
 use Rattle.tables.proofs.search.earliest.Statement.{statement}
 use Rattle.tables.proofs.search.earliest.Tie as tie
 

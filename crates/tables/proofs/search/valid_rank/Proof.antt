@@ -1,10 +1,6 @@
 -- `tables::search::valid_rank` meets its contract: two lower bounds on ranks are one. Assumes nothing.
 use borrow.Author.Needs.{needs}
-use Prim.Native.Nat.{_+_, _-_}
-use mathlib.Core.Path.{sym}
-use Rattle.model.specs.Window as model
-use Rattle.window.specs.Window.{windowOf, baseOf}
-use Rattle.window.proofs.Ranks.{late-is, leb-max}
+use Rattle.window.proofs.Ranks.{late-from, both-from}
 use Rattle.tables.proofs.search.valid_rank.Statement.{statement}
 use Rattle.tables.proofs.search.valid_rank.Tie as tie
 
@@ -26,8 +22,7 @@ larger-requires c κs = search needs
 returns : tie.Need-returns
 returns c =
     let k = c .before .before .before in
-    let w = k .before .args .w in λ p l.
-    rw (c .larger .ensures, late-is w (k .before .pre .0) p l, ← k .room-rank .ensures p l) (sym (leb-max (k .room-rank .result) (w .current + 1 - baseOf w) (model.rank (windowOf w) p)))
+    rw (c .larger .ensures) (both-from (k .room-rank .ensures) (late-from (k .before .args .w) (k .before .pre .0)))
 
 pub valid-rank-spec : {M : Type 1} → statement M
 valid-rank-spec =

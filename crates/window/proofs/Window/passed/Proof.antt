@@ -15,7 +15,7 @@ sub-result : tie.Need-sub-result
 sub-result c = search needs
 
 returns : tie.Need-returns
-returns c = let s = c .before .before .before in rw (c .before .before .rank .ensures) (sym (passed-is _ (s .pre .0) _ (s .pre .1)))
+returns c = let s = c .before .before .before in rw (c .before .before .rank .ensures) (sym (passed-is _ (s .pre .proper) _ (s .pre .below)))
 
 pub passed-spec : {M : Type 1} → statement M
 passed-spec = tie.close (tie.spec rank-requires mul-result sub-result returns)

@@ -15,7 +15,7 @@ ahead-requires : tie.Need-ahead-requires
 ahead-requires c κs = search needs
 
 returns : tie.Need-returns
-returns c = c .ahead .ensures ∙ sym (rank-is _ (c .before .before .before .pre .0) _)
+returns c = let s = c .before .before .before in c .ahead .ensures ∙ sym (rank-is _ (s .pre .proper) _)
 
 pub rank-spec : {M : Type 1} → statement M
 rank-spec = tie.close (tie.spec mul-ahead mul-ahead-2 ahead-requires returns)

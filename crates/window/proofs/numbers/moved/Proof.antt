@@ -2,7 +2,7 @@
 use borrow.Author.Needs.{needs}
 use mathlib.Core.Path.{_∙_}
 use native.Mathlib.Omega.{arith}
-use Rattle.window.proofs.Ranges.{wrapped-is}
+use Rattle.window.proofs.Bytes.{wrapped-is}
 use Rattle.window.proofs.numbers.moved.Statement.{statement}
 use Rattle.window.proofs.numbers.moved.Tie as tie
 

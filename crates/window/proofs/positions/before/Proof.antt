@@ -4,7 +4,7 @@ use mathlib.Core.Path.{sym}
 use native.Mathlib.Nat.{mod-eq-of-lt, zero-add}
 use native.Mathlib.Omega.{arith}
 use Rattle.model.specs.Tables.{ahead}
-use Rattle.window.proofs.Ranks.{ahead-on}
+use Rattle.window.proofs.GoingRound.{ahead-on}
 use Rattle.window.proofs.positions.before.Statement.{statement}
 use Rattle.window.proofs.positions.before.Tie as tie
 

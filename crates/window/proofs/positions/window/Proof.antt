@@ -1,7 +1,7 @@
 -- `window::positions::window` meets its contract. Assumes nothing.
 use borrow.Author.Needs.{needs}
 use mathlib.Core.Path.{refl}
-use Rattle.window.proofs.Ranks.{proper}
+use Rattle.window.proofs.Windows.{proper}
 use Rattle.window.proofs.positions.window.Statement.{statement}
 use Rattle.window.proofs.positions.window.Tie as tie
 

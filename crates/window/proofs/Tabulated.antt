@@ -1,4 +1,4 @@
--- Laws of tables, of tests of every number below a bound, and of reading lists. Assumes nothing.
+-- Lists given place by place (`table`), and tests of every number below a bound (`every`): the model's laws and some more. Assumes nothing.
 use Prim.Native.Nat.{ℕ, zero, suc, _<_}
 use mathlib.Core.Path.{_≡_, refl, sym, _∙_}
 use mathlib.Core.List.{List}
@@ -11,8 +11,12 @@ pub use Rattle.model.proofs.Tables.{getD-table, getD-table-past as table-past, 
 
 module _ {A : Type 0} where
   -- a list is the table of its elements
-  pub table-of : (xs : List A) (n : ℕ) (f : ℕ → A) (d : A) → length xs ≡ n → ((i : ℕ) → i < n → f i ≡ getD xs i d) → table n f ≡ xs
-  table-of xs n f d e h = ext-getD d (table n f) xs (length-table n f ∙ sym e) (λ i b. let b′ = rw length-table at b in getD-table n f i d b′ ∙ h i b′)
+  pub table-of : (xs : List A) (n : ℕ) (f : ℕ → A) (d : A) → length xs ≡ n → ((i : ℕ) → i < n → f i ≡ getD xs i d)
+      → table n f ≡ xs
+  table-of xs n f d e h =
+      ext-getD d (table n f) xs (length-table n f ∙ sym e) λ i b.
+      let below = rw length-table at b in
+      getD-table n f i d below ∙ h i below
 
   pub replicate-table : (n : ℕ) (x : A) → replicate n x ≡ table n (λ _. x)
   replicate-table zero x = refl
