@@ -1,83 +1,142 @@
--- What a call is given of a link, and what it stores. Assumes nothing.
-use Prim.Native.Nat.{ℕ, _<_}
-use mathlib.Core.Path.{_≡_, refl, sym, ap, _∙_}
+-- A sound link with its plan and its window at hand, which a call and the loop over records work with, and what they give of it. Assumes nothing.
+use Prim.Native.Nat.{ℕ, _≤_, _<_}
+use mathlib.Core.Path.{_≡_, refl, sym, ap, _∙_, subst}
 use mathlib.Core.List.{List}
-use mathlib.Core.Bool.{Bool, true, false}
+use mathlib.Core.Bool.{Bool, true, false, cond}
 use native.Mathlib.Omega.{arith}
 use lib.Dec.{ltb}
+use lib.ListN.{getD}
 use borrow.Author.Tests.{ltb-true}
-use lib.ListN.{getD, set}
-use lib.Seq.{set-getD}
+use Rattle.plan.specs.declared.Entry.{Entry}
 use Rattle.plan.specs.declared.Plan.{Plan}
-use Rattle.plan.specs.Reading.{noEntry}
-use Rattle.calls.specs.declared.Answer.{Answer}
+use Rattle.plan.specs.Reading.{Valid, noEntry}
+use Rattle.model.specs.Word.{flowOf}
+use Rattle.model.specs.Window as seen
 use Rattle.model.specs.Link as model
-use Rattle.link.specs.declared.asked.Asked.{Asked}
+use Rattle.model.specs.Request.{sought}
+use Rattle.window.specs.declared.Window.{Window}
+use Rattle.window.specs.Window.{windowOf, sizeOf, Proper, Ticked}
+use Rattle.tables.specs.Asked.{FlowFrom}
+use Rattle.tables.specs.Rows.{row}
+use Rattle.tables.specs.Search.{validAt, searchFrom}
 use Rattle.link.specs.declared.Flow.{Flow}
 use Rattle.link.specs.declared.Link.{Link}
-use Rattle.link.specs.declared.Step.{Step}
-use Rattle.window.specs.declared.Window.{Window}
-use Rattle.tables.specs.Rows.{row, withRow}
-use Rattle.window.specs.Window.{windowOf, Proper}
-use Rattle.tables.specs.Holdings.{shifted}
-use Rattle.link.specs.Layout.{flowAt, noFlow, flowRow}
-use Rattle.link.specs.Updates.{movedTo, withHeld, withOwners, withFlows, withHoldings, withFlow}
+use Rattle.link.specs.Layout.{noFlow}
 use Rattle.link.specs.Reading.{linkOf}
 use Rattle.link.specs.Sound.{Sound}
-use Rattle.link.specs.Given.{placed, Around, GivenOf}
-use Rattle.link.specs.Asked.{after}
-use Rattle.tables.proofs.Rows.{with-own-row}
-use Rattle.link.proofs.Links.{flows-most, read-window}
+use Rattle.link.specs.Given.{WindowOn, CreditOn, placed, RequestOn, WordOn}
+use Rattle.link.proofs.Plans.{count-some, count-most}
+use Rattle.link.proofs.Readings.{read-size, read-frames, some-flow, flows-most}
+use Rattle.link.proofs.Searches.{sought-same}
 
--- ---- what a call is given of a sound link, by its plan and its window
+pub record AtHand (l : Link) (plan : Plan) (w : Window) : Type 0 where
+  pub sound : Sound l
+  pub plan-is : plan ≡ l .plan
+  pub window-is : windowOf w ≡ model.window (linkOf l)
+  pub proper : Proper w
 
-module _ (l : Link) (s : Sound l) {plan : Plan} (plan-is : plan ≡ l .plan) where
-  -- the place of a flow
-  pub place-below : (i x : ℕ) → i ≡ placed (plan .count) x → i < 16
-  place-below i x e = go (ltb x (plan .count)) refl
-    where
-      go : (b : Bool) → ltb x (plan .count) ≡ b → i < 16
-      go true z =
-          let h = ltb-true x (plan .count) z in
-          let d : i ≡ x = e ∙ rw z in
-          let n = ap (λ (p : Plan). p .count) plan-is in
-          omega (arith, h, d, n, flows-most l s)
-      go false z = let d : i ≡ 0 = e ∙ rw z in omega (arith, d)
+-- the window of a link with this plan and this current position
+abbrev pub windowFor : Plan → ℕ → seen.Window
+windowFor p current = record { slots = p .slots; frames = p .frames; current = current }
 
-  module _ {w : Window} (is : windowOf w ≡ record { slots = l .plan .slots; frames = l .plan .frames; current = l .cp }) (v : Proper w) where
-    pub around : Around l (plan .count) w (l .held)
-    around = record { sound = s; count-is = ap (λ (p : Plan). p .count) plan-is; proper = v; window-is = read-window l is; held-is = refl }
+-- ---- a link comes to hand, and stays there
 
-    pub given-of : (i : ℕ) → GivenOf l (plan .count) (getD (plan .entries) i noEntry) w (l .owner) (l .held) i (getD (l .flows) i noFlow)
-    given-of i = record { around = around; owner-is = refl; entry-is = ap (λ (p : Plan). getD (p .entries) i noEntry) plan-is; flow-is = refl }
+pub at-hand : {l : Link} {w : Window} → Sound l → windowOf w ≡ windowFor (l .plan) (l .cp) → Proper w → AtHand l (l .plan) w
+unfolding linkOf
+at-hand s is v = record { sound = s; plan-is = refl; window-is = is; proper = v }
 
--- ---- a request that books nothing
+module _ {l : Link} {plan : Plan} {w : Window} (a : AtHand l plan w) {l′ : Link} (s : Sound l′) (same : l′ .plan ≡ l .plan) where
+  -- after a request or a credit
+  pub at-hand-still : l′ .cp ≡ l .cp → AtHand l′ plan w
+  unfolding linkOf
+  at-hand-still e = record {
+    sound = s;
+    plan-is = a .plan-is ∙ sym same;
+    window-is = a .window-is ∙ (λ k. windowFor (sym same k) (sym e k));
+    proper = a .proper;
+  }
 
-module _ (l : Link) (i : ℕ) (a : Answer) where
-  -- the flow stays
-  pub same-link : {f : Flow} → f ≡ getD (l .flows) i noFlow
-      → _≡_ {A = Step} (record { link = l; answer = a }) (record { link = withFlows l (set (l .flows) i f); answer = a })
-  same-link e = ap (λ (x : List Flow). record { link = withFlows l x; answer = a }) (sym (set-getD (l .flows) i noFlow) ∙ ap (set (l .flows) i) (sym e))
+  -- after a tick
+  pub at-hand-ticked : {on : Window} → Ticked w on → l′ .cp ≡ on .current → AtHand l′ plan on
+  unfolding linkOf
+  at-hand-ticked {on} t e =
+      let slots = ap (λ (x : seen.Window). x .slots) (t .window-is) ∙ ap (λ (x : seen.Window). x .slots) (a .window-is) in
+      let frames = ap (λ (x : seen.Window). x .frames) (t .window-is) ∙ ap (λ (x : seen.Window). x .frames) (a .window-is) in
+      record {
+        sound = s;
+        plan-is = a .plan-is ∙ sym same;
+        window-is = rw (same, e) (λ k. record { slots = slots k; frames = frames k; current = on .current });
+        proper = t .proper;
+      }
 
-  -- the holdings stay
-  pub same-held : (f : Flow)
-      → _≡_ {A = Step} (record { link = withFlow l i (flowRow f (row (l .held) i)); answer = a }) (record { link = withFlows l (set (l .flows) i f); answer = a })
-  same-held f = ap (λ (x : List ℕ). record { link = withHoldings (withFlows l (set (l .flows) i f)) x; answer = a }) (with-own-row (l .held) i)
+-- ---- what is given of it to the functions below a call
 
-  pub same-moved : (f : Flow) {j c : ℕ} → f .frame ≡ j → f .left ≡ c
-      → _≡_ {A = Step} (record { link = withFlow l i (flowRow (movedTo f j c) (row (l .held) i)); answer = a }) (record { link = withFlows l (set (l .flows) i f); answer = a })
-  same-moved f d e = (λ k. record { link = withFlow l i (flowRow (movedTo f (sym d k) (sym e k)) (row (l .held) i)); answer = a }) ∙ same-held f
+-- the place of a flow is one of the plan's flows
+pub placed-below : (n x : ℕ) → 1 ≤ n → placed n x < n
+placed-below n x h = go (ltb x n) refl
+  where
+    go : (b : Bool) → ltb x n ≡ b → cond b x 0 < n
+    go true e = ltb-true x n e
+    go false e = omega arith
 
--- other holdings alone
-pub same-flows : (l : Link) (i : ℕ) (h : List ℕ) → withHoldings l (withRow (l .held) i h) ≡ withFlow l i (withHeld (flowAt l i) h)
-same-flows l i h = ap (λ (x : List Flow). withHoldings (withFlows l x) (withRow (l .held) i h)) (sym (set-getD (l .flows) i noFlow))
+pub placed-few : {plan : Plan} → Valid plan → {i : ℕ} (x : ℕ) → i ≡ placed (plan .count) x → i < 16
+placed-few {plan} v x e = omega (arith, e, placed-below (plan .count) x (count-some plan v), count-most plan v)
 
--- ---- a request that was stored
+module _ {l : Link} {plan : Plan} {w : Window} (a : AtHand l plan w) where
+  pub plan-valid : Valid plan
+  plan-valid = subst Valid (sym (a .plan-is)) (a .sound .plan)
 
-module _ (l : Link) (i : ℕ) (c : Asked) where
-  pub stored-booking : (w : Window) → windowOf w ≡ model.window (linkOf l) → c .granted ≡ true → {h : List ℕ} → h ≡ shifted (windowOf w) 1 i (c .position) (l .held)
-      → _≡_ {A = Step} (after l i c) (record { link = withHoldings (withFlows (withOwners l (set (l .owner) (c .position) i)) (set (l .flows) i (c .flow))) h; answer = c .answer })
-  stored-booking w is z e = rw (z, e, is)
+  pub flows-few : plan .count ≤ 16
+  flows-few = count-most plan plan-valid
 
-  pub stored-flow : c .granted ≡ false → _≡_ {A = Step} (after l i c) (record { link = withFlows l (set (l .flows) i (c .flow)); answer = c .answer })
-  stored-flow z = rw z
+  window-on : WindowOn l (plan .count) w
+  window-on = record {
+    sound = a .sound;
+    count-is = ap (λ (p : Plan). p .count) (a .plan-is);
+    proper = a .proper;
+    window-is = a .window-is;
+  }
+
+  pub credit-on : CreditOn l (plan .count) w (l .held)
+  credit-on = record { window = window-on; held-is = refl }
+
+  pub request-on : {i : ℕ} (x : ℕ) → i ≡ placed (plan .count) (flowOf x)
+      → RequestOn l (plan .count) (getD (plan .entries) i noEntry) w (l .owner) (l .held) i (getD (l .flows) i noFlow) x
+  request-on {i} x e = record {
+    window = window-on;
+    held-is = refl;
+    owner-is = refl;
+    place-is = e;
+    entry-is = ap (λ (p : Plan). getD (p .entries) i noEntry) (a .plan-is);
+    flow-is = refl;
+  }
+
+-- ---- what a request on link l is given
+
+module _ {l : Link} {n : ℕ} {e : Entry} {w : Window} {owner held : List ℕ} {i : ℕ} {f : Flow} {x : ℕ} (o : RequestOn l n e w owner held i f x) where
+  pub word-on : WordOn (l .plan) n e (sizeOf w) x
+  word-on = record {
+    count-is = o .window .count-is;
+    entry-is = o .entry-is ∙ ap (λ (k : ℕ). getD (l .plan .entries) k noEntry) (o .place-is);
+    size-is = read-size l (o .window .window-is);
+  }
+
+  pub place-on : i ≡ placed (l .plan .count) (flowOf x)
+  place-on = o .place-is ∙ ap (λ (m : ℕ). placed m (flowOf x)) (o .window .count-is)
+
+  pub flow-on : i < l .plan .count
+  flow-on = rw place-on (placed-below (l .plan .count) (flowOf x) (some-flow l (o .window .sound)))
+
+  pub flow-from : FlowFrom w i (f .frame)
+  flow-from = record {
+    proper = o .window .proper;
+    flow = omega (arith, flow-on, flows-most l (o .window .sound));
+    frame = rw (read-frames l (o .window .window-is), o .flow-is) (o .window .sound .flows i flow-on .frame);
+  }
+
+  -- what is sought of it
+  pub sought-on : searchFrom (windowOf w) (validAt (windowOf w) owner (row held i) (e .cells)) (e .share) (f .frame) (f .left) ≡ sought (linkOf l) i
+  sought-on =
+      (λ k. searchFrom (windowOf w) (validAt (windowOf w) (o .owner-is k) (row (o .held-is k) i) (o .entry-is k .cells))
+      (o .entry-is k .share) (o .flow-is k .frame) (o .flow-is k .left))
+      ∙ sym (sought-same l (o .window .sound) (windowOf w) (o .window .window-is) i flow-on)

@@ -1,5 +1,5 @@
 -- The reading determines a sound link: it is what its reading is stored as. Assumes nothing.
-use Prim.Native.Nat.{ℕ, _+_, _*_, _/_, _%_, _<_}
+use Prim.Native.Nat.{ℕ, _<_}
 use mathlib.Core.Path.{_≡_, refl, sym, ap, _∙_}
 use mathlib.Core.Bool.{Bool, true, false}
 use native.Mathlib.Decide.{decLt}
@@ -19,7 +19,7 @@ use Rattle.window.proofs.Tabulated.{getD-table, table-past, table-of}
 use Rattle.tables.specs.Rows.{rowsOf}
 use Rattle.tables.proofs.Rows.{rows-of}
 use Rattle.link.proofs.Plans.{stored-plan}
-use Rattle.link.proofs.Links.{read-flow, read-owner}
+use Rattle.link.proofs.Readings.{read-flow, read-owner}
 
 owner-back : (x : ℕ) → storedOwner (ownerOf x) ≡ x
 owner-back x = go (eqb x nobody) refl

@@ -3,4 +3,4 @@ pub mod Updates
 pub mod Reading
 pub mod Sound
 pub mod Given
-pub mod Asked
+pub mod Reply

@@ -2,10 +2,13 @@
 use Prim.Native.Nat.{ℕ}
 use mathlib.Core.List.{List}
 use mathlib.Core.Bool.{cond}
-use lib.ListN.{set}
+use lib.ListN.{getD, set}
 use lib.Dec.{eqb}
 use Rattle.link.specs.declared.Flow.{Flow}
 use Rattle.link.specs.declared.Link.{Link}
+use Rattle.plan.specs.declared.Plan.{Plan}
+use Rattle.plan.specs.Reading.{noEntry}
+use Rattle.window.specs.Ranges.{inRange, replaced}
 use Rattle.tables.specs.Rows.{withRow}
 use Rattle.link.specs.Layout.{FlowRow, flowRow}
 
@@ -19,6 +22,11 @@ movedTo f j c = record { frame = j; left = c }
 abbrev pub leftHead : (head on share : ℕ) → Flow → Flow
 leftHead head on share f = cond (eqb (f .frame) head) (movedTo f on share) f
 
+-- each of the plan's flows that was in the head frame
+abbrev pub leftHeads : Plan → (head on : ℕ) → List Flow → List Flow
+leftHeads plan head on = replaced (inRange 0 (plan .count)) (λ i f. leftHead head on (getD (plan .entries) i noEntry .share) f)
+
+-- other holdings
 abbrev pub withHeld : FlowRow → List ℕ → FlowRow
 withHeld x h = flowRow (x .flow) h
 

@@ -2,9 +2,9 @@
 ghost use mathlib.Core.Path.{_≡_};
 ghost use Rattle.link.specs.Updates.{movedTo};
 
-pub mod asked; // what a request comes to
 pub mod credit;
 mod fresh;
+pub mod reply; // what a request comes to
 pub mod request;
 pub mod tick;
 
