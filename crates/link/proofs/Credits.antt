@@ -5,7 +5,7 @@ use mathlib.Core.List.{List}
 use mathlib.Core.Bool.{true, false}
 use lib.Dec.{ltb}
 use lib.Seq.{set-getD}
-use borrow.Author.Tests.{lt-ltb, le-ltb, ltb-true}
+use borrow.Author.Tests.{lt-ltb, le-ltb}
 use Rattle.model.specs.Refusals.{firstOf}
 use Rattle.model.specs.Calls.{accepted}
 use Rattle.model.specs.Window.{Window, passed, everyFrom}
@@ -15,13 +15,12 @@ use Rattle.calls.specs.declared.Answer.the-variants.{Taken, Refused}
 use Rattle.calls.specs.Reading.{answerToCredit}
 use Rattle.plan.specs.declared.Plan.{Plan}
 use Rattle.window.specs.declared.Window as code
-use Rattle.window.specs.Bytes.{wrapped}
 use Rattle.window.specs.Ranges.{replaced}
 use Rattle.window.specs.Window.{windowOf, fromIn}
-use Rattle.window.proofs.Bytes.{wrapped-down}
-use Rattle.window.proofs.FromOn.{everyFrom-same, replaced-from}
+use Rattle.window.proofs.FromOn.{everyFrom-same}
 use Rattle.tables.specs.Rows.{row, withRow}
-use Rattle.tables.specs.Holdings.{someHeld, shifted}
+use Rattle.tables.specs.Holdings.{someHeld, shiftedRow, shifted}
+use Rattle.tables.proofs.HoldingChanges.{one-fewer}
 use Rattle.link.specs.declared.Flow.{Flow}
 use Rattle.link.specs.declared.Link.{Link}
 use Rattle.link.specs.Layout.{sizeOf, flowAt, noFlow}
@@ -96,17 +95,16 @@ module _ {l : Link} {plan : Plan} {w : code.Window} (a : AtHand l plan w) (i p :
 
     -- what flow i holds then
     abbrev lower : List ℕ
-    lower = replaced (fromIn (windowOf w) p) (λ q x. wrapped 255 x) (row (l .held) i)
+    lower = shiftedRow (windowOf w) 255 p (row (l .held) i)
 
     lower-is : lower ≡ replaced (fromIn (windowOf w) p) (λ q x. x - 1) (row (l .held) i)
-    lower-is =
-        replaced-from w (a .proper) p (c .position) (λ x. ltb 0 x) (wrapped 255) (λ x. x - 1) (row (l .held) i)
-        (λ x e. wrapped-down x (ltb-true 0 x e)) (c .some-held)
+    lower-is = one-fewer w (a .proper) p (c .position) (row (l .held) i) (c .some-held)
 
     lower-link : linkOf (withFlow l i (withHeld (flowAt l i) lower)) ≡ lowered (linkOf l) i p
     unfolding lowered
     lower-link =
-        read-from l (a .sound) (windowOf w) (a .window-is) i p flow-below (λ x. x - 1) lower lower-is (flowAt l i .flow) (sym (read-flow l i flow-below))
+        read-from l (a .sound) (windowOf w) (a .window-is) i p flow-below (λ x. x - 1) lower lower-is (flowAt l i .flow)
+        (sym (read-flow l i flow-below))
 
     sound-lower : Sound (withFlow l i (withHeld (flowAt l i) lower))
     sound-lower =

@@ -7,8 +7,6 @@ use native.Mathlib.Nat.{mod-lt}
 use native.Mathlib.Omega.{arith}
 use lib.ListN.{set}
 use lib.Seq.{set-getD}
-use lib.Dec.{ltb}
-use borrow.Author.Tests.{ltb-true}
 use Rattle.model.specs.Refusals.{firstOf}
 use Rattle.model.specs.Word.{flowOf}
 use Rattle.model.specs.Window.{newest}
@@ -19,15 +17,13 @@ use Rattle.plan.specs.declared.Plan.{Plan}
 use Rattle.plan.specs.Reading.{planFor}
 use Rattle.calls.specs.Reading.{answerToRequest}
 use Rattle.window.specs.declared.Window.{Window}
-use Rattle.window.specs.Bytes.{wrapped}
 use Rattle.window.specs.Ranges.{replaced}
 use Rattle.window.specs.Window as window
 use Rattle.window.specs.Window.{windowOf, fromIn}
-use Rattle.window.proofs.Bytes.{wrapped-up}
-use Rattle.window.proofs.FromOn.{replaced-from}
 use Rattle.tables.specs.Rows.{row}
-use Rattle.tables.specs.Holdings.{shifted}
+use Rattle.tables.specs.Holdings.{shiftedRow, shifted}
 use Rattle.tables.proofs.Rows.{length-row, with-own-row}
+use Rattle.tables.proofs.HoldingChanges.{one-more}
 use Rattle.tables.proofs.ValidPositions.{valid-room}
 use Rattle.tables.proofs.FoundPosition.{Booking}
 use Rattle.link.specs.declared.reply.Reply.{Reply}
@@ -86,7 +82,7 @@ module _ {l : Link} {plan : Plan} {w : Window} (a : AtHand l plan w) (i : ℕ) (
 
     -- what it holds then: fewer than its cells were held, so that no byte goes round
     abbrev raised : List ℕ
-    raised = replaced (fromIn (windowOf w) p) (λ q x. wrapped 1 x) (row (l .held) i)
+    raised = shiftedRow (windowOf w) 1 p (row (l .held) i)
 
     cells-most : entryAt l i .cells ≤ 255
     cells-most =
@@ -95,8 +91,7 @@ module _ {l : Link} {plan : Plan} {w : Window} (a : AtHand l plan w) (i : ℕ) (
 
     raised-is : raised ≡ replaced (fromIn (windowOf w) p) (λ q x. suc x) (row (l .held) i)
     raised-is =
-        replaced-from w (a .proper) p position-below (λ x. ltb x (entryAt l i .cells)) (wrapped 1) suc (row (l .held) i)
-        (λ x e. wrapped-up x (omega (arith, ltb-true x _ e, cells-most)))
+        one-more w (a .proper) p position-below (row (l .held) i) (entryAt l i .cells) cells-most
         (valid-room (windowOf w) (l .owner) (row (l .held) i) _ _ (booking .passes))
 
     booked-link : linkOf (withFlow owned i (flowRow (movedTo (flowAt l i .flow) j c) raised)) ≡ booked (linkOf l) i j c p

@@ -1,5 +1,5 @@
 -- A tick on a link, as it is read: the head frame stays or is left, and CP goes on by one. Assumes nothing.
-use Prim.Native.Nat.{ℕ, _+_, _-_, _/_, _%_}
+use Prim.Native.Nat.{ℕ, _+_, _/_, _%_}
 use mathlib.Core.Path.{_≡_, refl, sym, ap, _∙_}
 use mathlib.Core.List.{List}
 use borrow.Author.Tests.{eq-eqb, ne-eqb}
@@ -10,10 +10,9 @@ use Rattle.plan.specs.declared.Plan.{Plan}
 use Rattle.calls.specs.declared.Answer.{Answer}
 use Rattle.calls.specs.Reading.{answerToTick}
 use Rattle.window.specs.declared.Window.{Window}
-use Rattle.window.specs.Ranges.{inRange, replaced}
 use Rattle.window.specs.Window as window
-use Rattle.tables.specs.Owners.{nobody, ownerOf}
-use Rattle.tables.specs.Rows.{carriedRows}
+use Rattle.tables.specs.Owners.{ownerOf, emptied}
+use Rattle.tables.specs.Holdings.{carried}
 use Rattle.link.specs.declared.Flow.{Flow}
 use Rattle.link.specs.declared.Link.{Link}
 use Rattle.link.specs.Layout.{ownerAt}
@@ -24,7 +23,7 @@ use Rattle.link.proofs.Steps.{Stepped}
 use Rattle.link.proofs.Given.{AtHand}
 use Rattle.link.proofs.Readings.{read-owner}
 use Rattle.link.proofs.Updated.{sound-with, sound-owners, sound-flows}
-use Rattle.link.proofs.FrameChanges.{nextAt, headAt, recycled, next-below, read-recycled, sound-recycled}
+use Rattle.link.proofs.FrameChanges.{windowAt, nextAt, recycled, next-below, read-recycled, sound-recycled}
 
 -- x, with the current position p, is link l after its tick
 pub record Advanced (l x : Link) (p : ℕ) : Type 0 where
@@ -46,7 +45,7 @@ module _ (l : Link) (s : Sound l) where
   changed z = record { plan-is = refl; link-is = rw (eq-eqb _ _ z) (read-recycled l s); sound = sound-recycled l s }
 
 module _ {l : Link} {plan : Plan} {w : Window} (a : AtHand l plan w) {on : Window} (t : window.Ticked w on) where
-  window-is : w ≡ record { slots = l .plan .slots; frames = l .plan .frames; current = l .cp; head = headAt l }
+  window-is : w ≡ windowAt l
   unfolding linkOf
   window-is =
       let head = a .proper .head-is ∙ ap (λ (x : seen.Window). x .current / x .slots) (a .window-is) in λ k.
@@ -67,8 +66,8 @@ module _ {l : Link} {plan : Plan} {w : Window} (a : AtHand l plan w) {on : Windo
 
   -- the head frame is left: its owners, holdings and flows were changed
   pub head-left : {x : Link} {o h : List ℕ} {fs : List Flow} → (on .head ≡ w .head → ⊥)
-      → o ≡ replaced (inRange (window.baseOf w) (window.baseOf w + w .slots)) (λ q x. nobody) (l .owner)
-      → h ≡ carriedRows (plan .count) ((window.baseOf w + window.sizeOf w - 1) % window.sizeOf w) (window.baseOf w) (window.baseOf w + w .slots) (l .held)
+      → o ≡ emptied w (l .owner)
+      → h ≡ carried w (plan .count) (l .held)
       → fs ≡ leftHeads plan (w .head) (on .head) (l .flows)
       → withCurrent x (on .current) ≡ linkWith l (on .current) o fs h
       → Advanced l x (on .current)
@@ -78,14 +77,10 @@ module _ {l : Link} {plan : Plan} {w : Window} (a : AtHand l plan w) {on : Windo
       record { plan-is = ap (λ (y : Link). y .plan) there; link-is = ap linkOf there ∙ r .link-is; sound = rw there (r .sound) }
     where
       owners-are : o ≡ recycled l .owner
-      owners-are = owners ∙ ap (λ (x : Window). replaced (inRange (window.baseOf x) (window.baseOf x + x .slots)) (λ q x. nobody) (l .owner)) window-is
-
-      carried : Plan → Window → List ℕ
-      carried p x =
-          carriedRows (p .count) ((window.baseOf x + window.sizeOf x - 1) % window.sizeOf x) (window.baseOf x) (window.baseOf x + x .slots) (l .held)
+      owners-are = owners ∙ ap (λ (x : Window). emptied x (l .owner)) window-is
 
       held-is : h ≡ recycled l .held
-      held-is = held ∙ (λ k. carried (a .plan-is k) (window-is k))
+      held-is = held ∙ (λ k. carried (window-is k) (a .plan-is k .count) (l .held))
 
       flows-are : fs ≡ recycled l .flows
       flows-are =

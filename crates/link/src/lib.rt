@@ -29,7 +29,7 @@ impl Flow {
     }
 }
 
-// A link; 16 is the owner of a position that nobody booked. What flow i holds at position p stands at 256 * i + p.
+// A link; 16 is the owner of a position that nobody booked.
 pub struct Link {
     pub plan: Plan,
     pub cp: usize,

@@ -1,6 +1,12 @@
--- holdings
+-- rows of holdings: where they stand, and what others know of them
+mod Places
 pub mod Rows
-mod Spans
+mod RowRanges
+mod CarriedRows
+pub mod HoldingChanges
+-- one pass over a row
+mod Padded
+mod PaddedFrom
 -- the search
 mod SlotWalk
 mod EarliestSlot

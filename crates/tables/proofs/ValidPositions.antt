@@ -1,6 +1,6 @@
 -- Valid positions: the unbooked ones from a rank on, what a valid position has, and a search by one test for another. Assumes nothing.
 use Prim.Native.Nat.{ℕ, zero, suc, _+_, _*_, _≤_, _<_}
-use mathlib.Core.Path.{_≡_, refl, sym, _∙_}
+use mathlib.Core.Path.{_≡_, refl, sym}
 use mathlib.Core.List.{List}
 use mathlib.Core.Bool.{Bool, true, false, not, _&&_, and-assoc}
 use native.Mathlib.Nat.{mod-lt}

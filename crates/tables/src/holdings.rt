@@ -1,18 +1,20 @@
-// What each flow holds at each position: what flow i holds at position p stands at 256 * i + p.
-// From p on means at p and at every later position. With h the first position of the head frame: where h <= p, these are p to T - 1 and 0 to h - 1; where p < h, they are p to h - 1.
+// What each flow holds at each position: what flow i holds at position p stands at 256 * i + p, which no other crate knows.
+// From p on means at p and at every later position. With h the first position of the head frame: where h <= p, these are p to T - 1 and
+// 0 to h - 1; where p < h, they are p to h - 1.
 // A test or a change from p on is one pass over all T places; at the other places it uses a value that leaves the result as it is.
 ghost use mathlib.Core.Path.{_≡_};
-ghost use mathlib.Core.Bool.{cond};
-ghost use Prim.Native.Nat.{_+_, _-_, _%_, _≤_, _<_, max};
+ghost use Prim.Native.Nat.{_+_, _-_, _≤_, _<_, max};
 ghost use lib.Dec.{ltb};
 ghost use lib.ListN.{getD};
 ghost use Rattle.model.specs.Window as model;
 ghost use Rattle.window.specs.Bytes.{wrapped};
 ghost use Rattle.window.specs.Ranges.{inRange, replaced, All, LastIn};
-ghost use Rattle.window.specs.Window.{windowOf, sizeOf, baseOf, Proper, FromRank};
-ghost use Rattle.tables.specs.Rows.{row, sixteenRows, carriedRows};
-ghost use Rattle.tables.specs.Holdings.{someHeld, roomAt, shifted};
+ghost use Rattle.window.specs.Window.{windowOf, Proper, FromRank};
+ghost use Rattle.tables.specs.Asked.{FlowAt, FlowsOf};
 ghost use Rattle.tables.specs.Owners.{everywhere};
+ghost use Rattle.tables.specs.Rows.{row, sixteenRows, carriedRows};
+ghost use Rattle.tables.specs.Padded.{pad, InRow};
+ghost use Rattle.tables.specs.Holdings.{someHeld, roomAt, shifted, carried};
 use window::Window;
 use window::numbers::chosen;
 use window::numbers::larger_byte;
@@ -85,10 +87,11 @@ pub(crate) fn room_rank(held: &Holdings, i: usize, cells: u8, w: Window) -> usiz
     last_full(held, cells, head, past) - head
 }
 
-// Whether at every place of the range from a to e something is held or the pad is above 0. The pad is `inner` at the `count` places from a + `start` on, and `outer` at the others.
+// Whether at every place of the range from a to e something is held or the pad is above 0. The pad is `inner` at the `count` places
+// from a + `start` on, and `outer` at the others.
 fn held_in(held: &Holdings, a: usize, e: usize, start: u8, count: u8, inner: u8, outer: u8) -> bool
-    requires { ⌜ (a ≤ e) × (e ≤ 4096) × (e ≤ a + 256) × (start + count ≤ 256) ⌝ }
-    ensures { λ r. ⌜ All (λ k. ltb 0 (max (getD (now (held .entry)) k 0) (cond (inRange start (start + count) (k - a)) inner outer))) a e r ⌝ }
+    requires { ⌜ InRow a e start count ⌝ }
+    ensures { λ r. ⌜ All (λ k. ltb 0 (max (getD (now (held .entry)) k 0) (pad start count inner outer (k - a)))) a e r ⌝ }
 {
     let mut least = 255u8;
     let mut q = a;
@@ -105,7 +108,7 @@ fn held_in(held: &Holdings, a: usize, e: usize, start: u8, count: u8, inner: u8,
 
 // Whether flow i holds something from p on.
 pub fn held_from(held: &Holdings, i: usize, w: Window, p: usize) -> bool
-    requires { ⌜ Proper w × (p < sizeOf w) × (i < 16) ⌝ }
+    requires { ⌜ FlowAt w i p ⌝ }
     ensures { λ r. ⌜ r ≡ model.everyFrom (windowOf w) p (someHeld (row (now (held .entry)) i)) ⌝ }
 {
     let first = 256 * i;
@@ -117,10 +120,11 @@ pub fn held_from(held: &Holdings, i: usize, w: Window, p: usize) -> bool
     held_in(held, first, past, p as u8, (base - p) as u8, 0, 255)
 }
 
-// The holdings of the range from a to e moved modulo 256: by `inner` at the `count` places from a + `start` on, and by `outer` at the others.
+// The holdings of the range from a to e moved modulo 256: by `inner` at the `count` places from a + `start` on, and by `outer` at the
+// others.
 fn shift(held: &mut Holdings, a: usize, e: usize, start: u8, count: u8, inner: u8, outer: u8)
-    requires { ⌜ (a ≤ e) × (e ≤ 4096) × (e ≤ a + 256) × (start + count ≤ 256) ⌝ }
-    ensures { λ r. ⌜ now (held .exit) ≡ replaced (inRange a e) (λ k x. wrapped (cond (inRange start (start + count) (k - a)) inner outer) x) (now (held .entry)) ⌝ }
+    requires { ⌜ InRow a e start count ⌝ }
+    ensures { λ r. ⌜ now (held .exit) ≡ replaced (inRange a e) (λ k x. wrapped (pad start count inner outer (k - a)) x) (now (held .entry)) ⌝ }
 {
     let mut q = a;
     // how far q lies on from a + start, modulo 256
@@ -135,7 +139,7 @@ fn shift(held: &mut Holdings, a: usize, e: usize, start: u8, count: u8, inner: u
 
 // Flow i's holdings from p on, each moved by a number modulo 256: 1 is one more, 255 one fewer.
 pub fn shift_from(held: &mut Holdings, by: u8, i: usize, w: Window, p: usize)
-    requires { ⌜ Proper w × (p < sizeOf w) × (i < 16) ⌝ }
+    requires { ⌜ FlowAt w i p ⌝ }
     ensures { λ r. ⌜ now (held .exit) ≡ shifted (windowOf w) by i p (now (held .entry)) ⌝ }
 {
     let first = 256 * i;
@@ -183,8 +187,8 @@ fn carry(held: &mut Holdings, count: usize, last: usize, a: usize, e: usize)
 
 // What each of n flows holds at the last position goes on in the head frame.
 pub fn carry_head(held: &mut Holdings, count: usize, w: Window)
-    requires { ⌜ Proper w × (count ≤ 16) ⌝ }
-    ensures { λ r. ⌜ now (held .exit) ≡ carriedRows count ((baseOf w + sizeOf w - 1) % sizeOf w) (baseOf w) (baseOf w + w .slots) (now (held .entry)) ⌝ }
+    requires { ⌜ FlowsOf w count ⌝ }
+    ensures { λ r. ⌜ now (held .exit) ≡ carried w count (now (held .entry)) ⌝ }
 {
     let base = w.head * w.slots;
     let last = before(w.slots * w.frames, base);

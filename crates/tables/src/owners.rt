@@ -1,9 +1,9 @@
 // The owner of each position.
 ghost use mathlib.Core.Path.{_≡_};
-ghost use Prim.Native.Nat.{_+_, _≤_};
+ghost use Prim.Native.Nat.{_≤_};
 ghost use Rattle.window.specs.Ranges.{inRange, replaced};
-ghost use Rattle.window.specs.Window.{baseOf, Proper};
-ghost use Rattle.tables.specs.Owners.{nobody, everywhere};
+ghost use Rattle.window.specs.Window.{Proper};
+ghost use Rattle.tables.specs.Owners.{nobody, everywhere, emptied};
 use window::Window;
 
 pub fn unbooked() -> [u8; 256]
@@ -27,7 +27,7 @@ fn empty(owner: &mut [u8; 256], a: usize, e: usize)
 // Takes the owner from every position of the head frame.
 pub fn empty_head(owner: &mut [u8; 256], w: Window)
     requires { ⌜ Proper w ⌝ }
-    ensures { λ r. ⌜ now (owner .exit) ≡ replaced (inRange (baseOf w) (baseOf w + w .slots)) (λ q x. nobody) (now (owner .entry)) ⌝ }
+    ensures { λ r. ⌜ now (owner .exit) ≡ emptied w (now (owner .entry)) ⌝ }
 {
     let base = w.head * w.slots;
     empty(owner, base, base + w.slots);

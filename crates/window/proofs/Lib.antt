@@ -2,6 +2,7 @@
 pub mod Tabulated
 pub mod Bytes
 pub mod Ranges
+pub mod RangeLoops
 -- going round, the window, ranks, and positions from p on
 pub mod GoingRound
 pub mod Windows

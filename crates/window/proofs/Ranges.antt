@@ -1,15 +1,15 @@
--- Ranges of positions: what lies in one, its elements replaced one at a step, a test of them one at a step, and a search back. Assumes nothing.
-use Prim.Native.Nat.{ℕ, zero, suc, _+_, _-_, _≤_, _<_}
+-- Ranges of positions: what lies in one, and elements of a list replaced. Assumes nothing.
+use Prim.Native.Nat.{ℕ, zero, suc, _+_, _≤_, _<_}
 use mathlib.Core.Path.{_≡_, refl, sym, ap, _∙_}
 use mathlib.Core.List.{List, [], _∷_}
-use mathlib.Core.Bool.{Bool, true, false, _&&_, cond, and-false, true≢false}
-use native.Mathlib.Decide.{decLt, decLe, ℕ-discrete}
+use mathlib.Core.Bool.{Bool, true, false, _&&_, cond, and-false}
+use native.Mathlib.Decide.{decLt, ℕ-discrete}
 use native.Mathlib.Omega.{arith}
 use lib.ListN.{length, getD, set, length-set, List·getD-eq-default}
 use lib.Dec.{leb, ltb}
 use lib.Seq.{ext-getD, getD-set-same, getD-set-other, set-getD}
 use borrow.Author.Tests.{le-leb, lt-leb, lt-ltb, le-ltb}
-use Rattle.window.specs.Ranges.{inRange, replaced, Miss, All, LastIn}
+use Rattle.window.specs.Ranges.{inRange, replaced}
 
 -- ---- a range
 
@@ -76,7 +76,7 @@ module _ {A : Type 0} where
       let l = rw length-replaced at h in
       replaced-at t f xs i d l ∙ e i l ∙ sym (replaced-at t′ f′ xs i d l)
 
-  -- ---- a loop that has replaced the range from a to j
+  -- ---- the range from a to j replaced
 
   pub replaced-none : (a : ℕ) (f : ℕ → A → A) (xs : List A) (d : A) → xs ≡ replaced (inRange a a) f xs
   replaced-none a f xs d = ext-getD d _ _ (sym (length-replaced _ f xs)) (λ i h. sym (replaced-off _ f xs i d (empty-range a i)))
@@ -113,56 +113,3 @@ module _ {A : Type 0} where
   pub replaced-done : (a j e : ℕ) (f : ℕ → A → A) (xs ys : List A) → ys ≡ replaced (inRange a j) f xs → j ≡ e
       → ys ≡ replaced (inRange a e) f xs
   replaced-done a j e f xs ys q p = rw (← p) q
-
--- ---- a loop that has tested the range from a to q
-
-module _ {t : ℕ → Bool} {a : ℕ} where
-  pub all-none : {q : ℕ} → q ≤ a → All t a q true
-  all-none h = record { pass = λ z x h₁ h₂. absurd (omega arith); miss = λ z. absurd (true≢false z) }
-
-  pub all-miss : (q : ℕ) {r : Bool} → a ≤ q → t q ≡ false → r ≡ false → All t a (q + 1) r
-  all-miss q h e z = record {
-    pass = λ y. absurd (true≢false (sym y ∙ z));
-    miss = λ _. record { at = q; from = h; below = omega arith; fails = e };
-  }
-
-  pub all-pass : {q : ℕ} {r s : Bool} → All t a q s → t q ≡ true → r ≡ s → All t a (q + 1) r
-  all-pass {q} {r} {s} v e z = rw z (record { pass = λ y x h₁ h₂. go y x h₁ h₂ (ℕ-discrete x q); miss = λ y. wider (v .miss y) })
-    where
-      wider : Miss t a q → Miss t a (q + 1)
-      wider h = record { at = h .at; from = h .from; below = omega (arith, h .below); fails = h .fails }
-
-      go : s ≡ true → (x : ℕ) → a ≤ x → x < q + 1 → Dec (x ≡ q) → t x ≡ true
-      go y x h₁ h₂ (yes d) = rw d e
-      go y x h₁ h₂ (no d) = v .pass y x h₁ (omega arith)
-
-  pub all-done : {q e : ℕ} {r : Bool} → All t a q r → q ≡ e → All t a e r
-  all-done v e = rw (← e) v
-
--- ---- a search back that has come to q
-
--- every position of the range from q to e passes
-pub record Passes (t : ℕ → Bool) (q e : ℕ) : Type 0 where
-  pub pass : (x : ℕ) → q ≤ x → x < e → t x ≡ true
-
-module _ {t : ℕ → Bool} {e : ℕ} where
-  pub passes-none : Passes t e e
-  passes-none = record { pass = λ x h₁ h₂. absurd (omega arith) }
-
-  pub passes-more : {q : ℕ} → Passes t q e → 0 < q → t (q - 1) ≡ true → Passes t (q - 1) e
-  passes-more {q} v h z = record { pass = λ x h₁ h₂. go x h₁ h₂ (decLe q x) }
-    where
-      go : (x : ℕ) → q - 1 ≤ x → x < e → Dec (q ≤ x) → t x ≡ true
-      go x h₁ h₂ (yes d) = v .pass x d h₂
-      go x h₁ h₂ (no d) = let y : x ≡ q - 1 = omega arith in rw y z
-
-  pub last-here : {a q : ℕ} → Passes t q e → a ≤ q → q ≤ e → t (q - 1) ≡ false → LastIn t a e q
-  last-here {a} {q} v h₁ h₂ z = record {
-    low = h₁;
-    high = h₂;
-    miss = λ x h y. let y′ : x ≡ q - 1 = omega arith in rw y′ z;
-    pass = v .pass;
-  }
-
-  pub last-none : {a q : ℕ} → Passes t q e → q ≡ a → q ≤ e → LastIn t a e q
-  last-none v h h₂ = record { low = omega arith; high = h₂; miss = λ x h₁ y. absurd (omega arith); pass = v .pass }

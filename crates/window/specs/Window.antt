@@ -4,6 +4,7 @@ use mathlib.Core.Path.{_≡_}
 use mathlib.Core.Bool.{Bool, _&&_}
 use lib.Dec.{leb, ltb}
 use Rattle.window.specs.declared.Window.{Window}
+use Rattle.window.specs.Ranges.{inRange}
 use Rattle.model.specs.Window as model
 
 abbrev pub windowOf : Window → model.Window
@@ -16,6 +17,10 @@ sizeOf w = w .slots * w .frames
 -- the first position of HF
 abbrev pub baseOf : Window → ℕ
 baseOf w = w .head * w .slots
+
+-- the positions of HF
+abbrev pub headRange : Window → ℕ → Bool
+headRange w = inRange (baseOf w) (baseOf w + w .slots)
 
 -- what is known of F, W and CP
 pub record Measures (slots frames current : ℕ) : Type 0 where

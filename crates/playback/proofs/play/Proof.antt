@@ -109,7 +109,7 @@ element-write-link c =
 shift-from-requires : tie.Need-shift-from-requires Inv-loop μ-loop
 shift-from-requires c κs =
     let f = c .before .before in
-    (hand-at (request-at (asker-at f)) .proper, position-below f, asker-few (asker-at f))
+    record { proper = hand-at (request-at (asker-at f)) .proper; flow = asker-few (asker-at f); position = position-below f }
 
 -- ---- a credit
 
@@ -126,7 +126,7 @@ shift-from-requires-2 c κs =
     let r = c .before .before in
     let a = hand-at (credit-at r) in
     let d = r .refusal .ensures .1 (c .before .if2 .left) in
-    (a .proper, d .position, omega (arith, d .flow, flows-few a))
+    record { proper = a .proper; flow = omega (arith, d .flow, flows-few a); position = d .position }
 
 -- ---- a tick
 
@@ -140,7 +140,7 @@ empty-head-requires : tie.Need-empty-head-requires Inv-loop μ-loop
 empty-head-requires c κs = hand-at (tick-at (c .before .before)) .proper
 
 carry-head-requires : tie.Need-carry-head-requires Inv-loop μ-loop
-carry-head-requires c κs = let a = hand-at (left-at c) in (a .proper, flows-few a)
+carry-head-requires c κs = let a = hand-at (left-at c) in record { proper = a .proper; few = flows-few a }
 
 leave-head-requires : tie.Need-leave-head-requires Inv-loop μ-loop
 leave-head-requires c κs = plan-valid (hand-at (left-at (c .before .before)))

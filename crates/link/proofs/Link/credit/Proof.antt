@@ -35,14 +35,15 @@ shift-from-requires c κs =
     let r = c .before .before in
     let a = hand-at (window-at r) in
     let d = r .refusal .ensures .1 (c .before .if1 .left) in
-    (a .proper, d .position, omega (arith, d .flow, flows-few a))
+    record { proper = a .proper; flow = omega (arith, d .flow, flows-few a); position = d .position }
 
 returns-2 : tie.Need-returns-2
 returns-2 c =
     let e = c .before .before in
     let r = e .before in
     let a = hand-at (window-at r) in
-    clauses (credit-taken a _ _ (r .refusal .ensures .0 _ (credit-on a)) (e .if1 .left) (r .refusal .ensures .1 (e .if1 .left)) (c .shift-from .ensures))
+    let tests = r .refusal .ensures .0 _ (credit-on a) in
+    clauses (credit-taken a _ _ tests (e .if1 .left) (r .refusal .ensures .1 (e .if1 .left)) (c .shift-from .ensures))
 
 pub credit-spec : {M : Type 1} → statement M
 credit-spec =

@@ -89,7 +89,7 @@ element-write-self c = omega (arith, position-below (c .before), hand-at (window
 shift-from-requires : tie.Need-shift-from-requires
 shift-from-requires c κs =
     let f = c .before .before in
-    (hand-at (window-at f) .proper, position-below f, asker-few (asked-at (window-at f)))
+    record { proper = hand-at (window-at f) .proper; flow = asker-few (asked-at (window-at f)); position = position-below f }
 
 returns : tie.Need-returns
 returns c =

@@ -36,14 +36,17 @@ module _ (c : tie.Joined1) where
   abbrev before-at : Link
   before-at = link-at (on-at .before)
 
+  abbrev with-current : Link → Link
+  with-current x = withCurrent x (on-at .ticked .result .current)
+
   advanced : Advanced before-at (c .if1 .self) (on-at .ticked .result .current)
   advanced =
       let a = hand-at (on-at .before) in
       let t = on-at .ticked .ensures in
       ⊎-elim
       (λ (leaves, _, emptied, _, carried, _, moved, is).
-      head-left a t (leaves .taken) (emptied .ensures) (carried .ensures) (moved .ensures) (ap (λ (x : Link). withCurrent x (on-at .ticked .result .current)) is))
-      (λ (stays, is). head-stays a t (stays .left) (ap (λ (x : Link). withCurrent x (on-at .ticked .result .current)) is))
+      head-left a t (leaves .taken) (emptied .ensures) (carried .ensures) (moved .ensures) (ap with-current is))
+      (λ (stays, is). head-stays a t (stays .left) (ap with-current is))
       (c .if1 .came)
 
 -- ---- the needs
@@ -58,7 +61,7 @@ empty-head-requires : tie.Need-empty-head-requires
 empty-head-requires c κs = search needs
 
 carry-head-requires : tie.Need-carry-head-requires
-carry-head-requires c κs = let a = hand-at (ticked-at (left-at c .before) .before) in (a .proper, flows-few a)
+carry-head-requires c κs = let a = hand-at (ticked-at (left-at c .before) .before) in record { proper = a .proper; few = flows-few a }
 
 leave-head-requires : tie.Need-leave-head-requires
 leave-head-requires c κs = plan-valid (hand-at (ticked-at (left-at (c .before .before) .before) .before))

@@ -84,7 +84,7 @@ returns-3 c =
     )
 
 held-from-requires : tie.Need-held-from-requires
-held-from-requires c κs = let t = c .before .before in (start t .pre .given .window .proper, t .if2 .left, flow-few t)
+held-from-requires c κs = let t = c .before .before in record { proper = start t .pre .given .window .proper; flow = flow-few t; position = t .if2 .left }
 
 returns-4 : tie.Need-returns-4
 returns-4 c =

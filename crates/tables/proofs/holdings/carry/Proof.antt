@@ -1,24 +1,20 @@
--- `tables::holdings::carry` meets its contract: a turn carries one row more. Assumes nothing.
+-- `tables::holdings::carry` meets its contract: a step carries one row more. Assumes nothing.
 use borrow.Author.Needs.{needs}
-use Prim.Native.Nat.{ℕ, _+_, _-_, _*_, _≤_}
-use mathlib.Core.Path.{_≡_, ap, _∙_}
-use mathlib.Core.List.{List}
+use Prim.Native.Nat.{_-_}
+use mathlib.Core.Path.{refl}
 use native.Mathlib.Omega.{arith}
-use lib.ListN.{getD}
-use Rattle.window.specs.Ranges.{replaced}
-use Rattle.tables.specs.Rows.{carriedRows}
-use Rattle.tables.proofs.Rows.{carried-none, carried-more}
+use Rattle.tables.proofs.CarriedRows.{Carrying, carrying-none, carrying-more, carrying-done}
 use Rattle.tables.proofs.holdings.carry.Statement.{statement}
 use Rattle.tables.proofs.holdings.carry.Tie as tie
 
 abbrev Inv-loop : tie.InvT-loop
-Inv-loop held₀ count last a e i₀ held i = (i ≤ count) × (held ≡ carriedRows i last a e held₀)
+Inv-loop held₀ count last a e i₀ held i = Carrying count last a e held₀ held i
 
 abbrev μ-loop : tie.MeasureT-loop
 μ-loop held₀ count last a e i₀ held i = count - i
 
 loop-holds : tie.Need-loop-holds Inv-loop μ-loop
-loop-holds c = (search needs, carried-none _ _ _ _)
+loop-holds c = carrying-none
 
 mul-first : tie.Need-mul-first Inv-loop μ-loop
 mul-first c = search needs
@@ -46,18 +42,13 @@ loop-less c = search needs
 
 loop-again : tie.Need-loop-again Inv-loop μ-loop
 loop-again c =
-    let k = c .before .before .before .before in
-    let s = k .before in
-    let p = s .pre in
-    let v = k .loop .inv .1 in
-    (search needs, c .fill .ensures ∙ ap (replaced _ _) v ∙ carried-more (s .args .last) (s .args .a) (s .args .e) _ (k .loop .i) _ (p .3) (p .1) (ap (λ (h : List ℕ). getD h (256 * k .loop .i + s .args .last) 0) v))
+    let i = c .before .before .before in
+    let l = i .before in
+    let given = l .before .pre in
+    carrying-more (l .loop .inv) (i .loop-test .taken) (given .3) (given .1) refl (c .fill .ensures)
 
 returns : tie.Need-returns Inv-loop μ-loop
-returns c =
-    let l = c .before .loop in
-    let s = c .before .before in
-    let e : l .i ≡ s .args .count = omega arith in
-    l .inv .1 ∙ ap (λ (n : ℕ). carriedRows n (s .args .last) (s .args .a) (s .args .e) (s .args .held .now)) e
+returns c = carrying-done (c .before .loop .inv) (omega arith)
 
 pub carry-spec : {M : Type 1} → statement M
 carry-spec =

@@ -1,8 +1,9 @@
 -- `tables::holdings::carry_head` meets its contract. Assumes nothing.
 use borrow.Author.Needs.{needs}
-use Prim.Native.Nat.{_*_, _<_}
+use Prim.Native.Nat.{_<_}
 use native.Mathlib.Nat.{mod-lt}
 use native.Mathlib.Omega.{arith}
+use Rattle.window.specs.Window.{sizeOf}
 use Rattle.tables.proofs.holdings.carry_head.Statement.{statement}
 use Rattle.tables.proofs.holdings.carry_head.Tie as tie
 
@@ -22,9 +23,10 @@ carry-requires : tie.Need-carry-requires
 carry-requires c κs =
     let b = c .before .before in
     let s = b .before .before .before in
-    let v = s .pre .0 in
-    let below : b .before2 .result < s .args .w .slots * s .args .w .frames = rw (b .before2 .ensures) (mod-lt _ (omega (arith, v .measures .current-below))) in
-    (s .pre .1, omega (arith, below, v .measures .positions-most), omega arith, omega (arith, v .base-fits, v .measures .positions-most))
+    let v = s .pre .proper in
+    let some : 0 < sizeOf (s .args .w) = omega (arith, v .measures .current-below) in
+    let last : b .before2 .result < sizeOf (s .args .w) = rw (b .before2 .ensures) (mod-lt _ some) in
+    (s .pre .few, omega (arith, v .measures .positions-most), omega arith, omega (arith, v .base-fits, v .measures .positions-most))
 
 returns : tie.Need-returns
 returns c = rw (c .carry .ensures, c .before .before .before .before2 .ensures)

@@ -1,21 +1,20 @@
 -- `tables::holdings::fill` meets its contract. Assumes nothing.
 use borrow.Author.Needs.{needs}
-use Prim.Native.Nat.{_-_, _≤_}
-use mathlib.Core.Path.{_≡_, refl}
+use Prim.Native.Nat.{_-_}
+use mathlib.Core.Path.{refl}
 use native.Mathlib.Omega.{arith}
-use Rattle.window.specs.Ranges.{inRange, replaced}
-use Rattle.window.proofs.Ranges.{replaced-none, replaced-more, replaced-done}
+use Rattle.window.proofs.RangeLoops.{Replacing, replacing-none, replacing-more, replacing-done}
 use Rattle.tables.proofs.holdings.fill.Statement.{statement}
 use Rattle.tables.proofs.holdings.fill.Tie as tie
 
 abbrev Inv-loop : tie.InvT-loop
-Inv-loop held₀ value a e q₀ held q = (a ≤ q) × (q ≤ e) × (e ≤ 4096) × (held ≡ replaced (inRange a q) (λ k x. value) held₀)
+Inv-loop held₀ value a e q₀ held q = Replacing (λ k x. value) a e held₀ held q
 
 abbrev μ-loop : tie.MeasureT-loop
 μ-loop held₀ value a e q₀ held q = e - q
 
 loop-holds : tie.Need-loop-holds Inv-loop μ-loop
-loop-holds c = (search needs, search needs, search needs, replaced-none _ _ _ 0)
+loop-holds c = replacing-none 0 (omega arith)
 
 element-write-held : tie.Need-element-write-held Inv-loop μ-loop
 element-write-held c = search needs
@@ -27,10 +26,10 @@ loop-less : tie.Need-loop-less Inv-loop μ-loop
 loop-less c = search needs
 
 loop-again : tie.Need-loop-again Inv-loop μ-loop
-loop-again c = let v = c .before .loop .inv in (search needs, search needs, search needs, replaced-more _ _ _ _ 0 _ _ (v .3) (v .0) refl)
+loop-again c = replacing-more 0 (c .before .loop .inv) (omega arith) refl
 
 returns : tie.Need-returns Inv-loop μ-loop
-returns c = replaced-done _ _ _ _ _ _ (c .before .loop .inv .3) (omega arith)
+returns c = replacing-done 0 (c .before .loop .inv) (omega arith)
 
 pub fill-spec : {M : Type 1} → statement M
 fill-spec =

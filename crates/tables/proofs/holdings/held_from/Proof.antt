@@ -1,7 +1,6 @@
 -- `tables::holdings::held_from` meets its contract. Assumes nothing.
 use borrow.Author.Needs.{needs}
-use native.Mathlib.Omega.{arith}
-use Rattle.tables.proofs.Spans.{pad-high, pad-low, held-span}
+use Rattle.tables.proofs.PaddedFrom.{pads-high, pads-low, held-padded}
 use Rattle.tables.proofs.holdings.held_from.Statement.{statement}
 use Rattle.tables.proofs.holdings.held_from.Tie as tie
 
@@ -28,8 +27,10 @@ held-in-requires c κs = search needs
 
 returns : tie.Need-returns
 returns c =
-    let s = c .before .before .before .before in
-    held-span _ (s .pre .0) _ (s .pre .1) _ (s .args .i) _ _ 255 0 (pad-high _ (s .pre .0) _ (s .pre .1) (omega arith) 255 0) _ (c .held-in .ensures)
+    let t = c .before in
+    let s = t .before .before .before in
+    let pads = pads-high (s .args .w) (s .pre .proper) (s .args .p) (s .pre .position) (t .if1 .taken) 0 255 in
+    held-padded _ (s .pre .proper) _ (s .pre .position) _ (s .args .i) pads _ (c .held-in .ensures)
 
 cast-held-in-3 : tie.Need-cast-held-in-3
 cast-held-in-3 c = search needs
@@ -45,8 +46,10 @@ held-in-requires-2 c κs = search needs
 
 returns-2 : tie.Need-returns-2
 returns-2 c =
-    let s = c .before .before .before .before in
-    held-span _ (s .pre .0) _ (s .pre .1) _ (s .args .i) _ _ 0 255 (pad-low _ (s .pre .0) _ (s .pre .1) (omega arith) 0 255) _ (c .held-in2 .ensures)
+    let t = c .before in
+    let s = t .before .before .before in
+    let pads = pads-low (s .args .w) (s .pre .proper) (s .args .p) (s .pre .position) (t .if1 .left) 0 255 in
+    held-padded _ (s .pre .proper) _ (s .pre .position) _ (s .args .i) pads _ (c .held-in2 .ensures)
 
 pub held-from-spec : {M : Type 1} → statement M
 held-from-spec =

@@ -1,28 +1,44 @@
 -- `tables::holdings::held_in` meets its contract. Assumes nothing.
 use borrow.Author.Needs.{needs}
-use Prim.Native.Nat.{_+_, _-_, _%_, _≤_, max}
+use Prim.Native.Nat.{_-_, max}
 use mathlib.Core.Path.{_≡_, sym, ap, _∙_}
-use mathlib.Core.Bool.{cond}
 use native.Mathlib.Omega.{arith}
 use lib.ListN.{getD}
 use lib.Dec.{ltb}
-use Rattle.window.specs.Ranges.{inRange, All}
-use Rattle.window.proofs.Ranges.{all-none, all-done}
-use Rattle.tables.proofs.Spans.{pad-is, next-place, all-least}
+use Rattle.window.proofs.RangeLoops.{Testing, testing-none, testing-done}
+use Rattle.tables.specs.Padded.{pad}
+use Rattle.tables.proofs.Padded.{Counting, counting-first, counting-on, counted-pad, testing-least}
 use Rattle.tables.proofs.holdings.held_in.Statement.{statement}
 use Rattle.tables.proofs.holdings.held_in.Tie as tie
 
 abbrev Inv-loop : tie.InvT-loop
-Inv-loop held a e start count inner outer least₀ q₀ x₀ least q x = (a ≤ q) × (q ≤ e) × (e ≤ 4096) × (e ≤ a + 256) × (start + count ≤ 256) × (x ≡ (q - a + 256 - start) % 256) × All (λ k. ltb 0 (max (getD held k 0) (cond (inRange start (start + count) (k - a)) inner outer))) a q (ltb 0 least)
+Inv-loop held a e start count inner outer least₀ q₀ x₀ least q x =
+    Counting start a q x × Testing (λ k. ltb 0 (max (getD held k 0) (pad start count inner outer (k - a)))) a e q (ltb 0 least)
 
 abbrev μ-loop : tie.MeasureT-loop
 μ-loop held a e start count inner outer least₀ q₀ x₀ least q x = e - q
+
+-- where a place is looked at
+abbrev at-place : tie.After-larger-byte Inv-loop μ-loop → tie.In-loop Inv-loop μ-loop
+at-place c = c .before .before .before
+
+-- what is seen there: what is held, or the pad
+seen : (c : tie.After-larger-byte Inv-loop μ-loop)
+    → let l = at-place c .before in
+    let s = l .before .before .args in
+    c .larger-byte .result ≡ max (getD (s .held .now) (l .loop .q) 0) (pad (s .start) (s .count) (s .inner) (s .outer) (l .loop .q - s .a))
+seen c =
+    let i = at-place c in
+    let l = i .before in
+    let s = l .before .before in
+    let padded = counted-pad (l .loop .inv .0) (omega arith) (l .loop .inv .1 .from) (s .pre) (i .loop-test .taken) (s .args .inner) (s .args .outer) in
+    c .larger-byte .ensures ∙ ap (max _) (c .before .before .chosen .ensures ∙ padded)
 
 to-zero-requires : tie.Need-to-zero-requires Inv-loop μ-loop
 to-zero-requires c κs = search needs
 
 loop-holds : tie.Need-loop-holds Inv-loop μ-loop
-loop-holds c = (search needs, search needs, search needs, search needs, search needs, omega (arith, c .to-zero .ensures), all-none (omega arith))
+loop-holds c = (counting-first _ _ _ (omega arith) (c .to-zero .ensures), testing-none (omega arith))
 
 chosen-requires : tie.Need-chosen-requires Inv-loop μ-loop
 chosen-requires c κs = search needs
@@ -47,21 +63,15 @@ loop-less c = search needs
 
 loop-again : tie.Need-loop-again Inv-loop μ-loop
 loop-again c =
-    let m = c .before .before .before .before in
-    let l = m .before .before .loop in
-    let s = m .before .before .before .before .args in
-    let pad = m .chosen .ensures ∙ pad-is (s .start) (s .count) (l .q - s .a) (omega arith) (omega arith) (omega arith) (l .x) (s .inner) (s .outer) (l .inv .5) in (
-      search needs,
-      search needs,
-      search needs,
-      search needs,
-      search needs,
-      next-place _ _ (l .q) (l .x) _ (omega arith) (l .inv .0) (l .inv .5) (c .on-by-one .ensures),
-      rw (c .before .smaller-byte .ensures) (all-least (l .least) (c .before .before .larger-byte .result) (l .inv .6) (l .inv .0) (sym (ap (ltb 0) (c .before .before .larger-byte .ensures ∙ ap (max _) pad)))),
+    let b = c .before .before in
+    let i = at-place b in
+    let l = i .before .loop in (
+      counting-on (l .inv .0) (omega arith) (l .inv .1 .from) (c .on-by-one .ensures),
+      rw (c .before .smaller-byte .ensures) (testing-least (l .least) (l .inv .1) (i .loop-test .taken) (b .larger-byte .result) (sym (ap (ltb 0) (seen b)))),
     )
 
 returns : tie.Need-returns Inv-loop μ-loop
-returns c = all-done (c .before .loop .inv .6) (omega arith)
+returns c = testing-done (c .before .loop .inv .1) (omega arith)
 
 pub held-in-spec : {M : Type 1} → statement M
 held-in-spec =

@@ -11,7 +11,7 @@ use Rattle.window.specs.Window.{sizeOf, baseOf, Proper}
 use Rattle.window.proofs.PassesFrom.{passes-from, passes-all, passes-low, passes-high}
 use Rattle.tables.specs.Rows.{row}
 use Rattle.tables.specs.Holdings.{roomAt}
-use Rattle.tables.proofs.Spans.{all-room, last-room}
+use Rattle.tables.proofs.RowRanges.{all-room, last-room}
 use Rattle.tables.proofs.holdings.room_rank.Statement.{statement}
 use Rattle.tables.proofs.holdings.room_rank.Tie as tie
 

@@ -1,28 +1,44 @@
 -- `tables::holdings::shift` meets its contract. Assumes nothing.
 use borrow.Author.Needs.{needs}
-use Prim.Native.Nat.{_+_, _-_, _%_, _≤_}
+use Prim.Native.Nat.{_-_}
 use mathlib.Core.Path.{_≡_, ap, _∙_}
-use mathlib.Core.Bool.{cond}
 use native.Mathlib.Omega.{arith}
 use lib.ListN.{getD}
 use Rattle.window.specs.Bytes.{wrapped}
-use Rattle.window.specs.Ranges.{inRange, replaced}
-use Rattle.window.proofs.Ranges.{replaced-none, replaced-more, replaced-done}
-use Rattle.tables.proofs.Spans.{pad-is, next-place}
+use Rattle.window.proofs.RangeLoops.{Replacing, replacing-none, replacing-more, replacing-done}
+use Rattle.tables.specs.Padded.{pad}
+use Rattle.tables.proofs.Padded.{Counting, counting-first, counting-on, counted-pad}
 use Rattle.tables.proofs.holdings.shift.Statement.{statement}
 use Rattle.tables.proofs.holdings.shift.Tie as tie
 
 abbrev Inv-loop : tie.InvT-loop
-Inv-loop held₀ a e start count inner outer q₀ x₀ held q x = (a ≤ q) × (q ≤ e) × (e ≤ 4096) × (e ≤ a + 256) × (start + count ≤ 256) × (x ≡ (q - a + 256 - start) % 256) × (held ≡ replaced (inRange a q) (λ k x. wrapped (cond (inRange start (start + count) (k - a)) inner outer) x) held₀)
+Inv-loop held₀ a e start count inner outer q₀ x₀ held q x =
+    Counting start a q x × Replacing (λ k y. wrapped (pad start count inner outer (k - a)) y) a e held₀ held q
 
 abbrev μ-loop : tie.MeasureT-loop
 μ-loop held₀ a e start count inner outer q₀ x₀ held q x = e - q
+
+-- where a place is looked at
+abbrev at-place : tie.After-moved Inv-loop μ-loop → tie.In-loop Inv-loop μ-loop
+at-place c = c .before .before .before
+
+-- what is put there: what is held, moved by the pad
+put : (c : tie.After-moved Inv-loop μ-loop)
+    → let l = at-place c .before in
+    let s = l .before .before .args in
+    c .moved .result ≡ wrapped (pad (s .start) (s .count) (s .inner) (s .outer) (l .loop .q - s .a)) (getD (l .loop .held) (l .loop .q) 0)
+put c =
+    let i = at-place c in
+    let l = i .before in
+    let s = l .before .before in
+    let padded = counted-pad (l .loop .inv .0) (omega arith) (l .loop .inv .1 .from) (s .pre) (i .loop-test .taken) (s .args .inner) (s .args .outer) in
+    c .moved .ensures ∙ ap (λ by. wrapped by (getD (l .loop .held) (l .loop .q) 0)) (c .before .before .chosen .ensures ∙ padded)
 
 to-zero-requires : tie.Need-to-zero-requires Inv-loop μ-loop
 to-zero-requires c κs = search needs
 
 loop-holds : tie.Need-loop-holds Inv-loop μ-loop
-loop-holds c = (search needs, search needs, search needs, search needs, search needs, omega (arith, c .to-zero .ensures), replaced-none _ _ _ 0)
+loop-holds c = (counting-first _ _ _ (omega arith) (c .to-zero .ensures), replacing-none 0 (omega arith))
 
 chosen-requires : tie.Need-chosen-requires Inv-loop μ-loop
 chosen-requires c κs = search needs
@@ -47,21 +63,15 @@ loop-less c = search needs
 
 loop-again : tie.Need-loop-again Inv-loop μ-loop
 loop-again c =
-    let m = c .before .before .before in
-    let l = m .before .before .loop in
-    let s = m .before .before .before .before .args in
-    let by = m .chosen .ensures ∙ pad-is (s .start) (s .count) (l .q - s .a) (omega arith) (omega arith) (omega arith) (l .x) (s .inner) (s .outer) (l .inv .5) in (
-      search needs,
-      search needs,
-      search needs,
-      search needs,
-      search needs,
-      next-place _ _ (l .q) (l .x) _ (omega arith) (l .inv .0) (l .inv .5) (c .on-by-one .ensures),
-      replaced-more _ _ _ _ 0 _ _ (l .inv .6) (l .inv .0) (c .before .moved .ensures ∙ ap (λ b. wrapped b (getD (l .held) (l .q) 0)) by),
+    let m = c .before in
+    let i = at-place m in
+    let l = i .before .loop in (
+      counting-on (l .inv .0) (omega arith) (l .inv .1 .from) (c .on-by-one .ensures),
+      replacing-more 0 (l .inv .1) (i .loop-test .taken) (put m),
     )
 
 returns : tie.Need-returns Inv-loop μ-loop
-returns c = replaced-done _ _ _ _ _ _ (c .before .loop .inv .6) (omega arith)
+returns c = replacing-done 0 (c .before .loop .inv .1) (omega arith)
 
 pub shift-spec : {M : Type 1} → statement M
 shift-spec =

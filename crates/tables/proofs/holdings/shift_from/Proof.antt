@@ -1,7 +1,6 @@
 -- `tables::holdings::shift_from` meets its contract. Assumes nothing.
 use borrow.Author.Needs.{needs}
-use native.Mathlib.Omega.{arith}
-use Rattle.tables.proofs.Spans.{pad-high, pad-low, shift-span}
+use Rattle.tables.proofs.PaddedFrom.{pads-high, pads-low, shifted-padded}
 use Rattle.tables.proofs.holdings.shift_from.Statement.{statement}
 use Rattle.tables.proofs.holdings.shift_from.Tie as tie
 
@@ -28,9 +27,10 @@ shift-requires c κs = search needs
 
 returns : tie.Need-returns
 returns c =
-    let s = c .before .before .before .before .before in
-    let by = s .args .by in
-    rw (c .shift .ensures) (shift-span _ (s .pre .0) _ (s .pre .1) _ (s .args .i) _ _ 0 by by (pad-high _ (s .pre .0) _ (s .pre .1) (omega arith) 0 by))
+    let t = c .before .before in
+    let s = t .before .before .before in
+    let pads = pads-high (s .args .w) (s .pre .proper) (s .args .p) (s .pre .position) (t .if1 .taken) (s .args .by) 0 in
+    rw (c .shift .ensures) (shifted-padded _ (s .pre .proper) _ (s .pre .position) _ (s .args .i) _ pads)
 
 cast-shift-3 : tie.Need-cast-shift-3
 cast-shift-3 c = search needs
@@ -46,9 +46,10 @@ shift-requires-2 c κs = search needs
 
 returns-2 : tie.Need-returns-2
 returns-2 c =
-    let s = c .before .before .before .before .before in
-    let by = s .args .by in
-    rw (c .shift2 .ensures) (shift-span _ (s .pre .0) _ (s .pre .1) _ (s .args .i) _ _ by 0 by (pad-low _ (s .pre .0) _ (s .pre .1) (omega arith) by 0))
+    let t = c .before .before in
+    let s = t .before .before .before in
+    let pads = pads-low (s .args .w) (s .pre .proper) (s .args .p) (s .pre .position) (t .if1 .left) (s .args .by) 0 in
+    rw (c .shift2 .ensures) (shifted-padded _ (s .pre .proper) _ (s .pre .position) _ (s .args .i) _ pads)
 
 pub shift-from-spec : {M : Type 1} → statement M
 shift-from-spec =
