@@ -18,7 +18,8 @@ use Rattle.link.specs.declared.Flow.{Flow}
 use Rattle.link.specs.declared.Link.{Link}
 use Rattle.window.specs.Ranges.{inRange, replaced}
 use Rattle.tables.specs.Rows.{row, sixteenRows}
-use Rattle.link.specs.Parts.{noFlow, partOf, partAt}
+use Rattle.link.specs.Layout.{noFlow, flowRow, flowAt}
+use Rattle.link.specs.Updates.{movedTo}
 use Rattle.tables.specs.Owners.{nobody, ownerOf, everywhere}
 use Rattle.link.specs.Reading.{flowOf, linkOf}
 use Rattle.link.specs.Sound.{Sound}
@@ -53,7 +54,7 @@ nothing-in-row i h = row-of-sixteen (everywhere 0) i h (length-everywhere 0)
 
 -- a flow's frame and its share
 abbrev pub startFlow : Entry → Flow
-startFlow e = record { frame = 0; left = e .share }
+startFlow e = movedTo noFlow 0 (e .share)
 
 abbrev pub freshLink : Plan → Link
 freshLink p = record {
@@ -68,7 +69,7 @@ module _ (p : Plan) (v : plan.Valid p) where
   size-most : p .slots * p .frames ≤ 256
   size-most = v .accepted .positions-most
 
-  flow-at : (i : ℕ) → i < p .count → partAt (freshLink p) i ≡ partOf (startFlow (getD (p .entries) i plan.noEntry)) (everywhere 0)
+  flow-at : (i : ℕ) → i < p .count → flowAt (freshLink p) i ≡ flowRow (startFlow (getD (p .entries) i plan.noEntry)) (everywhere 0)
   flow-at i h =
       let b = count-most p v in
       let e : getD (freshLink p .flows) i noFlow ≡ startFlow (getD (p .entries) i plan.noEntry) =
@@ -91,7 +92,7 @@ module _ (p : Plan) (v : plan.Valid p) where
       start : ℕ → model.Flow
       start i = record { injection = 0; remainder = paper.entry (plan.planFor p) i .share; held = replicate T 0 }
 
-      flows : table (p .count) (λ i. flowOf T (partAt (freshLink p) i)) ≡ table (paper.flowCount (plan.planFor p)) start
+      flows : table (p .count) (λ i. flowOf T (flowAt (freshLink p) i)) ≡ table (paper.flowCount (plan.planFor p)) start
       flows =
           table-same (p .count) _ start (λ i h. ap (flowOf T) (flow-at i h) ∙ rw (plan-entry p i h, held))
           ∙ ap (λ (n : ℕ). table n start) (sym (plan-count p))

@@ -1,4 +1,6 @@
-pub mod Parts
+pub mod Layout
+pub mod Updates
 pub mod Reading
 pub mod Sound
-pub mod Change
+pub mod Given
+pub mod Reply

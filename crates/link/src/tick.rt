@@ -1,12 +1,9 @@
 // The tick.
 ghost use mathlib.Core.Path.{_≡_};
-ghost use Prim.Native.Nat.{_≤_};
-ghost use lib.ListN.{getD};
 ghost use Rattle.model.specs.Tick as model;
-ghost use Rattle.plan.specs.Reading.{noEntry};
+ghost use Rattle.plan.specs.Reading.{Valid};
 ghost use Rattle.calls.specs.Reading.{answerToTick};
-ghost use Rattle.window.specs.Ranges.{inRange, replaced};
-ghost use Rattle.link.specs.Parts.{leftHead};
+ghost use Rattle.link.specs.Updates.{leftHeads};
 ghost use Rattle.tables.specs.Owners.{ownerOf};
 ghost use Rattle.link.specs.Reading.{linkOf};
 ghost use Rattle.link.specs.Sound.{Sound};
@@ -31,8 +28,8 @@ pub fn turn(owner: u8) -> Answer
 
 // The flows of a plan, those in the head frame moved to the next one with their share.
 pub fn leave_head(flows: [Flow; 16], plan: Plan, head: usize, on: usize) -> [Flow; 16]
-    requires { ⌜ plan .count ≤ 16 ⌝ }
-    ensures { λ r. ⌜ r ≡ replaced (inRange 0 (plan .count)) (λ i f. leftHead head on (getD (plan .entries) i noEntry .share) f) flows ⌝ }
+    requires { ⌜ Valid plan ⌝ }
+    ensures { λ r. ⌜ r ≡ leftHeads plan head on flows ⌝ }
 {
     let mut all = flows;
     let mut i = 0;
@@ -40,10 +37,7 @@ pub fn leave_head(flows: [Flow; 16], plan: Plan, head: usize, on: usize) -> [Flo
         let e = plan.entries[i];
         let f = all[i];
         if f.frame == head {
-            all[i] = Flow {
-                frame: on,
-                left: e.share as usize,
-            };
+            all[i] = f.moved_to(on, e.share as usize);
         }
         i += 1;
     }

@@ -1,5 +1,4 @@
 // Call records of a slice played in place.
-ghost use mathlib.Core.Path.{_≡_};
 ghost use Rattle.link.specs.Reading.{linkOf};
 ghost use Rattle.link.specs.Sound.{Sound};
 ghost use Rattle.playback.specs.Playback.{PlayedRecords};
@@ -54,15 +53,15 @@ pub fn play(start: Link, records: &[u8], out: &mut [u8]) -> Playback
                 let i = asker(plan.count, word);
                 let e = plan.entries[i];
                 let flow = link.flows[i];
-                let change = ask(plan.count, e, w, &link.owner, &link.held, i, flow, word);
-                let flow = change.flow;
+                let reply = ask(plan.count, e, w, &link.owner, &link.held, i, flow, word);
+                let flow = reply.flow;
                 link.flows[i] = flow;
-                if change.granted {
-                    let position = change.position;
+                if reply.granted {
+                    let position = reply.position;
                     link.owner[position] = i as u8;
                     shift_from(&mut link.held, 1, i, w, position);
                 }
-                answer = change.answer;
+                answer = reply.answer;
             }
             Call::Credit(flow, position) => {
                 let number = refusal(plan.count, w, &link.held, flow, position);

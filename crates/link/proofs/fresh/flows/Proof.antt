@@ -1,21 +1,22 @@
 -- `link::fresh::flows` meets its contract. Assumes nothing.
 use borrow.Author.Needs.{needs}
 use Prim.Native.Nat.{_-_, _≤_}
-use mathlib.Core.Path.{_≡_, refl}
+use mathlib.Core.Path.{_≡_}
 use native.Mathlib.Omega.{arith}
 use lib.ListN.{getD, replicate}
 use Rattle.plan.specs.Reading.{noEntry}
 use Rattle.window.specs.Ranges.{inRange, replaced}
-use Rattle.link.specs.Parts.{noFlow}
+use Rattle.link.specs.Layout.{noFlow}
+use Rattle.link.specs.Updates.{movedTo}
 use Rattle.window.proofs.Ranges.{replaced-none, replaced-more, replaced-done}
 use Rattle.link.proofs.fresh.flows.Statement.{statement}
 use Rattle.link.proofs.fresh.flows.Tie as tie
 
 abbrev Inv-loop : tie.InvT-loop
-Inv-loop count entries all₀ i₀ all i = (i ≤ count) × (all ≡ replaced (inRange 0 i) (λ k f. record { frame = 0; left = getD entries k noEntry .share }) (replicate 16 noFlow))
+Inv-loop count entries spare all₀ i₀ all i = (i ≤ count) × (all ≡ replaced (inRange 0 i) (λ k f. movedTo spare 0 (getD entries k noEntry .share)) (replicate 16 spare))
 
 abbrev μ-loop : tie.MeasureT-loop
-μ-loop count entries all₀ i₀ all i = count - i
+μ-loop count entries spare all₀ i₀ all i = count - i
 
 loop-holds : tie.Need-loop-holds Inv-loop μ-loop
 loop-holds c = (search needs, replaced-none 0 _ _ noFlow)
@@ -26,8 +27,11 @@ mul-e c = search needs
 array-copy-out-e : tie.Need-array-copy-out-e Inv-loop μ-loop
 array-copy-out-e c = search needs
 
-cast-t9 : tie.Need-cast-t9 Inv-loop μ-loop
-cast-t9 c = search needs
+cast-moved-to : tie.Need-cast-moved-to Inv-loop μ-loop
+cast-moved-to c = search needs
+
+moved-to-requires : tie.Need-moved-to-requires Inv-loop μ-loop
+moved-to-requires c κs = search needs
 
 mul-all : tie.Need-mul-all Inv-loop μ-loop
 mul-all c = search needs
@@ -42,7 +46,7 @@ loop-less : tie.Need-loop-less Inv-loop μ-loop
 loop-less c = search needs
 
 loop-again : tie.Need-loop-again Inv-loop μ-loop
-loop-again c = (search needs, replaced-more _ _ _ _ noFlow _ _ (c .before .before .before .loop .inv .1) (omega arith) refl)
+loop-again c = (search needs, replaced-more _ _ _ _ noFlow _ _ (c .before .before .before .before .loop .inv .1) (omega arith) (c .moved-to .ensures))
 
 returns : tie.Need-returns Inv-loop μ-loop
 returns c = replaced-done _ _ _ _ _ _ (c .before .loop .inv .1) (omega arith)
@@ -56,7 +60,8 @@ flows-spec =
     loop-holds
     mul-e
     array-copy-out-e
-    cast-t9
+    cast-moved-to
+    moved-to-requires
     mul-all
     array-set-from-all
     add-i

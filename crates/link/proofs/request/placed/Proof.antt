@@ -1,7 +1,7 @@
--- `link::change::placed` meets its contract. Assumes nothing.
+-- `link::request::placed` meets its contract. Assumes nothing.
 use borrow.Author.Tests.{lt-ltb, le-ltb}
-use Rattle.link.proofs.change.placed.Statement.{statement}
-use Rattle.link.proofs.change.placed.Tie as tie
+use Rattle.link.proofs.request.placed.Statement.{statement}
+use Rattle.link.proofs.request.placed.Tie as tie
 
 returns : tie.Need-returns
 returns c = rw (lt-ltb _ _ (c .if1 .taken))

@@ -1,8 +1,8 @@
--- `timing::file::run_end` is safe and ends. Assumes nothing.
+-- `timing::file::streak_end` is safe and ends. Assumes nothing.
 use Prim.Native.Nat.{_≤_, _<_, _-_}
 use borrow.Author.Needs.{needs}
-use Rattle.timing.proofs.file.run_end.Statement.{statement}
-use Rattle.timing.proofs.file.run_end.Tie as tie
+use Rattle.timing.proofs.file.streak_end.Statement.{statement}
+use Rattle.timing.proofs.file.streak_end.Tie as tie
 
 abbrev Inv-loop : tie.InvT-loop
 Inv-loop kinds from count kind to₀ to = (from < to) × (to ≤ count)
@@ -37,8 +37,8 @@ returns c = search needs
 returns-2 : tie.Need-returns-2 Inv-loop μ-loop
 returns-2 c = search needs
 
-pub run-end-spec : {M : Type 1} → statement M
-run-end-spec =
+pub streak-end-spec : {M : Type 1} → statement M
+streak-end-spec =
     tie.close
     (tie.spec
     Inv-loop
