@@ -20,7 +20,8 @@ use Rattle.playback.specs.Playback.{playable, PlayedRecords}
 use Rattle.playback.proofs.Records.{playedAt, Played}
 
 -- From link `start` the records up to the place `at` are played, and their lines stand in what was `out₀` up to `end`.
-pub record SoFar (start : Link) (records out₀ : List ℕ) (used : ℕ) (plan : Plan) (at : ℕ) (link : Link) (w : Window) (out : List ℕ) (end : ℕ) : Type 0 where
+pub record SoFar (start : Link) (records out₀ : List ℕ) (used : ℕ) (plan : Plan) (at : ℕ) (link : Link) (w : Window)
+    (out : List ℕ) (end : ℕ) : Type 0 where
   pub at-most : at ≤ used
   pub used-is : used ≡ 5 * playable records out₀
   pub whole : at % 5 ≡ 0

@@ -34,7 +34,8 @@ loop-holds : tie.Need-loop-holds Inv-loop μ-loop
 loop-holds c =
     let s = c .before .before .before .before .before in
     let a = at-hand (s .pre) (c .window .ensures .0) (c .window .ensures .1) in
-    none-yet (ap (5 *_) (c .before .before .smaller .ensures)) (ap (λ (x : seen.Window). withCurrent (s .args .start) (x .current)) (c .window .ensures .0)) a
+    let same = ap (λ (x : seen.Window). withCurrent (s .args .start) (x .current)) (c .window .ensures .0) in
+    none-yet (ap (5 *_) (c .before .before .smaller .ensures)) same a
 
 -- ---- a record that makes no call
 

@@ -43,7 +43,8 @@ module _ (c : tie.After-window) where
   hand-at = at-hand (start (asked-at c) .pre) (c .window .ensures .0) (c .window .ensures .1)
 
 module _ (c : tie.After-flow2) where
-  reply-is : c .before .ask .result ≡ replyOf (asked-at (window-at c) .asker .result) (request (linkOf (link-at (window-at c))) (word-at (window-at c)))
+  reply-is : c .before .ask .result
+      ≡ replyOf (asked-at (window-at c) .asker .result) (request (linkOf (link-at (window-at c))) (word-at (window-at c)))
   reply-is = c .before .ask .ensures _ (request-on (hand-at (window-at c)) _ (asked-at (window-at c) .asker .ensures))
 
   position-below : c .before .ask .result .position < sizeOf (window-at c .window .result)

@@ -7,13 +7,14 @@ use lib.ListN.{getD, replicate}
 use Rattle.plan.specs.Reading.{noEntry}
 use Rattle.window.specs.Ranges.{inRange, replaced}
 use Rattle.link.specs.Layout.{noFlow}
-use Rattle.link.specs.Updates.{movedTo}
+use Rattle.link.specs.Fresh.{freshFlow}
 use Rattle.window.proofs.Ranges.{replaced-none, replaced-more, replaced-done}
 use Rattle.link.proofs.fresh.flows.Statement.{statement}
 use Rattle.link.proofs.fresh.flows.Tie as tie
 
 abbrev Inv-loop : tie.InvT-loop
-Inv-loop count entries spare all₀ i₀ all i = (i ≤ count) × (all ≡ replaced (inRange 0 i) (λ k f. movedTo spare 0 (getD entries k noEntry .share)) (replicate 16 spare))
+Inv-loop count entries spare all₀ i₀ all i =
+    (i ≤ count) × (all ≡ replaced (inRange 0 i) (λ k f. freshFlow (getD entries k noEntry)) (replicate 16 noFlow))
 
 abbrev μ-loop : tie.MeasureT-loop
 μ-loop count entries spare all₀ i₀ all i = count - i

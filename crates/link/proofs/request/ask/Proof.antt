@@ -1,4 +1,5 @@
--- `link::request::ask` meets its contract: refused by the word's own tests, granted what the search found, or refused at the newest frame. Assumes nothing.
+-- `link::request::ask` meets its contract: refused by the word's own tests, granted what the search found, or refused at the newest frame.
+-- Assumes nothing.
 use borrow.Author.Needs.{needs}
 use Prim.Native.Nat.{ℕ, _<_}
 use mathlib.Core.Path.{_≡_, sym, ap, _∙_}
@@ -52,9 +53,12 @@ none-at c = c .before .before .before .before
 -- ---- what is given there
 
 abbrev OnAt : tie.Start → Link → Type 0
-OnAt s l = RequestOn l (s .args .count) (s .args .e) (s .args .w) (s .args .owner .now) (s .args .held .now) (s .args .i) (s .args .flow) (s .args .word)
+OnAt s l =
+    RequestOn l (s .args .count) (s .args .e) (s .args .w) (s .args .owner .now) (s .args .held .now)
+    (s .args .i) (s .args .flow) (s .args .word)
 
-tests-are : (c : tie.After-refusal) (l : Link) → OnAt (entered c) l → c .refusal .result ≡ firstOf (wordTests (planFor (l .plan)) (entered c .args .word))
+tests-are : (c : tie.After-refusal) (l : Link) → OnAt (entered c) l
+    → c .refusal .result ≡ firstOf (wordTests (planFor (l .plan)) (entered c .args .word))
 tests-are c l o = c .refusal .ensures (l .plan) (word-on o)
 
 -- the newest frame as the link has it
@@ -156,9 +160,11 @@ returns-3 c =
     let p = passed-at (newest-at (at-find f)) in
     λ l o.
     let small = position-small f l o in
+    let granted = word.depart (start p .args .word) (position-at f) in
     rw (c .depart .ensures, c .before .moved-to .ensures)
-    (ap (λ (x : Flow). grantedWith (movedTo x (frame-at f) (left-at f)) (position-at f) (word.depart (start p .args .word) (position-at f))) (o .flow-is)
-    ∙ reply-found l (o .window .sound) _ _ (place-on o) (tests-are (p .before) l o) (p .if1 .left) _ _ _ (position-found f l o) (omega (arith, small)))
+    (ap (λ (x : Flow). grantedWith (movedTo x (frame-at f) (left-at f)) (position-at f) granted) (o .flow-is)
+    ∙ reply-found l (o .window .sound) _ _ (place-on o) (tests-are (p .before) l o) (p .if1 .left) _ _ _ (position-found f l o)
+    (omega (arith, small)))
 
 enum-known-found-2 : tie.Need-enum-known-found-2
 enum-known-found-2 c = search needs
