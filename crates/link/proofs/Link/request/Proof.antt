@@ -24,8 +24,11 @@ start c = c .before .before
 abbrev asked-at : tie.After-window → tie.After-asker
 asked-at c = c .before .before .before
 
+abbrev window-for : tie.After-ask-arg2 → tie.After-window
+window-for c = c .before .before .before
+
 abbrev window-at : tie.After-flow2 → tie.After-window
-window-at c = c .before .before .before .before .before
+window-at c = window-for (c .before .before)
 
 -- ---- what is known there
 
@@ -72,7 +75,7 @@ window-requires c κs = measures _ (start (c .before .before) .pre)
 
 ask-requires : tie.Need-ask-requires
 ask-requires c κs =
-    let w = c .before .before .before in
+    let w = window-for c in
     record { link = link-at w; given = request-on (hand-at w) _ (asked-at w .asker .ensures) }
 
 mul-flow-2 : tie.Need-mul-flow-2
