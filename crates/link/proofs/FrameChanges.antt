@@ -130,8 +130,10 @@ module _ (l : Link) (s : Sound l) where
       left : Bool → Flow
       left b = cond b (movedTo (flowAt l i .flow) (onAt l) (entryAt l i .share)) (flowAt l i .flow)
 
-      go : (b : Bool) → flowOf (sizeOf l) (flowRow (left b) (flowAfter l i .held))
-          ≡ tick.carriedOn (linkOf l) i (cond b (model.movedTo (model.flow (linkOf l) i) (onAt l) (model.share (linkOf l) i)) (model.flow (linkOf l) i))
+      read-left : Bool → model.Flow
+      read-left b = cond b (model.movedTo (model.flow (linkOf l) i) (onAt l) (model.share (linkOf l) i)) (model.flow (linkOf l) i)
+
+      go : (b : Bool) → flowOf (sizeOf l) (flowRow (left b) (flowAfter l i .held)) ≡ tick.carriedOn (linkOf l) i (read-left b)
       go true = λ k. model.withHeld (model.movedTo (sym (read-flow l i h) k) (onAt l) (sym share k)) (held-after i h k)
       go false = λ k. model.withHeld (sym (read-flow l i h) k) (held-after i h k)
 

@@ -43,9 +43,12 @@ module _ (l : Link) (s : Sound l) (x i : ℕ) (place : i ≡ placed (l .plan .co
       (replaced-flow (model.withOwners (linkOf l) (λ q. cond (eqb q p) (some i) (model.owner (linkOf l) q))) (read-count l)
       (model.withHeld (model.movedTo (model.flow (linkOf l) i) j c) (model.heldFrom (linkOf l) i p suc)))
 
-  refused-flow : (c : ℕ) → storedFlow (model.flow (refusedAtNewest (linkOf l) i c) i) ≡ movedTo (flowAt l i .flow) (newest (model.window (linkOf l))) c
+  refused-flow : (c : ℕ) → storedFlow (model.flow (refusedAtNewest (linkOf l) i c) i)
+      ≡ movedTo (flowAt l i .flow) (newest (model.window (linkOf l))) c
   unfolding refusedAtNewest
-  refused-flow c = ap storedFlow (replaced-flow (linkOf l) (read-count l) (model.movedTo (model.flow (linkOf l) i) (newest (model.window (linkOf l))) c))
+  refused-flow c =
+      let last = newest (model.window (linkOf l)) in
+      ap storedFlow (replaced-flow (linkOf l) (read-count l) (model.movedTo (model.flow (linkOf l) i) last c))
 
   -- refused by the word's own tests
   pub reply-refused : {n : ℕ} → n ≡ firstOf (wordTests (planFor (l .plan)) x) → (n ≡ 0 → ⊥)

@@ -76,7 +76,8 @@ module _ (l : Link) (s : Sound l) where
 
     same-flow-at : flowAt (withFlow l i f) i ≡ f
     same-flow-at =
-        rw (getD-set-same (l .flows) i (f .flow) noFlow (omega (arith, s .flows-long, below)), row-with-same (l .held) i (f .held) (s .held-long) below long)
+        let e = getD-set-same (l .flows) i (f .flow) noFlow (omega (arith, s .flows-long, below)) in
+        rw (e, row-with-same (l .held) i (f .held) (s .held-long) below long)
 
     other-flow-at : (j : ℕ) → (j ≡ i → ⊥) → flowAt (withFlow l i f) j ≡ flowAt l j
     other-flow-at j d = rw (getD-set-other (l .flows) i j (f .flow) noFlow d, row-with-other (l .held) i (f .held) j d)
@@ -92,7 +93,8 @@ module _ (l : Link) (s : Sound l) where
     unfolding linkOf
     read-with-flow =
         let e =
-        table-same (l .plan .count) (λ j. flowOf (sizeOf l) (flowAt (withFlow l i f) j)) (λ j. cond (eqb j i) (flowOf (sizeOf l) f) (model.flow (linkOf l) j))
+        table-same (l .plan .count) (λ j. flowOf (sizeOf l) (flowAt (withFlow l i f) j))
+        (λ j. cond (eqb j i) (flowOf (sizeOf l) f) (model.flow (linkOf l) j))
         (λ j h. ap (flowOf (sizeOf l)) (set-flow j) ∙ either (eqb j i) (flowAt l j) ∙ rw (read-flow l j h)) in
         cc (e, read-count l)
       where

@@ -4,3 +4,4 @@ pub mod Reading
 pub mod Sound
 pub mod Given
 pub mod Reply
+pub mod Fresh

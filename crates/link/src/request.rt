@@ -44,7 +44,8 @@ fn refusal(count: usize, e: Entry, size: usize, word: u32) -> u8
     0
 }
 
-// The refusal where the search ends with no position, at the newest frame, with a remainder. A spent share is refused before the search, so that only 12 comes from here.
+// The refusal where the search ends with no position, at the newest frame, with a remainder. A spent share is refused before the search,
+// so that only 12 comes from here.
 fn nowhere(left: usize) -> u8
     ensures { λ r. ⌜ r ≡ cond (eqb left 0) 11 12 ⌝ }
 {
@@ -84,7 +85,8 @@ pub fn ask<'a>(
     word: u32,
 ) -> Reply
     requires { ⌜ SomeLink (λ l. RequestOn l count e w (now owner) (now held) i flow word) ⌝ }
-    ensures { λ r. ⌜ ((l : Link) → RequestOn l count e w (now (owner .entry)) (now (held .entry)) i flow word → r ≡ replyOf i (model.request (linkOf l) word)) ⌝ }
+    ensures { λ r. ⌜ ((l : Link) → RequestOn l count e w (now (owner .entry)) (now (held .entry)) i flow word
+        → r ≡ replyOf i (model.request (linkOf l) word)) ⌝ }
 {
     let number = refusal(count, e, w.slots * w.frames, word);
     if number != 0 {

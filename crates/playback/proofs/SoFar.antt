@@ -20,13 +20,19 @@ use Rattle.playback.specs.Playback.{playable, PlayedRecords}
 use Rattle.playback.proofs.Records.{playedAt, Played}
 
 -- From link `start` the records up to the place `at` are played, and their lines stand in what was `out₀` up to `end`.
-pub record SoFar (start : Link) (records out₀ : List ℕ) (used : ℕ) (plan : Plan) (at : ℕ) (link : Link) (w : Window) (out : List ℕ) (end : ℕ) : Type 0 where
+pub record SoFar (start : Link) (records out₀ : List ℕ) (used : ℕ) (plan : Plan) (at : ℕ) (link : Link) (w : Window)
+    (out : List ℕ) (end : ℕ) : Type 0 where
   pub at-most : at ≤ used
   pub used-is : used ≡ 5 * playable records out₀
   pub whole : at % 5 ≡ 0
   pub seven-most : 5 * end ≤ 7 * at
   pub played : PlayedTo (linkOf start) records out₀ 0 at (linkOf (playedAt link w)) out end
   pub hand : AtHand (playedAt link w) plan w
+
+-- what `calls::write` ensures: the answer's line is written, and the place goes on by at most seven
+abbrev Written : Answer → (out : List ℕ) (end : ℕ) (out′ : List ℕ) (end′ : ℕ) → Type 0
+Written answer out end out′ end′ =
+    (out′ ≡ outWith (lineFor answer) out end) × ((end′ ≡ nextAfter (lineFor answer) out end) × (end′ ≤ end + 7))
 
 -- how far the records go
 record Reach (records out : List ℕ) (used : ℕ) : Type 0 where
@@ -60,9 +66,9 @@ module _ {start : Link} {records out₀ : List ℕ} {used : ℕ} {plan : Plan} {
 
   -- one record more: it was played, and its line was written
   pub one-more : at < used → {w′ : Window} {link′ : Link} {answer : Answer} → Played (playedAt link w) (callAt records at) plan w′ link′ answer
-      → {out′ : List ℕ} {end′ : ℕ} → out′ ≡ outWith (lineFor answer) out end → end′ ≡ nextAfter (lineFor answer) out end → end′ ≤ end + 7
+      → {out′ : List ℕ} {end′ : ℕ} → Written answer out end out′ end′
       → SoFar start records out₀ used plan (at + 5) link′ w′ out′ end′
-  one-more before p written ends most =
+  one-more before p (written, (ends, most)) =
       let r = reach records out₀ used (s .used-is) in
       let on : at + 5 ≤ used = omega (arith, s .whole, r .whole) in
       let room : end + 7 ≤ length out = omega (arith, same-size, s .seven-most, r .in-out) in

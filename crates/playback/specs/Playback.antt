@@ -11,7 +11,8 @@ use Rattle.model.specs.Listing.{listing, linkAfter}
 abbrev pub playable : (records out : List ℕ) → ℕ
 playable records out = min (length records / 5) (length out / 7)
 
--- `used` bytes of the records are played from link l to link l′, and their lines stand in the first `written` bytes of what was `out`, the rest of which is unchanged.
+-- `used` bytes of the records are played from link l to link l′, and their lines stand in the first `written` bytes of what was `out`,
+-- the rest of which is unchanged.
 pub record PlayedRecords (l : Link) (records out : List ℕ) (l′ : Link) (used written : ℕ) (out′ : List ℕ) : Type 0 where
   pub used-is : used ≡ 5 * playable records out
   pub link-is : l′ ≡ linkAfter l (take used records)

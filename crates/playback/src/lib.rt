@@ -28,10 +28,12 @@ pub struct Playback {
     pub written: usize,
 }
 
-// Plays the records of a slice and writes their lines from the start of `out` on: every whole record, or as many as `out` has room for, seven bytes each.
+// Plays the records of a slice and writes their lines from the start of `out` on: every whole record, or as many as `out` has room for,
+// seven bytes each.
 pub fn play(start: Link, records: &[u8], out: &mut [u8]) -> Playback
     requires { ⌜ Sound start ⌝ }
-    ensures { λ r. ⌜ PlayedRecords (linkOf start) (now (records .entry)) (now (out .entry)) (linkOf (r .link)) (r .used) (r .written) (now (out .exit)) ⌝ }
+    ensures { λ r. ⌜ PlayedRecords (linkOf start) (now (records .entry)) (now (out .entry))
+        (linkOf (r .link)) (r .used) (r .written) (now (out .exit)) ⌝ }
     ensures sound { λ r. ⌜ Sound (r .link) ⌝ }
 {
     let used = RECORD * smaller(records.len() / RECORD, out.len() / LONGEST_LINE);

@@ -13,8 +13,8 @@ use Rattle.link.proofs.Readings.{measures}
 use Rattle.link.proofs.Given.{at-hand, plan-valid, flows-few, credit-on, request-on}
 use Rattle.playback.proofs.Records.{Played, reads-as, no-call-played}
 use Rattle.playback.proofs.SoFar.{none-yet, same-size, one-more, all-played}
-use Rattle.playback.proofs.play.Proof.Places.{Inv-loop, μ-loop, loop-at, link-at, plan-at, window-at, hand-at, made-at, read-at}
-use Rattle.playback.proofs.play.Proof.Places.{request-at, asker-at, asker-few, position-below, credit-at, tick-at, left-at}
+use Rattle.playback.proofs.play.Proof.Places.{Inv-loop, μ-loop, entered, loop-at, link-at, plan-at, window-at, hand-at, made-at, read-at}
+use Rattle.playback.proofs.play.Proof.Places.{request-at, asker-for, asker-at, asker-few, position-below, credit-for, credit-at, ticked-at, tick-at, left-at}
 use Rattle.playback.proofs.play.Proof.Came.{came}
 use Rattle.playback.proofs.play.Statement.{statement}
 use Rattle.playback.proofs.play.Tie as tie
@@ -28,13 +28,14 @@ mul-used : tie.Need-mul-used Inv-loop μ-loop
 mul-used c = omega arith
 
 window-requires : tie.Need-window-requires Inv-loop μ-loop
-window-requires c κs = measures _ (c .before .before .before .before .pre)
+window-requires c κs = measures _ (entered c .pre)
 
 loop-holds : tie.Need-loop-holds Inv-loop μ-loop
 loop-holds c =
-    let s = c .before .before .before .before .before in
+    let s = entered (c .before) in
     let a = at-hand (s .pre) (c .window .ensures .0) (c .window .ensures .1) in
-    none-yet (ap (5 *_) (c .before .before .smaller .ensures)) (ap (λ (x : seen.Window). withCurrent (s .args .start) (x .current)) (c .window .ensures .0)) a
+    let same = ap (λ (x : seen.Window). withCurrent (s .args .start) (x .current)) (c .window .ensures .0) in
+    none-yet (ap (5 *_) (c .before .before .smaller .ensures)) same a
 
 -- ---- a record that makes no call
 
@@ -64,8 +65,7 @@ loop-again c =
     let no-call = reads-as (made-at read) _ (read .read .ensures) ∙ ap callIn (told .enum-told .given .1) in
     let played : Played (link-at read) (made-at read) (plan-at read) (window-at read) (loop-at read .loop .link) (Refused 16) =
     rw no-call (no-call-played (hand-at read)) in
-    let w = written .write-refusal .ensures in
-    one-more (loop-at read .loop .inv) (read .before .loop-test .taken) played (w .0) (w .1 .0) (w .1 .1)
+    one-more (loop-at read .loop .inv) (read .before .loop-test .taken) played (written .write-refusal .ensures)
 
 -- ---- a request
 
@@ -89,7 +89,7 @@ element-copy-out-flow c = asker-few (c .before)
 
 ask-requires : tie.Need-ask-requires Inv-loop μ-loop
 ask-requires c κs =
-    let i = c .before .before .before .before .before in
+    let i = asker-for c in
     record { link = link-at (request-at i); given = request-on (hand-at (request-at i)) _ (i .asker .ensures) }
 
 mul-flow-2 : tie.Need-mul-flow-2 Inv-loop μ-loop
@@ -118,7 +118,7 @@ enum-known-call-3 c = search needs
 
 refusal-requires : tie.Need-refusal-requires Inv-loop μ-loop
 refusal-requires c κs =
-    let r = read-at (c .before .before .before .before .before) in
+    let r = credit-for c in
     record { link = link-at r; given = credit-on (hand-at r) }
 
 shift-from-requires-2 : tie.Need-shift-from-requires-2 Inv-loop μ-loop
@@ -147,7 +147,7 @@ leave-head-requires c κs = plan-valid (hand-at (left-at (c .before .before)))
 
 element-copy-out-owner : tie.Need-element-copy-out-owner Inv-loop μ-loop
 element-copy-out-owner c =
-    let m = c .before .before .before .ticked .ensures .proper .measures in
+    let m = ticked-at c .ticked .ensures .proper .measures in
     omega (arith, m .current-below, m .positions-most)
 
 turn-requires : tie.Need-turn-requires Inv-loop μ-loop
@@ -169,8 +169,7 @@ loop-again-2 c =
     let written = c .before .before in
     let joined = written .before .before in
     let read = read-at (joined .before) in
-    let w = written .write .ensures in
-    one-more (loop-at read .loop .inv) (read .before .loop-test .taken) (came joined) (w .0) (w .1 .0) (w .1 .1)
+    one-more (loop-at read .loop .inv) (read .before .loop-test .taken) (came joined) (written .write .ensures)
 
 -- ---- after the loop
 

@@ -24,8 +24,11 @@ start c = c .before .before
 abbrev asked-at : tie.After-window → tie.After-asker
 asked-at c = c .before .before .before
 
+abbrev window-for : tie.After-ask-arg2 → tie.After-window
+window-for c = c .before .before .before
+
 abbrev window-at : tie.After-flow2 → tie.After-window
-window-at c = c .before .before .before .before .before
+window-at c = window-for (c .before .before)
 
 -- ---- what is known there
 
@@ -43,7 +46,8 @@ module _ (c : tie.After-window) where
   hand-at = at-hand (start (asked-at c) .pre) (c .window .ensures .0) (c .window .ensures .1)
 
 module _ (c : tie.After-flow2) where
-  reply-is : c .before .ask .result ≡ replyOf (asked-at (window-at c) .asker .result) (request (linkOf (link-at (window-at c))) (word-at (window-at c)))
+  reply-is : c .before .ask .result
+      ≡ replyOf (asked-at (window-at c) .asker .result) (request (linkOf (link-at (window-at c))) (word-at (window-at c)))
   reply-is = c .before .ask .ensures _ (request-on (hand-at (window-at c)) _ (asked-at (window-at c) .asker .ensures))
 
   position-below : c .before .ask .result .position < sizeOf (window-at c .window .result)
@@ -71,7 +75,7 @@ window-requires c κs = measures _ (start (c .before .before) .pre)
 
 ask-requires : tie.Need-ask-requires
 ask-requires c κs =
-    let w = c .before .before .before in
+    let w = window-for c in
     record { link = link-at w; given = request-on (hand-at w) _ (asked-at w .asker .ensures) }
 
 mul-flow-2 : tie.Need-mul-flow-2

@@ -2,7 +2,7 @@
 use Prim.Native.Nat.{ℕ, _<_}
 use mathlib.Core.Path.{_≡_, sym, ap, _∙_}
 use mathlib.Core.List.{List}
-use mathlib.Core.Bool.{false}
+use mathlib.Core.Bool.{Bool, false}
 use native.Mathlib.Omega.{arith}
 use Rattle.model.specs.Window.{passed, everyFrom}
 use Rattle.window.specs.Window.{windowOf}
@@ -53,11 +53,11 @@ module _ (c : tie.After-held-from) where
   not-passed = sym (c .before .before .passed .ensures) ∙ c .before .if3 .left
 
   -- what the test of the holdings says
-  held-is : (l : Link) → OnAt (start (tested-at c)) l
-      → everyFrom (windowOf (start (tested-at c) .args .w)) position-at (someHeld (row (l .held) (start (tested-at c) .args .flow))) ≡ c .held-from .result
-  held-is l o =
-      let s = start (tested-at c) in
-      ap (λ (h : List ℕ). everyFrom (windowOf (s .args .w)) position-at (someHeld (row h (s .args .flow)))) (sym (o .held-is)) ∙ sym (c .held-from .ensures)
+  abbrev held-in : List ℕ → Bool
+  held-in h = everyFrom (windowOf (start (tested-at c) .args .w)) position-at (someHeld (row h (start (tested-at c) .args .flow)))
+
+  held-is : (l : Link) → OnAt (start (tested-at c)) l → held-in (l .held) ≡ c .held-from .result
+  held-is l o = ap held-in (sym (o .held-is)) ∙ sym (c .held-from .ensures)
 
 -- ---- the needs
 
@@ -84,7 +84,9 @@ returns-3 c =
     )
 
 held-from-requires : tie.Need-held-from-requires
-held-from-requires c κs = let t = c .before .before in record { proper = start t .pre .given .window .proper; flow = flow-few t; position = t .if2 .left }
+held-from-requires c κs =
+    let t = c .before .before in
+    record { proper = start t .pre .given .window .proper; flow = flow-few t; position = t .if2 .left }
 
 returns-4 : tie.Need-returns-4
 returns-4 c =

@@ -1,4 +1,5 @@
--- `link::request::ask` meets its contract: refused by the word's own tests, granted what the search found, or refused at the newest frame. Assumes nothing.
+-- `link::request::ask` meets its contract: refused by the word's own tests, granted what the search found, or refused at the newest frame.
+-- Assumes nothing.
 use borrow.Author.Needs.{needs}
 use Prim.Native.Nat.{ℕ, _<_}
 use mathlib.Core.Path.{_≡_, sym, ap, _∙_}
@@ -38,23 +39,32 @@ start c = entered (c .before)
 abbrev passed-at : tie.After-newest → tie.Else1
 passed-at c = c .before
 
--- where the newest frame is known
+-- where the newest frame is known: before the search, and where the share is spent there
+abbrev newest-for : tie.After-struct-known4 → tie.After-newest
+newest-for c = c .before .before .before
+
 abbrev newest-at : tie.After-find → tie.After-newest
-newest-at c = c .before .before .before .before
+newest-at c = newest-for (c .before)
 
-abbrev newest-at-spent : tie.Then3 → tie.After-newest
-newest-at-spent c = c .before .before .before .before
+abbrev spent-at : tie.After-refused2 → tie.Then2
+spent-at c = c .before .before .before
 
--- where the search found no position
+-- where the search found a position, and where it found none
+abbrev granted-at : tie.After-depart → tie.After-found
+granted-at c = c .before .before .before
+
 abbrev none-at : tie.After-refused3 → tie.After-found2
 none-at c = c .before .before .before .before
 
 -- ---- what is given there
 
 abbrev OnAt : tie.Start → Link → Type 0
-OnAt s l = RequestOn l (s .args .count) (s .args .e) (s .args .w) (s .args .owner .now) (s .args .held .now) (s .args .i) (s .args .flow) (s .args .word)
+OnAt s l =
+    RequestOn l (s .args .count) (s .args .e) (s .args .w) (s .args .owner .now) (s .args .held .now)
+    (s .args .i) (s .args .flow) (s .args .word)
 
-tests-are : (c : tie.After-refusal) (l : Link) → OnAt (entered c) l → c .refusal .result ≡ firstOf (wordTests (planFor (l .plan)) (entered c .args .word))
+tests-are : (c : tie.After-refusal) (l : Link) → OnAt (entered c) l
+    → c .refusal .result ≡ firstOf (wordTests (planFor (l .plan)) (entered c .args .word))
 tests-are c l o = c .refusal .ensures (l .plan) (word-on o)
 
 -- the newest frame as the link has it
@@ -116,13 +126,13 @@ refused-requires-2 c κs = search needs
 
 returns-2 : tie.Need-returns-2
 returns-2 c =
-    let n = newest-at-spent (c .before) in
+    let n = spent-at c .before .before in
     let p = passed-at n in
     λ l o.
     let s = o .window .sound in
     let is = o .window .window-is in
     let frame = eqb-true _ _ (c .before .if3 .taken) ∙ n .newest .ensures in
-    let left = c .before .before .before .if2 .taken in
+    let left = spent-at c .if2 .taken in
     let in-newest = sym (ap (λ (x : Flow). x .frame) (o .flow-is)) ∙ frame in
     let spent = sym (ap (λ (x : Flow). x .left) (o .flow-is)) ∙ left in
     c .refused2 .ensures
@@ -133,7 +143,7 @@ cast-find : tie.Need-cast-find
 cast-find c = search needs
 
 find-requires : tie.Need-find-requires
-find-requires c κs = flow-from (start (passed-at (c .before .before .before)) .pre .given)
+find-requires c κs = flow-from (start (passed-at (newest-for c)) .pre .given)
 
 enum-known-found : tie.Need-enum-known-found
 enum-known-found c = search needs
@@ -152,13 +162,15 @@ depart-requires c κs = search needs
 
 returns-3 : tie.Need-returns-3
 returns-3 c =
-    let f = c .before .before .before in
+    let f = granted-at c in
     let p = passed-at (newest-at (at-find f)) in
     λ l o.
     let small = position-small f l o in
+    let granted = word.depart (start p .args .word) (position-at f) in
     rw (c .depart .ensures, c .before .moved-to .ensures)
-    (ap (λ (x : Flow). grantedWith (movedTo x (frame-at f) (left-at f)) (position-at f) (word.depart (start p .args .word) (position-at f))) (o .flow-is)
-    ∙ reply-found l (o .window .sound) _ _ (place-on o) (tests-are (p .before) l o) (p .if1 .left) _ _ _ (position-found f l o) (omega (arith, small)))
+    (ap (λ (x : Flow). grantedWith (movedTo x (frame-at f) (left-at f)) (position-at f) granted) (o .flow-is)
+    ∙ reply-found l (o .window .sound) _ _ (place-on o) (tests-are (p .before) l o) (p .if1 .left) _ _ _ (position-found f l o)
+    (omega (arith, small)))
 
 enum-known-found-2 : tie.Need-enum-known-found-2
 enum-known-found-2 c = search needs

@@ -76,7 +76,8 @@ loop-again c =
           ⊎-elim
           (λ (in-head, _, moved, all-is).
           all-is ∙ replaced-more 0 (before .i) _ _ noFlow _ _ (before .inv .all-is) (omega arith) (moved .ensures ∙ rw (eq-eqb _ _ (in-head .taken))))
-          (λ (elsewhere, all-is). all-is ∙ replaced-kept 0 (before .i) _ _ noFlow _ (before .inv .all-is) (omega arith) (rw (ne-eqb _ _ (elsewhere .left))))
+          (λ (elsewhere, all-is).
+          all-is ∙ replaced-kept 0 (before .i) _ _ noFlow _ (before .inv .all-is) (omega arith) (rw (ne-eqb _ _ (elsewhere .left))))
           (c .if1 .came);
     }
 

@@ -44,13 +44,13 @@ module _ (c : tie.At-match2-came Inv-loop μ-loop) where
       (credit-taken-played a _ _ (refusal .ensures .0 _ (credit-on a)) (taken .left) (refusal .ensures .1 (taken .left)) (shifted .ensures)))
       -- a tick
       (λ (_, call, on, _, _, joined, _, turn, link-is, window-is, answer-is).
-      let p = on .result .current in
+      let played : Link → Link = λ x. playedAt x (on .result) in
       same-played (call-is (c .before) ∙ ap of-call (call .given .1)) link-is window-is answer-is
       (tick-played (loop-at at-read .loop .link) a (on .ensures)
       (⊎-elim
       (λ (leaves, _, emptied, _, carried, _, moved, is).
-      head-left a (on .ensures) (leaves .taken) (emptied .ensures) (carried .ensures) (moved .ensures) (ap (λ (x : Link). playedAt x (on .result)) is))
-      (λ (stays, is). head-stays a (on .ensures) (stays .left) (ap (λ (x : Link). playedAt x (on .result)) is))
+      head-left a (on .ensures) (leaves .taken) (emptied .ensures) (carried .ensures) (moved .ensures) (ap played is))
+      (λ (stays, is). head-stays a (on .ensures) (stays .left) (ap played is))
       (joined .came))
       (turn .ensures))))))
       (c .match2 .came)

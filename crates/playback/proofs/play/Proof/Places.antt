@@ -29,8 +29,11 @@ abbrev pub μ-loop : tie.MeasureT-loop
 abbrev pub loop-at : tie.After-read Inv-loop μ-loop → tie.At-loop Inv-loop μ-loop
 loop-at c = c .before .before
 
+abbrev pub entered : tie.After-plan Inv-loop μ-loop → tie.Start Inv-loop μ-loop
+entered c = c .before .before .before .before
+
 abbrev pub start : tie.At-loop Inv-loop μ-loop → tie.Start Inv-loop μ-loop
-start c = c .before .before .before .before .before .before
+start c = entered (c .before .before)
 
 module _ (c : tie.After-read Inv-loop μ-loop) where
   abbrev pub plan-at : Plan
@@ -65,8 +68,11 @@ call-is c = reads-as (made-at (read-at c)) _ (read-at c .read .ensures) ∙ ap c
 abbrev pub request-at : tie.After-asker Inv-loop μ-loop → tie.After-read Inv-loop μ-loop
 request-at c = read-at (c .before .before .before .before)
 
+abbrev pub asker-for : tie.After-ask-arg2 Inv-loop μ-loop → tie.After-asker Inv-loop μ-loop
+asker-for c = c .before .before .before .before .before
+
 abbrev pub asker-at : tie.After-flow2 Inv-loop μ-loop → tie.After-asker Inv-loop μ-loop
-asker-at c = c .before .before .before .before .before .before .before
+asker-at c = asker-for (c .before .before)
 
 pub asker-few : (c : tie.After-asker Inv-loop μ-loop) → c .asker .result < 16
 asker-few c = placed-few (plan-valid (hand-at (request-at c))) _ (c .asker .ensures)
@@ -82,12 +88,20 @@ module _ (c : tie.After-flow2 Inv-loop μ-loop) where
 
 -- ---- a credit
 
+-- where its call was made: from where its tests are made, and from where they gave a number
+abbrev pub credit-for : tie.After-refusal-arg Inv-loop μ-loop → tie.After-read Inv-loop μ-loop
+credit-for c = read-at (c .before .before .before .before .before)
+
 abbrev pub credit-at : tie.After-refusal Inv-loop μ-loop → tie.After-read Inv-loop μ-loop
-credit-at c = read-at (c .before .before .before .before .before .before)
+credit-at c = credit-for (c .before)
 
 -- ---- a tick
 
--- where its call was made: from where the window is one position on, and from where the head frame is left
+-- where the window is one position on
+abbrev pub ticked-at : tie.Joined3 Inv-loop μ-loop → tie.After-ticked Inv-loop μ-loop
+ticked-at c = c .before .before .before
+
+-- where its call was made: from there, and from where the head frame is left
 abbrev pub tick-at : tie.After-struct-known2 Inv-loop μ-loop → tie.After-read Inv-loop μ-loop
 tick-at c = read-at (c .before .before .before .before .before)
 
