@@ -154,4 +154,5 @@ module _ {l : model.Link} {records out : List ℕ} {at : ℕ} {link : Link} {end
     link-is = g .played .link ∙ ap (λ n. linkAfter l (take n records)) z;
     written-is = let u = g .played .up-to in let v = ap (λ n. length (listing l (take n records))) z in omega arith;
     out-is = g .played .lines ∙ ap (λ n. sets out 0 (listing l (take n records))) z;
+    seven-most = omega (arith, g .seven-most);
   }

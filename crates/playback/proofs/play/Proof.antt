@@ -90,7 +90,7 @@ abbrev of-call : Call → Option calls.Call
 of-call x = callIn (Record.Call x)
 
 call-is : (c : tie.After-known-told Inv-loop μ-loop) → call-at (read-at c) ≡ of-call (c .before .call .given .0 .0)
-call-is c = reads-as (call-at (read-at c)) _ (read-at c .read .ensures) ∙ ap callIn (c .before .call .given .1)
+call-is c = reads-as (call-at (read-at c)) _ (read-at c .read .ensures .0) ∙ ap callIn (c .before .call .given .1)
 
 -- ---- a request
 
@@ -212,7 +212,7 @@ loop-again c =
     let a = t .before .before in
     let k = a .before .before .loop in
     let g = k .inv in
-    let o = reads-as (call-at a) _ (a .read .ensures) ∙ ap callIn (t .enum-told .given .1) in
+    let o = reads-as (call-at a) _ (a .read .ensures .0) ∙ ap callIn (t .enum-told .given .1) in
     let m = rw (← o) at (none-made (now-at a) (sound-at a)) in
     let b = reach _ _ _ (g .1) in (
       omega (arith, b .whole, g .3 .whole),
