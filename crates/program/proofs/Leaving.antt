@@ -2,17 +2,20 @@
 use Prim.Native.Nat.{ℕ, _+_, _%_, _≤_, _<_}
 use mathlib.Core.Path.{_≡_, refl, sym, ap, _∙_, subst}
 use mathlib.Core.List.{List, [], _++_}
+use native.Mathlib.Nat.{zero-add}
 use native.Mathlib.Omega.{arith}
-use lib.ListN.{length, length-append}
+use lib.ListN.{length, take, length-append}
 use lib.Seq.{sets, length-sets}
 use Rattle.model.specs.Link.{Link}
 use Rattle.model.specs.Listing.{listing, linkAfter}
 use Rattle.model.proofs.Listing.{listing-none, link-after-none}
+use Rattle.calls.specs.Lines.{outWith, nextAfter}
+use Rattle.calls.proofs.Stores.{out-in-room, next-in-room}
 use Rattle.program.specs.declared.State.{State}
 use Rattle.program.specs.declared.Progress.{Progress}
 use Rattle.program.specs.Stage.{Stage, playing, wholeRecords, cutOff, stageFed, writtenFed}
 use Rattle.program.specs.State.{Stands}
-use Rattle.program.specs.Promises.{Leaves}
+use Rattle.program.specs.Promises.{takenFrom, FedPiece, Leaves}
 use Rattle.program.proofs.Lists.{stored-after}
 use Rattle.program.proofs.WholeRecords.{none-whole, all-cut, cut-append, listing-on, link-on}
 use Rattle.program.proofs.PlayedOn.{PlayedOne}
@@ -38,6 +41,16 @@ leaves-after {s} first {lines} {out} {out₁} {out₂} {at} {r} e f h =
 pub leaves-silent : {s t : Stage} {lines out : List ℕ} {state : State} → s ≡ t → [] ≡ lines → Stands state s → Leaves t lines out 0 (record { state = state; written = 0 }) out
 leaves-silent {s} {t} {lines} {out} {state} e f h =
     same-leaves {s = s} {t = t} e f (record { stands = h; written-is = omega arith; out-is = refl; room = omega arith })
+
+-- a line that has room is to be written
+pub leaves-line : {s : Stage} {line out out′ : List ℕ} {state : State} {n : ℕ} → 0 + 7 ≤ length out → out′ ≡ outWith line out 0 → n ≡ nextAfter line out 0 → n ≤ 0 + 7 → Stands state s
+    → Leaves s line out 0 (record { state = state; written = n }) out′
+leaves-line {s} {line} {out} {out′} {state} {n} room stored next most h = record {
+  stands = h;
+  written-is = next ∙ next-in-room line out 0 room;
+  out-is = stored ∙ out-in-room line out 0 room;
+  room = omega arith;
+}
 
 -- ---- a record that is cut off
 
@@ -69,3 +82,9 @@ module _ (l : Link) (cut piece : List ℕ) where
       ((sym (cut-append five rest five-whole) ∙ ap cutOff is) i))
       (ap (λ m. listing l five ++ listing m (wholeRecords rest)) (p .link-is) ∙ sym (listing-on l five rest five-whole) ∙ ap (λ b. listing l (wholeRecords b)) is)
       (leaves-after (listing l five) (p .written-is) (p .out-is) h)
+
+-- ---- a whole piece
+
+pub fed-piece : (s : Stage) (piece : List ℕ) {out out′ : List ℕ} {used : ℕ} {r : Progress} → used ≡ takenFrom piece out
+    → Leaves (stageFed s (take used piece)) (writtenFed s (take used piece)) out 0 r out′ → FedPiece s piece out (record { state = r .state; used = used; written = r .written }) out′
+fed-piece s piece e h = record { used-is = e; stands = h .stands; written-is = h .written-is ∙ zero-add _; out-is = h .out-is; room = h .room }

@@ -2,7 +2,10 @@ mod Lists
 mod KeptBytes
 mod Phases
 mod Ends
-mod PlanStages
 mod WholeRecords
 mod PlayedOn
 mod Leaving
+mod PlanStages
+mod PlanRead
+pub mod Pieces
+pub mod Determined

@@ -90,12 +90,13 @@ pub(crate) fn go_on(link: Link, kept: Kept, piece: &[u8], out: &mut [u8]) -> Pro
             written,
         };
     }
-    let whole = filled(two, total, &piece[two.count - start..]);
+    let behind = &piece[two.count - start..];
+    let whole = filled(two, total, behind);
     if whole.count < total {
         return Progress {
             state: reading(link, whole),
             written: 0,
         };
     }
-    begin(link, whole, &piece[whole.count - start..], out)
+    begin(link, whole, &behind[whole.count - two.count..], out)
 }

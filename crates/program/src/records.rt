@@ -51,7 +51,7 @@ pub(crate) fn go_on(link: Link, kept: Kept, piece: &[u8], out: &mut [u8]) -> Pro
     let bytes = whole.bytes;
     let played = playback::play(link, &bytes[..RECORD], out);
     let link = played.link;
-    play_on(link, &piece[RECORD - count..], out, played.written)
+    play_on(link, &piece[whole.count - count..], out, played.written)
 }
 
 // The line of a record that is cut off where the input ends, which the call reader refuses; nothing where no byte is kept.

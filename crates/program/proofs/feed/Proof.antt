@@ -1,64 +1,98 @@
+-- `program::feed` meets its contract, by the state's phase. Assumes nothing.
+use Prim.Native.Nat.{ℕ, _*_, _/_, _≤_}
+use mathlib.Core.Path.{_≡_, refl, sym, ap, _∙_}
+use mathlib.Core.List.{List}
 use native.Mathlib.Omega.{arith}
+use lib.ListN.{length, take}
+use lib.Seq.{length-take-le}
 use borrow.Author.Needs.{needs}
+use Rattle.link.specs.Reading.{linkOf}
+use Rattle.program.specs.declared.Phase.{Phase}
+use Rattle.program.specs.Stage.{reading, playing, ended, stageFed, writtenFed}
+use Rattle.program.specs.State.{bytesIn, stageIn}
+use Rattle.program.specs.Promises.{takenFrom}
+use Rattle.program.proofs.Phases.{fits-in, fed-in}
+use Rattle.program.proofs.Leaving.{leaves-silent, fed-piece}
 use Rattle.program.proofs.feed.Statement.{statement}
 use Rattle.program.proofs.feed.Tie as tie
-use Rattle.program.proofs.feed.Reads as reads
-use Rattle.program.proofs.feed.Lts as lts
-use Rattle.program.proofs.plans.go_on.Reads as plans-go-on-reads
-use Rattle.program.proofs.records.go_on.Reads as records-go-on-reads
-use Rattle.window.proofs.numbers.smaller.Reads as smaller-reads
 
--- src/lib.rt:67:37
+-- where it is known how much of the piece is taken
+module _ (c : tie.After-smaller) where
+  abbrev start : tie.Start
+  start = c .before .before .before
+
+  part-long : length (take (c .smaller .result) (start .args .piece .now)) ≡ c .smaller .result
+  part-long = length-take-le (c .smaller .result) (start .args .piece .now) (omega (arith, c .smaller .ensures))
+
+  part-most : length (take (c .smaller .result) (start .args .piece .now)) ≤ 5 * (length (start .args .out .now) / 7)
+  part-most = omega (arith, part-long, c .smaller .ensures)
+
+-- where the state's phase is looked at
+abbrev taken-at : tie.After-kept → tie.After-smaller
+taken-at c = c .before .before .before
+
 mul-smaller : tie.Need-mul-smaller
-mul-smaller c = ?
+mul-smaller c = omega arith
 
--- src/lib.rt:67:9
 smaller-requires : tie.Need-smaller-requires
-smaller-requires c κs = ?
+smaller-requires c κs = search needs
 
--- src/lib.rt:68:9
 slice-aggregate-part : tie.Need-slice-aggregate-part
-slice-aggregate-part c = ?
+slice-aggregate-part c = sym (part-long (c .before))
 
--- src/lib.rt:74:55
 enum-told : tie.Need-enum-told
-enum-told c = ?
+enum-told c = search needs
 
--- src/lib.rt:74:17
 go-on-requires : tie.Need-go-on-requires
-go-on-requires c κs = ?
+go-on-requires c κs =
+    let t = taken-at (c .before .before .before) in
+    let s = start t in
+    let awaits = fits-in (s .args .state) (c .before .enum-told .given .1) (s .pre) in
+    (awaits .no-link, s .pre .kept, awaits .still-open, part-most t)
 
--- src/lib.rt:83:57
 enum-told-2 : tie.Need-enum-told-2
-enum-told-2 c = ?
+enum-told-2 c = search needs
 
--- src/lib.rt:83:17
 go-on-requires-2 : tie.Need-go-on-requires-2
-go-on-requires-2 c κs = ?
+go-on-requires-2 c κs =
+    let t = taken-at (c .before .before .before) in
+    let s = start t in
+    let plays = fits-in (s .args .state) (c .before .enum-told2 .given .1) (s .pre) in
+    (plays .sound, s .pre .kept, omega (arith, s .pre .kept .count-is, plays .not-whole), part-most t)
 
--- src/lib.rt:91:25
 enum-told-3 : tie.Need-enum-told-3
-enum-told-3 c = ?
+enum-told-3 c = search needs
 
--- src/lib.rt:63:1
 same-length : tie.Need-same-length
-same-length c = ?
+same-length c = search needs
 
--- src/lib.rt:63:1
 returns : tie.Need-returns
-returns c = ?
+unfolding stageFed writtenFed
+returns c =
+    let told = c .before .before .before .before .before in
+    let t = taken-at (told .before .before) in
+    let s = start t in
+    fed-in (s .args .state) (told .enum-told .given .1) (fed-piece (reading (bytesIn (s .args .state .kept))) (s .args .piece .now) (t .smaller .ensures) (c .before .before .before .go-on .ensures))
 
--- src/lib.rt:63:1
 same-length-2 : tie.Need-same-length-2
-same-length-2 c = ?
+same-length-2 c = search needs
 
--- src/lib.rt:63:1
 returns-2 : tie.Need-returns-2
-returns-2 c = ?
+returns-2 c =
+    let told = c .before .before .before .before .before in
+    let t = taken-at (told .before .before) in
+    let s = start t in
+    fed-in (s .args .state) (told .enum-told2 .given .1)
+    (fed-piece (playing (linkOf (s .args .state .link)) (bytesIn (s .args .state .kept))) (s .args .piece .now) (t .smaller .ensures) (c .before .before .before .go-on2 .ensures))
 
--- src/lib.rt:63:1
 returns-3 : tie.Need-returns-3
-returns-3 c = ?
+unfolding stageFed writtenFed
+returns-3 c =
+    let t = taken-at (c .before .before) in
+    let s = start t in
+    let told = c .enum-told3 .given .1 in
+    let at-end = ap (λ (p : Phase). stageIn p (s .args .state .link) (bytesIn (s .args .state .kept))) told in
+    fed-in (s .args .state) told (fed-piece ended (s .args .piece .now) (t .smaller .ensures) (leaves-silent refl refl (record { stage-is = at-end; regular = s .pre })))
 
 pub feed-spec : {M : Type 1} → statement M
 feed-spec =

@@ -1,70 +1,103 @@
+-- `program::plans::begin` meets its contract. Assumes nothing.
+use Prim.Native.Nat.{ℕ, _+_, _≤_}
+use mathlib.Core.Path.{_≡_, refl, sym, ap, _∙_}
 use native.Mathlib.Omega.{arith}
+use lib.ListN.{length}
 use borrow.Author.Needs.{needs}
+use Rattle.model.specs.Plan.{planOf, refusal}
+use Rattle.model.specs.Fresh.{fresh}
+use Rattle.plan.specs.declared.Outcome.{Outcome}
+use Rattle.plan.specs.declared.Verdict.the-variants.{Accepted}
+use Rattle.plan.specs.Reading.{verdictFor, planFor, readOf}
+use Rattle.plan.proofs.Laws.{is-plan}
+use Rattle.program.specs.State.{bytesIn}
+use Rattle.program.proofs.KeptBytes.{array-long}
+use Rattle.program.proofs.PlanRead.{accepted-is-0, left-refused, left-accepted}
 use Rattle.program.proofs.plans.begin.Statement.{statement}
 use Rattle.program.proofs.plans.begin.Tie as tie
-use Rattle.program.proofs.plans.begin.Reads as reads
-use Rattle.program.proofs.plans.begin.Lts as lts
-use Rattle.calls.proofs.write_plan.Reads as write-plan-reads
-use Rattle.link.proofs.Link.fresh.Reads as fresh-reads
-use Rattle.plan.proofs.read.Reads as read-reads
-use Rattle.program.proofs.records.play_on.Reads as play-on-reads
-use Rattle.program.proofs.states.ended.Reads as ended-reads
 
--- src/plans.rt:53:30
+-- where the plan has been read
+module _ (c : tie.After-read) where
+  abbrev start : tie.Start
+  start = c .before .before .before .before .before
+
+  -- its refusal, or 0
+  abbrev number : ℕ
+  number = refusal (bytesIn (start .args .kept))
+
+  verdict-is : c .read .result .verdict ≡ verdictFor number
+  unfolding readOf
+  verdict-is = ap (λ (o : Outcome). o .verdict) (c .read .ensures .0)
+
+  -- a line has room
+  room : 0 + 7 ≤ length (start .args .out .now)
+  room = omega (arith, start .pre .2)
+
+-- where the line of a plan that is accepted has been written
+module _ (c : tie.After-write-plan2) where
+  abbrev at-read : tie.After-read
+  at-read = c .before .before .before .before
+
+  abbrev told : at-read .read .result .verdict ≡ Accepted
+  told = c .before .before .enum-told .given .1
+
+  accepted : number at-read ≡ 0
+  accepted = accepted-is-0 (number at-read) (sym (verdict-is at-read) ∙ told)
+
+  plan-is : planFor (at-read .read .result .plan) ≡ planOf (bytesIn (start at-read .args .kept))
+  plan-is = ap (λ (o : Outcome). planFor (o .plan)) (at-read .read .ensures .0) ∙ is-plan (bytesIn (start at-read .args .kept)) accepted
+
 array-share-prefix-bytes : tie.Need-array-share-prefix-bytes
-array-share-prefix-bytes c = ?
+array-share-prefix-bytes c = let s = c .before .before .before in omega (arith, array-long (s .pre .1), s .pre .1 .count-is, s .pre .1 .most)
 
--- src/plans.rt:53:30
 slice-aggregate-read : tie.Need-slice-aggregate-read
-slice-aggregate-read c = ?
+slice-aggregate-read c = c .before .before .before .before .pre .1 .count-is
 
--- src/plans.rt:53:9
 read-requires : tie.Need-read-requires
-read-requires c κs = ?
+read-requires c κs = search needs
 
--- src/plans.rt:56:26
 enum-known-verdict : tie.Need-enum-known-verdict
-enum-known-verdict c = ?
+enum-known-verdict c = search needs
 
--- src/plans.rt:57:17
 write-plan-requires : tie.Need-write-plan-requires
-write-plan-requires c κs = ?
+write-plan-requires c κs = search needs
 
--- src/plans.rt:59:24
 ended-requires : tie.Need-ended-requires
-ended-requires c κs = ?
+ended-requires c κs = search needs
 
--- src/plans.rt:64:43
 enum-told : tie.Need-enum-told
-enum-told c = ?
+enum-told c = search needs
 
--- src/plans.rt:64:17
 write-plan-requires-2 : tie.Need-write-plan-requires-2
-write-plan-requires-2 c κs = ?
+write-plan-requires-2 c κs = search needs
 
--- src/plans.rt:66:21
 fresh-requires : tie.Need-fresh-requires
-fresh-requires c κs = ?
+fresh-requires c κs = let w = c .before .before .before in at-read w .read .ensures .1 (told w)
 
--- src/plans.rt:66:13
 play-on-requires : tie.Need-play-on-requires
-play-on-requires c κs = ?
+play-on-requires c κs =
+    let w = c .before .before .before .before .before in
+    (c .before .fresh .ensures .1, omega (arith, w .write-plan2 .ensures .1 .1, w .write-plan2 .kept .1 .0, start (at-read w) .pre .2))
 
--- src/plans.rt:47:1
 same-length : tie.Need-same-length
-same-length c = ?
+same-length c = search needs
 
--- src/plans.rt:47:1
 returns : tie.Need-returns
-returns c = ?
+returns c =
+    let w = c .before .before .before .write-plan .ensures in
+    let verdict = c .before .before .before .before .before .before in
+    let r = verdict .before .before in
+    left-refused (bytesIn (start r .args .kept)) (start r .args .rest .now) (number r) (sym (verdict-is r) ∙ verdict .verdict .given .1) (room r) (w .0) (w .1 .0) (w .1 .1) (c .ended .ensures)
 
--- src/plans.rt:47:1
 same-length-2 : tie.Need-same-length-2
-same-length-2 c = ?
+same-length-2 c = search needs
 
--- src/plans.rt:47:1
 returns-2 : tie.Need-returns-2
-returns-2 c = ?
+returns-2 c =
+    let fresh-link = c .before .before .before .before .fresh .ensures .0 in
+    let w = c .before .before .before .before .before .before .before .before in
+    let r = at-read w in
+    left-accepted (bytesIn (start r .args .kept)) (start r .args .rest .now) (accepted w) (fresh-link ∙ ap fresh (plan-is w)) (room r) (w .write-plan2 .ensures .0) (w .write-plan2 .ensures .1 .0) (c .before .before .play-on .ensures)
 
 pub begin-spec : {M : Type 1} → statement M
 begin-spec =
