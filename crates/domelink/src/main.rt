@@ -9,40 +9,35 @@ use program::Fed;
 use program::Phase;
 use program::State;
 
-// What is next after a turn.
-enum Next {
-    Read,
-    // The input has ended.
-    Finish,
-    // The program has ended, a read failed, or the output took no more.
-    Stop,
-}
-
+// Where a turn leaves the program. Neither holds where the plan was refused, a read failed, or the output took no more.
 struct Turn {
     state: State,
-    next: Next,
+    // more is to be read
+    more: bool,
+    // the input has ended
+    finish: bool,
 }
 
-// Feeds a piece for which `out` has room: all of it is taken.
-fn feed(state: State, piece: &[u8], out: &mut [u8]) -> Fed
+// Feeds a piece for which `out` has room, so that all of it is taken.
+fn feed_whole(state: State, piece: &[u8], out: &mut [u8]) -> Fed
     requires { ⌜ Regular state × (length (now piece) ≤ 5 * (length (now out) / 7)) ⌝ }
     ensures regular { λ r. ⌜ Regular (r .state) ⌝ }
-    ensures used { λ r. ⌜ r .used ≡ length (now (piece .entry)) ⌝ }
+    ensures whole { λ r. ⌜ r .used ≡ length (now (piece .entry)) ⌝ }
     ensures room { λ r. ⌜ r .written ≤ length (now (out .entry)) ⌝ }
 {
     program::feed(state, piece, out)
 }
 
-fn next_after(phase: Phase) -> Next {
+fn reads_on(phase: Phase) -> bool {
     match phase {
-        Phase::Ended => Next::Stop,
-        Phase::Reading => Next::Read,
-        Phase::Playing => Next::Read,
+        Phase::Reading => true,
+        Phase::Playing => true,
+        Phase::Ended => false,
     }
 }
 
 // Reads once, feeds what was read, and writes what is handed back.
-fn turn(state: State, space: &mut [u8], out: &mut [u8]) -> Turn
+fn turn_once(state: State, space: &mut [u8], out: &mut [u8]) -> Turn
     requires { ⌜ Regular state × (length (now space) ≤ 5 * (length (now out) / 7)) ⌝ }
     ensures { λ r. ⌜ Regular (r .state) ⌝ }
 {
@@ -51,51 +46,51 @@ fn turn(state: State, space: &mut [u8], out: &mut [u8]) -> Turn
         output::input_lost();
         return Turn {
             state,
-            next: Next::Stop,
+            more: false,
+            finish: false,
         };
     }
     if got == 0 {
         return Turn {
             state,
-            next: Next::Finish,
+            more: false,
+            finish: true,
         };
     }
     let have = io::count(got, space);
-    let fed = feed(state, &space[..have], out);
+    let fed = feed_whole(state, &space[..have], out);
     let state = fed.state;
     if !output::write(out, fed.written) {
         return Turn {
             state,
-            next: Next::Stop,
+            more: false,
+            finish: false,
         };
     }
     let phase = state.phase;
     Turn {
         state,
-        next: next_after(phase),
+        more: reads_on(phase),
+        finish: false,
     }
 }
 
-fn reads_on(next: Next) -> bool {
-    if let Next::Read = next { true } else { false }
-}
-
-// A proved loop has to end, and nothing says that the input does: it counts its turns down from a number that no run uses up.
+// Takes turns to the end of the input, and then writes what is to be written there. A proved loop has to end, and nothing says that the input does: it counts its turns down from a number that no run uses up.
 fn run(space: &mut [u8], out: &mut [u8])
     requires { ⌜ length (now space) ≤ 5 * (length (now out) / 7) ⌝ }
 {
     let mut turns = u64::MAX;
-    let mut last = Turn {
+    let mut now = Turn {
         state: program::start(),
-        next: Next::Read,
+        more: true,
+        finish: false,
     };
-    while reads_on(last.next) && 0 < turns {
-        last = turn(last.state, space, out);
+    while now.more && 0 < turns {
+        now = turn_once(now.state, space, out);
         turns -= 1;
     }
-    let next = last.next;
-    if let Next::Finish = next {
-        let end = program::finish(last.state, out);
+    if now.finish {
+        let end = program::finish(now.state, out);
         output::write(out, end);
     }
 }
