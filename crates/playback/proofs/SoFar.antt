@@ -90,6 +90,7 @@ module _ {start : Link} {records out₀ : List ℕ} {used : ℕ} {plan : Plan} {
         link-is = s .played .link ∙ ap (λ n. linkAfter (linkOf start) (take n records)) z;
         written-is = let u = s .played .up-to in let v = ap (λ n. length (listing (linkOf start) (take n records))) z in omega arith;
         out-is = s .played .lines ∙ ap (λ n. sets out₀ 0 (listing (linkOf start) (take n records))) z;
+        seven-most = omega (arith, s .seven-most);
       }
 
   pub sound-played : Sound (playedAt link w)

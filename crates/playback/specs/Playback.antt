@@ -1,5 +1,5 @@
 -- Call records of a slice played in place, whose lines go to the start of another slice. Assumes nothing.
-use Prim.Native.Nat.{ℕ, _*_, _/_, min}
+use Prim.Native.Nat.{ℕ, _*_, _/_, _≤_, min}
 use mathlib.Core.Path.{_≡_}
 use mathlib.Core.List.{List}
 use lib.ListN.{length, take}
@@ -18,3 +18,5 @@ pub record PlayedRecords (l : Link) (records out : List ℕ) (l′ : Link) (used
   pub link-is : l′ ≡ linkAfter l (take used records)
   pub written-is : written ≡ length (listing l (take used records))
   pub out-is : out′ ≡ sets out 0 (listing l (take used records))
+  -- seven bytes a line at most; it is stated so that callers find it
+  pub seven-most : 5 * written ≤ 7 * used

@@ -62,7 +62,7 @@ loop-again c =
     let written = c .before .before in
     let told = written .before .before in
     let read = told .before .before in
-    let no-call = reads-as (made-at read) _ (read .read .ensures) ∙ ap callIn (told .enum-told .given .1) in
+    let no-call = reads-as (made-at read) _ (read .read .ensures .0) ∙ ap callIn (told .enum-told .given .1) in
     let played : Played (link-at read) (made-at read) (plan-at read) (window-at read) (loop-at read .loop .link) (Refused 16) =
     rw no-call (no-call-played (hand-at read)) in
     one-more (loop-at read .loop .inv) (read .before .loop-test .taken) played (written .write-refusal .ensures)

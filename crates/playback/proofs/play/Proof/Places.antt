@@ -60,7 +60,7 @@ abbrev pub read-at : tie.After-known-told Inv-loop μ-loop → tie.After-read In
 read-at c = c .before .before .before
 
 pub call-is : (c : tie.After-known-told Inv-loop μ-loop) → made-at (read-at c) ≡ callIn (Record.Call (c .before .call .given .0 .0))
-call-is c = reads-as (made-at (read-at c)) _ (read-at c .read .ensures) ∙ ap callIn (c .before .call .given .1)
+call-is c = reads-as (made-at (read-at c)) _ (read-at c .read .ensures .0) ∙ ap callIn (c .before .call .given .1)
 
 -- ---- a request
 
