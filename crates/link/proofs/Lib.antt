@@ -7,3 +7,4 @@ pub mod Changes
 pub mod Credits
 mod Requests
 pub mod Ticks
+pub mod Demand3

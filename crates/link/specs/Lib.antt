@@ -2,3 +2,4 @@ pub mod Parts
 pub mod Reading
 pub mod Sound
 pub mod Change
+pub mod Handed
