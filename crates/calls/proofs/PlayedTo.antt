@@ -6,9 +6,8 @@ use mathlib.Core.Option.{Option}
 use native.Mathlib.Omega.{arith}
 use lib.ListN.{length, take, drop, length-append}
 use lib.Seq.{sets}
-use Rattle.model.specs.Calls.{Call}
 use Rattle.model.specs.Link.{Link}
-use Rattle.model.specs.Record.{callOf}
+use Rattle.model.specs.Record.{RecordCall, callOf}
 use Rattle.model.specs.Listing.{lineOf, made, listing, linkAfter}
 use Rattle.model.proofs.Listing.{listing-none, link-after-none, listing-more, link-after-more}
 use Rattle.calls.specs.Lines.{outWith, nextAfter}
@@ -28,7 +27,7 @@ played-none l₀ stream out₀ start = record {
 }
 
 -- the call of the record at a place
-abbrev pub callAt : List ℕ → ℕ → Option Call
+abbrev pub callAt : List ℕ → ℕ → Option RecordCall
 callAt stream at = callOf (take 5 (drop at stream))
 
 module _ {l₀ : Link} {stream out₀ : List ℕ} {start at : ℕ} {l : Link} {out : List ℕ} {to : ℕ} (r : PlayedTo l₀ stream out₀ start at l out to) where

@@ -10,25 +10,26 @@ use Rattle.calls.specs.declared.Answer.{Answer}
 use Rattle.calls.specs.declared.Answer.the-variants.{Granted, Taken, Turn, Idle, Refused}
 use Rattle.model.specs.Calls as model
 use Rattle.model.specs.Calls.{accepted, refused}
+use Rattle.model.specs.Record.{RecordCall}
 use Rattle.model.specs.Listing.{requestLine, creditLine, tickLine, refusalLine}
 
 -- ---- calls
 
-abbrev pub callFor : model.Call → Call
-callFor (model.request word) = Request word
-callFor (model.credit flow position) = Credit flow position
-callFor model.tick = Tick
+abbrev pub callFor : RecordCall → Call
+callFor (RecordCall.request word) = Request word
+callFor (RecordCall.credit flow position) = Credit flow position
+callFor RecordCall.tick = Tick
 
 -- a record that makes no call is refused by 16
-abbrev pub recordFor : Option model.Call → Record
+abbrev pub recordFor : Option RecordCall → Record
 recordFor (some call) = Record.Call (callFor call)
 recordFor none = NoCall
 
 -- the paper's call of a record
-abbrev pub callIn : Record → Option model.Call
-callIn (Record.Call (Request word)) = some (model.request word)
-callIn (Record.Call (Credit flow position)) = some (model.credit flow position)
-callIn (Record.Call Tick) = some model.tick
+abbrev pub callIn : Record → Option RecordCall
+callIn (Record.Call (Request word)) = some (RecordCall.request word)
+callIn (Record.Call (Credit flow position)) = some (RecordCall.credit flow position)
+callIn (Record.Call Tick) = some RecordCall.tick
 callIn NoCall = none
 
 -- ---- answers

@@ -19,7 +19,7 @@ use Rattle.calls.specs.Reading.{recordFor, callIn, lineFor, answerToRequest, an
 use Rattle.calls.proofs.PlayedTo.{PlayedTo, played-none, callAt, played-more}
 use Rattle.calls.proofs.Answers.{call-in, line-of-request, line-of-credit, line-of-tick}
 use Rattle.calls.specs.Lines.{outWith, nextAfter}
-use Rattle.model.specs.Calls as calls
+use Rattle.model.specs.Record.{RecordCall}
 use Rattle.model.specs.Link as model
 use Rattle.model.specs.Window as seen
 use Rattle.model.specs.Request.{request}
@@ -36,13 +36,13 @@ use Rattle.link.proofs.Parts.{withCurrent}
 -- ---- what a record reads as
 
 -- a record that was read, by the call that it makes
-pub reads-as : (o : Option calls.Call) (r : Record) → r ≡ recordFor o → o ≡ callIn r
+pub reads-as : (o : Option RecordCall) (r : Record) → r ≡ recordFor o → o ≡ callIn r
 reads-as o r e = sym (call-in o) ∙ ap callIn (sym e)
 
 -- ---- what a call comes to
 
 -- s is the link after a call or after none, sound, with an answer whose line is the paper's
-pub record Made (l : model.Link) (o : Option calls.Call) (s : Step) : Type 0 where
+pub record Made (l : model.Link) (o : Option RecordCall) (s : Step) : Type 0 where
   pub link-is : linkOf (s .link) ≡ made l o .link
   pub line-is : lineFor (s .answer) ≡ lineOf (made l o .answer)
   pub sound : Sound (s .link)
@@ -89,12 +89,12 @@ module _ {plan : Plan} {w : Window} {link : Link} (p : Playing plan w link) wher
       record { plan-is = p .plan-is ∙ sym e; window-is = rw e (λ k. record { slots = slots k; frames = frames k; current = on .current }); proper = t .proper }
 
 -- what a record comes to
-pub record Came (l : model.Link) (o : Option calls.Call) (plan : Plan) (w : Window) (s : Step) : Type 0 where
+pub record Came (l : model.Link) (o : Option RecordCall) (plan : Plan) (w : Window) (s : Step) : Type 0 where
   pub comes : Made l o (record { link = playedAt (s .link) w; answer = s .answer })
   pub playing : Playing plan w (s .link)
 
 -- the same of equal parts
-pub same-came : {l : model.Link} {o p : Option calls.Call} {plan : Plan} {v w : Window} {x y : Link} {a b : Answer} → o ≡ p → x ≡ y → w ≡ v → a ≡ b
+pub same-came : {l : model.Link} {o p : Option RecordCall} {plan : Plan} {v w : Window} {x y : Link} {a b : Answer} → o ≡ p → x ≡ y → w ≡ v → a ≡ b
     → Came l p plan v (record { link = y; answer = b }) → Came l o plan w (record { link = x; answer = a })
 same-came d e f g m = rw (d, e, f, g) m
 

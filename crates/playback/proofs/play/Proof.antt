@@ -13,7 +13,7 @@ use Rattle.calls.specs.declared.Call.{Call}
 use Rattle.calls.specs.declared.Record.{Record}
 use Rattle.calls.specs.Reading.{callIn, answerToRequest}
 use Rattle.calls.proofs.PlayedTo.{callAt}
-use Rattle.model.specs.Calls as calls
+use Rattle.model.specs.Record.{RecordCall}
 use Rattle.model.specs.Link as paper
 use Rattle.model.specs.Request as model
 use Rattle.model.specs.Window as seen
@@ -69,7 +69,7 @@ module _ (c : tie.After-read Inv-loop μ-loop) where
   sound-at = c .before .before .loop .inv .3 .sound
 
   -- the call that the record makes
-  abbrev call-at : Option calls.Call
+  abbrev call-at : Option RecordCall
   call-at = callAt records-at (c .before .before .loop .at)
 
   -- what is given of it
@@ -86,7 +86,7 @@ module _ (c : tie.After-read Inv-loop μ-loop) where
 abbrev read-at : tie.After-known-told Inv-loop μ-loop → tie.After-read Inv-loop μ-loop
 read-at c = c .before .before .before
 
-abbrev of-call : Call → Option calls.Call
+abbrev of-call : Call → Option RecordCall
 of-call x = callIn (Record.Call x)
 
 call-is : (c : tie.After-known-told Inv-loop μ-loop) → call-at (read-at c) ≡ of-call (c .before .call .given .0 .0)
