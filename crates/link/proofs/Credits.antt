@@ -28,7 +28,7 @@ use Rattle.link.specs.Updates.{withHeld, withFlows, withHoldings, withFl
 use Rattle.link.specs.Reading.{linkOf}
 use Rattle.link.specs.Sound.{Sound}
 use Rattle.link.specs.Given.{Creditable}
-use Rattle.link.proofs.Steps.{Stepped}
+use Rattle.link.specs.Steps.{Stepped}
 use Rattle.link.proofs.Given.{AtHand}
 use Rattle.link.proofs.Readings.{read-count, read-flow, read-holding}
 use Rattle.link.proofs.Updated.{read-from, sound-from}

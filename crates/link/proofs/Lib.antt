@@ -4,7 +4,6 @@ pub mod Readings
 mod Updated
 pub mod Stored
 -- the calls
-pub mod Steps
 mod FreshLinks
 mod Words
 mod Searches
@@ -14,3 +13,4 @@ pub mod Requests
 pub mod Credits
 mod FrameChanges
 pub mod Ticks
+pub mod Demand3

@@ -37,7 +37,7 @@ use Rattle.link.specs.Sound.{Sound}
 use Rattle.link.specs.Given.{placed}
 use Rattle.link.specs.Reply.{replyOf}
 use Rattle.link.proofs.Plans.{plan-count, plan-entry}
-use Rattle.link.proofs.Steps.{Stepped}
+use Rattle.link.specs.Steps.{Stepped}
 use Rattle.link.proofs.Readings.{read-flow, read-size, read-frames}
 use Rattle.link.proofs.Updated.{read-with-flow, sound-with-flow, read-with-owner, sound-with-owner, read-from, sound-from}
 use Rattle.link.proofs.Given.{AtHand}

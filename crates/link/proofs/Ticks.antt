@@ -19,7 +19,7 @@ use Rattle.link.specs.Layout.{ownerAt}
 use Rattle.link.specs.Updates.{leftHeads, linkWith, withCurrent}
 use Rattle.link.specs.Reading.{linkOf}
 use Rattle.link.specs.Sound.{Sound}
-use Rattle.link.proofs.Steps.{Stepped}
+use Rattle.link.specs.Steps.{Stepped}
 use Rattle.link.proofs.Given.{AtHand}
 use Rattle.link.proofs.Readings.{read-owner}
 use Rattle.link.proofs.Updated.{sound-with, sound-owners, sound-flows}

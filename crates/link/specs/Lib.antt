@@ -2,6 +2,8 @@ pub mod Layout
 pub mod Updates
 pub mod Reading
 pub mod Sound
+pub mod Steps
 pub mod Given
 pub mod Reply
 pub mod Fresh
+pub mod Handed

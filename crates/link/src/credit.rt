@@ -5,6 +5,7 @@ ghost use Rattle.model.specs.Credit as model;
 ghost use Rattle.calls.specs.Reading.{answerToCredit};
 ghost use Rattle.link.specs.Reading.{linkOf};
 ghost use Rattle.link.specs.Sound.{Sound};
+ghost use Rattle.link.specs.Steps.{Stepped};
 ghost use Rattle.link.specs.declared.Link.{Link};
 ghost use Rattle.link.specs.Given.{SomeLink, CreditOn, Creditable};
 use crate::Answer;
@@ -41,9 +42,7 @@ impl Link {
     // A flow's cell falls free from a position on.
     pub fn credit(mut self, flow: usize, position: usize) -> Step
         requires { ⌜ Sound self ⌝ }
-        ensures link { λ r. ⌜ linkOf (r .link) ≡ model.credit (linkOf self) flow position .link ⌝ }
-        ensures answer { λ r. ⌜ r .answer ≡ answerToCredit (model.credit (linkOf self) flow position .answer) ⌝ }
-        ensures sound { λ r. ⌜ Sound (r .link) ⌝ }
+        ensures { λ r. ⌜ Stepped answerToCredit (model.credit (linkOf self) flow position) r ⌝ }
     {
         let w = window(self.plan.slots, self.plan.frames, self.cp);
         let number = refusal(self.plan.count, w, &self.held, flow, position);

@@ -11,6 +11,7 @@ ghost use Rattle.calls.specs.Reading.{answerToRequest};
 ghost use Rattle.link.specs.declared.Link.{Link};
 ghost use Rattle.link.specs.Reading.{linkOf};
 ghost use Rattle.link.specs.Sound.{Sound};
+ghost use Rattle.link.specs.Steps.{Stepped};
 ghost use Rattle.link.specs.Given.{SomeLink, placed, RequestOn, WordOn};
 ghost use Rattle.link.specs.Reply.{replyOf};
 use crate::Answer;
@@ -127,9 +128,7 @@ impl Link {
     // A word asks for a slot.
     pub fn request(mut self, word: u32) -> Step
         requires { ⌜ Sound self ⌝ }
-        ensures link { λ r. ⌜ linkOf (r .link) ≡ model.request (linkOf self) word .link ⌝ }
-        ensures answer { λ r. ⌜ r .answer ≡ answerToRequest (model.request (linkOf self) word .answer) ⌝ }
-        ensures sound { λ r. ⌜ Sound (r .link) ⌝ }
+        ensures { λ r. ⌜ Stepped answerToRequest (model.request (linkOf self) word) r ⌝ }
     {
         let plan = self.plan;
         let i = asker(plan.count, word);

@@ -7,6 +7,7 @@ ghost use Rattle.link.specs.Updates.{leftHeads};
 ghost use Rattle.tables.specs.Owners.{ownerOf};
 ghost use Rattle.link.specs.Reading.{linkOf};
 ghost use Rattle.link.specs.Sound.{Sound};
+ghost use Rattle.link.specs.Steps.{Stepped};
 use crate::Answer;
 use crate::Flow;
 use crate::Link;
@@ -48,9 +49,7 @@ impl Link {
     // The current position goes on by one.
     pub fn tick(mut self) -> Step
         requires { ⌜ Sound self ⌝ }
-        ensures link { λ r. ⌜ linkOf (r .link) ≡ model.tick (linkOf self) .link ⌝ }
-        ensures answer { λ r. ⌜ r .answer ≡ answerToTick (model.tick (linkOf self) .answer) ⌝ }
-        ensures sound { λ r. ⌜ Sound (r .link) ⌝ }
+        ensures { λ r. ⌜ Stepped answerToTick (model.tick (linkOf self)) r ⌝ }
     {
         let plan = self.plan;
         let w = window(plan.slots, plan.frames, self.cp);

@@ -20,7 +20,7 @@ use Rattle.link.specs.declared.Link.{Link}
 use Rattle.link.specs.Reading.{linkOf}
 use Rattle.link.specs.Updates.{withCurrent}
 use Rattle.link.proofs.Given.{AtHand}
-use Rattle.link.proofs.Steps.{Stepped}
+use Rattle.link.specs.Steps.{Stepped}
 
 -- While records are played the current position is kept in the window: this is the link.
 abbrev pub playedAt : Link → Window → Link

@@ -2,7 +2,6 @@
 use native.Mathlib.Omega.{arith}
 use Rattle.link.specs.declared.Link.{Link}
 use Rattle.link.proofs.Readings.{measures}
-use Rattle.link.proofs.Steps.{clauses}
 use Rattle.link.proofs.Given.{AtHand, at-hand, credit-on, flows-few}
 use Rattle.link.proofs.Credits.{credit-refused, credit-taken}
 use Rattle.link.proofs.Link.credit.Statement.{statement}
@@ -28,7 +27,7 @@ returns : tie.Need-returns
 returns c =
     let r = c .before in
     let a = hand-at (window-at r) in
-    clauses (credit-refused a _ _ (r .refusal .ensures .0 _ (credit-on a)) (c .if1 .taken))
+    credit-refused a _ _ (r .refusal .ensures .0 _ (credit-on a)) (c .if1 .taken)
 
 shift-from-requires : tie.Need-shift-from-requires
 shift-from-requires c κs =
@@ -43,7 +42,7 @@ returns-2 c =
     let r = e .before in
     let a = hand-at (window-at r) in
     let tests = r .refusal .ensures .0 _ (credit-on a) in
-    clauses (credit-taken a _ _ tests (e .if1 .left) (r .refusal .ensures .1 (e .if1 .left)) (c .shift-from .ensures))
+    credit-taken a _ _ tests (e .if1 .left) (r .refusal .ensures .1 (e .if1 .left)) (c .shift-from .ensures)
 
 pub credit-spec : {M : Type 1} → statement M
 credit-spec =

@@ -9,7 +9,6 @@ use Rattle.link.specs.declared.Link.{Link}
 use Rattle.link.specs.Reading.{linkOf}
 use Rattle.link.specs.Reply.{replyOf}
 use Rattle.link.proofs.Readings.{measures}
-use Rattle.link.proofs.Steps.{clauses}
 use Rattle.link.proofs.Given.{AtHand, at-hand, placed-few, request-on}
 use Rattle.link.proofs.Requests.{reply-below, request-granted, request-refused}
 use Rattle.link.proofs.Link.request.Statement.{statement}
@@ -100,13 +99,13 @@ returns c =
     let granted-at = c .before .before in
     let f = granted-at .before in
     let w = window-at f in
-    clauses (request-granted (hand-at w) _ (asked-at w .asker .ensures) (reply-is f) (granted-at .if1 .taken) (c .shift-from .ensures))
+    request-granted (hand-at w) _ (asked-at w .asker .ensures) (reply-is f) (granted-at .if1 .taken) (c .shift-from .ensures)
 
 returns-2 : tie.Need-returns-2
 returns-2 c =
     let f = c .before in
     let w = window-at f in
-    clauses (request-refused (hand-at w) _ (asked-at w .asker .ensures) (reply-is f) (c .if1 .left))
+    request-refused (hand-at w) _ (asked-at w .asker .ensures) (reply-is f) (c .if1 .left)
 
 pub request-spec : {M : Type 1} → statement M
 request-spec =

@@ -6,7 +6,6 @@ use native.Mathlib.Omega.{arith}
 use Rattle.link.specs.declared.Link.{Link}
 use Rattle.link.specs.Updates.{withCurrent}
 use Rattle.link.proofs.Readings.{measures}
-use Rattle.link.proofs.Steps.{clauses}
 use Rattle.link.proofs.Given.{AtHand, at-hand, flows-few, plan-valid}
 use Rattle.link.proofs.Ticks.{Advanced, head-stays, head-left, ticked}
 use Rattle.link.proofs.Link.tick.Statement.{statement}
@@ -75,7 +74,7 @@ turn-requires c κs = search needs
 returns : tie.Need-returns
 returns c =
     let j = c .before .before in
-    clauses (ticked (hand-at (on-at j .before)) (on-at j .ticked .ensures) (advanced j) (c .turn .ensures))
+    ticked (hand-at (on-at j .before)) (on-at j .ticked .ensures) (advanced j) (c .turn .ensures)
 
 pub tick-spec : {M : Type 1} → statement M
 tick-spec =
