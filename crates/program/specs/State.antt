@@ -7,7 +7,7 @@ use lib.ListN.{length, take, replicate}
 use lib.Seq.{sets}
 use Rattle.plan.specs.Reading.{noEntry}
 use Rattle.link.specs.declared.Link.{Link}
-use Rattle.link.specs.Parts.{noFlow}
+use Rattle.link.specs.Layout.{noFlow}
 use Rattle.link.specs.Reading.{linkOf}
 use Rattle.link.specs.Sound.{Sound}
 use Rattle.program.specs.declared.Phase.{Phase}
