@@ -10,9 +10,11 @@ from driver.suite import NUMBERS, Suite
 from edges import refusals_page
 from edges.all_edges import EDGES
 from front_door import (
-    play_files, play_lost_output, play_old_program, wrong_arguments)
+    play_files, play_lost_output, play_old_program, slow_reader,
+    wrong_arguments)
 
-FRONT_DOOR = play_files, play_lost_output, play_old_program, wrong_arguments
+FRONT_DOOR = (play_files, play_lost_output, play_old_program, slow_reader,
+              wrong_arguments)
 
 
 def wanted(names, only):

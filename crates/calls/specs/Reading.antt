@@ -32,6 +32,16 @@ callIn (Record.Call (Credit flow position)) = some (RecordCall.credit flow posit
 callIn (Record.Call Tick) = some RecordCall.tick
 callIn NoCall = none
 
+-- this paper's number for each case of a record: 0 where it makes a call, and the refusal where it makes none
+abbrev pub numberOf : Record → ℕ
+numberOf (Record.Call call) = 0
+numberOf NoCall = 16
+
+-- the number by the paper: "unknown kind, a nonzero filler, or fewer than 5 bytes" give 16
+abbrev pub numberFor : Option RecordCall → ℕ
+numberFor (some call) = 0
+numberFor none = 16
+
 -- ---- answers
 
 -- a request: the granted word, or the number of the refusal

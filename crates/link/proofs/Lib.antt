@@ -1,9 +1,16 @@
-pub mod Parts
+-- a link, read and changed
 mod Plans
-pub mod Links
+pub mod Readings
+mod Updated
 pub mod Stored
+-- the calls
 mod FreshLinks
-pub mod Changes
+mod Words
+mod Searches
+pub mod Given
+mod Replies
+pub mod Requests
 pub mod Credits
-mod Requests
+mod FrameChanges
 pub mod Ticks
+pub mod Demand3

@@ -17,6 +17,9 @@ module _ (p : Plan) where
   plan-entry i h = getD-table (p .count) _ i _ h
 
   module _ (v : Valid p) where
+    pub count-some : 1 ≤ p .count
+    count-some = rw (← plan-count) (v .accepted .some-flow)
+
     pub count-most : p .count ≤ 16
     count-most = rw (← plan-count) (v .accepted .flows-most)
 

@@ -1,4 +1,9 @@
-pub mod Parts
+pub mod Layout
+pub mod Updates
 pub mod Reading
 pub mod Sound
-pub mod Change
+pub mod Steps
+pub mod Given
+pub mod Reply
+pub mod Fresh
+pub mod Handed

@@ -1,11 +1,9 @@
 // The fresh link.
 ghost use mathlib.Core.Path.{_≡_};
 ghost use Prim.Native.Nat.{_≤_};
-ghost use lib.ListN.{getD, replicate};
-ghost use Rattle.plan.specs.Reading.{Valid, planFor, noEntry};
+ghost use Rattle.plan.specs.Reading.{Valid, planFor};
 ghost use Rattle.model.specs.Fresh as model;
-ghost use Rattle.window.specs.Ranges.{inRange, replaced};
-ghost use Rattle.link.specs.Parts.{noFlow};
+ghost use Rattle.link.specs.Fresh.{freshFlows};
 ghost use Rattle.link.specs.Reading.{linkOf};
 ghost use Rattle.link.specs.Sound.{Sound};
 use crate::Flow;
@@ -19,17 +17,14 @@ use tables::owners::unbooked;
 // The frames and remainders of n flows, each with its share.
 fn flows(entries: [Entry; 16], count: usize) -> [Flow; 16]
     requires { ⌜ count ≤ 16 ⌝ }
-    ensures { λ r. ⌜ r ≡ replaced (inRange 0 count) (λ i f. record { frame = 0; left = getD entries i noEntry .share }) (replicate 16 noFlow) ⌝ }
+    ensures { λ r. ⌜ r ≡ freshFlows entries count ⌝ }
 {
     let spare = Flow { frame: 0, left: 0 };
     let mut all = [spare; 16];
     let mut i = 0;
     while i < count {
         let e = entries[i];
-        all[i] = Flow {
-            frame: 0,
-            left: e.share as usize,
-        };
+        all[i] = spare.moved_to(0, e.share as usize);
         i += 1;
     }
     all

@@ -1,7 +1,10 @@
 // One link of a plan: its current position, the owner of each position, each flow's frame and remainder, and what each flow holds.
-pub mod change; // what a request changes
+ghost use mathlib.Core.Path.{_≡_};
+ghost use Rattle.link.specs.Updates.{movedTo};
+
 pub mod credit;
 mod fresh;
+pub mod reply; // what a request comes to
 pub mod request;
 pub mod tick;
 
@@ -13,6 +16,17 @@ use tables::holdings::Holdings;
 pub struct Flow {
     pub frame: usize,
     pub left: usize,
+}
+
+impl Flow {
+    // The flow in another frame, with another remainder.
+    pub(crate) fn moved_to(mut self, frame: usize, left: usize) -> Flow
+        ensures { λ r. ⌜ r ≡ movedTo self frame left ⌝ }
+    {
+        self.frame = frame;
+        self.left = left;
+        self
+    }
 }
 
 // A link; 16 is the owner of a position that nobody booked.

@@ -1,15 +1,13 @@
 // The tick.
 ghost use mathlib.Core.Path.{_≡_};
-ghost use Prim.Native.Nat.{_≤_};
-ghost use lib.ListN.{getD};
 ghost use Rattle.model.specs.Tick as model;
-ghost use Rattle.plan.specs.Reading.{noEntry};
+ghost use Rattle.plan.specs.Reading.{Valid};
 ghost use Rattle.calls.specs.Reading.{answerToTick};
-ghost use Rattle.window.specs.Ranges.{inRange, replaced};
-ghost use Rattle.link.specs.Parts.{leftHead};
+ghost use Rattle.link.specs.Updates.{leftHeads};
 ghost use Rattle.tables.specs.Owners.{ownerOf};
 ghost use Rattle.link.specs.Reading.{linkOf};
 ghost use Rattle.link.specs.Sound.{Sound};
+ghost use Rattle.link.specs.Steps.{Stepped};
 use crate::Answer;
 use crate::Flow;
 use crate::Link;
@@ -31,8 +29,8 @@ pub fn turn(owner: u8) -> Answer
 
 // The flows of a plan, those in the head frame moved to the next one with their share.
 pub fn leave_head(flows: [Flow; 16], plan: Plan, head: usize, on: usize) -> [Flow; 16]
-    requires { ⌜ plan .count ≤ 16 ⌝ }
-    ensures { λ r. ⌜ r ≡ replaced (inRange 0 (plan .count)) (λ i f. leftHead head on (getD (plan .entries) i noEntry .share) f) flows ⌝ }
+    requires { ⌜ Valid plan ⌝ }
+    ensures { λ r. ⌜ r ≡ leftHeads plan head on flows ⌝ }
 {
     let mut all = flows;
     let mut i = 0;
@@ -40,10 +38,7 @@ pub fn leave_head(flows: [Flow; 16], plan: Plan, head: usize, on: usize) -> [Flo
         let e = plan.entries[i];
         let f = all[i];
         if f.frame == head {
-            all[i] = Flow {
-                frame: on,
-                left: e.share as usize,
-            };
+            all[i] = f.moved_to(on, e.share as usize);
         }
         i += 1;
     }
@@ -54,9 +49,7 @@ impl Link {
     // The current position goes on by one.
     pub fn tick(mut self) -> Step
         requires { ⌜ Sound self ⌝ }
-        ensures link { λ r. ⌜ linkOf (r .link) ≡ model.tick (linkOf self) .link ⌝ }
-        ensures answer { λ r. ⌜ r .answer ≡ answerToTick (model.tick (linkOf self) .answer) ⌝ }
-        ensures sound { λ r. ⌜ Sound (r .link) ⌝ }
+        ensures { λ r. ⌜ Stepped answerToTick (model.tick (linkOf self)) r ⌝ }
     {
         let plan = self.plan;
         let w = window(plan.slots, plan.frames, self.cp);

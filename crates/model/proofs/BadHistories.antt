@@ -4,13 +4,14 @@ use mathlib.Core.Path.{_≡_, refl, sym, ap, _∙_, subst}
 use mathlib.Core.Logic.{Dec·and, Dec·not}
 use mathlib.Core.List.{List, _∷_, [], reverse}
 use native.Mathlib.Decide.{ℕ-discrete}
+use native.Mathlib.Omega.{arith}
 use lib.Dec.{lit<}
 use lib.ListN.{length, getD}
 use Rattle.model.specs.Plan.{Plan, planOf}
 use Rattle.model.specs.Calls.{History}
 use Rattle.model.specs.Claim.{Clause}
-use Rattle.model.specs.BadHistories.{BreaksAlone, BadHistory, AllBreak, badHistories}
-use Rattle.model.proofs.Unfoldings.{counts-compute}
+use Rattle.model.specs.BadHistories.{BreaksAlone, BadHistory, AllBreak, badHistories, overfull, Overfills, JustFits}
+use Rattle.model.proofs.Unfoldings.{plans-compute, counts-compute}
 use Rattle.model.proofs.Decidable.{proved, same, implies, all-below}
 use Rattle.model.proofs.ClaimDecided.{decided}
 
@@ -65,3 +66,13 @@ all-break (b ∷ bs) = Dec·and (broken-alone (b .clause) (planOf (b .bytes)) 0 
 pub bad-histories-break : AllBreak badHistories
 unfolding all-break broken-alone badHistories counts-compute
 bad-histories-break = proved (all-break badHistories) tt
+
+-- ---- the next board's buffer
+
+pub overfills : Overfills
+unfolding overfull counts-compute plans-compute
+overfills fits = omega (arith, fits)
+
+pub just-fits : JustFits
+unfolding overfull counts-compute plans-compute
+just-fits = omega arith

@@ -1,4 +1,4 @@
--- Histories that demand 3 rules out: each breaks one clause of it and keeps all the others. Assumes nothing.
+-- Histories that demand 3 rules out: each breaks one clause of it and keeps all the others; and one that overfills the next board's buffer. Assumes nothing.
 use Prim.Native.Nat.{ℕ, _+_}
 use mathlib.Core.Path.{_≡_}
 use mathlib.Core.List.{List, _∷_, [], reverse}
@@ -7,6 +7,7 @@ use Rattle.model.specs.PlanBytes.{plan1, plan2, listing, roomy}
 use Rattle.model.specs.Plan.{Plan, planOf}
 use Rattle.model.specs.Calls.{Event, History, requested, credited, ticked, lent, accepted, refused}
 use Rattle.model.specs.Claim.{Clause, Says}
+use Rattle.model.specs.Buffer.{FitsBuffer}
 
 pub record BreaksAlone (clause : Clause) (P : Plan) (i : ℕ) (h : History) : Type 0 where
   pub breaks : Says clause P i h → ⊥
@@ -119,3 +120,18 @@ badHistories =
     -- a lent slot does not count in the least: one slot is granted where the least count is 2
     ∷ record { clause = Clause.least; bytes = roomy; events = lent 1 (accepted 0) ∷ granted 1 ∷ requested 0x24000400 (refused 12) ∷ [] }
     ∷ []
+
+-- ---- the next board's buffer
+
+-- N = 4: three slots of flow 0 and two of flow 1, one more than the buffer holds
+unfoldable pub overfull : List Event
+overfull =
+    granted 1 ∷ granted 2 ∷ granted 3 ∷ requested 0x24100000 (accepted 0x24100004) ∷ requested 0x24100400 (accepted 0x24100405) ∷ []
+
+-- at slot 5, the last of them
+abbrev pub Overfills : Type 0
+Overfills = FitsBuffer (planOf listing) (reverse overfull) 5 → ⊥
+
+-- without the last it is just full
+abbrev pub JustFits : Type 0
+JustFits = FitsBuffer (planOf listing) (reverse overfull) 4

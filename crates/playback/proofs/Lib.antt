@@ -1,1 +1,3 @@
-pub mod Records
+mod Records
+mod Arms
+mod SoFar

@@ -1,5 +1,4 @@
 // Call records of a slice played in place.
-ghost use mathlib.Core.Path.{_≡_};
 ghost use Rattle.link.specs.Reading.{linkOf};
 ghost use Rattle.link.specs.Sound.{Sound};
 ghost use Rattle.playback.specs.Playback.{PlayedRecords};
@@ -29,10 +28,12 @@ pub struct Playback {
     pub written: usize,
 }
 
-// Plays the records of a slice and writes their lines from the start of `out` on: every whole record, or as many as `out` has room for, seven bytes each.
+// Plays the records of a slice and writes their lines from the start of `out` on: every whole record, or as many as `out` has room for,
+// seven bytes each.
 pub fn play(start: Link, records: &[u8], out: &mut [u8]) -> Playback
     requires { ⌜ Sound start ⌝ }
-    ensures { λ r. ⌜ PlayedRecords (linkOf start) (now (records .entry)) (now (out .entry)) (linkOf (r .link)) (r .used) (r .written) (now (out .exit)) ⌝ }
+    ensures { λ r. ⌜ PlayedRecords (linkOf start) (now (records .entry)) (now (out .entry))
+        (linkOf (r .link)) (r .used) (r .written) (now (out .exit)) ⌝ }
     ensures sound { λ r. ⌜ Sound (r .link) ⌝ }
 {
     let used = RECORD * smaller(records.len() / RECORD, out.len() / LONGEST_LINE);
@@ -54,15 +55,15 @@ pub fn play(start: Link, records: &[u8], out: &mut [u8]) -> Playback
                 let i = asker(plan.count, word);
                 let e = plan.entries[i];
                 let flow = link.flows[i];
-                let change = ask(plan.count, e, w, &link.owner, &link.held, i, flow, word);
-                let flow = change.flow;
+                let reply = ask(plan.count, e, w, &link.owner, &link.held, i, flow, word);
+                let flow = reply.flow;
                 link.flows[i] = flow;
-                if change.granted {
-                    let position = change.position;
+                if reply.granted {
+                    let position = reply.position;
                     link.owner[position] = i as u8;
                     shift_from(&mut link.held, 1, i, w, position);
                 }
-                answer = change.answer;
+                answer = reply.answer;
             }
             Call::Credit(flow, position) => {
                 let number = refusal(plan.count, w, &link.held, flow, position);

@@ -88,8 +88,8 @@ fn ticks(first: Step, from: usize, to: usize) -> Timed
     Timed { step, sum, spent }
 }
 
-// Plays the calls of a kind from one place to another.
-pub(crate) fn run(step: Step, kind: u8, words: &[u32; MOST], from: usize, to: usize) -> Timed
+// Plays a streak: the calls of a kind from one place to another.
+pub(crate) fn streak(step: Step, kind: u8, words: &[u32; MOST], from: usize, to: usize) -> Timed
     requires { ⌜ Sound (step .link) × (to ≤ 4096) ⌝ }
     ensures { λ r. ⌜ Sound (r .step .link) ⌝ }
 {

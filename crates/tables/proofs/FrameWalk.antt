@@ -32,7 +32,8 @@ module _ {w : model.Window} {ok : ℕ → Bool} {share : ℕ} where
   pub none-failed : {j c s : ℕ} → Failed ok (j * w .slots) (w .slots) s → w .slots ≤ s → NoneIn w ok share j c
   none-failed v h = record { none-there = λ _. failed-all v h }
 
-  search-on : (more j c : ℕ) → NoneIn w ok share j c → (more ≡ 0 → ⊥) → search w ok share more j c ≡ search w ok share (more - 1) (model.next w j) share
+  search-on : (more j c : ℕ) → NoneIn w ok share j c → (more ≡ 0 → ⊥)
+      → search w ok share more j c ≡ search w ok share (more - 1) (model.next w j) share
   unfolding search
   search-on zero j c e n = absurd (n refl)
   search-on (suc more) j zero e n = let q : suc more - 1 ≡ more = omega arith in rw q

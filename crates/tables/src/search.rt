@@ -119,7 +119,8 @@ pub fn find<'a>(
     remainder: usize,
 ) -> Found
     requires { ⌜ FlowFrom w i first ⌝ }
-    ensures { λ r. ⌜ foundOf r ≡ searchFrom (windowOf w) (validAt (windowOf w) (now (owner .entry)) (row (now (held .entry)) i) cells) share first remainder ⌝ }
+    ensures { λ r. ⌜ foundOf r ≡ searchFrom (windowOf w) (validAt (windowOf w) (now (owner .entry)) (row (now (held .entry)) i) cells)
+        share first remainder ⌝ }
 {
     let low = valid_rank(held, i, cells, w);
     search(owner, w, low, share, first, remainder)

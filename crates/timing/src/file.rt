@@ -47,8 +47,8 @@ pub fn split(records: &[u8], kinds: &mut [u8; MOST], words: &mut [u32; MOST]) ->
     count
 }
 
-// The place after the run of calls of one kind that starts at a place.
-pub fn run_end(kinds: &[u8; MOST], from: usize, count: usize) -> usize
+// The place after the streak that starts at a place: calls of one kind in a row.
+pub fn streak_end(kinds: &[u8; MOST], from: usize, count: usize) -> usize
     requires { ⌜ (from < count) × (count ≤ 4096) ⌝ }
     ensures more { λ r. ⌜ from < r ⌝ }
     ensures most { λ r. ⌜ r ≤ count ⌝ }

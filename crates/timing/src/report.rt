@@ -4,7 +4,7 @@ use crate::clock;
 use crate::file;
 use crate::file::MOST;
 
-// Shorter runs are played but not counted: the clock would be too large a part of the time.
+// Shorter streaks are played but not counted: the clock would take too much of the time.
 const SHORTEST: usize = 8;
 
 // The calls of a kind that are counted, and their nanoseconds.
@@ -20,7 +20,7 @@ fn total(kind: u8, kinds: &[u8; MOST], lowest: &[u64; MOST], count: usize, cost:
     let mut spent = 0;
     let mut from = 0;
     while from < count {
-        let to = file::run_end(kinds, from, count);
+        let to = file::streak_end(kinds, from, count);
         if kinds[from] == kind && SHORTEST <= to - from {
             calls = std::num::wrapping_add_u64(calls, (to - from) as u64);
             spent = std::num::wrapping_add_u64(spent, clock::difference(lowest[from], cost));
@@ -62,7 +62,7 @@ pub fn line(
     let t = total(kind, kinds, lowest, count, cost);
     print(name);
     if t.calls == 0 {
-        print(b" - ns (no run of 8 calls)\n");
+        print(b" - ns (no streak of 8 calls)\n");
         return;
     }
     let whole = t.spent / t.calls;

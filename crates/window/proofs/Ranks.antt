@@ -84,7 +84,9 @@ module _ (w : Window) (v : Proper w) where
 
 -- two lower bounds on ranks are one
 pub both-from : {w : Window} {t u : ℕ → Bool} {a b : ℕ} → FromRank w t a → FromRank w u b → FromRank w (λ p. u p && t p) (max a b)
-both-from {w} {t} {u} {a} {b} x y = record { is = λ p l. rw (← x .is p l, ← y .is p l) (go (rankIn w p) (decLe b (rankIn w p)) (decLe a (rankIn w p))) }
+both-from {w} {t} {u} {a} {b} x y = record {
+  is = λ p l. rw (← x .is p l, ← y .is p l) (go (rankIn w p) (decLe b (rankIn w p)) (decLe a (rankIn w p)));
+}
   where
     go : (r : ℕ) → Dec (b ≤ r) → Dec (a ≤ r) → leb (max a b) r ≡ leb b r && leb a r
     go r (yes d) (yes e) = rw (le-leb b r d, le-leb a r e, le-leb (max a b) r (omega arith))

@@ -19,9 +19,12 @@ rows-requires c κs = search needs
 
 returns : tie.Need-returns
 returns c =
-    let h = c .before in
-    let s = h .before .before .before .before in
-    rw (c .rows .ensures, h .unheld .ensures, h .before .unbooked .ensures, h .before .before .flows .ensures) (read-fresh _ (s .pre), sound-fresh _ (s .pre))
+    let unheld-at = c .before in
+    let unbooked-at = unheld-at .before in
+    let flows-at = unbooked-at .before in
+    let valid = flows-at .before .before .pre in
+    rw (c .rows .ensures, unheld-at .unheld .ensures, unbooked-at .unbooked .ensures, flows-at .flows .ensures)
+    (read-fresh _ valid, sound-fresh _ valid)
 
 pub fresh-spec : {M : Type 1} → statement M
 fresh-spec = tie.close (tie.spec flows-requires unbooked-requires unheld-requires rows-requires returns)

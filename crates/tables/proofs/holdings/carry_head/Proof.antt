@@ -29,7 +29,7 @@ carry-requires c κs =
     (s .pre .few, omega (arith, v .measures .positions-most), omega arith, omega (arith, v .base-fits, v .measures .positions-most))
 
 returns : tie.Need-returns
-returns c = rw (c .carry .ensures, c .before .before .before .before2 .ensures)
+returns c = let last = c .before .before .before in rw (c .carry .ensures, last .before2 .ensures)
 
 pub carry-head-spec : {M : Type 1} → statement M
 carry-head-spec =

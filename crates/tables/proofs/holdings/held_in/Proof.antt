@@ -31,7 +31,9 @@ seen c =
     let i = at-place c in
     let l = i .before in
     let s = l .before .before in
-    let padded = counted-pad (l .loop .inv .0) (omega arith) (l .loop .inv .1 .from) (s .pre) (i .loop-test .taken) (s .args .inner) (s .args .outer) in
+    let counted = l .loop .inv .0 in
+    let from = l .loop .inv .1 .from in
+    let padded = counted-pad counted (omega arith) from (s .pre) (i .loop-test .taken) (s .args .inner) (s .args .outer) in
     c .larger-byte .ensures ∙ ap (max _) (c .before .before .chosen .ensures ∙ padded)
 
 to-zero-requires : tie.Need-to-zero-requires Inv-loop μ-loop
@@ -65,10 +67,9 @@ loop-again : tie.Need-loop-again Inv-loop μ-loop
 loop-again c =
     let b = c .before .before in
     let i = at-place b in
-    let l = i .before .loop in (
-      counting-on (l .inv .0) (omega arith) (l .inv .1 .from) (c .on-by-one .ensures),
-      rw (c .before .smaller-byte .ensures) (testing-least (l .least) (l .inv .1) (i .loop-test .taken) (b .larger-byte .result) (sym (ap (ltb 0) (seen b)))),
-    )
+    let l = i .before .loop in
+    let tested = testing-least (l .least) (l .inv .1) (i .loop-test .taken) (b .larger-byte .result) (sym (ap (ltb 0) (seen b))) in
+    (counting-on (l .inv .0) (omega arith) (l .inv .1 .from) (c .on-by-one .ensures), rw (c .before .smaller-byte .ensures) tested)
 
 returns : tie.Need-returns Inv-loop μ-loop
 returns c = testing-done (c .before .loop .inv .1) (omega arith)

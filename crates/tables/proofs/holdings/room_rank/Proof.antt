@@ -42,7 +42,8 @@ module _ (c : tie.After-last-full) where
   last-low : LastIn (test-at (c .before .before)) 0 (baseOf (window-at (c .before .before))) (c .last-full .result - first-at (c .before .before))
   last-low =
       let r = c .before .before in
-      last-room (held-at r) (start r .args .i) (start r .args .cells) 0 (baseOf (window-at r)) (omega arith) (omega arith) refl (c .last-full .ensures)
+      let base = baseOf (window-at r) in
+      last-room (held-at r) (start r .args .i) (start r .args .cells) 0 base (omega arith) (omega arith) refl (c .last-full .ensures)
 
 mul-first : tie.Need-mul-first
 mul-first c = search needs

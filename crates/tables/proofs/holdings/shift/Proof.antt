@@ -31,7 +31,9 @@ put c =
     let i = at-place c in
     let l = i .before in
     let s = l .before .before in
-    let padded = counted-pad (l .loop .inv .0) (omega arith) (l .loop .inv .1 .from) (s .pre) (i .loop-test .taken) (s .args .inner) (s .args .outer) in
+    let counted = l .loop .inv .0 in
+    let from = l .loop .inv .1 .from in
+    let padded = counted-pad counted (omega arith) from (s .pre) (i .loop-test .taken) (s .args .inner) (s .args .outer) in
     c .moved .ensures ∙ ap (λ by. wrapped by (getD (l .loop .held) (l .loop .q) 0)) (c .before .before .chosen .ensures ∙ padded)
 
 to-zero-requires : tie.Need-to-zero-requires Inv-loop μ-loop

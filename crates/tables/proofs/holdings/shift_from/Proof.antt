@@ -4,6 +4,10 @@ use Rattle.tables.proofs.PaddedFrom.{pads-high, pads-low, shifted-padde
 use Rattle.tables.proofs.holdings.shift_from.Statement.{statement}
 use Rattle.tables.proofs.holdings.shift_from.Tie as tie
 
+-- where the function is entered
+abbrev start : tie.After-struct-known2 → tie.Start
+start c = c .before .before
+
 mul-first : tie.Need-mul-first
 mul-first c = search needs
 
@@ -28,7 +32,7 @@ shift-requires c κs = search needs
 returns : tie.Need-returns
 returns c =
     let t = c .before .before in
-    let s = t .before .before .before in
+    let s = start (t .before) in
     let pads = pads-high (s .args .w) (s .pre .proper) (s .args .p) (s .pre .position) (t .if1 .taken) (s .args .by) 0 in
     rw (c .shift .ensures) (shifted-padded _ (s .pre .proper) _ (s .pre .position) _ (s .args .i) _ pads)
 
@@ -47,7 +51,7 @@ shift-requires-2 c κs = search needs
 returns-2 : tie.Need-returns-2
 returns-2 c =
     let t = c .before .before in
-    let s = t .before .before .before in
+    let s = start (t .before) in
     let pads = pads-low (s .args .w) (s .pre .proper) (s .args .p) (s .pre .position) (t .if1 .left) (s .args .by) 0 in
     rw (c .shift2 .ensures) (shifted-padded _ (s .pre .proper) _ (s .pre .position) _ (s .args .i) _ pads)
 

@@ -2,7 +2,7 @@
 use borrow.Author.Needs.{needs}
 use Prim.Native.Nat.{ℕ, _+_, _-_, _≤_, min}
 use mathlib.Core.Path.{_≡_, ap, _∙_}
-use mathlib.Core.Bool.{_&&_, cond}
+use mathlib.Core.Bool.{Bool, _&&_, cond}
 use native.Mathlib.Omega.{arith}
 use lib.Dec.{eqb, leb}
 use lib.ListN.{getD}
@@ -12,8 +12,15 @@ use Rattle.tables.proofs.EarliestSlot.{earliest-none, earliest-more}
 use Rattle.tables.proofs.search.earliest.Statement.{statement}
 use Rattle.tables.proofs.search.earliest.Tie as tie
 
+-- best is the earliest of the slots before s
+record Looking (t : ℕ → Bool) (from to s x best : ℕ) : Type 0 where
+  byte : x ≡ s
+  low : from ≤ s
+  high : s ≤ to
+  earliest : Earliest t from s best
+
 abbrev Inv-loop : tie.InvT-loop
-Inv-loop owner start from to low best₀ x₀ s₀ best x s = (x ≡ s) × (from ≤ s) × (s ≤ to) × Earliest (λ k. eqb (getD owner (start + k) 0) nobody && leb low k) from s best
+Inv-loop owner start from to low best₀ x₀ s₀ best x s = Looking (λ k. eqb (getD owner (start + k) 0) nobody && leb low k) from to s x best
 
 abbrev μ-loop : tie.MeasureT-loop
 μ-loop owner start from to low best₀ x₀ s₀ best x s = to - s
@@ -22,7 +29,7 @@ cast-x : tie.Need-cast-x Inv-loop μ-loop
 cast-x c = search needs
 
 loop-holds : tie.Need-loop-holds Inv-loop μ-loop
-loop-holds c = (search needs, search needs, search needs, earliest-none)
+loop-holds c = record { byte = search needs; low = search needs; high = search needs; earliest = earliest-none }
 
 add-candidate : tie.Need-add-candidate Inv-loop μ-loop
 add-candidate c = search needs
@@ -49,20 +56,20 @@ loop-again : tie.Need-loop-again Inv-loop μ-loop
 loop-again c =
     let i = c .before .before .before in
     let k = i .before .loop in
-    let v = k .inv in
-    let a = i .before .before .args in (
-      search needs,
-      search needs,
-      search needs,
-      earliest-more (v .3) (v .1) (omega arith)
-          (c .smaller-byte .ensures ∙ ap (min (k .best)) (c .before .candidate .ensures ∙ ap (λ (x : ℕ). cond (eqb (getD (a .owner .now) (a .start + k .s) 0) nobody && leb (a .low) x) x 255) (v .0))),
-    )
+    let a = i .before .before .args in
+    let candidate-at : ℕ → ℕ = λ x. cond (eqb (getD (a .owner .now) (a .start + k .s) 0) nobody && leb (a .low) x) x 255 in
+    let seen = c .smaller-byte .ensures ∙ ap (min (k .best)) (c .before .candidate .ensures ∙ ap candidate-at (k .inv .byte)) in
+    record {
+      byte = search needs;
+      low = search needs;
+      high = search needs;
+      earliest = earliest-more (k .inv .earliest) (k .inv .low) (omega arith) seen;
+    }
 
 returns : tie.Need-returns Inv-loop μ-loop
 returns c =
-    let v = c .before .loop .inv in
-    let e : c .before .loop .s ≡ c .before .before .args .to = omega arith in
-    rw e at (v .3)
+    let all : c .before .loop .s ≡ c .before .before .args .to = omega arith in
+    rw all at (c .before .loop .inv .earliest)
 
 pub earliest-spec : {M : Type 1} → statement M
 earliest-spec =

@@ -107,7 +107,7 @@ upto-fits c = omega (arith, c .before .smaller .ensures)
 
 -- where the walk over the slots is over, or was left out
 nothing-here : (c : tie.Joined1 Inv-loop μ-loop Inv-search μ-search)
-    → NoneIn (windowOf (window-at (c .before))) (test-at (c .before)) (start (c .before) .args .share) (frame-at (c .before)) (c .before .search .left)
+    → let f = c .before in NoneIn (windowOf (window-at f)) (test-at f) (start f .args .share) (frame-at f) (f .search .left)
 nothing-here c = ⊎-elim (λ b. none-failed (b .5 .inv .failed) (b .7 .left)) (λ b. none-spent (b .left)) (c .if1 .came)
 
 -- ---- the needs
@@ -201,8 +201,9 @@ returns c =
     let v = e .earliest .ensures in
     let u = k .loop .inv .failed in
     let hit = c .if3 .taken in
-    walked-hit (f .search .inv .walked) (k .before .before .before .before .before .if1 .taken) (earliest-before same (upto-fits e) v u hit)
-    (earliest-below same (upto-fits e) v u hit) (earliest-passes same (upto-fits e) v u hit)
+    let some-left = k .before .before .before .before .before .if1 .taken in
+    walked-hit (f .search .inv .walked) some-left (earliest-before same (upto-fits e) v u hit) (earliest-below same (upto-fits e) v u hit)
+    (earliest-passes same (upto-fits e) v u hit)
 
 returns-2 : tie.Need-returns-2 Inv-loop μ-loop Inv-search μ-search
 returns-2 c = let j = c .before in walked-out (j .before .search .inv .walked) (nothing-here j) (c .if4 .taken)

@@ -13,8 +13,8 @@ abbrev μ-loop : tie.MeasureT-loop
 loop-holds : tie.Need-loop-holds Inv-loop μ-loop
 loop-holds c = search needs
 
-run-end-requires : tie.Need-run-end-requires Inv-loop μ-loop
-run-end-requires c κs = search needs
+streak-end-requires : tie.Need-streak-end-requires Inv-loop μ-loop
+streak-end-requires c κs = search needs
 
 element-copy-out-if1 : tie.Need-element-copy-out-if1 Inv-loop μ-loop
 element-copy-out-if1 c = search needs
@@ -62,7 +62,7 @@ total-spec =
     Inv-loop
     μ-loop
     loop-holds
-    run-end-requires
+    streak-end-requires
     element-copy-out-if1
     sub-if2
     sub-wrapping-add-u64

@@ -1,0 +1,76 @@
+-- The search of flow i on link l, as it is read. Assumes nothing.
+use Prim.Native.Nat.{ℕ, _≤_, _<_}
+use mathlib.Core.Path.{_≡_, sym, ap, _∙_, subst}
+use mathlib.Core.Bool.{Bool}
+use native.Mathlib.Nat.{mod-lt}
+use native.Mathlib.Omega.{arith}
+use lib.Dec.{ltb}
+use Rattle.model.specs.Tables.{ahead}
+use Rattle.model.specs.Plan as paper
+use Rattle.model.specs.Window.{Window, everyFrom, newest}
+use Rattle.model.specs.Link as model
+use Rattle.model.specs.Request.{valid, Found, found, nowhere, search, sought}
+use Rattle.window.proofs.GoingRound.{ahead-on}
+use Rattle.window.proofs.FromOn.{everyFrom-same}
+use Rattle.tables.specs.Holdings.{roomAt}
+use Rattle.tables.specs.Search.{validAt, searchFrom}
+use Rattle.tables.proofs.ValidPositions.{search-same}
+use Rattle.tables.proofs.FoundPosition.{search-books, Booking, Books}
+use Rattle.link.specs.declared.Link.{Link}
+use Rattle.link.specs.Layout.{sizeOf, entryAt, flowAt}
+use Rattle.link.specs.Reading.{linkOf}
+use Rattle.link.specs.Sound.{Sound}
+use Rattle.link.proofs.Readings.{read-entry, read-flow, read-holding, read-owner, read-size, read-frames}
+
+module _ (l : Link) (s : Sound l) (v : Window) (is : v ≡ model.window (linkOf l)) (i : ℕ) (hi : i < l .plan .count) where
+  -- position p is valid for it
+  abbrev pub validHere : ℕ → Bool
+  validHere p = validAt v (l .owner) (flowAt l i .held) (entryAt l i .cells) p
+
+  -- there is room from p on
+  room-same : (p : ℕ) → everyFrom (model.window (linkOf l)) p (λ q. ltb (model.holding (linkOf l) i q) (model.cells (linkOf l) i))
+      ≡ everyFrom (model.window (linkOf l)) p (roomAt (flowAt l i .held) (entryAt l i .cells))
+  unfolding linkOf
+  room-same p =
+      everyFrom-same (model.window (linkOf l)) p (λ q. ltb (model.holding (linkOf l) i q) (model.cells (linkOf l) i))
+      (roomAt (flowAt l i .held) (entryAt l i .cells))
+      (λ q b. rw (read-holding l i q hi b, ap (λ (e : paper.Entry). e .cells) (read-entry l i hi)))
+
+  valid-same : (p : ℕ) → p < sizeOf l → valid (linkOf l) i p ≡ validHere p
+  unfolding valid validAt
+  valid-same p hp = rw (is, read-owner l p hp, room-same p)
+
+  two : 2 ≤ v .frames
+  two = rw (read-frames l is) (s .plan .accepted .two-frames)
+
+  pub frame-there : flowAt l i .flow .frame < v .frames
+  frame-there = rw (read-frames l is) (s .flows i hi .frame)
+
+  pub sought-same : sought (linkOf l) i ≡ searchFrom v validHere (entryAt l i .share) (flowAt l i .flow .frame) (flowAt l i .flow .left)
+  unfolding sought
+  sought-same =
+      let j = ap (λ (x : model.Flow). x .injection) (read-flow l i hi) in
+      let c = ap (λ (x : model.Flow). x .remainder) (read-flow l i hi) in
+      let e = ap (λ (x : paper.Entry). x .share) (read-entry l i hi) in
+      rw (j, c, e)
+      (ap from-frame (sym is)
+      ∙ search-same v two (valid (linkOf l) i) validHere (λ p h. valid-same p (rw (← read-size l is) h)) _ _ _ _ frame-there)
+    where
+      from-frame : Window → Found
+      from-frame x = searchFrom x (valid (linkOf l) i) (entryAt l i .share) (flowAt l i .flow .frame) (flowAt l i .flow .left)
+
+  -- what is found: a position of the window that is valid
+  pub found-at : (j c p : ℕ) → found j c p ≡ sought (linkOf l) i → Booking v validHere j p
+  found-at j c p e = subst (Books v validHere) (sym (e ∙ sought-same)) (search-books v two _ _ _ _ _ frame-there)
+
+  -- in the newest frame, with nothing left of the share
+  pub spent-at-newest : flowAt l i .flow .frame ≡ newest v → flowAt l i .flow .left ≡ 0 → nowhere 0 ≡ sought (linkOf l) i
+  unfolding sought search
+  spent-at-newest e z =
+      let last = newest (model.window (linkOf l)) in
+      let frames = model.window (linkOf l) .frames in
+      let j = ap (λ (x : model.Flow). x .injection) (read-flow l i hi) ∙ e ∙ ap newest is in
+      let c = ap (λ (x : model.Flow). x .remainder) (read-flow l i hi) ∙ z in
+      let below : last < frames = mod-lt _ (rw (← ap (λ (x : Window). x .frames) is) (omega (arith, two))) in
+      let none : ahead frames last last ≡ 0 = ahead-on _ _ _ (omega arith) below ∙ omega arith in
+      rw (j, c, none)

@@ -1,0 +1,3 @@
+pub mod Stage
+pub mod State
+pub mod Promises
