@@ -46,6 +46,7 @@ impl Link {
             owner,
             flows,
             held,
+            taken: false,
         }
     }
 }
