@@ -6,7 +6,7 @@ use mathlib.Core.Logic.{_⊎_, inl, inr}
 use mathlib.Core.Bool.{Bool, true, false, not, _&&_, _||_}
 use native.Mathlib.Decide.{decLe}
 use native.Mathlib.Omega.{arith}
-use lib.ListN.{length, getD, take, drop, length-append, List·getD-append}
+use lib.ListN.{length, take, drop, length-append, List·getD-append}
 use lib.Seq.{take-append-le, drop-append-le, take-length, drop-length}
 use lib.Dec.{ltb, leb}
 use borrow.Author.Tests.{lt-ltb, le-ltb, lt-leb, le-leb, ltb-true, ltb-false, not-true}
@@ -14,7 +14,7 @@ use Rattle.model.specs.Tables.{within}
 use Rattle.model.specs.Plan.{refusal}
 use Rattle.model.specs.Listing.{planLine, planLength, planMissing, outputAfter, output}
 use Rattle.model.proofs.Tests.{or-false, or-true, and-true, within-true}
-use Rattle.program.specs.Stage.{Stage, reading, ended, wholeRecords, planOpen, stageWith, stageAfter, writtenAfter}
+use Rattle.program.specs.Stage.{reading, ended, wholeRecords, planOpen, stageWith, stageAfter, writtenAfter}
 
 pub ltb-leb : (a b : ℕ) → ltb a b ≡ not (leb b a)
 ltb-leb a b = go (decLe b a)

@@ -1,23 +1,21 @@
 -- Whole records played into a part of `out`, and the bytes after them kept. Assumes nothing.
-use Prim.Native.Nat.{ℕ, _+_, _-_, _*_, _/_, _≤_, _<_, min}
-use mathlib.Core.Path.{_≡_, refl, sym, ap, _∙_, subst}
-use mathlib.Core.List.{List, _∷_, [], _++_, append-nil}
+use Prim.Native.Nat.{ℕ, _+_, _-_, _*_, _/_, _≤_, _<_}
+use mathlib.Core.Path.{_≡_, ap, _∙_, subst}
+use mathlib.Core.List.{List, [], _++_, append-nil}
 use native.Mathlib.Nat.{add-zero}
 use native.Mathlib.Omega.{arith}
-use lib.ListN.{length, take, drop, length-take, length-drop, drop-of-length-le}
-use lib.Seq.{sets, take-all, length-sets}
+use lib.ListN.{length, take, drop, length-drop, drop-of-length-le}
+use lib.Seq.{sets, take-all}
 use Rattle.model.specs.Link.{Link}
 use Rattle.model.specs.Listing.{listing, linkAfter}
-use Rattle.playback.specs.Playback.{playable, PlayedRecords}
+use Rattle.playback.specs.Playback.{PlayedRecords}
 use Rattle.program.specs.declared.Kept.{Kept}
-use Rattle.program.specs.declared.Progress.{Progress}
 use Rattle.program.specs.declared.State.{State}
-use Rattle.program.specs.Stage.{Stage, playing, wholeRecords, cutOff, stageFed, writtenFed}
+use Rattle.program.specs.Stage.{playing, wholeRecords, cutOff, stageFed, writtenFed}
 use Rattle.program.specs.State.{bytesIn, Keeps, Stands}
 use Rattle.program.specs.Promises.{Leaves}
 use Rattle.program.proofs.Lists.{part-behind, stored-behind}
 use Rattle.program.proofs.KeptBytes.{bytes-back}
-use Rattle.program.proofs.WholeRecords.{cut-short}
 
 -- the part of `out` from a place on
 abbrev pub partOf : (out : List ℕ) → ℕ → List ℕ

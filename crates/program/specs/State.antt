@@ -66,14 +66,14 @@ pub record Rests (link : Link) (bytes : List ℕ) : Type 0 where
   pub no-bytes : bytes ≡ []
 
 -- what holds in each phase
-abbrev pub Fits : Phase → Link → List ℕ → Type 0
-Fits Reading link bytes = Awaits link bytes
-Fits Playing link bytes = Plays link bytes
-Fits Ended link bytes = Rests link bytes
+abbrev pub InPhase : Phase → Link → List ℕ → Type 0
+InPhase Reading link bytes = Awaits link bytes
+InPhase Playing link bytes = Plays link bytes
+InPhase Ended link bytes = Rests link bytes
 
 pub record Regular (s : State) : Type 0 where
   pub kept : Keeps (s .kept) (bytesIn (s .kept))
-  pub fits : Fits (s .phase) (s .link) (bytesIn (s .kept))
+  pub in-phase : InPhase (s .phase) (s .link) (bytesIn (s .kept))
 
 -- a state in which the program stands at a stage
 pub record Stands (state : State) (s : Stage) : Type 0 where

@@ -5,9 +5,8 @@ ghost use lib.ListN.{length};
 ghost use Rattle.link.specs.Reading.{linkOf};
 ghost use Rattle.link.specs.Sound.{Sound};
 ghost use Rattle.program.specs.Stage as stage;
-ghost use Rattle.program.specs.Stage.{stageFed, writtenFed};
 ghost use Rattle.program.specs.State.{bytesIn, Keeps};
-ghost use Rattle.program.specs.Promises.{Leaves, Finished};
+ghost use Rattle.program.specs.Promises.{LeavesFed, Finished};
 use crate::Kept;
 use crate::Progress;
 use crate::keeping::filled;
@@ -20,7 +19,7 @@ use link::Link;
 // Plays the whole records of a slice, whose lines go to `out` from `at` on, and keeps the bytes after them.
 pub(crate) fn play_on(link: Link, bytes: &[u8], out: &mut [u8], at: usize) -> Progress
     requires { ⌜ Sound link × (at + 7 * (length (now bytes) / 5) ≤ length (now out)) ⌝ }
-    ensures { λ r. ⌜ Leaves (stageFed (stage.playing (linkOf link) []) (now (bytes .entry))) (writtenFed (stage.playing (linkOf link) []) (now (bytes .entry))) (now (out .entry)) at r (now (out .exit)) ⌝ }
+    ensures { λ r. ⌜ LeavesFed (stage.playing (linkOf link) []) (now (bytes .entry)) (now (out .entry)) at r (now (out .exit)) ⌝ }
 {
     let played = playback::play(link, bytes, &mut out[at..]);
     let used = played.used;
@@ -35,7 +34,7 @@ pub(crate) fn play_on(link: Link, bytes: &[u8], out: &mut [u8], at: usize) -> Pr
 // Makes a record that was cut off whole from the start of a piece, plays it, and plays on.
 pub(crate) fn go_on(link: Link, kept: Kept, piece: &[u8], out: &mut [u8]) -> Progress
     requires { ⌜ Sound link × Keeps kept (bytesIn kept) × (kept .count < 5) × (length (now piece) ≤ 5 * (length (now out) / 7)) ⌝ }
-    ensures { λ r. ⌜ Leaves (stageFed (stage.playing (linkOf link) (bytesIn kept)) (now (piece .entry))) (writtenFed (stage.playing (linkOf link) (bytesIn kept)) (now (piece .entry))) (now (out .entry)) 0 r (now (out .exit)) ⌝ }
+    ensures { λ r. ⌜ LeavesFed (stage.playing (linkOf link) (bytesIn kept)) (now (piece .entry)) (now (out .entry)) 0 r (now (out .exit)) ⌝ }
 {
     let count = kept.count;
     if count == 0 {

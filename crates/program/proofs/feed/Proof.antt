@@ -1,7 +1,6 @@
 -- `program::feed` meets its contract, by the state's phase. Assumes nothing.
-use Prim.Native.Nat.{ℕ, _*_, _/_, _≤_}
-use mathlib.Core.Path.{_≡_, refl, sym, ap, _∙_}
-use mathlib.Core.List.{List}
+use Prim.Native.Nat.{_*_, _/_, _≤_}
+use mathlib.Core.Path.{_≡_, refl, sym, ap}
 use native.Mathlib.Omega.{arith}
 use lib.ListN.{length, take}
 use lib.Seq.{length-take-le}
@@ -10,8 +9,7 @@ use Rattle.link.specs.Reading.{linkOf}
 use Rattle.program.specs.declared.Phase.{Phase}
 use Rattle.program.specs.Stage.{reading, playing, ended, stageFed, writtenFed}
 use Rattle.program.specs.State.{bytesIn, stageIn}
-use Rattle.program.specs.Promises.{takenFrom}
-use Rattle.program.proofs.Phases.{fits-in, fed-in}
+use Rattle.program.proofs.Phases.{what-holds, fed-in}
 use Rattle.program.proofs.Leaving.{leaves-silent, fed-piece}
 use Rattle.program.proofs.feed.Statement.{statement}
 use Rattle.program.proofs.feed.Tie as tie
@@ -47,7 +45,7 @@ go-on-requires : tie.Need-go-on-requires
 go-on-requires c κs =
     let t = taken-at (c .before .before .before) in
     let s = start t in
-    let awaits = fits-in (s .args .state) (c .before .enum-told .given .1) (s .pre) in
+    let awaits = what-holds (s .args .state) (c .before .enum-told .given .1) (s .pre) in
     (awaits .no-link, s .pre .kept, awaits .still-open, part-most t)
 
 enum-told-2 : tie.Need-enum-told-2
@@ -57,7 +55,7 @@ go-on-requires-2 : tie.Need-go-on-requires-2
 go-on-requires-2 c κs =
     let t = taken-at (c .before .before .before) in
     let s = start t in
-    let plays = fits-in (s .args .state) (c .before .enum-told2 .given .1) (s .pre) in
+    let plays = what-holds (s .args .state) (c .before .enum-told2 .given .1) (s .pre) in
     (plays .sound, s .pre .kept, omega (arith, s .pre .kept .count-is, plays .not-whole), part-most t)
 
 enum-told-3 : tie.Need-enum-told-3
@@ -67,7 +65,6 @@ same-length : tie.Need-same-length
 same-length c = search needs
 
 returns : tie.Need-returns
-unfolding stageFed writtenFed
 returns c =
     let told = c .before .before .before .before .before in
     let t = taken-at (told .before .before) in

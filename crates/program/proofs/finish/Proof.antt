@@ -2,7 +2,7 @@
 use mathlib.Core.Path.{refl}
 use native.Mathlib.Omega.{arith}
 use borrow.Author.Needs.{needs}
-use Rattle.program.proofs.Phases.{fits-in, finished-in}
+use Rattle.program.proofs.Phases.{what-holds, finished-in}
 use Rattle.program.proofs.Ends.{finished-by, finished-silent}
 use Rattle.program.proofs.finish.Statement.{statement}
 use Rattle.program.proofs.finish.Tie as tie
@@ -20,7 +20,7 @@ last-line-requires : tie.Need-last-line-requires
 last-line-requires c κs =
     let s = c .before .before .before .before .before .before in
     let told = c .before .enum-told2 .given in
-    let plays = fits-in (s .args .state) (told .1) (s .pre) in
+    let plays = what-holds (s .args .state) (told .1) (s .pre) in
     (s .pre .kept, omega (arith, s .pre .kept .count-is, plays .not-whole))
 
 enum-told-3 : tie.Need-enum-told-3

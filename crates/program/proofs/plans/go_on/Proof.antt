@@ -4,12 +4,12 @@ use mathlib.Core.Path.{_≡_, sym, ap, _∙_, subst}
 use mathlib.Core.List.{List, _++_}
 use mathlib.Core.Bool.{true, not}
 use native.Mathlib.Omega.{arith}
-use lib.ListN.{length, length-append}
+use lib.ListN.{length}
 use borrow.Author.Needs.{needs}
 use Rattle.model.specs.Tables.{within}
 use Rattle.model.specs.Listing.{planLength}
 use Rattle.model.proofs.Tests.{in-range}
-use Rattle.program.specs.Stage.{planOpen}
+use Rattle.program.specs.Stage.{planOpen, stageFed, writtenFed}
 use Rattle.program.specs.State.{bytesIn}
 use Rattle.program.proofs.KeptBytes.{length-back, behind, Taken, taken}
 use Rattle.program.proofs.PlanStages.{Never, There, fewer-than-two, fewer-than-stated, open-fewer, same-stated, never-on, some-byte}
@@ -129,6 +129,7 @@ reading-requires c κs =
     (start f .pre .0, k, fewer-than-two _ (omega (arith, k .count-is, c .if1 .taken)))
 
 returns : tie.Need-returns
+unfolding stageFed writtenFed
 returns c =
     let f = c .before .before .before in
     let few = c .before .if1 .taken in
@@ -150,6 +151,7 @@ same-length : tie.Need-same-length
 same-length c = search needs
 
 returns-2 : tie.Need-returns-2
+unfolding stageFed writtenFed
 returns-2 c =
     let w = c .before .before .before .write-plan .ensures in
     let n = c .before .before .before .before .before in
@@ -179,6 +181,7 @@ reading-requires-2 c κs =
     (start-of f .pre .0, all f .kept, still-open f (c .if3 .taken))
 
 returns-3 : tie.Need-returns-3
+unfolding stageFed writtenFed
 returns-3 c =
     let f = c .before .before .before in
     let few = c .before .if3 .taken in
@@ -209,6 +212,7 @@ same-length-2 : tie.Need-same-length-2
 same-length-2 c = search needs
 
 returns-4 : tie.Need-returns-4
+unfolding stageFed writtenFed
 returns-4 c =
     let e = c .before .before .before .before .before .before .before in
     let f = at-all e in

@@ -7,7 +7,7 @@ use Rattle.program.proofs.states.playing.Tie as tie
 returns : tie.Need-returns
 returns c =
     let p = c .pre in
-    record { stage-is = refl; regular = record { kept = p .1; fits = record { sound = p .0; not-whole = omega (arith, p .1 .count-is) } } }
+    record { stage-is = refl; regular = record { kept = p .1; in-phase = record { sound = p .0; not-whole = omega (arith, p .1 .count-is) } } }
 
 pub playing-spec : {M : Type 1} → statement M
 playing-spec = tie.close (tie.spec returns)
