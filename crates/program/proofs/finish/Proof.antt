@@ -34,7 +34,7 @@ returns c =
     let w = c .before .before .write-plan .ensures in
     let s = c .before .before .before .before .before .before .before .before .before in
     let told = c .before .before .before .before .enum-told .given in
-    finished-in (s .args .state) (told .1) (finished-by refl (w .0) (w .1 .0) (w .1 .1))
+    finished-in (s .args .state) (told .1) (finished-by refl w)
 
 same-length-2 : tie.Need-same-length-2
 same-length-2 c = search needs

@@ -158,7 +158,7 @@ returns-2 c =
     let f = at-two (at-none n) in
     let s = start f in
     let byte = some-byte (kept f) (piece f) (s .pre .2) (never n) in
-    left-never (kept f ++ piece f) (never n) (omega (arith, byte, s .pre .3)) (w .0) (w .1 .0) (w .1 .1) (c .ended .ensures)
+    left-never (kept f ++ piece f) (never n) (omega (arith, byte, s .pre .3)) w (c .ended .ensures)
 
 sub-behind : tie.Need-sub-behind
 sub-behind c = two (at-two (at-stated (c .before))) .grows

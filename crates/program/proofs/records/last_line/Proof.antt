@@ -44,7 +44,7 @@ returns-2 c =
     let w = c .before .before .write-refusal .ensures in
     let s = c .before .before .before .before .before .before .before .before .before .before .before in
     let some : 0 < length (bytesIn (s .args .kept)) = omega (arith, s .pre .0 .count-is) in
-    finished-by (cut-off-line (linkOf (s .args .link)) (bytesIn (s .args .kept)) some) (w .0) (w .1 .0) (w .1 .1)
+    finished-by (cut-off-line (linkOf (s .args .link)) (bytesIn (s .args .kept)) some) w
 
 returns-3 : tie.Need-returns-3
 returns-3 c =
