@@ -75,7 +75,8 @@ fn turn_once(state: State, space: &mut [u8], out: &mut [u8]) -> Turn
     }
 }
 
-// Takes turns to the end of the input, and then writes what is to be written there. A proved loop has to end, and nothing says that the input does: it counts its turns down from a number that no run uses up.
+// Takes turns to the end of the input, and then writes what is to be written there.
+// A proved loop has to end, and nothing says that the input does: it counts its turns down from a number that no run uses up.
 fn run(space: &mut [u8], out: &mut [u8])
     requires { ⌜ length (now space) ≤ 5 * (length (now out) / 7) ⌝ }
 {

@@ -45,8 +45,8 @@ leaves-silent {s} {t} {lines} {out} {state} e f h =
     same-leaves {s = s} {t = t} e f (record { stands = h; written-is = omega arith; out-is = refl; room = omega arith })
 
 -- a line that has room is to be written
-pub leaves-line : {s : Stage} (line : List ℕ) {out out′ : List ℕ} {state : State} {n : ℕ} → 0 + 7 ≤ length out → Written line out out′ 0 n → Stands state s
-    → Leaves s line out 0 (record { state = state; written = n }) out′
+pub leaves-line : {s : Stage} (line : List ℕ) {out out′ : List ℕ} {state : State} {n : ℕ} → 0 + 7 ≤ length out → Written line out out′ 0 n
+    → Stands state s → Leaves s line out 0 (record { state = state; written = n }) out′
 leaves-line {s} line {out} {out′} {state} {n} room w h = record {
   stands = h;
   written-is = w .1 .0 ∙ next-in-room line out 0 room;
@@ -77,7 +77,8 @@ module _ (l : Link) (cut piece : List ℕ) where
       → five ++ rest ≡ cut ++ piece → PlayedOne l five out l₁ at out₁ → LeavesFed (playing l₁ []) rest out₁ at r out₂
       → LeavesFed (playing l cut) piece out 0 r out₂
   unfolding stageFed writtenFed
-  made-whole {five} rest {l₁} whole is p h = same-leaves (λ i. playing (links i) (cuts i)) lines (leaves-after (listing l five) (p .written-is) (p .out-is) h)
+  made-whole {five} rest {l₁} whole is p h =
+      same-leaves (λ i. playing (links i) (cuts i)) lines (leaves-after (listing l five) (p .written-is) (p .out-is) h)
     where
       links : linkAfter l₁ (wholeRecords rest) ≡ linkAfter l (wholeRecords (cut ++ piece))
       links = ap (λ m. linkAfter m (wholeRecords rest)) (p .link-is) ∙ sym (link-on l five rest whole) ∙ ap (λ b. linkAfter l (wholeRecords b)) is

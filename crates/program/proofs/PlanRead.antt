@@ -42,14 +42,12 @@ module _ (plan rest : List ℕ) where
   output-refused zero h = absurd (omega arith)
   output-refused (suc r) h = refl
 
-  pub left-refused : (n k : ℕ) {out out′ : List ℕ} {state : State} {w : ℕ} → verdictFor n ≡ Refused k → n ≡ refusal plan → 0 + 7 ≤ length out
+  pub left-refused : {k : ℕ} {out out′ : List ℕ} {state : State} {w : ℕ} → verdictFor (refusal plan) ≡ Refused k → 0 + 7 ≤ length out
       → Written (planLine k) out out′ 0 w → Stands state ended → LeavesPlan plan rest out 0 (record { state = state; written = w }) out′
-  left-refused n k e is-n room w h =
-      let some = refused-is n k e .0 in
-      same-leaves
-      (stage-refused n some ∙ ap (λ m. stageWith m plan rest) is-n)
-      (ap planLine (sym (refused-is n k e .1)) ∙ output-refused n some ∙ ap (λ m. outputAfter m plan (wholeRecords rest)) is-n)
-      (leaves-line (planLine k) room w h)
+  left-refused {k} e room w h =
+      let is = refused-is (refusal plan) k e in
+      let lines = ap planLine (sym (is .1)) ∙ output-refused (refusal plan) (is .0) in
+      same-leaves (stage-refused (refusal plan) (is .0)) lines (leaves-line (planLine k) room w h)
 
   pub left-accepted : {l : Link} {out out₁ out₂ : List ℕ} {at : ℕ} {r : Progress} → refusal plan ≡ 0 → l ≡ fresh (planOf plan) → 0 + 7 ≤ length out
       → Written (planLine 0) out out₁ 0 at → LeavesFed (playing l []) rest out₁ at r out₂ → LeavesPlan plan rest out 0 r out₂

@@ -7,11 +7,12 @@ use lib.Seq.{sets}
 use Rattle.model.specs.Plan.{refusal}
 use Rattle.model.specs.Listing.{outputAfter}
 use Rattle.calls.specs.Lines.{outWith, nextAfter}
+use Rattle.program.specs.declared.Kept.{Kept}
 use Rattle.program.specs.declared.State.{State}
 use Rattle.program.specs.declared.Fed.{Fed}
 use Rattle.program.specs.declared.Progress.{Progress}
 use Rattle.program.specs.Stage.{Stage, reading, wholeRecords, atEnd, stageWith, stageFed, writtenFed}
-use Rattle.program.specs.State.{stageOf, Stands}
+use Rattle.program.specs.State.{bytesIn, Keeps, stageOf, Stands}
 
 -- ---- the promises
 
@@ -38,6 +39,11 @@ pub record Finished (s : Stage) (out : List ℕ) (written : ℕ) (out′ : List 
   pub room : written ≤ length out
 
 -- ---- inside `feed`
+
+-- What is kept is in order, and the lines of a piece have room.
+pub record Ready (kept : Kept) (piece out : List ℕ) : Type 0 where
+  pub kept-well : Keeps kept (bytesIn kept)
+  pub room : length piece ≤ 5 * (length out / 7)
 
 -- The program stands at stage s, and these lines stand in what was `out` from `at` on.
 pub record Leaves (s : Stage) (lines out : List ℕ) (at : ℕ) (r : Progress) (out′ : List ℕ) : Type 0 where

@@ -1,6 +1,5 @@
 -- `program::finish` meets its contract, by the state's phase. Assumes nothing.
 use mathlib.Core.Path.{refl}
-use native.Mathlib.Omega.{arith}
 use borrow.Author.Needs.{needs}
 use Rattle.program.proofs.Phases.{what-holds, finished-in}
 use Rattle.program.proofs.Ends.{finished-by, finished-silent}
@@ -20,8 +19,7 @@ last-line-requires : tie.Need-last-line-requires
 last-line-requires c κs =
     let s = c .before .before .before .before .before .before in
     let told = c .before .enum-told2 .given in
-    let plays = what-holds (s .args .state) (told .1) (s .pre) in
-    (s .pre .kept, omega (arith, s .pre .kept .count-is, plays .not-whole))
+    (what-holds (s .args .state) (told .1) (s .pre), s .pre .kept)
 
 enum-told-3 : tie.Need-enum-told-3
 enum-told-3 c = search needs

@@ -1,6 +1,6 @@
 -- `program::plans::begin` meets its contract. Assumes nothing.
 use Prim.Native.Nat.{ℕ, _+_, _≤_}
-use mathlib.Core.Path.{_≡_, refl, sym, ap, _∙_}
+use mathlib.Core.Path.{_≡_, sym, ap, _∙_}
 use native.Mathlib.Omega.{arith}
 use lib.ListN.{length}
 use borrow.Author.Needs.{needs}
@@ -87,8 +87,8 @@ returns c =
     let w = c .before .before .before .write-plan .ensures in
     let verdict = c .before .before .before .before .before .before in
     let r = verdict .before .before in
-    left-refused (bytesIn (start r .args .kept)) (start r .args .rest .now) (number r) _ (sym (verdict-is r) ∙ verdict .verdict .given .1) refl (room r) w
-    (c .ended .ensures)
+    let refused = sym (verdict-is r) ∙ verdict .verdict .given .1 in
+    left-refused (bytesIn (start r .args .kept)) (start r .args .rest .now) refused (room r) w (c .ended .ensures)
 
 same-length-2 : tie.Need-same-length-2
 same-length-2 c = search needs
