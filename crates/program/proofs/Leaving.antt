@@ -14,7 +14,8 @@ use Rattle.program.specs.declared.State.{State}
 use Rattle.program.specs.declared.Progress.{Progress}
 use Rattle.program.specs.Stage.{Stage, playing, wholeRecords, cutOff, stageFed, writtenFed}
 use Rattle.program.specs.State.{Stands}
-use Rattle.program.specs.Promises.{takenFrom, FedPiece, Leaves, LeavesFed}
+use Rattle.program.specs.Promises.{takenFrom, FedPiece}
+use Rattle.program.specs.Parts.{Leaves, LeavesFed}
 use Rattle.program.proofs.Lists.{stored-after}
 use Rattle.program.proofs.WholeRecords.{none-whole, all-cut, cut-append, listing-on, link-on}
 use Rattle.program.proofs.PlayedOn.{PlayedOne}

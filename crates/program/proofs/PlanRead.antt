@@ -17,7 +17,7 @@ use Rattle.program.specs.declared.State.{State}
 use Rattle.program.specs.declared.Progress.{Progress}
 use Rattle.program.specs.Stage.{reading, playing, ended, wholeRecords, planOpen, stageAfter, writtenAfter, stageWith, stageFed, writtenFed}
 use Rattle.program.specs.State.{Stands}
-use Rattle.program.specs.Promises.{Leaves, LeavesFed, LeavesPlan}
+use Rattle.program.specs.Parts.{Leaves, LeavesFed, LeavesPlan}
 use Rattle.program.proofs.PlanStages.{Never, There, stage-open, written-open, stage-never, written-never, stage-plan, written-plan}
 use Rattle.program.proofs.Leaving.{same-leaves, leaves-after, leaves-silent, leaves-line}
 

@@ -13,7 +13,7 @@ use Rattle.program.specs.declared.Kept.{Kept}
 use Rattle.program.specs.declared.State.{State}
 use Rattle.program.specs.Stage.{playing, wholeRecords, cutOff, stageFed, writtenFed}
 use Rattle.program.specs.State.{bytesIn, Keeps, Stands}
-use Rattle.program.specs.Promises.{Leaves}
+use Rattle.program.specs.Parts.{Leaves}
 use Rattle.program.proofs.Lists.{part-behind, stored-behind}
 use Rattle.program.proofs.KeptBytes.{bytes-back}
 

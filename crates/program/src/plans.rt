@@ -7,7 +7,7 @@ ghost use Rattle.model.specs.Tables.{within};
 ghost use Rattle.model.specs.Listing.{planLength};
 ghost use Rattle.program.specs.Stage as stage;
 ghost use Rattle.program.specs.State.{bytesIn, noLink, Keeps, Awaits};
-ghost use Rattle.program.specs.Promises.{Ready, LeavesFed, LeavesPlan};
+ghost use Rattle.program.specs.Parts.{Ready, LeavesFed, LeavesPlan};
 use crate::Kept;
 use crate::LONGEST_PLAN;
 use crate::Progress;
