@@ -27,7 +27,9 @@ module _ (l m : Link) (j k : Kept) (h : Keeps j (bytesIn j)) (g : Keeps k (bytes
       let bytes : bytesIn j ≡ bytesIn k = cc in
       let links : linkOf l ≡ linkOf m = cc in
       λ i. record { phase = Playing; link = one-reading l m (x .sound) (y .sound) links i; kept = same-kept j k h g bytes i }
-  one-state Ended Ended x y e = λ i. record { phase = Ended; link = (x .no-link ∙ sym (y .no-link)) i; kept = same-kept j k h g (x .no-bytes ∙ sym (y .no-bytes)) i }
+  one-state Ended Ended x y e =
+      let bytes = x .no-bytes ∙ sym (y .no-bytes) in
+      λ i. record { phase = Ended; link = (x .no-link ∙ sym (y .no-link)) i; kept = same-kept j k h g bytes i }
   one-state Reading Playing x y e = cc
   one-state Reading Ended x y e = cc
   one-state Playing Reading x y e = cc

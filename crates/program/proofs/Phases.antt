@@ -16,5 +16,6 @@ module _ (s : State) {p : Phase} (e : s .phase ≡ p) where
   pub finished-in : {out out′ : List ℕ} {n : ℕ} → Finished (stageIn p (s .link) (bytesIn (s .kept))) out n out′ → Finished (stageOf s) out n out′
   finished-in {out} {out′} {n} = subst (λ (x : Phase). Finished (stageIn x (s .link) (bytesIn (s .kept))) out n out′) (sym e)
 
-  pub fed-in : {piece out out′ : List ℕ} {r : Fed} → FedPiece (stageIn p (s .link) (bytesIn (s .kept))) piece out r out′ → FedPiece (stageOf s) piece out r out′
+  pub fed-in : {piece out out′ : List ℕ} {r : Fed} → FedPiece (stageIn p (s .link) (bytesIn (s .kept))) piece out r out′
+      → FedPiece (stageOf s) piece out r out′
   fed-in {piece} {out} {out′} {r} = subst (λ (x : Phase). FedPiece (stageIn x (s .link) (bytesIn (s .kept))) piece out r out′) (sym e)

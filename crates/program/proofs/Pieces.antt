@@ -13,12 +13,15 @@ use Rattle.model.specs.Listing.{listing, linkAfter, planLine, planLength, outpu
 use Rattle.calls.proofs.Stores.{out-in-room, next-in-room}
 use Rattle.program.specs.declared.State.{State}
 use Rattle.program.specs.declared.Fed.{Fed}
-use Rattle.program.specs.Stage.{Stage, playing, wholeRecords, cutOff, planOpen, stageWith, stageAfter, writtenAfter, atEnd, stageFed, writtenFed}
+use Rattle.program.specs.Stage.{Stage, playing, wholeRecords, cutOff, planOpen}
+use Rattle.program.specs.Stage.{stageWith, stageAfter, writtenAfter, atEnd, stageFed, writtenFed}
 use Rattle.program.specs.State.{stageOf}
 use Rattle.program.specs.Promises.{FedPiece, Finished, Feeds, none, piece, joined, Runs}
 use Rattle.program.proofs.Lists.{stored-back}
 use Rattle.program.proofs.WholeRecords.{all-whole, whole-and-cut, cut-append, listing-on, link-on, listing-ends}
-use Rattle.program.proofs.PlanStages.{fewer-than-two, cases, stage-open, written-open, output-open, stage-never, written-never, output-never, stage-there, written-there, output-there, never-on, there-on, plan-on, rest-on}
+use Rattle.program.proofs.PlanStages.{fewer-than-two, cases, never-on, there-on, plan-on, rest-on}
+use Rattle.program.proofs.PlanStages.{stage-open, stage-never, stage-there, written-open, written-never, written-there}
+use Rattle.program.proofs.PlanStages.{output-open, output-never, output-there}
 
 -- ---- behind a plan
 
@@ -36,7 +39,8 @@ module _ (plan rest more : List ℕ) where
       ((ap cutOff seam ∙ cut-append (wholeRecords rest) (cutOff rest ++ more) (all-whole rest)) i)
   stage-behind (suc r) = refl
 
-  written-behind : (n : ℕ) → outputAfter n plan (wholeRecords (rest ++ more)) ≡ outputAfter n plan (wholeRecords rest) ++ writtenFed (stageWith n plan rest) more
+  written-behind : (n : ℕ)
+      → outputAfter n plan (wholeRecords (rest ++ more)) ≡ outputAfter n plan (wholeRecords rest) ++ writtenFed (stageWith n plan rest) more
   unfolding outputAfter stageWith writtenFed
   written-behind zero =
       let l = fresh (planOf plan) in
@@ -97,7 +101,8 @@ record After (before : List ℕ) (pieces : List (List ℕ)) (lines : List ℕ) (
   pub stage-is : stageOf t ≡ stageAfter (before ++ joined pieces)
   pub written-is : writtenAfter before ++ lines ≡ writtenAfter (before ++ joined pieces)
 
-fed-on : {s t : State} {pieces : List (List ℕ)} {lines : List ℕ} → Feeds s pieces lines t → (before : List ℕ) → stageOf s ≡ stageAfter before → After before pieces lines t
+fed-on : {s t : State} {pieces : List (List ℕ)} {lines : List ℕ} → Feeds s pieces lines t → (before : List ℕ) → stageOf s ≡ stageAfter before
+    → After before pieces lines t
 fed-on none before e = record {
   stage-is = e ∙ ap stageAfter (sym (append-nil before));
   written-is = append-nil (writtenAfter before) ∙ ap writtenAfter (sym (append-nil before));
@@ -105,7 +110,8 @@ fed-on none before e = record {
 fed-on {s} (piece {pieces} {lines} p out out′ r f rest) before e =
     let part = take (r .used) p in
     let said = writtenFed (stageOf s) part in
-    let said-is : take (r .written) out′ ≡ said = (λ i. take (f .written-is i) (f .out-is i)) ∙ stored-back out said (omega (arith, f .room, f .written-is)) in
+    let said-is : take (r .written) out′ ≡ said =
+    (λ i. take (f .written-is i) (f .out-is i)) ∙ stored-back out said (omega (arith, f .room, f .written-is)) in
     let on = fed-on rest (before ++ part) (f .stands .stage-is ∙ ap (λ x. stageFed x part) e ∙ sym (stage-on before part)) in
     record {
       stage-is = on .stage-is ∙ ap stageAfter (append-assoc before part (joined pieces));
@@ -120,12 +126,14 @@ said-at-end {s} {out} {n} {out′} room f =
     let long : n ≡ length (atEnd s) = omega (arith, f .written-is, next-in-room (atEnd s) out 0 (omega arith)) in
     (λ i. take (long i) ((f .out-is ∙ out-in-room (atEnd s) out 0 (omega arith)) i)) ∙ stored-back out (atEnd s) (omega (arith, f .room))
 
--- However the input is cut into pieces, all that is to be written is the paper's output of the input. Of the code it names the promises of `start`, `feed` and `finish` alone.
+-- However the input is cut into pieces, all that is to be written, in order, is the paper's output of the input.
+-- Of the code it names the promises of `start`, `feed` and `finish` alone.
 pub cut-anyhow : {pieces : List (List ℕ)} {lines : List ℕ} → Runs pieces lines → lines ≡ output (joined pieces)
 cut-anyhow {pieces} r =
     let on = fed-on (r .feeds) [] (r .started .stage-is ∙ sym (stage-open [] nothing-yet)) in
     let so-far : r .fed ≡ writtenAfter (joined pieces) = ap (_++ r .fed) (sym (written-open [] nothing-yet)) ∙ on .written-is in
-    let then : take (r .written) (r .out′) ≡ atEnd (stageAfter (joined pieces)) = said-at-end (r .line-has-room) (r .finished) ∙ ap atEnd (on .stage-is) in
+    let then : take (r .written) (r .out′) ≡ atEnd (stageAfter (joined pieces)) =
+    said-at-end (r .line-has-room) (r .finished) ∙ ap atEnd (on .stage-is) in
     r .lines-are ∙ (λ i. so-far i ++ then i) ∙ sym (output-is (joined pieces))
   where
     nothing-yet : planOpen [] ≡ true

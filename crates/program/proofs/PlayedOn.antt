@@ -13,7 +13,7 @@ use Rattle.program.specs.declared.Kept.{Kept}
 use Rattle.program.specs.declared.State.{State}
 use Rattle.program.specs.Stage.{playing, wholeRecords, cutOff, stageFed, writtenFed}
 use Rattle.program.specs.State.{bytesIn, Keeps, Stands}
-use Rattle.program.specs.Promises.{Leaves}
+use Rattle.program.specs.Parts.{Leaves}
 use Rattle.program.proofs.Lists.{part-behind, stored-behind}
 use Rattle.program.proofs.KeptBytes.{bytes-back}
 
@@ -42,7 +42,8 @@ module _ {l : Link} {bytes out : List ℕ} {at : ℕ} {l′ : Link} {used writte
       let all : used ≡ 5 * (length bytes / 5) = omega (arith, p .used-is, long) in
       let lines = listing l (wholeRecords bytes) in
       let stored : part′ ≡ sets (drop at out) 0 lines = p .out-is ∙ (λ i. sets (part-is i) 0 (listing l (take (all i) bytes))) in
-      let none-behind : drop (length out - at) (drop at out) ≡ [] = drop-of-length-le (drop at out) {i = length out - at} (omega (arith, length-drop at out)) in
+      let none-behind : drop (length out - at) (drop at out) ≡ [] =
+      drop-of-length-le (drop at out) {i = length out - at} (omega (arith, length-drop at out)) in
       record {
         used-is = all;
         link-is = p .link-is ∙ ap (λ n. linkAfter l (take n bytes)) all;

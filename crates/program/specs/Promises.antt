@@ -1,16 +1,13 @@
 -- What `start`, `feed` and `finish` promise, and a run of them over pieces of input. Assumes nothing.
-use Prim.Native.Nat.{ℕ, _+_, _*_, _/_, _≤_, min}
+use Prim.Native.Nat.{ℕ, _*_, _/_, _≤_, min}
 use mathlib.Core.Path.{_≡_}
 use mathlib.Core.List.{List, _∷_, [], _++_, foldr}
 use lib.ListN.{length, take}
 use lib.Seq.{sets}
-use Rattle.model.specs.Plan.{refusal}
-use Rattle.model.specs.Listing.{outputAfter}
 use Rattle.calls.specs.Lines.{outWith, nextAfter}
 use Rattle.program.specs.declared.State.{State}
 use Rattle.program.specs.declared.Fed.{Fed}
-use Rattle.program.specs.declared.Progress.{Progress}
-use Rattle.program.specs.Stage.{Stage, reading, wholeRecords, atEnd, stageWith, stageFed, writtenFed}
+use Rattle.program.specs.Stage.{Stage, reading, atEnd, stageFed, writtenFed}
 use Rattle.program.specs.State.{stageOf, Stands}
 
 -- ---- the promises
@@ -36,23 +33,6 @@ pub record Finished (s : Stage) (out : List ℕ) (written : ℕ) (out′ : List 
   pub written-is : written ≡ nextAfter (atEnd s) out 0
   pub out-is : out′ ≡ outWith (atEnd s) out 0
   pub room : written ≤ length out
-
--- ---- inside `feed`
-
--- The program stands at stage s, and these lines stand in what was `out` from `at` on.
-pub record Leaves (s : Stage) (lines out : List ℕ) (at : ℕ) (r : Progress) (out′ : List ℕ) : Type 0 where
-  pub stands : Stands (r .state) s
-  pub written-is : r .written ≡ at + length lines
-  pub out-is : out′ ≡ sets out at lines
-  pub room : r .written ≤ length out
-
--- after a piece that is fed at stage s
-abbrev pub LeavesFed : (s : Stage) → (piece out : List ℕ) → (at : ℕ) → (r : Progress) → (out′ : List ℕ) → Type 0
-LeavesFed s piece = Leaves (stageFed s piece) (writtenFed s piece)
-
--- after a plan that is all there, and the records behind it
-abbrev pub LeavesPlan : (plan rest out : List ℕ) → (at : ℕ) → (r : Progress) → (out′ : List ℕ) → Type 0
-LeavesPlan plan rest = Leaves (stageWith (refusal plan) plan rest) (outputAfter (refusal plan) plan (wholeRecords rest))
 
 -- ---- a run
 
