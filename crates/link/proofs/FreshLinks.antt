@@ -4,9 +4,8 @@ use mathlib.Core.Path.{_≡_, sym, ap, _∙_}
 use mathlib.Core.Bool.{false}
 use mathlib.Core.Option.{none}
 use native.Mathlib.Nat.{mul-pos}
-use native.Mathlib.Decide.{decLt}
 use native.Mathlib.Omega.{arith}
-use lib.ListN.{length, getD, replicate, length-replicate, getD-replicate, List·getD-eq-default}
+use lib.ListN.{getD, replicate, length-replicate, getD-replicate}
 use Rattle.model.specs.Tables.{table}
 use Rattle.model.specs.Plan as paper
 use Rattle.model.specs.Link as model
@@ -15,7 +14,7 @@ use Rattle.plan.specs.declared.Plan.{Plan}
 use Rattle.plan.specs.Reading as plan
 use Rattle.link.specs.declared.Flow.{Flow}
 use Rattle.link.specs.declared.Link.{Link}
-use Rattle.tables.specs.Rows.{row, sixteenRows}
+use Rattle.tables.specs.Holdings.{nothingHeld}
 use Rattle.link.specs.Layout.{noFlow, flowRow, flowAt}
 use Rattle.tables.specs.Owners.{nobody, ownerOf, everywhere}
 use Rattle.link.specs.Reading.{flowOf, linkOf}
@@ -23,30 +22,8 @@ use Rattle.link.specs.Fresh.{freshFlow, freshFlows}
 use Rattle.link.specs.Sound.{Sound}
 use Rattle.window.proofs.Tabulated.{table-same, replicate-table}
 use Rattle.link.proofs.Plans.{plan-count, plan-entry, count-most}
-use Rattle.tables.proofs.Rows.{length-sixteen, row-of-sixteen}
+use Rattle.tables.proofs.FreshTables.{length-everywhere, everywhere-at, nothing-at, length-nothing, row-of-nothing}
 use Rattle.window.proofs.Ranges.{in-range, past-range, length-replaced, replaced-at, replaced-off}
-
--- ---- one value at every position
-
-module _ (v : ℕ) where
-  length-everywhere : length (everywhere v) ≡ 256
-  unfolding everywhere
-  length-everywhere = length-replicate 256 v
-
-  everywhere-at : (q : ℕ) → q < 256 → getD (everywhere v) q 0 ≡ v
-  unfolding everywhere
-  everywhere-at q h = getD-replicate 256 q v 0 h
-
-nothing-at : (q : ℕ) → getD (everywhere 0) q 0 ≡ 0
-nothing-at q = go (decLt q 256)
-  where
-    go : Dec (q < 256) → getD (everywhere 0) q 0 ≡ 0
-    go (yes h) = everywhere-at 0 q h
-    go (no h) = List·getD-eq-default (everywhere 0) 0 (omega (arith, length-everywhere 0))
-
--- nothing is held in a row
-nothing-in-row : (i : ℕ) → i < 16 → row (sixteenRows (everywhere 0)) i ≡ everywhere 0
-nothing-in-row i h = row-of-sixteen (everywhere 0) i h (length-everywhere 0)
 
 -- ---- the link
 
@@ -56,7 +33,7 @@ freshLink p = record {
   cp = 0;
   owner = everywhere nobody;
   flows = freshFlows (p .entries) (p .count);
-  held = sixteenRows (everywhere 0);
+  held = nothingHeld;
   taken = false;
 }
 
@@ -69,7 +46,7 @@ module _ (p : Plan) (v : plan.Valid p) where
       let b = count-most p v in
       let e : getD (freshLink p .flows) i noFlow ≡ freshFlow (getD (p .entries) i plan.noEntry) =
       replaced-at _ _ (replicate 16 noFlow) i noFlow (rw length-replicate (omega arith)) ∙ rw (in-range 0 (p .count) i (omega arith) h) in
-      rw (e, nothing-in-row i (omega arith))
+      rw (e, row-of-nothing i (omega arith))
 
   pub read-fresh : linkOf (freshLink p) ≡ fresh (plan.planFor p)
   unfolding linkOf fresh
@@ -100,10 +77,10 @@ module _ (p : Plan) (v : plan.Valid p) where
     owners = λ q b n. absurd (n (everywhere-at nobody q b));
     spare-owners = λ q h b. everywhere-at nobody q b;
     flows-long = length-replaced _ _ (replicate 16 noFlow) ∙ length-replicate 16 noFlow;
-    held-long = length-sixteen (everywhere 0);
+    held-long = length-nothing;
     flows = λ i h. rw (flow-at i h) (record { frame = omega (arith, v .accepted .two-frames); spare = λ q _. nothing-at q });
     spare-flows = λ i h b.
         let e : getD (freshLink p .flows) i noFlow ≡ noFlow =
         replaced-off _ _ (replicate 16 noFlow) i noFlow (past-range 0 (p .count) i h) ∙ getD-replicate 16 i noFlow noFlow b in
-        rw (e, nothing-in-row i b);
+        rw (e, row-of-nothing i b);
   }

@@ -10,8 +10,7 @@ use crate::Flow;
 use crate::Link;
 use plan::Entry;
 use plan::Plan;
-use tables::holdings::rows;
-use tables::holdings::unheld;
+use tables::holdings::nothing_held;
 use tables::owners::unbooked;
 
 // The frames and remainders of n flows, each with its share.
@@ -39,7 +38,7 @@ impl Link {
         let entries = plan.entries;
         let flows = flows(entries, plan.count);
         let owner = unbooked();
-        let held = rows(unheld());
+        let held = nothing_held();
         Link {
             plan,
             cp: 0,

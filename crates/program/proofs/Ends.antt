@@ -9,6 +9,7 @@ use borrow.Author.Tests.{leb-true}
 use Rattle.model.specs.Link.{Link}
 use Rattle.model.specs.Listing.{refusalLine}
 use Rattle.calls.specs.Lines.{room, outWith, nextAfter}
+use Rattle.calls.proofs.Stores.{Written}
 use Rattle.program.specs.Stage.{Stage, playing, atEnd}
 use Rattle.program.specs.Promises.{Finished}
 
@@ -30,17 +31,17 @@ in-room line out n e most = go (room out 0) refl
     go true t = let h = leb-true (0 + 7) (length out) t in omega arith
     go false t = let z : n ≡ 0 = e ∙ rw t in omega arith
 
-pub finished-by : {s : Stage} {line out out′ : List ℕ} {n : ℕ} → line ≡ atEnd s → out′ ≡ outWith line out 0 → n ≡ nextAfter line out 0 → n ≤ 0 + 7 → Finished s out n out′
-finished-by {s} {line} {out} {out′} {n} is stored next most = record {
-  written-is = next ∙ ap (λ x. nextAfter x out 0) is;
-  out-is = stored ∙ ap (λ x. outWith x out 0) is;
-  room = in-room line out n next most;
+pub finished-by : {s : Stage} {line out out′ : List ℕ} {n : ℕ} → line ≡ atEnd s → Written line out out′ 0 n → Finished s out n out′
+finished-by {s} {line} {out} {out′} {n} is w = record {
+  written-is = w .1 .0 ∙ ap (λ x. nextAfter x out 0) is;
+  out-is = w .0 ∙ ap (λ x. outWith x out 0) is;
+  room = in-room line out n (w .1 .0) (w .1 .1);
 }
 
 -- nothing is to be written
 pub finished-silent : {s : Stage} → [] ≡ atEnd s → (out : List ℕ) → Finished s out 0 out
 unfolding outWith nextAfter
-finished-silent is out = finished-by is (sym (go (room out 0))) (sym (go₀ (room out 0))) (omega arith)
+finished-silent is out = finished-by is (sym (go (room out 0)), (sym (go₀ (room out 0)), omega arith))
   where
     go : (b : Bool) → cond b out out ≡ out
     go true = refl

@@ -3,7 +3,7 @@ use Prim.Native.Nat.{ℕ, _+_, _-_, _*_, _≤_, _<_, min, max}
 use mathlib.Core.Path.{_≡_, refl, sym, ap, _∙_, subst}
 use mathlib.Core.List.{List, _++_, [], append-nil}
 use native.Mathlib.Omega.{arith}
-use lib.ListN.{length, getD, take, replicate, drop, length-take, length-drop, length-append, length-replicate}
+use lib.ListN.{length, getD, take, drop, length-take, length-drop, length-append}
 use lib.Seq.{sets, length-sets}
 use Rattle.model.specs.Listing.{planLength}
 use Rattle.program.specs.declared.Kept.{Kept}
@@ -15,12 +15,15 @@ unfolding zeros
 zeros-long = refl
 
 module _ {k : Kept} {bytes : List ℕ} (h : Keeps k bytes) where
+  fits : length bytes ≤ length zeros
+  fits = omega (arith, zeros-long, h .most)
+
   -- they are read back
   pub bytes-back : bytesIn k ≡ bytes
-  bytes-back = ap (take (k .count)) (h .bytes-are) ∙ ap (λ n. take n (sets zeros 0 bytes)) (h .count-is) ∙ stored-back zeros bytes (omega (arith, zeros-long, h .most))
+  bytes-back = (λ i. take (h .count-is i) (h .bytes-are i)) ∙ stored-back zeros bytes fits
 
   pub byte-back : (i : ℕ) → i < length bytes → getD (k .bytes) i 0 ≡ getD bytes i 0
-  byte-back i l = ap (λ x. getD x i 0) (h .bytes-are) ∙ stored-at zeros bytes (omega (arith, zeros-long, h .most)) i l
+  byte-back i l = ap (λ x. getD x i 0) (h .bytes-are) ∙ stored-at zeros bytes fits i l
 
   pub length-back : 2 ≤ length bytes → planLength (k .bytes) ≡ planLength bytes
   length-back two = λ i. byte-back 0 (omega arith) i + 256 * byte-back (0 + 1) (omega arith) i
@@ -36,14 +39,16 @@ pub nothing-kept : Keeps (record { bytes = zeros; count = 0 }) []
 nothing-kept = record { count-is = refl; bytes-are = refl; most = omega arith }
 
 -- enough is kept already
-pub none-more : {k : Kept} {bytes : List ℕ} → Keeps k bytes → (to : ℕ) (piece : List ℕ) → to ≤ k .count → Keeps k (bytes ++ take (to - k .count) piece)
+pub none-more : {k : Kept} {bytes : List ℕ} → Keeps k bytes → (to : ℕ) (piece : List ℕ) → to ≤ k .count
+    → Keeps k (bytes ++ take (to - k .count) piece)
 none-more {k} {bytes} h to piece le =
     let z : to - k .count ≡ 0 = omega arith in
     subst (Keeps k) (sym (ap (λ n. bytes ++ take n piece) z ∙ append-nil bytes)) h
 
 -- bytes are taken until there are `to`, or the piece ends
 pub more-kept : {k : Kept} {bytes : List ℕ} → Keeps k bytes → (to : ℕ) (piece : List ℕ) → to ≤ 76 → k .count ≤ to → {next : Kept}
-    → next .bytes ≡ sets (k .bytes) (k .count) (take (min (to - k .count) (length piece)) piece) → next .count ≡ k .count + min (to - k .count) (length piece)
+    → next .bytes ≡ sets (k .bytes) (k .count) (take (min (to - k .count) (length piece)) piece)
+    → next .count ≡ k .count + min (to - k .count) (length piece)
     → Keeps next (bytes ++ take (to - k .count) piece)
 more-kept {k} {bytes} h to piece most room {next} stored counted =
     let front = take (to - k .count) piece in
@@ -75,7 +80,8 @@ pub record Taken (k : Kept) (to : ℕ) (piece : List ℕ) (next : Kept) : Type 0
   pub seam : bytesIn next ++ behind k next piece ≡ bytesIn k ++ piece
   pub piece-ended : next .count < to → bytesIn next ≡ bytesIn k ++ piece
 
-pub taken : {k next : Kept} → Keeps k (bytesIn k) → (to : ℕ) (piece : List ℕ) → Keeps next (bytesIn k ++ take (to - k .count) piece) → Taken k to piece next
+pub taken : {k next : Kept} → Keeps k (bytesIn k) → (to : ℕ) (piece : List ℕ) → Keeps next (bytesIn k ++ take (to - k .count) piece)
+    → Taken k to piece next
 taken {k} {next} h to piece g =
     let front = take (to - k .count) piece in
     let before = h .count-is in

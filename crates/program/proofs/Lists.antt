@@ -32,7 +32,8 @@ part-behind k p = take-all (length p - k) (drop k p) (omega (arith, length-drop 
 
 module _ (b piece : List ℕ) (k : ℕ) where
   -- with what is left of the piece they are all there
-  pub taken-and-rest : (m : ℕ) → m ≡ length (b ++ take k piece) - length b → (b ++ take k piece) ++ take (length piece - m) (drop m piece) ≡ b ++ piece
+  pub taken-and-rest : (m : ℕ) → m ≡ length (b ++ take k piece) - length b
+      → (b ++ take k piece) ++ take (length piece - m) (drop m piece) ≡ b ++ piece
   taken-and-rest m e =
       let same : m ≡ length (take k piece) = omega (arith, length-append b (take k piece)) in
       append-assoc b (take k piece) _

@@ -1,23 +1,27 @@
 -- However the input is cut into pieces, what is to be written, in order, is the paper's output of the input. Assumes nothing.
-use Prim.Native.Nat.{ℕ, zero, suc, _+_, _≤_}
+use Prim.Native.Nat.{ℕ, zero, suc, _*_, _/_, _≤_}
 use mathlib.Core.Path.{_≡_, refl, sym, ap, _∙_}
 use mathlib.Core.List.{List, [], _++_, append-nil, append-assoc}
 use mathlib.Core.Bool.{true}
 use mathlib.Core.Logic.{⊎-elim}
 use native.Mathlib.Omega.{arith}
 use lib.ListN.{length, take, drop}
-use lib.Seq.{sets}
+use lib.Seq.{take-all}
 use Rattle.model.specs.Plan.{planOf, refusal}
 use Rattle.model.specs.Fresh.{fresh}
 use Rattle.model.specs.Listing.{listing, linkAfter, planLine, planLength, outputAfter, output}
 use Rattle.calls.proofs.Stores.{out-in-room, next-in-room}
 use Rattle.program.specs.declared.State.{State}
-use Rattle.program.specs.Stage.{Stage, reading, playing, ended, wholeRecords, cutOff, planOpen, stageWith, stageAfter, writtenAfter, atEnd, stageFed, writtenFed}
+use Rattle.program.specs.declared.Fed.{Fed}
+use Rattle.program.specs.Stage.{Stage, playing, wholeRecords, cutOff, planOpen}
+use Rattle.program.specs.Stage.{stageWith, stageAfter, writtenAfter, atEnd, stageFed, writtenFed}
 use Rattle.program.specs.State.{stageOf}
-use Rattle.program.specs.Promises.{Finished, Feeds, none, piece, Runs}
+use Rattle.program.specs.Promises.{FedPiece, Finished, Feeds, none, piece, joined, Runs}
 use Rattle.program.proofs.Lists.{stored-back}
 use Rattle.program.proofs.WholeRecords.{all-whole, whole-and-cut, cut-append, listing-on, link-on, listing-ends}
-use Rattle.program.proofs.PlanStages.{fewer-than-two, cases, stage-open, written-open, output-open, stage-never, written-never, output-never, stage-there, written-there, output-there, never-on, there-on, plan-on, rest-on}
+use Rattle.program.proofs.PlanStages.{fewer-than-two, cases, never-on, there-on, plan-on, rest-on}
+use Rattle.program.proofs.PlanStages.{stage-open, stage-never, stage-there, written-open, written-never, written-there}
+use Rattle.program.proofs.PlanStages.{output-open, output-never, output-there}
 
 -- ---- behind a plan
 
@@ -35,7 +39,8 @@ module _ (plan rest more : List ℕ) where
       ((ap cutOff seam ∙ cut-append (wholeRecords rest) (cutOff rest ++ more) (all-whole rest)) i)
   stage-behind (suc r) = refl
 
-  written-behind : (n : ℕ) → outputAfter n plan (wholeRecords (rest ++ more)) ≡ outputAfter n plan (wholeRecords rest) ++ writtenFed (stageWith n plan rest) more
+  written-behind : (n : ℕ)
+      → outputAfter n plan (wholeRecords (rest ++ more)) ≡ outputAfter n plan (wholeRecords rest) ++ writtenFed (stageWith n plan rest) more
   unfolding outputAfter stageWith writtenFed
   written-behind zero =
       let l = fresh (planOf plan) in
@@ -91,25 +96,29 @@ output-is input =
 
 -- ---- a run
 
--- after an input `before`, pieces that come to `input` are fed
-pub record After (before input lines : List ℕ) (t : State) : Type 0 where
-  pub stage-is : stageOf t ≡ stageAfter (before ++ input)
-  pub written-is : writtenAfter before ++ lines ≡ writtenAfter (before ++ input)
+-- where the program stands, and what it has written, once pieces are fed after an input `before`
+record After (before : List ℕ) (pieces : List (List ℕ)) (lines : List ℕ) (t : State) : Type 0 where
+  pub stage-is : stageOf t ≡ stageAfter (before ++ joined pieces)
+  pub written-is : writtenAfter before ++ lines ≡ writtenAfter (before ++ joined pieces)
 
-pub fed-on : {s t : State} {input lines : List ℕ} → Feeds s input lines t → (before : List ℕ) → stageOf s ≡ stageAfter before → After before input lines t
-fed-on none before e = record { stage-is = e ∙ ap stageAfter (sym (append-nil before)); written-is = append-nil (writtenAfter before) ∙ ap writtenAfter (sym (append-nil before)) }
-fed-on {s} {t} (piece {input} {lines} p out out′ r f rest) before e =
+fed-on : {s t : State} {pieces : List (List ℕ)} {lines : List ℕ} → Feeds s pieces lines t → (before : List ℕ) → stageOf s ≡ stageAfter before
+    → After before pieces lines t
+fed-on none before e = record {
+  stage-is = e ∙ ap stageAfter (sym (append-nil before));
+  written-is = append-nil (writtenAfter before) ∙ ap writtenAfter (sym (append-nil before));
+}
+fed-on {s} (piece {pieces} {lines} p out out′ r f rest) before e =
     let part = take (r .used) p in
-    let lines₁ = writtenFed (stageOf s) part in
-    let said : take (r .written) out′ ≡ lines₁ =
-    (λ i. take (f .written-is i) (f .out-is i)) ∙ stored-back out lines₁ (omega (arith, f .room, f .written-is)) in
+    let said = writtenFed (stageOf s) part in
+    let said-is : take (r .written) out′ ≡ said =
+    (λ i. take (f .written-is i) (f .out-is i)) ∙ stored-back out said (omega (arith, f .room, f .written-is)) in
     let on = fed-on rest (before ++ part) (f .stands .stage-is ∙ ap (λ x. stageFed x part) e ∙ sym (stage-on before part)) in
     record {
-      stage-is = on .stage-is ∙ ap stageAfter (append-assoc before part input);
+      stage-is = on .stage-is ∙ ap stageAfter (append-assoc before part (joined pieces));
       written-is =
-          ap (λ x. writtenAfter before ++ (x ++ lines)) (said ∙ ap (λ x. writtenFed x part) e)
+          ap (λ x. writtenAfter before ++ (x ++ lines)) (said-is ∙ ap (λ x. writtenFed x part) e)
           ∙ sym (append-assoc (writtenAfter before) (writtenFed (stageAfter before) part) lines)
-          ∙ ap (_++ lines) (sym (written-on before part)) ∙ on .written-is ∙ ap writtenAfter (append-assoc before part input);
+          ∙ ap (_++ lines) (sym (written-on before part)) ∙ on .written-is ∙ ap writtenAfter (append-assoc before part (joined pieces));
     }
 
 said-at-end : {s : Stage} {out : List ℕ} {n : ℕ} {out′ : List ℕ} → 7 ≤ length out → Finished s out n out′ → take n out′ ≡ atEnd s
@@ -117,13 +126,19 @@ said-at-end {s} {out} {n} {out′} room f =
     let long : n ≡ length (atEnd s) = omega (arith, f .written-is, next-in-room (atEnd s) out 0 (omega arith)) in
     (λ i. take (long i) ((f .out-is ∙ out-in-room (atEnd s) out 0 (omega arith)) i)) ∙ stored-back out (atEnd s) (omega (arith, f .room))
 
--- "However the input is cut into pieces": it names the promises of `start`, `feed` and `finish`, and nothing else of the code.
-pub cut-anyhow : {input lines : List ℕ} → Runs input lines → lines ≡ output input
-cut-anyhow {input} {lines} r =
+-- However the input is cut into pieces, all that is to be written, in order, is the paper's output of the input.
+-- Of the code it names the promises of `start`, `feed` and `finish` alone.
+pub cut-anyhow : {pieces : List (List ℕ)} {lines : List ℕ} → Runs pieces lines → lines ≡ output (joined pieces)
+cut-anyhow {pieces} r =
     let on = fed-on (r .feeds) [] (r .started .stage-is ∙ sym (stage-open [] nothing-yet)) in
-    r .lines-are
-    ∙ (λ i. (ap (_++ r .fed) (sym (written-open [] nothing-yet)) ∙ on .written-is) i ++ (said-at-end (r .line-has-room) (r .finished) ∙ ap atEnd (on .stage-is)) i)
-    ∙ sym (output-is input)
+    let so-far : r .fed ≡ writtenAfter (joined pieces) = ap (_++ r .fed) (sym (written-open [] nothing-yet)) ∙ on .written-is in
+    let then : take (r .written) (r .out′) ≡ atEnd (stageAfter (joined pieces)) =
+    said-at-end (r .line-has-room) (r .finished) ∙ ap atEnd (on .stage-is) in
+    r .lines-are ∙ (λ i. so-far i ++ then i) ∙ sym (output-is (joined pieces))
   where
     nothing-yet : planOpen [] ≡ true
     nothing-yet = fewer-than-two [] (omega arith)
+
+-- A piece for whose lines there is room is taken whole.
+pub taken-whole : {s : Stage} {p out out′ : List ℕ} {r : Fed} → FedPiece s p out r out′ → length p ≤ 5 * (length out / 7) → take (r .used) p ≡ p
+taken-whole {s} {p} {out} {out′} {r} f room = take-all (r .used) p (omega (arith, f .used-is))

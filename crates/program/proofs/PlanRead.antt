@@ -10,15 +10,14 @@ use Rattle.model.specs.Plan.{planOf, refusal}
 use Rattle.model.specs.Link.{Link}
 use Rattle.model.specs.Fresh.{fresh}
 use Rattle.model.specs.Listing.{planLine, planLength, outputAfter}
-use Rattle.calls.specs.Lines.{outWith, nextAfter}
-use Rattle.calls.proofs.Stores.{out-in-room, next-in-room}
+use Rattle.calls.proofs.Stores.{Written, out-in-room, next-in-room}
 use Rattle.plan.specs.declared.Verdict.the-variants.{Accepted, Refused}
 use Rattle.plan.specs.Reading.{verdictFor}
 use Rattle.program.specs.declared.State.{State}
 use Rattle.program.specs.declared.Progress.{Progress}
 use Rattle.program.specs.Stage.{reading, playing, ended, wholeRecords, planOpen, stageAfter, writtenAfter, stageWith, stageFed, writtenFed}
 use Rattle.program.specs.State.{Stands}
-use Rattle.program.specs.Promises.{Leaves}
+use Rattle.program.specs.Parts.{Leaves, LeavesFed, LeavesPlan}
 use Rattle.program.proofs.PlanStages.{Never, There, stage-open, written-open, stage-never, written-never, stage-plan, written-plan}
 use Rattle.program.proofs.Leaving.{same-leaves, leaves-after, leaves-silent, leaves-line}
 
@@ -43,23 +42,21 @@ module _ (plan rest : List ℕ) where
   output-refused zero h = absurd (omega arith)
   output-refused (suc r) h = refl
 
-  pub left-refused : (n : ℕ) {k : ℕ} {out out′ : List ℕ} {state : State} {w : ℕ} → verdictFor n ≡ Refused k → 0 + 7 ≤ length out
-      → out′ ≡ outWith (planLine k) out 0 → w ≡ nextAfter (planLine k) out 0 → w ≤ 0 + 7 → Stands state ended
-      → Leaves (stageWith n plan rest) (outputAfter n plan (wholeRecords rest)) out 0 (record { state = state; written = w }) out′
-  left-refused n {k} e room stored next most h =
-      let is = refused-is n k e in
-      same-leaves (stage-refused n (is .0)) (ap planLine (sym (is .1)) ∙ output-refused n (is .0)) (leaves-line room stored next most h)
+  pub left-refused : {k : ℕ} {out out′ : List ℕ} {state : State} {w : ℕ} → verdictFor (refusal plan) ≡ Refused k → 0 + 7 ≤ length out
+      → Written (planLine k) out out′ 0 w → Stands state ended → LeavesPlan plan rest out 0 (record { state = state; written = w }) out′
+  left-refused {k} e room w h =
+      let is = refused-is (refusal plan) k e in
+      let lines = ap planLine (sym (is .1)) ∙ output-refused (refusal plan) (is .0) in
+      same-leaves (stage-refused (refusal plan) (is .0)) lines (leaves-line (planLine k) room w h)
 
-  pub left-accepted : {n : ℕ} {l : Link} {out out₁ out₂ : List ℕ} {at : ℕ} {r : Progress} → n ≡ 0 → l ≡ fresh (planOf plan) → 0 + 7 ≤ length out
-      → out₁ ≡ outWith (planLine 0) out 0 → at ≡ nextAfter (planLine 0) out 0
-      → Leaves (stageFed (playing l []) rest) (writtenFed (playing l []) rest) out₁ at r out₂
-      → Leaves (stageWith n plan rest) (outputAfter n plan (wholeRecords rest)) out 0 r out₂
+  pub left-accepted : {l : Link} {out out₁ out₂ : List ℕ} {at : ℕ} {r : Progress} → refusal plan ≡ 0 → l ≡ fresh (planOf plan) → 0 + 7 ≤ length out
+      → Written (planLine 0) out out₁ 0 at → LeavesFed (playing l []) rest out₁ at r out₂ → LeavesPlan plan rest out 0 r out₂
   unfolding stageWith stageFed writtenFed outputAfter
-  left-accepted {n} {l} {out} e f room stored next h =
+  left-accepted {l} {out} e f room w h =
       same-leaves
       (ap (λ (m : Link). stageFed (playing m []) rest) f ∙ ap (λ m. stageWith m plan rest) (sym e))
       (ap (λ (m : Link). planLine 0 ++ writtenFed (playing m []) rest) f ∙ ap (λ m. outputAfter m plan (wholeRecords rest)) (sym e))
-      (leaves-after (planLine 0) (next ∙ next-in-room (planLine 0) out 0 room ∙ zero-add (length (planLine 0))) (stored ∙ out-in-room (planLine 0) out 0 room) h)
+      (leaves-after (planLine 0) (w .1 .0 ∙ next-in-room (planLine 0) out 0 room ∙ zero-add _) (w .0 ∙ out-in-room (planLine 0) out 0 room) h)
 
 -- ---- where the plan is not all there
 
@@ -69,13 +66,12 @@ pub left-open : (input : List ℕ) {b out : List ℕ} {state : State} → b ≡ 
 left-open input {b} e o = leaves-silent (sym (stage-open b o) ∙ ap stageAfter e) (sym (written-open b o) ∙ ap writtenAfter e)
 
 -- it is never one
-pub left-never : (input : List ℕ) {out out′ : List ℕ} {state : State} {w : ℕ} → Never input → 0 + 7 ≤ length out
-    → out′ ≡ outWith (planLine 1) out 0 → w ≡ nextAfter (planLine 1) out 0 → w ≤ 0 + 7 → Stands state ended
-    → Leaves (stageAfter input) (writtenAfter input) out 0 (record { state = state; written = w }) out′
-left-never input n room stored next most h = same-leaves (sym (stage-never input n)) (sym (written-never input n)) (leaves-line room stored next most h)
+pub left-never : (input : List ℕ) {out out′ : List ℕ} {state : State} {n : ℕ} → Never input → 0 + 7 ≤ length out → Written (planLine 1) out out′ 0 n
+    → Stands state ended → Leaves (stageAfter input) (writtenAfter input) out 0 (record { state = state; written = n }) out′
+left-never input never room w h = same-leaves (sym (stage-never input never)) (sym (written-never input never)) (leaves-line (planLine 1) room w h)
 
 -- it is all there, and more comes after it
 pub left-plan : (plan more input : List ℕ) {out out′ : List ℕ} {r : Progress} → plan ++ more ≡ input → There plan → planLength plan ≡ length plan
-    → Leaves (stageWith (refusal plan) plan more) (outputAfter (refusal plan) plan (wholeRecords more)) out 0 r out′ → Leaves (stageAfter input) (writtenAfter input) out 0 r out′
+    → LeavesPlan plan more out 0 r out′ → Leaves (stageAfter input) (writtenAfter input) out 0 r out′
 left-plan plan more input e t exact =
     same-leaves (sym (stage-plan plan more t exact) ∙ ap stageAfter e) (sym (written-plan plan more t exact) ∙ ap writtenAfter e)

@@ -6,7 +6,7 @@ use mathlib.Core.Logic.{_⊎_, inl, inr}
 use mathlib.Core.Bool.{Bool, true, false, not, _&&_, _||_}
 use native.Mathlib.Decide.{decLe}
 use native.Mathlib.Omega.{arith}
-use lib.ListN.{length, getD, take, drop, length-append, List·getD-append}
+use lib.ListN.{length, take, drop, length-append, List·getD-append}
 use lib.Seq.{take-append-le, drop-append-le, take-length, drop-length}
 use lib.Dec.{ltb, leb}
 use borrow.Author.Tests.{lt-ltb, le-ltb, lt-leb, le-leb, ltb-true, ltb-false, not-true}
@@ -14,7 +14,7 @@ use Rattle.model.specs.Tables.{within}
 use Rattle.model.specs.Plan.{refusal}
 use Rattle.model.specs.Listing.{planLine, planLength, planMissing, outputAfter, output}
 use Rattle.model.proofs.Tests.{or-false, or-true, and-true, within-true}
-use Rattle.program.specs.Stage.{Stage, reading, ended, wholeRecords, planOpen, stageWith, stageAfter, writtenAfter}
+use Rattle.program.specs.Stage.{reading, ended, wholeRecords, planOpen, stageWith, stageAfter, writtenAfter}
 
 pub ltb-leb : (a b : ℕ) → ltb a b ≡ not (leb b a)
 ltb-leb a b = go (decLe b a)
@@ -59,7 +59,8 @@ module _ (input : List ℕ) where
 
   pub fewer-than-stated : 12 ≤ planLength input → planLength input ≤ 76 → length input < planLength input → planOpen input ≡ true
   unfolding planOpen
-  fewer-than-stated low high h = or-true (ltb (length input) 2) (ranges && fewer) (rw (in-range low high) (lt-ltb (length input) (planLength input) h))
+  fewer-than-stated low high h =
+      or-true (ltb (length input) 2) (ranges && fewer) (rw (in-range low high) (lt-ltb (length input) (planLength input) h))
 
   -- where two stand there, L is a number, and fewer than L stand there
   open-below : planOpen input ≡ true → 2 ≤ length input → length input < planLength input
@@ -71,13 +72,15 @@ module _ (input : List ℕ) where
   unfolding planOpen
   cases = go (planOpen input) refl
     where
-      closed : 2 ≤ length input → (b : Bool) → within 12 76 (planLength input) ≡ b → (b && ltb (length input) (planLength input)) ≡ false → Never input ⊎ There input
-      closed two true e f = let w = within-true 12 76 (planLength input) e in inr (record { low = w .0; high = w .1; all = ltb-false (length input) (planLength input) f })
+      closed : 2 ≤ length input → (b : Bool) → ranges ≡ b → (b && fewer) ≡ false → Never input ⊎ There input
+      closed two true e f =
+          let w = within-true 12 76 (planLength input) e in
+          inr (record { low = w .0; high = w .1; all = ltb-false (length input) (planLength input) f })
       closed two false e f = inl (record { two = two; out-of-range = ap not e })
 
       go : (b : Bool) → planOpen input ≡ b → (planOpen input ≡ true) ⊎ (Never input ⊎ There input)
       go true e = inl e
-      go false e = let p = or-false _ _ e in inr (closed (ltb-false (length input) 2 (p .0)) (within 12 76 (planLength input)) refl (p .1))
+      go false e = let p = or-false _ _ e in inr (closed (ltb-false (length input) 2 (p .0)) ranges refl (p .1))
 
 -- ---- where the program stands, and what it has written
 
@@ -121,13 +124,19 @@ module _ (input : List ℕ) where
     output-never = rw never-there
 
   module _ (t : There input) where
+    two-there : ltb (length input) 2 ≡ false
+    two-there = le-ltb (length input) 2 (omega (arith, t .low, t .all))
+
+    all-there : fewer input ≡ false
+    all-there = le-ltb (length input) (planLength input) (t .all)
+
     there-open : planOpen input ≡ false
     unfolding planOpen
-    there-open = rw (le-ltb (length input) 2 (omega (arith, t .low, t .all)), in-range input (t .low) (t .high), le-ltb (length input) (planLength input) (t .all))
+    there-open = rw (two-there, in-range input (t .low) (t .high), all-there)
 
     there-there : planMissing input ≡ false
     unfolding planMissing
-    there-there = rw (le-ltb (length input) 2 (omega (arith, t .low, t .all)), le-ltb (length input) (planLength input) (t .all), in-range input (t .low) (t .high))
+    there-there = rw (two-there, all-there, in-range input (t .low) (t .high))
 
     abbrev plan : List ℕ
     plan = take (planLength input) input
@@ -189,10 +198,13 @@ module _ (plan more : List ℕ) (t : There plan) (exact : planLength plan ≡ le
   stage-plan = stage-there (plan ++ more) (there-on plan more t) ∙ (λ i. stageWith (refusal (plan-alone i)) (plan-alone i) (more-alone i))
 
   pub written-plan : writtenAfter (plan ++ more) ≡ outputAfter (refusal plan) plan (wholeRecords more)
-  written-plan = written-there (plan ++ more) (there-on plan more t) ∙ (λ i. outputAfter (refusal (plan-alone i)) (plan-alone i) (wholeRecords (more-alone i)))
+  written-plan =
+      written-there (plan ++ more) (there-on plan more t)
+      ∙ (λ i. outputAfter (refusal (plan-alone i)) (plan-alone i) (wholeRecords (more-alone i)))
 
 -- an open plan has fewer bytes than L, whatever more stands there
-pub open-fewer : (input more : List ℕ) {both : List ℕ} → planOpen input ≡ true → both ≡ input ++ more → 2 ≤ planLength both → length input < planLength both
+pub open-fewer : (input more : List ℕ) {both : List ℕ} → planOpen input ≡ true → both ≡ input ++ more → 2 ≤ planLength both
+    → length input < planLength both
 open-fewer input more {both} o is low = go (decLe 2 (length input))
   where
     go : Dec (2 ≤ length input) → length input < planLength both

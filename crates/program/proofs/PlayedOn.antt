@@ -1,23 +1,21 @@
 -- Whole records played into a part of `out`, and the bytes after them kept. Assumes nothing.
-use Prim.Native.Nat.{ℕ, _+_, _-_, _*_, _/_, _≤_, _<_, min}
-use mathlib.Core.Path.{_≡_, refl, sym, ap, _∙_, subst}
-use mathlib.Core.List.{List, _∷_, [], _++_, append-nil}
+use Prim.Native.Nat.{ℕ, _+_, _-_, _*_, _/_, _≤_, _<_}
+use mathlib.Core.Path.{_≡_, ap, _∙_, subst}
+use mathlib.Core.List.{List, [], _++_, append-nil}
 use native.Mathlib.Nat.{add-zero}
 use native.Mathlib.Omega.{arith}
-use lib.ListN.{length, take, drop, length-take, length-drop, drop-of-length-le}
-use lib.Seq.{sets, take-all, length-sets}
+use lib.ListN.{length, take, drop, length-drop, drop-of-length-le}
+use lib.Seq.{sets, take-all}
 use Rattle.model.specs.Link.{Link}
 use Rattle.model.specs.Listing.{listing, linkAfter}
-use Rattle.playback.specs.Playback.{playable, PlayedRecords}
+use Rattle.playback.specs.Playback.{PlayedRecords}
 use Rattle.program.specs.declared.Kept.{Kept}
-use Rattle.program.specs.declared.Progress.{Progress}
 use Rattle.program.specs.declared.State.{State}
-use Rattle.program.specs.Stage.{Stage, playing, wholeRecords, cutOff, stageFed, writtenFed}
+use Rattle.program.specs.Stage.{playing, wholeRecords, cutOff, stageFed, writtenFed}
 use Rattle.program.specs.State.{bytesIn, Keeps, Stands}
-use Rattle.program.specs.Promises.{Leaves}
+use Rattle.program.specs.Parts.{Leaves}
 use Rattle.program.proofs.Lists.{part-behind, stored-behind}
 use Rattle.program.proofs.KeptBytes.{bytes-back}
-use Rattle.program.proofs.WholeRecords.{cut-short}
 
 -- the part of `out` from a place on
 abbrev pub partOf : (out : List ℕ) → ℕ → List ℕ
@@ -44,7 +42,8 @@ module _ {l : Link} {bytes out : List ℕ} {at : ℕ} {l′ : Link} {used writte
       let all : used ≡ 5 * (length bytes / 5) = omega (arith, p .used-is, long) in
       let lines = listing l (wholeRecords bytes) in
       let stored : part′ ≡ sets (drop at out) 0 lines = p .out-is ∙ (λ i. sets (part-is i) 0 (listing l (take (all i) bytes))) in
-      let none-behind : drop (length out - at) (drop at out) ≡ [] = drop-of-length-le (drop at out) {i = length out - at} (omega (arith, length-drop at out)) in
+      let none-behind : drop (length out - at) (drop at out) ≡ [] =
+      drop-of-length-le (drop at out) {i = length out - at} (omega (arith, length-drop at out)) in
       record {
         used-is = all;
         link-is = p .link-is ∙ ap (λ n. linkAfter l (take n bytes)) all;

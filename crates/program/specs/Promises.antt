@@ -1,13 +1,12 @@
 -- What `start`, `feed` and `finish` promise, and a run of them over pieces of input. Assumes nothing.
-use Prim.Native.Nat.{ℕ, _+_, _*_, _/_, _≤_, min}
+use Prim.Native.Nat.{ℕ, _*_, _/_, _≤_, min}
 use mathlib.Core.Path.{_≡_}
-use mathlib.Core.List.{List, _∷_, [], _++_}
+use mathlib.Core.List.{List, _∷_, [], _++_, foldr}
 use lib.ListN.{length, take}
 use lib.Seq.{sets}
 use Rattle.calls.specs.Lines.{outWith, nextAfter}
 use Rattle.program.specs.declared.State.{State}
 use Rattle.program.specs.declared.Fed.{Fed}
-use Rattle.program.specs.declared.Progress.{Progress}
 use Rattle.program.specs.Stage.{Stage, reading, atEnd, stageFed, writtenFed}
 use Rattle.program.specs.State.{stageOf, Stands}
 
@@ -21,7 +20,7 @@ Started s = Stands s (reading [])
 abbrev pub takenFrom : (piece out : List ℕ) → ℕ
 takenFrom piece out = min (length piece) (5 * (length out / 7))
 
--- `used` bytes of a piece are fed at stage s, and what is to be written stands in the first `written` bytes of what was `out`, the rest of which is unchanged.
+-- `used` bytes of a piece are fed at stage s. What is to be written stands in the first `written` bytes of what was `out`; the rest is unchanged.
 pub record FedPiece (s : Stage) (piece out : List ℕ) (r : Fed) (out′ : List ℕ) : Type 0 where
   pub used-is : r .used ≡ takenFrom piece out
   pub stands : Stands (r .state) (stageFed s (take (r .used) piece))
@@ -35,34 +34,30 @@ pub record Finished (s : Stage) (out : List ℕ) (written : ℕ) (out′ : List 
   pub out-is : out′ ≡ outWith (atEnd s) out 0
   pub room : written ≤ length out
 
--- ---- inside `feed`
-
--- The program stands at stage s, and these lines stand in what was `out` from `at` on.
-pub record Leaves (s : Stage) (lines out : List ℕ) (at : ℕ) (r : Progress) (out′ : List ℕ) : Type 0 where
-  pub stands : Stands (r .state) s
-  pub written-is : r .written ≡ at + length lines
-  pub out-is : out′ ≡ sets out at lines
-  pub room : r .written ≤ length out
-
 -- ---- a run
 
--- Pieces are fed one after the other, the first to s and each later one to the state that the call before handed back; t is the last of these states.
--- `input` is what was taken of the pieces, in order, and `lines` what was to be written after them.
-pub data Feeds : (s : State) (input lines : List ℕ) (t : State) → Type 0 where
+-- Pieces are fed one after the other, the first to s and each later one to the state that the call before handed back; t is the last state.
+-- `pieces` is what was taken of each, and `lines` what was to be written after them, in order.
+pub data Feeds : (s : State) (pieces : List (List ℕ)) (lines : List ℕ) (t : State) → Type 0 where
   none : {s : State} → Feeds s [] [] s
-  piece : {s t : State} {input lines : List ℕ} (p out out′ : List ℕ) (r : Fed) → FedPiece (stageOf s) p out r out′ → Feeds (r .state) input lines t
-      → Feeds s (take (r .used) p ++ input) (take (r .written) out′ ++ lines) t
+  piece : {s t : State} {pieces : List (List ℕ)} {lines : List ℕ} (p out out′ : List ℕ) (r : Fed)
+      → FedPiece (stageOf s) p out r out′ → Feeds (r .state) pieces lines t
+      → Feeds s (take (r .used) p ∷ pieces) (take (r .written) out′ ++ lines) t
 
--- A run from the start to the end of the input: `input` is what was taken, and `lines` all that was to be written.
-pub record Runs (input lines : List ℕ) : Type 0 where
+-- the input that pieces come to
+abbrev pub joined : List (List ℕ) → List ℕ
+joined = foldr _++_ []
+
+-- A run from the start to the end of the input, and all that was to be written in it.
+pub record Runs (pieces : List (List ℕ)) (lines : List ℕ) : Type 0 where
   pub first : State
-  pub last : State
   pub started : Started first
+  pub last : State
   pub fed : List ℕ
-  pub feeds : Feeds first input fed last
+  pub feeds : Feeds first pieces fed last
   pub out : List ℕ
-  pub out′ : List ℕ
   pub line-has-room : 7 ≤ length out
+  pub out′ : List ℕ
   pub written : ℕ
   pub finished : Finished (stageOf last) out written out′
   pub lines-are : lines ≡ fed ++ take written out′

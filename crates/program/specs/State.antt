@@ -21,7 +21,7 @@ use Rattle.program.specs.Stage.{Stage, reading, playing, ended, planOpen
 abbrev pub bytesIn : Kept → List ℕ
 bytesIn k = take (k .count) (k .bytes)
 
--- the longest plan: a header of 12 bytes and 16 entries of four
+-- as many as the longest plan has: a header of 12 bytes and 16 entries of four
 unfoldable pub zeros : List ℕ
 zeros = replicate 76 0
 
@@ -54,27 +54,31 @@ noLink = record {
   taken = false;
 }
 
+-- bytes of the plan are still to come
 pub record Awaits (link : Link) (bytes : List ℕ) : Type 0 where
   pub no-link : link ≡ noLink
   pub still-open : planOpen bytes ≡ true
 
+-- records are played
 pub record Plays (link : Link) (bytes : List ℕ) : Type 0 where
   pub sound : Sound link
   pub not-whole : length bytes < 5
 
+-- the plan was refused
 pub record Rests (link : Link) (bytes : List ℕ) : Type 0 where
   pub no-link : link ≡ noLink
   pub no-bytes : bytes ≡ []
 
 -- what holds in each phase
-abbrev pub Fits : Phase → Link → List ℕ → Type 0
-Fits Reading link bytes = Awaits link bytes
-Fits Playing link bytes = Plays link bytes
-Fits Ended link bytes = Rests link bytes
+abbrev pub InPhase : Phase → Link → List ℕ → Type 0
+InPhase Reading link bytes = Awaits link bytes
+InPhase Playing link bytes = Plays link bytes
+InPhase Ended link bytes = Rests link bytes
 
+-- the invariant of a state
 pub record Regular (s : State) : Type 0 where
   pub kept : Keeps (s .kept) (bytesIn (s .kept))
-  pub fits : Fits (s .phase) (s .link) (bytesIn (s .kept))
+  pub in-phase : InPhase (s .phase) (s .link) (bytesIn (s .kept))
 
 -- a state in which the program stands at a stage
 pub record Stands (state : State) (s : Stage) : Type 0 where

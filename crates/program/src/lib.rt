@@ -1,4 +1,4 @@
-// The program of document 01 but for reading and writing: input is fed in, in pieces of any sizes, and what is to be written after each is handed back.
+// The program of document 01 but for reading and writing: input is fed in pieces of any sizes, and what is to be written after each is handed back.
 mod keeping;
 mod plans;
 mod records;
@@ -47,7 +47,7 @@ pub struct Fed {
 }
 
 // What a part of that comes to: the bytes that are to be written end at `written`.
-pub struct Progress {
+pub(crate) struct Progress {
     pub state: State,
     pub written: usize,
 }

@@ -1,15 +1,13 @@
 // The plan: its bytes are kept until they are all there, then they are read, and records follow an accepted plan.
-ghost use mathlib.Core.List.{_++_};
 ghost use mathlib.Core.Path.{_≡_};
-ghost use mathlib.Core.Bool.{true, not};
+ghost use mathlib.Core.Bool.{not};
 ghost use Prim.Native.Nat.{_+_, _*_, _/_, _≤_, _<_};
 ghost use lib.ListN.{length};
 ghost use Rattle.model.specs.Tables.{within};
-ghost use Rattle.model.specs.Plan.{refusal};
-ghost use Rattle.model.specs.Listing.{planLength, outputAfter};
-ghost use Rattle.program.specs.Stage.{planOpen, stageWith, stageAfter, writtenAfter, wholeRecords};
-ghost use Rattle.program.specs.State.{bytesIn, noLink, Keeps};
-ghost use Rattle.program.specs.Promises.{Leaves};
+ghost use Rattle.model.specs.Listing.{planLength};
+ghost use Rattle.program.specs.Stage as stage;
+ghost use Rattle.program.specs.State.{bytesIn, noLink, Keeps, Awaits};
+ghost use Rattle.program.specs.Parts.{Ready, LeavesFed, LeavesPlan};
 use crate::Kept;
 use crate::LONGEST_PLAN;
 use crate::Progress;
@@ -46,7 +44,7 @@ fn never_a_plan(total: usize) -> bool
 // Reads a plan whose bytes are all there, writes its line, and plays on where it is accepted; `link` stands there where it is not.
 fn begin(link: Link, kept: Kept, rest: &[u8], out: &mut [u8]) -> Progress
     requires { ⌜ (link ≡ noLink) × Keeps kept (bytesIn kept) × (7 + 7 * (length (now rest) / 5) ≤ length (now out)) ⌝ }
-    ensures { λ r. ⌜ Leaves (stageWith (refusal (bytesIn kept)) (bytesIn kept) (now (rest .entry))) (outputAfter (refusal (bytesIn kept)) (bytesIn kept) (wholeRecords (now (rest .entry)))) (now (out .entry)) 0 r (now (out .exit)) ⌝ }
+    ensures { λ r. ⌜ LeavesPlan (bytesIn kept) (now (rest .entry)) (now (out .entry)) 0 r (now (out .exit)) ⌝ }
 {
     let count = kept.count;
     let bytes = kept.bytes;
@@ -70,8 +68,8 @@ fn begin(link: Link, kept: Kept, rest: &[u8], out: &mut [u8]) -> Progress
 
 // Keeps bytes from the start of a piece until the plan is all there, or can't be one, and goes on with the rest.
 pub(crate) fn go_on(link: Link, kept: Kept, piece: &[u8], out: &mut [u8]) -> Progress
-    requires { ⌜ (link ≡ noLink) × Keeps kept (bytesIn kept) × (planOpen (bytesIn kept) ≡ true) × (length (now piece) ≤ 5 * (length (now out) / 7)) ⌝ }
-    ensures { λ r. ⌜ Leaves (stageAfter (bytesIn kept ++ now (piece .entry))) (writtenAfter (bytesIn kept ++ now (piece .entry))) (now (out .entry)) 0 r (now (out .exit)) ⌝ }
+    requires { ⌜ Awaits link (bytesIn kept) × Ready kept (now piece) (now out) ⌝ }
+    ensures { λ r. ⌜ LeavesFed (stage.reading (bytesIn kept)) (now (piece .entry)) (now (out .entry)) 0 r (now (out .exit)) ⌝ }
 {
     let start = kept.count;
     let two = filled(kept, 2, piece);

@@ -1,11 +1,8 @@
 // A state for each phase.
 ghost use mathlib.Core.Path.{_≡_};
-ghost use mathlib.Core.Bool.{true};
-ghost use Prim.Native.Nat.{_<_};
 ghost use Rattle.link.specs.Reading.{linkOf};
-ghost use Rattle.link.specs.Sound.{Sound};
 ghost use Rattle.program.specs.Stage as stage;
-ghost use Rattle.program.specs.State.{bytesIn, noLink, Keeps, Stands};
+ghost use Rattle.program.specs.State.{bytesIn, noLink, Keeps, Awaits, Plays, Stands};
 use crate::Kept;
 use crate::Phase;
 use crate::State;
@@ -49,7 +46,7 @@ pub(crate) fn no_link() -> Link
 
 // Bytes of the plan are still to come.
 pub(crate) fn reading(link: Link, kept: Kept) -> State
-    requires { ⌜ (link ≡ noLink) × Keeps kept (bytesIn kept) × (stage.planOpen (bytesIn kept) ≡ true) ⌝ }
+    requires { ⌜ Awaits link (bytesIn kept) × Keeps kept (bytesIn kept) ⌝ }
     ensures { λ r. ⌜ Stands r (stage.reading (bytesIn kept)) ⌝ }
 {
     State {
@@ -61,7 +58,7 @@ pub(crate) fn reading(link: Link, kept: Kept) -> State
 
 // Records are played.
 pub(crate) fn playing(link: Link, kept: Kept) -> State
-    requires { ⌜ Sound link × Keeps kept (bytesIn kept) × (kept .count < 5) ⌝ }
+    requires { ⌜ Plays link (bytesIn kept) × Keeps kept (bytesIn kept) ⌝ }
     ensures { λ r. ⌜ Stands r (stage.playing (linkOf link) (bytesIn kept)) ⌝ }
 {
     State {

@@ -6,7 +6,7 @@ use mathlib.Core.Bool.{Bool, true}
 use native.Mathlib.Omega.{arith}
 use Rattle.model.specs.Window as model
 use Rattle.model.specs.Request.{found, nowhere, earliest, search}
-use Rattle.tables.proofs.SlotWalk.{Failed, failed-hit, failed-all}
+use Rattle.tables.proofs.PositionWalk.{Failed, failed-hit, failed-all}
 
 -- frame j, with the remainder c, has no position to book
 pub record NoneIn (w : model.Window) (ok : ℕ → Bool) (share j c : ℕ) : Type 0 where
@@ -28,8 +28,8 @@ module _ {w : model.Window} {ok : ℕ → Bool} {share : ℕ} where
   pub none-spent : {j c : ℕ} → c ≤ 0 → NoneIn w ok share j c
   none-spent h = record { none-there = λ b. absurd (omega arith) }
 
-  -- all its slots have failed
-  pub none-failed : {j c s : ℕ} → Failed ok (j * w .slots) (w .slots) s → w .slots ≤ s → NoneIn w ok share j c
+  -- all its positions have failed
+  pub none-failed : {j c p : ℕ} → Failed ok (j * w .slots) (w .slots) p → j * w .slots + w .slots ≤ p → NoneIn w ok share j c
   none-failed v h = record { none-there = λ _. failed-all v h }
 
   search-on : (more j c : ℕ) → NoneIn w ok share j c → (more ≡ 0 → ⊥)
@@ -54,7 +54,7 @@ module _ {w : model.Window} {ok : ℕ → Bool} {share : ℕ} where
     pub walked-out : NoneIn w ok share j c → more ≡ 0 → nowhere c ≡ search w ok share more₀ j₀ c₀
     walked-out e z = sym (search-last more j c e z) ∙ v .same
 
-    -- slot s of the frame is the earliest that passes
-    pub walked-hit : {s : ℕ} → 0 < c → Failed ok (j * w .slots) (w .slots) s → s < w .slots → ok (j * w .slots + s) ≡ true
-        → found j (c - 1) (j * w .slots + s) ≡ search w ok share more₀ j₀ c₀
-    walked-hit {s} h u b z = sym (search-hit w ok share more j c (j * w .slots + s) h (failed-hit u b z)) ∙ v .same
+    -- p is the earliest position of the frame that passes
+    pub walked-hit : {p : ℕ} → 0 < c → Failed ok (j * w .slots) (w .slots) p → p < j * w .slots + w .slots → ok p ≡ true
+        → found j (c - 1) p ≡ search w ok share more₀ j₀ c₀
+    walked-hit {p} h u b z = sym (search-hit w ok share more j c p h (failed-hit u b z)) ∙ v .same

@@ -4,12 +4,12 @@ pub mod Rows
 mod RowRanges
 mod CarriedRows
 pub mod HoldingChanges
+pub mod FreshTables
 -- one pass over a row
 mod Padded
 mod PaddedFrom
 -- the search
-mod SlotWalk
-mod EarliestSlot
+mod PositionWalk
 mod FrameWalk
 pub mod ValidPositions
 pub mod FoundPosition

@@ -1,15 +1,14 @@
--- Sixteen rows, one for each flow: all of them given, one of them replaced, and its own put back. Assumes nothing.
-use Prim.Native.Nat.{ℕ, _+_, _*_, _/_, _%_, _<_}
+-- Sixteen rows, one for each flow: all of them given, one of them replaced, its own put back, and stored one after the other. Assumes nothing.
+use Prim.Native.Nat.{ℕ, _+_, _*_, _/_, _%_, _≤_, _<_}
 use mathlib.Core.Path.{_≡_, refl, sym, ap, _∙_}
 use mathlib.Core.List.{List}
-use native.Mathlib.Decide.{decLt}
+use native.Mathlib.Decide.{decLt, ℕ-discrete}
 use native.Mathlib.Omega.{arith}
 use lib.ListN.{length, getD}
-use lib.Seq.{ext-getD}
-use Rattle.window.specs.Ranges.{inRange, replaced}
+use Rattle.model.specs.Tables.{table}
 use Rattle.window.proofs.Tabulated.{getD-table, length-table, table-of}
-use Rattle.window.proofs.Ranges.{in-range, length-replaced, replaced-at}
-use Rattle.tables.specs.Rows.{row, Sixteen, rowsOf, sixteenRows, withRow}
+use Rattle.window.proofs.Ranges.{length-replaced}
+use Rattle.tables.specs.Rows.{row, Sixteen, rowsOf, withRow}
 use Rattle.tables.proofs.Places.{row-at, row-is, same-row, with-row-in, with-row-before, with-row-past, with-row-is}
 
 pub length-row : (h : List ℕ) (i : ℕ) → length (row h i) ≡ 256
@@ -27,28 +26,17 @@ rows-of h f long same = table-of h 4096 _ 0 long λ k b.
     ∙ row-at h (k / 256) (k % 256) (omega arith)
     ∙ ap (λ (x : ℕ). getD h x 0) place
 
--- ---- one row for each flow
+pub length-rows-of : (f : ℕ → ℕ → ℕ) → Sixteen (rowsOf f)
+unfolding rowsOf
+length-rows-of f = length-table 4096 (λ k. f (k / 256) (k % 256))
 
-module _ (r : List ℕ) where
-  pub length-sixteen : Sixteen (sixteenRows r)
-  unfolding sixteenRows
-  length-sixteen = length-table 4096 (λ k. getD r (k % 256) 0)
-
-  sixteen-at : (k : ℕ) → k < 4096 → getD (sixteenRows r) k 0 ≡ getD r (k % 256) 0
-  unfolding sixteenRows
-  sixteen-at k b = getD-table 4096 (λ k. getD r (k % 256) 0) k 0 b
-
-  pub row-of-sixteen : (i : ℕ) → i < 16 → length r ≡ 256 → row (sixteenRows r) i ≡ r
-  row-of-sixteen i h e = row-is _ i r e λ p b.
-      let place : (256 * i + p) % 256 ≡ p = omega arith in
-      sixteen-at (256 * i + p) (omega arith) ∙ ap (λ (q : ℕ). getD r q 0) place
-
-  -- a loop that has put all places
-  pub sixteen-done : (xs ys : List ℕ) → length xs ≡ 4096 → ys ≡ replaced (inRange 0 4096) (λ k x. getD r (k % 256) 0) xs → ys ≡ sixteenRows r
-  sixteen-done xs ys e is =
-      is ∙ ext-getD 0 _ _ (length-replaced _ _ xs ∙ e ∙ sym length-sixteen) λ k b.
-      let l = rw length-replaced at b in
-      replaced-at _ _ xs k 0 l ∙ rw (in-range 0 4096 k (omega arith) (omega (arith, e))) (sym (sixteen-at k (omega (arith, e))))
+pub row-of-rows : (f : ℕ → ℕ → ℕ) (i : ℕ) → i < 16 → row (rowsOf f) i ≡ table 256 (f i)
+unfolding rowsOf
+row-of-rows f i h = row-is _ i (table 256 (f i)) (length-table 256 (f i)) λ p b.
+    let of-row : (256 * i + p) / 256 ≡ i = omega arith in
+    let place : (256 * i + p) % 256 ≡ p = omega arith in
+    getD-table 4096 (λ k. f (k / 256) (k % 256)) (256 * i + p) 0 (omega arith)
+    ∙ rw (of-row, place) (sym (getD-table 256 (f i) p 0 b))
 
 -- ---- one row replaced
 
@@ -70,3 +58,30 @@ module _ (h : List ℕ) (i : ℕ) (r : List ℕ) where
 -- its own row
 pub with-own-row : (h : List ℕ) (i : ℕ) → withRow h i (row h i) ≡ h
 with-own-row h i = sym (with-row-is h i (row h i) h refl (λ p b _. sym (row-at h i p b)) (λ _ _. refl) (λ _ _. refl))
+
+-- ---- a loop that has stored one row for each of the first i flows
+
+pub record Storing (r h : List ℕ) (i : ℕ) : Type 0 where
+  pub to : i ≤ 16
+  pub long : Sixteen h
+  pub stored : (j : ℕ) → j < i → row h j ≡ r
+
+module _ {r : List ℕ} where
+  pub storing-none : {h : List ℕ} → Sixteen h → Storing r h 0
+  storing-none long = record { to = omega arith; long = long; stored = λ j h. absurd (omega arith) }
+
+  module _ {h : List ℕ} {i : ℕ} (v : Storing r h i) where
+    pub storing-more : {next : List ℕ} → length r ≡ 256 → i < 16 → next ≡ withRow h i r → Storing r next (i + 1)
+    storing-more {next} wide b e = record {
+      to = omega arith;
+      long = ap length e ∙ length-with-row h i r ∙ v .long;
+      stored = λ j l. ap (λ (x : List ℕ). row x j) e ∙ go j l (ℕ-discrete j i);
+    }
+      where
+        go : (j : ℕ) → j < i + 1 → Dec (j ≡ i) → row (withRow h i r) j ≡ r
+        go j l (yes d) = rw d (row-with-same h i r (v .long) b wide)
+        go j l (no d) = row-with-other h i r j d ∙ v .stored j (omega arith)
+
+    pub storing-done : (f : ℕ → ℕ → ℕ) → ((j p : ℕ) → p < 256 → f j p ≡ getD r p 0) → 16 ≤ i → h ≡ rowsOf f
+    storing-done f same b =
+        sym (rows-of h f (v .long) (λ j p l lp. same j p lp ∙ ap (λ (x : List ℕ). getD x p 0) (sym (v .stored j (omega arith)))))

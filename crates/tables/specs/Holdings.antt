@@ -1,4 +1,4 @@
--- What the flows hold: tested at a position, changed from a position on, and carried on at a frame change. Assumes nothing.
+-- What the flows hold: nothing, tested at a position, changed from a position on, and carried on at a frame change. Assumes nothing.
 use Prim.Native.Nat.{ℕ, _+_, _-_, _%_}
 use mathlib.Core.List.{List}
 use mathlib.Core.Bool.{Bool}
@@ -9,7 +9,11 @@ use Rattle.window.specs.declared.Window.{Window}
 use Rattle.window.specs.Bytes.{wrapped}
 use Rattle.window.specs.Ranges.{replaced}
 use Rattle.window.specs.Window.{sizeOf, baseOf, headRange, fromIn}
-use Rattle.tables.specs.Rows.{row, withRow, carriedRows}
+use Rattle.tables.specs.Rows.{row, rowsOf, withRow, carriedRows}
+
+-- each flow holds 0 at each position
+abbrev pub nothingHeld : List ℕ
+nothingHeld = rowsOf (λ i p. 0)
 
 -- ---- a test
 

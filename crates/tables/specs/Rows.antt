@@ -21,10 +21,6 @@ Sixteen h = length h ≡ 4096
 unfoldable pub rowsOf : (ℕ → ℕ → ℕ) → List ℕ
 rowsOf f = table 4096 (λ k. f (k / 256) (k % 256))
 
--- one row for each flow
-unfoldable pub sixteenRows : List ℕ → List ℕ
-sixteenRows r = table 4096 (λ k. getD r (k % 256) 0)
-
 -- row i replaced
 unfoldable pub withRow : List ℕ → ℕ → List ℕ → List ℕ
 withRow h i r = replaced (inRange (256 * i) (256 * i + 256)) (λ k x. getD r (k - 256 * i) 0) h

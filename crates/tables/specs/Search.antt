@@ -1,8 +1,7 @@
 -- The search of a request over the tables: valid positions, and what it comes to, read as the paper's. Assumes nothing.
-use Prim.Native.Nat.{ℕ, _≤_, _<_}
-use mathlib.Core.Path.{_≡_}
+use Prim.Native.Nat.{ℕ}
 use mathlib.Core.List.{List}
-use mathlib.Core.Bool.{Bool, true, false, not, _&&_}
+use mathlib.Core.Bool.{Bool, not, _&&_}
 use lib.ListN.{getD}
 use lib.Dec.{leb}
 use Rattle.tables.specs.declared.Found.{Found}
@@ -35,9 +34,3 @@ LateWithRoom w held cells low = FromRank w (λ p. not (passed (windowOf w) p) &&
 -- position p is unbooked, and its rank is at least `low`
 unfoldable pub freeFrom : Window → List ℕ → ℕ → ℕ → Bool
 freeFrom w owners low p = model.unbooked (ownerOf (getD owners p 0)) && leb low (rank w p)
-
--- r is the least number from `from` up to `to` that passes t, or 255 where none does
-pub record Earliest (t : ℕ → Bool) (from to r : ℕ) : Type 0 where
-  pub most : r ≤ 255
-  pub fails : (k : ℕ) → from ≤ k → k < to → k < r → t k ≡ false
-  pub passes : r < 255 → (from ≤ r) × (r < to) × (t r ≡ true)

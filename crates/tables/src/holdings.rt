@@ -12,9 +12,9 @@ ghost use Rattle.window.specs.Ranges.{inRange, replaced, All, LastIn};
 ghost use Rattle.window.specs.Window.{windowOf, Proper, FromRank};
 ghost use Rattle.tables.specs.Asked.{FlowAt, FlowsOf};
 ghost use Rattle.tables.specs.Owners.{everywhere};
-ghost use Rattle.tables.specs.Rows.{row, sixteenRows, carriedRows};
+ghost use Rattle.tables.specs.Rows.{row, withRow, carriedRows};
 ghost use Rattle.tables.specs.Padded.{pad, InRow};
-ghost use Rattle.tables.specs.Holdings.{someHeld, roomAt, shifted, carried};
+ghost use Rattle.tables.specs.Holdings.{someHeld, roomAt, shifted, carried, nothingHeld};
 use window::Window;
 use window::numbers::chosen;
 use window::numbers::larger_byte;
@@ -160,23 +160,38 @@ pub fn shift_from(held: &mut Holdings, by: u8, i: usize, w: Window, p: usize)
     shift(held, first, past, p as u8, (base - p) as u8, by, 0);
 }
 
-pub fn unheld() -> [u8; 256]
+// The table of a flow that holds nothing at any position.
+fn unheld() -> [u8; 256]
     ensures { λ r. ⌜ r ≡ everywhere 0 ⌝ }
 {
     [0u8; 256]
 }
 
-// A flow's holdings in each of the 16 rows.
-pub fn rows(held: [u8; 256]) -> Holdings
-    ensures { λ r. ⌜ r ≡ sixteenRows held ⌝ }
+// Stores a flow's table as its row.
+fn store(held: &mut Holdings, i: usize, table: [u8; 256])
+    requires { ⌜ i < 16 ⌝ }
+    ensures { λ r. ⌜ now (held .exit) ≡ withRow (now (held .entry)) i table ⌝ }
 {
-    let mut all = [0u8; 4096];
-    let mut k = 0;
-    while k < 4096 {
-        all[k] = held[k % 256];
-        k += 1;
+    let first = 256 * i;
+    let end = first + 256;
+    let mut q = first;
+    while q < end {
+        held[q] = table[q - first];
+        q += 1;
     }
-    all
+}
+
+// Nothing is held: the table of each flow, stored as that flow's row. None of the 255s that the array is made with is left.
+pub fn nothing_held() -> Holdings
+    ensures { λ r. ⌜ r ≡ nothingHeld ⌝ }
+{
+    let mut held = [255u8; 4096];
+    let mut i = 0;
+    while i < 16 {
+        store(&mut held, i, unheld());
+        i += 1;
+    }
+    held
 }
 
 // What each of n flows holds at the last position goes on at the positions from a to e.

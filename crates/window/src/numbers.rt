@@ -35,16 +35,6 @@ pub fn over(a: usize, b: usize) -> usize
     a - b
 }
 
-// The number as a byte, and 255 where it is larger.
-pub fn narrow(a: usize) -> u8
-    ensures { λ r. ⌜ r ≡ min a 255 ⌝ }
-{
-    if a < 255 {
-        return a as u8;
-    }
-    255
-}
-
 pub fn smaller_byte(a: u8, b: u8) -> u8
     ensures { λ r. ⌜ r ≡ min a b ⌝ }
 {

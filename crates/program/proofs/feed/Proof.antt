@@ -1,7 +1,6 @@
 -- `program::feed` meets its contract, by the state's phase. Assumes nothing.
-use Prim.Native.Nat.{ℕ, _*_, _/_, _≤_}
-use mathlib.Core.Path.{_≡_, refl, sym, ap, _∙_}
-use mathlib.Core.List.{List}
+use Prim.Native.Nat.{_*_, _/_, _≤_}
+use mathlib.Core.Path.{_≡_, refl, sym, ap}
 use native.Mathlib.Omega.{arith}
 use lib.ListN.{length, take}
 use lib.Seq.{length-take-le}
@@ -10,8 +9,7 @@ use Rattle.link.specs.Reading.{linkOf}
 use Rattle.program.specs.declared.Phase.{Phase}
 use Rattle.program.specs.Stage.{reading, playing, ended, stageFed, writtenFed}
 use Rattle.program.specs.State.{bytesIn, stageIn}
-use Rattle.program.specs.Promises.{takenFrom}
-use Rattle.program.proofs.Phases.{fits-in, fed-in}
+use Rattle.program.proofs.Phases.{what-holds, fed-in}
 use Rattle.program.proofs.Leaving.{leaves-silent, fed-piece}
 use Rattle.program.proofs.feed.Statement.{statement}
 use Rattle.program.proofs.feed.Tie as tie
@@ -47,8 +45,7 @@ go-on-requires : tie.Need-go-on-requires
 go-on-requires c κs =
     let t = taken-at (c .before .before .before) in
     let s = start t in
-    let awaits = fits-in (s .args .state) (c .before .enum-told .given .1) (s .pre) in
-    (awaits .no-link, s .pre .kept, awaits .still-open, part-most t)
+    (what-holds (s .args .state) (c .before .enum-told .given .1) (s .pre), record { kept-well = s .pre .kept; room = part-most t })
 
 enum-told-2 : tie.Need-enum-told-2
 enum-told-2 c = search needs
@@ -57,8 +54,7 @@ go-on-requires-2 : tie.Need-go-on-requires-2
 go-on-requires-2 c κs =
     let t = taken-at (c .before .before .before) in
     let s = start t in
-    let plays = fits-in (s .args .state) (c .before .enum-told2 .given .1) (s .pre) in
-    (plays .sound, s .pre .kept, omega (arith, s .pre .kept .count-is, plays .not-whole), part-most t)
+    (what-holds (s .args .state) (c .before .enum-told2 .given .1) (s .pre), record { kept-well = s .pre .kept; room = part-most t })
 
 enum-told-3 : tie.Need-enum-told-3
 enum-told-3 c = search needs
@@ -67,12 +63,13 @@ same-length : tie.Need-same-length
 same-length c = search needs
 
 returns : tie.Need-returns
-unfolding stageFed writtenFed
 returns c =
     let told = c .before .before .before .before .before in
     let t = taken-at (told .before .before) in
     let s = start t in
-    fed-in (s .args .state) (told .enum-told .given .1) (fed-piece (reading (bytesIn (s .args .state .kept))) (s .args .piece .now) (t .smaller .ensures) (c .before .before .before .go-on .ensures))
+    let left = c .before .before .before .go-on .ensures in
+    fed-in (s .args .state) (told .enum-told .given .1)
+    (fed-piece (reading (bytesIn (s .args .state .kept))) (s .args .piece .now) (t .smaller .ensures) left)
 
 same-length-2 : tie.Need-same-length-2
 same-length-2 c = search needs
@@ -82,8 +79,9 @@ returns-2 c =
     let told = c .before .before .before .before .before in
     let t = taken-at (told .before .before) in
     let s = start t in
+    let left = c .before .before .before .go-on2 .ensures in
     fed-in (s .args .state) (told .enum-told2 .given .1)
-    (fed-piece (playing (linkOf (s .args .state .link)) (bytesIn (s .args .state .kept))) (s .args .piece .now) (t .smaller .ensures) (c .before .before .before .go-on2 .ensures))
+    (fed-piece (playing (linkOf (s .args .state .link)) (bytesIn (s .args .state .kept))) (s .args .piece .now) (t .smaller .ensures) left)
 
 returns-3 : tie.Need-returns-3
 unfolding stageFed writtenFed
@@ -92,7 +90,8 @@ returns-3 c =
     let s = start t in
     let told = c .enum-told3 .given .1 in
     let at-end = ap (λ (p : Phase). stageIn p (s .args .state .link) (bytesIn (s .args .state .kept))) told in
-    fed-in (s .args .state) told (fed-piece ended (s .args .piece .now) (t .smaller .ensures) (leaves-silent refl refl (record { stage-is = at-end; regular = s .pre })))
+    fed-in (s .args .state) told
+    (fed-piece ended (s .args .piece .now) (t .smaller .ensures) (leaves-silent refl refl (record { stage-is = at-end; regular = s .pre })))
 
 pub feed-spec : {M : Type 1} → statement M
 feed-spec =

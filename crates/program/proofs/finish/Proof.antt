@@ -1,8 +1,7 @@
 -- `program::finish` meets its contract, by the state's phase. Assumes nothing.
 use mathlib.Core.Path.{refl}
-use native.Mathlib.Omega.{arith}
 use borrow.Author.Needs.{needs}
-use Rattle.program.proofs.Phases.{fits-in, finished-in}
+use Rattle.program.proofs.Phases.{what-holds, finished-in}
 use Rattle.program.proofs.Ends.{finished-by, finished-silent}
 use Rattle.program.proofs.finish.Statement.{statement}
 use Rattle.program.proofs.finish.Tie as tie
@@ -20,8 +19,7 @@ last-line-requires : tie.Need-last-line-requires
 last-line-requires c κs =
     let s = c .before .before .before .before .before .before in
     let told = c .before .enum-told2 .given in
-    let plays = fits-in (s .args .state) (told .1) (s .pre) in
-    (s .pre .kept, omega (arith, s .pre .kept .count-is, plays .not-whole))
+    (what-holds (s .args .state) (told .1) (s .pre), s .pre .kept)
 
 enum-told-3 : tie.Need-enum-told-3
 enum-told-3 c = search needs
@@ -34,7 +32,7 @@ returns c =
     let w = c .before .before .write-plan .ensures in
     let s = c .before .before .before .before .before .before .before .before .before in
     let told = c .before .before .before .before .enum-told .given in
-    finished-in (s .args .state) (told .1) (finished-by refl (w .0) (w .1 .0) (w .1 .1))
+    finished-in (s .args .state) (told .1) (finished-by refl w)
 
 same-length-2 : tie.Need-same-length-2
 same-length-2 c = search needs

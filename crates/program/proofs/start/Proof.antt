@@ -17,7 +17,9 @@ none-requires c κs = search needs
 
 reading-requires : tie.Need-reading-requires
 unfolding planOpen
-reading-requires c κs = (c .before .no-link .ensures, kept-itself (c .none .ensures), ap planOpen (bytes-back (c .none .ensures)))
+reading-requires c κs =
+    let none = c .none .ensures in
+    (record { no-link = c .before .no-link .ensures; still-open = ap planOpen (bytes-back none) }, kept-itself none)
 
 returns : tie.Need-returns
 returns c = subst (λ (b : List ℕ). Stands (c .reading .result) (reading b)) (bytes-back (c .before .none .ensures)) (c .reading .ensures)

@@ -63,7 +63,9 @@ returns-2 c =
     let loop = c .before .loop in
     let more = c .before .before .before .smaller .ensures in
     let all : loop .i ≡ min (s .args .to - s .args .kept .count) (length (s .args .piece .now)) = omega arith in
-    more-kept (s .pre .0) _ _ (s .pre .1) (omega arith) (loop .inv .1 ∙ ap (λ n. sets (s .args .kept .bytes) (s .args .kept .count) (take n (s .args .piece .now))) all) (ap (s .args .kept .count +_) more)
+    let k = s .args .kept in
+    let stored = loop .inv .1 ∙ ap (λ n. sets (k .bytes) (k .count) (take n (s .args .piece .now))) all in
+    more-kept (s .pre .0) _ _ (s .pre .1) (omega arith) stored (ap (k .count +_) more)
 
 pub filled-spec : {M : Type 1} → statement M
 filled-spec =

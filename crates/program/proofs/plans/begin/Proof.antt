@@ -1,6 +1,6 @@
 -- `program::plans::begin` meets its contract. Assumes nothing.
 use Prim.Native.Nat.{ℕ, _+_, _≤_}
-use mathlib.Core.Path.{_≡_, refl, sym, ap, _∙_}
+use mathlib.Core.Path.{_≡_, sym, ap, _∙_}
 use native.Mathlib.Omega.{arith}
 use lib.ListN.{length}
 use borrow.Author.Needs.{needs}
@@ -87,7 +87,8 @@ returns c =
     let w = c .before .before .before .write-plan .ensures in
     let verdict = c .before .before .before .before .before .before in
     let r = verdict .before .before in
-    left-refused (bytesIn (start r .args .kept)) (start r .args .rest .now) (number r) (sym (verdict-is r) ∙ verdict .verdict .given .1) (room r) (w .0) (w .1 .0) (w .1 .1) (c .ended .ensures)
+    let refused = sym (verdict-is r) ∙ verdict .verdict .given .1 in
+    left-refused (bytesIn (start r .args .kept)) (start r .args .rest .now) refused (room r) w (c .ended .ensures)
 
 same-length-2 : tie.Need-same-length-2
 same-length-2 c = search needs
@@ -97,7 +98,8 @@ returns-2 c =
     let fresh-link = c .before .before .before .before .fresh .ensures .0 in
     let w = c .before .before .before .before .before .before .before .before in
     let r = at-read w in
-    left-accepted (bytesIn (start r .args .kept)) (start r .args .rest .now) (accepted w) (fresh-link ∙ ap fresh (plan-is w)) (room r) (w .write-plan2 .ensures .0) (w .write-plan2 .ensures .1 .0) (c .before .before .play-on .ensures)
+    left-accepted (bytesIn (start r .args .kept)) (start r .args .rest .now) (accepted w) (fresh-link ∙ ap fresh (plan-is w)) (room r)
+    (w .write-plan2 .ensures) (c .before .before .play-on .ensures)
 
 pub begin-spec : {M : Type 1} → statement M
 begin-spec =

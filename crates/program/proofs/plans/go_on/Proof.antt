@@ -4,12 +4,12 @@ use mathlib.Core.Path.{_≡_, sym, ap, _∙_, subst}
 use mathlib.Core.List.{List, _++_}
 use mathlib.Core.Bool.{true, not}
 use native.Mathlib.Omega.{arith}
-use lib.ListN.{length, length-append}
+use lib.ListN.{length}
 use borrow.Author.Needs.{needs}
 use Rattle.model.specs.Tables.{within}
 use Rattle.model.specs.Listing.{planLength}
 use Rattle.model.proofs.Tests.{in-range}
-use Rattle.program.specs.Stage.{planOpen}
+use Rattle.program.specs.Stage.{planOpen, stageFed, writtenFed}
 use Rattle.program.specs.State.{bytesIn}
 use Rattle.program.proofs.KeptBytes.{length-back, behind, Taken, taken}
 use Rattle.program.proofs.PlanStages.{Never, There, fewer-than-two, fewer-than-stated, open-fewer, same-stated, never-on, some-byte}
@@ -29,7 +29,7 @@ module _ (c : tie.After-filled) where
   piece = start .args .piece .now
 
   two : Taken (start .args .kept) 2 piece (c .filled .result)
-  two = taken (start .pre .1) 2 piece (c .filled .ensures)
+  two = taken (start .pre .1 .kept-well) 2 piece (c .filled .ensures)
 
 -- where L is known
 module _ (c : tie.After-stated-length) where
@@ -105,7 +105,8 @@ module _ (c : tie.After-filled2) where
   below =
       let t = at-stated at-plan in
       let low : 2 ≤ planLength (first t) = omega (arith, stated-is t, range at-plan .0) in
-      omega (arith, stated-is t, open-fewer (bytesIn (start-of .args .kept)) _ (start-of .pre .2) (two-kept .bytes-are) low, start-of .pre .1 .count-is)
+      let fewer = open-fewer (bytesIn (start-of .args .kept)) _ (start-of .pre .0 .still-open) (two-kept .bytes-are) low in
+      omega (arith, stated-is t, start-of .pre .1 .kept-well .count-is)
 
 -- where it is all there
 module _ (c : tie.Else3) where
@@ -114,21 +115,25 @@ module _ (c : tie.Else3) where
 
   exact : planLength (plan at-all) ≡ length (plan at-all)
   exact =
-      omega (arith, total-is at-all, all at-all .kept .count-is, c .if3 .left, all at-all .most, two-kept at-all .most, below at-all, range (at-plan at-all) .0)
+      let a = all at-all in
+      omega (arith, total-is at-all, a .kept .count-is, c .if3 .left, a .most, two-kept at-all .most, below at-all, range (at-plan at-all) .0)
 
   there : There (plan at-all)
-  there = let r = range (at-plan at-all) in record { low = omega (arith, total-is at-all, r .0); high = omega (arith, total-is at-all, r .1); all = omega (arith, exact) }
+  there =
+      let r = range (at-plan at-all) in
+      record { low = omega (arith, total-is at-all, r .0); high = omega (arith, total-is at-all, r .1); all = omega (arith, exact) }
 
 filled-requires : tie.Need-filled-requires
-filled-requires c κs = (c .before .before .pre .1, omega arith)
+filled-requires c κs = (c .before .before .pre .1 .kept-well, omega arith)
 
 reading-requires : tie.Need-reading-requires
 reading-requires c κs =
     let f = c .before .before in
     let k = two f .kept in
-    (start f .pre .0, k, fewer-than-two _ (omega (arith, k .count-is, c .if1 .taken)))
+    (record { no-link = start f .pre .0 .no-link; still-open = fewer-than-two _ (omega (arith, k .count-is, c .if1 .taken)) }, k)
 
 returns : tie.Need-returns
+unfolding stageFed writtenFed
 returns c =
     let f = c .before .before .before in
     let few = c .before .if1 .taken in
@@ -150,13 +155,14 @@ same-length : tie.Need-same-length
 same-length c = search needs
 
 returns-2 : tie.Need-returns-2
+unfolding stageFed writtenFed
 returns-2 c =
     let w = c .before .before .before .write-plan .ensures in
     let n = c .before .before .before .before .before in
     let f = at-two (at-none n) in
     let s = start f in
-    let byte = some-byte (kept f) (piece f) (s .pre .2) (never n) in
-    left-never (kept f ++ piece f) (never n) (omega (arith, byte, s .pre .3)) (w .0) (w .1 .0) (w .1 .1) (c .ended .ensures)
+    let byte = some-byte (kept f) (piece f) (s .pre .0 .still-open) (never n) in
+    left-never (kept f ++ piece f) (never n) (omega (arith, byte, s .pre .1 .room)) w (c .ended .ensures)
 
 sub-behind : tie.Need-sub-behind
 sub-behind c = two (at-two (at-stated (c .before))) .grows
@@ -176,13 +182,15 @@ filled-requires-2 c κs = let e = c .before .before in (two (at-two (at-stated e
 reading-requires-2 : tie.Need-reading-requires-2
 reading-requires-2 c κs =
     let f = c .before .before in
-    (start-of f .pre .0, all f .kept, still-open f (c .if3 .taken))
+    (record { no-link = start-of f .pre .0 .no-link; still-open = still-open f (c .if3 .taken) }, all f .kept)
 
 returns-3 : tie.Need-returns-3
+unfolding stageFed writtenFed
 returns-3 c =
     let f = c .before .before .before in
     let few = c .before .if3 .taken in
-    left-open (bytesIn (start-of f .args .kept) ++ start-of f .args .piece .now) (all f .piece-ended few ∙ two-kept f .seam) (still-open f few) (c .reading2 .ensures)
+    let a = start-of f .args in
+    left-open (bytesIn (a .kept) ++ a .piece .now) (all f .piece-ended few ∙ two-kept f .seam) (still-open f few) (c .reading2 .ensures)
 
 sub-begin : tie.Need-sub-begin
 sub-begin c = all (c .before .before .before .before) .grows
@@ -203,17 +211,19 @@ begin-requires c κs =
     let s = start-of f in
     let a = all f in
     let t = two-kept f in
-    (s .pre .0, a .kept, omega (arith, a .behind-long, a .in-piece, t .behind-long, t .in-piece, below f, e .if3 .left, s .pre .3))
+    (s .pre .0 .no-link, a .kept, omega (arith, a .behind-long, a .in-piece, t .behind-long, t .in-piece, below f, e .if3 .left, s .pre .1 .room))
 
 same-length-2 : tie.Need-same-length-2
 same-length-2 c = search needs
 
 returns-4 : tie.Need-returns-4
+unfolding stageFed writtenFed
 returns-4 c =
     let e = c .before .before .before .before .before .before .before in
     let f = at-all e in
     let s = start-of f in
-    left-plan (plan f) _ (bytesIn (s .args .kept) ++ s .args .piece .now) (all f .seam ∙ two-kept f .seam) (there e) (exact e) (c .before .before .begin .ensures)
+    let seam = all f .seam ∙ two-kept f .seam in
+    left-plan (plan f) _ (bytesIn (s .args .kept) ++ s .args .piece .now) seam (there e) (exact e) (c .before .before .begin .ensures)
 
 pub go-on-spec : {M : Type 1} → statement M
 go-on-spec =

@@ -1,8 +1,7 @@
 -- `program::records::go_on` meets its contract. Assumes nothing.
-use Prim.Native.Nat.{_≤_}
-use mathlib.Core.Path.{_≡_, sym, ap, _∙_, subst}
+use Prim.Native.Nat.{ℕ, _<_}
+use mathlib.Core.Path.{_≡_, sym, ap, subst}
 use mathlib.Core.List.{List, []}
-use Prim.Native.Nat.{ℕ}
 use native.Mathlib.Omega.{arith}
 use lib.ListN.{length, take}
 use lib.Seq.{length-take-le}
@@ -22,7 +21,7 @@ module _ (c : tie.After-filled) where
   start = c .before .before .before .before
 
   five : Taken (start .args .kept) 5 (start .args .piece .now) (c .filled .result)
-  five = taken (start .pre .1) 5 (start .args .piece .now) (c .filled .ensures)
+  five = taken (start .pre .1 .kept-well) 5 (start .args .piece .now) (c .filled .ensures)
 
 -- where the record that is whole now has been played
 module _ (c : tie.After-play) where
@@ -33,18 +32,20 @@ module _ (c : tie.After-play) where
   before-play = start at-filled
 
   long : length (bytesIn (at-filled .filled .result)) ≡ 5
-  long = let k = five at-filled in omega (arith, k .kept .count-is, k .most, before-play .pre .2)
+  long = let k = five at-filled in omega (arith, k .kept .count-is, k .most, before-play .pre .0 .not-whole, before-play .pre .1 .kept-well .count-is)
 
   five-is : take 5 (at-filled .filled .result .bytes) ≡ bytesIn (at-filled .filled .result)
   five-is =
       let whole : 5 ≡ at-filled .filled .result .count = omega (arith, long, five at-filled .kept .count-is) in
       ap (λ n. take n (at-filled .filled .result .bytes)) whole
 
-  one : PlayedOne (linkOf (before-play .args .link)) (bytesIn (at-filled .filled .result)) (before-play .args .out .now) (linkOf (c .play .result .link)) (c .play .result .written)
-      (c .play .last .1 .1 .0)
-  one =
-      let k = five at-filled in
-      played-one five-is long (omega (arith, k .in-piece, long, k .kept .count-is, before-play .pre .2, before-play .pre .3)) (c .play .ensures .0)
+  -- bytes of the piece were taken for it
+  some-taken : before-play .args .kept .count < at-filled .filled .result .count
+  some-taken = omega (arith, long, five at-filled .kept .count-is, before-play .pre .0 .not-whole, before-play .pre .1 .kept-well .count-is)
+
+  one : PlayedOne (linkOf (before-play .args .link)) (bytesIn (at-filled .filled .result)) (before-play .args .out .now)
+      (linkOf (c .play .result .link)) (c .play .result .written) (c .play .last .1 .1 .0)
+  one = played-one five-is long (omega (arith, five at-filled .in-piece, some-taken, before-play .pre .1 .room)) (c .play .ensures .0)
 
 play-on-requires : tie.Need-play-on-requires
 play-on-requires c κs = search needs
@@ -59,12 +60,13 @@ returns c =
     none-cut-off (linkOf (s .args .link)) (bytesIn (s .args .kept)) (s .args .piece .now) none (c .before .before .play-on .ensures)
 
 filled-requires : tie.Need-filled-requires
-filled-requires c κs = (c .before .before .before .pre .1, omega arith)
+filled-requires c κs = (c .before .before .before .pre .1 .kept-well, omega arith)
 
 playing-requires : tie.Need-playing-requires
 playing-requires c κs =
     let f = c .before .before in
-    (start f .pre .0, five f .kept, c .if2 .taken)
+    let k = five f .kept in
+    (record { sound = start f .pre .0 .sound; not-whole = omega (arith, k .count-is, c .if2 .taken) }, k)
 
 returns-2 : tie.Need-returns-2
 returns-2 c =
@@ -102,7 +104,8 @@ play-on-requires-2 c κs =
     let p = c .before .before .before .before .before .before in
     let s = before-play p in
     let k = five (at-filled p) in
-    (p .play .ensures .1, omega (arith, one p .seven-most, p .play .kept .1 .1 .0, k .behind-long, k .in-piece, long p, k .kept .count-is, s .pre .2, s .pre .3))
+    let w = one p .seven-most in
+    (p .play .ensures .1, omega (arith, p .play .kept .1 .1 .0, k .behind-long, k .in-piece, long p, k .kept .count-is, some-taken p, s .pre .1 .room))
 
 same-length-2 : tie.Need-same-length-2
 same-length-2 c = search needs
@@ -112,8 +115,9 @@ returns-3 c =
     let p = c .before .before .before .before .before .before .before .before .before in
     let s = before-play p in
     let f = at-filled p in
-    made-whole (linkOf (s .args .link)) (bytesIn (s .args .kept)) (s .args .piece .now) (behind (s .args .kept) (f .filled .result) (s .args .piece .now))
-    (omega (arith, long p)) (five f .seam) (one p) (c .before .before .play-on2 .ensures)
+    let rest = behind (s .args .kept) (f .filled .result) (s .args .piece .now) in
+    made-whole (linkOf (s .args .link)) (bytesIn (s .args .kept)) (s .args .piece .now) rest (omega (arith, long p)) (five f .seam) (one p)
+    (c .before .before .play-on2 .ensures)
 
 pub go-on-spec : {M : Type 1} → statement M
 go-on-spec =

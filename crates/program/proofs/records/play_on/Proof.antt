@@ -1,5 +1,5 @@
 -- `program::records::play_on` meets its contract. Assumes nothing.
-use mathlib.Core.Path.{refl, sym, ap, _∙_}
+use mathlib.Core.Path.{ap, _∙_}
 use native.Mathlib.Omega.{arith}
 use lib.ListN.{length}
 use lib.Seq.{length-sets}
@@ -61,7 +61,7 @@ playing-requires : tie.Need-playing-requires
 playing-requires c κs =
     let k = kept (c .before) in
     let a = came-back (c .before) in
-    (a .play .ensures .1, kept-itself k, omega (arith, k .count-is, cut-short (start a .args .bytes .now)))
+    (record { sound = a .play .ensures .1; not-whole = omega (arith, ap length (bytes-back k), cut-short (start a .args .bytes .now)) }, kept-itself k)
 
 add-t10 : tie.Need-add-t10
 add-t10 c =

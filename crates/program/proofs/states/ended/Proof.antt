@@ -11,7 +11,10 @@ none-requires c κs = search needs
 returns : tie.Need-returns
 returns c =
     let none = c .none .ensures in
-    record { stage-is = refl; regular = record { kept = kept-itself none; fits = record { no-link = c .before .pre; no-bytes = bytes-back none } } }
+    record {
+      stage-is = refl;
+      regular = record { kept = kept-itself none; in-phase = record { no-link = c .before .pre; no-bytes = bytes-back none } };
+    }
 
 pub ended-spec : {M : Type 1} → statement M
 ended-spec = tie.close (tie.spec none-requires returns)

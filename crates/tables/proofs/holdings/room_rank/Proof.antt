@@ -107,7 +107,8 @@ returns-3 c =
     let v = proper-at r in
     let first = first-at r in
     let none : k .last-full .result - first ≡ 0 = omega (arith, c .before .if2 .left) in
-    let high = last-room _ (start r .args .i) _ (baseOf w) (sizeOf w) (v .measures .positions-most) refl refl (c .last-full2 .ensures) in
+    let high : LastIn (test-at r) (baseOf w) (sizeOf w) (c .last-full2 .result - first) =
+    last-room _ (start r .args .i) _ (baseOf w) (sizeOf w) (v .measures .positions-most) refl refl (c .last-full2 .ensures) in
     let same : c .last-full2 .result - (first + baseOf w) ≡ c .last-full2 .result - first - baseOf w = omega arith in
     rw same (passes-from w v _ (passes-high w v _ _ (rw none at (last-low k)) high))
 

@@ -1,40 +1,36 @@
 -- `tables::search::search` meets its contract: what is left to search comes to what the whole search does, over the frames and over
--- the slots of a frame. Assumes nothing.
+-- the positions of a frame. Assumes nothing.
 use borrow.Author.Needs.{needs}
 use Prim.Native.Nat.{ℕ, _+_, _-_, _*_, _≤_, _<_, min}
-use mathlib.Core.Path.{_≡_, sym, ap, _∙_}
+use mathlib.Core.Path.{_≡_, ap, _∙_}
 use mathlib.Core.Logic.{⊎-elim}
 use mathlib.Core.List.{List}
-use mathlib.Core.Bool.{Bool, _&&_}
+use mathlib.Core.Bool.{Bool}
 use native.Mathlib.Nat.{mod-lt}
 use native.Mathlib.Omega.{arith}
-use lib.Dec.{eqb, leb}
-use lib.ListN.{getD}
 use Rattle.model.specs.Tables.{ahead}
 use Rattle.model.specs.Window.{newest}
 use Rattle.window.specs.declared.Window.{Window}
 use Rattle.window.specs.Window.{windowOf, sizeOf, Proper}
 use Rattle.window.proofs.Windows.{frame-fits}
-use Rattle.tables.specs.Owners.{nobody}
 use Rattle.tables.specs.Search.{freeFrom}
-use Rattle.tables.proofs.SlotWalk.{Failed, failed-none, lateSlot, slot-tested}
-use Rattle.tables.proofs.EarliestSlot.{earliest-fails, earliest-before, earliest-below, earliest-passes}
+use Rattle.tables.proofs.PositionWalk.{Failed, failed-first, failed-one, earlySlots, fails-early, fails-booked, passes-late}
 use Rattle.tables.proofs.FrameWalk.{NoneIn, Walked, none-spent, none-failed, walked-on, walked-out, walked-hit}
 use Rattle.tables.proofs.search.search.Statement.{statement}
 use Rattle.tables.proofs.search.search.Tie as tie
 
 -- ---- the loops
 
--- the first s slots of a frame have failed
-record InFrame (w : Window) (owner : List ℕ) (low frame s : ℕ) : Type 0 where
-  most : s ≤ w .slots
-  failed : Failed (freeFrom (windowOf w) owner low) (frame * w .slots) (w .slots) s
+-- position p of a frame comes after the early ones, and those before it have failed
+record AtPosition (w : Window) (owner : List ℕ) (low frame p : ℕ) : Type 0 where
+  late : frame * w .slots + min (earlySlots w low frame) (w .slots) ≤ p
+  failed : Failed (freeFrom (windowOf w) owner low) (frame * w .slots) (w .slots) p
 
 abbrev Inv-loop : tie.InvT-loop
-Inv-loop owner w low share first remainder frame left more start late s₀ s = InFrame w owner low frame s
+Inv-loop owner w low share first remainder frame left more start end p₀ p = AtPosition w owner low frame p
 
 abbrev μ-loop : tie.MeasureT-loop
-μ-loop owner w low share first remainder frame left more start late s₀ s = w .slots - s
+μ-loop owner w low share first remainder frame left more start end p₀ p = end - p
 
 -- what is left from a frame on comes to the whole search
 record AtFrame (w : Window) (owner : List ℕ) (low share first remainder more frame left : ℕ) : Type 0 where
@@ -65,50 +61,41 @@ module _ (c : tie.At-search Inv-loop μ-loop Inv-search μ-search) where
   abbrev owners-at : List ℕ
   owners-at = start .args .owner .now
 
+  abbrev low-at : ℕ
+  low-at = start .args .low
+
   -- what the search tests a position for
   abbrev test-at : ℕ → Bool
-  test-at = freeFrom (windowOf window-at) owners-at (start .args .low)
+  test-at = freeFrom (windowOf window-at) owners-at low-at
 
   frame-there : frame-at * window-at .slots + window-at .slots ≤ sizeOf window-at
   frame-there = frame-fits (window-at .slots) (window-at .frames) frame-at (c .search .inv .there)
 
--- ---- in its slots, where the first slot that is late enough is known
+-- ---- in a frame, where the walk over its positions begins
 
--- where the frame is begun
-abbrev at-frame : tie.After-narrow Inv-loop μ-loop Inv-search μ-search → tie.At-search Inv-loop μ-loop Inv-search μ-search
-at-frame c = c .before .before .before .before .before
+module _ (c : tie.After-smaller Inv-loop μ-loop Inv-search μ-search) where
+  -- the test of what is left of the share
+  abbrev with-share : tie.Then1 Inv-loop μ-loop Inv-search μ-search
+  with-share = c .before .before .before .before .before
 
-module _ (c : tie.After-narrow Inv-loop μ-loop Inv-search μ-search) where
-  late-is : c .narrow .result ≡ min (lateSlot (window-at (at-frame c)) (start (at-frame c) .args .low) (frame-at (at-frame c))) 255
-  late-is =
+  abbrev at-frame : tie.At-search Inv-loop μ-loop Inv-search μ-search
+  at-frame = with-share .before
+
+  -- past the early positions
+  begins : c .smaller .result ≡ min (earlySlots (window-at at-frame) (low-at at-frame) (frame-at at-frame)) (window-at at-frame .slots)
+  begins =
       let o = c .before in
-      let low = start (at-frame c) .args .low in
-      c .narrow .ensures ∙ ap (λ (x : ℕ). min x 255) (o .over .ensures ∙ ap (λ (x : ℕ). low - x) (o .before .rank .ensures))
+      let early = o .over .ensures ∙ ap (λ (x : ℕ). low-at at-frame - x) (o .before .rank .ensures) in
+      c .smaller .ensures ∙ ap (λ (x : ℕ). min x (window-at at-frame .slots)) early
 
-  -- a slot is tested as its position is
-  tested : (k : ℕ) → k < window-at (at-frame c) .slots
-      → test-at (at-frame c) (frame-at (at-frame c) * window-at (at-frame c) .slots + k)
-      ≡ (eqb (getD (owners-at (at-frame c)) (frame-at (at-frame c) * window-at (at-frame c) .slots + k) 0) nobody && leb (c .narrow .result) k)
-  tested k b =
-      let f = at-frame c in
-      slot-tested (window-at f) (proper-at f) (owners-at f) (start f .args .low) (frame-at f) (f .search .inv .there) k b
-      ∙ ap (λ (x : ℕ). eqb (getD (owners-at f) (frame-at f * window-at f .slots + k) 0) nobody && leb x k) (sym late-is)
+  -- the frame's end lies in the table
+  end-fits : frame-at at-frame * window-at at-frame .slots + window-at at-frame .slots ≤ 256
+  end-fits = omega (arith, frame-there at-frame, proper-at at-frame .measures .positions-most)
 
--- where slots were looked at together
-abbrev looked-at : tie.After-earliest Inv-loop μ-loop Inv-search μ-search → tie.At-loop Inv-loop μ-loop Inv-search μ-search
-looked-at c = c .before .before .before .before
-
-abbrev in-frame : tie.After-earliest Inv-loop μ-loop Inv-search μ-search → tie.At-search Inv-loop μ-loop Inv-search μ-search
-in-frame c = at-frame (looked-at c .before)
-
--- no further than the frame
-upto-fits : (c : tie.After-earliest Inv-loop μ-loop Inv-search μ-search) → c .before .smaller .result ≤ window-at (in-frame c) .slots
-upto-fits c = omega (arith, c .before .smaller .ensures)
-
--- where the walk over the slots is over, or was left out
+-- where the walk over the positions is over, or was left out
 nothing-here : (c : tie.Joined1 Inv-loop μ-loop Inv-search μ-search)
     → let f = c .before in NoneIn (windowOf (window-at f)) (test-at f) (start f .args .share) (frame-at f) (f .search .left)
-nothing-here c = ⊎-elim (λ b. none-failed (b .5 .inv .failed) (b .7 .left)) (λ b. none-spent (b .left)) (c .if1 .came)
+nothing-here c = ⊎-elim (λ b. none-failed (b .6 .inv .failed) (b .7 .left)) (λ b. none-spent (b .left)) (c .if1 .came)
 
 -- ---- the needs
 
@@ -124,58 +111,53 @@ search-holds c = record { there = search needs; walked = record { same = rw (c .
 mul-start : tie.Need-mul-start Inv-loop μ-loop Inv-search μ-search
 mul-start c = omega (arith, frame-there (c .before .before))
 
+add-end : tie.Need-add-end Inv-loop μ-loop Inv-search μ-search
+add-end c = let f = c .before .before .before in omega (arith, frame-there f, proper-at f .measures .positions-most)
+
 rank-requires : tie.Need-rank-requires Inv-loop μ-loop Inv-search μ-search
-rank-requires c κs = let f = c .before .before in record { proper = proper-at f; below = omega (arith, frame-there f) }
+rank-requires c κs =
+    let f = c .before .before .before in
+    record { proper = proper-at f; below = omega (arith, frame-there f, proper-at f .measures .some-slot) }
 
 over-requires : tie.Need-over-requires Inv-loop μ-loop Inv-search μ-search
 over-requires c κs = search needs
 
-narrow-requires : tie.Need-narrow-requires Inv-loop μ-loop Inv-search μ-search
-narrow-requires c κs = search needs
-
-loop-holds : tie.Need-loop-holds Inv-loop μ-loop Inv-search μ-search
-loop-holds c = record { most = search needs; failed = failed-none }
-
-add-smaller : tie.Need-add-smaller Inv-loop μ-loop Inv-search μ-search
-add-smaller c = search needs
-
 smaller-requires : tie.Need-smaller-requires Inv-loop μ-loop Inv-search μ-search
 smaller-requires c κs = search needs
 
-earliest-requires : tie.Need-earliest-requires Inv-loop μ-loop Inv-search μ-search
-earliest-requires c κs =
-    let f = at-frame (c .before .before .before .before) in
-    let m = proper-at f .measures in
-    let upto = c .smaller .ensures in
-    (omega arith, omega (arith, m .slots-most), omega (arith, frame-there f, m .positions-most))
+add-p : tie.Need-add-p Inv-loop μ-loop Inv-search μ-search
+add-p c = omega (arith, begins c, end-fits c)
 
-sub-t22 : tie.Need-sub-t22 Inv-loop μ-loop Inv-search μ-search
-sub-t22 c = search needs
+loop-holds : tie.Need-loop-holds Inv-loop μ-loop Inv-search μ-search
+loop-holds c =
+    let f = at-frame c in
+    let early = fails-early (window-at f) (proper-at f) (owners-at f) (low-at f) (frame-at f) (f .search .inv .there) in
+    record {
+      late = omega (arith, begins c);
+      failed = failed-first (c .smaller .result) (omega (arith, begins c)) (λ k h. early k (omega (arith, begins c)) (omega (arith, begins c)));
+    }
 
-cast-t23 : tie.Need-cast-t23 Inv-loop μ-loop Inv-search μ-search
-cast-t23 c = search needs
+element-copy-out-if2 : tie.Need-element-copy-out-if2 Inv-loop μ-loop Inv-search μ-search
+element-copy-out-if2 c = omega (arith, end-fits (c .before .before))
 
-add-t24 : tie.Need-add-t24 Inv-loop μ-loop Inv-search μ-search
-add-t24 c =
-    let e = c .before in
-    let f = in-frame e in
-    let slot = e .earliest .ensures .passes (c .if3 .taken) .1 in
-    omega (arith, upto-fits e, frame-there f, proper-at f .measures .positions-most)
+sub-t23 : tie.Need-sub-t23 Inv-loop μ-loop Inv-search μ-search
+sub-t23 c = search needs
+
+add-p-2 : tie.Need-add-p-2 Inv-loop μ-loop Inv-search μ-search
+add-p-2 c = let i = c .before .before in omega (arith, end-fits (i .before .before))
 
 loop-less : tie.Need-loop-less Inv-loop μ-loop Inv-search μ-search
 loop-less c = search needs
 
 loop-again : tie.Need-loop-again Inv-loop μ-loop Inv-search μ-search
 loop-again c =
-    let e = c .before in
-    let k = looked-at e in
-    let upto = e .before .smaller .ensures in
-    let few = proper-at (in-frame e) .measures .slots-most in
-    let none = e .earliest .ensures .most in
-    record {
-      most = upto-fits e;
-      failed = earliest-fails (tested (k .before)) (upto-fits e) (e .earliest .ensures) (k .loop .inv .failed) (omega arith) (omega arith);
-    }
+    let i = c .before .before in
+    let l = i .before in
+    let f = at-frame (l .before) in
+    let v = l .loop .inv in
+    let below = i .loop-test .taken in
+    let booked = fails-booked (window-at f) (proper-at f) (owners-at f) (low-at f) (frame-at f) (f .search .inv .there) _ (v .failed .from) below in
+    record { late = omega (arith, v .late); failed = failed-one (v .failed) below (booked (c .if2 .left)) }
 
 sub-more : tie.Need-sub-more Inv-loop μ-loop Inv-search μ-search
 sub-more c = search needs
@@ -190,23 +172,22 @@ search-again : tie.Need-search-again Inv-loop μ-loop Inv-search μ-search
 search-again c =
     let j = c .before .before in
     rw (c .next .ensures)
-    (record { there = mod-lt _ (omega arith); walked = walked-on (j .before .search .inv .walked) (nothing-here j) (c .before .if4 .left) })
+    (record { there = mod-lt _ (omega arith); walked = walked-on (j .before .search .inv .walked) (nothing-here j) (c .before .if3 .left) })
 
 returns : tie.Need-returns Inv-loop μ-loop Inv-search μ-search
 returns c =
-    let e = c .before in
-    let k = looked-at e in
-    let f = in-frame e in
-    let same = tested (k .before) in
-    let v = e .earliest .ensures in
-    let u = k .loop .inv .failed in
-    let hit = c .if3 .taken in
-    let some-left = k .before .before .before .before .before .if1 .taken in
-    walked-hit (f .search .inv .walked) some-left (earliest-before same (upto-fits e) v u hit) (earliest-below same (upto-fits e) v u hit)
-    (earliest-passes same (upto-fits e) v u hit)
+    let i = c .before .before in
+    let l = i .before in
+    let f = at-frame (l .before) in
+    let v = l .loop .inv in
+    let below = i .loop-test .taken in
+    let some-left = with-share (l .before) .if1 .taken in
+    let late : frame-at f * window-at f .slots + earlySlots (window-at f) (low-at f) (frame-at f) ≤ l .loop .p = omega (arith, v .late) in
+    let free = passes-late (window-at f) (proper-at f) (owners-at f) (low-at f) (frame-at f) (f .search .inv .there) _ (v .failed .from) below in
+    walked-hit (f .search .inv .walked) some-left (v .failed) below (free late (c .if2 .taken))
 
 returns-2 : tie.Need-returns-2 Inv-loop μ-loop Inv-search μ-search
-returns-2 c = let j = c .before in walked-out (j .before .search .inv .walked) (nothing-here j) (c .if4 .taken)
+returns-2 c = let j = c .before in walked-out (j .before .search .inv .walked) (nothing-here j) (c .if3 .taken)
 
 pub search-spec : {M : Type 1} → statement M
 search-spec =
@@ -220,16 +201,15 @@ search-spec =
     ahead-requires
     search-holds
     mul-start
+    add-end
     rank-requires
     over-requires
-    narrow-requires
-    loop-holds
-    add-smaller
     smaller-requires
-    earliest-requires
-    sub-t22
-    cast-t23
-    add-t24
+    add-p
+    loop-holds
+    element-copy-out-if2
+    sub-t23
+    add-p-2
     loop-less
     loop-again
     sub-more
