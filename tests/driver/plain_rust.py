@@ -4,6 +4,7 @@ its own tests."""
 import subprocess
 from pathlib import Path
 
+from driver.formats import ALLCALLS
 from driver.suite import Suite
 
 SOURCES = Path(__file__).resolve().parents[2] / "docs/src"
@@ -36,14 +37,20 @@ def own_tests(suite, folder):
                build("scheduler.rs", tests, "--test") or trouble(tests))
 
 
-def plain_rust(folder, only):
-    """Its suite; the program is built in the folder if that works."""
-    suite = Suite("plain Rust")
+def suites(folder, only):
+    """Its suites, one for each way to read records; the program is built in
+    the folder.  None where there is no rustc."""
+    if not has_rustc():
+        print("rustc is not on this machine: plain Rust is not played")
+        return []
+    plain = Suite("plain Rust")
     if not only:
-        own_tests(suite, folder)
-    wrong = build("play.rs", folder + "/play")
+        own_tests(plain, folder)
+    program = folder + "/play"
+    wrong = build("play.rs", program)
     if wrong:
-        suite.test("play.rs is compiled", wrong)
-    else:
-        suite.program = folder + "/play"
-    return suite
+        plain.test("play.rs is compiled", wrong)
+        return [plain]
+    plain.command = [program]
+    return [plain, Suite("plain Rust, allcalls", [program, "--allcalls"],
+                         ALLCALLS)]
