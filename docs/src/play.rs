@@ -1,6 +1,6 @@
 //! Plays a call file: reads a plan and 5-byte call records from standard input
-//! and writes one line for each to standard output. With `--allcalls` a record
-//! of kind 4 is a lend; without it there are three kinds.
+//! and writes one line for each to standard output. Records have three kinds;
+//! `allcalls.rs` has lends too.
 
 #[allow(dead_code)]
 mod scheduler;
@@ -59,10 +59,10 @@ impl Lines {
         }
     }
 
-    /// Makes the call of one record and picks the line that answers it. `ALL`
-    /// says whether there are lends.
+    /// Makes the call of one record and picks the line that answers it. Where
+    /// `LENDS` is true, kind 4 is a lend.
     #[inline]
-    fn answer<const ALL: bool>(&self, link: &mut Link, record: &[u8; RECORD]) -> Line {
+    fn answer<const LENDS: bool>(&self, link: &mut Link, record: &[u8; RECORD]) -> Line {
         let answer = match *record {
             [1, a, b, c, d] => link
                 .request(u32::from_le_bytes([a, b, c, d]))
@@ -73,7 +73,7 @@ impl Lines {
             [3, 0, 0, 0, 0] => Ok(link
                 .tick()
                 .map_or(self.idle, |flow| self.flow[usize::from(flow)])),
-            [4, low, high, 0, 0] if ALL => link
+            [4, low, high, 0, 0] if LENDS => link
                 .lend(u16::from_le_bytes([low, high]))
                 .map(|flow| self.lent[usize::from(flow)]),
             _ => Err(refusal::RECORD),
@@ -98,7 +98,7 @@ fn read_plan(input: &mut impl Read) -> io::Result<Result<Plan, u8>> {
 }
 
 /// Plays the records after the plan, chunk by chunk.
-fn play_calls<const ALL: bool>(
+fn play_calls<const LENDS: bool>(
     link: &mut Link,
     input: &mut impl Read,
     output: &mut impl Write,
@@ -120,7 +120,7 @@ fn play_calls<const ALL: bool>(
         begun = records.remainder().len();
         for record in records {
             let record = record.try_into().expect("a record has five bytes");
-            let line = lines.answer::<ALL>(link, record);
+            let line = lines.answer::<LENDS>(link, record);
             listing[end..end + LINE].copy_from_slice(&line.bytes);
             end += line.length;
         }
@@ -133,25 +133,20 @@ fn play_calls<const ALL: bool>(
     Ok(())
 }
 
-fn main() -> io::Result<()> {
-    let words: Vec<String> = std::env::args().skip(1).collect();
-    if words.iter().any(|word| word != "--allcalls") {
-        eprintln!("play [--allcalls]");
-        std::process::exit(2);
-    }
+/// Plays standard input.
+pub fn play<const LENDS: bool>() -> io::Result<()> {
     let mut input = io::stdin().lock();
     let mut output = io::stdout().lock();
     match read_plan(&mut input)? {
         Err(number) => writeln!(output, "P {number}")?,
         Ok(plan) => {
             writeln!(output, "P 0")?;
-            let mut link = Link::fresh(&plan);
-            if words.is_empty() {
-                play_calls::<false>(&mut link, &mut input, &mut output)?;
-            } else {
-                play_calls::<true>(&mut link, &mut input, &mut output)?;
-            }
+            play_calls::<LENDS>(&mut Link::fresh(&plan), &mut input, &mut output)?;
         }
     }
     output.flush()
+}
+
+fn main() -> io::Result<()> {
+    play::<false>()
 }

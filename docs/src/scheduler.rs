@@ -304,8 +304,8 @@ struct Table {
     free: [u64; MOST_FRAMES],
     /// The flow that booked each position, or `NOBODY`.
     owner: [u8; MOST_POSITIONS],
-    /// Whether the current slot was booked, or is lent.
-    taken: bool,
+    /// The flow that has the current slot, booked or lent, or `NOBODY`.
+    holder: u8,
 }
 
 /// One output link.
@@ -327,7 +327,7 @@ impl Table {
             slot: 0,
             free,
             owner: [NOBODY; MOST_POSITIONS],
-            taken: false,
+            holder: NOBODY,
         }
     }
 
@@ -459,7 +459,7 @@ impl Link {
         table.free[0] &= !(1 << table.slot);
         // Nobody asks for a past position, so it can be emptied ahead of its frame.
         let owner = std::mem::replace(&mut table.owner[table.start + table.slot], NOBODY);
-        table.taken = owner != NOBODY;
+        table.holder = owner;
         (owner != NOBODY).then_some(owner)
     }
 
@@ -470,7 +470,7 @@ impl Link {
         if u32::from(mask) >> self.flows.len() != 0 {
             return Err(refusal::FLOW);
         }
-        if self.table.taken {
+        if self.table.holder != NOBODY {
             return Err(refusal::SLOT_TAKEN);
         }
         let now = self.table.slot;
@@ -481,7 +481,7 @@ impl Link {
             return Err(refusal::NO_FLOW);
         };
         flow.held.raise(now);
-        self.table.taken = true;
+        self.table.holder = number as u8;
         Ok(number as u8)
     }
 

@@ -1,5 +1,5 @@
-"""The grants, credits, lends and ticks that a listing tells of, and the bullets
-of demand 3 counted over them."""
+"""The grants, credits, lends and ticks that a listing tells of, and the
+bullets of demand 3 counted over them."""
 
 import struct
 from collections import Counter

@@ -35,14 +35,16 @@ class LendTally(Tally):
         super().add(case)
         self.lends += case.own.verdict.lends
 
-    def part(self, ways):
-        return "%d (%s)" % (
-            sum(self.lends[way] for way in ways),
-            ", ".join("%d %s" % (self.lends[way], way.split(": ")[1])
+    def part(self, title, ways):
+        return "%s %d: %s" % (
+            title, sum(self.lends[way] for way in ways),
+            ", ".join("%s %d" % (way.split(": ")[1], self.lends[way])
                       for way in ways))
 
     def text(self):
-        return ("%s\n%d lends in them: lent %s; refused with 8 %s, with 17 "
-                "%s, with 18 %s"
-                % (super().text(), sum(self.lends.values()),
-                   *map(self.part, (LENT, BITS, TAKEN, NO_FLOW))))
+        return "\n".join([
+            super().text(),
+            "%d lends in them" % sum(self.lends.values()),
+            self.part("  lent", LENT), self.part("  refused with 8", BITS),
+            self.part("  refused with 17", TAKEN),
+            self.part("  refused with 18", NO_FLOW)])

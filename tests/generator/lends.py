@@ -16,7 +16,8 @@ def mask_above(dice, file):
     """A bit at n or above, alone or with others.  Sixteen flows leave none."""
     if file.flows == WIDTH:
         return (1 << WIDTH) - 1
-    bit = dice.pick([file.flows, WIDTH - 1, dice.between(file.flows, WIDTH - 1)])
+    bit = dice.pick([file.flows, WIDTH - 1,
+                     dice.between(file.flows, WIDTH - 1)])
     return 1 << bit | dice.pick([0, some_mask(dice, file),
                                  dice.below(1 << WIDTH)])
 

@@ -2,8 +2,8 @@
 
 Slots and frames are numbered without end.  There is no table of the window:
 the granted and lent slots and the slots of the taken credits are written
-down, and what a flow holds is counted from them.  Positions appear only where a call
-comes in or an answer goes out.
+down, and what a flow holds is counted from them.  Positions appear only where
+a call comes in or an answer goes out.
 """
 
 from itertools import accumulate
