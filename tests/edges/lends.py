@@ -1,8 +1,9 @@
 """Edges of lend, for allcalls: its refusals 8, 17 and 18, which flows can
 take the slot, and what is held after it.
 
-Where a mask has several flows, only one of them can take the slot, so that
-the listing doesn't depend on the choice; open_choice.py has the others.
+Where a mask has several flows, only one of them can take the slot, but for
+one edge: its listing has the lowest, and a program that chooses otherwise is
+compared with the simulator alone.  open_choice.py has more of these.
 """
 
 from edges.edge_maker import BASE, TICK, ask, credit, edge, lend, plan
@@ -117,6 +118,19 @@ WHO_CAN_TAKE = [
          (lend(7), "L 1"),
          (TICK, "T -"),
          (lend(7), "R 18")),        # flow 1 has both cells lent
+
+    # At slot 2 flow 1 holds its cell, which is back from slot 3 on; flow 0
+    # holds its own from slot 3 on.  Neither can take it.
+    edge("lend: one flow full now and one later", plan(4, 2, (1, 1), (1, 1)),
+         (ask(1), "G 1"), (TICK, "T 1"), (TICK, "T -"),
+         (credit(1, 3), "C"), (ask(0), "G 3"),
+         (lend(1), "R 18"), (lend(2), "R 18"), (lend(3), "R 18"),
+         (TICK, "T 0"), (TICK, "T -"),
+         (lend(3), "L 1")),
+
+    # Both flows can take it: which of them gets it is left open.
+    edge("lend: both flows can take it", BASE,
+         (lend(3), "L 0"), (lend(3), "R 17"), (TICK, "T -")),
 
     # The highest of sixteen is the only one with a cell left.
     edge("lend: the highest flow alone can take it",
