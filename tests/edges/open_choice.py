@@ -1,6 +1,6 @@
-"""Which flow of the mask that can take a slot gets it is left open: listings
-that differ in that choice and are all right, and others that the simulator
-has to differ from.
+"""A program may choose among the flows of the mask that can take a slot:
+listings that differ in that choice and are all right, and others that the
+simulator has to differ from.
 """
 
 from edges.edge_maker import BASE, TICK, ask, credit, edge, lend, plan
