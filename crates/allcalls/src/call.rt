@@ -1,5 +1,5 @@
-// A record's call by value, the plan's bytes, and a line put out.
-ghost use Prim.Native.Nat.{_≤_, _<_};
+// A record's call, by value.
+ghost use Prim.Native.Nat.{_<_};
 ghost use Rattle.link.specs.Sound.{Sound};
 use calls::Answer;
 use calls::Call;
@@ -51,34 +51,4 @@ pub(crate) fn made(link: Link, record: [u8; 5]) -> Step
         Call::Credit(flow, position) => link.credit(flow, position),
         Call::Tick => link.tick(),
     }
-}
-
-// Reads a plan: first its length, then no more than that. How many bytes it has, or 0 where they are not all there.
-pub(crate) fn plan_length(bytes: &mut [u8; 76]) -> usize
-    ensures { λ r. ⌜ r ≤ 76 ⌝ }
-{
-    let got = io::read_full(libc::STDIN_FILENO, &mut bytes[..2]);
-    if got != 2 {
-        return 0;
-    }
-    let total = two_bytes(bytes[0], bytes[1]) as usize;
-    if total < 12 {
-        return 0;
-    }
-    if 76 < total {
-        return 0;
-    }
-    let rest = io::read_full(libc::STDIN_FILENO, &mut bytes[2..total]);
-    if rest != total - 2 {
-        return 0;
-    }
-    total
-}
-
-// Writes the first bytes of a line; false where the output takes no more.
-pub(crate) fn put(line: [u8; 7], end: usize) -> bool {
-    if 7 < end {
-        return false;
-    }
-    io::write_all(libc::STDOUT_FILENO, &line[..end])
 }

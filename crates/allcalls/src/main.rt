@@ -1,69 +1,77 @@
 // Plays a file of calls as domelink does, each call by value, and lends too: for tests. A record 4, mask (two bytes, low byte first), 0, 0 is a lend.
 mod call;
+mod input;
+mod output;
 
+ghost use Prim.Native.Nat.{_≤_};
+ghost use lib.ListN.{length};
 ghost use Rattle.link.specs.Sound.{Sound};
 use calls::Answer;
 use link::Link;
-use link::Step;
 use plan::Verdict;
 
-// Writes an answer's line; false where the output takes no more.
-fn say(answer: Answer) -> bool {
-    let mut line = [0u8; 7];
-    let end = calls::write(answer, &mut line, 0);
-    call::put(line, end)
+// A link after some records, and whether more are to be read.
+struct Round {
+    link: Link,
+    more: bool,
 }
 
-// Writes the plan's line.
-fn say_plan(number: u8) -> bool {
-    let mut line = [0u8; 7];
-    let end = calls::write_plan(number, &mut line, 0);
-    call::put(line, end)
+// Reads one record, makes its call and writes its line; one that is cut off at the end of the input is refused.
+fn round_once(link: Link) -> Round
+    requires { ⌜ Sound link ⌝ }
+    ensures { λ r. ⌜ Sound (r .link) ⌝ }
+{
+    let mut record = [0u8; 5];
+    let got = io::read_full(libc::STDIN_FILENO, &mut record);
+    if got == 5 {
+        let step = call::made(link, record);
+        let answer = step.answer;
+        let more = output::say(answer);
+        let link = step.link;
+        return Round { link, more };
+    }
+    if 0 < got {
+        output::say(Answer::Refused(16));
+    }
+    Round { link, more: false }
 }
 
-// Plays records to the end of the input; one that is cut off there is refused.
+// Plays records to the end of the input. A proved loop has to end: it counts its rounds down from a number that is never used up.
 fn play(link: Link)
     requires { ⌜ Sound link ⌝ }
 {
-    let mut step = Step {
-        link,
-        answer: Answer::Idle,
-    };
+    let mut now = Round { link, more: true };
     let mut left = u64::MAX;
-    let mut more = true;
-    while more && 0 < left {
-        let mut record = [0u8; 5];
-        let got = io::read_full(libc::STDIN_FILENO, &mut record);
-        more = false;
-        if got == 5 {
-            let link = step.link;
-            step = call::made(link, record);
-            let answer = step.answer;
-            more = say(answer);
-        } else if 0 < got {
-            say(Answer::Refused(16));
-        }
+    while now.more && 0 < left {
+        now = round_once(now.link);
         left -= 1;
     }
 }
 
-fn main() {
-    let mut bytes = [0u8; 76];
-    let total = call::plan_length(&mut bytes);
+// Writes the plan's line, and plays what comes after an accepted plan.
+fn begin(space: &mut [u8])
+    requires { ⌜ 76 ≤ length (now space) ⌝ }
+{
+    let total = input::read_plan(space);
     if total == 0 {
-        say_plan(1);
+        output::say_plan(1);
         return;
     }
-    let outcome = plan::read(&bytes[..total]);
+    let outcome = plan::read(&space[..total]);
     let verdict = outcome.verdict;
     match verdict {
         Verdict::Refused(number) => {
-            say_plan(number);
+            output::say_plan(number);
         }
         Verdict::Accepted => {
-            say_plan(0);
+            output::say_plan(0);
             let plan = outcome.plan;
             play(Link::fresh(plan));
         }
     }
+}
+
+fn main() {
+    let mut space = [0u8; 76];
+    begin(&mut space);
 }
