@@ -3,6 +3,7 @@
 import hashlib
 import os
 import re
+import shutil
 import subprocess
 import sys
 import time
@@ -17,6 +18,19 @@ RUSTC = ["rustc", "--edition", "2021", "-C", "opt-level=3",
 LAST = 20               # lines shown of a check that failed
 
 
+def stop(text):
+    """Ends with a sentence: nothing is measured."""
+    print("bench/run: " + text, file=sys.stderr)
+    raise SystemExit(2)
+
+
+def need(*commands):
+    for command in commands:
+        if not shutil.which(command):
+            stop("%s is not on this machine's path, and compiles programs "
+                 "that are measured" % command)
+
+
 def proved(name):
     return ROOT / "target/bin" / name
 
@@ -29,16 +43,19 @@ def prove():
     if done.returncode != 0:
         for line in done.stdout.splitlines()[-LAST:]:
             print(line, file=sys.stderr)
-        raise SystemExit("rt check %s failed with status %d: nothing is "
-                         "measured" % (" ".join(PROVED), done.returncode))
+        stop("rt check %s failed with status %d: nothing is measured"
+             % (" ".join(PROVED), done.returncode))
 
 
 def build(folder):
     """The plain Rust programs, and the proved ones where they are missing or
     their sources have changed: rt leaves a program that is up to date."""
     for name in PLAIN:
-        subprocess.run(RUSTC + [str(ROOT / "docs/src" / (name + ".rs")),
-                                "-o", str(folder / name)], check=True)
+        source = "docs/src/%s.rs" % name
+        done = subprocess.run(RUSTC + [str(ROOT / source),
+                                       "-o", str(folder / name)])
+        if done.returncode != 0:
+            stop("rustc doesn't compile %s: nothing is measured" % source)
     prove()
 
 
@@ -105,12 +122,12 @@ def seconds(program, path):
 
 def same_listings(pair, path):
     if played(pair[0], path) != played(pair[1], path):
-        raise SystemExit("%s: the listings differ" % path.name)
+        stop("%s: the listings differ" % path.name)
 
 
 def fastest(folder, paths, rounds):
     """For each call file the best time of domelink and of plain Rust.  Files
-    and programs take turns: the machine's slow times meet them all."""
+    and programs alternate: the machine's slow times meet them all."""
     pair = (proved("domelink"), folder / "play")
     for path in paths:
         same_listings(pair, path)

@@ -1,5 +1,6 @@
 """One request, one credit and one tick: by value from proved code, and on
-`&mut self` in plain Rust.  Each program times runs of calls of one kind."""
+`&mut self` in plain Rust.  Each program times stretches of calls of one
+kind."""
 
 import re
 
@@ -20,13 +21,14 @@ def lowest(found):
 
 
 def measure(folder, rounds):
-    """The lowest figures of the two programs, run in turn."""
+    """The lowest figures of the two programs, started one after the other."""
     path = programs.make(folder, "dense", CALLS)
     pair = (programs.proved("single"), folder / "single")
     texts = [[programs.played(program, path).decode() for program in pair]
              for _ in range(rounds)]
-    if len({ANSWERS.search(text).group(1) for row in texts for text in row}) != 1:
-        raise SystemExit("the answers to single calls differ")
+    sums = {ANSWERS.search(text).group(1) for row in texts for text in row}
+    if len(sums) != 1:
+        programs.stop("the answers to single calls differ")
     return [lowest([figures(text) for text in column])
             for column in zip(*texts)]
 

@@ -4,8 +4,8 @@
 //! kept in the window's order, with the head frame first, so that no search
 //! has to go round. The free slots of a frame are the bits of one word, and
 //! the earliest is found by counting trailing zeros. What a flow holds is one
-//! byte for each place, so that a booking or a credit changes one straight run
-//! of bytes, which the compiler turns into vector instructions.
+//! byte for each place, so that a booking or a credit changes one straight row
+//! of bytes, which the compiler makes vector instructions of.
 
 /// Most slots in a frame.
 pub const MOST_SLOTS: usize = 64;
@@ -129,8 +129,8 @@ impl Plan {
         if self.entries.iter().enumerate().any(twice) {
             return Err(refusal::PLAN_PAIRS);
         }
-        let sum = |part: fn(&Entry) -> u8| -> usize {
-            self.entries.iter().map(|e| usize::from(part(e))).sum()
+        let sum = |field: fn(&Entry) -> u8| -> usize {
+            self.entries.iter().map(|e| usize::from(field(e))).sum()
         };
         if sum(|entry| entry.share) > self.slots {
             return Err(refusal::PLAN_SHARES);
@@ -263,7 +263,7 @@ impl Holdings {
     /// Drops the head frame of a window with this many places. The new frame
     /// at the end holds what the last place did.
     #[inline]
-    fn turn(&mut self, slots: usize, places: usize) {
+    fn drop_head(&mut self, slots: usize, places: usize) {
         let row = &mut self.blocks.as_flattened_mut()[..places];
         let last = row[places - 1];
         row.copy_within(slots.., 0);
@@ -381,7 +381,7 @@ impl Table {
     }
 
     /// Makes the next frame the head; the old head becomes the newest.
-    fn turn(&mut self) {
+    fn next_head(&mut self) {
         self.slot = 0;
         self.start = self.position(self.slots);
         self.free.copy_within(1..self.frames, 0);
@@ -448,7 +448,7 @@ impl Link {
     pub fn tick(&mut self) -> Option<u8> {
         self.table.slot += 1;
         if self.table.slot == self.table.slots {
-            self.turn();
+            self.change_frame();
         }
         let table = &mut self.table;
         table.free[0] &= !(1 << table.slot);
@@ -458,10 +458,10 @@ impl Link {
     }
 
     /// A frame change.
-    fn turn(&mut self) {
-        self.table.turn();
+    fn change_frame(&mut self) {
+        self.table.next_head();
         for flow in &mut self.flows {
-            flow.held.turn(self.table.slots, self.table.positions);
+            flow.held.drop_head(self.table.slots, self.table.positions);
             if flow.frame == 0 {
                 flow.left = flow.share;
             } else {

@@ -1,6 +1,6 @@
 //! Measures single calls. It reads a call file from standard input, plays it
-//! from memory many times over and times each run of calls of one kind. The
-//! lowest time of each run counts, less the clock's own.
+//! from memory many times over and times each stretch of calls of one kind.
+//! The lowest time of each stretch counts, less the clock's own.
 
 #[allow(dead_code)]
 mod scheduler;
@@ -12,7 +12,7 @@ use std::time::{Duration, Instant};
 
 /// Times that the file is played, unless the command line says otherwise.
 const REPEATS: usize = 200;
-/// Shorter runs are played but not counted: the clock would be too large a part of the time.
+/// Shorter stretches are played but not counted: the clock would take too much of the time.
 const SHORTEST: usize = 8;
 
 #[derive(Clone, Copy, PartialEq, Eq)]
@@ -24,7 +24,7 @@ enum Kind {
 
 /// Calls of one kind that follow each other. A call is its four bytes after
 /// the kind, as a number.
-struct Run {
+struct Stretch {
     kind: Kind,
     calls: Vec<u32>,
     lowest: Duration,
@@ -50,7 +50,7 @@ fn tick(link: &mut Link) -> u64 {
     link.tick().map_or(16, u64::from)
 }
 
-impl Run {
+impl Stretch {
     /// Makes the calls and adds up their answers. Every answer is used within
     /// the time, or the compiler could leave out what makes it.
     #[inline]
@@ -64,9 +64,9 @@ impl Run {
     }
 }
 
-/// Splits the records into runs of one kind.
-fn split_runs(records: &[u8]) -> Option<Vec<Run>> {
-    let mut runs: Vec<Run> = Vec::new();
+/// Splits the records into stretches of one kind.
+fn split_stretches(records: &[u8]) -> Option<Vec<Stretch>> {
+    let mut stretches: Vec<Stretch> = Vec::new();
     for record in records.chunks_exact(5) {
         let kind = match record[0] {
             1 => Kind::Request,
@@ -74,37 +74,37 @@ fn split_runs(records: &[u8]) -> Option<Vec<Run>> {
             3 => Kind::Tick,
             _ => return None,
         };
-        if runs.last().is_none_or(|run| run.kind != kind) {
-            runs.push(Run {
+        if stretches.last().is_none_or(|stretch| stretch.kind != kind) {
+            stretches.push(Stretch {
                 kind,
                 calls: Vec::new(),
                 lowest: Duration::MAX,
             });
         }
         let call = u32::from_le_bytes(record[1..].try_into().ok()?);
-        runs.last_mut()?.calls.push(call);
+        stretches.last_mut()?.calls.push(call);
     }
-    Some(runs)
+    Some(stretches)
 }
 
-/// Plays every run on a fresh link and keeps its lowest time; the sum of all
+/// Plays every stretch on a fresh link and keeps its lowest time; the sum of all
 /// answers.
-fn time_runs(plan: &Plan, runs: &mut [Run]) -> u64 {
+fn time_stretches(plan: &Plan, stretches: &mut [Stretch]) -> u64 {
     let mut link = Link::fresh(plan);
     let mut sum = 0;
-    for run in runs {
+    for stretch in stretches {
         let begin = Instant::now();
-        sum += run.play(&mut link);
-        run.lowest = run.lowest.min(begin.elapsed());
+        sum += stretch.play(&mut link);
+        stretch.lowest = stretch.lowest.min(begin.elapsed());
     }
     sum
 }
 
 /// Plays the whole file with the clock read only at its ends.
-fn time_file(plan: &Plan, runs: &[Run]) -> Duration {
+fn time_file(plan: &Plan, stretches: &[Stretch]) -> Duration {
     let mut link = Link::fresh(plan);
     let begin = Instant::now();
-    let answers = runs.iter().map(|run| run.play(&mut link));
+    let answers = stretches.iter().map(|stretch| stretch.play(&mut link));
     black_box(answers.sum::<u64>());
     begin.elapsed()
 }
@@ -118,17 +118,17 @@ fn time_clock() -> Duration {
 }
 
 /// Prints the nanoseconds of one call of a kind.
-fn report(name: &str, kind: Kind, runs: &[Run], clock: Duration) {
+fn report(name: &str, kind: Kind, stretches: &[Stretch], clock: Duration) {
     let (mut calls, mut counted, mut spent) = (0, 0, Duration::ZERO);
-    for run in runs.iter().filter(|run| run.kind == kind) {
-        calls += run.calls.len();
-        if run.calls.len() >= SHORTEST {
-            counted += run.calls.len();
-            spent += run.lowest.saturating_sub(clock);
+    for stretch in stretches.iter().filter(|stretch| stretch.kind == kind) {
+        calls += stretch.calls.len();
+        if stretch.calls.len() >= SHORTEST {
+            counted += stretch.calls.len();
+            spent += stretch.lowest.saturating_sub(clock);
         }
     }
     if counted == 0 {
-        println!("{name:8}      - ns  (no run of {SHORTEST} calls)");
+        println!("{name:8}      - ns  (no stretch of {SHORTEST} calls)");
         return;
     }
     let each = spent.as_nanos() as f64 / counted as f64;
@@ -145,24 +145,24 @@ fn main() -> io::Result<()> {
     let read = || {
         let length = usize::from(u16::from_le_bytes([*bytes.first()?, *bytes.get(1)?]));
         let plan = Plan::read(bytes.get(..length)?).ok()?;
-        Some((plan, split_runs(&bytes[length..])?))
+        Some((plan, split_stretches(&bytes[length..])?))
     };
-    let Some((plan, mut runs)) = read() else {
+    let Some((plan, mut stretches)) = read() else {
         eprintln!("standard input is not a call file");
         std::process::exit(2);
     };
     let clock = time_clock();
     let (mut whole, mut sum) = (Duration::MAX, 0);
     for _ in 0..repeats {
-        sum = time_runs(&plan, &mut runs);
-        whole = whole.min(time_file(&plan, &runs));
+        sum = time_stretches(&plan, &mut stretches);
+        whole = whole.min(time_file(&plan, &stretches));
     }
     let (slots, frames, flows) = (plan.slots, plan.frames, plan.entries.len());
     println!("F = {slots}, W = {frames}, n = {flows}, lowest of {repeats}");
-    report("request", Kind::Request, &runs, clock);
-    report("credit", Kind::Credit, &runs, clock);
-    report("tick", Kind::Tick, &runs, clock);
-    let calls: usize = runs.iter().map(|run| run.calls.len()).sum();
+    report("request", Kind::Request, &stretches, clock);
+    report("credit", Kind::Credit, &stretches, clock);
+    report("tick", Kind::Tick, &stretches, clock);
+    let calls: usize = stretches.iter().map(|stretch| stretch.calls.len()).sum();
     let each = whole.as_nanos() as f64 / calls.max(1) as f64;
     println!(
         "{:8} {each:6.1} ns  ({calls} calls without the clock)",

@@ -3,14 +3,15 @@ use mathlib.Core.Path.{_≡_, refl}
 use mathlib.Core.Option.{Option, some, none}
 use Rattle.model.specs.Calls as model
 use Rattle.model.specs.Calls.{accepted, refused}
+use Rattle.model.specs.Record.{RecordCall}
 use Rattle.model.specs.Listing.{requestLine, creditLine, tickLine}
 use Rattle.calls.specs.declared.Record.the-variants.{Call}
 use Rattle.calls.specs.Reading.{recordFor, callIn, answerToRequest, answerToCredit, answerToTick, lineFor}
 
-pub call-in : (c : Option model.Call) → callIn (recordFor c) ≡ c
-call-in (some (model.request word)) = refl
-call-in (some (model.credit flow position)) = refl
-call-in (some model.tick) = refl
+pub call-in : (c : Option RecordCall) → callIn (recordFor c) ≡ c
+call-in (some (RecordCall.request word)) = refl
+call-in (some (RecordCall.credit flow position)) = refl
+call-in (some RecordCall.tick) = refl
 call-in none = refl
 
 pub line-of-request : (a : model.Grant) → lineFor (answerToRequest a) ≡ requestLine a

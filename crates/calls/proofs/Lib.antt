@@ -1,4 +1,4 @@
 pub mod Stores
 pub mod Digits
 pub mod Answers
-pub mod Ran
+pub mod PlayedTo

@@ -10,26 +10,37 @@ use Rattle.calls.specs.declared.Answer.{Answer}
 use Rattle.calls.specs.declared.Answer.the-variants.{Granted, Taken, Turn, Idle, Refused}
 use Rattle.model.specs.Calls as model
 use Rattle.model.specs.Calls.{accepted, refused}
+use Rattle.model.specs.Record.{RecordCall}
 use Rattle.model.specs.Listing.{requestLine, creditLine, tickLine, refusalLine}
 
 -- ---- calls
 
-abbrev pub callFor : model.Call → Call
-callFor (model.request word) = Request word
-callFor (model.credit flow position) = Credit flow position
-callFor model.tick = Tick
+abbrev pub callFor : RecordCall → Call
+callFor (RecordCall.request word) = Request word
+callFor (RecordCall.credit flow position) = Credit flow position
+callFor RecordCall.tick = Tick
 
 -- a record that makes no call is refused by 16
-abbrev pub recordFor : Option model.Call → Record
+abbrev pub recordFor : Option RecordCall → Record
 recordFor (some call) = Record.Call (callFor call)
 recordFor none = NoCall
 
 -- the paper's call of a record
-abbrev pub callIn : Record → Option model.Call
-callIn (Record.Call (Request word)) = some (model.request word)
-callIn (Record.Call (Credit flow position)) = some (model.credit flow position)
-callIn (Record.Call Tick) = some model.tick
+abbrev pub callIn : Record → Option RecordCall
+callIn (Record.Call (Request word)) = some (RecordCall.request word)
+callIn (Record.Call (Credit flow position)) = some (RecordCall.credit flow position)
+callIn (Record.Call Tick) = some RecordCall.tick
 callIn NoCall = none
+
+-- this paper's number for each case of a record: 0 where it makes a call, and the refusal where it makes none
+abbrev pub numberOf : Record → ℕ
+numberOf (Record.Call call) = 0
+numberOf NoCall = 16
+
+-- the number by the paper: "unknown kind, a nonzero filler, or fewer than 5 bytes" give 16
+abbrev pub numberFor : Option RecordCall → ℕ
+numberFor (some call) = 0
+numberFor none = 16
 
 -- ---- answers
 

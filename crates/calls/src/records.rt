@@ -4,7 +4,7 @@ ghost use Prim.Native.Nat.{_+_, _<_};
 ghost use lib.ListN.{length, take, drop};
 ghost use Rattle.model.specs.Plan.{field16};
 ghost use Rattle.model.specs.Record.{field32, callOf};
-ghost use Rattle.calls.specs.Reading.{recordFor};
+ghost use Rattle.calls.specs.Reading.{recordFor, numberOf, numberFor};
 use crate::Call;
 use crate::RECORD;
 use crate::Record;
@@ -33,7 +33,8 @@ fn four_bytes(bytes: &[u8], at: usize) -> u32
 
 // Reads the record that starts at a place. The tests of refusal 16 come before the call.
 pub fn read(records: &[u8], at: usize) -> Record
-    ensures { λ r. ⌜ r ≡ recordFor (callOf (take 5 (drop at (now (records .entry))))) ⌝ }
+    ensures is { λ r. ⌜ r ≡ recordFor (callOf (take 5 (drop at (now (records .entry))))) ⌝ }
+    ensures number { λ r. ⌜ numberOf r ≡ numberFor (callOf (take 5 (drop at (now (records .entry))))) ⌝ }
 {
     if records.len() < RECORD {
         return Record::NoCall;

@@ -1,95 +1,103 @@
-// Plays a file of calls from standard input: a plan, then call records. Writes one line for each to standard output.
-mod input;
+// Plays a file of calls: what standard input brings is fed to the program, and what that hands back is written to standard output.
 mod output;
 
-use link::Link;
-use plan::Plan;
-use plan::Verdict;
-ghost use Prim.Native.Nat.{_≤_};
+ghost use Prim.Native.Nat.{_*_, _/_, _≤_};
+ghost use mathlib.Core.Path.{_≡_};
 ghost use lib.ListN.{length};
-ghost use Rattle.link.specs.Sound.{Sound};
+ghost use Rattle.program.specs.State.{Regular};
+use program::Fed;
+use program::Phase;
+use program::State;
 
-// Where a turn of reading and playing leaves the program.
-struct Turn {
-    link: Link,
-    // bytes of a record that is not whole yet, at the start of the input
-    kept: usize,
+// Where a round of reading, feeding and writing leaves the program. Neither holds where the plan was refused, a read failed, or the output took no more.
+struct Round {
+    state: State,
+    // more is to be read
     more: bool,
+    // the input has ended
+    finish: bool,
 }
 
-// Reads once, plays the whole records and writes their lines.
-fn turn_once(link: Link, kept: usize, space: &mut [u8], out: &mut [u8]) -> Turn
-    requires { ⌜ Sound link × (kept ≤ length (now space)) ⌝ }
-    ensures sound { λ r. ⌜ Sound (r .link) ⌝ }
-    ensures kept { λ r. ⌜ r .kept ≤ length (now (space .entry)) ⌝ }
+// Feeds a piece for which `out` has room, so that all of it is taken.
+fn feed_whole(state: State, piece: &[u8], out: &mut [u8]) -> Fed
+    requires { ⌜ Regular state × (length (now piece) ≤ 5 * (length (now out) / 7)) ⌝ }
+    ensures regular { λ r. ⌜ Regular (r .state) ⌝ }
+    ensures whole { λ r. ⌜ r .used ≡ length (now (piece .entry)) ⌝ }
+    ensures room { λ r. ⌜ r .written ≤ length (now (out .entry)) ⌝ }
 {
-    let have = input::read_on(space, kept);
-    if have == kept {
-        return Turn {
-            link,
-            kept,
+    program::feed(state, piece, out)
+}
+
+fn reads_on(phase: Phase) -> bool {
+    match phase {
+        Phase::Reading => true,
+        Phase::Playing => true,
+        Phase::Ended => false,
+    }
+}
+
+// Reads once, feeds what was read, and writes what is handed back.
+fn round_once(state: State, space: &mut [u8], out: &mut [u8]) -> Round
+    requires { ⌜ Regular state × (length (now space) ≤ 5 * (length (now out) / 7)) ⌝ }
+    ensures { λ r. ⌜ Regular (r .state) ⌝ }
+{
+    let got = libc::read(libc::STDIN_FILENO, space);
+    if got < 0 {
+        output::input_lost();
+        return Round {
+            state,
             more: false,
+            finish: false,
         };
     }
-    let played = link.run(&space[..have], out);
-    let written = output::write(out, played.written);
-    let rest = input::keep(space, played.used, have);
-    let link = played.link;
-    Turn {
-        link,
-        kept: rest,
-        more: written,
+    if got == 0 {
+        return Round {
+            state,
+            more: false,
+            finish: true,
+        };
+    }
+    let have = io::count(got, space);
+    let fed = feed_whole(state, &space[..have], out);
+    let state = fed.state;
+    if !output::write(out, fed.written) {
+        return Round {
+            state,
+            more: false,
+            finish: false,
+        };
+    }
+    let phase = state.phase;
+    Round {
+        state,
+        more: reads_on(phase),
+        finish: false,
     }
 }
 
-// Plays records to the end of the input; one that is not whole at the end is refused. A proved loop has to end, and nothing says that the input does: it counts its turns down from a number that no run uses up.
-fn play(link: Link, space: &mut [u8], out: &mut [u8])
-    requires { ⌜ Sound link ⌝ }
+// Reads to the end of the input, and then writes what is to be written there. A proved loop has to end, and nothing says that the input does:
+// it counts its rounds down from a number that is never used up.
+fn rounds(space: &mut [u8], out: &mut [u8])
+    requires { ⌜ length (now space) ≤ 5 * (length (now out) / 7) ⌝ }
 {
-    let mut turns = u64::MAX;
-    let mut now = Turn {
-        link,
-        kept: 0,
+    let mut left = u64::MAX;
+    let mut now = Round {
+        state: program::start(),
         more: true,
+        finish: false,
     };
-    while now.more && 0 < turns {
-        now = turn_once(now.link, now.kept, space, out);
-        turns -= 1;
+    while now.more && 0 < left {
+        now = round_once(now.state, space, out);
+        left -= 1;
     }
-    if 0 < now.kept {
-        let end = calls::write_refusal(16, out, 0);
+    if now.finish {
+        let end = program::finish(now.state, out);
         output::write(out, end);
-    }
-}
-
-// Writes the plan's line, and plays what comes after an accepted plan.
-fn begin(space: &mut [u8], out: &mut [u8])
-    requires { ⌜ 76 ≤ length (now space) ⌝ }
-{
-    let total = input::read_plan(space);
-    if total == 0 {
-        let end = calls::write_plan(1, out, 0);
-        output::write(out, end);
-        return;
-    }
-    let outcome = plan::read(&space[..total]);
-    let verdict = outcome.verdict;
-    match verdict {
-        Verdict::Refused(number) => {
-            let end = calls::write_plan(number, out, 0);
-            output::write(out, end);
-        }
-        Verdict::Accepted => {
-            let end = calls::write_plan(0, out, 0);
-            output::write(out, end);
-            let plan = outcome.plan;
-            play(Link::fresh(plan), space, out);
-        }
     }
 }
 
 fn main() {
     let mut space = [0u8; 65535];
     let mut out = [0u8; 91749];
-    begin(&mut space, &mut out);
+    rounds(&mut space, &mut out);
 }

@@ -4,8 +4,8 @@ use mathlib.Core.Path.{_≡_, refl, sym, ap, _∙_}
 use mathlib.Core.List.{List}
 use mathlib.Core.Bool.{true, false}
 use lib.Dec.{ltb}
-use lib.ListN.{length}
-use borrow.Author.Tests.{lt-ltb, le-ltb, ltb-true}
+use lib.Seq.{set-getD}
+use borrow.Author.Tests.{lt-ltb, le-ltb}
 use Rattle.model.specs.Refusals.{firstOf}
 use Rattle.model.specs.Calls.{accepted}
 use Rattle.model.specs.Window.{Window, passed, everyFrom}
@@ -13,21 +13,25 @@ use Rattle.model.specs.Link as model
 use Rattle.model.specs.Credit.{creditTests, credit, creditAfter, lowered}
 use Rattle.calls.specs.declared.Answer.the-variants.{Taken, Refused}
 use Rattle.calls.specs.Reading.{answerToCredit}
+use Rattle.plan.specs.declared.Plan.{Plan}
+use Rattle.window.specs.declared.Window as code
+use Rattle.window.specs.Ranges.{replaced}
+use Rattle.window.specs.Window.{windowOf, fromIn}
+use Rattle.window.proofs.FromOn.{everyFrom-same}
+use Rattle.tables.specs.Rows.{row, withRow}
+use Rattle.tables.specs.Holdings.{someHeld, shiftedRow, shifted}
+use Rattle.tables.proofs.HoldingChanges.{one-fewer}
+use Rattle.link.specs.declared.Flow.{Flow}
 use Rattle.link.specs.declared.Link.{Link}
-use Rattle.link.specs.declared.Window as code
-use Rattle.link.specs.Runs.{replaced, wrapped}
-use Rattle.link.specs.Rows.{row}
-use Rattle.link.specs.Window.{windowOf, Proper, fromIn}
-use Rattle.link.specs.Holdings.{someHeld, shifted}
-use Rattle.link.specs.Parts.{sizeOf, partAt, withFlows}
+use Rattle.link.specs.Layout.{sizeOf, flowAt, noFlow}
+use Rattle.link.specs.Updates.{withHeld, withFlows, withHoldings, withFlow}
 use Rattle.link.specs.Reading.{linkOf}
 use Rattle.link.specs.Sound.{Sound}
-use Rattle.link.specs.Change.{Stepped, Creditable}
-use Rattle.link.proofs.Parts.{withFlow, withHeld}
-use Rattle.link.proofs.Runs.{wrapped-down}
-use Rattle.link.proofs.Ranks.{everyFrom-same, replaced-from}
-use Rattle.link.proofs.Links.{same-flow, read-count, read-flow, read-holding, read-with-flow, sound-with-flow, read-from, long-from, sound-from}
-use Rattle.link.proofs.Changes.{same-flows}
+use Rattle.link.specs.Given.{Creditable}
+use Rattle.link.specs.Steps.{Stepped}
+use Rattle.link.proofs.Given.{AtHand}
+use Rattle.link.proofs.Readings.{read-count, read-flow, read-holding}
+use Rattle.link.proofs.Updated.{read-from, sound-from}
 
 -- ---- the tests
 
@@ -52,7 +56,10 @@ module _ (l : Link) (i p : ℕ) where
       -- something is held from p on
       held-same : everyFrom (model.window (linkOf l)) p (λ q. ltb 0 (model.holding (linkOf l) i q)) ≡ everyFrom v p (someHeld (row (l .held) i))
       unfolding linkOf
-      held-same = everyFrom-same (model.window (linkOf l)) p (λ q. ltb 0 (model.holding (linkOf l) i q)) (someHeld (row (l .held) i)) (λ q b. rw (read-holding l i q hi b)) ∙ ap (λ (x : Window). everyFrom x p (someHeld (row (l .held) i))) (sym is)
+      held-same =
+          everyFrom-same (model.window (linkOf l)) p (λ q. ltb 0 (model.holding (linkOf l) i q)) (someHeld (row (l .held) i))
+          (λ q b. rw (read-holding l i q hi b))
+          ∙ ap (λ (x : Window). everyFrom x p (someHeld (row (l .held) i))) (sym is)
 
       module _ (here : passed v p ≡ false) where
         pub tests-15 : everyFrom v p (someHeld (row (l .held) i)) ≡ false → 15 ≡ firstOf (creditTests (linkOf l) i p)
@@ -65,39 +72,45 @@ module _ (l : Link) (i p : ℕ) where
 
 -- ---- what a credit comes to
 
-module _ (l : Link) (s : Sound l) (i p n : ℕ) (tests : n ≡ firstOf (creditTests (linkOf l) i p)) where
-  pub refused-credit : (n ≡ 0 → ⊥) → Stepped answerToCredit (credit (linkOf l) i p) (record { link = l; answer = Refused n })
+-- other holdings of flow i alone: the flow itself is stored again
+same-flow : (l : Link) (i : ℕ) (h : List ℕ) → withHoldings l (withRow (l .held) i h) ≡ withFlow l i (withHeld (flowAt l i) h)
+same-flow l i h = ap (λ (x : List Flow). withHoldings (withFlows l x) (withRow (l .held) i h)) (sym (set-getD (l .flows) i noFlow))
+
+module _ {l : Link} {plan : Plan} {w : code.Window} (a : AtHand l plan w) (i p : ℕ) {n : ℕ} (tests : n ≡ firstOf (creditTests (linkOf l) i p)) where
+  pub credit-refused : (n ≡ 0 → ⊥) → Stepped answerToCredit (credit (linkOf l) i p) (record { link = l; answer = Refused n })
   unfolding credit creditAfter
-  refused-credit nonzero = rw (← tests) (go n nonzero)
+  credit-refused nonzero = rw (← tests) (go n nonzero)
     where
       go : (k : ℕ) → (k ≡ 0 → ⊥) → Stepped answerToCredit (creditAfter k (linkOf l) i p) (record { link = l; answer = Refused k })
       go zero none = absurd (none refl)
-      go (suc r) none = (refl, (refl, s))
+      go (suc r) none = record { link-is = refl; answer-is = refl; sound = a .sound }
 
   taken : n ≡ 0 → credit (linkOf l) i p ≡ record { link = lowered (linkOf l) i p; answer = accepted tt }
   unfolding credit creditAfter
   taken z = rw (← tests, z)
 
-  module _ (w : code.Window) (proper : Proper w) (is : windowOf w ≡ model.window (linkOf l)) (z : n ≡ 0) (c : Creditable (l .plan .count) w (l .held) i p) where
+  module _ (z : n ≡ 0) (c : Creditable (plan .count) w (l .held) i p) where
+    flow-below : i < l .plan .count
+    flow-below = rw (← ap (λ (x : Plan). x .count) (a .plan-is)) (c .flow)
+
     -- what flow i holds then
     abbrev lower : List ℕ
-    lower = replaced (fromIn (windowOf w) p) (λ q x. wrapped 255 x) (row (l .held) i)
+    lower = shiftedRow (windowOf w) 255 p (row (l .held) i)
 
     lower-is : lower ≡ replaced (fromIn (windowOf w) p) (λ q x. x - 1) (row (l .held) i)
-    lower-is = replaced-from w proper p (c .position) (λ x. ltb 0 x) (wrapped 255) (λ x. x - 1) (row (l .held) i) (λ x e. wrapped-down x (ltb-true 0 x e)) (c .some-held)
+    lower-is = one-fewer w (a .proper) p (c .position) (row (l .held) i) (c .some-held)
 
-    long : length lower ≡ 256
-    long = long-from l s (windowOf w) is i p (c .flow) (λ x. x - 1) lower lower-is
-
-    lower-link : linkOf (withFlow l i (withHeld (partAt l i) lower)) ≡ lowered (linkOf l) i p
+    lower-link : linkOf (withFlow l i (withHeld (flowAt l i) lower)) ≡ lowered (linkOf l) i p
     unfolding lowered
     lower-link =
-        read-with-flow l s i (c .flow) _ long
-        ∙ ap (model.withFlow (linkOf l) i)
-        (same-flow
-        (ap (λ (x : model.Flow). x .injection) (sym (read-flow l i (c .flow))))
-        (ap (λ (x : model.Flow). x .remainder) (sym (read-flow l i (c .flow))))
-        (read-from l s (windowOf w) is i p (c .flow) (λ x. x - 1) lower lower-is))
+        read-from l (a .sound) (windowOf w) (a .window-is) i p flow-below (λ x. x - 1) lower lower-is (flowAt l i .flow)
+        (sym (read-flow l i flow-below))
 
-    pub taken-credit : {h : List ℕ} → h ≡ shifted (windowOf w) 255 i p (l .held) → Stepped answerToCredit (credit (linkOf l) i p) (record { link = withFlows l (l .flows) h; answer = Taken })
-    taken-credit e = rw (taken z, e, same-flows l i lower) (lower-link, (refl, sound-with-flow l s i (c .flow) _ long (sound-from l s (windowOf w) is i p (c .flow) (λ x. x - 1) lower lower-is _ _ (s .flows i (c .flow) .frame))))
+    sound-lower : Sound (withFlow l i (withHeld (flowAt l i) lower))
+    sound-lower =
+        sound-from l (a .sound) (windowOf w) (a .window-is) i p flow-below (λ x. x - 1) lower lower-is (flowAt l i .flow)
+        (a .sound .flows i flow-below .frame)
+
+    pub credit-taken : {h : List ℕ} → h ≡ shifted (windowOf w) 255 i p (l .held)
+        → Stepped answerToCredit (credit (linkOf l) i p) (record { link = withHoldings l h; answer = Taken })
+    credit-taken e = rw (taken z, e, same-flow l i lower) (record { link-is = lower-link; answer-is = refl; sound = sound-lower })

@@ -1,82 +1,54 @@
 -- The fresh link, as it is read. Assumes nothing.
 use Prim.Native.Nat.{ℕ, _*_, _≤_, _<_}
 use mathlib.Core.Path.{_≡_, sym, ap, _∙_}
-use mathlib.Core.List.{List}
-use mathlib.Core.Option.{Option, none}
+use mathlib.Core.Option.{none}
 use native.Mathlib.Nat.{mul-pos}
-use native.Mathlib.Decide.{decLt}
 use native.Mathlib.Omega.{arith}
-use lib.ListN.{length, getD, replicate, length-replicate, getD-replicate, List·getD-eq-default}
+use lib.ListN.{getD, replicate, length-replicate, getD-replicate}
 use Rattle.model.specs.Tables.{table}
 use Rattle.model.specs.Plan as paper
 use Rattle.model.specs.Link as model
 use Rattle.model.specs.Fresh.{fresh}
 use Rattle.plan.specs.declared.Plan.{Plan}
-use Rattle.plan.specs.declared.Entry.{Entry}
 use Rattle.plan.specs.Reading as plan
 use Rattle.link.specs.declared.Flow.{Flow}
 use Rattle.link.specs.declared.Link.{Link}
-use Rattle.link.specs.Runs.{inRun, replaced}
-use Rattle.link.specs.Rows.{row, sixteenRows}
-use Rattle.link.specs.Parts.{noFlow, partOf, partAt}
-use Rattle.link.specs.Reading.{nobody, ownerOf, flowOf, linkOf, everywhere}
+use Rattle.tables.specs.Holdings.{nothingHeld}
+use Rattle.link.specs.Layout.{noFlow, flowRow, flowAt}
+use Rattle.tables.specs.Owners.{nobody, ownerOf, everywhere}
+use Rattle.link.specs.Reading.{flowOf, linkOf}
+use Rattle.link.specs.Fresh.{freshFlow, freshFlows}
 use Rattle.link.specs.Sound.{Sound}
-use Rattle.link.proofs.Tables.{table-same, replicate-table}
+use Rattle.window.proofs.Tabulated.{table-same, replicate-table}
 use Rattle.link.proofs.Plans.{plan-count, plan-entry, count-most}
-use Rattle.link.proofs.Rows.{length-sixteen, row-of-sixteen}
-use Rattle.link.proofs.Runs.{in-run, past-run, length-replaced, replaced-at, replaced-off}
-
--- ---- one value at every position
-
-module _ (v : ℕ) where
-  length-everywhere : length (everywhere v) ≡ 256
-  unfolding everywhere
-  length-everywhere = length-replicate 256 v
-
-  everywhere-at : (q : ℕ) → q < 256 → getD (everywhere v) q 0 ≡ v
-  unfolding everywhere
-  everywhere-at q h = getD-replicate 256 q v 0 h
-
-nothing-at : (q : ℕ) → getD (everywhere 0) q 0 ≡ 0
-nothing-at q = go (decLt q 256)
-  where
-    go : Dec (q < 256) → getD (everywhere 0) q 0 ≡ 0
-    go (yes h) = everywhere-at 0 q h
-    go (no h) = List·getD-eq-default (everywhere 0) 0 (omega (arith, length-everywhere 0))
-
--- nothing is held in a row
-nothing-in-row : (i : ℕ) → i < 16 → row (sixteenRows (everywhere 0)) i ≡ everywhere 0
-nothing-in-row i h = row-of-sixteen (everywhere 0) i h (length-everywhere 0)
+use Rattle.tables.proofs.FreshTables.{length-everywhere, everywhere-at, nothing-at, length-nothing, row-of-nothing}
+use Rattle.window.proofs.Ranges.{in-range, past-range, length-replaced, replaced-at, replaced-off}
 
 -- ---- the link
-
--- a flow's frame and its share
-abbrev pub startFlow : Entry → Flow
-startFlow e = record { frame = 0; left = e .share }
 
 abbrev pub freshLink : Plan → Link
 freshLink p = record {
   plan = p;
   cp = 0;
   owner = everywhere nobody;
-  flows = replaced (inRun 0 (p .count)) (λ i f. startFlow (getD (p .entries) i plan.noEntry)) (replicate 16 noFlow);
-  held = sixteenRows (everywhere 0);
+  flows = freshFlows (p .entries) (p .count);
+  held = nothingHeld;
 }
 
 module _ (p : Plan) (v : plan.Valid p) where
   size-most : p .slots * p .frames ≤ 256
   size-most = v .accepted .positions-most
 
-  flow-at : (i : ℕ) → i < p .count → partAt (freshLink p) i ≡ partOf (startFlow (getD (p .entries) i plan.noEntry)) (everywhere 0)
+  flow-at : (i : ℕ) → i < p .count → flowAt (freshLink p) i ≡ flowRow (freshFlow (getD (p .entries) i plan.noEntry)) (everywhere 0)
   flow-at i h =
       let b = count-most p v in
-      let e : getD (freshLink p .flows) i noFlow ≡ startFlow (getD (p .entries) i plan.noEntry) =
-      replaced-at _ _ (replicate 16 noFlow) i noFlow (rw length-replicate (omega arith)) ∙ rw (in-run 0 (p .count) i (omega arith) h) in
-      rw (e, nothing-in-row i (omega arith))
+      let e : getD (freshLink p .flows) i noFlow ≡ freshFlow (getD (p .entries) i plan.noEntry) =
+      replaced-at _ _ (replicate 16 noFlow) i noFlow (rw length-replicate (omega arith)) ∙ rw (in-range 0 (p .count) i (omega arith) h) in
+      rw (e, row-of-nothing i (omega arith))
 
   pub read-fresh : linkOf (freshLink p) ≡ fresh (plan.planFor p)
   unfolding linkOf fresh
-  read-fresh = same owners flows
+  read-fresh = cc (owners, flows)
     where
       T : ℕ
       T = p .slots * p .frames
@@ -90,13 +62,10 @@ module _ (p : Plan) (v : plan.Valid p) where
       start : ℕ → model.Flow
       start i = record { injection = 0; remainder = paper.entry (plan.planFor p) i .share; held = replicate T 0 }
 
-      flows : table (p .count) (λ i. flowOf T (partAt (freshLink p) i)) ≡ table (paper.flowCount (plan.planFor p)) start
+      flows : table (p .count) (λ i. flowOf T (flowAt (freshLink p) i)) ≡ table (paper.flowCount (plan.planFor p)) start
       flows =
           table-same (p .count) _ start (λ i h. ap (flowOf T) (flow-at i h) ∙ rw (plan-entry p i h, held))
           ∙ ap (λ (n : ℕ). table n start) (sym (plan-count p))
-
-      same : {o o′ : List (Option ℕ)} {fs fs′ : List model.Flow} → o ≡ o′ → fs ≡ fs′ → _≡_ {A = model.Link} (record { plan = plan.planFor p; current = 0; owners = o; flows = fs }) (record { plan = plan.planFor p; current = 0; owners = o′; flows = fs′ })
-      same d e = cc
 
   pub sound-fresh : Sound (freshLink p)
   sound-fresh = record {
@@ -106,9 +75,10 @@ module _ (p : Plan) (v : plan.Valid p) where
     owners = λ q b n. absurd (n (everywhere-at nobody q b));
     spare-owners = λ q h b. everywhere-at nobody q b;
     flows-long = length-replaced _ _ (replicate 16 noFlow) ∙ length-replicate 16 noFlow;
-    held-long = length-sixteen (everywhere 0);
+    held-long = length-nothing;
     flows = λ i h. rw (flow-at i h) (record { frame = omega (arith, v .accepted .two-frames); spare = λ q _. nothing-at q });
     spare-flows = λ i h b.
-        let e : getD (freshLink p .flows) i noFlow ≡ noFlow = replaced-off _ _ (replicate 16 noFlow) i noFlow (past-run 0 (p .count) i h) ∙ getD-replicate 16 i noFlow noFlow b in
-        rw (e, nothing-in-row i b);
+        let e : getD (freshLink p .flows) i noFlow ≡ noFlow =
+        replaced-off _ _ (replicate 16 noFlow) i noFlow (past-range 0 (p .count) i h) ∙ getD-replicate 16 i noFlow noFlow b in
+        rw (e, row-of-nothing i b);
   }

@@ -1,16 +1,16 @@
-pub mod Tables
-pub mod Parts
-pub mod Runs
-pub mod Rows
-pub mod Ranks
-pub mod Spans
-pub mod Searches
-pub mod Plans
-pub mod Links
+-- a link, read and changed
+mod Plans
+pub mod Readings
+mod Updated
 pub mod Stored
-pub mod FreshLinks
-pub mod Changes
-pub mod Credits
+-- the calls
+mod FreshLinks
+mod Words
+mod Searches
+pub mod Given
+mod Replies
 pub mod Requests
+pub mod Credits
+mod FrameChanges
 pub mod Ticks
-pub mod Records
+pub mod Demand3

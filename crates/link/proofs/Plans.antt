@@ -7,7 +7,7 @@ use lib.ListN.{getD}
 use Rattle.model.specs.Plan as paper
 use Rattle.plan.specs.declared.Plan.{Plan}
 use Rattle.plan.specs.Reading.{entryFor, noEntry, planFor, storedEntry, storedEntries, stored, Valid}
-use Rattle.link.proofs.Tables.{getD-table, length-table, table-past, table-of}
+use Rattle.window.proofs.Tabulated.{getD-table, length-table, table-past, table-of}
 
 module _ (p : Plan) where
   pub plan-count : paper.flowCount (planFor p) ≡ p .count
@@ -17,6 +17,9 @@ module _ (p : Plan) where
   plan-entry i h = getD-table (p .count) _ i _ h
 
   module _ (v : Valid p) where
+    pub count-some : 1 ≤ p .count
+    count-some = rw (← plan-count) (v .accepted .some-flow)
+
     pub count-most : p .count ≤ 16
     count-most = rw (← plan-count) (v .accepted .flows-most)
 

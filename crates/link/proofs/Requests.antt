@@ -1,217 +1,185 @@
--- A request on a link, as it is read. Assumes nothing.
-use Prim.Native.Nat.{ℕ, zero, suc, _*_, _≤_, _<_}
+-- A request on a link, as it is read: the reply is stored. Assumes nothing.
+use Prim.Native.Nat.{ℕ, zero, suc, _≤_, _<_}
 use mathlib.Core.Path.{_≡_, refl, sym, ap, _∙_, subst}
 use mathlib.Core.List.{List}
-use mathlib.Core.Option.{some}
-use mathlib.Core.Bool.{Bool, true, false, not, _&&_, cond, and-assoc}
+use mathlib.Core.Bool.{true, false, cond}
 use native.Mathlib.Nat.{mod-lt}
 use native.Mathlib.Omega.{arith}
-use lib.ListN.{length, getD, set}
-use lib.Dec.{leb, ltb, eqb}
-use borrow.Author.Tests.{lt-ltb, le-ltb, ltb-true, eq-eqb, ne-eqb}
-use Rattle.model.specs.Tables.{table, ahead}
+use lib.ListN.{set}
+use lib.Seq.{set-getD}
 use Rattle.model.specs.Refusals.{firstOf}
-use Rattle.model.specs.Word as word
+use Rattle.model.specs.Word.{flowOf}
+use Rattle.model.specs.Window.{newest}
 use Rattle.model.specs.Plan as paper
-use Rattle.model.specs.Calls.{accepted}
-use Rattle.model.specs.Window.{Window, rank, passed, everyFrom, newest}
 use Rattle.model.specs.Link as model
-use Rattle.model.specs.Request.{wordTests, valid, unbooked, Found, found, nowhere, search, sought, booked, refusedAtNewest, answered, requestAfter, request}
+use Rattle.model.specs.Request.{wordTests, Found, found, nowhere, sought, booked, refusedAtNewest, request}
 use Rattle.plan.specs.declared.Plan.{Plan}
-use Rattle.plan.specs.declared.Entry.{Entry}
-use Rattle.plan.specs.Reading.{noEntry, planFor}
-use Rattle.word.specs.declared.Fields.{Fields}
-use Rattle.word.specs.Reading.{fieldsOf}
-use Rattle.calls.specs.declared.Answer.the-variants.{Granted, Refused}
+use Rattle.plan.specs.Reading.{planFor}
+use Rattle.calls.specs.Reading.{answerToRequest}
+use Rattle.window.specs.declared.Window.{Window}
+use Rattle.window.specs.Ranges.{replaced}
+use Rattle.window.specs.Window as window
+use Rattle.window.specs.Window.{windowOf, fromIn}
+use Rattle.tables.specs.Rows.{row}
+use Rattle.tables.specs.Holdings.{shiftedRow, shifted}
+use Rattle.tables.proofs.Rows.{length-row, with-own-row}
+use Rattle.tables.proofs.HoldingChanges.{one-more}
+use Rattle.tables.proofs.ValidPositions.{valid-room}
+use Rattle.tables.proofs.FoundPosition.{Booking}
+use Rattle.link.specs.declared.reply.Reply.{Reply}
 use Rattle.link.specs.declared.Flow.{Flow}
 use Rattle.link.specs.declared.Link.{Link}
-use Rattle.link.specs.Runs.{replaced}
-use Rattle.link.specs.Window.{fromIn}
-use Rattle.link.specs.Holdings.{roomAt}
-use Rattle.link.specs.Parts.{sizeOf, entryAt, partAt, ownerAt, withOwners}
-use Rattle.link.specs.Reading.{ownerOf, flowOf, linkOf}
-use Rattle.calls.specs.Reading.{answerToRequest}
-use Rattle.link.specs.Search.{freeFrom}
+use Rattle.link.specs.declared.Step.{Step}
+use Rattle.link.specs.Layout.{sizeOf, entryAt, flowRow, flowAt, noFlow}
+use Rattle.link.specs.Updates.{movedTo, withOwners, withFlows, withHoldings, withFlow}
+use Rattle.link.specs.Reading.{linkOf}
 use Rattle.link.specs.Sound.{Sound}
-use Rattle.link.proofs.Parts.{withFlow, movedTo}
+use Rattle.link.specs.Given.{placed}
+use Rattle.link.specs.Reply.{replyOf}
 use Rattle.link.proofs.Plans.{plan-count, plan-entry}
-use Rattle.link.proofs.Rows.{length-row}
-use Rattle.link.proofs.Ranks.{ahead-on, everyFrom-same}
-use Rattle.link.proofs.Searches.{search-same, search-books, Booking, Books}
-use Rattle.link.specs.Change.{Stepped, placed}
-use Rattle.link.proofs.Links.{read-entry, read-flow, read-holding, read-owner, read-with-flow, sound-with-flow, read-with-owner, sound-with-owner, read-from, long-from, sound-from, read-size, read-frames}
+use Rattle.link.specs.Steps.{Stepped}
+use Rattle.link.proofs.Readings.{read-flow, read-size, read-frames}
+use Rattle.link.proofs.Updated.{read-with-flow, sound-with-flow, read-with-owner, sound-with-owner, read-from, sound-from}
+use Rattle.link.proofs.Given.{AtHand}
+use Rattle.link.proofs.Words.{word-refused}
+use Rattle.link.proofs.Searches.{validHere, found-at}
+use Rattle.link.proofs.Replies.{flow-there, reply-refused, request-found, reply-found, request-nowhere, reply-nowhere}
 
-and-right : (a b : Bool) → a && b ≡ true → b ≡ true
-and-right true b e = e
-and-right false b e = cc
+-- ---- the link in which a reply is stored
 
--- ---- the word's own tests
+-- the link with this window after a request of flow i, and the answer: the flow is stored, and a position is booked where one is granted
+abbrev after : Link → Window → ℕ → Reply → Step
+after l w i r = record {
+  link = cond (r .granted)
+      (withHoldings
+      (withFlows (withOwners l (set (l .owner) (r .position) i)) (set (l .flows) i (r .flow)))
+      (shifted (windowOf w) 1 i (r .position) (l .held)))
+      (withFlows l (set (l .flows) i (r .flow)));
+  answer = r .answer;
+}
 
-module _ (x : ℕ) (f : Fields) (is : fieldsOf f ≡ word.split x) where
-  pub of-word : word.flowOf x ≡ f .flow
-  of-word = ap (λ (y : word.Fields). y .flow) (sym is)
+-- the flow alone is stored
+flow-alone : (l : Link) (i : ℕ) (f : Flow) → withFlow l i (flowRow f (row (l .held) i)) ≡ withFlows l (set (l .flows) i f)
+flow-alone l i f = ap (λ (h : List ℕ). withHoldings (withFlows l (set (l .flows) i f)) h) (with-own-row (l .held) i)
 
-  ends-at : word.destinationOf x ≡ f .destination
-  ends-at = ap (λ (y : word.Fields). y .destination) (sym is)
+module _ {l : Link} {plan : Plan} {w : Window} (a : AtHand l plan w) (i : ℕ) (hi : i < l .plan .count) where
+  -- a position that the search found: flow i books it
+  module _ (j c p : ℕ) (e : found j c p ≡ sought (linkOf l) i) where
+    booking : Booking (windowOf w) (validHere l (a .sound) (windowOf w) (a .window-is) i hi) j p
+    booking = found-at l (a .sound) (windowOf w) (a .window-is) i hi j c p e
 
-  departs-at : word.departureOf x ≡ f .departure
-  departs-at = ap (λ (y : word.Fields). y .departure) (sym is)
+    pub position-below : p < window.sizeOf w
+    position-below = booking .position
 
-module _ (p : Plan) (x : ℕ) (f : Fields) (is : fieldsOf f ≡ word.split x) where
-  -- the entry of the word's flow
-  pub entry-there : (n : ℕ) (e : Entry) → getD (p .entries) (placed n (word.flowOf x)) noEntry ≡ e → f .flow < n → getD (p .entries) (f .flow) noEntry ≡ e
-  entry-there n e is-there h =
-      let z : placed n (word.flowOf x) ≡ f .flow = rw (of-word x f is, lt-ltb (f .flow) n h) in
-      ap (λ (k : ℕ). getD (p .entries) k noEntry) (sym z) ∙ is-there
+    position-there : p < sizeOf l
+    position-there = rw (read-size l (a .window-is)) at position-below
 
-  pub word-8 : p .count ≤ f .flow → 8 ≡ firstOf (wordTests (planFor p) x)
-  unfolding firstOf
-  word-8 h = rw (plan-count p, of-word x f is, le-ltb (f .flow) (p .count) h)
+    abbrev owned : Link
+    owned = withOwners l (set (l .owner) p i)
 
-  module _ (h : f .flow < p .count) where
-    to-node : paper.entry (planFor p) (f .flow) .destination ≡ getD (p .entries) (f .flow) noEntry .destination
-    to-node = ap (λ (e : paper.Entry). e .destination) (plan-entry p (f .flow) h)
+    sound-owned : Sound owned
+    sound-owned = sound-with-owner l (a .sound) p i position-there hi
 
-    pub word-9 : (f .destination ≡ getD (p .entries) (f .flow) noEntry .destination → ⊥) → 9 ≡ firstOf (wordTests (planFor p) x)
-    unfolding firstOf
-    word-9 n = rw (plan-count p, of-word x f is, lt-ltb (f .flow) (p .count) h, ends-at x f is, to-node, ne-eqb _ _ n)
+    -- what it holds then: fewer than its cells were held, so that no byte goes round
+    abbrev raised : List ℕ
+    raised = shiftedRow (windowOf w) 1 p (row (l .held) i)
 
-    module _ (e : f .destination ≡ getD (p .entries) (f .flow) noEntry .destination) where
-      pub word-10 : p .slots * p .frames ≤ f .departure → 10 ≡ firstOf (wordTests (planFor p) x)
-      unfolding firstOf
-      word-10 d = rw (plan-count p, of-word x f is, lt-ltb (f .flow) (p .count) h, ends-at x f is, to-node, eq-eqb _ _ e, departs-at x f is, le-ltb (f .departure) (p .slots * p .frames) d)
+    cells-most : entryAt l i .cells ≤ 255
+    cells-most =
+        let fits = a .sound .plan .accepted .entries-fit i (rw (plan-count (l .plan)) hi) in
+        rw (ap (λ (e : paper.Entry). e .cells) (plan-entry (l .plan) i hi)) at (fits .cells-most)
 
-      pub word-passes : f .departure < p .slots * p .frames → 0 ≡ firstOf (wordTests (planFor p) x)
-      unfolding firstOf
-      word-passes d = rw (plan-count p, of-word x f is, lt-ltb (f .flow) (p .count) h, ends-at x f is, to-node, eq-eqb _ _ e, departs-at x f is, lt-ltb (f .departure) (p .slots * p .frames) d)
+    raised-is : raised ≡ replaced (fromIn (windowOf w) p) (λ q x. suc x) (row (l .held) i)
+    raised-is =
+        one-more w (a .proper) p position-below (row (l .held) i) (entryAt l i .cells) cells-most
+        (valid-room (windowOf w) (l .owner) (row (l .held) i) _ _ (booking .passes))
 
-module _ (l : Link) (x n : ℕ) (tests : n ≡ firstOf (wordTests (planFor (l .plan)) x)) where
-  pub refused-word : Sound l → (n ≡ 0 → ⊥) → Stepped answerToRequest (request (linkOf l) x) (record { link = l; answer = Refused n })
-  unfolding request requestAfter linkOf
-  refused-word s nonzero = rw (← tests) (go n nonzero)
+    booked-link : linkOf (withFlow owned i (flowRow (movedTo (flowAt l i .flow) j c) raised)) ≡ booked (linkOf l) i j c p
+    unfolding booked linkOf
+    booked-link =
+        read-from owned sound-owned (windowOf w) (a .window-is) i p hi suc raised raised-is (movedTo (flowAt l i .flow) j c)
+        (λ k. model.movedTo (sym (read-flow owned i hi) k) j c)
+        ∙ ap (λ (m : model.Link). model.withFlow m i (model.withHeld (model.movedTo (model.flow m i) j c) (model.heldFrom m i p suc)))
+        (read-with-owner l (a .sound) p i position-there hi)
+
+    sound-booked : Sound (withFlow owned i (flowRow (movedTo (flowAt l i .flow) j c) raised))
+    unfolding linkOf
+    sound-booked =
+        sound-from owned sound-owned (windowOf w) (a .window-is) i p hi suc raised raised-is (movedTo (flowAt l i .flow) j c)
+        (rw (read-frames l (a .window-is)) at (booking .frame))
+
+  -- no position: flow i is in the newest frame
+  module _ (c : ℕ) where
+    abbrev stopped : Flow
+    stopped = movedTo (flowAt l i .flow) (newest (model.window (linkOf l))) c
+
+    stopped-link : linkOf (withFlow l i (flowRow stopped (row (l .held) i))) ≡ refusedAtNewest (linkOf l) i c
+    unfolding refusedAtNewest
+    stopped-link =
+        read-with-flow l (a .sound) i hi _ (length-row (l .held) i)
+        ∙ (λ k. model.withFlow (linkOf l) i (model.movedTo (sym (read-flow l i hi) k) (newest (model.window (linkOf l))) c))
+
+    sound-stopped : Sound (withFlow l i (flowRow stopped (row (l .held) i)))
+    unfolding linkOf
+    sound-stopped =
+        sound-with-flow l (a .sound) i hi _ (length-row (l .held) i)
+        (record { frame = mod-lt _ (omega (arith, a .sound .plan .accepted .two-frames)); spare = a .sound .flows i hi .spare })
+
+-- ---- what a reply comes to
+
+module _ {l : Link} {plan : Plan} {w : Window} (a : AtHand l plan w) (x : ℕ) {i : ℕ} (asker : i ≡ placed (plan .count) (flowOf x)) where
+  record Replied (r : Reply) : Type 0 where
+    pub below : r .position < window.sizeOf w
+    pub stepped : Stepped answerToRequest (request (linkOf l) x) (after l w i r)
+
+  place : i ≡ placed (l .plan .count) (flowOf x)
+  place = asker ∙ ap (λ (p : Plan). placed (p .count) (flowOf x)) (a .plan-is)
+
+  there : i < l .plan .count
+  there = flow-there l (a .sound) x i place
+
+  some-position : 0 < window.sizeOf w
+  some-position = omega (arith, a .proper .measures .current-below)
+
+  replied : Replied (replyOf i (request (linkOf l) x))
+  replied = go (firstOf (wordTests (planFor (l .plan)) x)) refl
     where
-      go : (k : ℕ) → (k ≡ 0 → ⊥) → Stepped answerToRequest (requestAfter k (linkOf l) x) (record { link = l; answer = Refused k })
-      go zero none = absurd (none refl)
-      go (suc r) none = (refl, (refl, s))
+      searched : 0 ≡ firstOf (wordTests (planFor (l .plan)) x) → (r : Found) → r ≡ sought (linkOf l) i → Replied (replyOf i (request (linkOf l) x))
+      searched tests (found j c p) e =
+          let small : p < 1024 = omega (arith, position-below a i there j c p e, a .proper .measures .positions-most) in
+          subst Replied (reply-found l (a .sound) x i place tests refl j c p e small) (record {
+            below = position-below a i there j c p e;
+            stepped = rw (request-found l (a .sound) x i place tests refl j c p e)
+                (record { link-is = booked-link a i there j c p e; answer-is = refl; sound = sound-booked a i there j c p e });
+          })
+      searched tests (nowhere c) e = subst Replied (reply-nowhere l (a .sound) x i place tests refl c e) (record {
+        below = some-position;
+        stepped = rw (request-nowhere l (a .sound) x i place tests refl c e, ← flow-alone l i (stopped a i there c))
+            (record { link-is = stopped-link a i there c; answer-is = refl; sound = sound-stopped a i there c });
+      })
 
-  module _ (z : n ≡ 0) where
-    pub asked : request (linkOf l) x ≡ answered (linkOf l) x (sought (linkOf l) (word.flowOf x))
-    unfolding request requestAfter linkOf
-    asked = rw (← tests, z)
+      go : (n : ℕ) → n ≡ firstOf (wordTests (planFor (l .plan)) x) → Replied (replyOf i (request (linkOf l) x))
+      go zero tests = searched tests (sought (linkOf l) i) refl
+      go (suc n) tests = subst Replied (reply-refused l (a .sound) x i place tests (λ z. omega arith)) (record {
+        below = some-position;
+        stepped = rw (word-refused l x tests (λ z. omega arith), set-getD (l .flows) i noFlow)
+            (record { link-is = refl; answer-is = refl; sound = a .sound });
+      })
 
-    -- the word's flow is one of the plan's
-    flow-below : word.flowOf x < l .plan .count
-    unfolding firstOf
-    flow-below = go (ltb (word.flowOf x) (l .plan .count)) _ refl (rw (plan-count (l .plan)) at (sym tests ∙ z))
-      where
-        go : (b : Bool) (m : ℕ) → ltb (word.flowOf x) (l .plan .count) ≡ b → cond (not b) 8 m ≡ 0 → word.flowOf x < l .plan .count
-        go true m e y = ltb-true _ _ e
-        go false m e y = absurd (omega arith)
+  module _ {r : Reply} (is : r ≡ replyOf i (request (linkOf l) x)) where
+    replied-is : Replied r
+    replied-is = rw is replied
 
-    module _ (i : ℕ) (e : i ≡ placed (l .plan .count) (word.flowOf x)) where
-      pub asks-for : word.flowOf x ≡ i
-      asks-for = sym (e ∙ ap (λ (b : Bool). cond b (word.flowOf x) 0) (lt-ltb (word.flowOf x) (l .plan .count) flow-below))
+    pub reply-below : r .position < window.sizeOf w
+    reply-below = replied-is .below
 
-      pub asker-below : i < l .plan .count
-      asker-below = rw asks-for at flow-below
+    pub request-granted : r .granted ≡ true → {h : List ℕ} → h ≡ shifted (windowOf w) 1 i (r .position) (l .held)
+        → Stepped answerToRequest (request (linkOf l) x) (record {
+          link = withHoldings (withFlows (withOwners l (set (l .owner) (r .position) i)) (set (l .flows) i (r .flow))) h;
+          answer = r .answer;
+        })
+    request-granted z e = rw e (rw z at (replied-is .stepped))
 
--- ---- the search of flow i, where positions from the rank `low` on are late enough and have room
-
-module _ (l : Link) (s : Sound l) (v : Window) (is : v ≡ model.window (linkOf l)) (i : ℕ) (hi : i < l .plan .count) where
-  pub record LowFor (low : ℕ) : Type 0 where
-    pub from : (p : ℕ) → p < sizeOf l → leb low (rank v p) ≡ not (passed v p) && everyFrom v p (roomAt (partAt l i .held) (entryAt l i .cells))
-
-  -- there is room from p on
-  room-same : (p : ℕ) → everyFrom (model.window (linkOf l)) p (λ q. ltb (model.holding (linkOf l) i q) (model.cells (linkOf l) i)) ≡ everyFrom (model.window (linkOf l)) p (roomAt (partAt l i .held) (entryAt l i .cells))
-  unfolding linkOf
-  room-same p =
-      everyFrom-same (model.window (linkOf l)) p (λ q. ltb (model.holding (linkOf l) i q) (model.cells (linkOf l) i)) (roomAt (partAt l i .held) (entryAt l i .cells))
-      (λ q b. rw (read-holding l i q hi b, ap (λ (e : paper.Entry). e .cells) (read-entry l i hi)))
-
-  module _ (low : ℕ) (bound : LowFor low) where
-    valid-same : (p : ℕ) → p < sizeOf l → valid (linkOf l) i p ≡ freeFrom v (l .owner) low p
-    unfolding valid freeFrom
-    valid-same p hp =
-        let late = ap (λ (x : Window). passed x p) (sym is) in
-        let room = room-same p ∙ ap (λ (x : Window). everyFrom x p (roomAt (partAt l i .held) (entryAt l i .cells))) (sym is) in
-        rw (read-owner l p hp, late, room, bound .from p hp) (and-assoc (unbooked (ownerOf (ownerAt l p))) (not (passed v p)) (everyFrom v p (roomAt (partAt l i .held) (entryAt l i .cells))))
-
-    pub sought-same : sought (linkOf l) i ≡ search v (freeFrom v (l .owner) low) (entryAt l i .share) (ahead (v .frames) (partAt l i .frame) (newest v)) (partAt l i .frame) (partAt l i .left)
-    unfolding sought
-    sought-same =
-        let j = ap (λ (x : model.Flow). x .injection) (read-flow l i hi) in
-        let c = ap (λ (x : model.Flow). x .remainder) (read-flow l i hi) in
-        let e = ap (λ (x : paper.Entry). x .share) (read-entry l i hi) in
-        rw (j, c, e) (ap from-frame (sym is) ∙ search-same v two (valid (linkOf l) i) (entryAt l i .share) _ (λ p h. valid-same p (rw (← read-size l is) h)) _ _ _ (rw (read-frames l is) (s .flows i hi .frame)))
-      where
-        from-frame : Window → Found
-        from-frame x = search x (valid (linkOf l) i) (entryAt l i .share) (ahead (x .frames) (partAt l i .frame) (newest x)) (partAt l i .frame) (partAt l i .left)
-
-        two : 2 ≤ v .frames
-        two = rw (read-frames l is) (s .plan .accepted .two-frames)
-
-    -- what is found: a position of the window, with room from it on
-    pub found-at : (j c p : ℕ) → found j c p ≡ sought (linkOf l) i → Booking v (freeFrom v (l .owner) low) j p
-    found-at j c p e = subst (Books v (freeFrom v (l .owner) low)) (sym (e ∙ sought-same)) (search-books v two _ _ _ _ _ (rw (read-frames l is) (s .flows i hi .frame)))
-      where
-        two : 2 ≤ v .frames
-        two = rw (read-frames l is) (s .plan .accepted .two-frames)
-
-    pub room-there : (p : ℕ) → p < sizeOf l → freeFrom v (l .owner) low p ≡ true → everyFrom v p (roomAt (partAt l i .held) (entryAt l i .cells)) ≡ true
-    unfolding freeFrom
-    room-there p hp e = and-right (not (passed v p)) _ (sym (bound .from p hp) ∙ and-right (unbooked (ownerOf (ownerAt l p))) _ e)
-
-  -- in the newest frame, with nothing left of the share
-  pub spent-at-newest : partAt l i .frame ≡ newest v → partAt l i .left ≡ 0 → nowhere 0 ≡ sought (linkOf l) i
-  unfolding sought search
-  spent-at-newest e z =
-      let j = ap (λ (x : model.Flow). x .injection) (read-flow l i hi) ∙ e ∙ ap newest is in
-      let c = ap (λ (x : model.Flow). x .remainder) (read-flow l i hi) ∙ z in
-      let below : newest (model.window (linkOf l)) < model.window (linkOf l) .frames = mod-lt _ (rw (← ap (λ (x : Window). x .frames) is, read-frames l is) (omega (arith, s .plan .accepted .two-frames))) in
-      let none : ahead (model.window (linkOf l) .frames) (newest (model.window (linkOf l))) (newest (model.window (linkOf l))) ≡ 0 = ahead-on _ _ _ (omega arith) below ∙ omega arith in
-      rw (j, c, none)
-
-  -- ---- the link after it
-
-  pub granted-link : (j c p : ℕ) (h : List ℕ) → j < l .plan .frames → p < sizeOf l → h ≡ replaced (fromIn v p) (λ q. suc) (partAt l i .held)
-      → (linkOf (withFlow (withOwners l (set (l .owner) p i)) i (record { frame = j; left = c; held = h })) ≡ booked (linkOf l) i j c p)
-      × Sound (withFlow (withOwners l (set (l .owner) p i)) i (record { frame = j; left = c; held = h }))
-  unfolding booked
-  granted-link j c p h hj hp changed = (
-    read-with-flow (withOwners l (set (l .owner) p i)) owned i hi _ long
-        ∙ ap (λ (m : model.Link). model.withFlow m i (record { injection = j; remainder = c; held = table (sizeOf l) (λ q. getD h q 0) })) (read-with-owner l s p i hp hi)
-        ∙ ap (λ (t : List ℕ). model.withFlow (model.withOwners (linkOf l) (λ q. cond (eqb q p) (some i) (model.owner (linkOf l) q))) i (record { injection = j; remainder = c; held = t })) (read-from l s v is i p hi suc h changed),
-    sound-with-flow (withOwners l (set (l .owner) p i)) owned i hi _ long (sound-from l s v is i p hi suc h changed j c hj),
-  )
-    where
-      owned : Sound (withOwners l (set (l .owner) p i))
-      owned = sound-with-owner l s p i hp hi
-
-      long : length h ≡ 256
-      long = long-from l s v is i p hi suc h changed
-
-  pub refused-link : (c : ℕ)
-      → (linkOf (withFlow l i (movedTo (partAt l i) (newest v) c)) ≡ refusedAtNewest (linkOf l) i c) × Sound (withFlow l i (movedTo (partAt l i) (newest v) c))
-  unfolding refusedAtNewest
-  refused-link c = (
-    read-with-flow l s i hi _ (length-row (l .held) i) ∙ same-flow (ap newest is) (read-flow l i hi),
-    sound-with-flow l s i hi _ (length-row (l .held) i) (record { frame = rw (← read-frames l is) (mod-lt _ (rw (read-frames l is) (omega (arith, s .plan .accepted .two-frames)))); spare = s .flows i hi .spare }),
-  )
-    where
-      same-flow : {j j′ : ℕ} {x : model.Flow} → j ≡ j′ → x ≡ flowOf (sizeOf l) (partAt l i)
-          → model.withFlow (linkOf l) i (record { injection = j; remainder = c; held = flowOf (sizeOf l) (partAt l i) .held }) ≡ model.withFlow (linkOf l) i (model.movedTo x j′ c)
-      same-flow d e = rw (d, e)
-
--- ---- what a request comes to
-
-module _ (l : Link) (x : ℕ) (i : ℕ) (of-flow : word.flowOf x ≡ i) (passes : request (linkOf l) x ≡ answered (linkOf l) x (sought (linkOf l) (word.flowOf x))) where
-  pub granted : (j c p : ℕ) (r : Link) → found j c p ≡ sought (linkOf l) i → (linkOf r ≡ booked (linkOf l) i j c p) × Sound r
-      → Stepped answerToRequest (request (linkOf l) x) (record { link = r; answer = Granted (word.depart x p) })
-  unfolding answered
-  granted j c p r e b = rw (passes, ap (sought (linkOf l)) of-flow, ← e) (rw of-flow (b .0), (refl, b .1))
-
-  pub refused-newest : (c : ℕ) (r : Link) → nowhere c ≡ sought (linkOf l) i → (linkOf r ≡ refusedAtNewest (linkOf l) i c) × Sound r
-      → Stepped answerToRequest (request (linkOf l) x) (record { link = r; answer = Refused (cond (eqb c 0) 11 12) })
-  unfolding answered
-  refused-newest zero r e b = rw (passes, ap (sought (linkOf l)) of-flow, ← e) (rw of-flow (b .0), (refl, b .1))
-  refused-newest (suc c) r e b = rw (passes, ap (sought (linkOf l)) of-flow, ← e, ne-eqb (suc c) 0 (λ z. omega arith)) (rw of-flow (b .0), (refl, b .1))
+    pub request-refused : r .granted ≡ false
+        → Stepped answerToRequest (request (linkOf l) x) (record { link = withFlows l (set (l .flows) i (r .flow)); answer = r .answer })
+    request-refused z = rw z at (replied-is .stepped)

@@ -1,5 +1,5 @@
 -- The reading determines a sound link: it is what its reading is stored as. Assumes nothing.
-use Prim.Native.Nat.{ℕ, _+_, _*_, _/_, _%_, _<_}
+use Prim.Native.Nat.{ℕ, _<_}
 use mathlib.Core.Path.{_≡_, refl, sym, ap, _∙_}
 use mathlib.Core.Bool.{Bool, true, false}
 use native.Mathlib.Decide.{decLt}
@@ -9,15 +9,17 @@ use lib.Dec.{eqb}
 use borrow.Author.Tests.{eqb-true}
 use Rattle.model.specs.Tables.{table}
 use Rattle.model.specs.Link as model
-use Rattle.link.specs.declared.Flow.{Flow}
+use Rattle.plan.specs.declared.Plan.{Plan}
 use Rattle.link.specs.declared.Link.{Link}
-use Rattle.link.specs.Parts.{Part, sizeOf, partAt, ownerAt, noFlow}
-use Rattle.link.specs.Reading.{nobody, ownerOf, flowOf, linkOf, everywhere, storedOwner, stored}
+use Rattle.link.specs.Layout.{FlowRow, sizeFor, sizeOf, flowAt, ownerAt, noFlow}
+use Rattle.tables.specs.Owners.{nobody, ownerOf, everywhere}
+use Rattle.link.specs.Reading.{flowOf, linkOf, storedOwner, storedFlow, stored}
 use Rattle.link.specs.Sound.{Sound, SoundFlow}
-use Rattle.link.proofs.Tables.{getD-table, table-past, table-of}
-use Rattle.link.proofs.Rows.{row-at}
+use Rattle.window.proofs.Tabulated.{getD-table, table-past, table-of}
+use Rattle.tables.specs.Rows.{rowsOf}
+use Rattle.tables.proofs.Rows.{rows-of}
 use Rattle.link.proofs.Plans.{stored-plan}
-use Rattle.link.proofs.Links.{read-flow, read-owner}
+use Rattle.link.proofs.Readings.{read-flow, read-owner}
 
 owner-back : (x : ℕ) → storedOwner (ownerOf x) ≡ x
 owner-back x = go (eqb x nobody) refl
@@ -26,12 +28,12 @@ owner-back x = go (eqb x nobody) refl
     go true e = rw e (sym (eqb-true x nobody e))
     go false e = rw e
 
-held-back : (T W : ℕ) (f : Part) → SoundFlow T W f → (p : ℕ) → getD (flowOf T f .held) p 0 ≡ getD (f .held) p 0
-held-back T W f v p = go (decLt p T)
+held-back : (plan : Plan) (f : FlowRow) → SoundFlow plan f → (p : ℕ) → getD (flowOf (sizeFor plan) f .held) p 0 ≡ getD (f .held) p 0
+held-back plan f v p = go (decLt p (sizeFor plan))
   where
-    go : Dec (p < T) → getD (table T (λ p. getD (f .held) p 0)) p 0 ≡ getD (f .held) p 0
-    go (yes b) = getD-table T _ p 0 b
-    go (no b) = table-past T _ p 0 (omega arith) ∙ sym (v .spare p (omega arith))
+    go : Dec (p < sizeFor plan) → getD (table (sizeFor plan) (λ p. getD (f .held) p 0)) p 0 ≡ getD (f .held) p 0
+    go (yes b) = getD-table (sizeFor plan) _ p 0 b
+    go (no b) = table-past (sizeFor plan) _ p 0 (omega arith) ∙ sym (v .spare p (omega arith))
 
 -- "the reading determines the link"
 pub stored-reading : (l : Link) → Sound l → stored (linkOf l) ≡ l
@@ -47,31 +49,24 @@ stored-reading l s = λ k. record { plan = stored-plan (l .plan) (s .plan) k; cp
     no-flow i n = table-past (l .plan .count) _ i model.noFlow (omega arith)
 
     flow : (i : ℕ) → i < 16 → Dec (i < l .plan .count)
-        → _≡_ {A = Flow} (record { frame = model.flow (linkOf l) i .injection; left = model.flow (linkOf l) i .remainder }) (getD (l .flows) i noFlow)
-    flow i b (yes h) = ap (λ (f : model.Flow). record { frame = f .injection; left = f .remainder }) (read-flow l i h)
-    flow i b (no h) = ap (λ (f : model.Flow). record { frame = f .injection; left = f .remainder }) (no-flow i h) ∙ sym (ap (λ (f : Part). record { frame = f .frame; left = f .left }) (s .spare-flows i (omega arith) b))
+        → storedFlow (model.flow (linkOf l) i) ≡ getD (l .flows) i noFlow
+    flow i b (yes h) = ap storedFlow (read-flow l i h)
+    flow i b (no h) = ap storedFlow (no-flow i h) ∙ sym (ap (λ (x : FlowRow). x .flow) (s .spare-flows i (omega arith) b))
 
-    holding : (i p : ℕ) → i < 16 → p < 256 → Dec (i < l .plan .count) → model.holding (linkOf l) i p ≡ getD (partAt l i .held) p 0
-    holding i p b c (yes h) = ap (λ (f : model.Flow). getD (f .held) p 0) (read-flow l i h) ∙ held-back (sizeOf l) (l .plan .frames) (partAt l i) (s .flows i h) p
+    holding : (i p : ℕ) → i < 16 → p < 256 → Dec (i < l .plan .count) → model.holding (linkOf l) i p ≡ getD (flowAt l i .held) p 0
+    holding i p b c (yes h) = ap (λ (f : model.Flow). getD (f .held) p 0) (read-flow l i h) ∙ held-back (l .plan) (flowAt l i) (s .flows i h) p
     holding i p b c (no h) =
         ap (λ (f : model.Flow). getD (f .held) p 0) (no-flow i h)
-        ∙ sym (ap (λ (f : Part). getD (f .held) p 0) (s .spare-flows i (omega arith) b) ∙ getD-replicate 256 p 0 0 c)
-
-    place : (k : ℕ) → k < 4096 → model.holding (linkOf l) (k / 256) (k % 256) ≡ getD (l .held) k 0
-    place k b =
-        let e : 256 * (k / 256) + k % 256 ≡ k = omega arith in
-        holding (k / 256) (k % 256) (omega arith) (omega arith) (decLt (k / 256) (l .plan .count))
-        ∙ row-at (l .held) (k / 256) (k % 256) (omega arith)
-        ∙ ap (λ (x : ℕ). getD (l .held) x 0) e
+        ∙ sym (ap (λ (f : FlowRow). getD (f .held) p 0) (s .spare-flows i (omega arith) b) ∙ getD-replicate 256 p 0 0 c)
 
     owners : table 256 (λ p. storedOwner (model.owner (linkOf l) p)) ≡ l .owner
     owners = table-of (l .owner) 256 _ 0 (s .owners-long) (λ p b. owner p b (decLt p (sizeOf l)))
 
-    flows : table 16 (λ i. record { frame = model.flow (linkOf l) i .injection; left = model.flow (linkOf l) i .remainder }) ≡ l .flows
+    flows : table 16 (λ i. storedFlow (model.flow (linkOf l) i)) ≡ l .flows
     flows = table-of (l .flows) 16 _ noFlow (s .flows-long) (λ i b. flow i b (decLt i (l .plan .count)))
 
-    held : table 4096 (λ k. model.holding (linkOf l) (k / 256) (k % 256)) ≡ l .held
-    held = table-of (l .held) 4096 _ 0 (s .held-long) place
+    held : rowsOf (model.holding (linkOf l)) ≡ l .held
+    held = rows-of (l .held) _ (s .held-long) (λ i p b c. holding i p b c (decLt i (l .plan .count)))
 
 -- two sound links with one reading are one link
 pub one-reading : (l k : Link) → Sound l → Sound k → linkOf l ≡ linkOf k → l ≡ k

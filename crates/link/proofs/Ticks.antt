@@ -1,266 +1,102 @@
--- A tick on a link, as it is read. Assumes nothing.
-use Prim.Native.Nat.{ℕ, _+_, _-_, _*_, _/_, _%_, _≤_, _<_}
-use mathlib.Core.Path.{_≡_, refl, sym, ap, _∙_, subst}
+-- A tick on a link, as it is read: the head frame stays or is left, and CP goes on by one. Assumes nothing.
+use Prim.Native.Nat.{ℕ, _+_, _/_, _%_}
+use mathlib.Core.Path.{_≡_, refl, sym, ap, _∙_}
 use mathlib.Core.List.{List}
-use mathlib.Core.Option.{none}
-use mathlib.Core.Bool.{Bool, true, false, cond}
-use native.Mathlib.Nat.{mod-lt, suc-mul, div-eq-of-lt-le, div-mul-le-self, lt-div-mul-add}
-use native.Mathlib.Decide.{decLt}
-use native.Mathlib.Omega.{arith}
-use lib.ListN.{getD}
-use lib.Dec.{eqb}
 use borrow.Author.Tests.{eq-eqb, ne-eqb}
-use Rattle.model.specs.Tables.{table}
-use Rattle.model.specs.Plan as paper
 use Rattle.model.specs.Window as seen
 use Rattle.model.specs.Link as model
 use Rattle.model.specs.Tick as tick
+use Rattle.plan.specs.declared.Plan.{Plan}
 use Rattle.calls.specs.declared.Answer.{Answer}
+use Rattle.calls.specs.Reading.{answerToTick}
+use Rattle.window.specs.declared.Window.{Window}
+use Rattle.window.specs.Window as window
+use Rattle.tables.specs.Owners.{ownerOf, emptied}
+use Rattle.tables.specs.Holdings.{carried}
 use Rattle.link.specs.declared.Flow.{Flow}
 use Rattle.link.specs.declared.Link.{Link}
-use Rattle.link.specs.declared.Step.{Step}
-use Rattle.link.specs.declared.Window.{Window}
-use Rattle.link.specs.Runs.{inRun, replaced}
-use Rattle.link.specs.Rows.{row, carriedRows}
-use Rattle.link.specs.Window as window
-use Rattle.link.specs.Parts.{Part, sizeOf, entryAt, partOf, partAt, ownerAt, noFlow, leftHead}
-use Rattle.link.specs.Reading.{nobody, ownerOf, flowOf, linkOf}
-use Rattle.calls.specs.Reading.{answerToTick}
-use Rattle.link.specs.Sound.{Sound, SoundFlow}
-use Rattle.link.proofs.Parts.{withCurrent}
-use Rattle.link.proofs.Tables.{table-same}
-use Rattle.link.proofs.Runs.{in-run, before-run, past-run, length-replaced, replaced-at, replaced-off}
-use Rattle.link.proofs.Rows.{length-row, length-carried, row-carried, row-not-carried}
-use Rattle.link.proofs.Ranks.{proper}
-use Rattle.link.specs.Change.{Stepped}
-use Rattle.link.proofs.Links.{same-flow, read-count, read-entry, read-flow, read-holding, read-owner, flows-most, size-most, measures}
+use Rattle.link.specs.Layout.{ownerAt}
+use Rattle.link.specs.Updates.{leftHeads, linkWith, withCurrent}
+use Rattle.link.specs.Reading.{linkOf}
+use Rattle.link.specs.Sound.{Sound}
+use Rattle.link.specs.Steps.{Stepped}
+use Rattle.link.proofs.Given.{AtHand}
+use Rattle.link.proofs.Readings.{read-owner}
+use Rattle.link.proofs.Updated.{sound-with, sound-owners, sound-flows}
+use Rattle.link.proofs.FrameChanges.{windowAt, nextAt, recycled, next-below, read-recycled, sound-recycled}
 
--- ---- the link after a tick
-
-abbrev nextAt : Link → ℕ
-nextAt l = (l .cp + 1) % sizeOf l
-
-abbrev headAt : Link → ℕ
-headAt l = l .cp / l .plan .slots
-
-abbrev baseAt : Link → ℕ
-baseAt l = headAt l * l .plan .slots
-
-abbrev lastAt : Link → ℕ
-lastAt l = (baseAt l + sizeOf l - 1) % sizeOf l
-
--- the frame that comes after the head
-abbrev onAt : Link → ℕ
-onAt l = (headAt l + 1) % l .plan .frames
-
-abbrev recycled : Link → Link
-recycled l = record {
-  plan = l .plan;
-  cp = nextAt l;
-  owner = replaced (inRun (baseAt l) (baseAt l + l .plan .slots)) (λ q x. nobody) (l .owner);
-  flows = replaced (inRun 0 (l .plan .count)) (λ i f. leftHead (headAt l) (onAt l) (entryAt l i .share) f) (l .flows);
-  held = carriedRows (l .plan .count) (lastAt l) (baseAt l) (baseAt l + l .plan .slots) (l .held);
-}
-
--- a flow's part after a frame change: it leaves the head frame with its share, and the holding at the last position goes on in the head's
-abbrev heldAfter : Link → ℕ → List ℕ
-heldAfter l i = replaced (inRun (baseAt l) (baseAt l + l .plan .slots)) (λ q x. getD (row (l .held) i) (lastAt l) 0) (row (l .held) i)
-
-abbrev partAfter : Link → ℕ → Part
-partAfter l i = partOf (leftHead (headAt l) (onAt l) (entryAt l i .share) (getD (l .flows) i noFlow)) (heldAfter l i)
+-- x, with the current position p, is link l after its tick
+pub record Advanced (l x : Link) (p : ℕ) : Type 0 where
+  pub plan-is : x .plan ≡ l .plan
+  pub link-is : linkOf (withCurrent x p) ≡ tick.advanced (linkOf l)
+  pub sound : Sound (withCurrent x p)
 
 module _ (l : Link) (s : Sound l) where
-  some-position : 0 < sizeOf l
-  some-position = omega (arith, s .current)
-
-  next-below : nextAt l < sizeOf l
-  next-below = mod-lt _ some-position
-
-  last-below : lastAt l < sizeOf l
-  last-below = mod-lt _ some-position
-
-  head-below : headAt l < l .plan .frames
-  head-below = proper _ _ _ (measures l s) .head-below
-
-  base-fits : baseAt l + l .plan .slots ≤ sizeOf l
-  base-fits = proper _ _ _ (measures l s) .base-fits
-
-  -- the head frame's positions
-  head-run : (q : ℕ) → inRun (baseAt l) (baseAt l + l .plan .slots) q ≡ eqb (q / l .plan .slots) (headAt l)
-  head-run q = go (decLt q (baseAt l)) (decLt q (baseAt l + l .plan .slots))
-    where
-      go : Dec (q < baseAt l) → Dec (q < baseAt l + l .plan .slots) → inRun (baseAt l) (baseAt l + l .plan .slots) q ≡ eqb (q / l .plan .slots) (headAt l)
-      go (yes h) d = rw (before-run (baseAt l) (baseAt l + l .plan .slots) q h, ne-eqb (q / l .plan .slots) (headAt l) (λ e. let m = rw e at (div-mul-le-self q (l .plan .slots)) in omega arith))
-      go (no h) (yes d) = rw (in-run (baseAt l) (baseAt l + l .plan .slots) q (omega arith) d, eq-eqb (q / l .plan .slots) (headAt l) (div-eq-of-lt-le (l .plan .slots) (omega arith) (omega (arith, suc-mul (headAt l) (l .plan .slots)))))
-      go (no h) (no d) = rw (past-run (baseAt l) (baseAt l + l .plan .slots) q (omega arith), ne-eqb (q / l .plan .slots) (headAt l) (λ e. let m = rw e at (lt-div-mul-add {a = q} {b = l .plan .slots} (s .plan .accepted .some-slot)) in omega arith))
-
-  -- ---- a flow's part
-
-  part-after : (i : ℕ) → i < l .plan .count → partAt (recycled l) i ≡ partAfter l i
-  part-after i h =
-      let b = flows-most l s in
-      let e : getD (recycled l .flows) i noFlow ≡ leftHead (headAt l) (onAt l) (entryAt l i .share) (getD (l .flows) i noFlow) =
-      replaced-at _ _ (l .flows) i noFlow (omega (arith, s .flows-long)) ∙ rw (in-run 0 (l .plan .count) i (omega arith) h) in
-      let last : lastAt l < 256 = omega (arith, last-below, size-most l s) in
-      ap (λ (f : Flow). partOf f (row (recycled l .held) i)) e
-      ∙ ap (partOf _) (row-carried (l .plan .count) (lastAt l) (baseAt l) (baseAt l + l .plan .slots) (l .held) i h (omega arith) (s .held-long) last)
-
-  spare-stays : (i : ℕ) → l .plan .count ≤ i → partAt (recycled l) i ≡ partAt l i
-  spare-stays i h =
-      let e : getD (recycled l .flows) i noFlow ≡ getD (l .flows) i noFlow = replaced-off _ _ (l .flows) i noFlow (past-run 0 (l .plan .count) i h) in
-      rw (e, row-not-carried (l .plan .count) (lastAt l) (baseAt l) (baseAt l + l .plan .slots) (l .held) i h)
-
-  held-after : (i : ℕ) → i < l .plan .count → table (sizeOf l) (λ q. getD (heldAfter l i) q 0)
-      ≡ table (sizeOf l) (λ q. cond (eqb (q / l .plan .slots) (headAt l)) (model.holding (linkOf l) i (lastAt l)) (model.holding (linkOf l) i q))
-  held-after i h = table-same (sizeOf l) _ _ λ q b.
-      replaced-at _ _ (partAt l i .held) q 0 (omega (arith, length-row (l .held) i, size-most l s))
-      ∙ rw (head-run q, read-holding l i q h b, read-holding l i (lastAt l) h last-below)
-
-  read-after : (i : ℕ) → i < l .plan .count → flowOf (sizeOf l) (partAfter l i) ≡ tick.carriedOn (linkOf l) i (tick.leftHead (linkOf l) i)
-  unfolding linkOf
-  read-after i h = rw injection (go (eqb (partAt l i .frame) (headAt l)))
-    where
-      injection : model.flow (linkOf l) i .injection ≡ partAt l i .frame
-      injection = ap (λ (x : model.Flow). x .injection) (read-flow l i h)
-
-      remainder : model.flow (linkOf l) i .remainder ≡ partAt l i .left
-      remainder = ap (λ (x : model.Flow). x .remainder) (read-flow l i h)
-
-      share : model.share (linkOf l) i ≡ entryAt l i .share
-      share = ap (λ (e : paper.Entry). e .share) (read-entry l i h)
-
-      go : (b : Bool) → flowOf (sizeOf l) (partOf (cond b (record { frame = onAt l; left = entryAt l i .share }) (getD (l .flows) i noFlow)) (heldAfter l i))
-          ≡ tick.carriedOn (linkOf l) i (cond b (model.movedTo (model.flow (linkOf l) i) (onAt l) (model.share (linkOf l) i)) (model.flow (linkOf l) i))
-      go true = same-flow refl (sym share) (held-after i h)
-      go false = same-flow (sym injection) (sym remainder) (held-after i h)
-
-  read-recycled : linkOf (recycled l) ≡ model.withCurrent (tick.recycled (linkOf l)) (nextAt l)
-  unfolding linkOf tick.recycled
-  read-recycled = λ k. record { plan = linkOf l .plan; current = nextAt l; owners = owners k; flows = flows k }
-    where
-      emptied : (b : Bool) (x : ℕ) → ownerOf (cond b nobody x) ≡ cond b none (ownerOf x)
-      emptied true x = refl
-      emptied false x = refl
-
-      owners : table (sizeOf l) (λ q. ownerOf (ownerAt (recycled l) q)) ≡ table (sizeOf l) (λ q. cond (eqb (q / l .plan .slots) (headAt l)) none (model.owner (linkOf l) q))
-      owners = table-same (sizeOf l) _ _ λ q b.
-          ap ownerOf (replaced-at _ _ (l .owner) q 0 (omega (arith, s .owners-long, size-most l s)))
-          ∙ rw (head-run q, read-owner l q b) (emptied (eqb (q / l .plan .slots) (headAt l)) (ownerAt l q))
-
-      flows : table (l .plan .count) (λ i. flowOf (sizeOf l) (partAt (recycled l) i)) ≡ table (paper.flowCount (linkOf l .plan)) (λ i. tick.carriedOn (linkOf l) i (tick.leftHead (linkOf l) i))
-      flows =
-          table-same (l .plan .count) _ (λ i. tick.carriedOn (linkOf l) i (tick.leftHead (linkOf l) i)) (λ i h. ap (flowOf (sizeOf l)) (part-after i h) ∙ read-after i h)
-          ∙ ap (λ (n : ℕ). table n (λ i. tick.carriedOn (linkOf l) i (tick.leftHead (linkOf l) i))) (sym (read-count l))
-
-  read-advanced : nextAt l % l .plan .slots ≡ 0 → tick.advanced (linkOf l) ≡ linkOf (recycled l)
+  stayed : (nextAt l % l .plan .slots ≡ 0 → ⊥) → Advanced l l (nextAt l)
   unfolding tick.advanced linkOf
-  read-advanced z = rw (eq-eqb (nextAt l % l .plan .slots) 0 z) (sym read-recycled)
-
-  sound-after : (i : ℕ) → i < l .plan .count → SoundFlow (sizeOf l) (l .plan .frames) (partAfter l i)
-  sound-after i h = record {
-    frame = go (eqb (partAt l i .frame) (headAt l));
-    spare = λ q k. replaced-off _ _ (partAt l i .held) q 0 (past-run _ _ q (omega (arith, base-fits))) ∙ s .flows i h .spare q k;
+  stayed n = record {
+    plan-is = refl;
+    link-is = rw (ne-eqb _ _ n);
+    sound = sound-with l s (next-below l s) (sound-owners l s) (sound-flows l s);
   }
+
+  changed : nextAt l % l .plan .slots ≡ 0 → Advanced l (recycled l) (nextAt l)
+  unfolding tick.advanced linkOf
+  changed z = record { plan-is = refl; link-is = rw (eq-eqb _ _ z) (read-recycled l s); sound = sound-recycled l s }
+
+module _ {l : Link} {plan : Plan} {w : Window} (a : AtHand l plan w) {on : Window} (t : window.Ticked w on) where
+  window-is : w ≡ windowAt l
+  unfolding linkOf
+  window-is =
+      let head = a .proper .head-is ∙ ap (λ (x : seen.Window). x .current / x .slots) (a .window-is) in λ k.
+      record { slots = a .window-is k .slots; frames = a .window-is k .frames; current = a .window-is k .current; head = head k }
+
+  next-is : on .current ≡ nextAt l
+  next-is = ap (λ (x : seen.Window). x .current) (t .window-is) ∙ ap (λ (x : Window). (x .current + 1) % window.sizeOf x) window-is
+
+  slots-are : w .slots ≡ l .plan .slots
+  slots-are = ap (λ (x : Window). x .slots) window-is
+
+  -- the head frame stays
+  pub head-stays : {x : Link} → on .head ≡ w .head → withCurrent x (on .current) ≡ withCurrent l (on .current) → Advanced l x (on .current)
+  head-stays e same =
+      let r = stayed l (a .sound) (λ z. t .stays e (rw (next-is, slots-are) z)) in
+      let there = same ∙ ap (withCurrent l) next-is in
+      record { plan-is = ap (λ (y : Link). y .plan) there; link-is = ap linkOf there ∙ r .link-is; sound = rw there (r .sound) }
+
+  -- the head frame is left: its owners, holdings and flows were changed
+  pub head-left : {x : Link} {o h : List ℕ} {fs : List Flow} → (on .head ≡ w .head → ⊥)
+      → o ≡ emptied w (l .owner)
+      → h ≡ carried w (plan .count) (l .held)
+      → fs ≡ leftHeads plan (w .head) (on .head) (l .flows)
+      → withCurrent x (on .current) ≡ linkWith l (on .current) o fs h
+      → Advanced l x (on .current)
+  head-left {x} {o} {h} {fs} n owners held flows same =
+      let r = changed l (a .sound) (rw (← next-is, ← slots-are) (t .leaves n .0)) in
+      let there = same ∙ (λ k. linkWith l (next-is k) (owners-are k) (flows-are k) (held-is k)) in
+      record { plan-is = ap (λ (y : Link). y .plan) there; link-is = ap linkOf there ∙ r .link-is; sound = rw there (r .sound) }
     where
-      go : (b : Bool) → cond b (record { frame = onAt l; left = entryAt l i .share }) (getD (l .flows) i noFlow) .frame < l .plan .frames
-      go true = mod-lt _ (omega (arith, s .plan .accepted .two-frames))
-      go false = s .flows i h .frame
+      owners-are : o ≡ recycled l .owner
+      owners-are = owners ∙ ap (λ (x : Window). emptied x (l .owner)) window-is
 
-  sound-recycled : Sound (recycled l)
-  sound-recycled = record {
-    plan = s .plan;
-    current = next-below;
-    owners-long = length-replaced _ _ (l .owner) ∙ s .owners-long;
-    owners = λ q b n. owner q b n (inRun (baseAt l) (baseAt l + l .plan .slots) q) refl;
-    spare-owners = λ q h b. replaced-off _ _ (l .owner) q 0 (past-run _ _ q (omega (arith, base-fits))) ∙ s .spare-owners q h b;
-    flows-long = length-replaced _ _ (l .flows) ∙ s .flows-long;
-    held-long = length-carried (l .plan .count) (lastAt l) (baseAt l) (baseAt l + l .plan .slots) (l .held) ∙ s .held-long;
-    flows = λ i h. rw (part-after i h) (sound-after i h);
-    spare-flows = λ i h b. spare-stays i h ∙ s .spare-flows i h b;
-  }
-    where
-      owner : (q : ℕ) → q < 256 → (ownerAt (recycled l) q ≡ nobody → ⊥) → (t : Bool) → inRun (baseAt l) (baseAt l + l .plan .slots) q ≡ t → ownerAt (recycled l) q < l .plan .count
-      owner q b n true e = absurd (n (replaced-at (inRun (baseAt l) (baseAt l + l .plan .slots)) (λ q x. nobody) (l .owner) q 0 (omega (arith, s .owners-long)) ∙ rw e))
-      owner q b n false e = let z = replaced-off (inRun (baseAt l) (baseAt l + l .plan .slots)) (λ q x. nobody) (l .owner) q 0 e in rw z (s .owners q b (λ y. n (z ∙ y)))
+      held-is : h ≡ recycled l .held
+      held-is = held ∙ (λ k. carried (window-is k) (a .plan-is k .count) (l .held))
 
-  sound-moved : Sound (withCurrent l (nextAt l))
-  sound-moved = record {
-    plan = s .plan;
-    current = next-below;
-    owners-long = s .owners-long;
-    owners = s .owners;
-    spare-owners = s .spare-owners;
-    flows-long = s .flows-long;
-    held-long = s .held-long;
-    flows = s .flows;
-    spare-flows = s .spare-flows;
-  }
+      flows-are : fs ≡ recycled l .flows
+      flows-are =
+          flows
+          ∙ ap (λ (j : ℕ). leftHeads plan (w .head) j (l .flows)) (t .leaves n .1)
+          ∙ (λ k. leftHeads (a .plan-is k) (window-is k .head) ((window-is k .head + 1) % window-is k .frames) (l .flows))
 
-  -- ---- the answer
-
-  turned : (r : Link) → Sound r → tick.tick (linkOf l) ≡ record { link = linkOf r; answer = model.owner (linkOf r) (r .cp) }
-      → Stepped answerToTick (tick.tick (linkOf l)) (record { link = r; answer = answerToTick (ownerOf (ownerAt r (r .cp))) })
-  turned r v e = rw e (refl, (ap answerToTick (sym (read-owner r (r .cp) (v .current))), v))
-
-  stayed : (nextAt l % l .plan .slots ≡ 0 → ⊥) → Stepped answerToTick (tick.tick (linkOf l)) (record { link = withCurrent l (nextAt l); answer = answerToTick (ownerOf (ownerAt l (nextAt l))) })
-  unfolding tick.tick tick.advanced linkOf
-  stayed n = turned (withCurrent l (nextAt l)) sound-moved (rw (ne-eqb _ _ n))
-
-  went-on : nextAt l % l .plan .slots ≡ 0 → Stepped answerToTick (tick.tick (linkOf l)) (record { link = recycled l; answer = answerToTick (ownerOf (ownerAt (recycled l) (nextAt l))) })
+  -- the answer is the owner of the new current position
+  pub ticked : {x : Link} {answer : Answer} → Advanced l x (on .current) → answer ≡ answerToTick (ownerOf (ownerAt x (on .current)))
+      → Stepped answerToTick (tick.tick (linkOf l)) (record { link = withCurrent x (on .current); answer = answer })
   unfolding tick.tick linkOf
-  went-on z = turned (recycled l) sound-recycled (ap (λ (m : model.Link). record { link = m; answer = model.owner m (nextAt l) }) (read-advanced z))
-
-  -- ---- the window one position on
-
-  module _ {w on : Window} (is : window.windowOf w ≡ record { slots = l .plan .slots; frames = l .plan .frames; current = l .cp }) (v : window.Proper w) (t : window.Ticked w on) where
-    window-is : w ≡ record { slots = l .plan .slots; frames = l .plan .frames; current = l .cp; head = headAt l }
-    window-is =
-        let head = v .head-is ∙ ap (λ (x : seen.Window). x .current / x .slots) is in λ k.
-        record { slots = is k .slots; frames = is k .frames; current = is k .current; head = head k }
-
-    next-is : on .current ≡ nextAt l
-    next-is = ap (λ (x : seen.Window). x .current) (t .window-is) ∙ ap (λ (x : Window). (x .current + 1) % window.sizeOf x) window-is
-
-    slots-are : w .slots ≡ l .plan .slots
-    slots-are = ap (λ (x : Window). x .slots) window-is
-
-    -- the head frame stays
-    pub head-stays : {a : Answer} → on .head ≡ w .head → a ≡ answerToTick (ownerOf (ownerAt l (on .current)))
-        → Stepped answerToTick (tick.tick (linkOf l)) (record { link = withCurrent l (on .current); answer = a })
-    head-stays e answer = rw (answer, next-is) (stayed (λ z. t .stays e (rw (next-is, slots-are) z)))
-
-    -- the head frame is left
-    pub head-left : {a : Answer} {o h : List ℕ} {fs : List Flow} → (on .head ≡ w .head → ⊥)
-        → o ≡ replaced (inRun (window.baseOf w) (window.baseOf w + w .slots)) (λ q x. nobody) (l .owner)
-        → h ≡ carriedRows (l .plan .count) ((window.baseOf w + window.sizeOf w - 1) % window.sizeOf w) (window.baseOf w) (window.baseOf w + w .slots) (l .held)
-        → fs ≡ replaced (inRun 0 (l .plan .count)) (λ i f. leftHead (w .head) (on .head) (entryAt l i .share) f) (l .flows)
-        → a ≡ answerToTick (ownerOf (getD o (on .current) 0))
-        → Stepped answerToTick (tick.tick (linkOf l)) (record { link = record { plan = l .plan; cp = on .current; owner = o; flows = fs; held = h }; answer = a })
-    head-left {a} {o} {h} {fs} n owners held flows answer = subst (Stepped answerToTick (tick.tick (linkOf l))) (sym same) (went-on (rw (← next-is, ← slots-are) (t .leaves n .0)))
-      where
-        owners-are : o ≡ recycled l .owner
-        owners-are = owners ∙ ap (λ (x : Window). replaced (inRun (window.baseOf x) (window.baseOf x + x .slots)) (λ q x. nobody) (l .owner)) window-is
-
-        held-is : h ≡ recycled l .held
-        held-is = held ∙ ap (λ (x : Window). carriedRows (l .plan .count) ((window.baseOf x + window.sizeOf x - 1) % window.sizeOf x) (window.baseOf x) (window.baseOf x + x .slots) (l .held)) window-is
-
-        flows-are : fs ≡ recycled l .flows
-        flows-are =
-            flows
-            ∙ ap (λ (j : ℕ). replaced (inRun 0 (l .plan .count)) (λ i f. leftHead (w .head) j (entryAt l i .share) f) (l .flows)) (t .leaves n .1)
-            ∙ ap (λ (x : Window). replaced (inRun 0 (l .plan .count)) (λ i f. leftHead (x .head) ((x .head + 1) % x .frames) (entryAt l i .share) f) (l .flows)) window-is
-
-        link-is : record { plan = l .plan; cp = on .current; owner = o; flows = fs; held = h } ≡ recycled l
-        link-is = λ k. record { plan = l .plan; cp = next-is k; owner = owners-are k; flows = flows-are k; held = held-is k }
-
-        answer-is : a ≡ answerToTick (ownerOf (ownerAt (recycled l) (nextAt l)))
-        answer-is = answer ∙ ap (λ (x : Link). answerToTick (ownerOf (ownerAt x (x .cp)))) link-is
-
-        same : _≡_ {A = Step} (record { link = record { plan = l .plan; cp = on .current; owner = o; flows = fs; held = h }; answer = a }) (record { link = recycled l; answer = answerToTick (ownerOf (ownerAt (recycled l) (nextAt l))) })
-        same = λ k. record { link = link-is k; answer = answer-is k }
-
--- the same of an equal link, whose owner at its current position is answered
-pub same-turn : (l : Link) {a : Answer} (p : ℕ) {x y : Link} → x ≡ y → a ≡ answerToTick (ownerOf (ownerAt x p))
-    → (a ≡ answerToTick (ownerOf (ownerAt y p)) → Stepped answerToTick (tick.tick (linkOf l)) (record { link = withCurrent y p; answer = a }))
-    → Stepped answerToTick (tick.tick (linkOf l)) (record { link = withCurrent x p; answer = a })
-same-turn l {a} p e answer then = subst (λ (z : Link). a ≡ answerToTick (ownerOf (ownerAt z p)) → Stepped answerToTick (tick.tick (linkOf l)) (record { link = withCurrent z p; answer = a })) (sym e) then answer
+  ticked {x} r e = record {
+    link-is = r .link-is;
+    answer-is =
+        e
+        ∙ ap answerToTick (sym (read-owner (withCurrent x (on .current)) (on .current) (r .sound .current)))
+        ∙ (λ k. answerToTick (model.owner (r .link-is k) (next-is k)));
+    sound = r .sound;
+  }

@@ -1,10 +1,9 @@
-pub mod Runs
-pub mod Rows
-pub mod Window
-pub mod Holdings
-pub mod Parts
+pub mod Layout
+pub mod Updates
 pub mod Reading
 pub mod Sound
-pub mod Change
-pub mod Search
-pub mod Run
+pub mod Steps
+pub mod Given
+pub mod Reply
+pub mod Fresh
+pub mod Handed

@@ -1,56 +1,49 @@
 -- A link read as the paper's: the first T positions, the first n flows; and the paper's link as it is stored. Assumes nothing.
-use Prim.Native.Nat.{ℕ, _/_, _%_}
-use mathlib.Core.List.{List}
+use Prim.Native.Nat.{ℕ}
 use mathlib.Core.Option.{Option, some, none}
-use mathlib.Core.Bool.{cond}
-use lib.ListN.{getD, replicate}
-use lib.Dec.{eqb}
+use lib.ListN.{getD}
+use Rattle.tables.specs.Rows.{rowsOf}
+use Rattle.tables.specs.Owners.{nobody, ownerOf, everywhere}
+use Rattle.link.specs.declared.Flow.{Flow}
 use Rattle.link.specs.declared.Link.{Link}
-use Rattle.link.specs.Parts.{Part, sizeOf, partAt, ownerAt}
+use Rattle.link.specs.Layout.{FlowRow, sizeOf, noFlow, flowRow, flowAt, ownerAt}
+use Rattle.link.specs.Updates.{movedTo}
 use Rattle.plan.specs.Reading as plan
 use Rattle.model.specs.Tables.{table}
 use Rattle.model.specs.Link as model
 
 -- ---- read as the paper's
 
--- the owner of a position that nobody booked
-abbrev pub nobody : ℕ
-nobody = 16
-
-abbrev pub ownerOf : ℕ → Option ℕ
-ownerOf x = cond (eqb x nobody) none (some x)
-
 -- the holdings at the first T positions
-abbrev pub flowOf : ℕ → Part → model.Flow
-flowOf T f = record { injection = f .frame; remainder = f .left; held = table T (λ p. getD (f .held) p 0) }
+abbrev pub flowOf : ℕ → FlowRow → model.Flow
+flowOf T x = record { injection = x .flow .frame; remainder = x .flow .left; held = table T (λ p. getD (x .held) p 0) }
 
 unfoldable pub linkOf : Link → model.Link
 linkOf l = record {
   plan = plan.planFor (l .plan);
   current = l .cp;
   owners = table (sizeOf l) (λ p. ownerOf (ownerAt l p));
-  flows = table (l .plan .count) (λ i. flowOf (sizeOf l) (partAt l i));
+  flows = table (l .plan .count) (λ i. flowOf (sizeOf l) (flowAt l i));
 }
 
 -- ---- the paper's link as it is stored: 256 positions and 16 flows
 
--- one value at each of 256 positions
-unfoldable pub everywhere : ℕ → List ℕ
-everywhere v = replicate 256 v
-
 -- what stands in the place of a flow that the plan does not have
-abbrev pub spareFlow : Part
-spareFlow = record { frame = 0; left = 0; held = everywhere 0 }
+abbrev pub spareFlow : FlowRow
+spareFlow = flowRow noFlow (everywhere 0)
 
 abbrev pub storedOwner : Option ℕ → ℕ
 storedOwner none = nobody
 storedOwner (some i) = i
+
+abbrev pub storedFlow : model.Flow → Flow
+storedFlow f = movedTo noFlow (f .injection) (f .remainder)
 
 unfoldable pub stored : model.Link → Link
 stored m = record {
   plan = plan.stored (m .plan);
   cp = m .current;
   owner = table 256 (λ p. storedOwner (model.owner m p));
-  flows = table 16 (λ i. record { frame = model.flow m i .injection; left = model.flow m i .remainder });
-  held = table 4096 (λ k. model.holding m (k / 256) (k % 256));
+  flows = table 16 (λ i. storedFlow (model.flow m i));
+  held = rowsOf (model.holding m);
 }

@@ -1,32 +1,26 @@
 // The credit.
 ghost use mathlib.Core.Path.{_≡_};
-ghost use Prim.Native.Nat.{_≤_};
 ghost use Rattle.model.specs.Refusals.{firstOf};
 ghost use Rattle.model.specs.Credit as model;
 ghost use Rattle.calls.specs.Reading.{answerToCredit};
 ghost use Rattle.link.specs.Reading.{linkOf};
 ghost use Rattle.link.specs.Sound.{Sound};
-ghost use Rattle.link.specs.Window.{Proper};
+ghost use Rattle.link.specs.Steps.{Stepped};
 ghost use Rattle.link.specs.declared.Link.{Link};
-ghost use Rattle.link.specs.Change.{Around, Creditable};
+ghost use Rattle.link.specs.Given.{SomeLink, CreditOn, Creditable};
 use crate::Answer;
 use crate::Link;
 use crate::Step;
-use crate::Window;
-use crate::holdings::held_from;
-use crate::holdings::shift_from;
-use crate::positions::window;
+use tables::holdings::Holdings;
+use tables::holdings::held_from;
+use tables::holdings::shift_from;
+use window::Window;
+use window::positions::window;
 
 // The refusal of a credit, and 0 where it is taken: n flows, the window, and what each flow holds.
-pub(crate) fn refusal(
-    count: usize,
-    w: Window,
-    held: &[u8; 4096],
-    flow: usize,
-    position: usize,
-) -> u8
-    requires { ⌜ Proper w × (count ≤ 16) ⌝ }
-    ensures is { λ r. ⌜ ((l : Link) → Around l count w (now (held .entry)) → r ≡ firstOf (model.creditTests (linkOf l) flow position)) ⌝ }
+pub fn refusal(count: usize, w: Window, held: &Holdings, flow: usize, position: usize) -> u8
+    requires { ⌜ SomeLink (λ l. CreditOn l count w (now held)) ⌝ }
+    ensures is { λ r. ⌜ ((l : Link) → CreditOn l count w (now (held .entry)) → r ≡ firstOf (model.creditTests (linkOf l) flow position)) ⌝ }
     ensures taken { λ r. ⌜ (r ≡ 0 → Creditable count w (now (held .entry)) flow position) ⌝ }
 {
     if count <= flow {
@@ -48,9 +42,7 @@ impl Link {
     // A flow's cell falls free from a position on.
     pub fn credit(mut self, flow: usize, position: usize) -> Step
         requires { ⌜ Sound self ⌝ }
-        ensures link { λ r. ⌜ linkOf (r .link) ≡ model.credit (linkOf self) flow position .link ⌝ }
-        ensures answer { λ r. ⌜ r .answer ≡ answerToCredit (model.credit (linkOf self) flow position .answer) ⌝ }
-        ensures sound { λ r. ⌜ Sound (r .link) ⌝ }
+        ensures { λ r. ⌜ Stepped answerToCredit (model.credit (linkOf self) flow position) r ⌝ }
     {
         let w = window(self.plan.slots, self.plan.frames, self.cp);
         let number = refusal(self.plan.count, w, &self.held, flow, position);

@@ -1,58 +1,29 @@
 // The fresh link.
 ghost use mathlib.Core.Path.{_≡_};
 ghost use Prim.Native.Nat.{_≤_};
-ghost use lib.ListN.{getD, replicate};
-ghost use Rattle.plan.specs.Reading.{Valid, planFor, noEntry};
+ghost use Rattle.plan.specs.Reading.{Valid, planFor};
 ghost use Rattle.model.specs.Fresh as model;
-ghost use Rattle.link.specs.Runs.{inRun, replaced};
-ghost use Rattle.link.specs.Rows.{sixteenRows};
-ghost use Rattle.link.specs.Parts.{noFlow};
-ghost use Rattle.link.specs.Reading.{everywhere, nobody, linkOf};
+ghost use Rattle.link.specs.Fresh.{freshFlows};
+ghost use Rattle.link.specs.Reading.{linkOf};
 ghost use Rattle.link.specs.Sound.{Sound};
 use crate::Flow;
 use crate::Link;
 use plan::Entry;
 use plan::Plan;
-
-fn unbooked() -> [u8; 256]
-    ensures { λ r. ⌜ r ≡ everywhere nobody ⌝ }
-{
-    [16u8; 256]
-}
-
-fn unheld() -> [u8; 256]
-    ensures { λ r. ⌜ r ≡ everywhere 0 ⌝ }
-{
-    [0u8; 256]
-}
-
-// A flow's holdings in each of the 16 rows.
-fn rows(held: [u8; 256]) -> [u8; 4096]
-    ensures { λ r. ⌜ r ≡ sixteenRows held ⌝ }
-{
-    let mut all = [0u8; 4096];
-    let mut k = 0;
-    while k < 4096 {
-        all[k] = held[k % 256];
-        k += 1;
-    }
-    all
-}
+use tables::holdings::nothing_held;
+use tables::owners::unbooked;
 
 // The frames and remainders of n flows, each with its share.
 fn flows(entries: [Entry; 16], count: usize) -> [Flow; 16]
     requires { ⌜ count ≤ 16 ⌝ }
-    ensures { λ r. ⌜ r ≡ replaced (inRun 0 count) (λ i f. record { frame = 0; left = getD entries i noEntry .share }) (replicate 16 noFlow) ⌝ }
+    ensures { λ r. ⌜ r ≡ freshFlows entries count ⌝ }
 {
     let spare = Flow { frame: 0, left: 0 };
     let mut all = [spare; 16];
     let mut i = 0;
     while i < count {
         let e = entries[i];
-        all[i] = Flow {
-            frame: 0,
-            left: e.share as usize,
-        };
+        all[i] = spare.moved_to(0, e.share as usize);
         i += 1;
     }
     all
@@ -67,7 +38,7 @@ impl Link {
         let entries = plan.entries;
         let flows = flows(entries, plan.count);
         let owner = unbooked();
-        let held = rows(unheld());
+        let held = nothing_held();
         Link {
             plan,
             cp: 0,

@@ -1,50 +1,45 @@
 // One link of a plan: its current position, the owner of each position, each flow's frame and remainder, and what each flow holds.
-mod positions; // positions and frames, going round
-mod numbers; // the smaller, the larger, and sums modulo 256
-mod holdings; // what each flow holds at each position
-mod search; // the search for a position to book
-mod change; // what a request changes
-mod credit;
+ghost use mathlib.Core.Path.{_≡_};
+ghost use Rattle.link.specs.Updates.{movedTo};
+
+pub mod credit;
 mod fresh;
-mod request;
-mod run;
-mod tick;
+pub mod reply; // what a request comes to
+pub mod request;
+pub mod tick;
 
 use calls::Answer;
 use plan::Plan;
-pub use run::Run;
+use tables::holdings::Holdings;
 
 // A flow's injection frame and its remainder.
 pub struct Flow {
-    frame: usize,
-    left: usize,
+    pub frame: usize,
+    pub left: usize,
 }
 
-// A link; 16 is the owner of a position that nobody booked. What flow i holds at position p stands at 256 * i + p.
+impl Flow {
+    // The flow in another frame, with another remainder.
+    pub(crate) fn moved_to(mut self, frame: usize, left: usize) -> Flow
+        ensures { λ r. ⌜ r ≡ movedTo self frame left ⌝ }
+    {
+        self.frame = frame;
+        self.left = left;
+        self
+    }
+}
+
+// A link; 16 is the owner of a position that nobody booked.
 pub struct Link {
-    plan: Plan,
-    cp: usize,
-    owner: [u8; 256],
-    flows: [Flow; 16],
-    held: [u8; 4096],
+    pub plan: Plan,
+    pub cp: usize,
+    pub owner: [u8; 256],
+    pub flows: [Flow; 16],
+    pub held: Holdings,
 }
 
 // What a call hands back.
 pub struct Step {
     pub link: Link,
     pub answer: Answer,
-}
-
-// The window of a call: F, W and CP, and the head frame.
-struct Window {
-    slots: usize,
-    frames: usize,
-    current: usize,
-    head: usize,
-}
-
-// What a search comes to: the frame, the remainder and the position to book; or no position, and the remainder.
-enum Found {
-    At(usize, usize, usize),
-    Nowhere(usize),
 }

@@ -1,10 +1,8 @@
 // The request.
 ghost use mathlib.Core.Path.{_≡_};
 ghost use mathlib.Core.Bool.{cond};
-ghost use Prim.Native.Nat.{_*_, _<_};
 ghost use lib.Dec.{eqb};
-ghost use lib.ListN.{getD};
-ghost use Rattle.plan.specs.Reading.{planFor, noEntry};
+ghost use Rattle.plan.specs.Reading.{planFor};
 ghost use Rattle.plan.specs.declared.Plan.{Plan};
 ghost use Rattle.model.specs.Refusals.{firstOf};
 ghost use Rattle.model.specs.Word.{flowOf};
@@ -13,27 +11,26 @@ ghost use Rattle.calls.specs.Reading.{answerToRequest};
 ghost use Rattle.link.specs.declared.Link.{Link};
 ghost use Rattle.link.specs.Reading.{linkOf};
 ghost use Rattle.link.specs.Sound.{Sound};
-ghost use Rattle.link.specs.Window.{sizeOf};
-ghost use Rattle.link.specs.Change as change;
-ghost use Rattle.link.specs.Change.{Given, PartsOf, changed, Stepped};
+ghost use Rattle.link.specs.Steps.{Stepped};
+ghost use Rattle.link.specs.Given.{SomeLink, placed, RequestOn, WordOn};
+ghost use Rattle.link.specs.Reply.{replyOf};
 use crate::Answer;
 use crate::Flow;
-use crate::Found;
 use crate::Link;
 use crate::Step;
-use crate::Window;
-use crate::change::Change;
-use crate::change::placed;
-use crate::change::refused;
-use crate::holdings::shift_from;
-use crate::positions::window;
-use crate::search::search;
-use crate::search::valid_rank;
+use crate::reply::Reply;
+use crate::reply::refused;
 use plan::Entry;
+use tables::Found;
+use tables::holdings::Holdings;
+use tables::holdings::shift_from;
+use tables::search::find;
+use window::Window;
+use window::positions::window;
 
 // The refusal of a word by its own tests, and 0 where it passes them: n flows, the entry of the word's flow (of flow 0 where there is none), and T.
 fn refusal(count: usize, e: Entry, size: usize, word: u32) -> u8
-    ensures { λ r. ⌜ ((p : Plan) → p .count ≡ count → getD (p .entries) (change.placed count (flowOf word)) noEntry ≡ e → p .slots * p .frames ≡ size → r ≡ firstOf (model.wordTests (planFor p) word)) ⌝ }
+    ensures { λ r. ⌜ ((p : Plan) → WordOn p count e size word → r ≡ firstOf (model.wordTests (planFor p) word)) ⌝ }
 {
     let fields = word::split(word);
     if count <= fields.flow as usize {
@@ -48,7 +45,8 @@ fn refusal(count: usize, e: Entry, size: usize, word: u32) -> u8
     0
 }
 
-// The refusal where the search ends with no position, at the newest frame, with a remainder. A spent share is refused before the search, so that only 12 comes from here.
+// The refusal where the search ends with no position, at the newest frame, with a remainder. A spent share is refused before the search,
+// so that only 12 comes from here.
 fn nowhere(left: usize) -> u8
     ensures { λ r. ⌜ r ≡ cond (eqb left 0) 11 12 ⌝ }
 {
@@ -58,28 +56,38 @@ fn nowhere(left: usize) -> u8
     12
 }
 
+// Flow i of a plan of n flows, and 0 where there is none.
+fn placed(count: usize, i: usize) -> usize
+    ensures { λ r. ⌜ r ≡ placed count i ⌝ }
+{
+    if i < count {
+        return i;
+    }
+    0
+}
+
 // The flow of a word, or 0 where the plan does not have it.
-pub(crate) fn asker(count: usize, word: u32) -> usize
-    ensures { λ r. ⌜ r ≡ change.placed count (flowOf word) ⌝ }
+pub fn asker(count: usize, word: u32) -> usize
+    ensures { λ r. ⌜ r ≡ placed count (flowOf word) ⌝ }
 {
     let fields = word::split(word);
     placed(count, fields.flow as usize)
 }
 
-// The change by a word that asks for a slot. Its flow is i; i is 0 where the plan does not have it.
-pub(crate) fn ask<'a>(
+// What a word that asks for a slot comes to. Its flow is i; i is 0 where the plan does not have it.
+pub fn ask<'a>(
     count: usize,
     e: Entry,
     w: Window,
     owner: &'a [u8; 256],
-    held: &'a [u8; 4096],
+    held: &'a Holdings,
     i: usize,
     flow: Flow,
     word: u32,
-) -> Change
-    requires { ⌜ Given count e w (now owner) (now held) i flow × (i ≡ change.placed count (flowOf word)) ⌝ }
-    ensures is { λ r. ⌜ ((l : Link) → PartsOf l count e w (now (owner .entry)) (now (held .entry)) i flow → Stepped answerToRequest (model.request (linkOf l) word) (changed l i r)) ⌝ }
-    ensures place { λ r. ⌜ r .position < sizeOf w ⌝ }
+) -> Reply
+    requires { ⌜ SomeLink (λ l. RequestOn l count e w (now owner) (now held) i flow word) ⌝ }
+    ensures { λ r. ⌜ ((l : Link) → RequestOn l count e w (now (owner .entry)) (now (held .entry)) i flow word
+        → r ≡ replyOf i (model.request (linkOf l) word)) ⌝ }
 {
     let number = refusal(count, e, w.slots * w.frames, word);
     if number != 0 {
@@ -90,12 +98,20 @@ pub(crate) fn ask<'a>(
     if flow.left == 0 && flow.frame == newest {
         return refused(flow, 11);
     }
-    let low = valid_rank(held, i, e.cells, w);
-    let found = search(owner, w, low, e.share as usize, flow.frame, flow.left);
+    let found = find(
+        owner,
+        held,
+        i,
+        e.cells,
+        w,
+        e.share as usize,
+        flow.frame,
+        flow.left,
+    );
     match found {
         Found::At(frame, left, position) => {
-            return Change {
-                flow: Flow { frame, left },
+            return Reply {
+                flow: flow.moved_to(frame, left),
                 position,
                 granted: true,
                 answer: Answer::Granted(word::depart(word, position as u8)),
@@ -103,11 +119,7 @@ pub(crate) fn ask<'a>(
         }
         Found::Nowhere(left) => {
             let number = nowhere(left);
-            let flow = Flow {
-                frame: newest,
-                left,
-            };
-            return refused(flow, number);
+            return refused(flow.moved_to(newest, left), number);
         }
     }
 }
@@ -116,24 +128,22 @@ impl Link {
     // A word asks for a slot.
     pub fn request(mut self, word: u32) -> Step
         requires { ⌜ Sound self ⌝ }
-        ensures link { λ r. ⌜ linkOf (r .link) ≡ model.request (linkOf self) word .link ⌝ }
-        ensures answer { λ r. ⌜ r .answer ≡ answerToRequest (model.request (linkOf self) word .answer) ⌝ }
-        ensures sound { λ r. ⌜ Sound (r .link) ⌝ }
+        ensures { λ r. ⌜ Stepped answerToRequest (model.request (linkOf self) word) r ⌝ }
     {
         let plan = self.plan;
         let i = asker(plan.count, word);
         let e = plan.entries[i];
         let flow = self.flows[i];
         let w = window(plan.slots, plan.frames, self.cp);
-        let change = ask(plan.count, e, w, &self.owner, &self.held, i, flow, word);
-        let flow = change.flow;
+        let reply = ask(plan.count, e, w, &self.owner, &self.held, i, flow, word);
+        let flow = reply.flow;
         self.flows[i] = flow;
-        if change.granted {
-            let position = change.position;
+        if reply.granted {
+            let position = reply.position;
             self.owner[position] = i as u8;
             shift_from(&mut self.held, 1, i, w, position);
         }
-        let answer = change.answer;
+        let answer = reply.answer;
         Step { link: self, answer }
     }
 }

@@ -1,4 +1,4 @@
--- Each bad card is sent back: by a part of demand 3, or, where the card invents the holding, by its answers. Assumes nothing.
+-- Each bad card is sent back: by a clause of demand 3, or, where the card invents the holding, by its answers. Assumes nothing.
 use Prim.Native.Nat.{ℕ, _+_, _≤_, _<_}
 use mathlib.Core.Path.{_≡_, refl}
 use mathlib.Core.List.{List, _∷_, []}
@@ -11,14 +11,16 @@ use Rattle.model.specs.Plan.{flowCount, planOf, refusal}
 use Rattle.model.specs.Calls.{Call, History, requested, credited, accepted, refused}
 use Rattle.model.specs.History.{slotAfter}
 use Rattle.model.specs.Link.{Link, holding}
+use Rattle.model.specs.Claim.{Clause}
 use Rattle.model.specs.Card.{Card, Meets, run, paper}
 use Rattle.model.specs.PlanBytes.{listing, single}
-use Rattle.model.specs.Edges.{Passes, markedEdges}
-use Rattle.model.specs.Parts.{Part}
-use Rattle.model.specs.BadCards.{refusesAll, refusesFlow1, grantsOne, writesNoBooking, firstWindowOnly, inventsHolding, fullest, startsAtZero, testsOwnPosition, walksPastEnd, stopsAtLastFrame, dropsHoldings}
-use Rattle.model.proofs.Compute.{plans-compute, calls-compute, counts-compute}
-use Rattle.model.proofs.Decisions.{IsNo, refuted}
-use Rattle.model.proofs.Decide.{decided, part-of}
+use Rattle.model.specs.EdgeCases.{Passes}
+use Rattle.model.specs.Edges.{markedEdges}
+use Rattle.model.specs.BadCards.{refusesAll, refusesFlow1, grantsOne, writesNoBooking, firstWindowOnly, inventsHolding, fullest, startsAtZero}
+use Rattle.model.specs.BadCards.{testsOwnPosition, walksPastEnd, stopsAtLastFrame, dropsHoldings}
+use Rattle.model.proofs.Unfoldings.{plans-compute, calls-compute, counts-compute}
+use Rattle.model.proofs.Decidable.{IsNo, refuted}
+use Rattle.model.proofs.ClaimDecided.{decided}
 
 -- the bytes of an accepted plan
 record Sample : Type 0 where
@@ -38,11 +40,11 @@ one-flow = record { bytes = single; accepted-plan = refl; some-flow = lit< tt }
 abbrev eventsOn : Card → Sample → List Call → History
 eventsOn c s calls = run c (planOf (s .bytes)) calls .history
 
--- A card whose events break a part of demand 3 for flow 0 does not meet it.
-sent-back : (c : Card) (s : Sample) (calls : List Call) (part : Part) → IsNo (decided part (planOf (s .bytes)) 0 (eventsOn c s calls)) → Meets c → ⊥
-sent-back c s calls part broken meets =
-    refuted (decided part (planOf (s .bytes)) 0 (eventsOn c s calls)) broken
-    (part-of (meets (s .bytes) (s .accepted-plan) calls 0 (s .some-flow)) part)
+-- A card whose events break a clause of demand 3 for flow 0 does not meet it.
+sent-back : (c : Card) (s : Sample) (calls : List Call) (clause : Clause)
+    → IsNo (decided clause (planOf (s .bytes)) 0 (eventsOn c s calls)) → Meets c → ⊥
+sent-back c s calls clause broken meets =
+    refuted (decided clause (planOf (s .bytes)) 0 (eventsOn c s calls)) broken (meets (s .bytes) (s .accepted-plan) calls 0 (s .some-flow) clause)
 
 unfoldable events-compute : Unit {0}
 unfolding plans-compute calls-compute counts-compute decided
@@ -53,20 +55,20 @@ events-compute = tt
 -- one request, and it is refused: the least count is 2
 pub refuses-all : (refusal : Link → ℕ → Link × ℕ) → Meets (refusesAll refusal) → ⊥
 unfolding events-compute
-refuses-all refusal = sent-back (refusesAll refusal) two-flows (Call.request 0x24000000 ∷ []) Part.least tt
+refuses-all refusal = sent-back (refusesAll refusal) two-flows (Call.request 0x24000000 ∷ []) Clause.least tt
 
 pub refuses-flow-1 : Meets refusesFlow1 → ⊥
 unfolding events-compute
 refuses-flow-1 meets =
     let calls = Call.request 0x24100000 ∷ [] in
-    refuted (decided Part.least (planOf listing) 1 (run refusesFlow1 (planOf listing) calls .history)) tt
-    (part-of (meets listing refl calls 1 (lit< tt)) Part.least)
+    refuted (decided Clause.least (planOf listing) 1 (run refusesFlow1 (planOf listing) calls .history)) tt
+    (meets listing refl calls 1 (lit< tt) Clause.least)
 
 -- three grants, where the most count is 2
 pub grants-one-most : (p : ℕ) (next : Link → ℕ → Link) → Meets (grantsOne p next) → ⊥
 unfolding events-compute
 grants-one-most p next =
-    sent-back (grantsOne p next) one-flow (Call.request 0x24000000 ∷ Call.request 0x24000400 ∷ Call.request 0x24000800 ∷ []) Part.most tt
+    sent-back (grantsOne p next) one-flow (Call.request 0x24000000 ∷ Call.request 0x24000400 ∷ Call.request 0x24000800 ∷ []) Clause.most tt
 
 twice : (x : ℕ) → bit (eqb x x) + (bit (eqb x x) + 0) ≤ 1 → ⊥
 twice x le = let two = rw (eq-eqb x x refl) at le in omega arith
@@ -76,25 +78,26 @@ pub grants-one-owner : (p : ℕ) (next : Link → ℕ → Link) → Meets (grant
 unfolding events-compute
 grants-one-owner p next meets =
     let s = slotAfter (planOf listing) 0 (departureOf (depart 0x24000000 p)) in
-    twice s (meets listing refl (Call.request 0x24000000 ∷ Call.request 0x24000000 ∷ []) 0 (lit< tt) .one-owner s)
+    twice s (meets listing refl (Call.request 0x24000000 ∷ Call.request 0x24000000 ∷ []) 0 (lit< tt) Clause.one-owner s)
 
 -- slot 1 is granted and comes up idle
 pub writes-no-booking : Meets writesNoBooking → ⊥
 unfolding events-compute
-writes-no-booking = sent-back writesNoBooking two-flows (Call.request 0x24000000 ∷ Call.tick ∷ []) Part.comes-up tt
+writes-no-booking = sent-back writesNoBooking two-flows (Call.request 0x24000000 ∷ Call.tick ∷ []) Clause.comes-up tt
 
 -- F = 1 and W = 2, so that the first window is slots 0 and 1: in them it books slots 1 and 2; with k = 2 the least count is 3
 pub first-window-only : Meets firstWindowOnly → ⊥
 unfolding events-compute
 first-window-only =
     sent-back firstWindowOnly one-flow
-    (Call.request 0x24000000 ∷ Call.request 0x24000400 ∷ Call.tick ∷ Call.request 0x24000401 ∷ Call.request 0x24000801 ∷ Call.tick ∷ Call.request 0x24000800 ∷ [])
-    Part.least tt
+    (Call.request 0x24000000 ∷ Call.request 0x24000400 ∷ Call.tick ∷ Call.request 0x24000401 ∷ Call.request 0x24000801 ∷ Call.tick
+    ∷ Call.request 0x24000800 ∷ [])
+    Clause.least tt
 
 -- the first request is refused with 11
 pub starts-at-zero : Meets startsAtZero → ⊥
 unfolding events-compute
-starts-at-zero = sent-back startsAtZero two-flows (Call.request 0x24000000 ∷ []) Part.least tt
+starts-at-zero = sent-back startsAtZero two-flows (Call.request 0x24000000 ∷ []) Clause.least tt
 
 -- Demand 3 counts the credits that are taken, and does not say which are to be taken: a card that invents that nothing is held is told from the
 -- paper's by its answers. It refuses the listing's credit with 15, and then the request with 12. What rules it out is the theorem that the paper's
@@ -108,11 +111,13 @@ abbrev listingBegins : History
 listingBegins = requested 0x24000800 (refused 12) ∷ requested 0x24000400 (accepted 0x24000402) ∷ requested 0x24000000 (accepted 0x24000001) ∷ []
 
 pub invented-answers :
-    run (inventsHolding holding (λ l i q. 0)) (planOf listing) listingCalls .history ≡ requested 0x24000800 (refused 12) ∷ credited 0 4 (refused 15) ∷ listingBegins
+    run (inventsHolding holding (λ l i q. 0)) (planOf listing) listingCalls .history
+    ≡ requested 0x24000800 (refused 12) ∷ credited 0 4 (refused 15) ∷ listingBegins
 unfolding calls-compute
 invented-answers = refl
 
-pub invents-holding : run (inventsHolding holding (λ l i q. 0)) (planOf listing) listingCalls .history ≡ run paper (planOf listing) listingCalls .history → ⊥
+pub invents-holding :
+    run (inventsHolding holding (λ l i q. 0)) (planOf listing) listingCalls .history ≡ run paper (planOf listing) listingCalls .history → ⊥
 unfolding calls-compute
 invents-holding e = let z : _≡_ {A = ℕ} 0 1 = cc in omega arith
 
@@ -127,7 +132,7 @@ invented-full = refl
 -- Where it invents a cell held everywhere, it takes a credit with nothing held, and demand 3 sends it back.
 pub invents-a-cell : Meets (inventsHolding holding (λ l i q. 1)) → ⊥
 unfolding events-compute
-invents-a-cell = sent-back (inventsHolding holding (λ l i q. 1)) two-flows (Call.credit 0 1 ∷ []) Part.within-cells tt
+invents-a-cell = sent-back (inventsHolding holding (λ l i q. 1)) two-flows (Call.credit 0 1 ∷ []) Clause.within-cells tt
 
 -- ---- "Three slips that would pass the sparse flight"
 
@@ -142,18 +147,18 @@ pub tests-own-position : Meets testsOwnPosition → ⊥
 unfolding events-compute
 tests-own-position =
     sent-back testsOwnPosition two-flows
-    (Call.request 0x24000000 ∷ Call.request 0x24000400 ∷ Call.credit 0 5 ∷ Call.credit 0 5 ∷ Call.credit 0 2 ∷ []) Part.within-cells tt
+    (Call.request 0x24000000 ∷ Call.request 0x24000400 ∷ Call.credit 0 5 ∷ Call.credit 0 5 ∷ Call.credit 0 2 ∷ []) Clause.within-cells tt
 
 -- at CP = 1, in the last of two frames of one slot, it grants position 2, which is T
 pub walks-past-end : Meets walksPastEnd → ⊥
 unfolding events-compute
-walks-past-end = sent-back walksPastEnd one-flow (Call.tick ∷ Call.request 0x24000001 ∷ []) Part.granted-words tt
+walks-past-end = sent-back walksPastEnd one-flow (Call.tick ∷ Call.request 0x24000001 ∷ []) Clause.granted-words tt
 
 -- with k = 1 the least count is 2, and it grants slot 1 alone
 pub stops-at-last-frame : Meets stopsAtLastFrame → ⊥
 unfolding events-compute
 stops-at-last-frame =
-    sent-back stopsAtLastFrame one-flow (Call.request 0x24000000 ∷ Call.request 0x24000400 ∷ Call.tick ∷ Call.request 0x24000401 ∷ []) Part.least tt
+    sent-back stopsAtLastFrame one-flow (Call.request 0x24000000 ∷ Call.request 0x24000400 ∷ Call.tick ∷ Call.request 0x24000401 ∷ []) Clause.least tt
 
 -- with both cells held it grants slot 8
 pub drops-holdings : Meets dropsHoldings → ⊥
@@ -161,4 +166,4 @@ unfolding events-compute
 drops-holdings =
     sent-back dropsHoldings two-flows
     (Call.request 0x24000000 ∷ Call.request 0x24000400 ∷ Call.tick ∷ Call.tick ∷ Call.tick ∷ Call.tick ∷ Call.request 0x24000804 ∷ [])
-    Part.within-cells tt
+    Clause.within-cells tt

@@ -6,7 +6,7 @@ use Rattle.model.specs.Tables.{tally}
 use Rattle.model.specs.Plan.{Plan, flowCount, entry, planOf, Accepted}
 use Rattle.model.specs.Calls.{History}
 use Rattle.model.specs.History.{grants, grantedUpTo, creditedUpTo}
-use Rattle.model.specs.Claim.{Demand3}
+use Rattle.model.specs.Claim.{Clause, Demand3}
 use Rattle.model.specs.Card.{Card, Meets, run}
 use Rattle.model.specs.Buffer.{FitsBuffer, NeverOverfull}
 use Rattle.model.proofs.Plan.{accepted}
@@ -16,7 +16,7 @@ use Rattle.model.proofs.Tallies.{sum-le, sum-add}
 within : (P : Plan) (i : ℕ) (h : History) (s : ℕ) → Demand3 P i h → grantedUpTo P h i s ≤ creditedUpTo P h i s + entry P i .cells
 unfolding grants tally
 within P i [] s d = omega arith
-within P i (e ∷ h) s d = let x = d .within-cells .0 s in omega (arith, x .is, x .within)
+within P i (e ∷ h) s d = let x = d Clause.within-cells .0 s in omega (arith, x .is, x .within)
 
 together : (P : Plan) → Accepted P → (h : History) (s : ℕ) → ((i : ℕ) → i < flowCount P → Demand3 P i h) → FitsBuffer P h s
 together P ok h s d =

@@ -11,47 +11,45 @@ use Rattle.model.specs.Plan.{Plan, flowCount, entry, planOf, Accepted}
 use Rattle.model.specs.Calls.{Event, History}
 use Rattle.model.specs.Link.{Link}
 use Rattle.model.specs.History.{Mark, ticks, changes, frameOf, grants, granted, grantedIn, ofFlow, inFrame}
-use Rattle.model.specs.Claim.{Each, Persistent, Demand3}
+use Rattle.model.specs.Claim.{Each, Clause, Says, Demand3}
 use Rattle.model.specs.Card.{Meets, MeetsOn, paper}
 use Rattle.model.proofs.Tests.{and-true}
 use Rattle.model.proofs.Tallies.{all-map, sum-le, sum-const, sum-tail, tally-join, tally-split, Classed}
 use Rattle.model.proofs.Slots.{frame-high}
+use Rattle.model.proofs.Window.{Current}
 use Rattle.model.proofs.Invariant.{Granted}
-use Rattle.model.proofs.Histories.{changes-are}
-use Rattle.model.proofs.After.{AskedOn, After}
+use Rattle.model.proofs.HistoryCounts.{changes-are}
+use Rattle.model.proofs.AfterHistory.{AskedOn, After}
 use Rattle.model.proofs.Plan.{accepted}
-use Rattle.model.proofs.Runs.{after-run}
+use Rattle.model.proofs.AfterCalls.{after-run}
 
 each-map : (Q R : Event → History → Type 0) → ((e : Event) (h : History) → Q e h → R e h) → (h : History) → Each Q h → Each R h
 each-map Q R f [] a = tt
 each-map Q R f (e ∷ h) a = (f e h (a .0), each-map Q R f h (a .1))
 
 module _ (l : Link) (h : History) (g : After (l .plan) l h) (i : ℕ) (known : i < flowCount (l .plan)) where
-  abbrev P : Plan
-  P = l .plan
+  open Link l using (plan as P)
+  open Current (g .invariant .current) using (accepted as ok)
 
   abbrev share : ℕ
-  share = entry (l .plan) i .share
+  share = entry P i .share
 
   abbrev inEach : ℕ → ℕ
-  inEach f = grantedIn (l .plan) h i f
+  inEach f = grantedIn P h i f
 
   -- the frames that have begun: those already gone, and the window's
   abbrev begun : ℕ
   begun = P .frames + changes P h
 
-  ok : Accepted P
-  ok = g .invariant .current .accepted
-
   change-count : changes P h ≡ frameOf P (ticks h)
   change-count = changes-are P ok h
 
-  in-frame : (f : ℕ) → inEach f ≤ share
+  in-frame : Says Clause.most-in-a-frame P i h
   in-frame = g .invariant .injects i known .in-frames
 
   -- flow i's grants, frame by frame
   frames-cover : granted P h i ≤ sum begun inEach
-  frames-cover = tally-split begun (ofFlow i) (inFrame P i) (grants P h) (all-map _ _ in-one (grants P h) (g .invariant .grants-in))
+  frames-cover = tally-split begun (ofFlow i) (inFrame P i) (grants P h) (all-map _ _ in-one (grants P h) (g .invariant .marks .grants-in))
     where
       in-one : (m : Mark) → Granted P (ticks h) 0 m → ofFlow i m ≡ true → Classed begun (inFrame P i) m
       in-one m x e = record {
@@ -68,10 +66,10 @@ module _ (l : Link) (h : History) (g : After (l .plan) l h) (i : ℕ) (known : i
       frame-is : (m : Mark) (j : ℕ) → inFrame P i j m ≡ true → frameOf P (m .slot) ≡ j
       frame-is m j p = eqb-true (frameOf P (m .slot)) j (and-true (ofFlow i m) (eqb (frameOf P (m .slot)) j) p .1)
 
-  most : granted P h i ≤ begun * share
+  most : Says Clause.most P i h
   most = omega (arith, frames-cover, sum-le begun inEach (λ f. share) (λ f below. in-frame f), sum-const begun share)
 
-  least : Persistent P i h → (P .frames - 1 + changes P h) * share ≤ granted P h i
+  least : Says Clause.least P i h
   least p =
       let n = P .frames - 1 + changes P h in
       let asked : AskedOn P h i = record {
@@ -86,16 +84,14 @@ module _ (l : Link) (h : History) (g : After (l .plan) l h) (i : ℕ) (known : i
       omega arith
 
   demand3 : Demand3 P i h
-  demand3 = record {
-    most = most;
-    most-in-a-frame = in-frame;
-    least = least;
-    one-owner = g .invariant .once;
-    within-cells = each-map _ _ (λ e h c. c .held i known) h (g .events);
-    within-a-window = each-map _ _ (λ e h c. c .soon) h (g .events);
-    comes-up = each-map _ _ (λ e h c. c .comes-up) h (g .events);
-    granted-words = each-map _ _ (λ e h c. c .word) h (g .events);
-  }
+  demand3 Clause.most = most
+  demand3 Clause.most-in-a-frame = in-frame
+  demand3 Clause.least = least
+  demand3 Clause.within-cells = each-map _ _ (λ e h c. c .held i known) h (g .events)
+  demand3 Clause.one-owner = g .invariant .bookings .once
+  demand3 Clause.within-a-window = each-map _ _ (λ e h c. c .soon) h (g .events)
+  demand3 Clause.comes-up = each-map _ _ (λ e h c. c .comes-up) h (g .events)
+  demand3 Clause.granted-words = each-map _ _ (λ e h c. c .word) h (g .events)
 
 -- demand 3 on any plan that keeps the limits, and so on the plan of any bytes that are accepted
 pub meets-accepted : (P : Plan) → Accepted P → MeetsOn paper P

@@ -14,8 +14,8 @@ use Rattle.model.specs.Link.{Link, window, flow, holding, cells, heldFro
 use Rattle.model.specs.History.{Mark}
 use Rattle.model.specs.Holding.{InWindow}
 use Rattle.model.proofs.Slots.{some-position}
-use Rattle.model.proofs.Window.{fromOn-is, everyFrom-at}
-use Rattle.model.proofs.Links.{heldFrom-at}
+use Rattle.model.proofs.Window.{Current, fromOn-is, everyFrom-at}
+use Rattle.model.proofs.LinkUpdates.{heldFrom-at}
 use Rattle.model.proofs.Marks.{mark, marksUpTo, up-to-hit, up-to-skip, up-to-other}
 use Rattle.model.proofs.Invariant.{Ledger, HoldsAt, Room, Invariant, from-the-window}
 
@@ -42,17 +42,18 @@ module _ {P : Plan} {t : ℕ} {B K : List Mark} {i : ℕ} {held : List ℕ} {s :
 -- ---- flow i's holding changed from slot s on
 
 module _ {l : Link} {L : Ledger} (v : Invariant l L) {i : ℕ} (known : i < flowCount (l .plan)) {s : ℕ} (w : InWindow (l .plan) (L .now) s) where
-  abbrev P : Plan
-  P = l .plan
+  open Link l using (plan as P)
+  open Ledger L using (now as t)
+  open Current (v .current) using (accepted as ok)
 
   abbrev T : ℕ
-  T = positions (l .plan)
+  T = positions P
 
   -- the changed holdings, by slot
-  held-from : (f : ℕ → ℕ) (r : ℕ) → InWindow P (L .now) r → (b : Bool) → leb s r ≡ b
+  held-from : (f : ℕ → ℕ) (r : ℕ) → InWindow P t r → (b : Bool) → leb s r ≡ b
       → getD (heldFrom l i (s % T) f) (r % T) 0 ≡ cond b (f (holding l i (r % T))) (holding l i (r % T))
   held-from f r wr b e =
-      heldFrom-at l i (s % T) f (r % T) (mod-lt r (some-position (v .current .accepted)))
+      heldFrom-at l i (s % T) f (r % T) (mod-lt r (some-position ok))
       ∙ ap (λ c. cond c (f (holding l i (r % T))) (holding l i (r % T))) (fromOn-is (v .current) s r w wr ∙ e)
 
   -- the counts with one mark more
@@ -63,14 +64,14 @@ module _ {l : Link} {L : Ledger} (v : Invariant l L) {i : ℕ} (known : i < flow
   skips r C e = up-to-skip i r (mark i s) C e
 
   -- what flow i holds at slot r
-  before : (r : ℕ) → HoldsAt P (L .now) (L .raises) (L .credits) i (flow l i .held) r
+  before : (r : ℕ) → HoldsAt P t (L .raises) (L .credits) i (flow l i .held) r
   before r = v .holds i known r
 
   pub raise-own : Room P (L .raises) (L .credits) i s
-      → (r : ℕ) → HoldsAt P (L .now) (mark i s ∷ L .raises) (L .credits) i (heldFrom l i (s % T) suc) r
+      → (r : ℕ) → HoldsAt P t (mark i s ∷ L .raises) (L .credits) i (heldFrom l i (s % T) suc) r
   raise-own room r = go (leb s r) refl
     where
-      go : (b : Bool) → leb s r ≡ b → HoldsAt P (L .now) (mark i s ∷ L .raises) (L .credits) i (heldFrom l i (s % T) suc) r
+      go : (b : Bool) → leb s r ≡ b → HoldsAt P t (mark i s ∷ L .raises) (L .credits) i (heldFrom l i (s % T) suc) r
       go true e = record {
         at-slot = λ wr. omega (arith, counts r (L .raises) e, held-from suc r wr true e, before r .at-slot wr);
         covered = omega (arith, counts r (L .raises) e, before r .covered);
@@ -82,10 +83,10 @@ module _ {l : Link} {L : Ledger} (v : Invariant l L) {i : ℕ} (known : i < flow
   abbrev pub NeverEmpty : Type 0
   NeverEmpty = (r : ℕ) → s ≤ r → marksUpTo i r (L .credits) < marksUpTo i r (L .raises)
 
-  pub lower-own : NeverEmpty → (r : ℕ) → HoldsAt P (L .now) (L .raises) (mark i s ∷ L .credits) i (heldFrom l i (s % T) (λ y. y - 1)) r
+  pub lower-own : NeverEmpty → (r : ℕ) → HoldsAt P t (L .raises) (mark i s ∷ L .credits) i (heldFrom l i (s % T) (λ y. y - 1)) r
   lower-own some r = go (leb s r) refl
     where
-      go : (b : Bool) → leb s r ≡ b → HoldsAt P (L .now) (L .raises) (mark i s ∷ L .credits) i (heldFrom l i (s % T) (λ y. y - 1)) r
+      go : (b : Bool) → leb s r ≡ b → HoldsAt P t (L .raises) (mark i s ∷ L .credits) i (heldFrom l i (s % T) (λ y. y - 1)) r
       go true e = record {
         at-slot = λ wr. omega (arith, counts r (L .credits) e, held-from (λ y. y - 1) r wr true e, before r .at-slot wr, some r (leb-true s r e));
         covered = omega (arith, counts r (L .credits) e, some r (leb-true s r e));

@@ -3,7 +3,7 @@ use Prim.Native.Nat.{ℕ, _<_}
 use Rattle.model.specs.Plan.{flowCount, planOf}
 use Rattle.model.specs.Holding.{HoldingIs, TableIsHolding}
 use Rattle.model.proofs.Plan.{accepted}
-use Rattle.model.proofs.Runs.{after-run}
+use Rattle.model.proofs.AfterCalls.{after-run}
 
 pub table-is-holding : TableIsHolding
 table-is-holding bytes passes =

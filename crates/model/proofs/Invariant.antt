@@ -2,17 +2,18 @@
 use Prim.Native.Nat.{ℕ, suc, _+_, _-_, _%_, _≤_, _<_}
 use mathlib.Core.Path.{_≡_}
 use mathlib.Core.List.{List, _∷_}
+use mathlib.Core.Option.{Option, none}
 use native.Mathlib.Decide.{decLt}
 use native.Mathlib.Omega.{arith}
 use lib.ListN.{getD}
 use Rattle.model.specs.Tables.{tally}
 use Rattle.model.specs.Plan.{Plan, positions, flowCount, entry}
-use Rattle.model.specs.Link.{Link, Flow, owner, flow}
+use Rattle.model.specs.Link.{Link, Flow, flow}
 use Rattle.model.specs.History.{Mark, frameOf, atSlot}
 use Rattle.model.specs.Holding.{frameStart, InWindow}
 use Rattle.model.proofs.Tallies.{All}
 use Rattle.model.proofs.Marks.{marksIn, marksUpTo, up-to-past}
-use Rattle.model.proofs.Owners.{ownerIn}
+use Rattle.model.proofs.SlotOwners.{ownerIn}
 use Rattle.model.proofs.Slots.{some-position, last-in-window}
 use Rattle.model.proofs.Window.{Current}
 
@@ -34,7 +35,7 @@ withCredit L m = record { now = L .now; origin = L .origin; grants = L .grants; 
 abbrev pub atNextSlot : Ledger → Ledger
 atNextSlot L = record { now = suc (L .now); origin = L .origin; grants = L .grants; raises = L .raises; credits = L .credits }
 
--- ---- a flow's part of the link, where the grants are G, the raises B and the credits K
+-- ---- a flow, where the grants are G, the raises B and the credits K
 
 -- Of its share in frame a flow i has c left, and it has nothing in later frames.
 pub record Spent (P : Plan) (G : List Mark) (i a c : ℕ) : Type 0 where
@@ -66,7 +67,7 @@ Holds P t B K i x = (s : ℕ) → HoldsAt P t B K i (x .held) s
 abbrev pub Room : Plan → List Mark → List Mark → ℕ → ℕ → Type 0
 Room P B K i s = (r : ℕ) → s ≤ r → marksUpTo i r B < marksUpTo i r K + entry P i .cells
 
--- ---- the invariant
+-- ---- the marks, where slot t is current
 
 -- m lies below the end of the window
 abbrev pub Begun : Plan → ℕ → Mark → Type 0
@@ -78,14 +79,25 @@ pub record Granted (P : Plan) (t o : ℕ) (m : Mark) : Type 0 where
   pub begun : Begun P t m
   pub since : o ≤ frameOf P (m .slot)
 
+pub record MarksIn (P : Plan) (L : Ledger) : Type 0 where
+  pub origin-le : L .origin ≤ frameOf P (L .now)
+  pub grants-in : All (Granted P (L .now) (L .origin)) (L .grants)
+  pub raises-in : All (Begun P (L .now)) (L .raises)
+  pub credits-in : All (Begun P (L .now)) (L .credits)
+
+-- ---- the owners, where the grants are G
+
+-- The table says who was granted each slot of the window, and no slot was granted twice.
+pub record Bookings (P : Plan) (t : ℕ) (G : List Mark) (owners : List (Option ℕ)) : Type 0 where
+  pub owners-are : (s : ℕ) → InWindow P t s → getD owners (s % positions P) none ≡ ownerIn G s
+  pub once : (s : ℕ) → tally (atSlot s) G ≤ 1
+
+-- ---- the invariant
+
 pub record Invariant (l : Link) (L : Ledger) : Type 0 where
   pub current : Current (l .plan) (L .now) (l .current)
-  pub owners-are : (s : ℕ) → InWindow (l .plan) (L .now) s → owner l (s % positions (l .plan)) ≡ ownerIn (L .grants) s
-  pub origin-le : L .origin ≤ frameOf (l .plan) (L .now)
-  pub grants-in : All (Granted (l .plan) (L .now) (L .origin)) (L .grants)
-  pub raises-in : All (Begun (l .plan) (L .now)) (L .raises)
-  pub credits-in : All (Begun (l .plan) (L .now)) (L .credits)
-  pub once : (s : ℕ) → tally (atSlot s) (L .grants) ≤ 1
+  pub marks : MarksIn (l .plan) L
+  pub bookings : Bookings (l .plan) (L .now) (L .grants) (l .owners)
   pub injects : (i : ℕ) → i < flowCount (l .plan) → Injects (l .plan) (frameOf (l .plan) (L .now)) (L .grants) i (flow l i)
   pub holds : (i : ℕ) → i < flowCount (l .plan) → Holds (l .plan) (L .now) (L .raises) (L .credits) i (flow l i)
 
@@ -105,7 +117,7 @@ from-the-window {l} {L} v i Q s w h r le = go (decLt r b)
     go (no above) =
         let some = some-position (v .current .accepted) in
         rw (
-          up-to-past i b r (b - 1) (L .raises) (v .raises-in) (omega arith) (omega arith),
-          up-to-past i b r (b - 1) (L .credits) (v .credits-in) (omega arith) (omega arith),
+          up-to-past i b r (b - 1) (L .raises) (v .marks .raises-in) (omega arith) (omega arith),
+          up-to-past i b r (b - 1) (L .credits) (v .marks .credits-in) (omega arith) (omega arith),
         )
         (h (b - 1) (last-in-window (v .current .accepted) (L .now)) (omega (arith, w .high)))

@@ -4,43 +4,50 @@ pub mod Tests
 pub mod Round
 pub mod Tables
 pub mod Tallies
--- the word, the plan, records and decimal digits
+-- the word, the plan, records, decimal digits and the listing
 pub mod Word
 pub mod Plan
-pub mod PlanKept
+pub mod PlanWithinLimits
 pub mod Records
 pub mod Decimal
+pub mod Listing
 -- slots, positions, links and marks
 pub mod Slots
 pub mod Window
-pub mod Links
+pub mod LinkUpdates
 pub mod Marks
-pub mod Owners
+pub mod SlotOwners
 -- the invariant, and what keeps it
 pub mod Invariant
 pub mod HeldFrom
-pub mod Bookings
-pub mod Credits
-pub mod Shares
-pub mod Search
-pub mod Least
-pub mod Sought
-pub mod Requests
-pub mod Ticks
-pub mod Fresh
+pub mod BookingKeeps
+pub mod CreditKeeps
+pub mod UnbookedSlots
+pub mod SearchedFrames
+pub mod LeastCount
+pub mod RequestSearch
+pub mod RequestKeeps
+pub mod NextSlot
+pub mod FrameChangeKeeps
+pub mod TickKeeps
+pub mod FreshKeeps
 -- histories, and demand 3
-pub mod Histories
-pub mod After
-pub mod Runs
+pub mod HistoryCounts
+pub mod AfterHistory
+pub mod AfterRequest
+pub mod AfterCredit
+pub mod AfterTick
+pub mod AfterCalls
 pub mod Demand3
-pub mod Listing
+pub mod ListingMeets
 pub mod Holding
 pub mod Buffer
 -- edges, cards that demand 3 sends back, and a stream that meets the premise of the least count
-pub mod Compute
+pub mod Unfoldings
 pub mod Edges
-pub mod Decisions
-pub mod Decide
+pub mod Decidable
+pub mod PastMarks
+pub mod ClaimDecided
 pub mod BadHistories
 pub mod BadCards
-pub mod Witness
+pub mod PersistentStream

@@ -1,61 +1,16 @@
--- A listing is the run over a list of calls that demand 3 is about; and it is the same whether a stream of records is read at once or in parts. Assumes nothing.
+-- A stream's lines and last link: in two pieces, and record by record. Assumes nothing.
 use Prim.Native.Nat.{ℕ, _+_, _%_, _≤_, _<_}
-use mathlib.Core.Path.{_≡_, refl, sym, ap, _∙_, subst}
-use mathlib.Core.List.{List, [], _∷_, _++_, map, flatMap, reverse, reverseAux, append-nil, append-assoc, map-append, reverse-reverse}
-use mathlib.Core.Option.{Option, some, none}
+use mathlib.Core.Path.{_≡_, refl, sym, ap, _∙_}
+use mathlib.Core.List.{List, [], _∷_, _++_, map, flatMap, append-nil, append-assoc, map-append}
+use mathlib.Core.Option.{Option}
 use native.Mathlib.Omega.{arith}
 use lib.ListN.{length, take, drop, length-take, length-drop}
 use lib.Seq.{take-add, length-take-le}
-use Rattle.model.specs.Plan.{flowCount, planOf, refusal}
-use Rattle.model.specs.Calls.{Call, History}
 use Rattle.model.specs.Link.{Link}
-use Rattle.model.specs.Fresh.{fresh}
-use Rattle.model.specs.Claim.{Demand3}
-use Rattle.model.specs.Card.{Played, paper, play}
-use Rattle.model.specs.Record.{records, callOf}
-use Rattle.model.specs.Listing.{lineOf, callsOf, made, outcomes, linkAfterCalls, present, listing, linkAfter}
-use Rattle.model.proofs.Demand3.{meets}
+use Rattle.model.specs.Record.{RecordCall, records, callOf}
+use Rattle.model.specs.Listing.{lineOf, callsOf, made, outcomes, linkAfterCalls, listing, linkAfter}
 
--- ---- the calls of a stream, played
-
--- a link, after the events of a history
-abbrev pub from : Link → History → Played paper
-from l h = record { state = l; history = h }
-
-history-played : (l : Link) (h : History) (cs : List (Option Call))
-    → play paper (from l h) (present cs) .history ≡ reverseAux (present (outcomes l cs)) h
-unfolding play outcomes
-history-played l h [] = refl
-history-played l h (some (Call.request w) ∷ cs) = history-played _ _ cs
-history-played l h (some (Call.credit i p) ∷ cs) = history-played _ _ cs
-history-played l h (some Call.tick ∷ cs) = history-played _ _ cs
-history-played l h (none ∷ cs) = history-played l h cs
-
-link-played : (l : Link) (h : History) (cs : List (Option Call)) → linkAfterCalls l cs ≡ play paper (from l h) (present cs) .state
-unfolding play linkAfterCalls
-link-played l h [] = refl
-link-played l h (some (Call.request w) ∷ cs) = link-played _ _ cs
-link-played l h (some (Call.credit i p) ∷ cs) = link-played _ _ cs
-link-played l h (some Call.tick ∷ cs) = link-played _ _ cs
-link-played l h (none ∷ cs) = link-played l h cs
-
--- The events of a listing are those of its calls, played on the paper's card.
-pub listing-played : (l : Link) (stream : List ℕ)
-    → present (outcomes l (callsOf stream)) ≡ reverse (play paper (from l []) (present (callsOf stream)) .history)
-listing-played l stream =
-    sym (ap reverse (history-played l [] (callsOf stream)) ∙ reverse-reverse (present (outcomes l (callsOf stream))))
-
-pub link-after-played : (l : Link) (stream : List ℕ) → linkAfter l stream ≡ play paper (from l []) (present (callsOf stream)) .state
-unfolding linkAfter
-link-after-played l stream = link-played l [] (callsOf stream)
-
--- After an accepted plan they meet demand 3.
-pub listing-meets : (bytes : List ℕ) → refusal bytes ≡ 0 → (stream : List ℕ) (i : ℕ) → i < flowCount (planOf bytes)
-    → Demand3 (planOf bytes) i (reverse (present (outcomes (fresh (planOf bytes)) (callsOf stream))))
-listing-meets bytes passes stream i known =
-    subst (Demand3 (planOf bytes) i) (history-played (fresh (planOf bytes)) [] (callsOf stream)) (meets bytes passes (present (callsOf stream)) i known)
-
--- ---- a stream in parts
+-- ---- a stream in two pieces
 
 records-append : (a b : List ℕ) → length a % 5 ≡ 0 → records (a ++ b) ≡ records a ++ records b
 unfolding records
@@ -69,7 +24,7 @@ records-append (v ∷ w ∷ x ∷ y ∷ z ∷ a) b h = ap ((v ∷ w ∷ x ∷ y 
 calls-append : (a b : List ℕ) → length a % 5 ≡ 0 → callsOf (a ++ b) ≡ callsOf a ++ callsOf b
 calls-append a b h = ap (map callOf) (records-append a b h) ∙ map-append callOf (records a) (records b)
 
-lines-append : (l : Link) (cs ds : List (Option Call))
+lines-append : (l : Link) (cs ds : List (Option RecordCall))
     → flatMap lineOf (outcomes l (cs ++ ds)) ≡ flatMap lineOf (outcomes l cs) ++ flatMap lineOf (outcomes (linkAfterCalls l cs) ds)
 unfolding flatMap outcomes linkAfterCalls
 lines-append l [] ds = refl
@@ -77,7 +32,7 @@ lines-append l (c ∷ cs) ds =
     ap (lineOf (made l c .answer) ++_) (lines-append (made l c .link) cs ds)
     ∙ sym (append-assoc (lineOf (made l c .answer)) (flatMap lineOf (outcomes (made l c .link) cs)) _)
 
-link-append : (l : Link) (cs ds : List (Option Call)) → linkAfterCalls l (cs ++ ds) ≡ linkAfterCalls (linkAfterCalls l cs) ds
+link-append : (l : Link) (cs ds : List (Option RecordCall)) → linkAfterCalls l (cs ++ ds) ≡ linkAfterCalls (linkAfterCalls l cs) ds
 unfolding linkAfterCalls
 link-append l [] ds = refl
 link-append l (c ∷ cs) ds = link-append (made l c .link) cs ds
@@ -124,7 +79,8 @@ module _ (l : Link) (b : List ℕ) (at : ℕ) (whole : at % 5 ≡ 0) (reached : 
   five-most : length (take 5 (drop at b)) ≤ 5
   five-most = omega (arith, length-take 5 (drop at b))
 
-  pub listing-more : listing l (take (at + 5) b) ≡ listing l (take at b) ++ lineOf (made (linkAfter l (take at b)) (callOf (take 5 (drop at b))) .answer)
+  pub listing-more : listing l (take (at + 5) b)
+      ≡ listing l (take at b) ++ lineOf (made (linkAfter l (take at b)) (callOf (take 5 (drop at b))) .answer)
   listing-more =
       ap (listing l) (take-add at 5 b) ∙ listing-append l (take at b) (take 5 (drop at b)) up-to
       ∙ ap (listing l (take at b) ++_) (listing-one (linkAfter l (take at b)) (take 5 (drop at b)) some-byte five-most)

@@ -8,7 +8,8 @@ use lib.ListN.{drop}
 use lib.Dec.{eqb}
 use borrow.Author.Tests.{ltb-false, eqb-true, eqb-false, eq-eqb, not-false}
 use Rattle.model.specs.Refusals.{condition, firstOf}
-use Rattle.model.specs.Plan.{Plan, Entry, positions, flowCount, entry, Header, headerOf, entryOf, planOf, entryFits, samePair, countTest, limitTests, refusal, FittingEntry, Accepted}
+use Rattle.model.specs.Plan.{Plan, Entry, positions, flowCount, entry, Header, headerOf, entryOf, planOf}
+use Rattle.model.specs.Plan.{entryFits, samePair, countTest, limitTests, refusal, FittingEntry, Accepted}
 use Rattle.model.proofs.Tables.{length-table}
 use Rattle.model.proofs.Tests.{and-true, or-false, within-true, in-range, any-none, line-passed}
 
@@ -61,13 +62,13 @@ limits-passed P some-flow few e =
       buffer-most = buffer .1;
       positions-most = ltb-false 256 (positions P) (a .1);
       entries-fit = λ i h. fitting-entry P (entry P i) (not-false _ (any-none (flowCount P) _ (l4 .0) i h));
-      pairs-differ = λ i j h k source destination. differ (entry P j) (entry P i) source destination (any-none i _ (any-none (flowCount P) _ (l5 .0) i h) j k);
+      pairs-differ = λ i j h k. differ (entry P j) (entry P i) (any-none i _ (any-none (flowCount P) _ (l5 .0) i h) j k);
       shares-fit = ltb-false (P .slots) _ (l6 .0);
       cells-fit = ltb-false (P .buffer) _ (l7 .0);
     }
   where
-    differ : (a b : Entry) → a .source ≡ b .source → a .destination ≡ b .destination → samePair a b ≡ false → ⊥
-    differ a b s d q =
+    differ : (a b : Entry) → samePair a b ≡ false → a .source ≡ b .source → a .destination ≡ b .destination → ⊥
+    differ a b q s d =
         let z : samePair a b ≡ true = rw (eq-eqb (a .source) (b .source) s, eq-eqb (a .destination) (b .destination) d) in
         let n : _≡_ {A = ℕ} 0 1 = cc in
         omega arith

@@ -117,12 +117,12 @@ module _ {A : Type 0} where
   pub tally-join : (m : ℕ) (p : A → Bool) (q : ℕ → A → Bool) → ((x : A) (j k : ℕ) → q j x ≡ true → q k x ≡ true → j ≡ k)
       → ((x : A) (j : ℕ) → j < m → q j x ≡ true → p x ≡ true) → (xs : List A) → sum m (λ j. tally (q j) xs) ≤ tally p xs
   unfolding tally
-  tally-join m p q alone part [] = omega (arith, sum-const m 0)
-  tally-join m p q alone part (x ∷ xs) =
+  tally-join m p q alone inside [] = omega (arith, sum-const m 0)
+  tally-join m p q alone inside (x ∷ xs) =
       omega (
         arith,
-        sum-bits-le (λ j. q j x) (alone x) m (p x) (part x),
-        tally-join m p q alone part xs,
+        sum-bits-le (λ j. q j x) (alone x) m (p x) (inside x),
+        tally-join m p q alone inside xs,
         sum-add m (λ j. bit (q j x)) (λ j. tally (q j) xs),
       )
 

@@ -14,7 +14,8 @@ use Rattle.model.specs.Holding.{frameStart, InWindow}
 use Rattle.model.proofs.Tests.{and-false}
 use Rattle.model.proofs.Round.{ahead-mod}
 use Rattle.model.proofs.Tables.{every-at, every-intro}
-use Rattle.model.proofs.Slots.{some-frame, some-position, frame-begins, frame-ends, same-frame, current-in-window, frame-of-position, position-of, slotAt, slotAt-in-window, slotAt-position}
+use Rattle.model.proofs.Slots.{some-frame, some-position, frame-begins, frame-ends, same-frame, current-in-window}
+use Rattle.model.proofs.Slots.{frame-of-position, position-of, slotAt, slotAt-in-window, slotAt-position}
 
 -- the window of a plan with the current position c
 abbrev pub windowOf : Plan → ℕ → Window

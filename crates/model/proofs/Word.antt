@@ -87,7 +87,12 @@ depart-small w p h = let f = split-fits w in omega arith
 pub fitting-fits : (f : Fields) → Fitting f → fits f ≡ true
 unfolding fits
 fitting-fits f h =
-    rw (lt-ltb (f .destination) 64 (h .destination), lt-ltb (f .flow) 64 (h .flow), lt-ltb (f .quantum) 1024 (h .quantum), lt-ltb (f .departure) 1024 (h .departure))
+    rw (
+      lt-ltb (f .destination) 64 (h .destination),
+      lt-ltb (f .flow) 64 (h .flow),
+      lt-ltb (f .quantum) 1024 (h .quantum),
+      lt-ltb (f .departure) 1024 (h .departure),
+    )
 
 pub split-is-fitting : (w : ℕ) → fits (split w) ≡ true
 split-is-fitting w = fitting-fits (split w) (split-fits w)

@@ -5,36 +5,34 @@ use Prim.Native.Nat.{ℕ, zero, suc, _-_, _%_}
 use mathlib.Core.List.{List, _∷_, []}
 use mathlib.Core.Bool.{Bool, not, _&&_, cond}
 use lib.Dec.{ltb, eqb}
-use lib.ListN.{replicate}
-use mathlib.Core.Option.{none}
 use Rattle.model.specs.Tables.{table, every, firstFrom, ahead}
 use Rattle.model.specs.Refusals.{Line, firstOf, _when_}
 use Rattle.model.specs.Word.{flowOf, depart}
 use Rattle.model.specs.Plan.{Plan, positions, flowCount}
 use Rattle.model.specs.Calls.{Grant, Receipt, Turn, accepted, refused}
 use Rattle.model.specs.Window.{passed, everyFrom, frameAt, start, next, newest}
-use Rattle.model.specs.Link.{Link, Step, window, owner, flow, holding, share, cells, withFlows, withHeld}
+use Rattle.model.specs.Link.{Link, window, owner, flow, holding, share, cells, linkWith, withFlows, movedTo, withHeld}
 use Rattle.model.specs.Request.{Found, nowhere, wordTests, unbooked, valid, orElse, search, answered}
 use Rattle.model.specs.Credit.{creditAfter}
 use Rattle.model.specs.Tick.{nextPosition}
-use Rattle.model.specs.Card.{Card, paper}
+use Rattle.model.specs.Card.{Card, both, paper}
 
 -- ---- the paper's card with another fresh, request, credit or tick
 
-abbrev both : {A : Type 0} → Step A → Link × A
-both step = (step .link, step .answer)
+abbrev cardWith : (Plan → Link) → (Link → ℕ → Link × Grant) → (Link → ℕ → ℕ → Link × Receipt) → (Link → Link × Turn) → Card
+cardWith fresh request credit tick = record { State = Link; fresh = fresh; request = request; credit = credit; tick = tick }
 
 abbrev withFresh : (Plan → Link) → Card
-withFresh fresh = record { State = Link; fresh = fresh; request = paper .request; credit = paper .credit; tick = paper .tick }
+withFresh fresh = cardWith fresh (paper .request) (paper .credit) (paper .tick)
 
 abbrev withRequest : (Link → ℕ → Link × Grant) → Card
-withRequest request = record { State = Link; fresh = paper .fresh; request = request; credit = paper .credit; tick = paper .tick }
+withRequest request = cardWith (paper .fresh) request (paper .credit) (paper .tick)
 
 abbrev withCredit : (Link → ℕ → ℕ → Link × Receipt) → Card
-withCredit credit = record { State = Link; fresh = paper .fresh; request = paper .request; credit = credit; tick = paper .tick }
+withCredit credit = cardWith (paper .fresh) (paper .request) credit (paper .tick)
 
 abbrev withTick : (Link → Link × Turn) → Card
-withTick tick = record { State = Link; fresh = paper .fresh; request = paper .request; credit = paper .credit; tick = tick }
+withTick tick = cardWith (paper .fresh) (paper .request) (paper .credit) tick
 
 -- ---- "Link cards we would send back"
 
@@ -52,7 +50,7 @@ grantsOne p next = withRequest (λ l w. (next l w, accepted (depart w p)))
 
 -- "writes no booking down": the owners stay as they are
 abbrev unwritten : Link → Link → Link
-unwritten l next = record { plan = next .plan; current = next .current; owners = l .owners; flows = next .flows }
+unwritten l next = linkWith next (next .current) (l .owners) (next .flows)
 
 abbrev pub writesNoBooking : Card
 writesNoBooking = withRequest (λ l w. (unwritten l (paper .request l w .0), paper .request l w .1))
@@ -88,12 +86,7 @@ withHoldingTest holds = withCredit (λ l i p. both (creditAfter (firstOf (credit
 
 -- "reports 11 before booking anything": each flow starts in the newest frame with C = 0
 abbrev pub startsAtZero : Card
-startsAtZero = withFresh (λ P. record {
-  plan = P;
-  current = 0;
-  owners = replicate (positions P) none;
-  flows = table (flowCount P) (λ i. record { injection = P .frames - 1; remainder = 0; held = replicate (positions P) 0 });
-})
+startsAtZero = withFresh (λ P. withFlows (paper .fresh P) (λ i. movedTo (flow (paper .fresh P) i) (P .frames - 1) 0))
 
 -- ---- "Three slips that would pass the sparse flight"
 
@@ -120,13 +113,9 @@ soughtWith invented l i =
     (flow l i .injection) (flow l i .remainder)
 
 abbrev pub inventsHolding : (forRequests forCredits : Link → ℕ → ℕ → ℕ) → Card
-inventsHolding forRequests forCredits = record {
-  State = Link;
-  fresh = paper .fresh;
-  request = withSearch (soughtWith forRequests) .request;
-  credit = withHoldingTest (λ l i p. everyFrom (window l) p (λ q. ltb 0 (forCredits l i q))) .credit;
-  tick = paper .tick;
-}
+inventsHolding forRequests forCredits =
+    cardWith (paper .fresh) (withSearch (soughtWith forRequests) .request)
+    (withHoldingTest (λ l i p. everyFrom (window l) p (λ q. ltb 0 (forCredits l i q))) .credit) (paper .tick)
 
 -- all of its cells everywhere, where the flow holds them anywhere in the window
 abbrev pub fullest : Link → ℕ → ℕ → ℕ

@@ -1,20 +1,26 @@
--- Histories that demand 3 rules out: each breaks one part of it and has all the others. Assumes nothing.
+-- Histories that demand 3 rules out: each breaks one clause of it and keeps all the others; and one that overfills the next board's buffer. Assumes nothing.
 use Prim.Native.Nat.{ℕ, _+_}
+use mathlib.Core.Path.{_≡_}
 use mathlib.Core.List.{List, _∷_, [], reverse}
 use mathlib.Core.Option.{some, none}
 use Rattle.model.specs.PlanBytes.{plan1, plan2, listing, roomy}
-use Rattle.model.specs.Plan.{planOf}
-use Rattle.model.specs.Calls.{Event, requested, credited, ticked, accepted, refused}
-use Rattle.model.specs.Parts.{Part, BreaksAlone}
+use Rattle.model.specs.Plan.{Plan, planOf}
+use Rattle.model.specs.Calls.{Event, History, requested, credited, ticked, accepted, refused}
+use Rattle.model.specs.Claim.{Clause, Says}
+use Rattle.model.specs.Buffer.{FitsBuffer}
 
--- a plan's bytes, events of flow 0 and others, oldest first, and the part that they break for flow 0
+pub record BreaksAlone (clause : Clause) (P : Plan) (i : ℕ) (h : History) : Type 0 where
+  pub breaks : Says clause P i h → ⊥
+  pub keeps-the-others : (other : Clause) → (other ≡ clause → ⊥) → Says other P i h
+
+-- a plan's bytes, events of flow 0 and others, oldest first, and the clause that they break for flow 0
 pub record BadHistory : Type 0 where
-  pub part : Part
+  pub clause : Clause
   pub bytes : List ℕ
   pub events : List Event
 
 abbrev pub Breaks : BadHistory → Type 0
-Breaks b = BreaksAlone (b .part) (planOf (b .bytes)) 0 (reverse (b .events))
+Breaks b = BreaksAlone (b .clause) (planOf (b .bytes)) 0 (reverse (b .events))
 
 abbrev pub AllBreak : List BadHistory → Type 0
 AllBreak [] = Unit {0}
@@ -27,44 +33,48 @@ granted p = requested 0x24000000 (accepted (0x24000000 + p))
 unfoldable pub badHistories : List BadHistory
 badHistories =
     -- five slots with a share of 2, two frames and no frame change: slots 1, 2, 4 and 5, and after a tick slot 8, in frame 2
-    record { part = Part.most; bytes = plan2 4 2 16 2 8 2 8; events = granted 1 ∷ granted 2 ∷ granted 4 ∷ granted 5 ∷ ticked (some 0) ∷ granted 0 ∷ [] }
+    record {
+      clause = Clause.most;
+      bytes = plan2 4 2 16 2 8 2 8;
+      events = granted 1 ∷ granted 2 ∷ granted 4 ∷ granted 5 ∷ ticked (some 0) ∷ granted 0 ∷ [];
+    }
     -- three slots of frame 1
-    ∷ record { part = Part.most-in-a-frame; bytes = roomy; events = granted 4 ∷ granted 5 ∷ granted 6 ∷ [] }
+    ∷ record { clause = Clause.most-in-a-frame; bytes = roomy; events = granted 4 ∷ granted 5 ∷ granted 6 ∷ [] }
     -- one slot where the least count is 2, with a cell free
-    ∷ record { part = Part.least; bytes = listing; events = granted 1 ∷ requested 0x24000400 (refused 12) ∷ [] }
+    ∷ record { clause = Clause.least; bytes = listing; events = granted 1 ∷ requested 0x24000400 (refused 12) ∷ [] }
     -- slot 1 for both flows
-    ∷ record { part = Part.one-owner; bytes = listing; events = granted 1 ∷ requested 0x24100000 (accepted 0x24100001) ∷ [] }
+    ∷ record { clause = Clause.one-owner; bytes = listing; events = granted 1 ∷ requested 0x24100000 (accepted 0x24100001) ∷ [] }
     -- three slots held with 2 cells
-    ∷ record { part = Part.within-cells; bytes = listing; events = granted 1 ∷ granted 4 ∷ granted 5 ∷ [] }
+    ∷ record { clause = Clause.within-cells; bytes = listing; events = granted 1 ∷ granted 4 ∷ granted 5 ∷ [] }
     -- a credit with nothing held
-    ∷ record { part = Part.within-cells; bytes = listing; events = credited 0 1 (accepted tt) ∷ [] }
+    ∷ record { clause = Clause.within-cells; bytes = listing; events = credited 0 1 (accepted tt) ∷ [] }
     -- a credit from slot 2 on, where 2 are held, but from slot 5 on none
     ∷ record {
-      part = Part.within-cells;
+      clause = Clause.within-cells;
       bytes = listing;
       events = granted 1 ∷ granted 2 ∷ credited 0 5 (accepted tt) ∷ credited 0 5 (accepted tt) ∷ credited 0 2 (accepted tt) ∷ [];
     }
     -- position 0 before the first tick is slot 8
-    ∷ record { part = Part.within-a-window; bytes = listing; events = granted 0 ∷ [] }
+    ∷ record { clause = Clause.within-a-window; bytes = listing; events = granted 0 ∷ [] }
     -- a granted slot comes up idle, and for another flow
-    ∷ record { part = Part.comes-up; bytes = listing; events = granted 1 ∷ ticked none ∷ [] }
-    ∷ record { part = Part.comes-up; bytes = listing; events = granted 1 ∷ ticked (some 1) ∷ [] }
+    ∷ record { clause = Clause.comes-up; bytes = listing; events = granted 1 ∷ ticked none ∷ [] }
+    ∷ record { clause = Clause.comes-up; bytes = listing; events = granted 1 ∷ ticked (some 1) ∷ [] }
     -- a slot that nobody was granted comes up for a flow, and for a number that is no flow
-    ∷ record { part = Part.comes-up; bytes = listing; events = ticked (some 1) ∷ [] }
-    ∷ record { part = Part.comes-up; bytes = listing; events = ticked (some 7) ∷ [] }
+    ∷ record { clause = Clause.comes-up; bytes = listing; events = ticked (some 1) ∷ [] }
+    ∷ record { clause = Clause.comes-up; bytes = listing; events = ticked (some 7) ∷ [] }
     -- the answer has another node, flow and quantum number
-    ∷ record { part = Part.granted-words; bytes = listing; events = requested 0x24000000 (accepted 0x28000001) ∷ [] }
-    ∷ record { part = Part.granted-words; bytes = listing; events = requested 0x24000000 (accepted 0x24100001) ∷ [] }
-    ∷ record { part = Part.granted-words; bytes = listing; events = requested 0x24000000 (accepted 0x24000401) ∷ [] }
+    ∷ record { clause = Clause.granted-words; bytes = listing; events = requested 0x24000000 (accepted 0x28000001) ∷ [] }
+    ∷ record { clause = Clause.granted-words; bytes = listing; events = requested 0x24000000 (accepted 0x24100001) ∷ [] }
+    ∷ record { clause = Clause.granted-words; bytes = listing; events = requested 0x24000000 (accepted 0x24000401) ∷ [] }
     -- the answer's departure is not below T
-    ∷ record { part = Part.granted-words; bytes = listing; events = granted 9 ∷ [] }
+    ∷ record { clause = Clause.granted-words; bytes = listing; events = granted 9 ∷ [] }
     -- the asked word has another node than the plan's, flow 2 of two, and departure T
-    ∷ record { part = Part.granted-words; bytes = listing; events = requested 0x20000000 (accepted 0x20000001) ∷ [] }
-    ∷ record { part = Part.granted-words; bytes = listing; events = requested 0x24200000 (accepted 0x24200001) ∷ [] }
-    ∷ record { part = Part.granted-words; bytes = listing; events = requested 0x24000008 (accepted 0x24000001) ∷ [] }
+    ∷ record { clause = Clause.granted-words; bytes = listing; events = requested 0x20000000 (accepted 0x20000001) ∷ [] }
+    ∷ record { clause = Clause.granted-words; bytes = listing; events = requested 0x24200000 (accepted 0x24200001) ∷ [] }
+    ∷ record { clause = Clause.granted-words; bytes = listing; events = requested 0x24000008 (accepted 0x24000001) ∷ [] }
     -- seven slots after one frame change: two of each of the frames 0 to 2, and after a tick slot 12, in frame 3
     ∷ record {
-      part = Part.most;
+      clause = Clause.most;
       bytes = plan2 4 2 16 2 8 2 8;
       events =
           granted 1 ∷ granted 2 ∷ granted 4 ∷ granted 5 ∷ ticked (some 0) ∷ ticked (some 0) ∷ ticked none ∷ ticked (some 0) ∷ granted 0 ∷ granted 1
@@ -72,7 +82,7 @@ badHistories =
     }
     -- three frames and three frame changes: the least count is 5, and four slots are granted
     ∷ record {
-      part = Part.least;
+      clause = Clause.least;
       bytes = plan1 1 3 8 1 8;
       events =
           granted 1 ∷ granted 2 ∷ requested 0x24000000 (refused 11) ∷ ticked (some 0) ∷ granted 0 ∷ requested 0x24000000 (refused 11)
@@ -81,7 +91,7 @@ badHistories =
     -- both cells are held at slot 2; then, and at no request of its own that is well formed, the flow asks for another node, and flow 1 asks;
     -- both fall free from slot 3 on, and slot 2 is gone when it asks again
     ∷ record {
-      part = Part.least;
+      clause = Clause.least;
       bytes = listing;
       events =
           granted 1 ∷ granted 2 ∷ requested 0x20000800 (refused 9) ∷ requested 0x24100000 (accepted 0x24100003)
@@ -89,5 +99,20 @@ badHistories =
           ∷ requested 0x24000800 (refused 12) ∷ ticked none ∷ requested 0x24000800 (refused 12) ∷ [];
     }
     -- flow 2 of two, with the node 0 that an entry past the last has
-    ∷ record { part = Part.granted-words; bytes = listing; events = requested 0x00200000 (accepted 0x00200001) ∷ [] }
+    ∷ record { clause = Clause.granted-words; bytes = listing; events = requested 0x00200000 (accepted 0x00200001) ∷ [] }
     ∷ []
+
+-- ---- the next board's buffer
+
+-- N = 4: three slots of flow 0 and two of flow 1, one more than the buffer holds
+unfoldable pub overfull : List Event
+overfull =
+    granted 1 ∷ granted 2 ∷ granted 3 ∷ requested 0x24100000 (accepted 0x24100004) ∷ requested 0x24100400 (accepted 0x24100405) ∷ []
+
+-- at slot 5, the last of them
+abbrev pub Overfills : Type 0
+Overfills = FitsBuffer (planOf listing) (reverse overfull) 5 → ⊥
+
+-- without the last it is just full
+abbrev pub JustFits : Type 0
+JustFits = FitsBuffer (planOf listing) (reverse overfull) 4

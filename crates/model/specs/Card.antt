@@ -3,9 +3,9 @@ use Prim.Native.Nat.{ℕ, _<_}
 use mathlib.Core.Path.{_≡_}
 use mathlib.Core.List.{List, _∷_, []}
 use Rattle.model.specs.Plan.{Plan, flowCount, planOf, refusal}
-use Rattle.model.specs.Calls.{Call, Grant, Receipt, Turn, History, requested, credited, ticked}
+use Rattle.model.specs.Calls.{Call, Grant, Receipt, Turn, Event, History, requested, credited, ticked}
 use Rattle.model.specs.Claim.{Demand3}
-use Rattle.model.specs.Link.{Link}
+use Rattle.model.specs.Link.{Link, Step}
 use Rattle.model.specs.Fresh as fresh
 use Rattle.model.specs.Request as request
 use Rattle.model.specs.Credit as credit
@@ -23,11 +23,15 @@ pub record Played (c : Card) : Type 0 where
   pub state : c .State
   pub history : History
 
+-- a call's next state, and the event of its answer
+abbrev pub next : {c : Card} {A : Type 0} → Played c → (A → Event) → c .State × A → Played c
+next r event handed = record { state = handed .0; history = event (handed .1) ∷ r .history }
+
 -- "each later one the link exactly as the call before handed it back"
 abbrev pub step : (c : Card) → Played c → Call → Played c
-step c r (Call.request w) = record { state = c .request (r .state) w .0; history = requested w (c .request (r .state) w .1) ∷ r .history }
-step c r (Call.credit i p) = record { state = c .credit (r .state) i p .0; history = credited i p (c .credit (r .state) i p .1) ∷ r .history }
-step c r Call.tick = record { state = c .tick (r .state) .0; history = ticked (c .tick (r .state) .1) ∷ r .history }
+step c r (Call.request w) = next r (requested w) (c .request (r .state) w)
+step c r (Call.credit i p) = next r (credited i p) (c .credit (r .state) i p)
+step c r Call.tick = next r ticked (c .tick (r .state))
 
 unfoldable pub play : (c : Card) → Played c → List Call → Played c
 play c r [] = r
@@ -40,7 +44,8 @@ started c P = record { state = c .fresh P; history = [] }
 abbrev pub run : (c : Card) → Plan → List Call → Played c
 run c P calls = play c (started c P) calls
 
--- Demand 3 of a card on one plan: for every list of calls and every flow. Words, flows and positions are any numbers, more than a program can be given.
+-- Demand 3 of a card on one plan: for every list of calls and every flow. Words, flows and positions are any numbers, more than a program can be
+-- given.
 abbrev pub MeetsOn : Card → Plan → Type 0
 MeetsOn c P = (calls : List Call) (i : ℕ) → i < flowCount P → Demand3 P i (run c P calls .history)
 
@@ -49,11 +54,14 @@ abbrev pub Meets : Card → Type 0
 Meets c = (bytes : List ℕ) → refusal bytes ≡ 0 → MeetsOn c (planOf bytes)
 
 -- the card of document 01
+abbrev pub both : {A : Type 0} → Step A → Link × A
+both handed = (handed .link, handed .answer)
+
 abbrev pub paper : Card
 paper = record {
   State = Link;
   fresh = fresh.fresh;
-  request = λ l w. (request.request l w .link, request.request l w .answer);
-  credit = λ l i p. (credit.credit l i p .link, credit.credit l i p .answer);
-  tick = λ l. (tick.tick l .link, tick.tick l .answer);
+  request = λ l w. both (request.request l w);
+  credit = λ l i p. both (credit.credit l i p);
+  tick = λ l. both (tick.tick l);
 }

@@ -7,10 +7,11 @@
 -- Demand 3 cannot see what follows; demand 2's equations of each call say it:
 -- - which number a refusal has, and what C and IF are after it;
 -- - which of a frame's valid positions is granted, as long as the counts come out;
--- - credits refused that should be taken, and credits taken that should be refused with 8, 13 or 14 (of a position p of T or more it counts p modulo T);
+-- - credits refused that should be taken, and credits taken that should be refused with 8, 13 or 14 (of a position p of T or more it counts p
+--   modulo T);
 -- - requests refused to a stream that lapsed once: in some frame it was not refused, so that a stream that asks for less than its share has no least
---   count from the next frame on; or once it asked with all of its cells held in a slot from the current one on, as flow 0 does in the listing's third
---   call. A card that gives a flow 12 for ever after its first 12 meets demand 3.
+--   count from the next frame on; or once it asked with all of its cells held in a slot from the current one on, as flow 0 does in the listing's
+--   third call. A card that gives a flow 12 for ever after its first 12 meets demand 3.
 use Prim.Native.Nat.{ℕ, _+_, _-_, _*_, _≤_, _<_}
 use mathlib.Core.Path.{_≡_}
 use mathlib.Core.Logic.{_↔_}
@@ -19,13 +20,34 @@ use mathlib.Core.Option.{some}
 use mathlib.Core.Bool.{true}
 use Rattle.model.specs.Word.{flowOf, departureOf, depart}
 use Rattle.model.specs.Plan.{Plan, positions, entry}
-use Rattle.model.specs.Calls.{Event, History, requested, credited, ticked, accepted, refused}
-use Rattle.model.specs.History.{ticks, slotAfter, changes, wellFormed, granted, grantedIn, grantedUpTo, creditedUpTo, refusedIn, ownersOf, Owns}
+use Rattle.model.specs.Calls.{Event, History, Turn, requested, credited, ticked, accepted, refused}
+use Rattle.model.specs.History.{ticks, changes, slotAfter, wellFormed}
+use Rattle.model.specs.History.{granted, grantedIn, refusedIn, grantedUpTo, creditedUpTo, ownersOf, Owns}
 
--- Q holds of each event and what was before it.
+-- ---- each event, and what was before it
+
 abbrev pub Each : (Event → History → Type 0) → History → Type 0
 Each Q [] = Unit {0}
 Each Q (e ∷ h) = Q e h × Each Q h
+
+-- Q holds of the word, where the event is a request.
+abbrev pub AtRequest : (ℕ → History → Type 0) → Event → History → Type 0
+AtRequest Q (requested w a) h = Q w h
+AtRequest Q (credited j p a) h = Unit {0}
+AtRequest Q (ticked x) h = Unit {0}
+
+-- Q holds of the asked word and the granted one, where the event is a grant.
+abbrev pub AtGrant : (ℕ → ℕ → History → Type 0) → Event → History → Type 0
+AtGrant Q (requested w (accepted v)) h = Q w v h
+AtGrant Q (requested w (refused r)) h = Unit {0}
+AtGrant Q (credited j p a) h = Unit {0}
+AtGrant Q (ticked x) h = Unit {0}
+
+-- Q holds of the answer, where the event is a tick.
+abbrev pub AtTick : (Turn → History → Type 0) → Event → History → Type 0
+AtTick Q (requested w a) h = Unit {0}
+AtTick Q (credited j p a) h = Unit {0}
+AtTick Q (ticked x) h = Q x h
 
 -- ---- the stream that asks until it is refused
 
@@ -36,41 +58,14 @@ pub record Ready (P : Plan) (i w : ℕ) (h : History) : Type 0 where
 
 -- "Each request means each of its well-formed requests."
 abbrev pub ReadyAt : Plan → ℕ → Event → History → Type 0
-ReadyAt P i (requested w a) h = wellFormed P w ≡ true → flowOf w ≡ i → Ready P i w h
-ReadyAt P i (credited j p a) h = Unit {0}
-ReadyAt P i (ticked x) h = Unit {0}
+ReadyAt P i = AtRequest (λ w h. wellFormed P w ≡ true → flowOf w ≡ i → Ready P i w h)
 
 -- "in each of the frames 0 to k, one of its well-formed requests is refused"
 pub record Persistent (P : Plan) (i : ℕ) (h : History) : Type 0 where
   pub refused-in-each-frame : (f : ℕ) → f ≤ changes P h → 0 < refusedIn P h i f
   pub ready-at-each-request : Each (ReadyAt P i) h
 
--- ---- the parts of the claim
-
--- A granted word v is the asked word w with another departure, a position; and w was well formed.
-pub record GrantedWord (P : Plan) (w v : ℕ) : Type 0 where
-  pub asked-well-formed : wellFormed P w ≡ true
-  pub same-but-departure : v ≡ depart w (departureOf v)
-  pub position : departureOf v < positions P
-
-abbrev pub GrantedWordAt : Plan → Event → History → Type 0
-GrantedWordAt P (requested w (accepted v)) h = GrantedWord P w v
-GrantedWordAt P (requested w (refused r)) h = Unit {0}
-GrantedWordAt P (credited j p a) h = Unit {0}
-GrantedWordAt P (ticked x) h = Unit {0}
-
--- "A slot granted after t ticks has a number below t + T."
-abbrev pub SoonAt : Plan → Event → History → Type 0
-SoonAt P (requested w (accepted v)) h = slotAfter P (ticks h) (departureOf v) < ticks h + positions P
-SoonAt P (requested w (refused r)) h = Unit {0}
-SoonAt P (credited j p a) h = Unit {0}
-SoonAt P (ticked x) h = Unit {0}
-
--- "Tick number s answers a flow exactly when an earlier request of that flow was granted slot s, and else idle."
-abbrev pub ComesUpAt : Plan → Event → History → Type 0
-ComesUpAt P (requested w a) h = Unit {0}
-ComesUpAt P (credited j p a) h = Unit {0}
-ComesUpAt P (ticked x) h = (i : ℕ) → (x ≡ some i) ↔ Owns P h i (ticks h + 1)
+-- ---- what is held, granted and answered
 
 -- "What a stream holds at slot s is its granted slots up to and including s, less its taken credits for slots up to and including s."
 pub record Held (P : Plan) (i : ℕ) (h : History) (s : ℕ) : Type 0 where
@@ -82,18 +77,47 @@ pub record Held (P : Plan) (i : ℕ) (h : History) (s : ℕ) : Type 0 where
 abbrev pub HeldAt : Plan → ℕ → Event → History → Type 0
 HeldAt P i e h = (s : ℕ) → Held P i (e ∷ h) s
 
+-- "A slot granted after t ticks has a number below t + T."
+abbrev pub SoonAt : Plan → Event → History → Type 0
+SoonAt P = AtGrant (λ w v h. slotAfter P (ticks h) (departureOf v) < ticks h + positions P)
+
+-- "Tick number s answers a flow exactly when an earlier request of that flow was granted slot s, and else idle."
+abbrev pub ComesUpAt : Plan → Event → History → Type 0
+ComesUpAt P = AtTick (λ x h. (i : ℕ) → (x ≡ some i) ↔ Owns P h i (ticks h + 1))
+
+-- A granted word v is the asked word w with another departure, a position; and w was well formed.
+pub record GrantedWord (P : Plan) (w v : ℕ) : Type 0 where
+  pub asked-well-formed : wellFormed P w ≡ true
+  pub same-but-departure : v ≡ depart w (departureOf v)
+  pub position : departureOf v < positions P
+
+abbrev pub GrantedWordAt : Plan → Event → History → Type 0
+GrantedWordAt P = AtGrant (λ w v h. GrantedWord P w v)
+
+-- ---- the clauses of the claim
+
+pub data Clause : Type 0 where
+  -- the most and the least that is granted
+  most most-in-a-frame least : Clause
+  -- over the whole list
+  within-cells one-owner within-a-window comes-up granted-words : Clause
+
+-- what each says of flow i
+abbrev pub Says : Clause → Plan → ℕ → History → Type 0
+-- at most (W + k) × share slots
+Says Clause.most P i h = granted P h i ≤ (P .frames + changes P h) * entry P i .share
+-- at most its share "in any frame"
+Says Clause.most-in-a-frame P i h = (f : ℕ) → grantedIn P h i f ≤ entry P i .share
+-- at least (W - 1 + k) × share slots, for a stream that asks until it is refused
+Says Clause.least P i h = Persistent P i h → (P .frames - 1 + changes P h) * entry P i .share ≤ granted P h i
+Says Clause.within-cells P i h = Each (HeldAt P i) h
+-- "No two grants of the list are of one slot."
+Says Clause.one-owner P i h = (s : ℕ) → ownersOf P h s ≤ 1
+Says Clause.within-a-window P i h = Each (SoonAt P) h
+Says Clause.comes-up P i h = Each (ComesUpAt P) h
+Says Clause.granted-words P i h = Each (GrantedWordAt P) h
+
 -- ---- the claim, for flow i
 
-pub record Demand3 (P : Plan) (i : ℕ) (h : History) : Type 0 where
-  -- at most (W + k) × share slots
-  pub most : granted P h i ≤ (P .frames + changes P h) * entry P i .share
-  -- at most its share "in any frame"
-  pub most-in-a-frame : (f : ℕ) → grantedIn P h i f ≤ entry P i .share
-  -- at least (W - 1 + k) × share slots, for a stream that asks until it is refused
-  pub least : Persistent P i h → (P .frames - 1 + changes P h) * entry P i .share ≤ granted P h i
-  -- "No two grants of the list are of one slot."
-  pub one-owner : (s : ℕ) → ownersOf P h s ≤ 1
-  pub within-cells : Each (HeldAt P i) h
-  pub within-a-window : Each (SoonAt P) h
-  pub comes-up : Each (ComesUpAt P) h
-  pub granted-words : Each (GrantedWordAt P) h
+abbrev pub Demand3 : Plan → ℕ → History → Type 0
+Demand3 P i h = (clause : Clause) → Says clause P i h

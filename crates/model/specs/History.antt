@@ -68,7 +68,7 @@ refusals P (requested w (refused r) ∷ h) = cond (wellFormed P w) (record { flo
 refusals P (credited i p a ∷ h) = refusals P h
 refusals P (ticked x ∷ h) = refusals P h
 
--- ---- counts
+-- ---- tests of a mark
 
 abbrev pub ofFlow : ℕ → Mark → Bool
 ofFlow i m = eqb (m .flow) i
@@ -84,23 +84,27 @@ inFrame P i f m = ofFlow i m && eqb (frameOf P (m .slot)) f
 abbrev pub upTo : ℕ → ℕ → Mark → Bool
 upTo i s m = ofFlow i m && leb (m .slot) s
 
--- flow i's granted slots, all of them, those of frame f, and those up to slot s
+-- ---- counts for the most and the least that is granted
+
+-- flow i's granted slots, all of them and those of frame f
 abbrev pub granted : Plan → History → ℕ → ℕ
 granted P h i = tally (ofFlow i) (grants P h)
 
 abbrev pub grantedIn : Plan → History → ℕ → ℕ → ℕ
 grantedIn P h i f = tally (inFrame P i f) (grants P h)
 
-abbrev pub grantedUpTo : Plan → History → ℕ → ℕ → ℕ
-grantedUpTo P h i s = tally (upTo i s) (grants P h)
-
--- its taken credits for slots up to s
-abbrev pub creditedUpTo : Plan → History → ℕ → ℕ → ℕ
-creditedUpTo P h i s = tally (upTo i s) (credits P h)
-
 -- its well-formed requests that were refused in frame f
 abbrev pub refusedIn : Plan → History → ℕ → ℕ → ℕ
 refusedIn P h i f = tally (inFrame P i f) (refusals P h)
+
+-- ---- counts over the whole list, for what is held and who owns a slot
+
+-- flow i's granted slots up to slot s, and its taken credits for slots up to s
+abbrev pub grantedUpTo : Plan → History → ℕ → ℕ → ℕ
+grantedUpTo P h i s = tally (upTo i s) (grants P h)
+
+abbrev pub creditedUpTo : Plan → History → ℕ → ℕ → ℕ
+creditedUpTo P h i s = tally (upTo i s) (credits P h)
 
 -- the grants of slot s, of all flows
 abbrev pub ownersOf : Plan → History → ℕ → ℕ

@@ -21,7 +21,10 @@ pub mod Holding
 pub mod Buffer
 -- worked examples, and cards that are sent back
 pub mod PlanBytes
+pub mod EdgeCases
+pub mod PlanEdges
+pub mod CallEdges
+pub mod ProgramEdges
 pub mod Edges
-pub mod Parts
 pub mod BadHistories
 pub mod BadCards

@@ -1,4 +1,5 @@
--- The booking table of one link: who booked each position, and what each flow holds. Document 01, "Slots, frames, positions". Assumes nothing.
+-- The booking table of one link: who booked each position, what each flow holds, and how they are changed. Document 01, "Slots, frames, positions".
+-- Assumes nothing.
 use Prim.Native.Nat.{ℕ}
 use mathlib.Core.List.{List, []}
 use mathlib.Core.Option.{Option, none}
@@ -49,29 +50,47 @@ share l i = entry (l .plan) i .share
 abbrev pub cells : Link → ℕ → ℕ
 cells l i = entry (l .plan) i .cells
 
--- ---- a link with a part changed, and the others left
+-- ---- a flow that is changed
+
+-- Flow x with these fields; what else it has stays. Every change of a flow goes through this one.
+abbrev pub flowWith : Flow → (injection remainder : ℕ) → (held : List ℕ) → Flow
+flowWith x injection remainder held = record {
+  injection = injection;
+  remainder = remainder;
+  held = held;
+}
+
+abbrev pub movedTo : Flow → ℕ → ℕ → Flow
+movedTo x j c = flowWith x j c (x .held)
+
+abbrev pub withHeld : Flow → List ℕ → Flow
+withHeld x h = flowWith x (x .injection) (x .remainder) h
+
+-- ---- a link that is changed
+
+-- Link l with these fields; what else it has stays. Every change of a link goes through this one.
+abbrev pub linkWith : Link → (current : ℕ) → (owners : List (Option ℕ)) → (flows : List Flow) → Link
+linkWith l current owners flows = record {
+  plan = l .plan;
+  current = current;
+  owners = owners;
+  flows = flows;
+}
 
 abbrev pub withCurrent : Link → ℕ → Link
-withCurrent l p = record { plan = l .plan; current = p; owners = l .owners; flows = l .flows }
+withCurrent l p = linkWith l p (l .owners) (l .flows)
 
 -- the owner of each position p is f p
 abbrev pub withOwners : Link → (ℕ → Option ℕ) → Link
-withOwners l f = record { plan = l .plan; current = l .current; owners = table (positions (l .plan)) f; flows = l .flows }
+withOwners l f = linkWith l (l .current) (table (positions (l .plan)) f) (l .flows)
 
--- the part of each flow i is f i
+-- each flow i is f i
 abbrev pub withFlows : Link → (ℕ → Flow) → Link
-withFlows l f = record { plan = l .plan; current = l .current; owners = l .owners; flows = table (flowCount (l .plan)) f }
+withFlows l f = linkWith l (l .current) (l .owners) (table (flowCount (l .plan)) f)
 
+-- flow i is x
 abbrev pub withFlow : Link → ℕ → Flow → Link
 withFlow l i x = withFlows l (λ j. cond (eqb j i) x (flow l j))
-
--- ---- a flow's part with another injection frame and remainder, or other holdings
-
-abbrev pub movedTo : Flow → ℕ → ℕ → Flow
-movedTo x j c = record { injection = j; remainder = c; held = x .held }
-
-abbrev pub withHeld : Flow → List ℕ → Flow
-withHeld x h = record { injection = x .injection; remainder = x .remainder; held = h }
 
 -- flow i's holdings, changed by f at position p and at all later positions
 abbrev pub heldFrom : Link → ℕ → ℕ → (ℕ → ℕ) → List ℕ

@@ -11,13 +11,27 @@ use lib.Dec.{ltb}
 use Rattle.model.specs.Tables.{within}
 use Rattle.model.specs.Word.{departureOf}
 use Rattle.model.specs.Plan.{field16, planOf, refusal}
-use Rattle.model.specs.Calls.{Call, Event, Grant, Receipt, Turn, requested, credited, ticked, accepted, refused}
+use Rattle.model.specs.Calls.{Event, Grant, Receipt, Turn, accepted, refused}
 use Rattle.model.specs.Link.{Link, Step}
 use Rattle.model.specs.Fresh.{fresh}
 use Rattle.model.specs.Request.{request}
 use Rattle.model.specs.Credit.{credit}
 use Rattle.model.specs.Tick.{tick}
-use Rattle.model.specs.Record.{records, callOf}
+use Rattle.model.specs.Record.{RecordCall, records, callOf}
+
+-- ---- what a record comes to
+
+-- a record's call with its answer
+pub data RecordEvent : Type 0 where
+  requested : (word : ℕ) → Grant → RecordEvent
+  credited : (flow position : ℕ) → Receipt → RecordEvent
+  ticked : Turn → RecordEvent
+
+-- such an event as one of demand 3's histories
+abbrev pub asEvent : RecordEvent → Event
+asEvent (RecordEvent.requested word answer) = Event.requested word answer
+asEvent (RecordEvent.credited flow position answer) = Event.credited flow position answer
+asEvent (RecordEvent.ticked answer) = Event.ticked answer
 
 -- ---- lines
 
@@ -61,31 +75,35 @@ tickLine (some flow) = line "T" (decimal flow)
 tickLine none = line "T" (text "-")
 
 -- "It writes one line for each": the line of a call with its answer, or of a record that makes no call
-abbrev pub lineOf : Option Event → List ℕ
-lineOf (some (requested w a)) = requestLine a
-lineOf (some (credited i p a)) = creditLine a
-lineOf (some (ticked x)) = tickLine x
+abbrev pub lineOf : Option RecordEvent → List ℕ
+lineOf (some (RecordEvent.requested w a)) = requestLine a
+lineOf (some (RecordEvent.credited i p a)) = creditLine a
+lineOf (some (RecordEvent.ticked x)) = tickLine x
 lineOf none = refusalLine 16
 
 -- ---- a stream of records
 
 -- the calls that records make
-abbrev pub callsOf : List ℕ → List (Option Call)
+abbrev pub callsOf : List ℕ → List (Option RecordCall)
 callsOf bytes = map callOf (records bytes)
 
+-- a call that is made, as what its record comes to
+abbrev pub cameTo : {A : Type 0} → (A → RecordEvent) → Step A → Step (Option RecordEvent)
+cameTo event handed = record { link = handed .link; answer = some (event (handed .answer)) }
+
 -- A record's call on a link, and what it comes to. "16 is tested before the call that the record would make", and leaves the link unchanged.
-abbrev pub made : Link → Option Call → Step (Option Event)
-made l (some (Call.request w)) = record { link = request l w .link; answer = some (requested w (request l w .answer)) }
-made l (some (Call.credit i p)) = record { link = credit l i p .link; answer = some (credited i p (credit l i p .answer)) }
-made l (some Call.tick) = record { link = tick l .link; answer = some (ticked (tick l .answer)) }
+abbrev pub made : Link → Option RecordCall → Step (Option RecordEvent)
+made l (some (RecordCall.request w)) = cameTo (RecordEvent.requested w) (request l w)
+made l (some (RecordCall.credit i p)) = cameTo (RecordEvent.credited i p) (credit l i p)
+made l (some RecordCall.tick) = cameTo RecordEvent.ticked (tick l)
 made l none = record { link = l; answer = none }
 
 -- what each record comes to, oldest first
-unfoldable pub outcomes : Link → List (Option Call) → List (Option Event)
+unfoldable pub outcomes : Link → List (Option RecordCall) → List (Option RecordEvent)
 outcomes l [] = []
 outcomes l (c ∷ cs) = made l c .answer ∷ outcomes (made l c .link) cs
 
-unfoldable pub linkAfterCalls : Link → List (Option Call) → Link
+unfoldable pub linkAfterCalls : Link → List (Option RecordCall) → Link
 linkAfterCalls l [] = l
 linkAfterCalls l (c ∷ cs) = linkAfterCalls (made l c .link) cs
 

@@ -1,4 +1,4 @@
--- Call records. Document 01, "The program and its listing", and refusal 16. Assumes nothing.
+-- Call records, and the calls that they can make. Document 01, "The program and its listing", and refusal 16. Assumes nothing.
 use Prim.Native.Nat.{ℕ, _+_, _*_, _/_, _%_}
 use mathlib.Core.List.{List, _∷_, []}
 use mathlib.Core.Option.{Option, some, none}
@@ -7,6 +7,21 @@ use lib.ListN.{length, getD}
 use lib.Dec.{leb, eqb}
 use Rattle.model.specs.Plan.{field16}
 use Rattle.model.specs.Calls.{Call}
+
+-- ---- the calls that a record can make
+
+pub data RecordCall : Type 0 where
+  request : (word : ℕ) → RecordCall
+  credit : (flow position : ℕ) → RecordCall
+  tick : RecordCall
+
+-- such a call as one of demand 3's list, where calls may stand that no record makes
+abbrev pub asCall : RecordCall → Call
+asCall (RecordCall.request word) = Call.request word
+asCall (RecordCall.credit flow position) = Call.credit flow position
+asCall RecordCall.tick = Call.tick
+
+-- ---- records
 
 -- "5-byte records", of which the last may be short
 unfoldable pub records : List ℕ → List (List ℕ)
@@ -26,17 +41,17 @@ abbrev pub isKind : ℕ → List ℕ → Bool
 isKind k r = leb 5 (length r) && eqb (getD r 0 0) k
 
 -- the call that a record makes; none where 16 applies: "unknown kind, a nonzero filler, or fewer than 5 bytes"
-unfoldable pub callOf : List ℕ → Option Call
+unfoldable pub callOf : List ℕ → Option RecordCall
 callOf r =
     -- "1 and a word, low byte first"
-    cond (isKind 1 r) (some (Call.request (field32 r 1)))
+    cond (isKind 1 r) (some (RecordCall.request (field32 r 1)))
     -- "2, flow, position (two bytes, low first), 0"
-    (cond (isKind 2 r && eqb (getD r 4 0) 0) (some (Call.credit (getD r 1 0) (field16 r 2)))
+    (cond (isKind 2 r && eqb (getD r 4 0) 0) (some (RecordCall.credit (getD r 1 0) (field16 r 2)))
     -- "3 and four zeros"
-    (cond (isKind 3 r && eqb (field32 r 1) 0) (some Call.tick) none))
+    (cond (isKind 3 r && eqb (field32 r 1) 0) (some RecordCall.tick) none))
 
 -- the record of a call
-unfoldable pub recordOf : Call → List ℕ
-recordOf (Call.request w) = 1 ∷ w % 256 ∷ w / 256 % 256 ∷ w / 65536 % 256 ∷ w / 16777216 ∷ []
-recordOf (Call.credit i p) = 2 ∷ i ∷ p % 256 ∷ p / 256 ∷ 0 ∷ []
-recordOf Call.tick = 3 ∷ 0 ∷ 0 ∷ 0 ∷ 0 ∷ []
+unfoldable pub recordOf : RecordCall → List ℕ
+recordOf (RecordCall.request w) = 1 ∷ w % 256 ∷ w / 256 % 256 ∷ w / 65536 % 256 ∷ w / 16777216 ∷ []
+recordOf (RecordCall.credit i p) = 2 ∷ i ∷ p % 256 ∷ p / 256 ∷ 0 ∷ []
+recordOf RecordCall.tick = 3 ∷ 0 ∷ 0 ∷ 0 ∷ 0 ∷ []

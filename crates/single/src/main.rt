@@ -1,15 +1,15 @@
-// Measures single calls by value. It reads a call file of at most 4096 calls from standard input, plays it many times and times each run of calls of one kind. The lowest time of each run counts, less the clock's own.
-mod clock;
-mod file;
-mod report;
+// Measures single calls by value. It reads a call file of at most 4096 calls from standard input, plays it many times and times each streak, the calls of one kind in a row. The lowest time of each streak counts, less the clock's own.
 mod timed;
 
 use calls::Answer;
-use file::MOST;
 use link::Link;
 use link::Step;
 use plan::Plan;
 use plan::Verdict;
+use timing::clock;
+use timing::file;
+use timing::file::MOST;
+use timing::report;
 ghost use Prim.Native.Nat.{_≤_};
 ghost use Rattle.plan.specs.Reading.{Valid};
 
@@ -19,7 +19,7 @@ const REPEATS: usize = 200;
 // The bytes of the longest file that is played: a plan of 16 flows has 76 bytes, and a call has 5.
 const LONGEST: usize = 76 + 5 * MOST;
 
-// Plays the calls on a fresh link and keeps the lowest time of each run, at the run's first call; the sum of all answers.
+// Plays the calls on a fresh link and keeps the lowest time of each streak, at its first call; the sum of all answers.
 fn play(
     plan: Plan,
     kinds: &[u8; MOST],
@@ -37,8 +37,8 @@ fn play(
     let mut sum = 0;
     let mut from = 0;
     while from < count {
-        let to = file::run_end(kinds, from, count);
-        let t = timed::run(step, kinds[from], words, from, to);
+        let to = file::streak_end(kinds, from, count);
+        let t = timed::streak(step, kinds[from], words, from, to);
         step = t.step;
         lowest[from] = clock::least(lowest[from], t.spent);
         sum = std::num::wrapping_add_u64(sum, t.sum);

@@ -1,10 +1,10 @@
 // Calls of one kind, by value, one after the other, and the time that they take.
 ghost use Prim.Native.Nat.{_≤_};
 ghost use Rattle.link.specs.Sound.{Sound};
-use crate::clock;
-use crate::file::MOST;
 use calls::Answer;
 use link::Step;
+use timing::clock;
+use timing::file::MOST;
 
 // A link after some calls, with the last answer; the sum of their answers, and the nanoseconds that they took.
 pub(crate) struct Timed {
@@ -88,8 +88,8 @@ fn ticks(first: Step, from: usize, to: usize) -> Timed
     Timed { step, sum, spent }
 }
 
-// Plays the calls of a kind from one place to another.
-pub(crate) fn run(step: Step, kind: u8, words: &[u32; MOST], from: usize, to: usize) -> Timed
+// Plays a streak: the calls of a kind from one place to another.
+pub(crate) fn streak(step: Step, kind: u8, words: &[u32; MOST], from: usize, to: usize) -> Timed
     requires { ⌜ Sound (step .link) × (to ≤ 4096) ⌝ }
     ensures { λ r. ⌜ Sound (r .step .link) ⌝ }
 {

@@ -39,7 +39,10 @@ part-measure-end : tie.Need-part-measure-end
 part-measure-end c = search needs
 
 measure-requires : tie.Need-measure-requires
-measure-requires c κs = c .before .before .before .before .read .ensures .1 (c .before .before .enum-told2 .given .1)
+measure-requires c κs =
+    let accepted-at = c .before .before in
+    let read-at = accepted-at .before .before in
+    read-at .read .ensures .1 (accepted-at .enum-told2 .given .1)
 
 returns-3 : tie.Need-returns-3
 returns-3 c = search needs

@@ -17,14 +17,14 @@ fresh-requires c κs = search needs
 loop-holds : tie.Need-loop-holds Inv-loop μ-loop
 loop-holds c = search needs
 
-run-end-requires : tie.Need-run-end-requires Inv-loop μ-loop
-run-end-requires c κs = search needs
+streak-end-requires : tie.Need-streak-end-requires Inv-loop μ-loop
+streak-end-requires c κs = search needs
 
-element-copy-out-run : tie.Need-element-copy-out-run Inv-loop μ-loop
-element-copy-out-run c = search needs
+element-copy-out-streak : tie.Need-element-copy-out-streak Inv-loop μ-loop
+element-copy-out-streak c = search needs
 
-run-requires : tie.Need-run-requires Inv-loop μ-loop
-run-requires c κs = search needs
+streak-requires : tie.Need-streak-requires Inv-loop μ-loop
+streak-requires c κs = search needs
 
 mul-least : tie.Need-mul-least Inv-loop μ-loop
 mul-least c = search needs
@@ -61,9 +61,9 @@ play-spec =
     μ-loop
     fresh-requires
     loop-holds
-    run-end-requires
-    element-copy-out-run
-    run-requires
+    streak-end-requires
+    element-copy-out-streak
+    streak-requires
     mul-least
     element-copy-out-least
     least-requires

@@ -11,17 +11,15 @@ flows-requires c κs = count-most _ (c .before .pre)
 unbooked-requires : tie.Need-unbooked-requires
 unbooked-requires c κs = search needs
 
-unheld-requires : tie.Need-unheld-requires
-unheld-requires c κs = search needs
-
-rows-requires : tie.Need-rows-requires
-rows-requires c κs = search needs
+nothing-held-requires : tie.Need-nothing-held-requires
+nothing-held-requires c κs = search needs
 
 returns : tie.Need-returns
 returns c =
-    let h = c .before in
-    let s = h .before .before .before .before in
-    rw (c .rows .ensures, h .unheld .ensures, h .before .unbooked .ensures, h .before .before .flows .ensures) (read-fresh _ (s .pre), sound-fresh _ (s .pre))
+    let unbooked-at = c .before in
+    let flows-at = unbooked-at .before in
+    let valid = flows-at .before .before .pre in
+    rw (c .nothing-held .ensures, unbooked-at .unbooked .ensures, flows-at .flows .ensures) (read-fresh _ valid, sound-fresh _ valid)
 
 pub fresh-spec : {M : Type 1} → statement M
-fresh-spec = tie.close (tie.spec flows-requires unbooked-requires unheld-requires rows-requires returns)
+fresh-spec = tie.close (tie.spec flows-requires unbooked-requires nothing-held-requires returns)

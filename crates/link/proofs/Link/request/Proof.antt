@@ -1,42 +1,56 @@
 -- `link::Link::request` meets its contract. Assumes nothing.
 use borrow.Author.Needs.{needs}
-use Prim.Native.Nat.{_<_}
-use mathlib.Core.Path.{refl, subst}
+use Prim.Native.Nat.{ℕ, _<_}
+use mathlib.Core.Path.{_≡_}
 use native.Mathlib.Omega.{arith}
-use Rattle.model.specs.Request as model
-use Rattle.calls.specs.Reading.{answerToRequest}
-use Rattle.link.specs.Window.{sizeOf}
+use Rattle.model.specs.Request.{request}
+use Rattle.window.specs.Window.{sizeOf}
+use Rattle.link.specs.declared.Link.{Link}
 use Rattle.link.specs.Reading.{linkOf}
-use Rattle.link.specs.Change.{Stepped, changed}
-use Rattle.link.proofs.Links.{measures, read-window}
-use Rattle.link.proofs.Changes.{place-below, parts-of, stored-booking, stored-flow}
+use Rattle.link.specs.Reply.{replyOf}
+use Rattle.link.proofs.Readings.{measures}
+use Rattle.link.proofs.Given.{AtHand, at-hand, placed-few, request-on}
+use Rattle.link.proofs.Requests.{reply-below, request-granted, request-refused}
 use Rattle.link.proofs.Link.request.Statement.{statement}
 use Rattle.link.proofs.Link.request.Tie as tie
 
--- ---- what is known on the way
+-- ---- the places of its code
 
-asker-below : (c : tie.After-asker) → c .asker .result < 16
-asker-below c = place-below _ (c .before .before .pre) refl _ _ (c .asker .ensures)
+-- where the function is entered, where the word's flow is known, and where the window is made
+abbrev start : tie.After-asker → tie.Start
+start c = c .before .before
 
--- where the flow is known, where the window is made, and where the function is entered
 abbrev asked-at : tie.After-window → tie.After-asker
 asked-at c = c .before .before .before
 
-abbrev start : tie.After-window → tie.Start
-start c = asked-at c .before .before
+abbrev window-for : tie.After-ask-arg2 → tie.After-window
+window-for c = c .before .before .before
 
-abbrev made-at : tie.After-flow2 → tie.After-window
-made-at c = c .before .before .before .before .before
+abbrev window-at : tie.After-flow2 → tie.After-window
+window-at c = window-for (c .before .before)
 
--- the position lies in the window
-position-below : (c : tie.After-flow2) → c .before .ask .result .position < sizeOf (made-at c .window .result)
-position-below c = c .before .ask .ensures .1
+-- ---- what is known there
 
--- what the change comes to
-changed-is : (c : tie.After-flow2) → Stepped answerToRequest (model.request (linkOf (start (made-at c) .args .t1)) (start (made-at c) .args .word)) (changed (start (made-at c) .args .t1) (asked-at (made-at c) .asker .result) (c .before .ask .result))
-changed-is c =
-    let w = made-at c in
-    c .before .ask .ensures .0 (start w .args .t1) (parts-of (start w .args .t1) (start w .pre) refl (w .window .ensures .0) (w .window .ensures .1) _)
+asker-few : (c : tie.After-asker) → c .asker .result < 16
+asker-few c = placed-few (start c .pre .plan) _ (c .asker .ensures)
+
+module _ (c : tie.After-window) where
+  abbrev link-at : Link
+  link-at = start (asked-at c) .args .t1
+
+  abbrev word-at : ℕ
+  word-at = start (asked-at c) .args .word
+
+  hand-at : AtHand link-at (link-at .plan) (c .window .result)
+  hand-at = at-hand (start (asked-at c) .pre) (c .window .ensures .0) (c .window .ensures .1)
+
+module _ (c : tie.After-flow2) where
+  reply-is : c .before .ask .result
+      ≡ replyOf (asked-at (window-at c) .asker .result) (request (linkOf (link-at (window-at c))) (word-at (window-at c)))
+  reply-is = c .before .ask .ensures _ (request-on (hand-at (window-at c)) _ (asked-at (window-at c) .asker .ensures))
+
+  position-below : c .before .ask .result .position < sizeOf (window-at c .window .result)
+  position-below = reply-below (hand-at (window-at c)) _ (asked-at (window-at c) .asker .ensures) reply-is
 
 -- ---- the needs
 
@@ -44,56 +58,54 @@ asker-requires : tie.Need-asker-requires
 asker-requires c κs = search needs
 
 mul-e : tie.Need-mul-e
-mul-e c = omega (arith, asker-below c)
+mul-e c = omega (arith, asker-few c)
 
 element-copy-out-e : tie.Need-element-copy-out-e
-element-copy-out-e c = asker-below c
+element-copy-out-e c = asker-few c
 
 mul-flow : tie.Need-mul-flow
-mul-flow c = omega (arith, asker-below (c .before))
+mul-flow c = omega (arith, asker-few (c .before))
 
 element-copy-out-flow : tie.Need-element-copy-out-flow
-element-copy-out-flow c = asker-below (c .before)
+element-copy-out-flow c = asker-few (c .before)
 
 window-requires : tie.Need-window-requires
-window-requires c κs = measures _ (c .before .before .before .before .pre)
+window-requires c κs = measures _ (start (c .before .before) .pre)
 
 ask-requires : tie.Need-ask-requires
 ask-requires c κs =
-    let w = c .before .before .before in
-    (record { link = start w .args .t1; of = parts-of (start w .args .t1) (start w .pre) refl (w .window .ensures .0) (w .window .ensures .1) _ }, asked-at w .asker .ensures)
+    let w = window-for c in
+    record { link = link-at w; given = request-on (hand-at w) _ (asked-at w .asker .ensures) }
 
 mul-flow-2 : tie.Need-mul-flow-2
-mul-flow-2 c = omega (arith, asker-below (asked-at (made-at c)))
+mul-flow-2 c = omega (arith, asker-few (asked-at (window-at c)))
 
 element-set-from-flow : tie.Need-element-set-from-flow
-element-set-from-flow c = asker-below (asked-at (made-at c))
+element-set-from-flow c = asker-few (asked-at (window-at c))
 
 cast-self : tie.Need-cast-self
-cast-self c = omega (arith, asker-below (asked-at (made-at (c .before))))
+cast-self c = omega (arith, asker-few (asked-at (window-at (c .before))))
 
 element-write-self : tie.Need-element-write-self
-element-write-self c = omega (arith, position-below (c .before), made-at (c .before) .window .ensures .1 .measures .positions-most)
+element-write-self c = omega (arith, position-below (c .before), hand-at (window-at (c .before)) .proper .measures .positions-most)
 
 shift-from-requires : tie.Need-shift-from-requires
 shift-from-requires c κs =
     let f = c .before .before in
-    (made-at f .window .ensures .1, position-below f, asker-below (asked-at (made-at f)))
+    record { proper = hand-at (window-at f) .proper; flow = asker-few (asked-at (window-at f)); position = position-below f }
 
 returns : tie.Need-returns
 returns c =
-    let t = c .before .before in
-    let f = t .before in
-    let w = made-at f in
-    let l = start w .args .t1 in
-    subst (Stepped answerToRequest (model.request (linkOf l) (start w .args .word))) (stored-booking l _ (f .before .ask .result) (w .window .result) (read-window l (w .window .ensures .0)) (t .if1 .taken) (c .shift-from .ensures)) (changed-is f)
+    let granted-at = c .before .before in
+    let f = granted-at .before in
+    let w = window-at f in
+    request-granted (hand-at w) _ (asked-at w .asker .ensures) (reply-is f) (granted-at .if1 .taken) (c .shift-from .ensures)
 
 returns-2 : tie.Need-returns-2
 returns-2 c =
     let f = c .before in
-    let w = made-at f in
-    let l = start w .args .t1 in
-    subst (Stepped answerToRequest (model.request (linkOf l) (start w .args .word))) (stored-flow l _ (f .before .ask .result) (c .if1 .left)) (changed-is f)
+    let w = window-at f in
+    request-refused (hand-at w) _ (asked-at w .asker .ensures) (reply-is f) (c .if1 .left)
 
 pub request-spec : {M : Type 1} → statement M
 request-spec =

@@ -1,80 +1,106 @@
 -- `link::credit::refusal` meets its contract: each return by the tests on the way. Assumes nothing.
-use borrow.Author.Needs.{needs}
 use Prim.Native.Nat.{ℕ, _<_}
 use mathlib.Core.Path.{_≡_, sym, ap, _∙_}
 use mathlib.Core.List.{List}
+use mathlib.Core.Bool.{Bool, false}
 use native.Mathlib.Omega.{arith}
-use Rattle.model.specs.Window as model
+use Rattle.model.specs.Window.{passed, everyFrom}
+use Rattle.window.specs.Window.{windowOf}
+use Rattle.tables.specs.Holdings.{someHeld}
+use Rattle.tables.specs.Rows.{row}
 use Rattle.link.specs.declared.Link.{Link}
-use Rattle.link.specs.Window.{windowOf}
-use Rattle.link.specs.Holdings.{someHeld}
-use Rattle.link.specs.Rows.{row}
-use Rattle.link.specs.Parts.{sizeOf}
-use Rattle.link.specs.Change.{Around}
-use Rattle.link.proofs.Links.{read-size}
+use Rattle.link.specs.Layout.{sizeOf}
+use Rattle.link.specs.Given.{CreditOn}
+use Rattle.link.proofs.Readings.{read-size, flows-most}
 use Rattle.link.proofs.Credits.{tests-8, tests-13, tests-14, tests-15, tests-pass}
 use Rattle.link.proofs.credit.refusal.Statement.{statement}
 use Rattle.link.proofs.credit.refusal.Tie as tie
 
 -- ---- what is known on the way
 
+-- where the flow and the position passed their tests, and where the function is entered
+abbrev tested-at : tie.After-held-from → tie.Else2
+tested-at c = c .before .before .before
+
 abbrev start : tie.Else2 → tie.Start
 start c = c .before .before .before
 
-abbrev AroundAt : tie.Start → Link → Type 0
-AroundAt s l = Around l (s .args .count) (s .args .w) (s .args .held .now)
+abbrev OnAt : tie.Start → Link → Type 0
+OnAt s l = CreditOn l (s .args .count) (s .args .w) (s .args .held .now)
 
-module _ (c : tie.Else2) (l : Link) (a : AroundAt (start c) l) where
-  flow-below : start c .args .flow < l .plan .count
-  flow-below = rw (← a .count-is) (c .before .before .if1 .left)
+module _ (c : tie.Else2) where
+  flow-tested : start c .args .flow < start c .args .count
+  flow-tested = c .before .before .if1 .left
 
-  position-below : start c .args .position < sizeOf l
-  position-below = rw (← read-size l (a .window-is)) (c .if2 .left)
+  flow-few : start c .args .flow < 16
+  flow-few =
+      let some = start c .pre in
+      let on = some .given .window in
+      omega (arith, flow-tested, on .count-is, flows-most (some .link) (on .sound))
 
--- what the test of the holdings says
-held-is : (c : tie.After-held-from) (l : Link) (a : AroundAt (start (c .before .before .before)) l)
-    → model.everyFrom (windowOf (start (c .before .before .before) .args .w)) (start (c .before .before .before) .args .position) (someHeld (row (l .held) (start (c .before .before .before) .args .flow))) ≡ c .held-from .result
-held-is c l a =
-    let s = start (c .before .before .before) in
-    ap (λ (h : List ℕ). model.everyFrom (windowOf (s .args .w)) (s .args .position) (someHeld (row h (s .args .flow)))) (sym (a .held-is)) ∙ sym (c .held-from .ensures)
+  module _ (l : Link) (o : OnAt (start c) l) where
+    flow-below : start c .args .flow < l .plan .count
+    flow-below = rw (← o .window .count-is) flow-tested
+
+    position-below : start c .args .position < sizeOf l
+    position-below = rw (← read-size l (o .window .window-is)) (c .if2 .left)
+
+module _ (c : tie.After-held-from) where
+  abbrev position-at : ℕ
+  position-at = start (tested-at c) .args .position
+
+  not-passed : passed (windowOf (start (tested-at c) .args .w)) position-at ≡ false
+  not-passed = sym (c .before .before .passed .ensures) ∙ c .before .if3 .left
+
+  -- what the test of the holdings says
+  abbrev held-in : List ℕ → Bool
+  held-in h = everyFrom (windowOf (start (tested-at c) .args .w)) position-at (someHeld (row h (start (tested-at c) .args .flow)))
+
+  held-is : (l : Link) → OnAt (start (tested-at c)) l → held-in (l .held) ≡ c .held-from .result
+  held-is l o = ap held-in (sym (o .held-is)) ∙ sym (c .held-from .ensures)
 
 -- ---- the needs
 
 returns : tie.Need-returns
-returns c = (λ l a. tests-8 l _ _ (rw (← a .count-is) (c .if1 .taken)), λ z. absurd (omega (arith, z)))
+returns c = (λ l o. tests-8 l _ _ (rw (← o .window .count-is) (c .if1 .taken)), λ z. absurd (omega (arith, z)))
 
 mul-if2 : tie.Need-mul-if2
-mul-if2 c = search needs
+mul-if2 c = let m = c .before .before .pre .given .window .proper .measures in omega (arith, m .positions-most)
 
 returns-2 : tie.Need-returns-2
-returns-2 c = (λ l a. tests-13 l _ _ (rw (← a .count-is) (c .before .before .if1 .left)) (rw (← read-size l (a .window-is)) (c .if2 .taken)), λ z. absurd (omega (arith, z)))
+returns-2 c = (
+  λ l o. tests-13 l _ _ (rw (← o .window .count-is) (c .before .before .if1 .left)) (rw (← read-size l (o .window .window-is)) (c .if2 .taken)),
+  λ z. absurd (omega (arith, z)),
+)
 
 passed-requires : tie.Need-passed-requires
-passed-requires c κs = (start c .pre .0, c .if2 .left)
+passed-requires c κs = record { proper = start c .pre .given .window .proper; below = c .if2 .left }
 
 returns-3 : tie.Need-returns-3
 returns-3 c =
-    let e = c .before .before in
-    (λ l a. tests-14 l _ _ (flow-below e l a) (position-below e l a) _ (a .window-is) (sym (c .before .passed .ensures) ∙ c .if3 .taken), λ z. absurd (omega (arith, z)))
+    let t = c .before .before in (
+      λ l o. tests-14 l _ _ (flow-below t l o) (position-below t l o) _ (o .window .window-is) (sym (c .before .passed .ensures) ∙ c .if3 .taken),
+      λ z. absurd (omega (arith, z)),
+    )
 
 held-from-requires : tie.Need-held-from-requires
 held-from-requires c κs =
-    let e = c .before .before in
-    (start e .pre .0, e .if2 .left, omega (arith, e .before .before .if1 .left, start e .pre .1))
+    let t = c .before .before in
+    record { proper = start t .pre .given .window .proper; flow = flow-few t; position = t .if2 .left }
 
 returns-4 : tie.Need-returns-4
 returns-4 c =
     let h = c .before in
-    let e = h .before .before .before in (
-      λ l a. tests-pass l _ _ (flow-below e l a) (position-below e l a) _ (a .window-is) (sym (h .before .before .passed .ensures) ∙ h .before .if3 .left) (held-is h l a ∙ c .if4 .taken),
-      λ z. record { flow = e .before .before .if1 .left; position = e .if2 .left; some-held = sym (h .held-from .ensures) ∙ c .if4 .taken },
+    let t = tested-at h in (
+      λ l o. tests-pass l _ _ (flow-below t l o) (position-below t l o) _ (o .window .window-is) (not-passed h) (held-is h l o ∙ c .if4 .taken),
+      λ z. record { flow = flow-tested t; position = t .if2 .left; some-held = sym (h .held-from .ensures) ∙ c .if4 .taken },
     )
 
 returns-5 : tie.Need-returns-5
 returns-5 c =
     let h = c .before in
-    let e = h .before .before .before in (
-      λ l a. tests-15 l _ _ (flow-below e l a) (position-below e l a) _ (a .window-is) (sym (h .before .before .passed .ensures) ∙ h .before .if3 .left) (held-is h l a ∙ c .if4 .left),
+    let t = tested-at h in (
+      λ l o. tests-15 l _ _ (flow-below t l o) (position-below t l o) _ (o .window .window-is) (not-passed h) (held-is h l o ∙ c .if4 .left),
       λ z. absurd (omega (arith, z)),
     )
 

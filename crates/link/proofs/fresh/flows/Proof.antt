@@ -1,24 +1,29 @@
--- `link::fresh::flows` meets its contract. Assumes nothing.
+-- `link::fresh::flows` meets its contract: the flows below i are done. Assumes nothing.
 use borrow.Author.Needs.{needs}
-use Prim.Native.Nat.{_-_, _≤_}
-use mathlib.Core.Path.{_≡_, refl}
+use Prim.Native.Nat.{ℕ, _-_, _≤_}
+use mathlib.Core.Path.{_≡_}
+use mathlib.Core.List.{List}
 use native.Mathlib.Omega.{arith}
-use lib.ListN.{getD, replicate}
-use Rattle.plan.specs.Reading.{noEntry}
-use Rattle.link.specs.Runs.{inRun, replaced}
-use Rattle.link.specs.Parts.{noFlow}
-use Rattle.link.proofs.Runs.{replaced-none, replaced-more, replaced-done}
+use Rattle.plan.specs.declared.Entry.{Entry}
+use Rattle.link.specs.declared.Flow.{Flow}
+use Rattle.link.specs.Layout.{noFlow}
+use Rattle.link.specs.Fresh.{freshFlows}
+use Rattle.window.proofs.Ranges.{replaced-none, replaced-more, replaced-done}
 use Rattle.link.proofs.fresh.flows.Statement.{statement}
 use Rattle.link.proofs.fresh.flows.Tie as tie
 
+record Done (count : ℕ) (entries : List Entry) (all : List Flow) (i : ℕ) : Type 0 where
+  pub at-most : i ≤ count
+  pub all-is : all ≡ freshFlows entries i
+
 abbrev Inv-loop : tie.InvT-loop
-Inv-loop count entries all₀ i₀ all i = (i ≤ count) × (all ≡ replaced (inRun 0 i) (λ k f. record { frame = 0; left = getD entries k noEntry .share }) (replicate 16 noFlow))
+Inv-loop count entries spare all₀ i₀ all i = Done count entries all i
 
 abbrev μ-loop : tie.MeasureT-loop
-μ-loop count entries all₀ i₀ all i = count - i
+μ-loop count entries spare all₀ i₀ all i = count - i
 
 loop-holds : tie.Need-loop-holds Inv-loop μ-loop
-loop-holds c = (search needs, replaced-none 0 _ _ noFlow)
+loop-holds c = record { at-most = omega arith; all-is = replaced-none 0 _ _ noFlow }
 
 mul-e : tie.Need-mul-e Inv-loop μ-loop
 mul-e c = search needs
@@ -26,8 +31,11 @@ mul-e c = search needs
 array-copy-out-e : tie.Need-array-copy-out-e Inv-loop μ-loop
 array-copy-out-e c = search needs
 
-cast-t9 : tie.Need-cast-t9 Inv-loop μ-loop
-cast-t9 c = search needs
+cast-moved-to : tie.Need-cast-moved-to Inv-loop μ-loop
+cast-moved-to c = search needs
+
+moved-to-requires : tie.Need-moved-to-requires Inv-loop μ-loop
+moved-to-requires c κs = search needs
 
 mul-all : tie.Need-mul-all Inv-loop μ-loop
 mul-all c = search needs
@@ -41,11 +49,18 @@ add-i c = search needs
 loop-less : tie.Need-loop-less Inv-loop μ-loop
 loop-less c = search needs
 
+-- where flow i is looked at
+abbrev loop-at : tie.After-moved-to Inv-loop μ-loop → tie.At-loop Inv-loop μ-loop
+loop-at c = c .before .before .before .before
+
 loop-again : tie.Need-loop-again Inv-loop μ-loop
-loop-again c = (search needs, replaced-more _ _ _ _ noFlow _ _ (c .before .before .before .loop .inv .1) (omega arith) refl)
+loop-again c = record {
+  at-most = omega arith;
+  all-is = replaced-more _ _ _ _ noFlow _ _ (loop-at c .loop .inv .all-is) (omega arith) (c .moved-to .ensures);
+}
 
 returns : tie.Need-returns Inv-loop μ-loop
-returns c = replaced-done _ _ _ _ _ _ (c .before .loop .inv .1) (omega arith)
+returns c = replaced-done _ _ _ _ _ _ (c .before .loop .inv .all-is) (omega arith)
 
 pub flows-spec : {M : Type 1} → statement M
 flows-spec =
@@ -56,7 +71,8 @@ flows-spec =
     loop-holds
     mul-e
     array-copy-out-e
-    cast-t9
+    cast-moved-to
+    moved-to-requires
     mul-all
     array-set-from-all
     add-i

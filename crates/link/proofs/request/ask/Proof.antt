@@ -1,228 +1,176 @@
--- `link::request::ask` meets its contract: refused by the word's own tests, granted what the search found, or refused at the newest frame. Assumes nothing.
+-- `link::request::ask` meets its contract: refused by the word's own tests, granted what the search found, or refused at the newest frame.
+-- Assumes nothing.
 use borrow.Author.Needs.{needs}
-use Prim.Native.Nat.{ℕ, suc, _*_, _<_}
-use mathlib.Core.Path.{_≡_, refl, sym, ap, _∙_, subst}
-use mathlib.Core.List.{List}
-use mathlib.Core.Bool.{not, _&&_}
+use Prim.Native.Nat.{ℕ, _<_}
+use mathlib.Core.Path.{_≡_, sym, ap, _∙_}
+use mathlib.Core.Bool.{cond}
 use native.Mathlib.Omega.{arith}
-use lib.Dec.{ltb}
-use lib.ListN.{getD}
-use borrow.Author.Tests.{ltb-true, eqb-true}
-use Rattle.plan.specs.declared.Entry.{Entry}
-use Rattle.plan.specs.Reading.{noEntry, planFor}
-use Rattle.model.specs.Word.{flowOf}
+use lib.Dec.{eqb}
+use borrow.Author.Tests.{eqb-true}
 use Rattle.model.specs.Refusals.{firstOf}
-use Rattle.model.specs.Tables.{ahead}
-use Rattle.model.specs.Window.{Window, passed, everyFrom, newest}
+use Rattle.model.specs.Word as word
+use Rattle.model.specs.Window.{newest}
 use Rattle.model.specs.Link as model
-use Rattle.model.specs.Request as paper
-use Rattle.model.specs.Request.{found, sought, answered, request}
-use Rattle.calls.specs.Reading.{answerToRequest}
+use Rattle.model.specs.Request.{wordTests, found, nowhere, sought}
+use Rattle.plan.specs.Reading.{planFor}
+use Rattle.tables.specs.Search.{foundOf}
 use Rattle.link.specs.declared.Flow.{Flow}
 use Rattle.link.specs.declared.Link.{Link}
-use Rattle.link.specs.Runs.{replaced, wrapped}
-use Rattle.link.specs.Rows.{row}
-use Rattle.link.specs.Parts.{sizeOf, entryAt}
-use Rattle.link.specs.Holdings.{roomAt}
+use Rattle.link.specs.Updates.{movedTo}
 use Rattle.link.specs.Reading.{linkOf}
-use Rattle.link.specs.Search.{foundOf, freeFrom}
-use Rattle.link.specs.Window.{windowOf, fromIn}
-use Rattle.link.specs.Change.{placed, PartsOf, Stepped}
-use Rattle.link.proofs.Runs.{wrapped-up}
-use Rattle.link.proofs.Ranks.{replaced-from}
-use Rattle.link.proofs.Changes.{same-link, same-held, same-moved}
-use Rattle.link.proofs.Links.{read-size, read-frames, flows-most, size-most}
-use Rattle.link.proofs.Searches.{Booking}
-use Rattle.link.proofs.Requests.{refused-word, asked, asks-for, asker-below, LowFor, sought-same, found-at, room-there, spent-at-newest, granted-link, refused-link, granted, refused-newest}
+use Rattle.link.specs.Given.{RequestOn}
+use Rattle.link.specs.Reply.{refusedWith, grantedWith}
+use Rattle.link.proofs.Given.{word-on, place-on, flow-on, flow-from, sought-on}
+use Rattle.link.proofs.Searches.{found-at, spent-at-newest}
+use Rattle.link.proofs.Replies.{reply-refused, reply-found, reply-nowhere}
 use Rattle.link.proofs.request.ask.Statement.{statement}
 use Rattle.link.proofs.request.ask.Tie as tie
 
--- ---- what is known on the way
+-- ---- the places of its code
 
--- a link with these parts, where the function is entered
-abbrev OfAt : tie.Start → Link → Type 0
-OfAt s l = PartsOf l (s .args .count) (s .args .e) (s .args .w) (s .args .owner .now) (s .args .held .now) (s .args .i) (s .args .flow)
-
+-- where the function is entered
 abbrev entered : tie.After-refusal → tie.Start
 entered c = c .before .before
 
-module _ (c : tie.After-refusal) (l : Link) (o : OfAt (entered c) l) where
-  tests-are : c .refusal .result ≡ firstOf (paper.wordTests (planFor (l .plan)) (entered c .args .word))
-  tests-are = c .refusal .ensures (l .plan) (sym (o .around .count-is)) (ap (λ (k : ℕ). getD (l .plan .entries) k noEntry) (sym (entered c .pre .1)) ∙ sym (o .entry-is)) (sym (read-size l (o .around .window-is)))
+abbrev start : tie.Else1 → tie.Start
+start c = entered (c .before)
 
-  placed-is : entered c .args .i ≡ placed (l .plan .count) (flowOf (entered c .args .word))
-  placed-is = entered c .pre .1 ∙ ap (λ (n : ℕ). placed n (flowOf (entered c .args .word))) (o .around .count-is)
+-- where the word passed its own tests
+abbrev passed-at : tie.After-newest → tie.Else1
+passed-at c = c .before
 
--- the word passed its own tests: its flow is one of the plan's
-module _ (c : tie.Else1) (l : Link) (o : OfAt (entered (c .before)) l) where
-  asks-at : flowOf (entered (c .before) .args .word) ≡ entered (c .before) .args .i
-  asks-at = asks-for l _ _ (tests-are (c .before) l o) (c .if1 .left) _ (placed-is (c .before) l o)
+-- where the newest frame is known: before the search, and where the share is spent there
+abbrev newest-for : tie.After-struct-known4 → tie.After-newest
+newest-for c = c .before .before .before
 
-  flow-known : entered (c .before) .args .i < l .plan .count
-  flow-known = asker-below l _ _ (tests-are (c .before) l o) (c .if1 .left) _ (placed-is (c .before) l o)
+abbrev newest-at : tie.After-find → tie.After-newest
+newest-at c = newest-for (c .before)
 
-flow-below : (c : tie.Else1) → entered (c .before) .args .i < 16
-flow-below c =
-    let g = entered (c .before) .pre .0 in
-    omega (arith, flow-known c (g .link) (g .of), flows-most _ (g .of .around .sound))
+abbrev spent-at : tie.After-refused2 → tie.Then2
+spent-at c = c .before .before .before
 
--- where the newest frame is known, where the word passed, and where the function is entered
-abbrev newest-at : tie.After-search → tie.After-newest
-newest-at c = c .before .before .before .before .before
+-- where the search found a position, and where it found none
+abbrev granted-at : tie.After-depart → tie.After-found
+granted-at c = c .before .before .before
 
-abbrev passed-at : tie.After-search → tie.Else1
-passed-at c = newest-at c .before
+abbrev none-at : tie.After-refused3 → tie.After-found2
+none-at c = c .before .before .before .before
 
-abbrev start : tie.After-search → tie.Start
-start c = entered (passed-at c .before)
+-- ---- what is given there
 
-abbrev flow-at : tie.After-search → ℕ
-flow-at c = start c .args .i
+abbrev OnAt : tie.Start → Link → Type 0
+OnAt s l =
+    RequestOn l (s .args .count) (s .args .e) (s .args .w) (s .args .owner .now) (s .args .held .now)
+    (s .args .i) (s .args .flow) (s .args .word)
 
-abbrev window-at : tie.After-search → Window
-window-at c = windowOf (start c .args .w)
+tests-are : (c : tie.After-refusal) (l : Link) → OnAt (entered c) l
+    → c .refusal .result ≡ firstOf (wordTests (planFor (l .plan)) (entered c .args .word))
+tests-are c l o = c .refusal .ensures (l .plan) (word-on o)
 
--- the rank from which on positions are late enough and have room
-abbrev low-at : tie.After-search → ℕ
-low-at c = c .before .before .valid-rank .result
+-- the newest frame as the link has it
+newest-is : (c : tie.After-newest) (l : Link) → OnAt (start (passed-at c)) l → c .newest .result ≡ newest (model.window (linkOf l))
+newest-is c l o = c .newest .ensures ∙ ap newest (o .window .window-is)
 
-module _ (c : tie.After-search) (l : Link) (o : OfAt (start c) l) where
-  window-is : window-at c ≡ model.window (linkOf l)
-  window-is = o .around .window-is
+-- what the search comes to
+module _ (c : tie.After-find) (l : Link) (o : OnAt (start (passed-at (newest-at c))) l) where
+  found-is : foundOf (c .find .result) ≡ sought (linkOf l) (start (passed-at (newest-at c)) .args .i)
+  found-is = c .find .ensures ∙ sought-on o
 
-  flow-there : flow-at c < l .plan .count
-  flow-there = flow-known (passed-at c) l o
+module _ (c : tie.After-found) where
+  abbrev at-find : tie.After-find
+  at-find = c .before .before
 
-  low-known : LowFor l (o .around .sound) (window-at c) window-is (flow-at c) flow-there (low-at c)
-  low-known = record {
-    from = λ p h.
-        c .before .before .valid-rank .ensures p (rw (read-size l window-is) h)
-        ∙ ap (λ (x : List ℕ). not (passed (window-at c) p) && everyFrom (window-at c) p (roomAt (row x (flow-at c)) (start c .args .e .cells))) (o .around .held-is)
-        ∙ ap (λ (x : Entry). not (passed (window-at c) p) && everyFrom (window-at c) p (roomAt (row (l .held) (flow-at c)) (x .cells))) (o .entry-is);
-  }
+  abbrev frame-at : ℕ
+  frame-at = c .found .given .0 .0
 
-  found-from : List ℕ → Entry → Flow → paper.Found
-  found-from owner e f = paper.search (window-at c) (freeFrom (window-at c) owner (low-at c)) (e .share) (ahead (window-at c .frames) (f .frame) (newest (window-at c))) (f .frame) (f .left)
+  abbrev left-at : ℕ
+  left-at = c .found .given .0 .1 .0
 
-  searched : foundOf (c .search .result) ≡ sought (linkOf l) (flow-at c)
-  unfolding found-from
-  searched =
-      c .search .ensures
-      ∙ ap (λ (x : List ℕ). found-from x (start c .args .e) (start c .args .flow)) (o .owner-is)
-      ∙ ap (λ (x : Entry). found-from (l .owner) x (start c .args .flow)) (o .entry-is)
-      ∙ ap (λ (x : Flow). found-from (l .owner) (entryAt l (flow-at c)) x) (o .flow-is)
-      ∙ sym (sought-same l (o .around .sound) (window-at c) window-is (flow-at c) flow-there (low-at c) low-known)
-
-  asked-at : request (linkOf l) (start c .args .word) ≡ answered (linkOf l) (start c .args .word) (sought (linkOf l) (flowOf (start c .args .word)))
-  asked-at = asked l _ _ (tests-are (passed-at c .before) l o) (passed-at c .if1 .left)
-
--- the position that was found
-module _ (c : tie.After-found) (l : Link) (o : OfAt (start (c .before .before)) l) where
   abbrev position-at : ℕ
   position-at = c .found .given .0 .1 .1 .0
 
-  found-is : found (c .found .given .0 .0) (c .found .given .0 .1 .0) position-at ≡ sought (linkOf l) (flow-at (c .before .before))
-  found-is = ap foundOf (sym (c .found .given .1)) ∙ searched (c .before .before) l o
+  module _ (l : Link) (o : OnAt (start (passed-at (newest-at at-find))) l) where
+    position-found : found frame-at left-at position-at ≡ sought (linkOf l) (start (passed-at (newest-at at-find)) .args .i)
+    position-found = ap foundOf (sym (c .found .given .1)) ∙ found-is at-find l o
 
-  booking : Booking (window-at (c .before .before)) (freeFrom (window-at (c .before .before)) (l .owner) (low-at (c .before .before))) (c .found .given .0 .0) position-at
-  booking = let q = c .before .before in found-at l (o .around .sound) (window-at q) (window-is q l o) (flow-at q) (flow-there q l o) (low-at q) (low-known q l o) _ _ _ found-is
-
-  position-below : position-at < sizeOf l
-  position-below = rw (read-size l (window-is (c .before .before) l o)) at (booking .position)
-
-  -- what the flow holds then
-  raised : replaced (fromIn (model.window (linkOf l)) position-at) (λ q x. wrapped 1 x) (row (l .held) (flow-at (c .before .before))) ≡ replaced (fromIn (model.window (linkOf l)) position-at) (λ q x. suc x) (row (l .held) (flow-at (c .before .before)))
-  raised =
-      let q = c .before .before in
-      let most = o .around .sound .plan .accepted in
-      subst (λ (x : Window). replaced (fromIn x position-at) (λ q x. wrapped 1 x) (row (l .held) (flow-at q)) ≡ replaced (fromIn x position-at) (λ q x. suc x) (row (l .held) (flow-at q))) (window-is q l o)
-      (replaced-from (start q .args .w) (o .around .proper) position-at (booking .position) (λ x. ltb x (entryAt l (flow-at q) .cells)) (wrapped 1) suc (row (l .held) (flow-at q))
-      (λ x e. wrapped-up x (let z = ap (λ (y : Entry). y .cells) (o .entry-is) in omega (arith, ltb-true x _ e, z)))
-      (room-there l (o .around .sound) (window-at q) (window-is q l o) (flow-at q) (flow-there q l o) (low-at q) (low-known q l o) _ position-below (booking .passes)))
-
-position-fits : (c : tie.After-found) → position-at c (start (c .before .before) .pre .0 .link) (start (c .before .before) .pre .0 .of) < 256
-position-fits c = let g = start (c .before .before) .pre .0 in omega (arith, position-below c (g .link) (g .of), size-most _ (g .of .around .sound))
+    position-small : position-at < 256
+    position-small =
+        let w = o .window in
+        let b = found-at l (w .sound) _ (w .window-is) _ (flow-on o) _ _ _ position-found in
+        omega (arith, b .position, w .proper .measures .positions-most)
 
 -- ---- the needs
 
 mul-refusal : tie.Need-mul-refusal
-mul-refusal c = let g = c .before .pre .0 in omega (arith, g .of .around .proper .measures .positions-most)
+mul-refusal c = let m = c .before .pre .given .window .proper .measures in omega (arith, m .positions-most)
 
 refusal-requires : tie.Need-refusal-requires
 refusal-requires c κs = search needs
-
-some-position : (s : tie.Start) → 0 < s .args .w .slots * s .args .w .frames
-some-position s = let m = s .pre .0 .of .around .proper .measures in omega (arith, m .current-below)
 
 refused-requires : tie.Need-refused-requires
 refused-requires c κs = search needs
 
 returns : tie.Need-returns
 returns c =
-    let k = c .before .before in
-    let s = entered k in
-    rw (c .refused .ensures)
-    (λ l o. subst (Stepped answerToRequest (request (linkOf l) (s .args .word))) (same-link l _ _ (o .flow-is)) (refused-word l _ _ (tests-are k l o) (o .around .sound) (c .before .if1 .taken)), some-position s)
+    let tested = c .before .before in
+    λ l o.
+    c .refused .ensures
+    ∙ ap (λ (f : Flow). refusedWith f (tested .refusal .result)) (o .flow-is)
+    ∙ reply-refused l (o .window .sound) _ _ (place-on o) (tests-are tested l o) (c .before .if1 .taken)
 
 newest-requires : tie.Need-newest-requires
-newest-requires c κs = entered (c .before) .pre .0 .of .around .proper
+newest-requires c κs = start c .pre .given .window .proper
 
 refused-requires-2 : tie.Need-refused-requires-2
 refused-requires-2 c κs = search needs
 
 returns-2 : tie.Need-returns-2
 returns-2 c =
-    let t = c .before .before .before in
-    let n = t .before .before in
-    let e = n .before in
-    let s = entered (e .before) in
-    let i = s .args .i in
-    rw (c .refused2 .ensures) (
-      λ l o.
-          let v = o .around in
-          let frame : s .args .flow .frame ≡ newest (windowOf (s .args .w)) = eqb-true _ _ (c .before .if3 .taken) ∙ n .newest .ensures in
-          let left : s .args .flow .left ≡ 0 = t .if2 .taken in
-          let none = spent-at-newest l (v .sound) _ (v .window-is) i (flow-known e l o) (sym (ap (λ (x : Flow). x .frame) (o .flow-is)) ∙ frame) (sym (ap (λ (x : Flow). x .left) (o .flow-is)) ∙ left) in
-          subst (Stepped answerToRequest (request (linkOf l) (s .args .word))) (same-moved l i _ (s .args .flow) frame left)
-          (refused-newest l _ _ (asks-at e l o) (asked l _ _ (tests-are (e .before) l o) (e .if1 .left)) 0 _ none
-          (refused-link l (v .sound) _ (v .window-is) i (flow-known e l o) 0)),
-      some-position s,
-    )
+    let n = spent-at c .before .before in
+    let p = passed-at n in
+    λ l o.
+    let s = o .window .sound in
+    let is = o .window .window-is in
+    let frame = eqb-true _ _ (c .before .if3 .taken) ∙ n .newest .ensures in
+    let left = spent-at c .if2 .taken in
+    let in-newest = sym (ap (λ (x : Flow). x .frame) (o .flow-is)) ∙ frame in
+    let spent = sym (ap (λ (x : Flow). x .left) (o .flow-is)) ∙ left in
+    c .refused2 .ensures
+    ∙ (λ k. refusedWith (movedTo (o .flow-is k) ((frame ∙ ap newest is) k) (left k)) 11)
+    ∙ reply-nowhere l s _ _ (place-on o) (tests-are (p .before) l o) (p .if1 .left) 0 (spent-at-newest l s _ is _ (flow-on o) in-newest spent)
 
-valid-rank-requires : tie.Need-valid-rank-requires
-valid-rank-requires c κs = let e = c .before .before .before in (entered (e .before) .pre .0 .of .around .proper, flow-below e)
+cast-find : tie.Need-cast-find
+cast-find c = search needs
 
-cast-search : tie.Need-cast-search
-cast-search c = search needs
-
-search-requires : tie.Need-search-requires
-search-requires c κs =
-    let e = c .before .before .before .before .before in
-    let g = entered (e .before) .pre .0 in
-    let o = g .of in
-    (o .around .proper, rw (read-frames _ (o .around .window-is), o .flow-is) (o .around .sound .flows _ (flow-known e (g .link) o) .frame))
+find-requires : tie.Need-find-requires
+find-requires c κs = flow-from (start (passed-at (newest-for c)) .pre .given)
 
 enum-known-found : tie.Need-enum-known-found
 enum-known-found c = search needs
 
+moved-to-requires : tie.Need-moved-to-requires
+moved-to-requires c κs = search needs
+
 cast-depart : tie.Need-cast-depart
-cast-depart c = omega (arith, position-fits (c .before))
+cast-depart c =
+    let f = c .before .before in
+    let some = start (passed-at (newest-at (at-find f))) .pre in
+    omega (arith, position-small f (some .link) (some .given))
 
 depart-requires : tie.Need-depart-requires
 depart-requires c κs = search needs
 
 returns-3 : tie.Need-returns-3
 returns-3 c =
-    let d = c .before .before in
-    let q = d .before .before in
-    let g = start q .pre .0 in (
-      λ l o.
-          let b = booking d l o in
-          rw (c .depart .ensures)
-          (granted l _ _ (asks-at (passed-at q) l o) (asked-at q l o) _ _ _ _ (found-is d l o)
-          (granted-link l (o .around .sound) (model.window (linkOf l)) refl (flow-at q) (flow-there q l o) _ _ _ _ (rw (read-frames l (window-is q l o)) at (b .frame)) (position-below d l o) (raised d l o))),
-      booking d (g .link) (g .of) .position,
-    )
+    let f = granted-at c in
+    let p = passed-at (newest-at (at-find f)) in
+    λ l o.
+    let small = position-small f l o in
+    let granted = word.depart (start p .args .word) (position-at f) in
+    rw (c .depart .ensures, c .before .moved-to .ensures)
+    (ap (λ (x : Flow). grantedWith (movedTo x (frame-at f) (left-at f)) (position-at f) granted) (o .flow-is)
+    ∙ reply-found l (o .window .sound) _ _ (place-on o) (tests-are (p .before) l o) (p .if1 .left) _ _ _ (position-found f l o)
+    (omega (arith, small)))
 
 enum-known-found-2 : tie.Need-enum-known-found-2
 enum-known-found-2 c = search needs
@@ -230,22 +178,24 @@ enum-known-found-2 c = search needs
 nowhere-requires : tie.Need-nowhere-requires
 nowhere-requires c κs = search needs
 
+moved-to-requires-2 : tie.Need-moved-to-requires-2
+moved-to-requires-2 c κs = search needs
+
 refused-requires-3 : tie.Need-refused-requires-3
 refused-requires-3 c κs = search needs
 
 returns-4 : tie.Need-returns-4
 returns-4 c =
-    let d = c .before .before .before in
-    let q = d .before .before in
-    let s = start q in
-    rw (c .refused3 .ensures) (
-      λ l o.
-          rw (c .before .nowhere .ensures, newest-at q .newest .ensures)
-          (subst (Stepped answerToRequest (request (linkOf l) (s .args .word))) (same-held l (flow-at q) _ (record { frame = newest (window-at q); left = d .found2 .given .0 .0 }))
-          (refused-newest l _ _ (asks-at (passed-at q) l o) (asked-at q l o) _ _ (ap foundOf (sym (d .found2 .given .1)) ∙ searched q l o)
-          (refused-link l (o .around .sound) (window-at q) (window-is q l o) (flow-at q) (flow-there q l o) _))),
-      some-position s,
-    )
+    let f = none-at c in
+    let find-at = f .before .before in
+    let n = newest-at find-at in
+    let p = passed-at n in
+    let left = f .found2 .given .0 .0 in
+    λ l o.
+    let none = ap foundOf (sym (f .found2 .given .1)) ∙ found-is find-at l o in
+    rw (c .refused3 .ensures, c .before .before .nowhere .ensures, c .before .moved-to2 .ensures)
+    ((λ k. refusedWith (movedTo (o .flow-is k) (newest-is n l o k) left) (cond (eqb left 0) 11 12))
+    ∙ reply-nowhere l (o .window .sound) _ _ (place-on o) (tests-are (p .before) l o) (p .if1 .left) _ none)
 
 pub ask-spec : {M : Type 1} → statement M
 ask-spec =
@@ -258,14 +208,15 @@ ask-spec =
     newest-requires
     refused-requires-2
     returns-2
-    valid-rank-requires
-    cast-search
-    search-requires
+    cast-find
+    find-requires
     enum-known-found
+    moved-to-requires
     cast-depart
     depart-requires
     returns-3
     enum-known-found-2
     nowhere-requires
+    moved-to-requires-2
     refused-requires-3
     returns-4)

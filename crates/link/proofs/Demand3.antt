@@ -1,0 +1,100 @@
+-- Demand 3 of the code: any list of calls on the link that fresh hands back for a plan that the reader accepts. Assumes nothing.
+use Prim.Native.Nat.{ℕ, zero, suc, _<_}
+use mathlib.Core.Path.{_≡_, refl, sym, ap, _∙_, subst}
+use mathlib.Core.List.{List, _∷_, [], _++_}
+use mathlib.Core.Option.{some, none}
+use Rattle.plan.specs.declared.Plan.{Plan}
+use Rattle.plan.specs.declared.Outcome.{Outcome}
+use Rattle.plan.specs.declared.Verdict.the-variants.{Accepted}
+use Rattle.plan.specs.Reading.{planFor, readOf, verdictFor, Valid}
+use Rattle.plan.proofs.Laws.{is-plan}
+use Rattle.calls.specs.declared.Answer.{Answer}
+use Rattle.calls.specs.Reading.{answerToRequest, answerToCredit, answerToTick}
+use Rattle.model.specs.Plan as model
+use Rattle.model.specs.Calls.{Call, Grant, Receipt, Turn, History, accepted, refused, requested, credited, ticked}
+use Rattle.model.specs.Claim.{Demand3}
+use Rattle.model.specs.Card.{Played, paper, step, play, started, run}
+use Rattle.model.proofs.Demand3.{meets-accepted}
+use Rattle.link.specs.declared.Link.{Link}
+use Rattle.link.specs.Reading.{linkOf}
+use Rattle.link.specs.Handed.{Handed}
+
+-- ---- an answer of the code is made from one answer of the paper
+
+one-grant : (a b : Grant) → answerToRequest a ≡ answerToRequest b → a ≡ b
+one-grant (accepted v) (accepted w) e = cc
+one-grant (accepted v) (refused s) e = cc
+one-grant (refused r) (accepted w) e = cc
+one-grant (refused r) (refused s) e = cc
+
+one-receipt : (a b : Receipt) → answerToCredit a ≡ answerToCredit b → a ≡ b
+one-receipt (accepted u) (accepted v) e = refl
+one-receipt (accepted u) (refused s) e = cc
+one-receipt (refused r) (accepted v) e = cc
+one-receipt (refused r) (refused s) e = cc
+
+one-turn : (a b : Turn) → answerToTick a ≡ answerToTick b → a ≡ b
+one-turn (some i) (some j) e = cc
+one-turn (some i) none e = cc
+one-turn none (some j) e = cc
+one-turn none none e = refl
+
+-- ---- the calls of the code are a run of the paper's card
+
+-- one call more
+play-more : (r : Played paper) (calls : List Call) (c : Call) → play paper r (calls ++ c ∷ []) ≡ step paper (play paper r calls) c
+unfolding play
+play-more r [] c = refl
+play-more r (x ∷ calls) c = play-more (step paper r x) calls c
+
+-- the calls that were made, played on the paper's card, come to this link with these events
+record RunOf (P : model.Plan) (h : History) (l : Link) : Type 0 where
+  calls : List Call
+  played : run paper P calls ≡ record { state = linkOf l; history = h }
+
+module _ {P : model.Plan} {h : History} {l : Link} (made : RunOf P h l) where
+  -- one call more, with the event and the link that the card comes to
+  one-more : (c : Call) (next : History) (k : Link) → step paper (record { state = linkOf l; history = h }) c ≡ record { state = linkOf k; history = next }
+      → RunOf P next k
+  one-more c next k e = record {
+    calls = made .calls ++ c ∷ [];
+    played = play-more (started paper P) (made .calls) c ∙ ap (λ r. step paper r c) (made .played) ∙ e;
+  }
+
+run-of : {p : Plan} {h : History} {l : Link} → Handed p h l → RunOf (planFor p) h l
+unfolding play
+run-of (Handed.by-fresh is) = record { calls = []; played = λ k. record { state = sym (is .0) k; history = [] } }
+run-of (Handed.by-request {h} {l} g w r a s e) =
+    let same = one-grant _ a (sym (s .answer-is) ∙ e) in
+    one-more (run-of g) (Call.request w) _ (r .link) (λ k. record { state = sym (s .link-is) k; history = requested w (same k) ∷ h })
+run-of (Handed.by-credit {h} {l} g i q r a s e) =
+    let same = one-receipt _ a (sym (s .answer-is) ∙ e) in
+    one-more (run-of g) (Call.credit i q) _ (r .link) (λ k. record { state = sym (s .link-is) k; history = credited i q (same k) ∷ h })
+run-of (Handed.by-tick {h} {l} g r a s e) =
+    let same = one-turn _ a (sym (s .answer-is) ∙ e) in
+    one-more (run-of g) Call.tick _ (r .link) (λ k. record { state = sym (s .link-is) k; history = ticked (same k) ∷ h })
+
+-- ---- demand 3
+
+handed-meets : (p : Plan) → Valid p → {h : History} {l : Link} → Handed p h l → (i : ℕ) → i < model.flowCount (planFor p) → Demand3 (planFor p) i h
+handed-meets p valid g i known =
+    let made = run-of g in
+    subst (λ (r : Played paper). Demand3 (planFor p) i (r .history)) (made .played) (meets-accepted (planFor p) (valid .accepted) (made .calls) i known)
+
+verdict-of : (bytes : List ℕ) → readOf bytes .verdict ≡ verdictFor (model.refusal bytes)
+unfolding readOf
+verdict-of bytes = refl
+
+accepted-passes : (r : ℕ) → verdictFor r ≡ Accepted → r ≡ 0
+unfolding verdictFor
+accepted-passes zero e = refl
+accepted-passes (suc r) e = cc
+
+-- Bytes that `plan::read` accepts, the link that `Link::fresh` hands back, and any list of calls, each on the link that the one before handed back:
+-- demand 3 of their events, for each flow of the plan.
+pub code-meets : (bytes : List ℕ) (o : Outcome) → o ≡ readOf bytes → (o .verdict ≡ Accepted → Valid (o .plan)) → o .verdict ≡ Accepted
+    → {h : History} {l : Link} → Handed (o .plan) h l → (i : ℕ) → i < model.flowCount (model.planOf bytes) → Demand3 (model.planOf bytes) i h
+code-meets bytes o is valid accepts {h} {l} g i known =
+    let passes = accepted-passes (model.refusal bytes) (sym (ap (λ (x : Outcome). x .verdict) is ∙ verdict-of bytes) ∙ accepts) in
+    let plan-is = ap (λ (x : Outcome). planFor (x .plan)) is ∙ is-plan bytes passes in
+    subst (λ P. i < model.flowCount P → Demand3 P i h) plan-is (handed-meets (o .plan) (valid accepts) g i) known

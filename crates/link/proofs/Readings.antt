@@ -1,0 +1,74 @@
+-- What is read of a link, and the bounds that its invariant gives. Assumes nothing.
+use Prim.Native.Nat.{ℕ, _≤_, _<_}
+use mathlib.Core.Path.{_≡_, ap}
+use lib.ListN.{getD}
+use Rattle.model.specs.Plan as paper
+use Rattle.model.specs.Window.{Window, size}
+use Rattle.model.specs.Link as model
+use Rattle.plan.specs.Reading.{entryFor}
+use Rattle.window.specs.Window.{Measures}
+use Rattle.window.proofs.Tabulated.{getD-table}
+use Rattle.tables.specs.Owners.{ownerOf}
+use Rattle.link.specs.declared.Link.{Link}
+use Rattle.link.specs.Layout.{sizeOf, entryAt, flowAt, ownerAt}
+use Rattle.link.specs.Reading.{flowOf, linkOf}
+use Rattle.link.specs.Sound.{Sound}
+use Rattle.link.proofs.Plans.{plan-count, plan-entry, count-some, count-most}
+
+-- ---- what is read of a link
+
+module _ (l : Link) where
+  pub read-count : paper.flowCount (linkOf l .plan) ≡ l .plan .count
+  unfolding linkOf
+  read-count = plan-count (l .plan)
+
+  pub read-entry : (i : ℕ) → i < l .plan .count → paper.entry (linkOf l .plan) i ≡ entryFor (entryAt l i)
+  unfolding linkOf
+  read-entry i h = plan-entry (l .plan) i h
+
+  pub read-flow : (i : ℕ) → i < l .plan .count → model.flow (linkOf l) i ≡ flowOf (sizeOf l) (flowAt l i)
+  unfolding linkOf
+  read-flow i h = getD-table (l .plan .count) _ i _ h
+
+  pub read-holding : (i p : ℕ) → i < l .plan .count → p < sizeOf l → model.holding (linkOf l) i p ≡ getD (flowAt l i .held) p 0
+  read-holding i p h b = rw (read-flow i h) (getD-table (sizeOf l) _ p 0 b)
+
+  pub read-owner : (p : ℕ) → p < sizeOf l → model.owner (linkOf l) p ≡ ownerOf (ownerAt l p)
+  unfolding linkOf
+  read-owner p b = getD-table (sizeOf l) _ p _ b
+
+  -- the window that a call works with
+  pub read-window : {v : Window} → v ≡ record { slots = l .plan .slots; frames = l .plan .frames; current = l .cp } → v ≡ model.window (linkOf l)
+  unfolding linkOf
+  read-window e = e
+
+  module _ {v : Window} (is : v ≡ model.window (linkOf l)) where
+    pub read-size : size v ≡ sizeOf l
+    unfolding linkOf
+    read-size = ap size is
+
+    pub read-frames : v .frames ≡ l .plan .frames
+    unfolding linkOf
+    read-frames = ap (λ (x : Window). x .frames) is
+
+-- ---- a sound link
+
+module _ (l : Link) (s : Sound l) where
+  pub some-flow : 1 ≤ l .plan .count
+  some-flow = count-some (l .plan) (s .plan)
+
+  pub flows-most : l .plan .count ≤ 16
+  flows-most = count-most (l .plan) (s .plan)
+
+  pub size-most : sizeOf l ≤ 256
+  size-most = s .plan .accepted .positions-most
+
+  pub measures : Measures (l .plan .slots) (l .plan .frames) (l .cp)
+  measures = let a = s .plan .accepted in record {
+    some-slot = a .some-slot;
+    slots-most = a .slots-most;
+    two-frames = a .two-frames;
+    frames-most = a .frames-most;
+    positions-most = a .positions-most;
+    current-below = s .current;
+  }

@@ -1,0 +1,100 @@
+-- The word's own tests, and what a request is where the word fails or passes them. Assumes nothing.
+use Prim.Native.Nat.{ℕ, zero, suc, _≤_, _<_}
+use mathlib.Core.Path.{_≡_, refl, sym, ap, _∙_}
+use mathlib.Core.Bool.{Bool, true, false, not, cond}
+use native.Mathlib.Omega.{arith}
+use lib.Dec.{ltb}
+use lib.ListN.{getD}
+use borrow.Author.Tests.{lt-ltb, le-ltb, ltb-true, eq-eqb, ne-eqb}
+use Rattle.model.specs.Refusals.{firstOf}
+use Rattle.model.specs.Word as word
+use Rattle.model.specs.Plan as paper
+use Rattle.model.specs.Calls.{refused}
+use Rattle.model.specs.Request.{wordTests, sought, answered, requestAfter, request}
+use Rattle.plan.specs.declared.Plan.{Plan}
+use Rattle.plan.specs.declared.Entry.{Entry}
+use Rattle.plan.specs.Reading.{noEntry, planFor}
+use Rattle.word.specs.declared.Fields.{Fields}
+use Rattle.word.specs.Reading.{fieldsOf}
+use Rattle.link.specs.declared.Link.{Link}
+use Rattle.link.specs.Layout.{sizeFor}
+use Rattle.link.specs.Reading.{linkOf}
+use Rattle.link.specs.Given.{placed, WordOn}
+use Rattle.link.proofs.Plans.{plan-count, plan-entry}
+
+-- ---- the fields of a word that was split
+
+module _ (x : ℕ) (f : Fields) (is : fieldsOf f ≡ word.split x) where
+  pub flow-is : word.flowOf x ≡ f .flow
+  flow-is = ap (λ (y : word.Fields). y .flow) (sym is)
+
+  destination-is : word.destinationOf x ≡ f .destination
+  destination-is = ap (λ (y : word.Fields). y .destination) (sym is)
+
+  departure-is : word.departureOf x ≡ f .departure
+  departure-is = ap (λ (y : word.Fields). y .departure) (sym is)
+
+-- ---- the tests, of plan p with n flows, T positions and the entry e for the flow of the word
+
+module _ (x : ℕ) (f : Fields) (is : fieldsOf f ≡ word.split x) (p : Plan) {n : ℕ} {e : Entry} {T : ℕ} (on : WordOn p n e T x) where
+  pub word-8 : n ≤ f .flow → 8 ≡ firstOf (wordTests (planFor p) x)
+  unfolding firstOf
+  word-8 h = rw (plan-count p, flow-is x f is, le-ltb (f .flow) (p .count) (rw (← on .count-is) h))
+
+  module _ (h : f .flow < n) where
+    flow-there : f .flow < p .count
+    flow-there = rw (← on .count-is) h
+
+    -- the entry is that of the word's flow
+    destination-there : paper.entry (planFor p) (f .flow) .destination ≡ e .destination
+    destination-there =
+        let there : placed n (word.flowOf x) ≡ f .flow = rw (flow-is x f is, lt-ltb (f .flow) n h) in
+        ap (λ (y : paper.Entry). y .destination) (plan-entry p (f .flow) flow-there)
+        ∙ sym (ap (λ (y : Entry). y .destination) (on .entry-is ∙ ap (λ (k : ℕ). getD (p .entries) k noEntry) there))
+
+    pub word-9 : (f .destination ≡ e .destination → ⊥) → 9 ≡ firstOf (wordTests (planFor p) x)
+    unfolding firstOf
+    word-9 n =
+        rw (plan-count p, flow-is x f is, lt-ltb (f .flow) (p .count) flow-there, destination-is x f is, destination-there, ne-eqb _ _ n)
+
+    module _ (d : f .destination ≡ e .destination) where
+      pub word-10 : T ≤ f .departure → 10 ≡ firstOf (wordTests (planFor p) x)
+      unfolding firstOf
+      word-10 b =
+          rw (plan-count p, flow-is x f is, lt-ltb (f .flow) (p .count) flow-there, destination-is x f is, destination-there, eq-eqb _ _ d)
+          (rw (departure-is x f is, le-ltb (f .departure) (sizeFor p) (rw (← on .size-is) b)))
+
+      pub word-passes : f .departure < T → 0 ≡ firstOf (wordTests (planFor p) x)
+      unfolding firstOf
+      word-passes b =
+          rw (plan-count p, flow-is x f is, lt-ltb (f .flow) (p .count) flow-there, destination-is x f is, destination-there, eq-eqb _ _ d)
+          (rw (departure-is x f is, lt-ltb (f .departure) (sizeFor p) (rw (← on .size-is) b)))
+
+-- ---- the request of a word on link l, whose tests give n
+
+module _ (l : Link) (x : ℕ) {n : ℕ} (tests : n ≡ firstOf (wordTests (planFor (l .plan)) x)) where
+  pub word-refused : (n ≡ 0 → ⊥) → request (linkOf l) x ≡ record { link = linkOf l; answer = refused n }
+  unfolding request requestAfter linkOf
+  word-refused nonzero = rw (← tests) (go n nonzero)
+    where
+      go : (k : ℕ) → (k ≡ 0 → ⊥) → requestAfter k (linkOf l) x ≡ record { link = linkOf l; answer = refused k }
+      go zero none = absurd (none refl)
+      go (suc r) none = refl
+
+  module _ (z : n ≡ 0) where
+    flow-below : word.flowOf x < l .plan .count
+    unfolding firstOf
+    flow-below = go (ltb (word.flowOf x) (l .plan .count)) _ refl (rw (plan-count (l .plan)) at (sym tests ∙ z))
+      where
+        go : (b : Bool) (m : ℕ) → ltb (word.flowOf x) (l .plan .count) ≡ b → cond (not b) 8 m ≡ 0 → word.flowOf x < l .plan .count
+        go true m e y = ltb-true _ _ e
+        go false m e y = absurd (omega arith)
+
+    -- flow i is the word's
+    module _ (i : ℕ) (e : i ≡ placed (l .plan .count) (word.flowOf x)) where
+      pub word-flow : word.flowOf x ≡ i
+      word-flow = sym (e ∙ ap (λ (b : Bool). cond b (word.flowOf x) 0) (lt-ltb (word.flowOf x) (l .plan .count) flow-below))
+
+      pub word-passed : request (linkOf l) x ≡ answered (linkOf l) x (sought (linkOf l) i)
+      unfolding request requestAfter linkOf
+      word-passed = rw (← tests, z) (ap (λ (k : ℕ). answered (linkOf l) x (sought (linkOf l) k)) word-flow)

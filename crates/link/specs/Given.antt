@@ -1,0 +1,68 @@
+-- What the functions below a call are given of a link. Assumes nothing.
+use Prim.Native.Nat.{ℕ, _<_}
+use mathlib.Core.Path.{_≡_}
+use mathlib.Core.List.{List}
+use mathlib.Core.Bool.{cond, true}
+use lib.ListN.{getD}
+use lib.Dec.{ltb}
+use Rattle.plan.specs.declared.Entry.{Entry}
+use Rattle.plan.specs.declared.Plan.{Plan}
+use Rattle.plan.specs.Reading.{noEntry}
+use Rattle.model.specs.Word.{flowOf}
+use Rattle.model.specs.Link as model
+use Rattle.model.specs.Window.{everyFrom}
+use Rattle.link.specs.declared.Flow.{Flow}
+use Rattle.link.specs.declared.Link.{Link}
+use Rattle.window.specs.declared.Window.{Window}
+use Rattle.tables.specs.Rows.{row}
+use Rattle.window.specs.Window.{windowOf, sizeOf, Proper}
+use Rattle.tables.specs.Holdings.{someHeld}
+use Rattle.link.specs.Layout.{sizeFor, entryAt, flowAt}
+use Rattle.link.specs.Reading.{linkOf}
+use Rattle.link.specs.Sound.{Sound}
+
+-- ---- of a link
+
+-- link l is sound, has n flows, and w is its window
+pub record WindowOn (l : Link) (n : ℕ) (w : Window) : Type 0 where
+  pub sound : Sound l
+  pub count-is : n ≡ l .plan .count
+  pub proper : Proper w
+  pub window-is : windowOf w ≡ model.window (linkOf l)
+
+-- what is given is given of some link
+pub record SomeLink (Given : Link → Type 0) : Type 0 where
+  pub link : Link
+  pub given : Given link
+
+-- ---- a credit on link l: what the flows hold
+
+pub record CreditOn (l : Link) (n : ℕ) (w : Window) (held : List ℕ) : Type 0 where
+  pub window : WindowOn l n w
+  pub held-is : held ≡ l .held
+
+-- flow i is one of n, p is a position, and the flow holds something there and at every later position
+pub record Creditable (n : ℕ) (w : Window) (held : List ℕ) (i p : ℕ) : Type 0 where
+  pub flow : i < n
+  pub position : p < sizeOf w
+  pub some-held : everyFrom (windowOf w) p (someHeld (row held i)) ≡ true
+
+-- ---- a request on link l: what the flows hold, the owners, and of the word's flow its entry, frame and remainder
+
+-- flow i of a plan of n flows, and 0 where there is none
+abbrev pub placed : ℕ → ℕ → ℕ
+placed n i = cond (ltb i n) i 0
+
+pub record RequestOn (l : Link) (n : ℕ) (e : Entry) (w : Window) (owner held : List ℕ) (i : ℕ) (f : Flow) (word : ℕ) : Type 0 where
+  pub window : WindowOn l n w
+  pub held-is : held ≡ l .held
+  pub owner-is : owner ≡ l .owner
+  pub place-is : i ≡ placed n (flowOf word)
+  pub entry-is : e ≡ entryAt l i
+  pub flow-is : f ≡ flowAt l i .flow
+
+-- the word's own tests are given n, T and the entry of its flow
+pub record WordOn (p : Plan) (n : ℕ) (e : Entry) (T word : ℕ) : Type 0 where
+  pub count-is : n ≡ p .count
+  pub entry-is : e ≡ getD (p .entries) (placed n (flowOf word)) noEntry
+  pub size-is : T ≡ sizeFor p

@@ -1,0 +1,33 @@
+-- What the contracts of the code say of a list of calls, each on the link that the call before handed back. Document 01, "What demand 3 counts". Assumes nothing.
+use Prim.Native.Nat.{ℕ}
+use mathlib.Core.Path.{_≡_}
+use mathlib.Core.List.{_∷_, []}
+use Rattle.plan.specs.declared.Plan.{Plan}
+use Rattle.plan.specs.Reading.{planFor}
+use Rattle.calls.specs.Reading.{answerToRequest, answerToCredit, answerToTick}
+use Rattle.model.specs.Calls.{Grant, Receipt, Turn, History, requested, credited, ticked}
+use Rattle.model.specs.Fresh as fresh
+use Rattle.model.specs.Request as request
+use Rattle.model.specs.Credit as credit
+use Rattle.model.specs.Tick as tick
+use Rattle.link.specs.declared.Link.{Link}
+use Rattle.link.specs.declared.Step.{Step}
+use Rattle.link.specs.Reading.{linkOf}
+use Rattle.link.specs.Sound.{Sound}
+use Rattle.link.specs.Steps.{Stepped}
+
+-- l is a link that `Link::fresh` may hand back, by its contract
+abbrev pub Freshly : Plan → Link → Type 0
+Freshly p l = (linkOf l ≡ fresh.fresh (planFor p)) × Sound l
+
+-- Link l is in hand after calls of the code with the events h, of which the newest is first: "The first call gets the link that fresh made from an
+-- accepted plan, each later one the link exactly as the call before handed it back. Nothing else touches the link meanwhile." Each case has what the
+-- contract of that call ensures of what it hands back, r; the event has the answer a that r's is made from.
+pub data Handed (p : Plan) : History → Link → Type 0 where
+  by-fresh : {l : Link} → Freshly p l → Handed p [] l
+  by-request : {h : History} {l : Link} → Handed p h l → (w : ℕ) (r : Step) (a : Grant)
+      → Stepped answerToRequest (request.request (linkOf l) w) r → r .answer ≡ answerToRequest a → Handed p (requested w a ∷ h) (r .link)
+  by-credit : {h : History} {l : Link} → Handed p h l → (i q : ℕ) (r : Step) (a : Receipt)
+      → Stepped answerToCredit (credit.credit (linkOf l) i q) r → r .answer ≡ answerToCredit a → Handed p (credited i q a ∷ h) (r .link)
+  by-tick : {h : History} {l : Link} → Handed p h l → (r : Step) (a : Turn)
+      → Stepped answerToTick (tick.tick (linkOf l)) r → r .answer ≡ answerToTick a → Handed p (ticked a ∷ h) (r .link)

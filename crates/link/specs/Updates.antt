@@ -1,0 +1,53 @@
+-- A flow and a link with something changed, and the rest left: a flow or a link that was there before is written out nowhere else. Assumes nothing.
+use Prim.Native.Nat.{ℕ}
+use mathlib.Core.List.{List}
+use mathlib.Core.Bool.{cond}
+use lib.ListN.{getD, set}
+use lib.Dec.{eqb}
+use Rattle.link.specs.declared.Flow.{Flow}
+use Rattle.link.specs.declared.Link.{Link}
+use Rattle.plan.specs.declared.Plan.{Plan}
+use Rattle.plan.specs.Reading.{noEntry}
+use Rattle.window.specs.Ranges.{inRange, replaced}
+use Rattle.tables.specs.Rows.{withRow}
+use Rattle.link.specs.Layout.{FlowRow, flowRow}
+
+-- ---- a flow
+
+-- another frame and another remainder
+abbrev pub movedTo : Flow → ℕ → ℕ → Flow
+movedTo f j c = record { frame = j; left = c }
+
+-- a flow that was in the head frame goes on in the next one, with its share
+abbrev pub leftHead : (head on share : ℕ) → Flow → Flow
+leftHead head on share f = cond (eqb (f .frame) head) (movedTo f on share) f
+
+-- each of the plan's flows that was in the head frame
+abbrev pub leftHeads : Plan → (head on : ℕ) → List Flow → List Flow
+leftHeads plan head on = replaced (inRange 0 (plan .count)) (λ i f. leftHead head on (getD (plan .entries) i noEntry .share) f)
+
+-- other holdings
+abbrev pub withHeld : FlowRow → List ℕ → FlowRow
+withHeld x h = flowRow (x .flow) h
+
+-- ---- a link
+
+-- another current position, other owners, flows and holdings
+abbrev pub linkWith : Link → (cp : ℕ) (owner : List ℕ) (flows : List Flow) (held : List ℕ) → Link
+linkWith l p o fs h = record { plan = l .plan; cp = p; owner = o; flows = fs; held = h }
+
+abbrev pub withCurrent : Link → ℕ → Link
+withCurrent l p = linkWith l p (l .owner) (l .flows) (l .held)
+
+abbrev pub withOwners : Link → List ℕ → Link
+withOwners l o = linkWith l (l .cp) o (l .flows) (l .held)
+
+abbrev pub withFlows : Link → List Flow → Link
+withFlows l fs = linkWith l (l .cp) (l .owner) fs (l .held)
+
+abbrev pub withHoldings : Link → List ℕ → Link
+withHoldings l h = linkWith l (l .cp) (l .owner) (l .flows) h
+
+-- another flow i, with its row
+abbrev pub withFlow : Link → ℕ → FlowRow → Link
+withFlow l i x = withHoldings (withFlows l (set (l .flows) i (x .flow))) (withRow (l .held) i (x .held))

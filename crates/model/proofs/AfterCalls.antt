@@ -1,0 +1,42 @@
+-- A list of calls: the link that a run of the paper's card comes to stands after the run's history. Assumes nothing.
+use mathlib.Core.Path.{refl, subst}
+use mathlib.Core.List.{List, [], _∷_}
+use Rattle.model.specs.Tables.{tally}
+use Rattle.model.specs.Plan.{Plan, Accepted}
+use Rattle.model.specs.Calls.{Call, History}
+use Rattle.model.specs.Link.{Link}
+use Rattle.model.specs.Fresh.{fresh}
+use Rattle.model.specs.History.{ticks, grants, credits, refusals}
+use Rattle.model.specs.Card.{Played, paper, step, play, started, run}
+use Rattle.model.proofs.FreshKeeps.{fresh-keeps, fresh-least}
+use Rattle.model.proofs.AfterHistory.{After}
+use Rattle.model.proofs.AfterRequest.{after-request}
+use Rattle.model.proofs.AfterCredit.{after-credit}
+use Rattle.model.proofs.AfterTick.{after-tick}
+
+-- what is known after the calls that were played
+abbrev Known : Plan → Played paper → Type 0
+Known P r = After P (r .state) (r .history)
+
+after-call : (r : Played paper) (c : Call) → Known (r .state .plan) r → Known (r .state .plan) (step paper r c)
+after-call r (Call.request w) g = after-request g w
+after-call r (Call.credit i p) g = after-credit g i p
+after-call r Call.tick g = after-tick g
+
+after-calls : {P : Plan} (r : Played paper) (calls : List Call) → Known P r → Known P (play paper r calls)
+unfolding play
+after-calls r [] g = g
+after-calls r (c ∷ calls) g =
+    after-calls (step paper r c) calls (subst (λ P. Known P r → Known P (step paper r c)) (g .plan-is) (after-call r c) g)
+
+after-fresh : {P : Plan} → Accepted P → After P (fresh P) []
+unfolding fresh ticks grants credits refusals tally
+after-fresh ok = record { plan-is = refl; invariant = fresh-keeps ok; events = tt; least = λ i known asked. fresh-least ok i known }
+
+-- What holds of each link that stands after a history holds after every list of calls.
+pub after-run : (Q : Plan → Link → History → Type 0) → ((l : Link) (h : History) → After (l .plan) l h → Q (l .plan) l h)
+    → (P : Plan) → Accepted P → (calls : List Call) → Q P (run paper P calls .state) (run paper P calls .history)
+after-run Q holds P ok calls =
+    let r = run paper P calls in
+    let g = after-calls (started paper P) calls (after-fresh ok) in
+    subst (λ R. Known R r → Q R (r .state) (r .history)) (g .plan-is) (holds (r .state) (r .history)) g

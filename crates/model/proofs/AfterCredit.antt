@@ -1,0 +1,53 @@
+-- A credit on a link that stands after a history. Assumes nothing.
+use Prim.Native.Nat.{ℕ, zero, suc, _-_, _<_}
+use mathlib.Core.Path.{_≡_, refl}
+use mathlib.Core.List.{_∷_}
+use Rattle.model.specs.Refusals.{firstOf}
+use Rattle.model.specs.Plan.{flowCount}
+use Rattle.model.specs.Calls.{Receipt, History, credited, accepted, refused}
+use Rattle.model.specs.Link.{Link, flow, withHeld, heldFrom}
+use Rattle.model.specs.Credit.{creditTests, lowered, creditAfter, credit}
+use Rattle.model.specs.History.{ticks, grants, credits, refusals}
+use Rattle.model.proofs.LinkUpdates.{each-flow}
+use Rattle.model.proofs.CreditKeeps.{CreditPasses, credit-passes, credit-keeps}
+use Rattle.model.proofs.AfterHistory.{asked-before, LeastOf, After, after-event}
+
+module _ {l : Link} {h : History} (g : After (l .plan) l h) (i p : ℕ) where
+  open Link l using (plan as P)
+
+  -- no credit changes what the least count needs of a flow
+  least-kept : (a : Receipt) (q : ℕ) → q < flowCount P → LeastOf P (credited i p a ∷ h) q (flow l q)
+  unfolding ticks grants refusals
+  least-kept a q known asked = g .least q known (asked-before asked (asked .refused-before))
+
+  taken : CreditPasses l i p → After P (lowered l i p) (credited i p (accepted tt) ∷ h)
+  unfolding ticks grants credits lowered
+  taken c = after-event g (record {
+    plan-is = refl;
+    keeps = credit-keeps (g .invariant) c;
+    soon = tt;
+    comes-up = tt;
+    word = tt;
+    least =
+        each-flow l (LeastOf P (credited i p (accepted tt) ∷ h)) i (withHeld (flow l i) (heldFrom l i p (λ x. x - 1)))
+        (least-kept (accepted tt) i (c .known)) (λ q known d. least-kept (accepted tt) q known);
+  })
+
+  not-taken : (r : ℕ) → After P l (credited i p (refused r) ∷ h)
+  unfolding ticks grants credits
+  not-taken r = after-event g (record {
+    plan-is = refl;
+    keeps = g .invariant;
+    soon = tt;
+    comes-up = tt;
+    word = tt;
+    least = least-kept (refused r);
+  })
+
+  pub after-credit : After P (credit l i p .link) (credited i p (credit l i p .answer) ∷ h)
+  unfolding credit creditAfter
+  after-credit = go (firstOf (creditTests l i p)) refl
+    where
+      go : (r : ℕ) → firstOf (creditTests l i p) ≡ r → After P (creditAfter r l i p .link) (credited i p (creditAfter r l i p .answer) ∷ h)
+      go zero e = taken (credit-passes l i p e)
+      go (suc r) e = not-taken (suc r)

@@ -1,0 +1,62 @@
+-- A tick on a link that stands after a history. Assumes nothing.
+use Prim.Native.Nat.{ℕ, suc, _%_, _<_}
+use mathlib.Core.Path.{_≡_, ap}
+use mathlib.Core.List.{_∷_}
+use native.Mathlib.Decide.{ℕ-discrete}
+use native.Mathlib.Numerals.{add-one}
+use native.Mathlib.Omega.{arith}
+use Rattle.model.specs.Plan.{flowCount}
+use Rattle.model.specs.Calls.{Turn, History, ticked}
+use Rattle.model.specs.Link.{Link, flow}
+use Rattle.model.specs.Tick.{advanced, tick}
+use Rattle.model.specs.History.{ticks, frameOf, grants, credits, refusals}
+use Rattle.model.specs.Claim.{ComesUpAt}
+use Rattle.model.proofs.Slots.{frame-stays, frame-changes}
+use Rattle.model.proofs.Window.{Current}
+use Rattle.model.proofs.SlotOwners.{owned}
+use Rattle.model.proofs.TickKeeps.{Advances, advances}
+use Rattle.model.proofs.HistoryCounts.{refused-later}
+use Rattle.model.proofs.AfterHistory.{asked-before, LeastOf, After, after-event}
+
+module _ {l : Link} {h : History} (g : After (l .plan) l h) where
+  open Link l using (plan as P)
+  open After g using (invariant as v)
+  open Current (v .current) using (accepted as ok)
+
+  abbrev t : ℕ
+  t = ticks h
+
+  on : Advances v (advanced l)
+  on = advances v
+
+  least-ticked : (x : Turn) (q : ℕ) → q < flowCount P → Dec (suc t % P .slots ≡ 0) → LeastOf P (ticked x ∷ h) q (flow (advanced l) q)
+  unfolding ticks grants refusals
+  least-ticked x q known (no d) asked =
+      let same-frame = frame-stays ok t d in
+      let same-injection = ap (λ y. y .injection) (on .flows-in-frame d q) in
+      rw (same-frame, same-injection) (g .least q known (asked-before asked (λ f lt. asked .refused-before f (rw same-frame lt))))
+  least-ticked x q known (yes e) asked =
+      let step = frame-changes ok t e in
+      let old = g .least q known (asked-before asked (λ f lt. asked .refused-before f (rw step (omega arith)))) in
+      let full = old .after-a-refusal (asked .refused-before (frameOf P t) (rw step (omega arith))) in
+      record {
+        before-injection = λ a low high e f since below. full f since (let a-below = rw step at high in omega arith);
+        after-a-change = λ change f since below. full f since (let f-below = rw step at below in omega arith);
+        after-a-refusal = λ re. absurd (omega (arith, refused-later P ok q (frameOf P (suc t)) h (rw step (omega arith))));
+      }
+
+  -- the answer is the flow that was granted the slot
+  comes-up : ComesUpAt P (ticked (tick l .answer)) h
+  unfolding tick
+  comes-up i = rw (on .answer-is, add-one t) (owned i (suc t) (grants P h) (v .bookings .once (suc t)))
+
+  pub after-tick : After P (tick l .link) (ticked (tick l .answer) ∷ h)
+  unfolding tick ticks grants credits
+  after-tick = after-event g (record {
+    plan-is = on .plan-is;
+    keeps = on .keeps;
+    soon = tt;
+    comes-up = comes-up;
+    word = tt;
+    least = λ q known. least-ticked (tick l .answer) q known (ℕ-discrete (suc t % P .slots) 0);
+  })

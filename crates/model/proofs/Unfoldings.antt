@@ -1,0 +1,43 @@
+-- Sets of definitions to unfold: a proof by computation that unfolds the name of a set unfolds what is in it. Assumes nothing.
+use mathlib.Core.List.{flatMap}
+use Rattle.model.specs.Tables.{every, any, sum, firstFrom, ahead, tally}
+use Rattle.model.specs.Refusals.{firstOf}
+use Rattle.model.specs.Plan.{refusal, entryFits}
+use Rattle.model.specs.Window.{rank, passed, fromOn, everyFrom}
+use Rattle.model.specs.Fresh.{fresh}
+use Rattle.model.specs.Request.{valid, search, sought, booked, refusedAtNewest, answered, requestAfter, request}
+use Rattle.model.specs.Credit.{lowered, creditAfter, credit}
+use Rattle.model.specs.Tick.{recycled, advanced, tick}
+use Rattle.model.specs.Record.{records, callOf}
+use Rattle.model.specs.Listing.{digits, decimal, outcomes, listing, planMissing, outputAfter, output}
+use Rattle.model.specs.History.{ticks, slotAfter, changes, wellFormed, grants, credits, refusals}
+use Rattle.model.specs.Card.{play}
+
+-- a plan's refusal
+unfoldable pub plans-compute : Unit {0}
+unfolding any sum firstOf refusal entryFits
+plans-compute = tt
+
+-- which position is later
+unfoldable pub window-computes : Unit {0}
+unfolding every ahead rank passed fromOn everyFrom
+window-computes = tt
+
+unfoldable pub requests-compute : Unit {0}
+unfolding firstFrom firstOf window-computes valid search sought booked refusedAtNewest answered requestAfter request
+requests-compute = tt
+
+-- the calls of the paper's card, and a list of calls played
+unfoldable pub calls-compute : Unit {0}
+unfolding fresh requests-compute lowered creditAfter credit recycled advanced tick play
+calls-compute = tt
+
+-- what the program writes
+unfoldable pub program-computes : Unit {0}
+unfolding flatMap records callOf digits decimal outcomes listing planMissing outputAfter output
+program-computes = tt
+
+-- what is counted over a history
+unfoldable pub counts-compute : Unit {0}
+unfolding ahead tally ticks slotAfter changes wellFormed grants credits refusals
+counts-compute = tt

@@ -1,0 +1,109 @@
+-- What an edge case is: what is tried, and what is to come of it. Assumes nothing.
+use Prim.Native.Nat.{ℕ, zero, suc, _+_, _*_, _%_}
+use Prim.Native.String.{String}
+use mathlib.Core.Path.{_≡_}
+use mathlib.Core.List.{List, _∷_, [], map, reverse}
+use mathlib.Core.Option.{some, none}
+use mathlib.Core.Bool.{cond}
+use lib.Dec.{eqb}
+use Rattle.model.specs.Word.{depart}
+use Rattle.model.specs.Plan.{positions, planOf, refusal}
+use Rattle.model.specs.Calls.{Call, Event, History, requested, credited, ticked, accepted, refused}
+use Rattle.model.specs.Card.{Card, run}
+use Rattle.model.specs.Listing.{text, output}
+
+-- ---- what is tried, and what comes of it
+
+pub data Trial : Type 0 where
+  -- calls on the link that fresh makes of a plan's bytes
+  link : (bytes : List ℕ) (calls : List Call) → Trial
+  -- the word that answers a request, where a position is granted
+  granting : (word position : ℕ) → Trial
+  -- the program's input
+  program : (input : List ℕ) → Trial
+
+pub data Outcome : Type 0 where
+  -- the plan is refused
+  refusedPlan : (number : ℕ) → Outcome
+  -- the plan is accepted, and the calls have these events, oldest first
+  events : History → Outcome
+  word : ℕ → Outcome
+  -- the program's output
+  written : List ℕ → Outcome
+
+-- the outcome of a plan and calls, where the plan's tests give the number r: "Refused plans make no link."
+abbrev linkOutcome : Card → ℕ → List ℕ → List Call → Outcome
+linkOutcome c zero bytes calls = events (reverse (run c (planOf bytes) calls .history))
+linkOutcome c (suc r) bytes calls = refusedPlan (suc r)
+
+abbrev pub outcome : Card → Trial → Outcome
+outcome c (link bytes calls) = linkOutcome c (refusal bytes) bytes calls
+outcome c (granting w p) = word (depart w p)
+outcome c (program input) = written (output input)
+
+pub record Case : Type 0 where
+  pub trial : Trial
+  pub expected : Outcome
+
+-- A card has the expected outcome in every case.
+abbrev pub Passes : Card → List Case → Type 0
+Passes c cases = map (λ e. outcome c (e .trial)) cases ≡ map (λ e. e .expected) cases
+
+-- ---- a plan: its bytes are accepted, or refused by a number
+
+abbrev pub accepts : List ℕ → Case
+accepts bytes = record { trial = link bytes []; expected = events [] }
+
+abbrev pub refuses : ℕ → List ℕ → Case
+refuses number bytes = record { trial = link bytes []; expected = refusedPlan number }
+
+-- ---- calls with their answers, on a plan
+
+-- the call of an event
+abbrev callMade : Event → Call
+callMade (requested w a) = Call.request w
+callMade (credited i p a) = Call.credit i p
+callMade (ticked x) = Call.tick
+
+abbrev pub plays : List ℕ → List Event → Case
+plays bytes es = record { trial = link bytes (map callMade es); expected = events es }
+
+-- A call of a player and its answer. Its requests have destination 9, the flow's quantum number (the same again after a refusal) and the current
+-- position as departure.
+pub data Answered : Type 0 where
+  -- a request is granted a position, or refused by a number
+  grant : (flow position : ℕ) → Answered
+  refuse : (flow number : ℕ) → Answered
+  -- a credit is taken, or refused
+  credit : (flow position : ℕ) → Answered
+  reject : (flow position number : ℕ) → Answered
+  -- a tick answers a flow, or idle
+  serve : (flow : ℕ) → Answered
+  idle : Answered
+
+-- k idle ticks, and then the rest
+abbrev pub idles : ℕ → List Answered → List Answered
+idles zero rest = rest
+idles (suc k) rest = idle ∷ idles k rest
+
+abbrev wordOf : (flow quantum departure : ℕ) → ℕ
+wordOf flow quantum departure = 0x24000000 + 0x100000 * flow + 0x400 * (quantum % 1024) + departure
+
+-- the events of a player's calls, oldest first, where T positions go round, `at` is current and each flow i has quantum number `next i`
+abbrev played : (T at : ℕ) → (ℕ → ℕ) → List Answered → List Event
+played T at next [] = []
+played T at next (grant i p ∷ rest) =
+    requested (wordOf i (next i) at) (accepted (wordOf i (next i) p)) ∷ played T at (λ j. cond (eqb j i) (suc (next j)) (next j)) rest
+played T at next (refuse i r ∷ rest) = requested (wordOf i (next i) at) (refused r) ∷ played T at next rest
+played T at next (credit i p ∷ rest) = credited i p (accepted tt) ∷ played T at next rest
+played T at next (reject i p r ∷ rest) = credited i p (refused r) ∷ played T at next rest
+played T at next (serve i ∷ rest) = ticked (some i) ∷ played T ((at + 1) % T) next rest
+played T at next (idle ∷ rest) = ticked none ∷ played T ((at + 1) % T) next rest
+
+abbrev pub follows : List ℕ → List Answered → Case
+follows bytes answered = plays bytes (played (positions (planOf bytes)) 0 (λ i. 0) answered)
+
+-- ---- the program: its input, and the lines that it writes
+
+abbrev pub writes : List ℕ → String → Case
+writes input lines = record { trial = program input; expected = written (text lines) }

@@ -1,0 +1,3 @@
+mod Records
+mod Arms
+mod SoFar

@@ -1,0 +1,228 @@
+-- `playback::play` meets its contract: before each record, those up to it are played. Assumes nothing.
+mod Places
+mod Came
+use Prim.Native.Nat.{_*_}
+use mathlib.Core.Path.{ap, _∙_}
+use borrow.Author.Needs.{needs}
+use native.Mathlib.Omega.{arith}
+use Rattle.calls.specs.declared.Answer.the-variants.{Refused}
+use Rattle.calls.specs.Reading.{callIn}
+use Rattle.model.specs.Window as seen
+use Rattle.link.specs.Updates.{withCurrent}
+use Rattle.link.proofs.Readings.{measures}
+use Rattle.link.proofs.Given.{at-hand, plan-valid, flows-few, credit-on, request-on}
+use Rattle.playback.proofs.Records.{Played, reads-as, no-call-played}
+use Rattle.playback.proofs.SoFar.{none-yet, same-size, one-more, all-played}
+use Rattle.playback.proofs.play.Proof.Places.{Inv-loop, μ-loop, entered, loop-at, link-at, plan-at, window-at, hand-at, made-at, read-at}
+use Rattle.playback.proofs.play.Proof.Places.{request-at, asker-for, asker-at, asker-few, position-below, credit-for, credit-at, ticked-at, tick-at, left-at}
+use Rattle.playback.proofs.play.Proof.Came.{came}
+use Rattle.playback.proofs.play.Statement.{statement}
+use Rattle.playback.proofs.play.Tie as tie
+
+-- ---- before the loop
+
+smaller-requires : tie.Need-smaller-requires Inv-loop μ-loop
+smaller-requires c κs = search needs
+
+mul-used : tie.Need-mul-used Inv-loop μ-loop
+mul-used c = omega arith
+
+window-requires : tie.Need-window-requires Inv-loop μ-loop
+window-requires c κs = measures _ (entered c .pre)
+
+loop-holds : tie.Need-loop-holds Inv-loop μ-loop
+loop-holds c =
+    let s = entered (c .before) in
+    let a = at-hand (s .pre) (c .window .ensures .0) (c .window .ensures .1) in
+    let same = ap (λ (x : seen.Window). withCurrent (s .args .start) (x .current)) (c .window .ensures .0) in
+    none-yet (ap (5 *_) (c .before .before .smaller .ensures)) same a
+
+-- ---- a record that makes no call
+
+read-requires : tie.Need-read-requires Inv-loop μ-loop
+read-requires c κs = search needs
+
+enum-known-call : tie.Need-enum-known-call Inv-loop μ-loop
+enum-known-call c = search needs
+
+enum-told : tie.Need-enum-told Inv-loop μ-loop
+enum-told c = search needs
+
+write-refusal-requires : tie.Need-write-refusal-requires Inv-loop μ-loop
+write-refusal-requires c κs = search needs
+
+add-at : tie.Need-add-at Inv-loop μ-loop
+add-at c = search needs
+
+loop-less : tie.Need-loop-less Inv-loop μ-loop
+loop-less c = search needs
+
+loop-again : tie.Need-loop-again Inv-loop μ-loop
+loop-again c =
+    let written = c .before .before in
+    let told = written .before .before in
+    let read = told .before .before in
+    let no-call = reads-as (made-at read) _ (read .read .ensures .0) ∙ ap callIn (told .enum-told .given .1) in
+    let played : Played (link-at read) (made-at read) (plan-at read) (window-at read) (loop-at read .loop .link) (Refused 16) =
+    rw no-call (no-call-played (hand-at read)) in
+    one-more (loop-at read .loop .inv) (read .before .loop-test .taken) played (written .write-refusal .ensures)
+
+-- ---- a request
+
+enum-known-call-2 : tie.Need-enum-known-call-2 Inv-loop μ-loop
+enum-known-call-2 c = search needs
+
+asker-requires : tie.Need-asker-requires Inv-loop μ-loop
+asker-requires c κs = search needs
+
+mul-e : tie.Need-mul-e Inv-loop μ-loop
+mul-e c = omega (arith, asker-few c)
+
+element-copy-out-e : tie.Need-element-copy-out-e Inv-loop μ-loop
+element-copy-out-e c = asker-few c
+
+mul-flow : tie.Need-mul-flow Inv-loop μ-loop
+mul-flow c = omega (arith, asker-few (c .before))
+
+element-copy-out-flow : tie.Need-element-copy-out-flow Inv-loop μ-loop
+element-copy-out-flow c = asker-few (c .before)
+
+ask-requires : tie.Need-ask-requires Inv-loop μ-loop
+ask-requires c κs =
+    let i = asker-for c in
+    record { link = link-at (request-at i); given = request-on (hand-at (request-at i)) _ (i .asker .ensures) }
+
+mul-flow-2 : tie.Need-mul-flow-2 Inv-loop μ-loop
+mul-flow-2 c = omega (arith, asker-few (asker-at c))
+
+element-set-from-flow : tie.Need-element-set-from-flow Inv-loop μ-loop
+element-set-from-flow c = asker-few (asker-at c)
+
+cast-link : tie.Need-cast-link Inv-loop μ-loop
+cast-link c = omega (arith, asker-few (asker-at (c .before)))
+
+element-write-link : tie.Need-element-write-link Inv-loop μ-loop
+element-write-link c =
+    let most = hand-at (request-at (asker-at (c .before))) .proper .measures .positions-most in
+    omega (arith, position-below (c .before), most)
+
+shift-from-requires : tie.Need-shift-from-requires Inv-loop μ-loop
+shift-from-requires c κs =
+    let f = c .before .before in
+    record { proper = hand-at (request-at (asker-at f)) .proper; flow = asker-few (asker-at f); position = position-below f }
+
+-- ---- a credit
+
+enum-known-call-3 : tie.Need-enum-known-call-3 Inv-loop μ-loop
+enum-known-call-3 c = search needs
+
+refusal-requires : tie.Need-refusal-requires Inv-loop μ-loop
+refusal-requires c κs =
+    let r = credit-for c in
+    record { link = link-at r; given = credit-on (hand-at r) }
+
+shift-from-requires-2 : tie.Need-shift-from-requires-2 Inv-loop μ-loop
+shift-from-requires-2 c κs =
+    let r = c .before .before in
+    let a = hand-at (credit-at r) in
+    let d = r .refusal .ensures .1 (c .before .if2 .left) in
+    record { proper = a .proper; flow = omega (arith, d .flow, flows-few a); position = d .position }
+
+-- ---- a tick
+
+enum-told-2 : tie.Need-enum-told-2 Inv-loop μ-loop
+enum-told-2 c = search needs
+
+ticked-requires : tie.Need-ticked-requires Inv-loop μ-loop
+ticked-requires c κs = hand-at (read-at (c .before .before)) .proper
+
+empty-head-requires : tie.Need-empty-head-requires Inv-loop μ-loop
+empty-head-requires c κs = hand-at (tick-at (c .before .before)) .proper
+
+carry-head-requires : tie.Need-carry-head-requires Inv-loop μ-loop
+carry-head-requires c κs = let a = hand-at (left-at c) in record { proper = a .proper; few = flows-few a }
+
+leave-head-requires : tie.Need-leave-head-requires Inv-loop μ-loop
+leave-head-requires c κs = plan-valid (hand-at (left-at (c .before .before)))
+
+element-copy-out-owner : tie.Need-element-copy-out-owner Inv-loop μ-loop
+element-copy-out-owner c =
+    let m = ticked-at c .ticked .ensures .proper .measures in
+    omega (arith, m .current-below, m .positions-most)
+
+turn-requires : tie.Need-turn-requires Inv-loop μ-loop
+turn-requires c κs = search needs
+
+-- ---- the line of a call
+
+write-requires : tie.Need-write-requires Inv-loop μ-loop
+write-requires c κs = search needs
+
+add-at-2 : tie.Need-add-at-2 Inv-loop μ-loop
+add-at-2 c = search needs
+
+loop-less-2 : tie.Need-loop-less-2 Inv-loop μ-loop
+loop-less-2 c = search needs
+
+loop-again-2 : tie.Need-loop-again-2 Inv-loop μ-loop
+loop-again-2 c =
+    let written = c .before .before in
+    let joined = written .before .before in
+    let read = read-at (joined .before) in
+    one-more (loop-at read .loop .inv) (read .before .loop-test .taken) (came joined) (written .write .ensures)
+
+-- ---- after the loop
+
+same-length : tie.Need-same-length Inv-loop μ-loop
+same-length c = same-size (c .before .loop .inv)
+
+returns : tie.Need-returns Inv-loop μ-loop
+returns c =
+    let s = c .before .loop .inv in
+    (all-played s (omega arith), s .hand .sound)
+
+pub play-spec : {M : Type 1} → statement M
+play-spec =
+    tie.close
+    (tie.spec
+    Inv-loop
+    μ-loop
+    smaller-requires
+    mul-used
+    window-requires
+    loop-holds
+    read-requires
+    enum-known-call
+    enum-told
+    write-refusal-requires
+    add-at
+    loop-less
+    loop-again
+    enum-known-call-2
+    asker-requires
+    mul-e
+    element-copy-out-e
+    mul-flow
+    element-copy-out-flow
+    ask-requires
+    mul-flow-2
+    element-set-from-flow
+    cast-link
+    element-write-link
+    shift-from-requires
+    enum-known-call-3
+    refusal-requires
+    shift-from-requires-2
+    enum-told-2
+    ticked-requires
+    empty-head-requires
+    carry-head-requires
+    leave-head-requires
+    element-copy-out-owner
+    turn-requires
+    write-requires
+    add-at-2
+    loop-less-2
+    loop-again-2
+    same-length
+    returns)

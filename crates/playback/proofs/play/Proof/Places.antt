@@ -1,0 +1,109 @@
+-- The places in the code of `play` that its proof speaks of, and what is known there. Assumes nothing.
+use Prim.Native.Nat.{_-_, _<_}
+use mathlib.Core.Path.{_≡_, ap, _∙_}
+use Rattle.plan.specs.declared.Plan.{Plan}
+use Rattle.calls.specs.declared.Call.{Call}
+use Rattle.calls.specs.declared.Record.{Record}
+use Rattle.calls.specs.Reading.{callIn}
+use Rattle.calls.proofs.PlayedTo.{callAt}
+use Rattle.window.specs.declared.Window.{Window}
+use Rattle.window.specs.Window.{sizeOf}
+use Rattle.link.specs.declared.Link.{Link}
+use Rattle.link.proofs.Given.{AtHand, plan-valid, placed-few, request-on}
+use Rattle.link.proofs.Requests.{reply-below}
+use Rattle.playback.proofs.Records.{playedAt, Made, reads-as}
+use Rattle.playback.proofs.SoFar.{SoFar}
+use Rattle.playback.proofs.play.Tie as tie
+
+-- ---- the loop
+
+abbrev pub Inv-loop : tie.InvT-loop
+Inv-loop records out₀ used link₀ plan w₀ at₀ end₀ out link w at end = SoFar link₀ records out₀ used plan at link w out end
+
+abbrev pub μ-loop : tie.MeasureT-loop
+μ-loop records out₀ used link₀ plan w₀ at₀ end₀ out link w at end = used - at
+
+-- ---- a record is read
+
+-- where the loop comes round, and where the function is entered
+abbrev pub loop-at : tie.After-read Inv-loop μ-loop → tie.At-loop Inv-loop μ-loop
+loop-at c = c .before .before
+
+abbrev pub entered : tie.After-plan Inv-loop μ-loop → tie.Start Inv-loop μ-loop
+entered c = c .before .before .before .before
+
+abbrev pub start : tie.At-loop Inv-loop μ-loop → tie.Start Inv-loop μ-loop
+start c = entered (c .before .before)
+
+module _ (c : tie.After-read Inv-loop μ-loop) where
+  abbrev pub plan-at : Plan
+  plan-at = start (loop-at c) .args .start .plan
+
+  abbrev pub window-at : Window
+  window-at = loop-at c .loop .w
+
+  -- the link
+  abbrev pub link-at : Link
+  link-at = playedAt (loop-at c .loop .link) window-at
+
+  abbrev pub hand-at : AtHand link-at plan-at window-at
+  hand-at = loop-at c .loop .inv .hand
+
+  -- the call that the record makes
+  abbrev pub made-at : Made
+  made-at = callAt (start (loop-at c) .args .records .now) (loop-at c .loop .at)
+
+-- ---- a call is made
+
+-- where its record was read
+abbrev pub read-at : tie.After-known-told Inv-loop μ-loop → tie.After-read Inv-loop μ-loop
+read-at c = c .before .before .before
+
+pub call-is : (c : tie.After-known-told Inv-loop μ-loop) → made-at (read-at c) ≡ callIn (Record.Call (c .before .call .given .0 .0))
+call-is c = reads-as (made-at (read-at c)) _ (read-at c .read .ensures .0) ∙ ap callIn (c .before .call .given .1)
+
+-- ---- a request
+
+-- where its call was made, and where its flow is known
+abbrev pub request-at : tie.After-asker Inv-loop μ-loop → tie.After-read Inv-loop μ-loop
+request-at c = read-at (c .before .before .before .before)
+
+abbrev pub asker-for : tie.After-ask-arg2 Inv-loop μ-loop → tie.After-asker Inv-loop μ-loop
+asker-for c = c .before .before .before .before .before
+
+abbrev pub asker-at : tie.After-flow2 Inv-loop μ-loop → tie.After-asker Inv-loop μ-loop
+asker-at c = asker-for (c .before .before)
+
+pub asker-few : (c : tie.After-asker Inv-loop μ-loop) → c .asker .result < 16
+asker-few c = placed-few (plan-valid (hand-at (request-at c))) _ (c .asker .ensures)
+
+module _ (c : tie.After-flow2 Inv-loop μ-loop) where
+  abbrev pub asked-on : tie.After-read Inv-loop μ-loop
+  asked-on = request-at (asker-at c)
+
+  pub position-below : c .before .ask .result .position < sizeOf (window-at asked-on)
+  position-below =
+      let i = asker-at c .asker .ensures in
+      reply-below (hand-at asked-on) _ i (c .before .ask .ensures _ (request-on (hand-at asked-on) _ i))
+
+-- ---- a credit
+
+-- where its call was made: from where its tests are made, and from where they gave a number
+abbrev pub credit-for : tie.After-refusal-arg Inv-loop μ-loop → tie.After-read Inv-loop μ-loop
+credit-for c = read-at (c .before .before .before .before .before)
+
+abbrev pub credit-at : tie.After-refusal Inv-loop μ-loop → tie.After-read Inv-loop μ-loop
+credit-at c = credit-for (c .before)
+
+-- ---- a tick
+
+-- where the window is one position on
+abbrev pub ticked-at : tie.Joined3 Inv-loop μ-loop → tie.After-ticked Inv-loop μ-loop
+ticked-at c = c .before .before .before
+
+-- where its call was made: from there, and from where the head frame is left
+abbrev pub tick-at : tie.After-struct-known2 Inv-loop μ-loop → tie.After-read Inv-loop μ-loop
+tick-at c = read-at (c .before .before .before .before .before)
+
+abbrev pub left-at : tie.After-carry-head-arg Inv-loop μ-loop → tie.After-read Inv-loop μ-loop
+left-at c = tick-at (c .before .before .before .before)

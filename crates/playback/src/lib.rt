@@ -1,0 +1,100 @@
+// Call records of a slice played in place.
+ghost use Rattle.link.specs.Reading.{linkOf};
+ghost use Rattle.link.specs.Sound.{Sound};
+ghost use Rattle.playback.specs.Playback.{PlayedRecords};
+use calls::Answer;
+use calls::Call;
+use calls::LONGEST_LINE;
+use calls::RECORD;
+use calls::Record;
+use link::Link;
+use link::credit::refusal;
+use link::request::ask;
+use link::request::asker;
+use link::tick::leave_head;
+use link::tick::turn;
+use tables::holdings::carry_head;
+use tables::holdings::shift_from;
+use tables::owners::empty_head;
+use window::numbers::smaller;
+use window::positions::window;
+
+// A link after some records, and how many bytes the records and their lines have.
+pub struct Playback {
+    pub link: Link,
+    // bytes of the records that were played
+    pub used: usize,
+    // bytes of their lines
+    pub written: usize,
+}
+
+// Plays the records of a slice and writes their lines from the start of `out` on: every whole record, or as many as `out` has room for,
+// seven bytes each.
+pub fn play(start: Link, records: &[u8], out: &mut [u8]) -> Playback
+    requires { ⌜ Sound start ⌝ }
+    ensures { λ r. ⌜ PlayedRecords (linkOf start) (now (records .entry)) (now (out .entry))
+        (linkOf (r .link)) (r .used) (r .written) (now (out .exit)) ⌝ }
+    ensures sound { λ r. ⌜ Sound (r .link) ⌝ }
+{
+    let used = RECORD * smaller(records.len() / RECORD, out.len() / LONGEST_LINE);
+    let mut link = start;
+    let plan = link.plan;
+    let mut w = window(plan.slots, plan.frames, link.cp);
+    let mut at = 0;
+    let mut end = 0;
+    while at < used {
+        let Record::Call(call) = calls::read(records, at) else {
+            end = calls::write_refusal(16, out, end);
+            at += RECORD;
+            continue;
+        };
+        // Each arm stores what the method of its call stores, but for CP, which stays in w until the end.
+        let mut answer = Answer::Idle;
+        match call {
+            Call::Request(word) => {
+                let i = asker(plan.count, word);
+                let e = plan.entries[i];
+                let flow = link.flows[i];
+                let reply = ask(plan.count, e, w, &link.owner, &link.held, i, flow, word);
+                let flow = reply.flow;
+                link.flows[i] = flow;
+                if reply.granted {
+                    let position = reply.position;
+                    link.owner[position] = i as u8;
+                    shift_from(&mut link.held, 1, i, w, position);
+                }
+                answer = reply.answer;
+            }
+            Call::Credit(flow, position) => {
+                let number = refusal(plan.count, w, &link.held, flow, position);
+                if number != 0 {
+                    answer = Answer::Refused(number);
+                } else {
+                    shift_from(&mut link.held, 255, flow, w, position);
+                    answer = Answer::Taken;
+                }
+            }
+            Call::Tick => {
+                let on = w.ticked();
+                if on.head != w.head {
+                    empty_head(&mut link.owner, w);
+                    carry_head(&mut link.held, plan.count, w);
+                    let flows = leave_head(link.flows, plan, w.head, on.head);
+                    link.flows = flows;
+                }
+                w = on;
+                let cp = on.current;
+                let owner = link.owner[cp];
+                answer = turn(owner);
+            }
+        }
+        end = calls::write(answer, out, end);
+        at += RECORD;
+    }
+    link.cp = w.current;
+    Playback {
+        link,
+        used,
+        written: end,
+    }
+}

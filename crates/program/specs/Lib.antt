@@ -1,0 +1,4 @@
+pub mod Stage
+pub mod State
+pub mod Promises
+pub mod Parts

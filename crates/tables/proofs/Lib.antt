@@ -1,0 +1,15 @@
+-- rows of holdings: where they stand, and what others know of them
+mod Places
+pub mod Rows
+mod RowRanges
+mod CarriedRows
+pub mod HoldingChanges
+pub mod FreshTables
+-- one pass over a row
+mod Padded
+mod PaddedFrom
+-- the search
+mod PositionWalk
+mod FrameWalk
+pub mod ValidPositions
+pub mod FoundPosition

@@ -1,0 +1,94 @@
+-- `tables::holdings::shift` meets its contract. Assumes nothing.
+use borrow.Author.Needs.{needs}
+use Prim.Native.Nat.{_-_}
+use mathlib.Core.Path.{_≡_, ap, _∙_}
+use native.Mathlib.Omega.{arith}
+use lib.ListN.{getD}
+use Rattle.window.specs.Bytes.{wrapped}
+use Rattle.window.proofs.RangeLoops.{Replacing, replacing-none, replacing-more, replacing-done}
+use Rattle.tables.specs.Padded.{pad}
+use Rattle.tables.proofs.Padded.{Counting, counting-first, counting-on, counted-pad}
+use Rattle.tables.proofs.holdings.shift.Statement.{statement}
+use Rattle.tables.proofs.holdings.shift.Tie as tie
+
+abbrev Inv-loop : tie.InvT-loop
+Inv-loop held₀ a e start count inner outer q₀ x₀ held q x =
+    Counting start a q x × Replacing (λ k y. wrapped (pad start count inner outer (k - a)) y) a e held₀ held q
+
+abbrev μ-loop : tie.MeasureT-loop
+μ-loop held₀ a e start count inner outer q₀ x₀ held q x = e - q
+
+-- where a place is looked at
+abbrev at-place : tie.After-moved Inv-loop μ-loop → tie.In-loop Inv-loop μ-loop
+at-place c = c .before .before .before
+
+-- what is put there: what is held, moved by the pad
+put : (c : tie.After-moved Inv-loop μ-loop)
+    → let l = at-place c .before in
+    let s = l .before .before .args in
+    c .moved .result ≡ wrapped (pad (s .start) (s .count) (s .inner) (s .outer) (l .loop .q - s .a)) (getD (l .loop .held) (l .loop .q) 0)
+put c =
+    let i = at-place c in
+    let l = i .before in
+    let s = l .before .before in
+    let counted = l .loop .inv .0 in
+    let from = l .loop .inv .1 .from in
+    let padded = counted-pad counted (omega arith) from (s .pre) (i .loop-test .taken) (s .args .inner) (s .args .outer) in
+    c .moved .ensures ∙ ap (λ by. wrapped by (getD (l .loop .held) (l .loop .q) 0)) (c .before .before .chosen .ensures ∙ padded)
+
+to-zero-requires : tie.Need-to-zero-requires Inv-loop μ-loop
+to-zero-requires c κs = search needs
+
+loop-holds : tie.Need-loop-holds Inv-loop μ-loop
+loop-holds c = (counting-first _ _ _ (omega arith) (c .to-zero .ensures), replacing-none 0 (omega arith))
+
+chosen-requires : tie.Need-chosen-requires Inv-loop μ-loop
+chosen-requires c κs = search needs
+
+element-copy-out-moved : tie.Need-element-copy-out-moved Inv-loop μ-loop
+element-copy-out-moved c = search needs
+
+moved-requires : tie.Need-moved-requires Inv-loop μ-loop
+moved-requires c κs = search needs
+
+element-write-held : tie.Need-element-write-held Inv-loop μ-loop
+element-write-held c = search needs
+
+on-by-one-requires : tie.Need-on-by-one-requires Inv-loop μ-loop
+on-by-one-requires c κs = search needs
+
+add-q : tie.Need-add-q Inv-loop μ-loop
+add-q c = search needs
+
+loop-less : tie.Need-loop-less Inv-loop μ-loop
+loop-less c = search needs
+
+loop-again : tie.Need-loop-again Inv-loop μ-loop
+loop-again c =
+    let m = c .before in
+    let i = at-place m in
+    let l = i .before .loop in (
+      counting-on (l .inv .0) (omega arith) (l .inv .1 .from) (c .on-by-one .ensures),
+      replacing-more 0 (l .inv .1) (i .loop-test .taken) (put m),
+    )
+
+returns : tie.Need-returns Inv-loop μ-loop
+returns c = replacing-done 0 (c .before .loop .inv .1) (omega arith)
+
+pub shift-spec : {M : Type 1} → statement M
+shift-spec =
+    tie.close
+    (tie.spec
+    Inv-loop
+    μ-loop
+    to-zero-requires
+    loop-holds
+    chosen-requires
+    element-copy-out-moved
+    moved-requires
+    element-write-held
+    on-by-one-requires
+    add-q
+    loop-less
+    loop-again
+    returns)

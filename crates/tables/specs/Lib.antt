@@ -1,0 +1,6 @@
+pub mod Owners
+pub mod Rows
+pub mod Padded
+pub mod Holdings
+pub mod Asked
+pub mod Search

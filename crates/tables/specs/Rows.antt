@@ -1,0 +1,31 @@
+-- What the flows hold as it is stored: sixteen rows, one for each flow, of 256 positions. Where a row's positions stand is known to this crate
+-- alone; others read a row, replace one, and know that there are sixteen. Assumes nothing.
+use Prim.Native.Nat.{ℕ, _+_, _-_, _*_, _/_, _%_}
+use mathlib.Core.Path.{_≡_}
+use mathlib.Core.List.{List}
+use mathlib.Core.Bool.{_&&_}
+use lib.ListN.{length, getD}
+use lib.Dec.{ltb}
+use Rattle.model.specs.Tables.{table}
+use Rattle.window.specs.Ranges.{inRange, replaced}
+
+-- what flow i holds at each position
+unfoldable pub row : List ℕ → ℕ → List ℕ
+row h i = table 256 (λ p. getD h (256 * i + p) 0)
+
+-- there are sixteen rows
+abbrev pub Sixteen : List ℕ → Type 0
+Sixteen h = length h ≡ 4096
+
+-- the rows in which flow i holds f i p at position p
+unfoldable pub rowsOf : (ℕ → ℕ → ℕ) → List ℕ
+rowsOf f = table 4096 (λ k. f (k / 256) (k % 256))
+
+-- row i replaced
+unfoldable pub withRow : List ℕ → ℕ → List ℕ → List ℕ
+withRow h i r = replaced (inRange (256 * i) (256 * i + 256)) (λ k x. getD r (k - 256 * i) 0) h
+
+-- in each of the first n rows the range from a to e replaced by what stands at `last` in that row
+unfoldable pub carriedRows : (n last a e : ℕ) → List ℕ → List ℕ
+carriedRows n last a e h =
+    replaced (λ k. ltb (k / 256) n && inRange a e (k % 256)) (λ k x. getD h (256 * (k / 256) + last) 0) h

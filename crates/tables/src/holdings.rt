@@ -1,0 +1,211 @@
+// What each flow holds at each position: what flow i holds at position p stands at 256 * i + p, which no other crate knows.
+// From p on means at p and at every later position. With h the first position of the head frame: where h <= p, these are p to T - 1 and
+// 0 to h - 1; where p < h, they are p to h - 1.
+// A test or a change from p on is one pass over all T places; at the other places it uses a value that leaves the result as it is.
+ghost use mathlib.Core.Path.{_≡_};
+ghost use Prim.Native.Nat.{_+_, _-_, _≤_, _<_, max};
+ghost use lib.Dec.{ltb};
+ghost use lib.ListN.{getD};
+ghost use Rattle.model.specs.Window as model;
+ghost use Rattle.window.specs.Bytes.{wrapped};
+ghost use Rattle.window.specs.Ranges.{inRange, replaced, All, LastIn};
+ghost use Rattle.window.specs.Window.{windowOf, Proper, FromRank};
+ghost use Rattle.tables.specs.Asked.{FlowAt, FlowsOf};
+ghost use Rattle.tables.specs.Owners.{everywhere};
+ghost use Rattle.tables.specs.Rows.{row, withRow, carriedRows};
+ghost use Rattle.tables.specs.Padded.{pad, InRow};
+ghost use Rattle.tables.specs.Holdings.{someHeld, roomAt, shifted, carried, nothingHeld};
+use window::Window;
+use window::numbers::chosen;
+use window::numbers::larger_byte;
+use window::numbers::moved;
+use window::numbers::on_by_one;
+use window::numbers::smaller_byte;
+use window::numbers::to_zero;
+use window::positions::before;
+
+pub type Holdings = [u8; 4096];
+
+// One value at every place of the range from a to e.
+fn fill(held: &mut Holdings, value: u8, a: usize, e: usize)
+    requires { ⌜ (a ≤ e) × (e ≤ 4096) ⌝ }
+    ensures { λ r. ⌜ now (held .exit) ≡ replaced (inRange a e) (λ q x. value) (now (held .entry)) ⌝ }
+{
+    let mut q = a;
+    while q < e {
+        held[q] = value;
+        q += 1;
+    }
+}
+
+// Whether fewer than the cells are held at every place of the range from a to e.
+fn room_in(held: &Holdings, cells: u8, a: usize, e: usize) -> bool
+    requires { ⌜ (a ≤ e) × (e ≤ 4096) ⌝ }
+    ensures { λ r. ⌜ All (roomAt (now (held .entry)) cells) a e r ⌝ }
+{
+    let mut all = true;
+    let mut q = a;
+    while q < e {
+        if cells <= held[q] {
+            all = false;
+        }
+        q += 1;
+    }
+    all
+}
+
+// One more than the last place of a range at which no fewer than the cells are held, or the first place.
+fn last_full(held: &Holdings, cells: u8, a: usize, e: usize) -> usize
+    requires { ⌜ (a ≤ e) × (e ≤ 4096) ⌝ }
+    ensures { λ r. ⌜ LastIn (roomAt (now (held .entry)) cells) a e r ⌝ }
+{
+    let mut q = e;
+    while a < q {
+        if cells <= held[q - 1] {
+            return q;
+        }
+        q -= 1;
+    }
+    q
+}
+
+// The rank from which on flow i has room at every position.
+pub(crate) fn room_rank(held: &Holdings, i: usize, cells: u8, w: Window) -> usize
+    requires { ⌜ Proper w × (i < 16) ⌝ }
+    ensures { λ r. ⌜ FromRank w (λ p. model.everyFrom (windowOf w) p (roomAt (row (now (held .entry)) i) cells)) r ⌝ }
+{
+    let first = 256 * i;
+    let head = first + w.head * w.slots;
+    let past = first + w.slots * w.frames;
+    if room_in(held, cells, first, past) {
+        return 0;
+    }
+    let k = last_full(held, cells, first, head);
+    if first < k {
+        return k + past - first - head;
+    }
+    last_full(held, cells, head, past) - head
+}
+
+// Whether at every place of the range from a to e something is held or the pad is above 0. The pad is `inner` at the `count` places
+// from a + `start` on, and `outer` at the others.
+fn held_in(held: &Holdings, a: usize, e: usize, start: u8, count: u8, inner: u8, outer: u8) -> bool
+    requires { ⌜ InRow a e start count ⌝ }
+    ensures { λ r. ⌜ All (λ k. ltb 0 (max (getD (now (held .entry)) k 0) (pad start count inner outer (k - a)))) a e r ⌝ }
+{
+    let mut least = 255u8;
+    let mut q = a;
+    // how far q lies on from a + start, modulo 256: below `count` at the inner places
+    let mut x = to_zero(start);
+    while q < e {
+        let pad = chosen(x, count, inner, outer);
+        least = smaller_byte(least, larger_byte(held[q], pad));
+        x = on_by_one(x);
+        q += 1;
+    }
+    0 < least
+}
+
+// Whether flow i holds something from p on.
+pub fn held_from(held: &Holdings, i: usize, w: Window, p: usize) -> bool
+    requires { ⌜ FlowAt w i p ⌝ }
+    ensures { λ r. ⌜ r ≡ model.everyFrom (windowOf w) p (someHeld (row (now (held .entry)) i)) ⌝ }
+{
+    let first = 256 * i;
+    let past = first + w.slots * w.frames;
+    let base = w.head * w.slots;
+    if base <= p {
+        return held_in(held, first, past, base as u8, (p - base) as u8, 255, 0);
+    }
+    held_in(held, first, past, p as u8, (base - p) as u8, 0, 255)
+}
+
+// The holdings of the range from a to e moved modulo 256: by `inner` at the `count` places from a + `start` on, and by `outer` at the
+// others.
+fn shift(held: &mut Holdings, a: usize, e: usize, start: u8, count: u8, inner: u8, outer: u8)
+    requires { ⌜ InRow a e start count ⌝ }
+    ensures { λ r. ⌜ now (held .exit) ≡ replaced (inRange a e) (λ k x. wrapped (pad start count inner outer (k - a)) x) (now (held .entry)) ⌝ }
+{
+    let mut q = a;
+    // how far q lies on from a + start, modulo 256
+    let mut x = to_zero(start);
+    while q < e {
+        let by = chosen(x, count, inner, outer);
+        held[q] = moved(held[q], by);
+        x = on_by_one(x);
+        q += 1;
+    }
+}
+
+// Flow i's holdings from p on, each moved by a number modulo 256: 1 is one more, 255 one fewer.
+pub fn shift_from(held: &mut Holdings, by: u8, i: usize, w: Window, p: usize)
+    requires { ⌜ FlowAt w i p ⌝ }
+    ensures { λ r. ⌜ now (held .exit) ≡ shifted (windowOf w) by i p (now (held .entry)) ⌝ }
+{
+    let first = 256 * i;
+    let past = first + w.slots * w.frames;
+    let base = w.head * w.slots;
+    if base <= p {
+        shift(held, first, past, base as u8, (p - base) as u8, 0, by);
+        return;
+    }
+    shift(held, first, past, p as u8, (base - p) as u8, by, 0);
+}
+
+// The table of a flow that holds nothing at any position.
+fn unheld() -> [u8; 256]
+    ensures { λ r. ⌜ r ≡ everywhere 0 ⌝ }
+{
+    [0u8; 256]
+}
+
+// Stores a flow's table as its row.
+fn store(held: &mut Holdings, i: usize, table: [u8; 256])
+    requires { ⌜ i < 16 ⌝ }
+    ensures { λ r. ⌜ now (held .exit) ≡ withRow (now (held .entry)) i table ⌝ }
+{
+    let first = 256 * i;
+    let end = first + 256;
+    let mut q = first;
+    while q < end {
+        held[q] = table[q - first];
+        q += 1;
+    }
+}
+
+// Nothing is held: the table of each flow, stored as that flow's row. None of the 255s that the array is made with is left.
+pub fn nothing_held() -> Holdings
+    ensures { λ r. ⌜ r ≡ nothingHeld ⌝ }
+{
+    let mut held = [255u8; 4096];
+    let mut i = 0;
+    while i < 16 {
+        store(&mut held, i, unheld());
+        i += 1;
+    }
+    held
+}
+
+// What each of n flows holds at the last position goes on at the positions from a to e.
+fn carry(held: &mut Holdings, count: usize, last: usize, a: usize, e: usize)
+    requires { ⌜ (count ≤ 16) × (last < 256) × (a ≤ e) × (e ≤ 256) ⌝ }
+    ensures { λ r. ⌜ now (held .exit) ≡ carriedRows count last a e (now (held .entry)) ⌝ }
+{
+    let mut i = 0;
+    while i < count {
+        let first = 256 * i;
+        let value = held[first + last];
+        fill(held, value, first + a, first + e);
+        i += 1;
+    }
+}
+
+// What each of n flows holds at the last position goes on in the head frame.
+pub fn carry_head(held: &mut Holdings, count: usize, w: Window)
+    requires { ⌜ FlowsOf w count ⌝ }
+    ensures { λ r. ⌜ now (held .exit) ≡ carried w count (now (held .entry)) ⌝ }
+{
+    let base = w.head * w.slots;
+    let last = before(w.slots * w.frames, base);
+    carry(held, count, last, base, base + w.slots);
+}

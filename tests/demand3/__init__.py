@@ -1,0 +1,1 @@
+"""Demand 3, checked on what was played."""

@@ -1,0 +1,168 @@
+"""The grants, credits and ticks that a listing tells of, and the bullets of
+demand 3 counted over them."""
+
+import struct
+
+
+class Verdict:
+    """What was found: faults as text; grants and taken credits seen; and per
+    flow the largest k at which the least count was put to the test."""
+
+    def __init__(self):
+        self.faults = []
+        self.grants = 0
+        self.credits = 0
+        self.least = {}
+
+    def largest_k(self):
+        return max(self.least.values(), default=-1)
+
+
+class History:
+    """What the listing of an accepted plan tells, call by call."""
+
+    def __init__(self, data, verdict):
+        (length, self.flows, _, self.frame_slots,
+         self.window_frames, _) = struct.unpack_from("<6H", data)
+        self.total = self.frame_slots * self.window_frames
+        entries = list(struct.iter_unpack("4B", data[12:length]))
+        self.share = [entry[0] for entry in entries]
+        self.cells = [entry[1] for entry in entries]
+        self.destination = [entry[3] for entry in entries]
+        self.now = 0                        # the current slot
+        self.owner = {}                     # granted slot -> flow
+        self.in_frame = {}                  # (flow, frame) -> granted slots
+        self.count = [0] * self.flows       # granted slots in all
+        self.held = [0] * self.flows        # held at the current slot
+        # Later slot -> grants less credits of that slot, for each flow.
+        self.change = [{} for _ in entries]
+        # Frames 0 to asked - 1 have each seen a refusal of this flow.
+        self.asked = [0] * self.flows
+        self.roomy = [True] * self.flows    # never full when it asked
+        self.verdict = verdict
+        self.place = 1                      # line number, for messages
+
+    def frame(self):
+        return self.now // self.frame_slots
+
+    def fault(self, text):
+        self.verdict.faults.append("line %d: %s" % (self.place, text))
+
+    def slot_after_now(self, position):
+        """Where this position comes next."""
+        return self.now + 1 + (position - self.now - 1) % self.total
+
+    def levels(self, flow):
+        """What the flow holds, slot by slot where it changes, from now on."""
+        level = self.held[flow]
+        yield self.now, level
+        change = self.change[flow]
+        for slot in sorted(change):
+            level += change[slot]
+            yield slot, level
+
+    def move(self, flow, slot, step):
+        self.change[flow][slot] = self.change[flow].get(slot, 0) + step
+        self.check_levels(flow)
+
+    # ---- the bullets of the claim, one by one
+
+    def check_levels(self, flow):
+        """Between 0 and its cells at every slot, after any call."""
+        for slot, level in self.levels(flow):
+            if not 0 <= level <= self.cells[flow]:
+                self.fault("flow %d holds %d at slot %d" % (flow, level, slot))
+                return
+
+    def check_owner(self, flow, slot, position):
+        """A slot has one owner, and lies less than T after the current."""
+        if position >= self.total:
+            self.fault("granted position %d is not below T" % position)
+        if slot >= self.now + self.total:
+            self.fault("granted slot %d is not below t + T" % slot)
+        if slot in self.owner:
+            self.fault("slot %d granted to %d and to %d"
+                       % (slot, self.owner[slot], flow))
+
+    def check_most(self, flow, slot):
+        """At most the share in a frame, and (W + k) times it in all."""
+        key = flow, slot // self.frame_slots
+        self.in_frame[key] = self.in_frame.get(key, 0) + 1
+        if self.in_frame[key] > self.share[flow]:
+            self.fault("flow %d has more than its share in frame %d" % key)
+        self.count[flow] += 1
+        most = (self.window_frames + self.frame()) * self.share[flow]
+        if self.count[flow] > most:
+            self.fault("flow %d has %d grants, above the most of %d"
+                       % (flow, self.count[flow], most))
+
+    def check_least(self, flow):
+        """At least (W - 1 + k) times the share, for a stream that was refused
+        in each frame up to this one and never asked while full."""
+        k = self.frame()
+        if not self.roomy[flow] or self.asked[flow] <= k:
+            return
+        self.verdict.least[flow] = k
+        least = (self.window_frames - 1 + k) * self.share[flow]
+        if self.count[flow] < least:
+            self.fault("flow %d has %d grants, below the least of %d"
+                       % (flow, self.count[flow], least))
+
+    # ---- the calls, with what the listing says of them
+
+    def well_formed(self, word):
+        flow = word >> 20 & 63
+        return (flow < self.flows and word >> 26 == self.destination[flow]
+                and word & 1023 < self.total)
+
+    def note_asking(self, flow):
+        """The premise on room, looked at before the request is answered."""
+        if self.roomy[flow]:
+            full = max(level for _, level in self.levels(flow))
+            self.roomy[flow] = full < self.cells[flow]
+
+    def note_refused(self, flow):
+        if self.asked[flow] == self.frame():
+            self.asked[flow] += 1
+            self.check_least(flow)
+
+    def note_granted(self, flow, position):
+        if flow >= self.flows:
+            self.fault("a grant to flow %d, which the plan has not" % flow)
+            return
+        slot = self.slot_after_now(position)
+        self.verdict.grants += 1
+        self.check_owner(flow, slot, position)
+        self.check_most(flow, slot)
+        self.owner[slot] = flow
+        self.move(flow, slot, 1)
+
+    def request(self, record, letter, number):
+        word = struct.unpack_from("<I", record, 1)[0]
+        flow = word >> 20 & 63
+        if self.well_formed(word):
+            self.note_asking(flow)
+            if letter == "R":
+                self.note_refused(flow)
+        if letter == "G":
+            self.note_granted(flow, int(number))
+
+    def credit(self, record, letter, number):
+        if letter != "C":
+            return
+        flow, position = struct.unpack_from("<BH", record, 1)
+        if flow >= self.flows or position >= self.total:
+            self.fault("a taken credit of flow %d at %d" % (flow, position))
+            return
+        self.verdict.credits += 1
+        self.move(flow, self.slot_after_now(position), -1)
+
+    def tick(self, record, letter, number):
+        """A slot comes up for its owner, or idle if it has none."""
+        self.now += 1
+        expected = str(self.owner.get(self.now, "-"))
+        if number != expected:
+            self.fault("slot %d comes up for %s, granted to %s"
+                       % (self.now, number, expected))
+        for flow in range(self.flows):
+            self.held[flow] += self.change[flow].pop(self.now, 0)

@@ -1,0 +1,82 @@
+"""Listings that the check of demand 3 has to send back, and one it must not.
+
+Each is a call file with a listing that no right link gives, and words of the
+fault that the check has to name.  Some follow document 01, "Link cards we
+would send back"; the others break one bullet each.
+"""
+
+from edges.edge_maker import TICK, ask, credit, edge, plan
+
+ONE = plan(2, 2, (1, 3))            # F = 2, W = 2, share 1, 3 cells
+WIDE = plan(4, 2, (2, 2), (2, 2))   # F = 4, W = 2
+LEAST = "below the least"
+
+WRONG = [
+    # The least is (W - 1) x share = 1 in frame 0.
+    (edge("refuses every request", ONE,
+          (ask(0), "R 12"), (ask(0), "R 12")), LEAST),
+    (edge("reports 11 before booking anything", ONE,
+          (ask(0), "R 11")), LEAST),
+    # Right in frame 0; in frame 1 the least is 2 grants, in frame 2 it is 3.
+    (edge("later only refuses", ONE,
+          (ask(0), "G 1"), (ask(0), "G 2"), (ask(0), "R 11"),
+          (TICK, "T 0"), (TICK, "T 0"), (credit(0, 3), "C"), (ask(0), "R 11"),
+          (TICK, "T -"), (TICK, "T -"), (ask(0), "R 11")), LEAST),
+    (edge("grants one position every time", WIDE,
+          (ask(0), "G 1"), (ask(1), "G 1")), "slot 1 granted to 0 and to 1"),
+    (edge("writes no booking down", WIDE,
+          (ask(0), "G 1"), (TICK, "T -")), "slot 1 comes up for -"),
+    (edge("brings a slot up for another flow", WIDE,
+          (ask(0), "G 1"), (TICK, "T 1")), "slot 1 comes up for 1"),
+    (edge("brings up a slot that nobody has", WIDE,
+          (TICK, "T 0")), "slot 1 comes up for 0"),
+    (edge("brings a booking up twice", ONE,
+          (ask(0), "G 1"), (TICK, "T 0"), (TICK, "T -"), (TICK, "T -"),
+          (TICK, "T -"), (TICK, "T 0")), "slot 5 comes up for 0"),
+    (edge("grants more than the share in a frame", ONE,
+          (ask(0), "G 2"), (ask(0), "G 3")), "more than its share in frame 1"),
+    # (W + k) x share = 2 with k = 0; position 0 is slot 4, in frame 2.
+    (edge("grants more than the most", ONE,
+          (ask(0), "G 1"), (ask(0), "G 2"), (ask(0), "G 0")),
+     "above the most"),
+    (edge("grants the current position", ONE,
+          (ask(0), "G 0")), "slot 4 is not below t + T"),
+    (edge("grants a position past T", ONE,
+          (ask(0), "G 4")), "position 4 is not below T"),
+    (edge("grants to a flow that the plan has not", ONE,
+          (ask(5), "G 1")), "flow 5, which the plan has not"),
+    # Three bookings with two cells, across a frame change.
+    (edge("goes above the cells", WIDE,
+          (ask(0), "G 1"), (ask(0), "G 2"),
+          *[(TICK, line) for line in ("T 0", "T 0", "T -", "T -")],
+          (ask(0), "G 0")), "flow 0 holds 3 at slot 8"),
+    # Slip 1 of document 01: 1 held at slot 2, but 0 from slot 5 on.
+    (edge("goes below 0", WIDE,
+          (ask(0), "G 1"), (credit(0, 5), "C"), (credit(0, 2), "C")),
+     "flow 0 holds -1 at slot 5"),
+    (edge("takes a credit of a flow that the plan has not", WIDE,
+          (credit(2, 1), "C")), "a taken credit of flow 2"),
+    (edge("answers a tick like a credit", WIDE, (TICK, "C")), "answered 'C'"),
+    (edge("answers no call", WIDE, (b"\x04" + bytes(4), "T -")), "no call"),
+]
+
+# A right listing of nine frame changes: no fault, and the least count is
+# tried.
+RIGHT = edge(
+    "a right listing", plan(1, 2, (1, 255)),
+    (ask(0), "G 1"), (ask(0), "R 11"),
+    *[step for k in range(1, 10) for step in (
+        (TICK, "T 0"), (ask(0), "G %d" % ((k + 1) % 2)), (ask(0), "R 11"))])
+
+
+def missed(check):
+    """(name, what went wrong or None) for each listing."""
+    for wrong, words in WRONG:
+        faults = check(wrong.data, wrong.lines).faults
+        found = any(words in fault for fault in faults)
+        yield wrong.name, None if found else "not sent back: %r" % faults
+    cut = check(RIGHT.data, RIGHT.lines[:-1]).faults
+    yield "a line is missing", None if cut else "not sent back"
+    verdict = check(RIGHT.data, RIGHT.lines)
+    right = not verdict.faults and verdict.least == {0: 9}
+    yield RIGHT.name, None if right else "sent back: %r" % verdict.faults

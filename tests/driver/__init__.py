@@ -1,0 +1,2 @@
+"""The driver: programs started on call files, their listings compared with
+the simulator's, and the tests counted."""

@@ -1,0 +1,85 @@
+"""The tests of one program: played, counted, and a line for each failure."""
+
+from demand3.check import check
+from driver.starting import NO_END, play, play_in_pieces
+
+NUMBERS = range(1, 17)          # document 01's refusals
+PATIENCE = 3                    # files without end, then the rest is left out
+
+
+def shown(text):
+    if text is None:
+        return "no line"
+    return repr(text.decode("latin-1")[:60]) if text else "the end"
+
+
+def first_difference(expected, got):
+    """Text on the first line that differs, or None.  Both are bytes."""
+    if expected == got:
+        return None
+    wanted, found = expected.split(b"\n"), got.split(b"\n")
+    for place in range(max(len(wanted), len(found))):
+        want = wanted[place] if place < len(wanted) else None
+        have = found[place] if place < len(found) else None
+        if want != have:
+            break
+    return "line %d: expected %s, got %s" % (
+        place + 1, shown(want), shown(have))
+
+
+class Suite:
+    def __init__(self, name, program=None):
+        self.name = name
+        self.program = program      # a path
+        self.passed = 0
+        self.failed = 0
+        self.seen = set()           # refusal numbers in the listings
+        self.largest_k = -1         # at which the least count was tried
+        self.without_end = 0
+
+    def test(self, name, *troubles):
+        """One test: it passes if no trouble is named."""
+        troubles = [trouble for trouble in troubles if trouble]
+        if troubles:
+            self.failed += 1
+            print("FAILED %s, %s: %s" % (self.name, name, "; ".join(troubles)))
+        else:
+            self.passed += 1
+
+    def note(self, lines, verdict):
+        """What came up in a listing, for the totals."""
+        for line in lines:
+            if line[:1] in ("P", "R") and line[2:].isdecimal():
+                self.seen.add(int(line[2:]))
+        self.largest_k = max(self.largest_k, verdict.largest_k())
+
+    def play(self, name, case):
+        """One file through the program: listing, end and demand 3."""
+        if self.without_end >= PATIENCE:
+            return
+        if case.size is None:
+            played = play(self.program, case.data)
+        else:
+            played = play_in_pieces(self.program, case.data, case.size)
+        lines, verdict = case.lines, case.verdict
+        if played.output != case.listing:
+            lines = played.output.decode("latin-1").splitlines()
+            verdict = check(case.data, lines)
+        self.note(lines, verdict)
+        self.test(name, case.trouble,
+                  first_difference(case.listing, played.output),
+                  played.trouble,
+                  verdict.faults and "demand 3, " + verdict.faults[0])
+        self.without_end += played.trouble == NO_END
+
+    def totals(self):
+        """What has to have come up in all files together."""
+        if self.without_end >= PATIENCE:
+            print("%s: gave up after %d files without end"
+                  % (self.name, PATIENCE))
+            return
+        missing = [number for number in NUMBERS if number not in self.seen]
+        self.test("each refusal was seen",
+                  missing and "never seen: %s" % missing)
+        self.test("the least count was tried with k of 2 and more",
+                  self.largest_k < 2 and "largest k %d" % self.largest_k)

@@ -1,0 +1,9 @@
+"""All executed edges."""
+
+from edges import (
+    call_records, credits, from_the_paper, plan_limits, requests, three_slips,
+    ticks)
+
+EDGES = (from_the_paper.EDGES + three_slips.EDGES + requests.EDGES
+         + credits.EDGES + ticks.EDGES + call_records.EDGES
+         + plan_limits.EDGES)

@@ -1,0 +1,55 @@
+"""The edges that document 01 lists itself."""
+
+from edges.edge_maker import Edge, TICK, ask, credit, edge, plan
+
+EDGES = [
+    # Document 01 prints this input and its output in full.
+    Edge("the listing of document 01",
+         bytes.fromhex(
+             "14 00 02 00 0C 00 04 00 02 00 04 00 02 02 01 09 02 02 02 09"
+             "01 00 00 00 24  01 00 04 00 24  01 00 08 00 24  02 00 04 00 00"
+             "01 00 08 00 24  01 00 00 10 24  03 00 00 00 00"),
+         ["P 0", "G 1", "G 2", "R 12", "C", "G 4", "G 3", "T 0"]),
+
+    # Document 01 tells these calls where it says why each flow has cells of
+    # its own.
+    edge("the calls over four frames", plan(4, 4, (2, 2), (2, 2)),
+         (ask(0), "G 1"),
+         (ask(0), "G 2"),
+         (ask(0), "R 12"),          # holds both cells in frames 1 to 3
+         (credit(0, 3), "C"),
+         (credit(0, 3), "C"),
+         (ask(0), "G 12"),          # IF stays newest after 12: frame 3
+         (ask(0), "G 13"),
+         (ask(1), "G 3"),           # 1 and 2 are booked
+         (ask(1), "G 4"),           # frame 0 has nothing left
+         (ask(1), "R 12")),         # holds both cells from 4 on
+
+    # T = 8: departure 7 is below T, 8 is not; a refused word books nothing.
+    edge("departure T - 1 and T", plan(4, 2, (2, 4)),
+         (ask(0, departure=7), "G 1"),
+         (ask(0, departure=8), "R 10"),
+         (ask(0, departure=1023), "R 10"),
+         (ask(0, departure=0), "G 2")),
+
+    # The same where T is largest.
+    edge("departure 255 and 256", plan(64, 4, (2, 4)),
+         (ask(0, departure=255), "G 1"),
+         (ask(0, departure=256), "R 10")),
+
+    # Nothing is held, so 15 at 1; 0 is CP, and 14 is tested before 15.
+    edge("credits on a fresh link", plan(4, 2, (2, 2), (2, 2)),
+         (credit(0, 1), "R 15"),
+         (credit(0, 0), "R 14")),
+
+    # At CP = 3 frame 0 has no later position; frame 1 begins with 4.
+    edge("an untouched flow at CP = 3", plan(4, 2, (2, 2)),
+         (TICK, "T -"), (TICK, "T -"), (TICK, "T -"),
+         (ask(0), "G 4")),
+
+    # Frame 0 is slot 0 alone, which is current; frame 1 is newest, and after
+    # the grant C is 0.
+    edge("F = 1, W = 2", plan(1, 2, (1, 1)),
+         (ask(0), "G 1"),
+         (ask(0), "R 11")),
+]

@@ -1,0 +1,63 @@
+"""A command started as a user starts it, and how it has to end."""
+
+import fcntl
+import os
+import subprocess
+from pathlib import Path
+
+ROOT = Path(__file__).resolve().parents[2]
+LIMIT = 60              # seconds
+PIPE_SIZE = 4096
+SET_PIPE_SIZE = 1031    # Linux: F_SETPIPE_SZ, which Python names from 3.10 on
+
+
+class Ended:
+    def __init__(self, status, output, errors):
+        self.status = status
+        self.output = output            # bytes
+        self.errors = errors            # text of standard error
+
+
+def start(words, **options):
+    """Starts a command, with options of subprocess.run, and waits for it."""
+    if "input" not in options:
+        options.setdefault("stdin", subprocess.DEVNULL)
+    options.setdefault("stdout", subprocess.PIPE)
+    done = subprocess.run([str(word) for word in words], timeout=LIMIT,
+                          stderr=subprocess.PIPE, **options)
+    return Ended(done.returncode, done.stdout,
+                 done.stderr.decode(errors="replace"))
+
+
+def into_full_pipe(words, **options):
+    """How a command ends whose output goes to a small pipe that doesn't wait
+    and that nobody reads meanwhile; its output is what stands there then."""
+    reader, writer = os.pipe()
+    fcntl.fcntl(writer, SET_PIPE_SIZE, PIPE_SIZE)
+    os.set_blocking(writer, False)
+    ended = start(words, stdout=writer, **options)
+    os.close(writer)
+    with os.fdopen(reader, "rb") as pipe:
+        ended.output = pipe.read()
+    return ended
+
+
+def redirected(redirection, *words):
+    """The words of a command that sh starts with a redirection."""
+    return ["sh", "-c", 'exec "$@" ' + redirection, "sh", *words]
+
+
+def trouble(ended, status=0, output=None, says=None):
+    """What is wrong, or None.  With `says` standard error has to be one line
+    with these words; else it has to be empty."""
+    if ended.status != status:
+        return "status %d for %d: %s" % (ended.status, status,
+                                         ended.errors[-300:])
+    if output is not None and ended.output != output:
+        return "other output: %r" % ended.output[:60]
+    lines = ended.errors.splitlines()
+    if says is None and lines:
+        return "wrote on standard error: %s" % ended.errors[:300]
+    if says is not None and (len(lines) != 1 or says not in lines[0]):
+        return "no line with %r: %s" % (says, ended.errors[:300])
+    return None

@@ -1,0 +1,159 @@
+"""./play on files: what it plays, what is refused, and what is no file."""
+
+import os
+import select
+import subprocess
+
+import call_bytes
+from edges import refusals_page
+from edges.edge_maker import BASE
+from front_door.command import LIMIT, ROOT, redirected, start, trouble
+from front_door.play_tree import (
+    ACCEPTED, LISTING, NOT_PLAYED, REFUSED, named)
+
+# ---- files that can be played
+
+def dense_flight(tree):
+    with open(tree.root / "flights/dense", "rb") as source:
+        listing = start([tree.program], stdin=source).output
+    return trouble(tree.start(cwd="/"), output=listing)
+
+
+def a_file(tree):
+    return trouble(tree.start(tree.calls), output=LISTING)
+
+
+def odd_names(tree):
+    """Blanks, a quote, and a minus in front."""
+    for name in ("a 'b' c", "-x"):
+        tree.write(name, ACCEPTED)
+        wrong = trouble(tree.start("--", name, cwd=tree.root), output=LISTING)
+        if wrong:
+            return wrong
+    return None
+
+
+def standard_input(tree):
+    return trouble(tree.start("-", input=ACCEPTED), output=LISTING)
+
+
+def symlink_to_play(tree):
+    """A symlink to a symlink, one of them relative, from another folder."""
+    folder = tree.root.parent
+    os.symlink("tree/play", folder / "first")
+    os.symlink(folder / "first", folder / "second")
+    return trouble(start([folder / "second", tree.calls], cwd="/"),
+                   output=LISTING)
+
+
+def closed_input_not_needed(tree):
+    words = redirected("<&-", tree.play, tree.calls)
+    return trouble(start(words), output=LISTING)
+
+
+def line_of(process):
+    """The next line of a process, or nothing if it takes too long."""
+    ready = select.select([process.stdout], [], [], LIMIT)[0]
+    return process.stdout.readline() if ready else b""
+
+
+def streamed(tree):
+    """Each line comes while the input is still open."""
+    process = subprocess.Popen([tree.play, "-"], stdin=subprocess.PIPE,
+                               stdout=subprocess.PIPE, bufsize=0)
+    lines = []
+    for piece in [BASE] + 3 * [call_bytes.TICK]:
+        process.stdin.write(piece)
+        lines.append(line_of(process))
+        if not lines[-1]:
+            break
+    process.stdin.close()
+    rest = process.stdout.read()
+    process.stdout.close()
+    status = process.wait(timeout=LIMIT)
+    right = lines == [b"P 0\n"] + 3 * [b"T -\n"] and not rest and not status
+    return None if right else "status %d, %r, then %r" % (status, lines, rest)
+
+
+# ---- plans that are refused
+
+def refused_plans(tree):
+    """Status 1, and the words of docs/REFUSALS.md."""
+    for number, data, last in refusals_page.examples():
+        if last.startswith("P"):
+            wrong = trouble(tree.start("-", input=data), REFUSED,
+                            last.encode() + b"\n",
+                            "standard input is refused with %d: " % number)
+            if wrong:
+                return "refusal %d: %s" % (number, wrong)
+    return None
+
+
+def text_file(tree):
+    return trouble(tree.start(ROOT / "README.md"), REFUSED, b"P 1\n",
+                   "README.md' is refused with 1: the plan has fewer than")
+
+
+def play_itself(tree):
+    """A symlink to play as the file: it is text too."""
+    os.symlink(tree.play, tree.root / "itself")
+    return trouble(tree.start(tree.root / "itself"), REFUSED, b"P 1\n",
+                   "itself' is refused with 1")
+
+
+def empty_file(tree):
+    return trouble(tree.start("-", input=b""), REFUSED, b"P 1\n",
+                   "standard input is refused with 1")
+
+
+# ---- what can't be played
+
+def directory(tree):
+    return trouble(tree.start(tree.root), NOT_PLAYED, b"", "is a directory")
+
+
+def missing_file(tree):
+    return trouble(tree.start("nowhere"), NOT_PLAYED, b"",
+                   "there is no file 'nowhere'")
+
+
+def extra_arguments(tree):
+    return trouble(tree.start(tree.calls, tree.calls), NOT_PLAYED, b"",
+                   "one file is played at a time")
+
+
+def unknown_option(tree):
+    return trouble(tree.start("--fast"), NOT_PLAYED, b"",
+                   "there is no option '--fast'")
+
+
+def closed_input(tree):
+    return trouble(start(redirected("<&-", tree.play, "-")), NOT_PLAYED, b"",
+                   "standard input is closed")
+
+
+def version(tree):
+    """Also where there is neither git nor rt."""
+    tree.only_tools()
+    return trouble(tree.start("--version"), output=(
+        b"Nazgolv, commit unknown\nkit unknown\n"
+        b"program target/bin/domelink is built\n"))
+
+
+def help_page(tree):
+    ended = tree.start("--help")
+    return trouble(ended) or (
+        b"Exit status" not in ended.output and "no word on the status")
+
+
+TESTS = (
+    dense_flight, a_file, odd_names, standard_input, symlink_to_play,
+    closed_input_not_needed, streamed,
+    refused_plans, text_file, play_itself, empty_file,
+    directory, missing_file, extra_arguments, unknown_option, closed_input,
+    version, help_page,
+)
+
+
+def tests(program):
+    return named(TESTS, program)

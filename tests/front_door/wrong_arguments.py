@@ -1,0 +1,63 @@
+"""tests/run and bench/run with something wrong: one sentence, status 2."""
+
+import os
+import sys
+import tempfile
+
+from front_door.command import ROOT, start, trouble
+
+MISSING = os.path.join(os.sep, "nowhere", "calls")
+
+# Arguments of tests/run, and words of the sentence.
+TESTS_RUN = [
+    (["-5"], "COUNT"),
+    (["many"], "COUNT"),
+    (["1", "-1"], "SEED"),
+    (["1", "2", "3"], "unrecognized"),
+    (["--unknown"], "unrecognized"),
+    (["--simulate", MISSING], MISSING + " can't be read"),
+    (["--simulate", os.sep], "can't be read"),
+    (["--write", "-1", MISSING], "a seed has to be"),
+    (["--write", "1", MISSING], MISSING + " can't be written"),
+    (["--program", MISSING], "no program at " + MISSING),
+    (["--program", os.sep], "no program at " + os.sep),
+]
+BENCH_RUN = [
+    (["0"], "ROUNDS"),
+    (["-3"], "ROUNDS"),
+    (["few"], "ROUNDS"),
+    (["1", "0"], "COUNT"),
+    (["1", "2", "3"], "unrecognized"),
+    (["--unknown"], "unrecognized"),
+]
+
+
+def refused(script, arguments, says, **options):
+    """What is wrong with how a script refuses its arguments, or None."""
+    ended = start([sys.executable, ROOT / script, *arguments], **options)
+    return trouble(ended, status=2, output=b"",
+                   says="%s: " % script) or trouble(
+                       ended, status=2, says=says)
+
+
+def without(*commands):
+    """bench/run where some commands are missing."""
+    with tempfile.TemporaryDirectory() as folder:
+        for command in {"rustc", "rt"} - set(commands):
+            os.symlink(sys.executable, os.path.join(folder, command))
+        return refused("bench/run", [], commands[0] + " is not on",
+                       env=dict(os.environ, PATH=folder))
+
+
+def tests(program):
+    for script, table in (("tests/run", TESTS_RUN), ("bench/run", BENCH_RUN)):
+        for arguments, says in table:
+            yield (" ".join([script, *arguments]),
+                   lambda script=script, arguments=arguments, says=says:
+                   refused(script, arguments, says))
+    yield "bench/run without rustc", lambda: without("rustc")
+    yield "bench/run without rt", lambda: without("rt")
+    yield ("tests/run --only with no such test",
+           lambda: refused("tests/run", ["--program", program, "0",
+                                         "--only", "no such test"],
+                           "no test has"))

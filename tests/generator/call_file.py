@@ -1,0 +1,85 @@
+"""A call file under construction, played on a link while it is written.
+
+The link tells what each call answered, so that later calls can follow it:
+ask until refused, give back a cell that was really taken, and so on.
+"""
+
+import call_bytes
+from simulator.calls import answer
+from simulator.link import Link
+from simulator.plan import read_plan
+from simulator.records import read_record
+
+
+class CallFile:
+    def __init__(self, draft):
+        plan_bytes = draft.data()
+        refusal, self.plan = read_plan(plan_bytes)
+        if refusal:
+            raise ValueError("a good plan was meant, refusal %d" % refusal)
+        self.written = [plan_bytes]         # and then each record
+        self.link = Link(self.plan)
+        self.flows = self.plan.flows
+        self.slots = self.plan.slots
+        self.quantum = [0] * self.flows
+        # Granted slots of each flow, in the order of the grants.
+        self.grants = [[] for _ in range(self.flows)]
+
+    def data(self):
+        return b"".join(self.written)
+
+    def calls(self):
+        return len(self.written) - 1
+
+    def record(self, record):
+        """Writes a record and plays it: the letter and number of its line."""
+        self.written.append(record)
+        letter, number = answer(self.link, read_record(record))
+        if letter == "G":
+            flow = int.from_bytes(record[1:5], "little") >> 20 & 63
+            self.grants[flow].append(self.link.slot_of(number))
+        return letter, number
+
+    def last_bytes(self, rest):
+        """Writes bytes that are no whole record, at the file's end."""
+        self.written.append(rest)
+
+    # ---- well-formed calls
+
+    def ask(self, flow, departure=None):
+        """A request with the flow's next quantum.  The slot, or None."""
+        if departure is None:
+            departure = self.link.ticks % self.slots
+        letter, number = self.record(call_bytes.request(
+            self.plan.destination(flow), flow, self.quantum[flow], departure))
+        if letter == "R":
+            return None
+        self.quantum[flow] = (self.quantum[flow] + 1) % 1024
+        return self.grants[flow][-1]
+
+    def give(self, flow, slot):
+        """A credit dated a slot.  Whether it was taken."""
+        return self.record(
+            call_bytes.credit(flow, slot % self.slots))[0] == "C"
+
+    def tick(self):
+        """The flow that the slot came up for, or None."""
+        number = self.record(call_bytes.TICK)[1]
+        return None if number == "-" else number
+
+    # ---- where things stand
+
+    def now(self):
+        return self.link.ticks
+
+    def last_slot(self):
+        """The last slot of the window."""
+        return (self.link.newest_frame() + 1) * self.plan.frame_slots - 1
+
+    def later_slot(self, dice):
+        """Some slot after the current one, in the window."""
+        return dice.between(self.now() + 1, self.last_slot())
+
+    def date(self, slot):
+        """The slot, or the nearest to it that is to come in the window."""
+        return min(max(slot, self.now() + 1), self.last_slot())
