@@ -28,4 +28,8 @@ def credit(flow, position, filler=0):
     return struct.pack("<BBHB", 2, flow, position, filler)
 
 
+def lend(mask, fillers=(0, 0)):
+    return struct.pack("<BHBB", 4, mask, *fillers)
+
+
 TICK = bytes([3, 0, 0, 0, 0])

@@ -1,5 +1,6 @@
 //! Plays a call file: reads a plan and 5-byte call records from standard input
-//! and writes one line for each to standard output.
+//! and writes one line for each to standard output. Records have three kinds;
+//! `allcalls.rs` has lends too.
 
 #[allow(dead_code)]
 mod scheduler;
@@ -38,6 +39,7 @@ struct Lines {
     credited: Line,
     flow: Vec<Line>,
     idle: Line,
+    lent: Vec<Line>,
     refused: Vec<Line>,
 }
 
@@ -52,13 +54,15 @@ impl Lines {
             credited: Line::new("C\n"),
             flow: numbered('T', scheduler::MOST_FLOWS),
             idle: Line::new("T -\n"),
-            refused: numbered('R', usize::from(refusal::RECORD) + 1),
+            lent: numbered('L', scheduler::MOST_FLOWS),
+            refused: numbered('R', usize::from(refusal::NO_FLOW) + 1),
         }
     }
 
-    /// Makes the call of one record and picks the line that answers it.
+    /// Makes the call of one record and picks the line that answers it. Where
+    /// `LENDS` is true, kind 4 is a lend.
     #[inline]
-    fn answer(&self, link: &mut Link, record: &[u8; RECORD]) -> Line {
+    fn answer<const LENDS: bool>(&self, link: &mut Link, record: &[u8; RECORD]) -> Line {
         let answer = match *record {
             [1, a, b, c, d] => link
                 .request(u32::from_le_bytes([a, b, c, d]))
@@ -69,6 +73,9 @@ impl Lines {
             [3, 0, 0, 0, 0] => Ok(link
                 .tick()
                 .map_or(self.idle, |flow| self.flow[usize::from(flow)])),
+            [4, low, high, 0, 0] if LENDS => link
+                .lend(u16::from_le_bytes([low, high]))
+                .map(|flow| self.lent[usize::from(flow)]),
             _ => Err(refusal::RECORD),
         };
         answer.unwrap_or_else(|number| self.refused[usize::from(number)])
@@ -91,7 +98,11 @@ fn read_plan(input: &mut impl Read) -> io::Result<Result<Plan, u8>> {
 }
 
 /// Plays the records after the plan, chunk by chunk.
-fn play_calls(link: &mut Link, input: &mut impl Read, output: &mut impl Write) -> io::Result<()> {
+fn play_calls<const LENDS: bool>(
+    link: &mut Link,
+    input: &mut impl Read,
+    output: &mut impl Write,
+) -> io::Result<()> {
     let lines = Lines::new();
     let mut chunk = vec![0; CHUNK];
     let mut listing = vec![0; (CHUNK / RECORD + 1) * LINE];
@@ -109,7 +120,7 @@ fn play_calls(link: &mut Link, input: &mut impl Read, output: &mut impl Write) -
         begun = records.remainder().len();
         for record in records {
             let record = record.try_into().expect("a record has five bytes");
-            let line = lines.answer(link, record);
+            let line = lines.answer::<LENDS>(link, record);
             listing[end..end + LINE].copy_from_slice(&line.bytes);
             end += line.length;
         }
@@ -122,15 +133,20 @@ fn play_calls(link: &mut Link, input: &mut impl Read, output: &mut impl Write) -
     Ok(())
 }
 
-fn main() -> io::Result<()> {
+/// Plays standard input.
+pub fn play<const LENDS: bool>() -> io::Result<()> {
     let mut input = io::stdin().lock();
     let mut output = io::stdout().lock();
     match read_plan(&mut input)? {
         Err(number) => writeln!(output, "P {number}")?,
         Ok(plan) => {
             writeln!(output, "P 0")?;
-            play_calls(&mut Link::fresh(&plan), &mut input, &mut output)?;
+            play_calls::<LENDS>(&mut Link::fresh(&plan), &mut input, &mut output)?;
         }
     }
     output.flush()
+}
+
+fn main() -> io::Result<()> {
+    play::<false>()
 }

@@ -41,6 +41,8 @@ pub mod refusal {
     pub const POSITION_PAST: u8 = 14;
     pub const NOTHING_HELD: u8 = 15;
     pub const RECORD: u8 = 16;
+    pub const SLOT_TAKEN: u8 = 17;
+    pub const NO_FLOW: u8 = 18;
 }
 
 /// One flow of the plan.
@@ -302,6 +304,8 @@ struct Table {
     free: [u64; MOST_FRAMES],
     /// The flow that booked each position, or `NOBODY`.
     owner: [u8; MOST_POSITIONS],
+    /// The flow that has the current slot, booked or lent, or `NOBODY`.
+    holder: u8,
 }
 
 /// One output link.
@@ -323,6 +327,7 @@ impl Table {
             slot: 0,
             free,
             owner: [NOBODY; MOST_POSITIONS],
+            holder: NOBODY,
         }
     }
 
@@ -454,7 +459,30 @@ impl Link {
         table.free[0] &= !(1 << table.slot);
         // Nobody asks for a past position, so it can be emptied ahead of its frame.
         let owner = std::mem::replace(&mut table.owner[table.start + table.slot], NOBODY);
+        table.holder = owner;
         (owner != NOBODY).then_some(owner)
+    }
+
+    /// Lends the current slot, if nobody has it, to a flow of the mask that has
+    /// a cell free from now on. Bit i of the mask is for flow i; of several
+    /// flows the lowest gets the slot. The answer is the flow.
+    pub fn lend(&mut self, mask: u16) -> Result<u8, u8> {
+        if u32::from(mask) >> self.flows.len() != 0 {
+            return Err(refusal::FLOW);
+        }
+        if self.table.holder != NOBODY {
+            return Err(refusal::SLOT_TAKEN);
+        }
+        let now = self.table.slot;
+        let can_take = |flow: &Flow| flow.held.last_with(flow.cells, now).is_none();
+        let mut flows = self.flows.iter_mut().enumerate();
+        let taker = flows.find(|(i, flow)| mask >> i & 1 == 1 && can_take(flow));
+        let Some((number, flow)) = taker else {
+            return Err(refusal::NO_FLOW);
+        };
+        flow.held.raise(now);
+        self.table.holder = number as u8;
+        Ok(number as u8)
     }
 
     /// A frame change.
@@ -659,5 +687,51 @@ mod tests {
         assert_eq!(ask(&mut link, 0), Ok(1));
         assert_eq!([link.tick(), link.tick()], [None, None]);
         assert_eq!(link.tick(), Some(0));
+    }
+
+    #[test]
+    fn lent_slots_are_taken_until_the_tick() {
+        let mut link = fresh(4, 2, 4, &PAIR);
+        assert_eq!([link.lend(1), link.lend(2)], [Ok(0), Err(17)]);
+        assert_eq!(ask(&mut link, 0), Ok(1));
+        assert_eq!(link.lend(2), Err(17));
+        assert_eq!([link.tick(), link.tick()], [Some(0), None]);
+        assert_eq!([link.lend(2), link.lend(2)], [Ok(1), Err(17)]);
+        assert_eq!(link.tick(), None);
+        assert_eq!(link.tick(), None);
+        // The head frame is new, and slot 4 is nobody's.
+        assert_eq!([link.lend(1), link.lend(2)], [Err(18), Ok(1)]);
+    }
+
+    #[test]
+    fn lend_refusals() {
+        let mut link = fresh(4, 2, 4, &PAIR);
+        assert_eq!([link.lend(4), link.lend(0xFFFF)], [Err(8); 2]);
+        assert_eq!(link.lend(0), Err(18));
+        assert_eq!([ask(&mut link, 0), ask(&mut link, 0)], [Ok(1), Ok(2)]);
+        // Flow 0 holds nothing yet, but both cells later on.
+        assert_eq!(link.lend(1), Err(18));
+        assert_eq!(link.tick(), Some(0));
+        assert_eq!([link.lend(4), link.lend(3)], [Err(8), Err(17)]);
+        assert_eq!([link.tick(), link.tick()], [Some(0), None]);
+        // Both are held now, and one from the next slot on.
+        assert_eq!(link.credit(0, 4), Ok(()));
+        assert_eq!(link.lend(1), Err(18));
+        assert_eq!(link.tick(), None);
+        assert_eq!([link.lend(1), link.lend(1)], [Ok(0), Err(17)]);
+    }
+
+    #[test]
+    fn lent_cells_are_held() {
+        let mut link = fresh(4, 2, 4, &PAIR);
+        assert_eq!(link.lend(3), Ok(0));
+        // The share is still whole, and one cell is left.
+        assert_eq!([ask(&mut link, 0), ask(&mut link, 0)], [Ok(1), Err(12)]);
+        assert_eq!(link.credit(0, 0), Err(14));
+        assert_eq!(link.credit(0, 1), Ok(()));
+        // A lent slot doesn't come up when its position comes again.
+        assert_eq!(link.tick(), Some(0));
+        assert!((0..8).all(|_| link.tick().is_none()));
+        assert_eq!(link.lend(1), Ok(0));
     }
 }

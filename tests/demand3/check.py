@@ -1,8 +1,9 @@
 """The verdict on a listing: demand 3 checked from it and its call file alone.
 
-The check follows document 01, "What demand 3 counts".  It shares no code with
-the simulator and keeps no table of the link: it writes down which slots the
-listing grants and which credits it takes, and counts them.
+The check follows document 01, "What demand 3 counts", and document 02 for its
+calls.  It shares no code with the simulator and keeps no table of the link: it
+writes down which slots the listing grants or lends and which credits it takes,
+and counts them.
 """
 
 import re
@@ -16,6 +17,10 @@ DOMELINK = {
     1: ((), re.compile(r"(G|R) (\d+)\Z"), History.request),
     2: ((4,), re.compile(r"(C)()\Z|(R) (\d+)\Z"), History.credit),
     3: ((1, 2, 3, 4), re.compile(r"(T) (\d+|-)\Z"), History.tick),
+}
+ALLCALLS = {
+    **DOMELINK,
+    4: ((3, 4), re.compile(r"(L|R) (\d+)\Z"), History.lend),
 }
 REFUSED = re.compile(r"R (\d+)\Z")
 

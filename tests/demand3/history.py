@@ -1,17 +1,22 @@
-"""The grants, credits and ticks that a listing tells of, and the bullets of
-demand 3 counted over them."""
+"""The grants, credits, lends and ticks that a listing tells of, and the
+bullets of demand 3 counted over them."""
 
 import struct
+from collections import Counter
+
+from demand3.lend_ways import way
 
 
 class Verdict:
-    """What was found: faults as text; grants and taken credits seen; and per
-    flow the largest k at which the least count was put to the test."""
+    """What was found: faults as text; grants and taken credits seen; how the
+    lends ended; and per flow the largest k at which the least count was put
+    to the test."""
 
     def __init__(self):
         self.faults = []
         self.grants = 0
         self.credits = 0
+        self.lends = Counter()
         self.least = {}
 
     def largest_k(self):
@@ -31,6 +36,7 @@ class History:
         self.destination = [entry[3] for entry in entries]
         self.now = 0                        # the current slot
         self.owner = {}                     # granted slot -> flow
+        self.lent = {}                      # lent slot -> flow
         self.in_frame = {}                  # (flow, frame) -> granted slots
         self.count = [0] * self.flows       # granted slots in all
         self.held = [0] * self.flows        # held at the current slot
@@ -51,6 +57,10 @@ class History:
     def slot_after_now(self, position):
         """Where this position comes next."""
         return self.now + 1 + (position - self.now - 1) % self.total
+
+    def taken(self):
+        """Whether the current slot has an owner."""
+        return self.now in self.owner or self.now in self.lent
 
     def levels(self, flow):
         """What the flow holds, slot by slot where it changes, from now on."""
@@ -83,6 +93,17 @@ class History:
         if slot in self.owner:
             self.fault("slot %d granted to %d and to %d"
                        % (slot, self.owner[slot], flow))
+
+    def check_lent(self, flow, mask):
+        """A lent slot has no other owner, and its flow is in the mask."""
+        if not mask >> flow & 1:
+            self.fault("lent to %d, which is not in mask %#x" % (flow, mask))
+        if self.now in self.owner:
+            self.fault("slot %d granted to %d and lent to %d"
+                       % (self.now, self.owner[self.now], flow))
+        if self.now in self.lent:
+            self.fault("slot %d lent to %d and to %d"
+                       % (self.now, self.lent[self.now], flow))
 
     def check_most(self, flow, slot):
         """At most the share in a frame, and (W + k) times it in all."""
@@ -156,6 +177,21 @@ class History:
             return
         self.verdict.credits += 1
         self.move(flow, self.slot_after_now(position), -1)
+
+    def lend(self, record, letter, number):
+        """A lent slot counts in what is held, and in no count of grants."""
+        mask = struct.unpack_from("<H", record, 1)[0]
+        self.verdict.lends[way(self, mask, letter, number)] += 1
+        if letter != "L":
+            return
+        flow = int(number)
+        if flow >= self.flows:
+            self.fault("a lend to flow %d, which the plan has not" % flow)
+            return
+        self.check_lent(flow, mask)
+        self.lent[self.now] = flow
+        self.held[flow] += 1
+        self.check_levels(flow)
 
     def tick(self, record, letter, number):
         """A slot comes up for its owner, or idle if it has none."""

@@ -1,10 +1,12 @@
-"""Listings that the check of demand 3 has to send back, and one it must not.
+"""Listings that the check of demand 3 has to send back, and some it must not.
 
 Each is a call file with a listing that no right link gives, and words of the
 fault that the check has to name.  Some follow document 01, "Link cards we
 would send back"; the others break one bullet each.
 """
 
+from demand3 import wrong_lends
+from demand3.check import ALLCALLS, check
 from edges.edge_maker import TICK, ask, credit, edge, plan
 
 ONE = plan(2, 2, (1, 3))            # F = 2, W = 2, share 1, 3 cells
@@ -69,14 +71,29 @@ RIGHT = edge(
         (TICK, "T 0"), (ask(0), "G %d" % ((k + 1) % 2)), (ask(0), "R 11"))])
 
 
-def missed(check):
+def sent_back(wrong, words, *kinds):
+    """What went wrong with a listing that has to be sent back, or None."""
+    faults = check(wrong.data, wrong.lines, *kinds).faults
+    found = any(words in fault for fault in faults)
+    return None if found else "not sent back: %r" % faults
+
+
+def passed(right, least, *kinds):
+    """The same for a right one, with the least count tried as far as this."""
+    verdict = check(right.data, right.lines, *kinds)
+    if verdict.faults or verdict.least != least:
+        return "sent back: %r, %r" % (verdict.faults, verdict.least)
+    return None
+
+
+def missed():
     """(name, what went wrong or None) for each listing."""
     for wrong, words in WRONG:
-        faults = check(wrong.data, wrong.lines).faults
-        found = any(words in fault for fault in faults)
-        yield wrong.name, None if found else "not sent back: %r" % faults
+        yield wrong.name, sent_back(wrong, words)
     cut = check(RIGHT.data, RIGHT.lines[:-1]).faults
     yield "a line is missing", None if cut else "not sent back"
-    verdict = check(RIGHT.data, RIGHT.lines)
-    right = not verdict.faults and verdict.least == {0: 9}
-    yield RIGHT.name, None if right else "sent back: %r" % verdict.faults
+    yield RIGHT.name, passed(RIGHT, {0: 9})
+    for wrong, words in wrong_lends.WRONG:
+        yield wrong.name, sent_back(wrong, words, ALLCALLS)
+    for right, least in wrong_lends.RIGHT:
+        yield right.name, passed(right, least, ALLCALLS)

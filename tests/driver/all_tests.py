@@ -4,11 +4,12 @@ import itertools
 import tempfile
 
 from demand3 import wrong_listings
-from demand3.check import check
 from driver import cases, plain_rust
-from driver.suite import NUMBERS, Suite
-from edges import refusals_page
-from edges.all_edges import EDGES
+from driver.formats import ALLCALLS
+from driver.suite import Suite
+from driver.tally import LendTally, Tally
+from edges import open_choice, refusals_page
+from edges.all_edges import EDGES, LEND_EDGES
 from front_door import (
     play_files, play_lost_output, play_old_program, slow_reader,
     wrong_arguments)
@@ -24,17 +25,23 @@ def wanted(names, only):
 
 def listings():
     """The check of demand 3 sends back what it has to."""
-    for name, trouble in wrong_listings.missed(check):
+    for name, trouble in wrong_listings.missed():
         yield "listing: " + name, trouble
+
+
+def choices():
+    """The simulator goes on from a right choice, and from no other."""
+    for name, trouble in open_choice.missed():
+        yield "choice: " + name, trouble
 
 
 def tables():
     """The page has each refusal, and each edge a name of its own."""
-    numbers = {number for number, _, _ in refusals_page.examples()}
-    missing = sorted(set(NUMBERS) - numbers)
+    rows = refusals_page.examples() + refusals_page.examples(allcalls=True)
+    missing = sorted(set(ALLCALLS.refusals) - {row[0] for row in rows})
     yield ("docs: every refusal has an input",
            missing and "none for %s" % missing)
-    names = [edge.name for edge in EDGES]
+    names = [edge.name for edge in EDGES + LEND_EDGES]
     twice = sorted({name for name in names if names.count(name) > 1})
     yield "edge: no name stands twice", twice and ", ".join(twice)
 
@@ -42,7 +49,8 @@ def tables():
 def without_program(only):
     """The suite of what the tests themselves have to be."""
     suite = Suite("tests")
-    for name, trouble in wanted(itertools.chain(listings(), tables()), only):
+    tests = itertools.chain(listings(), choices(), tables())
+    for name, trouble in wanted(tests, only):
         suite.test(name, trouble)
     return suite
 
@@ -56,59 +64,54 @@ def front_door(program, only):
     return suite
 
 
-class Tally:
-    """What was generated, for the summary."""
-
-    def __init__(self):
-        self.files = 0
-        self.calls = 0
-        self.met = 0            # files that met the least count's premise
-        self.met_later = 0      # the same with k of 2 and more
-
-    def add(self, case):
-        self.files += 1
-        self.calls += len(case.lines) - 1
-        self.met += case.verdict.largest_k() >= 0
-        self.met_later += case.verdict.largest_k() >= 2
-
-    def text(self):
-        return ("%d generated files with %d calls; the premise of the least "
-                "count is met by %d files, by %d with k of 2 and more"
-                % (self.files, self.calls, self.met, self.met_later))
-
-
-def play_through(suites, name, case):
-    for suite in suites:
-        suite.play(name, case)
+def play_cases(suites, names, only, tally=None):
+    """Each case through each program."""
+    for name, make in wanted(names, only):
+        case = make()
+        if tally:
+            tally.add(case)
+        for suite in suites:
+            suite.play(name, case)
 
 
 def play_files(suites, only, count, seed):
-    """Each file through each program, and the totals if nothing is left out.
-    The tally of the generated files."""
-    fixed = itertools.chain(cases.edges(), cases.page(), cases.in_pieces(seed))
-    for name, make in wanted(fixed, only):
-        play_through(suites, name, make())
+    """Files without lends.  The tally of the generated ones."""
     tally = Tally()
-    for name, make in wanted(cases.seeds(count, seed), only):
-        case = make()
-        tally.add(case)
-        play_through(suites, name, case)
-    for suite in suites:
-        if not only:
-            suite.totals()
+    play_cases(suites, cases.edges(), only)
+    play_cases(suites, cases.page(), only)
+    play_cases(suites, cases.in_pieces(seed), only)
+    play_cases(suites, cases.seeds(count, seed), only, tally)
     return tally
 
 
-def play_all(suite, only, count, seed):
-    """All tests, those of the suite's program first.  The suites and the
-    tally."""
-    apart = [without_program(only), front_door(suite.program, only)]
+def play_lends(suites, only, count, seed):
+    """Files with lends.  The tally of the generated ones."""
+    tally = LendTally()
+    play_cases(suites, cases.lend_edges(), only)
+    play_cases(suites, cases.page(ALLCALLS), only)
+    play_cases(suites, cases.lends_in_pieces(seed), only)
+    play_cases(suites, cases.lends(count, seed), only, tally)
+    return tally
+
+
+def play_programs(suites, only, count, seed):
+    """Each file through each program that reads it, and the totals if nothing
+    is left out.  The tallies."""
+    lending = [suite for suite in suites if suite.form is ALLCALLS]
+    tallies = [play_files(suites, only, count, seed)]
+    if lending:
+        tallies.append(play_lends(lending, only, count, seed))
+    for suite in suites:
+        if not only:
+            suite.totals()
+    return tallies
+
+
+def play_all(domelink, allcalls, only, count, seed):
+    """All tests, those of the programs first.  The suites and the tallies."""
+    apart = [without_program(only), front_door(domelink.command[0], only)]
     with tempfile.TemporaryDirectory() as folder:
-        programs = [suite]
-        if plain_rust.has_rustc():
-            programs.append(plain_rust.plain_rust(folder, only))
-        else:
-            print("rustc is not on this machine: plain Rust is not played")
-        tally = play_files([suite for suite in programs if suite.program],
-                           only, count, seed)
-    return programs + apart, tally
+        programs = [domelink, allcalls, *plain_rust.suites(folder, only)]
+        tallies = play_programs(
+            [suite for suite in programs if suite.command], only, count, seed)
+    return programs + apart, tallies

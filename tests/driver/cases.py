@@ -1,36 +1,63 @@
 """Call files with their right listings, to be played through programs: the
 edges, the inputs of docs/REFUSALS.md, files in pieces, and generated files.
 
-Each function yields names, and with each name how the case is made.
+Each function yields names, and with each name how the case is made.  Those
+with lends are for programs that read allcalls' records, the others for all.
 """
 
 from demand3.check import check
+from driver.formats import ALLCALLS, DOMELINK, has_lends
 from edges import refusals_page
-from edges.all_edges import EDGES
+from edges.all_edges import EDGES, LEND_EDGES
+from generator import lend_seeds
 from generator.seeds import generate, kind_of
 from simulator.listing import simulate
 
 PIECES = (1, 2, 3, 4, 7, 64)    # bytes at a time
 IN_PIECES = ("the listing of document 01", "a last record of 3 bytes",
              "plan: 19 bytes that say 20")
+LENDS_IN_PIECES = ("lend: 17 at a lent and at a booked slot",
+                   "lend: a last record of 4 bytes")
 FEW = 4000                      # bytes of a file that is fed in pieces
 
 
-class Case:
-    def __init__(self, data, lines, size=None, trouble=None):
-        self.data = data
+class Right:
+    """A right listing of a call file."""
+
+    def __init__(self, data, lines, form):
         self.lines = lines
+        self.listing = "".join(line + "\n" for line in lines).encode()
+        self.verdict = check(data, lines, form.checked)     # on demand 3
+
+
+class Case:
+    def __init__(self, data, lines, size=None, trouble=None, form=DOMELINK):
+        self.data = data
         self.size = size            # bytes of a piece, or None for whole
         self.trouble = trouble      # what is wrong before anything is played
-        self.listing = "".join(line + "\n" for line in lines).encode()
-        self.verdict = check(data, lines)       # on demand 3
+        self.own = Right(data, lines, form)
+        self.known = {form: self.own}
+
+    def right(self, form):
+        """The right listing, with the lowest flow at each lend.  A file
+        without lends has one listing, whatever the program."""
+        if form not in self.known:
+            self.known[form] = (self.following(form) if has_lends(self.data)
+                                else self.own)
+        return self.known[form]
+
+    def following(self, form, heard=()):
+        """The right listing with a program's choices where it has a choice."""
+        return Right(self.data, simulate(self.data, form.kinds, heard), form)
 
 
-def from_edge(edge, size=None):
+# ---- files for every program
+
+def from_edge(edge, size=None, form=DOMELINK):
     """The simulator has to give the hand-made listing too."""
-    lines = simulate(edge.data)
+    lines = simulate(edge.data, form.kinds)
     differs = lines != edge.lines and "the simulator gives %s" % lines[-9:]
-    return Case(edge.data, edge.lines, size, differs)
+    return Case(edge.data, edge.lines, size, differs, form)
 
 
 def edges():
@@ -38,17 +65,18 @@ def edges():
         yield "edge: " + edge.name, lambda edge=edge: from_edge(edge)
 
 
-def from_page(data, last):
-    lines = simulate(data)
-    return Case(data, lines,
-                trouble=lines[-1] != last and "ends in " + lines[-1])
+def from_page(data, last, form):
+    lines = simulate(data, form.kinds)
+    differs = lines[-1] != last and "ends in " + lines[-1]
+    return Case(data, lines, None, differs, form)
 
 
-def page():
+def page(form=DOMELINK):
     """Each input of docs/REFUSALS.md ends in the line beside it."""
-    for number, data, last in refusals_page.examples():
-        yield ("docs: refusal %d" % number,
-               lambda data=data, last=last: from_page(data, last))
+    kind = " of a lend" if form is ALLCALLS else ""
+    for number, data, last in refusals_page.examples(form is ALLCALLS):
+        yield ("docs: refusal %d%s" % (number, kind),
+               lambda data=data, last=last: from_page(data, last, form))
 
 
 def small_seeds(seed):
@@ -59,13 +87,18 @@ def small_seeds(seed):
         seed += 1
 
 
+def edges_in_pieces(names, edges, form):
+    named = {edge.name: edge for edge in edges}
+    for size in PIECES:
+        for name in names:
+            yield ("edge: %s in pieces of %d" % (name, size),
+                   lambda edge=named[name], size=size:
+                   from_edge(edge, size, form))
+
+
 def in_pieces(seed):
     """Some edges and some small generated files."""
-    named = {edge.name: edge for edge in EDGES}
-    for size in PIECES:
-        for name in IN_PIECES:
-            yield ("edge: %s in pieces of %d" % (name, size),
-                   lambda name=name, size=size: from_edge(named[name], size))
+    yield from edges_in_pieces(IN_PIECES, EDGES, DOMELINK)
     for size, number in zip(PIECES, small_seeds(seed)):
         yield ("seed %d in pieces of %d" % (number, size),
                lambda number=number, size=size: from_seed(number, size))
@@ -80,3 +113,29 @@ def seeds(count, seed):
     for number in range(seed, seed + count):
         yield ("seed %d (%s)" % (number, kind_of(number)),
                lambda number=number: from_seed(number))
+
+
+# ---- files with lends
+
+def lend_edges():
+    for edge in LEND_EDGES:
+        yield ("edge: " + edge.name,
+               lambda edge=edge: from_edge(edge, form=ALLCALLS))
+
+
+def lends_in_pieces(seed):
+    yield from edges_in_pieces(LENDS_IN_PIECES, LEND_EDGES, ALLCALLS)
+    for size, number in zip(PIECES, lend_seeds.small(seed, FEW)):
+        yield ("lends, seed %d in pieces of %d" % (number, size),
+               lambda number=number, size=size: from_lend_seed(number, size))
+
+
+def from_lend_seed(seed, size=None):
+    data = lend_seeds.generate(seed)
+    return Case(data, simulate(data, ALLCALLS.kinds), size, form=ALLCALLS)
+
+
+def lends(count, seed):
+    for number in range(seed, seed + count):
+        yield ("lends, seed %d (%s)" % (number, lend_seeds.kind_of(number)),
+               lambda number=number: from_lend_seed(number))

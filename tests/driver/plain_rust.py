@@ -4,6 +4,7 @@ its own tests."""
 import subprocess
 from pathlib import Path
 
+from driver.formats import ALLCALLS, DOMELINK
 from driver.suite import Suite
 
 SOURCES = Path(__file__).resolve().parents[2] / "docs/src"
@@ -36,14 +37,26 @@ def own_tests(suite, folder):
                build("scheduler.rs", tests, "--test") or trouble(tests))
 
 
-def plain_rust(folder, only):
-    """Its suite; the program is built in the folder if that works."""
-    suite = Suite("plain Rust")
-    if not only:
-        own_tests(suite, folder)
-    wrong = build("play.rs", folder + "/play")
+def player(folder, name, source, form):
+    """A suite; its program is built in the folder if that works."""
+    suite = Suite(name, form=form)
+    program = "%s/%s" % (folder, source)
+    wrong = build(source + ".rs", program)
     if wrong:
-        suite.test("play.rs is compiled", wrong)
+        suite.test("%s.rs is compiled" % source, wrong)
     else:
-        suite.program = folder + "/play"
+        suite.command = [program]
     return suite
+
+
+def suites(folder, only):
+    """Its suites, one for each way to read records, or none where there is
+    no rustc."""
+    if not has_rustc():
+        print("rustc is not on this machine: plain Rust is not played")
+        return []
+    plain = player(folder, "plain Rust", "play", DOMELINK)
+    if not only:
+        own_tests(plain, folder)
+    return [plain,
+            player(folder, "plain Rust allcalls", "allcalls", ALLCALLS)]

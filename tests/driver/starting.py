@@ -31,14 +31,15 @@ def trouble_of(status, errors):
     return None
 
 
-def play(program, data):
-    """Play a call file from a file on standard input."""
+def play(command, data):
+    """Play a call file from a file on standard input.  The command is the
+    program's path and its arguments."""
     with tempfile.TemporaryFile() as source:
         source.write(data)
         source.flush()
         source.seek(0)
         try:
-            done = subprocess.run([program], stdin=source, timeout=LIMIT,
+            done = subprocess.run(command, stdin=source, timeout=LIMIT,
                                   capture_output=True)
         except subprocess.TimeoutExpired:
             return Played(b"", NO_END)
@@ -66,11 +67,11 @@ def feed(process, pipe, data, size):
         pass
 
 
-def play_in_pieces(program, data, size):
+def play_in_pieces(command, data, size):
     """Play a call file through a pipe, `size` bytes at a time."""
     with tempfile.TemporaryFile() as output, \
             tempfile.TemporaryFile() as errors:
-        process = subprocess.Popen([program], stdin=subprocess.PIPE,
+        process = subprocess.Popen(command, stdin=subprocess.PIPE,
                                    stdout=output, stderr=errors, bufsize=0)
         feed(process, process.stdin.fileno(), data, size)
         process.stdin.close()

@@ -1,9 +1,12 @@
 """The tests of one program: played, counted, and a line for each failure."""
 
+from collections import Counter
+
 from demand3.check import check
+from demand3.lend_ways import WAYS
+from driver.formats import ALLCALLS, DOMELINK
 from driver.starting import NO_END, play, play_in_pieces
 
-NUMBERS = range(1, 17)          # document 01's refusals
 PATIENCE = 3                    # files without end, then the rest is left out
 
 
@@ -28,12 +31,14 @@ def first_difference(expected, got):
 
 
 class Suite:
-    def __init__(self, name, program=None):
+    def __init__(self, name, command=None, form=DOMELINK):
         self.name = name
-        self.program = program      # a path
+        self.command = command      # the program's path and its arguments
+        self.form = form            # how it reads records
         self.passed = 0
         self.failed = 0
         self.seen = set()           # refusal numbers in the listings
+        self.lends = Counter()      # how lends ended
         self.largest_k = -1         # at which the least count was tried
         self.without_end = 0
 
@@ -51,23 +56,28 @@ class Suite:
         for line in lines:
             if line[:1] in ("P", "R") and line[2:].isdecimal():
                 self.seen.add(int(line[2:]))
+        self.lends += verdict.lends
         self.largest_k = max(self.largest_k, verdict.largest_k())
+
+    def start(self, case):
+        if case.size is None:
+            return play(self.command, case.data)
+        return play_in_pieces(self.command, case.data, case.size)
 
     def play(self, name, case):
         """One file through the program: listing, end and demand 3."""
         if self.without_end >= PATIENCE:
             return
-        if case.size is None:
-            played = play(self.program, case.data)
-        else:
-            played = play_in_pieces(self.program, case.data, case.size)
-        lines, verdict = case.lines, case.verdict
-        if played.output != case.listing:
+        played = self.start(case)
+        right = case.right(self.form)
+        lines, verdict = right.lines, right.verdict
+        if played.output != right.listing:
             lines = played.output.decode("latin-1").splitlines()
-            verdict = check(case.data, lines)
+            verdict = check(case.data, lines, self.form.checked)
+            right = case.following(self.form, lines)
         self.note(lines, verdict)
         self.test(name, case.trouble,
-                  first_difference(case.listing, played.output),
+                  first_difference(right.listing, played.output),
                   played.trouble,
                   verdict.faults and "demand 3, " + verdict.faults[0])
         self.without_end += played.trouble == NO_END
@@ -78,8 +88,15 @@ class Suite:
             print("%s: gave up after %d files without end"
                   % (self.name, PATIENCE))
             return
-        missing = [number for number in NUMBERS if number not in self.seen]
+        missing = sorted(set(self.form.refusals) - self.seen)
         self.test("each refusal was seen",
                   missing and "never seen: %s" % missing)
         self.test("the least count was tried with k of 2 and more",
                   self.largest_k < 2 and "largest k %d" % self.largest_k)
+        if self.form is ALLCALLS:
+            self.lend_totals()
+
+    def lend_totals(self):
+        missing = [way for way in WAYS if not self.lends[way]]
+        self.test("lends ended in every way",
+                  missing and "never seen: %s" % ", ".join(missing))

@@ -1,2 +1,2 @@
 """Executed edges: call files with listings that are worked out by hand from
-document 01, never taken from a program."""
+documents 01 and 02, never taken from a program."""

@@ -1,6 +1,6 @@
-"""Edges of the call records: refusal 16, and where the plan ends."""
+"""Edges of domelink's call records: refusal 16, and where the plan ends."""
 
-from edges.edge_maker import BASE, Edge, TICK, ask, credit, edge
+from edges.edge_maker import BASE, Edge, TICK, ask, credit, edge, lend
 
 NO_CALLS = [
     # Kinds other than 1 to 3, and fillers, before any test of the call.
@@ -14,6 +14,13 @@ NO_CALLS = [
          (bytes([3, 0, 0, 1, 0]), "R 16"), (bytes([3, 0, 0, 0, 1]), "R 16"),
          (ask(0), "G 1"),           # no tick was made
          (TICK, "T 0")),
+
+    # domelink has no record for a lend: flow 0 books with both of its cells.
+    edge("a lend is no call of domelink", BASE,
+         (lend(1), "R 16"), (lend(3), "R 16"), (lend(4), "R 16"),
+         (lend(0), "R 16"), (lend(1, fillers=(0, 1)), "R 16"),
+         (ask(0), "G 1"), (ask(0), "G 2"),
+         (TICK, "T 0"), (lend(2), "R 16")),
 ]
 
 # A last record of 1 to 4 bytes, whatever they would begin; and none at all.

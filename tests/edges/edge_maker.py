@@ -1,12 +1,12 @@
-"""How an edge is written: a call file beside the listing that document 01
-gives it.
+"""How an edge is written: a call file beside the listing that document 01,
+or 02 for its calls, gives it.
 
 Expected lines are worked out by hand.  In the comments "slot" is the number
 without end, F, W, T, C, IF and HF are document 01's names.
 """
 
 import call_bytes
-from call_bytes import TICK, credit     # noqa: F401  (for the edge files)
+from call_bytes import TICK, credit, lend   # noqa: F401  (for edge files)
 
 TO = 9              # every flow of the edges has this destination
 
@@ -24,8 +24,9 @@ def ask(flow, departure=0, quantum=0, to=TO):
 
 def plan(frame_slots, window_frames, *flows):
     """A plan from (share, cells) for each flow, N being the cells' sum."""
-    entries = [(share, cells, 1 + place, TO)
-               for place, (share, cells) in enumerate(flows)]
+    sources = (node for node in range(1, 64) if node != TO)
+    entries = [(share, cells, source, TO)
+               for (share, cells), source in zip(flows, sources)]
     return call_bytes.plan(frame_slots, window_frames,
                            sum(cells for _, cells in flows), entries)
 

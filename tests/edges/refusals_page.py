@@ -5,6 +5,7 @@ from pathlib import Path
 
 TEXT = Path(__file__).resolve().parents[2] / "docs/REFUSALS.md"
 PLAN = re.compile(r"^- ([A-Z]) = `([0-9A-F ]+)`")
+ALLCALLS = "`allcalls`"         # in front of an input that is for it alone
 
 
 def plans(lines):
@@ -29,8 +30,10 @@ def rows(lines):
             yield int(cells[0]), cells[3], cells[4].strip("`")
 
 
-def examples():
+def examples(allcalls=False):
+    """The inputs for every program, or those for allcalls alone."""
     lines = TEXT.read_text().splitlines()
     named = plans(lines)
     return [(number, input_of(cell, named), last)
-            for number, cell, last in rows(lines)]
+            for number, cell, last in rows(lines)
+            if cell.startswith(ALLCALLS) == allcalls]

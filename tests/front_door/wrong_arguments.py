@@ -1,8 +1,10 @@
 """tests/run and bench/run with something wrong: one sentence, status 2."""
 
 import os
+import shutil
 import sys
 import tempfile
+from pathlib import Path
 
 from front_door.command import ROOT, start, trouble
 
@@ -21,6 +23,10 @@ TESTS_RUN = [
     (["--write", "1", MISSING], MISSING + " can't be written"),
     (["--program", MISSING], "no program at " + MISSING),
     (["--program", os.sep], "no program at " + os.sep),
+    (["--allcalls", "--program", MISSING], "no program at " + MISSING),
+    (["--allcalls", "--simulate", MISSING], MISSING + " can't be read"),
+    (["--allcalls", "--write", "-1", MISSING], "a seed has to be"),
+    (["--allcalls"], "--allcalls goes with"),
 ]
 BENCH_RUN = [
     (["0"], "ROUNDS"),
@@ -32,9 +38,9 @@ BENCH_RUN = [
 ]
 
 
-def refused(script, arguments, says, **options):
+def refused(script, arguments, says, root=ROOT, **options):
     """What is wrong with how a script refuses its arguments, or None."""
-    ended = start([sys.executable, ROOT / script, *arguments], **options)
+    ended = start([sys.executable, root / script, *arguments], **options)
     return trouble(ended, status=2, output=b"",
                    says="%s: " % script) or trouble(
                        ended, status=2, says=says)
@@ -49,12 +55,27 @@ def without(*commands):
                        env=dict(os.environ, PATH=folder))
 
 
+def without_program(name):
+    """tests/run in a tree with one program missing."""
+    with tempfile.TemporaryDirectory() as folder:
+        root = Path(folder)
+        shutil.copytree(ROOT / "tests", root / "tests")
+        built = root / "target/bin"
+        built.mkdir(parents=True)
+        for program in {"domelink", "allcalls"} - {name}:
+            os.symlink(sys.executable, built / program)
+        return refused("tests/run", [], "there is no program at %s"
+                       % (built.resolve() / name), root)
+
+
 def tests(program):
     for script, table in (("tests/run", TESTS_RUN), ("bench/run", BENCH_RUN)):
         for arguments, says in table:
             yield (" ".join([script, *arguments]),
                    lambda script=script, arguments=arguments, says=says:
                    refused(script, arguments, says))
+    yield "tests/run without domelink", lambda: without_program("domelink")
+    yield "tests/run without allcalls", lambda: without_program("allcalls")
     yield "bench/run without rustc", lambda: without("rustc")
     yield "bench/run without rt", lambda: without("rt")
     yield ("tests/run --only with no such test",

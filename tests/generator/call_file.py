@@ -8,16 +8,18 @@ import call_bytes
 from simulator.calls import answer
 from simulator.link import Link
 from simulator.plan import read_plan
-from simulator.records import read_record
+from simulator.records import DOMELINK, read_record
 
 
 class CallFile:
-    def __init__(self, draft):
+    def __init__(self, draft, kinds=DOMELINK):
+        """A file of a program's kinds of records."""
         plan_bytes = draft.data()
         refusal, self.plan = read_plan(plan_bytes)
         if refusal:
             raise ValueError("a good plan was meant, refusal %d" % refusal)
         self.written = [plan_bytes]         # and then each record
+        self.kinds = kinds
         self.link = Link(self.plan)
         self.flows = self.plan.flows
         self.slots = self.plan.slots
@@ -34,7 +36,7 @@ class CallFile:
     def record(self, record):
         """Writes a record and plays it: the letter and number of its line."""
         self.written.append(record)
-        letter, number = answer(self.link, read_record(record))
+        letter, number = answer(self.link, read_record(record, self.kinds))
         if letter == "G":
             flow = int.from_bytes(record[1:5], "little") >> 20 & 63
             self.grants[flow].append(self.link.slot_of(number))
@@ -66,6 +68,11 @@ class CallFile:
         """The flow that the slot came up for, or None."""
         number = self.record(call_bytes.TICK)[1]
         return None if number == "-" else number
+
+    def lend(self, mask):
+        """The flow that the current slot is lent to, or None."""
+        letter, number = self.record(call_bytes.lend(mask))
+        return number if letter == "L" else None
 
     # ---- where things stand
 

@@ -1,2 +1,2 @@
-"""The second simulator: a call file to its listing, written from document 01
-and sharing no code with the program."""
+"""The second simulator: a call file to its listing, written from documents 01
+and 02 and sharing no code with the programs."""

@@ -1,9 +1,9 @@
 """The link as the history of its calls.
 
 Slots and frames are numbered without end.  There is no table of the window:
-the granted slots and the slots of the taken credits are written down, and
-what a flow holds is counted from them.  Positions appear only where a call
-comes in or an answer goes out.
+the granted and lent slots and the slots of the taken credits are written
+down, and what a flow holds is counted from them.  Positions appear only where
+a call comes in or an answer goes out.
 """
 
 from itertools import accumulate
@@ -16,7 +16,8 @@ class Flow:
         self.frame = 0              # IF, a frame number
         self.left = share           # C
         # Slots from which on a cell is held, and from which on it is back:
-        # granted slots and those of taken credits, from the head frame on.
+        # granted and lent slots, and those of taken credits, from the head
+        # frame on.
         self.held_from = []
         self.back_from = []
         self.before = 0             # the former less the latter before it
@@ -34,6 +35,7 @@ class Link:
         self.plan = plan
         self.ticks = 0              # slot `ticks` is current
         self.owner = {}             # granted slot -> flow
+        self.lent = None            # the slot that was lent last
         self.flows = [Flow(plan.share(flow)) for flow in range(plan.flows)]
 
     # ---- frames and slots of the window
@@ -69,8 +71,8 @@ class Link:
 
     def holdings(self, number):
         """What a flow holds at each slot of the window, in their order:
-        granted slots up to and including it, less taken credits up to and
-        including it.  Doc 01, Holding."""
+        granted and lent slots up to and including it, less taken credits up
+        to and including it.  Doc 01, Holding; doc 02, N1."""
         flow, first = self.flows[number], self.first_slot()
         change = [0] * self.plan.slots
         change[0] = flow.before

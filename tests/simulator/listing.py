@@ -1,5 +1,7 @@
 """The listing of a call file: its bytes in, its lines out."""
 
+from itertools import chain, repeat
+
 from simulator.calls import answer
 from simulator.link import Link
 from simulator.plan import read_plan
@@ -22,9 +24,10 @@ def split_file(data):
     return data[:length], data[length:]
 
 
-def simulate(data, kinds=DOMELINK):
+def simulate(data, kinds=DOMELINK, heard=()):
     """The listing of a call file, as lines; `kinds` is a program's table of
-    records."""
+    records.  `heard` is the program's listing, where it is at hand: it is
+    followed where an answer is left open."""
     split = split_file(data)
     if split is None:
         return ["P 1"]
@@ -34,7 +37,8 @@ def simulate(data, kinds=DOMELINK):
         return lines
     link = Link(plan)
     rest = split[1]
-    for start in range(0, len(rest), SIZE):
+    starts = range(0, len(rest), SIZE)
+    for start, given in zip(starts, chain(heard[1:], repeat(None))):
         call = read_record(rest[start:start + SIZE], kinds)
-        lines.append(line(*answer(link, call)))
+        lines.append(line(*answer(link, call, given)))
     return lines

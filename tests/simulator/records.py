@@ -22,7 +22,14 @@ def zeros(rest):
     return None if any(rest) else ("tick",)
 
 
+def mask(rest):
+    if rest[2] != 0 or rest[3] != 0:
+        return None
+    return "lend", rest[0] + 256 * rest[1]
+
+
 DOMELINK = {1: word, 2: flow_and_position, 3: zeros}
+ALLCALLS = {**DOMELINK, 4: mask}
 
 
 def read_record(record, kinds=DOMELINK):

@@ -38,6 +38,8 @@ pub enum Answer {
     Turn(u8),
     // No flow is booked there.
     Idle,
-    // A request or a credit is refused, by its number.
+    // The current slot is lent to a flow.
+    Lent(u8),
+    // A call is refused, by its number.
     Refused(u8),
 }

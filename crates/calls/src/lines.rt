@@ -78,6 +78,9 @@ pub fn write(answer: Answer, out: &mut [u8], at: usize) -> usize
             let next = put_pair(b'T', b' ', out, at);
             return put_pair(b'-', b'\n', out, next);
         }
+        Answer::Lent(flow) => {
+            return put_number(b'L', flow as u32, out, at);
+        }
         Answer::Refused(number) => {
             return put_number(b'R', number as u32, out, at);
         }

@@ -73,7 +73,7 @@ module _ (l : Link) (i p : ℕ) where
 -- ---- what a credit comes to
 
 -- other holdings of flow i alone: the flow itself is stored again
-same-flow : (l : Link) (i : ℕ) (h : List ℕ) → withHoldings l (withRow (l .held) i h) ≡ withFlow l i (withHeld (flowAt l i) h)
+pub same-flow : (l : Link) (i : ℕ) (h : List ℕ) → withHoldings l (withRow (l .held) i h) ≡ withFlow l i (withHeld (flowAt l i) h)
 same-flow l i h = ap (λ (x : List Flow). withHoldings (withFlows l x) (withRow (l .held) i h)) (sym (set-getD (l .flows) i noFlow))
 
 module _ {l : Link} {plan : Plan} {w : code.Window} (a : AtHand l plan w) (i p : ℕ) {n : ℕ} (tests : n ≡ firstOf (creditTests (linkOf l) i p)) where

@@ -51,6 +51,7 @@ recycled l =
     (emptied (windowAt l) (l .owner))
     (leftHeads (l .plan) (windowAt l .head) (onAt l) (l .flows))
     (carried (windowAt l) (l .plan .count) (l .held))
+    false
 
 -- a flow after it: it left the head frame with its share, and what it holds at the last position goes on
 abbrev flowAfter : Link → ℕ → FlowRow
@@ -149,7 +150,7 @@ module _ (l : Link) (s : Sound l) where
 
   -- ---- the link
 
-  pub read-recycled : linkOf (recycled l) ≡ model.withCurrent (tick.recycled (linkOf l)) (nextAt l)
+  pub read-recycled : linkOf (recycled l) ≡ model.withTaken (model.withCurrent (tick.recycled (linkOf l)) (nextAt l)) false
   unfolding linkOf tick.recycled
   read-recycled = cc (owners, flows)
     where

@@ -1,6 +1,7 @@
 -- The fresh link, as it is read. Assumes nothing.
 use Prim.Native.Nat.{ℕ, _*_, _≤_, _<_}
 use mathlib.Core.Path.{_≡_, sym, ap, _∙_}
+use mathlib.Core.Bool.{false}
 use mathlib.Core.Option.{none}
 use native.Mathlib.Nat.{mul-pos}
 use native.Mathlib.Omega.{arith}
@@ -33,6 +34,7 @@ freshLink p = record {
   owner = everywhere nobody;
   flows = freshFlows (p .entries) (p .count);
   held = nothingHeld;
+  taken = false;
 }
 
 module _ (p : Plan) (v : plan.Valid p) where

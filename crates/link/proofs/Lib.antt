@@ -5,12 +5,15 @@ mod Updated
 pub mod Stored
 -- the calls
 mod FreshLinks
+mod Masks
+mod Takers
 mod Words
 mod Searches
 pub mod Given
 mod Replies
 pub mod Requests
 pub mod Credits
+pub mod Lends
 mod FrameChanges
 pub mod Ticks
 pub mod Demand3

@@ -2,6 +2,7 @@
 use Prim.Native.Nat.{ℕ, _+_, _/_, _%_}
 use mathlib.Core.Path.{_≡_, refl, sym, ap, _∙_}
 use mathlib.Core.List.{List}
+use mathlib.Core.Bool.{false}
 use borrow.Author.Tests.{eq-eqb, ne-eqb}
 use Rattle.model.specs.Window as seen
 use Rattle.model.specs.Link as model
@@ -16,7 +17,7 @@ use Rattle.tables.specs.Holdings.{carried}
 use Rattle.link.specs.declared.Flow.{Flow}
 use Rattle.link.specs.declared.Link.{Link}
 use Rattle.link.specs.Layout.{ownerAt}
-use Rattle.link.specs.Updates.{leftHeads, linkWith, withCurrent}
+use Rattle.link.specs.Updates.{leftHeads, linkWith, withCurrent, withTaken}
 use Rattle.link.specs.Reading.{linkOf}
 use Rattle.link.specs.Sound.{Sound}
 use Rattle.link.specs.Steps.{Stepped}
@@ -25,14 +26,14 @@ use Rattle.link.proofs.Readings.{read-owner}
 use Rattle.link.proofs.Updated.{sound-with, sound-owners, sound-flows}
 use Rattle.link.proofs.FrameChanges.{windowAt, nextAt, recycled, next-below, read-recycled, sound-recycled}
 
--- x, with the current position p, is link l after its tick
+-- x, with the current position p, is link l after its tick; its mark is off
 pub record Advanced (l x : Link) (p : ℕ) : Type 0 where
   pub plan-is : x .plan ≡ l .plan
   pub link-is : linkOf (withCurrent x p) ≡ tick.advanced (linkOf l)
   pub sound : Sound (withCurrent x p)
 
 module _ (l : Link) (s : Sound l) where
-  stayed : (nextAt l % l .plan .slots ≡ 0 → ⊥) → Advanced l l (nextAt l)
+  stayed : (nextAt l % l .plan .slots ≡ 0 → ⊥) → Advanced l (withTaken l false) (nextAt l)
   unfolding tick.advanced linkOf
   stayed n = record {
     plan-is = refl;
@@ -58,10 +59,11 @@ module _ {l : Link} {plan : Plan} {w : Window} (a : AtHand l plan w) {on : Windo
   slots-are = ap (λ (x : Window). x .slots) window-is
 
   -- the head frame stays
-  pub head-stays : {x : Link} → on .head ≡ w .head → withCurrent x (on .current) ≡ withCurrent l (on .current) → Advanced l x (on .current)
+  pub head-stays : {x : Link} → on .head ≡ w .head → withCurrent x (on .current) ≡ withCurrent (withTaken l false) (on .current)
+      → Advanced l x (on .current)
   head-stays e same =
       let r = stayed l (a .sound) (λ z. t .stays e (rw (next-is, slots-are) z)) in
-      let there = same ∙ ap (withCurrent l) next-is in
+      let there = same ∙ ap (withCurrent (withTaken l false)) next-is in
       record { plan-is = ap (λ (y : Link). y .plan) there; link-is = ap linkOf there ∙ r .link-is; sound = rw there (r .sound) }
 
   -- the head frame is left: its owners, holdings and flows were changed
@@ -69,11 +71,11 @@ module _ {l : Link} {plan : Plan} {w : Window} (a : AtHand l plan w) {on : Windo
       → o ≡ emptied w (l .owner)
       → h ≡ carried w (plan .count) (l .held)
       → fs ≡ leftHeads plan (w .head) (on .head) (l .flows)
-      → withCurrent x (on .current) ≡ linkWith l (on .current) o fs h
+      → withCurrent x (on .current) ≡ linkWith l (on .current) o fs h false
       → Advanced l x (on .current)
   head-left {x} {o} {h} {fs} n owners held flows same =
       let r = changed l (a .sound) (rw (← next-is, ← slots-are) (t .leaves n .0)) in
-      let there = same ∙ (λ k. linkWith l (next-is k) (owners-are k) (flows-are k) (held-is k)) in
+      let there = same ∙ (λ k. linkWith l (next-is k) (owners-are k) (flows-are k) (held-is k) false) in
       record { plan-is = ap (λ (y : Link). y .plan) there; link-is = ap linkOf there ∙ r .link-is; sound = rw there (r .sound) }
     where
       owners-are : o ≡ recycled l .owner

@@ -47,9 +47,9 @@ pub record SoundFlows (plan : Plan) (flows : List Flow) (held : List ℕ) : Type
 -- ---- a link changed
 
 module _ (l : Link) (s : Sound l) where
-  -- another current position, other owners, flows and holdings, each sound
-  pub sound-with : {p : ℕ} {o : List ℕ} {fs : List Flow} {h : List ℕ} → p < sizeOf l → SoundOwners (l .plan) o → SoundFlows (l .plan) fs h
-      → Sound (linkWith l p o fs h)
+  -- another current position, other owners, flows and holdings, each sound, and any mark
+  pub sound-with : {p : ℕ} {o : List ℕ} {fs : List Flow} {h : List ℕ} {t : Bool} → p < sizeOf l → SoundOwners (l .plan) o → SoundFlows (l .plan) fs h
+      → Sound (linkWith l p o fs h t)
   sound-with current owners flows = record {
     plan = s .plan;
     current = current;

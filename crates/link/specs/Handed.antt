@@ -4,8 +4,8 @@ use mathlib.Core.Path.{_≡_}
 use mathlib.Core.List.{_∷_, []}
 use Rattle.plan.specs.declared.Plan.{Plan}
 use Rattle.plan.specs.Reading.{planFor}
-use Rattle.calls.specs.Reading.{answerToRequest, answerToCredit, answerToTick}
-use Rattle.model.specs.Calls.{Grant, Receipt, Turn, History, requested, credited, ticked}
+use Rattle.calls.specs.Reading.{answerToRequest, answerToCredit, answerToTick, answerToLend}
+use Rattle.model.specs.Calls.{Grant, Receipt, Turn, Loan, History, requested, credited, ticked, lent}
 use Rattle.model.specs.Fresh as fresh
 use Rattle.model.specs.Request as request
 use Rattle.model.specs.Credit as credit
@@ -15,6 +15,7 @@ use Rattle.link.specs.declared.Step.{Step}
 use Rattle.link.specs.Reading.{linkOf}
 use Rattle.link.specs.Sound.{Sound}
 use Rattle.link.specs.Steps.{Stepped}
+use Rattle.link.specs.Lend.{Lends}
 
 -- l is a link that `Link::fresh` may hand back, by its contract
 abbrev pub Freshly : Plan → Link → Type 0
@@ -31,3 +32,5 @@ pub data Handed (p : Plan) : History → Link → Type 0 where
       → Stepped answerToCredit (credit.credit (linkOf l) i q) r → r .answer ≡ answerToCredit a → Handed p (credited i q a ∷ h) (r .link)
   by-tick : {h : History} {l : Link} → Handed p h l → (r : Step) (a : Turn)
       → Stepped answerToTick (tick.tick (linkOf l)) r → r .answer ≡ answerToTick a → Handed p (ticked a ∷ h) (r .link)
+  by-lend : {h : History} {l : Link} → Handed p h l → (mask : ℕ) (r : Step) (a : Loan)
+      → Lends (linkOf l) mask r → r .answer ≡ answerToLend a → Handed p (lent mask a ∷ h) (r .link)

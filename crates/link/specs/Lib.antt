@@ -6,4 +6,5 @@ pub mod Steps
 pub mod Given
 pub mod Reply
 pub mod Fresh
+pub mod Lend
 pub mod Handed

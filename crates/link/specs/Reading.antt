@@ -24,6 +24,7 @@ linkOf l = record {
   current = l .cp;
   owners = table (sizeOf l) (λ p. ownerOf (ownerAt l p));
   flows = table (l .plan .count) (λ i. flowOf (sizeOf l) (flowAt l i));
+  taken = l .taken;
 }
 
 -- ---- the paper's link as it is stored: 256 positions and 16 flows
@@ -46,4 +47,5 @@ stored m = record {
   owner = table 256 (λ p. storedOwner (model.owner m p));
   flows = table 16 (λ i. storedFlow (model.flow m i));
   held = rowsOf (model.holding m);
+  taken = m .taken;
 }

@@ -1,7 +1,7 @@
 -- A flow and a link with something changed, and the rest left: a flow or a link that was there before is written out nowhere else. Assumes nothing.
 use Prim.Native.Nat.{ℕ}
 use mathlib.Core.List.{List}
-use mathlib.Core.Bool.{cond}
+use mathlib.Core.Bool.{Bool, cond}
 use lib.ListN.{getD, set}
 use lib.Dec.{eqb}
 use Rattle.link.specs.declared.Flow.{Flow}
@@ -32,21 +32,24 @@ withHeld x h = flowRow (x .flow) h
 
 -- ---- a link
 
--- another current position, other owners, flows and holdings
-abbrev pub linkWith : Link → (cp : ℕ) (owner : List ℕ) (flows : List Flow) (held : List ℕ) → Link
-linkWith l p o fs h = record { plan = l .plan; cp = p; owner = o; flows = fs; held = h }
+-- another current position, other owners, flows and holdings, and another mark
+abbrev pub linkWith : Link → (cp : ℕ) (owner : List ℕ) (flows : List Flow) (held : List ℕ) (taken : Bool) → Link
+linkWith l p o fs h t = record { plan = l .plan; cp = p; owner = o; flows = fs; held = h; taken = t }
 
 abbrev pub withCurrent : Link → ℕ → Link
-withCurrent l p = linkWith l p (l .owner) (l .flows) (l .held)
+withCurrent l p = linkWith l p (l .owner) (l .flows) (l .held) (l .taken)
 
 abbrev pub withOwners : Link → List ℕ → Link
-withOwners l o = linkWith l (l .cp) o (l .flows) (l .held)
+withOwners l o = linkWith l (l .cp) o (l .flows) (l .held) (l .taken)
 
 abbrev pub withFlows : Link → List Flow → Link
-withFlows l fs = linkWith l (l .cp) (l .owner) fs (l .held)
+withFlows l fs = linkWith l (l .cp) (l .owner) fs (l .held) (l .taken)
 
 abbrev pub withHoldings : Link → List ℕ → Link
-withHoldings l h = linkWith l (l .cp) (l .owner) (l .flows) h
+withHoldings l h = linkWith l (l .cp) (l .owner) (l .flows) h (l .taken)
+
+abbrev pub withTaken : Link → Bool → Link
+withTaken l t = linkWith l (l .cp) (l .owner) (l .flows) (l .held) t
 
 -- another flow i, with its row
 abbrev pub withFlow : Link → ℕ → FlowRow → Link

@@ -45,6 +45,7 @@ impl Link {
             owner,
             flows,
             held,
+            taken: false,
         }
     }
 }

@@ -1,9 +1,11 @@
-// One link of a plan: its current position, the owner of each position, each flow's frame and remainder, and what each flow holds.
+// One link of a plan: its current position, the owner of each position, each flow's frame and remainder, what each flow holds,
+// and whether the current slot is marked taken.
 ghost use mathlib.Core.Path.{_≡_};
 ghost use Rattle.link.specs.Updates.{movedTo};
 
 pub mod credit;
 mod fresh;
+pub mod lend;
 pub mod reply; // what a request comes to
 pub mod request;
 pub mod tick;
@@ -36,6 +38,8 @@ pub struct Link {
     pub owner: [u8; 256],
     pub flows: [Flow; 16],
     pub held: Holdings,
+    // the current slot is marked taken
+    pub taken: bool,
 }
 
 // What a call hands back.

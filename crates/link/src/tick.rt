@@ -54,6 +54,7 @@ impl Link {
         let plan = self.plan;
         let w = window(plan.slots, plan.frames, self.cp);
         let on = w.ticked();
+        self.taken = false;
         if on.head != w.head {
             empty_head(&mut self.owner, w);
             carry_head(&mut self.held, plan.count, w);

@@ -10,6 +10,7 @@ use Rattle.model.specs.Credit.{creditTests, lowered, creditAfter, credit
 use Rattle.model.specs.History.{ticks, grants, credits, refusals}
 use Rattle.model.proofs.LinkUpdates.{each-flow}
 use Rattle.model.proofs.CreditKeeps.{CreditPasses, credit-passes, credit-keeps}
+use Rattle.model.proofs.HistoryCounts.{raises}
 use Rattle.model.proofs.AfterHistory.{asked-before, LeastOf, After, after-event}
 
 module _ {l : Link} {h : History} (g : After (l .plan) l h) (i p : ℕ) where
@@ -17,30 +18,32 @@ module _ {l : Link} {h : History} (g : After (l .plan) l h) (i p : ℕ) where
 
   -- no credit changes what the least count needs of a flow
   least-kept : (a : Receipt) (q : ℕ) → q < flowCount P → LeastOf P (credited i p a ∷ h) q (flow l q)
-  unfolding ticks grants refusals
+  unfolding ticks grants raises refusals
   least-kept a q known asked = g .least q known (asked-before asked (asked .refused-before))
 
   taken : CreditPasses l i p → After P (lowered l i p) (credited i p (accepted tt) ∷ h)
-  unfolding ticks grants credits lowered
+  unfolding ticks grants raises credits lowered
   taken c = after-event g (record {
     plan-is = refl;
     keeps = credit-keeps (g .invariant) c;
     soon = tt;
     comes-up = tt;
     word = tt;
+    loan = tt;
     least =
         each-flow l (LeastOf P (credited i p (accepted tt) ∷ h)) i (withHeld (flow l i) (heldFrom l i p (λ x. x - 1)))
         (least-kept (accepted tt) i (c .known)) (λ q known d. least-kept (accepted tt) q known);
   })
 
   not-taken : (r : ℕ) → After P l (credited i p (refused r) ∷ h)
-  unfolding ticks grants credits
+  unfolding ticks grants raises credits
   not-taken r = after-event g (record {
     plan-is = refl;
     keeps = g .invariant;
     soon = tt;
     comes-up = tt;
     word = tt;
+    loan = tt;
     least = least-kept (refused r);
   })
 

@@ -1,19 +1,20 @@
 -- What is known of a link that stands after a history, and of one event more. Assumes nothing.
-use Prim.Native.Nat.{ℕ, _-_, _<_}
+use Prim.Native.Nat.{ℕ, _+_, _-_, _<_}
 use mathlib.Core.Path.{_≡_, subst}
 use mathlib.Core.List.{_∷_}
 use native.Mathlib.Omega.{arith}
 use Rattle.model.specs.Plan.{Plan, flowCount}
 use Rattle.model.specs.Calls.{Event, History}
 use Rattle.model.specs.Link.{Link, Flow, flow}
-use Rattle.model.specs.History.{ticks, frameOf, grants, credits, refusedIn, grantedUpTo, creditedUpTo}
-use Rattle.model.specs.Claim.{Each, ReadyAt, HeldAt, SoonAt, ComesUpAt, GrantedWordAt}
+use Rattle.model.specs.History.{ticks, frameOf, grants, credits, refusedIn, upTo, grantedUpTo, lentUpTo, creditedUpTo}
+use Rattle.model.specs.Claim.{Each, ReadyAt, HeldAt, SoonAt, ComesUpAt, GrantedWordAt, LentFlowAt}
 use Rattle.model.proofs.Invariant.{Ledger, HoldsAt, Invariant}
 use Rattle.model.proofs.LeastCount.{Least}
+use Rattle.model.proofs.HistoryCounts.{raises, raises-are}
 
 -- the ledger of a history
 abbrev pub ledgerOf : Plan → History → Ledger
-ledgerOf P h = record { now = ticks h; origin = 0; grants = grants P h; raises = grants P h; credits = credits P h }
+ledgerOf P h = record { now = ticks h; origin = 0; grants = grants P h; raises = raises P h; credits = credits P h }
 
 -- what the claim says of an event
 pub record Claimed (P : Plan) (e : Event) (h : History) : Type 0 where
@@ -21,6 +22,7 @@ pub record Claimed (P : Plan) (e : Event) (h : History) : Type 0 where
   pub soon : SoonAt P e h
   pub comes-up : ComesUpAt P e h
   pub word : GrantedWordAt P e h
+  pub loan : LentFlowAt P e h
 
 -- Flow i asked until it was refused, in each frame before the current one.
 pub record AskedOn (P : Plan) (h : History) (i : ℕ) : Type 0 where
@@ -51,6 +53,7 @@ pub record OneMore (P : Plan) (k : Link) (e : Event) (h : History) : Type 0 wher
   pub soon : SoonAt P e h
   pub comes-up : ComesUpAt P e h
   pub word : GrantedWordAt P e h
+  pub loan : LentFlowAt P e h
   pub least : (i : ℕ) → i < flowCount P → LeastOf P (e ∷ h) i (flow k i)
 
 -- What the flows hold is in the invariant.
@@ -58,18 +61,18 @@ pub after-event : {P : Plan} {l k : Link} {e : Event} {h : History} → After P 
 after-event {P} {l} {k} {e} {h} g more = record {
   plan-is = more .plan-is;
   invariant = more .keeps;
-  events = (record { held = held; soon = more .soon; comes-up = more .comes-up; word = more .word }, g .events);
+  events = (record { held = held; soon = more .soon; comes-up = more .comes-up; word = more .word; loan = more .loan }, g .events);
   least = more .least;
 }
   where
     HoldsIn : Plan → ℕ → ℕ → Type 0
-    HoldsIn Q i s = HoldsAt Q (ticks (e ∷ h)) (grants P (e ∷ h)) (credits P (e ∷ h)) i (flow k i .held) s
+    HoldsIn Q i s = HoldsAt Q (ticks (e ∷ h)) (raises P (e ∷ h)) (credits P (e ∷ h)) i (flow k i .held) s
 
     held : (i : ℕ) → i < flowCount P → HeldAt P i e h
     held i known s =
         let x = subst (λ Q. i < flowCount Q → HoldsIn Q i s) (more .plan-is) (λ q. more .keeps .holds i q s) known in
         record {
-          held = grantedUpTo P (e ∷ h) i s - creditedUpTo P (e ∷ h) i s;
-          is = omega (arith, x .covered);
-          within = omega (arith, x .within);
+          held = grantedUpTo P (e ∷ h) i s + lentUpTo (e ∷ h) i s - creditedUpTo P (e ∷ h) i s;
+          is = omega (arith, x .covered, raises-are P (upTo i s) (e ∷ h));
+          within = omega (arith, x .within, raises-are P (upTo i s) (e ∷ h));
         }

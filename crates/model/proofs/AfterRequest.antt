@@ -14,7 +14,7 @@ use Rattle.model.specs.Calls.{Grant, Event, History, requested, accepted
 use Rattle.model.specs.Window.{newest}
 use Rattle.model.specs.Link.{Link, window, flow, movedTo, withHeld, heldFrom}
 use Rattle.model.specs.Request.{Found, found, nowhere, wordTests, sought, booked, refusedAtNewest, answered, requestAfter, request}
-use Rattle.model.specs.History.{ticks, frameOf, grants, credits, refusals, refusedIn, wellFormed, inFrame}
+use Rattle.model.specs.History.{ticks, frameOf, grants, credits, refusals, refusedIn, wellFormed, inFrame, upTo}
 use Rattle.model.proofs.Tests.{line-passed}
 use Rattle.model.proofs.Word.{departure-depart}
 use Rattle.model.proofs.LinkUpdates.{each-flow}
@@ -22,7 +22,7 @@ use Rattle.model.proofs.Marks.{mark, in-frame-skip, in-frame-other}
 use Rattle.model.proofs.LeastCount.{Least, least-recounted, least-other}
 use Rattle.model.proofs.RequestSearch.{Persists, Searched, request-searched}
 use Rattle.model.proofs.RequestKeeps.{AfterGrant, after-grant, AfterRefusal, after-refusal}
-use Rattle.model.proofs.HistoryCounts.{well-formed-is, refusals-with, refusals-without}
+use Rattle.model.proofs.HistoryCounts.{well-formed-is, refusals-with, refusals-without, raises, raises-are}
 use Rattle.model.proofs.AfterHistory.{AskedOn, asked-before, LeastOf, After, after-event}
 
 module _ {l : Link} {h : History} (g : After (l .plan) l h) (w : ℕ) where
@@ -50,20 +50,21 @@ module _ {l : Link} {h : History} (g : After (l .plan) l h) (w : ℕ) where
   -- a refusal that flow q does not count
   not-counted : (r q : ℕ) → q < flowCount P → ((f : ℕ) → refusedIn P (refusedWith r ∷ h) q f ≡ refusedIn P h q f)
       → LeastOf P (refusedWith r ∷ h) q (flow l q)
-  unfolding ticks grants
+  unfolding ticks grants raises
   not-counted r q known same asked =
       least-recounted (g .least q known (asked-before asked (λ f lt. rw same at (asked .refused-before f lt)))) _ same
 
   -- ---- a word that is not well formed
 
   ill-formed : (r : ℕ) → firstOf (wordTests P w) ≡ suc r → After P l (refusedWith (suc r) ∷ h)
-  unfolding ticks grants credits
+  unfolding ticks grants raises credits
   ill-formed r e = after-event g (record {
     plan-is = refl;
     keeps = v;
     soon = tt;
     comes-up = tt;
     word = tt;
+    loan = tt;
     least = λ q known. not-counted (suc r) q known (λ f. ap (tally (inFrame P q f)) (refusals-without P w (suc r) h ill));
   })
     where
@@ -81,11 +82,11 @@ module _ {l : Link} {h : History} (g : After (l .plan) l h) (w : ℕ) where
 
     -- the premise of the least count, at this request
     persists : (a : Grant) → AskedOn P (requested w a ∷ h) i → ((f : ℕ) → f < frameOf P t → 0 < R f) → Persists v known R
-    persists a asked so-far = record { room = asked .ready .0 well refl .room; least = g .least i known (asked-before asked so-far) }
+    persists a asked so-far = record { room = λ s le. omega (arith, asked .ready .0 well refl .room s le, raises-are P (upTo i s) h); least = g .least i known (asked-before asked so-far) }
 
     -- u is the granted word
     granted : (j c p u : ℕ) → u ≡ depart w p → departureOf u ≡ p → AfterGrant v known R j c p → After P (booked l i j c p) (grantedWith u ∷ h)
-    unfolding ticks grants credits refusals booked
+    unfolding ticks grants raises credits refusals booked
     granted j c p u is departs x = after-event g (record {
       plan-is = refl;
       keeps = rw departs (x .keeps);
@@ -96,6 +97,7 @@ module _ {l : Link} {h : History} (g : After (l .plan) l h) (w : ℕ) where
         same-but-departure = is ∙ ap (depart w) (sym departs);
         position = rw departs (x .position);
       };
+      loan = tt;
       least = each-flow l (LeastOf P (grantedWith u ∷ h)) i (withHeld (movedTo (flow l i) j c) (heldFrom l i p suc)) own others;
     })
       where
@@ -106,13 +108,14 @@ module _ {l : Link} {h : History} (g : After (l .plan) l h) (w : ℕ) where
         others q known d asked = least-other (g .least q known (asked-before asked (asked .refused-before))) _ (λ z. d (sym z))
 
     refused-at-newest : (c r : ℕ) → AfterRefusal v known R c → After P (refusedAtNewest l i c) (refusedWith r ∷ h)
-    unfolding ticks grants credits refusedAtNewest
+    unfolding ticks grants raises credits refusedAtNewest
     refused-at-newest c r x = after-event g (record {
       plan-is = refl;
       keeps = x .keeps;
       soon = tt;
       comes-up = tt;
       word = tt;
+      loan = tt;
       least = each-flow l (LeastOf P (refusedWith r ∷ h)) i (movedTo (flow l i) (newest (window l)) c) own others;
     })
       where

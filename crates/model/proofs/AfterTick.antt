@@ -15,7 +15,7 @@ use Rattle.model.proofs.Slots.{frame-stays, frame-changes}
 use Rattle.model.proofs.Window.{Current}
 use Rattle.model.proofs.SlotOwners.{owned}
 use Rattle.model.proofs.TickKeeps.{Advances, advances}
-use Rattle.model.proofs.HistoryCounts.{refused-later}
+use Rattle.model.proofs.HistoryCounts.{refused-later, raises}
 use Rattle.model.proofs.AfterHistory.{asked-before, LeastOf, After, after-event}
 
 module _ {l : Link} {h : History} (g : After (l .plan) l h) where
@@ -30,7 +30,7 @@ module _ {l : Link} {h : History} (g : After (l .plan) l h) where
   on = advances v
 
   least-ticked : (x : Turn) (q : ℕ) → q < flowCount P → Dec (suc t % P .slots ≡ 0) → LeastOf P (ticked x ∷ h) q (flow (advanced l) q)
-  unfolding ticks grants refusals
+  unfolding ticks grants raises refusals
   least-ticked x q known (no d) asked =
       let same-frame = frame-stays ok t d in
       let same-injection = ap (λ y. y .injection) (on .flows-in-frame d q) in
@@ -51,12 +51,13 @@ module _ {l : Link} {h : History} (g : After (l .plan) l h) where
   comes-up i = rw (on .answer-is, add-one t) (owned i (suc t) (grants P h) (v .bookings .once (suc t)))
 
   pub after-tick : After P (tick l .link) (ticked (tick l .answer) ∷ h)
-  unfolding tick ticks grants credits
+  unfolding tick ticks grants raises credits
   after-tick = after-event g (record {
     plan-is = on .plan-is;
     keeps = on .keeps;
     soon = tt;
     comes-up = comes-up;
     word = tt;
+    loan = tt;
     least = λ q known. least-ticked (tick l .answer) q known (ℕ-discrete (suc t % P .slots) 0);
   })

@@ -23,12 +23,12 @@ use Rattle.model.proofs.Decidable.{IsNo, refuted}
 use Rattle.model.proofs.ClaimDecided.{decided}
 
 -- the bytes of an accepted plan
-record Sample : Type 0 where
-  bytes : List ℕ
-  accepted-plan : refusal bytes ≡ 0
-  some-flow : 0 < flowCount (planOf bytes)
+pub record Sample : Type 0 where
+  pub bytes : List ℕ
+  pub accepted-plan : refusal bytes ≡ 0
+  pub some-flow : 0 < flowCount (planOf bytes)
 
-abbrev two-flows : Sample
+abbrev pub two-flows : Sample
 unfolding plans-compute
 two-flows = record { bytes = listing; accepted-plan = refl; some-flow = lit< tt }
 
@@ -41,12 +41,12 @@ abbrev eventsOn : Card → Sample → List Call → History
 eventsOn c s calls = run c (planOf (s .bytes)) calls .history
 
 -- A card whose events break a clause of demand 3 for flow 0 does not meet it.
-sent-back : (c : Card) (s : Sample) (calls : List Call) (clause : Clause)
+pub sent-back : (c : Card) (s : Sample) (calls : List Call) (clause : Clause)
     → IsNo (decided clause (planOf (s .bytes)) 0 (eventsOn c s calls)) → Meets c → ⊥
 sent-back c s calls clause broken meets =
     refuted (decided clause (planOf (s .bytes)) 0 (eventsOn c s calls)) broken (meets (s .bytes) (s .accepted-plan) calls 0 (s .some-flow) clause)
 
-unfoldable events-compute : Unit {0}
+unfoldable pub events-compute : Unit {0}
 unfolding plans-compute calls-compute counts-compute decided
 events-compute = tt
 
@@ -70,7 +70,7 @@ unfolding events-compute
 grants-one-most p next =
     sent-back (grantsOne p next) one-flow (Call.request 0x24000000 ∷ Call.request 0x24000400 ∷ Call.request 0x24000800 ∷ []) Clause.most tt
 
-twice : (x : ℕ) → bit (eqb x x) + (bit (eqb x x) + 0) ≤ 1 → ⊥
+twice : (x : ℕ) → bit (eqb x x) + (bit (eqb x x) + 0) + 0 ≤ 1 → ⊥
 twice x le = let two = rw (eq-eqb x x refl) at le in omega arith
 
 -- two grants of one slot

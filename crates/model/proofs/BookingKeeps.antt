@@ -9,7 +9,7 @@ use native.Mathlib.Decide.{ℕ-discrete}
 use native.Mathlib.Omega.{arith}
 use lib.Dec.{ltb, eqb}
 use borrow.Author.Tests.{leb-false, lt-ltb, lt-leb, eqb-true, eqb-false, eq-eqb, ne-eqb, not-true}
-use Rattle.model.specs.Tables.{tally}
+use Rattle.model.specs.Tables.{bit, tally}
 use Rattle.model.specs.Plan.{Plan, positions, flowCount, entry}
 use Rattle.model.specs.Window.{passed, everyFrom}
 use Rattle.model.specs.Link.{Link, Flow, window, owner, flow, holding, cells, withFlow, movedTo, withHeld, heldFrom}
@@ -18,13 +18,12 @@ use Rattle.model.specs.History.{Mark, frameOf, atSlot}
 use Rattle.model.specs.Holding.{InWindow}
 use Rattle.model.proofs.Tests.{and-true}
 use Rattle.model.proofs.Round.{mod-unique}
-use Rattle.model.proofs.Tallies.{tally-hit, tally-skip}
 use Rattle.model.proofs.Slots.{some-position}
 use Rattle.model.proofs.Window.{Current, passed-is, everyFrom-intro}
 use Rattle.model.proofs.LinkUpdates.{owner-withOwners, each-flow}
-use Rattle.model.proofs.SlotOwners.{ownerIn, unowned}
+use Rattle.model.proofs.SlotOwners.{ownerIn, unowned, unbooked-none, once-more}
 use Rattle.model.proofs.Marks.{mark, marksIn, in-frame-hit, in-frame-skip, in-frame-other}
-use Rattle.model.proofs.Invariant.{Ledger, withGrant, Spent, Injecting, Injects, Holds, Room, Invariant}
+use Rattle.model.proofs.Invariant.{Ledger, withGrant, Spent, Injecting, Injects, Holds, Room, Owned, Invariant}
 use Rattle.model.proofs.HeldFrom.{raise-own, raise-other, room-from}
 
 -- a grant to another flow
@@ -41,10 +40,6 @@ injecting-other {P} {k} {G} {i} f m other = record {
   where
     same : (g : ℕ) → marksIn P i g (m ∷ G) ≡ marksIn P i g G
     same g = in-frame-other P i g m G other
-
-unbooked-none : (o : Option ℕ) → unbooked o ≡ true → o ≡ none
-unbooked-none none e = refl
-unbooked-none (some i) e = cc
 
 module _ {l : Link} {L : Ledger} (v : Invariant l L) {i : ℕ} (known : i < flowCount (l .plan)) where
   open Link l using (plan as P)
@@ -93,6 +88,7 @@ module _ {l : Link} {L : Ledger} (v : Invariant l L) {i : ℕ} (known : i < flow
     current = v .current;
     marks = v .marks;
     bookings = v .bookings;
+    owned = v .owned;
     injects = each-flow l (Injects P (frameOf P t) (L .grants)) i x own (λ j h d. v .injects j h);
     holds = each-flow l (Holds P t (L .raises) (L .credits)) i x (v .holds i known) (λ j h d. v .holds j h);
   }
@@ -130,11 +126,18 @@ module _ {l : Link} {L : Ledger} (v : Invariant l L) {i : ℕ} (known : i < flow
         differ : r % T ≡ s % T → ⊥
         differ q = eqb-false s r e (mod-unique (some-position ok) (w .low) (w .high) (wr .low) (wr .high) (sym q))
 
-    once-more : Open s → (r : ℕ) (b : Bool) → eqb s r ≡ b → tally (atSlot r) (m ∷ L .grants) ≤ 1
-    once-more o r true e =
-        let none-yet : tally (atSlot r) (L .grants) ≡ 0 = ap (λ k. tally (atSlot k) (L .grants)) (sym (eqb-true s r e)) ∙ o .not-granted in
-        omega (arith, tally-hit (atSlot r) m (L .grants) e)
-    once-more o r false e = omega (arith, tally-skip (atSlot r) m (L .grants) e, v .bookings .once r)
+    -- one mark more in both lists
+    alike : (r : ℕ) → tally (atSlot r) (L .raises) ≡ tally (atSlot r) (L .grants)
+        → tally (atSlot r) (m ∷ L .raises) ≡ tally (atSlot r) (m ∷ L .grants)
+    unfolding tally
+    alike r e = ap (bit (atSlot r m) +_) e
+
+    owned-more : Open s → Owned t (m ∷ L .grants) (m ∷ L .raises) (l .taken)
+    owned-more o = record {
+      one-owner = once-more m (L .raises) (v .owned .to-come s (o .to-come) ∙ o .not-granted) (v .owned .one-owner);
+      to-come = λ r lt. alike r (v .owned .to-come r lt);
+      unmarked = λ e. alike t (v .owned .unmarked e);
+    }
 
     pub booked-keeps : Open s → frameOf P t ≤ a → a < frameOf P t + P .frames → Invariant (booked l i (a % P .frames) c (s % T)) (withGrant L m)
     unfolding booked ownerIn
@@ -148,8 +151,9 @@ module _ {l : Link} {L : Ledger} (v : Invariant l L) {i : ℕ} (known : i < flow
       };
       bookings = record {
         owners-are = λ r wr. owner-withOwners l _ (r % T) (mod-lt r (some-position ok)) ∙ owner-is r wr (eqb s r) refl;
-        once = λ r. once-more o r (eqb s r) refl;
+        once = once-more m (L .grants) (o .not-granted) (v .bookings .once);
       };
+      owned = owned-more o;
       injects = each-flow l (Injects P (frameOf P t) (m ∷ L .grants)) i x own (λ j h d. injecting-other (v .injects j h) m (λ e. d (sym e)));
       holds =
           each-flow l (Holds P t (m ∷ L .raises) (L .credits)) i x (raise-own v known w (o .room))

@@ -5,7 +5,7 @@ use native.Mathlib.Omega.{arith}
 use Rattle.model.specs.Tables.{tally}
 use Rattle.model.specs.Plan.{Plan, flowCount, entry, planOf, Accepted}
 use Rattle.model.specs.Calls.{History}
-use Rattle.model.specs.History.{grants, grantedUpTo, creditedUpTo}
+use Rattle.model.specs.History.{grants, lends, grantedUpTo, lentUpTo, creditedUpTo}
 use Rattle.model.specs.Claim.{Clause, Demand3}
 use Rattle.model.specs.Card.{Card, Meets, run}
 use Rattle.model.specs.Buffer.{FitsBuffer, NeverOverfull}
@@ -13,8 +13,9 @@ use Rattle.model.proofs.Plan.{accepted}
 use Rattle.model.proofs.Tallies.{sum-le, sum-add}
 
 -- what one stream holds
-within : (P : Plan) (i : ℕ) (h : History) (s : ℕ) → Demand3 P i h → grantedUpTo P h i s ≤ creditedUpTo P h i s + entry P i .cells
-unfolding grants tally
+within : (P : Plan) (i : ℕ) (h : History) (s : ℕ)
+    → Demand3 P i h → grantedUpTo P h i s + lentUpTo h i s ≤ creditedUpTo P h i s + entry P i .cells
+unfolding grants lends tally
 within P i [] s d = omega arith
 within P i (e ∷ h) s d = let x = d Clause.within-cells .0 s in omega (arith, x .is, x .within)
 
@@ -23,7 +24,7 @@ together P ok h s d =
     let n = flowCount P in
     omega (
       arith,
-      sum-le n (λ i. grantedUpTo P h i s) (λ i. creditedUpTo P h i s + entry P i .cells) (λ i known. within P i h s (d i known)),
+      sum-le n (λ i. grantedUpTo P h i s + lentUpTo h i s) (λ i. creditedUpTo P h i s + entry P i .cells) (λ i known. within P i h s (d i known)),
       sum-add n (λ i. creditedUpTo P h i s) (λ i. entry P i .cells),
       ok .cells-fit,
     )

@@ -1,8 +1,8 @@
 -- Whether a history keeps a clause of demand 3 is decided by computation. Assumes nothing.
-use Prim.Native.Nat.{ℕ, suc, _+_, _-_, _≤_, _<_, max}
+use Prim.Native.Nat.{ℕ, suc, _+_, _-_, _^_, _≤_, _<_, max}
 use mathlib.Core.Path.{_≡_, ap}
 use mathlib.Core.Logic.{_↔_, Dec·and}
-use mathlib.Core.List.{_∷_, []}
+use mathlib.Core.List.{List, _∷_, []}
 use mathlib.Core.Option.{Option, some, none}
 use mathlib.Core.Bool.{_&&_, and-false}
 use native.Mathlib.Omega.{arith}
@@ -10,14 +10,14 @@ use native.Mathlib.Decide.{decLe, decLt, ℕ-discrete}
 use borrow.Author.Tests.{ne-eqb}
 use Rattle.model.specs.Tables.{tally}
 use Rattle.model.specs.Word.{flowOf, departureOf, depart}
-use Rattle.model.specs.Plan.{Plan, positions, entry}
-use Rattle.model.specs.Calls.{Event, History, Turn, requested, credited, ticked, accepted, refused}
-use Rattle.model.specs.History.{ticks, changes, wellFormed, grants, frameOf, ofFlow, atSlot, inFrame}
-use Rattle.model.specs.History.{grantedIn, grantedUpTo, creditedUpTo, Owns}
-use Rattle.model.specs.Claim.{Each, AtRequest, AtGrant, AtTick, Ready, ReadyAt, Persistent, Held, HeldAt, SoonAt, ComesUpAt}
-use Rattle.model.specs.Claim.{GrantedWord, GrantedWordAt, Clause, Says}
+use Rattle.model.specs.Plan.{Plan, positions, flowCount, entry}
+use Rattle.model.specs.Calls.{Event, History, Turn, requested, credited, ticked, lent, accepted, refused, inMask}
+use Rattle.model.specs.History.{ticks, changes, Mark, wellFormed, grants, lends, frameOf, ofFlow, atSlot, inFrame}
+use Rattle.model.specs.History.{grantedIn, grantedUpTo, lentUpTo, creditedUpTo, WasGranted}
+use Rattle.model.specs.Claim.{Each, AtRequest, AtGrant, AtTick, AtLoan, Ready, ReadyAt, Persistent, Held, HeldAt, SoonAt, ComesUpAt}
+use Rattle.model.specs.Claim.{GrantedWord, GrantedWordAt, LentFlow, LentFlowAt, Clause, Says}
 use Rattle.model.proofs.Decidable.{same, implies, is-true, all-below, everywhere}
-use Rattle.model.proofs.PastMarks.{above, none-past, end, same-granted, same-credited}
+use Rattle.model.proofs.PastMarks.{above, none-past, ownedEnd, end, same-granted, same-lent, same-credited}
 
 -- ---- an event of a kind
 
@@ -26,6 +26,7 @@ unfoldable pub at-request : {Q : ℕ → History → Type 0} → ((w : ℕ) (h :
 at-request d (requested w a) h = d w h
 at-request d (credited j p a) h = yes tt
 at-request d (ticked x) h = yes tt
+at-request d (lent m a) h = yes tt
 
 unfoldable pub at-grant : {Q : ℕ → ℕ → History → Type 0} → ((w v : ℕ) (h : History) → Dec (Q w v h))
     → (e : Event) (h : History) → Dec (AtGrant Q e h)
@@ -33,12 +34,21 @@ at-grant d (requested w (accepted v)) h = d w v h
 at-grant d (requested w (refused r)) h = yes tt
 at-grant d (credited j p a) h = yes tt
 at-grant d (ticked x) h = yes tt
+at-grant d (lent m a) h = yes tt
 
 unfoldable pub at-tick : {Q : Turn → History → Type 0} → ((x : Turn) (h : History) → Dec (Q x h))
     → (e : Event) (h : History) → Dec (AtTick Q e h)
 at-tick d (requested w a) h = yes tt
 at-tick d (credited j p a) h = yes tt
 at-tick d (ticked x) h = d x h
+at-tick d (lent m a) h = yes tt
+
+unfoldable pub at-loan : {Q : ℕ → ℕ → Type 0} → ((m i : ℕ) → Dec (Q m i)) → (e : Event) (h : History) → Dec (AtLoan Q e h)
+at-loan d (requested w a) h = yes tt
+at-loan d (credited j p a) h = yes tt
+at-loan d (ticked x) h = yes tt
+at-loan d (lent m (accepted i)) h = d m i
+at-loan d (lent m (refused r)) h = yes tt
 
 -- ---- the claims of one event
 
@@ -55,6 +65,15 @@ granted-word P = at-grant (λ w v h. word w v)
         same (λ r. record { asked-well-formed = r .0; same-but-departure = r .1 .0; position = r .1 .1 })
         (λ g. (g .asked-well-formed, (g .same-but-departure, g .position)))
         (Dec·and (is-true (wellFormed P w)) (Dec·and (ℕ-discrete v (depart w (departureOf v))) (decLt (departureOf v) (positions P))))
+
+unfoldable pub lent-flow : (P : Plan) (e : Event) (h : History) → Dec (LentFlowAt P e h)
+unfolding at-loan
+lent-flow P = at-loan (λ m i. flow m i)
+  where
+    flow : (m i : ℕ) → Dec (LentFlow P m i)
+    flow m i =
+        same (λ r. record { mask-below = r .0; known = r .1 .0; in-mask = r .1 .1 }) (λ f. (f .mask-below, (f .known, f .in-mask)))
+        (Dec·and (decLt m (2 ^ flowCount P)) (Dec·and (decLt i (flowCount P)) (is-true (inMask m i))))
 
 unfoldable pub answers-flow : (x : Option ℕ) (i : ℕ) → Dec (x ≡ some i)
 answers-flow none i = no (λ e. let z : _≡_ {A = ℕ} 0 1 = cc in omega arith)
@@ -79,7 +98,7 @@ comes-up P = at-tick answered
         none-past (λ m. m .flow) (λ m. ofFlow i m && atSlot (ticks h + 1) m) i (grants P h) past
         (λ m lt. rw (ne-eqb (m .flow) i (omega arith)))
 
-    answered : (x : Turn) (h : History) → Dec ((i : ℕ) → (x ≡ some i) ↔ Owns P h i (ticks h + 1))
+    answered : (x : Turn) (h : History) → Dec ((i : ℕ) → (x ≡ some i) ↔ WasGranted P h i (ticks h + 1))
     answered x h =
         everywhere (max (aboveAnswer x) (above (λ m. m .flow) (grants P h)))
         (λ i. Dec·and (implies (answers-flow x i) (decLt _ _)) (implies (decLt _ _) (answers-flow x i)))
@@ -88,10 +107,14 @@ comes-up P = at-tick answered
 unfoldable pub held : (P : Plan) (i : ℕ) (h : History) (s : ℕ) → Dec (Held P i h s)
 held P i h s = same to from (Dec·and (decLe _ _) (decLe _ _))
   where
-    to : (creditedUpTo P h i s ≤ grantedUpTo P h i s) × (grantedUpTo P h i s ≤ creditedUpTo P h i s + entry P i .cells) → Held P i h s
-    to r = record { held = grantedUpTo P h i s - creditedUpTo P h i s; is = omega arith; within = omega arith }
+    -- its granted and lent slots
+    owned : ℕ
+    owned = grantedUpTo P h i s + lentUpTo h i s
 
-    from : Held P i h s → (creditedUpTo P h i s ≤ grantedUpTo P h i s) × (grantedUpTo P h i s ≤ creditedUpTo P h i s + entry P i .cells)
+    to : (creditedUpTo P h i s ≤ owned) × (owned ≤ creditedUpTo P h i s + entry P i .cells) → Held P i h s
+    to r = record { held = owned - creditedUpTo P h i s; is = omega arith; within = omega arith }
+
+    from : Held P i h s → (creditedUpTo P h i s ≤ owned) × (owned ≤ creditedUpTo P h i s + entry P i .cells)
     from x = omega arith
 
 unfoldable pub held-at : (P : Plan) (i : ℕ) (e : Event) (h : History) → Dec (HeldAt P i e h)
@@ -102,13 +125,14 @@ held-at P i e h = everywhere (suc (end P (e ∷ h))) (held P i (e ∷ h)) later
         let x = below (end P (e ∷ h)) (omega arith) in
         let a = x .is in
         let g = same-granted P (e ∷ h) i s (end P (e ∷ h)) (omega arith) (omega arith) in
+        let l = same-lent P (e ∷ h) i s (end P (e ∷ h)) (omega arith) (omega arith) in
         let c = same-credited P (e ∷ h) i s (end P (e ∷ h)) (omega arith) (omega arith) in
         record { held = x .held; is = omega arith; within = x .within }
 
 -- ---- the stream that asks until it is refused
 
 abbrev Room : Plan → ℕ → History → ℕ → Type 0
-Room P i h s = ticks h ≤ s → grantedUpTo P h i s < creditedUpTo P h i s + entry P i .cells
+Room P i h s = ticks h ≤ s → grantedUpTo P h i s + lentUpTo h i s < creditedUpTo P h i s + entry P i .cells
 
 unfoldable pub ready : (P : Plan) (i w : ℕ) (h : History) → Dec (Ready P i w h)
 ready P i w h =
@@ -119,6 +143,7 @@ ready P i w h =
         let u = max (ticks h) (end P h) in
         let x = below u (omega arith) (omega arith) in
         let g = same-granted P h i s u (omega arith) (omega arith) in
+        let l = same-lent P h i s u (omega arith) (omega arith) in
         let c = same-credited P h i s u (omega arith) (omega arith) in
         omega arith
 
@@ -133,14 +158,14 @@ each d [] = yes tt
 each d (e ∷ h) = Dec·and (d e h) (each d h)
 
 unfoldable pub persistent : (P : Plan) (i : ℕ) (h : History) → Dec (Persistent P i h)
-unfolding Dec·and decLe decLt ℕ-discrete same implies is-true all-below everywhere above end at-request ready ready-at each
+unfolding Dec·and decLe decLt ℕ-discrete same implies is-true all-below everywhere above ownedEnd end at-request ready ready-at each
 persistent P i h =
     same (λ r. record { refused-in-each-frame = λ f le. r .0 f (omega arith); ready-at-each-request = r .1 })
     (λ p. ((λ f lt. p .refused-in-each-frame f (omega arith)), p .ready-at-each-request))
     (Dec·and (all-below (suc (changes P h)) (λ f. decLt _ _)) (each (ready-at P i) h))
 
 unfoldable pub decided : (clause : Clause) (P : Plan) (i : ℕ) (h : History) → Dec (Says clause P i h)
-unfolding persistent at-grant at-tick soon granted-word answers-flow aboveAnswer comes-up held held-at
+unfolding persistent at-grant at-tick at-loan soon granted-word lent-flow answers-flow aboveAnswer comes-up held held-at
 decided Clause.most P i h = decLe _ _
 decided Clause.most-in-a-frame P i h =
     everywhere (above (λ m. frameOf P (m .slot)) (grants P h)) (λ f. decLe _ _) (λ below f past. omega (arith, none-in f past))
@@ -151,9 +176,12 @@ decided Clause.most-in-a-frame P i h =
         (λ m lt. rw (ne-eqb (frameOf P (m .slot)) f (omega arith)) (and-false (ofFlow i m)))
 decided Clause.least P i h = implies (persistent P i h) (decLe _ _)
 decided Clause.one-owner P i h =
-    everywhere (above (λ m. m .slot) (grants P h)) (λ s. decLe _ _)
-    (λ below s past. omega (arith, none-past (λ m. m .slot) (atSlot s) s (grants P h) past (λ m lt. ne-eqb (m .slot) s (omega arith))))
+    everywhere (ownedEnd P h) (λ s. decLe _ _) (λ below s past. omega (arith, none-at s (grants P h) (omega arith), none-at s (lends h) (omega arith)))
+  where
+    none-at : (s : ℕ) (marks : List Mark) → above (λ m. m .slot) marks ≤ s → tally (atSlot s) marks ≡ 0
+    none-at s marks past = none-past (λ m. m .slot) (atSlot s) s marks past (λ m lt. ne-eqb (m .slot) s (omega arith))
 decided Clause.within-cells P i h = each (held-at P i) h
 decided Clause.within-a-window P i h = each (soon P) h
 decided Clause.comes-up P i h = each (comes-up P) h
 decided Clause.granted-words P i h = each (granted-word P) h
+decided Clause.lent-flows P i h = each (lent-flow P) h

@@ -75,6 +75,7 @@ module _ {l : Link} {L : Ledger} (v : Invariant l L) {i p : ℕ} (c : CreditPass
       credits-in = (w .high, v .marks .credits-in);
     };
     bookings = v .bookings;
+    owned = v .owned;
     injects = each-flow l (Injects P (frameOf P t) (L .grants)) i x (v .injects i (c .known)) (λ j h d. v .injects j h);
     holds =
         each-flow l (Holds P t (L .raises) (mark i s ∷ L .credits)) i x (lower-own v (c .known) w never-empty)

@@ -10,7 +10,7 @@ use Rattle.model.specs.Tables.{sum}
 use Rattle.model.specs.Plan.{Plan, flowCount, entry, planOf, Accepted}
 use Rattle.model.specs.Calls.{Event, History}
 use Rattle.model.specs.Link.{Link}
-use Rattle.model.specs.History.{Mark, ticks, changes, frameOf, grants, granted, grantedIn, ofFlow, inFrame}
+use Rattle.model.specs.History.{Mark, ticks, changes, frameOf, grants, granted, grantedIn, ofFlow, atSlot, inFrame}
 use Rattle.model.specs.Claim.{Each, Clause, Says, Demand3}
 use Rattle.model.specs.Card.{Meets, MeetsOn, paper}
 use Rattle.model.proofs.Tests.{and-true}
@@ -18,7 +18,7 @@ use Rattle.model.proofs.Tallies.{all-map, sum-le, sum-const, sum-tail, 
 use Rattle.model.proofs.Slots.{frame-high}
 use Rattle.model.proofs.Window.{Current}
 use Rattle.model.proofs.Invariant.{Granted}
-use Rattle.model.proofs.HistoryCounts.{changes-are}
+use Rattle.model.proofs.HistoryCounts.{changes-are, raises-are}
 use Rattle.model.proofs.AfterHistory.{AskedOn, After}
 use Rattle.model.proofs.Plan.{accepted}
 use Rattle.model.proofs.AfterCalls.{after-run}
@@ -88,10 +88,11 @@ module _ (l : Link) (h : History) (g : After (l .plan) l h) (i : ℕ) (known : i
   demand3 Clause.most-in-a-frame = in-frame
   demand3 Clause.least = least
   demand3 Clause.within-cells = each-map _ _ (λ e h c. c .held i known) h (g .events)
-  demand3 Clause.one-owner = g .invariant .bookings .once
+  demand3 Clause.one-owner = λ s. omega (arith, g .invariant .owned .one-owner s, raises-are P (atSlot s) h)
   demand3 Clause.within-a-window = each-map _ _ (λ e h c. c .soon) h (g .events)
   demand3 Clause.comes-up = each-map _ _ (λ e h c. c .comes-up) h (g .events)
   demand3 Clause.granted-words = each-map _ _ (λ e h c. c .word) h (g .events)
+  demand3 Clause.lent-flows = each-map _ _ (λ e h c. c .loan) h (g .events)
 
 -- demand 3 on any plan that keeps the limits, and so on the plan of any bytes that are accepted
 pub meets-accepted : (P : Plan) → Accepted P → MeetsOn paper P

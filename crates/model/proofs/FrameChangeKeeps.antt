@@ -13,7 +13,7 @@ use borrow.Author.Tests.{eqb-true, eqb-false, eq-eqb, ne-eqb}
 use Rattle.model.specs.Tables.{tally}
 use Rattle.model.specs.Plan.{Plan, positions, flowCount}
 use Rattle.model.specs.Window.{head, next, frameAt, inHead}
-use Rattle.model.specs.Link.{Link, Flow, window, owner, flow, holding, share, withCurrent, movedTo}
+use Rattle.model.specs.Link.{Link, Flow, window, owner, flow, holding, share, withCurrent, withTaken, movedTo}
 use Rattle.model.specs.Tick.{leftHead, carriedOn, recycled, nextPosition}
 use Rattle.model.specs.History.{frameOf, atSlot}
 use Rattle.model.specs.Holding.{frameStart, InWindow}
@@ -25,7 +25,7 @@ use Rattle.model.proofs.LinkUpdates.{owner-withOwners, flow-withFlows, 
 use Rattle.model.proofs.Marks.{marksUpTo, up-to-past}
 use Rattle.model.proofs.SlotOwners.{ownerIn, unowned}
 use Rattle.model.proofs.Invariant.{Ledger, atNextSlot, Injects, HoldsAt, Holds, Invariant}
-use Rattle.model.proofs.NextSlot.{next-current, marks-stay}
+use Rattle.model.proofs.NextSlot.{next-current, marks-stay, owned-on}
 
 module _ {l : Link} {L : Ledger} (v : Invariant l L) (change : suc (L .now) % l .plan .slots ≡ 0) where
   open Link l using (plan as P)
@@ -147,7 +147,7 @@ module _ {l : Link} {L : Ledger} (v : Invariant l L) (change : suc (L .now) % l 
 
   -- ---- the frame change
 
-  pub frame-change-keeps : Invariant (withCurrent (recycled l) (nextPosition l)) (atNextSlot L)
+  pub frame-change-keeps : Invariant (withTaken (withCurrent (recycled l) (nextPosition l)) false) (atNextSlot L)
   unfolding recycled
   frame-change-keeps = record {
     current = next-current v;
@@ -156,6 +156,7 @@ module _ {l : Link} {L : Ledger} (v : Invariant l L) (change : suc (L .now) % l 
       owners-are = λ s w. owner-withOwners l _ (s % T) (mod-lt s (some-position ok)) ∙ owner-is s w (decLt s end);
       once = v .bookings .once;
     };
+    owned = owned-on v;
     injects = λ i h. subst (Injects P (frameOf P (suc t)) (L .grants) i) (sym (flow-withFlows l _ i h)) (injects-on i h);
     holds = λ i h. subst (Holds P (suc t) (L .raises) (L .credits) i) (sym (flow-withFlows l _ i h)) (held i h (leftHead l i));
   }

@@ -34,6 +34,7 @@ module _ {P : Plan} (ok : Accepted P) where
       owners-are = λ s w. getD-replicate (positions P) (s % positions P) none none (mod-lt s (some-position ok));
       once = λ s. omega arith;
     };
+    owned = record { one-owner = λ s. omega arith; to-come = λ s lt. refl; unmarked = λ e. refl };
     injects = λ i known. subst (Injects P (frameOf P 0) [] i) (sym (flow-is i known)) (record {
       frame = 0;
       low = omega (arith, zero-div (P .slots));

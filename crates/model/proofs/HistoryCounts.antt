@@ -1,7 +1,7 @@
--- What is counted over a history: frame changes, well-formed words, and refusals by frame. Assumes nothing.
+-- What is counted over a history: frame changes, well-formed words, refusals by frame, and granted and lent slots together. Assumes nothing.
 use Prim.Native.Nat.{ℕ, suc, _+_, _%_, _<_}
 use mathlib.Core.Path.{_≡_, refl, sym, ap, _∙_}
-use mathlib.Core.List.{[], _∷_}
+use mathlib.Core.List.{List, [], _∷_}
 use mathlib.Core.Bool.{Bool, true, false, not, _&&_}
 use native.Mathlib.Nat.{zero-div}
 use native.Mathlib.Omega.{arith}
@@ -11,9 +11,9 @@ use Rattle.model.specs.Tables.{bit, tally}
 use Rattle.model.specs.Refusals.{firstOf, _when_}
 use Rattle.model.specs.Word.{flowOf, destinationOf, departureOf}
 use Rattle.model.specs.Plan.{Plan, positions, flowCount, entry, Accepted}
-use Rattle.model.specs.Calls.{History, requested, credited, ticked, accepted, refused}
+use Rattle.model.specs.Calls.{History, requested, credited, ticked, lent, accepted, refused}
 use Rattle.model.specs.Request.{wordTests}
-use Rattle.model.specs.History.{ticks, changes, frameOf, wellFormed, refusals, refusedIn}
+use Rattle.model.specs.History.{Mark, ticks, slotAfter, changes, frameOf, wellFormed, grants, refusals, lends, refusedIn}
 use Rattle.model.proofs.Slots.{frame-stays, frame-changes, frames-go-on}
 use Rattle.model.proofs.Marks.{mark, in-frame-skip}
 
@@ -37,6 +37,7 @@ unfolding changes ticks
 changes-are P ok [] = sym (zero-div (P .slots))
 changes-are P ok (requested w a ∷ h) = changes-are P ok h
 changes-are P ok (credited i p a ∷ h) = changes-are P ok h
+changes-are P ok (lent m a ∷ h) = changes-are P ok h
 changes-are P ok (ticked x ∷ h) = go (changes-are P ok h) (eqb (suc (ticks h) % P .slots) 0) refl
   where
     go : changes P h ≡ frameOf P (ticks h) → (b : Bool) → eqb (suc (ticks h) % P .slots) 0 ≡ b
@@ -66,5 +67,28 @@ refused-later P ok i f (requested w (refused r) ∷ h) lt = go (refused-later P 
     go rest true e = rw (refusals-with P w r h e) (in-frame-skip P i f (mark (flowOf w) (ticks h)) (refusals P h) (λ z. omega arith) ∙ rest)
     go rest false e = rw (refusals-without P w r h e) rest
 refused-later P ok i f (credited j p a ∷ h) lt = refused-later P ok i f h lt
+refused-later P ok i f (lent m a ∷ h) lt = refused-later P ok i f h lt
 refused-later P ok i f (ticked x ∷ h) lt =
     refused-later P ok i f h (omega (arith, frames-go-on ok (ticks h)))
+
+-- ---- granted and lent slots
+
+-- the slots from which a flow's holding rose, granted and lent, in the order of the list
+unfoldable pub raises : Plan → History → List Mark
+raises P [] = []
+raises P (requested w (accepted v) ∷ h) = mark (flowOf w) (slotAfter P (ticks h) (departureOf v)) ∷ raises P h
+raises P (requested w (refused r) ∷ h) = raises P h
+raises P (credited i p a ∷ h) = raises P h
+raises P (ticked x ∷ h) = raises P h
+raises P (lent m (accepted i) ∷ h) = mark i (ticks h) ∷ raises P h
+raises P (lent m (refused r) ∷ h) = raises P h
+
+pub raises-are : (P : Plan) (f : Mark → Bool) (h : History) → tally f (raises P h) ≡ tally f (grants P h) + tally f (lends h)
+unfolding raises grants lends tally
+raises-are P f [] = refl
+raises-are P f (requested w (accepted v) ∷ h) = omega (arith, raises-are P f h)
+raises-are P f (requested w (refused r) ∷ h) = raises-are P f h
+raises-are P f (credited i p a ∷ h) = raises-are P f h
+raises-are P f (ticked x ∷ h) = raises-are P f h
+raises-are P f (lent m (accepted i) ∷ h) = omega (arith, raises-are P f h)
+raises-are P f (lent m (refused r) ∷ h) = raises-are P f h

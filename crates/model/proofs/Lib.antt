@@ -22,6 +22,7 @@ pub mod Invariant
 pub mod HeldFrom
 pub mod BookingKeeps
 pub mod CreditKeeps
+pub mod LendKeeps
 pub mod UnbookedSlots
 pub mod SearchedFrames
 pub mod LeastCount
@@ -37,7 +38,9 @@ pub mod AfterHistory
 pub mod AfterRequest
 pub mod AfterCredit
 pub mod AfterTick
+pub mod AfterLend
 pub mod AfterCalls
+pub mod LendChoice
 pub mod Demand3
 pub mod ListingMeets
 pub mod Holding
@@ -50,4 +53,5 @@ pub mod PastMarks
 pub mod ClaimDecided
 pub mod BadHistories
 pub mod BadCards
+pub mod BadLends
 pub mod PersistentStream

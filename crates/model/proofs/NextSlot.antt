@@ -1,6 +1,7 @@
--- What every tick does, whether or not the frame changes: the next current position, and the marks, which stay. Assumes nothing.
+-- What every tick does, whether or not the frame changes: the next current position, the marks, which stay, and the taken mark, which goes off. Assumes nothing.
 use Prim.Native.Nat.{ℕ, suc, _+_, _%_, _≤_}
 use mathlib.Core.Path.{_≡_, ap, _∙_}
+use mathlib.Core.Bool.{false}
 use native.Mathlib.Nat.{mod-add-mod, mul-le-mul-right}
 use native.Mathlib.Numerals.{add-one}
 use native.Mathlib.Omega.{arith}
@@ -12,7 +13,7 @@ use Rattle.model.specs.Holding.{frameStart}
 use Rattle.model.proofs.Tallies.{all-map}
 use Rattle.model.proofs.Slots.{frames-go-on}
 use Rattle.model.proofs.Window.{Current}
-use Rattle.model.proofs.Invariant.{Ledger, atNextSlot, Begun, Granted, MarksIn, Invariant}
+use Rattle.model.proofs.Invariant.{Ledger, atNextSlot, Begun, Granted, MarksIn, Owned, Invariant}
 
 module _ {l : Link} {L : Ledger} (v : Invariant l L) where
   open Link l using (plan as P)
@@ -44,3 +45,11 @@ module _ {l : Link} {L : Ledger} (v : Invariant l L) where
 
       granted : (m : Mark) → Granted P t (L .origin) m → Granted P (suc t) (L .origin) m
       granted m g = record { known = g .known; begun = begun m (g .begun); since = g .since }
+
+  -- the mark is off
+  pub owned-on : Owned (suc t) (L .grants) (L .raises) false
+  owned-on = record {
+    one-owner = v .owned .one-owner;
+    to-come = λ s lt. v .owned .to-come s (omega arith);
+    unmarked = λ e. v .owned .to-come (suc t) (omega arith);
+  }

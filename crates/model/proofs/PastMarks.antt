@@ -8,7 +8,7 @@ use borrow.Author.Tests.{le-leb}
 use Rattle.model.specs.Tables.{tally}
 use Rattle.model.specs.Plan.{Plan}
 use Rattle.model.specs.Calls.{History}
-use Rattle.model.specs.History.{Mark, grants, credits, ofFlow, upTo, grantedUpTo, creditedUpTo}
+use Rattle.model.specs.History.{Mark, grants, lends, credits, ofFlow, upTo, grantedUpTo, lentUpTo, creditedUpTo}
 
 -- a number above the key of every mark
 unfoldable pub above : (Mark → ℕ) → List Mark → ℕ
@@ -33,15 +33,23 @@ up-to-past : (i s : ℕ) (ms : List Mark) → above (λ m. m .slot) ms ≤ s →
 up-to-past i s ms le =
     same-past (λ m. m .slot) (upTo i s) (ofFlow i) s ms le (λ m lt. rw (le-leb (m .slot) s (omega arith)) (and-true (ofFlow i m)))
 
--- a slot past all grants and taken credits
+-- a slot past all grants and lends, and one past all taken credits too
+unfoldable pub ownedEnd : Plan → History → ℕ
+ownedEnd P h = max (above (λ m. m .slot) (grants P h)) (above (λ m. m .slot) (lends h))
+
 unfoldable pub end : Plan → History → ℕ
-end P h = max (above (λ m. m .slot) (grants P h)) (above (λ m. m .slot) (credits P h))
+unfolding ownedEnd
+end P h = max (ownedEnd P h) (above (λ m. m .slot) (credits P h))
 
 module _ (P : Plan) (h : History) (i : ℕ) (s u : ℕ) (s-past : end P h ≤ s) (u-past : end P h ≤ u) where
   pub same-granted : grantedUpTo P h i s ≡ grantedUpTo P h i u
-  unfolding end
+  unfolding ownedEnd end
   same-granted = up-to-past i s (grants P h) (omega arith) ∙ sym (up-to-past i u (grants P h) (omega arith))
 
+  pub same-lent : lentUpTo h i s ≡ lentUpTo h i u
+  unfolding ownedEnd end
+  same-lent = up-to-past i s (lends h) (omega arith) ∙ sym (up-to-past i u (lends h) (omega arith))
+
   pub same-credited : creditedUpTo P h i s ≡ creditedUpTo P h i u
-  unfolding end
+  unfolding ownedEnd end
   same-credited = up-to-past i s (credits P h) (omega arith) ∙ sym (up-to-past i u (credits P h) (omega arith))

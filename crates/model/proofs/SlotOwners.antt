@@ -1,16 +1,18 @@
 -- The owner of a slot, as the grants tell it. Assumes nothing.
 use Prim.Native.Nat.{ℕ, _+_, _≤_, _<_}
-use mathlib.Core.Path.{_≡_, refl, ap}
+use mathlib.Core.Path.{_≡_, refl, sym, ap, _∙_}
 use mathlib.Core.Logic.{_↔_}
 use mathlib.Core.List.{List, [], _∷_}
 use mathlib.Core.Option.{Option, some, none}
 use mathlib.Core.Bool.{Bool, true, false, _&&_, cond}
 use native.Mathlib.Omega.{arith}
+use lib.Dec.{eqb}
 use borrow.Author.Tests.{eqb-true, eq-eqb}
 use Rattle.model.specs.Tables.{bit, tally}
+use Rattle.model.specs.Request.{unbooked}
 use Rattle.model.specs.History.{Mark, ofFlow, atSlot}
 use Rattle.model.proofs.Tests.{and-true, and-false}
-use Rattle.model.proofs.Tallies.{tally-le}
+use Rattle.model.proofs.Tallies.{tally-le, tally-hit, tally-skip}
 
 -- the flow that was granted slot s
 unfoldable pub ownerIn : List Mark → ℕ → Option ℕ
@@ -60,3 +62,17 @@ granted-owner i s (m ∷ G) once g = go (granted-owner i s G) (atSlot s m) refl 
 -- Where a slot was granted once at the most, its owner is the flow that it was granted to.
 pub owned : (i s : ℕ) (G : List Mark) → tally (atSlot s) G ≤ 1 → (ownerIn G s ≡ some i) ↔ (0 < tally (grantsOf i s) G)
 owned i s G once = (owner-granted i s G, granted-owner i s G once)
+
+pub unbooked-none : (o : Option ℕ) → unbooked o ≡ true → o ≡ none
+unbooked-none none e = refl
+unbooked-none (some i) e = cc
+
+-- one mark more, of a slot that has none yet
+pub once-more : (m : Mark) (B : List Mark) → tally (atSlot (m .slot)) B ≡ 0 → ((r : ℕ) → tally (atSlot r) B ≤ 1) → (r : ℕ) → tally (atSlot r) (m ∷ B) ≤ 1
+once-more m B none-yet once r = go (eqb (m .slot) r) refl
+  where
+    go : (b : Bool) → eqb (m .slot) r ≡ b → tally (atSlot r) (m ∷ B) ≤ 1
+    go true e =
+        let none-here : tally (atSlot r) B ≡ 0 = ap (λ k. tally (atSlot k) B) (sym (eqb-true (m .slot) r e)) ∙ none-yet in
+        omega (arith, tally-hit (atSlot r) m B e)
+    go false e = omega (arith, tally-skip (atSlot r) m B e, once r)

@@ -5,7 +5,7 @@ use mathlib.Core.Bool.{Bool, true, false, cond}
 use lib.Dec.{eqb}
 use borrow.Author.Tests.{eqb-true, eqb-false}
 use Rattle.model.specs.Plan.{Plan}
-use Rattle.model.specs.Link.{Link, owner, flow, withCurrent}
+use Rattle.model.specs.Link.{Link, owner, flow, withCurrent, withTaken}
 use Rattle.model.specs.Tick.{recycled, nextPosition, advanced}
 use Rattle.model.specs.History.{frameOf}
 use Rattle.model.specs.Holding.{InWindow}
@@ -13,7 +13,7 @@ use Rattle.model.proofs.Slots.{frame-stays, current-in-window, place-of
 use Rattle.model.proofs.Window.{Current}
 use Rattle.model.proofs.SlotOwners.{ownerIn}
 use Rattle.model.proofs.Invariant.{Ledger, atNextSlot, Invariant}
-use Rattle.model.proofs.NextSlot.{next-position, next-current, marks-stay}
+use Rattle.model.proofs.NextSlot.{next-position, next-current, marks-stay, owned-on}
 use Rattle.model.proofs.FrameChangeKeeps.{frame-change-keeps}
 
 module _ {l : Link} {L : Ledger} (v : Invariant l L) where
@@ -24,11 +24,12 @@ module _ {l : Link} {L : Ledger} (v : Invariant l L) where
 
   -- ---- in the same frame
 
-  in-frame : (suc t % F ≡ 0 → ⊥) → Invariant (withCurrent l (nextPosition l)) (atNextSlot L)
+  in-frame : (suc t % F ≡ 0 → ⊥) → Invariant (withTaken (withCurrent l (nextPosition l)) false) (atNextSlot L)
   in-frame d = record {
     current = next-current v;
     marks = marks-stay v;
     bookings = record { owners-are = λ s w. v .bookings .owners-are s (before s w); once = v .bookings .once };
+    owned = owned-on v;
     injects = λ i h. rw same (v .injects i h);
     holds = λ i h s. let x = v .holds i h s in record { at-slot = λ w. x .at-slot (before s w); covered = x .covered; within = x .within };
   }
@@ -55,7 +56,7 @@ module _ {l : Link} {L : Ledger} (v : Invariant l L) where
       place : nextPosition l % F ≡ suc t % F
       place = ap (_% F) (next-position v) ∙ place-of-position ok (suc t)
 
-      go : (b : Bool) → eqb (nextPosition l % F) 0 ≡ b → Advances (withCurrent (cond b (recycled l) l) (nextPosition l))
+      go : (b : Bool) → eqb (nextPosition l % F) 0 ≡ b → Advances (withTaken (withCurrent (cond b (recycled l) l) (nextPosition l)) false)
       go true e =
           let change : suc t % F ≡ 0 = sym place ∙ eqb-true (nextPosition l % F) 0 e in
           let keeps = frame-change-keeps v change in

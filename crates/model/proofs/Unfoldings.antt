@@ -8,9 +8,10 @@ use Rattle.model.specs.Fresh.{fresh}
 use Rattle.model.specs.Request.{valid, search, sought, booked, refusedAtNewest, answered, requestAfter, request}
 use Rattle.model.specs.Credit.{lowered, creditAfter, credit}
 use Rattle.model.specs.Tick.{recycled, advanced, tick}
+use Rattle.model.specs.Lend.{canTake, lentTo, chosen, lentAfter, lendAfter, lend}
 use Rattle.model.specs.Record.{records, callOf}
 use Rattle.model.specs.Listing.{digits, decimal, outcomes, listing, planMissing, outputAfter, output}
-use Rattle.model.specs.History.{ticks, slotAfter, changes, wellFormed, grants, credits, refusals}
+use Rattle.model.specs.History.{ticks, slotAfter, changes, wellFormed, grants, credits, refusals, lends}
 use Rattle.model.specs.Card.{play}
 
 -- a plan's refusal
@@ -29,7 +30,7 @@ requests-compute = tt
 
 -- the calls of the paper's card, and a list of calls played
 unfoldable pub calls-compute : Unit {0}
-unfolding fresh requests-compute lowered creditAfter credit recycled advanced tick play
+unfolding fresh requests-compute lowered creditAfter credit recycled advanced tick canTake lentTo chosen lentAfter lendAfter lend play
 calls-compute = tt
 
 -- what the program writes
@@ -39,5 +40,5 @@ program-computes = tt
 
 -- what is counted over a history
 unfoldable pub counts-compute : Unit {0}
-unfolding ahead tally ticks slotAfter changes wellFormed grants credits refusals
+unfolding ahead tally ticks slotAfter changes wellFormed grants credits refusals lends
 counts-compute = tt

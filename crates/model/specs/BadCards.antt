@@ -9,7 +9,7 @@ use Rattle.model.specs.Tables.{table, every, firstFrom, ahead}
 use Rattle.model.specs.Refusals.{Line, firstOf, _when_}
 use Rattle.model.specs.Word.{flowOf, depart}
 use Rattle.model.specs.Plan.{Plan, positions, flowCount}
-use Rattle.model.specs.Calls.{Grant, Receipt, Turn, accepted, refused}
+use Rattle.model.specs.Calls.{Grant, Receipt, Turn, Loan, accepted, refused}
 use Rattle.model.specs.Window.{passed, everyFrom, frameAt, start, next, newest}
 use Rattle.model.specs.Link.{Link, window, owner, flow, holding, share, cells, linkWith, withFlows, movedTo, withHeld}
 use Rattle.model.specs.Request.{Found, nowhere, wordTests, unbooked, valid, orElse, search, answered}
@@ -17,22 +17,33 @@ use Rattle.model.specs.Credit.{creditAfter}
 use Rattle.model.specs.Tick.{nextPosition}
 use Rattle.model.specs.Card.{Card, both, paper}
 
--- ---- the paper's card with another fresh, request, credit or tick
+-- ---- the paper's card with another function for one call
 
-abbrev cardWith : (Plan → Link) → (Link → ℕ → Link × Grant) → (Link → ℕ → ℕ → Link × Receipt) → (Link → Link × Turn) → Card
-cardWith fresh request credit tick = record { State = Link; fresh = fresh; request = request; credit = credit; tick = tick }
+abbrev cardWith : (Plan → Link) → (Link → ℕ → Link × Grant) → (Link → ℕ → ℕ → Link × Receipt) → (Link → Link × Turn)
+    → (Link → ℕ → ℕ → Link × Loan) → Card
+cardWith fresh request credit tick lend = record {
+  State = Link;
+  fresh = fresh;
+  request = request;
+  credit = credit;
+  tick = tick;
+  lend = lend;
+}
 
 abbrev withFresh : (Plan → Link) → Card
-withFresh fresh = cardWith fresh (paper .request) (paper .credit) (paper .tick)
+withFresh fresh = cardWith fresh (paper .request) (paper .credit) (paper .tick) (paper .lend)
 
 abbrev withRequest : (Link → ℕ → Link × Grant) → Card
-withRequest request = cardWith (paper .fresh) request (paper .credit) (paper .tick)
+withRequest request = cardWith (paper .fresh) request (paper .credit) (paper .tick) (paper .lend)
 
 abbrev withCredit : (Link → ℕ → ℕ → Link × Receipt) → Card
-withCredit credit = cardWith (paper .fresh) (paper .request) credit (paper .tick)
+withCredit credit = cardWith (paper .fresh) (paper .request) credit (paper .tick) (paper .lend)
 
-abbrev withTick : (Link → Link × Turn) → Card
-withTick tick = cardWith (paper .fresh) (paper .request) (paper .credit) tick
+abbrev pub withTick : (Link → Link × Turn) → Card
+withTick tick = cardWith (paper .fresh) (paper .request) (paper .credit) tick (paper .lend)
+
+abbrev pub withLend : (Link → ℕ → ℕ → Link × Loan) → Card
+withLend lend = cardWith (paper .fresh) (paper .request) (paper .credit) (paper .tick) lend
 
 -- ---- "Link cards we would send back"
 
@@ -50,7 +61,7 @@ grantsOne p next = withRequest (λ l w. (next l w, accepted (depart w p)))
 
 -- "writes no booking down": the owners stay as they are
 abbrev unwritten : Link → Link → Link
-unwritten l next = linkWith next (next .current) (l .owners) (next .flows)
+unwritten l next = linkWith next (next .current) (l .owners) (next .flows) (next .taken)
 
 abbrev pub writesNoBooking : Card
 writesNoBooking = withRequest (λ l w. (unwritten l (paper .request l w .0), paper .request l w .1))
@@ -70,6 +81,7 @@ firstWindowOnly = record {
   request = λ s w. cond (ltb (s .ticks) (positions (s .link .plan))) (counted (s .ticks) (paper .request (s .link) w)) (s, refused 12);
   credit = λ s i p. counted (s .ticks) (paper .credit (s .link) i p);
   tick = λ s. counted (suc (s .ticks)) (paper .tick (s .link));
+  lend = λ s m x. counted (s .ticks) (paper .lend (s .link) m x);
 }
 
 -- the credit's tests, with another one of what the flow holds
@@ -115,7 +127,7 @@ soughtWith invented l i =
 abbrev pub inventsHolding : (forRequests forCredits : Link → ℕ → ℕ → ℕ) → Card
 inventsHolding forRequests forCredits =
     cardWith (paper .fresh) (withSearch (soughtWith forRequests) .request)
-    (withHoldingTest (λ l i p. everyFrom (window l) p (λ q. ltb 0 (forCredits l i q))) .credit) (paper .tick)
+    (withHoldingTest (λ l i p. everyFrom (window l) p (λ q. ltb 0 (forCredits l i q))) .credit) (paper .tick) (paper .lend)
 
 -- all of its cells everywhere, where the flow holds them anywhere in the window
 abbrev pub fullest : Link → ℕ → ℕ → ℕ

@@ -5,7 +5,7 @@ use mathlib.Core.List.{List, _∷_, [], reverse}
 use mathlib.Core.Option.{some, none}
 use Rattle.model.specs.PlanBytes.{plan1, plan2, listing, roomy}
 use Rattle.model.specs.Plan.{Plan, planOf}
-use Rattle.model.specs.Calls.{Event, History, requested, credited, ticked, accepted, refused}
+use Rattle.model.specs.Calls.{Event, History, requested, credited, ticked, lent, accepted, refused}
 use Rattle.model.specs.Claim.{Clause, Says}
 use Rattle.model.specs.Buffer.{FitsBuffer}
 
@@ -100,6 +100,25 @@ badHistories =
     }
     -- flow 2 of two, with the node 0 that an entry past the last has
     ∷ record { clause = Clause.granted-words; bytes = listing; events = requested 0x00200000 (accepted 0x00200001) ∷ [] }
+    -- slot 1 is booked by flow 0 and lent to flow 1; slot 0 is lent to both
+    ∷ record { clause = Clause.one-owner; bytes = listing; events = granted 1 ∷ ticked (some 0) ∷ lent 2 (accepted 1) ∷ [] }
+    ∷ record { clause = Clause.one-owner; bytes = listing; events = lent 1 (accepted 0) ∷ lent 2 (accepted 1) ∷ [] }
+    -- three lent slots held with 2 cells; and one lent and two granted
+    ∷ record {
+      clause = Clause.within-cells;
+      bytes = listing;
+      events = lent 1 (accepted 0) ∷ ticked none ∷ lent 1 (accepted 0) ∷ ticked none ∷ lent 1 (accepted 0) ∷ [];
+    }
+    ∷ record { clause = Clause.within-cells; bytes = listing; events = lent 1 (accepted 0) ∷ granted 1 ∷ granted 2 ∷ [] }
+    -- a lend is no grant of the next slot
+    ∷ record { clause = Clause.comes-up; bytes = listing; events = ticked none ∷ lent 1 (accepted 0) ∷ ticked (some 0) ∷ [] }
+    -- lent to a flow that the mask does not have, and to flow 2 of two
+    ∷ record { clause = Clause.lent-flows; bytes = listing; events = lent 1 (accepted 1) ∷ [] }
+    ∷ record { clause = Clause.lent-flows; bytes = listing; events = lent 4 (accepted 2) ∷ [] }
+    -- a mask with a bit at n is answered
+    ∷ record { clause = Clause.lent-flows; bytes = listing; events = lent 5 (accepted 0) ∷ [] }
+    -- a lent slot does not count in the least: one slot is granted where the least count is 2
+    ∷ record { clause = Clause.least; bytes = roomy; events = lent 1 (accepted 0) ∷ granted 1 ∷ requested 0x24000400 (refused 12) ∷ [] }
     ∷ []
 
 -- ---- the next board's buffer

@@ -5,12 +5,12 @@ use mathlib.Core.List.{List}
 use Rattle.model.specs.Tables.{sum}
 use Rattle.model.specs.Plan.{Plan, flowCount, planOf, refusal}
 use Rattle.model.specs.Calls.{Call, History}
-use Rattle.model.specs.History.{grantedUpTo, creditedUpTo}
+use Rattle.model.specs.History.{grantedUpTo, lentUpTo, creditedUpTo}
 use Rattle.model.specs.Card.{Card, run}
 
 -- All streams together hold at most N at slot s.
 abbrev pub FitsBuffer : Plan → History → ℕ → Type 0
-FitsBuffer P h s = sum (flowCount P) (λ i. grantedUpTo P h i s) ≤ sum (flowCount P) (λ i. creditedUpTo P h i s) + P .buffer
+FitsBuffer P h s = sum (flowCount P) (λ i. grantedUpTo P h i s + lentUpTo h i s) ≤ sum (flowCount P) (λ i. creditedUpTo P h i s) + P .buffer
 
 abbrev pub NeverOverfull : Card → Type 0
 NeverOverfull c =

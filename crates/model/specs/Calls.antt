@@ -1,13 +1,21 @@
--- The calls of a list and their answers. Document 01, "The four calls". It names no link. Assumes nothing.
-use Prim.Native.Nat.{ℕ}
+-- The calls of a list and their answers. Document 01, "The four calls"; document 02, N1. It names no link. Assumes nothing.
+use Prim.Native.Nat.{ℕ, _/_, _%_, _^_}
 use mathlib.Core.List.{List}
 use mathlib.Core.Option.{Option}
+use mathlib.Core.Bool.{Bool}
+use lib.Dec.{eqb}
 
--- Requests have any word, and credits any flow and position.
+-- Requests have any word, credits any flow and position, and lends any mask. Which flow gets the lent slot "is left open": the choice, any number,
+-- stands in the call, so that what holds of every list of calls holds for every choice, also for one that changes from call to call.
 pub data Call : Type 0 where
   request : (word : ℕ) → Call
   credit : (flow position : ℕ) → Call
   tick : Call
+  lend : (mask choice : ℕ) → Call
+
+-- document 02, N1: "a 16-bit mask, bit i for flow i"
+abbrev pub inMask : (mask i : ℕ) → Bool
+inMask mask i = eqb (mask / 2 ^ i % 2) 1
 
 -- A call is accepted, with what it answers, or refused by a number of the table.
 pub data Answer (A : Type 0) : Type 0 where
@@ -26,11 +34,16 @@ Receipt = Answer (Unit {0})
 abbrev pub Turn : Type 0
 Turn = Option ℕ
 
+-- a lend: the flow that the current slot is lent to, or a refusal
+abbrev pub Loan : Type 0
+Loan = Answer ℕ
+
 -- A call with its answer.
 pub data Event : Type 0 where
   requested : (word : ℕ) → Grant → Event
   credited : (flow position : ℕ) → Receipt → Event
   ticked : Turn → Event
+  lent : (mask : ℕ) → Loan → Event
 
 -- The events of a list of calls, the newest first: behind an event stands what was before it.
 abbrev pub History : Type 0

@@ -1,15 +1,16 @@
--- A link card: a state and four functions of the calls' types; a list of calls played on it; and what it is to meet demand 3. Assumes nothing.
+-- A link card: a state and a function for each call; a list of calls played on it; and what it is to meet demand 3. Assumes nothing.
 use Prim.Native.Nat.{ℕ, _<_}
 use mathlib.Core.Path.{_≡_}
 use mathlib.Core.List.{List, _∷_, []}
 use Rattle.model.specs.Plan.{Plan, flowCount, planOf, refusal}
-use Rattle.model.specs.Calls.{Call, Grant, Receipt, Turn, Event, History, requested, credited, ticked}
+use Rattle.model.specs.Calls.{Call, Grant, Receipt, Turn, Loan, Event, History, requested, credited, ticked, lent}
 use Rattle.model.specs.Claim.{Demand3}
 use Rattle.model.specs.Link.{Link, Step}
 use Rattle.model.specs.Fresh as fresh
 use Rattle.model.specs.Request as request
 use Rattle.model.specs.Credit as credit
 use Rattle.model.specs.Tick as tick
+use Rattle.model.specs.Lend as lend
 
 pub record Card : Type 1 where
   pub State : Type 0
@@ -17,6 +18,7 @@ pub record Card : Type 1 where
   pub request : State → ℕ → State × Grant
   pub credit : State → ℕ → ℕ → State × Receipt
   pub tick : State → State × Turn
+  pub lend : State → (mask choice : ℕ) → State × Loan
 
 -- a card after some calls, with their events
 pub record Played (c : Card) : Type 0 where
@@ -32,6 +34,7 @@ abbrev pub step : (c : Card) → Played c → Call → Played c
 step c r (Call.request w) = next r (requested w) (c .request (r .state) w)
 step c r (Call.credit i p) = next r (credited i p) (c .credit (r .state) i p)
 step c r Call.tick = next r ticked (c .tick (r .state))
+step c r (Call.lend m x) = next r (lent m) (c .lend (r .state) m x)
 
 unfoldable pub play : (c : Card) → Played c → List Call → Played c
 play c r [] = r
@@ -44,8 +47,8 @@ started c P = record { state = c .fresh P; history = [] }
 abbrev pub run : (c : Card) → Plan → List Call → Played c
 run c P calls = play c (started c P) calls
 
--- Demand 3 of a card on one plan: for every list of calls and every flow. Words, flows and positions are any numbers, more than a program can be
--- given.
+-- Demand 3 of a card on one plan: for every list of calls, refused ones too, and every flow. Words, flows, positions, masks and
+-- choices are any numbers, more than a program can be given.
 abbrev pub MeetsOn : Card → Plan → Type 0
 MeetsOn c P = (calls : List Call) (i : ℕ) → i < flowCount P → Demand3 P i (run c P calls .history)
 
@@ -53,7 +56,7 @@ MeetsOn c P = (calls : List Call) (i : ℕ) → i < flowCount P → Demand3 P i 
 abbrev pub Meets : Card → Type 0
 Meets c = (bytes : List ℕ) → refusal bytes ≡ 0 → MeetsOn c (planOf bytes)
 
--- the card of document 01
+-- the card of documents 01 and 02
 abbrev pub both : {A : Type 0} → Step A → Link × A
 both handed = (handed .link, handed .answer)
 
@@ -64,4 +67,5 @@ paper = record {
   request = λ l w. both (request.request l w);
   credit = λ l i p. both (credit.credit l i p);
   tick = λ l. both (tick.tick l);
+  lend = λ l m x. both (lend.lend l m x);
 }

@@ -1,4 +1,5 @@
--- Demand 3: one claim about the events of a whole list of calls. Document 01, "What demand 3 counts". It names no link. Assumes nothing.
+-- Demand 3: one claim about the events of a whole list of calls. Document 01, "What demand 3 counts"; document 02, N1. It names no
+-- link. Assumes nothing.
 --
 -- With k frame changes so far a stream is granted at most (W + k) × share slots, and at most its share in any frame. One that asks until it is
 -- refused in each of the frames 0 to k, and at each of its well-formed requests holds fewer than its cells in every slot from the current one on,
@@ -11,18 +12,20 @@
 --   modulo T);
 -- - requests refused to a stream that lapsed once: in some frame it was not refused, so that a stream that asks for less than its share has no least
 --   count from the next frame on; or once it asked with all of its cells held in a slot from the current one on, as flow 0 does in the listing's
---   third call. A card that gives a flow 12 for ever after its first 12 meets demand 3.
-use Prim.Native.Nat.{ℕ, _+_, _-_, _*_, _≤_, _<_}
+--   third call. A card that gives a flow 12 for ever after its first 12 meets demand 3;
+-- - lends refused that should be answered, and with which number; a mark that stands past the tick, or that a refused lend sets; a lent slot booked in
+--   the table of owners; what is held of a lent slot in slots that are gone, or in the current one.
+use Prim.Native.Nat.{ℕ, _+_, _-_, _*_, _^_, _≤_, _<_}
 use mathlib.Core.Path.{_≡_}
 use mathlib.Core.Logic.{_↔_}
 use mathlib.Core.List.{_∷_, []}
 use mathlib.Core.Option.{some}
 use mathlib.Core.Bool.{true}
 use Rattle.model.specs.Word.{flowOf, departureOf, depart}
-use Rattle.model.specs.Plan.{Plan, positions, entry}
-use Rattle.model.specs.Calls.{Event, History, Turn, requested, credited, ticked, accepted, refused}
+use Rattle.model.specs.Plan.{Plan, positions, flowCount, entry}
+use Rattle.model.specs.Calls.{Event, History, Turn, requested, credited, ticked, lent, accepted, refused, inMask}
 use Rattle.model.specs.History.{ticks, changes, slotAfter, wellFormed}
-use Rattle.model.specs.History.{granted, grantedIn, refusedIn, grantedUpTo, creditedUpTo, ownersOf, Owns}
+use Rattle.model.specs.History.{granted, grantedIn, refusedIn, grantedUpTo, lentUpTo, creditedUpTo, ownersOf, WasGranted}
 
 -- ---- each event, and what was before it
 
@@ -35,6 +38,7 @@ abbrev pub AtRequest : (ℕ → History → Type 0) → Event → History → Ty
 AtRequest Q (requested w a) h = Q w h
 AtRequest Q (credited j p a) h = Unit {0}
 AtRequest Q (ticked x) h = Unit {0}
+AtRequest Q (lent m a) h = Unit {0}
 
 -- Q holds of the asked word and the granted one, where the event is a grant.
 abbrev pub AtGrant : (ℕ → ℕ → History → Type 0) → Event → History → Type 0
@@ -42,19 +46,29 @@ AtGrant Q (requested w (accepted v)) h = Q w v h
 AtGrant Q (requested w (refused r)) h = Unit {0}
 AtGrant Q (credited j p a) h = Unit {0}
 AtGrant Q (ticked x) h = Unit {0}
+AtGrant Q (lent m a) h = Unit {0}
 
 -- Q holds of the answer, where the event is a tick.
 abbrev pub AtTick : (Turn → History → Type 0) → Event → History → Type 0
 AtTick Q (requested w a) h = Unit {0}
 AtTick Q (credited j p a) h = Unit {0}
 AtTick Q (ticked x) h = Q x h
+AtTick Q (lent m a) h = Unit {0}
+
+-- Q holds of the mask and the flow, where the event is a lend that is answered with a flow.
+abbrev pub AtLoan : (ℕ → ℕ → Type 0) → Event → History → Type 0
+AtLoan Q (requested w a) h = Unit {0}
+AtLoan Q (credited j p a) h = Unit {0}
+AtLoan Q (ticked x) h = Unit {0}
+AtLoan Q (lent m (accepted i)) h = Q m i
+AtLoan Q (lent m (refused r)) h = Unit {0}
 
 -- ---- the stream that asks until it is refused
 
 -- what the least count asks of each well-formed request of flow i, with word w, after h
 pub record Ready (P : Plan) (i w : ℕ) (h : History) : Type 0 where
   -- it holds fewer than its cells in every slot from the current one on
-  pub room : (s : ℕ) → ticks h ≤ s → grantedUpTo P h i s < creditedUpTo P h i s + entry P i .cells
+  pub room : (s : ℕ) → ticks h ≤ s → grantedUpTo P h i s + lentUpTo h i s < creditedUpTo P h i s + entry P i .cells
 
 -- "Each request means each of its well-formed requests."
 abbrev pub ReadyAt : Plan → ℕ → Event → History → Type 0
@@ -68,9 +82,10 @@ pub record Persistent (P : Plan) (i : ℕ) (h : History) : Type 0 where
 -- ---- what is held, granted and answered
 
 -- "What a stream holds at slot s is its granted slots up to and including s, less its taken credits for slots up to and including s."
+-- Document 02, N1: "a lent slot counts in what its flow holds".
 pub record Held (P : Plan) (i : ℕ) (h : History) (s : ℕ) : Type 0 where
   pub held : ℕ
-  pub is : grantedUpTo P h i s ≡ creditedUpTo P h i s + held
+  pub is : grantedUpTo P h i s + lentUpTo h i s ≡ creditedUpTo P h i s + held
   pub within : held ≤ entry P i .cells
 
 -- "It never holds more than its cells at any slot, after any call."
@@ -83,7 +98,7 @@ SoonAt P = AtGrant (λ w v h. slotAfter P (ticks h) (departureOf v) < ticks h + 
 
 -- "Tick number s answers a flow exactly when an earlier request of that flow was granted slot s, and else idle."
 abbrev pub ComesUpAt : Plan → Event → History → Type 0
-ComesUpAt P = AtTick (λ x h. (i : ℕ) → (x ≡ some i) ↔ Owns P h i (ticks h + 1))
+ComesUpAt P = AtTick (λ x h. (i : ℕ) → (x ≡ some i) ↔ WasGranted P h i (ticks h + 1))
 
 -- A granted word v is the asked word w with another departure, a position; and w was well formed.
 pub record GrantedWord (P : Plan) (w v : ℕ) : Type 0 where
@@ -94,13 +109,22 @@ pub record GrantedWord (P : Plan) (w v : ℕ) : Type 0 where
 abbrev pub GrantedWordAt : Plan → Event → History → Type 0
 GrantedWordAt P = AtGrant (λ w v h. GrantedWord P w v)
 
+-- Document 02, N1: "The slot goes to some flow of the mask", and the mask has no bit at n or above.
+pub record LentFlow (P : Plan) (m i : ℕ) : Type 0 where
+  pub mask-below : m < 2 ^ flowCount P
+  pub known : i < flowCount P
+  pub in-mask : inMask m i ≡ true
+
+abbrev pub LentFlowAt : Plan → Event → History → Type 0
+LentFlowAt P = AtLoan (LentFlow P)
+
 -- ---- the clauses of the claim
 
 pub data Clause : Type 0 where
-  -- the most and the least that is granted
+  -- the most and the least that is granted; document 02, N1: they "speak of booked slots only"
   most most-in-a-frame least : Clause
   -- over the whole list
-  within-cells one-owner within-a-window comes-up granted-words : Clause
+  within-cells one-owner within-a-window comes-up granted-words lent-flows : Clause
 
 -- what each says of flow i
 abbrev pub Says : Clause → Plan → ℕ → History → Type 0
@@ -111,11 +135,12 @@ Says Clause.most-in-a-frame P i h = (f : ℕ) → grantedIn P h i f ≤ entry P 
 -- at least (W - 1 + k) × share slots, for a stream that asks until it is refused
 Says Clause.least P i h = Persistent P i h → (P .frames - 1 + changes P h) * entry P i .share ≤ granted P h i
 Says Clause.within-cells P i h = Each (HeldAt P i) h
--- "No two grants of the list are of one slot."
+-- "No two grants of the list are of one slot." Document 02, N1: a lent slot "has no other owner".
 Says Clause.one-owner P i h = (s : ℕ) → ownersOf P h s ≤ 1
 Says Clause.within-a-window P i h = Each (SoonAt P) h
 Says Clause.comes-up P i h = Each (ComesUpAt P) h
 Says Clause.granted-words P i h = Each (GrantedWordAt P) h
+Says Clause.lent-flows P i h = Each (LentFlowAt P) h
 
 -- ---- the claim, for flow i
 

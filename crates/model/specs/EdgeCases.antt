@@ -8,7 +8,7 @@ use mathlib.Core.Bool.{cond}
 use lib.Dec.{eqb}
 use Rattle.model.specs.Word.{depart}
 use Rattle.model.specs.Plan.{positions, planOf, refusal}
-use Rattle.model.specs.Calls.{Call, Event, History, requested, credited, ticked, accepted, refused}
+use Rattle.model.specs.Calls.{Call, Event, History, requested, credited, ticked, lent, accepted, refused}
 use Rattle.model.specs.Card.{Card, run}
 use Rattle.model.specs.Listing.{text, output}
 
@@ -59,14 +59,20 @@ refuses number bytes = record { trial = link bytes []; expected = refusedPlan nu
 
 -- ---- calls with their answers, on a plan
 
--- the call of an event
+-- the call of an event; what a lend leaves open is chosen so that its flow is the one
 abbrev callMade : Event → Call
 callMade (requested w a) = Call.request w
 callMade (credited i p a) = Call.credit i p
 callMade (ticked x) = Call.tick
+callMade (lent m (accepted i)) = Call.lend m i
+callMade (lent m (refused r)) = Call.lend m 0
 
 abbrev pub plays : List ℕ → List Event → Case
 plays bytes es = record { trial = link bytes (map callMade es); expected = events es }
+
+-- calls and the answers that they are to have
+abbrev pub answers : List ℕ → List Call → List Event → Case
+answers bytes calls es = record { trial = link bytes calls; expected = events es }
 
 -- A call of a player and its answer. Its requests have destination 9, the flow's quantum number (the same again after a refusal) and the current
 -- position as departure.
@@ -80,6 +86,9 @@ pub data Answered : Type 0 where
   -- a tick answers a flow, or idle
   serve : (flow : ℕ) → Answered
   idle : Answered
+  -- the current slot is lent to a flow of a mask, or not
+  lend : (mask flow : ℕ) → Answered
+  deny : (mask number : ℕ) → Answered
 
 -- k idle ticks, and then the rest
 abbrev pub idles : ℕ → List Answered → List Answered
@@ -99,6 +108,8 @@ played T at next (credit i p ∷ rest) = credited i p (accepted tt) ∷ played T
 played T at next (reject i p r ∷ rest) = credited i p (refused r) ∷ played T at next rest
 played T at next (serve i ∷ rest) = ticked (some i) ∷ played T ((at + 1) % T) next rest
 played T at next (idle ∷ rest) = ticked none ∷ played T ((at + 1) % T) next rest
+played T at next (lend m i ∷ rest) = lent m (accepted i) ∷ played T at next rest
+played T at next (deny m r ∷ rest) = lent m (refused r) ∷ played T at next rest
 
 abbrev pub follows : List ℕ → List Answered → Case
 follows bytes answered = plays bytes (played (positions (planOf bytes)) 0 (λ i. 0) answered)

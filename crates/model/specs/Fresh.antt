@@ -1,6 +1,7 @@
 -- The fresh link. Document 01, "The four calls", "Fresh". Assumes nothing.
 use Prim.Native.Nat.{ℕ}
 use mathlib.Core.Option.{none}
+use mathlib.Core.Bool.{false}
 use lib.ListN.{replicate}
 use Rattle.model.specs.Tables.{table}
 use Rattle.model.specs.Plan.{Plan, positions, flowCount, entry}
@@ -20,4 +21,5 @@ fresh P = record {
   current = 0;
   owners = replicate (positions P) none;
   flows = table (flowCount P) (freshFlow P);
+  taken = false;  -- document 02, N1: nothing is lent
 }

@@ -1,4 +1,4 @@
--- What is counted over the events of a list of calls. Document 01, "What demand 3 counts". It names no link. Assumes nothing.
+-- What is counted over the events of a list of calls. Document 01, "What demand 3 counts"; document 02, N1. It names no link. Assumes nothing.
 use Prim.Native.Nat.{ℕ, suc, _+_, _/_, _%_, _<_}
 use mathlib.Core.List.{List, _∷_, []}
 use mathlib.Core.Bool.{Bool, _&&_, cond}
@@ -6,7 +6,7 @@ use lib.Dec.{leb, ltb, eqb}
 use Rattle.model.specs.Tables.{ahead, bit, tally}
 use Rattle.model.specs.Word.{flowOf, destinationOf, departureOf}
 use Rattle.model.specs.Plan.{Plan, positions, flowCount, entry}
-use Rattle.model.specs.Calls.{History, requested, credited, ticked, accepted, refused}
+use Rattle.model.specs.Calls.{History, requested, credited, ticked, lent, accepted, refused}
 
 -- ---- slots and frames, numbered on without end
 
@@ -16,6 +16,7 @@ ticks [] = 0
 ticks (requested w a ∷ h) = ticks h
 ticks (credited i p a ∷ h) = ticks h
 ticks (ticked x ∷ h) = suc (ticks h)
+ticks (lent m a ∷ h) = ticks h
 
 -- "the first slot after slot t whose number modulo T is that position"
 unfoldable pub slotAfter : Plan → ℕ → ℕ → ℕ
@@ -31,13 +32,14 @@ changes P [] = 0
 changes P (requested w a ∷ h) = changes P h
 changes P (credited i p a ∷ h) = changes P h
 changes P (ticked x ∷ h) = bit (eqb (suc (ticks h) % P .slots) 0) + changes P h
+changes P (lent m a ∷ h) = changes P h
 
 -- "A word is well formed if its flow is below n, its destination the plan's and its departure below T."
 unfoldable pub wellFormed : Plan → ℕ → Bool
 wellFormed P w =
     ltb (flowOf w) (flowCount P) && eqb (destinationOf w) (entry P (flowOf w) .destination) && ltb (departureOf w) (positions P)
 
--- ---- granted slots, taken credits, refusals
+-- ---- granted slots, taken credits, refusals, lent slots
 
 -- a slot of a flow
 pub record Mark : Type 0 where
@@ -51,6 +53,7 @@ grants P (requested w (accepted v) ∷ h) = record { flow = flowOf w; slot = slo
 grants P (requested w (refused r) ∷ h) = grants P h
 grants P (credited i p a ∷ h) = grants P h
 grants P (ticked x ∷ h) = grants P h
+grants P (lent m a ∷ h) = grants P h
 
 -- the slots that taken credits are dated
 unfoldable pub credits : Plan → History → List Mark
@@ -59,6 +62,7 @@ credits P (requested w a ∷ h) = credits P h
 credits P (credited i p (accepted u) ∷ h) = record { flow = i; slot = slotAfter P (ticks h) p } ∷ credits P h
 credits P (credited i p (refused r) ∷ h) = credits P h
 credits P (ticked x ∷ h) = credits P h
+credits P (lent m a ∷ h) = credits P h
 
 -- the slots in which a well-formed request was refused: "A request after t ticks is made in the frame of slot t."
 unfoldable pub refusals : Plan → History → List Mark
@@ -67,6 +71,16 @@ refusals P (requested w (accepted v) ∷ h) = refusals P h
 refusals P (requested w (refused r) ∷ h) = cond (wellFormed P w) (record { flow = flowOf w; slot = ticks h } ∷ refusals P h) (refusals P h)
 refusals P (credited i p a ∷ h) = refusals P h
 refusals P (ticked x ∷ h) = refusals P h
+refusals P (lent m a ∷ h) = refusals P h
+
+-- document 02, N1: the slots that were lent, each the current slot of a lend that was answered with a flow
+unfoldable pub lends : History → List Mark
+lends [] = []
+lends (requested w a ∷ h) = lends h
+lends (credited i p a ∷ h) = lends h
+lends (ticked x ∷ h) = lends h
+lends (lent m (accepted i) ∷ h) = record { flow = i; slot = ticks h } ∷ lends h
+lends (lent m (refused r) ∷ h) = lends h
 
 -- ---- tests of a mark
 
@@ -99,17 +113,20 @@ refusedIn P h i f = tally (inFrame P i f) (refusals P h)
 
 -- ---- counts over the whole list, for what is held and who owns a slot
 
--- flow i's granted slots up to slot s, and its taken credits for slots up to s
+-- flow i's granted slots up to slot s, its lent slots up to s, and its taken credits for slots up to s
 abbrev pub grantedUpTo : Plan → History → ℕ → ℕ → ℕ
 grantedUpTo P h i s = tally (upTo i s) (grants P h)
+
+abbrev pub lentUpTo : History → ℕ → ℕ → ℕ
+lentUpTo h i s = tally (upTo i s) (lends h)
 
 abbrev pub creditedUpTo : Plan → History → ℕ → ℕ → ℕ
 creditedUpTo P h i s = tally (upTo i s) (credits P h)
 
--- the grants of slot s, of all flows
+-- the grants and the lends of slot s, of all flows
 abbrev pub ownersOf : Plan → History → ℕ → ℕ
-ownersOf P h s = tally (atSlot s) (grants P h)
+ownersOf P h s = tally (atSlot s) (grants P h) + tally (atSlot s) (lends h)
 
 -- Flow i was granted slot s.
-abbrev pub Owns : Plan → History → ℕ → ℕ → Type 0
-Owns P h i s = 0 < tally (λ m. ofFlow i m && atSlot s m) (grants P h)
+abbrev pub WasGranted : Plan → History → ℕ → ℕ → Type 0
+WasGranted P h i s = 0 < tally (λ m. ofFlow i m && atSlot s m) (grants P h)

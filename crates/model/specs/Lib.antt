@@ -10,6 +10,8 @@ pub mod Fresh
 pub mod Request
 pub mod Credit
 pub mod Tick
+-- document 02
+pub mod Lend
 -- the program
 pub mod Record
 pub mod Listing
@@ -24,7 +26,9 @@ pub mod PlanBytes
 pub mod EdgeCases
 pub mod PlanEdges
 pub mod CallEdges
+pub mod LendEdges
 pub mod ProgramEdges
 pub mod Edges
 pub mod BadHistories
 pub mod BadCards
+pub mod BadLends

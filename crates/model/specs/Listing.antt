@@ -11,7 +11,7 @@ use lib.Dec.{ltb}
 use Rattle.model.specs.Tables.{within}
 use Rattle.model.specs.Word.{departureOf}
 use Rattle.model.specs.Plan.{field16, planOf, refusal}
-use Rattle.model.specs.Calls.{Event, Grant, Receipt, Turn, accepted, refused}
+use Rattle.model.specs.Calls.{Event, Grant, Receipt, Turn, Loan, accepted, refused}
 use Rattle.model.specs.Link.{Link, Step}
 use Rattle.model.specs.Fresh.{fresh}
 use Rattle.model.specs.Request.{request}
@@ -73,6 +73,11 @@ creditLine (refused number) = refusalLine number
 abbrev pub tickLine : Turn → List ℕ
 tickLine (some flow) = line "T" (decimal flow)
 tickLine none = line "T" (text "-")
+
+-- a lend, which `domelink` has no record for: `L` and the flow
+abbrev pub lendLine : Loan → List ℕ
+lendLine (accepted flow) = line "L" (decimal flow)
+lendLine (refused number) = refusalLine number
 
 -- "It writes one line for each": the line of a call with its answer, or of a record that makes no call
 abbrev pub lineOf : Option RecordEvent → List ℕ

@@ -1,13 +1,14 @@
--- The tick. Document 01, "The four calls", "Tick". Assumes nothing.
+-- The tick. Document 01, "The four calls", "Tick"; document 02, N1. Assumes nothing.
 use Prim.Native.Nat.{ℕ, _+_, _%_}
 use mathlib.Core.Option.{Option, none}
-use mathlib.Core.Bool.{cond}
+use mathlib.Core.Bool.{false, cond}
 use lib.Dec.{eqb}
 use Rattle.model.specs.Tables.{table}
 use Rattle.model.specs.Plan.{positions}
 use Rattle.model.specs.Calls.{Turn}
 use Rattle.model.specs.Window.{head, next, inHead, last}
-use Rattle.model.specs.Link.{Link, Flow, Step, window, owner, flow, holding, share, withCurrent, withOwners, withFlows, movedTo, withHeld}
+use Rattle.model.specs.Link.{Link, Flow, Step, window, owner, flow, holding, share}
+use Rattle.model.specs.Link.{withCurrent, withOwners, withFlows, withTaken, movedTo, withHeld}
 
 -- "CP goes on by one modulo T."
 abbrev pub nextPosition : Link → ℕ
@@ -34,8 +35,12 @@ recycled l = withFlows (withOwners l (emptied l)) (λ i. carriedOn l i (leftHead
 -- ---- the tick
 
 -- "If CP modulo F is now 0": a frame change. "HF goes on by one modulo W" with CP, as HF is the frame of CP.
+abbrev pub movedOn : Link → Link
+movedOn l = withCurrent (cond (eqb (nextPosition l % l .plan .slots) 0) (recycled l) l) (nextPosition l)
+
+-- "A lent slot is marked taken until the next tick."
 unfoldable pub advanced : Link → Link
-advanced l = withCurrent (cond (eqb (nextPosition l % l .plan .slots) 0) (recycled l) l) (nextPosition l)
+advanced l = withTaken (movedOn l) false
 
 -- "The answer is the flow booked at the new CP, or idle."
 unfoldable pub tick : Link → Step Turn

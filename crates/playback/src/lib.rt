@@ -76,6 +76,7 @@ pub fn play(start: Link, records: &[u8], out: &mut [u8]) -> Playback
             }
             Call::Tick => {
                 let on = w.ticked();
+                link.taken = false;
                 if on.head != w.head {
                     empty_head(&mut link.owner, w);
                     carry_head(&mut link.held, plan.count, w);

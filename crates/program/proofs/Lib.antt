@@ -9,3 +9,4 @@ mod PlanStages
 mod PlanRead
 pub mod Pieces
 pub mod Determined
+pub mod Demand3

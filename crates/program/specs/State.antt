@@ -2,7 +2,7 @@
 use Prim.Native.Nat.{ℕ, _≤_, _<_}
 use mathlib.Core.Path.{_≡_}
 use mathlib.Core.List.{List, []}
-use mathlib.Core.Bool.{true}
+use mathlib.Core.Bool.{true, false}
 use lib.ListN.{length, take, replicate}
 use lib.Seq.{sets}
 use Rattle.plan.specs.Reading.{noEntry}
@@ -51,6 +51,7 @@ noLink = record {
   owner = replicate 256 0;
   flows = replicate 16 noFlow;
   held = replicate 4096 0;
+  taken = false;
 }
 
 -- bytes of the plan are still to come

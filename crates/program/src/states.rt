@@ -40,6 +40,7 @@ pub(crate) fn no_link() -> Link
         owner,
         flows,
         held,
+        taken: false,
     }
 }
 

@@ -20,6 +20,7 @@ fn number(answer: Answer) -> u64 {
         Answer::Taken => 1,
         Answer::Turn(flow) => flow as u64,
         Answer::Idle => 16,
+        Answer::Lent(flow) => flow as u64,
         Answer::Refused(number) => number as u64,
     }
 }

@@ -87,6 +87,14 @@ pub(crate) fn room_rank(held: &Holdings, i: usize, cells: u8, w: Window) -> usiz
     last_full(held, cells, head, past) - head
 }
 
+// Whether flow i has room from p on.
+pub fn room_from(held: &Holdings, i: usize, cells: u8, w: Window, p: usize) -> bool
+    requires { ⌜ FlowAt w i p ⌝ }
+    ensures { λ r. ⌜ r ≡ model.everyFrom (windowOf w) p (roomAt (row (now (held .entry)) i) cells) ⌝ }
+{
+    room_rank(held, i, cells, w) <= w.rank(p)
+}
+
 // Whether at every place of the range from a to e something is held or the pad is above 0. The pad is `inner` at the `count` places
 // from a + `start` on, and `outer` at the others.
 fn held_in(held: &Holdings, a: usize, e: usize, start: u8, count: u8, inner: u8, outer: u8) -> bool

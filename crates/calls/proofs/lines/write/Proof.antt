@@ -119,6 +119,23 @@ returns-6 c =
     let a = c .before .before .before .before .before in
     line-put (a .before .before) (ap lineFor (sym (a .answer3 .given .1))) (c .before .before .put-number3 .ensures .0) (omega arith)
 
+enum-known-answer-4 : tie.Need-enum-known-answer-4
+enum-known-answer-4 c = search needs
+
+cast-put-number-3 : tie.Need-cast-put-number-3
+cast-put-number-3 c = search needs
+
+put-number-requires-4 : tie.Need-put-number-requires-4
+put-number-requires-4 c κs = (omega arith, room-there (c .before .before .before .before))
+
+same-length-7 : tie.Need-same-length-7
+same-length-7 c = search needs
+
+returns-7 : tie.Need-returns-7
+returns-7 c =
+    let a = c .before .before .before .before .before in
+    line-put (a .before .before) (ap lineFor (sym (a .answer4 .given .1))) (c .before .before .put-number4 .ensures .0) (omega arith)
+
 pub write-spec : {M : Type 1} → statement M
 write-spec =
     tie.close
@@ -148,4 +165,9 @@ write-spec =
     cast-put-number-2
     put-number-requires-3
     same-length-6
-    returns-6)
+    returns-6
+    enum-known-answer-4
+    cast-put-number-3
+    put-number-requires-4
+    same-length-7
+    returns-7)

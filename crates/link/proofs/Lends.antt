@@ -1,0 +1,186 @@
+-- A lend on a link, as it is read. Assumes nothing.
+use Prim.Native.Nat.{ℕ, zero, suc, _^_, _≤_, _<_}
+use mathlib.Core.Path.{_≡_, refl, sym, ap, _∙_}
+use mathlib.Core.List.{List, _∷_, []}
+use mathlib.Core.Option as option
+use mathlib.Core.Bool.{Bool, true, false, not, _&&_, _||_, cond}
+use native.Mathlib.Omega.{arith}
+use lib.Dec.{leb, ltb, eqb}
+use lib.ListN.{getD}
+use Rattle.model.specs.Refusals.{Line, firstOf, _when_}
+use Rattle.model.specs.Plan as paper
+use Rattle.model.specs.Calls.{accepted, refused, inMask}
+use Rattle.model.specs.Window.{Window, everyFrom}
+use Rattle.model.specs.Link as model
+use Rattle.model.specs.Request.{unbooked}
+use Rattle.model.specs.Lend.{canTake, takes, lendTests, lentTo, lendAfter, lend}
+use Rattle.model.proofs.LendChoice.{each-taker, no-taker}
+use Rattle.model.proofs.Tests.{and-true}
+use Rattle.calls.specs.declared.Answer.the-variants.{Lent, Refused}
+use Rattle.calls.specs.Reading.{answerToLend}
+use Rattle.plan.specs.declared.Plan.{Plan}
+use Rattle.plan.specs.Reading.{noEntry}
+use Rattle.window.specs.declared.Window as code
+use Rattle.window.specs.Ranges.{replaced}
+use Rattle.window.specs.Window.{windowOf, sizeOf, fromIn}
+use Rattle.window.proofs.FromOn.{everyFrom-same}
+use Rattle.tables.specs.Owners.{nobody, ownerOf}
+use Rattle.tables.specs.Rows.{row, withRow}
+use Rattle.tables.specs.Holdings.{roomAt, shiftedRow, shifted}
+use Rattle.tables.proofs.HoldingChanges.{one-more}
+use Rattle.link.specs.declared.Flow.{Flow}
+use Rattle.link.specs.declared.Link.{Link}
+use Rattle.link.specs.Layout.{sizeFor, entryAt, flowAt, ownerAt}
+use Rattle.link.specs.Updates.{withHeld, withFlows, withHoldings, withTaken, withFlow}
+use Rattle.link.specs.Reading.{linkOf}
+use Rattle.link.specs.Sound.{Sound}
+use Rattle.link.specs.Lend.{takesIn, FirstTaker, Lends}
+use Rattle.link.proofs.Plans.{plan-count, plan-entry}
+use Rattle.link.specs.Steps.{Stepped}
+use Rattle.link.proofs.Given.{AtHand}
+use Rattle.link.proofs.Credits.{same-flow}
+use Rattle.link.proofs.Readings.{read-count, read-entry, read-flow, read-holding, read-owner, some-flow}
+use Rattle.link.proofs.Updated.{sound-with, sound-owners, sound-flows, read-from, sound-from}
+
+-- the tests of the current slot, with n flows, this owner and this mark
+abbrev slotTests : (n owner : ℕ) (taken : Bool) (mask : ℕ) → List Line
+slotTests n owner taken mask = 8 when leb (2 ^ n) mask ∷ 17 when (not (eqb owner nobody) || taken) ∷ []
+
+unbooked-is : (x : ℕ) → unbooked (ownerOf x) ≡ eqb x nobody
+unbooked-is x = go (eqb x nobody)
+  where
+    go : (b : Bool) → unbooked (cond b option.none (option.some x)) ≡ b
+    go true = refl
+    go false = refl
+
+-- a mark alone changes nothing else of what is read, and a link with any mark is sound
+sound-marked : (l : Link) → Sound l → (t : Bool) → Sound (withTaken l t)
+sound-marked l s t = sound-with l s (s .current) (sound-owners l s) (sound-flows l s)
+
+marked-link : (l : Link) (t : Bool) → linkOf (withTaken l t) ≡ model.withTaken (linkOf l) t
+unfolding linkOf
+marked-link l t = refl
+
+current-read : (l : Link) → linkOf l .current ≡ l .cp
+unfolding linkOf
+current-read l = refl
+
+module _ {l : Link} {plan : Plan} {w : code.Window} (a : AtHand l plan w) (mask : ℕ) where
+  count-is : plan .count ≡ l .plan .count
+  count-is = ap (λ (p : Plan). p .count) (a .plan-is)
+
+  current-is : w .current ≡ l .cp
+  unfolding linkOf
+  current-is = ap (λ (x : Window). x .current) (a .window-is)
+
+  pub tests-are : firstOf (slotTests (plan .count) (ownerAt l (l .cp)) (l .taken) mask) ≡ firstOf (lendTests (linkOf l) mask)
+  unfolding firstOf linkOf
+  tests-are = rw (count-is, read-count l, read-owner l (l .cp) (a .sound .current), unbooked-is (ownerAt l (l .cp)))
+
+  -- ---- a flow that can take the slot
+
+  module _ (i : ℕ) (hi : i < l .plan .count) where
+    cells-are : entryAt l i .cells ≡ getD (plan .entries) i noEntry .cells
+    cells-are = ap (λ (p : Plan). getD (p .entries) i noEntry .cells) (sym (a .plan-is))
+
+    -- there is room at a position, as it is read
+    room-same : (q : ℕ) → q < sizeFor (l .plan)
+        → ltb (model.holding (linkOf l) i q) (model.cells (linkOf l) i) ≡ roomAt (row (l .held) i) (entryAt l i .cells) q
+    room-same q b =
+        let cells-read : model.cells (linkOf l) i ≡ entryAt l i .cells = ap (λ (e : paper.Entry). e .cells) (read-entry l i hi) in
+        λ k. ltb (read-holding l i q hi b k) (cells-read k)
+
+    takes-same : takes (linkOf l) mask i ≡ takesIn plan w (l .held) mask i
+    unfolding canTake linkOf
+    takes-same = ap (inMask mask i &&_) (
+        everyFrom-same (model.window (linkOf l)) (l .cp) (λ q. ltb (model.holding (linkOf l) i q) (model.cells (linkOf l) i))
+        (roomAt (row (l .held) i) (entryAt l i .cells)) room-same
+        ∙ (λ k. everyFrom (sym (a .window-is) k) (sym current-is k) (roomAt (row (l .held) i) (cells-are k))))
+
+    cells-most : entryAt l i .cells ≤ 255
+    cells-most =
+        let fits = a .sound .plan .accepted .entries-fit i (rw (plan-count (l .plan)) hi) in
+        rw (ap (λ (e : paper.Entry). e .cells) (plan-entry (l .plan) i hi)) at (fits .cells-most)
+
+    module _ (can : takesIn plan w (l .held) mask i ≡ true) where
+      -- what it holds then: fewer than its cells were held, so that no byte goes round
+      abbrev raised : List ℕ
+      raised = shiftedRow (windowOf w) 1 (l .cp) (row (l .held) i)
+
+      current-below : l .cp < sizeOf w
+      current-below = rw (← current-is) (a .proper .measures .current-below)
+
+      raised-is : raised ≡ replaced (fromIn (windowOf w) (l .cp)) (λ q x. suc x) (row (l .held) i)
+      raised-is =
+          one-more w (a .proper) (l .cp) current-below (row (l .held) i) (entryAt l i .cells) cells-most
+          ((λ k. everyFrom (windowOf w) (sym current-is k) (roomAt (row (l .held) i) (cells-are k))) ∙ and-true (inMask mask i) _ can .1)
+
+      abbrev lentLink : Link
+      lentLink = withTaken (withFlow l i (withHeld (flowAt l i) raised)) true
+
+      lent-link : linkOf lentLink ≡ lentTo (linkOf l) i
+      unfolding lentTo
+      lent-link =
+          marked-link (withFlow l i (withHeld (flowAt l i) raised)) true
+          ∙ ap (λ (m : model.Link). model.withTaken m true)
+          (read-from l (a .sound) (windowOf w) (a .window-is) i (l .cp) hi suc raised raised-is (flowAt l i .flow) (sym (read-flow l i hi))
+          ∙ ap (λ (p : ℕ). model.withFlow (linkOf l) i (model.withHeld (model.flow (linkOf l) i) (model.heldFrom (linkOf l) i p suc))) (sym (current-read l)))
+
+      sound-lent : Sound lentLink
+      sound-lent =
+          sound-marked (withFlow l i (withHeld (flowAt l i) raised))
+          (sound-from l (a .sound) (windowOf w) (a .window-is) i (l .cp) hi suc raised raised-is (flowAt l i .flow) (a .sound .flows i hi .frame)) true
+
+  -- ---- what a lend comes to
+
+  module _ {n : ℕ} (tests : n ≡ firstOf (slotTests (plan .count) (ownerAt l (l .cp)) (l .taken) mask)) where
+    pub lend-refused : (n ≡ 0 → ⊥) → Lends (linkOf l) mask (record { link = l; answer = Refused n })
+    unfolding lend lendAfter
+    lend-refused nonzero = record {
+      choice = 0;
+      is = rw (← (tests ∙ tests-are)) (go n nonzero);
+      one-of-these = λ i e. absurd (let z : _≡_ {A = ℕ} 0 1 = cc in omega arith);
+    }
+      where
+        go : (k : ℕ) → (k ≡ 0 → ⊥) → Stepped answerToLend (lendAfter k (linkOf l) mask 0) (record { link = l; answer = Refused k })
+        go zero some = absurd (some refl)
+        go (suc r) some = record { link-is = refl; answer-is = refl; sound = a .sound }
+
+    module _ (z : n ≡ 0) {i : ℕ} (first : FirstTaker (takesIn plan w (l .held) mask) (plan .count) i) where
+      passes : firstOf (lendTests (linkOf l) mask) ≡ 0
+      passes = sym (tests ∙ tests-are) ∙ z
+
+      pub lend-to-nobody : i ≡ plan .count → Lends (linkOf l) mask (record { link = l; answer = Refused 18 })
+      lend-to-nobody end = record {
+        choice = 0;
+        is = rw (no-taker (linkOf l) mask passes (rw (read-count l) (some-flow l (a .sound))) nobody-takes 0)
+            (record { link-is = refl; answer-is = refl; sound = a .sound });
+        one-of-these = λ j e. absurd (let z : _≡_ {A = ℕ} 0 1 = cc in omega arith);
+      }
+        where
+          nobody-takes : (j : ℕ) → j < paper.flowCount (linkOf l .plan) → takes (linkOf l) mask j ≡ false
+          nobody-takes j known =
+              let hj = rw (read-count l) at known in
+              takes-same j hj ∙ first .none-before j (omega (arith, count-is))
+
+      module _ (some : i ≡ plan .count → ⊥) where
+        pub taker-below : i < l .plan .count
+        taker-below = omega (arith, first .at-most, count-is)
+
+        can-take : takesIn plan w (l .held) mask i ≡ true
+        can-take = first .takes (omega (arith, first .at-most))
+
+        pub lend-to-taker : {h : List ℕ} → h ≡ shifted (windowOf w) 1 i (l .cp) (l .held)
+            → Lends (linkOf l) mask (record { link = withTaken (withHoldings l h) true; answer = Lent i })
+        lend-to-taker e = record {
+          choice = i;
+          is = rw (each-taker (linkOf l) mask passes i known takes-there, e, same-flow l i (raised i taker-below can-take))
+              (record { link-is = lent-link i taker-below can-take; answer-is = refl; sound = sound-lent i taker-below can-take });
+          one-of-these = λ j e. let same : i ≡ j = cc in rw (← same) (known, takes-there);
+        }
+          where
+            known : i < paper.flowCount (linkOf l .plan)
+            known = rw (read-count l) taker-below
+
+            takes-there : takes (linkOf l) mask i ≡ true
+            takes-there = takes-same i taker-below ∙ can-take

@@ -1,0 +1,105 @@
+// The lend of the idle slot.
+ghost use mathlib.Core.Path.{_≡_};
+ghost use mathlib.Core.List.{_∷_, []};
+ghost use mathlib.Core.Bool.{not, _||_};
+ghost use Prim.Native.Nat.{_/_, _^_, _≤_};
+ghost use lib.Dec.{leb, eqb};
+ghost use Rattle.model.specs.Refusals.{firstOf, _when_};
+ghost use Rattle.plan.specs.Reading.{Valid};
+ghost use Rattle.window.specs.Window.{Proper};
+ghost use Rattle.tables.specs.Owners.{nobody};
+ghost use Rattle.link.specs.Reading.{linkOf};
+ghost use Rattle.link.specs.Sound.{Sound};
+ghost use Rattle.link.specs.Lend.{takesIn, FirstTaker, Lends};
+use crate::Answer;
+use crate::Link;
+use crate::Step;
+use plan::Plan;
+use tables::holdings::Holdings;
+use tables::holdings::room_from;
+use tables::holdings::shift_from;
+use window::Window;
+use window::positions::window;
+
+// The bits of a mask from bit n on.
+fn bits_from(mask: u16, n: usize) -> u16
+    ensures { λ r. ⌜ r ≡ mask / 2 ^ n ⌝ }
+{
+    let mut rest = mask;
+    let mut i = 0;
+    while i < n {
+        rest /= 2;
+        i += 1;
+    }
+    rest
+}
+
+// The refusal of a lend before its flows are looked at, and 0 where there is none: n flows, the owner of the current position, and its mark.
+fn refusal(count: usize, owner: u8, taken: bool, mask: u16) -> u8
+    ensures { λ r. ⌜ r ≡ firstOf (8 when leb (2 ^ count) mask ∷ 17 when (not (eqb owner nobody) || taken) ∷ []) ⌝ }
+{
+    if bits_from(mask, count) != 0 {
+        return 8;
+    }
+    if owner != 16 {
+        return 17;
+    }
+    if taken {
+        return 17;
+    }
+    0
+}
+
+// The first flow of a mask that can take the current slot, or n where there is none.
+fn taker(held: &Holdings, plan: Plan, w: Window, mask: u16) -> usize
+    requires { ⌜ Valid plan × Proper w ⌝ }
+    ensures { λ r. ⌜ FirstTaker (takesIn plan w (now (held .entry)) mask) (plan .count) r ⌝ }
+{
+    let current = w.current;
+    let mut rest = mask;
+    let mut i = 0;
+    while i < plan.count {
+        let e = plan.entries[i];
+        if rest % 2 == 1 {
+            if room_from(held, i, e.cells, w, current) {
+                return i;
+            }
+        }
+        rest /= 2;
+        i += 1;
+    }
+    i
+}
+
+impl Link {
+    // The current slot, when nobody booked it, goes to a flow of a mask that has a quantum ready: here to the first that can take it.
+    pub fn lend(mut self, mask: u16) -> Step
+        requires { ⌜ Sound self ⌝ }
+        ensures { λ r. ⌜ Lends (linkOf self) mask r ⌝ }
+    {
+        let plan = self.plan;
+        let cp = self.cp;
+        let w = window(plan.slots, plan.frames, cp);
+        let owner = self.owner[cp];
+        let number = refusal(plan.count, owner, self.taken, mask);
+        if number != 0 {
+            return Step {
+                link: self,
+                answer: Answer::Refused(number),
+            };
+        }
+        let i = taker(&self.held, plan, w, mask);
+        if i == plan.count {
+            return Step {
+                link: self,
+                answer: Answer::Refused(18),
+            };
+        }
+        shift_from(&mut self.held, 1, i, w, cp);
+        self.taken = true;
+        Step {
+            link: self,
+            answer: Answer::Lent(i as u8),
+        }
+    }
+}

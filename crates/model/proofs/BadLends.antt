@@ -1,0 +1,56 @@
+-- Each card that lends wrongly is sent back: by a clause of demand 3, or, where the mark stands past the tick, by its answers. Assumes nothing.
+use Prim.Native.Nat.{ℕ}
+use mathlib.Core.Path.{_≡_, refl}
+use mathlib.Core.List.{List, _∷_, []}
+use mathlib.Core.Option.{none}
+use native.Mathlib.Omega.{arith}
+use lib.Dec.{lit<}
+use Rattle.model.specs.Plan.{planOf}
+use Rattle.model.specs.Calls.{Call, History, ticked, lent, accepted, refused}
+use Rattle.model.specs.Claim.{Clause}
+use Rattle.model.specs.Card.{Meets, run, paper}
+use Rattle.model.specs.PlanBytes.{plan1, listing}
+use Rattle.model.specs.BadLends.{lendsBooked, forgetsMark, holdsNoLoan, lendsToFull, ignoresMask, keepsMark}
+use Rattle.model.proofs.Unfoldings.{plans-compute, calls-compute}
+use Rattle.model.proofs.BadCards.{Sample, two-flows, sent-back, events-compute}
+
+-- F = 4, W = 2, one flow with share 2 and one cell
+abbrev one-cell : Sample
+unfolding plans-compute
+one-cell = record { bytes = plan1 4 2 8 2 1; accepted-plan = refl; some-flow = lit< tt }
+
+-- slot 1 is granted to flow 0 and lent to flow 1
+pub lends-booked : Meets lendsBooked → ⊥
+unfolding events-compute
+lends-booked = sent-back lendsBooked two-flows (Call.request 0x24000000 ∷ Call.tick ∷ Call.lend 2 0 ∷ []) Clause.one-owner tt
+
+-- slot 0 is lent to both flows
+pub forgets-mark : Meets forgetsMark → ⊥
+unfolding events-compute
+forgets-mark = sent-back forgetsMark two-flows (Call.lend 1 0 ∷ Call.lend 2 0 ∷ []) Clause.one-owner tt
+
+-- slots 0 and 1 are lent to a flow with one cell
+pub holds-no-loan : Meets holdsNoLoan → ⊥
+unfolding events-compute
+holds-no-loan = sent-back holdsNoLoan one-cell (Call.lend 1 0 ∷ Call.tick ∷ Call.lend 1 0 ∷ []) Clause.within-cells tt
+
+pub lends-to-full : Meets lendsToFull → ⊥
+unfolding events-compute
+lends-to-full = sent-back lendsToFull one-cell (Call.lend 1 0 ∷ Call.tick ∷ Call.lend 1 0 ∷ []) Clause.within-cells tt
+
+pub ignores-mask : Meets ignoresMask → ⊥
+unfolding events-compute
+ignores-mask = sent-back ignoresMask two-flows (Call.lend 2 0 ∷ []) Clause.lent-flows tt
+
+-- Demand 3 counts no refused lend, and so does not see a mark that stands past the tick. The answers differ: in the next slot the paper's card lends,
+-- and this one gives 17.
+abbrev lendAgain : List Call
+lendAgain = Call.lend 1 0 ∷ Call.tick ∷ Call.lend 1 0 ∷ []
+
+pub kept-mark-answers : run keepsMark (planOf listing) lendAgain .history ≡ lent 1 (refused 17) ∷ ticked none ∷ lent 1 (accepted 0) ∷ []
+unfolding calls-compute
+kept-mark-answers = refl
+
+pub keeps-mark : run keepsMark (planOf listing) lendAgain .history ≡ run paper (planOf listing) lendAgain .history → ⊥
+unfolding calls-compute
+keeps-mark e = let z : _≡_ {A = ℕ} 0 1 = cc in omega arith

@@ -1,0 +1,55 @@
+-- Cards that lend wrongly. Document 02, N1. Each is the paper's card but for one fault. Assumes nothing.
+use Prim.Native.Nat.{ℕ, suc, _%_, _^_}
+use mathlib.Core.Option.{Option, some, none}
+use mathlib.Core.Bool.{Bool, true, not, _&&_, cond}
+use lib.Dec.{leb}
+use Rattle.model.specs.Tables.{firstFrom}
+use Rattle.model.specs.Plan.{flowCount}
+use Rattle.model.specs.Calls.{Loan, accepted, refused, inMask}
+use Rattle.model.specs.Link.{Link, owner, flow, withFlow, withTaken, withHeld, heldFrom}
+use Rattle.model.specs.Request.{unbooked}
+use Rattle.model.specs.Lend.{canTake, takes, lentTo}
+use Rattle.model.specs.Card.{Card, paper}
+use Rattle.model.specs.BadCards.{withTick, withLend}
+
+-- ---- the lend with another test of the slot, another test of a flow, or another link
+
+module _ (idle : Link → Bool) (takes : Link → ℕ → ℕ → Bool) (lentTo : Link → ℕ → Link) where
+  abbrev found : Link → Option ℕ → Link × Loan
+  found l (some k) = (lentTo l (k % flowCount (l .plan)), accepted (k % flowCount (l .plan)))
+  found l none = (l, refused 18)
+
+  abbrev lendsBy : Card
+  lendsBy = withLend (λ l m x.
+      cond (leb (2 ^ flowCount (l .plan)) m) (l, refused 8)
+      (cond (idle l) (found l (firstFrom (flowCount (l .plan)) x (λ k. takes l m (k % flowCount (l .plan))))) (l, refused 17)))
+
+-- neither booked nor marked taken
+abbrev isIdle : Link → Bool
+isIdle l = unbooked (owner l (l .current)) && not (l .taken)
+
+-- ---- the cards
+
+-- lends a booked slot
+abbrev pub lendsBooked : Card
+lendsBooked = lendsBy (λ l. not (l .taken)) takes lentTo
+
+-- lends one slot twice: the mark is forgotten
+abbrev pub forgetsMark : Card
+forgetsMark = lendsBy isIdle takes (λ l i. withTaken (lentTo l i) (l .taken))
+
+-- doesn't count a lent slot in the holding
+abbrev pub holdsNoLoan : Card
+holdsNoLoan = lendsBy isIdle takes (λ l i. withTaken l true)
+
+-- lends to a flow with all its cells held
+abbrev pub lendsToFull : Card
+lendsToFull = lendsBy isIdle (λ l m i. inMask m i) lentTo
+
+-- lends to a flow that the mask does not have
+abbrev pub ignoresMask : Card
+ignoresMask = lendsBy isIdle (λ l m i. canTake l i) lentTo
+
+-- lets the mark stand past the tick
+abbrev pub keepsMark : Card
+keepsMark = withTick (λ l. (withTaken (paper .tick l .0) (l .taken), paper .tick l .1))

@@ -1,0 +1,26 @@
+"""How programs read call records: domelink's three kinds, and allcalls' one
+more."""
+
+from demand3 import check
+from simulator import records
+
+
+class Format:
+    def __init__(self, kinds, checked, refusals):
+        self.kinds = kinds          # the simulator's table of records
+        self.checked = checked      # the same for the check of demand 3
+        self.refusals = refusals    # the numbers that have to come up
+
+
+DOMELINK = Format(records.DOMELINK, check.DOMELINK, range(1, 17))
+ALLCALLS = Format(records.ALLCALLS, check.ALLCALLS, range(1, 19))
+
+
+def has_lends(data):
+    """Whether some record of a call file is a call for allcalls alone."""
+    rest = data[int.from_bytes(data[:2], "little"):]
+    return any(
+        rest[start] not in records.DOMELINK
+        and records.read_record(rest[start:start + records.SIZE],
+                                records.ALLCALLS)
+        for start in range(0, len(rest), records.SIZE))
