@@ -18,7 +18,7 @@ use Rattle.model.proofs.Tables.{length-table, table-getD, table-append,
 
 -- ---- the entries
 
-part-length : (es : List Entry) → length (flatMap entryBytes es) ≡ 4 * length es
+pub part-length : (es : List Entry) → length (flatMap entryBytes es) ≡ 4 * length es
 unfolding flatMap
 part-length [] = refl
 part-length (e ∷ es) = omega (arith, part-length es)
@@ -125,7 +125,7 @@ header-again b bytes =
     λ k. f0 k ++ f2 k ++ f4 k ++ f6 k ++ f8 k ++ f10 k
 
 -- tests 1 and 2 leave the header of the plan that is read
-same-header : (b : List ℕ) → Counted (headerOf b) → headerFor (planOf b) ≡ headerOf b
+pub same-header : (b : List ℕ) → Counted (headerOf b) → headerFor (planOf b) ≡ headerOf b
 same-header b n =
     let count : flowCount (planOf b) ≡ headerOf b .count = length-table (headerOf b .count) (entryOf (drop 12 b)) in
     let total : 12 + 4 * flowCount (planOf b) ≡ headerOf b .total = omega (arith, n .total-is) in

@@ -1,5 +1,4 @@
-pub mod Tests
 pub mod Stored
-pub mod PlanLimits
+pub mod FlowPart
 pub mod Reader
 pub mod Laws
