@@ -4,13 +4,15 @@ use mathlib.Core.Path.{_≡_, refl, sym, ap, _∙_, subst}
 use mathlib.Core.List.{List, _∷_, [], _++_, flatMap}
 use mathlib.Core.Bool.{Bool, true, false, cond}
 use native.Mathlib.Omega.{arith}
-use lib.ListN.{length, getD}
+use lib.ListN.{length, getD, drop}
 use lib.Dec.{ltb}
-use borrow.Author.Tests.{ltb-false}
+use borrow.Author.Tests.{ltb-false, lt-ltb, le-ltb}
 use Rattle.model.specs.Refusals.{Line, _when_, firstOf}
 use Rattle.model.specs.Plan.{Plan, Entry, flowCount, entry, noEntry, planOf, refusal, FittingEntry, Accepted}
+use Rattle.model.specs.Calls.{accepted, refused}
+use Rattle.model.specs.WrittenPlan.{writtenAfter, written}
 use Rattle.model.specs.WrittenPlan.{field, entryBytes, bytesOf, numberTests, roomTest, writeRefusal, AllBytes, ByteEntry, FitsFields}
-use Rattle.model.proofs.Plan.{accepted}
+use Rattle.model.proofs.Plan.{accepted as accepted-bytes}
 use Rattle.model.proofs.WrittenPlan.{read-back, same-tests}
 
 -- ---- tests one after another
@@ -33,17 +35,52 @@ unfolding firstOf
 one-more {b = true} t = record { is = refl }
 one-more {b = false} t = record { is = t .is }
 
-pub refused-by : (P : Plan) (buffer : List ℕ) → writeRefusal P buffer ≡ orElse (refusal (bytesOf P)) (firstOf (roomTest P buffer ∷ []))
+-- the number that a buffer's room gives
+abbrev pub roomNumber : Plan → List ℕ → ℕ
+roomNumber P buffer = firstOf (roomTest P buffer ∷ [])
+
+by-tests : (P : Plan) (buffer : List ℕ) → writeRefusal P buffer ≡ orElse (firstOf (numberTests P)) (roomNumber P buffer)
 unfolding writeRefusal
-refused-by P buffer =
-    let room = roomTest P buffer ∷ [] in
-    let tests : Then (numberTests P) room = one-more (one-more (one-more (one-more (one-more (one-more (none room)))))) in
-    tests .is ∙ ap (λ r. orElse r (firstOf room)) (sym (same-tests P))
+by-tests P buffer =
+    let tests : Then (numberTests P) (roomTest P buffer ∷ []) = one-more (one-more (one-more (one-more (one-more (one-more (none _)))))) in
+    tests .is
+
+pub refused-by : (P : Plan) (buffer : List ℕ) → writeRefusal P buffer ≡ orElse (refusal (bytesOf P)) (roomNumber P buffer)
+refused-by P buffer = by-tests P buffer ∙ ap (λ r. orElse r (roomNumber P buffer)) (sym (same-tests P))
+
+-- ---- what is written, by the first test that applies
+
+module _ (P : Plan) (buffer : List ℕ) where
+  pub refused-writes : (r : ℕ) → 0 < r → writeRefusal P buffer ≡ r → written P buffer ≡ record { answer = refused r; buffer = buffer }
+  unfolding written writtenAfter
+  refused-writes zero some e = absurd (omega arith)
+  refused-writes (suc r) some e = ap (λ q. writtenAfter q P buffer) e
+
+  pub by-number : (r : ℕ) → 0 < r → firstOf (numberTests P) ≡ r → writeRefusal P buffer ≡ r
+  by-number zero some e = absurd (omega arith)
+  by-number (suc r) some e = by-tests P buffer ∙ ap (λ q. orElse q (roomNumber P buffer)) e
+
+  module _ (passed : firstOf (numberTests P) ≡ 0) where
+    by-room : writeRefusal P buffer ≡ roomNumber P buffer
+    by-room = by-tests P buffer ∙ ap (λ q. orElse q (roomNumber P buffer)) passed
+
+    pub no-room : length buffer < length (bytesOf P) → writeRefusal P buffer ≡ 19
+    unfolding firstOf
+    no-room h = by-room ∙ rw (lt-ltb (length buffer) (length (bytesOf P)) h)
+
+    pub with-room : length (bytesOf P) ≤ length buffer → writeRefusal P buffer ≡ 0
+    unfolding firstOf
+    with-room h = by-room ∙ rw (le-ltb (length buffer) (length (bytesOf P)) h)
+
+  pub accepted-writes : writeRefusal P buffer ≡ 0
+      → written P buffer ≡ record { answer = accepted (length (bytesOf P)); buffer = bytesOf P ++ drop (length (bytesOf P)) buffer }
+  unfolding written writtenAfter
+  accepted-writes e = ap (λ q. writtenAfter q P buffer) e
 
 -- ---- a plan that is written
 
 -- 19 applies or nothing does
-room-number : (P : Plan) (buffer : List ℕ) (r : ℕ) → firstOf (roomTest P buffer ∷ []) ≡ r → r ≤ 7 → (r ≡ 0) × (length (bytesOf P) ≤ length buffer)
+room-number : (P : Plan) (buffer : List ℕ) (r : ℕ) → roomNumber P buffer ≡ r → r ≤ 7 → (r ≡ 0) × (length (bytesOf P) ≤ length buffer)
 unfolding firstOf
 room-number P buffer r = go (ltb (length buffer) (length (bytesOf P))) refl
   where
@@ -59,12 +96,13 @@ pub record Accepts (P : Plan) (buffer : List ℕ) : Type 0 where
 pub accepts : (P : Plan) (buffer : List ℕ) → writeRefusal P buffer ≡ 0 → Accepts P buffer
 accepts P buffer e = go (refusal (bytesOf P)) refl (sym (refused-by P buffer) ∙ e)
   where
-    go : (r : ℕ) → refusal (bytesOf P) ≡ r → orElse r (firstOf (roomTest P buffer ∷ [])) ≡ 0 → Accepts P buffer
+    go : (r : ℕ) → refusal (bytesOf P) ≡ r → orElse r (roomNumber P buffer) ≡ 0 → Accepts P buffer
     go zero q f = record { read-too = q; has-room = room-number P buffer 0 f (omega arith) .1 }
     go (suc r) q f = absurd (omega arith)
 
-pub within-limits : (P : Plan) → refusal (bytesOf P) ≡ 0 → Accepted P
-within-limits P e = subst Accepted (read-back P) (accepted (bytesOf P) e)
+-- a plan whose numbers pass tests 2 to 7
+pub within-limits : (P : Plan) → firstOf (numberTests P) ≡ 0 → Accepted P
+within-limits P e = subst Accepted (read-back P) (accepted-bytes (bytesOf P) (same-tests P ∙ e))
 
 -- "What it writes is read back to the same plan."
 pub read-as-written : (P : Plan) (buffer : List ℕ) → writeRefusal P buffer ≡ 0 → (refusal (bytesOf P) ≡ 0) × (planOf (bytesOf P) ≡ P)
@@ -126,8 +164,8 @@ same-refusals P fits = record { bytes = file-bytes P fits; by-writer = by-writer
   where
     by-writer : (buffer : List ℕ) (r : ℕ) → 2 ≤ r → r ≤ 7 → refusal (bytesOf P) ≡ r → writeRefusal P buffer ≡ r
     by-writer buffer zero low high e = absurd (omega arith)
-    by-writer buffer (suc r) low high e = refused-by P buffer ∙ ap (λ q. orElse q (firstOf (roomTest P buffer ∷ []))) e
+    by-writer buffer (suc r) low high e = refused-by P buffer ∙ ap (λ q. orElse q (roomNumber P buffer)) e
 
-    by-reader : (buffer : List ℕ) (r : ℕ) → 2 ≤ r → r ≤ 7 → (q : ℕ) → refusal (bytesOf P) ≡ q → orElse q (firstOf (roomTest P buffer ∷ [])) ≡ r → refusal (bytesOf P) ≡ r
+    by-reader : (buffer : List ℕ) (r : ℕ) → 2 ≤ r → r ≤ 7 → (q : ℕ) → refusal (bytesOf P) ≡ q → orElse q (roomNumber P buffer) ≡ r → refusal (bytesOf P) ≡ r
     by-reader buffer r low high zero e f = absurd (omega (arith, room-number P buffer r f high .0))
     by-reader buffer r low high (suc q) e f = e ∙ f

@@ -1,4 +1,5 @@
 pub mod Stored
 pub mod FlowPart
+pub mod Writer
 pub mod Reader
 pub mod Laws
