@@ -3,3 +3,4 @@ pub mod FlowPart
 pub mod Writer
 pub mod Reader
 pub mod Laws
+pub mod RoundTrip

@@ -1,6 +1,6 @@
 -- What the reader answers, by the place where it returns. Assumes nothing.
 use Prim.Native.Nat.{ℕ, zero, suc, _-_, _*_, _<_, _≤_}
-use mathlib.Core.Path.{_≡_, sym, ap, _∙_, subst}
+use mathlib.Core.Path.{_≡_, refl, sym, ap, _∙_, subst}
 use mathlib.Core.List.{List, _∷_}
 use mathlib.Core.Bool.{true, false}
 use native.Mathlib.Decide.{decLt}
@@ -29,10 +29,10 @@ use Rattle.plan.proofs.Stored.{drafted}
 abbrev pub Reads : List ℕ → Outcome → Type 0
 Reads b r = (r ≡ readOf b) × (r .verdict ≡ Accepted → Valid (r .plan))
 
-never-accepted : (n : ℕ) → 0 < n → verdictFor n ≡ Accepted → ⊥
+pub accepted-is-0 : (n : ℕ) → verdictFor n ≡ Accepted → n ≡ 0
 unfolding verdictFor
-never-accepted zero h e = omega arith
-never-accepted (suc n) h e = let z : _≡_ {A = ℕ} 0 1 = cc in omega arith
+accepted-is-0 zero e = refl
+accepted-is-0 (suc n) e = let z : _≡_ {A = ℕ} 0 1 = cc in absurd (omega arith)
 
 -- a refusal
 pub refused-reads : (b : List ℕ) (r : Outcome) (n : ℕ) → 0 < n → model.refusal b ≡ n → r .verdict ≡ verdictFor n
@@ -41,7 +41,7 @@ unfolding readOf
 refused-reads b r n pos e v p =
     let verdict = v ∙ ap verdictFor (sym e) in
     let plan = p (model.planOf b) ∙ ap (λ k. planAfter k (model.planOf b)) (sym e) in
-    (λ k. record { verdict = verdict k; plan = plan k }, λ z. absurd (never-accepted n pos (sym v ∙ z)))
+    (λ k. record { verdict = verdict k; plan = plan k }, λ z. absurd (omega (arith, accepted-is-0 n (sym v ∙ z))))
 
 -- ---- the refusal of the bytes, test by test
 

@@ -1,5 +1,5 @@
 -- What the writer answers and leaves, by the place where it returns. Assumes nothing.
-use Prim.Native.Nat.{ℕ, _+_, _-_, _*_, _≤_, _<_}
+use Prim.Native.Nat.{ℕ, zero, suc, _+_, _-_, _*_, _≤_, _<_}
 use mathlib.Core.Path.{_≡_, refl, sym, ap, _∙_, subst}
 use mathlib.Core.List.{List, [], _++_, append-nil, append-assoc}
 use native.Mathlib.Omega.{arith}
@@ -16,22 +16,54 @@ use Rattle.model.specs.Plan as model
 use Rattle.model.specs.WrittenPlan as writer
 use Rattle.model.specs.WrittenPlan.{headerBytes, bytesOf, numberTests, writeRefusal}
 use Rattle.model.proofs.Tables.{length-table, getD-table}
-use Rattle.model.proofs.WrittenPlan.{length-is}
-use Rattle.model.proofs.WriteRefusals.{refused-writes, accepted-writes, by-number, no-room, with-room, within-limits, accepted-fits}
+use Rattle.model.proofs.WrittenPlan.{length-is, same-tests}
+use Rattle.model.proofs.WriteRefusals.{accepts, refused-writes, accepted-writes, by-number, no-room, with-room, within-limits, accepted-fits}
 use Rattle.plan.specs.Reading.{headerFor}
 use Rattle.plan.specs.Writing.{answerFor, begun, flowPart, HeaderFits, ByteEntries}
 use Rattle.plan.proofs.FlowPart.{begun-more, flow-length}
 
+-- ---- where the answer is a count of bytes
+
+module _ (P : model.Plan) (before : List ℕ) (n : ℕ) where
+  -- the plan was not refused, and the count is that of its bytes
+  pub counted : answerFor (writer.written P before .answer) ≡ Bytes n → (writeRefusal P before ≡ 0) × (length (bytesOf P) ≡ n)
+  counted e = go (writeRefusal P before) refl
+    where
+      go : (r : ℕ) → writeRefusal P before ≡ r → (writeRefusal P before ≡ 0) × (length (bytesOf P) ≡ n)
+      go zero z = (z, bytes-inside (ap (λ (w : writer.Written). answerFor (w .answer)) (sym (accepted-writes P before z)) ∙ e))
+        where
+          bytes-inside : Bytes (length (bytesOf P)) ≡ Bytes n → length (bytesOf P) ≡ n
+          bytes-inside f = cc
+      go (suc r) z = absurd (never (ap (λ (w : writer.Written). answerFor (w .answer)) (sym (refused-writes P before (suc r) (omega arith) z)) ∙ e))
+        where
+          never : Refused (suc r) ≡ Bytes n → ⊥
+          never f = let o : _≡_ {A = ℕ} 0 1 = cc in omega arith
+
+  count-most : answerFor (writer.written P before .answer) ≡ Bytes n → (n ≤ 76) × (n ≤ length before)
+  count-most e =
+      let c = counted e in
+      let a = accepts P before (c .0) in
+      let ok = within-limits P (sym (same-tests P) ∙ a .read-too) in
+      (omega (arith, c .1, length-is P, ok .flows-most), omega (arith, c .1, a .has-room))
+
+-- ---- the promise
+
 -- what the writer promises of its answer and of the buffer, for a plan and a buffer
 abbrev pub Writes : model.Plan → (before : List ℕ) → Written → (after : List ℕ) → Type 0
-Writes P before r after = (r ≡ answerFor (writer.written P before .answer)) × (after ≡ writer.written P before .buffer)
+Writes P before r after =
+    (r ≡ answerFor (writer.written P before .answer))
+    × ((after ≡ writer.written P before .buffer) × ((n : ℕ) → r ≡ Bytes n → (n ≤ 76) × (n ≤ length before)))
+
+promised : (P : model.Plan) (before : List ℕ) {w : writer.Written} → writer.written P before ≡ w → {r : Written} {after : List ℕ}
+    → r ≡ answerFor (w .answer) → after ≡ w .buffer → Writes P before r after
+promised P before w e f =
+    let answer = e ∙ ap (λ (x : writer.Written). answerFor (x .answer)) (sym w) in
+    (answer, (f ∙ ap (λ (x : writer.Written). x .buffer) (sym w), λ n q. count-most P before n (sym answer ∙ q)))
 
 -- ---- a refusal
 
 refused : (P : model.Plan) (before : List ℕ) (r : ℕ) → 0 < r → writeRefusal P before ≡ r → Writes P before (Refused r) before
-refused P before r some e =
-    let w = sym (refused-writes P before r some e) in
-    (ap (λ (x : writer.Written). answerFor (x .answer)) w, ap (λ (x : writer.Written). x .buffer) w)
+refused P before r some e = promised P before (refused-writes P before r some e) refl refl
 
 pub refused-by-number : (d : Draft) (before : List ℕ) (r : ℕ) → 0 < r → r ≡ firstOf (numberTests (draftFor d)) → Writes (draftFor d) before (Refused r) before
 refused-by-number d before r some e = refused (draftFor d) before r some (by-number (draftFor d) before r some (sym e))
@@ -109,7 +141,7 @@ part-back a first more before middle e m =
     let part : take size (drop a middle) ≡ rest = ap (take size) back ∙ take-all size rest long in
     let none : drop size (drop a middle) ≡ [] = ap (drop size) back ∙ drop-of-length-le rest long in
     let left : drop (length more) rest ≡ drop (length (first ++ more)) before
-      = drop-drop (length more) (length first) before ∙ ap (λ n. drop n before) (sym (length-append first more)) in
+    = drop-drop (length more) (length first) before ∙ ap (λ n. drop n before) (sym (length-append first more)) in
     (λ k. front k ++ (begun more (part k) ++ none k))
     ∙ ap (first ++_) (append-nil (begun more rest))
     ∙ sym (append-assoc first more (drop (length more) rest))
@@ -125,7 +157,7 @@ written {d} p before middle part room m e =
     let header = headerBytes (headerFor (headerWith d)) in
     let flows = flowPart (d .entries) (d .count) in
     let long : length (bytesOf P) ≤ length before = omega (arith, total-is d) in
-    let w = sym (accepted-writes P before (with-room P before (p .tests) long)) in
+    let w = accepted-writes P before (with-room P before (p .tests) long) in
     let middle-is = m ∙ begun-more [] header before (omega arith) in
     let stored = ap (putMid 12 (length middle - 12) middle) e ∙ part-back 12 header flows before middle refl middle-is ∙ ap (λ b. begun b before) (bytes-are d) in
-    (ap Bytes (sym (total-is d)) ∙ ap (λ (x : writer.Written). answerFor (x .answer)) w, stored ∙ ap (λ (x : writer.Written). x .buffer) w)
+    promised P before w (ap Bytes (sym (total-is d))) stored

@@ -7,7 +7,7 @@ mod header;
 pub use limits::Draft;
 pub use limits::Wanted;
 ghost use mathlib.Core.Path.{_≡_};
-ghost use Prim.Native.Nat.{_<_};
+ghost use Prim.Native.Nat.{ℕ, _≤_, _<_};
 ghost use lib.ListN.{length};
 ghost use Rattle.model.specs.Plan as model;
 ghost use Rattle.model.specs.WrittenPlan as writer;
@@ -103,9 +103,11 @@ pub fn read(bytes: &[u8]) -> Outcome
 }
 
 // Writes a plan's bytes at the start of a buffer. The tests are made in the order of their numbers, 19 last, and a refusal leaves the buffer as it came.
+// That a count is at most 76 and at most the buffer's length follows; it is stated so that callers find it.
 pub fn write(draft: Draft, out: &mut [u8]) -> Written
     ensures is { λ r. ⌜ r ≡ answerFor (writer.written (draftFor draft) (now (out .entry)) .answer) ⌝ }
     ensures out { λ r. ⌜ now (out .exit) ≡ writer.written (draftFor draft) (now (out .entry)) .buffer ⌝ }
+    ensures most { λ r. ⌜ ((n : ℕ) → r ≡ Written.Bytes n → (n ≤ 76) × (n ≤ length (now (out .entry)))) ⌝ }
 {
     let number = limits::broken(draft);
     if number != 0 {
