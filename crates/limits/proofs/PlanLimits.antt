@@ -32,40 +32,10 @@ or-false-right true = refl
 or-false-right false = refl
 
 module _ (d : Draft) where
+  -- ---- the outcomes of tests 2 to 7
+
   abbrev pub at : ℕ → model.Entry
   at i = wantedFor (getD (d .entries) i noWanted)
-
-  count-is : model.flowCount (draftFor d) ≡ d .count
-  count-is = length-table (d .count) at
-
-  entry-is : (i : ℕ) → i < d .count → model.entry (draftFor d) i ≡ at i
-  entry-is i h = getD-table (d .count) at i model.noEntry h
-
-  misfits-are : any (model.flowCount (draftFor d)) (λ i. not (model.entryFits (d .slots) (model.entry (draftFor d) i))) ≡ any (d .count) (λ i. not (model.entryFits (d .slots) (at i)))
-  misfits-are =
-      ap (λ n. any n (λ i. not (model.entryFits (d .slots) (model.entry (draftFor d) i)))) count-is
-      ∙ any-same (d .count) _ _ (λ i h. ap (λ e. not (model.entryFits (d .slots) e)) (entry-is i h))
-
-  repeats-are : any (model.flowCount (draftFor d)) (λ i. any i (λ j. model.samePair (model.entry (draftFor d) j) (model.entry (draftFor d) i))) ≡ any (d .count) (λ i. any i (λ j. model.samePair (at j) (at i)))
-  repeats-are =
-      ap (λ n. any n (λ i. any i (λ j. model.samePair (model.entry (draftFor d) j) (model.entry (draftFor d) i)))) count-is
-      ∙ any-same (d .count) _ _ (λ i h. any-same i _ _ (λ j k. ap₂ model.samePair (entry-is j (omega arith)) (entry-is i h)))
-
-  -- the sum of a field of the entries
-  sums-are : (f : model.Entry → ℕ) → sum (model.flowCount (draftFor d)) (λ i. f (model.entry (draftFor d) i)) ≡ sum (d .count) (λ i. f (at i))
-  sums-are f =
-      ap (λ n. sum n (λ i. f (model.entry (draftFor d) i))) count-is
-      ∙ sum-same (d .count) _ _ (λ i h. ap f (entry-is i h))
-
-  -- of the header that would be written only n can fail
-  counts-are : condition (model.countTest (headerFor (draftFor d))) ≡ not (within 1 16 (d .count))
-  counts-are =
-      let n = model.flowCount (draftFor d) in
-      let fail = not (within 1 16 n) in
-      ap (λ t. fail || false || not t) (eq-eqb (12 + 4 * n) (12 + 4 * n) refl) ∙ or-false-right (fail || false) ∙ or-false-right fail
-      ∙ ap (λ k. not (within 1 16 k)) count-is
-
-  -- ---- the outcomes of tests 2 to 7
 
   abbrev pub miscounted : Bool
   miscounted = not (within 1 16 (d .count))
@@ -85,7 +55,42 @@ module _ (d : Draft) where
   abbrev pub over-buffer : Bool
   over-buffer = ltb (d .buffer) (sum (d .count) (λ i. at i .cells))
 
-  pub limits-are : firstOf (numberTests (draftFor d))
+  -- ---- they are those of the plan
+
+  abbrev P : model.Plan
+  P = draftFor d
+
+  count-is : model.flowCount P ≡ d .count
+  count-is = length-table (d .count) at
+
+  entry-is : (i : ℕ) → i < d .count → model.entry P i ≡ at i
+  entry-is i h = getD-table (d .count) at i model.noEntry h
+
+  -- of the header that would be written only n can fail
+  counts-are : condition (model.countTest (headerFor P)) ≡ miscounted
+  counts-are =
+      let n = model.flowCount P in
+      let fail = not (within 1 16 n) in
+      ap (λ t. fail || false || not t) (eq-eqb (12 + 4 * n) (12 + 4 * n) refl) ∙ or-false-right (fail || false) ∙ or-false-right fail
+      ∙ ap (λ k. not (within 1 16 k)) count-is
+
+  misfits-are : any (model.flowCount P) (λ i. not (model.entryFits (d .slots) (model.entry P i))) ≡ misfits
+  misfits-are =
+      ap (λ n. any n (λ i. not (model.entryFits (d .slots) (model.entry P i)))) count-is
+      ∙ any-same (d .count) _ _ (λ i h. ap (λ e. not (model.entryFits (d .slots) e)) (entry-is i h))
+
+  repeats-are : any (model.flowCount P) (λ i. any i (λ j. model.samePair (model.entry P j) (model.entry P i))) ≡ repeats
+  repeats-are =
+      ap (λ n. any n (λ i. any i (λ j. model.samePair (model.entry P j) (model.entry P i)))) count-is
+      ∙ any-same (d .count) _ _ (λ i h. any-same i _ _ (λ j k. ap₂ model.samePair (entry-is j (omega arith)) (entry-is i h)))
+
+  -- the sum of a field of the entries
+  sums-are : (f : model.Entry → ℕ) → sum (model.flowCount P) (λ i. f (model.entry P i)) ≡ sum (d .count) (λ i. f (at i))
+  sums-are f =
+      ap (λ n. sum n (λ i. f (model.entry P i))) count-is
+      ∙ sum-same (d .count) _ _ (λ i h. ap f (entry-is i h))
+
+  limits-are : firstOf (numberTests P)
       ≡ firstOf (2 when miscounted ∷ 3 when misframed ∷ 4 when misfits ∷ 5 when repeats ∷ 6 when over-slots ∷ 7 when over-buffer ∷ [])
   limits-are =
       let shares = ap (ltb (d .slots)) (sums-are (λ e. e .share)) in

@@ -160,12 +160,15 @@ pub record SameRefusals (P : Plan) : Type 0 where
   pub by-reader : (buffer : List ℕ) (r : ℕ) → 2 ≤ r → r ≤ 7 → writeRefusal P buffer ≡ r → refusal (bytesOf P) ≡ r
 
 pub same-refusals : (P : Plan) → FitsFields P → SameRefusals P
-same-refusals P fits = record { bytes = file-bytes P fits; by-writer = by-writer; by-reader = λ buffer r low high e. by-reader buffer r low high _ refl (sym (refused-by P buffer) ∙ e) }
+same-refusals P fits = record { bytes = file-bytes P fits; by-writer = by-writer; by-reader = by-reader }
   where
     by-writer : (buffer : List ℕ) (r : ℕ) → 2 ≤ r → r ≤ 7 → refusal (bytesOf P) ≡ r → writeRefusal P buffer ≡ r
     by-writer buffer zero low high e = absurd (omega arith)
     by-writer buffer (suc r) low high e = refused-by P buffer ∙ ap (λ q. orElse q (roomNumber P buffer)) e
 
-    by-reader : (buffer : List ℕ) (r : ℕ) → 2 ≤ r → r ≤ 7 → (q : ℕ) → refusal (bytesOf P) ≡ q → orElse q (roomNumber P buffer) ≡ r → refusal (bytesOf P) ≡ r
-    by-reader buffer r low high zero e f = absurd (omega (arith, room-number P buffer r f high .0))
-    by-reader buffer r low high (suc q) e f = e ∙ f
+    by-reader : (buffer : List ℕ) (r : ℕ) → 2 ≤ r → r ≤ 7 → writeRefusal P buffer ≡ r → refusal (bytesOf P) ≡ r
+    by-reader buffer r low high e = go (refusal (bytesOf P)) refl (sym (refused-by P buffer) ∙ e)
+      where
+        go : (q : ℕ) → refusal (bytesOf P) ≡ q → orElse q (roomNumber P buffer) ≡ r → refusal (bytesOf P) ≡ r
+        go zero e f = absurd (omega (arith, room-number P buffer r f high .0))
+        go (suc q) e f = e ∙ f

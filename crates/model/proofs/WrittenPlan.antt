@@ -1,5 +1,5 @@
 -- What is written is read back to the same plan, and an accepted file written again is the same file. Document 02, N2. Assumes nothing.
-use Prim.Native.Nat.{ℕ, zero, suc, _+_, _*_, _/_, _%_, _≤_, _<_}
+use Prim.Native.Nat.{ℕ, zero, suc, _+_, _*_, _/_, _%_, _≤_}
 use mathlib.Core.Path.{_≡_, refl, sym, ap, _∙_}
 use mathlib.Core.List.{List, _∷_, [], _++_, flatMap}
 use mathlib.Core.Bool.{not}

@@ -1,5 +1,5 @@
 -- Bytes stored at the start of a list, run after run, and the entries of a flow part so stored. Assumes nothing.
-use Prim.Native.Nat.{ℕ, zero, suc, _+_, _*_, _≤_, _<_}
+use Prim.Native.Nat.{ℕ, _+_, _*_, _≤_, _<_}
 use mathlib.Core.Path.{_≡_, refl, sym, ap, _∙_}
 use mathlib.Core.List.{List, _∷_, [], _++_, flatMap}
 use native.Mathlib.Nat.{add-zero}
@@ -77,5 +77,6 @@ one-more-stored {entries} {n} {i} {before} {middle} after to l room put =
       same-length = ap length put ∙ length-sets middle (4 * i) more ∙ to .same-length;
     }
 
-pub all-stored : {entries : List Wanted} {n i : ℕ} {before after : List ℕ} → StoredTo entries n i before after → n ≤ i → after ≡ begun (flowPart entries n) before
+pub all-stored : {entries : List Wanted} {n i : ℕ} {before after : List ℕ} → StoredTo entries n i before after → n ≤ i
+    → after ≡ begun (flowPart entries n) before
 all-stored {entries} {n} {i} {before} to l = let end : i ≡ n = omega (arith, to .within) in to .stored ∙ ap (λ k. begun (flowPart entries k) before) end

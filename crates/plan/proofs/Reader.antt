@@ -93,7 +93,11 @@ module _ {b : List ℕ} {h : Header} (k : Counted b h) where
 abbrev pub planFrom : Header → List Entry → Plan
 planFrom h es = record { slots = h .slots; frames = h .frames; buffer = h .buffer; count = h .count; entries = es }
 
-module _ {b : List ℕ} {h : Header} (k : Counted b h) (es : List Entry) (entries : es ≡ storedEntries (model.entriesOf (h .count) (take (length b - 12) (drop 12 b)))) where
+-- the entries that are read of the flow part
+abbrev entriesRead : List ℕ → Header → List Entry
+entriesRead b h = storedEntries (model.entriesOf (h .count) (take (length b - 12) (drop 12 b)))
+
+module _ {b : List ℕ} {h : Header} (k : Counted b h) (es : List Entry) (entries : es ≡ entriesRead b h) where
   n : ℕ
   n = h .count
 

@@ -1,6 +1,6 @@
 -- What `write` writes, `read` reads back; what `read` accepts, `write` writes again. By their contracts. Assumes nothing.
-use Prim.Native.Nat.{ℕ, zero, suc, _≤_}
-use mathlib.Core.Path.{_≡_, refl, sym, ap, _∙_}
+use Prim.Native.Nat.{ℕ, _≤_}
+use mathlib.Core.Path.{_≡_, sym, ap, _∙_}
 use mathlib.Core.List.{List, _++_}
 use native.Mathlib.Omega.{arith}
 use lib.ListN.{length, take, drop}
@@ -8,18 +8,17 @@ use lib.Seq.{take-at}
 use Rattle.plan.specs.declared.Outcome.{Outcome}
 use Rattle.plan.specs.declared.Verdict.the-variants.{Accepted}
 use Rattle.plan.specs.declared.Written.{Written}
-use Rattle.plan.specs.declared.Written.the-variants.{Bytes, Refused}
+use Rattle.plan.specs.declared.Written.the-variants.{Bytes}
 use Rattle.limits.specs.declared.Draft.{Draft}
 use Rattle.limits.specs.Reading.{draftFor}
 use Rattle.model.specs.Refusals.{firstOf}
-use Rattle.model.specs.Plan.{Plan, flowCount, planOf, refusal}
-use Rattle.model.specs.Calls.{accepted}
+use Rattle.model.specs.Plan.{flowCount, planOf, refusal}
 use Rattle.model.specs.WrittenPlan as writer
-use Rattle.model.specs.WrittenPlan.{bytesOf, numberTests, writeRefusal, AllBytes}
+use Rattle.model.specs.WrittenPlan.{bytesOf, numberTests, AllBytes}
 use Rattle.model.proofs.Tables.{length-table}
 use Rattle.model.proofs.Plan as of-plan
 use Rattle.model.proofs.WrittenPlan.{same-tests, written-again}
-use Rattle.model.proofs.WriteRefusals.{Accepts, accepts, accepted-writes, refused-writes, read-as-written, with-room}
+use Rattle.model.proofs.WriteRefusals.{accepted-writes, read-as-written, with-room}
 use Rattle.plan.specs.Reading.{planFor, stored, draftOf, verdictFor, planAfter, readOf}
 use Rattle.plan.specs.Writing.{answerFor}
 use Rattle.plan.proofs.Stored.{drafted}

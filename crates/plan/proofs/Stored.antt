@@ -8,7 +8,6 @@ use native.Mathlib.Omega.{arith}
 use lib.ListN.{getD, set, replicate}
 use lib.Dec.{ltb}
 use borrow.Author.Tests.{lt-ltb, le-ltb}
-use Rattle.plan.specs.declared.Entry.{Entry}
 use Rattle.plan.specs.declared.Verdict.the-variants.{Refused}
 use Rattle.model.specs.Tables.{table}
 use Rattle.model.specs.Plan as model

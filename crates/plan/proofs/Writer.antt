@@ -10,7 +10,7 @@ use Rattle.plan.specs.declared.Written.{Written}
 use Rattle.plan.specs.declared.Written.the-variants.{Bytes, Refused}
 use Rattle.plan.specs.declared.header.Header.{Header}
 use Rattle.limits.specs.declared.Draft.{Draft}
-use Rattle.limits.specs.Reading.{wantedFor, noWanted, draftFor}
+use Rattle.limits.specs.Reading.{draftFor}
 use Rattle.model.specs.Refusals.{firstOf}
 use Rattle.model.specs.Plan as model
 use Rattle.model.specs.WrittenPlan as writer
@@ -20,7 +20,7 @@ use Rattle.model.proofs.WrittenPlan.{length-is, same-tests}
 use Rattle.model.proofs.WriteRefusals.{accepts, refused-writes, accepted-writes, by-number, no-room, with-room, within-limits, accepted-fits}
 use Rattle.plan.specs.Reading.{headerFor}
 use Rattle.plan.specs.Writing.{answerFor, begun, flowPart, HeaderFits, ByteEntries}
-use Rattle.plan.proofs.FlowPart.{begun-more, flow-length}
+use Rattle.plan.proofs.FlowPart.{begun-more}
 
 -- ---- where the answer is a count of bytes
 
@@ -159,5 +159,5 @@ written {d} p before middle part room m e =
     let long : length (bytesOf P) ≤ length before = omega (arith, total-is d) in
     let w = accepted-writes P before (with-room P before (p .tests) long) in
     let middle-is = m ∙ begun-more [] header before (omega arith) in
-    let stored = ap (putMid 12 (length middle - 12) middle) e ∙ part-back 12 header flows before middle refl middle-is ∙ ap (λ b. begun b before) (bytes-are d) in
-    promised P before w (ap Bytes (sym (total-is d))) stored
+    let put-back = ap (putMid 12 (length middle - 12) middle) e ∙ part-back 12 header flows before middle refl middle-is in
+    promised P before w (ap Bytes (sym (total-is d))) (put-back ∙ ap (λ b. begun b before) (bytes-are d))

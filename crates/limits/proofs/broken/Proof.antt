@@ -45,9 +45,13 @@ summed c = c .before .before .before
 passed-6 : (c : tie.Else5) → Passed6 (asked-5 (summed c .before))
 passed-6 c = record { to-5 = passed-5 (summed c .before); shared = ap (ltb _) (sym (summed c .totals .ensures .0)) ∙ le-ltb _ _ (c .if5 .left) }
 
-cells-are : (c : tie.After-struct-known4) (b : Bool) → ltb (asked-5 (summed (c .before .before) .before) .buffer) (summed (c .before .before) .totals .result .cells) ≡ b
-    → over-buffer (asked-5 (summed (c .before .before) .before)) ≡ b
-cells-are c b e = ap (ltb _) (sym (summed (c .before .before) .totals .ensures .1)) ∙ e
+-- the last test, which goes by the sum of the cells
+module _ (c : tie.After-struct-known4) where
+  abbrev sums : tie.After-totals
+  sums = summed (c .before .before)
+
+  last-test : (b : Bool) → ltb (asked-5 (sums .before) .buffer) (sums .totals .result .cells) ≡ b → over-buffer (asked-5 (sums .before)) ≡ b
+  last-test b e = ap (ltb _) (sym (sums .totals .ensures .1)) ∙ e
 
 -- ---- the needs
 
@@ -84,10 +88,10 @@ returns-5 c =
     gives-6 (passed-5 (sums .before)) (ap (ltb _) (sym (sums .totals .ensures .0)) ∙ lt-ltb _ _ (c .if5 .taken))
 
 returns-6 : tie.Need-returns-6
-returns-6 c = gives-7 (passed-6 (c .before .before .before)) true (cells-are (c .before) true (lt-ltb _ _ (c .if6 .taken)))
+returns-6 c = gives-7 (passed-6 (c .before .before .before)) true (last-test (c .before) true (lt-ltb _ _ (c .if6 .taken)))
 
 returns-7 : tie.Need-returns-7
-returns-7 c = gives-7 (passed-6 (c .before .before .before)) false (cells-are (c .before) false (le-ltb _ _ (c .if6 .left)))
+returns-7 c = gives-7 (passed-6 (c .before .before .before)) false (last-test (c .before) false (le-ltb _ _ (c .if6 .left)))
 
 pub broken-spec : {M : Type 1} → statement M
 broken-spec =

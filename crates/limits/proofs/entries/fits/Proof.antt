@@ -3,7 +3,6 @@ use mathlib.Core.Path.{_≡_}
 use mathlib.Core.Bool.{true}
 use Rattle.model.specs.Tables.{within}
 use Rattle.model.specs.Plan.{entryFits}
-use Rattle.limits.specs.declared.Wanted.{Wanted}
 use Rattle.limits.proofs.Tests.{is-false, is-true}
 use borrow.Author.Needs.{needs}
 use Rattle.limits.proofs.entries.fits.Statement.{statement}

@@ -1,6 +1,5 @@
 -- `plan::entries::put_entries` meets its contract. The loop: the entries before entry i are stored. Assumes nothing.
-use Prim.Native.Nat.{_-_, _≤_}
-use mathlib.Core.Path.{_≡_, refl, sym, ap, _∙_}
+use Prim.Native.Nat.{_-_}
 use Rattle.plan.proofs.FlowPart.{StoredTo, none-stored, one-more-stored, all-stored}
 use borrow.Author.Needs.{needs}
 use native.Mathlib.Omega.{arith}
