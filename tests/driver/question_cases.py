@@ -11,7 +11,7 @@ from generator import question_seeds
 from simulator.questions import answers, lines_of
 
 PIECES = (1, 2, 3, 7, 64, 1000)         # bytes at a time
-IN_PIECES = 2000                        # bytes of edges that are fed so
+IN_PIECES = 4                           # every fourth edge is fed so
 MANY = 20000                            # lines at once
 FLOWS = range(1, 17)
 ROOMS = range(81)                       # the longest plan has 76 bytes
@@ -80,20 +80,16 @@ def ends():
                          and "the simulator gives %s" % answers(data)))
 
 
-def short_edges():
-    """Edges of few bytes together."""
-    pairs, length = [], 0
-    for edge in EDGES:
-        if length + len(edge.line) < IN_PIECES and len(edge.line) < 200:
-            pairs.append((edge.line, edge.answer))
-            length += len(edge.line) + 1
-    return pairs
+def few_edges():
+    """Some edges of each sort, short ones."""
+    return [(edge.line, edge.answer) for edge in EDGES[::IN_PIECES]
+            if len(edge.line) < 150]
 
 
 def in_pieces(seed):
     for size in PIECES:
         yield ("question: edges in pieces of %d" % size,
-               lambda size=size: by_hand(short_edges(), b"", size))
+               lambda size=size: by_hand(few_edges(), b"", size))
     for size in PIECES[3:]:
         yield ("questions, seed %d in pieces of %d" % (seed + size, size),
                lambda size=size: from_seed(seed + size, size))
