@@ -9,7 +9,7 @@ from edges import refusals_page
 from edges.edge_maker import BASE
 from front_door.command import LIMIT, ROOT, redirected, start, trouble
 from front_door.play_tree import (
-    ACCEPTED, LISTING, NOT_PLAYED, REFUSED, named)
+    ACCEPTED, LISTING, NOT_PLAYED, REFUSED, in_trees)
 
 # ---- files that can be played
 
@@ -47,7 +47,7 @@ def symlink_to_play(tree):
 
 
 def closed_input_not_needed(tree):
-    words = redirected("<&-", tree.play, tree.calls)
+    words = redirected("<&-", tree.command, tree.calls)
     return trouble(start(words), output=LISTING)
 
 
@@ -59,7 +59,7 @@ def line_of(process):
 
 def streamed(tree):
     """Each line comes while the input is still open."""
-    process = subprocess.Popen([tree.play, "-"], stdin=subprocess.PIPE,
+    process = subprocess.Popen([tree.command, "-"], stdin=subprocess.PIPE,
                                stdout=subprocess.PIPE, bufsize=0)
     lines = []
     for piece in [BASE] + 3 * [call_bytes.TICK]:
@@ -96,7 +96,7 @@ def text_file(tree):
 
 def play_itself(tree):
     """A symlink to play as the file: it is text too."""
-    os.symlink(tree.play, tree.root / "itself")
+    os.symlink(tree.command, tree.root / "itself")
     return trouble(tree.start(tree.root / "itself"), REFUSED, b"P 1\n",
                    "itself' is refused with 1")
 
@@ -128,7 +128,7 @@ def unknown_option(tree):
 
 
 def closed_input(tree):
-    return trouble(start(redirected("<&-", tree.play, "-")), NOT_PLAYED, b"",
+    return trouble(start(redirected("<&-", tree.command, "-")), NOT_PLAYED, b"",
                    "standard input is closed")
 
 
@@ -155,5 +155,5 @@ TESTS = (
 )
 
 
-def tests(program):
-    return named(TESTS, program)
+def tests(programs):
+    return in_trees(TESTS, programs)
