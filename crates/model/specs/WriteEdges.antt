@@ -35,8 +35,10 @@ writeEdges =
     ∷ declines 19 (shares 2 2) (room 19)
     -- 16 flows are 76 bytes
     ∷ declines 19 (asked 16 2 16 (table 16 (λ i. flow 1 1 i 63))) (room 75)
-    -- 19 after 6
+    -- 19 after 6 and after 7; and 5
     ∷ declines 6 (shares 2 3) (room 0)
+    ∷ declines 7 (asked 4 2 3 (flow 2 2 1 9 ∷ flow 2 2 2 9 ∷ [])) (room 0)
+    ∷ declines 5 (asked 4 2 4 (flow 1 1 1 9 ∷ flow 1 1 1 9 ∷ [])) (room 20)
     -- 2 before 3, of 17 flows, which make 80 bytes; and no flow
     ∷ declines 2 (asked 0 2 4 (table 17 (λ i. flow 1 1 i 63))) (room 0)
     ∷ declines 2 (asked 4 2 4 []) (room 12)
@@ -51,6 +53,6 @@ writeEdges =
     ∷ declines 4 (asked 4 2 4 (flow 1 257 1 9 ∷ [])) (room 16)
     ∷ declines 4 (asked 4 2 4 (flow 1 1 257 9 ∷ [])) (room 16)
     ∷ declines 4 (asked 4 2 4 (flow 1 1 1 265 ∷ [])) (room 16)
-    -- both bytes of a field: N of 513 is 01 02
-    ∷ stores (alone 4 2 513) (room 16) 16 (0x10 ∷ 0 ∷ 1 ∷ 0 ∷ 0x0C ∷ 0 ∷ 4 ∷ 0 ∷ 2 ∷ 0 ∷ 0x01 ∷ 0x02 ∷ 1 ∷ 1 ∷ 1 ∷ 9 ∷ [])
+    -- both bytes of a field, N of 513 being 01 02; and an entry whose four numbers differ
+    ∷ stores (asked 4 2 513 (flow 1 3 5 9 ∷ [])) (room 16) 16 (0x10 ∷ 0 ∷ 1 ∷ 0 ∷ 0x0C ∷ 0 ∷ 4 ∷ 0 ∷ 2 ∷ 0 ∷ 0x01 ∷ 0x02 ∷ 1 ∷ 3 ∷ 5 ∷ 9 ∷ [])
     ∷ []
