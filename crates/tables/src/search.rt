@@ -8,10 +8,12 @@ ghost use Rattle.tables.specs.Search.{foundOf, validAt, searchFrom, free
 use crate::Found;
 use crate::holdings::Holdings;
 use crate::holdings::room_rank;
+use unbooked::Unbooked;
+use unbooked::bits::from;
+use unbooked::bits::lowest;
 use window::Window;
 use window::numbers::larger;
 use window::numbers::over;
-use window::numbers::smaller;
 use window::positions::ahead;
 use window::positions::next;
 
@@ -26,9 +28,14 @@ fn valid_rank(held: &Holdings, i: usize, cells: u8, w: Window) -> usize
     )
 }
 
+// The valid slots of a frame, where a position is valid if it is unbooked and its rank is at least `low`.
+fn valid_slots(unbooked: &Unbooked, w: Window, low: usize, frame: usize) -> u64 {
+    from(unbooked[frame], over(low, w.rank(frame * w.slots)))
+}
+
 // The search from a frame and a remainder up to the newest frame, for an unbooked position whose rank is at least `low`.
 fn search(
-    owner: &[u8; 256],
+    unbooked: &Unbooked,
     w: Window,
     low: usize,
     share: usize,
@@ -36,7 +43,7 @@ fn search(
     remainder: usize,
 ) -> Found
     requires { ⌜ Proper w × (first < w .frames) ⌝ }
-    ensures { λ r. ⌜ foundOf r ≡ searchFrom (windowOf w) (freeFrom (windowOf w) (now (owner .entry)) low) share first remainder ⌝ }
+    ensures { λ r. ⌜ foundOf r ≡ searchFrom (windowOf w) (freeFrom (windowOf w) (now (unbooked .entry)) low) share first remainder ⌝ }
 {
     let mut frame = first;
     let mut left = remainder;
@@ -44,16 +51,10 @@ fn search(
     let mut found = Found::Nowhere(remainder);
     'search: loop {
         if 0 < left {
-            let start = frame * w.slots;
-            let end = start + w.slots;
-            // the first position of the frame with a rank of at least `low`, or its end
-            let mut p = start + smaller(over(low, w.rank(start)), w.slots);
-            while p < end {
-                if owner[p] == 16 {
-                    found = Found::At(frame, left - 1, p);
-                    break 'search;
-                }
-                p += 1;
+            let valid = valid_slots(unbooked, w, low, frame);
+            if valid != 0 {
+                found = Found::At(frame, left - 1, frame * w.slots + lowest(valid));
+                break 'search;
             }
         }
         if more == 0 {
@@ -69,7 +70,7 @@ fn search(
 
 // The search of flow i from a frame and a remainder up to the newest frame, for a position that is valid for it.
 pub fn find<'a>(
-    owner: &'a [u8; 256],
+    unbooked: &'a Unbooked,
     held: &'a Holdings,
     i: usize,
     cells: u8,
@@ -79,9 +80,9 @@ pub fn find<'a>(
     remainder: usize,
 ) -> Found
     requires { ⌜ FlowFrom w i first ⌝ }
-    ensures { λ r. ⌜ foundOf r ≡ searchFrom (windowOf w) (validAt (windowOf w) (now (owner .entry)) (row (now (held .entry)) i) cells)
+    ensures { λ r. ⌜ foundOf r ≡ searchFrom (windowOf w) (validAt (windowOf w) (now (unbooked .entry)) (row (now (held .entry)) i) cells)
         share first remainder ⌝ }
 {
     let low = valid_rank(held, i, cells, w);
-    search(owner, w, low, share, first, remainder)
+    search(unbooked, w, low, share, first, remainder)
 }

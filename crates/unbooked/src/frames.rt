@@ -1,0 +1,44 @@
+// The words of a link.
+ghost use mathlib.Core.Bool.{_&&_, not, true};
+ghost use Prim.Native.Nat.{_-_, _*_};
+ghost use lib.Dec.{ltb, eqb};
+ghost use lib.ListN.{getD};
+ghost use Rattle.window.specs.Window.{Proper};
+ghost use Rattle.unbooked.specs.Bits.{bitAt};
+ghost use Rattle.unbooked.specs.Words.{Words, WithWord, Frames, InFrame};
+use crate::Unbooked;
+use crate::bits::below;
+use crate::bits::without;
+use window::Window;
+
+// Nobody booked a slot of the W frames.
+pub fn every_slot(slots: usize, frames: usize) -> Unbooked
+    requires { ⌜ Frames slots frames ⌝ }
+    ensures { λ r. ⌜ Words slots frames (λ p. true) r ⌝ }
+{
+    let mut all = [0u64; 8];
+    let mut j = 0;
+    while j < frames {
+        all[j] = below(slots);
+        j += 1;
+    }
+    all
+}
+
+// A position of a frame is booked.
+pub fn book(unbooked: &mut Unbooked, w: Window, frame: usize, position: usize)
+    requires { ⌜ InFrame w frame position ⌝ }
+    ensures { λ r. ⌜ WithWord frame (λ i. not (eqb i (position - frame * w .slots)) && bitAt (getD (now (unbooked .entry)) frame 0) i)
+        (now (unbooked .entry)) (now (unbooked .exit)) ⌝ }
+{
+    unbooked[frame] = without(unbooked[frame], position - frame * w.slots);
+}
+
+// Nobody owns a slot of the head frame.
+pub fn recycle_head(unbooked: &mut Unbooked, w: Window)
+    requires { ⌜ Proper w ⌝ }
+    ensures { λ r. ⌜ WithWord (w .head) (λ i. ltb i (w .slots)) (now (unbooked .entry)) (now (unbooked .exit)) ⌝ }
+{
+    let head = w.head;
+    unbooked[head] = below(w.slots);
+}
