@@ -9,7 +9,7 @@ pub mod FreshTables
 mod Padded
 mod PaddedFrom
 -- the search
-mod PositionWalk
+mod ValidSlots
 mod FrameWalk
 pub mod ValidPositions
 pub mod FoundPosition

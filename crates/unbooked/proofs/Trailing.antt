@@ -4,7 +4,7 @@ use mathlib.Core.Path.{_≡_, refl, ap, _∙_}
 use mathlib.Core.Bool.{true, false}
 use native.Mathlib.Decide.{ℕ-discrete}
 use native.Mathlib.Omega.{arith}
-use lib.Count.{trailingZeros, under, trailing-of-zero}
+use lib.Count.{trailingZeros, under, trailing-of-zero, trailing-le}
 use Rattle.unbooked.specs.Bits.{bitAt, Lowest}
 use Rattle.unbooked.proofs.WordBits.{bit-suc}
 use Rattle.unbooked.proofs.Operations.{odd, even}
@@ -37,6 +37,7 @@ pub trailing-lowest : (word : ℕ) → word < 2 ^ 64 → Lowest word (trailingZe
 trailing-lowest word h =
     let found = trailing 64 word h in
     record {
+      at-most = trailing-le 64 word;
       none = λ z. ap (trailingZeros 64) z ∙ trailing-of-zero 64;
       there = found .there;
       none-before = found .none-before;

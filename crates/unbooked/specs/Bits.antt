@@ -1,5 +1,5 @@
 -- The bits of a word, counted from the lowest. Assumes nothing.
-use Prim.Native.Nat.{ℕ, _/_, _%_, _^_, _<_}
+use Prim.Native.Nat.{ℕ, _/_, _%_, _^_, _≤_, _<_}
 use mathlib.Core.Path.{_≡_}
 use mathlib.Core.Bool.{Bool, true, false}
 use lib.Dec.{eqb}
@@ -14,6 +14,7 @@ pub record Bits (t : ℕ → Bool) (word : ℕ) : Type 0 where
 
 -- i is the lowest bit that is 1, and 64 where there is none
 pub record Lowest (word i : ℕ) : Type 0 where
+  pub at-most : i ≤ 64
   pub none : word ≡ 0 → i ≡ 64
   pub there : (word ≡ 0 → ⊥) → bitAt word i ≡ true
   pub none-before : (k : ℕ) → k < i → bitAt word k ≡ false
