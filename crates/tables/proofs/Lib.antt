@@ -5,6 +5,7 @@ mod RowRanges
 mod CarriedRows
 pub mod HoldingChanges
 pub mod FreshTables
+pub mod UnbookedSlots
 -- one pass over a row
 mod Padded
 mod PaddedFrom

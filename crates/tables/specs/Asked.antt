@@ -16,7 +16,7 @@ pub record FlowAt (w : Window) (i p : ℕ) : Type 0 where
 pub record FlowFrom (w : Window) (words : List ℕ) (i j : ℕ) : Type 0 where
   pub proper : Proper w
   pub owners : List ℕ
-  pub words-are : WordsOf w owners words
+  pub words-are : WordsOf (w .slots) (w .frames) owners words
   pub flow : i < 16
   pub frame : j < w .frames
 

@@ -22,9 +22,9 @@ ownerOf x = cond (eqb x nobody) none (some x)
 abbrev pub unbookedAt : List ℕ → ℕ → Bool
 unbookedAt owners p = unbooked (ownerOf (getD owners p 0))
 
--- word j has the unbooked slots of frame j, by these owners: bit i is 1 exactly when i is below F and nobody owns position j × F + i
-abbrev pub WordsOf : Window → (owners words : List ℕ) → Type 0
-WordsOf w owners words = Words (w .slots) (w .frames) (unbookedAt owners) words
+-- the words of W frames of F slots by these owners: bit i of word j is 1 exactly when there is such a slot and nobody booked its position
+abbrev pub WordsOf : (F W : ℕ) (owners words : List ℕ) → Type 0
+WordsOf F W owners words = Words F W (unbookedAt owners) words
 
 -- one value at each of 256 positions
 unfoldable pub everywhere : ℕ → List ℕ

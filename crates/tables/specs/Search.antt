@@ -37,7 +37,7 @@ searchFrom w ok share j c = model.search w ok share (ahead (w .frames) j (newest
 
 -- the words are those of these owners, and the late positions are those of rank `low` or more
 pub record Gathering (w : code.Window) (owners words : List ℕ) (late : ℕ → Bool) (low : ℕ) : Type 0 where
-  pub words-are : WordsOf w owners words
+  pub words-are : WordsOf (w .slots) (w .frames) owners words
   pub late-from : FromRank w late low
 
 -- document 02, N3: "Bit i of the word is 1 exactly when i is below F and slot i of the frame is valid", where a position is valid if

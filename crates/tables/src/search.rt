@@ -90,7 +90,7 @@ pub fn find<'a>(
     remainder: usize,
 ) -> Found
     requires { ⌜ FlowFrom w (now unbooked) i first ⌝ }
-    ensures { λ r. ⌜ ((owners : List ℕ) → WordsOf w owners (now (unbooked .entry))
+    ensures { λ r. ⌜ ((owners : List ℕ) → WordsOf (w .slots) (w .frames) owners (now (unbooked .entry))
         → foundOf r ≡ searchFrom (windowOf w) (validAt owners (lateAt (windowOf w) (row (now (held .entry)) i) cells)) share first remainder) ⌝ }
 {
     let low = late_rank(held, i, cells, w);

@@ -16,7 +16,7 @@ use Rattle.window.proofs.Ranges.{in-range, before-range, past-range}
 use Rattle.window.proofs.Tabulated.{getD-table, table-past, length-table}
 use Rattle.window.proofs.Windows.{frame-fits}
 use Rattle.unbooked.specs.Bits.{bitAt, Bits}
-use Rattle.unbooked.specs.Words.{slotIn, Words, WithWord, wordOf, wordsOf}
+use Rattle.unbooked.specs.Words.{slotIn, Words, WithWord, Booked, Recycled, wordOf, wordsOf}
 use Rattle.unbooked.proofs.WordBits.{bit-suc, no-bit, one-word}
 use Rattle.unbooked.proofs.Operations.{odd, even, rest-is}
 
@@ -85,7 +85,7 @@ module _ (F W : ℕ) where
             ∙ same-slots t u k (λ s _ l. elsewhere (k * F + s) (outside j k s d l)) i
 
     -- a position of the frame no longer passes
-    pub words-booked : {p : ℕ} → j * F ≤ p → p < j * F + F → WithWord j (λ i. not (eqb i (p - j * F)) && bitAt (getD before j 0) i) before after
+    pub words-booked : {p : ℕ} → j * F ≤ p → p < j * F + F → Booked F j p before after
         → Words F W (λ q. not (eqb q p) && t q) after
     words-booked {p} low high x = word-replaced x _ (λ i. here i (ℕ-discrete i (p - j * F))) elsewhere
       where
@@ -100,12 +100,12 @@ module _ (F W : ℕ) where
         elsewhere q out = rw (ne-eqb q p (λ e. true≢false (sym (in-range (j * F) (j * F + F) q (omega arith) (omega arith)) ∙ out)))
 
     -- every position of the frame passes
-    pub words-whole : (u : ℕ → Bool) → WithWord j (λ i. ltb i F) before after → ((q : ℕ) → inRange (j * F) (j * F + F) q ≡ true → u q ≡ true)
+    pub words-whole : (u : ℕ → Bool) → Recycled F j before after → ((i : ℕ) → i < F → u (j * F + i) ≡ true)
         → ((q : ℕ) → inRange (j * F) (j * F + F) q ≡ false → t q ≡ u q) → Words F W u after
     words-whole u x all = word-replaced x u (λ i. here i (decLt i F))
       where
         here : (i : ℕ) → Dec (i < F) → ltb i F ≡ ltb i F && u (j * F + i)
-        here i (yes d) = rw (all (j * F + i) (in-range (j * F) (j * F + F) (j * F + i) (omega arith) (omega arith)), and-true)
+        here i (yes d) = rw (all i d, and-true)
         here i (no d) = rw (le-ltb i F (omega arith))
 
 -- ---- a word for each of W frames whose slots all pass

@@ -1,14 +1,14 @@
 -- The words of a link: one for each frame, of its unbooked slots. Assumes nothing.
-use Prim.Native.Nat.{ℕ, zero, suc, _+_, _*_, _≤_, _<_}
+use Prim.Native.Nat.{ℕ, zero, suc, _+_, _-_, _*_, _≤_, _<_}
 use mathlib.Core.Path.{_≡_}
 use mathlib.Core.List.{List}
-use mathlib.Core.Bool.{Bool, _&&_}
-use lib.Dec.{ltb}
+use mathlib.Core.Bool.{Bool, not, _&&_}
+use lib.Dec.{ltb, eqb}
 use lib.ListN.{length, getD, set}
 use Rattle.model.specs.Tables.{table, bit}
 use Rattle.window.specs.declared.Window.{Window}
 use Rattle.window.specs.Window.{Proper}
-use Rattle.unbooked.specs.Bits.{Bits}
+use Rattle.unbooked.specs.Bits.{bitAt, Bits}
 
 -- slot i of frame j is one of W frames of F slots, and its position passes t
 abbrev pub slotIn : (F W : ℕ) (t : ℕ → Bool) (j i : ℕ) → Bool
@@ -25,6 +25,14 @@ pub record WithWord (j : ℕ) (t : ℕ → Bool) (before after : List ℕ) : Typ
   pub word : ℕ
   pub bits : Bits t word
   pub is : after ≡ set before j word
+
+-- position p of frame j is booked
+abbrev pub Booked : (F j p : ℕ) (before after : List ℕ) → Type 0
+Booked F j p before after = WithWord j (λ i. not (eqb i (p - j * F)) && bitAt (getD before j 0) i) before after
+
+-- nobody owns a slot of frame j
+abbrev pub Recycled : (F j : ℕ) (before after : List ℕ) → Type 0
+Recycled F j = WithWord j (λ i. ltb i F)
 
 -- ---- what the functions ask
 

@@ -1,11 +1,7 @@
 // The words of a link.
-ghost use mathlib.Core.Bool.{_&&_, not, true};
-ghost use Prim.Native.Nat.{_-_, _*_};
-ghost use lib.Dec.{ltb, eqb};
-ghost use lib.ListN.{getD};
+ghost use mathlib.Core.Bool.{true};
 ghost use Rattle.window.specs.Window.{Proper};
-ghost use Rattle.unbooked.specs.Bits.{bitAt};
-ghost use Rattle.unbooked.specs.Words.{Words, WithWord, Frames, InFrame};
+ghost use Rattle.unbooked.specs.Words.{Words, Booked, Recycled, Frames, InFrame};
 use crate::Unbooked;
 use crate::bits::below;
 use crate::bits::without;
@@ -28,8 +24,7 @@ pub fn every_slot(slots: usize, frames: usize) -> Unbooked
 // A position of a frame is booked.
 pub fn book(unbooked: &mut Unbooked, w: Window, frame: usize, position: usize)
     requires { ⌜ InFrame w frame position ⌝ }
-    ensures { λ r. ⌜ WithWord frame (λ i. not (eqb i (position - frame * w .slots)) && bitAt (getD (now (unbooked .entry)) frame 0) i)
-        (now (unbooked .entry)) (now (unbooked .exit)) ⌝ }
+    ensures { λ r. ⌜ Booked (w .slots) frame position (now (unbooked .entry)) (now (unbooked .exit)) ⌝ }
 {
     unbooked[frame] = without(unbooked[frame], position - frame * w.slots);
 }
@@ -37,7 +32,7 @@ pub fn book(unbooked: &mut Unbooked, w: Window, frame: usize, position: usize)
 // Nobody owns a slot of the head frame.
 pub fn recycle_head(unbooked: &mut Unbooked, w: Window)
     requires { ⌜ Proper w ⌝ }
-    ensures { λ r. ⌜ WithWord (w .head) (λ i. ltb i (w .slots)) (now (unbooked .entry)) (now (unbooked .exit)) ⌝ }
+    ensures { λ r. ⌜ Recycled (w .slots) (w .head) (now (unbooked .entry)) (now (unbooked .exit)) ⌝ }
 {
     let head = w.head;
     unbooked[head] = below(w.slots);
