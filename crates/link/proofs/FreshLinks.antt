@@ -22,6 +22,7 @@ use Rattle.tables.specs.Owners.{nobody, ownerOf, everywhere}
 use Rattle.link.specs.Reading.{flowOf, linkOf}
 use Rattle.link.specs.Fresh.{freshFlow, freshFlows}
 use Rattle.link.specs.Sound.{Sound}
+use Rattle.window.specs.Window.{Measures}
 use Rattle.window.proofs.Tabulated.{table-same, replicate-table}
 use Rattle.link.proofs.Plans.{plan-count, plan-entry, count-most}
 use Rattle.tables.proofs.FreshTables.{length-everywhere, everywhere-at, nothing-at, length-nothing, row-of-nothing}
@@ -39,6 +40,17 @@ freshLink p u = record {
   flows = freshFlows (p .entries) (p .count);
   held = nothingHeld;
   taken = false;
+}
+
+-- the measures of its window
+pub measures-fresh : (p : Plan) → plan.Valid p → Measures (p .slots) (p .frames) 0
+measures-fresh p v = let a = v .accepted in record {
+  some-slot = a .some-slot;
+  slots-most = a .slots-most;
+  two-frames = a .two-frames;
+  frames-most = a .frames-most;
+  positions-most = a .positions-most;
+  current-below = mul-pos (a .some-slot) (omega (arith, a .two-frames));
 }
 
 module _ (p : Plan) (v : plan.Valid p) (u : List ℕ) where
@@ -76,7 +88,7 @@ module _ (p : Plan) (v : plan.Valid p) (u : List ℕ) where
   pub sound-fresh : Words (p .slots) (p .frames) (λ q. true) u → Sound (freshLink p u)
   sound-fresh words = record {
     plan = v;
-    current = mul-pos (v .accepted .some-slot) (omega (arith, v .accepted .two-frames));
+    current = measures-fresh p v .current-below;
     owners-long = length-everywhere nobody;
     owners = λ q b n. absurd (n (everywhere-at nobody q b));
     spare-owners = λ q h b. everywhere-at nobody q b;

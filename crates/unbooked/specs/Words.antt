@@ -34,14 +34,6 @@ Booked F j p before after = WithWord j (λ i. not (eqb i (p - j * F)) && bitAt (
 abbrev pub Recycled : (F j : ℕ) (before after : List ℕ) → Type 0
 Recycled F j = WithWord j (λ i. ltb i F)
 
--- ---- what the functions ask
-
--- F and W are as a plan has them
-pub record Frames (F W : ℕ) : Type 0 where
-  pub some-slot : 1 ≤ F
-  pub slots-most : F ≤ 64
-  pub frames-most : W ≤ 8
-
 -- position p lies in frame j of a window
 pub record InFrame (w : Window) (j p : ℕ) : Type 0 where
   pub proper : Proper w

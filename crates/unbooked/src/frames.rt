@@ -1,7 +1,7 @@
 // The words of a link.
 ghost use mathlib.Core.Bool.{true};
-ghost use Rattle.window.specs.Window.{Proper};
-ghost use Rattle.unbooked.specs.Words.{Words, Booked, Recycled, Frames, InFrame};
+ghost use Rattle.window.specs.Window.{Measures, Proper};
+ghost use Rattle.unbooked.specs.Words.{Words, Booked, Recycled, InFrame};
 use crate::Unbooked;
 use crate::bits::below;
 use crate::bits::without;
@@ -9,7 +9,7 @@ use window::Window;
 
 // Nobody booked a slot of the W frames.
 pub fn every_slot(slots: usize, frames: usize) -> Unbooked
-    requires { ⌜ Frames slots frames ⌝ }
+    requires { ⌜ Measures slots frames 0 ⌝ }
     ensures { λ r. ⌜ Words slots frames (λ p. true) r ⌝ }
 {
     let mut all = [0u64; 8];

@@ -1,7 +1,7 @@
 -- `link::Link::fresh` meets its contract. Assumes nothing.
 use borrow.Author.Needs.{needs}
 use Rattle.link.proofs.Plans.{count-most}
-use Rattle.link.proofs.FreshLinks.{read-fresh, sound-fresh}
+use Rattle.link.proofs.FreshLinks.{measures-fresh, read-fresh, sound-fresh}
 use Rattle.link.proofs.Link.fresh.Statement.{statement}
 use Rattle.link.proofs.Link.fresh.Tie as tie
 
@@ -12,9 +12,7 @@ unbooked-requires : tie.Need-unbooked-requires
 unbooked-requires c κs = search needs
 
 every-slot-requires : tie.Need-every-slot-requires
-every-slot-requires c κs =
-    let a = c .before .before .before .pre .accepted in
-    record { some-slot = a .some-slot; slots-most = a .slots-most; frames-most = a .frames-most }
+every-slot-requires c κs = measures-fresh _ (c .before .before .before .pre)
 
 nothing-held-requires : tie.Need-nothing-held-requires
 nothing-held-requires c κs = search needs
