@@ -1,12 +1,11 @@
 -- The walk over the frames: what is left to search comes to what the whole search does. Assumes nothing.
-use Prim.Native.Nat.{ℕ, zero, suc, _+_, _-_, _*_, _≤_, _<_}
+use Prim.Native.Nat.{ℕ, zero, suc, _-_, _≤_, _<_}
 use mathlib.Core.Path.{_≡_, refl, sym, _∙_}
 use mathlib.Core.Option.{some, none}
-use mathlib.Core.Bool.{Bool, true}
+use mathlib.Core.Bool.{Bool}
 use native.Mathlib.Omega.{arith}
 use Rattle.model.specs.Window as model
 use Rattle.model.specs.Request.{found, nowhere, earliest, search}
-use Rattle.tables.proofs.PositionWalk.{Failed, failed-hit, failed-all}
 
 -- frame j, with the remainder c, has no position to book
 pub record NoneIn (w : model.Window) (ok : ℕ → Bool) (share j c : ℕ) : Type 0 where
@@ -28,9 +27,9 @@ module _ {w : model.Window} {ok : ℕ → Bool} {share : ℕ} where
   pub none-spent : {j c : ℕ} → c ≤ 0 → NoneIn w ok share j c
   none-spent h = record { none-there = λ b. absurd (omega arith) }
 
-  -- all its positions have failed
-  pub none-failed : {j c p : ℕ} → Failed ok (j * w .slots) (w .slots) p → j * w .slots + w .slots ≤ p → NoneIn w ok share j c
-  none-failed v h = record { none-there = λ _. failed-all v h }
+  -- it has no valid position
+  pub none-valid : {j c : ℕ} → earliest w ok share j ≡ none → NoneIn w ok share j c
+  none-valid e = record { none-there = λ _. e }
 
   search-on : (more j c : ℕ) → NoneIn w ok share j c → (more ≡ 0 → ⊥)
       → search w ok share more j c ≡ search w ok share (more - 1) (model.next w j) share
@@ -54,7 +53,6 @@ module _ {w : model.Window} {ok : ℕ → Bool} {share : ℕ} where
     pub walked-out : NoneIn w ok share j c → more ≡ 0 → nowhere c ≡ search w ok share more₀ j₀ c₀
     walked-out e z = sym (search-last more j c e z) ∙ v .same
 
-    -- p is the earliest position of the frame that passes
-    pub walked-hit : {p : ℕ} → 0 < c → Failed ok (j * w .slots) (w .slots) p → p < j * w .slots + w .slots → ok p ≡ true
-        → found j (c - 1) p ≡ search w ok share more₀ j₀ c₀
-    walked-hit {p} h u b z = sym (search-hit w ok share more j c p h (failed-hit u b z)) ∙ v .same
+    -- p is its earliest valid position
+    pub walked-hit : {p : ℕ} → 0 < c → earliest w ok share j ≡ some p → found j (c - 1) p ≡ search w ok share more₀ j₀ c₀
+    walked-hit {p} h e = sym (search-hit w ok share more j c p h e) ∙ v .same
