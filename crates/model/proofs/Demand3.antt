@@ -1,4 +1,4 @@
--- Demand 3: the card of document 01 meets it. Assumes nothing.
+-- Demand 3: the card of documents 01 and 02 meets it. Assumes nothing.
 use Prim.Native.Nat.{ℕ, suc, _+_, _-_, _*_, _≤_, _<_}
 use mathlib.Core.Path.{_≡_, refl, subst}
 use mathlib.Core.List.{[], _∷_}
@@ -92,6 +92,7 @@ module _ (l : Link) (h : History) (g : After (l .plan) l h) (i : ℕ) (known : i
   demand3 Clause.within-a-window = each-map _ _ (λ e h c. c .soon) h (g .events)
   demand3 Clause.comes-up = each-map _ _ (λ e h c. c .comes-up) h (g .events)
   demand3 Clause.granted-words = each-map _ _ (λ e h c. c .word) h (g .events)
+  demand3 Clause.after-departure = each-map _ _ (λ e h c. c .after-departure) h (g .events)
   demand3 Clause.lent-flows = each-map _ _ (λ e h c. c .loan) h (g .events)
 
 -- demand 3 on any plan that keeps the limits, and so on the plan of any bytes that are accepted

@@ -14,6 +14,7 @@ pub mod Listing
 -- slots, positions, links and marks
 pub mod Slots
 pub mod Window
+pub mod Departures
 pub mod LinkUpdates
 pub mod Marks
 pub mod SlotOwners
