@@ -23,7 +23,7 @@ use Rattle.model.proofs.AfterHistory.{AskedOn, After}
 use Rattle.model.proofs.Plan.{accepted}
 use Rattle.model.proofs.AfterCalls.{after-run}
 
-each-map : (Q R : Event → History → Type 0) → ((e : Event) (h : History) → Q e h → R e h) → (h : History) → Each Q h → Each R h
+pub each-map : (Q R : Event → History → Type 0) → ((e : Event) (h : History) → Q e h → R e h) → (h : History) → Each Q h → Each R h
 each-map Q R f [] a = tt
 each-map Q R f (e ∷ h) a = (f e h (a .0), each-map Q R f h (a .1))
 

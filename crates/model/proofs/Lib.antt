@@ -55,4 +55,6 @@ pub mod ClaimDecided
 pub mod BadHistories
 pub mod BadCards
 pub mod BadLends
+pub mod BadDepartures
+pub mod TilesToCome
 pub mod PersistentStream

@@ -6,7 +6,7 @@ use mathlib.Core.List.{List}
 use mathlib.Core.Bool.{true}
 use Rattle.model.specs.Word.{flowOf, departureOf}
 use Rattle.model.specs.Plan.{Plan, flowCount, entry, planOf, refusal}
-use Rattle.model.specs.Calls.{Call, History}
+use Rattle.model.specs.Calls.{Call, Event, History}
 use Rattle.model.specs.History.{ticks, changes, wellFormed, hasCome, granted, refusedIn}
 use Rattle.model.specs.Claim.{Each, AtRequest, Room}
 use Rattle.model.specs.Card.{run, paper}
@@ -15,11 +15,14 @@ use Rattle.model.specs.Card.{run, paper}
 abbrev pub Premise : Type 1
 Premise = Plan → (t d : ℕ) → Type 0
 
--- The stream asks until it is refused, and at each of its well-formed requests it has room and its word's departure is as Q says.
+-- At a well-formed request of flow i it has room, and its word's departure is as Q says.
+abbrev pub ReadyBy : Premise → Plan → ℕ → Event → History → Type 0
+ReadyBy Q P i = AtRequest (λ w h. wellFormed P w ≡ true → flowOf w ≡ i → Room P i h × Q P (ticks h) (departureOf w))
+
+-- the premise of the least count, with Q in the place of the claim's test
 pub record PersistentBy (Q : Premise) (P : Plan) (i : ℕ) (h : History) : Type 0 where
   pub refused-in-each-frame : (f : ℕ) → f ≤ changes P h → 0 < refusedIn P h i f
-  pub ready-at-each-request :
-      Each (AtRequest (λ w h. wellFormed P w ≡ true → flowOf w ≡ i → Room P i h × Q P (ticks h) (departureOf w))) h
+  pub ready-at-each-request : Each (ReadyBy Q P i) h
 
 -- the least count of the paper's card for such a stream
 abbrev pub LeastBy : Premise → Type 0
