@@ -2,6 +2,7 @@
 use Prim.Native.Nat.{ℕ, _+_, _*_, _%_, _≤_, _<_}
 use mathlib.Core.Path.{_≡_, refl, sym, ap, _∙_, subst}
 use mathlib.Core.Bool.{Bool, true, false, not, _&&_}
+use mathlib.Core.Bool as Bool
 use native.Mathlib.Nat.{mod-lt, div-add-mod', mul-le-mul-right}
 use native.Mathlib.Decide.{ℕ-discrete}
 use native.Mathlib.Omega.{arith}
@@ -49,9 +50,9 @@ module _ (l : Link) (i d p : ℕ) where
   valid-for-parts e = and-true (valid l i p) (canLeave (window l) d p) e
 
   -- "the tile has come and nothing changes"
-  pub valid-if-come : later (window l) d (l .current) ≡ false → valid l i p ≡ true → validFor l i d p ≡ true
+  pub valid-if-come : later (window l) d (l .current) ≡ false → validFor l i d p ≡ valid l i p
   unfolding validFor
-  valid-if-come e ok = rw (ok, leaves-if-come (window l) d p e)
+  valid-if-come e = rw (leaves-if-come (window l) d p e) (Bool.and-true (valid l i p))
 
 -- ---- the slot of a departure
 
@@ -65,7 +66,7 @@ module _ {P : Plan} {t c : ℕ} (now : Current P t c) where
   T = positions P
 
   -- After t ticks the tiles that have come are those of the window's slots up to slot t.
-  come-at : (s : ℕ) → InWindow P t s → hasCome P t (s % T) ≡ leb s t
+  pub come-at : (s : ℕ) → InWindow P t s → hasCome P t (s % T) ≡ leb s t
   come-at s w-s = rw (frame-of-position ok s) (go (leb s t) refl (ℕ-discrete (frameOf P s) (frameOf P t)))
     where
       F : ℕ

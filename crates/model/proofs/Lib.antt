@@ -26,6 +26,7 @@ pub mod CreditKeeps
 pub mod LendKeeps
 pub mod UnbookedSlots
 pub mod SearchedFrames
+pub mod NewestFrame
 pub mod LeastCount
 pub mod RequestSearch
 pub mod RequestKeeps
@@ -57,4 +58,5 @@ pub mod BadCards
 pub mod BadLends
 pub mod BadDepartures
 pub mod TilesToCome
+pub mod TwoHops
 pub mod PersistentStream

@@ -48,7 +48,7 @@ module _ {l : Link} {L : Ledger} (v : Invariant l L) {i : ℕ} (known : i < flow
         go (suc x) q = omega arith
         go zero q =
             let free = open-valid v known s w (record { not-granted = q; to-come = h; room = λ r le. room r (omega arith) }) in
-            let both = sym e ∙ valid-if-come l i d (s % T) come free in
+            let both = sym e ∙ valid-if-come l i d (s % T) come ∙ free in
             let no : _≡_ {A = ℕ} 0 1 = cc in
             omega arith
 

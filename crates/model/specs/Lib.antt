@@ -35,3 +35,4 @@ pub mod BadCards
 pub mod BadLends
 pub mod BadDepartures
 pub mod TilesToCome
+pub mod TwoHops
