@@ -1,19 +1,19 @@
 -- The departure of a word: a position against it, the tile that has come, and the slot at which one comes. Assumes nothing.
-use Prim.Native.Nat.{ℕ, _+_, _*_, _%_, _≤_, _<_}
+use Prim.Native.Nat.{ℕ, _+_, _*_, _%_, _<_}
 use mathlib.Core.Path.{_≡_, refl, sym, ap, _∙_, subst}
 use mathlib.Core.Bool.{Bool, true, false, not, _&&_}
 use mathlib.Core.Bool as Bool
-use native.Mathlib.Nat.{mod-lt, div-add-mod', mul-le-mul-right}
+use native.Mathlib.Nat.{div-add-mod'}
 use native.Mathlib.Decide.{ℕ-discrete}
 use native.Mathlib.Omega.{arith}
 use lib.Dec.{leb, ltb, eqb}
-use borrow.Author.Tests.{ltb-true, ltb-false, leb-true, leb-false, lt-ltb, le-ltb, le-leb, lt-leb, eq-eqb, ne-eqb, not-false}
+use borrow.Author.Tests.{ltb-true, ltb-false, leb-true, leb-false, lt-ltb, le-leb, lt-leb, eq-eqb, ne-eqb, not-false}
 use Rattle.model.specs.Plan.{Plan, positions}
 use Rattle.model.specs.Window.{Window, rank, later}
 use Rattle.model.specs.Link.{Link, window}
 use Rattle.model.specs.Request.{valid, canLeave, validFor}
 use Rattle.model.specs.History.{frameOf, slotAfter, hasCome}
-use Rattle.model.specs.Holding.{frameStart, InWindow}
+use Rattle.model.specs.Holding.{InWindow}
 use Rattle.model.proofs.Tests.{and-true}
 use Rattle.model.proofs.Round.{mod-unique, split-position}
 use Rattle.model.proofs.Slots.{some-frame, frame-low, frame-high, frame-ends, same-frame, frame-of-position, slotAfter-is}

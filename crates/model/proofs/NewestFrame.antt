@@ -60,11 +60,19 @@ module _ (l : Link) (i d : ℕ) (come : later (window l) d (l .current) ≡ fals
 
   pub none-would-be : flow l i .injection < l .plan .frames → (c : ℕ) → sought l i d ≡ nowhere (suc c) → wouldBeValid l i ≡ false
   unfolding sought wouldBeValid
-  none-would-be below c e = any-of-none (l .plan .slots) (λ x. valid l i (start (window l) (newest (window l)) + x)) λ x h.
-      sym (valid-if-come l i d _ come) ∙ firstFrom-none (l .plan .slots) (start (window l) (newest (window l))) (validFor l i d) fails _ (omega arith) (omega arith)
+  none-would-be below c e = any-of-none F (λ x. valid l i (first + x)) λ x h.
+      sym (valid-if-come l i d (first + x) come) ∙ firstFrom-none F first (validFor l i d) fails (first + x) (omega arith) (omega arith)
     where
+      F : ℕ
+      F = l .plan .slots
+
+      -- the newest frame's first position
+      first : ℕ
+      first = start (window l) (newest (window l))
+
       fails : earliest (window l) (validFor l i d) (share l i) (newest (window l)) ≡ none
-      fails = subst (λ j. earliest (window l) (validFor l i d) (share l i) j ≡ none) (ends-with-newest (window l) (flow l i .injection) below)
+      fails =
+          subst (λ j. earliest (window l) (validFor l i d) (share l i) j ≡ none) (ends-with-newest (window l) (flow l i .injection) below)
           (fails-in-last (window l) (validFor l i d) (share l i) _ (flow l i .injection) (flow l i .remainder) c e)
 
 -- ---- the request

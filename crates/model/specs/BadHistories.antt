@@ -1,5 +1,5 @@
 -- Histories that demand 3 rules out: each breaks one clause of it and keeps all the others; and one that overfills the next board's buffer. Assumes nothing.
-use Prim.Native.Nat.{ℕ, _+_}
+use Prim.Native.Nat.{ℕ}
 use mathlib.Core.Path.{_≡_}
 use mathlib.Core.List.{List, _∷_, [], reverse}
 use mathlib.Core.Option.{some, none}

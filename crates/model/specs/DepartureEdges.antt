@@ -2,7 +2,6 @@
 --
 -- What each comes to is worked out from the request. Where a row says no more, F = 4 and W = 2: on a fresh link the head frame is 0 to 3 and the
 -- newest 4 to 7.
-use Prim.Native.Nat.{ℕ}
 use mathlib.Core.List.{List, _∷_, []}
 use Rattle.model.specs.Calls.{requested, accepted, refused}
 use Rattle.model.specs.PlanBytes.{plan1, plan2, listing, roomy, single, oneCell, oneShare}
