@@ -14,6 +14,7 @@ pub mod Listing
 -- slots, positions, links and marks
 pub mod Slots
 pub mod Window
+pub mod Departures
 pub mod LinkUpdates
 pub mod Marks
 pub mod SlotOwners
@@ -25,6 +26,7 @@ pub mod CreditKeeps
 pub mod LendKeeps
 pub mod UnbookedSlots
 pub mod SearchedFrames
+pub mod NewestFrame
 pub mod LeastCount
 pub mod RequestSearch
 pub mod RequestKeeps
@@ -54,4 +56,7 @@ pub mod ClaimDecided
 pub mod BadHistories
 pub mod BadCards
 pub mod BadLends
+pub mod BadDepartures
+pub mod TilesToCome
+pub mod TwoHops
 pub mod PersistentStream

@@ -26,9 +26,13 @@ pub mod PlanBytes
 pub mod EdgeCases
 pub mod PlanEdges
 pub mod CallEdges
+pub mod DepartureEdges
 pub mod LendEdges
 pub mod ProgramEdges
 pub mod Edges
 pub mod BadHistories
 pub mod BadCards
 pub mod BadLends
+pub mod BadDepartures
+pub mod TilesToCome
+pub mod TwoHops
