@@ -47,7 +47,8 @@ pub mod Demand3
 pub mod ListingMeets
 pub mod Holding
 pub mod Buffer
--- edges, cards that demand 3 sends back, and a stream that meets the premise of the least count
+pub mod TwoHops
+-- edges, cards that demand 3 sends back, a stream that meets the premise of the least count, and what the premise on tiles is for
 pub mod Unfoldings
 pub mod Edges
 pub mod Decidable
@@ -57,6 +58,5 @@ pub mod BadHistories
 pub mod BadCards
 pub mod BadLends
 pub mod BadDepartures
-pub mod TilesToCome
-pub mod TwoHops
 pub mod PersistentStream
+pub mod TilesToCome

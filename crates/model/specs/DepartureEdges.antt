@@ -4,7 +4,7 @@
 -- newest 4 to 7.
 use mathlib.Core.List.{List, _∷_, []}
 use Rattle.model.specs.Calls.{requested, accepted, refused}
-use Rattle.model.specs.PlanBytes.{plan1, plan2, listing, roomy, single, oneCell, oneShare}
+use Rattle.model.specs.PlanBytes.{plan1, listing, roomy, single, oneCell, oneShare}
 use Rattle.model.specs.EdgeCases.{Case, grant, refuse, grantFrom, refuseFrom, idle, idles, plays, follows}
 
 unfoldable pub departureEdges : List Case
@@ -23,10 +23,10 @@ departureEdges =
     -- going round: in the head frame 4 to 7, from 7 on to 0, and from 0 on to 1
     ∷ follows listing (idles 4 (grantFrom 0 7 0 ∷ []))
     ∷ follows listing (idles 4 (grantFrom 0 0 1 ∷ []))
-    -- the newest frame's last slot, in windows of 8, 2 and 256 positions: no position is later
+    -- the newest frame's last slot, in windows of 8, 2 and 32 positions: no position is later
     ∷ follows listing (refuseFrom 0 7 20 ∷ [])
     ∷ follows single (refuseFrom 0 1 20 ∷ grant 0 1 ∷ [])
-    ∷ follows (plan2 64 4 4 2 2 2 2) (refuseFrom 0 255 20 ∷ grantFrom 0 254 255 ∷ [])
+    ∷ follows (plan1 4 8 4 1 4) (refuseFrom 0 31 20 ∷ grantFrom 0 30 31 ∷ [])
     -- the same at CP = 5, where it is 3
     ∷ follows listing (idles 5 (refuseFrom 0 3 20 ∷ grantFrom 0 2 3 ∷ []))
     -- frames that the departure rules out are left behind: IF is the newest frame after 20, and after a grant there

@@ -21,6 +21,8 @@ pub mod Claim
 pub mod Card
 pub mod Holding
 pub mod Buffer
+pub mod TilesToCome
+pub mod TwoHops
 -- worked examples, and cards that are sent back
 pub mod PlanBytes
 pub mod EdgeCases
@@ -34,5 +36,3 @@ pub mod BadHistories
 pub mod BadCards
 pub mod BadLends
 pub mod BadDepartures
-pub mod TilesToCome
-pub mod TwoHops
