@@ -1,23 +1,24 @@
 -- The search of flow i on link l, as it is read. Assumes nothing.
 use Prim.Native.Nat.{ℕ, _≤_, _<_}
 use mathlib.Core.Path.{_≡_, sym, ap, _∙_, subst}
-use mathlib.Core.Bool.{Bool}
+use mathlib.Core.Bool.{Bool, not, and-assoc}
 use native.Mathlib.Nat.{mod-lt}
 use native.Mathlib.Omega.{arith}
 use lib.Dec.{ltb}
 use Rattle.model.specs.Tables.{ahead}
 use Rattle.model.specs.Plan as paper
-use Rattle.model.specs.Window.{Window, everyFrom, newest}
+use Rattle.model.specs.Window.{Window, passed, everyFrom, newest}
 use Rattle.model.specs.Link as model
-use Rattle.model.specs.Request.{valid, Found, found, nowhere, search, sought}
+use Rattle.model.specs.Request.{unbooked, valid, Found, found, nowhere, search, sought}
 use Rattle.window.proofs.GoingRound.{ahead-on}
 use Rattle.window.proofs.FromOn.{everyFrom-same}
+use Rattle.tables.specs.Owners.{ownerOf}
 use Rattle.tables.specs.Holdings.{roomAt}
-use Rattle.tables.specs.Search.{validAt, searchFrom}
+use Rattle.tables.specs.Search.{lateAt, validAt, searchFrom}
 use Rattle.tables.proofs.ValidPositions.{search-same}
 use Rattle.tables.proofs.FoundPosition.{search-books, Booking, Books}
 use Rattle.link.specs.declared.Link.{Link}
-use Rattle.link.specs.Layout.{sizeOf, entryAt, flowAt}
+use Rattle.link.specs.Layout.{sizeOf, entryAt, flowAt, ownerAt}
 use Rattle.link.specs.Reading.{linkOf}
 use Rattle.link.specs.Sound.{Sound}
 use Rattle.link.proofs.Readings.{read-entry, read-flow, read-holding, read-owner, read-size, read-frames}
@@ -25,7 +26,7 @@ use Rattle.link.proofs.Readings.{read-entry, read-flow, read-holding, r
 module _ (l : Link) (s : Sound l) (v : Window) (is : v ≡ model.window (linkOf l)) (i : ℕ) (hi : i < l .plan .count) where
   -- position p is valid for it
   abbrev pub validHere : ℕ → Bool
-  validHere p = validAt v (l .owner) (flowAt l i .held) (entryAt l i .cells) p
+  validHere p = validAt (l .owner) (lateAt v (flowAt l i .held) (entryAt l i .cells)) p
 
   -- there is room from p on
   room-same : (p : ℕ) → everyFrom (model.window (linkOf l)) p (λ q. ltb (model.holding (linkOf l) i q) (model.cells (linkOf l) i))
@@ -38,7 +39,11 @@ module _ (l : Link) (s : Sound l) (v : Window) (is : v ≡ model.window (linkOf 
 
   valid-same : (p : ℕ) → p < sizeOf l → valid (linkOf l) i p ≡ validHere p
   unfolding valid validAt
-  valid-same p hp = rw (is, read-owner l p hp, room-same p)
+  valid-same p hp =
+      let unowned = unbooked (ownerOf (ownerAt l p)) in
+      let later = not (passed (model.window (linkOf l)) p) in
+      let room = everyFrom (model.window (linkOf l)) p (roomAt (flowAt l i .held) (entryAt l i .cells)) in
+      rw (is, read-owner l p hp, room-same p) (and-assoc unowned later room)
 
   two : 2 ≤ v .frames
   two = rw (read-frames l is) (s .plan .accepted .two-frames)

@@ -11,16 +11,22 @@ use lib.ListN.{length, getD, set, replicate, length-set, length-replicate, getD-
 use lib.Seq.{getD-set-same, getD-set-other, ext-getD}
 use borrow.Author.Tests.{lt-ltb, le-ltb, eq-eqb, ne-eqb}
 use Rattle.model.specs.Tables.{table, bit}
+use Rattle.window.specs.declared.Window.{Window}
 use Rattle.window.specs.Ranges.{inRange}
+use Rattle.window.specs.Window.{sizeOf}
 use Rattle.window.proofs.Ranges.{in-range, before-range, past-range}
 use Rattle.window.proofs.Tabulated.{getD-table, table-past, length-table}
 use Rattle.window.proofs.Windows.{frame-fits}
 use Rattle.unbooked.specs.Bits.{bitAt, Bits}
-use Rattle.unbooked.specs.Words.{slotIn, Words, WithWord, Booked, Recycled, wordOf, wordsOf}
+use Rattle.unbooked.specs.Words.{slotIn, Words, WithWord, Booked, Recycled, InFrame, wordOf, wordsOf}
 use Rattle.unbooked.proofs.WordBits.{bit-suc, no-bit, one-word}
 use Rattle.unbooked.proofs.Operations.{odd, even, rest-is}
 
 -- ---- the slots of a frame, by their positions
+
+-- a position of a frame is one of the window
+pub in-window : {w : Window} {j p : ℕ} → InFrame w j p → p < sizeOf w
+in-window {w} {j} v = omega (arith, v .high, frame-fits (w .slots) (w .frames) j (v .frame))
 
 module _ (F W : ℕ) where
   -- slots of two frames have two positions

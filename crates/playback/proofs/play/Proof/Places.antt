@@ -7,10 +7,11 @@ use Rattle.calls.specs.declared.Record.{Record}
 use Rattle.calls.specs.Reading.{callIn}
 use Rattle.calls.proofs.PlayedTo.{callAt}
 use Rattle.window.specs.declared.Window.{Window}
-use Rattle.window.specs.Window.{sizeOf}
+use Rattle.unbooked.specs.Words.{InFrame}
 use Rattle.link.specs.declared.Link.{Link}
+use Rattle.link.specs.declared.reply.Reply.{Reply}
 use Rattle.link.proofs.Given.{AtHand, plan-valid, placed-few, request-on}
-use Rattle.link.proofs.Requests.{reply-below}
+use Rattle.link.proofs.Requests.{reply-in-frame}
 use Rattle.playback.proofs.Records.{playedAt, Made, reads-as}
 use Rattle.playback.proofs.SoFar.{SoFar}
 use Rattle.playback.proofs.play.Tie as tie
@@ -77,14 +78,19 @@ asker-at c = asker-for (c .before .before)
 pub asker-few : (c : tie.After-asker Inv-loop μ-loop) → c .asker .result < 16
 asker-few c = placed-few (plan-valid (hand-at (request-at c))) _ (c .asker .ensures)
 
-module _ (c : tie.After-flow2 Inv-loop μ-loop) where
-  abbrev pub asked-on : tie.After-read Inv-loop μ-loop
-  asked-on = request-at (asker-at c)
+-- where a position is granted
+module _ (c : tie.Then1 Inv-loop μ-loop) where
+  abbrev pub asked-at : tie.After-asker Inv-loop μ-loop
+  asked-at = asker-at (c .before)
 
-  pub position-below : c .before .ask .result .position < sizeOf (window-at asked-on)
-  position-below =
-      let i = asker-at c .asker .ensures in
-      reply-below (hand-at asked-on) _ i (c .before .ask .ensures _ (request-on (hand-at asked-on) _ i))
+  abbrev reply-at : Reply
+  reply-at = c .before .before .ask .result
+
+  pub granted-in : InFrame (window-at (request-at asked-at)) (reply-at .flow .frame) (reply-at .position)
+  granted-in =
+      let a = hand-at (request-at asked-at) in
+      let i = asked-at .asker .ensures in
+      reply-in-frame a _ i (c .before .before .ask .ensures _ (request-on a _ i)) (c .if1 .taken)
 
 -- ---- a credit
 
@@ -106,4 +112,4 @@ abbrev pub tick-at : tie.After-struct-known2 Inv-loop μ-loop → tie.After-read
 tick-at c = read-at (c .before .before .before .before .before)
 
 abbrev pub left-at : tie.After-carry-head-arg Inv-loop μ-loop → tie.After-read Inv-loop μ-loop
-left-at c = tick-at (c .before .before .before .before)
+left-at c = tick-at (c .before .before .before .before .before .before)
