@@ -353,6 +353,13 @@ impl Table {
         }
     }
 
+    /// Whether a position is the current one or lies before it in the head
+    /// frame. A position before the head frame's first wraps to a large number.
+    #[inline]
+    fn has_come(&self, position: usize) -> bool {
+        position.wrapping_sub(self.start) <= self.slot
+    }
+
     /// The free slots of a frame from a place on; `first` is the frame's first
     /// place.
     #[inline]
@@ -370,11 +377,10 @@ impl Table {
         let full = flow.held.last_with(flow.cells, first);
         let clear = full.map_or(0, |place| place + 1);
         // Nor up to the departure, where the tile is still to come.
-        let comes = self.place(departure);
-        let from = if comes > self.slot {
-            clear.max(comes + 1)
-        } else {
+        let from = if self.has_come(departure) {
             clear
+        } else {
+            clear.max(self.place(departure) + 1)
         };
         loop {
             let valid = self.free_from(flow.frame, first, from);
