@@ -12,8 +12,8 @@ class Format:
         self.refusals = refusals    # the numbers that have to come up
 
 
-DOMELINK = Format(records.DOMELINK, check.DOMELINK, range(1, 17))
-ALLCALLS = Format(records.ALLCALLS, check.ALLCALLS, range(1, 19))
+DOMELINK = Format(records.DOMELINK, check.DOMELINK, [*range(1, 17), 20])
+ALLCALLS = Format(records.ALLCALLS, check.ALLCALLS, [*range(1, 19), 20])
 
 
 def has_lends(data):

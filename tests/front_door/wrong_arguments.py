@@ -27,6 +27,9 @@ TESTS_RUN = [
     (["--allcalls", "--simulate", MISSING], MISSING + " can't be read"),
     (["--allcalls", "--write", "-1", MISSING], "a seed has to be"),
     (["--allcalls"], "--allcalls goes with"),
+    (["--departures"], "--departures goes with"),
+    (["--departures", "--allcalls", "--write", "1", MISSING],
+     "--departures goes with"),
 ]
 BENCH_RUN = [
     (["0"], "ROUNDS"),
