@@ -6,6 +6,7 @@ import tempfile
 from demand3 import wrong_listings
 from driver import cases, plain_rust
 from driver.formats import ALLCALLS
+from driver.side_by_side import made
 from driver.suite import Suite
 from driver.tally import DepartureTally, LendTally, Tally
 from edges import open_choice, refusals_page
@@ -66,8 +67,7 @@ def front_door(program, only):
 
 def play_cases(suites, names, only, tally=None):
     """Each case through each program."""
-    for name, make in wanted(names, only):
-        case = make()
+    for name, case in made(wanted(names, only)):
         if tally:
             tally.add(case)
         for suite in suites:

@@ -6,14 +6,20 @@ from simulator import records
 
 
 class Format:
-    def __init__(self, kinds, checked, refusals):
+    def __init__(self, name, kinds, checked, refusals):
+        self.name = name            # of the one format below
         self.kinds = kinds          # the simulator's table of records
         self.checked = checked      # the same for the check of demand 3
         self.refusals = refusals    # the numbers that have to come up
 
+    def __reduce__(self):
+        """Another process that is handed a format has the same one."""
+        return self.name
 
-DOMELINK = Format(records.DOMELINK, check.DOMELINK, [*range(1, 17), 20])
-ALLCALLS = Format(records.ALLCALLS, check.ALLCALLS, [*range(1, 19), 20])
+DOMELINK = Format(
+    "DOMELINK", records.DOMELINK, check.DOMELINK, [*range(1, 17), 20])
+ALLCALLS = Format(
+    "ALLCALLS", records.ALLCALLS, check.ALLCALLS, [*range(1, 19), 20])
 
 
 def has_lends(data):
