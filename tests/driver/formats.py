@@ -16,6 +16,7 @@ class Format:
         """Another process that is handed a format has the same one."""
         return self.name
 
+
 DOMELINK = Format(
     "DOMELINK", records.DOMELINK, check.DOMELINK, [*range(1, 17), 20])
 ALLCALLS = Format(
