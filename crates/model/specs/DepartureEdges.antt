@@ -40,6 +40,8 @@ departureEdges =
     ∷ follows oneCell (grant 0 1 ∷ refuseFrom 0 7 12 ∷ [])
     -- 20 looks at the whole newest frame: 7 is booked, and 4 to 6 would be valid
     ∷ follows listing (grantFrom 1 6 7 ∷ refuseFrom 0 6 20 ∷ [])
+    -- and not at the departure's own position, which is booked here
+    ∷ follows listing (grantFrom 1 6 7 ∷ refuseFrom 0 7 20 ∷ [])
     -- C is the share after 20 as the newest frame is reached, and then stays as it is
     ∷ follows roomy (grant 0 1 ∷ refuseFrom 0 7 20 ∷ grant 0 4 ∷ refuseFrom 0 7 20 ∷ grant 0 5 ∷ refuseFrom 0 7 11 ∷ [])
     -- "there and at every later position": the cell is held from 2 on, so that 1 is not valid though nothing is held there
