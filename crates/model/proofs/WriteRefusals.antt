@@ -37,67 +37,67 @@ one-more {b = false} t = record { is = t .is }
 
 -- the number that a buffer's room gives
 abbrev pub roomNumber : Plan → List ℕ → ℕ
-roomNumber P buffer = firstOf (roomTest P buffer ∷ [])
+roomNumber P out = firstOf (roomTest P out ∷ [])
 
-by-tests : (P : Plan) (buffer : List ℕ) → writeRefusal P buffer ≡ orElse (firstOf (numberTests P)) (roomNumber P buffer)
+by-tests : (P : Plan) (out : List ℕ) → writeRefusal P out ≡ orElse (firstOf (numberTests P)) (roomNumber P out)
 unfolding writeRefusal
-by-tests P buffer =
-    let tests : Then (numberTests P) (roomTest P buffer ∷ []) = one-more (one-more (one-more (one-more (one-more (one-more (none _)))))) in
+by-tests P out =
+    let tests : Then (numberTests P) (roomTest P out ∷ []) = one-more (one-more (one-more (one-more (one-more (one-more (none _)))))) in
     tests .is
 
-pub refused-by : (P : Plan) (buffer : List ℕ) → writeRefusal P buffer ≡ orElse (refusal (bytesOf P)) (roomNumber P buffer)
-refused-by P buffer = by-tests P buffer ∙ ap (λ r. orElse r (roomNumber P buffer)) (sym (same-tests P))
+pub refused-by : (P : Plan) (out : List ℕ) → writeRefusal P out ≡ orElse (refusal (bytesOf P)) (roomNumber P out)
+refused-by P out = by-tests P out ∙ ap (λ r. orElse r (roomNumber P out)) (sym (same-tests P))
 
 -- ---- what is written, by the first test that applies
 
-module _ (P : Plan) (buffer : List ℕ) where
-  pub refused-writes : (r : ℕ) → 0 < r → writeRefusal P buffer ≡ r → written P buffer ≡ record { answer = refused r; buffer = buffer }
+module _ (P : Plan) (out : List ℕ) where
+  pub refused-writes : (r : ℕ) → 0 < r → writeRefusal P out ≡ r → written P out ≡ record { answer = refused r; out = out }
   unfolding written writtenAfter
   refused-writes zero some e = absurd (omega arith)
-  refused-writes (suc r) some e = ap (λ q. writtenAfter q P buffer) e
+  refused-writes (suc r) some e = ap (λ q. writtenAfter q P out) e
 
-  pub by-number : (r : ℕ) → 0 < r → firstOf (numberTests P) ≡ r → writeRefusal P buffer ≡ r
+  pub by-number : (r : ℕ) → 0 < r → firstOf (numberTests P) ≡ r → writeRefusal P out ≡ r
   by-number zero some e = absurd (omega arith)
-  by-number (suc r) some e = by-tests P buffer ∙ ap (λ q. orElse q (roomNumber P buffer)) e
+  by-number (suc r) some e = by-tests P out ∙ ap (λ q. orElse q (roomNumber P out)) e
 
   module _ (passed : firstOf (numberTests P) ≡ 0) where
-    by-room : writeRefusal P buffer ≡ roomNumber P buffer
-    by-room = by-tests P buffer ∙ ap (λ q. orElse q (roomNumber P buffer)) passed
+    by-room : writeRefusal P out ≡ roomNumber P out
+    by-room = by-tests P out ∙ ap (λ q. orElse q (roomNumber P out)) passed
 
-    pub no-room : length buffer < length (bytesOf P) → writeRefusal P buffer ≡ 19
+    pub no-room : length out < length (bytesOf P) → writeRefusal P out ≡ 19
     unfolding firstOf
-    no-room h = by-room ∙ rw (lt-ltb (length buffer) (length (bytesOf P)) h)
+    no-room h = by-room ∙ rw (lt-ltb (length out) (length (bytesOf P)) h)
 
-    pub with-room : length (bytesOf P) ≤ length buffer → writeRefusal P buffer ≡ 0
+    pub with-room : length (bytesOf P) ≤ length out → writeRefusal P out ≡ 0
     unfolding firstOf
-    with-room h = by-room ∙ rw (le-ltb (length buffer) (length (bytesOf P)) h)
+    with-room h = by-room ∙ rw (le-ltb (length out) (length (bytesOf P)) h)
 
-  pub accepted-writes : writeRefusal P buffer ≡ 0
-      → written P buffer ≡ record { answer = accepted (length (bytesOf P)); buffer = bytesOf P ++ drop (length (bytesOf P)) buffer }
+  pub accepted-writes : writeRefusal P out ≡ 0
+      → written P out ≡ record { answer = accepted (length (bytesOf P)); out = bytesOf P ++ drop (length (bytesOf P)) out }
   unfolding written writtenAfter
-  accepted-writes e = ap (λ q. writtenAfter q P buffer) e
+  accepted-writes e = ap (λ q. writtenAfter q P out) e
 
 -- ---- a plan that is written
 
 -- 19 applies or nothing does
-room-number : (P : Plan) (buffer : List ℕ) (r : ℕ) → roomNumber P buffer ≡ r → r ≤ 7 → (r ≡ 0) × (length (bytesOf P) ≤ length buffer)
+room-number : (P : Plan) (out : List ℕ) (r : ℕ) → roomNumber P out ≡ r → r ≤ 7 → (r ≡ 0) × (length (bytesOf P) ≤ length out)
 unfolding firstOf
-room-number P buffer r = go (ltb (length buffer) (length (bytesOf P))) refl
+room-number P out r = go (ltb (length out) (length (bytesOf P))) refl
   where
-    go : (b : Bool) → ltb (length buffer) (length (bytesOf P)) ≡ b → cond b 19 0 ≡ r → r ≤ 7 → (r ≡ 0) × (length (bytesOf P) ≤ length buffer)
+    go : (b : Bool) → ltb (length out) (length (bytesOf P)) ≡ b → cond b 19 0 ≡ r → r ≤ 7 → (r ≡ 0) × (length (bytesOf P) ≤ length out)
     go true e f small = absurd (omega arith)
-    go false e f small = (sym f, ltb-false (length buffer) (length (bytesOf P)) e)
+    go false e f small = (sym f, ltb-false (length out) (length (bytesOf P)) e)
 
-pub record Accepts (P : Plan) (buffer : List ℕ) : Type 0 where
+pub record Accepts (P : Plan) (out : List ℕ) : Type 0 where
   pub read-too : refusal (bytesOf P) ≡ 0
-  pub has-room : length (bytesOf P) ≤ length buffer
+  pub has-room : length (bytesOf P) ≤ length out
 
 -- where the first refusal is 0, both are
-pub accepts : (P : Plan) (buffer : List ℕ) → writeRefusal P buffer ≡ 0 → Accepts P buffer
-accepts P buffer e = go (refusal (bytesOf P)) refl (sym (refused-by P buffer) ∙ e)
+pub accepts : (P : Plan) (out : List ℕ) → writeRefusal P out ≡ 0 → Accepts P out
+accepts P out e = go (refusal (bytesOf P)) refl (sym (refused-by P out) ∙ e)
   where
-    go : (r : ℕ) → refusal (bytesOf P) ≡ r → orElse r (roomNumber P buffer) ≡ 0 → Accepts P buffer
-    go zero q f = record { read-too = q; has-room = room-number P buffer 0 f (omega arith) .1 }
+    go : (r : ℕ) → refusal (bytesOf P) ≡ r → orElse r (roomNumber P out) ≡ 0 → Accepts P out
+    go zero q f = record { read-too = q; has-room = room-number P out 0 f (omega arith) .1 }
     go (suc r) q f = absurd (omega arith)
 
 -- a plan whose numbers pass tests 2 to 7
@@ -105,8 +105,8 @@ pub within-limits : (P : Plan) → firstOf (numberTests P) ≡ 0 → Accepted P
 within-limits P e = subst Accepted (read-back P) (accepted-bytes (bytesOf P) (same-tests P ∙ e))
 
 -- "What it writes is read back to the same plan."
-pub read-as-written : (P : Plan) (buffer : List ℕ) → writeRefusal P buffer ≡ 0 → (refusal (bytesOf P) ≡ 0) × (planOf (bytesOf P) ≡ P)
-read-as-written P buffer e = (accepts P buffer e .read-too, read-back P)
+pub read-as-written : (P : Plan) (out : List ℕ) → writeRefusal P out ≡ 0 → (refusal (bytesOf P) ≡ 0) × (planOf (bytesOf P) ≡ P)
+read-as-written P out e = (accepts P out e .read-too, read-back P)
 
 -- ---- numbers that fit their fields
 
@@ -156,19 +156,19 @@ accepted-fits P ok = record {
 -- The bytes that would be written are a file, and its reader and the writer refuse by the same number from 2 to 7, whatever the buffer.
 pub record SameRefusals (P : Plan) : Type 0 where
   pub bytes : AllBytes (bytesOf P)
-  pub by-writer : (buffer : List ℕ) (r : ℕ) → 2 ≤ r → r ≤ 7 → refusal (bytesOf P) ≡ r → writeRefusal P buffer ≡ r
-  pub by-reader : (buffer : List ℕ) (r : ℕ) → 2 ≤ r → r ≤ 7 → writeRefusal P buffer ≡ r → refusal (bytesOf P) ≡ r
+  pub by-writer : (out : List ℕ) (r : ℕ) → 2 ≤ r → r ≤ 7 → refusal (bytesOf P) ≡ r → writeRefusal P out ≡ r
+  pub by-reader : (out : List ℕ) (r : ℕ) → 2 ≤ r → r ≤ 7 → writeRefusal P out ≡ r → refusal (bytesOf P) ≡ r
 
 pub same-refusals : (P : Plan) → FitsFields P → SameRefusals P
 same-refusals P fits = record { bytes = file-bytes P fits; by-writer = by-writer; by-reader = by-reader }
   where
-    by-writer : (buffer : List ℕ) (r : ℕ) → 2 ≤ r → r ≤ 7 → refusal (bytesOf P) ≡ r → writeRefusal P buffer ≡ r
-    by-writer buffer zero low high e = absurd (omega arith)
-    by-writer buffer (suc r) low high e = refused-by P buffer ∙ ap (λ q. orElse q (roomNumber P buffer)) e
+    by-writer : (out : List ℕ) (r : ℕ) → 2 ≤ r → r ≤ 7 → refusal (bytesOf P) ≡ r → writeRefusal P out ≡ r
+    by-writer out zero low high e = absurd (omega arith)
+    by-writer out (suc r) low high e = refused-by P out ∙ ap (λ q. orElse q (roomNumber P out)) e
 
-    by-reader : (buffer : List ℕ) (r : ℕ) → 2 ≤ r → r ≤ 7 → writeRefusal P buffer ≡ r → refusal (bytesOf P) ≡ r
-    by-reader buffer r low high e = go (refusal (bytesOf P)) refl (sym (refused-by P buffer) ∙ e)
+    by-reader : (out : List ℕ) (r : ℕ) → 2 ≤ r → r ≤ 7 → writeRefusal P out ≡ r → refusal (bytesOf P) ≡ r
+    by-reader out r low high e = go (refusal (bytesOf P)) refl (sym (refused-by P out) ∙ e)
       where
-        go : (q : ℕ) → refusal (bytesOf P) ≡ q → orElse q (roomNumber P buffer) ≡ r → refusal (bytesOf P) ≡ r
-        go zero e f = absurd (omega (arith, room-number P buffer r f high .0))
+        go : (q : ℕ) → refusal (bytesOf P) ≡ q → orElse q (roomNumber P out) ≡ r → refusal (bytesOf P) ≡ r
+        go zero e f = absurd (omega (arith, room-number P out r f high .0))
         go (suc q) e f = e ∙ f

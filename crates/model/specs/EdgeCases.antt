@@ -24,7 +24,7 @@ pub data Trial : Type 0 where
   -- the program's input
   program : (input : List ℕ) → Trial
   -- a plan to be written in a buffer
-  writing : (plan : Plan) (buffer : List ℕ) → Trial
+  writing : (plan : Plan) (out : List ℕ) → Trial
 
 pub data Outcome : Type 0 where
   -- the plan is refused
@@ -46,7 +46,7 @@ abbrev pub outcome : Card → Trial → Outcome
 outcome c (link bytes calls) = linkOutcome c (refusal bytes) bytes calls
 outcome c (granting w p) = word (depart w p)
 outcome c (program input) = written (output input)
-outcome c (writing plan buffer) = wrote (WrittenPlan.written plan buffer)
+outcome c (writing plan out) = wrote (WrittenPlan.written plan out)
 
 pub record Case : Type 0 where
   pub trial : Trial
@@ -134,8 +134,8 @@ writes input lines = record { trial = program input; expected = written (text li
 
 -- ---- a plan written in a buffer: the count of bytes and the buffer after it, or a refusal, which leaves the buffer
 
-abbrev pub stores : Plan → (buffer : List ℕ) → (count : ℕ) → (after : List ℕ) → Case
-stores plan buffer count after = record { trial = writing plan buffer; expected = wrote (record { answer = accepted count; buffer = after }) }
+abbrev pub stores : Plan → (out : List ℕ) → (count : ℕ) → (after : List ℕ) → Case
+stores plan out count after = record { trial = writing plan out; expected = wrote (record { answer = accepted count; out = after }) }
 
-abbrev pub declines : (number : ℕ) → Plan → (buffer : List ℕ) → Case
-declines number plan buffer = record { trial = writing plan buffer; expected = wrote (record { answer = refused number; buffer = buffer }) }
+abbrev pub declines : (number : ℕ) → Plan → (out : List ℕ) → Case
+declines number plan out = record { trial = writing plan out; expected = wrote (record { answer = refused number; out = out }) }

@@ -42,29 +42,29 @@ abbrev pub numberTests : Plan → List Line
 numberTests P = countTest (headerFor P) ∷ limitTests P
 
 -- "a buffer shorter than the plan"
-abbrev pub roomTest : Plan → (buffer : List ℕ) → Line
-roomTest P buffer = 19 when ltb (length buffer) (length (bytesOf P))
+abbrev pub roomTest : Plan → (out : List ℕ) → Line
+roomTest P out = 19 when ltb (length out) (length (bytesOf P))
 
 -- the refusal, and 0 where the plan is written: 19 is "tested after 7"
-unfoldable pub writeRefusal : Plan → (buffer : List ℕ) → ℕ
-writeRefusal P buffer = firstOf (numberTests P ++ (roomTest P buffer ∷ []))
+unfoldable pub writeRefusal : Plan → (out : List ℕ) → ℕ
+writeRefusal P out = firstOf (numberTests P ++ (roomTest P out ∷ []))
 
 -- ---- what is written
 
 -- what the writer hands back: "the count of bytes written" or the refusal, and the lent buffer
 pub record Written : Type 0 where
   pub answer : Answer ℕ
-  pub buffer : List ℕ
+  pub out : List ℕ
 
 -- the plan in the buffer, where the tests give a number
-unfoldable pub writtenAfter : ℕ → Plan → (buffer : List ℕ) → Written
+unfoldable pub writtenAfter : ℕ → Plan → (out : List ℕ) → Written
 -- "Bytes after the plan keep their values."
-writtenAfter zero P buffer = record { answer = accepted (length (bytesOf P)); buffer = bytesOf P ++ drop (length (bytesOf P)) buffer }
+writtenAfter zero P out = record { answer = accepted (length (bytesOf P)); out = bytesOf P ++ drop (length (bytesOf P)) out }
 -- "every refusal leaves the buffer untouched"
-writtenAfter (suc r) P buffer = record { answer = refused (suc r); buffer = buffer }
+writtenAfter (suc r) P out = record { answer = refused (suc r); out = out }
 
-unfoldable pub written : Plan → (buffer : List ℕ) → Written
-written P buffer = writtenAfter (writeRefusal P buffer) P buffer
+unfoldable pub written : Plan → (out : List ℕ) → Written
+written P out = writtenAfter (writeRefusal P out) P out
 
 -- ---- numbers that fit their fields
 

@@ -35,8 +35,8 @@ unfolding readOf verdictFor planAfter
 read-of-written d before after n w =
     let P = draftFor d in
     let c = counted P before n (sym (w .0)) in
-    let buffer = w .1 .0 ∙ ap (λ (x : writer.Written). x .buffer) (accepted-writes P before (c .0)) in
-    let bytes : take n after ≡ bytesOf P = ap (take n) buffer ∙ take-at (bytesOf P) _ n (c .1) in
+    let stored-out = w .1 .0 ∙ ap (λ (x : writer.Written). x .out) (accepted-writes P before (c .0)) in
+    let bytes : take n after ≡ bytesOf P = ap (take n) stored-out ∙ take-at (bytesOf P) _ n (c .1) in
     let read = read-as-written P before (c .0) in
     ap readOf bytes ∙ (λ k. record { verdict = verdictFor (read .0 k); plan = planAfter (read .0 k) (read .1 k) })
 
@@ -62,5 +62,5 @@ written-of-read b bytes o is ok before after r w room =
     let long : length (bytesOf P) ≤ length before = omega (arith, ap length again) in
     let wrote = ap (λ Q. writer.written Q before) (drafted-of-read b z o is) ∙ accepted-writes P before (with-room P before passed long) in (
       w .0 ∙ ap (λ (x : writer.Written). answerFor (x .answer)) wrote ∙ ap (λ x. Bytes (length x)) again,
-      w .1 .0 ∙ ap (λ (x : writer.Written). x .buffer) wrote ∙ ap (λ x. x ++ drop (length x) before) again,
+      w .1 .0 ∙ ap (λ (x : writer.Written). x .out) wrote ∙ ap (λ x. x ++ drop (length x) before) again,
     )

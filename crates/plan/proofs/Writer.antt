@@ -52,13 +52,13 @@ module _ (P : model.Plan) (before : List ℕ) (n : ℕ) where
 abbrev pub Writes : model.Plan → (before : List ℕ) → Written → (after : List ℕ) → Type 0
 Writes P before r after =
     (r ≡ answerFor (writer.written P before .answer))
-    × ((after ≡ writer.written P before .buffer) × ((n : ℕ) → r ≡ Bytes n → (n ≤ 76) × (n ≤ length before)))
+    × ((after ≡ writer.written P before .out) × ((n : ℕ) → r ≡ Bytes n → (n ≤ 76) × (n ≤ length before)))
 
 promised : (P : model.Plan) (before : List ℕ) {w : writer.Written} → writer.written P before ≡ w → {r : Written} {after : List ℕ}
-    → r ≡ answerFor (w .answer) → after ≡ w .buffer → Writes P before r after
+    → r ≡ answerFor (w .answer) → after ≡ w .out → Writes P before r after
 promised P before w e f =
     let answer = e ∙ ap (λ (x : writer.Written). answerFor (x .answer)) (sym w) in
-    (answer, (f ∙ ap (λ (x : writer.Written). x .buffer) (sym w), λ n q. count-most P before n (sym answer ∙ q)))
+    (answer, (f ∙ ap (λ (x : writer.Written). x .out) (sym w), λ n q. count-most P before n (sym answer ∙ q)))
 
 -- ---- a refusal
 

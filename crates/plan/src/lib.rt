@@ -106,7 +106,7 @@ pub fn read(bytes: &[u8]) -> Outcome
 // That a count is at most 76 and at most the buffer's length follows; it is stated so that callers find it.
 pub fn write(draft: Draft, out: &mut [u8]) -> Written
     ensures is { λ r. ⌜ r ≡ answerFor (writer.written (draftFor draft) (now (out .entry)) .answer) ⌝ }
-    ensures out { λ r. ⌜ now (out .exit) ≡ writer.written (draftFor draft) (now (out .entry)) .buffer ⌝ }
+    ensures out { λ r. ⌜ now (out .exit) ≡ writer.written (draftFor draft) (now (out .entry)) .out ⌝ }
     ensures most { λ r. ⌜ ((n : ℕ) → r ≡ Written.Bytes n → (n ≤ 76) × (n ≤ length (now (out .entry)))) ⌝ }
 {
     let number = limits::broken(draft);
