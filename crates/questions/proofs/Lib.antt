@@ -1,0 +1,4 @@
+pub mod PutOn
+pub mod DecimalLength
+pub mod SpacedNumbers
+pub mod BytesLines
