@@ -1,4 +1,0 @@
-pub mod PutOn
-pub mod DecimalLength
-pub mod SpacedNumbers
-pub mod BytesLines
