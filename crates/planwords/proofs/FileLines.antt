@@ -30,11 +30,11 @@ use Rattle.planwords.proofs.DraftsAsked.{draft-is}
 
 module _ (P : Plan) (b : List ℕ) where
   -- the bytes written are the plan's, and stand first in the buffer
-  pub written-first : (n : ℕ) → code.Written.Bytes n ≡ answerFor (written P b .answer) → take n (written P b .buffer) ≡ bytesOf P
+  pub written-first : (n : ℕ) → code.Written.Bytes n ≡ answerFor (written P b .answer) → take n (written P b .out) ≡ bytesOf P
   unfolding written writtenAfter
   written-first n e = go (writeRefusal P b) e
     where
-      go : (r : ℕ) → code.Written.Bytes n ≡ answerFor (writtenAfter r P b .answer) → take n (writtenAfter r P b .buffer) ≡ bytesOf P
+      go : (r : ℕ) → code.Written.Bytes n ≡ answerFor (writtenAfter r P b .answer) → take n (writtenAfter r P b .out) ≡ bytesOf P
       go zero p = let many : length (bytesOf P) ≡ n = cc in take-at (bytesOf P) (drop (length (bytesOf P)) b) n many
       go (suc r) p = let z : _≡_ {A = ℕ} 0 1 = cc in absurd (omega arith)
 
