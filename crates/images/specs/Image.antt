@@ -1,0 +1,108 @@
+-- The image of a link: its layout, a link as bytes, and bytes read as a link. Document 02, N5, "a link image between calls". Assumes nothing.
+use Prim.Native.Nat.{ℕ, _+_, _*_, _/_, _%_}
+use mathlib.Core.List.{List, _∷_, [], _++_, map, flatMap}
+use mathlib.Core.Option.{Option, some, none}
+use mathlib.Core.Bool.{cond}
+use lib.ListN.{take, drop}
+use lib.Dec.{eqb}
+use Rattle.model.specs.Tables.{table, bit}
+use Rattle.model.specs.Plan.{Plan, positions, flowCount, field16, planOf}
+use Rattle.model.specs.Link.{Link, Flow}
+use Rattle.images.specs.PlanPart.{planLength, bytesOf}
+
+-- ---- "16-bit fields, low byte first"
+
+-- numbers as fields, one after the other
+unfoldable pub fields : List ℕ → List ℕ
+fields [] = []
+fields (x ∷ xs) = x % 256 ∷ x / 256 ∷ fields xs
+
+-- field k of those that begin at a place
+abbrev pub fieldAt : List ℕ → (at k : ℕ) → ℕ
+fieldAt b at k = field16 b (at + 2 * k)
+
+-- ---- the parts, "without gaps"
+
+-- the header's fields, and its bytes
+abbrev pub headerFields : ℕ
+headerFields = 8
+
+abbrev pub headerLength : ℕ
+headerLength = 2 * headerFields
+
+-- the fields of each flow's part
+abbrev pub flowFields : Plan → ℕ
+flowFields P = 2 + positions P
+
+-- after the header "the plan's bytes, each position's owner .., and for each flow" its part
+abbrev pub positionsAt : Plan → ℕ
+positionsAt P = headerLength + planLength P
+
+abbrev pub flowsAt : Plan → ℕ
+flowsAt P = positionsAt P + 2 * positions P
+
+abbrev pub imageLength : Plan → ℕ
+imageLength P = flowsAt P + 2 * (flowCount P * flowFields P)
+
+-- ---- what stands in the fields. "A field that a later request adds stands last in the header, or in each flow's part."
+
+-- "total length, offset of the plan, offset and count of positions, offset and count of flows"
+abbrev pub layout : Plan → List ℕ
+layout P = imageLength P ∷ headerLength ∷ positionsAt P ∷ positions P ∷ flowsAt P ∷ flowCount P ∷ []
+
+-- "CP and the taken mark"
+abbrev pub header : Link → List ℕ
+header l = layout (l .plan) ++ (l .current ∷ bit (l .taken) ∷ [])
+
+-- "each position's owner (16 for none)"
+abbrev pub ownerField : Option ℕ → ℕ
+ownerField none = 16
+ownerField (some i) = i
+
+-- "for each flow IF, C and its holdings at positions 0 to T-1"
+abbrev pub flowPart : Flow → List ℕ
+flowPart x = x .injection ∷ x .remainder ∷ x .held
+
+-- ---- a link as bytes
+
+unfoldable pub imageOf : Link → List ℕ
+imageOf l = fields (header l) ++ bytesOf (l .plan) ++ fields (map ownerField (l .owners)) ++ fields (flatMap flowPart (l .flows))
+
+-- ---- bytes read as a link
+
+abbrev pub headerField : List ℕ → ℕ → ℕ
+headerField b k = fieldAt b 0 k
+
+-- the plan's bytes, as many as it states
+abbrev pub planPart : List ℕ → List ℕ
+planPart b = take (field16 b headerLength) (drop headerLength b)
+
+abbrev pub planIn : List ℕ → Plan
+planIn b = planOf (planPart b)
+
+abbrev pub ownerIn : ℕ → Option ℕ
+ownerIn x = cond (eqb x 16) none (some x)
+
+-- field k of flow i's part
+abbrev pub flowField : List ℕ → Plan → (i k : ℕ) → ℕ
+flowField b P i k = fieldAt b (flowsAt P) (i * flowFields P + k)
+
+abbrev pub flowIn : List ℕ → Plan → ℕ → Flow
+flowIn b P i = record {
+  injection = flowField b P i 0;
+  remainder = flowField b P i 1;
+  held = table (positions P) (λ p. flowField b P i (2 + p));
+}
+
+-- the link of plan P whose tables stand in b
+abbrev pub linkWith : List ℕ → Plan → Link
+linkWith b P = record {
+  plan = P;
+  current = headerField b 6;
+  owners = table (positions P) (λ p. ownerIn (fieldAt b (positionsAt P) p));
+  flows = table (flowCount P) (flowIn b P);
+  taken = eqb (headerField b 7) 1;
+}
+
+unfoldable pub linkIn : List ℕ → Link
+linkIn b = linkWith b (planIn b)
