@@ -1,1 +1,4 @@
--- What is proved of images. Assumes nothing.
+-- What is proved of link images: each file uses those above it. Assumes nothing.
+-- a flow's bookings, and the conditions by slots
+pub mod Bookings
+pub mod BySlots
