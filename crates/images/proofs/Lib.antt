@@ -2,3 +2,8 @@
 -- a flow's bookings, and the conditions by slots
 pub mod Bookings
 pub mod BySlots
+-- what each call leaves
+pub mod Holdings
+pub mod FreshKept
+pub mod CreditKept
+pub mod LendKept
