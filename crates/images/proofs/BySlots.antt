@@ -10,13 +10,13 @@ use lib.ListN.{length, getD}
 use lib.Dec.{leb, ltb}
 use borrow.Author.Tests.{ltb-true, ltb-false, leb-true, leb-false, lt-ltb, le-ltb}
 use Rattle.model.specs.Tables.{ahead, bit}
-use Rattle.model.specs.Plan.{Plan, positions, flowCount, entry}
+use Rattle.model.specs.Plan.{Plan, positions, flowCount, entry, Accepted}
 use Rattle.model.specs.Window.{Window, head, rank, later, fromOn}
 use Rattle.model.specs.Link.{Link, Flow, owner, flow}
 use Rattle.model.specs.History.{frameOf}
 use Rattle.model.specs.Holding.{InWindow}
 use Rattle.model.proofs.Round.{firstWith, firstWith-low, firstWith-high, firstWith-mod, ahead-mod}
-use Rattle.model.proofs.Slots.{some-frame, some-position, current-in-window, slotAt, slotAt-in-window, slotAt-position}
+use Rattle.model.proofs.Slots.{some-frame, some-position, frame-begins, current-in-window, slotAt, slotAt-in-window, slotAt-position}
 use Rattle.model.proofs.Window.{Current, head-is, fromOn-is}
 use Rattle.images.specs.Consistent.{known, bookingsIn, frameAfter, before, windowAt, growsTo, ConsistentFlow, Consistent, Whole, Kept}
 use Rattle.images.proofs.Bookings.{booking}
@@ -56,6 +56,10 @@ pub record LinkAt (l : Link) (t : ℕ) : Type 0 where
   pub flows : (i : ℕ) → i < flowCount (l .plan) → FlowAt (l .plan) t (l .owners) i (flow l i)
 
 -- ---- later positions and frames, and the position before
+
+-- a slot after slot t has one before it in the window
+pub slot-before : {P : Plan} → Accepted P → {t s : ℕ} → InWindow P t s → t < s → InWindow P t (s - 1)
+slot-before ok {t} w after = record { low = omega (arith, frame-begins ok t); high = omega (arith, w .high) }
 
 module _ {P : Plan} {t c : ℕ} (now : Current P t c) where
   open Current now using (accepted as ok)

@@ -15,11 +15,11 @@ use Rattle.model.specs.Window.{fromOn, everyFrom}
 use Rattle.model.specs.Link.{Link, window, flow, holding, cells, heldFrom}
 use Rattle.model.specs.Holding.{InWindow}
 use Rattle.model.proofs.Tables.{length-table}
-use Rattle.model.proofs.Slots.{some-position, current-in-window, slotAt, slotAt-in-window, slotAt-position}
+use Rattle.model.proofs.Slots.{some-position, slotAt, slotAt-in-window, slotAt-position}
 use Rattle.model.proofs.Window.{Current, fromOn-is, everyFrom-at}
 use Rattle.model.proofs.LinkUpdates.{heldFrom-at}
 use Rattle.images.proofs.Bookings.{booking}
-use Rattle.images.proofs.BySlots.{GrowsAt, HoldsWell, LinkAt}
+use Rattle.images.proofs.BySlots.{GrowsAt, HoldsWell, LinkAt, slot-before}
 
 module _ {l : Link} {t : ℕ} (v : LinkAt l t) {i : ℕ} (known : i < flowCount (l .plan)) {s : ℕ} (w : InWindow (l .plan) t s) where
   open Link l using (plan as P)
@@ -52,10 +52,6 @@ module _ {l : Link} {t : ℕ} (v : LinkAt l t) {i : ℕ} (known : i < flowCount 
     up-to : r < s → getD (changed f) (r % T) 0 ≡ holds r
     up-to lt = rw (fromOn-is (v .current) s r w w-r ∙ lt-leb s r lt) at tested
 
-  -- a slot after slot t has one before it in the window
-  slot-before : (r : ℕ) → InWindow P t r → t < r → InWindow P t (r - 1)
-  slot-before r w-r after = record { low = omega (arith, current-in-window ok t .low); high = omega (arith, w-r .high) }
-
   -- what holds of each slot of the window holds of each position
   each-position : (Q : ℕ → Type 0) → ((r : ℕ) → InWindow P t r → Q (r % T)) → (p : ℕ) → p < T → Q p
   each-position Q h p below = subst Q (slotAt-position ok t p below) (h (slotAt ok t p) (slotAt-in-window ok t p))
@@ -81,14 +77,14 @@ module _ {l : Link} {t : ℕ} (v : LinkAt l t) {i : ℕ} (known : i < flowCount 
 
       grows : (r : ℕ) → InWindow P t r → t < r → Dec (s ≤ r) → Dec (s ≤ r - 1) → GrowsAt P (l .owners) i (changed less) r
       grows r w-r after (yes le) (yes le′) =
-          omega (arith, from-on less r w-r le, from-on less (r - 1) (slot-before r w-r after) le′, before .grows r w-r after)
+          omega (arith, from-on less r w-r le, from-on less (r - 1) (slot-before ok w-r after) le′, before .grows r w-r after)
       grows r w-r after (yes le) (no gt′) =
-          omega (arith, from-on less r w-r le, up-to less (r - 1) (slot-before r w-r after) (omega arith), before .grows r w-r after)
+          omega (arith, from-on less r w-r le, up-to less (r - 1) (slot-before ok w-r after) (omega arith), before .grows r w-r after)
       grows r w-r after (no gt) d =
           omega (
             arith,
             up-to less r w-r (omega arith),
-            up-to less (r - 1) (slot-before r w-r after) (omega arith),
+            up-to less (r - 1) (slot-before ok w-r after) (omega arith),
             before .grows r w-r after,
           )
 
@@ -122,7 +118,7 @@ module _ {l : Link} {t : ℕ} (v : LinkAt l t) {i : ℕ} (known : i < flowCount 
             omega (
               arith,
               from-on suc r w-r le,
-              from-on suc (r - 1) (slot-before r w-r after) le′,
+              from-on suc (r - 1) (slot-before ok w-r after) le′,
               before .grows r w-r after,
               still r w-r after,
             )
@@ -131,7 +127,7 @@ module _ {l : Link} {t : ℕ} (v : LinkAt l t) {i : ℕ} (known : i < flowCount 
             omega (
               arith,
               from-on suc r w-r le,
-              up-to suc (r - 1) (slot-before r w-r after) (omega arith),
+              up-to suc (r - 1) (slot-before ok w-r after) (omega arith),
               here r e after,
               got r e after,
             )
@@ -139,7 +135,7 @@ module _ {l : Link} {t : ℕ} (v : LinkAt l t) {i : ℕ} (known : i < flowCount 
             omega (
               arith,
               up-to suc r w-r (omega arith),
-              up-to suc (r - 1) (slot-before r w-r after) (omega arith),
+              up-to suc (r - 1) (slot-before ok w-r after) (omega arith),
               before .grows r w-r after,
               still r w-r after,
             )

@@ -7,3 +7,5 @@ pub mod Holdings
 pub mod FreshKept
 pub mod CreditKept
 pub mod LendKept
+pub mod FrameChangeKept
+pub mod TickKept
