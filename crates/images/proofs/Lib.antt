@@ -9,3 +9,4 @@ pub mod CreditKept
 pub mod LendKept
 pub mod FrameChangeKept
 pub mod TickKept
+pub mod RequestLeaves
