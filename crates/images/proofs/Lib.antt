@@ -10,3 +10,6 @@ pub mod LendKept
 pub mod FrameChangeKept
 pub mod TickKept
 pub mod RequestLeaves
+pub mod WalkKept
+pub mod BookingKept
+pub mod RequestKept
