@@ -13,3 +13,6 @@ pub mod RequestLeaves
 pub mod WalkKept
 pub mod BookingKept
 pub mod RequestKept
+pub mod Closed
+-- bytes
+pub mod Fields

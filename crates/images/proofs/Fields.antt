@@ -1,0 +1,46 @@
+-- Numbers written as 16-bit fields, and read. Assumes nothing.
+use Prim.Native.Nat.{ℕ, zero, suc, _+_, _*_, _/_, _%_, _≤_, _<_}
+use mathlib.Core.Path.{_≡_, refl, sym, ap, ap₂, _∙_, subst}
+use mathlib.Core.List.{List, _∷_, [], _++_, append-assoc}
+use native.Mathlib.Omega.{arith}
+use lib.ListN.{length, getD, take, drop, length-append, List·getD-append}
+use lib.Seq.{getD-append-add, drop-cons}
+use Rattle.images.specs.Image.{fields, fieldAt}
+
+pub length-fields : (xs : List ℕ) → length (fields xs) ≡ 2 * length xs
+unfolding fields
+length-fields [] = refl
+length-fields (x ∷ xs) = omega (arith, length-fields xs)
+
+-- the two bytes of number k
+low-byte : (xs : List ℕ) (k : ℕ) → getD (fields xs) (2 * k) 0 ≡ getD xs k 0 % 256
+unfolding fields
+low-byte [] k = refl
+low-byte (x ∷ xs) zero = refl
+low-byte (x ∷ xs) (suc k) = let e : 2 * suc k ≡ suc (suc (2 * k)) = omega arith in ap (λ j. getD (fields (x ∷ xs)) j 0) e ∙ low-byte xs k
+
+high-byte : (xs : List ℕ) (k : ℕ) → getD (fields xs) (2 * k + 1) 0 ≡ getD xs k 0 / 256
+unfolding fields
+high-byte [] k = refl
+high-byte (x ∷ xs) zero = refl
+high-byte (x ∷ xs) (suc k) =
+    let e : 2 * suc k + 1 ≡ suc (suc (2 * k + 1)) = omega arith in
+    ap (λ j. getD (fields (x ∷ xs)) j 0) e ∙ high-byte xs k
+
+-- The fields from a place on are these numbers.
+abbrev pub Stands : List ℕ → ℕ → List ℕ → Type 0
+Stands b at xs = (k : ℕ) → k < length xs → fieldAt b at k ≡ getD xs k 0
+
+-- numbers that are written behind other bytes
+pub stand-behind : (front xs rest : List ℕ) (at : ℕ) → length front ≡ at → Stands (front ++ (fields xs ++ rest)) at xs
+stand-behind front xs rest at e k below =
+    let a = byte (2 * k) (omega arith) ∙ low-byte xs k in
+    let b = byte (2 * k + 1) (omega arith) ∙ high-byte xs k in
+    let next : at + 2 * k + 1 ≡ at + (2 * k + 1) = omega arith in
+    omega (arith, a, b, ap (λ j. getD (front ++ (fields xs ++ rest)) j 0) next)
+  where
+    byte : (j : ℕ) → j < 2 * length xs → getD (front ++ (fields xs ++ rest)) (at + j) 0 ≡ getD (fields xs) j 0
+    byte j lt =
+        ap (λ n. getD (front ++ (fields xs ++ rest)) (n + j) 0) (sym e)
+        ∙ getD-append-add front (fields xs ++ rest) j 0
+        ∙ List·getD-append (fields xs) rest 0 j (omega (arith, length-fields xs))
