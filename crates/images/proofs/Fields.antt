@@ -1,26 +1,26 @@
 -- Numbers written as 16-bit fields, and read. Assumes nothing.
 use Prim.Native.Nat.{ℕ, zero, suc, _+_, _*_, _/_, _%_, _≤_, _<_}
 use mathlib.Core.Path.{_≡_, refl, sym, ap, ap₂, _∙_, subst}
-use mathlib.Core.List.{List, _∷_, [], _++_, append-assoc}
+use mathlib.Core.List.{List, _∷_, [], _++_, flatMap}
 use native.Mathlib.Omega.{arith}
 use lib.ListN.{length, getD, take, drop, length-append, List·getD-append}
 use lib.Seq.{getD-append-add, drop-cons}
 use Rattle.images.specs.Image.{fields, fieldAt}
 
 pub length-fields : (xs : List ℕ) → length (fields xs) ≡ 2 * length xs
-unfolding fields
+unfolding fields flatMap
 length-fields [] = refl
 length-fields (x ∷ xs) = omega (arith, length-fields xs)
 
 -- the two bytes of number k
 low-byte : (xs : List ℕ) (k : ℕ) → getD (fields xs) (2 * k) 0 ≡ getD xs k 0 % 256
-unfolding fields
+unfolding fields flatMap
 low-byte [] k = refl
 low-byte (x ∷ xs) zero = refl
 low-byte (x ∷ xs) (suc k) = let e : 2 * suc k ≡ suc (suc (2 * k)) = omega arith in ap (λ j. getD (fields (x ∷ xs)) j 0) e ∙ low-byte xs k
 
 high-byte : (xs : List ℕ) (k : ℕ) → getD (fields xs) (2 * k + 1) 0 ≡ getD xs k 0 / 256
-unfolding fields
+unfolding fields flatMap
 high-byte [] k = refl
 high-byte (x ∷ xs) zero = refl
 high-byte (x ∷ xs) (suc k) =

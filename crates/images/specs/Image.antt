@@ -1,5 +1,5 @@
 -- The image of a link: its layout, a link as bytes, and bytes read as a link. Document 02, N5, "a link image between calls". Assumes nothing.
-use Prim.Native.Nat.{ℕ, _+_, _*_, _/_, _%_}
+use Prim.Native.Nat.{ℕ, _+_, _*_}
 use mathlib.Core.List.{List, _∷_, [], _++_, map, flatMap}
 use mathlib.Core.Option.{Option, some, none}
 use mathlib.Core.Bool.{cond}
@@ -8,14 +8,13 @@ use lib.Dec.{eqb}
 use Rattle.model.specs.Tables.{table, bit}
 use Rattle.model.specs.Plan.{Plan, positions, flowCount, field16, planOf}
 use Rattle.model.specs.Link.{Link, Flow}
-use Rattle.images.specs.PlanPart.{planLength, bytesOf}
+use Rattle.model.specs.WrittenPlan.{field, bytesOf}
 
 -- ---- "16-bit fields, low byte first"
 
 -- numbers as fields, one after the other
 unfoldable pub fields : List ℕ → List ℕ
-fields [] = []
-fields (x ∷ xs) = x % 256 ∷ x / 256 ∷ fields xs
+fields xs = flatMap field xs
 
 -- field k of those that begin at a place
 abbrev pub fieldAt : List ℕ → (at k : ℕ) → ℕ
@@ -36,7 +35,7 @@ flowFields P = 2 + positions P
 
 -- after the header "the plan's bytes, each position's owner .., and for each flow" its part
 abbrev pub positionsAt : Plan → ℕ
-positionsAt P = headerLength + planLength P
+positionsAt P = headerLength + (12 + 4 * flowCount P)
 
 abbrev pub flowsAt : Plan → ℕ
 flowsAt P = positionsAt P + 2 * positions P

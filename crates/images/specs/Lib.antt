@@ -1,5 +1,4 @@
 -- Document 02, N5: the link image, when it is taken, and the calls on it.
-pub mod PlanPart
 pub mod Image
 pub mod Consistent
 pub mod Taken
