@@ -44,3 +44,28 @@ stand-behind front xs rest at e k below =
         ap (λ n. getD (front ++ (fields xs ++ rest)) (n + j) 0) (sym e)
         ∙ getD-append-add front (fields xs ++ rest) j 0
         ∙ List·getD-append (fields xs) rest 0 j (omega (arith, length-fields xs))
+
+-- ---- numbers in parts of m each
+
+module _ {A : Type 0} (part : A → List ℕ) (d : A) (m : ℕ) where
+  -- every part is m long
+  abbrev pub Even : List A → Type 0
+  Even xs = (i : ℕ) → i < length xs → length (part (getD xs i d)) ≡ m
+
+  pub parts-length : (xs : List A) → Even xs → length (flatMap part xs) ≡ length xs * m
+  unfolding flatMap
+  parts-length [] even = omega arith
+  parts-length (x ∷ xs) even =
+      omega (arith, length-append (part x) (flatMap part xs), even 0 (omega arith), parts-length xs (λ i l. even (suc i) (omega arith)))
+
+  -- number k of part i
+  pub parts-at : (xs : List A) → Even xs → (i k : ℕ) → i < length xs → k < m → getD (flatMap part xs) (i * m + k) 0 ≡ getD (part (getD xs i d)) k 0
+  unfolding flatMap
+  parts-at [] even i k li lk = absurd (omega arith)
+  parts-at (x ∷ xs) even zero k li lk =
+      let e : 0 * m + k ≡ k = omega arith in
+      ap (λ j. getD (part x ++ flatMap part xs) j 0) e ∙ List·getD-append (part x) (flatMap part xs) 0 k (omega (arith, even 0 (omega arith)))
+  parts-at (x ∷ xs) even (suc i) k li lk =
+      let e : suc i * m + k ≡ length (part x) + (i * m + k) = omega (arith, even 0 (omega arith)) in
+      ap (λ j. getD (part x ++ flatMap part xs) j 0) e ∙ getD-append-add (part x) (flatMap part xs) (i * m + k) 0
+      ∙ parts-at xs (λ j l. even (suc j) (omega arith)) i k (omega arith) lk

@@ -16,3 +16,4 @@ pub mod RequestKept
 pub mod Closed
 -- bytes
 pub mod Fields
+pub mod ReadBack
