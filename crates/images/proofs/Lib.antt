@@ -17,3 +17,6 @@ pub mod Closed
 -- bytes
 pub mod Fields
 pub mod ReadBack
+-- when an image is taken
+pub mod Conditions
+pub mod Taken
