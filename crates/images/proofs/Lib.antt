@@ -20,3 +20,5 @@ pub mod ReadBack
 -- when an image is taken
 pub mod Conditions
 pub mod Taken
+pub mod ImageTaken
+pub mod WrittenAgain

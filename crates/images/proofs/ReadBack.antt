@@ -113,7 +113,7 @@ module _ {l : Link} (v : Kept l) where
 
     -- ---- the fields
 
-    header-stands : Stands b 0 (header l)
+    pub header-stands : Stands b 0 (header l)
     header-stands = subst (λ c. Stands c 0 (header l)) (sym at-plan) (stand-behind [] (header l) fromPlan 0 refl)
 
     owners-stand : Stands b (positionsAt P) ownerNumbers
@@ -140,7 +140,7 @@ module _ {l : Link} (v : Kept l) where
     pub plan-stands : planPart b ≡ bytesOf P
     plan-stands = ap₂ take stated past-header ∙ take-at (bytesOf P) fromPositions (12 + 4 * n) (length-is P)
 
-    plan-again : planIn b ≡ P
+    pub plan-again : planIn b ≡ P
     plan-again = ap planOf plan-stands ∙ read-back P
 
     -- ---- the tables
@@ -152,7 +152,7 @@ module _ {l : Link} (v : Kept l) where
         each p lt =
             let below : p < T = omega (arith, length-table T (λ p. ownerIn (fieldAt b (positionsAt P) p))) in
             getD-table T _ p none below
-            ∙ ap ownerIn (owners-stand p (omega (arith, owners-length)) ∙ number-of (l .owners) p (omega (arith, v .whole .owners-long)))
+            ∙ ap ownerIn (owners-stand .number p (omega (arith, owners-length)) ∙ number-of (l .owners) p (omega (arith, v .whole .owners-long)))
             ∙ owner-again n (v .accepted .flows-most) (owner l p) (v .consistent .owners-known p below)
 
     module _ (i : ℕ) (lt : i < n) where
@@ -163,7 +163,7 @@ module _ {l : Link} (v : Kept l) where
       part-stands : (k : ℕ) → k < flowFields P → flowField b P i k ≡ getD (flowPart x) k 0
       part-stands k below =
           let there : i * flowFields P + k < n * flowFields P = omega (arith, mul-le-mul-right (flowFields P) lt) in
-          flows-stand (i * flowFields P + k) (omega (arith, flows-length))
+          flows-stand .number (i * flowFields P + k) (omega (arith, flows-length))
           ∙ parts-at flowPart noFlow (flowFields P) (l .flows) even i k (omega (arith, v .whole .flows-long)) below
 
       held-again : flowIn b P i .held ≡ x .held
@@ -197,6 +197,6 @@ module _ {l : Link} (v : Kept l) where
       where
         same : linkWith b P ≡ l
         same =
-            let current = header-stands 6 (omega arith) in
-            let taken = ap (λ x. eqb x 1) (header-stands 7 (omega arith)) ∙ mark-again (l .taken) in
+            let current = header-stands .number 6 (omega arith) in
+            let taken = ap (λ x. eqb x 1) (header-stands .number 7 (omega arith)) ∙ mark-again (l .taken) in
             λ k. record { plan = P; current = current k; owners = owners-again k; flows = flows-again k; taken = taken k }
