@@ -33,7 +33,7 @@ plan-passes P ok =
       eq-eqb (12 + 4 * flowCount P) (12 + 4 * flowCount P) refl,
     ) (limits-kept P ok)
 
-bit-most : (b : Bool) → bit b ≤ 1
+pub bit-most : (b : Bool) → bit b ≤ 1
 bit-most true = omega arith
 bit-most false = omega arith
 

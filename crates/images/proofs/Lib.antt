@@ -22,3 +22,4 @@ pub mod Conditions
 pub mod Taken
 pub mod ImageTaken
 pub mod WrittenAgain
+pub mod ImageBytes
