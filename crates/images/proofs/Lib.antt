@@ -23,3 +23,4 @@ pub mod Taken
 pub mod ImageTaken
 pub mod WrittenAgain
 pub mod ImageBytes
+-- the exported calls, and their chain

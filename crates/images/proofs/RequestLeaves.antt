@@ -1,6 +1,5 @@
--- What a request leaves of a link, whichever position is found and whatever its answer: all that is used of the request's definition. Document 01,
--- "Request". Assumes nothing.
-use Prim.Native.Nat.{ℕ, zero, suc, _+_, _-_, _*_, _/_, _%_, _≤_, _<_}
+-- What a request leaves of a link, and what its answer can be: all that is used of the request's definition. Document 01, "Request". Assumes nothing.
+use Prim.Native.Nat.{ℕ, zero, suc, _+_, _-_, _*_, _/_, _%_, _^_, _≤_, _<_}
 use mathlib.Core.Path.{_≡_, refl, sym, ap, _∙_, subst}
 use mathlib.Core.Bool.{Bool, true, false, not, _&&_}
 use native.Mathlib.Nat.{mod-lt, mod-eq-of-lt, mod-add-mod}
@@ -11,12 +10,14 @@ use borrow.Author.Tests.{ltb-true, not-true, not-false}
 use Rattle.model.specs.Tables.{ahead}
 use Rattle.model.specs.Refusals.{firstOf}
 use Rattle.model.specs.Word.{flowOf}
-use Rattle.model.specs.Plan.{Plan, positions, flowCount, Accepted}
+use Rattle.model.specs.Plan.{Plan, positions, flowCount}
+use Rattle.model.specs.Calls.{Answer, accepted, refused}
 use Rattle.model.specs.Window.{start, head, frameAt, newest, passed, everyFrom}
 use Rattle.model.specs.Link.{Link, window, owner, flow, holding, share, cells, withFlow, movedTo}
 use Rattle.model.specs.Request.{Found, found, nowhere, wordTests, unbooked, valid, search, sought, refusedAtNewest, answered, requestAfter, request}
 use Rattle.model.specs.Request as request
 use Rattle.model.proofs.Round.{firstWith, firstWith-low, firstWith-high, firstWith-mod, ahead-mod}
+use Rattle.model.proofs.Word.{depart-small}
 use Rattle.model.proofs.Tests.{and-true, line-passed}
 use Rattle.model.proofs.Slots.{some-frame, frame-high}
 use Rattle.model.proofs.SearchedFrames.{Fails, Ends, search-ends}
@@ -47,6 +48,15 @@ module _ (l : Link) where
     unchanged : RequestLeaves l
     moved : (i j c : ℕ) → i < flowCount P → Walked i j c → RequestLeaves (withFlow l i (movedTo (flow l i) j c))
     booked : (i j c p : ℕ) → i < flowCount P → Walked i j (suc c) → Bookable i j p → RequestLeaves (request.booked l i j c p)
+
+-- An answer that a 64-bit number can tell: what is answered fits, or the refusal is not 0.
+abbrev pub Proper : {A : Type 0} → (A → Type 0) → Answer A → Type 0
+Proper Fits (accepted x) = Fits x
+Proper Fits (refused r) = 0 < r
+
+-- a word of 32 bits
+abbrev pub Word : ℕ → Type 0
+Word w = w < 2 ^ 32
 
 -- ---- the request
 
@@ -138,25 +148,57 @@ module _ {l : Link} (v : Kept l) (word : ℕ) (known : flowOf word < flowCount (
   unfolding refusedAtNewest
   at-newest c r = moved i (newest (window l)) c known (walked newestFrame c (omega arith) r)
 
+  -- position p is slot x of frame j, which is reached
+  module _ (j c p : ℕ) (r : Searched (found j c p)) where
+    abbrev x : ℕ
+    x = p - start (window l) j
+
+    found-in : (x < F) × (j * F + x ≡ p)
+    unfolding Searched
+    found-in = rw (r .frame-is) (omega (arith, r .hit .low, r .hit .high), omega (arith, r .hit .low))
+
+    found-below : p < positions P
+    unfolding Searched
+    found-below =
+        let below : j < W = rw (r .frame-is) (mod-lt (r .frame) (some-frame ok)) in
+        subst (_< positions P) (found-in .1) (place-below P j x below (found-in .0))
+
+    found-bookable : Bookable l i j p
+    unfolding Searched
+    found-bookable = valid-bookable l i j p found-below (ap (_/ F) (sym (found-in .1)) ∙ digits-div j (found-in .0)) (r .hit .passes)
+
+    found-walked : Walked l i j (suc c)
+    unfolding Searched
+    found-walked = rw (r .frame-is) (walked (r .frame) (suc c) (r .frame-le) (r .reached))
+
   answered-leaves : (f : Found) → Searched f → RequestLeaves l (answered l word f .link)
   unfolding answered Searched
-  answered-leaves (found j c p) r =
-      let x = p - start (window l) (r .frame % W) in
-      let x-below : x < F = omega (arith, r .hit .low, r .hit .high) in
-      let p-is : r .frame % W * F + x ≡ p = omega (arith, r .hit .low) in
-      let below : p < positions P = subst (_< positions P) p-is (place-below P (r .frame % W) x (mod-lt (r .frame) (some-frame ok)) x-below) in
-      let in-frame : p / F ≡ j = ap (_/ F) (sym p-is) ∙ digits-div (r .frame % W) x-below ∙ sym (r .frame-is) in
-      booked i j c p known (subst (λ a. Walked l i a (suc c)) (sym (r .frame-is)) (walked (r .frame) (suc c) (r .frame-le) (r .reached)))
-      (valid-bookable l i j p below in-frame (r .hit .passes))
+  answered-leaves (found j c p) r = booked i j c p known (found-walked j c p r) (found-bookable j c p r)
   answered-leaves (nowhere zero) r = at-newest 0 (r .reached)
   answered-leaves (nowhere (suc c)) r = at-newest (suc c) (r .reached)
 
-pub request-leaves : {l : Link} → Kept l → (word : ℕ) → RequestLeaves l (request l word .link)
-unfolding request requestAfter
-request-leaves {l} v word = go (firstOf (wordTests (l .plan) word)) refl
-  where
-    go : (r : ℕ) → firstOf (wordTests (l .plan) word) ≡ r → RequestLeaves l (requestAfter r l word .link)
-    go zero e =
-        let known = ltb-true (flowOf word) (flowCount (l .plan)) (not-false _ (line-passed _ 7 _ e .0)) in
-        answered-leaves v word known (sought l (flowOf word)) (searched v word known)
-    go (suc r) e = unchanged
+  answered-proper : (f : Found) → Searched f → Proper Word (answered l word f .answer)
+  unfolding answered
+  answered-proper (found j c p) r = depart-small word p (omega (arith, found-below j c p r, ok .positions-most))
+  answered-proper (nowhere zero) r = omega arith
+  answered-proper (nowhere (suc c)) r = omega arith
+
+module _ {l : Link} (v : Kept l) (word : ℕ) where
+  asked : firstOf (wordTests (l .plan) word) ≡ 0 → flowOf word < flowCount (l .plan)
+  asked e = ltb-true (flowOf word) (flowCount (l .plan)) (not-false _ (line-passed _ 7 _ e .0))
+
+  pub request-leaves : RequestLeaves l (request l word .link)
+  unfolding request requestAfter
+  request-leaves = go (firstOf (wordTests (l .plan) word)) refl
+    where
+      go : (r : ℕ) → firstOf (wordTests (l .plan) word) ≡ r → RequestLeaves l (requestAfter r l word .link)
+      go zero e = answered-leaves v word (asked e) (sought l (flowOf word)) (searched v word (asked e))
+      go (suc r) e = unchanged
+
+  pub request-proper : Proper Word (request l word .answer)
+  unfolding request requestAfter
+  request-proper = go (firstOf (wordTests (l .plan) word)) refl
+    where
+      go : (r : ℕ) → firstOf (wordTests (l .plan) word) ≡ r → Proper Word (requestAfter r l word .answer)
+      go zero e = answered-proper v word (asked e) (sought l (flowOf word)) (searched v word (asked e))
+      go (suc r) e = omega arith
