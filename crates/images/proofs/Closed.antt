@@ -57,7 +57,7 @@ lend-plan l mask choice = go (firstOf (lendTests l mask))
     go zero = lent (chosen l mask choice)
     go (suc r) = refl
 
-tick-plan : (l : Link) → tick l .link .plan ≡ l .plan
+pub tick-plan : (l : Link) → tick l .link .plan ≡ l .plan
 unfolding tick advanced recycled
 tick-plan l = go (eqb (nextPosition l % l .plan .slots) 0)
   where

@@ -18,9 +18,8 @@ use Rattle.model.proofs.Tables.{getD-table, length-table}
 use Rattle.model.proofs.WrittenPlan.{same-tests}
 use Rattle.images.specs.Image.{imageLength, positionsAt, flowsAt, imageOf, headerField, planPart, planIn, flowIn, linkIn}
 use Rattle.images.specs.Consistent.{Consistent, Whole, Kept}
-use Rattle.images.specs.Taken.{refusalOf, Taken}
+use Rattle.images.specs.Taken.{Taken}
 use Rattle.images.proofs.ReadBack.{image-length, header-stands, plan-stands, plan-again, read-link}
-use Rattle.images.proofs.Taken.{taken}
 
 -- the reader accepts the bytes of an accepted plan
 plan-passes : (P : Plan) → Accepted P → refusal (bytesOf P) ≡ 0
@@ -50,8 +49,8 @@ module _ {l : Link} (v : Kept l) (rest : List ℕ) where
   long : imageLength P ≤ length b
   long = omega (arith, length-append (imageOf l) rest, image-length v)
 
-  is-taken : Taken b
-  is-taken = record {
+  pub image-taken : Taken b
+  image-taken = record {
     header-there = omega (arith, long);
     image-there = omega (arith, long, header-stands v rest .number 0 (omega arith));
     total-is = as-listed 0 imageLength (header-stands v rest .number 0 (omega arith));
@@ -64,9 +63,6 @@ module _ {l : Link} (v : Kept l) (rest : List ℕ) where
     mark-is-bit = omega (arith, header-stands v rest .number 7 (omega arith), bit-most (l .taken));
     link-consistent = subst Consistent (sym (read-link v rest)) (v .consistent);
   }
-
-  pub image-taken : refusalOf b ≡ 0
-  image-taken = taken b .1 is-taken
 
 -- ---- a link whose image is taken
 

@@ -24,3 +24,6 @@ pub mod ImageTaken
 pub mod WrittenAgain
 pub mod ImageBytes
 -- the exported calls, and their chain
+pub mod Answers
+pub mod Exports
+pub mod Chain

@@ -7,7 +7,7 @@ use lib.ListN.{length, drop}
 use lib.Dec.{ltb, eqb}
 use Rattle.model.specs.Refusals.{Line, firstOf, _when_}
 use Rattle.model.specs.Plan.{planOf, refusal}
-use Rattle.model.specs.Calls.{Call, Grant, Receipt, Turn, Loan, accepted, refused}
+use Rattle.model.specs.Calls.{Call, Answer, Grant, Receipt, Turn, Loan, accepted, refused}
 use Rattle.model.specs.Link.{Link, Step}
 use Rattle.model.specs.Fresh as fresh
 use Rattle.model.specs.Request as request
@@ -28,15 +28,18 @@ pub record Called : Type 0 where
 abbrev pub refusalNumber : ℕ → ℕ
 refusalNumber number = number * 2 ^ 32
 
--- "else the word"
+-- "else" what is answered, as a number
+abbrev pub numberOf : {A : Type 0} → (A → ℕ) → Answer A → ℕ
+numberOf f (accepted x) = f x
+numberOf f (refused number) = refusalNumber number
+
+-- "the word"
 abbrev pub grantNumber : Grant → ℕ
-grantNumber (accepted word) = word
-grantNumber (refused number) = refusalNumber number
+grantNumber = numberOf (λ word. word)
 
 -- "0 for fresh and a credit"
 abbrev pub receiptNumber : Receipt → ℕ
-receiptNumber (accepted _) = 0
-receiptNumber (refused number) = refusalNumber number
+receiptNumber = numberOf (λ _. 0)
 
 -- "for a tick the flow or 16 for idle"
 abbrev pub turnNumber : Turn → ℕ
@@ -45,8 +48,7 @@ turnNumber none = 16
 
 -- "for a lend .. the flow"
 abbrev pub loanNumber : Loan → ℕ
-loanNumber (accepted flow) = flow
-loanNumber (refused number) = refusalNumber number
+loanNumber = numberOf (λ flow. flow)
 
 -- ---- the buffer
 
