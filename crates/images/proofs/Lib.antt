@@ -27,3 +27,5 @@ pub mod ImageBytes
 pub mod Answers
 pub mod Exports
 pub mod Chain
+-- edges
+pub mod ImageEdges

@@ -4,3 +4,6 @@ pub mod Consistent
 pub mod Taken
 pub mod Exports
 pub mod Chain
+-- worked examples
+pub mod ImageCases
+pub mod ImageEdges
