@@ -1,5 +1,5 @@
 -- The 64-bit number of an answer tells the answer. Assumes nothing.
-use Prim.Native.Nat.{ℕ, zero, suc, _%_, _^_, _≤_, _<_}
+use Prim.Native.Nat.{ℕ, zero, suc, _^_, _≤_, _<_}
 use mathlib.Core.Path.{_≡_, refl, ap, subst}
 use mathlib.Core.Option.{Option, some, none}
 use mathlib.Core.Bool.{true, cond}

@@ -1,15 +1,15 @@
 -- The conditions on a link, where slots and frames are numbered on without end: slot t is current, and later means a greater number. Assumes nothing.
-use Prim.Native.Nat.{ℕ, suc, _+_, _-_, _*_, _%_, _≤_, _<_}
+use Prim.Native.Nat.{ℕ, _+_, _-_, _%_, _≤_, _<_}
 use mathlib.Core.Path.{_≡_, refl, sym, ap, ap₂, _∙_, subst}
 use mathlib.Core.List.{List}
-use mathlib.Core.Option.{Option, none}
-use mathlib.Core.Bool.{Bool, true, false, not}
+use mathlib.Core.Option.{Option}
+use mathlib.Core.Bool.{Bool, true, false}
 use native.Mathlib.Nat.{mod-lt, mod-add-mod, add-mod-right, mod-eq-of-lt}
 use native.Mathlib.Omega.{arith}
 use lib.ListN.{length, getD}
 use lib.Dec.{leb, ltb}
 use borrow.Author.Tests.{ltb-true, ltb-false, leb-true, leb-false, lt-ltb, le-ltb}
-use Rattle.model.specs.Tables.{ahead, bit}
+use Rattle.model.specs.Tables.{ahead}
 use Rattle.model.specs.Plan.{Plan, positions, flowCount, entry, Accepted}
 use Rattle.model.specs.Window.{Window, head, rank, later, fromOn}
 use Rattle.model.specs.Link.{Link, Flow, owner, flow}
@@ -18,7 +18,7 @@ use Rattle.model.specs.Holding.{InWindow}
 use Rattle.model.proofs.Round.{firstWith, firstWith-low, firstWith-high, firstWith-mod, ahead-mod}
 use Rattle.model.proofs.Slots.{some-frame, some-position, frame-begins, current-in-window, slotAt, slotAt-in-window, slotAt-position}
 use Rattle.model.proofs.Window.{Current, head-is, fromOn-is}
-use Rattle.images.specs.Consistent.{known, bookingsIn, frameAfter, before, windowAt, growsTo, ConsistentFlow, Consistent, Whole, Kept}
+use Rattle.images.specs.Consistent.{known, bookingsIn, frameAfter, before, windowAt, growsTo, ConsistentFlow, Kept}
 use Rattle.images.proofs.Bookings.{booking}
 
 -- ---- a flow

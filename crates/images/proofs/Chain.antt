@@ -1,12 +1,12 @@
 -- A chain of exported calls never meets 21 or 22, its answers are those of the paper's card, and demand 3 holds of them. Document 02, N5: "Counts over
 -- images hold for a chain that starts with fresh and passes each image on unaltered." Assumes nothing.
 use Prim.Native.Nat.{ℕ, zero, suc, _≤_, _<_}
-use mathlib.Core.Path.{_≡_, refl, sym, ap, ap₂, _∙_, subst}
+use mathlib.Core.Path.{_≡_, refl, sym, ap, _∙_, subst}
 use mathlib.Core.List.{List, _∷_, [], _++_}
-use mathlib.Core.Bool.{Bool, true, false, not, cond}
+use mathlib.Core.Bool.{Bool, true, false, not}
 use native.Mathlib.Omega.{arith}
-use lib.ListN.{length, take, drop, take-append-drop}
-use lib.Dec.{ltb, eqb}
+use lib.ListN.{length, drop, take-append-drop}
+use lib.Dec.{eqb}
 use borrow.Author.Tests.{ltb-false, le-ltb, ne-eqb}
 use Rattle.model.specs.Refusals.{Line, _when_, firstOf}
 use Rattle.model.specs.Plan.{flowCount, planOf, refusal}
@@ -20,7 +20,7 @@ use Rattle.model.proofs.Demand3.{meets}
 use Rattle.images.specs.Image.{imageLength, imageOf, headerField}
 use Rattle.images.specs.Consistent.{Kept}
 use Rattle.images.specs.Taken.{refusalOf}
-use Rattle.images.specs.Exports.{Called, writtenTo, handedBack, freshTests, freshOn, calledOn}
+use Rattle.images.specs.Exports.{writtenTo, handedBack, freshTests, freshOn, calledOn}
 use Rattle.images.specs.Chain.{eventOf, imageIn, Chain, starts, goes-on}
 use Rattle.images.proofs.FreshKept.{fresh-kept}
 use Rattle.images.proofs.Closed.{call-kept, kept-run}

@@ -1,8 +1,8 @@
 -- A credit leaves a link that meets the conditions. Assumes nothing.
-use Prim.Native.Nat.{ℕ, zero, suc, _-_, _<_}
+use Prim.Native.Nat.{ℕ, zero, suc, _-_}
 use mathlib.Core.Path.{_≡_, refl, subst}
 use Rattle.model.specs.Refusals.{firstOf}
-use Rattle.model.specs.Plan.{positions, flowCount}
+use Rattle.model.specs.Plan.{flowCount}
 use Rattle.model.specs.Link.{Link, Flow, flow, withHeld, heldFrom}
 use Rattle.model.specs.Credit.{creditTests, lowered, creditAfter, credit}
 use Rattle.model.proofs.Tables.{length-table}

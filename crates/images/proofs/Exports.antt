@@ -1,11 +1,10 @@
 -- The exported calls on the image of a link: the call on the link itself, with its answer. Document 02, N5. Assumes nothing.
-use Prim.Native.Nat.{ℕ, zero, suc, _+_, _-_, _≤_}
-use mathlib.Core.Path.{_≡_, refl, sym, ap, ap₂, _∙_, subst}
+use Prim.Native.Nat.{ℕ, _≤_}
+use mathlib.Core.Path.{_≡_, refl, sym, ap, _∙_, subst}
 use mathlib.Core.List.{List, _∷_, [], _++_}
 use native.Mathlib.Omega.{arith}
 use lib.ListN.{length, take, drop, length-append, length-drop, take-append-drop}
 use lib.Seq.{take-at, drop-at}
-use Rattle.model.specs.Plan.{Plan, positions, flowCount}
 use Rattle.model.specs.WrittenPlan.{AllBytes}
 use Rattle.model.specs.Calls.{Call, Event, requested, credited, ticked, lent}
 use Rattle.model.specs.Link.{Link, Step}
@@ -16,7 +15,7 @@ use Rattle.model.specs.Lend as lend
 use Rattle.model.specs.Card.{Played, paper, step}
 use Rattle.images.specs.Image.{imageLength, imageOf, headerField, linkIn}
 use Rattle.images.specs.Consistent.{Kept}
-use Rattle.images.specs.Taken.{refusalOf, Taken}
+use Rattle.images.specs.Taken.{Taken}
 use Rattle.images.specs.Exports.{Called, grantNumber, receiptNumber, turnNumber, loanNumber, writtenTo, handedBack, callOn, calledOn}
 use Rattle.images.specs.Exports.{requestOn, creditOn, tickOn, lendOn}
 use Rattle.images.specs.Chain.{eventOf, imageIn}

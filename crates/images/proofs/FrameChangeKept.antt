@@ -10,11 +10,11 @@ use native.Mathlib.Numerals.{add-one}
 use native.Mathlib.Omega.{arith}
 use lib.Arith.{digits-div}
 use lib.Dec.{eqb}
-use lib.ListN.{getD, length}
+use lib.ListN.{getD}
 use borrow.Author.Tests.{eqb-true, eqb-false, eq-eqb, ne-eqb}
 use Rattle.model.specs.Tables.{table, bit}
 use Rattle.model.specs.Plan.{Plan, positions, flowCount, entry}
-use Rattle.model.specs.Window.{head, next, frameAt, inHead, last}
+use Rattle.model.specs.Window.{head, next, inHead, last}
 use Rattle.model.specs.Link.{Link, Flow, window, owner, flow, holding, share, withCurrent, withTaken, movedTo}
 use Rattle.model.specs.Tick.{leftHead, emptied, carriedOn, recycled, nextPosition}
 use Rattle.model.specs.History.{frameOf}

@@ -1,15 +1,13 @@
 -- A fresh link meets the conditions. Assumes nothing.
-use Prim.Native.Nat.{ℕ, _+_, _*_, _%_, _≤_, _<_}
-use mathlib.Core.Path.{_≡_, refl, sym, ap, _∙_, subst}
+use Prim.Native.Nat.{ℕ, _+_, _*_, _%_, _<_}
+use mathlib.Core.Path.{_≡_, sym, ap, subst}
 use mathlib.Core.Option.{Option, none}
 use native.Mathlib.Nat.{zero-mod, zero-div, mod-lt}
 use native.Mathlib.Omega.{arith}
 use lib.ListN.{getD, replicate, getD-replicate, length-replicate}
 use Rattle.model.specs.Tables.{bit}
-use Rattle.model.specs.Plan.{Plan, positions, flowCount, entry, Accepted}
-use Rattle.model.specs.Link.{flow}
+use Rattle.model.specs.Plan.{Plan, positions, flowCount, Accepted}
 use Rattle.model.specs.Fresh.{freshFlow, fresh}
-use Rattle.model.specs.History.{frameOf}
 use Rattle.model.proofs.Tables.{length-table}
 use Rattle.model.proofs.Slots.{some-frame, some-position}
 use Rattle.model.proofs.LinkUpdates.{flow-withFlows}

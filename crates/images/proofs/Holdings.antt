@@ -1,16 +1,16 @@
 -- What a flow holds after it rises or falls by one from a slot on: within its cells, and growing only at its bookings. Assumes nothing.
-use Prim.Native.Nat.{ℕ, suc, _+_, _-_, _%_, _≤_, _<_}
-use mathlib.Core.Path.{_≡_, sym, ap, _∙_, subst}
+use Prim.Native.Nat.{ℕ, suc, _-_, _%_, _≤_, _<_}
+use mathlib.Core.Path.{_≡_, _∙_, subst}
 use mathlib.Core.List.{List}
 use mathlib.Core.Option.{Option}
 use mathlib.Core.Bool.{true, cond}
 use native.Mathlib.Nat.{mod-lt}
-use native.Mathlib.Decide.{decLe, decLt}
+use native.Mathlib.Decide.{decLe}
 use native.Mathlib.Omega.{arith}
 use lib.ListN.{length, getD}
 use lib.Dec.{ltb}
 use borrow.Author.Tests.{ltb-true, le-leb, lt-leb}
-use Rattle.model.specs.Plan.{positions, flowCount, entry}
+use Rattle.model.specs.Plan.{positions, flowCount}
 use Rattle.model.specs.Window.{fromOn, everyFrom}
 use Rattle.model.specs.Link.{Link, window, flow, holding, cells, heldFrom}
 use Rattle.model.specs.Holding.{InWindow}

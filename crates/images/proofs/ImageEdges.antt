@@ -1,6 +1,5 @@
 -- Every edge of images comes out as the request has it. Assumes nothing.
 use mathlib.Core.Path.{refl}
-use mathlib.Core.List.{flatMap}
 use Rattle.model.proofs.Unfoldings.{plans-compute, calls-compute, writer-computes}
 use Rattle.images.specs.Image.{fields, imageOf, linkIn}
 use Rattle.images.specs.Consistent.{bookingsIn, frameAfter, flowTest, consistent}

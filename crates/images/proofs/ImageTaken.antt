@@ -1,17 +1,16 @@
 -- The image of a link that meets the conditions is taken, whatever stands past it; and a link whose image is taken meets them. Assumes nothing.
 use Prim.Native.Nat.{ℕ, _+_, _*_, _≤_}
 use mathlib.Core.Path.{_≡_, refl, sym, ap, _∙_, subst}
-use mathlib.Core.List.{List, _∷_, _++_}
-use mathlib.Core.Option.{none}
+use mathlib.Core.List.{List, _++_}
 use mathlib.Core.Bool.{Bool, true, false}
 use native.Mathlib.Omega.{arith}
 use lib.ListN.{length, length-append}
 use borrow.Author.Tests.{le-leb, eq-eqb}
-use Rattle.model.specs.Tables.{bit, within}
+use Rattle.model.specs.Tables.{bit}
 use Rattle.model.specs.Refusals.{firstOf}
 use Rattle.model.specs.Plan.{Plan, positions, flowCount, refusal, Accepted}
-use Rattle.model.specs.WrittenPlan.{headerFor, bytesOf, numberTests}
-use Rattle.model.specs.Link.{Link, flow, noFlow}
+use Rattle.model.specs.WrittenPlan.{bytesOf}
+use Rattle.model.specs.Link.{Link, noFlow}
 use Rattle.model.proofs.Plan.{accepted}
 use Rattle.model.proofs.PlanWithinLimits.{limits-kept}
 use Rattle.model.proofs.Tables.{getD-table, length-table}

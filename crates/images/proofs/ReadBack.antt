@@ -3,21 +3,21 @@ use Prim.Native.Nat.{ℕ, zero, suc, _+_, _*_, _≤_, _<_}
 use mathlib.Core.Path.{_≡_, refl, sym, ap, ap₂, _∙_, subst}
 use mathlib.Core.List.{List, _∷_, [], _++_, map, flatMap, append-assoc}
 use mathlib.Core.Option.{Option, some, none}
-use mathlib.Core.Bool.{Bool, true, false, cond}
+use mathlib.Core.Bool.{Bool, true, false}
 use native.Mathlib.Nat.{mul-le-mul-right}
 use native.Mathlib.Omega.{arith}
 use lib.ListN.{length, getD, take, drop, length-append, length-map}
 use lib.Seq.{ext-getD, take-at, drop-at, getD-drop}
-use lib.Dec.{ltb, eqb}
+use lib.Dec.{eqb}
 use borrow.Author.Tests.{ltb-true, ne-eqb}
-use Rattle.model.specs.Tables.{table, bit}
-use Rattle.model.specs.Plan.{Plan, positions, flowCount, field16, planOf}
+use Rattle.model.specs.Tables.{bit}
+use Rattle.model.specs.Plan.{positions, flowCount, field16, planOf}
 use Rattle.model.specs.WrittenPlan.{bytesOf}
 use Rattle.model.specs.Link.{Link, Flow, noFlow, owner, flow}
 use Rattle.model.proofs.Tables.{getD-table, length-table}
 use Rattle.model.proofs.WrittenPlan.{length-is, read-back}
 use Rattle.images.specs.Image.{fields, fieldAt, headerLength, flowFields, positionsAt, flowsAt, imageLength, header, ownerField, flowPart, imageOf}
-use Rattle.images.specs.Image.{headerField, planPart, planIn, ownerIn, flowField, flowIn, linkWith, linkIn}
+use Rattle.images.specs.Image.{planPart, planIn, ownerIn, flowField, flowIn, linkWith, linkIn}
 use Rattle.images.specs.Consistent.{known, Kept}
 use Rattle.images.proofs.Fields.{length-fields, Stands, stand-behind, Even, parts-length, parts-at}
 

@@ -1,12 +1,12 @@
 -- An image is taken exactly if it meets the conditions that the request lists. Document 02, N5. Assumes nothing.
-use Prim.Native.Nat.{ℕ, zero, suc, _≤_, _<_}
-use mathlib.Core.Path.{_≡_, refl, sym, ap, _∙_}
+use Prim.Native.Nat.{ℕ, _<_}
+use mathlib.Core.Path.{_≡_}
 use mathlib.Core.Logic.{_↔_}
-use mathlib.Core.List.{List, _∷_, []}
-use mathlib.Core.Bool.{Bool, true, false, not, _||_}
+use mathlib.Core.List.{List}
+use mathlib.Core.Bool.{Bool, true}
 use native.Mathlib.Omega.{arith}
 use lib.ListN.{length, getD}
-use lib.Dec.{ltb, eqb}
+use lib.Dec.{eqb}
 use borrow.Author.Tests.{ltb-false, le-ltb, eqb-true, eq-eqb, not-false}
 use Rattle.model.specs.Tables.{every}
 use Rattle.model.specs.Refusals.{firstOf}
@@ -14,8 +14,7 @@ use Rattle.model.specs.Plan.{refusal}
 use Rattle.model.proofs.Tests.{or-false, line-passed}
 use Rattle.model.proofs.Tables.{every-at}
 use Rattle.images.specs.Image.{headerLength, layout, headerField, planPart, planIn, linkIn}
-use Rattle.images.specs.Consistent.{Consistent, consistent}
-use Rattle.images.specs.Taken.{listed, tooShort, imageTests, refusalOf, Taken}
+use Rattle.images.specs.Taken.{listed, refusalOf, Taken}
 use Rattle.images.proofs.Conditions.{consistent-exactly}
 
 module _ (b : List ℕ) where

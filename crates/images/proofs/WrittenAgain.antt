@@ -1,19 +1,19 @@
 -- An image that is taken, read and written again is the same bytes. Assumes nothing.
-use Prim.Native.Nat.{ℕ, zero, suc, _+_, _-_, _*_, _/_, _%_, _≤_, _<_}
-use mathlib.Core.Path.{_≡_, refl, sym, ap, ap₂, _∙_, subst}
+use Prim.Native.Nat.{ℕ, zero, suc, _+_, _*_, _/_, _%_, _≤_, _<_}
+use mathlib.Core.Path.{_≡_, refl, sym, ap, _∙_, subst}
 use mathlib.Core.List.{List, _∷_, [], _++_, map, flatMap}
-use mathlib.Core.Option.{Option, some, none}
+use mathlib.Core.Option.{some, none}
 use mathlib.Core.Bool.{Bool, true, false, cond}
 use native.Mathlib.Nat.{mod-lt, div-add-mod', div-lt-iff-lt-mul}
 use native.Mathlib.Omega.{arith}
-use lib.ListN.{length, getD, take, drop, length-append, length-map}
-use lib.Seq.{getD-drop, getD-take, take-add}
+use lib.ListN.{length, getD, take, drop, length-map}
+use lib.Seq.{getD-drop, take-add}
 use lib.Dec.{eqb}
 use borrow.Author.Tests.{eqb-true}
 use Rattle.model.specs.Tables.{table, bit}
 use Rattle.model.specs.Plan.{Plan, positions, flowCount, field16}
 use Rattle.model.specs.WrittenPlan.{bytesOf, AllBytes}
-use Rattle.model.specs.Link.{Link, Flow, noFlow, owner, flow}
+use Rattle.model.specs.Link.{Flow, noFlow}
 use Rattle.model.proofs.Tables.{getD-table, length-table}
 use Rattle.model.proofs.WrittenPlan.{length-is, written-again}
 use Rattle.images.specs.Image.{fields, fieldAt, headerLength, flowFields, positionsAt, flowsAt, imageLength, header, ownerField, flowPart, imageOf}

@@ -1,7 +1,7 @@
 -- What an edge case of images is: what is tried, and what is to come of it. Assumes nothing.
 use Prim.Native.Nat.{ℕ, _+_, _*_, _/_, _%_}
 use mathlib.Core.Path.{_≡_}
-use mathlib.Core.List.{List, _∷_, [], _++_, map}
+use mathlib.Core.List.{List, _∷_, [], map}
 use lib.ListN.{set}
 use Rattle.model.specs.Plan.{planOf}
 use Rattle.model.specs.Calls.{Call}
