@@ -18,7 +18,7 @@ use Rattle.model.proofs.Slots.{some-position}
 use Rattle.images.specs.Consistent.{known, Kept}
 use Rattle.images.specs.Exports.{refusalNumber, numberOf, turnNumber}
 use Rattle.images.specs.Chain.{answerOf}
-use Rattle.images.proofs.RequestLeaves.{Proper, Word}
+use Rattle.images.proofs.Numbers.{firstOf-most, Word, Proper}
 use Rattle.images.proofs.TickKept.{tick-kept}
 use Rattle.images.proofs.Closed.{tick-plan}
 
@@ -28,6 +28,7 @@ pub answer-read : {A : Type 0} (f : A → ℕ) (g : ℕ → A) → ((x : A) → 
     → answerOf (g (numberOf f a)) (numberOf f a) ≡ a
 answer-read f g back (accepted x) h = rw (lt-ltb (f x) (2 ^ 32) h) (ap accepted (back x))
 answer-read f g back (refused r) h =
+    let some = h .0 in
     rw (le-ltb (refusalNumber r) (2 ^ 32) (omega arith)) (ap refused (mul-div-cancel r (omega arith)))
 
 pub turn-read : (n : ℕ) → n ≤ 16 → (x : Turn) → known n x ≡ true → cond (eqb (turnNumber x) 16) none (some (turnNumber x)) ≡ x
@@ -44,15 +45,15 @@ tick-known {l} v =
 
 pub credit-proper : (l : Link) (i p : ℕ) → Proper (λ _. Word 0) (credit l i p .answer)
 unfolding credit creditAfter
-credit-proper l i p = go (firstOf (creditTests l i p))
+credit-proper l i p = go (firstOf (creditTests l i p)) refl
   where
-    go : (r : ℕ) → Proper (λ _. Word 0) (creditAfter r l i p .answer)
-    go zero = omega arith
-    go (suc r) = omega arith
+    go : (r : ℕ) → firstOf (creditTests l i p) ≡ r → Proper (λ _. Word 0) (creditAfter r l i p .answer)
+    go zero e = omega arith
+    go (suc r) e = omega (arith, firstOf-most 15 (creditTests l i p) (omega arith))
 
 pub lend-proper : {l : Link} → Kept l → (mask choice : ℕ) → Proper Word (lend l mask choice .answer)
 unfolding lend lendAfter lentAfter
-lend-proper {l} v mask choice = go (firstOf (lendTests l mask))
+lend-proper {l} v mask choice = go (firstOf (lendTests l mask)) refl
   where
     n : ℕ
     n = flowCount (l .plan)
@@ -61,6 +62,6 @@ lend-proper {l} v mask choice = go (firstOf (lendTests l mask))
     lent none = omega arith
     lent (some k) = let some-flow : 0 < n = v .accepted .some-flow in omega (arith, mod-lt k some-flow, v .accepted .flows-most)
 
-    go : (r : ℕ) → Proper Word (lendAfter r l mask choice .answer)
-    go zero = lent (chosen l mask choice)
-    go (suc r) = omega arith
+    go : (r : ℕ) → firstOf (lendTests l mask) ≡ r → Proper Word (lendAfter r l mask choice .answer)
+    go zero e = lent (chosen l mask choice)
+    go (suc r) e = omega (arith, firstOf-most 17 (lendTests l mask) (omega arith))

@@ -58,13 +58,13 @@ module _ (plan b : List ℕ) where
   -- fresh answers 0 exactly then, and writes the fresh link's image
   pub fresh-written : Starts → freshOn plan b ≡ record { buffer = writtenTo b (fresh (planOf plan)); result = 0 }
   unfolding freshOn handedBack
-  fresh-written s = ap (λ r. handedBack r b (fresh (planOf plan)) 0) (tests-pass s)
+  fresh-written s = ap (λ r. handedBack r b (record { link = fresh (planOf plan); number = 0 })) (tests-pass s)
 
   pub fresh-starts : freshOn plan b .result ≡ 0 → Starts
   unfolding freshOn handedBack
   fresh-starts e = go (firstOf (freshTests plan b)) refl e
     where
-      go : (r : ℕ) → firstOf (freshTests plan b) ≡ r → handedBack r b (fresh (planOf plan)) 0 .result ≡ 0 → Starts
+      go : (r : ℕ) → firstOf (freshTests plan b) ≡ r → handedBack r b (record { link = fresh (planOf plan); number = 0 }) .result ≡ 0 → Starts
       go zero q f = tests-passed q
       go (suc r) q f = absurd (omega arith)
 

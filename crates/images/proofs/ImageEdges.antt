@@ -4,7 +4,7 @@ use Rattle.model.proofs.Unfoldings.{plans-compute, calls-compute, writer-comput
 use Rattle.images.specs.Image.{fields, imageOf, linkIn}
 use Rattle.images.specs.Consistent.{bookingsIn, frameAfter, flowTest, consistent}
 use Rattle.images.specs.Taken.{listed, refusalOf}
-use Rattle.images.specs.Exports.{handedBack, freshOn, requestOn, creditOn, tickOn, lendOn, calledOn}
+use Rattle.images.specs.Exports.{handedBack, freshOn, calledOn}
 use Rattle.images.specs.ImageCases.{Pass}
 use Rattle.images.specs.ImageEdges.{imageEdges}
 
@@ -14,5 +14,5 @@ unfolding plans-compute calls-compute writer-computes fields imageOf linkIn book
 images-compute = tt
 
 pub image-edges-hold : Pass imageEdges
-unfolding imageEdges images-compute handedBack freshOn requestOn creditOn tickOn lendOn calledOn
+unfolding imageEdges images-compute handedBack freshOn calledOn
 image-edges-hold = refl

@@ -1,4 +1,6 @@
 -- What is proved of link images: each file uses those above it. Assumes nothing.
+-- numbers of refusals and answers
+pub mod Numbers
 -- a flow's bookings, and the conditions by slots
 pub mod Bookings
 pub mod BySlots
@@ -26,6 +28,7 @@ pub mod ImageBytes
 -- the exported calls, and their chain
 pub mod Answers
 pub mod Exports
+pub mod Results
 pub mod Chain
 -- edges
 pub mod ImageEdges

@@ -1,7 +1,7 @@
 -- A link's image is read back as the link. Assumes nothing.
 use Prim.Native.Nat.{ℕ, zero, suc, _+_, _*_, _≤_, _<_}
 use mathlib.Core.Path.{_≡_, refl, sym, ap, ap₂, _∙_, subst}
-use mathlib.Core.List.{List, _∷_, [], _++_, map, flatMap, append-assoc}
+use mathlib.Core.List.{List, _∷_, [], _++_, map, flatMap, append-assoc, append-nil}
 use mathlib.Core.Option.{Option, some, none}
 use mathlib.Core.Bool.{Bool, true, false}
 use native.Mathlib.Nat.{mul-le-mul-right}
@@ -200,3 +200,11 @@ module _ {l : Link} (v : Kept l) where
             let current = header-stands .number 6 (omega arith) in
             let taken = ap (λ x. eqb x 1) (header-stands .number 7 (omega arith)) ∙ mark-again (l .taken) in
             λ k. record { plan = P; current = current k; owners = owners-again k; flows = flows-again k; taken = taken k }
+
+-- without bytes past it
+pub read-image : {l : Link} → Kept l → linkIn (imageOf l) ≡ l
+read-image {l} v = ap linkIn (sym (append-nil (imageOf l))) ∙ read-link v []
+
+-- two links with one image are one link
+pub one-image : {l k : Link} → Kept l → Kept k → imageOf l ≡ imageOf k → l ≡ k
+one-image v u e = sym (read-image v) ∙ ap linkIn e ∙ read-image u

@@ -1,5 +1,5 @@
 -- What a request leaves of a link, and what its answer can be: all that is used of the request's definition. Document 01, "Request". Assumes nothing.
-use Prim.Native.Nat.{ℕ, zero, suc, _+_, _-_, _*_, _/_, _%_, _^_, _≤_, _<_}
+use Prim.Native.Nat.{ℕ, zero, suc, _+_, _-_, _*_, _/_, _%_, _≤_, _<_}
 use mathlib.Core.Path.{_≡_, refl, sym, ap, _∙_, subst}
 use mathlib.Core.Bool.{true, false}
 use native.Mathlib.Nat.{mod-lt, mod-eq-of-lt, mod-add-mod}
@@ -11,7 +11,7 @@ use Rattle.model.specs.Tables.{ahead}
 use Rattle.model.specs.Refusals.{firstOf}
 use Rattle.model.specs.Word.{flowOf}
 use Rattle.model.specs.Plan.{Plan, positions, flowCount}
-use Rattle.model.specs.Calls.{Answer, accepted, refused}
+use Rattle.model.specs.Calls.{accepted}
 use Rattle.model.specs.Window.{start, head, frameAt, newest, passed, everyFrom}
 use Rattle.model.specs.Link.{Link, window, owner, flow, holding, share, cells, withFlow, movedTo}
 use Rattle.model.specs.Request.{Found, found, nowhere, wordTests, unbooked, valid, search, sought, refusedAtNewest, answered, requestAfter, request}
@@ -22,6 +22,7 @@ use Rattle.model.proofs.Tests.{and-true, line-passed}
 use Rattle.model.proofs.Slots.{some-frame, frame-high}
 use Rattle.model.proofs.SearchedFrames.{Fails, Ends, search-ends}
 use Rattle.images.specs.Consistent.{Kept}
+use Rattle.images.proofs.Numbers.{firstOf-most, Word, Proper}
 use Rattle.images.proofs.Bookings.{place-below}
 
 module _ (l : Link) where
@@ -48,15 +49,6 @@ module _ (l : Link) where
     unchanged : RequestLeaves l
     moved : (i j c : ℕ) → i < flowCount P → Walked i j c → RequestLeaves (withFlow l i (movedTo (flow l i) j c))
     booked : (i j c p : ℕ) → i < flowCount P → Walked i j (suc c) → Bookable i j p → RequestLeaves (request.booked l i j c p)
-
--- An answer that a 64-bit number can tell: what is answered fits, or the refusal is not 0.
-abbrev pub Proper : {A : Type 0} → (A → Type 0) → Answer A → Type 0
-Proper Fits (accepted x) = Fits x
-Proper Fits (refused r) = 0 < r
-
--- a word of 32 bits
-abbrev pub Word : ℕ → Type 0
-Word w = w < 2 ^ 32
 
 -- ---- the request
 
@@ -201,4 +193,4 @@ module _ {l : Link} (v : Kept l) (word : ℕ) where
     where
       go : (r : ℕ) → firstOf (wordTests (l .plan) word) ≡ r → Proper Word (requestAfter r l word .answer)
       go zero e = answered-proper v word (asked e) (sought l (flowOf word)) (searched v word (asked e))
-      go (suc r) e = omega arith
+      go (suc r) e = omega (arith, firstOf-most 10 (wordTests (l .plan) word) (omega arith))

@@ -1,9 +1,9 @@
 -- An image is taken exactly if it meets the conditions that the request lists. Document 02, N5. Assumes nothing.
 use Prim.Native.Nat.{ℕ, _<_}
-use mathlib.Core.Path.{_≡_}
+use mathlib.Core.Path.{_≡_, _∙_}
 use mathlib.Core.Logic.{_↔_}
 use mathlib.Core.List.{List}
-use mathlib.Core.Bool.{Bool, true}
+use mathlib.Core.Bool.{Bool, true, false}
 use native.Mathlib.Omega.{arith}
 use lib.ListN.{length, getD}
 use lib.Dec.{eqb}
@@ -14,7 +14,8 @@ use Rattle.model.specs.Plan.{refusal}
 use Rattle.model.proofs.Tests.{or-false, line-passed}
 use Rattle.model.proofs.Tables.{every-at}
 use Rattle.images.specs.Image.{headerLength, layout, headerField, planPart, planIn, linkIn}
-use Rattle.images.specs.Taken.{listed, refusalOf, Taken}
+use Rattle.images.specs.Taken.{tooShort, listed, faultTests, refusalOf, Taken}
+use Rattle.images.proofs.Numbers.{firstOf-same}
 use Rattle.images.proofs.Conditions.{consistent-exactly}
 
 module _ (b : List ℕ) where
@@ -72,3 +73,16 @@ module _ (b : List ℕ) where
 
   pub taken : (refusalOf b ≡ 0) ↔ Taken b
   taken = (taken-if, only-if)
+
+  -- ---- the number of a buffer that is not taken
+
+  pub too-short : tooShort b ≡ true → refusalOf b ≡ 21
+  unfolding refusalOf firstOf
+  too-short e = rw e
+
+  pub other-fault : tooShort b ≡ false → (Taken b → ⊥) → refusalOf b ≡ 22
+  unfolding refusalOf firstOf
+  other-fault e not-taken =
+      -- past the first line every number is 22
+      let rest : refusalOf b ≡ firstOf (faultTests b) = rw e in
+      rest ∙ firstOf-same 22 (faultTests b) (omega arith) (λ none. not-taken (taken-if (rest ∙ none)))

@@ -50,18 +50,34 @@ turnNumber none = 16
 abbrev pub loanNumber : Loan → ℕ
 loanNumber = numberOf (λ flow. flow)
 
+-- ---- a call on the link itself: the next link, and the answer's number
+
+pub record Done : Type 0 where
+  pub link : Link
+  pub number : ℕ
+
+abbrev pub done : {A : Type 0} → (A → ℕ) → Step A → Done
+done number handed = record { link = handed .link; number = number (handed .answer) }
+
+abbrev pub onLink : Link → Call → Done
+onLink l (Call.request w) = done grantNumber (request.request l w)
+onLink l (Call.credit i p) = done receiptNumber (credit.credit l i p)
+onLink l Call.tick = done turnNumber (tick.tick l)
+-- the flow that gets the slot is open, as in the call on the link: any choice
+onLink l (Call.lend mask choice) = done loanNumber (lend.lend l mask choice)
+
 -- ---- the buffer
 
 -- a link's image, and behind it the buffer's own bytes: "Bytes past the image keep their values."
 abbrev pub writtenTo : List ℕ → Link → List ℕ
 writtenTo b l = imageOf l ++ drop (imageLength (l .plan)) b
 
--- what a link and an answer's number are handed back as, where the tests of the buffer gave r: a refusal leaves "the buffer as it came"
-unfoldable pub handedBack : ℕ → List ℕ → Link → ℕ → Called
-handedBack zero b l number = record { buffer = writtenTo b l; result = number }
-handedBack (suc r) b l number = record { buffer = b; result = refusalNumber (suc r) }
+-- what is handed back, where the tests of the buffer gave the number r: a refusal leaves "the buffer as it came"
+unfoldable pub handedBack : ℕ → List ℕ → Done → Called
+handedBack zero b d = record { buffer = writtenTo b (d .link); result = d .number }
+handedBack (suc r) b d = record { buffer = b; result = refusalNumber (suc r) }
 
--- ---- the calls
+-- ---- the exported calls
 
 -- "Fresh tests the plan first; then .. 21", for the image "to be written"
 abbrev pub freshTests : (plan b : List ℕ) → List Line
@@ -71,28 +87,20 @@ freshTests plan b =
     ∷ []
 
 unfoldable pub freshOn : (plan b : List ℕ) → Called
-freshOn plan b = handedBack (firstOf (freshTests plan b)) b (fresh.fresh (planOf plan)) 0
+freshOn plan b = handedBack (firstOf (freshTests plan b)) b (record { link = fresh.fresh (planOf plan); number = 0 })
 
--- a call on the image in a buffer: "the result equals the call on the link itself"
-abbrev pub callOn : {A : Type 0} → List ℕ → (Link → Step A) → (A → ℕ) → Called
-callOn b call number = handedBack (refusalOf b) b (call (linkIn b) .link) (number (call (linkIn b) .answer))
-
-unfoldable pub requestOn : List ℕ → (word : ℕ) → Called
-requestOn b w = callOn b (λ l. request.request l w) grantNumber
-
-unfoldable pub creditOn : List ℕ → (flow position : ℕ) → Called
-creditOn b i p = callOn b (λ l. credit.credit l i p) receiptNumber
-
-unfoldable pub tickOn : List ℕ → Called
-tickOn b = callOn b tick.tick turnNumber
-
--- the flow that gets the slot is open, as in the call on the link: any choice
-unfoldable pub lendOn : List ℕ → (mask choice : ℕ) → Called
-lendOn b mask choice = callOn b (λ l. lend.lend l mask choice) loanNumber
-
--- a call of demand 3's list
+-- "A call reads the image, acts, and writes the image back; the result equals the call on the link itself"
 unfoldable pub calledOn : List ℕ → Call → Called
-calledOn b (Call.request w) = requestOn b w
-calledOn b (Call.credit i p) = creditOn b i p
-calledOn b Call.tick = tickOn b
-calledOn b (Call.lend mask choice) = lendOn b mask choice
+calledOn b c = handedBack (refusalOf b) b (onLink (linkIn b) c)
+
+abbrev pub requestOn : List ℕ → (word : ℕ) → Called
+requestOn b w = calledOn b (Call.request w)
+
+abbrev pub creditOn : List ℕ → (flow position : ℕ) → Called
+creditOn b i p = calledOn b (Call.credit i p)
+
+abbrev pub tickOn : List ℕ → Called
+tickOn b = calledOn b Call.tick
+
+abbrev pub lendOn : List ℕ → (mask choice : ℕ) → Called
+lendOn b mask choice = calledOn b (Call.lend mask choice)

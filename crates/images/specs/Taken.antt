@@ -19,11 +19,10 @@ tooShort b = ltb (length b) headerLength || ltb (length b) (headerField b 0)
 unfoldable pub listed : List ℕ → Bool
 listed b = every 6 (λ k. eqb (headerField b k) (getD (layout (planIn b)) k 0))
 
-abbrev pub imageTests : List ℕ → List Line
-imageTests b =
-    21 when tooShort b
-    -- "22 any other fault"
-    ∷ 22 when not (listed b)
+-- "22 any other fault"
+abbrev pub faultTests : List ℕ → List Line
+faultTests b =
+    22 when not (listed b)
     -- "its plan passes"
     ∷ 22 when not (eqb (refusal (planPart b)) 0)
     -- "the taken mark is 0 or 1"
@@ -31,6 +30,9 @@ imageTests b =
     -- "CP is below T" and the rest, which is about the link
     ∷ 22 when not (consistent (linkIn b))
     ∷ []
+
+abbrev pub imageTests : List ℕ → List Line
+imageTests b = 21 when tooShort b ∷ faultTests b
 
 -- the refusal of a buffer, and 0 where its image is taken
 unfoldable pub refusalOf : List ℕ → ℕ
