@@ -15,7 +15,7 @@ use Rattle.model.specs.Credit.{creditTests, creditAfter, credit}
 use Rattle.model.specs.Tick.{nextPosition, tick}
 use Rattle.model.specs.Lend.{lendTests, chosen, lentAfter, lendAfter, lend}
 use Rattle.model.proofs.Slots.{some-position}
-use Rattle.images.specs.Consistent.{known, Kept}
+use Rattle.images.specs.Consistent.{known, Keepable}
 use Rattle.images.specs.Exports.{refusalNumber, numberOf, turnNumber}
 use Rattle.images.specs.Chain.{answerOf}
 use Rattle.images.proofs.Numbers.{firstOf-most, Word, Proper}
@@ -37,7 +37,7 @@ turn-read n most (some i) e = let lt = ltb-true i n e in rw (ne-eqb i 16 (λ z. 
 
 -- ---- the answers of credits, ticks and lends
 
-pub tick-known : {l : Link} → Kept l → known (flowCount (l .plan)) (tick l .answer) ≡ true
+pub tick-known : {l : Link} → Keepable l → known (flowCount (l .plan)) (tick l .answer) ≡ true
 unfolding tick
 tick-known {l} v =
     subst (λ P. nextPosition l < positions P → known (flowCount P) (tick l .answer) ≡ true) (tick-plan l)
@@ -51,7 +51,7 @@ credit-proper l i p = go (firstOf (creditTests l i p)) refl
     go zero e = omega arith
     go (suc r) e = omega (arith, firstOf-most 15 (creditTests l i p) (omega arith))
 
-pub lend-proper : {l : Link} → Kept l → (mask choice : ℕ) → Proper Word (lend l mask choice .answer)
+pub lend-proper : {l : Link} → Keepable l → (mask choice : ℕ) → Proper Word (lend l mask choice .answer)
 unfolding lend lendAfter lentAfter
 lend-proper {l} v mask choice = go (firstOf (lendTests l mask)) refl
   where

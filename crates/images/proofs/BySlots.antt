@@ -18,7 +18,7 @@ use Rattle.model.specs.Holding.{InWindow}
 use Rattle.model.proofs.Round.{firstWith, firstWith-low, firstWith-high, firstWith-mod, ahead-mod}
 use Rattle.model.proofs.Slots.{some-frame, some-position, frame-begins, current-in-window, slotAt, slotAt-in-window, slotAt-position}
 use Rattle.model.proofs.Window.{Current, head-is, fromOn-is}
-use Rattle.images.specs.Consistent.{known, bookingsIn, frameAfter, before, windowAt, growsTo, ConsistentFlow, Kept}
+use Rattle.images.specs.Consistent.{known, bookingsIn, frameAfter, before, windowAt, growsTo, ConsistentFlow, Keepable}
 use Rattle.images.proofs.Bookings.{booking}
 
 -- ---- a flow
@@ -178,7 +178,7 @@ module _ {P : Plan} {t c : ℕ} (now : Current P t c) where
 
 -- ---- the conditions on a link
 
-pub at-current : {l : Link} → Kept l → LinkAt l (l .current)
+pub at-current : {l : Link} → Keepable l → LinkAt l (l .current)
 at-current {l} v = record {
   current = now;
   owners-long = v .whole .owners-long;
@@ -190,7 +190,7 @@ at-current {l} v = record {
     now : Current (l .plan) (l .current) (l .current)
     now = record { accepted = v .accepted; current-is = sym (mod-eq-of-lt (v .consistent .current-below)) }
 
-pub kept-at : {l : Link} {t : ℕ} → LinkAt l t → Kept l
+pub kept-at : {l : Link} {t : ℕ} → LinkAt l t → Keepable l
 kept-at {l} {t} v = record {
   accepted = v .current .accepted;
   whole = record { owners-long = v .owners-long; flows-long = v .flows-long; held-long = λ i h. v .flows i h .holds .long };

@@ -18,7 +18,7 @@ use Rattle.model.proofs.Tests.{line-passed}
 use Rattle.model.proofs.Plan.{accepted}
 use Rattle.model.proofs.Demand3.{meets}
 use Rattle.images.specs.Image.{imageLength, imageOf, headerField}
-use Rattle.images.specs.Consistent.{Kept}
+use Rattle.images.specs.Consistent.{Keepable}
 use Rattle.images.specs.Taken.{refusalOf}
 use Rattle.images.specs.Exports.{writtenTo, handedBack, freshTests, freshOn, calledOn}
 use Rattle.images.specs.Chain.{eventOf, imageIn, Chain, starts, goes-on}
@@ -90,7 +90,7 @@ module _ (plan : List ℕ) where
   image-and-rest : (c image : List ℕ) → imageIn c ≡ image → c ≡ image ++ drop (headerField c 0) c
   image-and-rest c image e = sym (take-append-drop (headerField c 0) c) ∙ ap (_++ drop (headerField c 0) c) e
 
-  kept-after : refusal plan ≡ 0 → (calls : List Call) → Kept (cardAfter calls .state)
+  kept-after : refusal plan ≡ 0 → (calls : List Call) → Keepable (cardAfter calls .state)
   kept-after passes calls = kept-run (planOf plan) (accepted plan passes) calls .kept
 
   one-more : {calls : List Call} {h : History} {b : List ℕ} → Follows calls h b → (c : List ℕ) → imageIn c ≡ imageIn b → (call : Call)
@@ -108,7 +108,7 @@ module _ (plan : List ℕ) where
       more : cardAfter (calls ++ (call ∷ [])) ≡ step paper r call
       more = play-more (started paper (planOf plan)) calls call
 
-      kept : Kept (r .state)
+      kept : Keepable (r .state)
       kept = kept-after (f .plan-passes) calls
 
       rest : List ℕ

@@ -16,7 +16,7 @@ use Rattle.model.specs.Credit.{creditTests, lowered, creditAfter, credit}
 use Rattle.model.specs.Tick.{nextPosition, recycled, advanced, tick}
 use Rattle.model.specs.Lend.{lendTests, lentTo, chosen, lentAfter, lendAfter, lend}
 use Rattle.model.specs.Card.{Played, paper, step, play, started, run}
-use Rattle.images.specs.Consistent.{Kept}
+use Rattle.images.specs.Consistent.{Keepable}
 use Rattle.images.proofs.FreshKept.{fresh-kept}
 use Rattle.images.proofs.CreditKept.{credit-kept}
 use Rattle.images.proofs.LendKept.{lend-kept}
@@ -27,7 +27,7 @@ use Rattle.images.proofs.RequestKept.{request-kept}
 -- k is of l's plan, and meets the conditions
 pub record KeptAfter (l k : Link) : Type 0 where
   pub same-plan : k .plan ≡ l .plan
-  pub kept : Kept k
+  pub kept : Keepable k
 
 -- ---- the plan stays
 
@@ -67,7 +67,7 @@ tick-plan l = go (eqb (nextPosition l % l .plan .slots) 0)
 
 -- ---- any call
 
-pub call-kept : (r : Played paper) → Kept (r .state) → (c : Call) → KeptAfter (r .state) (step paper r c .state)
+pub call-kept : (r : Played paper) → Keepable (r .state) → (c : Call) → KeptAfter (r .state) (step paper r c .state)
 call-kept r v (Call.request w) = record { same-plan = left-plan (request-leaves v w); kept = request-kept v w }
 call-kept r v (Call.credit i p) = record { same-plan = credit-plan (r .state) i p; kept = credit-kept v i p }
 call-kept r v Call.tick = record { same-plan = tick-plan (r .state); kept = tick-kept v }
@@ -75,7 +75,7 @@ call-kept r v (Call.lend mask choice) = record { same-plan = lend-plan (r .state
 
 -- ---- and so after any list of calls
 
-kept-played : (r : Played paper) → Kept (r .state) → (calls : List Call) → KeptAfter (r .state) (play paper r calls .state)
+kept-played : (r : Played paper) → Keepable (r .state) → (calls : List Call) → KeptAfter (r .state) (play paper r calls .state)
 unfolding play
 kept-played r v [] = record { same-plan = refl; kept = v }
 kept-played r v (c ∷ calls) =

@@ -9,7 +9,7 @@ use Rattle.model.proofs.Tables.{length-table}
 use Rattle.model.proofs.Slots.{slotAt-in-window, slotAt-position}
 use Rattle.model.proofs.LinkUpdates.{each-flow}
 use Rattle.model.proofs.CreditKeeps.{CreditPasses, credit-passes}
-use Rattle.images.specs.Consistent.{Kept}
+use Rattle.images.specs.Consistent.{Keepable}
 use Rattle.images.proofs.BySlots.{FlowAt, HoldsWell, LinkAt, at-current, kept-at}
 use Rattle.images.proofs.Holdings.{lowered-well}
 
@@ -34,10 +34,10 @@ lowered-at {l} {t} v {i} {p} c = record {
     own : FlowAt (l .plan) t (l .owners) i x
     own = record { spends = v .flows i (c .known) .spends; within-share = v .flows i (c .known) .within-share; holds = holds }
 
-pub credit-kept : {l : Link} → Kept l → (i p : ℕ) → Kept (credit l i p .link)
+pub credit-kept : {l : Link} → Keepable l → (i p : ℕ) → Keepable (credit l i p .link)
 unfolding credit creditAfter
 credit-kept {l} v i p = go (firstOf (creditTests l i p)) refl
   where
-    go : (r : ℕ) → firstOf (creditTests l i p) ≡ r → Kept (creditAfter r l i p .link)
+    go : (r : ℕ) → firstOf (creditTests l i p) ≡ r → Keepable (creditAfter r l i p .link)
     go zero e = kept-at (lowered-at (at-current v) (credit-passes l i p e))
     go (suc r) e = v

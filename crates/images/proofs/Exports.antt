@@ -10,7 +10,7 @@ use Rattle.model.specs.Calls.{Call, requested, credited, lent, ticked}
 use Rattle.model.specs.Link.{Link}
 use Rattle.model.specs.Card.{Played, paper, step}
 use Rattle.images.specs.Image.{imageLength, imageOf, headerField, linkIn}
-use Rattle.images.specs.Consistent.{Kept}
+use Rattle.images.specs.Consistent.{Keepable}
 use Rattle.images.specs.Taken.{refusalOf, Taken}
 use Rattle.images.specs.Exports.{Called, refusalNumber, onLink, writtenTo, handedBack, calledOn}
 use Rattle.images.specs.Chain.{eventOf, imageIn}
@@ -38,7 +38,7 @@ module _ (r : Played paper) where
   link-is (Call.lend mask choice) = refl
 
   -- the number tells the event
-  history-is : Kept (r .state) → (c : Call) → eventOf c (onLink (r .state) c .number) ∷ r .history ≡ step paper r c .history
+  history-is : Keepable (r .state) → (c : Call) → eventOf c (onLink (r .state) c .number) ∷ r .history ≡ step paper r c .history
   history-is v (Call.request w) =
       ap (λ a. requested w a ∷ r .history) (answer-read (λ x. x) (λ x. x) (λ x. refl) _ (request-proper v w))
   history-is v (Call.credit i p) =
@@ -48,14 +48,14 @@ module _ (r : Played paper) where
       ap (λ a. lent mask a ∷ r .history) (answer-read (λ x. x) (λ x. x) (λ x. refl) _ (lend-proper v mask choice))
 
 -- the link that is left meets the conditions
-pub done-kept : {l : Link} → Kept l → (c : Call) → KeptAfter l (onLink l c .link)
+pub done-kept : {l : Link} → Keepable l → (c : Call) → KeptAfter l (onLink l c .link)
 done-kept {l} v c =
     let r : Played paper = record { state = l; history = [] } in
     subst (KeptAfter l) (sym (link-is r c)) (call-kept r v c)
 
 -- ---- on the image of a link, with any bytes past it
 
-module _ {l : Link} (v : Kept l) (rest : List ℕ) where
+module _ {l : Link} (v : Keepable l) (rest : List ℕ) where
   abbrev b : List ℕ
   b = imageOf l ++ rest
 
@@ -79,7 +79,7 @@ module _ {l : Link} (v : Kept l) (rest : List ℕ) where
           ap (λ P. imageOf k ++ drop (imageLength P) b) (done-kept v c .same-plan)
           ∙ ap (imageOf k ++_) (drop-at (imageOf l) rest (imageLength (l .plan)) (image-length v))
 
-module _ (r : Played paper) (v : Kept (r .state)) (rest : List ℕ) where
+module _ (r : Played paper) (v : Keepable (r .state)) (rest : List ℕ) where
   -- the exported call leaves the image of the link that the call hands back, and its number tells the call's event
   pub record CalledAs (c : Call) (x : Called) : Type 0 where
     pub buffer-is : x .buffer ≡ imageOf (step paper r c .state) ++ rest

@@ -11,7 +11,7 @@ use Rattle.model.specs.Fresh.{freshFlow, fresh}
 use Rattle.model.proofs.Tables.{length-table}
 use Rattle.model.proofs.Slots.{some-frame, some-position}
 use Rattle.model.proofs.LinkUpdates.{flow-withFlows}
-use Rattle.images.specs.Consistent.{known, bookedBy, bookingsIn, Kept}
+use Rattle.images.specs.Consistent.{known, bookedBy, bookingsIn, Keepable}
 use Rattle.images.proofs.Bookings.{place-below, bookings-none}
 use Rattle.images.proofs.BySlots.{FlowAt, kept-at}
 
@@ -47,7 +47,7 @@ module _ {P : Plan} (ok : Accepted P) where
     };
   }
 
-  pub fresh-kept : Kept (fresh P)
+  pub fresh-kept : Keepable (fresh P)
   unfolding fresh
   fresh-kept = kept-at {t = 0} (record {
     current = record { accepted = ok; current-is = sym (zero-mod T) };

@@ -14,7 +14,7 @@ use Rattle.model.specs.Link.{Link, Flow, noFlow, owner, flow}
 use Rattle.model.proofs.Tallies.{All}
 use Rattle.model.proofs.WriteRefusals.{accepted-fits, same-refusals}
 use Rattle.images.specs.Image.{fields, flowFields, imageLength, header, ownerField, flowPart, imageOf}
-use Rattle.images.specs.Consistent.{known, Kept}
+use Rattle.images.specs.Consistent.{known, Keepable}
 use Rattle.images.proofs.ImageTaken.{bit-most}
 
 -- ---- lists of numbers that fit
@@ -60,9 +60,9 @@ fields-bytes (x ∷ xs) a = let fit = a .0 in one-byte (omega arith) (one-byte (
 
 -- ---- the image
 
-module _ {l : Link} (v : Kept l) where
+module _ {l : Link} (v : Keepable l) where
   open Link l using (plan as P)
-  open Kept v using (accepted as ok)
+  open Keepable v using (accepted as ok)
 
   owner-fits : (o : Option ℕ) → known (flowCount P) o ≡ true → Fit (ownerField o)
   owner-fits none e = omega arith

@@ -16,7 +16,7 @@ use Rattle.model.proofs.PlanWithinLimits.{limits-kept}
 use Rattle.model.proofs.Tables.{getD-table, length-table}
 use Rattle.model.proofs.WrittenPlan.{same-tests}
 use Rattle.images.specs.Image.{imageLength, positionsAt, flowsAt, imageOf, headerField, planPart, planIn, flowIn, linkIn}
-use Rattle.images.specs.Consistent.{Consistent, Whole, Kept}
+use Rattle.images.specs.Consistent.{Consistent, Whole, Keepable}
 use Rattle.images.specs.Taken.{Taken}
 use Rattle.images.proofs.ReadBack.{image-length, header-stands, plan-stands, plan-again, read-link}
 
@@ -35,7 +35,7 @@ pub bit-most : (b : Bool) → bit b ≤ 1
 bit-most true = omega arith
 bit-most false = omega arith
 
-module _ {l : Link} (v : Kept l) (rest : List ℕ) where
+module _ {l : Link} (v : Keepable l) (rest : List ℕ) where
   open Link l using (plan as P)
 
   abbrev b : List ℕ
@@ -77,6 +77,6 @@ module _ (b : List ℕ) where
     held-long = λ i h. ap (λ x. length (x .held)) (getD-table (flowCount P) (flowIn b P) i noFlow h) ∙ length-table (positions P) _;
   }
 
-  pub read-kept : Taken b → Kept (linkIn b)
+  pub read-kept : Taken b → Keepable (linkIn b)
   unfolding linkIn
   read-kept v = record { accepted = accepted (planPart b) (v .plan-passes); whole = read-whole; consistent = v .link-consistent }

@@ -16,7 +16,7 @@ use Rattle.model.proofs.Tests.{and-true}
 use Rattle.model.proofs.Tables.{length-table, firstFrom-some}
 use Rattle.model.proofs.Slots.{current-in-window}
 use Rattle.model.proofs.LinkUpdates.{each-flow}
-use Rattle.images.specs.Consistent.{Kept}
+use Rattle.images.specs.Consistent.{Keepable}
 use Rattle.images.proofs.BySlots.{FlowAt, HoldsWell, LinkAt, at-current, kept-at}
 use Rattle.images.proofs.Holdings.{raised-well}
 
@@ -45,20 +45,20 @@ lent-at {l} {t} v {i} known can = record {
     own : FlowAt (l .plan) t (l .owners) i x
     own = record { spends = v .flows i known .spends; within-share = v .flows i known .within-share; holds = holds }
 
-pub lend-kept : {l : Link} → Kept l → (mask choice : ℕ) → Kept (lend l mask choice .link)
+pub lend-kept : {l : Link} → Keepable l → (mask choice : ℕ) → Keepable (lend l mask choice .link)
 unfolding lend lendAfter lentAfter chosen
 lend-kept {l} v mask choice = go (firstOf (lendTests l mask))
   where
     n : ℕ
     n = flowCount (l .plan)
 
-    lent : (o : Option ℕ) → chosen l mask choice ≡ o → Kept (lentAfter l o .link)
+    lent : (o : Option ℕ) → chosen l mask choice ≡ o → Keepable (lentAfter l o .link)
     lent none e = v
     lent (some k) e =
         let hit = firstFrom-some n choice (λ k. takes l mask (k % n)) k e in
         let can = and-true (inMask mask (k % n)) (canTake l (k % n)) (hit .passes) .1 in
         kept-at (lent-at (at-current v) (mod-lt k (omega (arith, v .accepted .some-flow))) can)
 
-    go : (r : ℕ) → Kept (lendAfter r l mask choice .link)
+    go : (r : ℕ) → Keepable (lendAfter r l mask choice .link)
     go zero = lent (chosen l mask choice) refl
     go (suc r) = v

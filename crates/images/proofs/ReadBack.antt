@@ -17,8 +17,8 @@ use Rattle.model.specs.Link.{Link, Flow, noFlow, owner, flow}
 use Rattle.model.proofs.Tables.{getD-table, length-table}
 use Rattle.model.proofs.WrittenPlan.{length-is, read-back}
 use Rattle.images.specs.Image.{fields, fieldAt, headerLength, flowFields, positionsAt, flowsAt, imageLength, header, ownerField, flowPart, imageOf}
-use Rattle.images.specs.Image.{planPart, planIn, ownerIn, flowField, flowIn, linkWith, linkIn}
-use Rattle.images.specs.Consistent.{known, Kept}
+use Rattle.images.specs.Image.{planPart, planIn, ownerIn, flowField, flowIn, linkFrom, linkIn}
+use Rattle.images.specs.Consistent.{known, Keepable}
 use Rattle.images.proofs.Fields.{length-fields, Stands, stand-behind, Even, parts-length, parts-at}
 
 -- an owner is read back
@@ -36,7 +36,7 @@ mark-again : (b : Bool) → eqb (bit b) 1 ≡ b
 mark-again true = refl
 mark-again false = refl
 
-module _ {l : Link} (v : Kept l) where
+module _ {l : Link} (v : Keepable l) where
   open Link l using (plan as P)
 
   abbrev T : ℕ
@@ -145,10 +145,10 @@ module _ {l : Link} (v : Kept l) where
 
     -- ---- the tables
 
-    owners-again : linkWith b P .owners ≡ l .owners
-    owners-again = ext-getD none (linkWith b P .owners) (l .owners) (length-table T _ ∙ sym (v .whole .owners-long)) each
+    owners-again : linkFrom b P .owners ≡ l .owners
+    owners-again = ext-getD none (linkFrom b P .owners) (l .owners) (length-table T _ ∙ sym (v .whole .owners-long)) each
       where
-        each : (p : ℕ) → p < length (linkWith b P .owners) → getD (linkWith b P .owners) p none ≡ owner l p
+        each : (p : ℕ) → p < length (linkFrom b P .owners) → getD (linkFrom b P .owners) p none ≡ owner l p
         each p lt =
             let below : p < T = omega (arith, length-table T (λ p. ownerIn (fieldAt b (positionsAt P) p))) in
             getD-table T _ p none below
@@ -181,10 +181,10 @@ module _ {l : Link} (v : Kept l) where
           let remainder = part-stands 1 (omega arith) in
           λ k. record { injection = injection k; remainder = remainder k; held = held-again k }
 
-    flows-again : linkWith b P .flows ≡ l .flows
-    flows-again = ext-getD noFlow (linkWith b P .flows) (l .flows) (length-table n _ ∙ sym (v .whole .flows-long)) each
+    flows-again : linkFrom b P .flows ≡ l .flows
+    flows-again = ext-getD noFlow (linkFrom b P .flows) (l .flows) (length-table n _ ∙ sym (v .whole .flows-long)) each
       where
-        each : (i : ℕ) → i < length (linkWith b P .flows) → getD (linkWith b P .flows) i noFlow ≡ flow l i
+        each : (i : ℕ) → i < length (linkFrom b P .flows) → getD (linkFrom b P .flows) i noFlow ≡ flow l i
         each i below =
             let lt : i < n = omega (arith, length-table n (flowIn b P)) in
             getD-table n (flowIn b P) i noFlow lt ∙ flow-again i lt
@@ -193,18 +193,18 @@ module _ {l : Link} (v : Kept l) where
 
     pub read-link : linkIn b ≡ l
     unfolding linkIn
-    read-link = ap (linkWith b) plan-again ∙ same
+    read-link = ap (linkFrom b) plan-again ∙ same
       where
-        same : linkWith b P ≡ l
+        same : linkFrom b P ≡ l
         same =
             let current = header-stands .number 6 (omega arith) in
             let taken = ap (λ x. eqb x 1) (header-stands .number 7 (omega arith)) ∙ mark-again (l .taken) in
             λ k. record { plan = P; current = current k; owners = owners-again k; flows = flows-again k; taken = taken k }
 
 -- without bytes past it
-pub read-image : {l : Link} → Kept l → linkIn (imageOf l) ≡ l
+pub read-image : {l : Link} → Keepable l → linkIn (imageOf l) ≡ l
 read-image {l} v = ap linkIn (sym (append-nil (imageOf l))) ∙ read-link v []
 
 -- two links with one image are one link
-pub one-image : {l k : Link} → Kept l → Kept k → imageOf l ≡ imageOf k → l ≡ k
+pub one-image : {l k : Link} → Keepable l → Keepable k → imageOf l ≡ imageOf k → l ≡ k
 one-image v u e = sym (read-image v) ∙ ap linkIn e ∙ read-image u

@@ -21,7 +21,7 @@ use Rattle.model.proofs.Word.{depart-small}
 use Rattle.model.proofs.Tests.{and-true, line-passed}
 use Rattle.model.proofs.Slots.{some-frame, frame-high}
 use Rattle.model.proofs.SearchedFrames.{Fails, Ends, search-ends}
-use Rattle.images.specs.Consistent.{Kept}
+use Rattle.images.specs.Consistent.{Keepable}
 use Rattle.images.proofs.Numbers.{firstOf-most, Word, Proper}
 use Rattle.images.proofs.Bookings.{place-below}
 
@@ -59,10 +59,10 @@ valid-bookable l i j p below in-frame e =
     let first = and-true _ _ (both .0) in
     record { position = below; in-frame = in-frame; not-booked = first .0; not-passed = not-true _ (first .1); room = both .1 }
 
-module _ {l : Link} (v : Kept l) (word : ℕ) (known : flowOf word < flowCount (l .plan)) where
+module _ {l : Link} (v : Keepable l) (word : ℕ) (known : flowOf word < flowCount (l .plan)) where
   open Link l using (plan as P)
   open Plan P using (slots as F, frames as W)
-  open Kept v using (accepted as ok)
+  open Keepable v using (accepted as ok)
 
   -- the flow that asks
   abbrev i : ℕ
@@ -175,7 +175,7 @@ module _ {l : Link} (v : Kept l) (word : ℕ) (known : flowOf word < flowCount (
   answered-proper (nowhere zero) r = omega arith
   answered-proper (nowhere (suc c)) r = omega arith
 
-module _ {l : Link} (v : Kept l) (word : ℕ) where
+module _ {l : Link} (v : Keepable l) (word : ℕ) where
   asked : firstOf (wordTests (l .plan) word) ≡ 0 → flowOf word < flowCount (l .plan)
   asked e = ltb-true (flowOf word) (flowCount (l .plan)) (not-false _ (line-passed _ 7 _ e .0))
 

@@ -15,7 +15,7 @@ use Rattle.model.specs.Credit.{credit}
 use Rattle.model.specs.Tick.{tick}
 use Rattle.model.specs.Lend.{lend}
 use Rattle.images.specs.Image.{linkIn}
-use Rattle.images.specs.Consistent.{known, Kept}
+use Rattle.images.specs.Consistent.{known, Keepable}
 use Rattle.images.specs.Taken.{imageTests, refusalOf}
 use Rattle.images.specs.Exports.{numberOf, turnNumber, Done, onLink, handedBack, freshTests, freshOn, calledOn}
 use Rattle.images.proofs.Numbers.{firstOf-most, Word, Proper}
@@ -36,7 +36,7 @@ turn-fits : (n : ℕ) → n ≤ 16 → (x : Turn) → known n x ≡ true → Lon
 turn-fits n most none e = omega arith
 turn-fits n most (some i) e = omega (arith, ltb-true i n e)
 
-done-fits : {l : Link} → Kept l → (c : Call) → Long (onLink l c .number)
+done-fits : {l : Link} → Keepable l → (c : Call) → Long (onLink l c .number)
 done-fits {l} v (Call.request w) = answer-fits (λ x. x) (request l w .answer) (request-proper v w)
 done-fits {l} v (Call.credit i p) = answer-fits (λ _. 0) (credit l i p .answer) (credit-proper l i p)
 done-fits {l} v Call.tick = turn-fits (flowCount (l .plan)) (v .accepted .flows-most) (tick l .answer) (tick-known v)

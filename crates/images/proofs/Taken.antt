@@ -13,7 +13,7 @@ use Rattle.model.specs.Refusals.{firstOf}
 use Rattle.model.specs.Plan.{refusal}
 use Rattle.model.proofs.Tests.{or-false, line-passed}
 use Rattle.model.proofs.Tables.{every-at}
-use Rattle.images.specs.Image.{headerLength, layout, headerField, planPart, planIn, linkIn}
+use Rattle.images.specs.Image.{headerLength, layout, headerField, stateField, planPart, planIn, linkIn}
 use Rattle.images.specs.Taken.{tooShort, listed, faultTests, refusalOf, Taken}
 use Rattle.images.proofs.Numbers.{firstOf-same}
 use Rattle.images.proofs.Conditions.{consistent-exactly}
@@ -43,7 +43,7 @@ module _ (b : List ℕ) where
         flows-offset-is = as-listed 4 (omega arith);
         flows-are = as-listed 5 (omega arith);
         plan-passes = eqb-true (refusal (planPart b)) 0 (not-false _ (l3 .0));
-        mark-is-bit = ltb-false 1 (headerField b 7) (l4 .0);
+        mark-is-bit = ltb-false 1 (stateField b 1) (l4 .0);
         link-consistent = consistent-exactly (linkIn b) .0 (not-false _ (l5 .0));
       }
 
@@ -67,7 +67,7 @@ module _ (b : List ℕ) where
         le-ltb (length b) (headerField b 0) (v .image-there),
         is-listed v,
         eq-eqb (refusal (planPart b)) 0 (v .plan-passes),
-        le-ltb 1 (headerField b 7) (v .mark-is-bit),
+        le-ltb 1 (stateField b 1) (v .mark-is-bit),
         consistent-exactly (linkIn b) .1 (v .link-consistent),
       )
 

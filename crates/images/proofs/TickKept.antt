@@ -14,7 +14,7 @@ use Rattle.model.specs.History.{frameOf}
 use Rattle.model.specs.Holding.{InWindow}
 use Rattle.model.proofs.Slots.{frame-stays, place-of-position}
 use Rattle.model.proofs.Window.{Current}
-use Rattle.images.specs.Consistent.{Kept}
+use Rattle.images.specs.Consistent.{Keepable}
 use Rattle.images.proofs.BySlots.{Spends, LinkAt, at-current, kept-at}
 use Rattle.images.proofs.FrameChangeKept.{frame-change-at}
 
@@ -69,6 +69,6 @@ module _ {l : Link} {t : ℕ} (v : LinkAt l t) where
       go true e = frame-change-at v (sym place ∙ eqb-true (nextPosition l % F) 0 e) next-current
       go false e = in-frame (λ z. eqb-false (nextPosition l % F) 0 e (place ∙ z))
 
-pub tick-kept : {l : Link} → Kept l → Kept (tick l .link)
+pub tick-kept : {l : Link} → Keepable l → Keepable (tick l .link)
 unfolding tick
 tick-kept v = kept-at (advanced-at (at-current v))

@@ -17,7 +17,7 @@ use Rattle.model.specs.Link.{Flow, noFlow}
 use Rattle.model.proofs.Tables.{getD-table, length-table}
 use Rattle.model.proofs.WrittenPlan.{length-is, written-again}
 use Rattle.images.specs.Image.{fields, fieldAt, headerLength, flowFields, positionsAt, flowsAt, imageLength, header, ownerField, flowPart, imageOf}
-use Rattle.images.specs.Image.{headerField, planPart, planIn, ownerIn, flowField, flowIn, linkIn}
+use Rattle.images.specs.Image.{stateField, planPart, planIn, ownerIn, flowField, flowIn, linkIn}
 use Rattle.images.specs.Taken.{Taken}
 use Rattle.images.specs.Chain.{imageIn}
 use Rattle.images.proofs.Fields.{Stands, stands-nothing, stands-one, fields-again, Even, parts-length, parts-at}
@@ -80,7 +80,7 @@ module _ {b : List ℕ} (v : Taken b) (bytes : AllBytes b) where
   header-stands =
       stands-one (v .total-is) (stands-one (v .plan-offset-is) (stands-one (v .positions-offset-is) (stands-one (v .positions-are)
       (stands-one (v .flows-offset-is) (stands-one (v .flows-are) (stands-one refl
-      (stands-one (sym (mark-number (headerField b 7) (v .mark-is-bit))) stands-nothing)))))))
+      (stands-one (sym (mark-number (stateField b 1) (v .mark-is-bit))) stands-nothing)))))))
 
   header-again : fields (header (linkIn b)) ≡ take headerLength b
   header-again = fields-again b bytes (header (linkIn b)) 0 (v .header-there) header-stands
