@@ -1,7 +1,7 @@
 -- What a request leaves of a link, and what its answer can be: all that is used of the request's definition. Document 01, "Request". Assumes nothing.
 use Prim.Native.Nat.{ℕ, zero, suc, _+_, _-_, _*_, _/_, _%_, _≤_, _<_}
 use mathlib.Core.Path.{_≡_, refl, sym, ap, _∙_, subst}
-use mathlib.Core.Bool.{true, false}
+use mathlib.Core.Bool.{Bool, true, false}
 use native.Mathlib.Nat.{mod-lt, mod-eq-of-lt, mod-add-mod}
 use native.Mathlib.Omega.{arith}
 use lib.Arith.{digits-div}
@@ -64,9 +64,18 @@ module _ {l : Link} (v : Keepable l) (word : ℕ) (known : flowOf word < flowCou
   open Plan P using (slots as F, frames as W)
   open Keepable v using (accepted as ok)
 
-  -- the flow that asks
+  -- the flow that asks, the test of a position that its search makes, and what the search comes to
   abbrev i : ℕ
   i = flowOf word
+
+  abbrev test : ℕ → Bool
+  test = valid l i
+
+  abbrev comesTo : Found
+  comesTo = sought l i
+
+  passed-valid : (p : ℕ) → test p ≡ true → valid l i p ≡ true
+  passed-valid p e = e
 
   abbrev HF : ℕ
   HF = head (window l)
@@ -114,14 +123,14 @@ module _ {l : Link} (v : Keepable l) (word : ℕ) (known : flowOf word < flowCou
   }
 
   Searched : Found → Type 0
-  Searched = Ends (window l) (valid l i) (share l i) newestFrame Reached
+  Searched = Ends (window l) test (share l i) newestFrame Reached
 
-  searched : Searched (sought l i)
+  searched : Searched comesTo
   unfolding sought Searched
   searched =
       rw more
-      (subst (λ j. Searched (search (window l) (valid l i) (share l i) (newestFrame - first) j (flow l i .remainder))) at-IF
-      (search-ends (window l) (valid l i) (share l i) newestFrame Reached goes-on (newestFrame - first) first (flow l i .remainder)
+      (subst (λ j. Searched (search (window l) test (share l i) (newestFrame - first) j (flow l i .remainder))) at-IF
+      (search-ends (window l) test (share l i) newestFrame Reached goes-on (newestFrame - first) first (flow l i .remainder)
       (omega (arith, first-high)) here))
     where
       more : ahead W IF (newest (window l)) ≡ newestFrame - first
@@ -129,7 +138,7 @@ module _ {l : Link} (v : Keepable l) (word : ℕ) (known : flowOf word < flowCou
           ap (λ x. ahead W x (newest (window l))) (sym at-IF)
           ∙ ahead-mod (some-frame ok) {b = first} {x = newestFrame} (omega (arith, first-high)) (omega (arith, first-low))
 
-      goes-on : (a c : ℕ) → a < newestFrame → Reached a c → Fails (window l) (valid l i) (share l i) (a % W) c → Reached (suc a) (share l i)
+      goes-on : (a c : ℕ) → a < newestFrame → Reached a c → Fails (window l) test (share l i) (a % W) c → Reached (suc a) (share l i)
       goes-on a c h r fails = record { low = omega (arith, r .low); at-first = λ e. absurd (omega (arith, r .low)); later-on = λ lt. refl }
 
       here : Reached first (flow l i .remainder)
@@ -157,7 +166,8 @@ module _ {l : Link} (v : Keepable l) (word : ℕ) (known : flowOf word < flowCou
 
     found-bookable : Bookable l i j p
     unfolding Searched
-    found-bookable = valid-bookable l i j p found-below (ap (_/ F) (sym (found-in .1)) ∙ digits-div j (found-in .0)) (r .hit .passes)
+    found-bookable = valid-bookable l i j p found-below (ap (_/ F) (sym (found-in .1)) ∙ digits-div j (found-in .0))
+        (passed-valid p (r .hit .passes))
 
     found-walked : Walked l i j (suc c)
     unfolding Searched
@@ -184,7 +194,7 @@ module _ {l : Link} (v : Keepable l) (word : ℕ) where
   request-leaves = go (firstOf (wordTests (l .plan) word)) refl
     where
       go : (r : ℕ) → firstOf (wordTests (l .plan) word) ≡ r → RequestLeaves l (requestAfter r l word .link)
-      go zero e = answered-leaves v word (asked e) (sought l (flowOf word)) (searched v word (asked e))
+      go zero e = answered-leaves v word (asked e) (comesTo v word (asked e)) (searched v word (asked e))
       go (suc r) e = unchanged
 
   pub request-proper : Proper Word (request l word .answer)
@@ -192,5 +202,5 @@ module _ {l : Link} (v : Keepable l) (word : ℕ) where
   request-proper = go (firstOf (wordTests (l .plan) word)) refl
     where
       go : (r : ℕ) → firstOf (wordTests (l .plan) word) ≡ r → Proper Word (requestAfter r l word .answer)
-      go zero e = answered-proper v word (asked e) (sought l (flowOf word)) (searched v word (asked e))
+      go zero e = answered-proper v word (asked e) (comesTo v word (asked e)) (searched v word (asked e))
       go (suc r) e = omega (arith, firstOf-most 10 (wordTests (l .plan) word) (omega arith))
