@@ -11,7 +11,6 @@ use Rattle.model.specs.Tables.{ahead}
 use Rattle.model.specs.Refusals.{firstOf}
 use Rattle.model.specs.Word.{flowOf}
 use Rattle.model.specs.Plan.{Plan, positions, flowCount}
-use Rattle.model.specs.Calls.{accepted}
 use Rattle.model.specs.Window.{start, head, frameAt, newest, passed, everyFrom}
 use Rattle.model.specs.Link.{Link, window, owner, flow, holding, share, cells, withFlow, movedTo}
 use Rattle.model.specs.Request.{Found, found, nowhere, wordTests, unbooked, valid, search, sought, refusedAtNewest, answered, requestAfter, request}
