@@ -1,18 +1,17 @@
 -- A frame change leaves a link that meets the conditions. Assumes nothing.
-use Prim.Native.Nat.{ℕ, suc, _+_, _-_, _*_, _/_, _%_, _≤_, _<_}
+use Prim.Native.Nat.{ℕ, suc, _+_, _-_, _%_, _≤_, _<_}
 use mathlib.Core.Path.{_≡_, refl, sym, ap, _∙_, subst}
 use mathlib.Core.List.{List}
 use mathlib.Core.Option.{Option, none}
 use mathlib.Core.Bool.{Bool, true, false, cond}
-use native.Mathlib.Nat.{mod-lt, mod-add-mod, add-mod-right}
+use native.Mathlib.Nat.{mod-lt, mod-add-mod}
 use native.Mathlib.Decide.{decLt, ℕ-discrete}
 use native.Mathlib.Numerals.{add-one}
 use native.Mathlib.Omega.{arith}
-use lib.Arith.{digits-div}
 use lib.Dec.{eqb}
 use lib.ListN.{getD}
-use borrow.Author.Tests.{eqb-true, eqb-false, eq-eqb, ne-eqb}
-use Rattle.model.specs.Tables.{table, bit}
+use borrow.Author.Tests.{eqb-true, eqb-false}
+use Rattle.model.specs.Tables.{bit}
 use Rattle.model.specs.Plan.{Plan, positions, flowCount, entry}
 use Rattle.model.specs.Window.{head, next, inHead, last}
 use Rattle.model.specs.Link.{Link, Flow, window, owner, flow, holding, share, withCurrent, withTaken, movedTo}
@@ -20,12 +19,13 @@ use Rattle.model.specs.Tick.{leftHead, emptied, carriedOn, recycled, nextPositi
 use Rattle.model.specs.History.{frameOf}
 use Rattle.model.specs.Holding.{frameStart, InWindow}
 use Rattle.model.proofs.Round.{mod-unique, firstWith, firstWith-low, firstWith-high, firstWith-mod}
-use Rattle.model.proofs.Tables.{getD-table, length-table}
-use Rattle.model.proofs.Slots.{some-frame, some-position, frame-begins, frame-low, frame-high, frame-changes, frame-of-position, position-of}
+use Rattle.model.proofs.Tables.{length-table}
+use Rattle.model.proofs.Slots.{some-frame, some-position, frame-begins}
 use Rattle.model.proofs.Window.{Current, head-is, last-is}
 use Rattle.model.proofs.LinkUpdates.{flow-withFlows, carriedOn-at}
 use Rattle.images.specs.Consistent.{known, bookedBy, bookingsIn}
-use Rattle.images.proofs.Bookings.{booking, bookings-same, bookings-none}
+use Rattle.images.proofs.Bookings.{booking}
+use Rattle.images.proofs.OldHead.{ownersAfter, step, kept, added, owner-is, known-still, bookings-last, bookings-stay}
 use Rattle.images.proofs.BySlots.{Spends, GrowsAt, HoldsWell, FlowAt, LinkAt, slot-before}
 
 module _ {l : Link} {t : ℕ} (v : LinkAt l t) (change : suc t % l .plan .slots ≡ 0) where
@@ -44,71 +44,8 @@ module _ {l : Link} {t : ℕ} (v : LinkAt l t) (change : suc t % l .plan .slots 
   abbrev end : ℕ
   end = frameStart P t + T
 
-  step : frameOf P (suc t) ≡ suc k
-  step = frame-changes ok t change
-
-  -- ---- the frames of the new window, k + 1 to k + W: the last of them has the old head's positions
-
-  in-old-head : (a p : ℕ) → suc k ≤ a → a ≤ k + W → p / F ≡ a % W → inHead (window l) p ≡ eqb a (k + W)
-  in-old-head a p low high at-p = go (ℕ-discrete a (k + W))
-    where
-      last-round : (k + W) % W ≡ head (window l)
-      last-round = add-mod-right k W ∙ sym (head-is (v .current))
-
-      go : Dec (a ≡ k + W) → inHead (window l) p ≡ eqb a (k + W)
-      go (yes e) = eq-eqb (p / F) (head (window l)) (at-p ∙ ap (_% W) e ∙ last-round) ∙ sym (eq-eqb a (k + W) e)
-      go (no d) = ne-eqb (p / F) (head (window l)) differ ∙ sym (ne-eqb a (k + W) d)
-        where
-          differ : p / F ≡ head (window l) → ⊥
-          differ e =
-              let some = some-frame ok in
-              let same = sym at-p ∙ e ∙ sym last-round in
-              d (mod-unique some {b = suc k} low (omega arith) (omega arith) (omega arith) same)
-
-  -- the same of a slot
-  kept : (s : ℕ) → InWindow P (suc t) s → s < end → inHead (window l) (s % T) ≡ false
-  kept s w h =
-      let low = frame-low ok (suc k) s (omega (arith, w .low, ap (_* F) step)) in
-      let high = frame-high ok (k + W) s (omega arith) in
-      in-old-head (frameOf P s) (s % T) low (omega arith) (frame-of-position ok s) ∙ ne-eqb (frameOf P s) (k + W) (λ e. omega arith)
-
-  added : (s : ℕ) → InWindow P (suc t) s → end ≤ s → inHead (window l) (s % T) ≡ true
-  added s w h =
-      let low = frame-low ok (k + W) s (omega arith) in
-      let high = frame-high ok (suc (k + W)) s (omega (arith, w .high, ap (_* F) step)) in
-      let e : frameOf P s ≡ k + W = omega arith in
-      in-old-head (frameOf P s) (s % T) (omega (arith, some-frame ok)) (omega arith) (frame-of-position ok s) ∙ eq-eqb (frameOf P s) (k + W) e
-
-  -- ---- "the old head's positions are emptied"
-
   abbrev owners : List (Option ℕ)
-  owners = table T (emptied l)
-
-  owner-is : (p : ℕ) → p < T → getD owners p none ≡ emptied l p
-  owner-is p below = getD-table T (emptied l) p none below
-
-  known-still : (p : ℕ) → p < T → known (flowCount P) (getD owners p none) ≡ true
-  known-still p below = ap (known (flowCount P)) (owner-is p below) ∙ go (inHead (window l) p)
-    where
-      go : (b : Bool) → known (flowCount P) (cond b none (owner l p)) ≡ true
-      go true = refl
-      go false = v .owners-known p below
-
-  -- flow i's bookings in frame a of the new window
-  module _ (i a : ℕ) (low : suc k ≤ a) (high : a ≤ k + W) where
-    place-below : (x : ℕ) → x < F → a % W * F + x < T
-    place-below x lt = subst (_< T) (position-of ok a x lt) (mod-lt (a * F + x) (some-position ok))
-
-    booking-is : (x : ℕ) → x < F → booking owners i (a % W * F + x) ≡ bit (bookedBy i (cond (eqb a (k + W)) none (owner l (a % W * F + x))))
-    booking-is x lt =
-        ap (λ o. bit (bookedBy i o)) (owner-is (a % W * F + x) (place-below x lt)
-        ∙ ap (λ b. cond b none (owner l (a % W * F + x))) (in-old-head a (a % W * F + x) low high (digits-div (a % W) lt)))
-
-    bookings-last : a ≡ k + W → bookingsIn P owners i (a % W) ≡ 0
-    bookings-last e = bookings-none P owners i (a % W) λ x lt. rw (eq-eqb a (k + W) e) at (booking-is x lt)
-
-    bookings-stay : (a ≡ k + W → ⊥) → bookingsIn P owners i (a % W) ≡ bookingsIn P (l .owners) i (a % W)
-    bookings-stay d = bookings-same P (l .owners) owners i (a % W) λ x lt. rw (ne-eqb a (k + W) d) at (booking-is x lt)
+  owners = ownersAfter l
 
   module _ (i : ℕ) (known : i < flowCount P) where
     f : FlowAt P t (l .owners) i (flow l i)
@@ -122,8 +59,8 @@ module _ {l : Link} {t : ℕ} (v : LinkAt l t) (change : suc t % l .plan .slots 
         (go a (firstWith-low some (suc k) j) (omega (arith, firstWith-high some (suc k) j)) (ℕ-discrete a (k + W)))
       where
         go : (a : ℕ) → suc k ≤ a → a ≤ k + W → Dec (a ≡ k + W) → bookingsIn P owners i (a % W) ≤ share l i
-        go a low high (yes e) = omega (arith, bookings-last i a low high e)
-        go a low high (no d) = omega (arith, bookings-stay i a low high d, f .within-share (a % W) (mod-lt a (some-frame ok)))
+        go a low high (yes e) = omega (arith, bookings-last v change i a low high e)
+        go a low high (no d) = omega (arith, bookings-stay v change i a low high d, f .within-share (a % W) (mod-lt a (some-frame ok)))
 
     -- ---- "every flow with IF = HF moves to the next frame with C = share"
 
@@ -135,8 +72,8 @@ module _ {l : Link} {t : ℕ} (v : LinkAt l t) (change : suc t % l .plan .slots 
         low = omega (arith, f .spends .low)
 
         go : Dec (a ≡ k + W) → bookingsIn P owners i (a % W) ≡ 0
-        go (yes e) = bookings-last i a low (omega arith) e
-        go (no d) = bookings-stay i a low (omega arith) d ∙ f .spends .none-after a (omega arith) (omega arith)
+        go (yes e) = bookings-last v change i a low (omega arith) e
+        go (no d) = bookings-stay v change i a low (omega arith) d ∙ f .spends .none-after a (omega arith) (omega arith)
 
     spends-on : Spends P (suc k) owners i (leftHead l i .injection) (leftHead l i .remainder)
     spends-on = go (eqb (flow l i .injection) (head (window l))) refl
@@ -169,7 +106,7 @@ module _ {l : Link} {t : ℕ} (v : LinkAt l t) (change : suc t % l .plan .slots 
               low = low;
               high = omega arith;
               injection-is = f .spends .injection-is;
-              spent = omega (arith, bookings-stay i (f .spends .frame) low (omega arith) (λ e. omega arith), f .spends .spent);
+              spent = omega (arith, bookings-stay v change i (f .spends .frame) low (omega arith) (λ e. omega arith), f .spends .spent);
               none-after = λ a after below. none-later (f .spends .frame) a (omega arith) after below;
             }
 
@@ -183,10 +120,10 @@ module _ {l : Link} {t : ℕ} (v : LinkAt l t) (change : suc t % l .plan .slots 
       held-is s = carriedOn-at l i x (s % T) (mod-lt s (some-position ok))
 
       held-kept : (s : ℕ) → InWindow P (suc t) s → s < end → getD held (s % T) 0 ≡ holding l i (s % T)
-      held-kept s w h = rw (kept s w h) at (held-is s)
+      held-kept s w h = rw (kept v change s w h) at (held-is s)
 
       held-added : (s : ℕ) → InWindow P (suc t) s → end ≤ s → getD held (s % T) 0 ≡ holding l i ((end - 1) % T)
-      held-added s w h = (rw (added s w h) at (held-is s)) ∙ ap (holding l i) (last-is (v .current))
+      held-added s w h = (rw (added v change s w h) at (held-is s)) ∙ ap (holding l i) (last-is (v .current))
 
       within : (p : ℕ) → p < T → getD held p 0 ≤ entry P i .cells
       within p below = rw (carriedOn-at l i x p below) (go (inHead (window l) p))
@@ -200,7 +137,7 @@ module _ {l : Link} {t : ℕ} (v : LinkAt l t) (change : suc t % l .plan .slots 
           let before = slot-before ok w after in
           let was : InWindow P t s = record { low = omega (arith, frame-begins ok t); high = h } in
           let stays : booking owners i (s % T) ≡ booking (l .owners) i (s % T) =
-          ap (λ o. bit (bookedBy i o)) (owner-is (s % T) (mod-lt s (some-position ok)) ∙ ap (λ b. cond b none (owner l (s % T))) (kept s w h)) in
+          ap (λ o. bit (bookedBy i o)) (owner-is v change (s % T) (mod-lt s (some-position ok)) ∙ ap (λ b. cond b none (owner l (s % T))) (kept v change s w h)) in
           omega (arith, held-kept s w h, held-kept (s - 1) before (omega arith), f .holds .grows s was (omega arith))
       grows s w after (no h) (yes e) =
           let before = slot-before ok w after in
@@ -215,7 +152,7 @@ module _ {l : Link} {t : ℕ} (v : LinkAt l t) (change : suc t % l .plan .slots 
 
     flow-on : FlowAt P (suc t) owners i (carriedOn l i (leftHead l i))
     flow-on = record {
-      spends = subst (λ a. Spends P a owners i (leftHead l i .injection) (leftHead l i .remainder)) (sym step) spends-on;
+      spends = subst (λ a. Spends P a owners i (leftHead l i .injection) (leftHead l i .remainder)) (sym (step v change)) spends-on;
       within-share = share-kept;
       holds = holds-on (leftHead l i);
     }
@@ -228,6 +165,6 @@ module _ {l : Link} {t : ℕ} (v : LinkAt l t) (change : suc t % l .plan .slots 
     current = now;
     owners-long = length-table T (emptied l);
     flows-long = length-table (flowCount P) _;
-    owners-known = known-still;
+    owners-known = known-still v change;
     flows = λ i h. subst (FlowAt P (suc t) owners i) (sym (flow-withFlows l _ i h)) (flow-on i h);
   }
