@@ -1,24 +1,24 @@
 -- The conditions on a link, where slots and frames are numbered on without end: slot t is current, and later means a greater number. Assumes nothing.
-use Prim.Native.Nat.{ℕ, suc, _+_, _-_, _*_, _%_, _≤_, _<_}
+use Prim.Native.Nat.{ℕ, _+_, _-_, _%_, _≤_, _<_}
 use mathlib.Core.Path.{_≡_, refl, sym, ap, ap₂, _∙_, subst}
 use mathlib.Core.List.{List}
-use mathlib.Core.Option.{Option, none}
-use mathlib.Core.Bool.{Bool, true, false, not}
+use mathlib.Core.Option.{Option}
+use mathlib.Core.Bool.{Bool, true, false}
 use native.Mathlib.Nat.{mod-lt, mod-add-mod, add-mod-right, mod-eq-of-lt}
 use native.Mathlib.Omega.{arith}
 use lib.ListN.{length, getD}
 use lib.Dec.{leb, ltb}
 use borrow.Author.Tests.{ltb-true, ltb-false, leb-true, leb-false, lt-ltb, le-ltb}
-use Rattle.model.specs.Tables.{ahead, bit}
-use Rattle.model.specs.Plan.{Plan, positions, flowCount, entry}
+use Rattle.model.specs.Tables.{ahead}
+use Rattle.model.specs.Plan.{Plan, positions, flowCount, entry, Accepted}
 use Rattle.model.specs.Window.{Window, head, rank, later, fromOn}
 use Rattle.model.specs.Link.{Link, Flow, owner, flow}
 use Rattle.model.specs.History.{frameOf}
 use Rattle.model.specs.Holding.{InWindow}
 use Rattle.model.proofs.Round.{firstWith, firstWith-low, firstWith-high, firstWith-mod, ahead-mod}
-use Rattle.model.proofs.Slots.{some-frame, some-position, current-in-window, slotAt, slotAt-in-window, slotAt-position}
+use Rattle.model.proofs.Slots.{some-frame, some-position, frame-begins, current-in-window, slotAt, slotAt-in-window, slotAt-position}
 use Rattle.model.proofs.Window.{Current, head-is, fromOn-is}
-use Rattle.images.specs.Consistent.{known, bookingsIn, frameAfter, before, windowAt, growsTo, ConsistentFlow, Consistent, Whole, Kept}
+use Rattle.images.specs.Consistent.{known, bookingsIn, frameAfter, before, windowAt, growsTo, ConsistentFlow, Keepable}
 use Rattle.images.proofs.Bookings.{booking}
 
 -- ---- a flow
@@ -56,6 +56,10 @@ pub record LinkAt (l : Link) (t : ℕ) : Type 0 where
   pub flows : (i : ℕ) → i < flowCount (l .plan) → FlowAt (l .plan) t (l .owners) i (flow l i)
 
 -- ---- later positions and frames, and the position before
+
+-- a slot after slot t has one before it in the window
+pub slot-before : {P : Plan} → Accepted P → {t s : ℕ} → InWindow P t s → t < s → InWindow P t (s - 1)
+slot-before ok {t} w after = record { low = omega (arith, frame-begins ok t); high = omega (arith, w .high) }
 
 module _ {P : Plan} {t c : ℕ} (now : Current P t c) where
   open Current now using (accepted as ok)
@@ -174,7 +178,7 @@ module _ {P : Plan} {t c : ℕ} (now : Current P t c) where
 
 -- ---- the conditions on a link
 
-pub at-current : {l : Link} → Kept l → LinkAt l (l .current)
+pub at-current : {l : Link} → Keepable l → LinkAt l (l .current)
 at-current {l} v = record {
   current = now;
   owners-long = v .whole .owners-long;
@@ -186,7 +190,7 @@ at-current {l} v = record {
     now : Current (l .plan) (l .current) (l .current)
     now = record { accepted = v .accepted; current-is = sym (mod-eq-of-lt (v .consistent .current-below)) }
 
-pub kept-at : {l : Link} {t : ℕ} → LinkAt l t → Kept l
+pub kept-at : {l : Link} {t : ℕ} → LinkAt l t → Keepable l
 kept-at {l} {t} v = record {
   accepted = v .current .accepted;
   whole = record { owners-long = v .owners-long; flows-long = v .flows-long; held-long = λ i h. v .flows i h .holds .long };

@@ -95,7 +95,7 @@ pub record Whole (l : Link) : Type 0 where
   pub flows-long : length (l .flows) ≡ flowCount (l .plan)
   pub held-long : (i : ℕ) → i < flowCount (l .plan) → length (flow l i .held) ≡ positions (l .plan)
 
-pub record Kept (l : Link) : Type 0 where
+pub record Keepable (l : Link) : Type 0 where
   pub accepted : Accepted (l .plan)
   pub whole : Whole l
   pub consistent : Consistent l

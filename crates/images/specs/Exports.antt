@@ -7,7 +7,7 @@ use lib.ListN.{length, drop}
 use lib.Dec.{ltb, eqb}
 use Rattle.model.specs.Refusals.{Line, firstOf, _when_}
 use Rattle.model.specs.Plan.{planOf, refusal}
-use Rattle.model.specs.Calls.{Call, Grant, Receipt, Turn, Loan, accepted, refused}
+use Rattle.model.specs.Calls.{Call, Answer, Grant, Receipt, Turn, Loan, accepted, refused}
 use Rattle.model.specs.Link.{Link, Step}
 use Rattle.model.specs.Fresh as fresh
 use Rattle.model.specs.Request as request
@@ -28,15 +28,18 @@ pub record Called : Type 0 where
 abbrev pub refusalNumber : ℕ → ℕ
 refusalNumber number = number * 2 ^ 32
 
--- "else the word"
+-- "else" what is answered, as a number
+abbrev pub numberOf : {A : Type 0} → (A → ℕ) → Answer A → ℕ
+numberOf f (accepted x) = f x
+numberOf f (refused number) = refusalNumber number
+
+-- "the word"
 abbrev pub grantNumber : Grant → ℕ
-grantNumber (accepted word) = word
-grantNumber (refused number) = refusalNumber number
+grantNumber = numberOf (λ word. word)
 
 -- "0 for fresh and a credit"
 abbrev pub receiptNumber : Receipt → ℕ
-receiptNumber (accepted _) = 0
-receiptNumber (refused number) = refusalNumber number
+receiptNumber = numberOf (λ _. 0)
 
 -- "for a tick the flow or 16 for idle"
 abbrev pub turnNumber : Turn → ℕ
@@ -45,8 +48,23 @@ turnNumber none = 16
 
 -- "for a lend .. the flow"
 abbrev pub loanNumber : Loan → ℕ
-loanNumber (accepted flow) = flow
-loanNumber (refused number) = refusalNumber number
+loanNumber = numberOf (λ flow. flow)
+
+-- ---- a call on the link itself: the next link, and the answer's number
+
+pub record Done : Type 0 where
+  pub link : Link
+  pub number : ℕ
+
+abbrev pub done : {A : Type 0} → (A → ℕ) → Step A → Done
+done number handed = record { link = handed .link; number = number (handed .answer) }
+
+abbrev pub onLink : Link → Call → Done
+onLink l (Call.request w) = done grantNumber (request.request l w)
+onLink l (Call.credit i p) = done receiptNumber (credit.credit l i p)
+onLink l Call.tick = done turnNumber (tick.tick l)
+-- the flow that gets the slot is open, as in the call on the link: any choice
+onLink l (Call.lend mask choice) = done loanNumber (lend.lend l mask choice)
 
 -- ---- the buffer
 
@@ -54,12 +72,12 @@ loanNumber (refused number) = refusalNumber number
 abbrev pub writtenTo : List ℕ → Link → List ℕ
 writtenTo b l = imageOf l ++ drop (imageLength (l .plan)) b
 
--- what a link and an answer's number are handed back as, where the tests of the buffer gave r: a refusal leaves "the buffer as it came"
-unfoldable pub handedBack : ℕ → List ℕ → Link → ℕ → Called
-handedBack zero b l number = record { buffer = writtenTo b l; result = number }
-handedBack (suc r) b l number = record { buffer = b; result = refusalNumber (suc r) }
+-- what is handed back, where the tests of the buffer gave the number r: a refusal leaves "the buffer as it came"
+unfoldable pub handedBack : ℕ → List ℕ → Done → Called
+handedBack zero b d = record { buffer = writtenTo b (d .link); result = d .number }
+handedBack (suc r) b d = record { buffer = b; result = refusalNumber (suc r) }
 
--- ---- the calls
+-- ---- the exported calls
 
 -- "Fresh tests the plan first; then .. 21", for the image "to be written"
 abbrev pub freshTests : (plan b : List ℕ) → List Line
@@ -69,28 +87,20 @@ freshTests plan b =
     ∷ []
 
 unfoldable pub freshOn : (plan b : List ℕ) → Called
-freshOn plan b = handedBack (firstOf (freshTests plan b)) b (fresh.fresh (planOf plan)) 0
+freshOn plan b = handedBack (firstOf (freshTests plan b)) b (record { link = fresh.fresh (planOf plan); number = 0 })
 
--- a call on the image in a buffer: "the result equals the call on the link itself"
-abbrev pub callOn : {A : Type 0} → List ℕ → (Link → Step A) → (A → ℕ) → Called
-callOn b call number = handedBack (refusalOf b) b (call (linkIn b) .link) (number (call (linkIn b) .answer))
-
-unfoldable pub requestOn : List ℕ → (word : ℕ) → Called
-requestOn b w = callOn b (λ l. request.request l w) grantNumber
-
-unfoldable pub creditOn : List ℕ → (flow position : ℕ) → Called
-creditOn b i p = callOn b (λ l. credit.credit l i p) receiptNumber
-
-unfoldable pub tickOn : List ℕ → Called
-tickOn b = callOn b tick.tick turnNumber
-
--- the flow that gets the slot is open, as in the call on the link: any choice
-unfoldable pub lendOn : List ℕ → (mask choice : ℕ) → Called
-lendOn b mask choice = callOn b (λ l. lend.lend l mask choice) loanNumber
-
--- a call of demand 3's list
+-- "A call reads the image, acts, and writes the image back; the result equals the call on the link itself"
 unfoldable pub calledOn : List ℕ → Call → Called
-calledOn b (Call.request w) = requestOn b w
-calledOn b (Call.credit i p) = creditOn b i p
-calledOn b Call.tick = tickOn b
-calledOn b (Call.lend mask choice) = lendOn b mask choice
+calledOn b c = handedBack (refusalOf b) b (onLink (linkIn b) c)
+
+abbrev pub requestOn : List ℕ → (word : ℕ) → Called
+requestOn b w = calledOn b (Call.request w)
+
+abbrev pub creditOn : List ℕ → (flow position : ℕ) → Called
+creditOn b i p = calledOn b (Call.credit i p)
+
+abbrev pub tickOn : List ℕ → Called
+tickOn b = calledOn b Call.tick
+
+abbrev pub lendOn : List ℕ → (mask choice : ℕ) → Called
+lendOn b mask choice = calledOn b (Call.lend mask choice)

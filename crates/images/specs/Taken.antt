@@ -8,7 +8,7 @@ use lib.Dec.{ltb, eqb}
 use Rattle.model.specs.Tables.{every}
 use Rattle.model.specs.Refusals.{Line, firstOf, _when_}
 use Rattle.model.specs.Plan.{positions, flowCount, refusal}
-use Rattle.images.specs.Image.{headerLength, positionsAt, flowsAt, imageLength, layout, headerField, planPart, planIn, linkIn}
+use Rattle.images.specs.Image.{headerLength, positionsAt, flowsAt, imageLength, layout, headerField, stateField, planPart, planIn, linkIn}
 use Rattle.images.specs.Consistent.{Consistent, consistent}
 
 -- "a buffer shorter than the header or the image's total length"
@@ -19,18 +19,20 @@ tooShort b = ltb (length b) headerLength || ltb (length b) (headerField b 0)
 unfoldable pub listed : List ℕ → Bool
 listed b = every 6 (λ k. eqb (headerField b k) (getD (layout (planIn b)) k 0))
 
-abbrev pub imageTests : List ℕ → List Line
-imageTests b =
-    21 when tooShort b
-    -- "22 any other fault"
-    ∷ 22 when not (listed b)
+-- "22 any other fault"
+abbrev pub faultTests : List ℕ → List Line
+faultTests b =
+    22 when not (listed b)
     -- "its plan passes"
     ∷ 22 when not (eqb (refusal (planPart b)) 0)
     -- "the taken mark is 0 or 1"
-    ∷ 22 when ltb 1 (headerField b 7)
+    ∷ 22 when ltb 1 (stateField b 1)
     -- "CP is below T" and the rest, which is about the link
     ∷ 22 when not (consistent (linkIn b))
     ∷ []
+
+abbrev pub imageTests : List ℕ → List Line
+imageTests b = 21 when tooShort b ∷ faultTests b
 
 -- the refusal of a buffer, and 0 where its image is taken
 unfoldable pub refusalOf : List ℕ → ℕ
@@ -52,5 +54,5 @@ pub record Taken (b : List ℕ) : Type 0 where
   -- "its plan passes"
   pub plan-passes : refusal (planPart b) ≡ 0
   -- "the taken mark is 0 or 1"
-  pub mark-is-bit : headerField b 7 ≤ 1
+  pub mark-is-bit : stateField b 1 ≤ 1
   pub link-consistent : Consistent (linkIn b)
