@@ -15,7 +15,7 @@ use Rattle.model.specs.Plan.{Plan, positions, entry, field16, Accepted}
 use Rattle.model.specs.Window.{Window, later}
 use Rattle.model.specs.Link.{Flow}
 use Rattle.window.proofs.Tabulated.{getD-table, every-same}
-use Rattle.images.specs.Image.{fieldAt, ownerIn, positionsAt, flowsAt, flowFields, flowField, flowIn, linkWith}
+use Rattle.images.specs.Image.{fieldAt, ownerIn, positionsAt, flowsAt, flowFields, flowField, flowIn, linkFrom}
 use Rattle.images.specs.Consistent.{bookedBy, bookingsIn, frameAfter, before, windowAt, growsTo, flowTest}
 use Rattle.images.proofs.Bookings.{place-below, booking}
 use Rattle.taken.specs.Flows.{bookingAt, bookingsAt, frameKept, growsAt, spendsWell, holdsWell, flowKept}
@@ -50,7 +50,7 @@ module _ (b : List ℕ) (P : Plan) (ok : Accepted P) (current i : ℕ) where
   window = windowAt P current
 
   abbrev owners : List (Option ℕ)
-  owners = linkWith b P .owners
+  owners = linkFrom b P .owners
 
   -- where its part stands
   abbrev pub part : ℕ

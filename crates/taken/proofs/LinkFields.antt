@@ -16,7 +16,7 @@ use Rattle.plan.specs.Reading.{planFor}
 use Rattle.window.specs.declared.Window.{Window}
 use Rattle.window.specs.Window.{windowOf, Measures, Proper}
 use Rattle.window.proofs.Tabulated.{getD-table, every-same}
-use Rattle.images.specs.Image.{fieldAt, ownerIn, positionsAt, flowIn, linkWith}
+use Rattle.images.specs.Image.{fieldAt, ownerIn, positionsAt, flowIn, linkFrom}
 use Rattle.images.specs.Consistent.{known, flowTest, consistent, windowAt}
 use Rattle.taken.specs.declared.layout.Layout.{Layout}
 use Rattle.taken.specs.Flows.{flowKept}
@@ -63,7 +63,7 @@ module _ {b : List ℕ} {y : Layout} {p : Plan} (v : PlanOn b y p) where
 
   -- the tests at a current position
   pub link-by-fields : (current : ℕ) → current ≡ model.field16 b 12
-      → consistent (linkWith b P)
+      → consistent (linkFrom b P)
       ≡ ltb current (y .size)
       && every (y .size) (λ q. known (y .count) (ownerIn (fieldAt b (y .positions) q)))
       && every (p .count) (flowKept b P current)
@@ -74,15 +74,15 @@ module _ {b : List ℕ} {y : Layout} {p : Plan} (v : PlanOn b y p) where
       size : model.positions P ≡ y .size
       size = sym (size-is (v .laid))
 
-      owners : every (model.positions P) (λ q. known (model.flowCount P) (getD (linkWith b P .owners) q none))
+      owners : every (model.positions P) (λ q. known (model.flowCount P) (getD (linkFrom b P .owners) q none))
           ≡ every (y .size) (λ q. known (y .count) (ownerIn (fieldAt b (y .positions) q)))
       owners =
           every-same (model.positions P) _ _ (λ q l. ap (known (model.flowCount P)) (getD-table (model.positions P) _ q none l))
           ∙ owners-are
 
-      flows : every (model.flowCount P) (λ i. flowTest P (model.field16 b 12) (linkWith b P .owners) i (getD (linkWith b P .flows) i noFlow))
+      flows : every (model.flowCount P) (λ i. flowTest P (model.field16 b 12) (linkFrom b P .owners) i (getD (linkFrom b P .flows) i noFlow))
           ≡ every (p .count) (flowKept b P (model.field16 b 12))
       flows =
           every-same (model.flowCount P) _ _
-          (λ i l. ap (flowTest P (model.field16 b 12) (linkWith b P .owners) i) (getD-table (model.flowCount P) (flowIn b P) i noFlow l))
+          (λ i l. ap (flowTest P (model.field16 b 12) (linkFrom b P .owners) i) (getD-table (model.flowCount P) (flowIn b P) i noFlow l))
           ∙ ap (λ n. every n (flowKept b P (model.field16 b 12))) (count-is p)

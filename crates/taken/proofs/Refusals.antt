@@ -16,7 +16,7 @@ use Rattle.plan.specs.declared.Verdict.the-variants.{Accepted, Refused}
 use Rattle.plan.specs.Reading.{planFor, verdictFor, readOf}
 use Rattle.plan.proofs.Laws.{is-plan}
 use Rattle.window.proofs.Tabulated.{every-at}
-use Rattle.images.specs.Image.{imageLength, layout, headerField, planPart, planIn, linkWith, linkIn}
+use Rattle.images.specs.Image.{imageLength, layout, headerField, planPart, planIn, linkFrom, linkIn}
 use Rattle.images.specs.Consistent.{consistent}
 use Rattle.images.specs.Taken.{listed, refusalOf}
 use Rattle.taken.specs.declared.layout.Layout.{Layout}
@@ -99,6 +99,6 @@ module _ (b : List ℕ) where
       unfolding listed
       listed-is laid is = ap (λ xs. every 6 (λ k. eqb (headerField b k) (getD xs k 0))) (is ∙ laid .is ∙ ap layout plan-is)
 
-      pub consistent-is : consistent (linkWith b (planFor (o .plan))) ≡ consistent (linkIn b)
+      pub consistent-is : consistent (linkFrom b (planFor (o .plan))) ≡ consistent (linkIn b)
       unfolding linkIn
-      consistent-is = ap (λ P. consistent (linkWith b P)) plan-is
+      consistent-is = ap (λ P. consistent (linkFrom b P)) plan-is

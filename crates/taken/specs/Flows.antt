@@ -6,7 +6,7 @@ use lib.Dec.{leb, ltb, eqb}
 use Rattle.model.specs.Tables.{every, sum, bit}
 use Rattle.model.specs.Plan.{Plan, field16}
 use Rattle.model.specs.Window.{Window, size, later}
-use Rattle.images.specs.Image.{fieldAt, ownerIn, flowIn, linkWith}
+use Rattle.images.specs.Image.{fieldAt, ownerIn, flowIn, linkFrom}
 use Rattle.images.specs.Consistent.{bookedBy, frameAfter, before, flowTest}
 
 -- whether flow i booked the position whose owner stands at a place, as a number
@@ -41,4 +41,4 @@ holdsWell b owners held w i cells = every (size w) (λ p. leb (fieldAt b held p)
 
 -- flow i in an image of plan P
 abbrev pub flowKept : List ℕ → Plan → (current i : ℕ) → Bool
-flowKept b P current i = flowTest P current (linkWith b P .owners) i (flowIn b P i)
+flowKept b P current i = flowTest P current (linkFrom b P .owners) i (flowIn b P i)

@@ -5,7 +5,7 @@ ghost use lib.ListN.{length, getD};
 ghost use lib.Dec.{eqb};
 ghost use Rattle.model.specs.Tables as model;
 ghost use Rattle.plan.specs.Reading.{planFor};
-ghost use Rattle.images.specs.Image.{headerField, linkWith};
+ghost use Rattle.images.specs.Image.{headerField, linkFrom};
 ghost use Rattle.images.specs.Consistent as images;
 ghost use Rattle.taken.specs.Asked.{PlanOn};
 use crate::bookings::known;
@@ -33,7 +33,7 @@ pub(crate) fn listed(image: &[u8], stated: [usize; 6]) -> bool
 // Whether the link in an image of a plan is consistent.
 pub(crate) fn consistent(image: &[u8], l: Layout, plan: Plan) -> bool
     requires { ⌜ PlanOn (now image) l plan ⌝ }
-    ensures { λ r. ⌜ r ≡ images.consistent (linkWith (now (image .entry)) (planFor plan)) ⌝ }
+    ensures { λ r. ⌜ r ≡ images.consistent (linkFrom (now (image .entry)) (planFor plan)) ⌝ }
 {
     let cp = field(image, 12);
     if l.size <= cp {

@@ -1,5 +1,6 @@
 -- `fields::put` meets its contract. Assumes nothing.
 use borrow.Author.Needs.{needs}
+use mathlib.Core.List.{flatMap}
 use Rattle.calls.proofs.Stores.{puts-two}
 use Rattle.images.specs.Image.{fields}
 use Rattle.fields.proofs.put.Statement.{statement}
@@ -27,7 +28,7 @@ same-length : tie.Need-same-length
 same-length c = search needs
 
 returns : tie.Need-returns
-unfolding fields
+unfolding fields flatMap
 returns c = puts-two _ _ _ _
 
 pub put-spec : {M : Type 1} → statement M
