@@ -1,15 +1,17 @@
 -- Lists of fields: joined, a table of them that grows at its end, and a table that is written. Assumes nothing.
-use Prim.Native.Nat.{ℕ, _+_, _*_, _≤_, _<_}
+use Prim.Native.Nat.{ℕ, zero, suc, _+_, _*_, _≤_, _<_}
 use mathlib.Core.Path.{_≡_, refl, ap, _∙_}
 use mathlib.Core.List.{List, _∷_, [], _++_, flatMap}
 use native.Mathlib.Nat.{add-zero}
 use native.Mathlib.Omega.{arith}
+use lib.ListN.{length, getD}
 use Rattle.model.specs.Tables.{table}
-use Rattle.model.proofs.Tables.{table-append}
+use Rattle.model.proofs.Tables.{table-append, table-getD}
 use Rattle.calls.specs.Lines.{Puts}
 use Rattle.calls.proofs.Stores.{puts-none, puts-then, puts-same}
 use Rattle.images.specs.Image.{fields}
 use Rattle.images.proofs.Fields.{length-fields}
+use Rattle.fields.specs.Fields.{AllFit}
 
 pub fields-append : (xs ys : List ℕ) → fields (xs ++ ys) ≡ fields xs ++ fields ys
 unfolding fields flatMap
@@ -47,3 +49,13 @@ module _ {f : ℕ → ℕ} {count : ℕ} {before : List ℕ} {at : ℕ} where
 
     pub putting-done : count ≤ p → Puts (fields (table count f)) before middle at next
     putting-done h = let z : p ≡ count = omega (arith, v .to) in rw z at (v .put)
+
+-- all of a list
+pub putting-all : (xs : List ℕ) {before after : List ℕ} {at next k : ℕ} → Putting (λ j. getD xs j 0) (length xs) before after at next k → length xs ≤ k
+    → Puts (fields xs) before after at next
+putting-all xs v h = puts-same (ap fields (table-getD xs 0)) (putting-done v h)
+
+pub fit-at : (xs : List ℕ) → AllFit xs → (k : ℕ) → k < length xs → getD xs k 0 < 65536
+fit-at [] a k h = absurd (omega arith)
+fit-at (x ∷ xs) a zero h = a .0
+fit-at (x ∷ xs) a (suc k) h = fit-at xs (a .1) k (omega arith)

@@ -9,7 +9,7 @@ ghost use Rattle.calls.specs.Lines.{Puts};
 ghost use Rattle.window.specs.Ranges.{inRange, replaced};
 ghost use Rattle.tables.specs.Owners.{everywhere};
 ghost use Rattle.images.specs.Image.{fields, fieldAt};
-ghost use Rattle.fields.specs.Fields.{ByteFields};
+ghost use Rattle.fields.specs.Fields.{AllFit, ByteFields};
 
 fn wide(byte: u8) -> usize
     ensures { λ r. ⌜ (r ≡ byte) × (r < 256) ⌝ }
@@ -34,6 +34,20 @@ pub fn put(x: usize, out: &mut [u8], at: usize) -> usize
     out[at] = (x % 256) as u8;
     out[at + 1] = (x / 256) as u8;
     at + 2
+}
+
+// Writes numbers as fields from a place on and returns the place after them.
+pub fn put_all(numbers: &[usize], out: &mut [u8], at: usize) -> usize
+    requires { ⌜ AllFit (now numbers) × (at + 2 * length (now numbers) ≤ length (now out)) ⌝ }
+    ensures { λ r. ⌜ Puts (fields (now (numbers .entry))) (now (out .entry)) (now (out .exit)) at r ⌝ }
+{
+    let mut next = at;
+    let mut k = 0;
+    while k < numbers.len() {
+        next = put(numbers[k], out, next);
+        k += 1;
+    }
+    next
 }
 
 // One value at every place of a table.

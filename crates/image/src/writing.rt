@@ -11,7 +11,7 @@ ghost use Rattle.images.specs.Image.{fields};
 ghost use Rattle.images.specs.Exports.{writtenTo};
 ghost use Rattle.image.specs.Writing.{entriesBytes, headerOf, partOf, partsOf};
 ghost use Rattle.image.specs.Asked.{Writable, PartFits, PartsFit};
-use fields::put;
+use fields::put_all;
 use fields::put_table;
 use link::Flow;
 use link::Link;
@@ -27,14 +27,17 @@ fn put_header(plan: Plan, cp: usize, taken: bool, image: &mut [u8]) -> usize
     ensures { λ r. ⌜ Puts (fields (headerOf (planFor plan) cp taken)) (now (image .entry)) (now (image .exit)) 0 r ⌝ }
 {
     let l = layout_of(plan);
-    let mut at = put(l.total, image, 0);
-    at = put(l.plan, image, at);
-    at = put(l.positions, image, at);
-    at = put(l.size, image, at);
-    at = put(l.flows, image, at);
-    at = put(l.count, image, at);
-    at = put(cp, image, at);
-    put(taken as usize, image, at)
+    let header = [
+        l.total,
+        l.plan,
+        l.positions,
+        l.size,
+        l.flows,
+        l.count,
+        cp,
+        taken as usize,
+    ];
+    put_all(&header, image, 0)
 }
 
 // Writes an entry of a plan and returns the place after it.
@@ -69,13 +72,17 @@ fn put_plan(plan: Plan, image: &mut [u8], at: usize) -> usize
     requires { ⌜ Valid plan × (at + (12 + 4 * plan .count) ≤ length (now image)) ⌝ }
     ensures { λ r. ⌜ Puts (bytesOf (planFor plan)) (now (image .entry)) (now (image .exit)) at r ⌝ }
 {
-    let mut next = put(12 + 4 * plan.count, image, at);
-    next = put(plan.count, image, next);
-    next = put(12, image, next);
-    next = put(plan.slots, image, next);
-    next = put(plan.frames, image, next);
-    next = put(plan.buffer, image, next);
-    put_entries(plan.entries, plan.count, image, next)
+    let header = [
+        12 + 4 * plan.count,
+        plan.count,
+        12,
+        plan.slots,
+        plan.frames,
+        plan.buffer,
+    ];
+    let next = put_all(&header, image, at);
+    let entries = plan.entries;
+    put_entries(entries, plan.count, image, next)
 }
 
 // Writes the part of flow i and returns the place after it.
@@ -83,8 +90,8 @@ fn put_flow(flow: Flow, held: &Holdings, i: usize, size: usize, image: &mut [u8]
     requires { ⌜ PartFits flow i size (now image) at ⌝ }
     ensures { λ r. ⌜ Puts (partOf size flow (now (held .entry)) i) (now (image .entry)) (now (image .exit)) at r ⌝ }
 {
-    let mut next = put(flow.frame, image, at);
-    next = put(flow.left, image, next);
+    let start = [flow.frame, flow.left];
+    let next = put_all(&start, image, at);
     let row = row_of(held, i);
     put_table(&row, size, image, next)
 }
@@ -114,5 +121,6 @@ pub fn write(link: Link, image: &mut [u8])
     let mut at = put_header(plan, link.cp, link.taken, image);
     at = put_plan(plan, image, at);
     at = put_table(&link.owner, size, image, at);
-    put_flows(link.flows, &link.held, plan.count, size, image, at);
+    let flows = link.flows;
+    put_flows(flows, &link.held, plan.count, size, image, at);
 }

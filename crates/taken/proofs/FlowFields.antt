@@ -57,10 +57,10 @@ module _ (b : List ℕ) (P : Plan) (ok : Accepted P) (current i : ℕ) where
   part = flowsAt P + 2 * (i * flowFields P)
 
   -- its field k
-  field-is : (k at : ℕ) → at ≡ part + 2 * k → flowField b P i k ≡ field16 b at
+  pub field-is : (k at : ℕ) → at ≡ part + 2 * k → flowField b P i k ≡ field16 b at
   field-is k at e = ap (field16 b) (omega arith)
 
-  owner-is : (p : ℕ) → p < positions P → getD owners p none ≡ ownerIn (fieldAt b (positionsAt P) p)
+  pub owner-is : (p : ℕ) → p < positions P → getD owners p none ≡ ownerIn (fieldAt b (positionsAt P) p)
   owner-is p l = getD-table (positions P) (λ p. ownerIn (fieldAt b (positionsAt P) p)) p none l
 
   bookings-are : (j : ℕ) → j < P .frames → bookingsIn P owners i j ≡ bookingsAt b i (positionsAt P + 2 * (j * P .slots)) (P .slots)
@@ -69,7 +69,7 @@ module _ (b : List ℕ) (P : Plan) (ok : Accepted P) (current i : ℕ) where
       let place : positionsAt P + 2 * (j * P .slots + x) ≡ positionsAt P + 2 * (j * P .slots) + 2 * x = omega arith in
       rw (owner-is (j * P .slots + x) (place-below P j x l lx), place)
 
-  held-is : (p : ℕ) → p < positions P → getD (flowIn b P i .held) p 0 ≡ fieldAt b (part + 4) p
+  pub held-is : (p : ℕ) → p < positions P → getD (flowIn b P i .held) p 0 ≡ fieldAt b (part + 4) p
   held-is p l = getD-table (positions P) (λ p. flowField b P i (2 + p)) p 0 l ∙ field-is (2 + p) (part + 4 + 2 * p) (omega arith)
 
   -- ---- the conditions, by these fields

@@ -91,7 +91,11 @@ module _ (b : List ℕ) where
     plan-fails a z = let q : Accepted ≡ Refused _ = ap verdictFor (sym z) ∙ sym verdict-is ∙ a in let y : _≡_ {A = ℕ} 0 1 = cc in omega arith
 
     module _ (z : refusal (planPart b) ≡ 0) where
-      plan-is : planFor (o .plan) ≡ planIn b
+      pub is-accepted : o .verdict ≡ Accepted
+      unfolding verdictFor
+      is-accepted = verdict-is ∙ ap verdictFor z
+
+      pub plan-is : planFor (o .plan) ≡ planIn b
       plan-is = ap (λ (x : Outcome). planFor (x .plan)) e ∙ is-plan (planPart b) z
 
       pub listed-is : {y : Layout} {stated : List ℕ} → LaidOut (planFor (o .plan)) y → stated ≡ fieldsOf y
