@@ -1,0 +1,1 @@
+-- A taken image read as a link. Assumes nothing.
