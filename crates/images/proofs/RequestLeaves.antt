@@ -1,19 +1,21 @@
 -- What a request leaves of a link, and what its answer can be: all that is used of the request's definition. Document 01, "Request". Assumes nothing.
 use Prim.Native.Nat.{ℕ, zero, suc, _+_, _-_, _*_, _/_, _%_, _≤_, _<_}
 use mathlib.Core.Path.{_≡_, refl, sym, ap, _∙_, subst}
+use mathlib.Core.List.{_∷_, []}
 use mathlib.Core.Bool.{Bool, true, false}
 use native.Mathlib.Nat.{mod-lt, mod-eq-of-lt, mod-add-mod}
 use native.Mathlib.Omega.{arith}
 use lib.Arith.{digits-div}
-use lib.Dec.{ltb}
+use lib.Dec.{ltb, eqb}
 use borrow.Author.Tests.{ltb-true, not-true, not-false}
 use Rattle.model.specs.Tables.{ahead}
-use Rattle.model.specs.Refusals.{firstOf}
-use Rattle.model.specs.Word.{flowOf}
+use Rattle.model.specs.Refusals.{firstOf, _when_}
+use Rattle.model.specs.Word.{flowOf, departureOf}
 use Rattle.model.specs.Plan.{Plan, positions, flowCount}
+use Rattle.model.specs.Calls.{refused}
 use Rattle.model.specs.Window.{start, head, frameAt, newest, passed, everyFrom}
 use Rattle.model.specs.Link.{Link, window, owner, flow, holding, share, cells, withFlow, movedTo}
-use Rattle.model.specs.Request.{Found, found, nowhere, wordTests, unbooked, valid, search, sought, refusedAtNewest, answered, requestAfter, request}
+use Rattle.model.specs.Request.{Found, found, nowhere, wordTests, unbooked, valid, validFor, search, sought, wouldBeValid, refusedAtNewest, answered, requestAfter, request}
 use Rattle.model.specs.Request as request
 use Rattle.model.proofs.Round.{firstWith, firstWith-low, firstWith-high, firstWith-mod, ahead-mod}
 use Rattle.model.proofs.Word.{depart-small}
@@ -68,13 +70,14 @@ module _ {l : Link} (v : Keepable l) (word : ℕ) (known : flowOf word < flowCou
   i = flowOf word
 
   abbrev test : ℕ → Bool
-  test = valid l i
+  test = validFor l i (departureOf word)
 
   abbrev comesTo : Found
-  comesTo = sought l i
+  comesTo = sought l i (departureOf word)
 
   passed-valid : (p : ℕ) → test p ≡ true → valid l i p ≡ true
-  passed-valid p e = e
+  unfolding validFor
+  passed-valid p e = and-true _ _ e .0
 
   abbrev HF : ℕ
   HF = head (window l)
@@ -175,14 +178,17 @@ module _ {l : Link} (v : Keepable l) (word : ℕ) (known : flowOf word < flowCou
   answered-leaves : (f : Found) → Searched f → RequestLeaves l (answered l word f .link)
   unfolding answered Searched
   answered-leaves (found j c p) r = booked i j c p known (found-walked j c p r) (found-bookable j c p r)
-  answered-leaves (nowhere zero) r = at-newest 0 (r .reached)
-  answered-leaves (nowhere (suc c)) r = at-newest (suc c) (r .reached)
+  answered-leaves (nowhere c) r = at-newest c (r .reached)
 
   answered-proper : (f : Found) → Searched f → Proper Word (answered l word f .answer)
-  unfolding answered
+  unfolding answered firstOf
   answered-proper (found j c p) r = depart-small word p (omega (arith, found-below j c p r, ok .positions-most))
-  answered-proper (nowhere zero) r = omega arith
-  answered-proper (nowhere (suc c)) r = omega arith
+  answered-proper (nowhere c) r = refused-proper (eqb c 0) (wouldBeValid l i)
+    where
+      refused-proper : (none would : Bool) → Proper {A = ℕ} Word (refused (firstOf (11 when none ∷ 20 when would ∷ 12 when true ∷ [])))
+      refused-proper true would = omega arith
+      refused-proper false true = omega arith
+      refused-proper false false = omega arith
 
 module _ {l : Link} (v : Keepable l) (word : ℕ) where
   asked : firstOf (wordTests (l .plan) word) ≡ 0 → flowOf word < flowCount (l .plan)

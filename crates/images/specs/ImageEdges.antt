@@ -183,6 +183,8 @@ exportEdges =
     -- 12 is written back: IF goes to the newest frame
     ∷ leaves (image (held 0 0 2 ∷ held 0 1 2 ∷ held 0 2 2 ∷ held 0 3 2 ∷ held 0 4 2 ∷ held 0 5 2 ∷ held 0 6 2 ∷ held 0 7 2 ∷ [])) (Call.request word0)
     (image (frame 0 1 ∷ held 0 0 2 ∷ held 0 1 2 ∷ held 0 2 2 ∷ held 0 3 2 ∷ held 0 4 2 ∷ held 0 5 2 ∷ held 0 6 2 ∷ held 0 7 2 ∷ [])) (refusalNumber 12)
+    -- and so is 20
+    ∷ leaves blank (Call.request 0x24000007) (image (frame 0 1 ∷ [])) (refusalNumber 20)
     -- other refusals leave the image: 8, 9 and 10, 14 and 15, 17 and 18
     ∷ turnsBack (blank ++ past) (Call.request 0x24200000) 8
     ∷ turnsBack blank (Call.request 0x20000000) 9
