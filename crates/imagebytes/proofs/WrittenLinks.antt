@@ -12,6 +12,7 @@ use Rattle.model.specs.Tables.{table}
 use Rattle.model.specs.Plan as model
 use Rattle.model.specs.Link as paper
 use Rattle.model.specs.WrittenPlan.{bytesOf}
+use Rattle.model.proofs.Tables.{length-table}
 use Rattle.model.proofs.WrittenPlan.{length-is}
 use Rattle.plan.specs.Reading.{planFor}
 use Rattle.calls.specs.Lines.{Puts}
@@ -25,6 +26,7 @@ use Rattle.images.specs.Image.{fields, imageLength, ownerField, imageOf}
 use Rattle.images.specs.Exports.{writtenTo}
 use Rattle.images.proofs.Fields.{length-fields}
 use Rattle.images.proofs.ReadBack.{image-length}
+use Rattle.taken.proofs.Layouts.{count-is}
 use Rattle.imagebytes.specs.Writing.{headerOf, partsOf}
 use Rattle.imagebytes.specs.Asked.{FlowFits, PartsFit, Writable}
 
@@ -54,6 +56,20 @@ module _ (l : Link) where
   image-is =
       λ k. fields (headerOf (planFor (l .plan)) (l .cp) (l .taken)) ++ bytesOf (planFor (l .plan)) ++ fields (sym owners-are k)
       ++ partsOf (sizeOf l) (l .flows) (l .held) (l .plan .count)
+
+  -- ---- where they end
+
+  pub header-ends : {b after : List ℕ} {next : ℕ} → Puts (fields (headerOf (planFor (l .plan)) (l .cp) (l .taken))) b after 0 next → next ≡ 16
+  header-ends q = omega (arith, q .up-to, length-fields (headerOf (planFor (l .plan)) (l .cp) (l .taken)))
+
+  pub plan-ends : {b after : List ℕ} {at next : ℕ} → Puts (bytesOf (planFor (l .plan))) b after at next → next ≡ at + (12 + 4 * l .plan .count)
+  plan-ends q = omega (arith, q .up-to, length-is (planFor (l .plan)), count-is (l .plan))
+
+  pub owners-end : {b after : List ℕ} {at next : ℕ} → Puts (fields (table (sizeOf l) (λ p. getD (l .owner) p 0))) b after at next
+      → next ≡ at + 2 * sizeOf l
+  owners-end q =
+      let long = length-table (sizeOf l) (λ p. getD (l .owner) p 0) in
+      omega (arith, q .up-to, length-fields (table (sizeOf l) (λ p. getD (l .owner) p 0)))
 
 -- ---- an image that is written
 
