@@ -1,11 +1,12 @@
--- Lists of fields: joined, a table of them that grows at its end, and a table that is written. Assumes nothing.
+-- A table that grows at its end, lists of fields, and those that are written one after another. Assumes nothing.
 use Prim.Native.Nat.{ℕ, zero, suc, _+_, _*_, _≤_, _<_}
-use mathlib.Core.Path.{_≡_, refl, ap, _∙_}
-use mathlib.Core.List.{List, _∷_, [], _++_, flatMap}
+use mathlib.Core.Path.{_≡_, refl, sym, ap, _∙_}
+use mathlib.Core.List.{List, _∷_, [], _++_, flatMap, append-nil, append-assoc}
 use native.Mathlib.Nat.{add-zero}
 use native.Mathlib.Omega.{arith}
 use lib.ListN.{length, getD}
 use Rattle.model.specs.Tables.{table}
+use Rattle.model.specs.WrittenPlan.{field}
 use Rattle.model.proofs.Tables.{table-append, table-getD}
 use Rattle.calls.specs.Lines.{Puts}
 use Rattle.calls.proofs.Stores.{puts-none, puts-then, puts-same}
@@ -13,15 +14,27 @@ use Rattle.images.specs.Image.{fields}
 use Rattle.images.proofs.Fields.{length-fields}
 use Rattle.fields.specs.Fields.{AllFit}
 
-pub fields-append : (xs ys : List ℕ) → fields (xs ++ ys) ≡ fields xs ++ fields ys
-unfolding fields flatMap
-fields-append [] ys = refl
-fields-append (x ∷ xs) ys = rw (fields-append xs ys)
-
 -- ---- a table with one element more
 
 pub table-more : {A : Type 0} (n : ℕ) (f : ℕ → A) → table (n + 1) f ≡ table n f ++ (f n ∷ [])
 table-more n f = table-append n 1 f ∙ ap (λ k. table n f ++ (f k ∷ [])) (add-zero n)
+
+-- ---- lists of fields
+
+module _ {A : Type 0} (g : A → List ℕ) where
+  flat-append : (xs ys : List A) → flatMap g (xs ++ ys) ≡ flatMap g xs ++ flatMap g ys
+  unfolding flatMap
+  flat-append [] ys = refl
+  flat-append (x ∷ xs) ys = ap (g x ++_) (flat-append xs ys) ∙ sym (append-assoc (g x) (flatMap g xs) (flatMap g ys))
+
+  -- the bytes of one element more
+  pub flat-more : (n : ℕ) (f : ℕ → A) → flatMap g (table (n + 1) f) ≡ flatMap g (table n f) ++ g (f n)
+  unfolding flatMap
+  flat-more n f = ap (flatMap g) (table-more n f) ∙ flat-append (table n f) (f n ∷ []) ∙ ap (flatMap g (table n f) ++_) (append-nil (g (f n)))
+
+pub fields-append : (xs ys : List ℕ) → fields (xs ++ ys) ≡ fields xs ++ fields ys
+unfolding fields
+fields-append xs ys = flat-append field xs ys
 
 fields-more : (n : ℕ) (f : ℕ → ℕ) → fields (table n f) ++ fields (f n ∷ []) ≡ fields (table (n + 1) f)
 fields-more n f = rw (table-more n f, fields-append (table n f) (f n ∷ []))

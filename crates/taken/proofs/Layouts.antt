@@ -9,7 +9,7 @@ use Rattle.model.specs.Plan as model
 use Rattle.model.proofs.Tables.{length-table}
 use Rattle.plan.specs.declared.Plan.{Plan}
 use Rattle.plan.specs.Reading.{planFor, Valid}
-use Rattle.images.specs.Image.{positionsAt, flowsAt, imageLength, flowFields, layout}
+use Rattle.images.specs.Image.{headerLength, positionsAt, flowsAt, imageLength, flowFields, layout}
 use Rattle.taken.specs.declared.layout.Layout.{Layout}
 use Rattle.taken.specs.Layout.{fieldsOf, LaidOut, Sized}
 
@@ -69,6 +69,9 @@ module _ {P : model.Plan} {y : Layout} (v : LaidOut P y) where
 
   pub total-is : y .total ≡ imageLength P
   total-is = field-at 0
+
+  pub plan-at : y .plan ≡ headerLength
+  plan-at = field-at 1
 
   pub positions-at : y .positions ≡ positionsAt P
   positions-at = field-at 2

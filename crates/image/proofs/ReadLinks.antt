@@ -1,1 +1,0 @@
--- A taken image read as a link. Assumes nothing.
