@@ -128,8 +128,8 @@ def unknown_option(tree):
 
 
 def closed_input(tree):
-    return trouble(start(redirected("<&-", tree.command, "-")), NOT_PLAYED, b"",
-                   "standard input is closed")
+    return trouble(start(redirected("<&-", tree.command, "-")), NOT_PLAYED,
+                   b"", "standard input is closed")
 
 
 def version(tree):
