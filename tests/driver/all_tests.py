@@ -13,12 +13,13 @@ from driver.tally import LendTally, QuestionTally, Tally
 from edges import open_choice, questions, refusals_page
 from edges.all_edges import EDGES, LEND_EDGES
 from front_door import (
-    old_program, plan_files, plan_lost_output, plan_read, plan_wrong_words,
-    play_files, play_lost_output, slow_reader, wrong_arguments)
+    asking_editor, old_program, plan_files, plan_lost_output, plan_read,
+    plan_wrong_words, play_files, play_lost_output, slow_reader,
+    wrong_arguments)
 
 FRONT_DOOR = (play_files, play_lost_output, plan_files, plan_read,
               plan_wrong_words, plan_lost_output, old_program, slow_reader,
-              wrong_arguments)
+              asking_editor, wrong_arguments)
 REFUSALS = range(1, 20)         # those of all programs
 
 
