@@ -4,19 +4,23 @@ import itertools
 import tempfile
 
 from demand3 import wrong_listings
-from driver import cases, plain_rust
+from driver import (
+    cases, plain_rust, question_cases, round_trips, wrong_answers)
 from driver.formats import ALLCALLS
 from driver.side_by_side import made
 from driver.suite import Suite
-from driver.tally import LendTally, Tally
-from edges import open_choice, refusals_page
+from driver.tally import LendTally, QuestionTally, Tally
+from edges import open_choice, questions, refusals_page
 from edges.all_edges import EDGES, LEND_EDGES
 from front_door import (
-    play_files, play_lost_output, play_old_program, slow_reader,
+    asking_editor, old_program, plan_files, plan_lost_output, plan_read,
+    plan_wrong_words, play_files, play_lost_output, slow_reader,
     wrong_arguments)
 
-FRONT_DOOR = (play_files, play_lost_output, play_old_program, slow_reader,
-              wrong_arguments)
+FRONT_DOOR = (play_files, play_lost_output, plan_files, plan_read,
+              plan_wrong_words, plan_lost_output, old_program, slow_reader,
+              asking_editor, wrong_arguments)
+REFUSALS = range(1, 20)         # those of all programs
 
 
 def wanted(names, only):
@@ -36,31 +40,39 @@ def choices():
         yield "choice: " + name, trouble
 
 
+def answers():
+    """Wrong answers of domeplan are told."""
+    for name, trouble in wrong_answers.missed():
+        yield "answers: " + name, trouble
+
+
 def tables():
     """The page has each refusal, and each edge a name of its own."""
-    rows = refusals_page.examples() + refusals_page.examples(allcalls=True)
-    missing = sorted(set(ALLCALLS.refusals) - {row[0] for row in rows})
+    missing = sorted(set(REFUSALS) - refusals_page.numbers())
     yield ("docs: every refusal has an input",
            missing and "none for %s" % missing)
-    names = [edge.name for edge in EDGES + LEND_EDGES]
-    twice = sorted({name for name in names if names.count(name) > 1})
-    yield "edge: no name stands twice", twice and ", ".join(twice)
+    for kind, edges in (("edge", EDGES + LEND_EDGES),
+                        ("question", questions.EDGES)):
+        names = [edge.name for edge in edges]
+        twice = sorted({name for name in names if names.count(name) > 1})
+        yield kind + ": no name stands twice", twice and ", ".join(twice)
 
 
 def without_program(only):
     """The suite of what the tests themselves have to be."""
     suite = Suite("tests")
-    tests = itertools.chain(listings(), choices(), tables())
+    tests = itertools.chain(listings(), choices(), answers(), tables())
     for name, trouble in wanted(tests, only):
         suite.test(name, trouble)
     return suite
 
 
-def front_door(program, only):
-    """The suite of ./play, tests/run and bench/run."""
+def front_door(programs, only):
+    """The suite of ./play, ./plan, tests/run and bench/run."""
     suite = Suite("front door")
+    paths = {program.name: program.command[0] for program in programs}
     for subject in FRONT_DOOR:
-        for name, test in wanted(subject.tests(program), only):
+        for name, test in wanted(subject.tests(paths), only):
             suite.test(name, test())
     return suite
 
@@ -107,11 +119,28 @@ def play_programs(suites, only, count, seed):
     return tallies
 
 
-def play_all(domelink, allcalls, only, count, seed):
+def play_questions(suite, only, count, seed):
+    """Questions of the show editor, and the totals if nothing is left out.
+    The tally of the generated ones."""
+    tally = QuestionTally()
+    play_cases([suite], itertools.chain(
+        question_cases.edges(), question_cases.page(), question_cases.ends(),
+        question_cases.every_room(), question_cases.in_pieces(seed),
+        question_cases.many_lines(seed)), only)
+    play_cases([suite], question_cases.seeds(count, seed), only, tally)
+    for name, test in wanted(round_trips.tests(suite, seed), only):
+        suite.test(name, test())
+    if not only:
+        suite.totals()
+    return tally
+
+
+def play_all(domelink, allcalls, domeplan, only, count, seed):
     """All tests, those of the programs first.  The suites and the tallies."""
-    apart = [without_program(only), front_door(domelink.command[0], only)]
+    apart = [without_program(only), front_door((domelink, domeplan), only)]
     with tempfile.TemporaryDirectory() as folder:
         programs = [domelink, allcalls, *plain_rust.suites(folder, only)]
         tallies = play_programs(
             [suite for suite in programs if suite.command], only, count, seed)
-    return programs + apart, tallies
+    tallies.append(play_questions(domeplan, only, count, seed))
+    return programs + [domeplan] + apart, tallies

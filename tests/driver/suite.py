@@ -76,17 +76,25 @@ class Suite:
             verdict = check(case.data, lines, self.form.checked)
             right = case.following(self.form, lines)
         self.note(lines, verdict)
-        self.test(name, case.trouble,
-                  first_difference(right.listing, played.output),
-                  played.trouble,
-                  verdict.faults and "demand 3, " + verdict.faults[0])
+        self.end(name, played, case.trouble,
+                 first_difference(right.listing, played.output),
+                 verdict.faults and "demand 3, " + verdict.faults[0])
+
+    def end(self, name, played, *troubles):
+        """The test of a file that was played, with troubles found in it."""
+        self.test(name, *troubles, played.trouble)
         self.without_end += played.trouble == NO_END
 
-    def totals(self):
-        """What has to have come up in all files together."""
+    def gave_up(self):
+        """Whether files were left out, which is said."""
         if self.without_end >= PATIENCE:
             print("%s: gave up after %d files without end"
                   % (self.name, PATIENCE))
+        return self.without_end >= PATIENCE
+
+    def totals(self):
+        """What has to have come up in all files together."""
+        if self.gave_up():
             return
         missing = sorted(set(self.form.refusals) - self.seen)
         self.test("each refusal was seen",

@@ -48,3 +48,25 @@ class LendTally(Tally):
             self.part("  lent", LENT), self.part("  refused with 8", BITS),
             self.part("  refused with 17", TAKEN),
             self.part("  refused with 18", NO_FLOW)])
+
+
+class QuestionTally:
+    """How the questions were answered."""
+
+    def __init__(self):
+        self.files = 0
+        self.answers = Counter()
+
+    def add(self, case):
+        self.files += 1
+        self.answers.update(answer if answer[0] in "R?" else "given"
+                            for answer in case.answers)
+
+    def text(self):
+        refused = sorted((int(answer[2:]), count) for answer, count
+                         in self.answers.items() if answer[0] == "R")
+        return ("%d generated files with %d questions, %d of them none\n"
+                "  answered %d, refused with %s"
+                % (self.files, sum(self.answers.values()), self.answers["?"],
+                   self.answers["given"],
+                   ", ".join("%d: %d" % pair for pair in refused)))

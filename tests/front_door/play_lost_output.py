@@ -7,25 +7,25 @@ import call_bytes
 from edges.edge_maker import BASE
 from front_door.command import (
     LIMIT, into_full_pipe, redirected, start, trouble)
-from front_door.play_tree import NOT_WHOLE, named
+from front_door.play_tree import NOT_WHOLE, in_trees
 
 
 def closed_output(tree):
-    return trouble(start(redirected(">&-", tree.play)), NOT_WHOLE, b"",
+    return trouble(start(redirected(">&-", tree.command)), NOT_WHOLE, b"",
                    "standard output is closed")
 
 
 def full_disk(tree):
     if not os.path.exists("/dev/full"):
         return None
-    return trouble(start(redirected(">/dev/full", tree.play)), NOT_WHOLE, b"",
-                   "output was lost")
+    return trouble(start(redirected(">/dev/full", tree.command)), NOT_WHOLE,
+                   b"", "output was lost")
 
 
 def reader_leaves(tree):
     """The reader takes one line and goes; a pipe doesn't hold the others."""
     calls = tree.write("many", BASE + 100000 * call_bytes.TICK)
-    process = subprocess.Popen([tree.play, calls], stdout=subprocess.PIPE,
+    process = subprocess.Popen([tree.command, calls], stdout=subprocess.PIPE,
                                stderr=subprocess.PIPE, bufsize=0)
     process.stdout.readline()
     process.stdout.close()
@@ -39,14 +39,14 @@ def reader_leaves(tree):
 def reader_is_slow(tree):
     """The pipe is full and doesn't wait."""
     calls = tree.write("many", BASE + 5000 * call_bytes.TICK)
-    ended = into_full_pipe([tree.play, calls])
+    ended = into_full_pipe([tree.command, calls])
     if not (b"P 0\n" + 5000 * b"T -\n").startswith(ended.output):
         return "ends in %r" % ended.output[-20:]
     return trouble(ended, NOT_WHOLE, says="output was lost")
 
 
 def program_breaks_off(tree):
-    tree.program.write_text('#!/bin/sh\necho "P 0"\nkill -9 $$\n')
+    tree.instead('echo "P 0"\nkill -9 $$\n')
     ended = tree.start(tree.calls)
     if ended.status != NOT_WHOLE or ended.output != b"P 0\n":
         return "status %d, %r" % (ended.status, ended.output)
@@ -55,8 +55,7 @@ def program_breaks_off(tree):
 
 def program_says_so(tree):
     """A line of domelink on standard error is passed on, and no other."""
-    tree.program.write_text('#!/bin/sh\necho "P 0"\n'
-                            'echo "domelink: output was lost" >&2\n')
+    tree.instead('echo "P 0"\necho "domelink: output was lost" >&2\n')
     return trouble(tree.start(tree.calls), NOT_WHOLE, b"P 0\n",
                    "domelink: output was lost")
 
@@ -65,5 +64,5 @@ TESTS = (closed_output, full_disk, reader_leaves, reader_is_slow,
          program_breaks_off, program_says_so)
 
 
-def tests(program):
-    return named(TESTS, program)
+def tests(programs):
+    return in_trees(TESTS, programs)

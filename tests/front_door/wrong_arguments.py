@@ -8,6 +8,7 @@ from pathlib import Path
 
 from front_door.command import ROOT, start, trouble
 
+PROGRAMS = ("domelink", "allcalls", "domeplan")     # that tests/run starts
 MISSING = os.path.join(os.sep, "nowhere", "calls")
 
 # Arguments of tests/run, and words of the sentence.
@@ -27,6 +28,11 @@ TESTS_RUN = [
     (["--allcalls", "--simulate", MISSING], MISSING + " can't be read"),
     (["--allcalls", "--write", "-1", MISSING], "a seed has to be"),
     (["--allcalls"], "--allcalls goes with"),
+    (["--domeplan", "--program", MISSING], "no program at " + MISSING),
+    (["--domeplan", "--simulate", MISSING], MISSING + " can't be read"),
+    (["--domeplan", "--write", "-1", MISSING], "a seed has to be"),
+    (["--domeplan"], "--domeplan goes with"),
+    (["--domeplan", "--allcalls", "--simulate", MISSING], "not allowed with"),
 ]
 BENCH_RUN = [
     (["0"], "ROUNDS"),
@@ -62,23 +68,24 @@ def without_program(name):
         shutil.copytree(ROOT / "tests", root / "tests")
         built = root / "target/bin"
         built.mkdir(parents=True)
-        for program in {"domelink", "allcalls"} - {name}:
+        for program in set(PROGRAMS) - {name}:
             os.symlink(sys.executable, built / program)
         return refused("tests/run", [], "there is no program at %s"
                        % (built.resolve() / name), root)
 
 
-def tests(program):
+def tests(programs):
     for script, table in (("tests/run", TESTS_RUN), ("bench/run", BENCH_RUN)):
         for arguments, says in table:
             yield (" ".join([script, *arguments]),
                    lambda script=script, arguments=arguments, says=says:
                    refused(script, arguments, says))
-    yield "tests/run without domelink", lambda: without_program("domelink")
-    yield "tests/run without allcalls", lambda: without_program("allcalls")
+    for name in PROGRAMS:
+        yield ("tests/run without " + name,
+               lambda name=name: without_program(name))
     yield "bench/run without rustc", lambda: without("rustc")
     yield "bench/run without rt", lambda: without("rt")
     yield ("tests/run --only with no such test",
-           lambda: refused("tests/run", ["--program", program, "0",
-                                         "--only", "no such test"],
+           lambda: refused("tests/run", ["--program", programs["domelink"],
+                                         "0", "--only", "no such test"],
                            "no test has"))

@@ -1,10 +1,10 @@
--- Every edge of the table comes out as document 01 has it. Assumes nothing.
+-- Every edge of the table comes out as the papers have it. Assumes nothing.
 use mathlib.Core.Path.{refl}
 use Rattle.model.specs.Card.{paper}
 use Rattle.model.specs.EdgeCases.{Passes}
 use Rattle.model.specs.Edges.{edges}
-use Rattle.model.proofs.Unfoldings.{plans-compute, calls-compute, program-computes}
+use Rattle.model.proofs.Unfoldings.{plans-compute, calls-compute, writer-computes, program-computes}
 
 pub edges-hold : Passes paper edges
-unfolding edges plans-compute calls-compute program-computes
+unfolding edges plans-compute calls-compute writer-computes program-computes
 edges-hold = refl

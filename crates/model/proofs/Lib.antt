@@ -4,10 +4,12 @@ pub mod Tests
 pub mod Round
 pub mod Tables
 pub mod Tallies
--- the word, the plan, records, decimal digits and the listing
+-- the word, the plan read and written, records, decimal digits and the listing
 pub mod Word
 pub mod Plan
 pub mod PlanWithinLimits
+pub mod WrittenPlan
+pub mod WriteRefusals
 pub mod Records
 pub mod Decimal
 pub mod Listing

@@ -77,15 +77,18 @@ limits-passed P some-flow few e =
 pub record Counted (h : Header) : Type 0 where
   pub some-flow : 1 ≤ h .count
   pub flows-most : h .count ≤ 16
+  pub offset-is : h .offset ≡ 12
   pub total-is : h .total ≡ 12 + 4 * h .count
 
 pub counts-passed : (h : Header) → condition (countTest h) ≡ false → Counted h
 counts-passed h e =
     let a = or-false _ _ e in
-    let n = in-range 1 16 (h .count) (or-false _ _ (a .0) .0) in
+    let b = or-false _ _ (a .0) in
+    let n = in-range 1 16 (h .count) (b .0) in
     record {
       some-flow = n .0;
       flows-most = n .1;
+      offset-is = eqb-true (h .offset) 12 (not-false _ (b .1));
       total-is = eqb-true (h .total) (12 + 4 * h .count) (not-false _ (a .1));
     }
 

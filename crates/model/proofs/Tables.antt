@@ -1,10 +1,11 @@
 -- Tables, tests of all numbers below a bound, and searches. Assumes nothing.
 use Prim.Native.Nat.{ℕ, zero, suc, _+_, _≤_, _<_}
-use mathlib.Core.Path.{_≡_, refl, ap, ap₂, _∙_}
-use mathlib.Core.List.{_∷_}
+use mathlib.Core.Path.{_≡_, refl, sym, ap, ap₂, _∙_}
+use mathlib.Core.List.{List, _∷_, [], _++_}
 use mathlib.Core.Option.{some, none}
 use mathlib.Core.Bool.{Bool, true, false, _&&_, cond}
 use native.Mathlib.Decide.{decLt, decLe}
+use native.Mathlib.Nat.{zero-add, suc-add}
 use native.Mathlib.Omega.{arith}
 use lib.ListN.{getD, set, length}
 use Rattle.model.specs.Tables.{table, every, firstFrom}
@@ -26,6 +27,17 @@ length-table (suc n) f = ap suc (length-table n (λ k. f (suc k)))
 pub table-same : {A : Type 0} (n : ℕ) (f g : ℕ → A) → ((i : ℕ) → i < n → f i ≡ g i) → table n f ≡ table n g
 table-same zero f g h = refl
 table-same (suc n) f g h = ap₂ _∷_ (h 0 (omega arith)) (table-same n (λ k. f (suc k)) (λ k. g (suc k)) (λ i l. h (suc i) (omega arith)))
+
+-- a list is the table of its elements
+pub table-getD : {A : Type 0} (xs : List A) (d : A) → table (length xs) (λ i. getD xs i d) ≡ xs
+table-getD [] d = refl
+table-getD (x ∷ xs) d = ap (x ∷_) (table-getD xs d)
+
+pub table-append : {A : Type 0} (m n : ℕ) (f : ℕ → A) → table (m + n) f ≡ table m f ++ table n (λ k. f (m + k))
+table-append zero n f = ap (λ j. table j f) (zero-add n) ∙ table-same n _ _ (λ k l. ap f (sym (zero-add k)))
+table-append (suc m) n f =
+    ap (λ j. table j f) (suc-add m n)
+    ∙ ap (f 0 ∷_) (table-append m n (λ k. f (suc k)) ∙ ap (table m (λ k. f (suc k)) ++_) (table-same n _ _ (λ k l. ap f (sym (suc-add m k)))))
 
 -- a table with element i stored is a table that differs from it at i alone
 pub set-table : {A : Type 0} (n : ℕ) (f g : ℕ → A) (i : ℕ) → i < n → ((k : ℕ) → k < n → (k ≡ i → ⊥) → f k ≡ g k) → set (table n f) i (g i) ≡ table n g

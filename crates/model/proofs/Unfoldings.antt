@@ -9,6 +9,7 @@ use Rattle.model.specs.Request.{valid, search, sought, booked, refusedAt
 use Rattle.model.specs.Credit.{lowered, creditAfter, credit}
 use Rattle.model.specs.Tick.{recycled, advanced, tick}
 use Rattle.model.specs.Lend.{canTake, lentTo, chosen, lentAfter, lendAfter, lend}
+use Rattle.model.specs.WrittenPlan.{bytesOf, writeRefusal, writtenAfter, written}
 use Rattle.model.specs.Record.{records, callOf}
 use Rattle.model.specs.Listing.{digits, decimal, outcomes, listing, planMissing, outputAfter, output}
 use Rattle.model.specs.History.{ticks, slotAfter, changes, wellFormed, grants, credits, refusals, lends}
@@ -32,6 +33,11 @@ requests-compute = tt
 unfoldable pub calls-compute : Unit {0}
 unfolding fresh requests-compute lowered creditAfter credit recycled advanced tick canTake lentTo chosen lentAfter lendAfter lend play
 calls-compute = tt
+
+-- a plan written
+unfoldable pub writer-computes : Unit {0}
+unfolding flatMap bytesOf writeRefusal writtenAfter written
+writer-computes = tt
 
 -- what the program writes
 unfoldable pub program-computes : Unit {0}

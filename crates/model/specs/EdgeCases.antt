@@ -7,7 +7,9 @@ use mathlib.Core.Option.{some, none}
 use mathlib.Core.Bool.{cond}
 use lib.Dec.{eqb}
 use Rattle.model.specs.Word.{depart}
-use Rattle.model.specs.Plan.{positions, planOf, refusal}
+use Rattle.model.specs.Plan.{Plan, positions, planOf, refusal}
+use Rattle.model.specs.WrittenPlan as WrittenPlan
+use Rattle.model.specs.WrittenPlan.{Written}
 use Rattle.model.specs.Calls.{Call, Event, History, requested, credited, ticked, lent, accepted, refused}
 use Rattle.model.specs.Card.{Card, run}
 use Rattle.model.specs.Listing.{text, output}
@@ -21,6 +23,8 @@ pub data Trial : Type 0 where
   granting : (word position : ℕ) → Trial
   -- the program's input
   program : (input : List ℕ) → Trial
+  -- a plan to be written in a buffer
+  writing : (plan : Plan) (out : List ℕ) → Trial
 
 pub data Outcome : Type 0 where
   -- the plan is refused
@@ -30,6 +34,8 @@ pub data Outcome : Type 0 where
   word : ℕ → Outcome
   -- the program's output
   written : List ℕ → Outcome
+  -- the writer's answer, and the buffer
+  wrote : Written → Outcome
 
 -- the outcome of a plan and calls, where the plan's tests give the number r: "Refused plans make no link."
 abbrev linkOutcome : Card → ℕ → List ℕ → List Call → Outcome
@@ -40,6 +46,7 @@ abbrev pub outcome : Card → Trial → Outcome
 outcome c (link bytes calls) = linkOutcome c (refusal bytes) bytes calls
 outcome c (granting w p) = word (depart w p)
 outcome c (program input) = written (output input)
+outcome c (writing plan out) = wrote (WrittenPlan.written plan out)
 
 pub record Case : Type 0 where
   pub trial : Trial
@@ -118,3 +125,11 @@ follows bytes answered = plays bytes (played (positions (planOf bytes)) 0 (λ i.
 
 abbrev pub writes : List ℕ → String → Case
 writes input lines = record { trial = program input; expected = written (text lines) }
+
+-- ---- a plan written in a buffer: the count of bytes and the buffer after it, or a refusal, which leaves the buffer
+
+abbrev pub stores : Plan → (out : List ℕ) → (count : ℕ) → (after : List ℕ) → Case
+stores plan out count after = record { trial = writing plan out; expected = wrote (record { answer = accepted count; out = after }) }
+
+abbrev pub declines : (number : ℕ) → Plan → (out : List ℕ) → Case
+declines number plan out = record { trial = writing plan out; expected = wrote (record { answer = refused number; out = out }) }

@@ -7,6 +7,7 @@ use Rattle.model.specs.EdgeCases.{Trial, Outcome, Case, Answered, grant,
 use Rattle.model.specs.PlanEdges.{planEdges}
 use Rattle.model.specs.CallEdges.{callEdges}
 use Rattle.model.specs.LendEdges.{lendEdges}
+use Rattle.model.specs.WriteEdges.{writeEdges}
 use Rattle.model.specs.ProgramEdges.{programEdges}
 
 -- ---- the edges that the paper marks P
@@ -52,5 +53,5 @@ markedEdges =
 -- ---- all of them
 
 unfoldable pub edges : List Case
-unfolding markedEdges planEdges callEdges lendEdges programEdges
-edges = markedEdges ++ planEdges ++ callEdges ++ lendEdges ++ programEdges
+unfolding markedEdges planEdges callEdges lendEdges writeEdges programEdges
+edges = markedEdges ++ planEdges ++ callEdges ++ lendEdges ++ writeEdges ++ programEdges

@@ -12,6 +12,7 @@ pub mod Credit
 pub mod Tick
 -- document 02
 pub mod Lend
+pub mod WrittenPlan
 -- the program
 pub mod Record
 pub mod Listing
@@ -27,6 +28,7 @@ pub mod EdgeCases
 pub mod PlanEdges
 pub mod CallEdges
 pub mod LendEdges
+pub mod WriteEdges
 pub mod ProgramEdges
 pub mod Edges
 pub mod BadHistories

@@ -1,18 +1,15 @@
 -- The bytes of plans, for examples. Document 01, "Plan bytes". Assumes nothing.
-use Prim.Native.Nat.{ℕ, _+_, _*_, _/_, _%_}
+use Prim.Native.Nat.{ℕ, _+_, _*_}
 use mathlib.Core.List.{List, _∷_, [], _++_, foldr}
 use lib.ListN.{length}
 use Rattle.model.specs.Tables.{table}
-
--- a 16-bit number, low byte first
-abbrev pub field : ℕ → List ℕ
-field x = x % 256 ∷ x / 256 ∷ []
+use Rattle.model.specs.WrittenPlan.{headerBytes, entryBytes}
 
 abbrev pub header : (total n offset F W N : ℕ) → List ℕ
-header total n offset F W N = field total ++ field n ++ field offset ++ field F ++ field W ++ field N
+header total n offset F W N = headerBytes (record { total = total; count = n; offset = offset; slots = F; frames = W; buffer = N })
 
 abbrev pub entry : (share cells source destination : ℕ) → List ℕ
-entry share cells source destination = share ∷ cells ∷ source ∷ destination ∷ []
+entry share cells source destination = entryBytes (record { share = share; cells = cells; source = source; destination = destination })
 
 abbrev pub plan : (F W N : ℕ) → List (List ℕ) → List ℕ
 plan F W N entries = header (12 + 4 * length entries) (length entries) 12 F W N ++ foldr _++_ [] entries

@@ -1,19 +1,13 @@
 -- The plan that the reader stores is the paper's plan of the bytes. Assumes nothing.
 use Prim.Native.Nat.{ℕ, _≤_}
-use mathlib.Core.Path.{_≡_, refl, ap, _∙_}
-use mathlib.Core.List.{List, _∷_, []}
+use mathlib.Core.Path.{_≡_, ap, _∙_}
+use mathlib.Core.List.{List}
 use native.Mathlib.Omega.{arith}
-use lib.ListN.{length, getD}
-use Rattle.model.specs.Tables.{table}
+use lib.ListN.{getD}
 use Rattle.model.specs.Plan as model
 use Rattle.model.proofs.Plan as of-plan
-use Rattle.model.proofs.Tables.{getD-table, table-same}
+use Rattle.model.proofs.Tables.{getD-table, table-getD, table-same}
 use Rattle.plan.specs.Reading.{entryFor, noEntry, planFor, storedEntry, storedEntries, stored, planAfter, readOf}
-
--- a list is the table of its entries
-table-getD : {A : Type 0} (xs : List A) (d : A) → table (length xs) (λ i. getD xs i d) ≡ xs
-table-getD [] d = refl
-table-getD (x ∷ xs) d = ap (x ∷_) (table-getD xs d)
 
 pub reads-back : (P : model.Plan) → model.flowCount P ≤ 16 → planFor (stored P) ≡ P
 unfolding stored storedEntries

@@ -1,5 +1,6 @@
-pub mod Tests
 pub mod Stored
-pub mod PlanLimits
+pub mod FlowPart
+pub mod Writer
 pub mod Reader
 pub mod Laws
+pub mod RoundTrip

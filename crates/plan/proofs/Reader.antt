@@ -1,7 +1,7 @@
 -- What the reader answers, by the place where it returns. Assumes nothing.
 use Prim.Native.Nat.{ℕ, zero, suc, _-_, _*_, _<_, _≤_}
-use mathlib.Core.Path.{_≡_, sym, ap, _∙_, subst}
-use mathlib.Core.List.{List}
+use mathlib.Core.Path.{_≡_, refl, sym, ap, _∙_, subst}
+use mathlib.Core.List.{List, _∷_}
 use mathlib.Core.Bool.{true, false}
 use native.Mathlib.Decide.{decLt}
 use native.Mathlib.Omega.{arith}
@@ -17,17 +17,22 @@ use Rattle.model.specs.Tables.{table}
 use Rattle.model.specs.Refusals.{condition, firstOf}
 use Rattle.model.specs.Plan as model
 use Rattle.model.proofs.Plan as of-plan
+use Rattle.model.specs.WrittenPlan.{numberTests}
+use Rattle.model.proofs.WrittenPlan.{same-header}
 use Rattle.model.proofs.Tables.{length-table, getD-table, getD-table-past, table-same}
-use Rattle.plan.specs.Reading.{headerFor, entryFor, noEntry, planFor, storedEntry, storedEntries, stored, verdictFor, planAfter, readOf, Valid}
+use Rattle.limits.specs.Reading.{draftFor}
+use Rattle.plan.specs.Reading.{headerFor, entryFor, noEntry, planFor, storedEntry, storedEntries, stored}
+use Rattle.plan.specs.Reading.{draftOf, verdictFor, planAfter, readOf, Valid}
+use Rattle.plan.proofs.Stored.{drafted}
 
 -- what the reader promises of the outcome r of the bytes b
 abbrev pub Reads : List ℕ → Outcome → Type 0
 Reads b r = (r ≡ readOf b) × (r .verdict ≡ Accepted → Valid (r .plan))
 
-never-accepted : (n : ℕ) → 0 < n → verdictFor n ≡ Accepted → ⊥
+pub accepted-is-0 : (n : ℕ) → verdictFor n ≡ Accepted → n ≡ 0
 unfolding verdictFor
-never-accepted zero h e = omega arith
-never-accepted (suc n) h e = let z : _≡_ {A = ℕ} 0 1 = cc in omega arith
+accepted-is-0 zero e = refl
+accepted-is-0 (suc n) e = let z : _≡_ {A = ℕ} 0 1 = cc in absurd (omega arith)
 
 -- a refusal
 pub refused-reads : (b : List ℕ) (r : Outcome) (n : ℕ) → 0 < n → model.refusal b ≡ n → r .verdict ≡ verdictFor n
@@ -36,7 +41,7 @@ unfolding readOf
 refused-reads b r n pos e v p =
     let verdict = v ∙ ap verdictFor (sym e) in
     let plan = p (model.planOf b) ∙ ap (λ k. planAfter k (model.planOf b)) (sym e) in
-    (λ k. record { verdict = verdict k; plan = plan k }, λ z. absurd (never-accepted n pos (sym v ∙ z)))
+    (λ k. record { verdict = verdict k; plan = plan k }, λ z. absurd (omega (arith, accepted-is-0 n (sym v ∙ z))))
 
 -- ---- the refusal of the bytes, test by test
 
@@ -54,9 +59,9 @@ module _ (b : List ℕ) (long : 12 ≤ length b) where
     unfolding model.refusal firstOf
     other-count e = rw (le-ltb (length b) 12 long, eq-eqb (length b) (model.headerOf b .total) same, e)
 
-    pub by-limits : condition (model.countTest (model.headerOf b)) ≡ false → model.refusal b ≡ firstOf (model.limitTests (model.planOf b))
+    pub by-tests : model.refusal b ≡ firstOf (model.countTest (model.headerOf b) ∷ model.limitTests (model.planOf b))
     unfolding model.refusal firstOf
-    by-limits e = rw (le-ltb (length b) 12 long, eq-eqb (length b) (model.headerOf b .total) same, e)
+    by-tests = rw (le-ltb (length b) 12 long, eq-eqb (length b) (model.headerOf b .total) same)
 
 -- ---- the plan that is read
 
@@ -78,15 +83,21 @@ module _ {b : List ℕ} {h : Header} (k : Counted b h) where
   pub part-long : 4 * h .count ≤ length (take (length b - 12) (drop 12 b))
   part-long = rw whole-part (omega (arith, length-drop 12 b, k .same, in-count .total-is))
 
-  pub refused-by : model.refusal b ≡ firstOf (model.limitTests (model.planOf b))
+  -- the refusal is by the tests of the plan's numbers
+  pub refused-by : model.refusal b ≡ firstOf (numberTests (model.planOf b))
   refused-by =
-      by-limits b (k .long) (k .same ∙ ap (λ (x : model.Header). x .total) (k .header))
-      (ap (λ x. condition (model.countTest x)) (sym (k .header)) ∙ k .counts)
+      let header = same-header b (subst of-plan.Counted (k .header) in-count) in
+      by-tests b (k .long) (k .same ∙ ap (λ (x : model.Header). x .total) (k .header))
+      ∙ ap (λ h. firstOf (model.countTest h ∷ model.limitTests (model.planOf b))) (sym header)
 
 abbrev pub planFrom : Header → List Entry → Plan
 planFrom h es = record { slots = h .slots; frames = h .frames; buffer = h .buffer; count = h .count; entries = es }
 
-module _ {b : List ℕ} {h : Header} (k : Counted b h) (es : List Entry) (entries : es ≡ storedEntries (model.entriesOf (h .count) (take (length b - 12) (drop 12 b)))) where
+-- the entries that are read of the flow part
+abbrev entriesRead : List ℕ → Header → List Entry
+entriesRead b h = storedEntries (model.entriesOf (h .count) (take (length b - 12) (drop 12 b)))
+
+module _ {b : List ℕ} {h : Header} (k : Counted b h) (es : List Entry) (entries : es ≡ entriesRead b h) where
   n : ℕ
   n = h .count
 
@@ -145,11 +156,12 @@ module _ {b : List ℕ} {h : Header} (k : Counted b h) (es : List Entry) (entrie
     spare = λ i l. spare-at i l (decLt i 16);
   }
 
-  -- the refusal is that of the plan that was read
-  pub number-is : firstOf (model.limitTests (planFor (planFrom h es))) ≡ model.refusal b
-  number-is = ap (λ P. firstOf (model.limitTests P)) reads-as ∙ sym (refused-by k)
+  -- the refusal is that of the plan that was read, as it would be asked for
+  pub number-is : firstOf (numberTests (draftFor (draftOf (planFrom h es)))) ≡ model.refusal b
+  unfolding n
+  number-is = ap (λ P. firstOf (numberTests P)) (drafted (planFrom h es) few ∙ reads-as) ∙ sym (refused-by k)
 
-  pub accepted-reads : firstOf (model.limitTests (planFor (planFrom h es))) ≡ 0 → Reads b (record { verdict = Accepted; plan = planFrom h es })
+  pub accepted-reads : firstOf (numberTests (draftFor (draftOf (planFrom h es)))) ≡ 0 → Reads b (record { verdict = Accepted; plan = planFrom h es })
   unfolding readOf verdictFor planAfter
   accepted-reads z =
       let e = sym number-is ∙ z in

@@ -9,6 +9,8 @@ use Rattle.plan.specs.declared.Outcome.{Outcome}
 use Rattle.plan.specs.declared.Verdict.{Verdict}
 use Rattle.plan.specs.declared.Verdict.the-variants.{Accepted, Refused}
 use Rattle.plan.specs.declared.header.Header.{Header}
+use Rattle.limits.specs.declared.Wanted.{Wanted}
+use Rattle.limits.specs.declared.Draft.{Draft}
 use Rattle.model.specs.Tables.{table}
 use Rattle.model.specs.Plan as model
 
@@ -42,6 +44,17 @@ storedEntries es = table 16 (λ i. storedEntry (getD es i model.noEntry))
 
 unfoldable pub stored : model.Plan → Plan
 stored P = record { slots = P .slots; frames = P .frames; buffer = P .buffer; count = model.flowCount P; entries = storedEntries (P .entries) }
+
+-- ---- a stored plan as it would be asked for
+
+abbrev pub wantedOf : Entry → Wanted
+wantedOf e = record { share = e .share; cells = e .cells; source = e .source; destination = e .destination }
+
+unfoldable pub widened : List Entry → List Wanted
+widened es = table 16 (λ i. wantedOf (getD es i noEntry))
+
+abbrev pub draftOf : Plan → Draft
+draftOf p = record { slots = p .slots; frames = p .frames; buffer = p .buffer; count = p .count; entries = widened (p .entries) }
 
 -- ---- what the reader answers
 

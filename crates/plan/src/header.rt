@@ -1,9 +1,14 @@
-// The header: six 16-bit fields, low byte first.
+// The header: six 16-bit fields, low byte first, read and written.
 ghost use mathlib.Core.Path.{_≡_};
 ghost use Prim.Native.Nat.{_+_, _≤_, _<_};
 ghost use lib.ListN.{length};
-ghost use Rattle.model.specs.Plan.{field16, headerOf};
+ghost use lib.Seq.{sets};
+ghost use Rattle.model.specs.Refusals.{condition};
+ghost use Rattle.model.specs.Plan.{field16, headerOf, countTest};
+ghost use Rattle.model.specs.WrittenPlan.{headerBytes};
+ghost use Rattle.model.specs.WrittenPlan as written;
 ghost use Rattle.plan.specs.Reading.{headerFor};
+ghost use Rattle.plan.specs.Writing.{HeaderFits};
 
 pub(crate) struct Header {
     pub total: usize,
@@ -40,4 +45,38 @@ pub(crate) fn read_header(bytes: &[u8]) -> Header
         frames: field(bytes, 8),
         buffer: field(bytes, 10),
     }
+}
+
+// Test 2: n out of range, offset not 12, or length not 12 + 4n.
+pub(crate) fn miscounts(h: Header) -> bool
+    ensures { λ r. ⌜ r ≡ condition (countTest (headerFor h)) ⌝ }
+{
+    if limits::miscounts(h.count) {
+        return true;
+    }
+    if h.offset != 12 {
+        return true;
+    }
+    h.total != 12 + 4 * h.count
+}
+
+// Stores a field at a place.
+fn put_field(x: usize, out: &mut [u8], at: usize)
+    requires { ⌜ (x < 65536) × (at + 1 < length (now out)) ⌝ }
+    ensures { λ r. ⌜ now (out .exit) ≡ sets (now (out .entry)) at (written.field x) ⌝ }
+{
+    out[at] = (x % 256) as u8;
+    out[at + 1] = (x / 256) as u8;
+}
+
+pub(crate) fn put_header(h: Header, out: &mut [u8])
+    requires { ⌜ HeaderFits h × (12 ≤ length (now out)) ⌝ }
+    ensures { λ r. ⌜ now (out .exit) ≡ sets (now (out .entry)) 0 (headerBytes (headerFor h)) ⌝ }
+{
+    put_field(h.total, out, 0);
+    put_field(h.count, out, 2);
+    put_field(h.offset, out, 4);
+    put_field(h.slots, out, 6);
+    put_field(h.frames, out, 8);
+    put_field(h.buffer, out, 10);
 }

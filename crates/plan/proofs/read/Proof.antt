@@ -1,21 +1,49 @@
 -- `plan::read` meets its contract: each return goes by the tests on the way. Assumes nothing.
-use mathlib.Core.Path.{sym, ap, _∙_}
-use Rattle.model.specs.Refusals.{condition}
+use mathlib.Core.Path.{_≡_, sym, ap, _∙_}
+use Rattle.model.specs.Refusals.{condition, firstOf}
 use Rattle.model.specs.Plan as model
-use Rattle.plan.proofs.Reader.{refused-reads, too-short, other-length, other-count, Counted, in-count, part-long, number-is, accepted-reads}
+use Rattle.model.specs.WrittenPlan.{numberTests}
+use Rattle.limits.specs.Reading.{draftFor}
+use Rattle.plan.specs.declared.Plan.{Plan}
+use Rattle.plan.specs.Reading.{draftOf}
+use Rattle.plan.proofs.Reader.{refused-reads, too-short, other-length, other-count, Counted, in-count, part-long}
+use Rattle.plan.proofs.Reader.{planFrom, number-is, accepted-reads}
 use native.Mathlib.Omega.{arith}
 use borrow.Author.Needs.{needs}
 use Rattle.plan.proofs.read.Statement.{statement}
 use Rattle.plan.proofs.read.Tie as tie
 
--- what is known after tests 1 and 2
-counted : (c : tie.Else3) → Counted (c .before .before .before .before .before .before .before .args .bytes .now) (c .before .before .before .before .read-header .result)
+-- ---- places: where the header is read, and where the bytes came
+
+abbrev headed : tie.Else3 → tie.After-read-header
+headed c = c .before .before .before .before
+
+abbrev start : tie.After-read-header → tie.Start
+start c = c .before .before .before
+
+-- ---- what is known on the way
+
+-- after tests 1 and 2
+counted : (c : tie.Else3) → Counted (start (headed c) .args .bytes .now) (headed c .read-header .result)
 counted c = record {
-  header = c .before .before .before .before .read-header .ensures;
-  long = c .before .before .before .before .before .if1 .left;
+  header = headed c .read-header .ensures;
+  long = headed c .before .if1 .left;
   same = c .before .before .if2 .left;
   counts = sym (c .before .miscounts .ensures) ∙ c .if3 .left;
 }
+
+-- after the tests of the plan that was read
+module _ (c : tie.After-broken) where
+  abbrev entered : tie.After-read-entries
+  entered = c .before .before
+
+  abbrev plan-read : Plan
+  plan-read = planFrom (headed (entered .before .before) .read-header .result) (entered .read-entries .result)
+
+  tested : firstOf (numberTests (draftFor (draftOf plan-read))) ≡ c .broken .result
+  tested = ap (λ d. firstOf (numberTests (draftFor d))) (sym (c .before .draft .ensures)) ∙ sym (c .broken .ensures)
+
+-- ---- the needs
 
 refused-requires : tie.Need-refused-requires
 refused-requires c κs = search needs
@@ -61,8 +89,11 @@ part-part-end c = search needs
 read-entries-requires : tie.Need-read-entries-requires
 read-entries-requires c κs = (in-count (counted (c .before)) .flows-most, part-long (counted (c .before)))
 
+draft-requires : tie.Need-draft-requires
+draft-requires c κs = search needs
+
 broken-requires : tie.Need-broken-requires
-broken-requires c κs = in-count (counted (c .before .before)) .flows-most
+broken-requires c κs = search needs
 
 refused-requires-4 : tie.Need-refused-requires-4
 refused-requires-4 c κs = omega arith
@@ -70,15 +101,13 @@ refused-requires-4 c κs = omega arith
 returns-4 : tie.Need-returns-4
 returns-4 c =
     let b = c .before .before in
-    let k = counted (b .before .before .before) in
-    let number = sym (number-is k _ (b .before .read-entries .ensures)) ∙ sym (b .broken .ensures) in
+    let number = sym (number-is (counted (entered b .before .before)) _ (entered b .read-entries .ensures)) ∙ tested b in
     refused-reads _ _ _ (omega arith) number (c .refused4 .ensures .0) (c .refused4 .ensures .1)
 
 returns-5 : tie.Need-returns-5
 returns-5 c =
     let b = c .before in
-    let k = counted (b .before .before .before) in
-    accepted-reads k _ (b .before .read-entries .ensures) (sym (b .broken .ensures) ∙ c .if4 .left)
+    accepted-reads (counted (entered b .before .before)) _ (entered b .read-entries .ensures) (tested b ∙ c .if4 .left)
 
 pub read-spec : {M : Type 1} → statement M
 read-spec =
@@ -96,6 +125,7 @@ read-spec =
     part-part-start
     part-part-end
     read-entries-requires
+    draft-requires
     broken-requires
     refused-requires-4
     returns-4

@@ -1,0 +1,61 @@
+// The limits of a plan, tests 2 to 7, on numbers as they are asked for. Who reads plans and who writes them make the same tests.
+mod entries;
+mod ranges;
+
+ghost use mathlib.Core.Path.{_≡_};
+ghost use mathlib.Core.Bool.{not};
+ghost use Rattle.model.specs.Tables.{within};
+ghost use Rattle.model.specs.Refusals.{firstOf};
+ghost use Rattle.model.specs.WrittenPlan.{numberTests};
+ghost use Rattle.limits.specs.Reading.{draftFor};
+
+// A flow's entry as asked for: numbers that may be too wide for their fields.
+pub struct Wanted {
+    pub share: usize,
+    pub cells: usize,
+    pub source: usize,
+    pub destination: usize,
+}
+
+// A plan as asked for: F, W, N, n and the entries, of which those from n on have no effect.
+pub struct Draft {
+    pub slots: usize,
+    pub frames: usize,
+    pub buffer: usize,
+    pub count: usize,
+    pub entries: [Wanted; 16],
+}
+
+// Whether n is out of range.
+pub fn miscounts(count: usize) -> bool
+    ensures { λ r. ⌜ r ≡ not (within 1 16 count) ⌝ }
+{
+    !ranges::inside(1, 16, count)
+}
+
+// Tests 2 to 7: the number of the first that applies, and 0 where none does.
+pub fn broken(d: Draft) -> u8
+    ensures { λ r. ⌜ r ≡ firstOf (numberTests (draftFor d)) ⌝ }
+{
+    if miscounts(d.count) {
+        return 2;
+    }
+    if ranges::misframes(d.slots, d.frames, d.buffer) {
+        return 3;
+    }
+    let all = d.entries;
+    if entries::misfits(all, d.count, d.slots) {
+        return 4;
+    }
+    if entries::any_repeats(all, d.count) {
+        return 5;
+    }
+    let t = entries::totals(all, d.count);
+    if d.slots < t.shares {
+        return 6;
+    }
+    if d.buffer < t.cells {
+        return 7;
+    }
+    0
+}

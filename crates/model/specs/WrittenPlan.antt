@@ -1,0 +1,85 @@
+-- Plans written as bytes, and refusal 19. Document 02, N2; document 01, "Plan bytes". Assumes nothing.
+use Prim.Native.Nat.{ℕ, zero, suc, _+_, _*_, _/_, _%_, _<_}
+use mathlib.Core.List.{List, _∷_, [], _++_, flatMap}
+use lib.ListN.{length, getD, drop}
+use lib.Dec.{ltb}
+use Rattle.model.specs.Refusals.{Line, firstOf, _when_}
+use Rattle.model.specs.Plan.{Plan, Entry, Header, flowCount, entry, countTest, limitTests}
+use Rattle.model.specs.Calls.{Answer, accepted, refused}
+
+-- ---- the bytes of a plan
+
+-- a field: "16-bit, low byte first"
+abbrev pub field : ℕ → List ℕ
+field x = x % 256 ∷ x / 256 ∷ []
+
+-- "total length; flow count n; offset of the flow part; F; W; N"
+abbrev pub headerBytes : Header → List ℕ
+headerBytes h = field (h .total) ++ field (h .count) ++ field (h .offset) ++ field (h .slots) ++ field (h .frames) ++ field (h .buffer)
+
+-- "four bytes: share, cells, source node, destination node"
+abbrev pub entryBytes : Entry → List ℕ
+entryBytes e = e .share ∷ e .cells ∷ e .source ∷ e .destination ∷ []
+
+-- the header that is written for a plan: the length is 12 + 4n and the offset 12
+abbrev pub headerFor : Plan → Header
+headerFor P = record {
+  total = 12 + 4 * flowCount P;
+  count = flowCount P;
+  offset = 12;
+  slots = P .slots;
+  frames = P .frames;
+  buffer = P .buffer;
+}
+
+unfoldable pub bytesOf : Plan → List ℕ
+bytesOf P = headerBytes (headerFor P) ++ flatMap entryBytes (P .entries)
+
+-- ---- the refusals
+
+-- "It makes the reader's tests 2 to 7 on the same numbers."
+abbrev pub numberTests : Plan → List Line
+numberTests P = countTest (headerFor P) ∷ limitTests P
+
+-- "a buffer shorter than the plan"
+abbrev pub roomTest : Plan → (out : List ℕ) → Line
+roomTest P out = 19 when ltb (length out) (length (bytesOf P))
+
+-- the refusal, and 0 where the plan is written: 19 is "tested after 7"
+unfoldable pub writeRefusal : Plan → (out : List ℕ) → ℕ
+writeRefusal P out = firstOf (numberTests P ++ (roomTest P out ∷ []))
+
+-- ---- what is written
+
+-- what the writer hands back: "the count of bytes written" or the refusal, and the lent buffer
+pub record Written : Type 0 where
+  pub answer : Answer ℕ
+  pub out : List ℕ
+
+-- the plan in the buffer, where the tests give a number
+unfoldable pub writtenAfter : ℕ → Plan → (out : List ℕ) → Written
+-- "Bytes after the plan keep their values."
+writtenAfter zero P out = record { answer = accepted (length (bytesOf P)); out = bytesOf P ++ drop (length (bytesOf P)) out }
+-- "every refusal leaves the buffer untouched"
+writtenAfter (suc r) P out = record { answer = refused (suc r); out = out }
+
+unfoldable pub written : Plan → (out : List ℕ) → Written
+written P out = writtenAfter (writeRefusal P out) P out
+
+-- ---- numbers that fit their fields
+
+pub record AllBytes (b : List ℕ) : Type 0 where
+  pub byte : (i : ℕ) → getD b i 0 < 256
+
+pub record ByteEntry (e : Entry) : Type 0 where
+  pub share-fits : e .share < 256
+  pub cells-fit : e .cells < 256
+  pub source-fits : e .source < 256
+  pub destination-fits : e .destination < 256
+
+pub record FitsFields (P : Plan) : Type 0 where
+  pub total-fits : 12 + 4 * flowCount P < 65536
+  pub slots-fit : P .slots < 65536
+  pub frames-fit : P .frames < 65536
+  pub buffer-fits : P .buffer < 65536
+  pub entries-fit : (i : ℕ) → i < flowCount P → ByteEntry (entry P i)

@@ -1,0 +1,4 @@
+pub mod SpacedNumbers
+pub mod BytesLines
+pub mod DraftsAsked
+pub mod FileLines

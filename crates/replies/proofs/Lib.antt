@@ -1,0 +1,2 @@
+pub mod PutOn
+pub mod DecimalLength

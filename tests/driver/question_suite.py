@@ -1,0 +1,82 @@
+"""The tests of domeplan: questions put to it, and its answers compared."""
+
+import re
+from itertools import zip_longest
+
+from driver.starting import play
+from driver.suite import PATIENCE, Suite
+from simulator.questions import NO_QUESTION
+
+REASON = re.compile(r"\? [ -~]{3,150}")         # short, and in plain letters
+
+# Each word, and what has to have come up for it: 0 is an answer.
+WAYS = {"plan": {0, 2, 3, 4, 5, 6, 7}, "room": {0, 2, 3, 4, 5, 6, 7, 19},
+        "read": {0, 1, 2, 3, 4, 5, 6, 7}}
+
+
+def is_right(expected, answer):
+    """A line that is no question is told by its question mark: the reason is
+    the program's own."""
+    if expected == NO_QUESTION:
+        return bool(REASON.fullmatch(answer))
+    return answer == expected
+
+
+def shown(text):
+    return "no line" if text is None else repr(text[:60])
+
+
+def first_difference(case, output):
+    """Text on the first answer that is not the right one, or None."""
+    *answers, rest = output.decode("latin-1").split("\n")
+    if rest:
+        return "ends in %r without a newline" % rest[-60:]
+    for place, (expected, answer) in enumerate(
+            zip_longest(case.answers, answers)):
+        if None in (expected, answer) or not is_right(expected, answer):
+            line = case.lines[place] if place < len(case.lines) else b""
+            return "line %d, %r: expected %s, got %s" % (
+                place + 1, line[:60], shown(expected), shown(answer))
+    return None
+
+
+class QuestionSuite(Suite):
+    """The refusals that were seen are kept by the word of the question."""
+
+    def note(self, case, output):
+        answers = output.decode("latin-1").splitlines()
+        for line, answer in zip(case.lines, answers):
+            word = line.split(b" ")[0].decode("latin-1")
+            if answer.startswith("?"):
+                self.seen.add("?")
+            elif answer.startswith("R ") and answer[2:].isdecimal():
+                self.seen.add((word, int(answer[2:])))
+            else:
+                self.seen.add((word, 0))
+
+    def play(self, name, case):
+        """One file of questions: answers and end."""
+        if self.without_end >= PATIENCE:
+            return
+        played = self.start(case)
+        self.note(case, played.output)
+        self.end(name, played, case.trouble,
+                 first_difference(case, played.output))
+
+    def answers(self, lines):
+        """Its answers to some lines."""
+        output = play(self.command, b"".join(
+            line.encode() + b"\n" for line in lines)).output
+        return output.decode("latin-1").splitlines()
+
+    def totals(self):
+        """What has to have come up in all files together."""
+        if self.gave_up():
+            return
+        for word, numbers in WAYS.items():
+            missing = sorted(number for number in numbers
+                             if (word, number) not in self.seen)
+            self.test("%s: each way was seen, 0 for an answer" % word,
+                      missing and "never seen: %s" % missing)
+        self.test("lines that are no question were seen",
+                  "?" not in self.seen and "none")

@@ -1,0 +1,77 @@
+"""The lines of domeplan: a question in, the answer out."""
+
+import re
+
+from simulator.plan import read_plan
+from simulator.plan_writer import Asked, write_plan
+
+NO_QUESTION = "?"               # stands for this and any reason
+LONGEST = 4000                  # bytes of a line
+NUMBER = re.compile(rb"[0-9]{1,9}")
+BYTES = re.compile(rb"(?:[0-9A-Fa-f]{2})*")
+ROOMY = 4096                    # a buffer that holds any plan
+
+
+def numbers_of(fields):
+    """The fields as numbers, or None if one of them is none."""
+    if not all(NUMBER.fullmatch(field) for field in fields):
+        return None
+    return [int(field) for field in fields]
+
+
+def refused(number):
+    return "R %d" % number
+
+
+def written(numbers, room):
+    """F, W, N and four numbers for each flow, in a buffer of `room` bytes."""
+    if len(numbers) < 3 or len(numbers) % 4 != 3:
+        return NO_QUESTION
+    entries = [numbers[i:i + 4] for i in range(3, len(numbers), 4)]
+    refusal, data = write_plan(Asked(*numbers[:3], entries), room)
+    return refused(refusal) if refusal else data.hex()
+
+
+def to_plan(fields):
+    numbers = numbers_of(fields)
+    return NO_QUESTION if numbers is None else written(numbers, ROOMY)
+
+
+def to_room(fields):
+    numbers = numbers_of(fields)
+    return written(numbers[1:], numbers[0]) if numbers else NO_QUESTION
+
+
+def to_read(fields):
+    """No field is no byte, and so is an empty one."""
+    digits = fields[0] if fields else b""
+    if len(fields) > 1 or not BYTES.fullmatch(digits):
+        return NO_QUESTION
+    refusal, plan = read_plan(bytes.fromhex(digits.decode()))
+    if refusal:
+        return refused(refusal)
+    numbers = [plan.frame_slots, plan.window_frames, plan.buffer]
+    for entry in plan.entries:
+        numbers += entry
+    return " ".join(["plan"] + [str(number) for number in numbers])
+
+
+WORDS = {b"plan": to_plan, b"room": to_room, b"read": to_read}
+
+
+def answer(line):
+    """The answer to a line, which is bytes without the newline."""
+    word, *fields = line.split(b" ")
+    if len(line) > LONGEST or word not in WORDS:
+        return NO_QUESTION
+    return WORDS[word](fields)
+
+
+def lines_of(data):
+    """The lines of an input; the last may have no newline."""
+    lines = data.split(b"\n")
+    return lines if lines[-1] else lines[:-1]
+
+
+def answers(data):
+    return [answer(line) for line in lines_of(data)]
