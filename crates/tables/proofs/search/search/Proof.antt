@@ -51,10 +51,18 @@ module _ (c : tie.At-search Inv-search μ-search) where
   abbrev Searched : (owners : List ℕ) (late : ℕ → Bool) → Type 0
   Searched owners late = Gathering window-at owners (start .args .unbooked .now) late (start .args .low)
 
+-- where a frame's valid slots are gathered, and from there the frame
+abbrev gathered-at : tie.After-lowest Inv-search μ-search → tie.After-valid-slots Inv-search μ-search
+gathered-at c = c .before .before .before
+
+abbrev frame-of : tie.After-valid-slots Inv-search μ-search → tie.At-search Inv-search μ-search
+frame-of c = c .before .before
+
 -- the frame has no valid slot, or nothing is left of the share
 nothing-here : (c : tie.Joined1 Inv-search μ-search) → let f = c .before in (owners : List ℕ) (late : ℕ → Bool) → Searched f owners late
     → NoneIn (windowOf (window-at f)) (validAt owners late) (start f .args .share) (frame-at f) (f .search .left)
-nothing-here c owners late g = ⊎-elim (λ (_, valid, empty). none-valid (no-slot (valid .ensures owners late g) (empty .left))) (λ b. none-spent (b .left)) (c .if1 .came)
+nothing-here c owners late g =
+    ⊎-elim (λ (_, valid, empty). none-valid (no-slot (valid .ensures owners late g) (empty .left))) (λ spent. none-spent (spent .left)) (c .if1 .came)
 
 -- ---- the needs
 
@@ -74,14 +82,14 @@ sub-t15 : tie.Need-sub-t15 Inv-search μ-search
 sub-t15 c = search needs
 
 mul-t16 : tie.Need-mul-t16 Inv-search μ-search
-mul-t16 c = let f = c .before .before .before .before in omega (arith, frame-there f, start f .pre .0 .measures .positions-most)
+mul-t16 c = let f = frame-of (c .before .before) in omega (arith, frame-there f, start f .pre .0 .measures .positions-most)
 
 lowest-requires : tie.Need-lowest-requires Inv-search μ-search
 lowest-requires c κs = search needs
 
 add-t18 : tie.Need-add-t18 Inv-search μ-search
 add-t18 c =
-    let f = c .before .before .before .before .before in
+    let f = frame-of (gathered-at c) in
     omega (arith, frame-there f, start f .pre .0 .measures .positions-most, c .lowest .ensures .at-most)
 
 sub-more : tie.Need-sub-more Inv-search μ-search
@@ -104,11 +112,9 @@ search-again c =
 
 returns : tie.Need-returns Inv-search μ-search
 returns c =
-    let valid = c .before .before .before in
-    let with-share = valid .before in
-    let f = with-share .before in
+    let valid = gathered-at c in
     λ owners late g.
-    walked-hit (f .search .inv .walked owners late g) (with-share .if1 .taken)
+    walked-hit (frame-of valid .search .inv .walked owners late g) (valid .before .if1 .taken)
     (lowest-slot (valid .valid-slots .ensures owners late g) (c .lowest .ensures) (c .before .before .if2 .taken))
 
 returns-2 : tie.Need-returns-2 Inv-search μ-search
