@@ -1,7 +1,6 @@
 -- `tables::search::search` meets its contract: at each frame, what is left to search comes to what the whole search does. Assumes nothing.
 use borrow.Author.Needs.{needs}
 use Prim.Native.Nat.{ℕ, _+_, _*_, _≤_, _<_}
-use mathlib.Core.Path.{_≡_}
 use mathlib.Core.Logic.{⊎-elim}
 use mathlib.Core.List.{List}
 use mathlib.Core.Bool.{Bool}
@@ -10,7 +9,7 @@ use native.Mathlib.Omega.{arith}
 use Rattle.model.specs.Tables.{ahead}
 use Rattle.model.specs.Window.{newest}
 use Rattle.window.specs.declared.Window.{Window}
-use Rattle.window.specs.Window.{windowOf, sizeOf, Proper}
+use Rattle.window.specs.Window.{windowOf, sizeOf}
 use Rattle.window.proofs.Windows.{frame-fits}
 use Rattle.tables.specs.Search.{validAt, Gathering}
 use Rattle.tables.proofs.ValidSlots.{no-slot, lowest-slot}
