@@ -1,6 +1,7 @@
 -- A frame change on a link: how the link is read after it, and that it is sound. Assumes nothing.
 use Prim.Native.Nat.{ℕ, _+_, _/_, _%_, _≤_, _<_}
 use mathlib.Core.Path.{_≡_, refl, sym, ap, _∙_}
+use mathlib.Core.List.{List}
 use mathlib.Core.Option.{none}
 use mathlib.Core.Bool.{Bool, true, false, cond}
 use native.Mathlib.Nat.{mod-lt, suc-mul, div-eq-of-lt-le, div-mul-le-self, lt-div-mul-add}
@@ -18,10 +19,12 @@ use Rattle.window.specs.Window.{Proper, baseOf, headRange}
 use Rattle.window.proofs.Tabulated.{table-same}
 use Rattle.window.proofs.Ranges.{in-range, before-range, past-range, length-replaced, replaced-at, replaced-off}
 use Rattle.window.proofs.Windows.{proper}
+use Rattle.unbooked.specs.Words.{Recycled}
 use Rattle.tables.specs.Owners.{nobody, ownerOf, emptied}
 use Rattle.tables.specs.Rows.{row}
 use Rattle.tables.specs.Holdings.{lastOf, carriedRow, carried}
 use Rattle.tables.proofs.Rows.{length-row}
+use Rattle.tables.proofs.UnbookedSlots.{words-emptied}
 use Rattle.tables.proofs.HoldingChanges.{carried-long, row-carried, row-not-carried}
 use Rattle.link.specs.declared.Flow.{Flow}
 use Rattle.link.specs.declared.Link.{Link}
@@ -45,10 +48,11 @@ nextAt l = (l .cp + 1) % sizeOf l
 abbrev pub onAt : Link → ℕ
 onAt l = (windowAt l .head + 1) % l .plan .frames
 
-abbrev pub recycled : Link → Link
-recycled l =
+abbrev pub recycled : Link → (unbooked : List ℕ) → Link
+recycled l u =
     linkWith l (nextAt l)
     (emptied (windowAt l) (l .owner))
+    u
     (leftHeads (l .plan) (windowAt l .head) (onAt l) (l .flows))
     (carried (windowAt l) (l .plan .count) (l .held))
     false
@@ -99,16 +103,16 @@ module _ (l : Link) (s : Sound l) where
 
   -- ---- a flow
 
-  flow-after : (i : ℕ) → i < l .plan .count → flowAt (recycled l) i ≡ flowAfter l i
-  flow-after i h =
+  flow-after : (u : List ℕ) (i : ℕ) → i < l .plan .count → flowAt (recycled l u) i ≡ flowAfter l i
+  flow-after u i h =
       let b = flows-most l s in
-      let e : flowAt (recycled l) i .flow ≡ flowAfter l i .flow =
+      let e : flowAt (recycled l u) i .flow ≡ flowAfter l i .flow =
       replaced-at _ _ (l .flows) i noFlow (omega (arith, s .flows-long)) ∙ rw (in-range 0 (l .plan .count) i (omega arith) h) in
       (λ k. flowRow (e k) (row-carried (windowAt l) window-proper (l .plan .count) (l .held) (s .held-long) i h (omega arith) k))
 
-  spare-stays : (i : ℕ) → l .plan .count ≤ i → flowAt (recycled l) i ≡ flowAt l i
-  spare-stays i h =
-      let e : flowAt (recycled l) i .flow ≡ flowAt l i .flow = replaced-off _ _ (l .flows) i noFlow (past-range 0 (l .plan .count) i h) in
+  spare-stays : (u : List ℕ) (i : ℕ) → l .plan .count ≤ i → flowAt (recycled l u) i ≡ flowAt l i
+  spare-stays u i h =
+      let e : flowAt (recycled l u) i .flow ≡ flowAt l i .flow = replaced-off _ _ (l .flows) i noFlow (past-range 0 (l .plan .count) i h) in
       rw (e, row-not-carried (windowAt l) (l .plan .count) (l .held) i h)
 
   held-after : (i : ℕ) → i < l .plan .count → table (sizeOf l) (λ q. getD (flowAfter l i .held) q 0)
@@ -150,15 +154,15 @@ module _ (l : Link) (s : Sound l) where
 
   -- ---- the link
 
-  pub read-recycled : linkOf (recycled l) ≡ model.withTaken (model.withCurrent (tick.recycled (linkOf l)) (nextAt l)) false
+  pub read-recycled : (u : List ℕ) → linkOf (recycled l u) ≡ model.withTaken (model.withCurrent (tick.recycled (linkOf l)) (nextAt l)) false
   unfolding linkOf tick.recycled
-  read-recycled = cc (owners, flows)
+  read-recycled u = cc (owners, flows)
     where
       unowned : (b : Bool) (x : ℕ) → ownerOf (cond b nobody x) ≡ cond b none (ownerOf x)
       unowned true x = refl
       unowned false x = refl
 
-      owners : table (sizeOf l) (λ q. ownerOf (ownerAt (recycled l) q))
+      owners : table (sizeOf l) (λ q. ownerOf (ownerAt (recycled l u) q))
           ≡ table (sizeOf l) (λ q. cond (eqb (q / l .plan .slots) (windowAt l .head)) none (model.owner (linkOf l) q))
       owners = table-same (sizeOf l) _ _ λ q b.
           ap ownerOf (replaced-at _ _ (l .owner) q 0 (omega (arith, s .owners-long, size-most l s)))
@@ -167,28 +171,29 @@ module _ (l : Link) (s : Sound l) where
       after : ℕ → model.Flow
       after i = tick.carriedOn (linkOf l) i (tick.leftHead (linkOf l) i)
 
-      flows : table (l .plan .count) (λ i. flowOf (sizeOf l) (flowAt (recycled l) i)) ≡ table (paper.flowCount (linkOf l .plan)) after
+      flows : table (l .plan .count) (λ i. flowOf (sizeOf l) (flowAt (recycled l u) i)) ≡ table (paper.flowCount (linkOf l .plan)) after
       flows =
-          table-same (l .plan .count) _ after (λ i h. ap (flowOf (sizeOf l)) (flow-after i h) ∙ read-after i h)
+          table-same (l .plan .count) _ after (λ i h. ap (flowOf (sizeOf l)) (flow-after u i h) ∙ read-after i h)
           ∙ ap (λ (n : ℕ). table n after) (sym (read-count l))
 
-  pub sound-recycled : Sound (recycled l)
-  sound-recycled =
+  pub sound-recycled : {u : List ℕ} → Recycled (l .plan .slots) (windowAt l .head) (l .unbooked) u → Sound (recycled l u)
+  sound-recycled {u} x =
       sound-with l s next-below
       (record {
         long = length-replaced _ _ (l .owner) ∙ s .owners-long;
         owned = λ q b n. owner q b n (headRange (windowAt l) q) refl;
         spare = λ q h b. replaced-off _ _ (l .owner) q 0 (past-head q h) ∙ s .spare-owners q h b;
+        words = words-emptied (windowAt l) window-proper (l .owner) (s .owners-long) (s .unbooked) x;
       })
       (record {
         long = length-replaced _ _ (l .flows) ∙ s .flows-long;
         rows = carried-long (windowAt l) window-proper (l .plan .count) (l .held) (s .held-long);
-        each = λ i h. rw (flow-after i h) (sound-after i h);
-        spare = λ i h b. spare-stays i h ∙ s .spare-flows i h b;
+        each = λ i h. rw (flow-after u i h) (sound-after i h);
+        spare = λ i h b. spare-stays u i h ∙ s .spare-flows i h b;
       })
     where
-      owner : (q : ℕ) → q < 256 → (ownerAt (recycled l) q ≡ nobody → ⊥) → (t : Bool) → headRange (windowAt l) q ≡ t
-          → ownerAt (recycled l) q < l .plan .count
+      owner : (q : ℕ) → q < 256 → (ownerAt (recycled l u) q ≡ nobody → ⊥) → (t : Bool) → headRange (windowAt l) q ≡ t
+          → ownerAt (recycled l u) q < l .plan .count
       owner q b n true e = absurd (n (replaced-at (headRange (windowAt l)) (λ q x. nobody) (l .owner) q 0 (omega (arith, s .owners-long)) ∙ rw e))
       owner q b n false e =
           let z = replaced-off (headRange (windowAt l)) (λ q x. nobody) (l .owner) q 0 e in

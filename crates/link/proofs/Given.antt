@@ -17,8 +17,9 @@ use Rattle.model.specs.Request.{sought}
 use Rattle.window.specs.declared.Window.{Window}
 use Rattle.window.specs.Window.{windowOf, sizeOf, Proper, Ticked}
 use Rattle.tables.specs.Asked.{FlowFrom}
+use Rattle.tables.specs.Owners.{WordsOf}
 use Rattle.tables.specs.Rows.{row}
-use Rattle.tables.specs.Search.{validAt, searchFrom}
+use Rattle.tables.specs.Search.{lateAt, validAt, searchFrom}
 use Rattle.link.specs.declared.Flow.{Flow}
 use Rattle.link.specs.declared.Link.{Link}
 use Rattle.link.specs.Layout.{noFlow}
@@ -26,7 +27,7 @@ use Rattle.link.specs.Reading.{linkOf}
 use Rattle.link.specs.Sound.{Sound}
 use Rattle.link.specs.Given.{WindowOn, CreditOn, placed, RequestOn, WordOn}
 use Rattle.link.proofs.Plans.{count-some, count-most}
-use Rattle.link.proofs.Readings.{read-size, read-frames, some-flow, flows-most}
+use Rattle.link.proofs.Readings.{read-size, read-slots, read-frames, some-flow, flows-most}
 use Rattle.link.proofs.Searches.{sought-same}
 
 pub record AtHand (l : Link) (plan : Plan) (w : Window) : Type 0 where
@@ -101,11 +102,11 @@ module _ {l : Link} {plan : Plan} {w : Window} (a : AtHand l plan w) where
   credit-on = record { window = window-on; held-is = refl }
 
   pub request-on : {i : ℕ} (x : ℕ) → i ≡ placed (plan .count) (flowOf x)
-      → RequestOn l (plan .count) (getD (plan .entries) i noEntry) w (l .owner) (l .held) i (getD (l .flows) i noFlow) x
+      → RequestOn l (plan .count) (getD (plan .entries) i noEntry) w (l .unbooked) (l .held) i (getD (l .flows) i noFlow) x
   request-on {i} x e = record {
     window = window-on;
     held-is = refl;
-    owner-is = refl;
+    unbooked-is = refl;
     place-is = e;
     entry-is = ap (λ (p : Plan). getD (p .entries) i noEntry) (a .plan-is);
     flow-is = refl;
@@ -113,7 +114,7 @@ module _ {l : Link} {plan : Plan} {w : Window} (a : AtHand l plan w) where
 
 -- ---- what a request on link l is given
 
-module _ {l : Link} {n : ℕ} {e : Entry} {w : Window} {owner held : List ℕ} {i : ℕ} {f : Flow} {x : ℕ} (o : RequestOn l n e w owner held i f x) where
+module _ {l : Link} {n : ℕ} {e : Entry} {w : Window} {unbooked held : List ℕ} {i : ℕ} {f : Flow} {x : ℕ} (o : RequestOn l n e w unbooked held i f x) where
   pub word-on : WordOn (l .plan) n e (sizeOf w) x
   word-on = record {
     count-is = o .window .count-is;
@@ -127,16 +128,25 @@ module _ {l : Link} {n : ℕ} {e : Entry} {w : Window} {owner held : List ℕ} {
   pub flow-on : i < l .plan .count
   flow-on = rw place-on (placed-below (l .plan .count) (flowOf x) (some-flow l (o .window .sound)))
 
-  pub flow-from : FlowFrom w i (f .frame)
+  -- the words are those of the link's owners
+  pub words-on : WordsOf (w .slots) (w .frames) (l .owner) unbooked
+  words-on =
+      let is = o .window .window-is in
+      rw (read-slots l is, read-frames l is, o .unbooked-is) (o .window .sound .unbooked)
+
+  pub flow-from : FlowFrom w unbooked i (f .frame)
   flow-from = record {
     proper = o .window .proper;
+    owners = l .owner;
+    words-are = words-on;
     flow = omega (arith, flow-on, flows-most l (o .window .sound));
     frame = rw (read-frames l (o .window .window-is), o .flow-is) (o .window .sound .flows i flow-on .frame);
   }
 
   -- what is sought of it
-  pub sought-on : searchFrom (windowOf w) (validAt (windowOf w) owner (row held i) (e .cells)) (e .share) (f .frame) (f .left) ≡ sought (linkOf l) i
+  pub sought-on : searchFrom (windowOf w) (validAt (l .owner) (lateAt (windowOf w) (row held i) (e .cells))) (e .share) (f .frame) (f .left)
+      ≡ sought (linkOf l) i
   sought-on =
-      (λ k. searchFrom (windowOf w) (validAt (windowOf w) (o .owner-is k) (row (o .held-is k) i) (o .entry-is k .cells))
+      (λ k. searchFrom (windowOf w) (validAt (l .owner) (lateAt (windowOf w) (row (o .held-is k) i) (o .entry-is k .cells)))
       (o .entry-is k .share) (o .flow-is k .frame) (o .flow-is k .left))
       ∙ sym (sought-same l (o .window .sound) (windowOf w) (o .window .window-is) i flow-on)

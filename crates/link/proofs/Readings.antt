@@ -47,6 +47,10 @@ module _ (l : Link) where
     unfolding linkOf
     read-size = ap size is
 
+    pub read-slots : v .slots ≡ l .plan .slots
+    unfolding linkOf
+    read-slots = ap (λ (x : Window). x .slots) is
+
     pub read-frames : v .frames ≡ l .plan .frames
     unfolding linkOf
     read-frames = ap (λ (x : Window). x .frames) is

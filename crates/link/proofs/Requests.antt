@@ -2,7 +2,7 @@
 use Prim.Native.Nat.{ℕ, zero, suc, _≤_, _<_}
 use mathlib.Core.Path.{_≡_, refl, sym, ap, _∙_, subst}
 use mathlib.Core.List.{List}
-use mathlib.Core.Bool.{true, false, cond}
+use mathlib.Core.Bool.{true, false, true≢false}
 use native.Mathlib.Nat.{mod-lt}
 use native.Mathlib.Omega.{arith}
 use lib.ListN.{set}
@@ -20,6 +20,7 @@ use Rattle.window.specs.declared.Window.{Window}
 use Rattle.window.specs.Ranges.{replaced}
 use Rattle.window.specs.Window as window
 use Rattle.window.specs.Window.{windowOf, fromIn}
+use Rattle.unbooked.specs.Words.{Booked, InFrame}
 use Rattle.tables.specs.Rows.{row}
 use Rattle.tables.specs.Holdings.{shiftedRow, shifted}
 use Rattle.tables.proofs.Rows.{length-row, with-own-row}
@@ -29,7 +30,6 @@ use Rattle.tables.proofs.FoundPosition.{Booking}
 use Rattle.link.specs.declared.reply.Reply.{Reply}
 use Rattle.link.specs.declared.Flow.{Flow}
 use Rattle.link.specs.declared.Link.{Link}
-use Rattle.link.specs.declared.Step.{Step}
 use Rattle.link.specs.Layout.{sizeOf, entryAt, flowRow, flowAt, noFlow}
 use Rattle.link.specs.Updates.{movedTo, withOwners, withFlows, withHoldings, withFlow}
 use Rattle.link.specs.Reading.{linkOf}
@@ -38,7 +38,7 @@ use Rattle.link.specs.Given.{placed}
 use Rattle.link.specs.Reply.{replyOf}
 use Rattle.link.proofs.Plans.{plan-count, plan-entry}
 use Rattle.link.specs.Steps.{Stepped}
-use Rattle.link.proofs.Readings.{read-flow, read-size, read-frames}
+use Rattle.link.proofs.Readings.{read-flow, read-size, read-slots, read-frames}
 use Rattle.link.proofs.Updated.{read-with-flow, sound-with-flow, read-with-owner, sound-with-owner, read-from, sound-from}
 use Rattle.link.proofs.Given.{AtHand}
 use Rattle.link.proofs.Words.{word-refused}
@@ -47,16 +47,16 @@ use Rattle.link.proofs.Replies.{flow-there, reply-refused, request-foun
 
 -- ---- the link in which a reply is stored
 
--- the link with this window after a request of flow i, and the answer: the flow is stored, and a position is booked where one is granted
-abbrev after : Link → Window → ℕ → Reply → Step
-after l w i r = record {
-  link = cond (r .granted)
-      (withHoldings
-      (withFlows (withOwners l (set (l .owner) (r .position) i)) (set (l .flows) i (r .flow)))
-      (shifted (windowOf w) 1 i (r .position) (l .held)))
-      (withFlows l (set (l .flows) i (r .flow)));
-  answer = r .answer;
-}
+-- the link with this window where flow i was granted a position: the flow is stored, and the position is booked
+abbrev bookedBy : Link → Window → ℕ → Reply → (unbooked : List ℕ) → Link
+bookedBy l w i r u =
+    withHoldings
+    (withFlows (withOwners l (set (l .owner) (r .position) i) u) (set (l .flows) i (r .flow)))
+    (shifted (windowOf w) 1 i (r .position) (l .held))
+
+-- where it was granted none
+abbrev movedBy : Link → ℕ → Reply → Link
+movedBy l i r = withFlows l (set (l .flows) i (r .flow))
 
 -- the flow alone is stored
 flow-alone : (l : Link) (i : ℕ) (f : Flow) → withFlow l i (flowRow f (row (l .held) i)) ≡ withFlows l (set (l .flows) i f)
@@ -68,17 +68,23 @@ module _ {l : Link} {plan : Plan} {w : Window} (a : AtHand l plan w) (i : ℕ) (
     booking : Booking (windowOf w) (validHere l (a .sound) (windowOf w) (a .window-is) i hi) j p
     booking = found-at l (a .sound) (windowOf w) (a .window-is) i hi j c p e
 
-    pub position-below : p < window.sizeOf w
+    pub found-in-frame : InFrame w j p
+    found-in-frame = record { proper = a .proper; frame = booking .frame; low = booking .low; high = booking .high }
+
+    position-below : p < window.sizeOf w
     position-below = booking .position
 
     position-there : p < sizeOf l
     position-there = rw (read-size l (a .window-is)) at position-below
 
-    abbrev owned : Link
-    owned = withOwners l (set (l .owner) p i)
+    abbrev owned : List ℕ → Link
+    owned u = withOwners l (set (l .owner) p i) u
 
-    sound-owned : Sound owned
-    sound-owned = sound-with-owner l (a .sound) p i position-there hi
+    sound-owned : {u : List ℕ} → Booked (w .slots) j p (l .unbooked) u → Sound (owned u)
+    sound-owned x =
+        let slots = read-slots l (a .window-is) in
+        sound-with-owner l (a .sound) p i position-there hi j
+        (rw (read-frames l (a .window-is)) at (booking .frame)) (rw slots at (booking .low)) (rw slots at (booking .high)) (rw slots at x)
 
     -- what it holds then: fewer than its cells were held, so that no byte goes round
     abbrev raised : List ℕ
@@ -94,19 +100,23 @@ module _ {l : Link} {plan : Plan} {w : Window} (a : AtHand l plan w) (i : ℕ) (
         one-more w (a .proper) p position-below (row (l .held) i) (entryAt l i .cells) cells-most
         (valid-room (windowOf w) (l .owner) (row (l .held) i) _ _ (booking .passes))
 
-    booked-link : linkOf (withFlow owned i (flowRow (movedTo (flowAt l i .flow) j c) raised)) ≡ booked (linkOf l) i j c p
-    unfolding booked linkOf
-    booked-link =
-        read-from owned sound-owned (windowOf w) (a .window-is) i p hi suc raised raised-is (movedTo (flowAt l i .flow) j c)
-        (λ k. model.movedTo (sym (read-flow owned i hi) k) j c)
-        ∙ ap (λ (m : model.Link). model.withFlow m i (model.withHeld (model.movedTo (model.flow m i) j c) (model.heldFrom m i p suc)))
-        (read-with-owner l (a .sound) p i position-there hi)
+    module _ {u : List ℕ} (x : Booked (w .slots) j p (l .unbooked) u) where
+      abbrev bookedLink : Link
+      bookedLink = withFlow (owned u) i (flowRow (movedTo (flowAt l i .flow) j c) raised)
 
-    sound-booked : Sound (withFlow owned i (flowRow (movedTo (flowAt l i .flow) j c) raised))
-    unfolding linkOf
-    sound-booked =
-        sound-from owned sound-owned (windowOf w) (a .window-is) i p hi suc raised raised-is (movedTo (flowAt l i .flow) j c)
-        (rw (read-frames l (a .window-is)) at (booking .frame))
+      booked-link : linkOf bookedLink ≡ booked (linkOf l) i j c p
+      unfolding booked linkOf
+      booked-link =
+          read-from (owned u) (sound-owned x) (windowOf w) (a .window-is) i p hi suc raised raised-is (movedTo (flowAt l i .flow) j c)
+          (λ k. model.movedTo (sym (read-flow (owned u) i hi) k) j c)
+          ∙ ap (λ (m : model.Link). model.withFlow m i (model.withHeld (model.movedTo (model.flow m i) j c) (model.heldFrom m i p suc)))
+          (read-with-owner l (a .sound) p i position-there hi u)
+
+      sound-booked : Sound bookedLink
+      unfolding linkOf
+      sound-booked =
+          sound-from (owned u) (sound-owned x) (windowOf w) (a .window-is) i p hi suc raised raised-is (movedTo (flowAt l i .flow) j c)
+          (rw (read-frames l (a .window-is)) at (booking .frame))
 
   -- no position: flow i is in the newest frame
   module _ (c : ℕ) where
@@ -128,18 +138,28 @@ module _ {l : Link} {plan : Plan} {w : Window} (a : AtHand l plan w) (i : ℕ) (
 -- ---- what a reply comes to
 
 module _ {l : Link} {plan : Plan} {w : Window} (a : AtHand l plan w) (x : ℕ) {i : ℕ} (asker : i ≡ placed (plan .count) (flowOf x)) where
+  abbrev SteppedTo : Link → Reply → Type 0
+  SteppedTo next r = Stepped answerToRequest (request (linkOf l) x) (record { link = next; answer = r .answer })
+
   record Replied (r : Reply) : Type 0 where
-    pub below : r .position < window.sizeOf w
-    pub stepped : Stepped answerToRequest (request (linkOf l) x) (after l w i r)
+    pub in-frame : r .granted ≡ true → InFrame w (r .flow .frame) (r .position)
+    pub granted : r .granted ≡ true → {u : List ℕ} → Booked (w .slots) (r .flow .frame) (r .position) (l .unbooked) u
+        → SteppedTo (bookedBy l w i r u) r
+    pub refused : r .granted ≡ false → SteppedTo (movedBy l i r) r
+
+  -- a reply that grants nothing
+  replied-none : {r : Reply} → r .granted ≡ false → SteppedTo (movedBy l i r) r → Replied r
+  replied-none none stepped = record {
+    in-frame = λ z. absurd (true≢false (sym z ∙ none));
+    granted = λ z. absurd (true≢false (sym z ∙ none));
+    refused = λ _. stepped;
+  }
 
   place : i ≡ placed (l .plan .count) (flowOf x)
   place = asker ∙ ap (λ (p : Plan). placed (p .count) (flowOf x)) (a .plan-is)
 
   there : i < l .plan .count
   there = flow-there l (a .sound) x i place
-
-  some-position : 0 < window.sizeOf w
-  some-position = omega (arith, a .proper .measures .current-below)
 
   replied : Replied (replyOf i (request (linkOf l) x))
   replied = go (firstOf (wordTests (planFor (l .plan)) x)) refl
@@ -148,38 +168,41 @@ module _ {l : Link} {plan : Plan} {w : Window} (a : AtHand l plan w) (x : ℕ) {
       searched tests (found j c p) e =
           let small : p < 1024 = omega (arith, position-below a i there j c p e, a .proper .measures .positions-most) in
           subst Replied (reply-found l (a .sound) x i place tests refl j c p e small) (record {
-            below = position-below a i there j c p e;
-            stepped = rw (request-found l (a .sound) x i place tests refl j c p e)
-                (record { link-is = booked-link a i there j c p e; answer-is = refl; sound = sound-booked a i there j c p e });
+            in-frame = λ _. found-in-frame a i there j c p e;
+            granted = λ _ b.
+                rw (request-found l (a .sound) x i place tests refl j c p e)
+                (record { link-is = booked-link a i there j c p e b; answer-is = refl; sound = sound-booked a i there j c p e b });
+            refused = λ z. absurd (true≢false z);
           })
-      searched tests (nowhere c) e = subst Replied (reply-nowhere l (a .sound) x i place tests refl c e) (record {
-        below = some-position;
-        stepped = rw (request-nowhere l (a .sound) x i place tests refl c e, ← flow-alone l i (stopped a i there c))
-            (record { link-is = stopped-link a i there c; answer-is = refl; sound = sound-stopped a i there c });
-      })
+      searched tests (nowhere c) e =
+          subst Replied (reply-nowhere l (a .sound) x i place tests refl c e)
+          (replied-none refl
+          (rw (request-nowhere l (a .sound) x i place tests refl c e, ← flow-alone l i (stopped a i there c))
+          (record { link-is = stopped-link a i there c; answer-is = refl; sound = sound-stopped a i there c })))
 
       go : (n : ℕ) → n ≡ firstOf (wordTests (planFor (l .plan)) x) → Replied (replyOf i (request (linkOf l) x))
       go zero tests = searched tests (sought (linkOf l) i) refl
-      go (suc n) tests = subst Replied (reply-refused l (a .sound) x i place tests (λ z. omega arith)) (record {
-        below = some-position;
-        stepped = rw (word-refused l x tests (λ z. omega arith), set-getD (l .flows) i noFlow)
-            (record { link-is = refl; answer-is = refl; sound = a .sound });
-      })
+      go (suc n) tests =
+          subst Replied (reply-refused l (a .sound) x i place tests (λ z. omega arith))
+          (replied-none refl
+          (rw (word-refused l x tests (λ z. omega arith), set-getD (l .flows) i noFlow)
+          (record { link-is = refl; answer-is = refl; sound = a .sound })))
 
   module _ {r : Reply} (is : r ≡ replyOf i (request (linkOf l) x)) where
     replied-is : Replied r
     replied-is = rw is replied
 
-    pub reply-below : r .position < window.sizeOf w
-    reply-below = replied-is .below
+    pub reply-in-frame : r .granted ≡ true → InFrame w (r .flow .frame) (r .position)
+    reply-in-frame = replied-is .in-frame
 
-    pub request-granted : r .granted ≡ true → {h : List ℕ} → h ≡ shifted (windowOf w) 1 i (r .position) (l .held)
+    pub request-granted : r .granted ≡ true → {u : List ℕ} → Booked (w .slots) (r .flow .frame) (r .position) (l .unbooked) u
+        → {h : List ℕ} → h ≡ shifted (windowOf w) 1 i (r .position) (l .held)
         → Stepped answerToRequest (request (linkOf l) x) (record {
-          link = withHoldings (withFlows (withOwners l (set (l .owner) (r .position) i)) (set (l .flows) i (r .flow))) h;
+          link = withHoldings (withFlows (withOwners l (set (l .owner) (r .position) i) u) (set (l .flows) i (r .flow))) h;
           answer = r .answer;
         })
-    request-granted z e = rw e (rw z at (replied-is .stepped))
+    request-granted z b e = rw e (replied-is .granted z b)
 
     pub request-refused : r .granted ≡ false
         → Stepped answerToRequest (request (linkOf l) x) (record { link = withFlows l (set (l .flows) i (r .flow)); answer = r .answer })
-    request-refused z = rw z at (replied-is .stepped)
+    request-refused = replied-is .refused

@@ -1,23 +1,27 @@
 -- The search of flow i on link l, as it is read. Assumes nothing.
-use Prim.Native.Nat.{ℕ, _≤_, _<_}
+use Prim.Native.Nat.{ℕ, _+_, _*_, _≤_, _<_}
 use mathlib.Core.Path.{_≡_, sym, ap, _∙_, subst}
-use mathlib.Core.Bool.{Bool}
+use mathlib.Core.Bool.{Bool, not, _&&_, and-assoc}
 use native.Mathlib.Nat.{mod-lt}
+use native.Mathlib.Decide.{decLt}
 use native.Mathlib.Omega.{arith}
 use lib.Dec.{ltb}
+use borrow.Author.Tests.{le-ltb}
 use Rattle.model.specs.Tables.{ahead}
 use Rattle.model.specs.Plan as paper
-use Rattle.model.specs.Window.{Window, everyFrom, newest}
+use Rattle.model.specs.Window.{Window, passed, everyFrom, newest}
 use Rattle.model.specs.Link as model
-use Rattle.model.specs.Request.{valid, Found, found, nowhere, search, sought}
+use Rattle.model.specs.Request.{unbooked, valid, Found, found, nowhere, search, sought}
 use Rattle.window.proofs.GoingRound.{ahead-on}
+use Rattle.window.proofs.Windows.{frame-fits}
 use Rattle.window.proofs.FromOn.{everyFrom-same}
+use Rattle.tables.specs.Owners.{ownerOf}
 use Rattle.tables.specs.Holdings.{roomAt}
-use Rattle.tables.specs.Search.{validAt, searchFrom}
+use Rattle.tables.specs.Search.{lateAt, validAt, searchFrom, ValidSlots}
 use Rattle.tables.proofs.ValidPositions.{search-same}
 use Rattle.tables.proofs.FoundPosition.{search-books, Booking, Books}
 use Rattle.link.specs.declared.Link.{Link}
-use Rattle.link.specs.Layout.{sizeOf, entryAt, flowAt}
+use Rattle.link.specs.Layout.{sizeOf, entryAt, flowAt, ownerAt}
 use Rattle.link.specs.Reading.{linkOf}
 use Rattle.link.specs.Sound.{Sound}
 use Rattle.link.proofs.Readings.{read-entry, read-flow, read-holding, read-owner, read-size, read-frames}
@@ -25,7 +29,7 @@ use Rattle.link.proofs.Readings.{read-entry, read-flow, read-holding, r
 module _ (l : Link) (s : Sound l) (v : Window) (is : v ≡ model.window (linkOf l)) (i : ℕ) (hi : i < l .plan .count) where
   -- position p is valid for it
   abbrev pub validHere : ℕ → Bool
-  validHere p = validAt v (l .owner) (flowAt l i .held) (entryAt l i .cells) p
+  validHere p = validAt (l .owner) (lateAt v (flowAt l i .held) (entryAt l i .cells)) p
 
   -- there is room from p on
   room-same : (p : ℕ) → everyFrom (model.window (linkOf l)) p (λ q. ltb (model.holding (linkOf l) i q) (model.cells (linkOf l) i))
@@ -38,7 +42,23 @@ module _ (l : Link) (s : Sound l) (v : Window) (is : v ≡ model.window (linkOf 
 
   valid-same : (p : ℕ) → p < sizeOf l → valid (linkOf l) i p ≡ validHere p
   unfolding valid validAt
-  valid-same p hp = rw (is, read-owner l p hp, room-same p)
+  valid-same p hp =
+      let unowned = unbooked (ownerOf (ownerAt l p)) in
+      let later = not (passed (model.window (linkOf l)) p) in
+      let room = everyFrom (model.window (linkOf l)) p (roomAt (flowAt l i .held) (entryAt l i .cells)) in
+      rw (is, read-owner l p hp, room-same p) (and-assoc unowned later room)
+
+  -- a frame's word of valid slots has the positions that are valid by the paper
+  pub valid-slots-same : (j word : ℕ) → j < v .frames → ValidSlots v validHere j word → ValidSlots v (valid (linkOf l) i) j word
+  valid-slots-same j word hj x = record { is = λ k. x .is k ∙ go k (decLt k (v .slots)) }
+    where
+      there : (k : ℕ) → k < v .slots → j * v .slots + k < sizeOf l
+      there k h = rw (← read-size l is) (omega (arith, frame-fits (v .slots) (v .frames) j hj))
+
+      go : (k : ℕ) → Dec (k < v .slots)
+          → ltb k (v .slots) && validHere (j * v .slots + k) ≡ ltb k (v .slots) && valid (linkOf l) i (j * v .slots + k)
+      go k (yes h) = ap (ltb k (v .slots) &&_) (sym (valid-same (j * v .slots + k) (there k h)))
+      go k (no h) = rw (le-ltb k (v .slots) (omega arith))
 
   two : 2 ≤ v .frames
   two = rw (read-frames l is) (s .plan .accepted .two-frames)

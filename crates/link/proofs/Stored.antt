@@ -15,6 +15,9 @@ use Rattle.link.specs.Layout.{FlowRow, sizeFor, sizeOf, flowAt, ownerAt,
 use Rattle.tables.specs.Owners.{nobody, ownerOf, everywhere}
 use Rattle.link.specs.Reading.{flowOf, linkOf, storedOwner, storedFlow, stored}
 use Rattle.link.specs.Sound.{Sound, SoundFlow}
+use Rattle.model.specs.Request.{unbooked}
+use Rattle.unbooked.specs.Words.{wordsOf}
+use Rattle.unbooked.proofs.FrameWords.{one-list, words-of, words-same}
 use Rattle.window.proofs.Tabulated.{getD-table, table-past, table-of}
 use Rattle.tables.specs.Rows.{rowsOf}
 use Rattle.tables.proofs.Rows.{rows-of}
@@ -38,7 +41,15 @@ held-back plan f v p = go (decLt p (sizeFor plan))
 -- "the reading determines the link"
 pub stored-reading : (l : Link) → Sound l → stored (linkOf l) ≡ l
 unfolding stored linkOf everywhere
-stored-reading l s = λ k. record { plan = stored-plan (l .plan) (s .plan) k; cp = l .cp; owner = owners k; flows = flows k; held = held k; taken = l .taken }
+stored-reading l s = λ k. record {
+  plan = stored-plan (l .plan) (s .plan) k;
+  cp = l .cp;
+  owner = owners k;
+  unbooked = words k;
+  flows = flows k;
+  held = held k;
+  taken = l .taken;
+}
   where
     owner : (p : ℕ) → p < 256 → Dec (p < sizeOf l) → storedOwner (model.owner (linkOf l) p) ≡ ownerAt l p
     owner p b (yes h) = ap storedOwner (read-owner l p h) ∙ owner-back (ownerAt l p)
@@ -61,6 +72,13 @@ stored-reading l s = λ k. record { plan = stored-plan (l .plan) (s .plan) k; cp
 
     owners : table 256 (λ p. storedOwner (model.owner (linkOf l) p)) ≡ l .owner
     owners = table-of (l .owner) 256 _ 0 (s .owners-long) (λ p b. owner p b (decLt p (sizeOf l)))
+
+    words : wordsOf (l .plan .slots) (l .plan .frames) (λ p. unbooked (model.owner (linkOf l) p)) ≡ l .unbooked
+    words =
+        let F = l .plan .slots in
+        let W = l .plan .frames in
+        let made = words-of F W (λ p. unbooked (model.owner (linkOf l) p)) (s .plan .accepted .frames-most) in
+        one-list F W made (words-same F W (s .unbooked) (λ p h. rw (read-owner l p h)))
 
     flows : table 16 (λ i. storedFlow (model.flow (linkOf l) i)) ≡ l .flows
     flows = table-of (l .flows) 16 _ noFlow (s .flows-long) (λ i b. flow i b (decLt i (l .plan .count)))

@@ -13,6 +13,7 @@ use Rattle.calls.specs.Reading.{answerToTick}
 use Rattle.window.specs.declared.Window.{Window}
 use Rattle.window.specs.Window as window
 use Rattle.tables.specs.Owners.{ownerOf, emptied}
+use Rattle.unbooked.specs.Words.{Recycled}
 use Rattle.tables.specs.Holdings.{carried}
 use Rattle.link.specs.declared.Flow.{Flow}
 use Rattle.link.specs.declared.Link.{Link}
@@ -41,9 +42,10 @@ module _ (l : Link) (s : Sound l) where
     sound = sound-with l s (next-below l s) (sound-owners l s) (sound-flows l s);
   }
 
-  changed : nextAt l % l .plan .slots ≡ 0 → Advanced l (recycled l) (nextAt l)
+  changed : {u : List ℕ} → nextAt l % l .plan .slots ≡ 0 → Recycled (l .plan .slots) (windowAt l .head) (l .unbooked) u
+      → Advanced l (recycled l u) (nextAt l)
   unfolding tick.advanced linkOf
-  changed z = record { plan-is = refl; link-is = rw (eq-eqb _ _ z) (read-recycled l s); sound = sound-recycled l s }
+  changed {u} z x = record { plan-is = refl; link-is = rw (eq-eqb _ _ z) (read-recycled l s u); sound = sound-recycled l s x }
 
 module _ {l : Link} {plan : Plan} {w : Window} (a : AtHand l plan w) {on : Window} (t : window.Ticked w on) where
   window-is : w ≡ windowAt l
@@ -66,25 +68,27 @@ module _ {l : Link} {plan : Plan} {w : Window} (a : AtHand l plan w) {on : Windo
       let there = same ∙ ap (withCurrent (withTaken l false)) next-is in
       record { plan-is = ap (λ (y : Link). y .plan) there; link-is = ap linkOf there ∙ r .link-is; sound = rw there (r .sound) }
 
-  -- the head frame is left: its owners, holdings and flows were changed
-  pub head-left : {x : Link} {o h : List ℕ} {fs : List Flow} → (on .head ≡ w .head → ⊥)
+  -- the head frame is left: its owners with their words, its holdings and its flows were changed
+  pub head-left : {x : Link} {o u h : List ℕ} {fs : List Flow} → (on .head ≡ w .head → ⊥)
       → o ≡ emptied w (l .owner)
+      → Recycled (w .slots) (w .head) (l .unbooked) u
       → h ≡ carried w (plan .count) (l .held)
       → fs ≡ leftHeads plan (w .head) (on .head) (l .flows)
-      → withCurrent x (on .current) ≡ linkWith l (on .current) o fs h false
+      → withCurrent x (on .current) ≡ linkWith l (on .current) o u fs h false
       → Advanced l x (on .current)
-  head-left {x} {o} {h} {fs} n owners held flows same =
-      let r = changed l (a .sound) (rw (← next-is, ← slots-are) (t .leaves n .0)) in
-      let there = same ∙ (λ k. linkWith l (next-is k) (owners-are k) (flows-are k) (held-is k) false) in
+  head-left {x} {o} {u} {h} {fs} n owners words held flows same =
+      let words-are = rw (slots-are, ap (λ (x : Window). x .head) window-is) at words in
+      let r = changed l (a .sound) (rw (← next-is, ← slots-are) (t .leaves n .0)) words-are in
+      let there = same ∙ (λ k. linkWith l (next-is k) (owners-are k) u (flows-are k) (held-is k) false) in
       record { plan-is = ap (λ (y : Link). y .plan) there; link-is = ap linkOf there ∙ r .link-is; sound = rw there (r .sound) }
     where
-      owners-are : o ≡ recycled l .owner
+      owners-are : o ≡ recycled l u .owner
       owners-are = owners ∙ ap (λ (x : Window). emptied x (l .owner)) window-is
 
-      held-is : h ≡ recycled l .held
+      held-is : h ≡ recycled l u .held
       held-is = held ∙ (λ k. carried (window-is k) (a .plan-is k .count) (l .held))
 
-      flows-are : fs ≡ recycled l .flows
+      flows-are : fs ≡ recycled l u .flows
       flows-are =
           flows
           ∙ ap (λ (j : ℕ). leftHeads plan (w .head) j (l .flows)) (t .leaves n .1)

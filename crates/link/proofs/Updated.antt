@@ -1,5 +1,5 @@
 -- A link with something changed: how it is read, and that it is sound again. Assumes nothing.
-use Prim.Native.Nat.{ℕ, _≤_, _<_}
+use Prim.Native.Nat.{ℕ, _+_, _*_, _≤_, _<_}
 use mathlib.Core.Path.{_≡_, refl, ap, _∙_}
 use mathlib.Core.List.{List}
 use mathlib.Core.Option.{some}
@@ -18,8 +18,10 @@ use Rattle.window.specs.Ranges.{replaced}
 use Rattle.window.specs.Window.{fromIn}
 use Rattle.window.proofs.Tabulated.{table-same}
 use Rattle.window.proofs.Ranges.{length-replaced, replaced-at, replaced-off}
-use Rattle.tables.specs.Owners.{nobody, ownerOf}
+use Rattle.unbooked.specs.Words.{Booked}
+use Rattle.tables.specs.Owners.{nobody, ownerOf, WordsOf}
 use Rattle.tables.specs.Rows.{Sixteen}
+use Rattle.tables.proofs.UnbookedSlots.{words-owned}
 use Rattle.tables.proofs.Rows.{length-row, length-with-row, row-with-same, row-with-other}
 use Rattle.link.specs.declared.Flow.{Flow}
 use Rattle.link.specs.declared.Link.{Link}
@@ -31,11 +33,12 @@ use Rattle.link.proofs.Readings.{read-count, read-flow, read-holding, r
 
 -- ---- the invariant, by what may change
 
--- of the owners of a link with this plan
-pub record SoundOwners (plan : Plan) (owner : List ℕ) : Type 0 where
+-- of the owners of a link with this plan, and their words
+pub record SoundOwners (plan : Plan) (owner unbooked : List ℕ) : Type 0 where
   pub long : length owner ≡ 256
   pub owned : (p : ℕ) → p < 256 → (getD owner p 0 ≡ nobody → ⊥) → getD owner p 0 < plan .count
   pub spare : (p : ℕ) → sizeFor plan ≤ p → p < 256 → getD owner p 0 ≡ nobody
+  pub words : WordsOf (plan .slots) (plan .frames) owner unbooked
 
 -- of its flows and holdings
 pub record SoundFlows (plan : Plan) (flows : List Flow) (held : List ℕ) : Type 0 where
@@ -48,22 +51,23 @@ pub record SoundFlows (plan : Plan) (flows : List Flow) (held : List ℕ) : Type
 
 module _ (l : Link) (s : Sound l) where
   -- another current position, other owners, flows and holdings, each sound, and any mark
-  pub sound-with : {p : ℕ} {o : List ℕ} {fs : List Flow} {h : List ℕ} {t : Bool} → p < sizeOf l → SoundOwners (l .plan) o → SoundFlows (l .plan) fs h
-      → Sound (linkWith l p o fs h t)
+  pub sound-with : {p : ℕ} {o u : List ℕ} {fs : List Flow} {h : List ℕ} {t : Bool} → p < sizeOf l → SoundOwners (l .plan) o u → SoundFlows (l .plan) fs h
+      → Sound (linkWith l p o u fs h t)
   sound-with current owners flows = record {
     plan = s .plan;
     current = current;
     owners-long = owners .long;
     owners = owners .owned;
     spare-owners = owners .spare;
+    unbooked = owners .words;
     flows-long = flows .long;
     held-long = flows .rows;
     flows = flows .each;
     spare-flows = flows .spare;
   }
 
-  pub sound-owners : SoundOwners (l .plan) (l .owner)
-  sound-owners = record { long = s .owners-long; owned = s .owners; spare = s .spare-owners }
+  pub sound-owners : SoundOwners (l .plan) (l .owner) (l .unbooked)
+  sound-owners = record { long = s .owners-long; owned = s .owners; spare = s .spare-owners; words = s .unbooked }
 
   pub sound-flows : SoundFlows (l .plan) (l .flows) (l .held)
   sound-flows = record { long = s .flows-long; rows = s .held-long; each = s .flows; spare = s .spare-flows }
@@ -114,13 +118,19 @@ module _ (l : Link) (s : Sound l) where
         each j h (yes e) = rw (e, same-flow-at) v
         each j h (no e) = rw (other-flow-at j e) (s .flows j h)
 
-  -- ---- flow i books position p
+  -- ---- flow i books position p of frame j
 
   module _ (p i : ℕ) (hp : p < sizeOf l) (hi : i < l .plan .count) where
-    pub read-with-owner : linkOf (withOwners l (set (l .owner) p i))
+    no-flow-nobody : i ≡ nobody → ⊥
+    no-flow-nobody e = omega (arith, flows-most l s)
+
+    owner-there : p < length (l .owner)
+    owner-there = omega (arith, s .owners-long, size-most l s)
+
+    pub read-with-owner : (u : List ℕ) → linkOf (withOwners l (set (l .owner) p i) u)
         ≡ model.withOwners (linkOf l) (λ q. cond (eqb q p) (some i) (model.owner (linkOf l) q))
     unfolding linkOf
-    read-with-owner =
+    read-with-owner u =
         let e =
         table-same (sizeOf l) (λ q. ownerOf (getD (set (l .owner) p i) q 0)) (λ q. cond (eqb q p) (some i) (model.owner (linkOf l) q))
         (λ q b. go q b (ℕ-discrete q p)) in
@@ -128,20 +138,26 @@ module _ (l : Link) (s : Sound l) where
       where
         go : (q : ℕ) → q < sizeOf l → Dec (q ≡ p) → ownerOf (getD (set (l .owner) p i) q 0) ≡ cond (eqb q p) (some i) (model.owner (linkOf l) q)
         go q b (yes d) =
-            let below : p < length (l .owner) = omega (arith, s .owners-long, size-most l s) in
-            rw (eq-eqb q p d, d, getD-set-same (l .owner) p i 0 below, ne-eqb i nobody (λ e. omega (arith, flows-most l s)))
+            rw (eq-eqb q p d, d, getD-set-same (l .owner) p i 0 owner-there, ne-eqb i nobody no-flow-nobody)
         go q b (no d) = rw (ne-eqb q p d, getD-set-other (l .owner) p q i 0 d, read-owner l q b)
 
-    pub sound-with-owner : Sound (withOwners l (set (l .owner) p i))
-    sound-with-owner = sound-with (s .current) (record {
+    pub sound-with-owner : {u : List ℕ} (j : ℕ) → j < l .plan .frames → j * l .plan .slots ≤ p → p < j * l .plan .slots + l .plan .slots
+        → Booked (l .plan .slots) j p (l .unbooked) u → Sound (withOwners l (set (l .owner) p i) u)
+    sound-with-owner {u} j hj low high x = sound-with (s .current) (record {
       long = length-set (l .owner) p i ∙ s .owners-long;
       owned = λ q b n. go q b n (ℕ-discrete q p);
       spare = λ q h b. getD-set-other (l .owner) p q i 0 (λ e. omega arith) ∙ s .spare-owners q h b;
+      words = words-then;
     }) sound-flows
       where
+        words-then : WordsOf (l .plan .slots) (l .plan .frames) (set (l .owner) p i) u
+        words-then =
+            words-owned (l .plan .slots) (l .plan .frames) (s .plan .accepted .frames-most) (l .owner) (s .unbooked) j hj
+            p i owner-there no-flow-nobody low high x
+
         go : (q : ℕ) → q < 256 → (getD (set (l .owner) p i) q 0 ≡ nobody → ⊥) → Dec (q ≡ p)
             → getD (set (l .owner) p i) q 0 < l .plan .count
-        go q b n (yes d) = rw (d, getD-set-same (l .owner) p i 0 (omega (arith, s .owners-long, size-most l s))) hi
+        go q b n (yes d) = rw (d, getD-set-same (l .owner) p i 0 owner-there) hi
         go q b n (no d) = let e = getD-set-other (l .owner) p q i 0 d in rw e (s .owners q b (λ z. n (e ∙ z)))
 
   -- ---- flow i as f, which reads as y, with its holdings changed from position p on

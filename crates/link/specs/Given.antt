@@ -47,16 +47,16 @@ pub record Creditable (n : ℕ) (w : Window) (held : List ℕ) (i p : ℕ) : Typ
   pub position : p < sizeOf w
   pub some-held : everyFrom (windowOf w) p (someHeld (row held i)) ≡ true
 
--- ---- a request on link l: what the flows hold, the owners, and of the word's flow its entry, frame and remainder
+-- ---- a request on link l: what the flows hold, the unbooked slots, and of the word's flow its entry, frame and remainder
 
 -- flow i of a plan of n flows, and 0 where there is none
 abbrev pub placed : ℕ → ℕ → ℕ
 placed n i = cond (ltb i n) i 0
 
-pub record RequestOn (l : Link) (n : ℕ) (e : Entry) (w : Window) (owner held : List ℕ) (i : ℕ) (f : Flow) (word : ℕ) : Type 0 where
+pub record RequestOn (l : Link) (n : ℕ) (e : Entry) (w : Window) (unbooked held : List ℕ) (i : ℕ) (f : Flow) (word : ℕ) : Type 0 where
   pub window : WindowOn l n w
   pub held-is : held ≡ l .held
-  pub owner-is : owner ≡ l .owner
+  pub unbooked-is : unbooked ≡ l .unbooked
   pub place-is : i ≡ placed n (flowOf word)
   pub entry-is : e ≡ entryAt l i
   pub flow-is : f ≡ flowAt l i .flow

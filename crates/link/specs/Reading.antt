@@ -2,6 +2,7 @@
 use Prim.Native.Nat.{ℕ}
 use mathlib.Core.Option.{Option, some, none}
 use lib.ListN.{getD}
+use Rattle.unbooked.specs.Words.{wordsOf}
 use Rattle.tables.specs.Rows.{rowsOf}
 use Rattle.tables.specs.Owners.{nobody, ownerOf, everywhere}
 use Rattle.link.specs.declared.Flow.{Flow}
@@ -11,6 +12,7 @@ use Rattle.link.specs.Updates.{movedTo}
 use Rattle.plan.specs.Reading as plan
 use Rattle.model.specs.Tables.{table}
 use Rattle.model.specs.Link as model
+use Rattle.model.specs.Request.{unbooked}
 
 -- ---- read as the paper's
 
@@ -45,6 +47,7 @@ stored m = record {
   plan = plan.stored (m .plan);
   cp = m .current;
   owner = table 256 (λ p. storedOwner (model.owner m p));
+  unbooked = wordsOf (m .plan .slots) (m .plan .frames) (λ p. unbooked (model.owner m p));
   flows = table 16 (λ i. storedFlow (model.flow m i));
   held = rowsOf (model.holding m);
   taken = m .taken;

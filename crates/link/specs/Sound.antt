@@ -5,7 +5,7 @@ use lib.ListN.{length, getD}
 use Rattle.link.specs.declared.Link.{Link}
 use Rattle.tables.specs.Rows.{Sixteen}
 use Rattle.link.specs.Layout.{FlowRow, sizeFor, sizeOf, flowAt, ownerAt}
-use Rattle.tables.specs.Owners.{nobody}
+use Rattle.tables.specs.Owners.{nobody, WordsOf}
 use Rattle.link.specs.Reading.{spareFlow}
 use Rattle.plan.specs.declared.Plan.{Plan}
 use Rattle.plan.specs.Reading.{Valid}
@@ -22,6 +22,8 @@ pub record Sound (l : Link) : Type 0 where
   -- an owner is a flow, or nobody
   pub owners : (p : ℕ) → p < 256 → (ownerAt l p ≡ nobody → ⊥) → ownerAt l p < l .plan .count
   pub spare-owners : (p : ℕ) → sizeOf l ≤ p → p < 256 → ownerAt l p ≡ nobody
+  -- bit i of word j is 1 exactly when slot i of frame j is there and nobody booked it
+  pub unbooked : WordsOf (l .plan .slots) (l .plan .frames) (l .owner) (l .unbooked)
   pub flows-long : length (l .flows) ≡ 16
   pub held-long : Sixteen (l .held)
   pub flows : (i : ℕ) → i < l .plan .count → SoundFlow (l .plan) (flowAt l i)

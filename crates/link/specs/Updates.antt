@@ -32,24 +32,24 @@ withHeld x h = flowRow (x .flow) h
 
 -- ---- a link
 
--- another current position, other owners, flows and holdings, and another mark
-abbrev pub linkWith : Link → (cp : ℕ) (owner : List ℕ) (flows : List Flow) (held : List ℕ) (taken : Bool) → Link
-linkWith l p o fs h t = record { plan = l .plan; cp = p; owner = o; flows = fs; held = h; taken = t }
+-- another current position, other owners with their words, other flows and holdings, and another mark
+abbrev pub linkWith : Link → (cp : ℕ) (owner unbooked : List ℕ) (flows : List Flow) (held : List ℕ) (taken : Bool) → Link
+linkWith l p o u fs h t = record { plan = l .plan; cp = p; owner = o; unbooked = u; flows = fs; held = h; taken = t }
 
 abbrev pub withCurrent : Link → ℕ → Link
-withCurrent l p = linkWith l p (l .owner) (l .flows) (l .held) (l .taken)
+withCurrent l p = linkWith l p (l .owner) (l .unbooked) (l .flows) (l .held) (l .taken)
 
-abbrev pub withOwners : Link → List ℕ → Link
-withOwners l o = linkWith l (l .cp) o (l .flows) (l .held) (l .taken)
+abbrev pub withOwners : Link → (owner unbooked : List ℕ) → Link
+withOwners l o u = linkWith l (l .cp) o u (l .flows) (l .held) (l .taken)
 
 abbrev pub withFlows : Link → List Flow → Link
-withFlows l fs = linkWith l (l .cp) (l .owner) fs (l .held) (l .taken)
+withFlows l fs = linkWith l (l .cp) (l .owner) (l .unbooked) fs (l .held) (l .taken)
 
 abbrev pub withHoldings : Link → List ℕ → Link
-withHoldings l h = linkWith l (l .cp) (l .owner) (l .flows) h (l .taken)
+withHoldings l h = linkWith l (l .cp) (l .owner) (l .unbooked) (l .flows) h (l .taken)
 
 abbrev pub withTaken : Link → Bool → Link
-withTaken l t = linkWith l (l .cp) (l .owner) (l .flows) (l .held) t
+withTaken l t = linkWith l (l .cp) (l .owner) (l .unbooked) (l .flows) (l .held) t
 
 -- another flow i, with its row
 abbrev pub withFlow : Link → ℕ → FlowRow → Link

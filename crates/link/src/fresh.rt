@@ -12,6 +12,7 @@ use plan::Entry;
 use plan::Plan;
 use tables::holdings::nothing_held;
 use tables::owners::unbooked;
+use unbooked::frames::every_slot;
 
 // The frames and remainders of n flows, each with its share.
 fn flows(entries: [Entry; 16], count: usize) -> [Flow; 16]
@@ -38,11 +39,13 @@ impl Link {
         let entries = plan.entries;
         let flows = flows(entries, plan.count);
         let owner = unbooked();
+        let words = every_slot(plan.slots, plan.frames);
         let held = nothing_held();
         Link {
             plan,
             cp: 0,
             owner,
+            unbooked: words,
             flows,
             held,
             taken: false,

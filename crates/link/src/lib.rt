@@ -13,6 +13,7 @@ pub mod tick;
 use calls::Answer;
 use plan::Plan;
 use tables::holdings::Holdings;
+use unbooked::Unbooked;
 
 // A flow's injection frame and its remainder.
 pub struct Flow {
@@ -36,6 +37,7 @@ pub struct Link {
     pub plan: Plan,
     pub cp: usize,
     pub owner: [u8; 256],
+    pub unbooked: Unbooked,
     pub flows: [Flow; 16],
     pub held: Holdings,
     // the current slot is marked taken

@@ -25,6 +25,8 @@ use tables::Found;
 use tables::holdings::Holdings;
 use tables::holdings::shift_from;
 use tables::search::find;
+use unbooked::Unbooked;
+use unbooked::frames::book;
 use window::Window;
 use window::positions::window;
 
@@ -79,14 +81,14 @@ pub fn ask<'a>(
     count: usize,
     e: Entry,
     w: Window,
-    owner: &'a [u8; 256],
+    unbooked: &'a Unbooked,
     held: &'a Holdings,
     i: usize,
     flow: Flow,
     word: u32,
 ) -> Reply
-    requires { ⌜ SomeLink (λ l. RequestOn l count e w (now owner) (now held) i flow word) ⌝ }
-    ensures { λ r. ⌜ ((l : Link) → RequestOn l count e w (now (owner .entry)) (now (held .entry)) i flow word
+    requires { ⌜ SomeLink (λ l. RequestOn l count e w (now unbooked) (now held) i flow word) ⌝ }
+    ensures { λ r. ⌜ ((l : Link) → RequestOn l count e w (now (unbooked .entry)) (now (held .entry)) i flow word
         → r ≡ replyOf i (model.request (linkOf l) word)) ⌝ }
 {
     let number = refusal(count, e, w.slots * w.frames, word);
@@ -99,7 +101,7 @@ pub fn ask<'a>(
         return refused(flow, 11);
     }
     let found = find(
-        owner,
+        unbooked,
         held,
         i,
         e.cells,
@@ -135,12 +137,13 @@ impl Link {
         let e = plan.entries[i];
         let flow = self.flows[i];
         let w = window(plan.slots, plan.frames, self.cp);
-        let reply = ask(plan.count, e, w, &self.owner, &self.held, i, flow, word);
+        let reply = ask(plan.count, e, w, &self.unbooked, &self.held, i, flow, word);
         let flow = reply.flow;
         self.flows[i] = flow;
         if reply.granted {
             let position = reply.position;
             self.owner[position] = i as u8;
+            book(&mut self.unbooked, w, flow.frame, position);
             shift_from(&mut self.held, 1, i, w, position);
         }
         let answer = reply.answer;

@@ -15,6 +15,7 @@ use crate::Step;
 use plan::Plan;
 use tables::holdings::carry_head;
 use tables::owners::empty_head;
+use unbooked::frames::recycle_head;
 use window::positions::window;
 
 // The answer at a position with this owner.
@@ -57,6 +58,7 @@ impl Link {
         self.taken = false;
         if on.head != w.head {
             empty_head(&mut self.owner, w);
+            recycle_head(&mut self.unbooked, w);
             carry_head(&mut self.held, plan.count, w);
             let flows = leave_head(self.flows, plan, w.head, on.head);
             self.flows = flows;

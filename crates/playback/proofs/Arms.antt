@@ -16,6 +16,7 @@ use Rattle.model.specs.Request.{request}
 use Rattle.model.specs.Credit.{creditTests}
 use Rattle.window.specs.declared.Window.{Window}
 use Rattle.window.specs.Window.{windowOf, Ticked}
+use Rattle.unbooked.specs.Words.{Booked}
 use Rattle.tables.specs.Owners.{ownerOf}
 use Rattle.tables.specs.Holdings.{shifted}
 use Rattle.link.specs.declared.Link.{Link}
@@ -35,11 +36,12 @@ module _ {plan : Plan} {w : Window} {link : Link} (a : AtHand (playedAt link w) 
   -- ---- a request of flow i by word x
 
   module _ (x : ℕ) {i : ℕ} (asker : i ≡ placed (plan .count) (flowOf x)) {r : Reply} (is : r ≡ replyOf i (request (linkOf (playedAt link w)) x)) where
-    pub granted-played : r .granted ≡ true → {h : List ℕ} → h ≡ shifted (windowOf w) 1 i (r .position) (link .held)
+    pub granted-played : r .granted ≡ true → {u : List ℕ} → Booked (w .slots) (r .flow .frame) (r .position) (link .unbooked) u
+        → {h : List ℕ} → h ≡ shifted (windowOf w) 1 i (r .position) (link .held)
         → Played (playedAt link w) (callIn (Record.Call (Request x))) plan w
-        (withHoldings (withFlows (withOwners link (set (link .owner) (r .position) i)) (set (link .flows) i (r .flow))) h) (r .answer)
-    granted-played granted shift =
-        let e = request-granted a x asker is granted shift in
+        (withHoldings (withFlows (withOwners link (set (link .owner) (r .position) i) u) (set (link .flows) i (r .flow))) h) (r .answer)
+    granted-played granted booked shift =
+        let e = request-granted a x asker is granted booked shift in
         played-request (at-hand-still a (e .sound) refl refl) x e
 
     pub refused-played : r .granted ≡ false

@@ -16,6 +16,8 @@ use link::tick::turn;
 use tables::holdings::carry_head;
 use tables::holdings::shift_from;
 use tables::owners::empty_head;
+use unbooked::frames::book;
+use unbooked::frames::recycle_head;
 use window::numbers::smaller;
 use window::positions::window;
 
@@ -55,12 +57,13 @@ pub fn play(start: Link, records: &[u8], out: &mut [u8]) -> Playback
                 let i = asker(plan.count, word);
                 let e = plan.entries[i];
                 let flow = link.flows[i];
-                let reply = ask(plan.count, e, w, &link.owner, &link.held, i, flow, word);
+                let reply = ask(plan.count, e, w, &link.unbooked, &link.held, i, flow, word);
                 let flow = reply.flow;
                 link.flows[i] = flow;
                 if reply.granted {
                     let position = reply.position;
                     link.owner[position] = i as u8;
+                    book(&mut link.unbooked, w, flow.frame, position);
                     shift_from(&mut link.held, 1, i, w, position);
                 }
                 answer = reply.answer;
@@ -79,6 +82,7 @@ pub fn play(start: Link, records: &[u8], out: &mut [u8]) -> Playback
                 link.taken = false;
                 if on.head != w.head {
                     empty_head(&mut link.owner, w);
+                    recycle_head(&mut link.unbooked, w);
                     carry_head(&mut link.held, plan.count, w);
                     let flows = leave_head(link.flows, plan, w.head, on.head);
                     link.flows = flows;

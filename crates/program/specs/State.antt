@@ -49,6 +49,7 @@ noLink = record {
   plan = record { slots = 0; frames = 0; buffer = 0; count = 0; entries = replicate 16 noEntry };
   cp = 0;
   owner = replicate 256 0;
+  unbooked = replicate 8 0;
   flows = replicate 16 noFlow;
   held = replicate 4096 0;
   taken = false;

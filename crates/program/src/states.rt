@@ -32,12 +32,14 @@ pub(crate) fn no_link() -> Link
     };
     let flow = Flow { frame: 0, left: 0 };
     let owner = [0u8; 256];
+    let unbooked = [0u64; 8];
     let flows = [flow; 16];
     let held = [0u8; 4096];
     Link {
         plan,
         cp: 0,
         owner,
+        unbooked,
         flows,
         held,
         taken: false,

@@ -1,5 +1,5 @@
 -- What a search finds: a position of a frame that passes the test. Assumes nothing.
-use Prim.Native.Nat.{ℕ, zero, suc, _*_, _≤_, _<_}
+use Prim.Native.Nat.{ℕ, zero, suc, _+_, _*_, _≤_, _<_}
 use mathlib.Core.Path.{_≡_, refl}
 use mathlib.Core.Option.{Option, some, none}
 use mathlib.Core.Bool.{Bool, true}
@@ -12,6 +12,8 @@ use Rattle.window.proofs.Windows.{frame-fits}
 
 pub record Booking (w : model.Window) (ok : ℕ → Bool) (j p : ℕ) : Type 0 where
   pub frame : j < w .frames
+  pub low : j * w .slots ≤ p
+  pub high : p < j * w .slots + w .slots
   pub position : p < model.size w
   pub passes : ok p ≡ true
 
@@ -26,7 +28,13 @@ module _ (w : model.Window) (two : 2 ≤ w .frames) (ok : ℕ → Bool) (share :
       go : (o : Option ℕ) → earliest w ok share j ≡ o → Books w ok (orElse j c o rest)
       go (some p) e =
           let hit = firstFrom-some (w .slots) (j * w .slots) ok p e in
-          record { frame = h; position = omega (arith, hit .high, frame-fits (w .slots) (w .frames) j h); passes = hit .passes }
+          record {
+            frame = h;
+            low = hit .low;
+            high = hit .high;
+            position = omega (arith, hit .high, frame-fits (w .slots) (w .frames) j h);
+            passes = hit .passes;
+          }
       go none e = b
 
   pub search-books : (more j c : ℕ) → j < w .frames → Books w ok (search w ok share more j c)

@@ -5,11 +5,12 @@ mod RowRanges
 mod CarriedRows
 pub mod HoldingChanges
 pub mod FreshTables
+pub mod UnbookedSlots
 -- one pass over a row
 mod Padded
 mod PaddedFrom
 -- the search
-mod PositionWalk
+mod ValidSlots
 mod FrameWalk
 pub mod ValidPositions
 pub mod FoundPosition

@@ -1,30 +1,18 @@
--- Valid positions: the unbooked ones from a rank on, what a valid position has, and a search by one test for another. Assumes nothing.
+-- Valid positions: what a valid position has, and a search by one test for another. Assumes nothing.
 use Prim.Native.Nat.{ℕ, zero, suc, _+_, _*_, _≤_, _<_}
-use mathlib.Core.Path.{_≡_, refl, sym}
+use mathlib.Core.Path.{_≡_, refl}
 use mathlib.Core.List.{List}
-use mathlib.Core.Bool.{Bool, true, false, not, _&&_, and-assoc}
+use mathlib.Core.Bool.{Bool, true, false, not, _&&_}
 use native.Mathlib.Nat.{mod-lt}
 use native.Mathlib.Omega.{arith}
-use lib.ListN.{getD}
 use Rattle.model.specs.Tables.{firstFrom}
 use Rattle.model.specs.Window as model
 use Rattle.model.specs.Window.{passed, everyFrom}
-use Rattle.model.specs.Request.{unbooked, earliest, search}
-use Rattle.window.specs.declared.Window.{Window}
-use Rattle.window.specs.Window.{windowOf, sizeOf}
+use Rattle.model.specs.Request.{earliest, search}
 use Rattle.window.proofs.Windows.{frame-fits}
-use Rattle.tables.specs.Owners.{ownerOf}
+use Rattle.tables.specs.Owners.{unbookedAt}
 use Rattle.tables.specs.Holdings.{roomAt}
-use Rattle.tables.specs.Search.{validAt, LateWithRoom, freeFrom}
-
--- ---- by a rank
-
-pub valid-by-rank : (w : Window) (held : List ℕ) (cells low : ℕ) → LateWithRoom w held cells low → (owners : List ℕ) (p : ℕ) → p < sizeOf w
-    → freeFrom (windowOf w) owners low p ≡ validAt (windowOf w) owners held cells p
-unfolding freeFrom validAt
-valid-by-rank w held cells low x owners p l =
-    rw (x .is p l)
-    (sym (and-assoc (unbooked (ownerOf (getD owners p 0))) (not (passed (windowOf w) p)) (everyFrom (windowOf w) p (roomAt held cells))))
+use Rattle.tables.specs.Search.{lateAt, validAt}
 
 -- ---- what a valid position has
 
@@ -33,10 +21,10 @@ and-right true b e = e
 and-right false b e = cc
 
 -- room from it on
-pub valid-room : (w : model.Window) (owners held : List ℕ) (cells p : ℕ) → validAt w owners held cells p ≡ true
+pub valid-room : (w : model.Window) (owners held : List ℕ) (cells p : ℕ) → validAt owners (lateAt w held cells) p ≡ true
     → everyFrom w p (roomAt held cells) ≡ true
 unfolding validAt
-valid-room w owners held cells p e = and-right (unbooked (ownerOf (getD owners p 0)) && not (passed w p)) _ e
+valid-room w owners held cells p e = and-right (not (passed w p)) _ (and-right (unbookedAt owners p) _ e)
 
 -- ---- a search by two tests that agree at every position
 

@@ -1,36 +1,46 @@
--- The search of a request over the tables: valid positions, and what it comes to, read as the paper's. Assumes nothing.
-use Prim.Native.Nat.{ℕ}
+-- The search of a request over the tables: valid positions, what it comes to, read as the paper's, and a frame's valid slots in one word.
+-- Assumes nothing.
+use Prim.Native.Nat.{ℕ, _+_}
+use mathlib.Core.Path.{_≡_}
 use mathlib.Core.List.{List}
 use mathlib.Core.Bool.{Bool, not, _&&_}
-use lib.ListN.{getD}
-use lib.Dec.{leb}
+use lib.Dec.{ltb}
 use Rattle.tables.specs.declared.Found.{Found}
 use Rattle.tables.specs.declared.Found.the-variants.{At, Nowhere}
-use Rattle.tables.specs.Owners.{ownerOf}
+use Rattle.tables.specs.Owners.{unbookedAt, WordsOf}
 use Rattle.tables.specs.Holdings.{roomAt}
 use Rattle.window.specs.declared.Window as code
-use Rattle.window.specs.Window.{windowOf, FromRank}
+use Rattle.window.specs.Window.{FromRank}
+use Rattle.unbooked.specs.Bits.{bitAt}
 use Rattle.model.specs.Tables.{ahead}
-use Rattle.model.specs.Window.{Window, newest, rank, passed, everyFrom}
+use Rattle.model.specs.Window.{Window, start, newest, passed, everyFrom}
 use Rattle.model.specs.Request as model
 
 abbrev pub foundOf : Found → model.Found
 foundOf (At frame left position) = model.found frame left position
 foundOf (Nowhere left) = model.nowhere left
 
--- position p is valid for a flow with these cells and these holdings: "unbooked, later than CP when in HF, and the flow holds fewer
+-- position p is late enough for a flow with these cells and these holdings: "later than CP when in HF, and the flow holds fewer
 -- than its cells there and at every later position of the window"
-unfoldable pub validAt : Window → (owners held : List ℕ) (cells p : ℕ) → Bool
-validAt w owners held cells p = model.unbooked (ownerOf (getD owners p 0)) && not (passed w p) && everyFrom w p (roomAt held cells)
+abbrev pub lateAt : Window → (held : List ℕ) (cells p : ℕ) → Bool
+lateAt w held cells p = not (passed w p) && everyFrom w p (roomAt held cells)
+
+-- position p is valid: "unbooked", and late enough
+unfoldable pub validAt : (owners : List ℕ) (late : ℕ → Bool) (p : ℕ) → Bool
+validAt owners late p = unbookedAt owners p && late p
 
 -- the request rule from frame j with the remainder c up to the newest frame, where a position is valid if it passes `ok`
 abbrev pub searchFrom : Window → (ok : ℕ → Bool) (share j c : ℕ) → model.Found
 searchFrom w ok share j c = model.search w ok share (ahead (w .frames) j (newest w)) j c
 
--- the positions that are not passed and from which on there is room are those of rank `low` or more
-abbrev pub LateWithRoom : code.Window → (held : List ℕ) (cells low : ℕ) → Type 0
-LateWithRoom w held cells low = FromRank w (λ p. not (passed (windowOf w) p) && everyFrom (windowOf w) p (roomAt held cells)) low
+-- ---- a frame's valid slots in one word
 
--- position p is unbooked, and its rank is at least `low`
-unfoldable pub freeFrom : Window → List ℕ → ℕ → ℕ → Bool
-freeFrom w owners low p = model.unbooked (ownerOf (getD owners p 0)) && leb low (rank w p)
+-- the words are those of these owners, and the late positions are those of rank `low` or more
+pub record Gathering (w : code.Window) (owners words : List ℕ) (late : ℕ → Bool) (low : ℕ) : Type 0 where
+  pub words-are : WordsOf (w .slots) (w .frames) owners words
+  pub late-from : FromRank w late low
+
+-- document 02, N3: "Bit i of the word is 1 exactly when i is below F and slot i of the frame is valid", where a position is valid if
+-- it passes `ok`
+pub record ValidSlots (w : Window) (ok : ℕ → Bool) (j word : ℕ) : Type 0 where
+  pub is : (i : ℕ) → bitAt word i ≡ ltb i (w .slots) && ok (start w j + i)

@@ -1,24 +1,28 @@
 // The search for a position to book.
+ghost use Prim.Native.Nat.{ℕ, _<_};
 ghost use mathlib.Core.Path.{_≡_};
-ghost use Prim.Native.Nat.{_<_};
-ghost use Rattle.window.specs.Window.{windowOf, Proper};
+ghost use mathlib.Core.Bool.{Bool};
+ghost use mathlib.Core.List.{List};
+ghost use Rattle.window.specs.Window.{windowOf, Proper, FromRank};
 ghost use Rattle.tables.specs.Asked.{FlowFrom};
+ghost use Rattle.tables.specs.Owners.{WordsOf};
 ghost use Rattle.tables.specs.Rows.{row};
-ghost use Rattle.tables.specs.Search.{foundOf, validAt, searchFrom, freeFrom, LateWithRoom};
+ghost use Rattle.tables.specs.Search.{foundOf, lateAt, validAt, searchFrom, Gathering, ValidSlots};
 use crate::Found;
 use crate::holdings::Holdings;
 use crate::holdings::room_rank;
+use unbooked::Unbooked;
+use unbooked::bits::from;
+use unbooked::bits::lowest;
 use window::Window;
 use window::numbers::larger;
 use window::numbers::over;
-use window::numbers::smaller;
-use window::positions::ahead;
 use window::positions::next;
 
-// The rank from which on a position is valid for a flow if nobody booked it: it is late enough, and there is room from it on.
-fn valid_rank(held: &Holdings, i: usize, cells: u8, w: Window) -> usize
+// The rank from which on a position is late enough for a flow: it is not passed, and there is room from it on.
+fn late_rank(held: &Holdings, i: usize, cells: u8, w: Window) -> usize
     requires { ⌜ Proper w × (i < 16) ⌝ }
-    ensures { λ r. ⌜ LateWithRoom w (row (now (held .entry)) i) cells r ⌝ }
+    ensures { λ r. ⌜ FromRank w (lateAt (windowOf w) (row (now (held .entry)) i) cells) r ⌝ }
 {
     larger(
         room_rank(held, i, cells, w),
@@ -26,9 +30,20 @@ fn valid_rank(held: &Holdings, i: usize, cells: u8, w: Window) -> usize
     )
 }
 
-// The search from a frame and a remainder up to the newest frame, for an unbooked position whose rank is at least `low`.
+// The valid slots of a frame in one word, where the late positions are those of rank `low` or more: whatever the lower bound is, and
+// whoever owns the positions.
+fn valid_slots(unbooked: &Unbooked, w: Window, low: usize, frame: usize) -> u64
+    requires { ⌜ Proper w × (frame < w .frames) ⌝ }
+    ensures { λ r. ⌜ ((owners : List ℕ) (late : ℕ → Bool) → Gathering w owners (now (unbooked .entry)) late low
+        → ValidSlots (windowOf w) (validAt owners late) frame r) ⌝ }
+{
+    from(unbooked[frame], over(low, w.rank(frame * w.slots)))
+}
+
+// The search from a frame and a remainder up to the newest frame, for a valid position, where the late positions are those of rank
+// `low` or more.
 fn search(
-    owner: &[u8; 256],
+    unbooked: &Unbooked,
     w: Window,
     low: usize,
     share: usize,
@@ -36,31 +51,25 @@ fn search(
     remainder: usize,
 ) -> Found
     requires { ⌜ Proper w × (first < w .frames) ⌝ }
-    ensures { λ r. ⌜ foundOf r ≡ searchFrom (windowOf w) (freeFrom (windowOf w) (now (owner .entry)) low) share first remainder ⌝ }
+    ensures { λ r. ⌜ ((owners : List ℕ) (late : ℕ → Bool) → Gathering w owners (now (unbooked .entry)) late low
+        → foundOf r ≡ searchFrom (windowOf w) (validAt owners late) share first remainder) ⌝ }
 {
     let mut frame = first;
     let mut left = remainder;
-    let mut more = ahead(w.frames, frame, w.newest());
+    let newest = w.newest();
     let mut found = Found::Nowhere(remainder);
     'search: loop {
         if 0 < left {
-            let start = frame * w.slots;
-            let end = start + w.slots;
-            // the first position of the frame with a rank of at least `low`, or its end
-            let mut p = start + smaller(over(low, w.rank(start)), w.slots);
-            while p < end {
-                if owner[p] == 16 {
-                    found = Found::At(frame, left - 1, p);
-                    break 'search;
-                }
-                p += 1;
+            let valid = valid_slots(unbooked, w, low, frame);
+            if valid != 0 {
+                found = Found::At(frame, left - 1, frame * w.slots + lowest(valid));
+                break 'search;
             }
         }
-        if more == 0 {
+        if frame == newest {
             found = Found::Nowhere(left);
             break 'search;
         }
-        more -= 1;
         frame = next(w.frames, frame);
         left = share;
     }
@@ -69,7 +78,7 @@ fn search(
 
 // The search of flow i from a frame and a remainder up to the newest frame, for a position that is valid for it.
 pub fn find<'a>(
-    owner: &'a [u8; 256],
+    unbooked: &'a Unbooked,
     held: &'a Holdings,
     i: usize,
     cells: u8,
@@ -78,10 +87,10 @@ pub fn find<'a>(
     first: usize,
     remainder: usize,
 ) -> Found
-    requires { ⌜ FlowFrom w i first ⌝ }
-    ensures { λ r. ⌜ foundOf r ≡ searchFrom (windowOf w) (validAt (windowOf w) (now (owner .entry)) (row (now (held .entry)) i) cells)
-        share first remainder ⌝ }
+    requires { ⌜ FlowFrom w (now unbooked) i first ⌝ }
+    ensures { λ r. ⌜ ((owners : List ℕ) → WordsOf (w .slots) (w .frames) owners (now (unbooked .entry))
+        → foundOf r ≡ searchFrom (windowOf w) (validAt owners (lateAt (windowOf w) (row (now (held .entry)) i) cells)) share first remainder) ⌝ }
 {
-    let low = valid_rank(held, i, cells, w);
-    search(owner, w, low, share, first, remainder)
+    let low = late_rank(held, i, cells, w);
+    search(unbooked, w, low, share, first, remainder)
 }

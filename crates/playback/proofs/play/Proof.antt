@@ -8,13 +8,15 @@ use native.Mathlib.Omega.{arith}
 use Rattle.calls.specs.declared.Answer.the-variants.{Refused}
 use Rattle.calls.specs.Reading.{callIn}
 use Rattle.model.specs.Window as seen
+use Rattle.unbooked.proofs.FrameWords.{in-window}
 use Rattle.link.specs.Updates.{withCurrent}
 use Rattle.link.proofs.Readings.{measures}
 use Rattle.link.proofs.Given.{at-hand, plan-valid, flows-few, credit-on, request-on}
 use Rattle.playback.proofs.Records.{Played, reads-as, no-call-played}
 use Rattle.playback.proofs.SoFar.{none-yet, same-size, one-more, all-played}
 use Rattle.playback.proofs.play.Proof.Places.{Inv-loop, μ-loop, entered, loop-at, link-at, plan-at, window-at, hand-at, made-at, read-at}
-use Rattle.playback.proofs.play.Proof.Places.{request-at, asker-for, asker-at, asker-few, position-below, credit-for, credit-at, ticked-at, tick-at, left-at}
+use Rattle.playback.proofs.play.Proof.Places.{request-at, asker-for, asker-at, asker-few, asked-at, granted-at, granted-in, credit-for, credit-at}
+use Rattle.playback.proofs.play.Proof.Places.{ticked-at, tick-at, emptied-at, left-at}
 use Rattle.playback.proofs.play.Proof.Came.{came}
 use Rattle.playback.proofs.play.Statement.{statement}
 use Rattle.playback.proofs.play.Tie as tie
@@ -103,13 +105,17 @@ cast-link c = omega (arith, asker-few (asker-at (c .before)))
 
 element-write-link : tie.Need-element-write-link Inv-loop μ-loop
 element-write-link c =
-    let most = hand-at (request-at (asker-at (c .before))) .proper .measures .positions-most in
-    omega (arith, position-below (c .before), most)
+    let most = hand-at (request-at (asked-at c)) .proper .measures .positions-most in
+    omega (arith, in-window (granted-in c), most)
+
+book-requires : tie.Need-book-requires Inv-loop μ-loop
+book-requires c κs = granted-in (c .before)
 
 shift-from-requires : tie.Need-shift-from-requires Inv-loop μ-loop
 shift-from-requires c κs =
-    let f = c .before .before in
-    record { proper = hand-at (request-at (asker-at f)) .proper; flow = asker-few (asker-at f); position = position-below f }
+    let granted = granted-at (c .before) in
+    let i = asked-at granted in
+    record { proper = hand-at (request-at i) .proper; flow = asker-few i; position = in-window (granted-in granted) }
 
 -- ---- a credit
 
@@ -138,6 +144,9 @@ ticked-requires c κs = hand-at (read-at (c .before .before)) .proper
 
 empty-head-requires : tie.Need-empty-head-requires Inv-loop μ-loop
 empty-head-requires c κs = hand-at (tick-at (c .before .before)) .proper
+
+recycle-head-requires : tie.Need-recycle-head-requires Inv-loop μ-loop
+recycle-head-requires c κs = hand-at (emptied-at (c .before)) .proper
 
 carry-head-requires : tie.Need-carry-head-requires Inv-loop μ-loop
 carry-head-requires c κs = let a = hand-at (left-at c) in record { proper = a .proper; few = flows-few a }
@@ -209,6 +218,7 @@ play-spec =
     element-set-from-flow
     cast-link
     element-write-link
+    book-requires
     shift-from-requires
     enum-known-call-3
     refusal-requires
@@ -216,6 +226,7 @@ play-spec =
     enum-told-2
     ticked-requires
     empty-head-requires
+    recycle-head-requires
     carry-head-requires
     leave-head-requires
     element-copy-out-owner

@@ -4,13 +4,15 @@ use Prim.Native.Nat.{ℕ, _<_}
 use mathlib.Core.Path.{_≡_}
 use native.Mathlib.Omega.{arith}
 use Rattle.model.specs.Request.{request}
-use Rattle.window.specs.Window.{sizeOf}
+use Rattle.unbooked.specs.Words.{InFrame}
+use Rattle.unbooked.proofs.FrameWords.{in-window}
 use Rattle.link.specs.declared.Link.{Link}
+use Rattle.link.specs.declared.reply.Reply.{Reply}
 use Rattle.link.specs.Reading.{linkOf}
 use Rattle.link.specs.Reply.{replyOf}
 use Rattle.link.proofs.Readings.{measures}
 use Rattle.link.proofs.Given.{AtHand, at-hand, placed-few, request-on}
-use Rattle.link.proofs.Requests.{reply-below, request-granted, request-refused}
+use Rattle.link.proofs.Requests.{reply-in-frame, request-granted, request-refused}
 use Rattle.link.proofs.Link.request.Statement.{statement}
 use Rattle.link.proofs.Link.request.Tie as tie
 
@@ -28,6 +30,10 @@ window-for c = c .before .before .before
 
 abbrev window-at : tie.After-flow2 → tie.After-window
 window-at c = window-for (c .before .before)
+
+-- where a position is granted, from where it is booked
+abbrev granted-at : tie.After-book → tie.Then1
+granted-at c = c .before .before
 
 -- ---- what is known there
 
@@ -49,8 +55,15 @@ module _ (c : tie.After-flow2) where
       ≡ replyOf (asked-at (window-at c) .asker .result) (request (linkOf (link-at (window-at c))) (word-at (window-at c)))
   reply-is = c .before .ask .ensures _ (request-on (hand-at (window-at c)) _ (asked-at (window-at c) .asker .ensures))
 
-  position-below : c .before .ask .result .position < sizeOf (window-at c .window .result)
-  position-below = reply-below (hand-at (window-at c)) _ (asked-at (window-at c) .asker .ensures) reply-is
+-- where a position is granted
+module _ (c : tie.Then1) where
+  abbrev reply-at : Reply
+  reply-at = c .before .before .ask .result
+
+  granted-in : InFrame (window-at (c .before) .window .result) (reply-at .flow .frame) (reply-at .position)
+  granted-in =
+      let w = window-at (c .before) in
+      reply-in-frame (hand-at w) _ (asked-at w .asker .ensures) (reply-is (c .before)) (c .if1 .taken)
 
 -- ---- the needs
 
@@ -87,19 +100,24 @@ cast-self : tie.Need-cast-self
 cast-self c = omega (arith, asker-few (asked-at (window-at (c .before))))
 
 element-write-self : tie.Need-element-write-self
-element-write-self c = omega (arith, position-below (c .before), hand-at (window-at (c .before)) .proper .measures .positions-most)
+element-write-self c = omega (arith, in-window (granted-in c), hand-at (window-at (c .before)) .proper .measures .positions-most)
+
+book-requires : tie.Need-book-requires
+book-requires c κs = granted-in (c .before)
 
 shift-from-requires : tie.Need-shift-from-requires
 shift-from-requires c κs =
-    let f = c .before .before in
-    record { proper = hand-at (window-at f) .proper; flow = asker-few (asked-at (window-at f)); position = position-below f }
+    let granted = granted-at (c .before) in
+    let w = window-at (granted .before) in
+    record { proper = hand-at w .proper; flow = asker-few (asked-at w); position = in-window (granted-in granted) }
 
 returns : tie.Need-returns
 returns c =
-    let granted-at = c .before .before in
-    let f = granted-at .before in
+    let booked = c .before .before in
+    let granted = granted-at booked in
+    let f = granted .before in
     let w = window-at f in
-    request-granted (hand-at w) _ (asked-at w .asker .ensures) (reply-is f) (granted-at .if1 .taken) (c .shift-from .ensures)
+    request-granted (hand-at w) _ (asked-at w .asker .ensures) (reply-is f) (granted .if1 .taken) (booked .book .ensures) (c .shift-from .ensures)
 
 returns-2 : tie.Need-returns-2
 returns-2 c =
@@ -122,6 +140,7 @@ request-spec =
     element-set-from-flow
     cast-self
     element-write-self
+    book-requires
     shift-from-requires
     returns
     returns-2)

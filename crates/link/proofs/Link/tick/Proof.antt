@@ -23,8 +23,11 @@ hand-at c = at-hand (c .before .before .pre) (c .window .ensures .0) (c .window 
 abbrev ticked-at : tie.After-struct-known2 → tie.After-ticked
 ticked-at c = c .before .before
 
+abbrev emptied-at : tie.After-empty-head → tie.Then1
+emptied-at c = c .before .before
+
 abbrev left-at : tie.After-carry-head-arg → tie.Then1
-left-at c = c .before .before .before
+left-at c = emptied-at (c .before .before .before)
 
 -- ---- the link before CP is stored
 
@@ -43,8 +46,8 @@ module _ (c : tie.Joined1) where
       let a = hand-at (on-at .before) in
       let t = on-at .ticked .ensures in
       ⊎-elim
-      (λ (leaves, _, emptied, _, carried, _, moved, is).
-      head-left a t (leaves .taken) (emptied .ensures) (carried .ensures) (moved .ensures) (ap with-current is))
+      (λ (leaves, _, emptied, _, recycled, _, carried, _, moved, is).
+      head-left a t (leaves .taken) (emptied .ensures) (recycled .ensures) (carried .ensures) (moved .ensures) (ap with-current is))
       (λ (stays, is). head-stays a t (stays .left) (ap with-current is))
       (c .if1 .came)
 
@@ -58,6 +61,9 @@ ticked-requires c κs = c .window .ensures .1
 
 empty-head-requires : tie.Need-empty-head-requires
 empty-head-requires c κs = search needs
+
+recycle-head-requires : tie.Need-recycle-head-requires
+recycle-head-requires c κs = search needs
 
 carry-head-requires : tie.Need-carry-head-requires
 carry-head-requires c κs = let a = hand-at (ticked-at (left-at c .before) .before) in record { proper = a .proper; few = flows-few a }
@@ -83,6 +89,7 @@ tick-spec =
     window-requires
     ticked-requires
     empty-head-requires
+    recycle-head-requires
     carry-head-requires
     leave-head-requires
     element-copy-out-owner

@@ -20,7 +20,7 @@ use Rattle.link.specs.Updates.{movedTo}
 use Rattle.link.specs.Reading.{linkOf}
 use Rattle.link.specs.Given.{RequestOn}
 use Rattle.link.specs.Reply.{refusedWith, grantedWith}
-use Rattle.link.proofs.Given.{word-on, place-on, flow-on, flow-from, sought-on}
+use Rattle.link.proofs.Given.{word-on, place-on, flow-on, words-on, flow-from, sought-on}
 use Rattle.link.proofs.Searches.{found-at, spent-at-newest}
 use Rattle.link.proofs.Replies.{reply-refused, reply-found, reply-nowhere}
 use Rattle.link.proofs.request.ask.Statement.{statement}
@@ -60,7 +60,7 @@ none-at c = c .before .before .before .before
 
 abbrev OnAt : tie.Start → Link → Type 0
 OnAt s l =
-    RequestOn l (s .args .count) (s .args .e) (s .args .w) (s .args .owner .now) (s .args .held .now)
+    RequestOn l (s .args .count) (s .args .e) (s .args .w) (s .args .unbooked .now) (s .args .held .now)
     (s .args .i) (s .args .flow) (s .args .word)
 
 tests-are : (c : tie.After-refusal) (l : Link) → OnAt (entered c) l
@@ -74,7 +74,7 @@ newest-is c l o = c .newest .ensures ∙ ap newest (o .window .window-is)
 -- what the search comes to
 module _ (c : tie.After-find) (l : Link) (o : OnAt (start (passed-at (newest-at c))) l) where
   found-is : foundOf (c .find .result) ≡ sought (linkOf l) (start (passed-at (newest-at c)) .args .i)
-  found-is = c .find .ensures ∙ sought-on o
+  found-is = c .find .ensures (l .owner) (words-on o) ∙ sought-on o
 
 module _ (c : tie.After-found) where
   abbrev at-find : tie.After-find

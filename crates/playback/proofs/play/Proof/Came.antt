@@ -24,9 +24,9 @@ module _ (c : tie.At-match2-came Inv-loop μ-loop) where
       let a = hand-at at-read in
       ⊎-elim
       -- a request that is granted a position
-      (λ (_, call, _, asker, _, _, _, _, _, ask, _, granted, _, shifted, link-is, window-is, answer-is).
+      (λ (_, call, _, asker, _, _, _, _, _, ask, _, granted, _, booked, _, shifted, link-is, window-is, answer-is).
       same-played (call-is (c .before) ∙ ap of-call (call .given .1)) link-is window-is answer-is
-      (granted-played a _ (asker .ensures) (ask .ensures _ (request-on a _ (asker .ensures))) (granted .taken) (shifted .ensures)))
+      (granted-played a _ (asker .ensures) (ask .ensures _ (request-on a _ (asker .ensures))) (granted .taken) (booked .ensures) (shifted .ensures)))
       (⊎-elim
       -- a request that is refused
       (λ (_, call, _, asker, _, _, _, _, _, ask, _, refused, link-is, window-is, answer-is).
@@ -48,8 +48,8 @@ module _ (c : tie.At-match2-came Inv-loop μ-loop) where
       same-played (call-is (c .before) ∙ ap of-call (call .given .1)) link-is window-is answer-is
       (tick-played (loop-at at-read .loop .link) a (on .ensures)
       (⊎-elim
-      (λ (leaves, _, emptied, _, carried, _, moved, is).
-      head-left a (on .ensures) (leaves .taken) (emptied .ensures) (carried .ensures) (moved .ensures) (ap played is))
+      (λ (leaves, _, emptied, _, recycled, _, carried, _, moved, is).
+      head-left a (on .ensures) (leaves .taken) (emptied .ensures) (recycled .ensures) (carried .ensures) (moved .ensures) (ap played is))
       (λ (stays, is). head-stays a (on .ensures) (stays .left) (ap played is))
       (joined .came))
       (turn .ensures))))))

@@ -7,10 +7,11 @@ use Rattle.calls.specs.declared.Record.{Record}
 use Rattle.calls.specs.Reading.{callIn}
 use Rattle.calls.proofs.PlayedTo.{callAt}
 use Rattle.window.specs.declared.Window.{Window}
-use Rattle.window.specs.Window.{sizeOf}
+use Rattle.unbooked.specs.Words.{InFrame}
 use Rattle.link.specs.declared.Link.{Link}
+use Rattle.link.specs.declared.reply.Reply.{Reply}
 use Rattle.link.proofs.Given.{AtHand, plan-valid, placed-few, request-on}
-use Rattle.link.proofs.Requests.{reply-below}
+use Rattle.link.proofs.Requests.{reply-in-frame}
 use Rattle.playback.proofs.Records.{playedAt, Made, reads-as}
 use Rattle.playback.proofs.SoFar.{SoFar}
 use Rattle.playback.proofs.play.Tie as tie
@@ -77,14 +78,22 @@ asker-at c = asker-for (c .before .before)
 pub asker-few : (c : tie.After-asker Inv-loop μ-loop) → c .asker .result < 16
 asker-few c = placed-few (plan-valid (hand-at (request-at c))) _ (c .asker .ensures)
 
-module _ (c : tie.After-flow2 Inv-loop μ-loop) where
-  abbrev pub asked-on : tie.After-read Inv-loop μ-loop
-  asked-on = request-at (asker-at c)
+-- where a position is granted, from where it is booked
+abbrev pub granted-at : tie.After-book Inv-loop μ-loop → tie.Then1 Inv-loop μ-loop
+granted-at c = c .before .before
 
-  pub position-below : c .before .ask .result .position < sizeOf (window-at asked-on)
-  position-below =
-      let i = asker-at c .asker .ensures in
-      reply-below (hand-at asked-on) _ i (c .before .ask .ensures _ (request-on (hand-at asked-on) _ i))
+module _ (c : tie.Then1 Inv-loop μ-loop) where
+  abbrev pub asked-at : tie.After-asker Inv-loop μ-loop
+  asked-at = asker-at (c .before)
+
+  abbrev reply-at : Reply
+  reply-at = c .before .before .ask .result
+
+  pub granted-in : InFrame (window-at (request-at asked-at)) (reply-at .flow .frame) (reply-at .position)
+  granted-in =
+      let a = hand-at (request-at asked-at) in
+      let i = asked-at .asker .ensures in
+      reply-in-frame a _ i (c .before .before .ask .ensures _ (request-on a _ i)) (c .if1 .taken)
 
 -- ---- a credit
 
@@ -101,9 +110,12 @@ credit-at c = credit-for (c .before)
 abbrev pub ticked-at : tie.Joined3 Inv-loop μ-loop → tie.After-ticked Inv-loop μ-loop
 ticked-at c = c .before .before .before
 
--- where its call was made: from there, and from where the head frame is left
+-- where its call was made: from there, from where the head frame is emptied, and from where it is left
 abbrev pub tick-at : tie.After-struct-known2 Inv-loop μ-loop → tie.After-read Inv-loop μ-loop
 tick-at c = read-at (c .before .before .before .before .before)
 
+abbrev pub emptied-at : tie.After-empty-head Inv-loop μ-loop → tie.After-read Inv-loop μ-loop
+emptied-at c = tick-at (c .before .before .before)
+
 abbrev pub left-at : tie.After-carry-head-arg Inv-loop μ-loop → tie.After-read Inv-loop μ-loop
-left-at c = tick-at (c .before .before .before .before)
+left-at c = emptied-at (c .before .before .before)

@@ -1,8 +1,8 @@
--- `tables::search::valid_rank` meets its contract: two lower bounds on ranks are one. Assumes nothing.
+-- `tables::search::late_rank` meets its contract: two lower bounds on ranks are one. Assumes nothing.
 use borrow.Author.Needs.{needs}
 use Rattle.window.proofs.Ranks.{late-from, both-from}
-use Rattle.tables.proofs.search.valid_rank.Statement.{statement}
-use Rattle.tables.proofs.search.valid_rank.Tie as tie
+use Rattle.tables.proofs.search.late_rank.Statement.{statement}
+use Rattle.tables.proofs.search.late_rank.Tie as tie
 
 room-rank-requires : tie.Need-room-rank-requires
 room-rank-requires c κs = search needs
@@ -24,7 +24,7 @@ returns c =
     let k = c .before .before .before in
     rw (c .larger .ensures) (both-from (k .room-rank .ensures) (late-from (k .before .args .w) (k .before .pre .0)))
 
-pub valid-rank-spec : {M : Type 1} → statement M
-valid-rank-spec =
+pub late-rank-spec : {M : Type 1} → statement M
+late-rank-spec =
     tie.close
     (tie.spec room-rank-requires add-larger mul-larger sub-larger larger-requires returns)
