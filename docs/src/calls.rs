@@ -176,7 +176,8 @@ impl<W: Write> Maker<W> {
         Ok(true)
     }
 
-    /// One flow asks until it is refused.
+    /// One flow asks until it is refused. Its tiles have come: their departure
+    /// is the current position.
     fn ask(&mut self, flow: usize) -> io::Result<()> {
         loop {
             let word = Word {

@@ -55,7 +55,7 @@ impl Lines {
             flow: numbered('T', scheduler::MOST_FLOWS),
             idle: Line::new("T -\n"),
             lent: numbered('L', scheduler::MOST_FLOWS),
-            refused: numbered('R', usize::from(refusal::NO_FLOW) + 1),
+            refused: numbered('R', usize::from(refusal::NOT_COME) + 1),
         }
     }
 

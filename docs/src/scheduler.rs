@@ -43,6 +43,7 @@ pub mod refusal {
     pub const RECORD: u8 = 16;
     pub const SLOT_TAKEN: u8 = 17;
     pub const NO_FLOW: u8 = 18;
+    pub const NOT_COME: u8 = 20;
 }
 
 /// One flow of the plan.
@@ -352,16 +353,37 @@ impl Table {
         }
     }
 
-    /// Books the earliest valid position for a flow.
+    /// Whether a position is the current one or lies before it in the head
+    /// frame. A position before the head frame's first wraps to a large number.
     #[inline]
-    fn book(&mut self, flow: &mut Flow, number: u8) -> Result<usize, u8> {
+    fn has_come(&self, position: usize) -> bool {
+        position.wrapping_sub(self.start) <= self.slot
+    }
+
+    /// The free slots of a frame from a place on; `first` is the frame's first
+    /// place.
+    #[inline]
+    fn free_from(&self, frame: usize, first: usize, from: usize) -> u64 {
+        let skip = from.saturating_sub(first) as u32;
+        self.free[frame] & u64::MAX.checked_shl(skip).unwrap_or(0)
+    }
+
+    /// Books the earliest valid position for a flow, after the departure if
+    /// that is still to come.
+    #[inline]
+    fn book(&mut self, flow: &mut Flow, number: u8, departure: usize) -> Result<usize, u8> {
         let mut first = flow.frame * self.slots;
         // No place is valid up to the last one where the flow is out of cells.
         let full = flow.held.last_with(flow.cells, first);
         let clear = full.map_or(0, |place| place + 1);
+        // Nor up to the departure, where the tile is still to come.
+        let from = if self.has_come(departure) {
+            clear
+        } else {
+            clear.max(self.place(departure) + 1)
+        };
         loop {
-            let skip = clear.saturating_sub(first) as u32;
-            let valid = self.free[flow.frame] & u64::MAX.checked_shl(skip).unwrap_or(0);
+            let valid = self.free_from(flow.frame, first, from);
             if flow.left > 0 && valid != 0 {
                 let slot = valid.trailing_zeros() as usize;
                 let position = self.position(first + slot);
@@ -372,16 +394,23 @@ impl Table {
                 return Ok(position);
             }
             if flow.frame + 1 == self.frames {
-                let spent = flow.left == 0;
-                return Err(if spent {
-                    refusal::SHARE_SPENT
-                } else {
-                    refusal::NO_POSITION
-                });
+                return Err(self.newest_refusal(flow, first, clear));
             }
             flow.frame += 1;
             flow.left = flow.share;
             first += self.slots;
+        }
+    }
+
+    /// Why the newest frame, from place `first` on, has nothing for a flow
+    /// whose cells leave it the places from `clear` on.
+    fn newest_refusal(&self, flow: &Flow, first: usize, clear: usize) -> u8 {
+        if flow.left == 0 {
+            refusal::SHARE_SPENT
+        } else if self.free_from(flow.frame, first, clear) != 0 {
+            refusal::NOT_COME
+        } else {
+            refusal::NO_POSITION
         }
     }
 
@@ -410,8 +439,9 @@ impl Link {
         Link { table, flows }
     }
 
-    /// Asks for a slot. The answer is the word with the booked position as its
-    /// departure, or the number of the refusal.
+    /// Asks for a slot, after the word's departure if that is later than the
+    /// current position. The answer is the word with the booked position as
+    /// its departure, or the number of the refusal.
     #[inline]
     pub fn request(&mut self, word: u32) -> Result<u32, u8> {
         let asked = Word::split(word);
@@ -424,8 +454,12 @@ impl Link {
         if usize::from(asked.departure) >= self.table.positions {
             return Err(refusal::DEPARTURE);
         }
-        let departure = self.table.book(flow, asked.flow)? as u16;
-        Ok(Word { departure, ..asked }.join())
+        let booked = self.table.book(flow, asked.flow, asked.departure.into())?;
+        Ok(Word {
+            departure: booked as u16,
+            ..asked
+        }
+        .join())
     }
 
     /// Gives one of a flow's cells back from a position on.
@@ -543,10 +577,23 @@ mod tests {
         .join()
     }
 
-    /// The position that a request to destination 9 gets.
-    fn ask(link: &mut Link, flow: u8) -> Result<u16, u8> {
-        let granted = link.request(word(flow, 0))?;
+    /// The position that a request to destination 9 gets, for a tile that
+    /// leaves the board before at a position.
+    fn ask_after(link: &mut Link, flow: u8, departure: u16) -> Result<u16, u8> {
+        let granted = link.request(word(flow, departure))?;
         Ok(Word::split(granted).departure)
+    }
+
+    /// The same for a tile that has come: its departure is the current position.
+    fn ask(link: &mut Link, flow: u8) -> Result<u16, u8> {
+        let now = link.table.start + link.table.slot;
+        ask_after(link, flow, now as u16)
+    }
+
+    fn ticks(link: &mut Link, count: usize) {
+        for _ in 0..count {
+            assert_eq!(link.tick(), None);
+        }
     }
 
     const PAIR: [[u8; 4]; 2] = [[2, 2, 1, 9], [2, 2, 2, 9]];
@@ -648,10 +695,68 @@ mod tests {
         assert_eq!(link.request(word(63, 1023) ^ 1 << 26), Err(8));
         assert_eq!(link.request(word(0, 1023) ^ 1 << 26), Err(9));
         assert_eq!(link.request(word(0, 8)), Err(10));
-        assert_eq!(link.request(word(0, 7)), Ok(word(0, 1)));
+        assert_eq!(link.request(word(0, 7)), Err(20));
         let mut link = fresh(1, 2, 1, &LONE);
         assert_eq!(ask(&mut link, 0), Ok(1));
         assert_eq!(ask(&mut link, 0), Err(11));
+    }
+
+    #[test]
+    fn tiles_leave_after_they_have_come() {
+        // The current position, and those before it in the head frame.
+        for departure in 0..=2 {
+            let mut link = fresh(4, 2, 4, &PAIR);
+            ticks(&mut link, 2);
+            assert_eq!(ask_after(&mut link, 0, departure), Ok(3));
+        }
+        // Later ones; none is later than the last.
+        for (departure, position) in [(1, 2), (2, 3), (3, 4), (4, 5), (6, 7)] {
+            let mut link = fresh(4, 2, 4, &PAIR);
+            assert_eq!(ask_after(&mut link, 0, departure), Ok(position));
+        }
+        let mut link = fresh(4, 2, 4, &PAIR);
+        assert_eq!(ask_after(&mut link, 0, 7), Err(20));
+        // Position 3 is the last of the newest frame now, and 0 its first.
+        for (departure, answer) in [(7, Ok(0)), (0, Ok(1)), (3, Err(20)), (4, Ok(6))] {
+            let mut link = fresh(4, 2, 4, &PAIR);
+            ticks(&mut link, 5);
+            assert_eq!(ask_after(&mut link, 0, departure), answer);
+        }
+    }
+
+    #[test]
+    fn late_departures_leave_frames_behind() {
+        // Frames 0 and 1 are skipped with their shares.
+        let mut link = fresh(2, 4, 9, &[[1, 9, 0, 9]]);
+        assert_eq!(ask_after(&mut link, 0, 4), Ok(5));
+        assert_eq!([ask(&mut link, 0), ask(&mut link, 0)], [Ok(6), Err(11)]);
+        // A departure counts for its own request alone.
+        let mut link = fresh(4, 2, 4, &PAIR);
+        assert_eq!(ask_after(&mut link, 0, 5), Ok(6));
+        assert_eq!([ask(&mut link, 0), ask(&mut link, 1)], [Ok(4), Ok(1)]);
+        let mut link = fresh(4, 2, 4, &PAIR);
+        assert_eq!(ask_after(&mut link, 0, 7), Err(20));
+        assert_eq!([ask(&mut link, 0), ask(&mut link, 1)], [Ok(4), Ok(1)]);
+    }
+
+    #[test]
+    fn the_newest_frame_is_refused_in_order() {
+        // 11: the share is spent, whatever the departure.
+        let mut link = fresh(4, 2, 8, &[[1, 8, 0, 9]]);
+        assert_eq!([ask(&mut link, 0), ask(&mut link, 0)], [Ok(1), Ok(4)]);
+        assert_eq!(ask_after(&mut link, 0, 7), Err(11));
+        // 12: the only cell is held there, with or without a departure.
+        let mut link = fresh(4, 2, 8, &[[2, 1, 0, 9]]);
+        assert_eq!(ask(&mut link, 0), Ok(1));
+        assert_eq!(ask_after(&mut link, 0, 7), Err(12));
+        // 20: from 6 on the cell is back.
+        assert_eq!(link.credit(0, 6), Ok(()));
+        assert_eq!(ask_after(&mut link, 0, 7), Err(20));
+        assert_eq!(ask_after(&mut link, 0, 5), Ok(6));
+        // All later positions count: the cell is held from 2 on, not at 1.
+        let mut link = fresh(4, 2, 8, &[[2, 1, 0, 9]]);
+        assert_eq!(ask_after(&mut link, 0, 1), Ok(2));
+        assert_eq!(ask(&mut link, 0), Err(12));
     }
 
     #[test]

@@ -4,19 +4,20 @@ bullets of demand 3 counted over them."""
 import struct
 from collections import Counter
 
-from demand3.lend_ways import way
+from demand3 import departure_ways, lend_ways
 
 
 class Verdict:
     """What was found: faults as text; grants and taken credits seen; how the
-    lends ended; and per flow the largest k at which the least count was put
-    to the test."""
+    lends and the departures of well-formed words ended; and per flow the
+    largest k at which the least count was put to the test."""
 
     def __init__(self):
         self.faults = []
         self.grants = 0
         self.credits = 0
         self.lends = Counter()
+        self.departures = Counter()
         self.least = {}
 
     def largest_k(self):
@@ -44,7 +45,8 @@ class History:
         self.change = [{} for _ in entries]
         # Frames 0 to asked - 1 have each seen a refusal of this flow.
         self.asked = [0] * self.flows
-        self.roomy = [True] * self.flows    # never full when it asked
+        # Never full when it asked, and each of its tiles had come.
+        self.ready = [True] * self.flows
         self.verdict = verdict
         self.place = 1                      # line number, for messages
 
@@ -57,6 +59,11 @@ class History:
     def slot_after_now(self, position):
         """Where this position comes next."""
         return self.now + 1 + (position - self.now - 1) % self.total
+
+    def has_come(self, departure):
+        """Whether the position was current in this frame, or is."""
+        last = self.now - (self.now - departure) % self.total
+        return last >= self.frame() * self.frame_slots
 
     def taken(self):
         """Whether the current slot has an owner."""
@@ -94,6 +101,15 @@ class History:
             self.fault("slot %d granted to %d and to %d"
                        % (slot, self.owner[slot], flow))
 
+    def check_departure(self, slot, departure):
+        """A tile that is still to come leaves after the slot it comes in."""
+        if self.has_come(departure):
+            return
+        comes = self.slot_after_now(departure)
+        if slot <= comes:
+            self.fault("slot %d is granted for a tile that comes in slot %d"
+                       % (slot, comes))
+
     def check_lent(self, flow, mask):
         """A lent slot has no other owner, and its flow is in the mask."""
         if not mask >> flow & 1:
@@ -119,9 +135,10 @@ class History:
 
     def check_least(self, flow):
         """At least (W - 1 + k) times the share, for a stream that was refused
-        in each frame up to this one and never asked while full."""
+        in each frame up to this one, never asked while full, and named tiles
+        that had come."""
         k = self.frame()
-        if not self.roomy[flow] or self.asked[flow] <= k:
+        if not self.ready[flow] or self.asked[flow] <= k:
             return
         self.verdict.least[flow] = k
         least = (self.window_frames - 1 + k) * self.share[flow]
@@ -136,37 +153,42 @@ class History:
         return (flow < self.flows and word >> 26 == self.destination[flow]
                 and word & 1023 < self.total)
 
-    def note_asking(self, flow):
-        """The premise on room, looked at before the request is answered."""
-        if self.roomy[flow]:
+    def note_asking(self, flow, departure):
+        """The least count's premise on each request, looked at before it is
+        answered: room, and a tile that has come."""
+        if self.ready[flow]:
             full = max(level for _, level in self.levels(flow))
-            self.roomy[flow] = full < self.cells[flow]
+            self.ready[flow] = (full < self.cells[flow]
+                                and self.has_come(departure))
 
     def note_refused(self, flow):
         if self.asked[flow] == self.frame():
             self.asked[flow] += 1
             self.check_least(flow)
 
-    def note_granted(self, flow, position):
+    def note_granted(self, flow, departure, position):
         if flow >= self.flows:
             self.fault("a grant to flow %d, which the plan has not" % flow)
             return
         slot = self.slot_after_now(position)
         self.verdict.grants += 1
         self.check_owner(flow, slot, position)
+        self.check_departure(slot, departure)
         self.check_most(flow, slot)
         self.owner[slot] = flow
         self.move(flow, slot, 1)
 
     def request(self, record, letter, number):
         word = struct.unpack_from("<I", record, 1)[0]
-        flow = word >> 20 & 63
+        flow, departure = word >> 20 & 63, word & 1023
         if self.well_formed(word):
-            self.note_asking(flow)
+            self.verdict.departures[
+                departure_ways.way(self, departure, letter, number)] += 1
+            self.note_asking(flow, departure)
             if letter == "R":
                 self.note_refused(flow)
         if letter == "G":
-            self.note_granted(flow, int(number))
+            self.note_granted(flow, departure, int(number))
 
     def credit(self, record, letter, number):
         if letter != "C":
@@ -181,7 +203,8 @@ class History:
     def lend(self, record, letter, number):
         """A lent slot counts in what is held, and in no count of grants."""
         mask = struct.unpack_from("<H", record, 1)[0]
-        self.verdict.lends[way(self, mask, letter, number)] += 1
+        self.verdict.lends[
+            lend_ways.way(self, mask, letter, number)] += 1
         if letter != "L":
             return
         flow = int(number)

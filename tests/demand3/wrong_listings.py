@@ -5,7 +5,7 @@ fault that the check has to name.  Some follow document 01, "Link cards we
 would send back"; the others break one bullet each.
 """
 
-from demand3 import wrong_lends
+from demand3 import wrong_departures, wrong_lends
 from demand3.check import ALLCALLS, check
 from edges.edge_maker import TICK, ask, credit, edge, plan
 
@@ -93,6 +93,10 @@ def missed():
     cut = check(RIGHT.data, RIGHT.lines[:-1]).faults
     yield "a line is missing", None if cut else "not sent back"
     yield RIGHT.name, passed(RIGHT, {0: 9})
+    for wrong, words in wrong_departures.WRONG:
+        yield wrong.name, sent_back(wrong, words)
+    for right, least in wrong_departures.RIGHT:
+        yield right.name, passed(right, least)
     for wrong, words in wrong_lends.WRONG:
         yield wrong.name, sent_back(wrong, words, ALLCALLS)
     for right, least in wrong_lends.RIGHT:

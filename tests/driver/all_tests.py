@@ -9,7 +9,7 @@ from driver import (
 from driver.formats import ALLCALLS
 from driver.side_by_side import made
 from driver.suite import Suite
-from driver.tally import LendTally, QuestionTally, Tally
+from driver.tally import DepartureTally, LendTally, QuestionTally, Tally
 from edges import open_choice, questions, refusals_page
 from edges.all_edges import EDGES, LEND_EDGES
 from front_door import (
@@ -96,6 +96,17 @@ def play_files(suites, only, count, seed):
     return tally
 
 
+def play_departures(suites, only, count, seed):
+    """Files with departures of all kinds.  Their tally."""
+    tally = DepartureTally()
+    play_cases(suites, cases.departures(count, seed), only, tally)
+    for suite in suites:
+        if not only:
+            suite.test("the files with departures come to 20 often",
+                       tally.trouble())
+    return tally
+
+
 def play_lends(suites, only, count, seed):
     """Files with lends.  The tally of the generated ones."""
     tally = LendTally()
@@ -110,7 +121,8 @@ def play_programs(suites, only, count, seed):
     """Each file through each program that reads it, and the totals if nothing
     is left out.  The tallies."""
     lending = [suite for suite in suites if suite.form is ALLCALLS]
-    tallies = [play_files(suites, only, count, seed)]
+    tallies = [play_files(suites, only, count, seed),
+               play_departures(suites, only, count, seed)]
     if lending:
         tallies.append(play_lends(lending, only, count, seed))
     for suite in suites:

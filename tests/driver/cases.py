@@ -9,7 +9,7 @@ from demand3.check import check
 from driver.formats import ALLCALLS, DOMELINK, has_lends
 from edges import refusals_page
 from edges.all_edges import EDGES, LEND_EDGES
-from generator import lend_seeds
+from generator import departure_seeds, lend_seeds
 from generator.seeds import generate, kind_of
 from simulator.listing import simulate
 
@@ -114,6 +114,19 @@ def seeds(count, seed):
     for number in range(seed, seed + count):
         yield ("seed %d (%s)" % (number, kind_of(number)),
                lambda number=number: from_seed(number))
+
+
+def from_departure_seed(seed):
+    data = departure_seeds.generate(seed)
+    return Case(data, simulate(data))
+
+
+def departures(count, seed):
+    """Words with departures of all kinds."""
+    for number in range(seed, seed + count):
+        yield ("departures, seed %d (%s)"
+               % (number, departure_seeds.kind_of(number)),
+               lambda number=number: from_departure_seed(number))
 
 
 # ---- files with lends

@@ -18,9 +18,9 @@ class Format:
 
 
 DOMELINK = Format(
-    "DOMELINK", records.DOMELINK, check.DOMELINK, range(1, 17))
+    "DOMELINK", records.DOMELINK, check.DOMELINK, [*range(1, 17), 20])
 ALLCALLS = Format(
-    "ALLCALLS", records.ALLCALLS, check.ALLCALLS, range(1, 19))
+    "ALLCALLS", records.ALLCALLS, check.ALLCALLS, [*range(1, 19), 20])
 
 
 def has_lends(data):

@@ -2,8 +2,8 @@
 
 from collections import Counter
 
+from demand3 import departure_ways, lend_ways
 from demand3.check import check
-from demand3.lend_ways import WAYS
 from driver.formats import ALLCALLS, DOMELINK
 from driver.starting import NO_END, play, play_in_pieces
 
@@ -39,6 +39,7 @@ class Suite:
         self.failed = 0
         self.seen = set()           # refusal numbers in the listings
         self.lends = Counter()      # how lends ended
+        self.departures = Counter()     # where they lay, how requests ended
         self.largest_k = -1         # at which the least count was tried
         self.without_end = 0
 
@@ -57,6 +58,7 @@ class Suite:
             if line[:1] in ("P", "R") and line[2:].isdecimal():
                 self.seen.add(int(line[2:]))
         self.lends += verdict.lends
+        self.departures += verdict.departures
         self.largest_k = max(self.largest_k, verdict.largest_k())
 
     def start(self, case):
@@ -101,10 +103,14 @@ class Suite:
                   missing and "never seen: %s" % missing)
         self.test("the least count was tried with k of 2 and more",
                   self.largest_k < 2 and "largest k %d" % self.largest_k)
+        missing = [": ".join(way) for way in departure_ways.WAYS
+                   if not self.departures[way]]
+        self.test("requests ended in every way for every departure",
+                  missing and "never seen: %s" % ", ".join(missing))
         if self.form is ALLCALLS:
             self.lend_totals()
 
     def lend_totals(self):
-        missing = [way for way in WAYS if not self.lends[way]]
+        missing = [way for way in lend_ways.WAYS if not self.lends[way]]
         self.test("lends ended in every way",
                   missing and "never seen: %s" % ", ".join(missing))

@@ -2,7 +2,11 @@
 
 from collections import Counter
 
+from demand3.departure_ways import PLACES
 from demand3.lend_ways import BITS, LENT, NO_FLOW, TAKEN
+from generator import departure_seeds
+
+OFTEN = 3               # times 20 has to come up for each file with departures
 
 
 class Tally:
@@ -22,6 +26,40 @@ class Tally:
         return ("%d generated files with %d calls; the premise of the least "
                 "count is met by %d files, by %d with k of 2 and more"
                 % (self.files, self.calls, self.met, self.met_later))
+
+
+class DepartureTally(Tally):
+    """Also where the departures lay, and how the requests ended."""
+
+    def __init__(self):
+        super().__init__()
+        self.departures = Counter()
+
+    def add(self, case):
+        super().add(case)
+        self.departures += case.own.verdict.departures
+
+    def refused_with(self, number):
+        return sum(count for (_, end), count in self.departures.items()
+                   if end == number)
+
+    def trouble(self):
+        """Whether 20 came up too seldom, once each kind was there."""
+        if self.files < len(departure_seeds.ORDER):
+            return None
+        found, least = self.refused_with("20"), OFTEN * self.files
+        return found < least and "%d times, and not %d" % (found, least)
+
+    def part(self, place, ends):
+        return "  %s: %s" % (place, ", ".join(
+            "%s %d" % (end, self.departures[place, end]) for end in ends))
+
+    def text(self):
+        return "\n".join([
+            super().text(),
+            "%d well-formed words in them, by the place of the departure"
+            % sum(self.departures.values()),
+            *[self.part(place, ends) for place, ends in PLACES.items()]])
 
 
 class LendTally(Tally):

@@ -1,10 +1,10 @@
 """All executed edges: for every program, and for allcalls alone."""
 
 from edges import (
-    call_records, credits, from_the_paper, lends, plan_limits, requests,
-    three_slips, ticks)
+    call_records, credits, departures, from_the_paper, lends, plan_limits,
+    requests, three_slips, ticks)
 
 EDGES = (from_the_paper.EDGES + three_slips.EDGES + requests.EDGES
-         + credits.EDGES + ticks.EDGES + call_records.EDGES
+         + departures.EDGES + credits.EDGES + ticks.EDGES + call_records.EDGES
          + plan_limits.EDGES)
 LEND_EDGES = lends.EDGES

@@ -1,12 +1,15 @@
 """Edges of domelink's call records: refusal 16, and where the plan ends."""
 
-from edges.edge_maker import BASE, Edge, TICK, ask, credit, edge, lend
+from call_bytes import request
+from edges.edge_maker import BASE, Edge, TICK, TO, ask, credit, edge, lend
+
+WORD = request(TO, 0)
 
 NO_CALLS = [
     # Kinds other than 1 to 3, and fillers, before any test of the call.
     edge("refusal 16", BASE,
          (bytes([0, 0, 0, 0, 0]), "R 16"), (bytes([4, 0, 0, 0, 0]), "R 16"),
-         (bytes([255, 0, 0, 0, 36]), "R 16"), (b"\x05" + ask(0)[1:], "R 16"),
+         (bytes([255, 0, 0, 0, 36]), "R 16"), (b"\x05" + WORD[1:], "R 16"),
          (b"\x06" + credit(0, 1)[1:], "R 16"), (b"\x07" + TICK[1:], "R 16"),
          (credit(0, 1, filler=1), "R 16"),
          (credit(9, 99, filler=255), "R 16"),
@@ -28,7 +31,7 @@ LAST_RECORDS = [
     edge("a last record of %d bytes" % size, BASE,
          (ask(0), "G 1"), (tail, "R 16"))
     for size, tail in enumerate(
-        [TICK[:1], credit(0, 1)[:2], ask(0)[:3], credit(0, 1)[:4]], start=1)
+        [TICK[:1], credit(0, 1)[:2], WORD[:3], credit(0, 1)[:4]], start=1)
 ] + [
     edge("no call at all", BASE),
     edge("one byte after the plan", BASE, (b"\x14", "R 16")),

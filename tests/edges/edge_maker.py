@@ -18,8 +18,11 @@ class Edge:
         self.lines = lines
 
 
-def ask(flow, departure=0, quantum=0, to=TO):
-    return call_bytes.request(to, flow, quantum, departure)
+def ask(flow, departure=None, quantum=0, to=TO):
+    """A request, made for the current position.  The tile has come, its
+    departure being that position, where no other is named."""
+    return lambda current: call_bytes.request(
+        to, flow, quantum, current if departure is None else departure)
 
 
 def plan(frame_slots, window_frames, *flows):
@@ -31,10 +34,21 @@ def plan(frame_slots, window_frames, *flows):
                            sum(cells for _, cells in flows), entries)
 
 
+def records(plan_bytes, calls):
+    """The bytes of calls, of which requests are told the current position."""
+    frame_slots, window_frames = plan_bytes[6], plan_bytes[8]
+    current = 0
+    for call in calls:
+        yield call(current) if callable(call) else call
+        if call == TICK:
+            current = (current + 1) % (frame_slots * window_frames)
+
+
 def edge(name, plan_bytes, *steps):
     """An accepted plan, then calls, each beside its line."""
-    data = plan_bytes + b"".join(record for record, _ in steps)
-    return Edge(name, data, ["P 0"] + [line for _, line in steps])
+    calls = records(plan_bytes, [call for call, _ in steps])
+    return Edge(name, plan_bytes + b"".join(calls),
+                ["P 0"] + [line for _, line in steps])
 
 
 BASE = plan(4, 2, (2, 2), (2, 2))       # T = 8, two flows

@@ -1,4 +1,4 @@
-"""The edges that document 01 lists itself."""
+"""The edges that document 01 lists itself, with what document 02 changed."""
 
 from edges.edge_maker import Edge, TICK, ask, credit, edge, plan
 
@@ -25,17 +25,19 @@ EDGES = [
          (ask(1), "G 4"),           # frame 0 has nothing left
          (ask(1), "R 12")),         # holds both cells from 4 on
 
-    # T = 8: departure 7 is below T, 8 is not; a refused word books nothing.
+    # T = 8: departure 8 is not below T, and changes nothing.  7 is below T,
+    # but no position is later: 20, which leaves IF at frame 1 (document 02).
     edge("departure T - 1 and T", plan(4, 2, (2, 4)),
-         (ask(0, departure=7), "G 1"),
+         (ask(0, departure=7), "R 20"),
          (ask(0, departure=8), "R 10"),
          (ask(0, departure=1023), "R 10"),
-         (ask(0, departure=0), "G 2")),
+         (ask(0, departure=0), "G 4")),
 
-    # The same where T is largest.
+    # The same where T is largest; frame 3 is newest.
     edge("departure 255 and 256", plan(64, 4, (2, 4)),
-         (ask(0, departure=255), "G 1"),
-         (ask(0, departure=256), "R 10")),
+         (ask(0, departure=255), "R 20"),
+         (ask(0, departure=256), "R 10"),
+         (ask(0, departure=254), "G 255")),
 
     # Nothing is held, so 15 at 1; 0 is CP, and 14 is tested before 15.
     edge("credits on a fresh link", plan(4, 2, (2, 2), (2, 2)),

@@ -165,6 +165,15 @@ WHAT_IS_HELD = [
     edge("lend: the only cell is lent", ONE_CELL,
          (lend(1), "L 0"), (ask(0), "R 12")),
 
+    # A lend has no departure.  While the cell is lent the newest frame has no
+    # valid position, with the word's departure or without it.
+    edge("lend: 20 before it and 12 after it", ONE_CELL,
+         (ask(0, departure=7), "R 20"),
+         (lend(1), "L 0"),
+         (ask(0, departure=7), "R 12"),
+         (credit(0, 4), "C"),
+         (ask(0, departure=7), "R 20"), (ask(0), "G 4")),
+
     # Nobody booked the lent slot, so it doesn't come up when its position
     # comes again; two cells are lent then.
     edge("lend: a lent slot doesn't come up", BASE,

@@ -33,6 +33,9 @@ TESTS_RUN = [
     (["--domeplan", "--write", "-1", MISSING], "a seed has to be"),
     (["--domeplan"], "--domeplan goes with"),
     (["--domeplan", "--allcalls", "--simulate", MISSING], "not allowed with"),
+    (["--departures"], "--departures goes with"),
+    (["--departures", "--allcalls", "--write", "1", MISSING],
+     "--departures goes with"),
 ]
 BENCH_RUN = [
     (["0"], "ROUNDS"),

@@ -1,4 +1,4 @@
-"""Request, as document 01 has it."""
+"""Request, as document 01 has it, with the departure of document 02 (N4)."""
 
 
 def later_than_current(link, slot):
@@ -14,13 +14,26 @@ def valid(link, slot, holdings, cells):
             and max(link.from_slot(slot, holdings)) < cells)
 
 
-def earliest_valid(link, number, holdings):
-    """The earliest valid slot of the flow's injection frame, or None."""
+def arrival(link, departure):
+    """The slot that a word's departure means, if that is still to come; None
+    for a tile that has come: its departure is CP, or lies before CP in the
+    head frame, whatever slot the sender had in mind.  Doc 02, N4."""
+    slot = link.slot_of(departure)
+    return slot if link.in_window(slot) else None
+
+
+def earliest_valid(link, number, holdings, comes):
+    """The earliest slot of the flow's injection frame that is valid for this
+    request, or None; and whether one before it would be but for the
+    departure: a tile can't leave up to the slot that it comes in."""
     cells = link.plan.cells(number)
+    but_for_departure = False
     for slot in link.slots_of(link.flows[number].frame):
         if valid(link, slot, holdings, cells):
-            return slot
-    return None
+            if comes is None or slot > comes:
+                return slot, but_for_departure
+            but_for_departure = True
+    return None, but_for_departure
 
 
 def book(link, number, slot):
@@ -30,18 +43,21 @@ def book(link, number, slot):
     flow.left -= 1
 
 
-def search(link, number):
+def search(link, number, comes):
     """The slot that is booked and 0, or None and the refusal."""
     flow = link.flows[number]
     holdings = link.holdings(number)
     while True:
+        refusal = 11
         if flow.left > 0:
-            slot = earliest_valid(link, number, holdings)
+            slot, but_for_departure = earliest_valid(
+                link, number, holdings, comes)
             if slot is not None:
                 book(link, number, slot)
                 return slot, 0
+            refusal = 20 if but_for_departure else 12
         if flow.frame == link.newest_frame():
-            return None, 11 if flow.left == 0 else 12
+            return None, refusal
         flow.frame += 1
         flow.left = link.plan.share(number)
 
@@ -62,7 +78,7 @@ def request(link, word):
     refusal = word_refusal(link.plan, word)
     if refusal:
         return "R", refusal
-    slot, refusal = search(link, word >> 20 & 63)
+    slot, refusal = search(link, word >> 20 & 63, arrival(link, word & 1023))
     if refusal:
         return "R", refusal
     return "G", slot % link.plan.slots

@@ -13,13 +13,13 @@ use Rattle.plan.specs.Reading.{Valid, noEntry}
 use Rattle.model.specs.Word.{flowOf}
 use Rattle.model.specs.Window as seen
 use Rattle.model.specs.Link as model
-use Rattle.model.specs.Request.{sought}
+use Rattle.model.specs.Request.{sought, someInNewest, wouldBeValid}
 use Rattle.window.specs.declared.Window.{Window}
 use Rattle.window.specs.Window.{windowOf, sizeOf, Proper, Ticked}
-use Rattle.tables.specs.Asked.{FlowFrom}
+use Rattle.tables.specs.Asked.{SearchFrom}
 use Rattle.tables.specs.Owners.{WordsOf}
 use Rattle.tables.specs.Rows.{row}
-use Rattle.tables.specs.Search.{lateAt, validAt, searchFrom}
+use Rattle.tables.specs.Search.{lateAt, lateAfter, validAt, searchFrom}
 use Rattle.link.specs.declared.Flow.{Flow}
 use Rattle.link.specs.declared.Link.{Link}
 use Rattle.link.specs.Layout.{noFlow}
@@ -28,7 +28,7 @@ use Rattle.link.specs.Sound.{Sound}
 use Rattle.link.specs.Given.{WindowOn, CreditOn, placed, RequestOn, WordOn}
 use Rattle.link.proofs.Plans.{count-some, count-most}
 use Rattle.link.proofs.Readings.{read-size, read-slots, read-frames, some-flow, flows-most}
-use Rattle.link.proofs.Searches.{sought-same}
+use Rattle.link.proofs.Searches.{sought-same, would-same}
 
 pub record AtHand (l : Link) (plan : Plan) (w : Window) : Type 0 where
   pub sound : Sound l
@@ -134,19 +134,27 @@ module _ {l : Link} {n : ℕ} {e : Entry} {w : Window} {unbooked held : List ℕ
       let is = o .window .window-is in
       rw (read-slots l is, read-frames l is, o .unbooked-is) (o .window .sound .unbooked)
 
-  pub flow-from : FlowFrom w unbooked i (f .frame)
-  flow-from = record {
+  pub flow-few : i < 16
+  flow-few = omega (arith, flow-on, flows-most l (o .window .sound))
+
+  pub search-from : {d : ℕ} → d < sizeOf w → SearchFrom w d (f .frame)
+  search-from below = record {
     proper = o .window .proper;
-    owners = l .owner;
-    words-are = words-on;
-    flow = omega (arith, flow-on, flows-most l (o .window .sound));
+    departure = below;
     frame = rw (read-frames l (o .window .window-is), o .flow-is) (o .window .sound .flows i flow-on .frame);
   }
 
   -- what is sought of it
-  pub sought-on : searchFrom (windowOf w) (validAt (l .owner) (lateAt (windowOf w) (row held i) (e .cells))) (e .share) (f .frame) (f .left)
-      ≡ sought (linkOf l) i
-  sought-on =
-      (λ k. searchFrom (windowOf w) (validAt (l .owner) (lateAt (windowOf w) (row (o .held-is k) i) (o .entry-is k .cells)))
+  pub sought-on : (d : ℕ)
+      → searchFrom (windowOf w) (validAt (l .owner) (lateAfter (windowOf w) d (lateAt (windowOf w) (row held i) (e .cells)))) (e .share) (f .frame) (f .left)
+      ≡ sought (linkOf l) i d
+  sought-on d =
+      (λ k. searchFrom (windowOf w) (validAt (l .owner) (lateAfter (windowOf w) d (lateAt (windowOf w) (row (o .held-is k) i) (o .entry-is k .cells))))
       (o .entry-is k .share) (o .flow-is k .frame) (o .flow-is k .left))
-      ∙ sym (sought-same l (o .window .sound) (windowOf w) (o .window .window-is) i flow-on)
+      ∙ sym (sought-same l (o .window .sound) (windowOf w) (o .window .window-is) i flow-on d)
+
+  -- whether the newest frame has a position that would be valid but for the departure
+  pub would-on : someInNewest (windowOf w) (validAt (l .owner) (lateAt (windowOf w) (row held i) (e .cells))) ≡ wouldBeValid (linkOf l) i
+  would-on =
+      (λ k. someInNewest (windowOf w) (validAt (l .owner) (lateAt (windowOf w) (row (o .held-is k) i) (o .entry-is k .cells))))
+      ∙ would-same l (o .window .sound) (windowOf w) (o .window .window-is) i flow-on

@@ -12,7 +12,7 @@ use Rattle.model.specs.Calls.{accepted, refused}
 use Rattle.model.specs.Window.{newest}
 use Rattle.model.specs.Plan as paper
 use Rattle.model.specs.Link as model
-use Rattle.model.specs.Request.{wordTests, found, nowhere, sought, booked, refusedAtNewest, answered, request}
+use Rattle.model.specs.Request.{wordTests, newestTests, wouldBeValid, found, nowhere, sought, booked, refusedAtNewest, answered, request}
 use Rattle.model.proofs.Word.{departure-depart}
 use Rattle.plan.specs.Reading.{planFor}
 use Rattle.window.proofs.Tabulated.{getD-table}
@@ -61,7 +61,7 @@ module _ (l : Link) (s : Sound l) (x i : ℕ) (place : i ≡ placed (l .plan .co
     flow-of-word = word-flow l x tests z i place
 
     -- the search found a position
-    module _ (j c p : ℕ) (e : found j c p ≡ sought (linkOf l) i) where
+    module _ (j c p : ℕ) (e : found j c p ≡ sought (linkOf l) i (word.departureOf x)) where
       pub request-found : request (linkOf l) x ≡ record { link = booked (linkOf l) i j c p; answer = accepted (word.depart x p) }
       unfolding answered
       request-found =
@@ -75,20 +75,18 @@ module _ (l : Link) (s : Sound l) (x i : ℕ) (place : i ≡ placed (l .plan .co
           ∙ ap (replyOf i) (sym request-found)
 
     -- it found none
-    module _ (c : ℕ) (e : nowhere c ≡ sought (linkOf l) i) where
-      pub request-nowhere : request (linkOf l) x ≡ record { link = refusedAtNewest (linkOf l) i c; answer = refused (cond (eqb c 0) 11 12) }
+    module _ (c : ℕ) (e : nowhere c ≡ sought (linkOf l) i (word.departureOf x)) where
+      -- the refusal
+      abbrev number : ℕ → ℕ
+      number k = firstOf (newestTests (wouldBeValid (linkOf l) k) c)
+
+      pub request-nowhere : request (linkOf l) x ≡ record { link = refusedAtNewest (linkOf l) i c; answer = refused (number i) }
       unfolding answered
       request-nowhere =
           word-passed l x tests z i place
           ∙ ap (answered (linkOf l) x) (sym e)
-          ∙ by-remainder c
-          ∙ ap (λ (k : ℕ). record { link = refusedAtNewest (linkOf l) k c; answer = refused (cond (eqb c 0) 11 12) }) flow-of-word
-        where
-          by-remainder : (c : ℕ) → answered (linkOf l) x (nowhere c)
-              ≡ record { link = refusedAtNewest (linkOf l) (word.flowOf x) c; answer = refused (cond (eqb c 0) 11 12) }
-          by-remainder zero = refl
-          by-remainder (suc c) = rw (ne-eqb (suc c) 0 (λ z. omega arith))
+          ∙ ap (λ (k : ℕ). record { link = refusedAtNewest (linkOf l) k c; answer = refused (number k) }) flow-of-word
 
-      pub reply-nowhere : refusedWith (movedTo (flowAt l i .flow) (newest (model.window (linkOf l))) c) (cond (eqb c 0) 11 12)
+      pub reply-nowhere : refusedWith (movedTo (flowAt l i .flow) (newest (model.window (linkOf l))) c) (number i)
           ≡ replyOf i (request (linkOf l) x)
-      reply-nowhere = ap (λ (f : Flow). refusedWith f (cond (eqb c 0) 11 12)) (sym (refused-flow c)) ∙ ap (replyOf i) (sym request-nowhere)
+      reply-nowhere = ap (λ (f : Flow). refusedWith f (number i)) (sym (refused-flow c)) ∙ ap (replyOf i) (sym request-nowhere)

@@ -8,7 +8,7 @@ use native.Mathlib.Omega.{arith}
 use lib.ListN.{set}
 use lib.Seq.{set-getD}
 use Rattle.model.specs.Refusals.{firstOf}
-use Rattle.model.specs.Word.{flowOf}
+use Rattle.model.specs.Word.{flowOf, departureOf}
 use Rattle.model.specs.Window.{newest}
 use Rattle.model.specs.Plan as paper
 use Rattle.model.specs.Link as model
@@ -42,7 +42,7 @@ use Rattle.link.proofs.Readings.{read-flow, read-size, read-slots, read
 use Rattle.link.proofs.Updated.{read-with-flow, sound-with-flow, read-with-owner, sound-with-owner, read-from, sound-from}
 use Rattle.link.proofs.Given.{AtHand}
 use Rattle.link.proofs.Words.{word-refused}
-use Rattle.link.proofs.Searches.{validHere, found-at}
+use Rattle.link.proofs.Searches.{validAfter, found-at}
 use Rattle.link.proofs.Replies.{flow-there, reply-refused, request-found, reply-found, request-nowhere, reply-nowhere}
 
 -- ---- the link in which a reply is stored
@@ -64,9 +64,9 @@ flow-alone l i f = ap (λ (h : List ℕ). withHoldings (withFlows l (set (l .flo
 
 module _ {l : Link} {plan : Plan} {w : Window} (a : AtHand l plan w) (i : ℕ) (hi : i < l .plan .count) where
   -- a position that the search found: flow i books it
-  module _ (j c p : ℕ) (e : found j c p ≡ sought (linkOf l) i) where
-    booking : Booking (windowOf w) (validHere l (a .sound) (windowOf w) (a .window-is) i hi) j p
-    booking = found-at l (a .sound) (windowOf w) (a .window-is) i hi j c p e
+  module _ (d j c p : ℕ) (e : found j c p ≡ sought (linkOf l) i d) where
+    booking : Booking (windowOf w) (validAfter l (a .sound) (windowOf w) (a .window-is) i hi d) j p
+    booking = found-at l (a .sound) (windowOf w) (a .window-is) i hi d j c p e
 
     pub found-in-frame : InFrame w j p
     found-in-frame = record { proper = a .proper; frame = booking .frame; low = booking .low; high = booking .high }
@@ -98,7 +98,7 @@ module _ {l : Link} {plan : Plan} {w : Window} (a : AtHand l plan w) (i : ℕ) (
     raised-is : raised ≡ replaced (fromIn (windowOf w) p) (λ q x. suc x) (row (l .held) i)
     raised-is =
         one-more w (a .proper) p position-below (row (l .held) i) (entryAt l i .cells) cells-most
-        (valid-room (windowOf w) (l .owner) (row (l .held) i) _ _ (booking .passes))
+        (valid-room (windowOf w) d (l .owner) (row (l .held) i) _ _ (booking .passes))
 
     module _ {u : List ℕ} (x : Booked (w .slots) j p (l .unbooked) u) where
       abbrev bookedLink : Link
@@ -164,14 +164,14 @@ module _ {l : Link} {plan : Plan} {w : Window} (a : AtHand l plan w) (x : ℕ) {
   replied : Replied (replyOf i (request (linkOf l) x))
   replied = go (firstOf (wordTests (planFor (l .plan)) x)) refl
     where
-      searched : 0 ≡ firstOf (wordTests (planFor (l .plan)) x) → (r : Found) → r ≡ sought (linkOf l) i → Replied (replyOf i (request (linkOf l) x))
+      searched : 0 ≡ firstOf (wordTests (planFor (l .plan)) x) → (r : Found) → r ≡ sought (linkOf l) i (departureOf x) → Replied (replyOf i (request (linkOf l) x))
       searched tests (found j c p) e =
-          let small : p < 1024 = omega (arith, position-below a i there j c p e, a .proper .measures .positions-most) in
+          let small : p < 1024 = omega (arith, position-below a i there (departureOf x) j c p e, a .proper .measures .positions-most) in
           subst Replied (reply-found l (a .sound) x i place tests refl j c p e small) (record {
-            in-frame = λ _. found-in-frame a i there j c p e;
+            in-frame = λ _. found-in-frame a i there (departureOf x) j c p e;
             granted = λ _ b.
                 rw (request-found l (a .sound) x i place tests refl j c p e)
-                (record { link-is = booked-link a i there j c p e b; answer-is = refl; sound = sound-booked a i there j c p e b });
+                (record { link-is = booked-link a i there (departureOf x) j c p e b; answer-is = refl; sound = sound-booked a i there (departureOf x) j c p e b });
             refused = λ z. absurd (true≢false z);
           })
       searched tests (nowhere c) e =
@@ -181,7 +181,7 @@ module _ {l : Link} {plan : Plan} {w : Window} (a : AtHand l plan w) (x : ℕ) {
           (record { link-is = stopped-link a i there c; answer-is = refl; sound = sound-stopped a i there c })))
 
       go : (n : ℕ) → n ≡ firstOf (wordTests (planFor (l .plan)) x) → Replied (replyOf i (request (linkOf l) x))
-      go zero tests = searched tests (sought (linkOf l) i) refl
+      go zero tests = searched tests (sought (linkOf l) i (departureOf x)) refl
       go (suc n) tests =
           subst Replied (reply-refused l (a .sound) x i place tests (λ z. omega arith))
           (replied-none refl

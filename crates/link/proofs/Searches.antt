@@ -1,23 +1,23 @@
 -- The search of flow i on link l, as it is read. Assumes nothing.
-use Prim.Native.Nat.{ℕ, _+_, _*_, _≤_, _<_}
-use mathlib.Core.Path.{_≡_, sym, ap, _∙_, subst}
+use Prim.Native.Nat.{ℕ, zero, suc, _+_, _*_, _≤_, _<_}
+use mathlib.Core.Path.{_≡_, refl, sym, ap, _∙_, subst}
 use mathlib.Core.Bool.{Bool, not, _&&_, and-assoc}
 use native.Mathlib.Nat.{mod-lt}
 use native.Mathlib.Decide.{decLt}
 use native.Mathlib.Omega.{arith}
 use lib.Dec.{ltb}
 use borrow.Author.Tests.{le-ltb}
-use Rattle.model.specs.Tables.{ahead}
+use Rattle.model.specs.Tables.{any, ahead}
 use Rattle.model.specs.Plan as paper
-use Rattle.model.specs.Window.{Window, passed, everyFrom, newest}
+use Rattle.model.specs.Window.{Window, start, passed, everyFrom, newest}
 use Rattle.model.specs.Link as model
-use Rattle.model.specs.Request.{unbooked, valid, Found, found, nowhere, search, sought}
+use Rattle.model.specs.Request.{unbooked, valid, canLeave, validFor, someInNewest, wouldBeValid, Found, found, nowhere, search, sought}
 use Rattle.window.proofs.GoingRound.{ahead-on}
 use Rattle.window.proofs.Windows.{frame-fits}
 use Rattle.window.proofs.FromOn.{everyFrom-same}
 use Rattle.tables.specs.Owners.{ownerOf}
 use Rattle.tables.specs.Holdings.{roomAt}
-use Rattle.tables.specs.Search.{lateAt, validAt, searchFrom, ValidSlots}
+use Rattle.tables.specs.Search.{lateAt, lateAfter, validAt, searchFrom, ValidSlots}
 use Rattle.tables.proofs.ValidPositions.{search-same}
 use Rattle.tables.proofs.FoundPosition.{search-books, Booking, Books}
 use Rattle.link.specs.declared.Link.{Link}
@@ -26,10 +26,24 @@ use Rattle.link.specs.Reading.{linkOf}
 use Rattle.link.specs.Sound.{Sound}
 use Rattle.link.proofs.Readings.{read-entry, read-flow, read-holding, read-owner, read-size, read-frames}
 
+-- two tests that agree below n
+any-same : (n : ℕ) (f g : ℕ → Bool) → ((k : ℕ) → k < n → f k ≡ g k) → any n f ≡ any n g
+unfolding any
+any-same zero f g e = refl
+any-same (suc n) f g e = rw (e n (omega arith), any-same n f g (λ k h. e k (omega arith)))
+
 module _ (l : Link) (s : Sound l) (v : Window) (is : v ≡ model.window (linkOf l)) (i : ℕ) (hi : i < l .plan .count) where
-  -- position p is valid for it
+  -- position p is late enough for it
+  abbrev pub lateHere : ℕ → Bool
+  lateHere = lateAt v (flowAt l i .held) (entryAt l i .cells)
+
+  -- position p is valid for it, whatever the departure
   abbrev pub validHere : ℕ → Bool
-  validHere p = validAt (l .owner) (lateAt v (flowAt l i .held) (entryAt l i .cells)) p
+  validHere = validAt (l .owner) lateHere
+
+  -- position p is valid for its request with departure d
+  abbrev pub validAfter : (d p : ℕ) → Bool
+  validAfter d = validAt (l .owner) (lateAfter v d lateHere)
 
   -- there is room from p on
   room-same : (p : ℕ) → everyFrom (model.window (linkOf l)) p (λ q. ltb (model.holding (linkOf l) i q) (model.cells (linkOf l) i))
@@ -47,6 +61,12 @@ module _ (l : Link) (s : Sound l) (v : Window) (is : v ≡ model.window (linkOf 
       let later = not (passed (model.window (linkOf l)) p) in
       let room = everyFrom (model.window (linkOf l)) p (roomAt (flowAt l i .held) (entryAt l i .cells)) in
       rw (is, read-owner l p hp, room-same p) (and-assoc unowned later room)
+
+  after-same : (d p : ℕ) → p < sizeOf l → validFor (linkOf l) i d p ≡ validAfter d p
+  unfolding validFor validAt
+  after-same d p hp =
+      let leaves = canLeave (model.window (linkOf l)) d p in
+      rw (valid-same p hp, is) (and-assoc (unbooked (ownerOf (ownerAt l p))) (lateAt (model.window (linkOf l)) (flowAt l i .held) (entryAt l i .cells) p) leaves)
 
   -- a frame's word of valid slots has the positions that are valid by the paper
   pub valid-slots-same : (j word : ℕ) → j < v .frames → ValidSlots v validHere j word → ValidSlots v (valid (linkOf l) i) j word
@@ -66,27 +86,27 @@ module _ (l : Link) (s : Sound l) (v : Window) (is : v ≡ model.window (linkOf 
   pub frame-there : flowAt l i .flow .frame < v .frames
   frame-there = rw (read-frames l is) (s .flows i hi .frame)
 
-  pub sought-same : sought (linkOf l) i ≡ searchFrom v validHere (entryAt l i .share) (flowAt l i .flow .frame) (flowAt l i .flow .left)
+  pub sought-same : (d : ℕ) → sought (linkOf l) i d ≡ searchFrom v (validAfter d) (entryAt l i .share) (flowAt l i .flow .frame) (flowAt l i .flow .left)
   unfolding sought
-  sought-same =
+  sought-same d =
       let j = ap (λ (x : model.Flow). x .injection) (read-flow l i hi) in
       let c = ap (λ (x : model.Flow). x .remainder) (read-flow l i hi) in
       let e = ap (λ (x : paper.Entry). x .share) (read-entry l i hi) in
       rw (j, c, e)
       (ap from-frame (sym is)
-      ∙ search-same v two (valid (linkOf l) i) validHere (λ p h. valid-same p (rw (← read-size l is) h)) _ _ _ _ frame-there)
+      ∙ search-same v two (validFor (linkOf l) i d) (validAfter d) (λ p h. after-same d p (rw (← read-size l is) h)) _ _ _ _ frame-there)
     where
       from-frame : Window → Found
-      from-frame x = searchFrom x (valid (linkOf l) i) (entryAt l i .share) (flowAt l i .flow .frame) (flowAt l i .flow .left)
+      from-frame x = searchFrom x (validFor (linkOf l) i d) (entryAt l i .share) (flowAt l i .flow .frame) (flowAt l i .flow .left)
 
   -- what is found: a position of the window that is valid
-  pub found-at : (j c p : ℕ) → found j c p ≡ sought (linkOf l) i → Booking v validHere j p
-  found-at j c p e = subst (Books v validHere) (sym (e ∙ sought-same)) (search-books v two _ _ _ _ _ frame-there)
+  pub found-at : (d j c p : ℕ) → found j c p ≡ sought (linkOf l) i d → Booking v (validAfter d) j p
+  found-at d j c p e = subst (Books v (validAfter d)) (sym (e ∙ sought-same d)) (search-books v two _ _ _ _ _ frame-there)
 
   -- in the newest frame, with nothing left of the share
-  pub spent-at-newest : flowAt l i .flow .frame ≡ newest v → flowAt l i .flow .left ≡ 0 → nowhere 0 ≡ sought (linkOf l) i
+  pub spent-at-newest : (d : ℕ) → flowAt l i .flow .frame ≡ newest v → flowAt l i .flow .left ≡ 0 → nowhere 0 ≡ sought (linkOf l) i d
   unfolding sought search
-  spent-at-newest e z =
+  spent-at-newest d e z =
       let last = newest (model.window (linkOf l)) in
       let frames = model.window (linkOf l) .frames in
       let j = ap (λ (x : model.Flow). x .injection) (read-flow l i hi) ∙ e ∙ ap newest is in
@@ -94,3 +114,13 @@ module _ (l : Link) (s : Sound l) (v : Window) (is : v ≡ model.window (linkOf 
       let below : last < frames = mod-lt _ (rw (← ap (λ (x : Window). x .frames) is) (omega (arith, two))) in
       let none : ahead frames last last ≡ 0 = ahead-on _ _ _ (omega arith) below ∙ omega arith in
       rw (j, c, none)
+
+  -- the newest frame has a position that would be valid but for the departure
+  pub would-same : someInNewest v validHere ≡ wouldBeValid (linkOf l) i
+  unfolding wouldBeValid
+  would-same =
+      let first = start v (newest v) in
+      let fits = frame-fits (v .slots) (v .frames) (newest v) (mod-lt _ (omega (arith, two))) in
+      any-same (v .slots) (λ k. validHere (first + k)) (λ k. valid (linkOf l) i (first + k))
+      (λ k h. sym (valid-same (first + k) (rw (← read-size l is) (omega (arith, fits)))))
+      ∙ ap (λ (x : Window). someInNewest x (valid (linkOf l) i)) is

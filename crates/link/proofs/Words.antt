@@ -1,12 +1,13 @@
 -- The word's own tests, and what a request is where the word fails or passes them. Assumes nothing.
 use Prim.Native.Nat.{ℕ, zero, suc, _≤_, _<_}
 use mathlib.Core.Path.{_≡_, refl, sym, ap, _∙_}
+use mathlib.Core.List.{_∷_, []}
 use mathlib.Core.Bool.{Bool, true, false, not, cond}
 use native.Mathlib.Omega.{arith}
-use lib.Dec.{ltb}
+use lib.Dec.{ltb, eqb}
 use lib.ListN.{getD}
 use borrow.Author.Tests.{lt-ltb, le-ltb, ltb-true, eq-eqb, ne-eqb}
-use Rattle.model.specs.Refusals.{firstOf}
+use Rattle.model.specs.Refusals.{firstOf, _when_}
 use Rattle.model.specs.Word as word
 use Rattle.model.specs.Plan as paper
 use Rattle.model.specs.Calls.{refused}
@@ -90,11 +91,25 @@ module _ (l : Link) (x : ℕ) {n : ℕ} (tests : n ≡ firstOf (wordTests (planF
         go true m e y = ltb-true _ _ e
         go false m e y = absurd (omega arith)
 
+    pub departure-below : word.departureOf x < sizeFor (l .plan)
+    unfolding firstOf
+    departure-below =
+        let P = planFor (l .plan) in
+        let flow-there = ltb (word.flowOf x) (paper.flowCount P) in
+        let own-destination = eqb (word.destinationOf x) (paper.entry P (word.flowOf x) .destination) in
+        ltb-true _ _ (passes-third flow-there own-destination _ (sym tests ∙ z))
+      where
+        passes-third : (a b c : Bool) → firstOf (8 when not a ∷ 9 when not b ∷ 10 when not c ∷ []) ≡ 0 → c ≡ true
+        passes-third true true true e = refl
+        passes-third true true false e = absurd (omega arith)
+        passes-third true false c e = absurd (omega arith)
+        passes-third false b c e = absurd (omega arith)
+
     -- flow i is the word's
     module _ (i : ℕ) (e : i ≡ placed (l .plan .count) (word.flowOf x)) where
       pub word-flow : word.flowOf x ≡ i
       word-flow = sym (e ∙ ap (λ (b : Bool). cond b (word.flowOf x) 0) (lt-ltb (word.flowOf x) (l .plan .count) flow-below))
 
-      pub word-passed : request (linkOf l) x ≡ answered (linkOf l) x (sought (linkOf l) i)
+      pub word-passed : request (linkOf l) x ≡ answered (linkOf l) x (sought (linkOf l) i (word.departureOf x))
       unfolding request requestAfter linkOf
-      word-passed = rw (← tests, z) (ap (λ (k : ℕ). answered (linkOf l) x (sought (linkOf l) k)) word-flow)
+      word-passed = rw (← tests, z) (ap (λ (k : ℕ). answered (linkOf l) x (sought (linkOf l) k (word.departureOf x))) word-flow)

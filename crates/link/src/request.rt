@@ -1,11 +1,9 @@
 // The request.
 ghost use mathlib.Core.Path.{_≡_};
-ghost use mathlib.Core.Bool.{cond};
-ghost use lib.Dec.{eqb};
 ghost use Rattle.plan.specs.Reading.{planFor};
 ghost use Rattle.plan.specs.declared.Plan.{Plan};
 ghost use Rattle.model.specs.Refusals.{firstOf};
-ghost use Rattle.model.specs.Word.{flowOf};
+ghost use Rattle.model.specs.Word.{flowOf, departureOf};
 ghost use Rattle.model.specs.Request as model;
 ghost use Rattle.calls.specs.Reading.{answerToRequest};
 ghost use Rattle.link.specs.declared.Link.{Link};
@@ -25,6 +23,8 @@ use tables::Found;
 use tables::holdings::Holdings;
 use tables::holdings::shift_from;
 use tables::search::find;
+use tables::search::late_rank;
+use tables::search::valid_in_newest;
 use unbooked::Unbooked;
 use unbooked::frames::book;
 use window::Window;
@@ -47,13 +47,16 @@ fn refusal(count: usize, e: Entry, size: usize, word: u32) -> u8
     0
 }
 
-// The refusal where the search ends with no position, at the newest frame, with a remainder. A spent share is refused before the search,
-// so that only 12 comes from here.
-fn nowhere(left: usize) -> u8
-    ensures { λ r. ⌜ r ≡ cond (eqb left 0) 11 12 ⌝ }
+// The refusal where the search ends with no position, at the newest frame, with a remainder; `would` says whether that frame has a position
+// that would be valid but for the departure. A spent share is refused before the search, so that 11 doesn't come from here.
+fn nowhere(left: usize, would: bool) -> u8
+    ensures { λ r. ⌜ r ≡ firstOf (model.newestTests would left) ⌝ }
 {
     if left == 0 {
         return 11;
+    }
+    if would {
+        return 20;
     }
     12
 }
@@ -74,6 +77,13 @@ pub fn asker(count: usize, word: u32) -> usize
 {
     let fields = word::split(word);
     placed(count, fields.flow as usize)
+}
+
+fn departure(word: u32) -> usize
+    ensures { λ r. ⌜ r ≡ departureOf word ⌝ }
+{
+    let fields = word::split(word);
+    fields.departure as usize
 }
 
 // What a word that asks for a slot comes to. Its flow is i; i is 0 where the plan does not have it.
@@ -100,12 +110,12 @@ pub fn ask<'a>(
     if flow.left == 0 && flow.frame == newest {
         return refused(flow, 11);
     }
+    let late = late_rank(held, i, e.cells, w);
     let found = find(
         unbooked,
-        held,
-        i,
-        e.cells,
         w,
+        late,
+        departure(word),
         e.share as usize,
         flow.frame,
         flow.left,
@@ -120,7 +130,7 @@ pub fn ask<'a>(
             };
         }
         Found::Nowhere(left) => {
-            let number = nowhere(left);
+            let number = nowhere(left, valid_in_newest(unbooked, w, late));
             return refused(flow.moved_to(newest, left), number);
         }
     }

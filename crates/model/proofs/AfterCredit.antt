@@ -29,6 +29,7 @@ module _ {l : Link} {h : History} (g : After (l .plan) l h) (i p : ℕ) where
     soon = tt;
     comes-up = tt;
     word = tt;
+    after-departure = tt;
     loan = tt;
     least =
         each-flow l (LeastOf P (credited i p (accepted tt) ∷ h)) i (withHeld (flow l i) (heldFrom l i p (λ x. x - 1)))
@@ -43,6 +44,7 @@ module _ {l : Link} {h : History} (g : After (l .plan) l h) (i p : ℕ) where
     soon = tt;
     comes-up = tt;
     word = tt;
+    after-departure = tt;
     loan = tt;
     least = least-kept (refused r);
   })

@@ -7,7 +7,7 @@ use Rattle.model.specs.Plan.{Plan, flowCount}
 use Rattle.model.specs.Calls.{Event, History}
 use Rattle.model.specs.Link.{Link, Flow, flow}
 use Rattle.model.specs.History.{ticks, frameOf, grants, credits, refusedIn, upTo, grantedUpTo, lentUpTo, creditedUpTo}
-use Rattle.model.specs.Claim.{Each, ReadyAt, HeldAt, SoonAt, ComesUpAt, GrantedWordAt, LentFlowAt}
+use Rattle.model.specs.Claim.{Each, ReadyAt, HeldAt, SoonAt, ComesUpAt, GrantedWordAt, AfterDepartureAt, LentFlowAt}
 use Rattle.model.proofs.Invariant.{Ledger, HoldsAt, Invariant}
 use Rattle.model.proofs.LeastCount.{Least}
 use Rattle.model.proofs.HistoryCounts.{raises, raises-are}
@@ -22,6 +22,7 @@ pub record Claimed (P : Plan) (e : Event) (h : History) : Type 0 where
   pub soon : SoonAt P e h
   pub comes-up : ComesUpAt P e h
   pub word : GrantedWordAt P e h
+  pub after-departure : AfterDepartureAt P e h
   pub loan : LentFlowAt P e h
 
 -- Flow i asked until it was refused, in each frame before the current one.
@@ -53,6 +54,7 @@ pub record OneMore (P : Plan) (k : Link) (e : Event) (h : History) : Type 0 wher
   pub soon : SoonAt P e h
   pub comes-up : ComesUpAt P e h
   pub word : GrantedWordAt P e h
+  pub after-departure : AfterDepartureAt P e h
   pub loan : LentFlowAt P e h
   pub least : (i : ℕ) → i < flowCount P → LeastOf P (e ∷ h) i (flow k i)
 
@@ -61,7 +63,7 @@ pub after-event : {P : Plan} {l k : Link} {e : Event} {h : History} → After P 
 after-event {P} {l} {k} {e} {h} g more = record {
   plan-is = more .plan-is;
   invariant = more .keeps;
-  events = (record { held = held; soon = more .soon; comes-up = more .comes-up; word = more .word; loan = more .loan }, g .events);
+  events = (claimed, g .events);
   least = more .least;
 }
   where
@@ -76,3 +78,13 @@ after-event {P} {l} {k} {e} {h} g more = record {
           is = omega (arith, x .covered, raises-are P (upTo i s) (e ∷ h));
           within = omega (arith, x .within, raises-are P (upTo i s) (e ∷ h));
         }
+
+    claimed : Claimed P e h
+    claimed = record {
+      held = held;
+      soon = more .soon;
+      comes-up = more .comes-up;
+      word = more .word;
+      after-departure = more .after-departure;
+      loan = more .loan;
+    }

@@ -38,6 +38,7 @@ module _ {l : Link} {h : History} (g : After (l .plan) l h) (mask choice : ℕ) 
     soon = tt;
     comes-up = tt;
     word = tt;
+    after-departure = tt;
     loan = tt;
     least = least-kept (refused r);
   })
@@ -52,6 +53,7 @@ module _ {l : Link} {h : History} (g : After (l .plan) l h) (mask choice : ℕ) 
         soon = tt;
         comes-up = tt;
         word = tt;
+        after-departure = tt;
         loan = record { mask-below = free .mask-below; known = known; in-mask = both .0 };
         least =
             each-flow l (LeastOf P (lent mask (accepted i) ∷ h)) i (withHeld (flow l i) (heldFrom l i (l .current) suc))

@@ -5,24 +5,26 @@ use mathlib.Core.List.{_∷_}
 use mathlib.Core.Bool.{true, false}
 use native.Mathlib.Omega.{arith}
 use lib.Dec.{ltb, eqb}
-use borrow.Author.Tests.{ltb-true, ne-eqb, not-false}
+use borrow.Author.Tests.{ltb-true, ne-eqb, not-true, not-false}
 use Rattle.model.specs.Tables.{tally}
 use Rattle.model.specs.Refusals.{firstOf}
 use Rattle.model.specs.Word.{flowOf, departureOf, depart}
-use Rattle.model.specs.Plan.{flowCount}
+use Rattle.model.specs.Plan.{positions, flowCount}
 use Rattle.model.specs.Calls.{Grant, Event, History, requested, accepted, refused}
-use Rattle.model.specs.Window.{newest}
+use Rattle.model.specs.Window.{newest, later}
 use Rattle.model.specs.Link.{Link, window, flow, movedTo, withHeld, heldFrom}
-use Rattle.model.specs.Request.{Found, found, nowhere, wordTests, sought, booked, refusedAtNewest, answered, requestAfter, request}
+use Rattle.model.specs.Request.{Found, found, nowhere, wordTests, sought, newestTests, wouldBeValid, booked, refusedAtNewest}
+use Rattle.model.specs.Request.{answered, requestAfter, request}
 use Rattle.model.specs.History.{ticks, frameOf, grants, credits, refusals, refusedIn, wellFormed, inFrame, upTo}
 use Rattle.model.proofs.Tests.{line-passed}
 use Rattle.model.proofs.Word.{departure-depart}
+use Rattle.model.proofs.Departures.{come-is}
 use Rattle.model.proofs.LinkUpdates.{each-flow}
 use Rattle.model.proofs.Marks.{mark, in-frame-skip, in-frame-other}
 use Rattle.model.proofs.LeastCount.{Least, least-recounted, least-other}
 use Rattle.model.proofs.RequestSearch.{Persists, Searched, request-searched}
 use Rattle.model.proofs.RequestKeeps.{AfterGrant, after-grant, AfterRefusal, after-refusal}
-use Rattle.model.proofs.HistoryCounts.{well-formed-is, refusals-with, refusals-without, raises, raises-are}
+use Rattle.model.proofs.HistoryCounts.{well-formed-is, departure-below, refusals-with, refusals-without, raises, raises-are}
 use Rattle.model.proofs.AfterHistory.{AskedOn, asked-before, LeastOf, After, after-event}
 
 module _ {l : Link} {h : History} (g : After (l .plan) l h) (w : ℕ) where
@@ -35,6 +37,10 @@ module _ {l : Link} {h : History} (g : After (l .plan) l h) (w : ℕ) where
   -- the flow that asks
   abbrev i : ℕ
   i = flowOf w
+
+  -- the departure of its word
+  abbrev d : ℕ
+  d = departureOf w
 
   -- its refusals in each frame, before this request
   abbrev R : ℕ → ℕ
@@ -64,6 +70,7 @@ module _ {l : Link} {h : History} (g : After (l .plan) l h) (w : ℕ) where
     soon = tt;
     comes-up = tt;
     word = tt;
+    after-departure = tt;
     loan = tt;
     least = λ q known. not-counted (suc r) q known (λ f. ap (tally (inFrame P q f)) (refusals-without P w (suc r) h ill));
   })
@@ -80,12 +87,21 @@ module _ {l : Link} {h : History} (g : After (l .plan) l h) (w : ℕ) where
     known : i < flowCount P
     known = ltb-true i (flowCount P) (not-false (ltb i (flowCount P)) (line-passed _ 7 _ e .0))
 
+    below : d < positions P
+    below = departure-below P w well
+
     -- the premise of the least count, at this request
-    persists : (a : Grant) → AskedOn P (requested w a ∷ h) i → ((f : ℕ) → f < frameOf P t → 0 < R f) → Persists v known R
-    persists a asked so-far = record { room = λ s le. omega (arith, asked .ready .0 well refl .room s le, raises-are P (upTo i s) h); least = g .least i known (asked-before asked so-far) }
+    persists : (a : Grant) → AskedOn P (requested w a ∷ h) i → ((f : ℕ) → f < frameOf P t → 0 < R f) → Persists v known d R
+    persists a asked so-far =
+        let ready = asked .ready .0 well refl in
+        record {
+          come = not-true (later (window l) d (l .current)) (sym (come-is (v .current) d below) ∙ ready .come);
+          room = λ s le. omega (arith, ready .room s le, raises-are P (upTo i s) h);
+          least = g .least i known (asked-before asked so-far);
+        }
 
     -- u is the granted word
-    granted : (j c p u : ℕ) → u ≡ depart w p → departureOf u ≡ p → AfterGrant v known R j c p → After P (booked l i j c p) (grantedWith u ∷ h)
+    granted : (j c p u : ℕ) → u ≡ depart w p → departureOf u ≡ p → AfterGrant v known d R j c p → After P (booked l i j c p) (grantedWith u ∷ h)
     unfolding ticks grants raises credits refusals booked
     granted j c p u is departs x = after-event g (record {
       plan-is = refl;
@@ -97,6 +113,7 @@ module _ {l : Link} {h : History} (g : After (l .plan) l h) (w : ℕ) where
         same-but-departure = is ∙ ap (depart w) (sym departs);
         position = rw departs (x .position);
       };
+      after-departure = λ well yet. rw departs (x .after-departure below yet);
       loan = tt;
       least = each-flow l (LeastOf P (grantedWith u ∷ h)) i (withHeld (movedTo (flow l i) j c) (heldFrom l i p suc)) own others;
     })
@@ -105,9 +122,9 @@ module _ {l : Link} {h : History} (g : After (l .plan) l h) (w : ℕ) where
         own asked = rw departs (x .least (persists (accepted u) asked (asked .refused-before)))
 
         others : (q : ℕ) → q < flowCount P → (q ≡ i → ⊥) → LeastOf P (grantedWith u ∷ h) q (flow l q)
-        others q known d asked = least-other (g .least q known (asked-before asked (asked .refused-before))) _ (λ z. d (sym z))
+        others q known other asked = least-other (g .least q known (asked-before asked (asked .refused-before))) _ (λ z. other (sym z))
 
-    refused-at-newest : (c r : ℕ) → AfterRefusal v known R c → After P (refusedAtNewest l i c) (refusedWith r ∷ h)
+    refused-at-newest : (c r : ℕ) → AfterRefusal v known d R c → After P (refusedAtNewest l i c) (refusedWith r ∷ h)
     unfolding ticks grants raises credits refusedAtNewest
     refused-at-newest c r x = after-event g (record {
       plan-is = refl;
@@ -115,6 +132,7 @@ module _ {l : Link} {h : History} (g : After (l .plan) l h) (w : ℕ) where
       soon = tt;
       comes-up = tt;
       word = tt;
+      after-departure = tt;
       loan = tt;
       least = each-flow l (LeastOf P (refusedWith r ∷ h)) i (movedTo (flow l i) (newest (window l)) c) own others;
     })
@@ -129,15 +147,14 @@ module _ {l : Link} {h : History} (g : After (l .plan) l h) (w : ℕ) where
         own asked = x .least (persists (refused r) asked (λ f lt. rw (earlier f lt) at (asked .refused-before f lt))) _
 
         others : (q : ℕ) → q < flowCount P → (q ≡ i → ⊥) → LeastOf P (refusedWith r ∷ h) q (flow l q)
-        others q known d = not-counted r q known (λ f. counts q f ∙ in-frame-other P q f (mark i t) (refusals P h) (λ z. d (sym z)))
+        others q known other = not-counted r q known (λ f. counts q f ∙ in-frame-other P q f (mark i t) (refusals P h) (λ z. other (sym z)))
 
-    after-search : (f : Found) → Searched v known R f → After P (answered l w f .link) (requested w (answered l w f .answer) ∷ h)
+    after-search : (f : Found) → Searched v known d R f → After P (answered l w f .link) (requested w (answered l w f .answer) ∷ h)
     unfolding answered
     after-search (found j c p) s =
-        let x = after-grant v known R j c p s in
+        let x = after-grant v known d R j c p s in
         granted j c p (depart w p) refl (departure-depart w p (omega (arith, x .position, v .current .accepted .positions-most))) x
-    after-search (nowhere zero) s = refused-at-newest 0 11 (after-refusal v known R 0 s)
-    after-search (nowhere (suc c)) s = refused-at-newest (suc c) 12 (after-refusal v known R (suc c) s)
+    after-search (nowhere c) s = refused-at-newest c (firstOf (newestTests (wouldBeValid l i) c)) (after-refusal v known d R c s)
 
   -- ---- the request
 
@@ -146,5 +163,5 @@ module _ {l : Link} {h : History} (g : After (l .plan) l h) (w : ℕ) where
   after-request = go (firstOf (wordTests P w)) refl
     where
       go : (r : ℕ) → firstOf (wordTests P w) ≡ r → After P (requestAfter r l w .link) (requested w (requestAfter r l w .answer) ∷ h)
-      go zero e = after-search e (sought l i) (request-searched v (known e) R)
+      go zero e = after-search e (sought l i d) (request-searched v (known e) d R)
       go (suc r) e = ill-formed r e

@@ -58,6 +58,7 @@ module _ {l : Link} {h : History} (g : After (l .plan) l h) where
     soon = tt;
     comes-up = comes-up;
     word = tt;
+    after-departure = tt;
     loan = tt;
     least = λ q known. least-ticked (tick l .answer) q known (ℕ-discrete (suc t % P .slots) 0);
   })

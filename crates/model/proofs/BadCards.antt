@@ -13,7 +13,7 @@ use Rattle.model.specs.History.{slotAfter}
 use Rattle.model.specs.Link.{Link, holding}
 use Rattle.model.specs.Claim.{Clause}
 use Rattle.model.specs.Card.{Card, Meets, run, paper}
-use Rattle.model.specs.PlanBytes.{listing, single}
+use Rattle.model.specs.PlanBytes.{listing, single, oneCell}
 use Rattle.model.specs.EdgeCases.{Passes}
 use Rattle.model.specs.Edges.{markedEdges}
 use Rattle.model.specs.BadCards.{refusesAll, refusesFlow1, grantsOne, writesNoBooking, firstWindowOnly, inventsHolding, fullest, startsAtZero}
@@ -35,6 +35,10 @@ two-flows = record { bytes = listing; accepted-plan = refl; some-flow = lit< tt 
 abbrev one-flow : Sample
 unfolding plans-compute
 one-flow = record { bytes = single; accepted-plan = refl; some-flow = lit< tt }
+
+abbrev pub one-cell : Sample
+unfolding plans-compute
+one-cell = record { bytes = oneCell; accepted-plan = refl; some-flow = lit< tt }
 
 -- the events of calls on a card
 abbrev eventsOn : Card → Sample → List Call → History

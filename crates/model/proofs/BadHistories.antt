@@ -20,7 +20,7 @@ use Rattle.model.proofs.ClaimDecided.{decided}
 abbrev clauses : List Clause
 clauses =
     Clause.most ∷ Clause.most-in-a-frame ∷ Clause.least ∷ Clause.within-cells ∷ Clause.one-owner ∷ Clause.within-a-window ∷ Clause.comes-up
-    ∷ Clause.granted-words ∷ Clause.lent-flows ∷ []
+    ∷ Clause.granted-words ∷ Clause.after-departure ∷ Clause.lent-flows ∷ []
 
 abbrev clauseAt : ℕ → Clause
 clauseAt k = getD clauses k Clause.most
@@ -40,7 +40,8 @@ place Clause.one-owner = record { number = 4; below = lit< tt; is = refl }
 place Clause.within-a-window = record { number = 5; below = lit< tt; is = refl }
 place Clause.comes-up = record { number = 6; below = lit< tt; is = refl }
 place Clause.granted-words = record { number = 7; below = lit< tt; is = refl }
-place Clause.lent-flows = record { number = 8; below = lit< tt; is = refl }
+place Clause.after-departure = record { number = 8; below = lit< tt; is = refl }
+place Clause.lent-flows = record { number = 9; below = lit< tt; is = refl }
 
 same-clause : (a b : Clause) → Dec (a ≡ b)
 same-clause a b =

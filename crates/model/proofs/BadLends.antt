@@ -4,20 +4,14 @@ use mathlib.Core.Path.{_≡_, refl}
 use mathlib.Core.List.{List, _∷_, []}
 use mathlib.Core.Option.{none}
 use native.Mathlib.Omega.{arith}
-use lib.Dec.{lit<}
 use Rattle.model.specs.Plan.{planOf}
 use Rattle.model.specs.Calls.{Call, History, ticked, lent, accepted, refused}
 use Rattle.model.specs.Claim.{Clause}
 use Rattle.model.specs.Card.{Meets, run, paper}
-use Rattle.model.specs.PlanBytes.{plan1, listing}
+use Rattle.model.specs.PlanBytes.{listing}
 use Rattle.model.specs.BadLends.{lendsBooked, forgetsMark, holdsNoLoan, lendsToFull, ignoresMask, keepsMark}
-use Rattle.model.proofs.Unfoldings.{plans-compute, calls-compute}
-use Rattle.model.proofs.BadCards.{Sample, two-flows, sent-back, events-compute}
-
--- F = 4, W = 2, one flow with share 2 and one cell
-abbrev one-cell : Sample
-unfolding plans-compute
-one-cell = record { bytes = plan1 4 2 8 2 1; accepted-plan = refl; some-flow = lit< tt }
+use Rattle.model.proofs.Unfoldings.{calls-compute}
+use Rattle.model.proofs.BadCards.{two-flows, one-cell, sent-back, events-compute}
 
 -- slot 1 is granted to flow 0 and lent to flow 1
 pub lends-booked : Meets lendsBooked → ⊥

@@ -12,11 +12,11 @@ use Rattle.model.specs.Tables.{tally}
 use Rattle.model.specs.Word.{flowOf, departureOf, depart}
 use Rattle.model.specs.Plan.{Plan, positions, flowCount, entry}
 use Rattle.model.specs.Calls.{Event, History, Turn, requested, credited, ticked, lent, accepted, refused, inMask}
-use Rattle.model.specs.History.{ticks, changes, Mark, wellFormed, grants, lends, frameOf, ofFlow, atSlot, inFrame}
+use Rattle.model.specs.History.{ticks, changes, Mark, wellFormed, hasCome, grants, lends, frameOf, ofFlow, atSlot, inFrame}
 use Rattle.model.specs.History.{grantedIn, grantedUpTo, lentUpTo, creditedUpTo, WasGranted}
-use Rattle.model.specs.Claim.{Each, AtRequest, AtGrant, AtTick, AtLoan, Ready, ReadyAt, Persistent, Held, HeldAt, SoonAt, ComesUpAt}
-use Rattle.model.specs.Claim.{GrantedWord, GrantedWordAt, LentFlow, LentFlowAt, Clause, Says}
-use Rattle.model.proofs.Decidable.{same, implies, is-true, all-below, everywhere}
+use Rattle.model.specs.Claim.{Each, AtRequest, AtGrant, AtTick, AtLoan, Room, Ready, ReadyAt, Persistent, Held, HeldAt, SoonAt, ComesUpAt}
+use Rattle.model.specs.Claim.{GrantedWord, GrantedWordAt, AfterDepartureAt, LentFlow, LentFlowAt, Clause, Says}
+use Rattle.model.proofs.Decidable.{same, implies, is-true, is-false, all-below, everywhere}
 use Rattle.model.proofs.PastMarks.{above, none-past, ownedEnd, end, same-granted, same-lent, same-credited}
 
 -- ---- an event of a kind
@@ -65,6 +65,10 @@ granted-word P = at-grant (λ w v h. word w v)
         same (λ r. record { asked-well-formed = r .0; same-but-departure = r .1 .0; position = r .1 .1 })
         (λ g. (g .asked-well-formed, (g .same-but-departure, g .position)))
         (Dec·and (is-true (wellFormed P w)) (Dec·and (ℕ-discrete v (depart w (departureOf v))) (decLt (departureOf v) (positions P))))
+
+unfoldable pub after-departure : (P : Plan) (e : Event) (h : History) → Dec (AfterDepartureAt P e h)
+unfolding at-grant
+after-departure P = at-grant (λ w v h. implies (is-true (wellFormed P w)) (implies (is-false (hasCome P (ticks h) (departureOf w))) (decLt _ _)))
 
 unfoldable pub lent-flow : (P : Plan) (e : Event) (h : History) → Dec (LentFlowAt P e h)
 unfolding at-loan
@@ -131,14 +135,13 @@ held-at P i e h = everywhere (suc (end P (e ∷ h))) (held P i (e ∷ h)) later
 
 -- ---- the stream that asks until it is refused
 
-abbrev Room : Plan → ℕ → History → ℕ → Type 0
-Room P i h s = ticks h ≤ s → grantedUpTo P h i s + lentUpTo h i s < creditedUpTo P h i s + entry P i .cells
+abbrev RoomFrom : Plan → ℕ → History → ℕ → Type 0
+RoomFrom P i h s = ticks h ≤ s → grantedUpTo P h i s + lentUpTo h i s < creditedUpTo P h i s + entry P i .cells
 
-unfoldable pub ready : (P : Plan) (i w : ℕ) (h : History) → Dec (Ready P i w h)
-ready P i w h =
-    same (λ r. record { room = r }) (λ x. x .room) (everywhere (suc (max (ticks h) (end P h))) (λ s. implies (decLe _ _) (decLt _ _)) later)
+unfoldable pub has-room : (P : Plan) (i : ℕ) (h : History) → Dec (Room P i h)
+has-room P i h = everywhere (suc (max (ticks h) (end P h))) (λ s. implies (decLe _ _) (decLt _ _)) later
   where
-    later : ((s : ℕ) → s < suc (max (ticks h) (end P h)) → Room P i h s) → (s : ℕ) → suc (max (ticks h) (end P h)) ≤ s → Room P i h s
+    later : ((s : ℕ) → s < suc (max (ticks h) (end P h)) → RoomFrom P i h s) → (s : ℕ) → suc (max (ticks h) (end P h)) ≤ s → RoomFrom P i h s
     later below s past le =
         let u = max (ticks h) (end P h) in
         let x = below u (omega arith) (omega arith) in
@@ -146,6 +149,11 @@ ready P i w h =
         let l = same-lent P h i s u (omega arith) (omega arith) in
         let c = same-credited P h i s u (omega arith) (omega arith) in
         omega arith
+
+unfoldable pub ready : (P : Plan) (i w : ℕ) (h : History) → Dec (Ready P i w h)
+ready P i w h =
+    same (λ r. record { room = r .0; come = r .1 }) (λ x. (x .room, x .come))
+    (Dec·and (has-room P i h) (is-true (hasCome P (ticks h) (departureOf w))))
 
 unfoldable pub ready-at : (P : Plan) (i : ℕ) (e : Event) (h : History) → Dec (ReadyAt P i e h)
 unfolding at-request
@@ -158,14 +166,14 @@ each d [] = yes tt
 each d (e ∷ h) = Dec·and (d e h) (each d h)
 
 unfoldable pub persistent : (P : Plan) (i : ℕ) (h : History) → Dec (Persistent P i h)
-unfolding Dec·and decLe decLt ℕ-discrete same implies is-true all-below everywhere above ownedEnd end at-request ready ready-at each
+unfolding Dec·and decLe decLt ℕ-discrete same implies is-true is-false all-below everywhere above ownedEnd end at-request has-room ready ready-at each
 persistent P i h =
     same (λ r. record { refused-in-each-frame = λ f le. r .0 f (omega arith); ready-at-each-request = r .1 })
     (λ p. ((λ f lt. p .refused-in-each-frame f (omega arith)), p .ready-at-each-request))
     (Dec·and (all-below (suc (changes P h)) (λ f. decLt _ _)) (each (ready-at P i) h))
 
 unfoldable pub decided : (clause : Clause) (P : Plan) (i : ℕ) (h : History) → Dec (Says clause P i h)
-unfolding persistent at-grant at-tick at-loan soon granted-word lent-flow answers-flow aboveAnswer comes-up held held-at
+unfolding persistent at-grant at-tick at-loan soon granted-word after-departure lent-flow answers-flow aboveAnswer comes-up held held-at
 decided Clause.most P i h = decLe _ _
 decided Clause.most-in-a-frame P i h =
     everywhere (above (λ m. frameOf P (m .slot)) (grants P h)) (λ f. decLe _ _) (λ below f past. omega (arith, none-in f past))
@@ -184,4 +192,5 @@ decided Clause.within-cells P i h = each (held-at P i) h
 decided Clause.within-a-window P i h = each (soon P) h
 decided Clause.comes-up P i h = each (comes-up P) h
 decided Clause.granted-words P i h = each (granted-word P) h
+decided Clause.after-departure P i h = each (after-departure P) h
 decided Clause.lent-flows P i h = each (lent-flow P) h

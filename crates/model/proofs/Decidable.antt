@@ -36,6 +36,10 @@ unfoldable pub is-true : (b : Bool) → Dec (b ≡ true)
 is-true true = yes refl
 is-true false = no (λ e. let z : _≡_ {A = ℕ} 0 1 = ap bit e in omega arith)
 
+unfoldable pub is-false : (b : Bool) → Dec (b ≡ false)
+is-false true = no (λ e. let z : _≡_ {A = ℕ} 1 0 = ap bit e in omega arith)
+is-false false = yes refl
+
 -- a number below n + 1 is n, or below n
 pub below-suc : (Q : ℕ → Type 0) (n : ℕ) → Q n → ((k : ℕ) → k < n → Q k) → (k : ℕ) → k < suc n → Q k
 below-suc Q n q below k lt = go (ℕ-discrete k n)

@@ -1,4 +1,4 @@
--- Demand 3: the card of document 01 meets it. Assumes nothing.
+-- Demand 3: the card of documents 01 and 02 meets it. Assumes nothing.
 use Prim.Native.Nat.{ℕ, suc, _+_, _-_, _*_, _≤_, _<_}
 use mathlib.Core.Path.{_≡_, refl, subst}
 use mathlib.Core.List.{[], _∷_}
@@ -23,7 +23,7 @@ use Rattle.model.proofs.AfterHistory.{AskedOn, After}
 use Rattle.model.proofs.Plan.{accepted}
 use Rattle.model.proofs.AfterCalls.{after-run}
 
-each-map : (Q R : Event → History → Type 0) → ((e : Event) (h : History) → Q e h → R e h) → (h : History) → Each Q h → Each R h
+pub each-map : (Q R : Event → History → Type 0) → ((e : Event) (h : History) → Q e h → R e h) → (h : History) → Each Q h → Each R h
 each-map Q R f [] a = tt
 each-map Q R f (e ∷ h) a = (f e h (a .0), each-map Q R f h (a .1))
 
@@ -92,6 +92,7 @@ module _ (l : Link) (h : History) (g : After (l .plan) l h) (i : ℕ) (known : i
   demand3 Clause.within-a-window = each-map _ _ (λ e h c. c .soon) h (g .events)
   demand3 Clause.comes-up = each-map _ _ (λ e h c. c .comes-up) h (g .events)
   demand3 Clause.granted-words = each-map _ _ (λ e h c. c .word) h (g .events)
+  demand3 Clause.after-departure = each-map _ _ (λ e h c. c .after-departure) h (g .events)
   demand3 Clause.lent-flows = each-map _ _ (λ e h c. c .loan) h (g .events)
 
 -- demand 3 on any plan that keeps the limits, and so on the plan of any bytes that are accepted

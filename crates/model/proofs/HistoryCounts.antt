@@ -6,7 +6,7 @@ use mathlib.Core.Bool.{Bool, true, false, not, _&&_}
 use native.Mathlib.Nat.{zero-div}
 use native.Mathlib.Omega.{arith}
 use lib.Dec.{ltb, eqb}
-use borrow.Author.Tests.{eqb-true, eqb-false}
+use borrow.Author.Tests.{ltb-true, eqb-true, eqb-false}
 use Rattle.model.specs.Tables.{bit, tally}
 use Rattle.model.specs.Refusals.{firstOf, _when_}
 use Rattle.model.specs.Word.{flowOf, destinationOf, departureOf}
@@ -14,6 +14,7 @@ use Rattle.model.specs.Plan.{Plan, positions, flowCount, entry, Accepted
 use Rattle.model.specs.Calls.{History, requested, credited, ticked, lent, accepted, refused}
 use Rattle.model.specs.Request.{wordTests}
 use Rattle.model.specs.History.{Mark, ticks, slotAfter, changes, frameOf, wellFormed, grants, refusals, lends, refusedIn}
+use Rattle.model.proofs.Tests.{and-true}
 use Rattle.model.proofs.Slots.{frame-stays, frame-changes, frames-go-on}
 use Rattle.model.proofs.Marks.{mark, in-frame-skip}
 
@@ -29,6 +30,12 @@ pub well-formed-is : (P : Plan) (w : ℕ) → wellFormed P w ≡ eqb (firstOf (w
 unfolding wellFormed
 well-formed-is P w =
     three-tests (ltb (flowOf w) (flowCount P)) (eqb (destinationOf w) (entry P (flowOf w) .destination)) (ltb (departureOf w) (positions P))
+
+pub departure-below : (P : Plan) (w : ℕ) → wellFormed P w ≡ true → departureOf w < positions P
+unfolding wellFormed
+departure-below P w e =
+    let flow-and-destination = ltb (flowOf w) (flowCount P) && eqb (destinationOf w) (entry P (flowOf w) .destination) in
+    ltb-true (departureOf w) (positions P) (and-true flow-and-destination (ltb (departureOf w) (positions P)) e .1)
 
 -- ---- frames
 

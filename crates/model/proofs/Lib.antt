@@ -16,6 +16,7 @@ pub mod Listing
 -- slots, positions, links and marks
 pub mod Slots
 pub mod Window
+pub mod Departures
 pub mod LinkUpdates
 pub mod Marks
 pub mod SlotOwners
@@ -27,6 +28,7 @@ pub mod CreditKeeps
 pub mod LendKeeps
 pub mod UnbookedSlots
 pub mod SearchedFrames
+pub mod NewestFrame
 pub mod LeastCount
 pub mod RequestSearch
 pub mod RequestKeeps
@@ -47,7 +49,8 @@ pub mod Demand3
 pub mod ListingMeets
 pub mod Holding
 pub mod Buffer
--- edges, cards that demand 3 sends back, and a stream that meets the premise of the least count
+pub mod TwoHops
+-- edges, cards that demand 3 sends back, a stream that meets the premise of the least count, and what the premise on tiles is for
 pub mod Unfoldings
 pub mod Edges
 pub mod Decidable
@@ -56,4 +59,6 @@ pub mod ClaimDecided
 pub mod BadHistories
 pub mod BadCards
 pub mod BadLends
+pub mod BadDepartures
 pub mod PersistentStream
+pub mod TilesToCome

@@ -28,8 +28,8 @@ accepted-plan = refl
 
 abbrev calls : List Call
 calls =
-    -- frame 0, at its last slot
-    Call.tick ∷ Call.request 0x24000001 ∷ Call.request 0x24100001 ∷ Call.request 0x24000401
+    -- frame 0, at its last slot; departure 0 lies before CP
+    Call.tick ∷ Call.request 0x24000000 ∷ Call.request 0x24100001 ∷ Call.request 0x24000401
     -- frame 1: a cell falls free from slot 3 on, without which the flow would hold both at its last request
     ∷ Call.tick ∷ Call.credit 0 3 ∷ Call.request 0x24100402 ∷ Call.request 0x24000402 ∷ Call.request 0x24000802
     -- frame 2: a cell falls free from slot 5 on
@@ -41,7 +41,7 @@ h = run paper P calls .history
 -- what the calls come to, oldest first
 abbrev events : List Event
 events =
-    ticked none ∷ requested 0x24000001 (accepted 0x24000002) ∷ requested 0x24100001 (accepted 0x24100003) ∷ requested 0x24000401 (refused 11)
+    ticked none ∷ requested 0x24000000 (accepted 0x24000002) ∷ requested 0x24100001 (accepted 0x24100003) ∷ requested 0x24000401 (refused 11)
     ∷ ticked (some 0) ∷ credited 0 3 (accepted tt) ∷ requested 0x24100402 (accepted 0x24100400) ∷ requested 0x24000402 (accepted 0x24000401)
     ∷ requested 0x24000802 (refused 11) ∷ ticked (some 1) ∷ ticked (some 1) ∷ credited 0 1 (accepted tt)
     ∷ requested 0x24000800 (accepted 0x24000802) ∷ requested 0x24000C00 (refused 11) ∷ []

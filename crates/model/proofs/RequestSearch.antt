@@ -1,4 +1,4 @@
--- The search of a flow's request: what holds of each frame that it comes to. Assumes nothing.
+-- The search of a flow's request with departure d: what holds of each frame that it comes to. Assumes nothing.
 use Prim.Native.Nat.{ℕ, zero, suc, _+_, _-_, _*_, _%_, _≤_, _<_}
 use mathlib.Core.Path.{_≡_, refl, sym, ap, _∙_, subst}
 use mathlib.Core.Bool.{false}
@@ -7,9 +7,9 @@ use native.Mathlib.Decide.{decLt, decLe}
 use native.Mathlib.Omega.{arith}
 use Rattle.model.specs.Tables.{ahead, tally}
 use Rattle.model.specs.Plan.{Plan, positions, flowCount, entry}
-use Rattle.model.specs.Window.{newest}
+use Rattle.model.specs.Window.{newest, later}
 use Rattle.model.specs.Link.{Link, window, flow, share}
-use Rattle.model.specs.Request.{Found, valid, sought}
+use Rattle.model.specs.Request.{Found, validFor, sought}
 use Rattle.model.specs.History.{frameOf, atSlot}
 use Rattle.model.specs.Holding.{InWindow}
 use Rattle.model.proofs.Round.{ahead-mod}
@@ -17,6 +17,7 @@ use Rattle.model.proofs.Tables.{firstFrom-none}
 use Rattle.model.proofs.Tallies.{all-map}
 use Rattle.model.proofs.Slots.{some-frame, frame-ends, frame-slot-in-window, position-of}
 use Rattle.model.proofs.Window.{Current, newest-is}
+use Rattle.model.proofs.Departures.{valid-if-come}
 use Rattle.model.proofs.Marks.{marksIn}
 use Rattle.model.proofs.Invariant.{Ledger, Spent, Injects, Room, Invariant}
 use Rattle.model.proofs.BookingKeeps.{open-valid}
@@ -24,7 +25,7 @@ use Rattle.model.proofs.UnbookedSlots.{not-all-booked}
 use Rattle.model.proofs.SearchedFrames.{Fails, Ends, search-ends}
 use Rattle.model.proofs.LeastCount.{Full, Least}
 
-module _ {l : Link} {L : Ledger} (v : Invariant l L) {i : ℕ} (known : i < flowCount (l .plan)) where
+module _ {l : Link} {L : Ledger} (v : Invariant l L) {i : ℕ} (known : i < flowCount (l .plan)) (d : ℕ) where
   open Link l using (plan as P)
   open Plan P using (slots as F, frames as W)
   open Ledger L using (now as t)
@@ -35,18 +36,19 @@ module _ {l : Link} {L : Ledger} (v : Invariant l L) {i : ℕ} (known : i < flow
 
   -- With remainder c the search finds no position in frame a.
   abbrev pub FailsIn : ℕ → ℕ → Type 0
-  FailsIn a c = Fails (window l) (valid l i) (share l i) (a % W) c
+  FailsIn a c = Fails (window l) (validFor l i d) (share l i) (a % W) c
 
-  -- ---- where the flow has room, a frame to come in which the search fails is full
+  -- ---- where the tile has come and the flow has room, a frame to come in which the search fails is full
 
-  module _ (room : Room P (L .raises) (L .credits) i t) where
-    not-valid : (s : ℕ) → InWindow P t s → t < s → valid l i (s % T) ≡ false → 0 < tally (atSlot s) (L .grants)
+  module _ (come : later (window l) d (l .current) ≡ false) (room : Room P (L .raises) (L .credits) i t) where
+    not-valid : (s : ℕ) → InWindow P t s → t < s → validFor l i d (s % T) ≡ false → 0 < tally (atSlot s) (L .grants)
     not-valid s w h e = go (tally (atSlot s) (L .grants)) refl
       where
         go : (x : ℕ) → tally (atSlot s) (L .grants) ≡ x → 0 < x
         go (suc x) q = omega arith
         go zero q =
-            let both = sym e ∙ open-valid v known s w (record { not-granted = q; to-come = h; room = λ r le. room r (omega arith) }) in
+            let free = open-valid v known s w (record { not-granted = q; to-come = h; room = λ r le. room r (omega arith) }) in
+            let both = sym e ∙ valid-if-come l i d (s % T) come ∙ free in
             let no : _≡_ {A = ℕ} 0 1 = cc in
             omega arith
 
@@ -59,16 +61,17 @@ module _ {l : Link} {L : Ledger} (v : Invariant l L) {i : ℕ} (known : i < flow
       where
         booked : (x : ℕ) → x < F → 0 < tally (atSlot (a * F + x)) (L .grants)
         booked x h =
-            let not-ok = firstFrom-none F (a % W * F) (valid l i) fails (a % W * F + x) (omega arith) (omega arith) in
+            let not-ok = firstFrom-none F (a % W * F) (validFor l i d) fails (a % W * F + x) (omega arith) (omega arith) in
             let after : suc (frameOf P t) * F ≤ a * F = mul-le-mul-right F low in
             not-valid (a * F + x) (frame-slot-in-window ok t a x (omega arith) high h)
-            (omega (arith, frame-ends ok t)) (ap (valid l i) (position-of ok a x h) ∙ not-ok)
+            (omega (arith, frame-ends ok t)) (ap (validFor l i d) (position-of ok a x h) ∙ not-ok)
 
   -- ---- the search, where R f counts the flow's refusals in frame f
 
   module _ (R : ℕ → ℕ) where
     -- the premise of the least count, at this request
     pub record Persists : Type 0 where
+      pub come : later (window l) d (l .current) ≡ false
       pub room : Room P (L .raises) (L .credits) i t
       pub least : Least P (frameOf P t) (L .origin) (L .grants) R i (flow l i .injection)
 
@@ -88,7 +91,7 @@ module _ {l : Link} {L : Ledger} (v : Invariant l L) {i : ℕ} (known : i < flow
       where
         here : Dec (a ≤ frameOf P t) → L .origin < a → marksIn P i a (L .grants) ≡ entry P i .share
         here (yes h) since = p .least .after-a-change (omega (arith, q .low)) a since (omega (arith, q .low, ok .two-frames))
-        here (no h) since = full-if-fails (p .room) a c (omega arith) high (q .spends) fails
+        here (no h) since = full-if-fails (p .come) (p .room) a c (omega arith) high (q .spends) fails
 
         go : Dec (f < a) → marksIn P i f (L .grants) ≡ entry P i .share
         go (yes h) = q .full p f since h
@@ -107,13 +110,13 @@ module _ {l : Link} {L : Ledger} (v : Invariant l L) {i : ℕ} (known : i < flow
     }
 
     abbrev pub Searched : Found → Type 0
-    Searched = Ends (window l) (valid l i) (share l i) newestFrame Reached
+    Searched = Ends (window l) (validFor l i d) (share l i) newestFrame Reached
 
-    pub request-searched : Searched (sought l i)
+    pub request-searched : Searched (sought l i d)
     unfolding sought
     request-searched =
         rw (more, f .injection-is)
-        (search-ends (window l) (valid l i) (share l i) newestFrame Reached goes-on (newestFrame - f .frame) (f .frame) (flow l i .remainder)
+        (search-ends (window l) (validFor l i d) (share l i) newestFrame Reached goes-on (newestFrame - f .frame) (f .frame) (flow l i .remainder)
         (omega (arith, f .high)) first)
       where
         f : Injects P (frameOf P t) (L .grants) i (flow l i)

@@ -42,6 +42,11 @@ any-none (suc n) f e k h = let p = or-false (f n) (any n f) e in go (λ l. any-n
     go rest last (yes l) = rest l
     go rest last (no l) = let z : k ≡ n = omega arith in ap f z ∙ last
 
+pub any-of-none : (n : ℕ) (f : ℕ → Bool) → ((k : ℕ) → k < n → f k ≡ false) → any n f ≡ false
+unfolding any
+any-of-none zero f none-passes = refl
+any-of-none (suc n) f none-passes = rw (none-passes n (omega arith)) (any-of-none n f (λ k l. none-passes k (omega arith)))
+
 -- some number below n passes f
 pub any-hit : (n : ℕ) (f : ℕ → Bool) (k : ℕ) → k < n → f k ≡ true → any n f ≡ true
 unfolding any

@@ -5,7 +5,7 @@ use Rattle.model.specs.Refusals.{firstOf}
 use Rattle.model.specs.Plan.{refusal, entryFits}
 use Rattle.model.specs.Window.{rank, passed, fromOn, everyFrom}
 use Rattle.model.specs.Fresh.{fresh}
-use Rattle.model.specs.Request.{valid, search, sought, booked, refusedAtNewest, answered, requestAfter, request}
+use Rattle.model.specs.Request.{valid, canLeave, validFor, search, sought, wouldBeValid, booked, refusedAtNewest, answered, requestAfter, request}
 use Rattle.model.specs.Credit.{lowered, creditAfter, credit}
 use Rattle.model.specs.Tick.{recycled, advanced, tick}
 use Rattle.model.specs.Lend.{canTake, lentTo, chosen, lentAfter, lendAfter, lend}
@@ -26,7 +26,7 @@ unfolding every ahead rank passed fromOn everyFrom
 window-computes = tt
 
 unfoldable pub requests-compute : Unit {0}
-unfolding firstFrom firstOf window-computes valid search sought booked refusedAtNewest answered requestAfter request
+unfolding any firstFrom firstOf window-computes valid canLeave validFor search sought wouldBeValid booked refusedAtNewest answered requestAfter request
 requests-compute = tt
 
 -- the calls of the paper's card, and a list of calls played

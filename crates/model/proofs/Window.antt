@@ -5,10 +5,10 @@ use mathlib.Core.Bool.{Bool, true, false, not, _&&_, _||_}
 use native.Mathlib.Nat.{mod-lt, mod-add-mod, add-zero}
 use native.Mathlib.Omega.{arith}
 use lib.Dec.{leb, ltb, eqb}
-use borrow.Author.Tests.{leb-true, leb-false, lt-ltb, le-ltb, le-leb, lt-leb, eq-eqb}
+use borrow.Author.Tests.{ltb-true, ltb-false, leb-true, leb-false, lt-ltb, le-ltb, le-leb, lt-leb, eq-eqb}
 use Rattle.model.specs.Tables.{ahead}
 use Rattle.model.specs.Plan.{Plan, positions, Accepted}
-use Rattle.model.specs.Window.{Window, head, newest, rank, passed, fromOn, everyFrom, last}
+use Rattle.model.specs.Window.{Window, head, newest, rank, later, passed, fromOn, everyFrom, last}
 use Rattle.model.specs.History.{frameOf}
 use Rattle.model.specs.Holding.{frameStart, InWindow}
 use Rattle.model.proofs.Tests.{and-false}
@@ -55,6 +55,16 @@ module _ {P : Plan} {t c : ℕ} (now : Current P t c) where
       go : (b : Bool) → leb s r ≡ b → leb (rank w (s % T)) (rank w (r % T)) ≡ b
       go true e = le-leb (rank w (s % T)) (rank w (r % T)) (omega (arith, rank-is s w-s, rank-is r w-r, leb-true s r e))
       go false e = lt-leb (rank w (s % T)) (rank w (r % T)) (omega (arith, rank-is s w-s, rank-is r w-r, leb-false s r e, w-s .low, w-r .low))
+
+  pub later-is : (s r : ℕ) → InWindow P t s → InWindow P t r → later w (s % T) (r % T) ≡ ltb r s
+  later-is s r w-s w-r = go (ltb r s) refl
+    where
+      go : (b : Bool) → ltb r s ≡ b → ltb (rank w (r % T)) (rank w (s % T)) ≡ b
+      go true e = lt-ltb (rank w (r % T)) (rank w (s % T)) (omega (arith, rank-is s w-s, rank-is r w-r, ltb-true r s e, w-r .low))
+      go false e = le-ltb (rank w (r % T)) (rank w (s % T)) (omega (arith, rank-is s w-s, rank-is r w-r, ltb-false r s e))
+
+  pub later-than-current : (s : ℕ) → InWindow P t s → later w (s % T) c ≡ ltb t s
+  later-than-current s w-s = ap (later w (s % T)) (now .current-is) ∙ later-is s t w-s (current-in-window (now .accepted) t)
 
   -- The passed positions are those of the slots up to the current one: a position in another frame than HF is later than CP.
   pub passed-is : (s : ℕ) → InWindow P t s → passed w (s % T) ≡ leb s t

@@ -7,12 +7,13 @@ use mathlib.Core.Bool.{Bool, not, _&&_, cond}
 use lib.Dec.{ltb, eqb}
 use Rattle.model.specs.Tables.{table, every, firstFrom, ahead}
 use Rattle.model.specs.Refusals.{Line, firstOf, _when_}
-use Rattle.model.specs.Word.{flowOf, depart}
+use Rattle.model.specs.Word.{flowOf, departureOf, depart}
 use Rattle.model.specs.Plan.{Plan, positions, flowCount}
 use Rattle.model.specs.Calls.{Grant, Receipt, Turn, Loan, accepted, refused}
-use Rattle.model.specs.Window.{passed, everyFrom, frameAt, start, next, newest}
+use Rattle.model.specs.Window.{Window, passed, everyFrom, frameAt, start, next, newest}
 use Rattle.model.specs.Link.{Link, window, owner, flow, holding, share, cells, linkWith, withFlows, movedTo, withHeld}
-use Rattle.model.specs.Request.{Found, nowhere, wordTests, unbooked, valid, orElse, search, answered}
+use Rattle.model.specs.Request.{Found, found, nowhere, wordTests, unbooked, canLeave, validFor, orElse, search, someInNewest, wouldBeValid}
+use Rattle.model.specs.Request.{newestTests, refusedAtNewest, answered}
 use Rattle.model.specs.Credit.{creditAfter}
 use Rattle.model.specs.Tick.{nextPosition}
 use Rattle.model.specs.Card.{Card, both, paper}
@@ -33,7 +34,7 @@ cardWith fresh request credit tick lend = record {
 abbrev withFresh : (Plan → Link) → Card
 withFresh fresh = cardWith fresh (paper .request) (paper .credit) (paper .tick) (paper .lend)
 
-abbrev withRequest : (Link → ℕ → Link × Grant) → Card
+abbrev pub withRequest : (Link → ℕ → Link × Grant) → Card
 withRequest request = cardWith (paper .fresh) request (paper .credit) (paper .tick) (paper .lend)
 
 abbrev withCredit : (Link → ℕ → ℕ → Link × Receipt) → Card
@@ -106,27 +107,40 @@ startsAtZero = withFresh (λ P. withFlows (paper .fresh P) (λ i. movedTo (flow 
 abbrev pub testsOwnPosition : Card
 testsOwnPosition = withHoldingTest (λ l i p. ltb 0 (holding l i p))
 
--- the paper's request with another search
-abbrev searched : (Link → ℕ → Found) → ℕ → Link → ℕ → Link × Grant
-searched sought zero l w = both (answered l w (sought l (flowOf w)))
-searched sought (suc r) l w = (l, refused (suc r))
+-- the paper's request with another search, and another test whether a position of the newest frame would be valid but for the departure
+module _ (sought : Link → (i d : ℕ) → Found) (would : Link → ℕ → Bool) where
+  abbrev answeredWith : Link → ℕ → Found → Link × Grant
+  answeredWith l w (found j c p) = both (answered l w (found j c p))
+  answeredWith l w (nowhere c) = (refusedAtNewest l (flowOf w) c, refused (firstOf (newestTests (would l (flowOf w)) c)))
 
-abbrev withSearch : (Link → ℕ → Found) → Card
-withSearch sought = withRequest (λ l w. searched sought (firstOf (wordTests (l .plan) w)) l w)
+  abbrev searched : ℕ → Link → ℕ → Link × Grant
+  searched zero l w = answeredWith l w (sought l (flowOf w) (departureOf w))
+  searched (suc r) l w = (l, refused (suc r))
+
+  abbrev searches : Card
+  searches = withRequest (λ l w. searched (firstOf (wordTests (l .plan) w)) l w)
+
+abbrev withSearch : (Link → (i d : ℕ) → Found) → Card
+withSearch sought = searches sought wouldBeValid
+
+-- the paper's request with another test of a position, and of a position against the departure
+module _ (valid : Link → (i p : ℕ) → Bool) (leaves : Window → (d p : ℕ) → Bool) where
+  abbrev soughtBy : Link → (i d : ℕ) → Found
+  soughtBy l i d =
+      search (window l) (λ p. valid l i p && leaves (window l) d p) (share l i) (ahead (l .plan .frames) (flow l i .injection) (newest (window l)))
+      (flow l i .injection) (flow l i .remainder)
+
+  abbrev pub withValid : Card
+  withValid = searches soughtBy (λ l i. someInNewest (window l) (valid l i))
 
 -- "invents the holding": requests and credits are tested against invented ones
 abbrev validWith : (Link → ℕ → ℕ → ℕ) → Link → ℕ → ℕ → Bool
 validWith invented l i p =
     unbooked (owner l p) && not (passed (window l) p) && everyFrom (window l) p (λ q. ltb (invented l i q) (cells l i))
 
-abbrev soughtWith : (Link → ℕ → ℕ → ℕ) → Link → ℕ → Found
-soughtWith invented l i =
-    search (window l) (validWith invented l i) (share l i) (ahead (l .plan .frames) (flow l i .injection) (newest (window l)))
-    (flow l i .injection) (flow l i .remainder)
-
 abbrev pub inventsHolding : (forRequests forCredits : Link → ℕ → ℕ → ℕ) → Card
 inventsHolding forRequests forCredits =
-    cardWith (paper .fresh) (withSearch (soughtWith forRequests) .request)
+    cardWith (paper .fresh) (withValid (validWith forRequests) canLeave .request)
     (withHoldingTest (λ l i p. everyFrom (window l) p (λ q. ltb 0 (forCredits l i q))) .credit) (paper .tick) (paper .lend)
 
 -- all of its cells everywhere, where the flow holds them anywhere in the window
@@ -134,12 +148,12 @@ abbrev pub fullest : Link → ℕ → ℕ → ℕ
 fullest l i q = cond (every (positions (l .plan)) (λ p. ltb (holding l i p) (cells l i))) 0 (cells l i)
 
 -- "Ending the last frame's walk at position 0 without going round": the walk of frame W - 1 never meets 0, and goes on through the 256 entries
-module _ (l : Link) (i : ℕ) where
+module _ (l : Link) (i d : ℕ) where
   abbrev walked : ℕ → ℕ
   walked j = cond (eqb (suc j) (l .plan .frames)) (256 - start (window l) j) (l .plan .slots)
 
   abbrev foundPastEnd : ℕ → ℕ → Found → Found
-  foundPastEnd j c rest = orElse j c (firstFrom (walked j) (start (window l) j) (valid l i)) rest
+  foundPastEnd j c rest = orElse j c (firstFrom (walked j) (start (window l) j) (validFor l i d)) rest
 
   abbrev searchPastEnd : (more j c : ℕ) → Found
   searchPastEnd zero j zero = nowhere 0
@@ -154,9 +168,9 @@ abbrev pub walksPastEnd : Card
 walksPastEnd = withSearch soughtPastEnd
 
 -- the same slip in the walk over frames: it goes on to frame W - 1, and not round to the newest frame
-abbrev soughtBeforeEnd : Link → ℕ → Found
-soughtBeforeEnd l i =
-    search (window l) (valid l i) (share l i) (l .plan .frames - 1 - flow l i .injection) (flow l i .injection) (flow l i .remainder)
+abbrev soughtBeforeEnd : Link → (i d : ℕ) → Found
+soughtBeforeEnd l i d =
+    search (window l) (validFor l i d) (share l i) (l .plan .frames - 1 - flow l i .injection) (flow l i .injection) (flow l i .remainder)
 
 abbrev pub stopsAtLastFrame : Card
 stopsAtLastFrame = withSearch soughtBeforeEnd

@@ -1,5 +1,5 @@
 -- Histories that demand 3 rules out: each breaks one clause of it and keeps all the others; and one that overfills the next board's buffer. Assumes nothing.
-use Prim.Native.Nat.{ℕ, _+_}
+use Prim.Native.Nat.{ℕ}
 use mathlib.Core.Path.{_≡_}
 use mathlib.Core.List.{List, _∷_, [], reverse}
 use mathlib.Core.Option.{some, none}
@@ -8,6 +8,7 @@ use Rattle.model.specs.Plan.{Plan, planOf}
 use Rattle.model.specs.Calls.{Event, History, requested, credited, ticked, lent, accepted, refused}
 use Rattle.model.specs.Claim.{Clause, Says}
 use Rattle.model.specs.Buffer.{FitsBuffer}
+use Rattle.model.specs.EdgeCases.{wordOf}
 
 pub record BreaksAlone (clause : Clause) (P : Plan) (i : ℕ) (h : History) : Type 0 where
   pub breaks : Says clause P i h → ⊥
@@ -26,9 +27,16 @@ abbrev pub AllBreak : List BadHistory → Type 0
 AllBreak [] = Unit {0}
 AllBreak (b ∷ bs) = Breaks b × AllBreak bs
 
--- flow 0's request, granted position p
+-- flow 0's request with quantum number q and departure d, granted position p or refused
+abbrev grantedFrom : (q d p : ℕ) → Event
+grantedFrom q d p = requested (wordOf 0 q d) (accepted (wordOf 0 q p))
+
+abbrev refusedFrom : (q d number : ℕ) → Event
+refusedFrom q d number = requested (wordOf 0 q d) (refused number)
+
+-- its request with departure 0, granted position p
 abbrev granted : ℕ → Event
-granted p = requested 0x24000000 (accepted (0x24000000 + p))
+granted p = grantedFrom 0 0 p
 
 unfoldable pub badHistories : List BadHistory
 badHistories =
@@ -77,26 +85,26 @@ badHistories =
       clause = Clause.most;
       bytes = plan2 4 2 16 2 8 2 8;
       events =
-          granted 1 ∷ granted 2 ∷ granted 4 ∷ granted 5 ∷ ticked (some 0) ∷ ticked (some 0) ∷ ticked none ∷ ticked (some 0) ∷ granted 0 ∷ granted 1
-          ∷ ticked (some 0) ∷ granted 4 ∷ [];
+          granted 1 ∷ granted 2 ∷ granted 4 ∷ granted 5 ∷ ticked (some 0) ∷ ticked (some 0) ∷ ticked none ∷ ticked (some 0)
+          ∷ grantedFrom 4 4 0 ∷ grantedFrom 5 4 1 ∷ ticked (some 0) ∷ grantedFrom 6 5 4 ∷ [];
     }
     -- three frames and three frame changes: the least count is 5, and four slots are granted
     ∷ record {
       clause = Clause.least;
       bytes = plan1 1 3 8 1 8;
       events =
-          granted 1 ∷ granted 2 ∷ requested 0x24000000 (refused 11) ∷ ticked (some 0) ∷ granted 0 ∷ requested 0x24000000 (refused 11)
-          ∷ ticked (some 0) ∷ granted 1 ∷ requested 0x24000000 (refused 11) ∷ ticked (some 0) ∷ requested 0x24000000 (refused 11) ∷ [];
+          grantedFrom 0 0 1 ∷ grantedFrom 1 0 2 ∷ refusedFrom 2 0 11 ∷ ticked (some 0) ∷ grantedFrom 2 1 0 ∷ refusedFrom 3 1 11
+          ∷ ticked (some 0) ∷ grantedFrom 3 2 1 ∷ refusedFrom 4 2 11 ∷ ticked (some 0) ∷ refusedFrom 4 0 11 ∷ [];
     }
     -- both cells are held at slot 2; then, and at no request of its own that is well formed, the flow asks for another node, and flow 1 asks;
-    -- both fall free from slot 3 on, and slot 2 is gone when it asks again
+    -- both fall free from slot 3 on, and slot 2 is gone when it asks again, at CP = 3 with departure 0 and at CP = 4 with departure 4
     ∷ record {
       clause = Clause.least;
       bytes = listing;
       events =
-          granted 1 ∷ granted 2 ∷ requested 0x20000800 (refused 9) ∷ requested 0x24100000 (accepted 0x24100003)
+          grantedFrom 0 0 1 ∷ grantedFrom 1 0 2 ∷ requested 0x20000800 (refused 9) ∷ requested 0x24100000 (accepted 0x24100003)
           ∷ credited 0 3 (accepted tt) ∷ credited 0 3 (accepted tt) ∷ ticked (some 0) ∷ ticked (some 0) ∷ ticked (some 1)
-          ∷ requested 0x24000800 (refused 12) ∷ ticked none ∷ requested 0x24000800 (refused 12) ∷ [];
+          ∷ refusedFrom 2 0 12 ∷ ticked none ∷ refusedFrom 2 4 12 ∷ [];
     }
     -- flow 2 of two, with the node 0 that an entry past the last has
     ∷ record { clause = Clause.granted-words; bytes = listing; events = requested 0x00200000 (accepted 0x00200001) ∷ [] }
@@ -119,6 +127,23 @@ badHistories =
     ∷ record { clause = Clause.lent-flows; bytes = listing; events = lent 5 (accepted 0) ∷ [] }
     -- a lent slot does not count in the least: one slot is granted where the least count is 2
     ∷ record { clause = Clause.least; bytes = roomy; events = lent 1 (accepted 0) ∷ granted 1 ∷ requested 0x24000400 (refused 12) ∷ [] }
+    -- the departure's own slot, and an earlier one
+    ∷ record { clause = Clause.after-departure; bytes = listing; events = grantedFrom 0 2 2 ∷ [] }
+    ∷ record { clause = Clause.after-departure; bytes = listing; events = grantedFrom 0 5 1 ∷ [] }
+    -- at CP = 4: departure 3 lies in the newest frame and is slot 11, though slot 3 has just gone by; departure 0 is slot 8, going round
+    ∷ record {
+      clause = Clause.after-departure;
+      bytes = listing;
+      events = ticked none ∷ ticked none ∷ ticked none ∷ ticked none ∷ grantedFrom 0 3 5 ∷ [];
+    }
+    ∷ record {
+      clause = Clause.after-departure;
+      bytes = listing;
+      events = ticked none ∷ ticked none ∷ ticked none ∷ ticked none ∷ grantedFrom 0 0 7 ∷ [];
+    }
+    -- refused with 20, though the tile has come: its departure is CP; and it lies before CP in the head frame
+    ∷ record { clause = Clause.least; bytes = listing; events = refusedFrom 0 0 20 ∷ [] }
+    ∷ record { clause = Clause.least; bytes = listing; events = ticked none ∷ ticked none ∷ refusedFrom 0 1 20 ∷ [] }
     ∷ []
 
 -- ---- the next board's buffer

@@ -30,8 +30,8 @@ callEdges =
     ∷ plays (plan 4 2 8 (entry 2 2 1 9 ∷ entry 2 2 2 8 ∷ [])) (requested 0x24100000 (refused 9) ∷ requested 0x20100000 (accepted 0x20100001) ∷ [])
     -- 10: departures 256 and 1,023
     ∷ plays listing (requested 0x24000100 (refused 10) ∷ requested 0x240003FF (refused 10) ∷ requested 0x24000000 (accepted 0x24000001) ∷ [])
-    -- departure T gives 10, T - 1 passes
-    ∷ plays listing (requested 0x24000008 (refused 10) ∷ requested 0x24000007 (accepted 0x24000001) ∷ [])
+    -- departure T gives 10; T - 1 passes, and no position is later than it
+    ∷ plays listing (requested 0x24000008 (refused 10) ∷ requested 0x24000007 (refused 20) ∷ [])
     -- faults 8 and 9; 9 and 10; 10 and 11
     ∷ plays listing (requested 0x20200000 (refused 8) ∷ requested 0x20000008 (refused 9) ∷ [])
     ∷ plays single (requested 0x24000000 (accepted 0x24000001) ∷ requested 0x24000402 (refused 10) ∷ requested 0x24000400 (refused 11) ∷ [])

@@ -1,9 +1,9 @@
--- Demand 3: one claim about the events of a whole list of calls. Document 01, "What demand 3 counts"; document 02, N1. It names no
+-- Demand 3: one claim about the events of a whole list of calls. Document 01, "What demand 3 counts"; document 02, N1 and N4. It names no
 -- link. Assumes nothing.
 --
 -- With k frame changes so far a stream is granted at most (W + k) × share slots, and at most its share in any frame. One that asks until it is
--- refused in each of the frames 0 to k, and at each of its well-formed requests holds fewer than its cells in every slot from the current one on,
--- is granted at least (W - 1 + k) × share.
+-- refused in each of the frames 0 to k, and at each of its well-formed requests names a tile that has come and holds fewer than its cells in every
+-- slot from the current one on, is granted at least (W - 1 + k) × share.
 --
 -- Demand 3 cannot see what follows; demand 2's equations of each call say it:
 -- - which number a refusal has, and what C and IF are after it;
@@ -12,7 +12,8 @@
 --   modulo T);
 -- - requests refused to a stream that lapsed once: in some frame it was not refused, so that a stream that asks for less than its share has no least
 --   count from the next frame on; or once it asked with all of its cells held in a slot from the current one on, as flow 0 does in the listing's
---   third call. A card that gives a flow 12 for ever after its first 12 meets demand 3;
+--   third call; or once it asked for a tile that had not come. A card that gives a flow 12 for ever after its first 12 meets demand 3, and so does
+--   one that refuses whenever the tile has not come;
 -- - lends refused that should be answered, and with which number; a mark that stands past the tick, or that a refused lend sets; a lent slot booked in
 --   the table of owners; what is held of a lent slot in slots that are gone, or in the current one.
 use Prim.Native.Nat.{ℕ, _+_, _-_, _*_, _^_, _≤_, _<_}
@@ -20,11 +21,11 @@ use mathlib.Core.Path.{_≡_}
 use mathlib.Core.Logic.{_↔_}
 use mathlib.Core.List.{_∷_, []}
 use mathlib.Core.Option.{some}
-use mathlib.Core.Bool.{true}
+use mathlib.Core.Bool.{true, false}
 use Rattle.model.specs.Word.{flowOf, departureOf, depart}
 use Rattle.model.specs.Plan.{Plan, positions, flowCount, entry}
 use Rattle.model.specs.Calls.{Event, History, Turn, requested, credited, ticked, lent, accepted, refused, inMask}
-use Rattle.model.specs.History.{ticks, changes, slotAfter, wellFormed}
+use Rattle.model.specs.History.{ticks, changes, slotAfter, wellFormed, hasCome}
 use Rattle.model.specs.History.{granted, grantedIn, refusedIn, grantedUpTo, lentUpTo, creditedUpTo, ownersOf, WasGranted}
 
 -- ---- each event, and what was before it
@@ -65,10 +66,15 @@ AtLoan Q (lent m (refused r)) h = Unit {0}
 
 -- ---- the stream that asks until it is refused
 
+-- after h, flow i holds fewer than its cells in every slot from the current one on
+abbrev pub Room : Plan → ℕ → History → Type 0
+Room P i h = (s : ℕ) → ticks h ≤ s → grantedUpTo P h i s + lentUpTo h i s < creditedUpTo P h i s + entry P i .cells
+
 -- what the least count asks of each well-formed request of flow i, with word w, after h
 pub record Ready (P : Plan) (i w : ℕ) (h : History) : Type 0 where
-  -- it holds fewer than its cells in every slot from the current one on
-  pub room : (s : ℕ) → ticks h ≤ s → grantedUpTo P h i s + lentUpTo h i s < creditedUpTo P h i s + entry P i .cells
+  pub room : Room P i h
+  -- document 02, N4: the word "names a tile that has come, by this test of its departure against CP and by no other"
+  pub come : hasCome P (ticks h) (departureOf w) ≡ true
 
 -- "Each request means each of its well-formed requests."
 abbrev pub ReadyAt : Plan → ℕ → Event → History → Type 0
@@ -109,6 +115,11 @@ pub record GrantedWord (P : Plan) (w v : ℕ) : Type 0 where
 abbrev pub GrantedWordAt : Plan → Event → History → Type 0
 GrantedWordAt P = AtGrant (λ w v h. GrantedWord P w v)
 
+-- Document 02, N4: "only positions later than it". The granted slot comes after that of the asked word's departure, where the tile has not come.
+abbrev pub AfterDepartureAt : Plan → Event → History → Type 0
+AfterDepartureAt P = AtGrant (λ w v h. wellFormed P w ≡ true → hasCome P (ticks h) (departureOf w) ≡ false
+    → slotAfter P (ticks h) (departureOf w) < slotAfter P (ticks h) (departureOf v))
+
 -- Document 02, N1: "The slot goes to some flow of the mask", and the mask has no bit at n or above.
 pub record LentFlow (P : Plan) (m i : ℕ) : Type 0 where
   pub mask-below : m < 2 ^ flowCount P
@@ -124,7 +135,7 @@ pub data Clause : Type 0 where
   -- the most and the least that is granted; document 02, N1: they "speak of booked slots only"
   most most-in-a-frame least : Clause
   -- over the whole list
-  within-cells one-owner within-a-window comes-up granted-words lent-flows : Clause
+  within-cells one-owner within-a-window comes-up granted-words after-departure lent-flows : Clause
 
 -- what each says of flow i
 abbrev pub Says : Clause → Plan → ℕ → History → Type 0
@@ -140,6 +151,8 @@ Says Clause.one-owner P i h = (s : ℕ) → ownersOf P h s ≤ 1
 Says Clause.within-a-window P i h = Each (SoonAt P) h
 Says Clause.comes-up P i h = Each (ComesUpAt P) h
 Says Clause.granted-words P i h = Each (GrantedWordAt P) h
+-- "A tile can't leave before it has come."
+Says Clause.after-departure P i h = Each (AfterDepartureAt P) h
 Says Clause.lent-flows P i h = Each (LentFlowAt P) h
 
 -- ---- the claim, for flow i

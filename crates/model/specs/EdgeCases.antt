@@ -82,11 +82,14 @@ abbrev pub answers : List ℕ → List Call → List Event → Case
 answers bytes calls es = record { trial = link bytes calls; expected = events es }
 
 -- A call of a player and its answer. Its requests have destination 9, the flow's quantum number (the same again after a refusal) and the current
--- position as departure.
+-- position as departure, where no other is given.
 pub data Answered : Type 0 where
   -- a request is granted a position, or refused by a number
   grant : (flow position : ℕ) → Answered
   refuse : (flow number : ℕ) → Answered
+  -- the same of a request with this departure
+  grantFrom : (flow departure position : ℕ) → Answered
+  refuseFrom : (flow departure number : ℕ) → Answered
   -- a credit is taken, or refused
   credit : (flow position : ℕ) → Answered
   reject : (flow position number : ℕ) → Answered
@@ -102,7 +105,7 @@ abbrev pub idles : ℕ → List Answered → List Answered
 idles zero rest = rest
 idles (suc k) rest = idle ∷ idles k rest
 
-abbrev wordOf : (flow quantum departure : ℕ) → ℕ
+abbrev pub wordOf : (flow quantum departure : ℕ) → ℕ
 wordOf flow quantum departure = 0x24000000 + 0x100000 * flow + 0x400 * (quantum % 1024) + departure
 
 -- the events of a player's calls, oldest first, where T positions go round, `at` is current and each flow i has quantum number `next i`
@@ -111,6 +114,9 @@ played T at next [] = []
 played T at next (grant i p ∷ rest) =
     requested (wordOf i (next i) at) (accepted (wordOf i (next i) p)) ∷ played T at (λ j. cond (eqb j i) (suc (next j)) (next j)) rest
 played T at next (refuse i r ∷ rest) = requested (wordOf i (next i) at) (refused r) ∷ played T at next rest
+played T at next (grantFrom i d p ∷ rest) =
+    requested (wordOf i (next i) d) (accepted (wordOf i (next i) p)) ∷ played T at (λ j. cond (eqb j i) (suc (next j)) (next j)) rest
+played T at next (refuseFrom i d r ∷ rest) = requested (wordOf i (next i) d) (refused r) ∷ played T at next rest
 played T at next (credit i p ∷ rest) = credited i p (accepted tt) ∷ played T at next rest
 played T at next (reject i p r ∷ rest) = credited i p (refused r) ∷ played T at next rest
 played T at next (serve i ∷ rest) = ticked (some i) ∷ played T ((at + 1) % T) next rest

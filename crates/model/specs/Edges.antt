@@ -1,4 +1,5 @@
--- The one table of edge cases: those that document 01 marks P, and more, by plan, calls, lends and program, that tell wrong readings apart. Assumes nothing.
+-- The one table of edge cases: those that document 01 marks P, and more, by plan, calls, departures, lends and program, that tell wrong readings
+-- apart. Assumes nothing.
 use mathlib.Core.List.{List, _∷_, [], _++_}
 use mathlib.Core.Option.{some}
 use Rattle.model.specs.Calls.{Event, requested, credited, ticked, accepted, refused}
@@ -6,6 +7,7 @@ use Rattle.model.specs.PlanBytes.{plan2, listing, single}
 use Rattle.model.specs.EdgeCases.{Trial, Outcome, Case, Answered, grant, refuse, credit, reject, idles, accepts, refuses, plays, follows}
 use Rattle.model.specs.PlanEdges.{planEdges}
 use Rattle.model.specs.CallEdges.{callEdges}
+use Rattle.model.specs.DepartureEdges.{departureEdges}
 use Rattle.model.specs.LendEdges.{lendEdges}
 use Rattle.model.specs.WriteEdges.{writeEdges}
 use Rattle.model.specs.ProgramEdges.{programEdges}
@@ -53,5 +55,5 @@ markedEdges =
 -- ---- all of them
 
 unfoldable pub edges : List Case
-unfolding markedEdges planEdges callEdges lendEdges writeEdges programEdges
-edges = markedEdges ++ planEdges ++ callEdges ++ lendEdges ++ writeEdges ++ programEdges
+unfolding markedEdges planEdges callEdges departureEdges lendEdges writeEdges programEdges
+edges = markedEdges ++ planEdges ++ callEdges ++ departureEdges ++ lendEdges ++ writeEdges ++ programEdges

@@ -1,4 +1,4 @@
--- What is counted over the events of a list of calls. Document 01, "What demand 3 counts"; document 02, N1. It names no link. Assumes nothing.
+-- What is counted over the events of a list of calls. Document 01, "What demand 3 counts"; document 02, N1 and N4. It names no link. Assumes nothing.
 use Prim.Native.Nat.{ℕ, suc, _+_, _/_, _%_, _<_}
 use mathlib.Core.List.{List, _∷_, []}
 use mathlib.Core.Bool.{Bool, _&&_, cond}
@@ -38,6 +38,10 @@ changes P (lent m a ∷ h) = changes P h
 unfoldable pub wellFormed : Plan → ℕ → Bool
 wellFormed P w =
     ltb (flowOf w) (flowCount P) && eqb (destinationOf w) (entry P (flowOf w) .destination) && ltb (departureOf w) (positions P)
+
+-- document 02, N4: after t ticks, departure d "is CP or lies before CP in the head frame", by positions alone
+abbrev pub hasCome : Plan → (t d : ℕ) → Bool
+hasCome P t d = eqb (frameOf P d) (frameOf P t % P .frames) && leb d (t % positions P)
 
 -- ---- granted slots, taken credits, refusals, lent slots
 

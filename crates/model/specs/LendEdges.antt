@@ -1,19 +1,11 @@
 -- Edges of lends. Document 02, N1. Assumes nothing.
 --
 -- What each comes to is worked out from the request. Masks: 1 is flow 0, 2 is flow 1, 3 both.
-use Prim.Native.Nat.{ℕ}
 use mathlib.Core.List.{List, _∷_, []}
 use mathlib.Core.Option.{none}
 use Rattle.model.specs.Calls.{Call, requested, ticked, lent, accepted}
-use Rattle.model.specs.PlanBytes.{plan1, planOfMany, listing, single}
+use Rattle.model.specs.PlanBytes.{planOfMany, listing, single, oneCell, oneShare}
 use Rattle.model.specs.EdgeCases.{Case, grant, refuse, credit, reject, serve, idle, idles, lend, deny, follows, answers}
-
--- F = 4, W = 2, one flow: with share 2 and 1 cell, and with share 1 and 8 cells
-abbrev oneCell : List ℕ
-oneCell = plan1 4 2 8 2 1
-
-abbrev oneShare : List ℕ
-oneShare = plan1 4 2 16 1 8
 
 unfoldable pub lendEdges : List Case
 lendEdges =

@@ -22,11 +22,14 @@ pub mod Claim
 pub mod Card
 pub mod Holding
 pub mod Buffer
+pub mod TilesToCome
+pub mod TwoHops
 -- worked examples, and cards that are sent back
 pub mod PlanBytes
 pub mod EdgeCases
 pub mod PlanEdges
 pub mod CallEdges
+pub mod DepartureEdges
 pub mod LendEdges
 pub mod WriteEdges
 pub mod ProgramEdges
@@ -34,3 +37,4 @@ pub mod Edges
 pub mod BadHistories
 pub mod BadCards
 pub mod BadLends
+pub mod BadDepartures

@@ -39,3 +39,10 @@ roomy = plan2 4 2 8 2 4 2 4
 -- F = 1, W = 2, N = 4, one flow with share 1 and 4 cells
 abbrev pub single : List ℕ
 single = plan1 1 2 4 1 4
+
+-- F = 4, W = 2, one flow: with share 2 and 1 cell, and with share 1 and 8 cells
+abbrev pub oneCell : List ℕ
+oneCell = plan1 4 2 8 2 1
+
+abbrev pub oneShare : List ℕ
+oneShare = plan1 4 2 16 1 8

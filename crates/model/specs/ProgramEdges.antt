@@ -54,6 +54,8 @@ programEdges =
     ∷ writes (listing ++ five 2 2 1 0 1 ++ five 2 2 1 0 0) "P 0\nR 16\nR 8\n"
     -- a position has two bytes, low first: 256 is no position, 1 is
     ∷ writes (listing ++ requestRecord ++ five 2 0 0 1 0 ++ five 2 0 1 0 0) "P 0\nG 1\nR 13\nC\n"
+    -- document 02, N4: departure 7 of 8 on a fresh link, and then the flow's frame is the newest
+    ∷ writes (listing ++ five 1 0x07 0x00 0x00 0x24 ++ requestRecord) "P 0\nR 20\nG 4\n"
     -- two digits
     ∷ writes (plan1 16 2 8 1 1 ++ foldr _++_ [] (replicate 9 tickRecord) ++ requestRecord) "P 0\nT -\nT -\nT -\nT -\nT -\nT -\nT -\nT -\nT -\nG 10\n"
     ∷ []

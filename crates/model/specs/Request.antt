@@ -1,15 +1,15 @@
--- The request. Document 01, "The four calls", "Request", and refusals 8 to 12. Assumes nothing.
-use Prim.Native.Nat.{ℕ, zero, suc}
+-- The request. Document 01, "The four calls", "Request", and refusals 8 to 12; document 02, N4, and refusal 20. Assumes nothing.
+use Prim.Native.Nat.{ℕ, zero, suc, _+_}
 use mathlib.Core.List.{List, _∷_, []}
 use mathlib.Core.Option.{Option, some, none}
-use mathlib.Core.Bool.{Bool, true, false, not, _&&_, cond}
+use mathlib.Core.Bool.{Bool, true, false, not, _&&_, _||_, cond}
 use lib.Dec.{ltb, eqb}
-use Rattle.model.specs.Tables.{firstFrom, ahead}
+use Rattle.model.specs.Tables.{any, firstFrom, ahead}
 use Rattle.model.specs.Refusals.{Line, firstOf, _when_}
 use Rattle.model.specs.Word.{flowOf, destinationOf, departureOf, depart}
 use Rattle.model.specs.Plan.{Plan, positions, flowCount, entry}
 use Rattle.model.specs.Calls.{Grant, accepted, refused}
-use Rattle.model.specs.Window.{Window, start, next, newest, passed, everyFrom}
+use Rattle.model.specs.Window.{Window, start, next, newest, later, passed, everyFrom}
 use Rattle.model.specs.Link.{Link, Step, window, owner, flow, holding, share, cells, withOwners, withFlow, movedTo, withHeld, heldFrom}
 
 -- ---- the word's own tests
@@ -24,7 +24,7 @@ wordTests P w =
     ∷ 10 when not (ltb (departureOf w) (positions P))
     ∷ []
 
--- ---- the search
+-- ---- which positions are valid
 
 abbrev pub unbooked : Option ℕ → Bool
 unbooked none = true
@@ -35,6 +35,16 @@ unfoldable pub valid : Link → ℕ → ℕ → Bool
 valid l i p =
     unbooked (owner l p) && not (passed (window l) p)
     && everyFrom (window l) p (λ q. ltb (holding l i q) (cells l i))
+
+-- Document 02, N4, where the word's departure is d: "If it is later than CP, only positions later than it"; else "nothing changes".
+unfoldable pub canLeave : Window → (d p : ℕ) → Bool
+canLeave w d p = not (later w d (w .current)) || later w p d
+
+-- position p is valid for a request of flow i with departure d
+unfoldable pub validFor : Link → (i d p : ℕ) → Bool
+validFor l i d p = valid l i p && canLeave (window l) d p
+
+-- ---- the search
 
 -- What the search comes to: the position to book, its frame and what C falls to; or no position, and what C then is.
 pub data Found : Type 0 where
@@ -55,18 +65,39 @@ module _ (w : Window) (ok : ℕ → Bool) (share : ℕ) where
   unfoldable pub search : (more j remainder : ℕ) → Found
   -- IF is newest. C is 0: 11
   search zero j zero = nowhere 0
-  -- IF is newest. "If C is above 0, the earliest valid position of IF is booked, C falls by one"; there is none: 12
+  -- IF is newest. "If C is above 0, the earliest valid position of IF is booked, C falls by one"; there is none: 20 or 12
   search zero j (suc c) = orElse j c (earliest j) (nowhere (suc c))
   -- "If C is 0 .., and IF isn't newest, IF goes to the next frame, C becomes the share, and the rule applies again."
   search (suc more) j zero = search more (next w j) share
   -- C is above 0: the earliest valid position; "or there is none": the next frame
   search (suc more) j (suc c) = orElse j c (earliest j) (search more (next w j) share)
 
--- the search of flow i, from its injection frame to the newest
-unfoldable pub sought : Link → ℕ → Found
-sought l i =
-    search (window l) (valid l i) (share l i) (ahead (l .plan .frames) (flow l i .injection) (newest (window l)))
+-- the search of flow i's request with departure d, from its injection frame to the newest
+unfoldable pub sought : Link → (i d : ℕ) → Found
+sought l i d =
+    search (window l) (validFor l i d) (share l i) (ahead (l .plan .frames) (flow l i .injection) (newest (window l)))
     (flow l i .injection) (flow l i .remainder)
+
+-- ---- the refusals in the newest frame
+
+-- the newest frame has a position that passes `ok`
+abbrev pub someInNewest : Window → (ℕ → Bool) → Bool
+someInNewest w ok = any (w .slots) (λ x. ok (start w (newest w) + x))
+
+-- document 02, N4: "the newest frame has a position that would be valid but for the departure"
+unfoldable pub wouldBeValid : Link → ℕ → Bool
+wouldBeValid l i = someInNewest (window l) (valid l i)
+
+-- no position is found; C is c, and `would` says whether one would be valid but for the departure
+abbrev pub newestTests : (would : Bool) (c : ℕ) → List Line
+newestTests would c =
+    -- "C is 0"
+    11 when eqb c 0
+    -- document 02, N4: it "stands between 11 and 12"
+    ∷ 20 when would
+    -- "C above 0, no valid position"
+    ∷ 12 when true
+    ∷ []
 
 -- ---- what the request does
 
@@ -76,20 +107,17 @@ booked l i j c p =
     withFlow (withOwners l (λ q. cond (eqb q p) (some i) (owner l q))) i
     (withHeld (movedTo (flow l i) j c) (heldFrom l i p suc))
 
--- "11 and 12 leave IF newest, with C as the request rule leaves it, and nothing else changed."
+-- "11 and 12 leave IF newest, with C as the request rule leaves it, and nothing else changed." 20 "leaves what 12 leaves".
 unfoldable pub refusedAtNewest : Link → ℕ → ℕ → Link
 refusedAtNewest l i c = withFlow l i (movedTo (flow l i) (newest (window l)) c)
 
 unfoldable pub answered : Link → ℕ → Found → Step Grant
 answered l w (found j c p) = record { link = booked l (flowOf w) j c p; answer = accepted (depart w p) }
--- "C is 0"
-answered l w (nowhere zero) = record { link = refusedAtNewest l (flowOf w) 0; answer = refused 11 }
--- "C above 0, no valid position"
-answered l w (nowhere (suc c)) = record { link = refusedAtNewest l (flowOf w) (suc c); answer = refused 12 }
+answered l w (nowhere c) = record { link = refusedAtNewest l (flowOf w) c; answer = refused (firstOf (newestTests (wouldBeValid l (flowOf w)) c)) }
 
 -- the request, where the word's own tests give the number r
 unfoldable pub requestAfter : ℕ → Link → ℕ → Step Grant
-requestAfter zero l w = answered l w (sought l (flowOf w))
+requestAfter zero l w = answered l w (sought l (flowOf w) (departureOf w))
 requestAfter (suc r) l w = record { link = l; answer = refused (suc r) }
 
 unfoldable pub request : Link → ℕ → Step Grant

@@ -10,6 +10,7 @@ pub mod UnbookedSlots
 mod Padded
 mod PaddedFrom
 -- the search
+mod Departures
 mod ValidSlots
 mod FrameWalk
 pub mod ValidPositions

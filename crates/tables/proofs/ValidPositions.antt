@@ -8,23 +8,28 @@ use native.Mathlib.Omega.{arith}
 use Rattle.model.specs.Tables.{firstFrom}
 use Rattle.model.specs.Window as model
 use Rattle.model.specs.Window.{passed, everyFrom}
-use Rattle.model.specs.Request.{earliest, search}
+use Rattle.model.specs.Request.{canLeave, earliest, search}
 use Rattle.window.proofs.Windows.{frame-fits}
 use Rattle.tables.specs.Owners.{unbookedAt}
 use Rattle.tables.specs.Holdings.{roomAt}
-use Rattle.tables.specs.Search.{lateAt, validAt}
+use Rattle.tables.specs.Search.{lateAt, lateAfter, validAt}
 
 -- ---- what a valid position has
+
+and-left : (a b : Bool) → a && b ≡ true → a ≡ true
+and-left true b e = refl
+and-left false b e = cc
 
 and-right : (a b : Bool) → a && b ≡ true → b ≡ true
 and-right true b e = e
 and-right false b e = cc
 
--- room from it on
-pub valid-room : (w : model.Window) (owners held : List ℕ) (cells p : ℕ) → validAt owners (lateAt w held cells) p ≡ true
+-- room from it on, also where a departure counts
+pub valid-room : (w : model.Window) (d : ℕ) (owners held : List ℕ) (cells p : ℕ) → validAt owners (lateAfter w d (lateAt w held cells)) p ≡ true
     → everyFrom w p (roomAt held cells) ≡ true
 unfolding validAt
-valid-room w owners held cells p e = and-right (not (passed w p)) _ (and-right (unbookedAt owners p) _ e)
+valid-room w d owners held cells p e =
+    and-right (not (passed w p)) _ (and-left (lateAt w held cells p) (canLeave w d p) (and-right (unbookedAt owners p) _ e))
 
 -- ---- a search by two tests that agree at every position
 

@@ -9,14 +9,15 @@ use native.Mathlib.Omega.{arith}
 use lib.ListN.{getD}
 use lib.Dec.{leb, ltb}
 use borrow.Author.Tests.{le-leb, lt-leb, lt-ltb, le-ltb}
-use Rattle.model.specs.Tables.{firstFrom}
+use Rattle.model.specs.Tables.{any, firstFrom}
 use Rattle.model.specs.Window as model
+use Rattle.model.proofs.Tests.{any-none, any-of-none}
 use Rattle.window.specs.declared.Window.{Window}
 use Rattle.window.specs.Window.{windowOf, Proper}
 use Rattle.window.proofs.Windows.{frame-fits}
 use Rattle.window.proofs.Ranks.{rankIn, rank-slot}
 use Rattle.unbooked.specs.Bits.{bitAt, Bits, Lowest}
-use Rattle.unbooked.proofs.WordBits.{no-bit}
+use Rattle.unbooked.proofs.WordBits.{no-bit, one-word}
 use Rattle.tables.specs.Owners.{unbookedAt}
 use Rattle.tables.specs.Search.{validAt, Gathering, ValidSlots}
 
@@ -93,3 +94,21 @@ module _ {w : model.Window} {ok : ℕ → Bool} {j word : ℕ} (v : ValidSlots w
   lowest-slot {s} low some-slot =
       let (h, hit) = slot-at s (low .there some-slot) in
       first-hit ok (w .slots) (j * w .slots) s h (λ i l. fails-at i (omega arith) (low .none-before i l)) hit
+
+  -- no bit is 1 exactly when no position of the frame is valid
+  pub none-valid : word ≡ 0 → any (w .slots) (λ i. ok (model.start w j + i)) ≡ false
+  none-valid z = any-of-none (w .slots) (λ i. ok (j * w .slots + i)) (λ i h. fails-at i h (ap (λ (x : ℕ). bitAt x i) z ∙ no-bit i))
+
+  pub some-valid : (word ≡ 0 → ⊥) → any (w .slots) (λ i. ok (model.start w j + i)) ≡ true
+  some-valid some-slot = go (any (w .slots) (λ i. ok (j * w .slots + i))) refl
+    where
+      no-slots : any (w .slots) (λ i. ok (j * w .slots + i)) ≡ false → (i : ℕ) → bitAt word i ≡ false
+      no-slots e i = case-slot (decLt i (w .slots))
+        where
+          case-slot : Dec (i < w .slots) → bitAt word i ≡ false
+          case-slot (yes h) = v .is i ∙ rw (lt-ltb i (w .slots) h) (any-none (w .slots) (λ x. ok (j * w .slots + x)) e i h)
+          case-slot (no h) = v .is i ∙ rw (le-ltb i (w .slots) (omega arith))
+
+      go : (b : Bool) → any (w .slots) (λ i. ok (j * w .slots + i)) ≡ b → any (w .slots) (λ i. ok (j * w .slots + i)) ≡ true
+      go true e = e
+      go false e = absurd (some-slot (one-word (record { is = no-slots e }) (record { is = no-bit })))

@@ -29,6 +29,10 @@ lateAt w held cells p = not (passed w p) && everyFrom w p (roomAt held cells)
 unfoldable pub validAt : (owners : List ℕ) (late : ℕ → Bool) (p : ℕ) → Bool
 validAt owners late p = unbookedAt owners p && late p
 
+-- position p is late enough, where it is if it passes `late`, and document 02, N4: a tile with departure d can leave there
+abbrev pub lateAfter : Window → (d : ℕ) (late : ℕ → Bool) (p : ℕ) → Bool
+lateAfter w d late p = late p && model.canLeave w d p
+
 -- the request rule from frame j with the remainder c up to the newest frame, where a position is valid if it passes `ok`
 abbrev pub searchFrom : Window → (ok : ℕ → Bool) (share j c : ℕ) → model.Found
 searchFrom w ok share j c = model.search w ok share (ahead (w .frames) j (newest w)) j c

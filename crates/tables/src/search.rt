@@ -3,11 +3,11 @@ ghost use Prim.Native.Nat.{ℕ, _<_};
 ghost use mathlib.Core.Path.{_≡_};
 ghost use mathlib.Core.Bool.{Bool};
 ghost use mathlib.Core.List.{List};
-ghost use Rattle.window.specs.Window.{windowOf, Proper, FromRank};
-ghost use Rattle.tables.specs.Asked.{FlowFrom};
-ghost use Rattle.tables.specs.Owners.{WordsOf};
+ghost use Rattle.model.specs.Request.{canLeave, someInNewest};
+ghost use Rattle.window.specs.Window.{windowOf, Proper, InWindow, FromRank};
+ghost use Rattle.tables.specs.Asked.{SearchFrom};
 ghost use Rattle.tables.specs.Rows.{row};
-ghost use Rattle.tables.specs.Search.{foundOf, lateAt, validAt, searchFrom, Gathering, ValidSlots};
+ghost use Rattle.tables.specs.Search.{foundOf, lateAt, validAt, lateAfter, searchFrom, Gathering, ValidSlots};
 use crate::Found;
 use crate::holdings::Holdings;
 use crate::holdings::room_rank;
@@ -20,7 +20,7 @@ use window::numbers::over;
 use window::positions::next;
 
 // The rank from which on a position is late enough for a flow: it is not passed, and there is room from it on.
-fn late_rank(held: &Holdings, i: usize, cells: u8, w: Window) -> usize
+pub fn late_rank(held: &Holdings, i: usize, cells: u8, w: Window) -> usize
     requires { ⌜ Proper w × (i < 16) ⌝ }
     ensures { λ r. ⌜ FromRank w (lateAt (windowOf w) (row (now (held .entry)) i) cells) r ⌝ }
 {
@@ -28,6 +28,17 @@ fn late_rank(held: &Holdings, i: usize, cells: u8, w: Window) -> usize
         room_rank(held, i, cells, w),
         w.current + 1 - w.head * w.slots,
     )
+}
+
+// The rank from which on a tile with a departure can leave: the one after the departure's, where that is later than CP.
+fn leave_rank(w: Window, departure: usize) -> usize
+    requires { ⌜ InWindow w departure ⌝ }
+    ensures { λ r. ⌜ FromRank w (canLeave (windowOf w) departure) r ⌝ }
+{
+    if w.passed(departure) {
+        return 0;
+    }
+    w.rank(departure) + 1
 }
 
 // The valid slots of a frame in one word, where the late positions are those of rank `low` or more: whatever the lower bound is, and
@@ -76,21 +87,30 @@ fn search(
     found
 }
 
-// The search of flow i from a frame and a remainder up to the newest frame, for a position that is valid for it.
-pub fn find<'a>(
-    unbooked: &'a Unbooked,
-    held: &'a Holdings,
-    i: usize,
-    cells: u8,
+// The search from a frame and a remainder up to the newest frame for a word with a departure, where the late positions are those of rank
+// `late` or more.
+pub fn find(
+    unbooked: &Unbooked,
     w: Window,
+    late: usize,
+    departure: usize,
     share: usize,
     first: usize,
     remainder: usize,
 ) -> Found
-    requires { ⌜ FlowFrom w (now unbooked) i first ⌝ }
-    ensures { λ r. ⌜ ((owners : List ℕ) → WordsOf (w .slots) (w .frames) owners (now (unbooked .entry))
-        → foundOf r ≡ searchFrom (windowOf w) (validAt owners (lateAt (windowOf w) (row (now (held .entry)) i) cells)) share first remainder) ⌝ }
+    requires { ⌜ SearchFrom w departure first ⌝ }
+    ensures { λ r. ⌜ ((owners : List ℕ) (test : ℕ → Bool) → Gathering w owners (now (unbooked .entry)) test late
+        → foundOf r ≡ searchFrom (windowOf w) (validAt owners (lateAfter (windowOf w) departure test)) share first remainder) ⌝ }
 {
-    let low = late_rank(held, i, cells, w);
+    let low = larger(leave_rank(w, departure), late);
     search(unbooked, w, low, share, first, remainder)
+}
+
+// Whether the newest frame has a valid slot, where the late positions are those of rank `late` or more.
+pub fn valid_in_newest(unbooked: &Unbooked, w: Window, late: usize) -> bool
+    requires { ⌜ Proper w ⌝ }
+    ensures { λ r. ⌜ ((owners : List ℕ) (test : ℕ → Bool) → Gathering w owners (now (unbooked .entry)) test late
+        → r ≡ someInNewest (windowOf w) (validAt owners test)) ⌝ }
+{
+    valid_slots(unbooked, w, late, w.newest()) != 0
 }

@@ -3,24 +3,26 @@
 use borrow.Author.Needs.{needs}
 use Prim.Native.Nat.{ℕ, _<_}
 use mathlib.Core.Path.{_≡_, sym, ap, _∙_}
-use mathlib.Core.Bool.{cond}
 use native.Mathlib.Omega.{arith}
-use lib.Dec.{eqb}
 use borrow.Author.Tests.{eqb-true}
 use Rattle.model.specs.Refusals.{firstOf}
 use Rattle.model.specs.Word as word
 use Rattle.model.specs.Window.{newest}
 use Rattle.model.specs.Link as model
-use Rattle.model.specs.Request.{wordTests, found, nowhere, sought}
+use Rattle.model.specs.Request.{wordTests, newestTests, found, nowhere, sought}
 use Rattle.plan.specs.Reading.{planFor}
-use Rattle.tables.specs.Search.{foundOf}
+use Rattle.window.specs.Window.{windowOf}
+use Rattle.tables.specs.Rows.{row}
+use Rattle.tables.specs.Search.{foundOf, lateAt, Gathering}
 use Rattle.link.specs.declared.Flow.{Flow}
 use Rattle.link.specs.declared.Link.{Link}
 use Rattle.link.specs.Updates.{movedTo}
 use Rattle.link.specs.Reading.{linkOf}
 use Rattle.link.specs.Given.{RequestOn}
 use Rattle.link.specs.Reply.{refusedWith, grantedWith}
-use Rattle.link.proofs.Given.{word-on, place-on, flow-on, words-on, flow-from, sought-on}
+use Rattle.link.proofs.Given.{word-on, place-on, flow-on, flow-few, words-on, search-from, sought-on, would-on}
+use Rattle.link.proofs.Readings.{read-size}
+use Rattle.link.proofs.Words.{departure-below}
 use Rattle.link.proofs.Searches.{found-at, spent-at-newest}
 use Rattle.link.proofs.Replies.{reply-refused, reply-found, reply-nowhere}
 use Rattle.link.proofs.request.ask.Statement.{statement}
@@ -40,11 +42,18 @@ abbrev passed-at : tie.After-newest → tie.Else1
 passed-at c = c .before
 
 -- where the newest frame is known: before the search, and where the share is spent there
-abbrev newest-for : tie.After-struct-known4 → tie.After-newest
-newest-for c = c .before .before .before
+abbrev newest-for : tie.Joined2 → tie.After-newest
+newest-for c = c .before .before
+
+-- where the rank of the late positions is known
+abbrev late-for : tie.After-struct-known4 → tie.After-late-rank
+late-for c = c .before .before
+
+abbrev late-at : tie.After-find → tie.After-late-rank
+late-at c = late-for (c .before)
 
 abbrev newest-at : tie.After-find → tie.After-newest
-newest-at c = newest-for (c .before)
+newest-at c = newest-for (late-at c .before)
 
 abbrev spent-at : tie.After-refused2 → tie.Then2
 spent-at c = c .before .before .before
@@ -54,7 +63,7 @@ abbrev granted-at : tie.After-depart → tie.After-found
 granted-at c = c .before .before .before
 
 abbrev none-at : tie.After-refused3 → tie.After-found2
-none-at c = c .before .before .before .before
+none-at c = c .before .before .before .before .before
 
 -- ---- what is given there
 
@@ -73,8 +82,18 @@ newest-is c l o = c .newest .ensures ∙ ap newest (o .window .window-is)
 
 -- what the search comes to
 module _ (c : tie.After-find) (l : Link) (o : OnAt (start (passed-at (newest-at c))) l) where
-  found-is : foundOf (c .find .result) ≡ sought (linkOf l) (start (passed-at (newest-at c)) .args .i)
-  found-is = c .find .ensures (l .owner) (words-on o) ∙ sought-on o
+  abbrev entry-at : tie.Start
+  entry-at = start (passed-at (newest-at c))
+
+  gathering : Gathering (entry-at .args .w) (l .owner) (entry-at .args .unbooked .now)
+      (lateAt (windowOf (entry-at .args .w)) (row (entry-at .args .held .now) (entry-at .args .i)) (entry-at .args .e .cells)) (late-at c .late-rank .result)
+  gathering = record { words-are = words-on o; late-from = late-at c .late-rank .ensures }
+
+  found-is : foundOf (c .find .result) ≡ sought (linkOf l) (entry-at .args .i) (word.departureOf (entry-at .args .word))
+  found-is =
+      c .find .ensures (l .owner) _ gathering
+      ∙ sought-on o (c .before .before .departure .result)
+      ∙ ap (sought (linkOf l) (entry-at .args .i)) (c .before .before .departure .ensures)
 
 module _ (c : tie.After-found) where
   abbrev at-find : tie.After-find
@@ -90,13 +109,14 @@ module _ (c : tie.After-found) where
   position-at = c .found .given .0 .1 .1 .0
 
   module _ (l : Link) (o : OnAt (start (passed-at (newest-at at-find))) l) where
-    position-found : found frame-at left-at position-at ≡ sought (linkOf l) (start (passed-at (newest-at at-find)) .args .i)
+    position-found : found frame-at left-at position-at
+        ≡ sought (linkOf l) (entry-at at-find l o .args .i) (word.departureOf (entry-at at-find l o .args .word))
     position-found = ap foundOf (sym (c .found .given .1)) ∙ found-is at-find l o
 
     position-small : position-at < 256
     position-small =
         let w = o .window in
-        let b = found-at l (w .sound) _ (w .window-is) _ (flow-on o) _ _ _ position-found in
+        let b = found-at l (w .sound) _ (w .window-is) _ (flow-on o) _ _ _ _ position-found in
         omega (arith, b .position, w .proper .measures .positions-most)
 
 -- ---- the needs
@@ -125,6 +145,7 @@ refused-requires-2 : tie.Need-refused-requires-2
 refused-requires-2 c κs = search needs
 
 returns-2 : tie.Need-returns-2
+unfolding firstOf
 returns-2 c =
     let n = spent-at c .before .before in
     let p = passed-at n in
@@ -137,13 +158,24 @@ returns-2 c =
     let spent = sym (ap (λ (x : Flow). x .left) (o .flow-is)) ∙ left in
     c .refused2 .ensures
     ∙ (λ k. refusedWith (movedTo (o .flow-is k) ((frame ∙ ap newest is) k) (left k)) 11)
-    ∙ reply-nowhere l s _ _ (place-on o) (tests-are (p .before) l o) (p .if1 .left) 0 (spent-at-newest l s _ is _ (flow-on o) in-newest spent)
+    ∙ reply-nowhere l s _ _ (place-on o) (tests-are (p .before) l o) (p .if1 .left) 0 (spent-at-newest l s _ is _ (flow-on o) _ in-newest spent)
+
+late-rank-requires : tie.Need-late-rank-requires
+late-rank-requires c κs = let o = start (passed-at (newest-for c)) .pre .given in (o .window .proper, flow-few o)
+
+departure-requires : tie.Need-departure-requires
+departure-requires c κs = search needs
 
 cast-find : tie.Need-cast-find
 cast-find c = search needs
 
 find-requires : tie.Need-find-requires
-find-requires c κs = flow-from (start (passed-at (newest-for c)) .pre .given)
+find-requires c κs =
+    let p = passed-at (newest-for (late-for c .before)) in
+    let some = start p .pre in
+    let o = some .given in
+    let below = departure-below (some .link) _ (tests-are (p .before) (some .link) o) (p .if1 .left) in
+    search-from o (rw (c .before .departure .ensures, read-size (some .link) (o .window .window-is)) below)
 
 enum-known-found : tie.Need-enum-known-found
 enum-known-found c = search needs
@@ -175,6 +207,9 @@ returns-3 c =
 enum-known-found-2 : tie.Need-enum-known-found-2
 enum-known-found-2 c = search needs
 
+valid-in-newest-requires : tie.Need-valid-in-newest-requires
+valid-in-newest-requires c κs = let n = newest-at (c .before .before .before) in start (passed-at n) .pre .given .window .proper
+
 nowhere-requires : tie.Need-nowhere-requires
 nowhere-requires c κs = search needs
 
@@ -191,10 +226,12 @@ returns-4 c =
     let n = newest-at find-at in
     let p = passed-at n in
     let left = f .found2 .given .0 .0 in
+    let look = c .before .before .before in
     λ l o.
     let none = ap foundOf (sym (f .found2 .given .1)) ∙ found-is find-at l o in
+    let would = look .valid-in-newest .ensures (l .owner) _ (gathering find-at l o) ∙ would-on o in
     rw (c .refused3 .ensures, c .before .before .nowhere .ensures, c .before .moved-to2 .ensures)
-    ((λ k. refusedWith (movedTo (o .flow-is k) (newest-is n l o k) left) (cond (eqb left 0) 11 12))
+    ((λ k. refusedWith (movedTo (o .flow-is k) (newest-is n l o k) left) (firstOf (newestTests (would k) left)))
     ∙ reply-nowhere l (o .window .sound) _ _ (place-on o) (tests-are (p .before) l o) (p .if1 .left) _ none)
 
 pub ask-spec : {M : Type 1} → statement M
@@ -208,6 +245,8 @@ ask-spec =
     newest-requires
     refused-requires-2
     returns-2
+    late-rank-requires
+    departure-requires
     cast-find
     find-requires
     enum-known-found
@@ -216,6 +255,7 @@ ask-spec =
     depart-requires
     returns-3
     enum-known-found-2
+    valid-in-newest-requires
     nowhere-requires
     moved-to-requires-2
     refused-requires-3

@@ -1,0 +1,39 @@
+-- Cards that take the departure wrongly, and one that tests a position's own holding only. Document 02, N4. Each is the paper's card but for one
+-- fault. Assumes nothing.
+use mathlib.Core.Bool.{true, not, _&&_, _||_, cond}
+use lib.Dec.{ltb}
+use Rattle.model.specs.Word.{departureOf}
+use Rattle.model.specs.Calls.{Grant, accepted, refused}
+use Rattle.model.specs.Window.{later, passed, fromOn}
+use Rattle.model.specs.Link.{Link, window, owner, holding, cells}
+use Rattle.model.specs.Request.{unbooked, valid, canLeave}
+use Rattle.model.specs.Card.{Card, paper}
+use Rattle.model.specs.BadCards.{withRequest, withValid}
+
+-- doesn't look at the departure
+abbrev pub ignoresDeparture : Card
+ignoresDeparture = withValid valid (λ w d p. true)
+
+-- books the position of the departure itself
+abbrev pub leavesAtDeparture : Card
+leavesAtDeparture = withValid valid (λ w d p. not (later w d (w .current)) || fromOn w d p)
+
+-- takes the tile for one that has come where its position has a number up to CP's, whatever the frame
+abbrev pub comesByNumber : Card
+comesByNumber = withValid valid (λ w d p. not (ltb (w .current) d) || later w p d)
+
+-- tests the cells at the position itself and at no later one
+abbrev pub testsOwnRoom : Card
+testsOwnRoom = withValid (λ l i p. unbooked (owner l p) && not (passed (window l) p) && ltb (holding l i p) (cells l i)) canLeave
+
+-- refuses with 20 wherever the tile has not come
+abbrev pub refusesToCome : Card
+refusesToCome = withRequest (λ l w. cond (later (window l) (departureOf w) (l .current)) (l, refused 20) (paper .request l w))
+
+-- leaves the link as it was, where nothing is granted
+abbrev keptUnless : Link → Link → Grant → Link
+keptUnless l next (accepted w) = next
+keptUnless l next (refused r) = l
+
+abbrev pub keepsFrame : Card
+keepsFrame = withRequest (λ l w. (keptUnless l (paper .request l w .0) (paper .request l w .1), paper .request l w .1))
