@@ -4,8 +4,8 @@ import itertools
 import tempfile
 
 from demand3 import wrong_listings
-from driver import cases, plain_rust, question_cases, round_trips
-from driver import wrong_answers
+from driver import (
+    cases, plain_rust, question_cases, round_trips, wrong_answers)
 from driver.formats import ALLCALLS
 from driver.side_by_side import made
 from driver.suite import Suite
@@ -13,12 +13,13 @@ from driver.tally import DepartureTally, LendTally, QuestionTally, Tally
 from edges import open_choice, questions, refusals_page
 from edges.all_edges import EDGES, LEND_EDGES
 from front_door import (
-    old_program, plan_files, plan_lost_output, plan_read, plan_wrong_words,
-    play_files, play_lost_output, slow_reader, wrong_arguments)
+    asking_editor, old_program, plan_files, plan_lost_output, plan_read,
+    plan_wrong_words, play_files, play_lost_output, slow_reader,
+    wrong_arguments)
 
 FRONT_DOOR = (play_files, play_lost_output, plan_files, plan_read,
               plan_wrong_words, plan_lost_output, old_program, slow_reader,
-              wrong_arguments)
+              asking_editor, wrong_arguments)
 REFUSALS = range(1, 20)         # those of all programs
 
 
@@ -50,9 +51,11 @@ def tables():
     missing = sorted(set(REFUSALS) - refusals_page.numbers())
     yield ("docs: every refusal has an input",
            missing and "none for %s" % missing)
-    names = [edge.name for edge in EDGES + LEND_EDGES + questions.EDGES]
-    twice = sorted({name for name in names if names.count(name) > 1})
-    yield "edge: no name stands twice", twice and ", ".join(twice)
+    for kind, edges in (("edge", EDGES + LEND_EDGES),
+                        ("question", questions.EDGES)):
+        names = [edge.name for edge in edges]
+        twice = sorted({name for name in names if names.count(name) > 1})
+        yield kind + ": no name stands twice", twice and ", ".join(twice)
 
 
 def without_program(only):

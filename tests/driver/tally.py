@@ -97,8 +97,8 @@ class QuestionTally:
 
     def add(self, case):
         self.files += 1
-        self.answers.update(
-            answer if answer[0] in "R?" else "given" for answer in case.answers)
+        self.answers.update(answer if answer[0] in "R?" else "given"
+                            for answer in case.answers)
 
     def text(self):
         refused = sorted((int(answer[2:]), count) for answer, count

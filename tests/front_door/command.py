@@ -2,6 +2,7 @@
 
 import fcntl
 import os
+import select
 import subprocess
 from pathlib import Path
 
@@ -40,6 +41,31 @@ def into_full_pipe(words, **options):
     with os.fdopen(reader, "rb") as pipe:
         ended.output = pipe.read()
     return ended
+
+
+def line_of(process):
+    """The next line of a process, or nothing if it takes too long."""
+    ready = select.select([process.stdout], [], [], LIMIT)[0]
+    return process.stdout.readline() if ready else b""
+
+
+def talk(words, turns):
+    """What is wrong where a command has to answer each piece of its input by
+    a line before it gets the next one, or None."""
+    process = subprocess.Popen([str(word) for word in words], bufsize=0,
+                               stdin=subprocess.PIPE, stdout=subprocess.PIPE)
+    for piece, line in turns:
+        process.stdin.write(piece)
+        heard = line_of(process)
+        if heard != line:
+            break
+    process.stdin.close()
+    rest = process.stdout.read()
+    process.stdout.close()
+    status = process.wait(timeout=LIMIT)
+    if heard != line:
+        return "%r for %r" % (heard, line)
+    return (rest or status) and "status %d, then %r" % (status, rest)
 
 
 def redirected(redirection, *words):

@@ -1,13 +1,11 @@
 """./play on files: what it plays, what is refused, and what is no file."""
 
 import os
-import select
-import subprocess
 
 import call_bytes
 from edges import refusals_page
 from edges.edge_maker import BASE
-from front_door.command import LIMIT, ROOT, redirected, start, trouble
+from front_door.command import ROOT, redirected, start, talk, trouble
 from front_door.play_tree import (
     ACCEPTED, LISTING, NOT_PLAYED, REFUSED, in_trees)
 
@@ -51,28 +49,10 @@ def closed_input_not_needed(tree):
     return trouble(start(words), output=LISTING)
 
 
-def line_of(process):
-    """The next line of a process, or nothing if it takes too long."""
-    ready = select.select([process.stdout], [], [], LIMIT)[0]
-    return process.stdout.readline() if ready else b""
-
-
 def streamed(tree):
     """Each line comes while the input is still open."""
-    process = subprocess.Popen([tree.command, "-"], stdin=subprocess.PIPE,
-                               stdout=subprocess.PIPE, bufsize=0)
-    lines = []
-    for piece in [BASE] + 3 * [call_bytes.TICK]:
-        process.stdin.write(piece)
-        lines.append(line_of(process))
-        if not lines[-1]:
-            break
-    process.stdin.close()
-    rest = process.stdout.read()
-    process.stdout.close()
-    status = process.wait(timeout=LIMIT)
-    right = lines == [b"P 0\n"] + 3 * [b"T -\n"] and not rest and not status
-    return None if right else "status %d, %r, then %r" % (status, lines, rest)
+    return talk([tree.command, "-"], [
+        (BASE, b"P 0\n"), *3 * [(call_bytes.TICK, b"T -\n")]])
 
 
 # ---- plans that are refused
@@ -128,8 +108,8 @@ def unknown_option(tree):
 
 
 def closed_input(tree):
-    return trouble(start(redirected("<&-", tree.command, "-")), NOT_PLAYED, b"",
-                   "standard input is closed")
+    return trouble(start(redirected("<&-", tree.command, "-")), NOT_PLAYED,
+                   b"", "standard input is closed")
 
 
 def version(tree):

@@ -18,8 +18,8 @@ def closed_output(tree):
 def full_disk(tree):
     if not os.path.exists("/dev/full"):
         return None
-    return trouble(start(redirected(">/dev/full", tree.command)), NOT_WHOLE, b"",
-                   "output was lost")
+    return trouble(start(redirected(">/dev/full", tree.command)), NOT_WHOLE,
+                   b"", "output was lost")
 
 
 def reader_leaves(tree):

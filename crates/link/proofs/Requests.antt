@@ -30,7 +30,6 @@ use Rattle.tables.proofs.FoundPosition.{Booking}
 use Rattle.link.specs.declared.reply.Reply.{Reply}
 use Rattle.link.specs.declared.Flow.{Flow}
 use Rattle.link.specs.declared.Link.{Link}
-use Rattle.link.specs.declared.Step.{Step}
 use Rattle.link.specs.Layout.{sizeOf, entryAt, flowRow, flowAt, noFlow}
 use Rattle.link.specs.Updates.{movedTo, withOwners, withFlows, withHoldings, withFlow}
 use Rattle.link.specs.Reading.{linkOf}

@@ -1,10 +1,12 @@
 -- The search of flow i on link l, as it is read. Assumes nothing.
-use Prim.Native.Nat.{ℕ, zero, suc, _+_, _≤_, _<_}
+use Prim.Native.Nat.{ℕ, zero, suc, _+_, _*_, _≤_, _<_}
 use mathlib.Core.Path.{_≡_, refl, sym, ap, _∙_, subst}
-use mathlib.Core.Bool.{Bool, not, and-assoc}
+use mathlib.Core.Bool.{Bool, not, _&&_, and-assoc}
 use native.Mathlib.Nat.{mod-lt}
+use native.Mathlib.Decide.{decLt}
 use native.Mathlib.Omega.{arith}
 use lib.Dec.{ltb}
+use borrow.Author.Tests.{le-ltb}
 use Rattle.model.specs.Tables.{any, ahead}
 use Rattle.model.specs.Plan as paper
 use Rattle.model.specs.Window.{Window, start, passed, everyFrom, newest}
@@ -15,7 +17,7 @@ use Rattle.window.proofs.Windows.{frame-fits}
 use Rattle.window.proofs.FromOn.{everyFrom-same}
 use Rattle.tables.specs.Owners.{ownerOf}
 use Rattle.tables.specs.Holdings.{roomAt}
-use Rattle.tables.specs.Search.{lateAt, lateAfter, validAt, searchFrom}
+use Rattle.tables.specs.Search.{lateAt, lateAfter, validAt, searchFrom, ValidSlots}
 use Rattle.tables.proofs.ValidPositions.{search-same}
 use Rattle.tables.proofs.FoundPosition.{search-books, Booking, Books}
 use Rattle.link.specs.declared.Link.{Link}
@@ -65,6 +67,18 @@ module _ (l : Link) (s : Sound l) (v : Window) (is : v ≡ model.window (linkOf 
   after-same d p hp =
       let leaves = canLeave (model.window (linkOf l)) d p in
       rw (valid-same p hp, is) (and-assoc (unbooked (ownerOf (ownerAt l p))) (lateAt (model.window (linkOf l)) (flowAt l i .held) (entryAt l i .cells) p) leaves)
+
+  -- a frame's word of valid slots has the positions that are valid by the paper
+  pub valid-slots-same : (j word : ℕ) → j < v .frames → ValidSlots v validHere j word → ValidSlots v (valid (linkOf l) i) j word
+  valid-slots-same j word hj x = record { is = λ k. x .is k ∙ go k (decLt k (v .slots)) }
+    where
+      there : (k : ℕ) → k < v .slots → j * v .slots + k < sizeOf l
+      there k h = rw (← read-size l is) (omega (arith, frame-fits (v .slots) (v .frames) j hj))
+
+      go : (k : ℕ) → Dec (k < v .slots)
+          → ltb k (v .slots) && validHere (j * v .slots + k) ≡ ltb k (v .slots) && valid (linkOf l) i (j * v .slots + k)
+      go k (yes h) = ap (ltb k (v .slots) &&_) (sym (valid-same (j * v .slots + k) (there k h)))
+      go k (no h) = rw (le-ltb k (v .slots) (omega arith))
 
   two : 2 ≤ v .frames
   two = rw (read-frames l is) (s .plan .accepted .two-frames)

@@ -41,7 +41,15 @@ held-back plan f v p = go (decLt p (sizeFor plan))
 -- "the reading determines the link"
 pub stored-reading : (l : Link) → Sound l → stored (linkOf l) ≡ l
 unfolding stored linkOf everywhere
-stored-reading l s = λ k. record { plan = stored-plan (l .plan) (s .plan) k; cp = l .cp; owner = owners k; unbooked = words k; flows = flows k; held = held k; taken = l .taken }
+stored-reading l s = λ k. record {
+  plan = stored-plan (l .plan) (s .plan) k;
+  cp = l .cp;
+  owner = owners k;
+  unbooked = words k;
+  flows = flows k;
+  held = held k;
+  taken = l .taken;
+}
   where
     owner : (p : ℕ) → p < 256 → Dec (p < sizeOf l) → storedOwner (model.owner (linkOf l) p) ≡ ownerAt l p
     owner p b (yes h) = ap storedOwner (read-owner l p h) ∙ owner-back (ownerAt l p)

@@ -143,13 +143,18 @@ module _ (l : Link) (s : Sound l) where
 
     pub sound-with-owner : {u : List ℕ} (j : ℕ) → j < l .plan .frames → j * l .plan .slots ≤ p → p < j * l .plan .slots + l .plan .slots
         → Booked (l .plan .slots) j p (l .unbooked) u → Sound (withOwners l (set (l .owner) p i) u)
-    sound-with-owner j hj low high x = sound-with (s .current) (record {
+    sound-with-owner {u} j hj low high x = sound-with (s .current) (record {
       long = length-set (l .owner) p i ∙ s .owners-long;
       owned = λ q b n. go q b n (ℕ-discrete q p);
       spare = λ q h b. getD-set-other (l .owner) p q i 0 (λ e. omega arith) ∙ s .spare-owners q h b;
-      words = words-owned (l .plan .slots) (l .plan .frames) (s .plan .accepted .frames-most) (l .owner) (s .unbooked) j hj p i owner-there no-flow-nobody low high x;
+      words = words-then;
     }) sound-flows
       where
+        words-then : WordsOf (l .plan .slots) (l .plan .frames) (set (l .owner) p i) u
+        words-then =
+            words-owned (l .plan .slots) (l .plan .frames) (s .plan .accepted .frames-most) (l .owner) (s .unbooked) j hj
+            p i owner-there no-flow-nobody low high x
+
         go : (q : ℕ) → q < 256 → (getD (set (l .owner) p i) q 0 ≡ nobody → ⊥) → Dec (q ≡ p)
             → getD (set (l .owner) p i) q 0 < l .plan .count
         go q b n (yes d) = rw (d, getD-set-same (l .owner) p i 0 owner-there) hi

@@ -1,8 +1,8 @@
 -- The words of unbooked slots go with the owners: nobody owns a position, one is booked, and a frame is recycled. Assumes nothing.
 use Prim.Native.Nat.{ℕ, _+_, _*_, _≤_, _<_}
-use mathlib.Core.Path.{_≡_, refl, sym, ap, _∙_}
+use mathlib.Core.Path.{_≡_}
 use mathlib.Core.List.{List}
-use mathlib.Core.Bool.{Bool, true, false, not, _&&_}
+use mathlib.Core.Bool.{true, false, not, _&&_}
 use native.Mathlib.Decide.{ℕ-discrete}
 use native.Mathlib.Omega.{arith}
 use lib.Dec.{eqb}
@@ -12,7 +12,6 @@ use borrow.Author.Tests.{eq-eqb, ne-eqb}
 use Rattle.window.specs.declared.Window.{Window}
 use Rattle.window.specs.Window.{baseOf, headRange, Proper}
 use Rattle.window.proofs.Ranges.{in-range, replaced-at, replaced-off}
-use Rattle.window.proofs.Windows.{frame-fits}
 use Rattle.unbooked.specs.Words.{Words, Booked, Recycled}
 use Rattle.unbooked.proofs.FrameWords.{words-same, words-booked, words-whole}
 use Rattle.tables.specs.Owners.{nobody, unbookedAt, WordsOf, everywhere, emptied}

@@ -56,7 +56,8 @@ unfolding firstFrom
 first-none ok zero a fails = refl
 first-none ok (suc n) a fails =
     let here : a + 0 ≡ a = omega arith in
-    rw (rw here at (fails 0 (omega arith))) (first-none ok n (suc a) (λ k h. let on : suc a + k ≡ a + suc k = omega arith in rw on (fails (suc k) (omega arith))))
+    let on : (k : ℕ) → suc a + k ≡ a + suc k = λ k. omega arith in
+    rw (rw here at (fails 0 (omega arith))) (first-none ok n (suc a) (λ k h. rw (on k) (fails (suc k) (omega arith))))
 
 first-hit : (ok : ℕ → Bool) (n a s : ℕ) → s < n → ((k : ℕ) → k < s → ok (a + k) ≡ false) → ok (a + s) ≡ true → firstFrom n a ok ≡ some (a + s)
 unfolding firstFrom

@@ -10,7 +10,7 @@ use Rattle.tables.specs.declared.Found.the-variants.{At, Nowhere}
 use Rattle.tables.specs.Owners.{unbookedAt, WordsOf}
 use Rattle.tables.specs.Holdings.{roomAt}
 use Rattle.window.specs.declared.Window as code
-use Rattle.window.specs.Window.{windowOf, FromRank}
+use Rattle.window.specs.Window.{FromRank}
 use Rattle.unbooked.specs.Bits.{bitAt}
 use Rattle.model.specs.Tables.{ahead}
 use Rattle.model.specs.Window.{Window, start, newest, passed, everyFrom}

@@ -17,7 +17,6 @@ use unbooked::bits::lowest;
 use window::Window;
 use window::numbers::larger;
 use window::numbers::over;
-use window::positions::ahead;
 use window::positions::next;
 
 // The rank from which on a position is late enough for a flow: it is not passed, and there is room from it on.
@@ -68,7 +67,7 @@ fn search(
 {
     let mut frame = first;
     let mut left = remainder;
-    let mut more = ahead(w.frames, frame, w.newest());
+    let newest = w.newest();
     let mut found = Found::Nowhere(remainder);
     'search: loop {
         if 0 < left {
@@ -78,11 +77,10 @@ fn search(
                 break 'search;
             }
         }
-        if more == 0 {
+        if frame == newest {
             found = Found::Nowhere(left);
             break 'search;
         }
-        more -= 1;
         frame = next(w.frames, frame);
         left = share;
     }

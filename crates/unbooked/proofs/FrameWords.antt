@@ -7,10 +7,10 @@ use native.Mathlib.Decide.{decLt, ℕ-discrete}
 use native.Mathlib.Omega.{arith}
 use lib.Arith.{digits-div}
 use lib.Dec.{ltb, eqb, leb·suc-suc}
-use lib.ListN.{length, getD, set, replicate, length-set, length-replicate, getD-replicate, List·getD-eq-default}
+use lib.ListN.{length, getD, set, replicate, length-set, getD-replicate, List·getD-eq-default}
 use lib.Seq.{getD-set-same, getD-set-other, ext-getD}
 use borrow.Author.Tests.{lt-ltb, le-ltb, eq-eqb, ne-eqb}
-use Rattle.model.specs.Tables.{table, bit}
+use Rattle.model.specs.Tables.{bit}
 use Rattle.window.specs.declared.Window.{Window}
 use Rattle.window.specs.Ranges.{inRange}
 use Rattle.window.specs.Window.{sizeOf}
@@ -19,8 +19,7 @@ use Rattle.window.proofs.Tabulated.{getD-table, table-past, length-table}
 use Rattle.window.proofs.Windows.{frame-fits}
 use Rattle.unbooked.specs.Bits.{bitAt, Bits}
 use Rattle.unbooked.specs.Words.{slotIn, Words, WithWord, Booked, Recycled, InFrame, wordOf, wordsOf}
-use Rattle.unbooked.proofs.WordBits.{bit-suc, no-bit, one-word}
-use Rattle.unbooked.proofs.Operations.{odd, even, rest-is}
+use Rattle.unbooked.proofs.WordBits.{odd, even, rest-is, no-bit, one-word}
 
 -- ---- the slots of a frame, by their positions
 

@@ -1,26 +1,16 @@
 -- The bits of what the operations on words give. Assumes nothing.
 use Prim.Native.Nat.{ℕ, zero, suc, _+_, _-_, _*_, _/_, _%_, _^_, _≤_, _<_}
 use mathlib.Core.Path.{_≡_, refl, sym, ap, _∙_}
-use mathlib.Core.Bool.{Bool, true, false, not, _&&_, and-false, and-comm}
+use mathlib.Core.Bool.{false, not, _&&_, and-false, and-comm}
 use native.Mathlib.Nat.{div-one, mul-one, mul-assoc, div-div-eq-div-mul, div-mul-le-self, mod-eq-of-lt, pow-suc, mul-comm, one-mul}
 use native.Mathlib.Decide.{ℕ-discrete, decLt}
 use native.Mathlib.Omega.{arith}
 use lib.Bits.{bitAnd, and-step}
 use lib.Dec.{leb, ltb, eqb, leb·zero, leb·suc-zero, leb·suc-suc, eqb·zero-suc, eqb·suc-zero, eqb·suc-suc}
 use lib.Pow.{pow-pos, pow-lt, ones-split, ones-lt, high}
-use borrow.Author.Tests.{eq-eqb, ne-eqb, le-ltb, lt-ltb, lt-leb}
+use borrow.Author.Tests.{le-ltb, lt-ltb, lt-leb}
 use Rattle.unbooked.specs.Bits.{bitAt, Bits}
-use Rattle.unbooked.proofs.WordBits.{bit-zero, bit-suc, bit-above, no-bit}
-
--- a word by its lowest bit and the rest
-pub odd : (word : ℕ) → word % 2 ≡ 1 → bitAt word 0 ≡ true
-odd word e = bit-zero word ∙ eq-eqb (word % 2) 1 e
-
-pub even : (word : ℕ) → word % 2 ≡ 0 → bitAt word 0 ≡ false
-even word e = bit-zero word ∙ ne-eqb (word % 2) 1 (λ z. omega arith)
-
-pub rest-is : (word rest i : ℕ) {b : Bool} → word / 2 ≡ rest → bitAt rest i ≡ b → bitAt word (suc i) ≡ b
-rest-is word rest i h e = bit-suc word i ∙ ap (λ (x : ℕ). bitAt x i) h ∙ e
+use Rattle.unbooked.proofs.WordBits.{bit-suc, odd, even, rest-is, bit-above, no-bit}
 
 -- ---- the bits below n
 

@@ -1,13 +1,13 @@
 -- The bits of a word: the lowest one and the rest, above a word's length, and that they determine the word. Assumes nothing.
 use Prim.Native.Nat.{ℕ, zero, suc, _+_, _*_, _/_, _%_, _^_, _≤_, _<_}
-use mathlib.Core.Path.{_≡_, refl, sym, ap, _∙_}
-use mathlib.Core.Bool.{Bool, true, false, _&&_}
+use mathlib.Core.Path.{_≡_, sym, ap, _∙_}
+use mathlib.Core.Bool.{Bool, true, false}
 use native.Mathlib.Nat.{div-one, div-div-eq-div-mul, div-eq-of-lt, pow-suc, mul-comm, lt-of-lt-of-le}
 use native.Mathlib.Decide.{ℕ-discrete}
 use native.Mathlib.Omega.{arith}
-use lib.Dec.{eqb, ltb}
+use lib.Dec.{eqb}
 use lib.Pow.{pow-mono}
-use borrow.Author.Tests.{eq-eqb, ne-eqb, eqb-true, eqb-false}
+use borrow.Author.Tests.{eq-eqb, ne-eqb, eqb-true}
 use Rattle.unbooked.specs.Bits.{bitAt, Bits}
 
 -- ---- the lowest bit, and the rest
@@ -23,6 +23,15 @@ module _ (word : ℕ) where
       let halves = div-div-eq-div-mul word 2 (2 ^ i) in
       let power : 2 ^ suc i ≡ 2 * 2 ^ i = pow-suc 2 i ∙ mul-comm (2 ^ i) 2 in
       ap (λ (x : ℕ). eqb (word / x % 2) 1) power ∙ ap (λ (x : ℕ). eqb (x % 2) 1) (sym halves)
+
+  pub odd : word % 2 ≡ 1 → bitAt word 0 ≡ true
+  odd e = bit-zero ∙ eq-eqb (word % 2) 1 e
+
+  pub even : word % 2 ≡ 0 → bitAt word 0 ≡ false
+  even e = bit-zero ∙ ne-eqb (word % 2) 1 (λ z. omega arith)
+
+  pub rest-is : (rest i : ℕ) {b : Bool} → word / 2 ≡ rest → bitAt rest i ≡ b → bitAt word (suc i) ≡ b
+  rest-is rest i h e = bit-suc i ∙ ap (λ (x : ℕ). bitAt x i) h ∙ e
 
   -- a word of n bits has none from n on
   pub bit-above : (n : ℕ) → word < 2 ^ n → (i : ℕ) → n ≤ i → bitAt word i ≡ false

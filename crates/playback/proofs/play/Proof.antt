@@ -15,8 +15,8 @@ use Rattle.link.proofs.Given.{at-hand, plan-valid, flows-few, credit-on, reques
 use Rattle.playback.proofs.Records.{Played, reads-as, no-call-played}
 use Rattle.playback.proofs.SoFar.{none-yet, same-size, one-more, all-played}
 use Rattle.playback.proofs.play.Proof.Places.{Inv-loop, μ-loop, entered, loop-at, link-at, plan-at, window-at, hand-at, made-at, read-at}
-use Rattle.playback.proofs.play.Proof.Places.{request-at, asker-for, asker-at, asker-few, asked-at, granted-in, credit-for, credit-at}
-use Rattle.playback.proofs.play.Proof.Places.{ticked-at, tick-at, left-at}
+use Rattle.playback.proofs.play.Proof.Places.{request-at, asker-for, asker-at, asker-few, asked-at, granted-at, granted-in, credit-for, credit-at}
+use Rattle.playback.proofs.play.Proof.Places.{ticked-at, tick-at, emptied-at, left-at}
 use Rattle.playback.proofs.play.Proof.Came.{came}
 use Rattle.playback.proofs.play.Statement.{statement}
 use Rattle.playback.proofs.play.Tie as tie
@@ -113,9 +113,9 @@ book-requires c κs = granted-in (c .before)
 
 shift-from-requires : tie.Need-shift-from-requires Inv-loop μ-loop
 shift-from-requires c κs =
-    let granted-at = c .before .before .before in
-    let i = asked-at granted-at in
-    record { proper = hand-at (request-at i) .proper; flow = asker-few i; position = in-window (granted-in granted-at) }
+    let granted = granted-at (c .before) in
+    let i = asked-at granted in
+    record { proper = hand-at (request-at i) .proper; flow = asker-few i; position = in-window (granted-in granted) }
 
 -- ---- a credit
 
@@ -146,7 +146,7 @@ empty-head-requires : tie.Need-empty-head-requires Inv-loop μ-loop
 empty-head-requires c κs = hand-at (tick-at (c .before .before)) .proper
 
 recycle-head-requires : tie.Need-recycle-head-requires Inv-loop μ-loop
-recycle-head-requires c κs = hand-at (tick-at (c .before .before .before .before)) .proper
+recycle-head-requires c κs = hand-at (emptied-at (c .before)) .proper
 
 carry-head-requires : tie.Need-carry-head-requires Inv-loop μ-loop
 carry-head-requires c κs = let a = hand-at (left-at c) in record { proper = a .proper; few = flows-few a }

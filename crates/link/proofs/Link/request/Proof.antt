@@ -31,6 +31,10 @@ window-for c = c .before .before .before
 abbrev window-at : tie.After-flow2 → tie.After-window
 window-at c = window-for (c .before .before)
 
+-- where a position is granted, from where it is booked
+abbrev granted-at : tie.After-book → tie.Then1
+granted-at c = c .before .before
+
 -- ---- what is known there
 
 asker-few : (c : tie.After-asker) → c .asker .result < 16
@@ -103,17 +107,17 @@ book-requires c κs = granted-in (c .before)
 
 shift-from-requires : tie.Need-shift-from-requires
 shift-from-requires c κs =
-    let granted-at = c .before .before .before in
-    let w = window-at (granted-at .before) in
-    record { proper = hand-at w .proper; flow = asker-few (asked-at w); position = in-window (granted-in granted-at) }
+    let granted = granted-at (c .before) in
+    let w = window-at (granted .before) in
+    record { proper = hand-at w .proper; flow = asker-few (asked-at w); position = in-window (granted-in granted) }
 
 returns : tie.Need-returns
 returns c =
-    let booked-at = c .before .before in
-    let granted-at = booked-at .before .before in
-    let f = granted-at .before in
+    let booked = c .before .before in
+    let granted = granted-at booked in
+    let f = granted .before in
     let w = window-at f in
-    request-granted (hand-at w) _ (asked-at w .asker .ensures) (reply-is f) (granted-at .if1 .taken) (booked-at .book .ensures) (c .shift-from .ensures)
+    request-granted (hand-at w) _ (asked-at w .asker .ensures) (reply-is f) (granted .if1 .taken) (booked .book .ensures) (c .shift-from .ensures)
 
 returns-2 : tie.Need-returns-2
 returns-2 c =

@@ -23,8 +23,11 @@ hand-at c = at-hand (c .before .before .pre) (c .window .ensures .0) (c .window 
 abbrev ticked-at : tie.After-struct-known2 → tie.After-ticked
 ticked-at c = c .before .before
 
+abbrev emptied-at : tie.After-empty-head → tie.Then1
+emptied-at c = c .before .before
+
 abbrev left-at : tie.After-carry-head-arg → tie.Then1
-left-at c = c .before .before .before .before .before
+left-at c = emptied-at (c .before .before .before)
 
 -- ---- the link before CP is stored
 

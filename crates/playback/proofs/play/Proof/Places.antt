@@ -78,7 +78,10 @@ asker-at c = asker-for (c .before .before)
 pub asker-few : (c : tie.After-asker Inv-loop μ-loop) → c .asker .result < 16
 asker-few c = placed-few (plan-valid (hand-at (request-at c))) _ (c .asker .ensures)
 
--- where a position is granted
+-- where a position is granted, from where it is booked
+abbrev pub granted-at : tie.After-book Inv-loop μ-loop → tie.Then1 Inv-loop μ-loop
+granted-at c = c .before .before
+
 module _ (c : tie.Then1 Inv-loop μ-loop) where
   abbrev pub asked-at : tie.After-asker Inv-loop μ-loop
   asked-at = asker-at (c .before)
@@ -107,9 +110,12 @@ credit-at c = credit-for (c .before)
 abbrev pub ticked-at : tie.Joined3 Inv-loop μ-loop → tie.After-ticked Inv-loop μ-loop
 ticked-at c = c .before .before .before
 
--- where its call was made: from there, and from where the head frame is left
+-- where its call was made: from there, from where the head frame is emptied, and from where it is left
 abbrev pub tick-at : tie.After-struct-known2 Inv-loop μ-loop → tie.After-read Inv-loop μ-loop
 tick-at c = read-at (c .before .before .before .before .before)
 
+abbrev pub emptied-at : tie.After-empty-head Inv-loop μ-loop → tie.After-read Inv-loop μ-loop
+emptied-at c = tick-at (c .before .before .before)
+
 abbrev pub left-at : tie.After-carry-head-arg Inv-loop μ-loop → tie.After-read Inv-loop μ-loop
-left-at c = tick-at (c .before .before .before .before .before .before)
+left-at c = emptied-at (c .before .before .before)

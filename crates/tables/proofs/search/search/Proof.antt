@@ -1,42 +1,41 @@
 -- `tables::search::search` meets its contract: at each frame, what is left to search comes to what the whole search does. Assumes nothing.
 use borrow.Author.Needs.{needs}
 use Prim.Native.Nat.{ℕ, _+_, _*_, _≤_, _<_}
-use mathlib.Core.Path.{_≡_}
+use mathlib.Core.Path.{_≡_, refl, sym, _∙_}
 use mathlib.Core.Logic.{⊎-elim}
 use mathlib.Core.List.{List}
 use mathlib.Core.Bool.{Bool}
 use native.Mathlib.Nat.{mod-lt}
 use native.Mathlib.Omega.{arith}
-use Rattle.model.specs.Tables.{ahead}
 use Rattle.model.specs.Window.{newest}
 use Rattle.window.specs.declared.Window.{Window}
-use Rattle.window.specs.Window.{windowOf, sizeOf, Proper}
+use Rattle.window.specs.Window.{windowOf, sizeOf}
 use Rattle.window.proofs.Windows.{frame-fits}
 use Rattle.tables.specs.Search.{validAt, Gathering}
 use Rattle.tables.proofs.ValidSlots.{no-slot, lowest-slot}
-use Rattle.tables.proofs.FrameWalk.{NoneIn, Walked, none-spent, none-valid, walked-on, walked-out, walked-hit}
+use Rattle.tables.proofs.FrameWalk.{moreFrames, one-frame-on, NoneIn, Walked, none-spent, none-valid, walked-on, walked-out, walked-hit}
 use Rattle.tables.proofs.search.search.Statement.{statement}
 use Rattle.tables.proofs.search.search.Tie as tie
 
 -- ---- the loop
 
 -- what is left from a frame on comes to the whole search
-record AtFrame (w : Window) (words : List ℕ) (low share first remainder more frame left : ℕ) : Type 0 where
+record AtFrame (w : Window) (words : List ℕ) (low share first remainder frame left : ℕ) : Type 0 where
   there : frame < w .frames
   walked : (owners : List ℕ) (late : ℕ → Bool) → Gathering w owners words late low
-      → Walked (windowOf w) (validAt owners late) share (ahead (w .frames) first (newest (windowOf w))) first remainder more frame left
+      → Walked (windowOf w) (validAt owners late) share first remainder frame left
 
 abbrev Inv-search : tie.InvT-search
-Inv-search unbooked w low share first remainder frame₀ left₀ more₀ frame left more = AtFrame w unbooked low share first remainder more frame left
+Inv-search unbooked w low share first remainder frame₀ left₀ newest frame left = AtFrame w unbooked low share first remainder frame left
 
 abbrev μ-search : tie.MeasureT-search
-μ-search unbooked w low share first remainder frame₀ left₀ more₀ frame left more = more
+μ-search unbooked w low share first remainder frame₀ left₀ newest frame left = moreFrames (windowOf w) frame
 
 -- ---- at a frame
 
 module _ (c : tie.At-search Inv-search μ-search) where
   abbrev start : tie.Start Inv-search μ-search
-  start = c .before .before .before
+  start = c .before .before
 
   abbrev window-at : Window
   window-at = start .args .w
@@ -51,70 +50,83 @@ module _ (c : tie.At-search Inv-search μ-search) where
   abbrev Searched : (owners : List ℕ) (late : ℕ → Bool) → Type 0
   Searched owners late = Gathering window-at owners (start .args .unbooked .now) late (start .args .low)
 
+-- where a frame's valid slots are gathered, and from there the frame
+abbrev gathered-at : tie.After-lowest Inv-search μ-search → tie.After-valid-slots Inv-search μ-search
+gathered-at c = c .before .before .before
+
+abbrev frame-of : tie.After-valid-slots Inv-search μ-search → tie.At-search Inv-search μ-search
+frame-of c = c .before .before
+
 -- the frame has no valid slot, or nothing is left of the share
 nothing-here : (c : tie.Joined1 Inv-search μ-search) → let f = c .before in (owners : List ℕ) (late : ℕ → Bool) → Searched f owners late
     → NoneIn (windowOf (window-at f)) (validAt owners late) (start f .args .share) (frame-at f) (f .search .left)
-nothing-here c owners late g = ⊎-elim (λ (_, valid, empty). none-valid (no-slot (valid .ensures owners late g) (empty .left))) (λ b. none-spent (b .left)) (c .if1 .came)
+nothing-here c owners late g =
+    ⊎-elim (λ (_, valid, empty). none-valid (no-slot (valid .ensures owners late g) (empty .left))) (λ spent. none-spent (spent .left)) (c .if1 .came)
 
 -- ---- the needs
 
 newest-requires : tie.Need-newest-requires Inv-search μ-search
 newest-requires c κs = search needs
 
-ahead-requires : tie.Need-ahead-requires Inv-search μ-search
-ahead-requires c κs = (search needs, rw (c .newest .ensures) (mod-lt _ (omega arith)))
-
 search-holds : tie.Need-search-holds Inv-search μ-search
-search-holds c = record { there = search needs; walked = λ owners late g. record { same = rw (c .ahead .ensures, c .before .newest .ensures) } }
+search-holds c = record { there = search needs; walked = λ owners late g. record { same = refl } }
 
 valid-slots-requires : tie.Need-valid-slots-requires Inv-search μ-search
 valid-slots-requires c κs = let f = c .before in (start f .pre .0, f .search .inv .there)
 
-sub-t15 : tie.Need-sub-t15 Inv-search μ-search
-sub-t15 c = search needs
+sub-t14 : tie.Need-sub-t14 Inv-search μ-search
+sub-t14 c = search needs
 
-mul-t16 : tie.Need-mul-t16 Inv-search μ-search
-mul-t16 c = let f = c .before .before .before .before in omega (arith, frame-there f, start f .pre .0 .measures .positions-most)
+mul-t15 : tie.Need-mul-t15 Inv-search μ-search
+mul-t15 c = let f = frame-of (c .before .before) in omega (arith, frame-there f, start f .pre .0 .measures .positions-most)
 
 lowest-requires : tie.Need-lowest-requires Inv-search μ-search
 lowest-requires c κs = search needs
 
-add-t18 : tie.Need-add-t18 Inv-search μ-search
-add-t18 c =
-    let f = c .before .before .before .before .before in
+add-t17 : tie.Need-add-t17 Inv-search μ-search
+add-t17 c =
+    let f = frame-of (gathered-at c) in
     omega (arith, frame-there f, start f .pre .0 .measures .positions-most, c .lowest .ensures .at-most)
-
-sub-more : tie.Need-sub-more Inv-search μ-search
-sub-more c = search needs
 
 next-requires : tie.Need-next-requires Inv-search μ-search
 next-requires c κs = search needs
 
+-- the frame is not the newest
+module _ (c : tie.Else3 Inv-search μ-search) where
+  abbrev left-frame : tie.At-search Inv-search μ-search
+  left-frame = c .before .before
+
+  not-newest : frame-at left-frame ≡ newest (windowOf (window-at left-frame)) → ⊥
+  not-newest e = c .if3 .left (e ∙ sym (left-frame .before .newest .ensures))
+
 search-less : tie.Need-search-less Inv-search μ-search
-search-less c = search needs
+search-less c =
+    let f = left-frame (c .before) in
+    rw (c .next .ensures) (omega (arith, one-frame-on (windowOf (window-at f)) (f .search .inv .there) (not-newest (c .before))))
 
 search-again : tie.Need-search-again Inv-search μ-search
 search-again c =
     let j = c .before .before in
+    let v = j .before .search .inv in
     rw (c .next .ensures)
     (record {
       there = mod-lt _ (omega arith);
-      walked = λ owners late g. walked-on (j .before .search .inv .walked owners late g) (nothing-here j owners late g) (c .before .if3 .left);
+      walked = λ owners late g. walked-on (v .walked owners late g) (nothing-here j owners late g) (v .there) (not-newest (c .before));
     })
 
 returns : tie.Need-returns Inv-search μ-search
 returns c =
-    let valid = c .before .before .before in
-    let with-share = valid .before in
-    let f = with-share .before in
+    let valid = gathered-at c in
     λ owners late g.
-    walked-hit (f .search .inv .walked owners late g) (with-share .if1 .taken)
+    walked-hit (frame-of valid .search .inv .walked owners late g) (valid .before .if1 .taken)
     (lowest-slot (valid .valid-slots .ensures owners late g) (c .lowest .ensures) (c .before .before .if2 .taken))
 
 returns-2 : tie.Need-returns-2 Inv-search μ-search
 returns-2 c =
     let j = c .before in
-    λ owners late g. walked-out (j .before .search .inv .walked owners late g) (nothing-here j owners late g) (c .if3 .taken)
+    let v = j .before .search .inv in
+    let is-newest = c .if3 .taken ∙ j .before .before .newest .ensures in
+    λ owners late g. walked-out (v .walked owners late g) (nothing-here j owners late g) (v .there) is-newest
 
 pub search-spec : {M : Type 1} → statement M
 search-spec =
@@ -123,14 +135,12 @@ search-spec =
     Inv-search
     μ-search
     newest-requires
-    ahead-requires
     search-holds
     valid-slots-requires
-    sub-t15
-    mul-t16
+    sub-t14
+    mul-t15
     lowest-requires
-    add-t18
-    sub-more
+    add-t17
     next-requires
     search-less
     search-again
