@@ -4,7 +4,7 @@ import itertools
 import tempfile
 
 from demand3 import wrong_listings
-from driver import cases, plain_rust
+from driver import c_side, cases, plain_rust
 from driver.formats import ALLCALLS
 from driver.suite import Suite
 from driver.tally import DepartureTally, LendTally, Tally
@@ -13,6 +13,7 @@ from edges.all_edges import EDGES, LEND_EDGES
 from front_door import (
     play_files, play_lost_output, play_old_program, slow_reader,
     wrong_arguments)
+from images import self_tests
 
 FRONT_DOOR = (play_files, play_lost_output, play_old_program, slow_reader,
               wrong_arguments)
@@ -49,7 +50,8 @@ def tables():
 def without_program(only):
     """The suite of what the tests themselves have to be."""
     suite = Suite("tests")
-    tests = itertools.chain(listings(), choices(), tables())
+    tests = itertools.chain(listings(), choices(), tables(),
+                            self_tests.tests())
     for name, trouble in wanted(tests, only):
         suite.test(name, trouble)
     return suite
@@ -119,11 +121,21 @@ def play_programs(suites, only, count, seed):
     return tallies
 
 
-def play_all(domelink, allcalls, only, count, seed):
+def play_library(library, only, count, seed):
+    """The C side alone, over another library.  The suites and the tallies."""
+    with tempfile.TemporaryDirectory() as folder:
+        suites = c_side.suites(library, folder, only, count, seed)
+        tallies = play_programs(
+            [suite for suite in suites if suite.command], only, count, seed)
+    return suites, tallies
+
+
+def play_all(domelink, allcalls, library, only, count, seed):
     """All tests, those of the programs first.  The suites and the tallies."""
     apart = [without_program(only), front_door(domelink.command[0], only)]
     with tempfile.TemporaryDirectory() as folder:
-        programs = [domelink, allcalls, *plain_rust.suites(folder, only)]
+        programs = [domelink, allcalls, *plain_rust.suites(folder, only),
+                    *c_side.suites(library, folder, only, count, seed)]
         tallies = play_programs(
             [suite for suite in programs if suite.command], only, count, seed)
     return programs + apart, tallies

@@ -1,0 +1,148 @@
+"""What a library's exports have to do with images of all sorts: a name for
+each test, and what went wrong or None.  Call files are played elsewhere.
+"""
+
+from edges import plan_limits
+from generator.dice import Dice
+from images import by_hand
+from images.call_files import LONGEST, OLD, buffer_of, play
+from images.host import Script, run
+from images.on_images import Trial, first, troubles
+from images.random_calls import some_call
+from images.random_images import any_image
+from images.results import POWER, said
+from simulator.image import image_of
+from simulator.link import Link
+from simulator.plan import read_plan
+
+BATCH = 100             # images by chance in one run of the host
+WORD = 9 << 26          # flow 0 to node 9, as in the images by hand
+
+# A call of each sort, and calls that another test would refuse.
+CALLS = [
+    ("request", WORD), ("request", WORD | 7), ("request", WORD | 1 << 20),
+    ("credit", 0, 6), ("credit", 1, 1), ("tick",), ("lend", 1), ("lend", 3),
+    ("request", 0xFFFFFFFF), ("request", 0), ("credit", 99, 99),
+    ("lend", 0xFFFF), ("lend", 0),
+]
+
+# Numbers that have good ones in their low bytes.
+WIDE = [("credit", 1 << 8, 1), ("credit", 1 << 16, 1), ("credit", 1 << 32, 1),
+        ("credit", 1 << 63, 1), ("credit", 0, 1 + (1 << 8)),
+        ("credit", 0, 1 + (1 << 16)), ("credit", 0, 1 + (1 << 32)),
+        ("credit", 0, (1 << 64) - 1), ("credit", (1 << 64) - 1, 1)]
+
+
+def after_calls(command):
+    """The bytes are those worked out by hand."""
+    for edge, image in by_hand.AFTER_CALLS:
+        played = play(command, edge.data, len(image))
+        yield edge.name, (
+            played.wrong
+            or played.lines != edge.lines and "gives %r" % played.lines
+            or played.buffers != [buffer_of(image, len(image))]
+            and "leaves %s" % played.buffers[-1].hex())
+
+
+def on_one_image(command, name, image):
+    calls = [Trial(name, image, call) for call in CALLS + WIDE]
+    return first(troubles(command, calls))
+
+
+def images_by_hand():
+    """A name and the image."""
+    for name, image in by_hand.TAKEN:
+        yield "taken, " + name, image
+    for condition, name, image in by_hand.BROKEN:
+        yield "22, %s: %s" % (condition, name), image
+    for name, image in by_hand.SHORT:
+        yield "21, " + name, image
+    for name, image in by_hand.LONG_ENOUGH:
+        yield "22, " + name, image
+
+
+def calls_by_hand(command):
+    """Every call on each of them."""
+    for name, image in images_by_hand():
+        yield ("image: calls on one, " + name,
+               on_one_image(command, name, image))
+
+
+def random_trial(seed):
+    dice = Dice(seed)
+    image = any_image(dice)
+    return Trial("image %d" % seed, image, some_call(dice, image))
+
+
+def random_images(command, count, seed):
+    """A call on each, a hundred to a test."""
+    for start in range(seed, seed + count, BATCH):
+        end = min(start + BATCH, seed + count)
+        trials = [random_trial(number) for number in range(start, end)]
+        yield ("image: calls on images by chance, from %d on" % start,
+               first(troubles(command, trials)))
+
+
+def all_trials(command, count):
+    """One run of the host: calls on all images by hand, and on some by
+    chance."""
+    trials = [Trial(name, image, call) for name, image in images_by_hand()
+              for call in CALLS]
+    return troubles(command, trials + [random_trial(number)
+                                       for number in range(count)])
+
+
+# ---- fresh
+
+def plans():
+    """Plans of all sorts, each as a part on its own."""
+    for name, data in plan_limits.LENGTHS:
+        yield name, data
+    for table in (plan_limits.COUNTS, plan_limits.FRAMES, plan_limits.ENTRIES,
+                  plan_limits.PAIRS, plan_limits.SUMS, plan_limits.ORDER):
+        for name, data, _ in table:
+            yield name, data
+    yield "one byte too many", plan_limits.GOOD + b"\0"
+    yield "the largest", by_hand.LARGEST_PLAN
+
+
+def right_fresh(plan, buffer):
+    """The plan's refusal first, then 21, else the image of a fresh link."""
+    refusal, read = read_plan(plan)
+    if refusal:
+        return refusal * POWER, buffer
+    image = image_of(Link(read))
+    if len(buffer) < len(image):
+        return 21 * POWER, buffer
+    return 0, image + buffer[len(image):]
+
+
+def lengths(plan):
+    """Buffers of these lengths are tried for a plan."""
+    refusal, read = read_plan(plan)
+    exact = 92 if refusal else len(image_of(Link(read)))
+    return sorted({0, 1, 15, 16, exact - 1, exact, exact + 1, LONGEST})
+
+
+def fresh_calls(command):
+    for name, plan in plans():
+        buffers = [OLD * length for length in lengths(plan)]
+        script = Script()
+        for buffer in buffers:
+            script.buffer(buffer)
+            script.fresh(plan)
+            script.get()
+        answers, wrong = run(command, script)
+        for buffer, result, left in zip(buffers, answers[::2], answers[1::2]):
+            right = right_fresh(plan, buffer)
+            if (result, left) != right:
+                wrong = wrong or "%d bytes: %s, not %s, or other bytes" % (
+                    len(buffer), said(result), said(right[0]))
+        yield "fresh: plan of " + name, wrong
+
+
+def tests(command, count, seed):
+    yield from after_calls(command)
+    yield from calls_by_hand(command)
+    yield from fresh_calls(command)
+    yield from random_images(command, count, seed)
