@@ -138,7 +138,7 @@ def fresh_calls(command):
             if (result, left) != right:
                 wrong = wrong or "%d bytes: %s, not %s, or other bytes" % (
                     len(buffer), said(result), said(right[0]))
-        yield "fresh: plan of " + name, wrong
+        yield "image: fresh from a plan of " + name, wrong
 
 
 def tests(command, count, seed):
