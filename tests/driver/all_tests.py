@@ -15,6 +15,7 @@ from front_door import (
     wrong_arguments)
 from images import self_tests
 
+IMAGE_REFUSALS = 21, 22
 FRONT_DOOR = (play_files, play_lost_output, play_old_program, slow_reader,
               wrong_arguments)
 
@@ -38,8 +39,10 @@ def choices():
 
 def tables():
     """The page has each refusal, and each edge a name of its own."""
-    rows = refusals_page.examples() + refusals_page.examples(allcalls=True)
-    missing = sorted(set(ALLCALLS.refusals) - {row[0] for row in rows})
+    rows = [row for alone in (None, "allcalls", "image")
+            for row in refusals_page.examples(alone)]
+    missing = sorted({*ALLCALLS.refusals, *IMAGE_REFUSALS}
+                     - {row[0] for row in rows})
     yield ("docs: every refusal has an input",
            missing and "none for %s" % missing)
     names = [edge.name for edge in EDGES + LEND_EDGES]
@@ -50,10 +53,11 @@ def tables():
 def without_program(only):
     """The suite of what the tests themselves have to be."""
     suite = Suite("tests")
-    tests = itertools.chain(listings(), choices(), tables(),
-                            self_tests.tests())
+    tests = itertools.chain(listings(), choices(), tables())
     for name, trouble in wanted(tests, only):
         suite.test(name, trouble)
+    for name, test in wanted(self_tests.tests(), only):
+        suite.test(name, test())
     return suite
 
 

@@ -22,8 +22,9 @@ STRICT = ["-Wall", "-Wextra", "-pedantic", "-Werror", "-I", str(HEADER)]
 C99 = ["-std=c99", "-O2"]
 CHECKED = ["-g", "-fsanitize=address,undefined", "-fno-sanitize-recover=all"]
 VALGRIND = ["valgrind", "-q", "--error-exitcode=9", "--leak-check=full"]
-WATCHED_IMAGES = 100        # by chance, under a tool that watches
-WATCHED_FILES = 12          # edges, through the player
+IMAGES_EACH = 5             # images by chance for each generated file
+WATCHED_IMAGES = 100        # of them under a tool that watches
+WATCHED_FILES = 4           # edges, through the player
 
 
 def found(*names):
@@ -92,8 +93,8 @@ def some_edges():
 def watch(suite, tool, player, host):
     if player and host:
         suite.test("the player under " + tool, plays(player, some_edges()))
-        suite.test("the exports under " + tool, export_tests.first(
-            export_tests.all_trials(host, WATCHED_IMAGES)))
+        suite.test("the exports under " + tool,
+                   export_tests.all_trials(host, WATCHED_IMAGES))
 
 
 def watched(suite, builder):
@@ -132,8 +133,8 @@ def suites(library, folder, only, count, seed):
         compile_header(own, builder)
         watched(own, builder)
     if exports.command:
-        for name, wrong in export_tests.tests(exports.command, 5 * count,
-                                              seed):
+        for name, test in export_tests.tests(
+                exports.command, IMAGES_EACH * count, seed):
             if not only or only in name:
-                own.test(name, wrong)
+                own.test(name, test())
     return [own, player, exports]

@@ -83,7 +83,8 @@ def from_page(data, last, form):
 def page(form=DOMELINK):
     """Each input of docs/REFUSALS.md ends in the line beside it."""
     kind = " of a lend" if form is ALLCALLS else ""
-    for number, data, last in refusals_page.examples(form is ALLCALLS):
+    alone = "allcalls" if form is ALLCALLS else None
+    for number, data, last in refusals_page.examples(alone):
         yield ("docs: refusal %d%s" % (number, kind),
                lambda data=data, last=last: from_page(data, last, form))
 

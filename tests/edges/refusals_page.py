@@ -5,7 +5,7 @@ from pathlib import Path
 
 TEXT = Path(__file__).resolve().parents[2] / "docs/REFUSALS.md"
 PLAN = re.compile(r"^- ([A-Z]) = `([0-9A-F ]+)`")
-ALLCALLS = "`allcalls`"         # in front of an input that is for it alone
+PREFIX = re.compile(r"`([a-z]+)`: ")    # in front of an input for it alone
 
 
 def plans(lines):
@@ -30,10 +30,16 @@ def rows(lines):
             yield int(cells[0]), cells[3], cells[4].strip("`")
 
 
-def examples(allcalls=False):
-    """The inputs for every program, or those for allcalls alone."""
+def reader(cell):
+    """Who reads an input: "allcalls" or "image" alone, or None for every
+    program."""
+    found = PREFIX.match(cell)
+    return found and found.group(1)
+
+
+def examples(alone=None):
+    """The inputs for every program, or those for one reader alone."""
     lines = TEXT.read_text().splitlines()
     named = plans(lines)
     return [(number, input_of(cell, named), last)
-            for number, cell, last in rows(lines)
-            if cell.startswith(ALLCALLS) == allcalls]
+            for number, cell, last in rows(lines) if reader(cell) == alone]

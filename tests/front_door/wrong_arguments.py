@@ -26,6 +26,8 @@ TESTS_RUN = [
     (["--allcalls", "--program", MISSING], "no program at " + MISSING),
     (["--allcalls", "--simulate", MISSING], MISSING + " can't be read"),
     (["--allcalls", "--write", "-1", MISSING], "a seed has to be"),
+    (["--library", MISSING], "no library at " + MISSING),
+    (["--library", os.sep], "no library at " + os.sep),
     (["--allcalls"], "--allcalls goes with"),
     (["--departures"], "--departures goes with"),
     (["--departures", "--allcalls", "--write", "1", MISSING],
@@ -58,17 +60,21 @@ def without(*commands):
                        env=dict(os.environ, PATH=folder))
 
 
-def without_program(name):
-    """tests/run in a tree with one program missing."""
+BUILT = ("bin/domelink", "bin/allcalls", "staticlib/libimage.a")
+
+
+def without_built(name):
+    """tests/run in a tree with one program missing, or the library."""
     with tempfile.TemporaryDirectory() as folder:
         root = Path(folder)
         shutil.copytree(ROOT / "tests", root / "tests")
-        built = root / "target/bin"
-        built.mkdir(parents=True)
-        for program in {"domelink", "allcalls"} - {name}:
-            os.symlink(sys.executable, built / program)
-        return refused("tests/run", [], "there is no program at %s"
-                       % (built.resolve() / name), root)
+        target = root / "target"
+        for built in map(target.joinpath, BUILT):
+            built.parent.mkdir(parents=True, exist_ok=True)
+            if built != target / name:
+                os.symlink(sys.executable, built)
+        return refused("tests/run", [], " at %s" % (target.resolve() / name),
+                       root)
 
 
 def tests(program):
@@ -77,8 +83,9 @@ def tests(program):
             yield (" ".join([script, *arguments]),
                    lambda script=script, arguments=arguments, says=says:
                    refused(script, arguments, says))
-    yield "tests/run without domelink", lambda: without_program("domelink")
-    yield "tests/run without allcalls", lambda: without_program("allcalls")
+    for name in BUILT:
+        yield ("tests/run without " + name,
+               lambda name=name: without_built(name))
     yield "bench/run without rustc", lambda: without("rustc")
     yield "bench/run without rt", lambda: without("rt")
     yield ("tests/run --only with no such test",

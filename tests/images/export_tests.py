@@ -1,13 +1,16 @@
 """What a library's exports have to do with images of all sorts: a name for
-each test, and what went wrong or None.  Call files are played elsewhere.
+each test, and the test, which gives what went wrong or None.  Call files are
+played elsewhere.
 """
 
-from edges import plan_limits
+from functools import partial
+
+from edges import plan_limits, refusals_page
 from generator.dice import Dice
 from images import by_hand
 from images.call_files import LONGEST, OLD, buffer_of, play
 from images.host import Script, run
-from images.on_images import Trial, first, troubles
+from images.on_images import Trial, troubles
 from images.random_calls import some_call
 from images.random_images import any_image
 from images.results import POWER, said
@@ -33,21 +36,28 @@ WIDE = [("credit", 1 << 8, 1), ("credit", 1 << 16, 1), ("credit", 1 << 32, 1),
         ("credit", 0, (1 << 64) - 1), ("credit", (1 << 64) - 1, 1)]
 
 
-def after_calls(command):
+def first(troubles):
+    return next(filter(None, troubles), None)
+
+
+def after_calls(command, edge, image):
     """The bytes are those worked out by hand."""
-    for edge, image in by_hand.AFTER_CALLS:
-        played = play(command, edge.data, len(image))
-        yield edge.name, (
-            played.wrong
+    played = play(command, edge.data, len(image))
+    return (played.wrong
             or played.lines != edge.lines and "gives %r" % played.lines
             or played.buffers != [buffer_of(image, len(image))]
             and "leaves %s" % played.buffers[-1].hex())
 
 
-def on_one_image(command, name, image):
-    calls = [Trial(name, image, call) for call in CALLS + WIDE]
-    return first(troubles(command, calls))
+def on_page(command, number, image, last):
+    """A buffer of docs/REFUSALS.md gives the refusal beside it."""
+    trial = Trial("refusal %d" % number, image, ("tick",))
+    return (first(troubles(command, [trial]))
+            or trial.right(0)[0] != number * POWER and "not refused so"
+            or last != "R %d" % number and "the page says %s" % last)
 
+
+# ---- images by hand and by chance
 
 def images_by_hand():
     """A name and the image."""
@@ -61,11 +71,9 @@ def images_by_hand():
         yield "22, " + name, image
 
 
-def calls_by_hand(command):
-    """Every call on each of them."""
-    for name, image in images_by_hand():
-        yield ("image: calls on one, " + name,
-               on_one_image(command, name, image))
+def every_call(command, name, image):
+    return first(troubles(command, [Trial(name, image, call)
+                                    for call in CALLS + WIDE]))
 
 
 def random_trial(seed):
@@ -74,13 +82,8 @@ def random_trial(seed):
     return Trial("image %d" % seed, image, some_call(dice, image))
 
 
-def random_images(command, count, seed):
-    """A call on each, a hundred to a test."""
-    for start in range(seed, seed + count, BATCH):
-        end = min(start + BATCH, seed + count)
-        trials = [random_trial(number) for number in range(start, end)]
-        yield ("image: calls on images by chance, from %d on" % start,
-               first(troubles(command, trials)))
+def by_chance(command, seeds):
+    return first(troubles(command, [random_trial(seed) for seed in seeds]))
 
 
 def all_trials(command, count):
@@ -88,22 +91,21 @@ def all_trials(command, count):
     chance."""
     trials = [Trial(name, image, call) for name, image in images_by_hand()
               for call in CALLS]
-    return troubles(command, trials + [random_trial(number)
-                                       for number in range(count)])
+    return first(troubles(command, trials + [random_trial(seed)
+                                             for seed in range(count)]))
 
 
 # ---- fresh
 
 def plans():
     """Plans of all sorts, each as a part on its own."""
-    for name, data in plan_limits.LENGTHS:
-        yield name, data
+    yield from plan_limits.LENGTHS
     for table in (plan_limits.COUNTS, plan_limits.FRAMES, plan_limits.ENTRIES,
                   plan_limits.PAIRS, plan_limits.SUMS, plan_limits.ORDER):
         for name, data, _ in table:
             yield name, data
     yield "one byte too many", plan_limits.GOOD + b"\0"
-    yield "the largest", by_hand.LARGEST_PLAN
+    yield "the largest image", by_hand.LARGEST_PLAN
 
 
 def right_fresh(plan, buffer):
@@ -117,32 +119,44 @@ def right_fresh(plan, buffer):
     return 0, image + buffer[len(image):]
 
 
-def lengths(plan):
-    """Buffers of these lengths are tried for a plan."""
+def buffers_for(plan):
+    """Buffers of several lengths, about that of the image."""
     refusal, read = read_plan(plan)
     exact = 92 if refusal else len(image_of(Link(read)))
-    return sorted({0, 1, 15, 16, exact - 1, exact, exact + 1, LONGEST})
+    return [OLD * length for length in sorted(
+        {0, 1, 15, 16, exact - 1, exact, exact + 1, LONGEST})]
 
 
-def fresh_calls(command):
-    for name, plan in plans():
-        buffers = [OLD * length for length in lengths(plan)]
-        script = Script()
-        for buffer in buffers:
-            script.buffer(buffer)
-            script.fresh(plan)
-            script.get()
-        answers, wrong = run(command, script)
-        for buffer, result, left in zip(buffers, answers[::2], answers[1::2]):
-            right = right_fresh(plan, buffer)
-            if (result, left) != right:
-                wrong = wrong or "%d bytes: %s, not %s, or other bytes" % (
-                    len(buffer), said(result), said(right[0]))
-        yield "image: fresh from a plan of " + name, wrong
+def fresh(command, plan):
+    script = Script()
+    buffers = buffers_for(plan)
+    for buffer in buffers:
+        script.buffer(buffer)
+        script.fresh(plan)
+        script.get()
+    answers, wrong = run(command, script)
+    for buffer, result, left in zip(buffers, answers[::2], answers[1::2]):
+        right, kept = right_fresh(plan, buffer)
+        if (result, left) != (right, kept):
+            return "%d bytes: %s, not %s, or other bytes" % (
+                len(buffer), said(result), said(right))
+    return wrong
 
 
 def tests(command, count, seed):
-    yield from after_calls(command)
-    yield from calls_by_hand(command)
-    yield from fresh_calls(command)
-    yield from random_images(command, count, seed)
+    """`count` of the images by chance."""
+    for number, image, last in refusals_page.examples("image"):
+        yield ("docs: refusal %d of an image" % number,
+               partial(on_page, command, number, image, last))
+    for edge, image in by_hand.AFTER_CALLS:
+        yield edge.name, partial(after_calls, command, edge, image)
+    for name, image in images_by_hand():
+        yield ("image: calls on one, " + name,
+               partial(every_call, command, name, image))
+    for name, plan in plans():
+        yield ("image: fresh from a plan, " + name,
+               partial(fresh, command, plan))
+    for start in range(seed, seed + count, BATCH):
+        seeds = range(start, min(start + BATCH, seed + count))
+        yield ("image: calls on images by chance, from %d on" % start,
+               partial(by_chance, command, seeds))

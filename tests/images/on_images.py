@@ -51,7 +51,3 @@ def troubles(command, trials):
         return [wrong]
     return [trial.trouble(result, buffer) for trial, result, buffer
             in zip(trials, answers[::2], answers[1::2])]
-
-
-def first(troubles):
-    return next(filter(None, troubles), None)

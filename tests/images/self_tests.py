@@ -1,8 +1,10 @@
 """What the simulator's images and the test of acceptance have to be, with no
-library: a name for each, and what went wrong or None.
+library: a name for each test, and the test, which gives what went wrong or
+None.
 """
 
 from collections import Counter
+from functools import partial
 
 from generator import departure_seeds, lend_seeds
 from generator.dice import Dice
@@ -23,72 +25,61 @@ TAKEN_IMAGES = 60       # by chance, with calls on each
 IMAGES = 600            # by chance, of which most are not taken
 
 
-def after_calls():
-    """The simulator's images are those worked out by hand."""
-    for edge, image in by_hand.AFTER_CALLS:
-        lines, links = zip(*steps(edge.data, ALLCALLS))
-        found = image_of(links[-1])
-        yield edge.name, (
-            list(lines) != edge.lines and "the simulator gives %r" % [lines]
+def after_calls(edge, image):
+    """The simulator's image is the one worked out by hand."""
+    lines, links = zip(*steps(edge.data, ALLCALLS))
+    found = image_of(links[-1])
+    return (list(lines) != edge.lines and "the simulator gives %r" % [lines]
             or found != image and "it is %s" % found.hex())
 
 
-def same_again(image):
-    """A taken image that is read and written is the same; bytes past it don't
+def taken(image):
+    """And it is the same when it is read and written; bytes past it don't
     count."""
+    if refusal_of(image):
+        return "it breaks %r" % broken(image)
     found = image_of(link_of(image))
     return found != image[:len(found)] and "read and written it differs"
 
 
-def verdicts():
-    for name, image in by_hand.TAKEN:
-        yield ("image: taken, " + name, same_again(image) if not
-               refusal_of(image) else "it breaks %r" % broken(image))
-    for condition, name, image in by_hand.BROKEN:
-        yield ("image: 22, %s: %s" % (condition, name),
-               broken(image) != {condition} and "it breaks %r" % broken(image)
-               or refusal_of(image) != 22 and "it is taken")
-    for number, images in ((21, by_hand.SHORT), (22, by_hand.LONG_ENOUGH)):
-        for name, image in images:
-            yield ("image: %d, %s" % (number, name),
-                   refusal_of(image) != number
-                   and "%d is given" % refusal_of(image))
+def breaks(condition, image):
+    """This condition and no other."""
+    return (broken(image) != {condition} and "it breaks %r" % broken(image)
+            or refused(22, image))
 
 
-def not_taken(images):
-    """What the first image breaks that isn't taken, or None."""
-    return next(("it breaks %r" % broken(image) for image in images
-                 if refusal_of(image)), None)
+def refused(number, image):
+    return refusal_of(image) != number and "%d is given" % refusal_of(image)
 
 
-def reached():
+def reached(family, seed):
     """Every image that calls lead to is taken."""
-    for family in (lend_seeds, departure_seeds):
-        for seed in range(FILES):
-            data = family.generate(seed)[:FEW]
-            yield ("image: taken after each call, %s %d"
-                   % (family.__name__.split(".")[-1], seed),
-                   not_taken(images_after(data, ())))
+    data = family.generate(seed)[:FEW]
+    return next(("one breaks %r" % broken(image)
+                 for image in images_after(data, ()) if refusal_of(image)),
+                None)
 
 
 def kept(seed):
-    """A taken image by chance, the same after it is read and written; and each
-    of some calls leaves a taken one."""
+    """A taken image by chance, and what each of some calls makes of it."""
     dice = Dice(seed)
     image = taken_image(dice)
-    if refusal_of(image) or same_again(image):
-        return "made to be taken: %r, %s" % (broken(image), same_again(image))
     link = link_of(image)
     for _ in range(20):
-        answer(link, some_call(dice, image_of(link)))
-        if refusal_of(image_of(link)):
-            return "after a call it breaks %r" % broken(image_of(link))
+        if taken(image):
+            return "image %d: %s" % (seed, taken(image))
+        answer(link, some_call(dice, image))
+        image = image_of(link)
     return None
 
 
-def by_chance():
-    wrong = next(filter(None, map(kept, range(TAKEN_IMAGES))), None)
-    yield "image: calls leave taken images taken", wrong
+def all_kept():
+    return next(filter(None, map(kept, range(TAKEN_IMAGES))), None)
+
+
+def each_broken():
+    """Among images by chance, each condition is broken by one that breaks no
+    other."""
     found = Counter()
     for seed in range(IMAGES):
         image = any_image(Dice(seed))
@@ -96,10 +87,25 @@ def by_chance():
         if refusal_of(image) == 22 and len(broken(image)) == 1:
             found.update(broken(image))
     missing = [way for way in (0, 21, 22, *CONDITIONS) if not found[way]]
-    yield ("image: each condition is broken by chance, it alone",
-           missing and "never: %r" % missing)
+    return missing and "never: %r" % missing
 
 
 def tests():
-    for part in (after_calls, verdicts, reached, by_chance):
-        yield from part()
+    for edge, image in by_hand.AFTER_CALLS:
+        yield edge.name, partial(after_calls, edge, image)
+    for name, image in by_hand.TAKEN:
+        yield "image: taken, " + name, partial(taken, image)
+    for condition, name, image in by_hand.BROKEN:
+        yield ("image: 22, %s: %s" % (condition, name),
+               partial(breaks, condition, image))
+    for number, images in ((21, by_hand.SHORT), (22, by_hand.LONG_ENOUGH)):
+        for name, image in images:
+            yield ("image: %d, %s" % (number, name),
+                   partial(refused, number, image))
+    for family in (lend_seeds, departure_seeds):
+        for seed in range(FILES):
+            yield ("image: taken after each call, %s %d" % (
+                       family.__name__.split(".")[-1], seed),
+                   partial(reached, family, seed))
+    yield "image: calls leave taken images taken", all_kept
+    yield "image: each condition is broken by chance, it alone", each_broken
