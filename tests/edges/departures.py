@@ -138,11 +138,13 @@ REFUSED = [
          (ask(0), "G 4"), (ask(0, departure=7), "R 11")),
 
     # The only cell is held from slot 1 on: without the departure there would
-    # be no valid position either.
+    # be no valid position either.  At slot 2 departure 0 lies before CP.
     edge("departure: 12 where the cells are held", ONE_CELL,
          (ask(0), "G 1"),
          (ask(0, departure=7), "R 12"), (ask(0, departure=4), "R 12"),
-         (ask(0), "R 12")),
+         (ask(0), "R 12"),
+         (TICK, "T 0"), (TICK, "T -"),
+         (ask(0, departure=0), "R 12"), (ask(0, departure=3), "R 12")),
 
     # The cell is back from slot 6 on, so that 6 and 7 would be valid; at the
     # end it is held at 7, and 6 is not valid either.
