@@ -61,6 +61,20 @@ def compile_header(suite, builder):
                 "-Wno-long-long", compiler=plus))
 
 
+def compile_readme(suite, builder):
+    """The lines of C that README.md has."""
+    text = (ROOT / "README.md").read_text()
+    lines = [line for line in text.splitlines()
+             if line.startswith("    ") and line.endswith(";")]
+    source = builder.folder / "readme.c"
+    source.write_text(
+        '#include "nazgolv.h"\n'
+        "uint64_t readme(const uint8_t *plan, size_t plan_length);\n"
+        "uint64_t readme(const uint8_t *plan, size_t plan_length)\n"
+        "{\n%s\n    return made + word;\n}\n" % "\n".join(lines))
+    suite.test("README's lines of C", builder.object(source, "-std=c99"))
+
+
 def build(suite, builder, name, source, *options):
     """A program's command, or None with a test that failed."""
     path, wrong = builder.program(name, source, *options)
@@ -131,6 +145,7 @@ def suites(library, folder, only, count, seed):
     exports.command = build(own, builder, "host", IMAGES / "host.c")
     if not only:
         compile_header(own, builder)
+        compile_readme(own, builder)
         watched(own, builder)
     if exports.command:
         for name, test in export_tests.tests(

@@ -3,7 +3,8 @@
 import struct
 import subprocess
 
-LIMIT = 120             # seconds for one script
+LIMIT = 60              # seconds for one script
+NO_END = "no end after %d seconds" % LIMIT
 CALLS = {
     "request": lambda word: b"r" + struct.pack("<I", word),
     "credit": lambda flow, position: b"c" + struct.pack("<QQ", flow, position),
@@ -61,7 +62,7 @@ def run(command, script):
         done = subprocess.run(command, input=b"".join(script.commands),
                               capture_output=True, timeout=LIMIT)
     except subprocess.TimeoutExpired:
-        return [], "no end after %d seconds" % LIMIT
+        return [], NO_END
     if done.returncode or done.stderr:
         return [], "status %d: %s" % (done.returncode,
                                       done.stderr[-300:].decode("latin-1"))
