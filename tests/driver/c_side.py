@@ -105,20 +105,19 @@ def some_edges():
 
 
 def watch(suite, tool, player, host):
-    if player and host:
-        suite.test("the player under " + tool, plays(player, some_edges()))
-        suite.test("the exports under " + tool,
-                   export_tests.all_trials(host, WATCHED_IMAGES))
+    suite.test("the player under " + tool, plays(player, some_edges()))
+    suite.test("the exports under " + tool,
+               export_tests.all_trials(host, WATCHED_IMAGES))
 
 
 def watched(suite, builder):
     """Without guards, so that a buffer ends where its memory does."""
     bare = build(suite, builder, "host-bare", IMAGES / "host.c", "-DGUARD=0")
     player = build(suite, builder, "player-bare", PLAYER, "-g")
-    if found("valgrind") and bare and player:
-        watch(suite, "valgrind", VALGRIND + player, VALGRIND + bare)
-    else:
+    if not found("valgrind"):
         print("valgrind is not on this machine: nothing runs under it")
+    elif bare and player:
+        watch(suite, "valgrind", VALGRIND + player, VALGRIND + bare)
     host, wrong = builder.program("host-checked", IMAGES / "host.c",
                                   "-DGUARD=0", *CHECKED)
     player, wrong_too = builder.program("player-checked", PLAYER, *CHECKED)

@@ -61,17 +61,14 @@ class Tables:
 
 # ---- the conditions
 
-def header_as_listed(data, plan):
-    """The names of the fields that are not as listed; CP and the mark have
+def listed_header(plan):
+    """The header of a plan's image but for CP and the mark, which have
     conditions of their own."""
     positions_at = HEADER_SIZE + plan.length
     flows_at = positions_at + 2 * plan.slots
     total = flows_at + 2 * plan.flows * (2 + plan.slots)
-    listed = (total, HEADER_SIZE, positions_at, plan.slots, flows_at,
-              plan.flows)
-    found = struct.unpack_from("<6H", data)
-    return ([name for name, wanted, given in zip(HEADER, listed, found)
-             if wanted != given], total)
+    return (total, HEADER_SIZE, positions_at, plan.slots, flows_at,
+            plan.flows)
 
 
 def of_the_link(tables):
@@ -118,15 +115,19 @@ def of_its_holdings(tables, number, flow):
 
 
 def broken(data):
-    """The conditions that an image breaks, by their names.  Its buffer is no
-    shorter than the header or the total length."""
-    stated = struct.unpack_from("<H", data)[0]
+    """The conditions that an image breaks, by their names: those of the
+    header's fields are the fields' names.  The buffer is no shorter than the
+    header or the total length; of a shorter image than the plan's nothing but
+    the header can be looked at."""
     length = int.from_bytes(data[HEADER_SIZE:HEADER_SIZE + 2], "little")
     refusal, plan = read_plan(data[HEADER_SIZE:HEADER_SIZE + length])
     if refusal:
         return {PLAN}
-    names, total = header_as_listed(data, plan)
-    if len(data) < total or stated < HEADER_SIZE + plan.length:
+    listed = listed_header(plan)
+    names = [name for name, wanted, found
+             in zip(HEADER, listed, struct.unpack_from("<6H", data))
+             if wanted != found]
+    if len(data) < listed[0]:
         return set(names)
     tables = Tables(data, plan)
     names += of_the_link(tables)

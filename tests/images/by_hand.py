@@ -53,16 +53,25 @@ SMALLEST = bytes.fromhex(
     "1000 0100 0C00 0100 0200 0400  01 04 01 09"
     "1000 1000  0000 0100 0000 0000")
 
+# One flow with share 2 and a cell: 68 bytes.  Its C in frame 0 was 1.
+FULL_LATER = bytes.fromhex(
+    "4400 1000 2000 0800 3000 0100 0000 0000"
+    "1000 0100 0C00 0400 0200 0100  02 01 01 09"
+    "1000 0000 1000 1000 1000 1000 1000 1000"
+    "0100 0200  0000 0100 0100 0100 0100 0100 0100 0100")
+
 # (calls, the image after the last of them)
 AFTER_CALLS = [
     (edge("image: fresh", BASE), FRESH),
     (edge("image: refusals that change nothing", BASE,
-          (ask(2), "R 8"), (ask(0, to=8), "R 9"), (ask(0, departure=8), "R 10"),
-          (credit(0, 8), "R 13"), (credit(0, 0), "R 14"),
-          (credit(0, 1), "R 15"), (lend(4), "R 8"), (lend(0), "R 18")), FRESH),
-    (edge("image: 11, 12 and 20 move IF and C", BASE,
-          (ask(0, departure=7), "R 20")),
+          (ask(2), "R 8"), (ask(0, to=8), "R 9"),
+          (ask(0, departure=8), "R 10"), (credit(0, 8), "R 13"),
+          (credit(0, 0), "R 14"), (credit(0, 1), "R 15"),
+          (lend(4), "R 8"), (lend(0), "R 18")), FRESH),
+    (edge("image: 20 moves IF", BASE, (ask(0, departure=7), "R 20")),
      change(FRESH, ("IF", 0, 1))),
+    (edge("image: 12 moves IF and C", plan(4, 2, (2, 1)),
+          (ask(0), "G 1"), (ask(0), "R 12")), FULL_LATER),
     (EDGES[0], PLAYED),
     (edge("image: a lent slot", BASE, (TICK, "T -"), (lend(1), "L 0")), LENT),
     (edge("image: the mark ends with a tick", BASE,
@@ -202,7 +211,8 @@ LINKS = [
      [("CP", 3), ("owner", 2, 0)]),
     ("bookings in IF and C add to the share", "of the other frame",
      [("owner", 1, 0), ("IF", 0, 1), ("C", 0, 1)]),
-    ("holdings are 0 to the cells", "before CP", [("CP", 3), ("held", 0, 0, 3)]),
+    ("holdings are 0 to the cells", "before CP",
+     [("CP", 3), ("held", 0, 0, 3)]),
     ("holdings are 0 to the cells", "at CP", [("held", 1, 0, 3)]),
     ("holdings are 0 to the cells", "everywhere", [("held", 0, [3] * 8)]),
     ("holdings are 0 to the cells", "257",
