@@ -24,6 +24,7 @@ pub mod HeldFrom
 pub mod BookingKeeps
 pub mod CreditKeeps
 pub mod LendKeeps
+pub mod ResetKeeps
 pub mod UnbookedSlots
 pub mod SearchedFrames
 pub mod NewestFrame
@@ -41,6 +42,7 @@ pub mod AfterRequest
 pub mod AfterCredit
 pub mod AfterTick
 pub mod AfterLend
+pub mod AfterReset
 pub mod AfterCalls
 pub mod LendChoice
 pub mod Demand3
@@ -58,5 +60,6 @@ pub mod BadHistories
 pub mod BadCards
 pub mod BadLends
 pub mod BadDepartures
+pub mod BadResets
 pub mod PersistentStream
 pub mod TilesToCome

@@ -12,6 +12,7 @@ pub mod Credit
 pub mod Tick
 -- document 02
 pub mod Lend
+pub mod Reset
 -- the program
 pub mod Record
 pub mod Listing
@@ -30,9 +31,11 @@ pub mod PlanEdges
 pub mod CallEdges
 pub mod DepartureEdges
 pub mod LendEdges
+pub mod ResetEdges
 pub mod ProgramEdges
 pub mod Edges
 pub mod BadHistories
 pub mod BadCards
 pub mod BadLends
 pub mod BadDepartures
+pub mod BadResets
