@@ -20,10 +20,13 @@ noneBooked l = every (positions (l .plan)) (λ q. not (later (window l) q (l .cu
 unfoldable pub noneHeld : Link → Bool
 noneHeld l = every (flowCount (l .plan)) (λ i. everyFrom (window l) (l .current) (λ q. eqb (holding l i q) 0))
 
+abbrev pub quiet : Link → Bool
+quiet l = noneBooked l && noneHeld l
+
 abbrev pub resetTests : Link → List Line
 resetTests l =
-    -- "When that condition is not met"
-    23 when not (noneBooked l && noneHeld l)
+    -- "that condition is not met"
+    23 when not (quiet l)
     ∷ []
 
 -- "every IF becomes HF, every C the share"; what a flow holds stays
