@@ -62,4 +62,5 @@ pub mod BadLends
 pub mod BadDepartures
 pub mod BadResets
 pub mod PersistentStream
+pub mod StreamAfterReset
 pub mod TilesToCome
