@@ -5,7 +5,6 @@ use mathlib.Core.List.{_∷_}
 use mathlib.Core.Option.{Option, some, none}
 use mathlib.Core.Bool.{true}
 use native.Mathlib.Nat.{mod-lt}
-use native.Mathlib.Omega.{arith}
 use Rattle.model.specs.Refusals.{firstOf}
 use Rattle.model.specs.Plan.{flowCount}
 use Rattle.model.specs.Calls.{Loan, History, lent, accepted, refused, inMask}

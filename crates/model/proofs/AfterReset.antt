@@ -1,7 +1,7 @@
 -- A reset on a link that stands after a history. Assumes nothing.
 use Prim.Native.Nat.{ℕ, zero, suc, _<_}
 use mathlib.Core.Path.{_≡_, refl, sym, ap, _∙_}
-use mathlib.Core.List.{[], _∷_}
+use mathlib.Core.List.{_∷_}
 use native.Mathlib.Omega.{arith}
 use Rattle.model.specs.Tables.{tally}
 use Rattle.model.specs.Refusals.{firstOf}
@@ -14,7 +14,6 @@ use Rattle.model.proofs.Round.{mod-unique}
 use Rattle.model.proofs.Slots.{some-frame}
 use Rattle.model.proofs.Window.{Current, head-is}
 use Rattle.model.proofs.LinkUpdates.{flow-withFlows}
-use Rattle.model.proofs.LeastCount.{Least}
 use Rattle.model.proofs.ResetKeeps.{ResetPasses, reset-passes, renewed-keeps}
 use Rattle.model.proofs.HistoryCounts.{raises}
 use Rattle.model.proofs.AfterHistory.{LeastOf, After, after-event}

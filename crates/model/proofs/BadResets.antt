@@ -7,7 +7,7 @@ use mathlib.Core.Option.{some}
 use native.Mathlib.Omega.{arith}
 use lib.Dec.{lit<}
 use Rattle.model.specs.Plan.{planOf}
-use Rattle.model.specs.Calls.{Call, Event, requested, credited, ticked, lent, accepted, refused}
+use Rattle.model.specs.Calls.{Call, Event, requested, credited, ticked, lent, accepted}
 use Rattle.model.specs.History.{grantedIn}
 use Rattle.model.specs.Claim.{Clause}
 use Rattle.model.specs.Card.{Meets, run, paper}

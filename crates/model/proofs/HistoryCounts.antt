@@ -14,7 +14,7 @@ use Rattle.model.specs.Word.{flowOf, destinationOf, departureOf}
 use Rattle.model.specs.Plan.{Plan, positions, flowCount, entry, Accepted}
 use Rattle.model.specs.Calls.{Event, History, requested, credited, ticked, lent, accepted, refused}
 use Rattle.model.specs.Request.{wordTests}
-use Rattle.model.specs.History.{Mark, ticks, frameOf, wellFormed, renews, origin, changes, marksOf, marksSince, grantAt, refusalAt, lendAt}
+use Rattle.model.specs.History.{Mark, ticks, frameOf, wellFormed, renews, origin, changes, marksOf, marksSince, grantAt, lendAt}
 use Rattle.model.specs.History.{grants, refusalsSince, lends, refusedIn}
 use Rattle.model.proofs.Tests.{and-true}
 use Rattle.model.proofs.Tallies.{tally-append}

@@ -50,6 +50,8 @@ pub mod ListingMeets
 pub mod Holding
 pub mod Buffer
 pub mod TwoHops
+pub mod RequestsAlike
+pub mod AsFresh
 -- edges, cards that demand 3 sends back, a stream that meets the premise of the least count, and what the premise on tiles is for
 pub mod Unfoldings
 pub mod Edges

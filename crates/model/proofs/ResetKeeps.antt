@@ -3,16 +3,16 @@ use Prim.Native.Nat.{ℕ, _+_, _%_, _<_}
 use mathlib.Core.Path.{_≡_, refl, sym, ap, _∙_, subst}
 use mathlib.Core.List.{[]}
 use mathlib.Core.Option.{none}
-use mathlib.Core.Bool.{true, false, not, _&&_, _||_}
+use mathlib.Core.Bool.{true, not, _||_}
 use native.Mathlib.Nat.{mod-lt}
 use native.Mathlib.Decide.{decLt}
 use native.Mathlib.Omega.{arith}
 use borrow.Author.Tests.{lt-ltb, ne-eqb, not-false}
 use Rattle.model.specs.Tables.{tally}
 use Rattle.model.specs.Refusals.{firstOf}
-use Rattle.model.specs.Plan.{Plan, positions, flowCount}
+use Rattle.model.specs.Plan.{positions}
 use Rattle.model.specs.Window.{later}
-use Rattle.model.specs.Link.{Link, window, owner, flow}
+use Rattle.model.specs.Link.{Link, window, owner}
 use Rattle.model.specs.Request.{unbooked}
 use Rattle.model.specs.Reset.{noneBooked, noneHeld, resetTests, fromHead, renewed}
 use Rattle.model.specs.History.{frameOf, atSlot}

@@ -1,6 +1,6 @@
 -- Streams after a granted reset: one that meets the premise of the least count and is granted exactly the least count since the reset; one that is
 -- granted exactly the most; and that the counts over the whole list would not come out. Assumes nothing.
-use Prim.Native.Nat.{ℕ, _-_, _+_, _*_}
+use Prim.Native.Nat.{_-_, _+_, _*_}
 use mathlib.Core.Path.{_≡_, refl}
 use mathlib.Core.List.{List, _∷_, [], reverse}
 use mathlib.Core.Option.{some, none}

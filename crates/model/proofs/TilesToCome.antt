@@ -1,11 +1,11 @@
 -- The least count holds for tiles that have come by the test of their departure against CP, and does not hold without it, or where it is enough that
 -- a slot at that position has gone by. Assumes nothing.
-use Prim.Native.Nat.{ℕ, suc}
+use Prim.Native.Nat.{ℕ}
 use mathlib.Core.Path.{refl}
 use mathlib.Core.Logic.{Dec·and}
 use mathlib.Core.List.{_∷_, []}
 use native.Mathlib.Omega.{arith}
-use native.Mathlib.Decide.{decLe, decLt, ℕ-discrete}
+use native.Mathlib.Decide.{decLe, ℕ-discrete}
 use lib.Dec.{lit<}
 use Rattle.model.specs.Word.{flowOf, departureOf}
 use Rattle.model.specs.Plan.{Plan, planOf}
@@ -16,7 +16,7 @@ use Rattle.model.specs.Card.{run, paper}
 use Rattle.model.specs.PlanBytes.{listing, oneShare}
 use Rattle.model.specs.TilesToCome.{Premise, ReadyBy, PersistentBy, LeastBy, Come, AnyDeparture, SlotGone}
 use Rattle.model.proofs.Unfoldings.{plans-compute, calls-compute, counts-compute}
-use Rattle.model.proofs.Decidable.{proved, same, implies, is-true, all-below}
+use Rattle.model.proofs.Decidable.{proved, same, implies, is-true}
 use Rattle.model.proofs.ClaimDecided.{at-request, has-room, each-since, refused-in-each, persistent}
 use Rattle.model.proofs.Demand3.{each-since-map, meets}
 

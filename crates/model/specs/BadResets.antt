@@ -7,7 +7,7 @@ use Rattle.model.specs.Window.{head}
 use Rattle.model.specs.Link.{Link, window, owner, flow, withCurrent, withFlows, withTaken, movedTo, withHeld}
 use Rattle.model.specs.Request.{unbooked}
 use Rattle.model.specs.Reset.{noneBooked, noneHeld, quiet, fromHead, renewed}
-use Rattle.model.specs.Card.{Card, paper}
+use Rattle.model.specs.Card.{Card}
 use Rattle.model.specs.BadCards.{withReset}
 
 -- the reset with another test, or another link

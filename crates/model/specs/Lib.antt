@@ -24,6 +24,7 @@ pub mod Holding
 pub mod Buffer
 pub mod TilesToCome
 pub mod TwoHops
+pub mod AsFresh
 -- worked examples, and cards that are sent back
 pub mod PlanBytes
 pub mod EdgeCases
