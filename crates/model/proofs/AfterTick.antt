@@ -19,7 +19,7 @@ use Rattle.model.proofs.Window.{Current}
 use Rattle.model.proofs.SlotOwners.{grantsOf, owned}
 use Rattle.model.proofs.TickKeeps.{Advances, advances}
 use Rattle.model.proofs.HistoryCounts.{changes-are, refused-later, marksBefore, split-at-reset, raises, raises-are}
-use Rattle.model.proofs.AfterHistory.{LeastOf, After, after-event}
+use Rattle.model.proofs.AfterHistory.{AskedOn, LeastOf, After, after-event}
 
 module _ {l : Link} {h : History} (g : After (l .plan) l h) where
   open Link l using (plan as P)
@@ -37,10 +37,18 @@ module _ {l : Link} {h : History} (g : After (l .plan) l h) where
   least-ticked x q known (no d) asked =
       let same-frame = frame-stays ok t d in
       let same-injection = ap (λ y. y .injection) (on .flows-in-frame d q) in
-      rw (same-frame, same-injection) (g .least q known (record { ready = asked .ready .1; refused-before = λ f since lt. asked .refused-before f since (rw same-frame lt) }))
+      let so-far : AskedOn P h q = record {
+        ready = asked .ready .1;
+        refused-before = λ f since lt. asked .refused-before f since (rw same-frame lt);
+      } in
+      rw (same-frame, same-injection) (g .least q known so-far)
   least-ticked x q known (yes e) asked =
       let step = frame-changes ok t e in
-      let old = g .least q known (record { ready = asked .ready .1; refused-before = λ f since lt. asked .refused-before f since (rw step (omega arith)) }) in
+      let so-far : AskedOn P h q = record {
+        ready = asked .ready .1;
+        refused-before = λ f since lt. asked .refused-before f since (rw step (omega arith));
+      } in
+      let old = g .least q known so-far in
       let full = old .after-a-refusal (asked .refused-before (frameOf P t) (omega (arith, changes-are P ok h)) (rw step (omega arith))) in
       record {
         before-injection = λ a low high e f since below. full f since (let a-below = rw step at high in omega arith);

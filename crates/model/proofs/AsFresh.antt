@@ -20,7 +20,7 @@ use Rattle.model.specs.Fresh.{freshFlow, fresh}
 use Rattle.model.specs.Request.{unbooked}
 use Rattle.model.specs.Reset.{noneBooked, noneHeld, quiet, resetTests, fromHead, renewed, resetAfter, reset}
 use Rattle.model.specs.Holding.{InWindow}
-use Rattle.model.specs.AsFresh.{freshAt, answersTo, GoesOnAsFresh, TwiceIsOnce, FreshStays}
+use Rattle.model.specs.AsFresh.{flowAt, freshAt, answersTo, GoesOnAsFresh, TwiceIsOnce, FreshStays}
 use Rattle.model.proofs.Tests.{or-true}
 use Rattle.model.proofs.Tables.{table-same, every-at, every-intro}
 use Rattle.model.proofs.Slots.{some-frame, some-position, current-in-window}
@@ -78,13 +78,12 @@ module _ (l : Link) (ok : Accepted (l .plan)) (below : l .current < positions (l
     owners = λ s w after.
         owner-withOwners l (λ q. none) (s % T) (mod-lt s (some-position ok))
         ∙ sym (getD-replicate T (s % T) none none (mod-lt s (some-position ok)));
-    flows = λ i known. rw (flow-withFlows l (fromHead l) i known, flow-withFlows (fresh P) (λ i. movedTo (freshFlow P i) (head (window l)) (entry P i .share)) i known)
-        (record {
-          frame = refl;
-          frame-below = rw (head-is now) (mod-lt _ (some-frame ok));
-          remainder = refl;
-          held = λ s w after. nothing-held i known s w after ∙ sym (getD-replicate T (s % T) 0 0 (mod-lt s (some-position ok)));
-        });
+    flows = λ i known. rw (flow-withFlows l (fromHead l) i known, flow-withFlows (fresh P) (flowAt P t) i known) (record {
+      frame = refl;
+      frame-below = rw (head-is now) (mod-lt _ (some-frame ok));
+      remainder = refl;
+      held = λ s w after. nothing-held i known s w after ∙ sym (getD-replicate T (s % T) 0 0 (mod-lt s (some-position ok)));
+    });
   }
 
 pub goes-on-as-fresh : GoesOnAsFresh

@@ -1,6 +1,6 @@
 -- Streams after a granted reset: one that meets the premise of the least count and is granted exactly the least count since the reset; one that is
 -- granted exactly the most; and that the counts over the whole list would not come out. Assumes nothing.
-use Prim.Native.Nat.{_-_, _+_, _*_}
+use Prim.Native.Nat.{_+_, _*_}
 use mathlib.Core.Path.{_≡_, refl}
 use mathlib.Core.List.{List, _∷_, [], reverse}
 use mathlib.Core.Option.{some, none}
@@ -8,12 +8,12 @@ use Rattle.model.specs.Tables.{tally}
 use Rattle.model.specs.Plan.{Plan, entry, planOf}
 use Rattle.model.specs.Calls.{Call, Event, History, requested, credited, ticked, accepted, refused}
 use Rattle.model.specs.History.{origin, changes, marksOf, refusalAt, grants, ofFlow, inFrame, granted, refusedIn}
-use Rattle.model.specs.Claim.{Persistent}
 use Rattle.model.specs.Card.{run, paper}
 use Rattle.model.specs.PlanBytes.{plan2, listing, oneShare}
 use Rattle.model.proofs.Unfoldings.{calls-compute, counts-compute}
 use Rattle.model.proofs.Decidable.{proved}
 use Rattle.model.proofs.ClaimDecided.{persistent}
+use Rattle.model.proofs.PersistentStream.{ExactlyLeast}
 
 -- ---- a stream that asks until it is refused, in frames 1 and 2
 
@@ -44,31 +44,18 @@ pub come-to : reverse h ≡ events
 unfolding calls-compute
 come-to = refl
 
-pub is-persistent : Persistent P 0 h
+pub exactly-least : ExactlyLeast P 0 h 1 2
 unfolding calls-compute counts-compute persistent
-is-persistent = proved (persistent P 0 h) tt
+exactly-least = record { is-persistent = proved (persistent P 0 h) tt; frame-changes = refl; granted-slots = refl; least-count = refl }
 
 pub begins-with-frame-1 : origin P h ≡ 1
 unfolding calls-compute counts-compute
 begins-with-frame-1 = refl
 
-pub one-frame-change : changes P h ≡ 1
-unfolding calls-compute counts-compute
-one-frame-change = refl
-
--- three slots in the whole list, and two since the reset
+-- in the whole list it is granted three
 pub all-grants : tally (ofFlow 0) (grants P h) ≡ 3
 unfolding calls-compute counts-compute
 all-grants = refl
-
-pub granted-slots : granted P h 0 ≡ 2
-unfolding calls-compute counts-compute
-granted-slots = refl
-
--- (W - 1 + k) × share
-pub least-count : (P .frames - 1 + changes P h) * entry P 0 .share ≡ 2
-unfolding calls-compute counts-compute
-least-count = refl
 
 -- ---- three slots of frame 0 with a share of 1, and a reset after each of the first two; then slot 4
 

@@ -5,14 +5,17 @@ use mathlib.Core.Path.{_≡_}
 use mathlib.Core.List.{List, _∷_, []}
 use Rattle.model.specs.Plan.{Plan, Accepted, positions, entry}
 use Rattle.model.specs.Calls.{Grant, accepted}
-use Rattle.model.specs.Link.{Link, withCurrent, withFlows, movedTo}
+use Rattle.model.specs.Link.{Link, Flow, withCurrent, withFlows, movedTo}
 use Rattle.model.specs.Fresh.{freshFlow, fresh}
 use Rattle.model.specs.Request.{request}
 use Rattle.model.specs.Reset.{reset}
 
 -- the link that fresh makes, but with CP at p and each IF the frame of p
-abbrev pub freshAt : Plan → ℕ → Link
-freshAt P p = withCurrent (withFlows (fresh P) (λ i. movedTo (freshFlow P i) (p / P .slots) (entry P i .share))) p
+abbrev pub flowAt : Plan → (p i : ℕ) → Flow
+flowAt P p i = movedTo (freshFlow P i) (p / P .slots) (entry P i .share)
+
+abbrev pub freshAt : Plan → (p : ℕ) → Link
+freshAt P p = withCurrent (withFlows (fresh P) (flowAt P p)) p
 
 -- the answers to requests with these words, one after the other
 unfoldable pub answersTo : Link → List ℕ → List Grant
