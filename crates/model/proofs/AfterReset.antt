@@ -1,20 +1,21 @@
 -- A reset on a link that stands after a history. Assumes nothing.
-use Prim.Native.Nat.{ℕ, zero, suc, _<_}
+use Prim.Native.Nat.{ℕ, _<_}
 use mathlib.Core.Path.{_≡_, refl, sym, ap, _∙_}
 use mathlib.Core.List.{_∷_}
+use mathlib.Core.Bool.{Bool, true, false, cond}
 use native.Mathlib.Omega.{arith}
 use Rattle.model.specs.Tables.{tally}
-use Rattle.model.specs.Refusals.{firstOf}
 use Rattle.model.specs.Plan.{flowCount}
-use Rattle.model.specs.Calls.{Event, History, accepted, refused}
-use Rattle.model.specs.Link.{Link, flow}
-use Rattle.model.specs.Reset.{resetTests, fromHead, renewed, resetAfter, reset}
+use Rattle.model.specs.Calls.{Event, History, Renewal, accepted, refused}
+use Rattle.model.specs.Link.{Link, Step, flow}
+use Rattle.model.specs.Reset.{quiet, fromHead, renewed, reset}
 use Rattle.model.specs.History.{ticks, frameOf, origin, credits, grantsSince, refusalsSince}
 use Rattle.model.proofs.Round.{mod-unique}
 use Rattle.model.proofs.Slots.{some-frame}
 use Rattle.model.proofs.Window.{Current, head-is}
 use Rattle.model.proofs.LinkUpdates.{flow-withFlows}
-use Rattle.model.proofs.ResetKeeps.{ResetPasses, reset-passes, renewed-keeps}
+use Rattle.model.proofs.ResetTests.{granted, notGranted, reset-is, Quiet, quiet-parts}
+use Rattle.model.proofs.ResetKeeps.{renewed-keeps}
 use Rattle.model.proofs.HistoryCounts.{raises}
 use Rattle.model.proofs.AfterHistory.{LeastOf, After, after-event}
 
@@ -36,11 +37,11 @@ module _ {l : Link} {h : History} (g : After (l .plan) l h) where
     after-a-refusal = λ re. absurd (omega arith);
   }
 
-  granted : ResetPasses l → After P (renewed l) (Event.reset (accepted tt) ∷ h)
+  after-granted : Quiet l → After P (renewed l) (Event.reset (accepted tt) ∷ h)
   unfolding ticks origin grantsSince raises credits renewed
-  granted quiet = after-event g (record {
+  after-granted q = after-event g (record {
     plan-is = refl;
-    keeps = renewed-keeps v (quiet .none-booked);
+    keeps = renewed-keeps v (q .none-booked);
     soon = tt;
     comes-up = tt;
     word = tt;
@@ -49,9 +50,9 @@ module _ {l : Link} {h : History} (g : After (l .plan) l h) where
     least = least-afresh;
   })
 
-  not-granted : (r : ℕ) → After P l (Event.reset (refused r) ∷ h)
+  after-refused : After P l (Event.reset (refused 23) ∷ h)
   unfolding ticks origin grantsSince refusalsSince raises credits
-  not-granted r = after-event g (record {
+  after-refused = after-event g (record {
     plan-is = refl;
     keeps = v;
     soon = tt;
@@ -63,9 +64,11 @@ module _ {l : Link} {h : History} (g : After (l .plan) l h) where
   })
 
   pub after-reset : After P (reset l .link) (Event.reset (reset l .answer) ∷ h)
-  unfolding reset resetAfter
-  after-reset = go (firstOf (resetTests l)) refl
+  after-reset = rw (reset-is l) (go (quiet l) refl)
     where
-      go : (r : ℕ) → firstOf (resetTests l) ≡ r → After P (resetAfter r l .link) (Event.reset (resetAfter r l .answer) ∷ h)
-      go zero e = granted (reset-passes l e)
-      go (suc r) e = not-granted (suc r)
+      step : Bool → Step Renewal
+      step b = cond b (granted l) (notGranted l)
+
+      go : (b : Bool) → quiet l ≡ b → After P (step b .link) (Event.reset (step b .answer) ∷ h)
+      go true e = after-granted (quiet-parts l e)
+      go false e = after-refused

@@ -4,21 +4,20 @@ use Prim.Native.Nat.{ℕ, zero, suc, _%_, _<_}
 use mathlib.Core.Path.{_≡_, refl, sym, ap, ap₂, _∙_, subst}
 use mathlib.Core.List.{_∷_}
 use mathlib.Core.Option.{none}
-use mathlib.Core.Bool.{true, false, not, _||_}
+use mathlib.Core.Bool.{Bool, cond, true, false, not, _||_}
 use native.Mathlib.Nat.{zero-div, mod-lt, mod-eq-of-lt}
 use native.Mathlib.Omega.{arith}
 use lib.Dec.{eqb}
 use lib.ListN.{getD, replicate, getD-replicate}
 use borrow.Author.Tests.{eqb-true}
 use Rattle.model.specs.Tables.{table}
-use Rattle.model.specs.Refusals.{firstOf}
 use Rattle.model.specs.Plan.{Plan, Accepted, positions, flowCount, entry}
 use Rattle.model.specs.Calls.{accepted}
 use Rattle.model.specs.Window.{head, later, fromOn, everyFrom}
 use Rattle.model.specs.Link.{Link, window, owner, flow, holding, movedTo, linkWith}
 use Rattle.model.specs.Fresh.{freshFlow, fresh}
 use Rattle.model.specs.Request.{unbooked}
-use Rattle.model.specs.Reset.{noneBooked, noneHeld, quiet, resetTests, fromHead, renewed, resetAfter, reset}
+use Rattle.model.specs.Reset.{noneBooked, noneHeld, quiet, fromHead, renewed, reset}
 use Rattle.model.specs.Holding.{InWindow}
 use Rattle.model.specs.AsFresh.{flowAt, freshAt, answersTo, GoesOnAsFresh, TwiceIsOnce, FreshStays}
 use Rattle.model.proofs.Tests.{or-true}
@@ -27,31 +26,24 @@ use Rattle.model.proofs.Slots.{some-frame, some-position, current-in-wi
 use Rattle.model.proofs.Window.{Current, head-is, everyFrom-at}
 use Rattle.model.proofs.LinkUpdates.{owner-withOwners, flow-withFlows}
 use Rattle.model.proofs.FreshKeeps.{fresh-flow}
-use Rattle.model.proofs.ResetKeeps.{ResetPasses, reset-passes}
+use Rattle.model.proofs.ResetTests.{granted, notGranted, reset-is, Quiet, quiet-parts}
 use Rattle.model.proofs.RequestsAlike.{Alike, pair, answers-alike}
 
--- ---- a granted reset
+-- ---- a granted reset found the link quiet
 
--- a reset that is granted found the link quiet, and hands back the renewed link
-pub record Granted (l : Link) : Type 0 where
-  pub passes : ResetPasses l
-  pub is : reset l ≡ record { link = renewed l; answer = accepted tt }
+quiet-granted : (l : Link) → quiet l ≡ true → reset l ≡ granted l
+quiet-granted l e = reset-is l ∙ rw e
 
-quiet-granted : (l : Link) → quiet l ≡ true → reset l ≡ record { link = renewed l; answer = accepted tt }
-unfolding reset resetAfter firstOf
-quiet-granted l e = rw e
-
-pub if-granted : (l : Link) → reset l .answer ≡ accepted tt → Granted l
-unfolding reset resetAfter
-if-granted l = go (firstOf (resetTests l)) refl
+granted-quiet : (l : Link) → reset l .answer ≡ accepted tt → quiet l ≡ true
+granted-quiet l a = go (quiet l) (sym (ap (λ s. s .answer) (reset-is l)) ∙ a)
   where
-    go : (r : ℕ) → firstOf (resetTests l) ≡ r → resetAfter r l .answer ≡ accepted tt → Granted l
-    go zero e a = let p = reset-passes l e in record { passes = p; is = quiet-granted l (rw (p .none-booked, p .none-held)) }
-    go (suc r) e a = let z : _≡_ {A = ℕ} 0 1 = cc in absurd (omega arith)
+    go : (b : Bool) → cond b (granted l) (notGranted l) .answer ≡ accepted tt → b ≡ true
+    go true e = refl
+    go false e = let z : _≡_ {A = ℕ} 0 1 = cc in absurd (omega arith)
 
 -- ---- requests after it
 
-module _ (l : Link) (ok : Accepted (l .plan)) (below : l .current < positions (l .plan)) (granted : ResetPasses l) where
+module _ (l : Link) (ok : Accepted (l .plan)) (below : l .current < positions (l .plan)) (found : Quiet l) where
   open Link l using (plan as P)
 
   abbrev t : ℕ
@@ -67,12 +59,12 @@ module _ (l : Link) (ok : Accepted (l .plan)) (below : l .current < positions (l
   nothing-held : (i : ℕ) → i < flowCount P → (s : ℕ) → InWindow P t s → t < s → holding l i (s % T) ≡ 0
   unfolding noneHeld
   nothing-held i known s w after =
-      let held = every-at (flowCount P) (λ i. everyFrom (window l) t (λ q. eqb (holding l i q) 0)) i (granted .none-held) known in
+      let held = every-at (flowCount P) (λ i. everyFrom (window l) t (λ q. eqb (holding l i q) 0)) i (found .none-held) known in
       eqb-true (holding l i (s % T)) 0
       (everyFrom-at now t (λ q. eqb (holding l i q) 0) (current-in-window ok t)
       (subst (λ p. everyFrom (window l) p (λ q. eqb (holding l i q) 0) ≡ true) (now .current-is) held) s w (omega arith))
 
-  alike : Alike now (renewed l) (freshAt P t)
+  alike : Alike l now (renewed l) (freshAt P t)
   unfolding renewed fresh
   alike = record {
     owners = λ s w after.
@@ -89,14 +81,14 @@ module _ (l : Link) (ok : Accepted (l .plan)) (below : l .current < positions (l
 pub goes-on-as-fresh : GoesOnAsFresh
 unfolding renewed fresh
 goes-on-as-fresh l ok below e words =
-    let g = if-granted l e in
-    ap (λ x. answersTo (x .link) words) (g .is)
-    ∙ answers-alike (now l ok below (g .passes)) words (pair (now l ok below (g .passes)) (renewed l) (freshAt (l .plan) (l .current)))
-    (alike l ok below (g .passes))
+    let was-quiet = granted-quiet l e in
+    let q = quiet-parts l was-quiet in
+    ap (λ s. answersTo (s .link) words) (quiet-granted l was-quiet)
+    ∙ answers-alike l (now l ok below q) words (pair l (now l ok below q) (renewed l) (freshAt (l .plan) (l .current))) (alike l ok below q)
 
 -- ---- a second reset
 
-module _ (l : Link) (below : l .current < positions (l .plan)) (granted : ResetPasses l) where
+module _ (l : Link) (below : l .current < positions (l .plan)) (found : Quiet l) where
   open Link l using (plan as P)
 
   emptied : (q : ℕ) → q < positions P → owner (renewed l) q ≡ none
@@ -114,7 +106,7 @@ module _ (l : Link) (below : l .current < positions (l .plan)) (granted : ResetP
         every-intro (positions P) _ (λ q h. or-true (not (later (window l) q (l .current))) _ (ap unbooked (emptied q h))),
         every-intro (flowCount P) _ (λ i known.
             ap (λ x. everyFrom (window l) (l .current) (λ q. eqb (getD (x .held) q 0) 0)) (from-head i known)
-            ∙ every-at (flowCount P) _ i (granted .none-held) known),
+            ∙ every-at (flowCount P) _ i (found .none-held) known),
       )
 
   nothing-new : renewed (renewed l) ≡ renewed l
@@ -126,8 +118,9 @@ module _ (l : Link) (below : l .current < positions (l .plan)) (granted : ResetP
 
 pub twice-is-once : TwiceIsOnce
 twice-is-once l below e =
-    let g = if-granted l e in
-    rw (g .is, quiet-granted (renewed l) (still-quiet l below (g .passes)), nothing-new l below (g .passes))
+    let was-quiet = granted-quiet l e in
+    let q = quiet-parts l was-quiet in
+    rw (quiet-granted l was-quiet, quiet-granted (renewed l) (still-quiet l below q), nothing-new l below q)
 
 -- ---- a fresh link
 

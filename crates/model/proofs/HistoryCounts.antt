@@ -16,6 +16,7 @@ use Rattle.model.specs.Calls.{Event, History, requested, credited, ticke
 use Rattle.model.specs.Request.{wordTests}
 use Rattle.model.specs.History.{Mark, ticks, frameOf, wellFormed, renews, origin, changes, marksOf, marksSince, grantAt, lendAt}
 use Rattle.model.specs.History.{grants, refusalsSince, lends, refusedIn}
+use Rattle.model.specs.Claim.{Each}
 use Rattle.model.proofs.Tests.{and-true}
 use Rattle.model.proofs.Tallies.{tally-append}
 use Rattle.model.proofs.Slots.{frame-stays, frame-changes, frames-go-on}
@@ -105,6 +106,21 @@ split-at-reset f test (e ∷ h) = go (renews e) (split-at-reset f test h)
         ≡ tally test (cond b [] (f e h ++ marksSince f h)) + tally test (cond b (f e h ++ marksOf f h) (marksBefore f h))
     go true rest = omega arith
     go false rest = omega (arith, tally-append test (f e h) (marksOf f h), tally-append test (f e h) (marksSince f h))
+
+-- ---- a list without a granted reset: both families of counts are over the whole list
+
+abbrev pub NoneGranted : History → Type 0
+NoneGranted = Each (λ e h. renews e ≡ false)
+
+pub since-the-start : (f : Event → History → List Mark) (h : History) → NoneGranted h → marksSince f h ≡ marksOf f h
+unfolding marksOf marksSince
+since-the-start f [] none = refl
+since-the-start f (e ∷ h) none = rw (none .0) (ap (f e h ++_) (since-the-start f h (none .1)))
+
+pub from-frame-0 : (P : Plan) (h : History) → NoneGranted h → origin P h ≡ 0
+unfolding origin
+from-frame-0 P [] none = refl
+from-frame-0 P (e ∷ h) none = rw (none .0) (from-frame-0 P h (none .1))
 
 -- ---- granted and lent slots
 

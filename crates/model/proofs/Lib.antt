@@ -24,6 +24,7 @@ pub mod HeldFrom
 pub mod BookingKeeps
 pub mod CreditKeeps
 pub mod LendKeeps
+pub mod ResetTests
 pub mod ResetKeeps
 pub mod UnbookedSlots
 pub mod SearchedFrames
@@ -52,7 +53,7 @@ pub mod Buffer
 pub mod TwoHops
 pub mod RequestsAlike
 pub mod AsFresh
--- edges, cards that demand 3 sends back, a stream that meets the premise of the least count, and what the premise on tiles is for
+-- edges, cards that demand 3 sends back, streams that meet the premise of the least count, and what the premise on tiles is for
 pub mod Unfoldings
 pub mod Edges
 pub mod Decidable

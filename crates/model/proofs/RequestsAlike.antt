@@ -13,30 +13,32 @@ use borrow.Author.Tests.{ltb-true, leb-false, not-false}
 use Rattle.model.specs.Tables.{ahead}
 use Rattle.model.specs.Refusals.{firstOf}
 use Rattle.model.specs.Word.{flowOf, departureOf, depart}
-use Rattle.model.specs.Plan.{Plan, positions, flowCount, entry}
+use Rattle.model.specs.Plan.{positions, flowCount, entry}
 use Rattle.model.specs.Calls.{Grant, accepted, refused}
 use Rattle.model.specs.Window.{Window, start, newest, fromOn}
-use Rattle.model.specs.Link.{Link, Flow, Step, owner, flow, holding, share, cells, withFlow}
+use Rattle.model.specs.Link.{Link, Flow, Step, window, linkWith, owner, flow, holding, share, cells, withFlow}
 use Rattle.model.specs.Request.{Found, found, nowhere, wordTests, unbooked, valid, canLeave, validFor, search, sought}
 use Rattle.model.specs.Request.{wouldBeValid, newestTests, booked, refusedAtNewest, answered, requestAfter, request}
 use Rattle.model.specs.Holding.{InWindow}
 use Rattle.model.specs.AsFresh.{answersTo}
 use Rattle.model.proofs.Tests.{and-false, any-same, line-passed}
 use Rattle.model.proofs.Slots.{some-frame, some-position, slotAt, slotAt-in-window, slotAt-position}
-use Rattle.model.proofs.Window.{Current, windowOf, passed-is, everyFrom-same}
+use Rattle.model.proofs.Window.{Current, passed-is, everyFrom-same}
 use Rattle.model.proofs.LinkUpdates.{owner-withOwners, flow-same, flow-other, heldFrom-at}
 use Rattle.model.proofs.SearchedFrames.{in-window, search-same, found-below}
 
-module _ {P : Plan} {t c : ℕ} (now : Current P t c) where
+-- Both links are this one with other owners, other flows and another mark.
+module _ (base : Link) {t : ℕ} (now : Current (base .plan) t (base .current)) where
+  open Link base using (plan as P)
   open Current now using (accepted as ok)
 
   abbrev T : ℕ
   T = positions P
 
   abbrev w : Window
-  w = windowOf P c
+  w = window base
 
-  -- two links with this plan and this CP
+  -- what they have
   pub record Pair : Type 0 where
     pub owners : List (Option ℕ)
     pub owners′ : List (Option ℕ)
@@ -46,12 +48,12 @@ module _ {P : Plan} {t c : ℕ} (now : Current P t c) where
     pub taken′ : Bool
 
   abbrev pub first : Pair → Link
-  first x = record { plan = P; current = c; owners = x .owners; flows = x .flows; taken = x .taken }
+  first x = linkWith base (base .current) (x .owners) (x .flows) (x .taken)
 
   abbrev pub second : Pair → Link
-  second x = record { plan = P; current = c; owners = x .owners′; flows = x .flows′; taken = x .taken′ }
+  second x = linkWith base (base .current) (x .owners′) (x .flows′) (x .taken′)
 
-  -- the pair of two links
+  -- what two links have
   abbrev pub pair : Link → Link → Pair
   pair k l = record { owners = k .owners; owners′ = l .owners; flows = k .flows; flows′ = l .flows; taken = k .taken; taken′ = l .taken }
 

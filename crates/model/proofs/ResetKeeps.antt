@@ -9,15 +9,14 @@ use native.Mathlib.Decide.{decLt}
 use native.Mathlib.Omega.{arith}
 use borrow.Author.Tests.{lt-ltb, ne-eqb, not-false}
 use Rattle.model.specs.Tables.{tally}
-use Rattle.model.specs.Refusals.{firstOf}
 use Rattle.model.specs.Plan.{positions}
 use Rattle.model.specs.Window.{later}
 use Rattle.model.specs.Link.{Link, window, owner}
 use Rattle.model.specs.Request.{unbooked}
-use Rattle.model.specs.Reset.{noneBooked, noneHeld, resetTests, fromHead, renewed}
+use Rattle.model.specs.Reset.{noneBooked, fromHead, renewed}
 use Rattle.model.specs.History.{frameOf, atSlot}
 use Rattle.model.specs.Holding.{frameStart, InWindow}
-use Rattle.model.proofs.Tests.{and-true, or-false, line-passed}
+use Rattle.model.proofs.Tests.{or-false}
 use Rattle.model.proofs.Tables.{every-at}
 use Rattle.model.proofs.Tallies.{all-map, tally-none}
 use Rattle.model.proofs.Slots.{some-frame, some-position, current-in-window}
@@ -26,17 +25,7 @@ use Rattle.model.proofs.LinkUpdates.{owner-withOwners, flow-withFlows}
 use Rattle.model.proofs.SlotOwners.{ownerIn, unowned, unbooked-none}
 use Rattle.model.proofs.Invariant.{Ledger, atReset, Injects, Holds, Owned, Invariant}
 
--- the link is quiet
-pub record ResetPasses (l : Link) : Type 0 where
-  pub none-booked : noneBooked l ≡ true
-  pub none-held : noneHeld l ≡ true
-
-pub reset-passes : (l : Link) → firstOf (resetTests l) ≡ 0 → ResetPasses l
-reset-passes l e =
-    let both = and-true (noneBooked l) (noneHeld l) (not-false _ (line-passed _ 22 _ e .0)) in
-    record { none-booked = both .0; none-held = both .1 }
-
-module _ {l : Link} {L : Ledger} (v : Invariant l L) (booked : noneBooked l ≡ true) where
+module _ {l : Link} {L : Ledger} (v : Invariant l L) (empty : noneBooked l ≡ true) where
   open Link l using (plan as P)
   open Ledger L using (now as t)
   open Current (v .current) using (accepted as ok)
@@ -53,7 +42,7 @@ module _ {l : Link} {L : Ledger} (v : Invariant l L) (booked : noneBooked l ≡ 
       go (yes below) =
           let w : InWindow P t s = record { low = omega (arith, current-in-window ok t .low); high = below } in
           let later-on : later (window l) (s % T) (l .current) ≡ true = later-than-current (v .current) s w ∙ lt-ltb t s lt in
-          let test = every-at T (λ q. not (later (window l) q (l .current)) || unbooked (owner l q)) (s % T) booked (mod-lt s (some-position ok)) in
+          let test = every-at T (λ q. not (later (window l) q (l .current)) || unbooked (owner l q)) (s % T) empty (mod-lt s (some-position ok)) in
           let free : unbooked (owner l (s % T)) ≡ true = rw later-on at test in
           unowned s (L .grants) .0 (sym (v .bookings .owners-are s w) ∙ unbooked-none (owner l (s % T)) free)
       go (no past) =

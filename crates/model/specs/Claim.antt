@@ -18,7 +18,7 @@
 -- - lends refused that should be answered, and with which number; a mark that stands past the tick, or that a refused lend sets; a lent slot booked in
 --   the table of owners; what is held of a lent slot in slots that are gone, or in the current one;
 -- - resets refused that should be granted; one granted over cells that are held, where they stay held; and a remainder C that a reset leaves as it
---   was, as the least count begins after the frame of the reset.
+--   was, since the least count is that of the frames after the one of the reset.
 use Prim.Native.Nat.{ℕ, _+_, _-_, _*_, _^_, _≤_, _<_}
 use mathlib.Core.Path.{_≡_}
 use mathlib.Core.Logic.{_↔_}

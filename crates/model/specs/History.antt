@@ -1,6 +1,6 @@
 -- What is counted over the events of a list of calls. Document 01, "What demand 3 counts"; document 02, N1, N4 and N6. It names no link. Assumes nothing.
 --
--- Counts are of two families: over the whole list; and since the last granted reset, "the most and least counts begin afresh".
+-- Counts are of two families: over the whole list, and since the last granted reset, after which "the most and least counts begin afresh".
 use Prim.Native.Nat.{ℕ, suc, _+_, _/_, _%_, _<_}
 use mathlib.Core.List.{List, _∷_, [], _++_}
 use mathlib.Core.Bool.{Bool, true, false, _&&_, cond}
