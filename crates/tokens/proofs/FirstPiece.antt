@@ -5,13 +5,14 @@ use mathlib.Core.List.{List, _∷_, []}
 use mathlib.Core.Bool.{Bool, true, false, cond}
 use native.Mathlib.Omega.{arith}
 use lib.ListN.{length, getD, take, drop, drop-of-length-le}
+use lib.Dec.{eqb}
 use borrow.Author.Tests.{eqb-true, eq-eqb, ne-eqb}
-use Rattle.tokens.specs.Pieces.{isSpace, before, pieces, tail, fieldsOf, pieceLength}
+use Rattle.tokens.specs.Pieces.{isSpace, before, pieces, tail, fieldsOf, lengthBefore, pieceLength}
 use Rattle.tokens.proofs.FromPlace.{from-place}
 
 -- the first piece stands before the first space, and the others after it
 pub first-piece : (l : List ℕ) → pieces l ≡ take (pieceLength l) l ∷ fieldsOf (drop (pieceLength l) l)
-unfolding pieces pieceLength
+unfolding pieces lengthBefore
 first-piece [] = refl
 first-piece (b ∷ rest) = go (isSpace b) refl (first-piece rest)
   where
@@ -20,49 +21,51 @@ first-piece (b ∷ rest) = go (isSpace b) refl (first-piece rest)
     go true e more = simp e
     go false e more = rw e (ap (before b) more)
 
--- ---- a piece's bytes, one by one
+-- ---- the bytes before a mark, one by one
 
--- where a piece ends that starts at `from`, seen from a place in it
-pub record InPiece (l : List ℕ) (from at : ℕ) : Type 0 where
-  pub end : at + pieceLength (drop at l) ≡ from + pieceLength (drop from l)
+-- where the mark is that comes after `from`, seen from a place before it
+pub record BeforeMark (mark : ℕ) (l : List ℕ) (from at : ℕ) : Type 0 where
+  pub end : at + lengthBefore mark (drop at l) ≡ from + lengthBefore mark (drop from l)
 
-pub piece-starts : (l : List ℕ) (from : ℕ) → InPiece l from from
-piece-starts l from = record { end = refl }
+pub search-starts : (mark : ℕ) (l : List ℕ) (from : ℕ) → BeforeMark mark l from from
+search-starts mark l from = record { end = refl }
 
-module _ {l : List ℕ} {from at : ℕ} (s : InPiece l from at) where
-  length-there : at < length l → pieceLength (drop at l) ≡ cond (isSpace (getD l at 0)) 0 (suc (pieceLength (drop (at + 1) l)))
-  unfolding pieceLength
-  length-there h = ap pieceLength (from-place l at h)
+module _ {mark : ℕ} {l : List ℕ} {from at : ℕ} (s : BeforeMark mark l from at) where
+  length-there : at < length l → lengthBefore mark (drop at l) ≡ cond (eqb (getD l at 0) mark) 0 (suc (lengthBefore mark (drop (at + 1) l)))
+  unfolding lengthBefore
+  length-there h = ap (lengthBefore mark) (from-place l at h)
 
-  pub piece-goes-on : at < length l → (getD l at 0 ≡ 32 → ⊥) → InPiece l from (at + 1)
-  piece-goes-on h n =
-      let one-more : pieceLength (drop at l) ≡ suc (pieceLength (drop (at + 1) l)) =
-      length-there h ∙ ap (λ t. cond t 0 (suc (pieceLength (drop (at + 1) l)))) (ne-eqb _ _ n) in
+  pub search-goes-on : at < length l → (getD l at 0 ≡ mark → ⊥) → BeforeMark mark l from (at + 1)
+  search-goes-on h n =
+      let one-more : lengthBefore mark (drop at l) ≡ suc (lengthBefore mark (drop (at + 1) l)) =
+      length-there h ∙ ap (λ t. cond t 0 (suc (lengthBefore mark (drop (at + 1) l)))) (ne-eqb _ _ n) in
       record { end = omega (arith, s .end) }
 
-  pub ends-at-space : at < length l → getD l at 0 ≡ 32 → at ≡ from + pieceLength (drop from l)
-  ends-at-space h e =
-      let none : pieceLength (drop at l) ≡ 0 = length-there h ∙ ap (λ t. cond t 0 (suc (pieceLength (drop (at + 1) l)))) (eq-eqb _ _ e) in
+  pub mark-there : at < length l → getD l at 0 ≡ mark → at ≡ from + lengthBefore mark (drop from l)
+  mark-there h e =
+      let none : lengthBefore mark (drop at l) ≡ 0 = length-there h ∙ ap (λ t. cond t 0 (suc (lengthBefore mark (drop (at + 1) l)))) (eq-eqb _ _ e) in
       omega (arith, s .end)
 
-  pub ends-at-end : length l ≤ at → at ≡ from + pieceLength (drop from l)
-  unfolding pieceLength
-  ends-at-end h =
-      let none : pieceLength (drop at l) ≡ 0 = ap pieceLength (drop-of-length-le l h) in
+  pub no-mark : length l ≤ at → at ≡ from + lengthBefore mark (drop from l)
+  unfolding lengthBefore
+  no-mark h =
+      let none : lengthBefore mark (drop at l) ≡ 0 = ap (lengthBefore mark) (drop-of-length-le l h) in
       omega (arith, s .end)
 
--- a piece ends within the line, before a space or at the line's end
-pub piece-within : (l : List ℕ) → pieceLength l ≤ length l
-unfolding pieceLength
-piece-within [] = omega arith
-piece-within (b ∷ rest) = go (isSpace b) refl (piece-within rest)
+-- what stands before a mark lies within the list
+pub before-within : (mark : ℕ) (l : List ℕ) → lengthBefore mark l ≤ length l
+unfolding lengthBefore
+before-within mark [] = omega arith
+before-within mark (b ∷ rest) = go (eqb b mark) refl (before-within mark rest)
   where
-    go : (t : Bool) → isSpace b ≡ t → pieceLength rest ≤ length rest → pieceLength (b ∷ rest) ≤ length (b ∷ rest)
+    go : (t : Bool) → eqb b mark ≡ t → lengthBefore mark rest ≤ length rest → lengthBefore mark (b ∷ rest) ≤ length (b ∷ rest)
     go true e h = rw e (omega arith)
     go false e h = rw e (omega arith)
 
+-- a piece ends before a space or at the line's end
+
 pub piece-before-space : (l : List ℕ) → pieceLength l < length l → getD l (pieceLength l) 0 ≡ 32
-unfolding pieceLength
+unfolding lengthBefore
 piece-before-space [] h = absurd (omega arith)
 piece-before-space (b ∷ rest) h = go (isSpace b) refl (piece-before-space rest)
   where

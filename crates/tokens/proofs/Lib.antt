@@ -3,4 +3,6 @@ pub mod EachByte
 pub mod DigitValues
 pub mod FirstPiece
 pub mod NumbersRead
+pub mod NumbersCounted
 pub mod BytesRead
+pub mod KeptFirst

@@ -12,7 +12,7 @@ use Rattle.tokens.specs.declared.Number.{Number}
 use Rattle.tokens.specs.declared.Found.{Found}
 use Rattle.tokens.specs.Pieces.{pieces, tail, fieldsOf, pieceLength}
 use Rattle.tokens.specs.Decimal.{numberOf, numberThen, numbersIn, more, foundThen, foundIn}
-use Rattle.tokens.proofs.FirstPiece.{first-piece, piece-within, piece-before-space, after-space}
+use Rattle.tokens.proofs.FirstPiece.{first-piece, before-within, piece-before-space, after-space}
 
 -- ---- so many numbers more
 
@@ -39,7 +39,7 @@ pub record ReadTo (line kept₀ kept : List ℕ) (count at : ℕ) : Type 0 where
 -- where a piece ends that starts at a place of the line
 module _ (line : List ℕ) (from end : ℕ) (start : from ≤ length line) (ends : end ≡ from + pieceLength (drop from line)) where
   pub end-inside : end ≤ length line
-  end-inside = omega (arith, ends, piece-within (drop from line), length-drop from line)
+  end-inside = omega (arith, ends, before-within 32 (drop from line), length-drop from line)
 
   pub end-on-space : end < length line → getD line end 0 ≡ 32
   end-on-space h =

@@ -27,10 +27,13 @@ tail (x ∷ rest) = rest
 abbrev pub fieldsOf : List ℕ → List (List ℕ)
 fieldsOf line = tail (pieces line)
 
--- how many bytes stand before the first space
-unfoldable pub pieceLength : List ℕ → ℕ
-pieceLength [] = 0
-pieceLength (b ∷ rest) = cond (isSpace b) 0 (suc (pieceLength rest))
+-- how many bytes stand before the first that is a mark
+unfoldable pub lengthBefore : (mark : ℕ) → List ℕ → ℕ
+lengthBefore mark [] = 0
+lengthBefore mark (b ∷ rest) = cond (eqb b mark) 0 (suc (lengthBefore mark rest))
+
+abbrev pub pieceLength : List ℕ → ℕ
+pieceLength line = lengthBefore (code " ") line
 
 -- a line's word, and what stands after it and one space
 abbrev pub wordOf : List ℕ → List ℕ

@@ -8,6 +8,7 @@ ghost use Rattle.model.specs.Tables.{within};
 pub use decimal::read_number;
 pub use decimal::read_numbers;
 pub use hexadecimal::read_bytes;
+pub use pieces::mark_place;
 pub use pieces::piece_end;
 
 // The most digits of a number.

@@ -1,0 +1,2 @@
+pub mod LineAnswers
+pub mod KeptLines

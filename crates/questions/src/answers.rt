@@ -1,0 +1,55 @@
+// The answer to a line.
+ghost use Prim.Native.Nat.{_≤_};
+ghost use mathlib.Core.Path.{_≡_};
+ghost use lib.ListN.{length};
+ghost use Rattle.tokens.specs.Pieces.{fieldsOf, wordOf};
+ghost use Rattle.tokens.specs.Decimal.{numbersIn, foundIn};
+ghost use Rattle.replies.specs.Lines as said;
+ghost use Rattle.questions.specs.Answers as answers;
+use crate::LONGEST;
+use crate::ROOM;
+use crate::words;
+use crate::words::NumberWord;
+use crate::words::Word;
+use tokens::Found;
+
+// Reads the numbers after a word that asks for some, and answers them.
+fn answer_counted(word: NumberWord, line: &[u8], out: &mut [u8]) -> usize
+    requires { ⌜ (length (now line) ≤ 4000) × (said.room ≤ length (now out)) ⌝ }
+    ensures { λ r. ⌜ said.Says (answers.numbersLine (foundIn (fieldsOf (now (line .entry)))) word (numbersIn (fieldsOf (now (line .entry))))) (now (out .entry)) (now (out .exit)) r ⌝ }
+{
+    let mut numbers = [0usize; LONGEST];
+    let found = tokens::read_numbers(line, &mut numbers);
+    match found {
+        Found::Wrong(fault) => replies::say_fault(fault, out),
+        Found::Count(count) => words::answer_numbers(word, &numbers[..count], out),
+    }
+}
+
+// Answers a line that is short enough.
+fn answer_short(line: &[u8], out: &mut [u8]) -> usize
+    requires { ⌜ (length (now line) ≤ 4000) × (said.room ≤ length (now out)) ⌝ }
+    ensures { λ r. ⌜ said.Says (answers.answerTo (answers.wordFor (wordOf (now (line .entry)))) (now (line .entry))) (now (out .entry)) (now (out .exit)) r ⌝ }
+{
+    let end = tokens::piece_end(line, 0);
+    let word = words::named(&line[..end]);
+    match word {
+        Word::OfNumbers(number_word) => answer_counted(number_word, line, out),
+        Word::Read => planwords::read(line, out),
+        Word::Unknown => replies::say(b"? there is no such word\n", out),
+    }
+}
+
+// Writes the answer to a line, which is given without its newline, to the start of `out`; how many bytes it has. Where `out` has less than ROOM, nothing
+// is written.
+pub fn answer(line: &[u8], out: &mut [u8]) -> usize
+    ensures { λ r. ⌜ said.Says (answers.answerIn (now (line .entry)) (now (out .entry))) (now (out .entry)) (now (out .exit)) r ⌝ }
+{
+    if out.len() < ROOM {
+        return 0;
+    }
+    if LONGEST < line.len() {
+        return replies::say(b"? the line has more than 4,000 bytes\n", out);
+    }
+    answer_short(line, out)
+}
