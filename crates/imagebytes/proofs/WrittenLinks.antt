@@ -49,8 +49,8 @@ module _ (l : Link) where
   owners-are = map-table ownerField (sizeOf l) _ ∙ table-same (sizeOf l) _ _ (λ p _. owner-again (getD (l .owner) p 0))
 
   pub image-is : fields (headerOf (planFor (l .plan)) (l .cp) (l .taken)) ++ bytesOf (planFor (l .plan))
-          ++ fields (table (sizeOf l) (λ p. getD (l .owner) p 0))
-          ++ partsOf (sizeOf l) (l .flows) (l .held) (l .plan .count)
+      ++ fields (table (sizeOf l) (λ p. getD (l .owner) p 0))
+      ++ partsOf (sizeOf l) (l .flows) (l .held) (l .plan .count)
       ≡ imageOf (linkOf l)
   unfolding imageOf linkOf
   image-is =

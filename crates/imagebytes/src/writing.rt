@@ -86,7 +86,14 @@ fn put_plan(plan: Plan, image: &mut [u8], at: usize) -> usize
 }
 
 // Writes the part of flow i and returns the place after it.
-fn put_flow(flow: Flow, held: &Holdings, i: usize, size: usize, image: &mut [u8], at: usize) -> usize
+fn put_flow(
+    flow: Flow,
+    held: &Holdings,
+    i: usize,
+    size: usize,
+    image: &mut [u8],
+    at: usize,
+) -> usize
     requires { ⌜ PartFits flow i size (now image) at ⌝ }
     ensures { λ r. ⌜ Puts (partOf size flow (now (held .entry)) i) (now (image .entry)) (now (image .exit)) at r ⌝ }
 {
@@ -97,7 +104,14 @@ fn put_flow(flow: Flow, held: &Holdings, i: usize, size: usize, image: &mut [u8]
 }
 
 // Writes the parts of all flows and returns the place after them.
-fn put_flows(flows: [Flow; 16], held: &Holdings, count: usize, size: usize, image: &mut [u8], at: usize) -> usize
+fn put_flows(
+    flows: [Flow; 16],
+    held: &Holdings,
+    count: usize,
+    size: usize,
+    image: &mut [u8],
+    at: usize,
+) -> usize
     requires { ⌜ PartsFit flows count size (now image) at ⌝ }
     ensures { λ r. ⌜ Puts (partsOf size flows (now (held .entry)) count) (now (image .entry)) (now (image .exit)) at r ⌝ }
 {

@@ -3,10 +3,8 @@ use borrow.Author.Needs.{needs}
 use Prim.Native.Nat.{_+_, _*_}
 use mathlib.Core.Path.{_≡_, _∙_}
 use native.Mathlib.Omega.{arith}
-use lib.ListN.{length}
 use Rattle.calls.proofs.Stores.{puts-then, puts-same}
 use Rattle.link.specs.declared.Link.{Link}
-use Rattle.link.specs.Layout.{sizeOf}
 use Rattle.link.proofs.Readings.{size-most}
 use Rattle.imagebytes.proofs.WrittenLinks.{image-is, header-ends, plan-ends, owners-end, written-is, room, parts-fit}
 use Rattle.imagebytes.proofs.writing.write.Statement.{statement}
@@ -26,19 +24,11 @@ header-at c = c .before .before .before .before
 abbrev plan-at : tie.After-put-table → tie.After-put-plan
 plan-at c = c .before .before .before .before .before .before
 
--- ---- what is known where the plan is written
-
-module _ (c : tie.After-put-plan) where
-  plan-end : c .put-plan .result ≡ 28 + 4 * link-at (header-at c) .plan .count
-  plan-end =
-      omega (
-        arith,
-        header-ends (link-at (header-at c)) (header-at c .put-header .ensures),
-        plan-ends (link-at (header-at c)) (c .put-plan .ensures),
-      )
-
-  plan-long : length (c .put-plan .last .1 .0) ≡ length (entered (header-at c) .args .image .now)
-  plan-long = c .put-plan .ensures .length-stays ∙ header-at c .put-header .ensures .length-stays
+-- the place after the plan
+plan-end : (c : tie.After-put-plan) → c .put-plan .result ≡ 28 + 4 * link-at (header-at c) .plan .count
+plan-end c =
+    let h = header-at c in
+    omega (arith, header-ends (link-at h) (h .put-header .ensures), plan-ends (link-at h) (c .put-plan .ensures))
 
 mul-size : tie.Need-mul-size
 mul-size c = search needs
@@ -57,7 +47,7 @@ put-table-requires c κs =
     let p = c .before .before .before .before .before in
     let h = header-at p in
     let s = entered h in
-    (size-most (link-at h) (s .pre .sound), omega (arith, plan-end p, room (s .pre), plan-long p))
+    (size-most (link-at h) (s .pre .sound), omega (arith, plan-end p, room (s .pre), p .put-plan .ensures .length-stays, h .put-header .ensures .length-stays))
 
 put-flows-requires : tie.Need-put-flows-requires
 put-flows-requires c κs =
@@ -65,7 +55,8 @@ put-flows-requires c κs =
     let p = plan-at o in
     let h = header-at p in
     let at = owners-end (link-at h) (o .put-table .ensures) in
-    parts-fit (entered h .pre) (o .put-table .ensures .length-stays ∙ plan-long p) _ (omega (arith, plan-end p))
+    let long = o .put-table .ensures .length-stays ∙ p .put-plan .ensures .length-stays ∙ h .put-header .ensures .length-stays in
+    parts-fit (entered h .pre) long _ (omega (arith, plan-end p))
 
 same-length : tie.Need-same-length
 same-length c = search needs
