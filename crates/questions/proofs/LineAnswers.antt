@@ -62,17 +62,21 @@ module _ (line out : List ℕ) where
   unfolding answerIn
   no-room h = rw (lt-leb room (length out) h)
 
+  -- what a line is answered where it is too long, and where not
+  abbrev byLength : Bool → List ℕ
+  byLength t = cond t (cannot "the line has more than 4,000 bytes") (answerTo (wordFor (wordOf line)) line)
+
   has-room : room ≤ length out → answerOf line ≡ answerIn line out
   unfolding answerIn
   has-room h = rw (le-leb room (length out) h)
 
   pub too-long : room ≤ length out → 4000 < length line → cannot "the line has more than 4,000 bytes" ≡ answerIn line out
   unfolding answerOf
-  too-long r h = sym (ap (λ t. cond t (cannot "the line has more than 4,000 bytes") (answerTo (wordFor (wordOf line)) line)) (lt-ltb 4000 (length line) h)) ∙ has-room r
+  too-long r h = sym (ap byLength (lt-ltb 4000 (length line) h)) ∙ has-room r
 
   pub short-enough : room ≤ length out → length line ≤ 4000 → answerTo (wordFor (wordOf line)) line ≡ answerIn line out
   unfolding answerOf
-  short-enough r h = sym (ap (λ t. cond t (cannot "the line has more than 4,000 bytes") (answerTo (wordFor (wordOf line)) line)) (le-ltb 4000 (length line) h)) ∙ has-room r
+  short-enough r h = sym (ap byLength (le-ltb 4000 (length line) h)) ∙ has-room r
 
 -- of a line that is too long one byte too many is enough
 pub kept-answer : (line out : List ℕ) → answerIn (take 4001 line) out ≡ answerIn line out

@@ -2,8 +2,7 @@
 ghost use Prim.Native.Nat.{_≤_};
 ghost use mathlib.Core.Path.{_≡_};
 ghost use lib.ListN.{length};
-ghost use Rattle.tokens.specs.Pieces.{fieldsOf, wordOf};
-ghost use Rattle.tokens.specs.Decimal.{numbersIn, foundIn};
+ghost use Rattle.tokens.specs.Pieces.{wordOf};
 ghost use Rattle.replies.specs.Lines as said;
 ghost use Rattle.questions.specs.Answers as answers;
 use crate::LONGEST;
@@ -16,7 +15,7 @@ use tokens::Found;
 // Reads the numbers after a word that asks for some, and answers them.
 fn answer_counted(word: NumberWord, line: &[u8], out: &mut [u8]) -> usize
     requires { ⌜ (length (now line) ≤ 4000) × (said.room ≤ length (now out)) ⌝ }
-    ensures { λ r. ⌜ said.Says (answers.numbersLine (foundIn (fieldsOf (now (line .entry)))) word (numbersIn (fieldsOf (now (line .entry))))) (now (out .entry)) (now (out .exit)) r ⌝ }
+    ensures { λ r. ⌜ said.Says (answers.answerTo (Word.OfNumbers word) (now (line .entry))) (now (out .entry)) (now (out .exit)) r ⌝ }
 {
     let mut numbers = [0usize; LONGEST];
     let found = tokens::read_numbers(line, &mut numbers);

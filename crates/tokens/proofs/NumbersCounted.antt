@@ -38,7 +38,8 @@ unfolding pieces
 pieces-few [] = omega arith
 pieces-few (b ∷ rest) = go (isSpace b) refl (pieces rest) refl (pieces-few rest)
   where
-    go : (t : Bool) → isSpace b ≡ t → (ps : List (List ℕ)) → pieces rest ≡ ps → length (pieces rest) ≤ suc (length rest) → length (pieces (b ∷ rest)) ≤ suc (suc (length rest))
+    go : (t : Bool) → isSpace b ≡ t → (ps : List (List ℕ)) → pieces rest ≡ ps → length (pieces rest) ≤ suc (length rest)
+        → length (pieces (b ∷ rest)) ≤ suc (suc (length rest))
     go true e ps q h = rw e (omega arith)
     go false e [] q h = rw (e, q) (omega arith)
     go false e (p ∷ ps) q h = rw (e, q) (omega (arith, rw q at h))

@@ -34,7 +34,8 @@ fed-at c = c .before .before .before .before .before .before
 some-left : (c : tie.Then1 Inv-loop μ-loop) → loop-at c .loop .at < length (piece-at (loop-at c))
 some-left c = ltb-true _ _ (c .if1 .taken)
 
-rest-length : (c : tie.At-loop Inv-loop μ-loop) → length (take (length (piece-at c) - c .loop .at) (drop (c .loop .at) (piece-at c))) ≡ length (piece-at c) - c .loop .at
+rest-length : (c : tie.At-loop Inv-loop μ-loop)
+    → length (take (length (piece-at c) - c .loop .at) (drop (c .loop .at) (piece-at c))) ≡ length (piece-at c) - c .loop .at
 rest-length c =
     length-take-le (length (piece-at c) - c .loop .at) (drop (c .loop .at) (piece-at c)) (omega (arith, length-drop (c .loop .at) (piece-at c)))
 

@@ -10,7 +10,7 @@ use Rattle.tokens.specs.declared.Found.{Found}
 use Rattle.tokens.specs.Pieces.{fieldsOf}
 use Rattle.tokens.specs.Decimal.{numbersIn, foundIn}
 use Rattle.replies.proofs.PutOn.{says-same}
-use Rattle.questions.specs.Answers.{answerToNumbers, numbersLine}
+use Rattle.questions.specs.Answers.{answerToNumbers, numbersLine, answerTo}
 use Rattle.questions.proofs.LineAnswers.{count-fits, numbers-kept}
 use Rattle.questions.proofs.answers.answer_counted.Statement.{statement}
 use Rattle.questions.proofs.answers.answer_counted.Tie as tie
@@ -73,6 +73,7 @@ same-length : tie.Need-same-length
 same-length c = search needs
 
 returns : tie.Need-returns
+unfolding answerTo
 returns c =
     let said = c .before .before in
     let fault = said .before .before .before in
@@ -85,6 +86,7 @@ same-length-2 : tie.Need-same-length-2
 same-length-2 c = search needs
 
 returns-2 : tie.Need-returns-2
+unfolding answerTo
 returns-2 c =
     let said = c .before .before in
     let numbers = said .before .before .before in

@@ -64,7 +64,8 @@ unfolding answerTo
 returns c =
     let said = c .before .before in
     let told = said .before .before .before in
-    says-same (ap (λ w. answerTo w (line-of (told .before .before))) (sym (told .word .given .1) ∙ word-is (told .before .before))) (said .answer-counted .ensures)
+    let named = told .before .before in
+    says-same (ap (λ w. answerTo w (line-of named)) (sym (told .word .given .1) ∙ word-is named)) (said .answer-counted .ensures)
 
 same-length-2 : tie.Need-same-length-2
 same-length-2 c = search needs
