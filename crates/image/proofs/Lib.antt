@@ -1,0 +1,5 @@
+-- a buffer that is turned back, and a call that is made
+pub mod TurnedBack
+pub mod Stepping
+pub mod FreshImages
+pub mod LentImages
