@@ -3,7 +3,7 @@ use Prim.Native.Nat.{ℕ, _+_, _*_, _≤_, _<_}
 use mathlib.Core.Path.{_≡_, sym, ap, ap₂, _∙_, subst}
 use mathlib.Core.List.{List}
 use mathlib.Core.Option.{none}
-use mathlib.Core.Bool.{true}
+use mathlib.Core.Bool.{Bool, true}
 use native.Mathlib.Decide.{decLt, ℕ-discrete}
 use native.Mathlib.Omega.{arith}
 use lib.ListN.{length, getD}
@@ -16,7 +16,10 @@ use Rattle.model.specs.Link as paper
 use Rattle.plan.specs.declared.Plan.{Plan}
 use Rattle.plan.specs.Reading.{planFor, Valid}
 use Rattle.window.proofs.Tabulated.{getD-table, table-same}
-use Rattle.tables.specs.Owners.{nobody, ownerOf}
+use Rattle.window.specs.declared.Window.{Window}
+use Rattle.window.specs.Window.{windowOf, Measures}
+use Rattle.unbooked.specs.Words.{Words}
+use Rattle.tables.specs.Owners.{nobody, ownerOf, WordsOf}
 use Rattle.tables.specs.Rows.{row}
 use Rattle.link.specs.declared.Flow.{Flow}
 use Rattle.link.specs.declared.Link.{Link}
@@ -47,15 +50,31 @@ known-most n x e few = go (ℕ-discrete x 16)
     go (no d) = omega (arith, ltb-true x n (sym (flow-known n x d) ∙ e))
 
 -- the link as it is made
-abbrev pub linkRead : List ℕ → Plan → Layout → Link
-linkRead b p y = record {
+abbrev linkRead : List ℕ → Plan → Layout → (unbooked : List ℕ) → Link
+linkRead b p y u = record {
   plan = p;
   cp = field16 b 12;
   owner = ownersFrom b y;
+  unbooked = u;
   flows = flowsFrom b y;
   held = heldFrom b y;
   taken = eqb (field16 b 14) 1;
 }
+
+-- the words of a window are those of its plan
+pub words-read : (w : Window) {F W current : ℕ} {t : ℕ → Bool} {words : List ℕ} → windowOf w ≡ record { slots = F; frames = W; current = current }
+    → Words (w .slots) (w .frames) t words → Words F W t words
+words-read w {t = t} {words = words} is = subst (λ x. Words (x .slots) (x .frames) t words) is
+
+-- what of an image is stored
+pub record Stored (b : List ℕ) (p : Plan) (y : Layout) (l : Link) : Type 0 where
+  pub plan-is : l .plan ≡ p
+  pub cp-is : l .cp ≡ field16 b 12
+  pub owner-is : l .owner ≡ ownersFrom b y
+  pub flows-are : l .flows ≡ flowsFrom b y
+  pub held-is : l .held ≡ heldFrom b y
+  pub taken-is : l .taken ≡ eqb (field16 b 14) 1
+  pub words : WordsOf (p .slots) (p .frames) (l .owner) (l .unbooked)
 
 module _ {b : List ℕ} (t : Taken b) (p : Plan) (v : Valid p) (is : planFor p ≡ planIn b) (y : Layout) (laid : LaidOut (planFor p) y) where
   abbrev P : model.Plan
@@ -146,14 +165,24 @@ module _ {b : List ℕ} (t : Taken b) (p : Plan) (v : Valid p) (is : planFor p �
     bytes = λ i q h l. holding-most i (omega (arith, count)) q (omega (arith, size-is laid));
   }
 
+  pub measures-read : Measures (p .slots) (p .frames) (field16 b 12)
+  measures-read = let a = v .accepted in record {
+    some-slot = a .some-slot;
+    slots-most = a .slots-most;
+    two-frames = a .two-frames;
+    frames-most = a .frames-most;
+    positions-most = a .positions-most;
+    current-below = met .current-below;
+  }
+
   -- ---- how it is read
 
   row-is : (i : ℕ) → i < p .count → (q : ℕ) → q < T → getD (rowFrom b y i) q 0 ≡ flowField b P i (2 + q)
   row-is i h q l = from-in b (partAt y i + 4) (y .size) 0 q (omega (arith, size-is laid)) (omega (arith, size-is laid, size-most)) ∙ holding-is i h q
 
-  pub read-link : linkOf (linkRead b p y) ≡ linkIn b
+  read-link : (u : List ℕ) → linkOf (linkRead b p y u) ≡ linkIn b
   unfolding linkOf linkIn
-  read-link =
+  read-link u =
       (λ k. record { plan = P; current = field16 b 12; owners = owners k; flows = flows k; taken = eqb (field16 b 14) 1 })
       ∙ ap (linkFrom b) is
     where
@@ -173,13 +202,14 @@ module _ {b : List ℕ} (t : Taken b) (p : Plan) (v : Valid p) (is : planFor p �
       flows : table (p .count) (λ i. flowOf T (flowRow (getD (flowsFrom b y) i noFlow) (row (heldFrom b y) i))) ≡ linkFrom b P .flows
       flows = table-same (p .count) _ (flowIn b P) flow ∙ ap (λ n. table n (flowIn b P)) (sym (count-is p))
 
-  pub sound-read : Sound (linkRead b p y)
-  sound-read = record {
+  sound-read : {u : List ℕ} → WordsOf (p .slots) (p .frames) (ownersFrom b y) u → Sound (linkRead b p y u)
+  sound-read words = record {
     plan = v;
     current = met .current-below;
     owners-long = length-from b (y .positions) (y .size) nobody;
     owners = λ q l some. owner q l some (decLt q T);
     spare-owners = λ q h l. from-past b (y .positions) (y .size) nobody q (omega (arith, size-is laid)) l;
+    unbooked = words;
     flows-long = length-flows b y few;
     held-long = length-held b y few;
     flows = λ i h.
@@ -198,3 +228,21 @@ module _ {b : List ℕ} (t : Taken b) (p : Plan) (v : Valid p) (is : planFor p �
           let x = fieldAt b (y .positions) q in
           rw here (ltb-true x (p .count) (sym (flow-known (p .count) x (λ z. some (here ∙ z))) ∙ owner-known q h))
       owner q l some (no h) = absurd (some (from-past b (y .positions) (y .size) nobody q (omega (arith, size-is laid)) l))
+
+  -- the link that is made
+  pub made-of : {l : Link} → Stored b p y l → (linkOf l ≡ linkIn b) × Sound l
+  made-of {l} e = subst (λ x. (linkOf x ≡ linkIn b) × Sound x) made (read-link (l .unbooked), sound-read words)
+    where
+      words : WordsOf (p .slots) (p .frames) (ownersFrom b y) (l .unbooked)
+      words = rw (e .owner-is) at (e .words)
+
+      made : linkRead b p y (l .unbooked) ≡ l
+      made k = record {
+        plan = sym (e .plan-is) k;
+        cp = sym (e .cp-is) k;
+        owner = sym (e .owner-is) k;
+        unbooked = l .unbooked;
+        flows = sym (e .flows-are) k;
+        held = sym (e .held-is) k;
+        taken = sym (e .taken-is) k;
+      }

@@ -9,8 +9,10 @@ use crate::flows::read_held;
 use fields::field;
 use fields::read_table;
 use link::Link;
+use tables::words::words_of;
 use taken::layout::layout_of;
 use taken::plans::plan_in;
+use window::positions::window;
 
 // The link of a taken image.
 pub fn read(image: &[u8]) -> Link
@@ -26,10 +28,13 @@ pub fn read(image: &[u8]) -> Link
     let held = read_held(image, l);
     let cp = field(image, 12);
     let mark = field(image, 14);
+    let w = window(plan.slots, plan.frames, cp);
+    let words = words_of(&owner, w);
     Link {
         plan,
         cp,
         owner,
+        unbooked: words,
         flows,
         held,
         taken: mark == 1,
