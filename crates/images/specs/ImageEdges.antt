@@ -49,6 +49,7 @@ lengthEdges =
     ∷ gives 22 (image (total 93 ∷ []) ++ (0 ∷ []))
     -- too small a length stated
     ∷ fault (total 90 ∷ [])
+    ∷ gives 22 (take 91 (image (total 90 ∷ [])))
     ∷ fault (total 4 ∷ [])
     ∷ fault (total 0 ∷ [])
     -- the other fields of the header, 264 with the low byte of 8
@@ -87,7 +88,10 @@ conditionEdges =
     ∷ fault (owner 7 2 ∷ [])
     ∷ fault (owner 7 15 ∷ [])
     ∷ fault (owner 7 17 ∷ [])
+    -- no byte of it is cut off: 256 is not flow 0, and 272 is not none
     ∷ fault (owner 7 256 ∷ [])
+    ∷ fault (owner 1 256 ∷ left 0 1 ∷ [])
+    ∷ fault (owner 7 272 ∷ [])
     ∷ fault (owner 0 65535 ∷ [])
     -- "its bookings in a frame are at most its share", those that have gone by too
     ∷ taken (frame 0 1 ∷ owner 1 0 ∷ owner 2 0 ∷ [])
@@ -99,7 +103,7 @@ conditionEdges =
     ∷ fault (owner 4 0 ∷ [])
     ∷ taken (cp 4 ∷ owner 5 0 ∷ owner 6 0 ∷ [])
     ∷ fault (cp 4 ∷ frame 0 1 ∷ owner 1 0 ∷ [])
-    -- "those in IF and C add to the share", with no wrapping and all 16 bits
+    -- "those in IF and C add to the share", by all 16 bits
     ∷ taken (owner 1 0 ∷ left 0 1 ∷ [])
     ∷ taken (owner 1 0 ∷ owner 2 0 ∷ left 0 0 ∷ [])
     ∷ fault (owner 1 0 ∷ [])
@@ -117,6 +121,9 @@ conditionEdges =
     ∷ fault (held 0 1 1 ∷ [])
     ∷ fault (owner 1 0 ∷ left 0 1 ∷ held 1 1 1 ∷ [])
     ∷ fault (owner 1 0 ∷ left 0 1 ∷ held 0 1 2 ∷ [])
+    -- also at the last position of the window
+    ∷ fault (held 0 7 1 ∷ [])
+    ∷ fault (cp 4 ∷ held 0 3 1 ∷ [])
     -- it may fall, and stay, anywhere
     ∷ taken (held 0 0 2 ∷ held 0 1 2 ∷ held 0 2 1 ∷ held 0 3 1 ∷ [])
     -- the position before CP + 1 is CP
@@ -162,6 +169,7 @@ exportEdges =
     ∷ freshly listing (room 91) (room 91) (refusalNumber 21)
     ∷ freshly listing [] [] (refusalNumber 21)
     ∷ freshly (plan2 4 2 3 2 2 2 2) (room 91) (room 91) (refusalNumber 7)
+    ∷ freshly (plan2 4 2 3 2 2 2 2) [] [] (refusalNumber 7)
     ∷ freshly (take 11 listing) (room 92) (room 92) (refusalNumber 1)
     -- the listing's calls: words, 12 times 2 to the power 32, 0 for the credit, flow 0 for the tick
     ∷ chained listing (room 95)
