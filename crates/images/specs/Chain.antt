@@ -6,7 +6,7 @@ use mathlib.Core.Option.{some, none}
 use mathlib.Core.Bool.{cond}
 use lib.ListN.{take}
 use lib.Dec.{ltb, eqb}
-use Rattle.model.specs.Calls.{Call, Answer, Event, History, requested, credited, ticked, lent, accepted, refused}
+use Rattle.model.specs.Calls.{Call, Answer, Turn, Event, History, requested, credited, ticked, lent, accepted, refused}
 use Rattle.images.specs.Image.{headerField}
 use Rattle.images.specs.Exports.{freshOn, calledOn}
 
@@ -16,10 +16,14 @@ use Rattle.images.specs.Exports.{freshOn, calledOn}
 abbrev pub answerOf : {A : Type 0} → A → ℕ → Answer A
 answerOf x number = cond (ltb number (2 ^ 32)) (accepted x) (refused (number / 2 ^ 32))
 
+-- a tick's: 16 for idle
+abbrev pub turnOf : ℕ → Turn
+turnOf number = cond (eqb number 16) none (some number)
+
 abbrev pub eventOf : Call → (number : ℕ) → Event
 eventOf (Call.request w) number = requested w (answerOf number number)
 eventOf (Call.credit i p) number = credited i p (answerOf tt number)
-eventOf Call.tick number = ticked (cond (eqb number 16) none (some number))
+eventOf Call.tick number = ticked (turnOf number)
 eventOf (Call.lend mask choice) number = lent mask (answerOf number number)
 
 -- ---- the chain
