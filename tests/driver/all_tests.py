@@ -5,7 +5,7 @@ import tempfile
 
 from demand3 import wrong_listings
 from driver import (
-    cases, plain_rust, question_cases, round_trips, wrong_answers)
+    c_side, cases, plain_rust, question_cases, round_trips, wrong_answers)
 from driver.formats import ALLCALLS
 from driver.side_by_side import made
 from driver.suite import Suite
@@ -16,11 +16,12 @@ from front_door import (
     asking_editor, old_program, plan_files, plan_lost_output, plan_read,
     plan_wrong_words, play_files, play_lost_output, slow_reader,
     wrong_arguments)
+from images import self_tests
 
 FRONT_DOOR = (play_files, play_lost_output, plan_files, plan_read,
               plan_wrong_words, plan_lost_output, old_program, slow_reader,
               asking_editor, wrong_arguments)
-REFUSALS = range(1, 20)         # those of all programs
+REFUSALS = range(1, 23)         # those of all programs
 
 
 def wanted(names, only):
@@ -64,6 +65,8 @@ def without_program(only):
     tests = itertools.chain(listings(), choices(), answers(), tables())
     for name, trouble in wanted(tests, only):
         suite.test(name, trouble)
+    for name, test in wanted(self_tests.tests(), only):
+        suite.test(name, test())
     return suite
 
 
@@ -147,11 +150,21 @@ def play_questions(suite, only, count, seed):
     return tally
 
 
-def play_all(domelink, allcalls, domeplan, only, count, seed):
+def play_library(library, only, count, seed):
+    """The C side alone, over another library.  The suites and the tallies."""
+    with tempfile.TemporaryDirectory() as folder:
+        suites = c_side.suites(library, folder, only, count, seed)
+        tallies = play_programs(
+            [suite for suite in suites if suite.command], only, count, seed)
+    return suites, tallies
+
+
+def play_all(domelink, allcalls, domeplan, library, only, count, seed):
     """All tests, those of the programs first.  The suites and the tallies."""
     apart = [without_program(only), front_door((domelink, domeplan), only)]
     with tempfile.TemporaryDirectory() as folder:
-        programs = [domelink, allcalls, *plain_rust.suites(folder, only)]
+        programs = [domelink, allcalls, *plain_rust.suites(folder, only),
+                    *c_side.suites(library, folder, only, count, seed)]
         tallies = play_programs(
             [suite for suite in programs if suite.command], only, count, seed)
     tallies.append(play_questions(domeplan, only, count, seed))
