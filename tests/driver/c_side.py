@@ -5,6 +5,8 @@ and the host are run under it too.
 
 import shutil
 import subprocess
+from functools import partial
+from itertools import chain
 from pathlib import Path
 
 from driver.formats import ALLCALLS
@@ -18,6 +20,7 @@ ROOT = Path(__file__).resolve().parents[2]
 HEADER = ROOT / "include"
 PLAYER = ROOT / "player/player.c"
 IMAGES = ROOT / "tests/images"
+HOST = IMAGES / "host.c"
 STRICT = ["-Wall", "-Wextra", "-pedantic", "-Werror", "-I", str(HEADER)]
 C99 = ["-std=c99", "-O2"]
 CHECKED = ["-g", "-fsanitize=address,undefined", "-fno-sanitize-recover=all"]
@@ -25,6 +28,7 @@ VALGRIND = ["valgrind", "-q", "--error-exitcode=9", "--leak-check=full"]
 IMAGES_EACH = 5             # images by chance for each generated file
 WATCHED_IMAGES = 100        # of them under a tool that watches
 WATCHED_FILES = 4           # edges, through the player
+PLAYER_EVERY = 4            # of the generated files the player plays a fourth
 
 
 def found(*names):
@@ -38,10 +42,10 @@ class Builder:
         self.library = str(library)
         self.folder = Path(folder)
 
-    def object(self, source, *options, compiler=None):
+    def alone(self, name, source, *options, compiler=None):
         """What is wrong with a source that is compiled alone, or None."""
         return trouble(compiler or self.compiler, *STRICT, *options, "-c",
-                       str(source), "-o", str(self.folder / "alone.o"))
+                       str(source), "-o", str(self.folder / (name + ".o")))
 
     def program(self, name, source, *options):
         """The path of a program, and what went wrong or None."""
@@ -49,19 +53,29 @@ class Builder:
         return path, trouble(self.compiler, *C99, *STRICT, *options,
                              str(source), self.library, "-o", path)
 
+    def sanitises(self):
+        """Whether its programs can have the address sanitiser."""
+        source = self.folder / "empty.c"
+        source.write_text("int main(void)\n{\n    return 0;\n}\n")
+        path, wrong = self.program("empty", source, *CHECKED)
+        return not wrong and not trouble(path)
 
-def compile_header(suite, builder):
+
+# ---- the header
+
+def header_tests(builder):
     sizes = IMAGES / "sizes.c"
-    suite.test("the header as C99", builder.object(sizes, "-std=c99"))
+    yield ("C: the header as C99",
+           partial(builder.alone, "c99", sizes, "-std=c99"))
     plus = found("c++", "g++", "clang++")
-    if plus:
-        for standard in ("c++98", "c++17"):
-            suite.test("the header as " + standard, builder.object(
-                sizes, "-x", "c++", "-std=" + standard,
-                "-Wno-long-long", compiler=plus))
+    for standard in ("c++98", "c++17") if plus else ():
+        yield ("C: the header as " + standard, partial(
+            builder.alone, standard, sizes, "-x", "c++", "-std=" + standard,
+            "-Wno-long-long", compiler=plus))
+    yield "C: README's lines", partial(readme, builder)
 
 
-def compile_readme(suite, builder):
+def readme(builder):
     """The lines of C that README.md has."""
     text = (ROOT / "README.md").read_text()
     lines = [line for line in text.splitlines()
@@ -72,21 +86,14 @@ def compile_readme(suite, builder):
         "uint64_t readme(const uint8_t *plan, size_t plan_length);\n"
         "uint64_t readme(const uint8_t *plan, size_t plan_length)\n"
         "{\n%s\n    return made + word;\n}\n" % "\n".join(lines))
-    suite.test("README's lines of C", builder.object(source, "-std=c99"))
-
-
-def build(suite, builder, name, source, *options):
-    """A program's command, or None with a test that failed."""
-    path, wrong = builder.program(name, source, *options)
-    suite.test("%s is compiled" % name, wrong)
-    return None if wrong else [path]
+    return builder.alone("readme", source, "-std=c99")
 
 
 # ---- under a tool that watches memory
 
-def plays(command, edges):
+def plays(command):
     """What is wrong with the player on some edges, or None."""
-    for edge in edges:
+    for edge in some_edges():
         done = subprocess.run(command, input=edge.data, capture_output=True)
         right = "".join(line + "\n" for line in edge.lines).encode()
         wrong = first_difference(right, done.stdout) or (
@@ -104,51 +111,88 @@ def some_edges():
     return edges[::len(edges) // WATCHED_FILES]
 
 
-def watch(suite, tool, player, host):
-    suite.test("the player under " + tool, plays(player, some_edges()))
-    suite.test("the exports under " + tool,
-               export_tests.all_trials(host, WATCHED_IMAGES))
+class Watcher:
+    def __init__(self, name, command, options):
+        self.name = name
+        self.command = command      # that a program is started by
+        self.options = options      # that it is compiled with
+
+    def player(self, builder):
+        path, wrong = builder.program("player under " + self.name, PLAYER,
+                                      *self.options)
+        return wrong or plays([*self.command, path])
+
+    def host(self, builder):
+        """Without guards, so that a buffer ends where its memory does."""
+        path, wrong = builder.program("host under " + self.name, HOST,
+                                      "-DGUARD=0", *self.options)
+        return wrong or export_tests.all_trials(
+            [*self.command, path], WATCHED_IMAGES)
 
 
-def watched(suite, builder):
-    """Without guards, so that a buffer ends where its memory does."""
-    bare = build(suite, builder, "host-bare", IMAGES / "host.c", "-DGUARD=0")
-    player = build(suite, builder, "player-bare", PLAYER, "-g")
-    if not found("valgrind"):
-        print("valgrind is not on this machine: nothing runs under it")
-    elif bare and player:
-        watch(suite, "valgrind", VALGRIND + player, VALGRIND + bare)
-    host, wrong = builder.program("host-checked", IMAGES / "host.c",
-                                  "-DGUARD=0", *CHECKED)
-    player, wrong_too = builder.program("player-checked", PLAYER, *CHECKED)
-    if wrong or wrong_too:
-        print("the compiler has no address sanitiser: nothing runs under it")
+def watchers(builder):
+    """Those that are there; what is not is said."""
+    if found("valgrind"):
+        yield Watcher("valgrind", VALGRIND, ["-g"])
     else:
-        watch(suite, "the address sanitiser", [player], [host])
+        print("valgrind is not on this machine: nothing runs under it")
+    if builder.sanitises():
+        yield Watcher("the address sanitiser", [], CHECKED)
+    else:
+        print("the compiler has no address sanitiser: nothing runs under it")
+
+
+def watched_tests(builder):
+    for watcher in watchers(builder):
+        yield ("C: the exports under " + watcher.name,
+               partial(watcher.host, builder))
+        yield ("C: the player under " + watcher.name,
+               partial(watcher.player, builder))
 
 
 # ---- all of it
 
-def suites(library, folder, only, count, seed):
-    """The suites of the C side, or none where there is no C compiler: tests
-    of its own, the player, and the exports."""
+class PlayerSuite(Suite):
+    """The player: the exports, which it calls, have the totals."""
+
+    every = PLAYER_EVERY
+
+    def totals(self):
+        self.gave_up()
+
+
+class CSide:
+    """What is played where there is a C compiler: tests of its own, the
+    player, and the exports."""
+
+    def __init__(self, compiler, library, folder):
+        self.builder = Builder(compiler, library, folder)
+        self.own = Suite("C side")
+        self.player = PlayerSuite("player", form=ALLCALLS)
+        self.exports = ImageSuite("exports", None)
+        self.suites = [self.own, self.player, self.exports]
+
+    def build(self, suite, source):
+        """The suite's program, or a test that failed."""
+        path, wrong = self.builder.program(suite.name, source)
+        self.own.test("C: %s compiled" % source.name, wrong)
+        suite.command = None if wrong else [path]
+
+    def tests(self, count, seed):
+        """Names and tests, which need no file of calls."""
+        self.build(self.player, PLAYER)
+        self.build(self.exports, HOST)
+        tests = [watched_tests(self.builder), header_tests(self.builder)]
+        if self.exports.command:
+            tests.append(export_tests.tests(
+                self.exports.command, IMAGES_EACH * count, seed))
+        return chain.from_iterable(tests)
+
+
+def c_side(library, folder):
+    """The C side, or None where there is no C compiler, which is said."""
     compiler = found("cc", "gcc", "clang")
-    if not compiler:
-        print("no C compiler is on this machine: the C side is not played")
-        return []
-    builder = Builder(compiler, library, folder)
-    own = Suite("C side")
-    player = Suite("player", form=ALLCALLS)
-    exports = ImageSuite("exports", None)
-    player.command = build(own, builder, "player", PLAYER)
-    exports.command = build(own, builder, "host", IMAGES / "host.c")
-    if not only:
-        compile_header(own, builder)
-        compile_readme(own, builder)
-        watched(own, builder)
-    if exports.command:
-        for name, test in export_tests.tests(
-                exports.command, IMAGES_EACH * count, seed):
-            if not only or only in name:
-                own.test(name, test())
-    return [own, player, exports]
+    if compiler:
+        return CSide(compiler, library, folder)
+    print("no C compiler is on this machine: the C side is not played")
+    return None

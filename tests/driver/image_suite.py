@@ -3,9 +3,8 @@ and the bytes are compared at the end, or after each call."""
 
 from demand3.check import check
 from driver.formats import ALLCALLS
-from driver.suite import PATIENCE, Suite, first_difference
+from driver.suite import Outcome, Suite, first_difference, refusals_in
 from images import call_files
-from images.host import NO_END
 
 FEW = 1000              # bytes of a file whose image is looked at after a call
 
@@ -14,15 +13,20 @@ def listing(lines):
     return "".join(line + "\n" for line in lines).encode()
 
 
+class ImageOutcome(Outcome):
+    """Also how many images were compared: after each call, at the end."""
+
+    compared = 0, 0
+
+
 class ImageSuite(Suite):
     def __init__(self, name, command):
         super().__init__(name, command, ALLCALLS)
-        self.at_the_end = 0         # images compared
-        self.after_each_call = 0
+        self.after_each_call = 0        # images compared
+        self.at_the_end = 0
 
-    def play(self, name, case):
-        if self.without_end >= PATIENCE:
-            return
+    def outcome(self, case):
+        """One file through images: listing, bytes, end and demand 3."""
         right = case.right(ALLCALLS)
         each = len(case.data) <= FEW or case.size is not None
         length = len(right.image) or call_files.LONGEST
@@ -31,18 +35,23 @@ class ImageSuite(Suite):
         if played.lines != right.lines:
             verdict = check(case.data, played.lines, ALLCALLS.checked)
             right = case.following(ALLCALLS, played.lines)
-        self.note(played.lines, verdict)
         images = ([right.image] if not each
                   else call_files.images_after(case.data, played.lines))
-        if each:
-            self.after_each_call += len(played.buffers)
-        else:
-            self.at_the_end += len(played.buffers)
-        self.without_end += played.wrong == NO_END
-        self.test(name, case.trouble, played.wrong,
-                  first_difference(right.listing, listing(played.lines)),
-                  call_files.difference(played, images, length),
-                  verdict.faults and "demand 3, " + verdict.faults[0])
+        outcome = ImageOutcome(
+            [case.trouble, played.wrong,
+             first_difference(right.listing, listing(played.lines)),
+             call_files.difference(played, images, length),
+             verdict.faults and "demand 3, " + verdict.faults[0]],
+            refusals_in(played.lines), verdict)
+        count = len(played.buffers)
+        outcome.compared = (count, 0) if each else (0, count)
+        return outcome
+
+    def note(self, outcome):
+        super().note(outcome)
+        after_each_call, at_the_end = outcome.compared
+        self.after_each_call += after_each_call
+        self.at_the_end += at_the_end
 
     def totals(self):
         super().totals()
@@ -50,3 +59,5 @@ class ImageSuite(Suite):
               % (self.name, self.after_each_call, self.at_the_end))
         self.test("images were compared after each call",
                   not self.after_each_call and "none")
+        self.test("images were compared at the end of long files",
+                  not self.at_the_end and "none")

@@ -3,8 +3,8 @@
 import struct
 import subprocess
 
-LIMIT = 60              # seconds for one script
-NO_END = "no end after %d seconds" % LIMIT
+from driver.starting import LIMIT, NO_END
+
 CALLS = {
     "request": lambda word: b"r" + struct.pack("<I", word),
     "credit": lambda flow, position: b"c" + struct.pack("<QQ", flow, position),
