@@ -89,22 +89,18 @@ def front_door(programs, only):
 def played(make, suites):
     """A case, and what came of it with each program."""
     case = make()
-    return case, [(suite.name, suite.play(case)) for suite in suites]
+    return case, [suite.play(case) for suite in suites]
 
 
 def play_cases(suites, names, only, tally=None):
-    """Each case through each program; generated ones, which have a tally,
-    through some programs only here and there."""
-    named = {suite.name: suite for suite in suites}
-    jobs = ((name, partial(played, make, [
-                suite for suite in suites
-                if not (tally and place % suite.every)]))
-            for place, (name, make) in enumerate(wanted(names, only)))
+    """Each case through each program."""
+    jobs = ((name, partial(played, make, suites))
+            for name, make in wanted(names, only))
     for name, (case, outcomes) in done(jobs):
         if tally:
             tally.add(case)
-        for suite, outcome in outcomes:
-            named[suite].add(name, outcome)
+        for suite, outcome in zip(suites, outcomes):
+            suite.add(name, outcome)
 
 
 def play_files(suites, only, count, seed):

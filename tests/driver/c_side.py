@@ -25,10 +25,9 @@ STRICT = ["-Wall", "-Wextra", "-pedantic", "-Werror", "-I", str(HEADER)]
 C99 = ["-std=c99", "-O2"]
 CHECKED = ["-g", "-fsanitize=address,undefined", "-fno-sanitize-recover=all"]
 VALGRIND = ["valgrind", "-q", "--error-exitcode=9", "--leak-check=full"]
-IMAGES_EACH = 5             # images by chance for each generated file
+IMAGES_EACH = 10            # images by chance for each generated file
 WATCHED_IMAGES = 100        # of them under a tool that watches
 WATCHED_FILES = 4           # edges, through the player
-PLAYER_EVERY = 4            # of the generated files the player plays a fourth
 
 
 def found(*names):
@@ -152,15 +151,6 @@ def watched_tests(builder):
 
 # ---- all of it
 
-class PlayerSuite(Suite):
-    """The player: the exports, which it calls, have the totals."""
-
-    every = PLAYER_EVERY
-
-    def totals(self):
-        self.gave_up()
-
-
 class CSide:
     """What is played where there is a C compiler: tests of its own, the
     player, and the exports."""
@@ -168,7 +158,7 @@ class CSide:
     def __init__(self, compiler, library, folder):
         self.builder = Builder(compiler, library, folder)
         self.own = Suite("C side")
-        self.player = PlayerSuite("player", form=ALLCALLS)
+        self.player = Suite("player", form=ALLCALLS)
         self.exports = ImageSuite("exports", None)
         self.suites = [self.own, self.player, self.exports]
 

@@ -50,8 +50,6 @@ class Outcome:
 
 
 class Suite:
-    every = 1                       # plays every so many-th generated file
-
     def __init__(self, name, command=None, form=DOMELINK):
         self.name = name
         self.command = command      # the program's path and its arguments

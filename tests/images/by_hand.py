@@ -144,6 +144,8 @@ TAKEN = [
     ("a rise at position 0, booked, later than CP", change(
         FRESH, ("CP", 5), ("owner", 0, 0), ("C", 0, 1),
         ("held", 0, [1, 1, 1, 1, 0, 0, 0, 0]))),
+    ("a rise at the window's last position, booked, at CP 4", change(
+        FRESH, ("CP", 4), ("owner", 3, 0), ("C", 0, 1), ("held", 0, 3, 1))),
     # The head's first position follows the window's last; nothing is
     # compared there.
     ("a rise from the window's last position to its first", change(
@@ -233,6 +235,11 @@ LINKS = [
      [("held", 1, 7, 1)]),
     ("a later holding rises only at a booked position", "position 0",
      [("CP", 5), ("held", 0, [1, 1, 1, 1, 0, 0, 0, 0])]),
+    # The head is frame 1: position 3 is the window's last, going round.
+    ("a later holding rises only at a booked position", "the last, at CP 4",
+     [("CP", 4), ("held", 0, 3, 1)]),
+    ("a later holding rises only at a booked position", "of none at CP 7",
+     [("CP", 7), ("held", 1, [0, 0, 1, 0, 0, 0, 0, 0])]),
     ("a later holding rises only at a booked position", "after a fall",
      [("held", 0, [2, 1, 1, 1, 2, 1, 1, 1])]),
 ]
@@ -265,4 +272,26 @@ LONG_ENOUGH = [
     ("91 bytes that say 91", change(FRESH, ("total", 91))[:91]),
     ("20 bytes that say 18", bytes([18]) + bytes(19)),
     ("93 bytes that say 93", change(FRESH, ("total", 93)) + b"\0"),
+    ("91 bytes that say 90", change(FRESH, ("total", 90))[:91]),
+]
+
+# ---- fresh: the plan is tested first, then the buffer
+
+CELLS_ABOVE = BASE[:10] + bytes([3]) + BASE[11:]        # N = 3
+SHARES_ABOVE = BASE[:16] + bytes([3]) + BASE[17:]       # 2 and 3 of F = 4
+
+# (name, plan, bytes of the buffer, refusal)
+FRESH_CALLS = [
+    ("cells above N, no buffer", CELLS_ABOVE, 0, 7),
+    ("cells above N, 91 bytes", CELLS_ABOVE, 91, 7),
+    ("cells above N, 92 bytes", CELLS_ABOVE, 92, 7),
+    ("shares above F, 15 bytes", SHARES_ABOVE, 15, 6),
+    ("a plan of 11 bytes, no buffer", BASE[:11], 0, 1),
+    ("no plan and no buffer", b"", 0, 1),
+    ("a good plan, no buffer", BASE, 0, 21),
+    ("a good plan, 15 bytes", BASE, 15, 21),
+    ("a good plan, 91 bytes", BASE, 91, 21),
+    ("a good plan, 92 bytes", BASE, 92, 0),
+    ("the largest, 8,859 bytes", LARGEST_PLAN, 8859, 21),
+    ("the largest, 8,860 bytes", LARGEST_PLAN, 8860, 0),
 ]

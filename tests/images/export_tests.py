@@ -5,18 +5,14 @@ played elsewhere.
 
 from functools import partial
 
-from edges import plan_limits, refusals_page
+from edges import refusals_page
 from generator.dice import Dice
-from images import by_hand
-from images.call_files import LONGEST, OLD, buffer_of, play
-from images.host import Script, run
+from images import by_hand, fresh_calls
+from images.call_files import buffer_of, play
 from images.on_images import Trial, troubles
 from images.random_calls import some_call
 from images.random_images import any_image
-from images.results import POWER, said
-from simulator.image import image_of
-from simulator.link import Link
-from simulator.plan import read_plan
+from images.results import POWER
 
 BATCH = 100             # images by chance in one run of the host
 WORD = 9 << 26          # flow 0 to node 9, as in the images by hand
@@ -95,53 +91,7 @@ def all_trials(command, count):
                                              for seed in range(count)]))
 
 
-# ---- fresh
-
-def plans():
-    """Plans of all sorts, each as a part on its own."""
-    yield from plan_limits.LENGTHS
-    for table in (plan_limits.COUNTS, plan_limits.FRAMES, plan_limits.ENTRIES,
-                  plan_limits.PAIRS, plan_limits.SUMS, plan_limits.ORDER):
-        for name, data, _ in table:
-            yield name, data
-    yield "one byte too many", plan_limits.GOOD + b"\0"
-    yield "the largest image", by_hand.LARGEST_PLAN
-
-
-def right_fresh(plan, buffer):
-    """The plan's refusal first, then 21, else the image of a fresh link."""
-    refusal, read = read_plan(plan)
-    if refusal:
-        return refusal * POWER, buffer
-    image = image_of(Link(read))
-    if len(buffer) < len(image):
-        return 21 * POWER, buffer
-    return 0, image + buffer[len(image):]
-
-
-def buffers_for(plan):
-    """Buffers of several lengths, about that of the image."""
-    refusal, read = read_plan(plan)
-    exact = 92 if refusal else len(image_of(Link(read)))
-    return [OLD * length for length in sorted(
-        {0, 1, 15, 16, exact - 1, exact, exact + 1, LONGEST})]
-
-
-def fresh(command, plan):
-    script = Script()
-    buffers = buffers_for(plan)
-    for buffer in buffers:
-        script.buffer(buffer)
-        script.fresh(plan)
-        script.get()
-    answers, wrong = run(command, script)
-    for buffer, result, left in zip(buffers, answers[::2], answers[1::2]):
-        right, kept = right_fresh(plan, buffer)
-        if (result, left) != (right, kept):
-            return "%d bytes: %s, not %s, or other bytes" % (
-                len(buffer), said(result), said(right))
-    return wrong
-
+# ---- all of them
 
 def tests(command, count, seed):
     """`count` of the images by chance."""
@@ -153,9 +103,7 @@ def tests(command, count, seed):
     for name, image in images_by_hand():
         yield ("image: calls on one, " + name,
                partial(every_call, command, name, image))
-    for name, plan in plans():
-        yield ("image: fresh from a plan, " + name,
-               partial(fresh, command, plan))
+    yield from fresh_calls.tests(command)
     for start in range(seed, seed + count, BATCH):
         seeds = range(start, min(start + BATCH, seed + count))
         yield ("image: calls on images by chance, from %d on" % start,

@@ -8,7 +8,7 @@ from functools import partial
 
 from generator import departure_seeds, lend_seeds
 from generator.dice import Dice
-from images import by_hand
+from images import by_hand, fresh_calls
 from images.acceptance import broken, refusal_of
 from images.call_files import images_after
 from images.random_calls import some_call
@@ -102,6 +102,7 @@ def tests():
         for name, image in images:
             yield ("image: %d, %s" % (number, name),
                    partial(refused, number, image))
+    yield from fresh_calls.self_tests()
     for family in (lend_seeds, departure_seeds):
         for seed in range(FILES):
             yield ("image: taken after each call, %s %d" % (
