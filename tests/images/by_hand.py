@@ -273,6 +273,13 @@ LONG_ENOUGH = [
     ("20 bytes that say 18", bytes([18]) + bytes(19)),
     ("93 bytes that say 93", change(FRESH, ("total", 93)) + b"\0"),
     ("91 bytes that say 90", change(FRESH, ("total", 90))[:91]),
+    # The fresh image, cut off in each of its parts, which it says itself.
+    *[("the first %d bytes, which say so" % length,
+       change(FRESH, ("total", length))[:length])
+      for length in (16, 17, 18, 27, 28, 35, 36, 37, 51, 52, 53, 57)],
+    # Its low byte alone would be a booking of flow 0.
+    ("owner 256, with C one less",
+     change(FRESH, ("owner", 1, 256), ("C", 0, 1))),
 ]
 
 # ---- fresh: the plan is tested first, then the buffer
