@@ -14,6 +14,7 @@ from driver.image_suite import ImageSuite
 from driver.plain_rust import trouble
 from driver.suite import Suite, first_difference
 from edges.all_edges import EDGES, LEND_EDGES
+from front_door import c_player
 from images import export_tests
 
 ROOT = Path(__file__).resolve().parents[2]
@@ -172,7 +173,10 @@ class CSide:
         """Names and tests, which need no file of calls."""
         self.build(self.player, PLAYER)
         self.build(self.exports, HOST)
-        tests = [watched_tests(self.builder), header_tests(self.builder)]
+        tests = [watched_tests(self.builder), header_tests(self.builder),
+                 c_player.build_tests(self.builder.library)]
+        if self.player.command:
+            tests.append(c_player.tests(*self.player.command))
         if self.exports.command:
             tests.append(export_tests.tests(
                 self.exports.command, IMAGES_EACH * count, seed))
