@@ -26,7 +26,7 @@ STRICT = ["-Wall", "-Wextra", "-pedantic", "-Werror", "-I", str(HEADER)]
 C99 = ["-std=c99", "-O2"]
 CHECKED = ["-g", "-fsanitize=address,undefined", "-fno-sanitize-recover=all"]
 VALGRIND = ["valgrind", "-q", "--error-exitcode=9", "--leak-check=full"]
-IMAGES_EACH = 10            # images by chance for each generated file
+IMAGES_EACH = 10            # images by chance for each seed
 WATCHED_IMAGES = 100        # of them under a tool that watches
 WATCHED_FILES = 4           # edges, through the player
 

@@ -178,7 +178,8 @@ def random_image(dice):
 
 
 def any_image(dice):
-    """A third taken, most of the others with one change or two."""
+    """A third as they were made, most of the others with one change or two,
+    which some of them are taken with."""
     if dice.chance(4):
         return random_image(dice)
     image = taken_image(dice)
