@@ -30,6 +30,8 @@ TESTS_RUN = [
     (["--allcalls", "--write", "-1", MISSING], "a seed has to be"),
     (["--library", MISSING], "no library at " + MISSING),
     (["--library", os.sep], "no library at " + os.sep),
+    (["--library", MISSING, "--program", MISSING], "not allowed with"),
+    (["--library", MISSING, "--allcalls"], "--allcalls goes with"),
     (["--allcalls"], "--allcalls goes with"),
     (["--domeplan", "--program", MISSING], "no program at " + MISSING),
     (["--domeplan", "--simulate", MISSING], MISSING + " can't be read"),
