@@ -17,7 +17,9 @@
  * explains each refusal.
  *
  * What a caller owes: each pointer has the stated number of bytes behind it,
- * which may be 0, and the plan's bytes and the image don't overlap.
+ * which may be 0, and is not NULL; the plan's bytes and the image don't overlap;
+ * two calls on one image don't run at once. The archive needs memcpy and memset,
+ * and a call some 20,000 bytes of stack.
  */
 #ifndef NAZGOLV_H
 #define NAZGOLV_H
@@ -58,6 +60,7 @@ extern "C" {
 
 /* ---- the look-ahead word: destination, flow, quantum, departure */
 
+/* Each part below its limit: destination 64, flow 64, quantum and departure 1,024. */
 #define NAZGOLV_WORD(destination, flow, quantum, departure) \
     ((uint32_t)(destination) << 26 | (uint32_t)(flow) << 20 \
      | (uint32_t)(quantum) << 10 | (uint32_t)(departure))
@@ -92,7 +95,7 @@ extern "C" {
 #define NAZGOLV_REFUSED_FULL 12             /* request: no valid position in the newest frame */
 #define NAZGOLV_REFUSED_POSITION 13         /* credit: the position is none */
 #define NAZGOLV_REFUSED_PASSED 14           /* credit: the position is not to come */
-#define NAZGOLV_REFUSED_HOLDING 15          /* credit: nothing is held there or later */
+#define NAZGOLV_REFUSED_HOLDING 15          /* credit: 0 is held there or at some later position */
 #define NAZGOLV_REFUSED_TAKEN 17            /* lend: the slot is booked or lent */
 #define NAZGOLV_REFUSED_TAKERS 18           /* lend: no flow of the mask can take it */
 #define NAZGOLV_REFUSED_NOT_COME 20         /* request: no position after the departure */
@@ -114,8 +117,8 @@ uint64_t nazgolv_fresh(const uint8_t *plan, size_t plan_length,
  * The other calls read an image first. 21: the buffer is shorter than the
  * header, or than the total length that it states. 22: anything else is wrong
  * with it. Both leave the buffer as it came, and no other refusal comes before
- * them. An image that fresh made, and that calls alone have changed, is never
- * refused so.
+ * them. An image that fresh made, that calls alone have changed, and that is
+ * handed over whole is never refused so.
  */
 
 /*
