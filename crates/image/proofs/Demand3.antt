@@ -6,10 +6,10 @@ use Rattle.model.specs.Plan.{flowCount, planOf}
 use Rattle.model.specs.Calls.{Call, History}
 use Rattle.model.specs.Claim.{Demand3}
 use Rattle.images.specs.Taken.{refusalOf}
-use Rattle.images.specs.Exports.{Called, calledOn}
+use Rattle.images.specs.Exports.{Called, HandsBack, calledOn}
 use Rattle.images.specs.Chain.{eventOf, imageIn, Chain, starts, goes-on}
 use Rattle.images.proofs.Chain.{chain-taken, chain-meets}
-use Rattle.image.specs.Hosted.{HandsBack, Hosted, by-fresh, by-request, by-credit, by-tick, by-lend}
+use Rattle.image.specs.Hosted.{Hosted, by-fresh, by-request, by-credit, by-tick, by-lend}
 
 module _ (plan : List ℕ) where
   -- some calls make this chain

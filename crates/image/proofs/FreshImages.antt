@@ -18,13 +18,12 @@ use Rattle.link.specs.Reading.{linkOf}
 use Rattle.link.specs.Sound.{Sound}
 use Rattle.images.specs.Image.{imageLength}
 use Rattle.images.specs.Consistent.{Keepable}
-use Rattle.images.specs.Exports.{Called, refusalNumber, writtenTo, handedBack, freshOn}
+use Rattle.images.specs.Exports.{Called, HandsBack, refusalNumber, writtenTo, handedBack, freshOn}
 use Rattle.images.proofs.FreshKept.{fresh-kept}
 use Rattle.taken.specs.declared.layout.Layout.{Layout}
 use Rattle.taken.specs.Layout.{LaidOut}
 use Rattle.taken.proofs.Layouts.{total-is}
 use Rattle.imagebytes.specs.Asked.{Writable}
-use Rattle.image.proofs.TurnedBack.{ComesTo}
 
 module _ (plan b : List ℕ) {o : Outcome} (e : o ≡ readOf plan) where
   verdict-is : o .verdict ≡ verdictFor (model.refusal plan)
@@ -32,11 +31,11 @@ module _ (plan b : List ℕ) {o : Outcome} (e : o ≡ readOf plan) where
   verdict-is = ap (λ (x : Outcome). x .verdict) e
 
   -- the plan is refused
-  pub plan-refused : {n r : ℕ} → o .verdict ≡ Refused n → r ≡ refusalNumber n → ComesTo (freshOn plan b) r b
+  pub plan-refused : {n r : ℕ} → o .verdict ≡ Refused n → r ≡ refusalNumber n → HandsBack (freshOn plan b) r b
   unfolding freshOn handedBack firstOf verdictFor
   plan-refused {n} {r} a number = go (model.refusal plan) refl (sym verdict-is ∙ a)
     where
-      go : (k : ℕ) → model.refusal plan ≡ k → verdictFor k ≡ Refused n → ComesTo (freshOn plan b) r b
+      go : (k : ℕ) → model.refusal plan ≡ k → verdictFor k ≡ Refused n → HandsBack (freshOn plan b) r b
       go zero q z = let y : _≡_ {A = ℕ} 0 1 = cc in absurd (omega arith)
       go (suc k) q z = let same : suc k ≡ n = cc in rw (q, ne-eqb (suc k) 0 (λ y. omega arith)) (number ∙ ap refusalNumber (sym same), refl)
 
@@ -57,7 +56,7 @@ module _ (plan b : List ℕ) {o : Outcome} (e : o ≡ readOf plan) where
       long-is = total-is laid ∙ ap imageLength plan-is
 
       -- the buffer is too short
-      pub no-room : {r : ℕ} → length b < y .total → r ≡ refusalNumber 21 → ComesTo (freshOn plan b) r b
+      pub no-room : {r : ℕ} → length b < y .total → r ≡ refusalNumber 21 → HandsBack (freshOn plan b) r b
       unfolding freshOn handedBack firstOf
       no-room h number =
           rw (eq-eqb (model.refusal plan) 0 passes, lt-ltb (length b) (imageLength (model.planOf plan)) (omega (arith, long-is))) (number, refl)
@@ -74,7 +73,7 @@ module _ (plan b : List ℕ) {o : Outcome} (e : o ≡ readOf plan) where
           there = omega (arith, long-is, ap (λ x. imageLength (x .plan)) reads);
         }
 
-        pub fresh-written : {r : ℕ} {after : List ℕ} → r ≡ 0 → after ≡ writtenTo b (linkOf l) → ComesTo (freshOn plan b) r after
+        pub fresh-written : {r : ℕ} {after : List ℕ} → r ≡ 0 → after ≡ writtenTo b (linkOf l) → HandsBack (freshOn plan b) r after
         unfolding freshOn handedBack firstOf
         fresh-written number written =
             rw (eq-eqb (model.refusal plan) 0 passes, le-ltb (length b) (imageLength (model.planOf plan)) (omega (arith, long-is)))

@@ -21,14 +21,13 @@ use Rattle.link.specs.Steps.{Stepped}
 use Rattle.images.specs.Image.{imageLength, planIn, linkIn}
 use Rattle.images.specs.Consistent.{Keepable}
 use Rattle.images.specs.Taken.{refusalOf, Taken}
-use Rattle.images.specs.Exports.{Called, grantNumber, receiptNumber, turnNumber, loanNumber, onLink, writtenTo, handedBack, calledOn}
+use Rattle.images.specs.Exports.{Called, HandsBack, grantNumber, receiptNumber, turnNumber, loanNumber, onLink, writtenTo, handedBack, calledOn}
 use Rattle.images.proofs.Taken.{taken}
 use Rattle.images.proofs.ImageTaken.{read-kept}
 use Rattle.images.proofs.Closed.{KeptAfter}
 use Rattle.images.proofs.Exports.{done-kept}
 use Rattle.imagebytes.specs.Asked.{Writable}
 use Rattle.image.specs.Numbers.{numberFor}
-use Rattle.image.proofs.TurnedBack.{ComesTo}
 
 -- ---- the numbers of answers
 
@@ -96,7 +95,7 @@ module _ {b : List ℕ} (t : Taken b) {c : Call} {s : Step} (v : Steps b c s) wh
   unfolding calledOn handedBack
   called = ap (λ q. handedBack q b (onLink (linkIn b) c)) (taken b .1 t)
 
-  pub comes-to : {r : ℕ} {after : List ℕ} → r ≡ numberFor (s .answer) → after ≡ writtenTo b (linkOf (s .link)) → ComesTo (calledOn b c) r after
+  pub comes-to : {r : ℕ} {after : List ℕ} → r ≡ numberFor (s .answer) → after ≡ writtenTo b (linkOf (s .link)) → HandsBack (calledOn b c) r after
   comes-to number written =
       let x = sym called in (
         number ∙ v .number-is ∙ ap (λ (y : Called). y .result) x,

@@ -4,19 +4,15 @@ use mathlib.Core.Path.{_≡_, refl, sym, ap, _∙_}
 use mathlib.Core.List.{List}
 use Rattle.model.specs.Calls.{Call}
 use Rattle.images.specs.Taken.{refusalOf, Taken}
-use Rattle.images.specs.Exports.{Called, refusalNumber, calledOn}
+use Rattle.images.specs.Exports.{Called, HandsBack, refusalNumber, calledOn}
 use Rattle.images.proofs.Taken.{taken}
 use Rattle.images.proofs.Exports.{turned-back}
 
--- r and the buffer `after` are what an exported call comes to
-abbrev pub ComesTo : Called → (r : ℕ) → (after : List ℕ) → Type 0
-ComesTo x r after = (r ≡ x .result) × (after ≡ x .buffer)
-
 module _ {b : List ℕ} {n : ℕ} (e : n ≡ refusalOf b) where
-  pub turned : (c : Call) {r : ℕ} → (n ≡ 0 → ⊥) → r ≡ refusalNumber n → ComesTo (calledOn b c) r b
+  pub turned : (c : Call) {r : ℕ} → (n ≡ 0 → ⊥) → r ≡ refusalNumber n → HandsBack (calledOn b c) r b
   turned c {r} d number = go n e d number
     where
-      go : (n : ℕ) → n ≡ refusalOf b → (n ≡ 0 → ⊥) → r ≡ refusalNumber n → ComesTo (calledOn b c) r b
+      go : (n : ℕ) → n ≡ refusalOf b → (n ≡ 0 → ⊥) → r ≡ refusalNumber n → HandsBack (calledOn b c) r b
       go zero q d number = absurd (d refl)
       go (suc n) q d number =
           let x = sym (turned-back b n (sym q) c) in

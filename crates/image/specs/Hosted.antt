@@ -4,16 +4,13 @@ use Prim.Native.Nat.{ℕ}
 use mathlib.Core.Path.{_≡_}
 use mathlib.Core.List.{List, _∷_, []}
 use Rattle.model.specs.Calls.{History, requested, credited, ticked, lent}
-use Rattle.images.specs.Exports.{Called, freshOn, requestOn, creditOn, tickOn}
+use Rattle.images.specs.Exports.{HandsBack, freshOn, requestOn, creditOn, tickOn}
 use Rattle.images.specs.Chain.{answerOf, turnOf, imageIn}
 use Rattle.image.specs.Lend.{LendsOn}
 
--- an export whose contract is an equation handed back r and this buffer
-abbrev pub HandsBack : Called → (r : ℕ) (after : List ℕ) → Type 0
-HandsBack called r after = (r ≡ called .result) × (after ≡ called .buffer)
-
 -- This buffer is in hand after a host's calls with the events h, of which the newest is first. Each case has what the contract of that export ensures of
--- its number r and of the buffer after it; the event has the answer that r stands for. The next call gets any buffer with the same image.
+-- its number r and of the buffer after it; the event has the answer that r stands for. The next call gets any buffer with the same image, whole: a call that gets less
+-- of it is turned back with 21, reaches no link, and is no call of the list.
 pub data Hosted (plan : List ℕ) : History → List ℕ → Type 0 where
   by-fresh : (b : List ℕ) {after : List ℕ} → HandsBack (freshOn plan b) 0 after → Hosted plan [] after
   by-request : {h : History} {b : List ℕ} → Hosted plan h b → (c : List ℕ) → imageIn c ≡ imageIn b → (word r : ℕ) {after : List ℕ}

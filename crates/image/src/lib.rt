@@ -2,7 +2,7 @@
 // answered; else it is a refusal times that power.
 ghost use mathlib.Core.Path.{_≡_};
 ghost use Rattle.link.specs.Reading.{linkOf};
-ghost use Rattle.images.specs.Exports.{refusalNumber, writtenTo, freshOn, requestOn, creditOn, tickOn};
+ghost use Rattle.images.specs.Exports.{HandsBack, refusalNumber, writtenTo, freshOn, requestOn, creditOn, tickOn};
 ghost use Rattle.imagebytes.specs.Asked.{Writable};
 ghost use Rattle.image.specs.Numbers.{numberFor};
 ghost use Rattle.image.specs.Lend.{LendsOn};
@@ -69,8 +69,7 @@ fn hand_back(step: Step, image: &mut [u8]) -> u64
 // The image of a plan's fresh link.
 #[no_mangle]
 pub extern "C" fn nazgolv_fresh(plan: &[u8], image: &mut [u8]) -> u64
-    ensures result { λ r. ⌜ r ≡ freshOn (now (plan .entry)) (now (image .entry)) .result ⌝ }
-    ensures buffer { λ r. ⌜ now (image .exit) ≡ freshOn (now (plan .entry)) (now (image .entry)) .buffer ⌝ }
+    ensures { λ r. ⌜ HandsBack (freshOn (now (plan .entry)) (now (image .entry))) r (now (image .exit)) ⌝ }
 {
     let outcome = plan::read(plan);
     let verdict = outcome.verdict;
@@ -93,8 +92,7 @@ pub extern "C" fn nazgolv_fresh(plan: &[u8], image: &mut [u8]) -> u64
 // A word asks for a slot.
 #[no_mangle]
 pub extern "C" fn nazgolv_request(image: &mut [u8], word: u32) -> u64
-    ensures result { λ r. ⌜ r ≡ requestOn (now (image .entry)) word .result ⌝ }
-    ensures buffer { λ r. ⌜ now (image .exit) ≡ requestOn (now (image .entry)) word .buffer ⌝ }
+    ensures { λ r. ⌜ HandsBack (requestOn (now (image .entry)) word) r (now (image .exit)) ⌝ }
 {
     let number = refusal(image);
     if number != 0 {
@@ -107,8 +105,7 @@ pub extern "C" fn nazgolv_request(image: &mut [u8], word: u32) -> u64
 // A flow's cell falls free from a position on.
 #[no_mangle]
 pub extern "C" fn nazgolv_credit(image: &mut [u8], flow: usize, position: usize) -> u64
-    ensures result { λ r. ⌜ r ≡ creditOn (now (image .entry)) flow position .result ⌝ }
-    ensures buffer { λ r. ⌜ now (image .exit) ≡ creditOn (now (image .entry)) flow position .buffer ⌝ }
+    ensures { λ r. ⌜ HandsBack (creditOn (now (image .entry)) flow position) r (now (image .exit)) ⌝ }
 {
     let number = refusal(image);
     if number != 0 {
@@ -121,8 +118,7 @@ pub extern "C" fn nazgolv_credit(image: &mut [u8], flow: usize, position: usize)
 // The current position goes on by one.
 #[no_mangle]
 pub extern "C" fn nazgolv_tick(image: &mut [u8]) -> u64
-    ensures result { λ r. ⌜ r ≡ tickOn (now (image .entry)) .result ⌝ }
-    ensures buffer { λ r. ⌜ now (image .exit) ≡ tickOn (now (image .entry)) .buffer ⌝ }
+    ensures { λ r. ⌜ HandsBack (tickOn (now (image .entry))) r (now (image .exit)) ⌝ }
 {
     let number = refusal(image);
     if number != 0 {

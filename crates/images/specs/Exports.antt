@@ -1,5 +1,6 @@
 -- The exported calls on bytes. Document 02, N5: "A call reads the image, acts, and writes the image back". Assumes nothing.
 use Prim.Native.Nat.{ℕ, zero, suc, _*_, _^_}
+use mathlib.Core.Path.{_≡_}
 use mathlib.Core.List.{List, _∷_, [], _++_}
 use mathlib.Core.Option.{some, none}
 use mathlib.Core.Bool.{not}
@@ -22,6 +23,10 @@ use Rattle.images.specs.Taken.{refusalOf}
 pub record Called : Type 0 where
   pub buffer : List ℕ
   pub result : ℕ
+
+-- this number and this buffer are what was handed back
+abbrev pub HandsBack : Called → (r : ℕ) (after : List ℕ) → Type 0
+HandsBack called r after = (r ≡ called .result) × (after ≡ called .buffer)
 
 -- ---- "as one 64-bit number"
 

@@ -139,6 +139,27 @@ conditionEdges =
     ∷ taken (cp 7 ∷ held 0 7 1 ∷ held 0 0 1 ∷ [])
     ∷ []
 
+-- ---- three frames of one slot, one flow, and frame 1 as HF: 1, 2, 0 is the frames' order, and IF is 2
+
+-- the image with these owners
+abbrev inTurn : (owner0 owner1 owner2 remainder : ℕ) → List ℕ
+inTurn owner0 owner1 owner2 remainder =
+    0x30 ∷ 0x00 ∷ 0x10 ∷ 0x00 ∷ 0x20 ∷ 0x00 ∷ 0x03 ∷ 0x00 ∷ 0x26 ∷ 0x00 ∷ 0x01 ∷ 0x00 ∷ 0x01 ∷ 0x00 ∷ 0x00 ∷ 0x00
+    ∷ 0x10 ∷ 0x00 ∷ 0x01 ∷ 0x00 ∷ 0x0C ∷ 0x00 ∷ 0x01 ∷ 0x00 ∷ 0x03 ∷ 0x00 ∷ 0x01 ∷ 0x00 ∷ 0x01 ∷ 0x01 ∷ 0x00 ∷ 0x01
+    ∷ owner0 ∷ 0x00 ∷ owner1 ∷ 0x00 ∷ owner2 ∷ 0x00
+    ∷ 0x02 ∷ 0x00 ∷ remainder ∷ 0x00 ∷ 0x00 ∷ 0x00 ∷ 0x00 ∷ 0x00 ∷ 0x00 ∷ 0x00
+    ∷ []
+
+unfoldable pub frameEdges : List Case
+frameEdges =
+    gives 0 (inTurn 16 16 16 1)
+    -- a booking in the frame after IF, in the one before it, and in IF itself
+    ∷ gives 22 (inTurn 0 16 16 1)
+    ∷ gives 0 (inTurn 16 0 16 1)
+    ∷ gives 0 (inTurn 16 0 0 0)
+    ∷ gives 22 (inTurn 16 16 0 1)
+    ∷ []
+
 -- ---- calls
 
 -- after the listing's seven calls
@@ -221,5 +242,5 @@ exportEdges =
 -- ---- all of them
 
 unfoldable pub imageEdges : List Case
-unfolding lengthEdges conditionEdges exportEdges
-imageEdges = lengthEdges ++ conditionEdges ++ exportEdges
+unfolding lengthEdges conditionEdges frameEdges exportEdges
+imageEdges = lengthEdges ++ conditionEdges ++ frameEdges ++ exportEdges
