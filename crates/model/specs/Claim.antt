@@ -18,7 +18,8 @@
 -- - lends refused that should be answered, and with which number; a mark that stands past the tick, or that a refused lend sets; a lent slot booked in
 --   the table of owners; what is held of a lent slot in slots that are gone, or in the current one;
 -- - resets refused that should be granted; one granted over cells that are held, where they stay held; and a remainder C that a reset leaves as it
---   was, since the least count is that of the frames after the one of the reset.
+--   was, since the least count is that of the frames after the one of the reset; an IF that it leaves, where W = 2; owners that it leaves at CP or
+--   before it; and what it does to holdings of slots that are gone.
 use Prim.Native.Nat.{ℕ, _+_, _-_, _*_, _^_, _≤_, _<_}
 use mathlib.Core.Path.{_≡_}
 use mathlib.Core.Logic.{_↔_}

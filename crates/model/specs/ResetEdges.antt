@@ -15,7 +15,8 @@ resetEdges =
     ∷ follows listing (grantFrom 1 6 7 ∷ credit 1 7 ∷ idles 6 (decline 23 ∷ serve 1 ∷ renew ∷ []))
     -- later is by rank, going round: at CP = 4 position 0 is booked, and at CP = 0 it is current
     ∷ follows listing (idles 4 (grantFrom 0 7 0 ∷ credit 0 0 ∷ decline 23 ∷ idle ∷ idle ∷ idle ∷ decline 23 ∷ serve 0 ∷ renew ∷ []))
-    -- the cell of a booked slot is held at CP and at no later position; once CP is past it, the holding stays and does not stand in the way
+    -- the cell of a booked slot is held at CP and at no later position; once CP is past it, the holding does not stand in the
+    -- way (that it stays is seen in an image)
     ∷ follows listing (grant 0 1 ∷ credit 0 2 ∷ serve 0 ∷ decline 23 ∷ idle ∷ renew ∷ [])
     -- a lent slot is held at CP until the tick, by any flow
     ∷ follows listing (lend 1 0 ∷ decline 23 ∷ credit 0 1 ∷ decline 23 ∷ idle ∷ renew ∷ [])
@@ -43,4 +44,7 @@ resetEdges =
     ∷ follows single (grant 0 1 ∷ credit 0 1 ∷ serve 0 ∷ renew ∷ deny 1 17 ∷ grant 0 0 ∷ refuse 0 11 ∷ serve 0 ∷ decline 23 ∷ [])
     -- a refused reset changes nothing: IF is the newest frame, and the mark stands
     ∷ follows listing (refuseFrom 0 7 20 ∷ lend 2 1 ∷ decline 23 ∷ deny 1 17 ∷ grant 0 4 ∷ [])
+    -- and so does the owner at CP, and C
+    ∷ follows listing (grant 0 1 ∷ serve 0 ∷ decline 23 ∷ deny 1 17 ∷ [])
+    ∷ follows oneShare (grant 0 1 ∷ decline 23 ∷ grant 0 4 ∷ refuse 0 11 ∷ [])
     ∷ []
