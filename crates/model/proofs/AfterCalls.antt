@@ -25,7 +25,7 @@ after-call : (r : Played paper) (c : Call) → Known (r .state .plan) r → Know
 after-call r (Call.request w) g = after-request g w
 after-call r (Call.credit i p) g = after-credit g i p
 after-call r Call.tick g = after-tick g
-after-call r (Call.lend m x) g = after-lend g m x
+after-call r (Call.lend m) g = after-lend g m
 after-call r Call.reset g = after-reset g
 
 after-calls : {P : Plan} (r : Played paper) (calls : List Call) → Known P r → Known P (play paper r calls)

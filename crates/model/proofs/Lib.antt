@@ -47,7 +47,7 @@ pub mod AfterTick
 pub mod AfterLend
 pub mod AfterReset
 pub mod AfterCalls
-pub mod LendChoice
+pub mod LendTurn
 pub mod Demand3
 pub mod ListingMeets
 pub mod Holding
