@@ -55,6 +55,10 @@ pub mod Buffer
 pub mod TwoHops
 pub mod RequestsAlike
 pub mod AsFresh
+pub mod TurnOrder
+pub mod Turns
+pub mod TurnCounts
+pub mod Fairness
 -- edges, cards that demand 3 sends back, streams that meet the premise of the least count, and what the premise on tiles is for
 pub mod Unfoldings
 pub mod Edges

@@ -26,6 +26,7 @@ pub mod Buffer
 pub mod TilesToCome
 pub mod TwoHops
 pub mod AsFresh
+pub mod Fairness
 -- worked examples, and cards that are sent back
 pub mod PlanBytes
 pub mod EdgeCases
