@@ -70,6 +70,9 @@ pub mod BadCards
 pub mod BadLends
 pub mod BadDepartures
 pub mod BadResets
+pub mod FairDecided
+pub mod BadTurns
+pub mod TwoHeads
 pub mod PersistentStream
 pub mod StreamAfterReset
 pub mod TilesToCome

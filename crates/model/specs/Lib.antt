@@ -34,6 +34,7 @@ pub mod PlanEdges
 pub mod CallEdges
 pub mod DepartureEdges
 pub mod LendEdges
+pub mod TurnEdges
 pub mod WriteEdges
 pub mod ResetEdges
 pub mod ProgramEdges
@@ -43,3 +44,4 @@ pub mod BadCards
 pub mod BadLends
 pub mod BadDepartures
 pub mod BadResets
+pub mod BadTurns
