@@ -18,23 +18,25 @@ use Rattle.model.proofs.AfterLend.{after-lend}
 use Rattle.model.proofs.AfterReset.{after-reset}
 
 -- what is known after the calls that were played
-abbrev Known : Plan → Played paper → Type 0
+abbrev pub Known : Plan → Played paper → Type 0
 Known P r = After P (r .state) (r .history)
 
 after-call : (r : Played paper) (c : Call) → Known (r .state .plan) r → Known (r .state .plan) (step paper r c)
 after-call r (Call.request w) g = after-request g w
 after-call r (Call.credit i p) g = after-credit g i p
 after-call r Call.tick g = after-tick g
-after-call r (Call.lend m x) g = after-lend g m x
+after-call r (Call.lend m) g = after-lend g m
 after-call r Call.reset g = after-reset g
+
+pub after-step : {P : Plan} (r : Played paper) (c : Call) → Known P r → Known P (step paper r c)
+after-step r c g = subst (λ P. Known P r → Known P (step paper r c)) (g .plan-is) (after-call r c) g
 
 after-calls : {P : Plan} (r : Played paper) (calls : List Call) → Known P r → Known P (play paper r calls)
 unfolding play
 after-calls r [] g = g
-after-calls r (c ∷ calls) g =
-    after-calls (step paper r c) calls (subst (λ P. Known P r → Known P (step paper r c)) (g .plan-is) (after-call r c) g)
+after-calls r (c ∷ calls) g = after-calls (step paper r c) calls (after-step r c g)
 
-after-fresh : {P : Plan} → Accepted P → After P (fresh P) []
+pub after-fresh : {P : Plan} → Accepted P → After P (fresh P) []
 unfolding fresh ticks origin grantsSince refusalsSince raises credits tally
 after-fresh ok = record { plan-is = refl; invariant = fresh-keeps ok; events = tt; least = λ i known asked. fresh-least ok i known }
 
