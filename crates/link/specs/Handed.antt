@@ -10,13 +10,13 @@ use Rattle.model.specs.Fresh as fresh
 use Rattle.model.specs.Request as request
 use Rattle.model.specs.Credit as credit
 use Rattle.model.specs.Tick as tick
+use Rattle.model.specs.Lend as lend
 use Rattle.model.specs.Reset as reset
 use Rattle.link.specs.declared.Link.{Link}
 use Rattle.link.specs.declared.Step.{Step}
 use Rattle.link.specs.Reading.{linkOf}
 use Rattle.link.specs.Sound.{Sound}
 use Rattle.link.specs.Steps.{Stepped}
-use Rattle.link.specs.Lend.{Lends}
 
 -- l is a link that `Link::fresh` may hand back, by its contract
 abbrev pub Freshly : Plan → Link → Type 0
@@ -34,6 +34,6 @@ pub data Handed (p : Plan) : History → Link → Type 0 where
   by-tick : {h : History} {l : Link} → Handed p h l → (r : Step) (a : Turn)
       → Stepped answerToTick (tick.tick (linkOf l)) r → r .answer ≡ answerToTick a → Handed p (ticked a ∷ h) (r .link)
   by-lend : {h : History} {l : Link} → Handed p h l → (mask : ℕ) (r : Step) (a : Loan)
-      → Lends (linkOf l) mask r → r .answer ≡ answerToLend a → Handed p (lent mask a ∷ h) (r .link)
+      → Stepped answerToLend (lend.lend (linkOf l) mask) r → r .answer ≡ answerToLend a → Handed p (lent mask a ∷ h) (r .link)
   by-reset : {h : History} {l : Link} → Handed p h l → (r : Step) (a : Renewal)
       → Stepped answerToReset (reset.reset (linkOf l)) r → r .answer ≡ answerToReset a → Handed p (Event.reset a ∷ h) (r .link)

@@ -45,7 +45,7 @@ module _ (P : Plan) (some : 0 < flowCount P) (j : ℕ) (hj : j < flowCount P) wh
         apart : {x y : ℕ} → x < n → y < n → (x ≡ y → ⊥) → place n p x ≡ place n p y → ⊥
         apart hx hy d e = d (place-one some p hx hy e)
 
-        go : Dec (k ≡ i) → Dec (k ≡ j) → Level i c (mark k s ∷ marks) (suc k % n)
+        go : Dec (k ≡ i) → Dec (k ≡ j) → Level i c (mark k s ∷ marks) ((k + 1) % n)
         -- both at once
         go (yes e) (yes f) = absurd (other (sym e ∙ f))
         -- flow i, which was due, and comes last from now on
@@ -56,9 +56,9 @@ module _ (P : Plan) (some : 0 < flowCount P) (j : ℕ) (hj : j < flowCount P) wh
               less-if-due = λ lt. absurd (omega (
                 arith,
                 lt,
-                subst (λ x. place n (suc k % n) x + suc (place n p k) ≡ n + place n p x) e (next-round some p (turn .known) (turn .known) (omega arith)),
+                subst (λ x. place n ((k + 1) % n) x + suc (place n p k) ≡ n + place n p x) e (next-round some p (turn .known) (turn .known) (omega arith)),
                 ap (place n p) e,
-                place-below some (suc k % n) j,
+                place-below some ((k + 1) % n) j,
               ));
             }
         -- flow j
@@ -75,10 +75,10 @@ module _ (P : Plan) (some : 0 < flowCount P) (j : ℕ) (hj : j < flowCount P) wh
             k-before-j : place n p k < place n p j
             k-before-j = omega (arith, not-after, apart (turn .known) hj f)
 
-            j-nearer : place n (suc k % n) j + suc (place n p k) ≡ place n p j
+            j-nearer : place n ((k + 1) % n) j + suc (place n p k) ≡ place n p j
             j-nearer = nearer some p (turn .known) hj k-before-j
 
-            still : place n (suc k % n) i < place n (suc k % n) j → Dec (place n p k < place n p i)
+            still : place n ((k + 1) % n) i < place n ((k + 1) % n) j → Dec (place n p k < place n p i)
                 → tally (ofFlow i) (mark k s ∷ marks) < tally (ofFlow j) (mark k s ∷ marks) + c
             still lt (yes after) =
                 let due = level .less-if-due (omega (arith, lt, j-nearer, nearer some p (turn .known) hi after)) in
@@ -94,7 +94,7 @@ module _ (P : Plan) (some : 0 < flowCount P) (j : ℕ) (hj : j < flowCount P) wh
   soon-on : (marks : List Mark) (p q mask k s : ℕ) (h : History) → Soon marks p → LentInTurn P p q mask k h → Waits P j mask h → Soon (mark k s ∷ marks) q
   soon-on marks p q mask k s h soon turn waits = subst (Soon (mark k s ∷ marks)) (sym (turn .next)) (record { within = λ none. go none (ℕ-discrete k j) })
     where
-      go : tally (ofFlow j) (mark k s ∷ marks) ≡ 0 → Dec (k ≡ j) → suc (length marks) + place n (suc k % n) j < n
+      go : tally (ofFlow j) (mark k s ∷ marks) ≡ 0 → Dec (k ≡ j) → suc (length marks) + place n ((k + 1) % n) j < n
       go none (yes e) = absurd (omega (arith, none, lent-hit j k s marks e))
       go none (no d) =
           let apart : place n p k ≡ place n p j → ⊥ = λ e. d (place-one some p (turn .known) hj e) in
@@ -139,7 +139,7 @@ module _ (P : Plan) (some : 0 < flowCount P) (h : History) (p : ℕ) (t : Turned
         arith,
         subst (λ y. place (flowCount P) y i < place (flowCount P) y j) (m .next) lt,
         next-round some x (m .known) (m .known) (omega arith),
-        place-below some (suc i % flowCount P) j,
+        place-below some ((i + 1) % flowCount P) j,
       ));
     },
   )

@@ -1,8 +1,7 @@
 -- The order in which a lend looks at the flows, and how it changes with the flow that is lent to. Assumes nothing.
 use Prim.Native.Nat.{ℕ, suc, _+_, _-_, _%_, _≤_, _<_}
 use mathlib.Core.Path.{_≡_, sym, ap, _∙_}
-use native.Mathlib.Nat.{mod-lt, mod-mod, mod-add-mod, add-mod-right}
-use native.Mathlib.Numerals.{add-one}
+use native.Mathlib.Nat.{mod-mod, mod-add-mod, add-mod-right}
 use native.Mathlib.Omega.{arith}
 use Rattle.model.specs.Tables.{ahead}
 use Rattle.model.proofs.Round.{firstWith, firstWith-low, firstWith-high, firstWith-mod, ahead-mod}
@@ -23,27 +22,23 @@ module _ {n : ℕ} (some : 0 < n) (p : ℕ) where
 
   module _ {k : ℕ} (hk : k < n) {x : ℕ} (hx : x < n) where
     -- the flow after k, as a number from p on
-    after-k : suc k % n % n ≡ suc (firstWith n p k) % n
-    after-k = mod-mod (suc k) n ∙ ap (_% n) {x = suc k} {y = suc (firstWith n p k % n)} (ap suc (sym (firstWith-mod some p k hk))) ∙ on (firstWith n p k)
-      where
-        on : (a : ℕ) → suc (a % n) % n ≡ suc a % n
-        on a = let e : suc (a % n) ≡ a % n + 1 = omega arith in let f : a + 1 ≡ suc a = omega arith in
-            ap (_% n) e ∙ mod-add-mod a n 1 ∙ ap (_% n) f
+    after-k : (k + 1) % n % n ≡ (firstWith n p k + 1) % n
+    after-k = mod-mod (k + 1) n ∙ ap (λ a. (a + 1) % n) (sym (firstWith-mod some p k hk)) ∙ mod-add-mod (firstWith n p k) n 1
 
     -- a flow that comes after k is nearer by the flows up to k
-    pub nearer : place n p k < place n p x → place n (suc k % n) x + suc (place n p k) ≡ place n p x
+    pub nearer : place n p k < place n p x → place n ((k + 1) % n) x + suc (place n p k) ≡ place n p x
     unfolding firstWith
     nearer lt =
-        let far = ahead-mod some {b = suc (firstWith n p k)} {x = firstWith n p x} (omega arith) (omega (arith, firstWith-high some p x)) in
-        let here : place n (suc k % n) x ≡ firstWith n p x - suc (firstWith n p k) =
+        let far = ahead-mod some {b = firstWith n p k + 1} {x = firstWith n p x} (omega arith) (omega (arith, firstWith-high some p x)) in
+        let here : place n ((k + 1) % n) x ≡ firstWith n p x - (firstWith n p k + 1) =
         (λ i. ahead n (after-k i) (sym (firstWith-mod some p x hx) i)) ∙ far in
         omega arith
 
     -- k itself, and a flow that was before it, come in the next round
-    pub next-round : place n p x ≤ place n p k → place n (suc k % n) x + suc (place n p k) ≡ n + place n p x
+    pub next-round : place n p x ≤ place n p k → place n ((k + 1) % n) x + suc (place n p k) ≡ n + place n p x
     unfolding firstWith
     next-round le =
-        let far = ahead-mod some {b = suc (firstWith n p k)} {x = firstWith n p x + n} (omega (arith, firstWith-high some p k)) (omega arith) in
+        let far = ahead-mod some {b = firstWith n p k + 1} {x = firstWith n p x + n} (omega (arith, firstWith-high some p k)) (omega arith) in
         let round = sym (add-mod-right (firstWith n p x) n ∙ firstWith-mod some p x hx) in
-        let here : place n (suc k % n) x ≡ firstWith n p x + n - suc (firstWith n p k) = (λ i. ahead n (after-k i) (round i)) ∙ far in
+        let here : place n ((k + 1) % n) x ≡ firstWith n p x + n - (firstWith n p k + 1) = (λ i. ahead n (after-k i) (round i)) ∙ far in
         omega (arith, firstWith-high some p k)

@@ -17,7 +17,7 @@ use Rattle.model.proofs.TurnOrder.{place}
 -- A lend goes to flow k, where p was the flow to look from: the next one is that after k, and no flow that waits was looked at before k.
 pub record LentInTurn (P : Plan) (p q mask k : ℕ) (h : History) : Type 0 where
   pub known : k < flowCount P
-  pub next : q ≡ suc k % flowCount P
+  pub next : q ≡ (k + 1) % flowCount P
   pub first : (j : ℕ) → j < flowCount P → Waits P j mask h → place (flowCount P) p k ≤ place (flowCount P) p j
 
 -- what an event does to it: p was the flow to look from, and q is

@@ -1,5 +1,5 @@
 -- Cards that lend out of turn. Document 02, N8. Each is the paper's card but for one fault. Assumes nothing.
-use Prim.Native.Nat.{ℕ, suc, _%_}
+use Prim.Native.Nat.{ℕ, _+_, _%_}
 use Rattle.model.specs.Plan.{flowCount}
 use Rattle.model.specs.Calls.{Loan, accepted, refused}
 use Rattle.model.specs.Link.{Link, withLookFrom}
@@ -23,7 +23,7 @@ stays l = l .lookFrom
 
 -- the one after flow i, going round
 abbrev following : Link → ℕ → ℕ
-following l i = suc i % flowCount (l .plan)
+following l i = (i + 1) % flowCount (l .plan)
 
 -- ---- the cards
 
@@ -49,7 +49,7 @@ tickForgets = withTick (λ l. (withLookFrom (paper .tick l .0) 0, paper .tick l 
 
 -- leaves n after a lend to flow n - 1
 abbrev pub leavesCount : Card
-leavesCount = turnsBy (λ l i. suc i) stays
+leavesCount = turnsBy (λ l i. i + 1) stays
 
 -- a granted reset leaves the flow to look from
 abbrev pub keepsTurn : Card

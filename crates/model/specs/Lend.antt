@@ -1,5 +1,5 @@
 -- The lend of the idle slot. Document 02, N1 and N8. Assumes nothing.
-use Prim.Native.Nat.{ℕ, zero, suc, _%_, _^_}
+use Prim.Native.Nat.{ℕ, zero, suc, _+_, _%_, _^_}
 use mathlib.Core.List.{List, _∷_, []}
 use mathlib.Core.Option.{Option, some, none}
 use mathlib.Core.Bool.{Bool, true, not, _&&_, _||_}
@@ -34,7 +34,7 @@ takenBy l i = withTaken (withFlow l i (withHeld (flow l i) (heldFrom l i (l .cur
 
 -- N8: the link "remembers the flow to look from next", which is the one after the flow that the slot is lent to, going round the n flows
 unfoldable pub lentTo : Link → ℕ → Link
-lentTo l i = withLookFrom (takenBy l i) (suc i % flowCount (l .plan))
+lentTo l i = withLookFrom (takenBy l i) ((i + 1) % flowCount (l .plan))
 
 -- N8: "the first flow of the mask that can take it, looking from the flow after the last one lent to and going round". Where it is some k, that flow
 -- is k modulo n.

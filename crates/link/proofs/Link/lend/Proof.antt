@@ -35,13 +35,11 @@ module _ (c : tie.Else2) where
   abbrev hand-there : AtHand (link-at (window-at refused-at)) (link-at (window-at refused-at) .plan) (window-at refused-at .window .result)
   hand-there = hand-at (window-at refused-at)
 
+  flow-known : taker-at c .taker .result < link-at (window-at refused-at) .plan .count
+  flow-known = taker-below hand-there _ (refused-at .refusal .ensures) (free-at (taker-at c) .if1 .left) (taker-at c .taker .ensures) (c .if2 .left)
+
   flow-few : taker-at c .taker .result < 16
-  flow-few =
-      omega (
-        arith,
-        taker-below hand-there _ (refused-at .refusal .ensures) (free-at (taker-at c) .if1 .left) (taker-at c .taker .ensures) (c .if2 .left),
-        flows-few hand-there,
-      )
+  flow-few = omega (arith, flow-known, flows-few hand-there)
 
 window-requires : tie.Need-window-requires
 window-requires c κs = measures _ (c .before .pre)
@@ -62,7 +60,7 @@ returns c =
 taker-requires : tie.Need-taker-requires
 taker-requires c κs =
     let a = hand-at (window-at (c .before .before .before)) in
-    (plan-valid a, a .proper)
+    (plan-valid a, a .proper, a .sound .first)
 
 returns-2 : tie.Need-returns-2
 returns-2 c =
@@ -75,14 +73,18 @@ shift-from-requires c κs =
     let a = hand-there (c .before) in
     record { proper = a .proper; flow = flow-few (c .before); position = rw (read-size _ (a .window-is)) (a .sound .current) }
 
+next-requires : tie.Need-next-requires
+next-requires c κs = flow-known (c .before .before)
+
 cast-t12 : tie.Need-cast-t12
-cast-t12 c = omega (arith, flow-few (c .before .before))
+cast-t12 c = omega (arith, flow-few (c .before .before .before))
 
 returns-3 : tie.Need-returns-3
 returns-3 c =
-    let e = c .before .before in
+    let shifted = c .before in
+    let e = shifted .before .before in
     lend-to-taker (hand-there e) _ (refused-at e .refusal .ensures) (free-at (taker-at e) .if1 .left) (taker-at e .taker .ensures) (e .if2 .left)
-    (c .shift-from .ensures)
+    (c .next .ensures) (shifted .shift-from .ensures)
 
 pub lend-spec : {M : Type 1} → statement M
 lend-spec =
@@ -95,5 +97,6 @@ lend-spec =
     taker-requires
     returns-2
     shift-from-requires
+    next-requires
     cast-t12
     returns-3)
