@@ -1,5 +1,5 @@
 -- A lend leaves a link that meets the conditions. Assumes nothing.
-use Prim.Native.Nat.{ℕ, zero, suc, _%_, _<_}
+use Prim.Native.Nat.{ℕ, zero, suc, _+_, _%_, _<_}
 use mathlib.Core.Path.{_≡_, refl, sym, subst}
 use mathlib.Core.Option.{Option, some, none}
 use mathlib.Core.Bool.{true}
@@ -24,7 +24,7 @@ lent-at : {l : Link} {t : ℕ} → LinkAt l t → {i : ℕ} → i < flowCount (l
 unfolding lentTo canTake
 lent-at {l} {t} v {i} known can = record {
   current = v .current;
-  look-from-below = mod-lt (suc i) (omega arith);
+  look-from-below = mod-lt (i + 1) (omega arith);
   owners-long = v .owners-long;
   flows-long = length-table (flowCount (l .plan)) _;
   owners-known = v .owners-known;
