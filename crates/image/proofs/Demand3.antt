@@ -30,7 +30,7 @@ module _ (plan : List ℕ) where
   chained (by-request x c same word r e) = one-more (chained x) c same (Call.request word) e
   chained (by-credit x c same flow position r e) = one-more (chained x) c same (Call.credit flow position) e
   chained (by-tick x c same r e) = one-more (chained x) c same Call.tick e
-  chained (by-lend x c same mask r e) = one-more (chained x) c same (Call.lend mask (e .choice)) (e .result-is, e .buffer-is)
+  chained (by-lend x c same mask r e) = one-more (chained x) c same (Call.lend mask) e
   chained (by-reset x c same r e) = one-more (chained x) c same Call.reset e
 
   -- a buffer with the image in hand is never turned back
