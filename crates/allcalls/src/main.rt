@@ -1,4 +1,5 @@
-// Plays a file of calls as domelink does, each call by value, and lends too: for tests. A record 4, mask (two bytes, low byte first), 0, 0 is a lend.
+// Plays a file of calls as domelink does, each call by value, and lends and resets too: for tests. A record 4, mask (two bytes, low byte first), 0, 0
+// is a lend, and 5 and four zeros a reset.
 mod call;
 mod input;
 mod output;
