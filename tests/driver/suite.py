@@ -2,7 +2,7 @@
 
 from collections import Counter
 
-from demand3 import departure_ways, lend_ways, reset_ways
+from demand3 import departure_ways, lend_ways, reset_ways, turns
 from demand3.check import check
 from driver.formats import ALLCALLS, DOMELINK
 from driver.starting import NO_END, play, play_in_pieces
@@ -39,6 +39,7 @@ class Suite:
         self.failed = 0
         self.seen = set()           # refusal numbers in the listings
         self.lends = Counter()      # how lends ended
+        self.turns = Counter()      # which flow's turn it was
         self.resets = Counter()     # how resets ended
         self.departures = Counter()     # where they lay, how requests ended
         self.largest_k = -1         # at which the least count was tried
@@ -60,6 +61,7 @@ class Suite:
             if line[:1] in ("P", "R") and line[2:].isdecimal():
                 self.seen.add(int(line[2:]))
         self.lends += verdict.lends
+        self.turns += verdict.turns
         self.resets += verdict.resets
         self.departures += verdict.departures
         self.largest_k = max(self.largest_k, verdict.largest_k())
@@ -80,7 +82,6 @@ class Suite:
         if played.output != right.listing:
             lines = played.output.decode("latin-1").splitlines()
             verdict = check(case.data, lines, self.form.checked)
-            right = case.following(self.form, lines)
         self.note(lines, verdict)
         self.end(name, played, case.trouble,
                  first_difference(right.listing, played.output),
@@ -113,6 +114,7 @@ class Suite:
                   missing and "never seen: %s" % ", ".join(missing))
         if self.form is ALLCALLS:
             self.every_way("lends", lend_ways.WAYS, self.lends)
+            self.every_way("turns", turns.WAYS, self.turns)
             self.every_way("resets", reset_ways.WAYS, self.resets)
             self.test("the least count was tried after a reset with k of 2 "
                       "and more",

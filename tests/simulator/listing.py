@@ -1,7 +1,5 @@
 """The listing of a call file: its bytes in, its lines out."""
 
-from itertools import chain, repeat
-
 from simulator.calls import answer
 from simulator.link import Link
 from simulator.plan import read_plan
@@ -24,10 +22,9 @@ def split_file(data):
     return data[:length], data[length:]
 
 
-def simulate(data, kinds=DOMELINK, heard=()):
+def simulate(data, kinds=DOMELINK):
     """The listing of a call file, as lines; `kinds` is a program's table of
-    records.  `heard` is the program's listing, where it is at hand: it is
-    followed where an answer is left open."""
+    records."""
     split = split_file(data)
     if split is None:
         return ["P 1"]
@@ -37,8 +34,7 @@ def simulate(data, kinds=DOMELINK, heard=()):
         return lines
     link = Link(plan)
     rest = split[1]
-    starts = range(0, len(rest), SIZE)
-    for start, given in zip(starts, chain(heard[1:], repeat(None))):
+    for start in range(0, len(rest), SIZE):
         call = read_record(rest[start:start + SIZE], kinds)
-        lines.append(line(*answer(link, call, given)))
+        lines.append(line(*answer(link, call)))
     return lines
