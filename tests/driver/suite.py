@@ -85,7 +85,7 @@ class Suite:
         self.note(lines, verdict)
         self.end(name, played, case.trouble,
                  first_difference(right.listing, played.output),
-                 verdict.faults and "demand 3, " + verdict.faults[0])
+                 verdict.faults and "by the listing, " + verdict.faults[0])
 
     def end(self, name, played, *troubles):
         """The test of a file that was played, with troubles found in it."""
