@@ -51,16 +51,13 @@ class Case:
         self.known = {form: self.own}
 
     def right(self, form):
-        """The right listing, with the lowest flow at each lend.  A file
-        with neither lends nor resets has one listing, whatever the program."""
+        """The right listing.  A file with neither lends nor resets has one,
+        whatever the program."""
         if form not in self.known:
-            self.known[form] = (self.following(form) if has_other_calls(self.data)
-                                else self.own)
+            self.known[form] = (
+                Right(self.data, simulate(self.data, form.kinds), form)
+                if has_other_calls(self.data) else self.own)
         return self.known[form]
-
-    def following(self, form, heard=()):
-        """The right listing with a program's choices where it has a choice."""
-        return Right(self.data, simulated(self.data, form, heard), form)
 
 
 # ---- files for every program

@@ -1,7 +1,5 @@
 """The listing of a call file: its bytes in, its lines out."""
 
-from itertools import chain, repeat
-
 from simulator.calls import answer
 from simulator.link import Link
 from simulator.plan import read_plan
@@ -24,11 +22,9 @@ def split_file(data):
     return data[:length], data[length:]
 
 
-def steps(data, kinds=DOMELINK, heard=()):
+def steps(data, kinds=DOMELINK):
     """Each line of the listing of a call file, and the link after it, or None
-    where there is none; `kinds` is a program's table of records.  `heard` is
-    the program's listing, where it is at hand: it is followed where an answer
-    is left open."""
+    where there is none; `kinds` is a program's table of records."""
     split = split_file(data)
     refusal, plan = read_plan(split[0]) if split else (1, None)
     link = None if refusal else Link(plan)
@@ -36,12 +32,11 @@ def steps(data, kinds=DOMELINK, heard=()):
     if refusal:
         return
     rest = split[1]
-    starts = range(0, len(rest), SIZE)
-    for start, given in zip(starts, chain(heard[1:], repeat(None))):
+    for start in range(0, len(rest), SIZE):
         call = read_record(rest[start:start + SIZE], kinds)
-        yield line(*answer(link, call, given)), link
+        yield line(*answer(link, call)), link
 
 
-def simulate(data, kinds=DOMELINK, heard=()):
+def simulate(data, kinds=DOMELINK):
     """The listing of a call file, as lines."""
-    return [text for text, _ in steps(data, kinds, heard)]
+    return [text for text, _ in steps(data, kinds)]

@@ -112,7 +112,7 @@ module _ (l : Link) (below : l .current < positions (l .plan)) (found : Quiet l)
   nothing-new : renewed (renewed l) ≡ renewed l
   unfolding renewed
   nothing-new =
-      ap₂ (λ flows taken. linkWith l (l .current) (table (positions P) (λ q. none)) flows taken 0)
+      ap₂ (λ flows taken. linkWith l (l .current) (table (positions P) (λ q. none)) flows taken (renewed l .lookFrom))
       (table-same (flowCount P) _ _ (λ i known. ap (λ x. movedTo x (head (window l)) (entry P i .share)) (from-head i known)))
       (ap (λ o. not (unbooked o) || renewed l .taken) (emptied (l .current) below))
 

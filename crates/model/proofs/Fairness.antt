@@ -1,5 +1,5 @@
 -- The paper's card is fair: its lends go in turn. Assumes nothing.
-use Prim.Native.Nat.{ℕ, zero, suc, _+_, _-_, _%_, _≤_, _<_}
+use Prim.Native.Nat.{ℕ, zero, suc, _-_, _%_, _≤_, _<_}
 use mathlib.Core.Path.{_≡_, refl, sym, ap, _∙_, subst}
 use mathlib.Core.List.{List, _∷_, []}
 use mathlib.Core.Option.{Option, some, none}
@@ -7,66 +7,28 @@ use mathlib.Core.Bool.{Bool, true, false, cond}
 use native.Mathlib.Nat.{mod-lt}
 use native.Mathlib.Decide.{decLe}
 use native.Mathlib.Omega.{arith}
-use lib.Dec.{eqb, ltb}
-use borrow.Author.Tests.{lt-ltb}
 use Rattle.model.specs.Tables.{bit}
 use Rattle.model.specs.Refusals.{firstOf}
-use Rattle.model.specs.Plan.{Plan, Accepted, positions, flowCount, planOf}
+use Rattle.model.specs.Plan.{Plan, Accepted, flowCount, planOf}
 use Rattle.model.specs.Calls.{Call, Event, History, Renewal, lent}
-use Rattle.model.specs.Window.{everyFrom}
-use Rattle.model.specs.Link.{Link, Step, window, holding, cells}
+use Rattle.model.specs.Link.{Link, Step}
 use Rattle.model.specs.Fresh.{fresh}
-use Rattle.model.specs.Request.{Found, found, nowhere, wordTests, sought, booked, refusedAtNewest, answered, requestAfter, request}
-use Rattle.model.specs.Credit.{creditTests, lowered, creditAfter, credit}
-use Rattle.model.specs.Tick.{nextPosition, recycled, advanced, tick}
-use Rattle.model.specs.Lend.{canTake, takes, lendTests, lentTo, firstInTurn, lentAfter, lendAfter, lend}
+use Rattle.model.specs.Lend.{takes, lendTests, lentTo, firstInTurn, lentAfter, lendAfter, lend}
 use Rattle.model.specs.Reset.{quiet, reset}
-use Rattle.model.specs.Word.{flowOf, departureOf}
-use Rattle.model.specs.History.{ticks, upTo}
 use Rattle.model.specs.Card.{Played, paper, step, play, started, run}
 use Rattle.model.specs.Fairness.{Waits, FairOn, Fair}
 use Rattle.model.proofs.Round.{firstWith, firstWith-low, firstWith-mod, ahead-mod}
 use Rattle.model.proofs.Tables.{Hit, firstFrom-some}
 use Rattle.model.proofs.Plan as plan
-use Rattle.model.proofs.Slots.{current-in-window}
-use Rattle.model.proofs.Window.{Current, everyFrom-intro}
-use Rattle.model.proofs.HistoryCounts.{raises-are}
+use Rattle.model.proofs.Window.{Current}
 use Rattle.model.proofs.ResetTests.{granted, notGranted, reset-is}
 use Rattle.model.proofs.AfterHistory.{After}
 use Rattle.model.proofs.AfterCalls.{Known, after-step, after-fresh}
 use Rattle.model.proofs.TurnOrder.{place}
-use Rattle.model.proofs.Turns.{LentInTurn, Moves, Turned}
+use Rattle.model.proofs.Turns.{Moves, Turned}
 use Rattle.model.proofs.TurnCounts.{fair-on}
-
--- ---- calls that leave the flow to look from
-
-request-leaves : (l : Link) (w : ℕ) → request l w .link .lookFrom ≡ l .lookFrom
-unfolding request requestAfter answered booked refusedAtNewest
-request-leaves l w = go (firstOf (wordTests (l .plan) w))
-  where
-    at-found : (f : Found) → answered l w f .link .lookFrom ≡ l .lookFrom
-    at-found (found j c p) = refl
-    at-found (nowhere c) = refl
-
-    go : (r : ℕ) → requestAfter r l w .link .lookFrom ≡ l .lookFrom
-    go zero = at-found (sought l (flowOf w) (departureOf w))
-    go (suc r) = refl
-
-credit-leaves : (l : Link) (i p : ℕ) → credit l i p .link .lookFrom ≡ l .lookFrom
-unfolding credit creditAfter lowered
-credit-leaves l i p = go (firstOf (creditTests l i p))
-  where
-    go : (r : ℕ) → creditAfter r l i p .link .lookFrom ≡ l .lookFrom
-    go zero = refl
-    go (suc r) = refl
-
-tick-leaves : (l : Link) → tick l .link .lookFrom ≡ l .lookFrom
-unfolding tick advanced recycled
-tick-leaves l = go (eqb (nextPosition l % l .plan .slots) 0)
-  where
-    go : (b : Bool) → (cond b (recycled l) l) .lookFrom ≡ l .lookFrom
-    go true = refl
-    go false = refl
+use Rattle.model.proofs.LookFrom.{request-leaves, credit-leaves, tick-leaves}
+use Rattle.model.proofs.Waiting.{waiting-takes}
 
 -- ---- the lend
 
@@ -77,18 +39,6 @@ module _ {l : Link} {h : History} (g : After (l .plan) l h) where
 
   abbrev n : ℕ
   n = flowCount P
-
-  -- what a flow that waits holds is in the link's table
-  waiting-takes : (j mask : ℕ) → j < n → Waits P j mask h → takes l mask j ≡ true
-  unfolding canTake
-  waiting-takes j mask known waits = rw (waits .in-mask) (subst (λ p. everyFrom (window l) p fewer ≡ true) (sym (v .current .current-is)) room)
-    where
-      fewer : ℕ → Bool
-      fewer q = ltb (holding l j q) (cells l j)
-
-      room : everyFrom (window l) (ticks h % positions P) fewer ≡ true
-      room = everyFrom-intro (v .current) (ticks h) fewer (current-in-window ok (ticks h))
-          (λ r w le. lt-ltb _ (cells l j) (omega (arith, v .holds j known r .at-slot w, waits .can-take r le, raises-are P (upTo j r) h)))
 
   module _ (mask : ℕ) where
     abbrev test : ℕ → Bool
@@ -110,7 +60,7 @@ module _ {l : Link} {h : History} (g : After (l .plan) l h) where
         go (no gt) =
             let fails = hit .none-before (firstWith n (l .lookFrom) j) (firstWith-low some-flow (l .lookFrom) j) (omega arith) in
             let both : _≡_ {A = Bool} true false =
-            sym (waiting-takes j mask known waits) ∙ ap (takes l mask) (sym (firstWith-mod some-flow (l .lookFrom) j known)) ∙ fails in
+            sym (waiting-takes g j mask known waits) ∙ ap (takes l mask) (sym (firstWith-mod some-flow (l .lookFrom) j known)) ∙ fails in
             let z : _≡_ {A = ℕ} 1 0 = ap bit both in
             absurd (omega arith)
 

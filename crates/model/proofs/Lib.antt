@@ -58,6 +58,8 @@ pub mod AsFresh
 pub mod TurnOrder
 pub mod Turns
 pub mod TurnCounts
+pub mod LookFrom
+pub mod Waiting
 pub mod Fairness
 -- edges, cards that demand 3 sends back, streams that meet the premise of the least count, and what the premise on tiles is for
 pub mod Unfoldings

@@ -27,7 +27,7 @@ free-at c = c .before .before .before
 abbrev taker-at : tie.Else2 → tie.After-taker
 taker-at c = c .before .before
 
--- the flow that gets the slot is one of the plan's
+-- the flow that gets the slot is one of the plan's, and so one of sixteen
 module _ (c : tie.Else2) where
   abbrev refused-at : tie.After-refusal
   refused-at = free-at (taker-at c) .before
@@ -35,11 +35,10 @@ module _ (c : tie.Else2) where
   abbrev hand-there : AtHand (link-at (window-at refused-at)) (link-at (window-at refused-at) .plan) (window-at refused-at .window .result)
   hand-there = hand-at (window-at refused-at)
 
-  flow-known : taker-at c .taker .result < link-at (window-at refused-at) .plan .count
-  flow-known = taker-below hand-there _ (refused-at .refusal .ensures) (free-at (taker-at c) .if1 .left) (taker-at c .taker .ensures) (c .if2 .left)
-
-  flow-few : taker-at c .taker .result < 16
-  flow-few = omega (arith, flow-known, flows-few hand-there)
+  flow-there : (taker-at c .taker .result < link-at (window-at refused-at) .plan .count) × (taker-at c .taker .result < 16)
+  flow-there =
+      let known = taker-below hand-there _ (refused-at .refusal .ensures) (free-at (taker-at c) .if1 .left) (taker-at c .taker .ensures) (c .if2 .left) in
+      (known, omega (arith, known, flows-few hand-there))
 
 window-requires : tie.Need-window-requires
 window-requires c κs = measures _ (c .before .pre)
@@ -71,13 +70,13 @@ returns-2 c =
 shift-from-requires : tie.Need-shift-from-requires
 shift-from-requires c κs =
     let a = hand-there (c .before) in
-    record { proper = a .proper; flow = flow-few (c .before); position = rw (read-size _ (a .window-is)) (a .sound .current) }
+    record { proper = a .proper; flow = flow-there (c .before) .1; position = rw (read-size _ (a .window-is)) (a .sound .current) }
 
 next-requires : tie.Need-next-requires
-next-requires c κs = flow-known (c .before .before)
+next-requires c κs = omega (arith, flow-there (c .before .before))
 
 cast-t12 : tie.Need-cast-t12
-cast-t12 c = omega (arith, flow-few (c .before .before .before))
+cast-t12 c = omega (arith, flow-there (c .before .before .before))
 
 returns-3 : tie.Need-returns-3
 returns-3 c =

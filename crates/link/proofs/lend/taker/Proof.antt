@@ -26,6 +26,10 @@ flow-known c = flow-below (c .loop .inv) (count-some (c .before .args .t2) (c .b
 flow-few : (c : tie.At-loop Inv-loop μ-loop) → c .loop .i < 16
 flow-few c = omega (arith, flow-known c, count-most (c .before .args .t2) (c .before .pre .0))
 
+-- and one is left with it
+some-left : (c : tie.In-loop Inv-loop μ-loop) → 0 < c .before .loop .left
+some-left c = omega (arith, c .loop-test .taken)
+
 loop-holds : tie.Need-loop-holds Inv-loop μ-loop
 loop-holds c = looking-all (c .pre .2)
 
@@ -51,7 +55,7 @@ returns c =
     let room = c .before in
     let looked = room .before .before .before in
     let g = looked .before .loop .inv in
-    found g (looked .loop-test .taken) (takes-here g (room .before .if1 .taken) (sym (room .room-from .ensures) ∙ c .if2 .taken))
+    found g (some-left looked) (takes-here g (room .before .if1 .taken) (sym (room .room-from .ensures) ∙ c .if2 .taken))
 
 next-requires : tie.Need-next-requires Inv-loop μ-loop
 next-requires c κs = flow-known (c .before .before .before)
@@ -67,7 +71,7 @@ loop-again c =
     let looked = c .before .before .before in
     let g = looked .before .loop .inv in
     rw (c .next .ensures)
-    (looking-on g (looked .loop-test .taken)
+    (looking-on g (some-left looked)
     (⊎-elim
     (λ (in-mask, room, full). no-room g (in-mask .taken) (sym (room .ensures) ∙ full .left))
     (λ outside. not-in-mask g (outside .left))
