@@ -46,6 +46,7 @@ pub mod AfterLend
 pub mod AfterCalls
 pub mod LendChoice
 pub mod Demand3
+pub mod CountedBursts
 pub mod ListingMeets
 pub mod Holding
 pub mod Buffer

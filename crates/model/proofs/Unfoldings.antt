@@ -9,6 +9,7 @@ use Rattle.model.specs.Request.{valid, canLeave, validFor, search, sough
 use Rattle.model.specs.Credit.{lowered, creditAfter, credit}
 use Rattle.model.specs.Tick.{recycled, advanced, tick}
 use Rattle.model.specs.Lend.{canTake, lentTo, chosen, lentAfter, lendAfter, lend}
+use Rattle.model.specs.Burst.{inOrder, burst}
 use Rattle.model.specs.WrittenPlan.{bytesOf, writeRefusal, writtenAfter, written}
 use Rattle.model.specs.Record.{records, callOf}
 use Rattle.model.specs.Listing.{digits, decimal, outcomes, listing, planMissing, outputAfter, output}
@@ -33,6 +34,10 @@ requests-compute = tt
 unfoldable pub calls-compute : Unit {0}
 unfolding fresh requests-compute lowered creditAfter credit recycled advanced tick canTake lentTo chosen lentAfter lendAfter lend play
 calls-compute = tt
+
+unfoldable pub bursts-compute : Unit {0}
+unfolding requests-compute inOrder burst
+bursts-compute = tt
 
 -- a plan written
 unfoldable pub writer-computes : Unit {0}

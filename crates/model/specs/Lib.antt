@@ -13,6 +13,7 @@ pub mod Tick
 -- document 02
 pub mod Lend
 pub mod WrittenPlan
+pub mod Burst
 -- the program
 pub mod Record
 pub mod Listing
@@ -20,6 +21,7 @@ pub mod Listing
 pub mod History
 pub mod Claim
 pub mod Card
+pub mod CountedBursts
 pub mod Holding
 pub mod Buffer
 pub mod TilesToCome
@@ -31,6 +33,7 @@ pub mod PlanEdges
 pub mod CallEdges
 pub mod DepartureEdges
 pub mod LendEdges
+pub mod BurstEdges
 pub mod WriteEdges
 pub mod ProgramEdges
 pub mod Edges
