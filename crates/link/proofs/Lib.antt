@@ -12,6 +12,7 @@ mod Searches
 pub mod Given
 mod Replies
 pub mod Requests
+pub mod GrantedPositions
 pub mod Credits
 pub mod Lends
 mod FrameChanges

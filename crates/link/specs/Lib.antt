@@ -7,4 +7,5 @@ pub mod Given
 pub mod Reply
 pub mod Fresh
 pub mod Lend
+pub mod Bursts
 pub mod Handed

@@ -86,7 +86,7 @@ first-handled (suc k) l (x ∷ xs) =
     let first = request l (x .word) in
     ap (λ ys. filled x (first .answer) ∷ ys) (first-handled k (first .link) xs)
 
-burst-played : {P : Plan} (r : Played paper) → Known P r → (xs : List Ask) → stepWith r (several xs) ≡ play paper r (countsAs (several xs))
+pub burst-played : {P : Plan} (r : Played paper) → Known P r → (xs : List Ask) → stepWith r (several xs) ≡ play paper r (countsAs (several xs))
 unfolding burst asks
 burst-played r g xs =
     let b = inOrder (r .state) (take 16 xs) in
@@ -94,7 +94,7 @@ burst-played r g xs =
     ∙ ap (from (b .link)) (sym (reverseAux-eq (map eventIn (b .records)) (r .history)))
     ∙ sym (in-order-played (r .state) (r .history) g (take 16 xs))
 
-play-both : (r : Played paper) (xs ys : List Call) → play paper r (xs ++ ys) ≡ play paper (play paper r xs) ys
+pub play-both : (r : Played paper) (xs ys : List Call) → play paper r (xs ++ ys) ≡ play paper (play paper r xs) ys
 unfolding play
 play-both r [] ys = refl
 play-both r (x ∷ xs) ys = play-both (step paper r x) xs ys

@@ -18,10 +18,19 @@ pub record Burst : Type 0 where
   pub link : Link
   pub records : List Ask
 
--- Record x with the answer to its request: "On a grant the result is 0; on a refusal the position is 0; the word is not written."
+-- "On a grant the result is 0"; on a refusal it is the number.
+abbrev pub resultOf : Grant → ℕ
+resultOf (accepted word) = 0
+resultOf (refused number) = number
+
+-- "on a refusal the position is 0"; on a grant it is the position granted, the departure of the granted word.
+abbrev pub positionOf : Grant → ℕ
+positionOf (accepted word) = departureOf word
+positionOf (refused number) = 0
+
+-- record x with the answer to its request: "the word is not written"
 abbrev pub filled : Ask → Grant → Ask
-filled x (accepted word) = record { word = x .word; result = 0; position = departureOf word }
-filled x (refused number) = record { word = x .word; result = number; position = 0 }
+filled x a = record { word = x .word; result = resultOf a; position = positionOf a }
 
 abbrev pub inFront : Ask → Burst → Burst
 inFront x b = record { link = b .link; records = x ∷ b .records }
