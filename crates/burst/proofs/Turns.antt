@@ -33,6 +33,7 @@ use Rattle.burst.specs.declared.Ask.{Ask}
 use Rattle.burst.specs.declared.Filled.{Filled}
 use Rattle.burst.specs.Reading.{askOf, asksOf}
 use Rattle.burst.specs.Fills.{Fills}
+use Rattle.burst.specs.First.{burstOfFirst}
 
 -- a link's machine values
 abbrev pub link-vals : Link → List Val
@@ -197,4 +198,29 @@ start l xs n ok sound = record {
   within = omega arith;
   long = refl;
   comes = ap (λ (k : ℕ). upTo k (linkOf l) (asksOf xs)) (all-left n);
+}
+
+-- ---- the first records of an array
+
+asks-front : (k : ℕ) (xs : List Ask) → asksOf (take k xs) ≡ take k (asksOf xs)
+asks-front zero xs = refl
+asks-front (suc k) [] = refl
+asks-front (suc k) (x ∷ xs) = ap (λ (ys : List paper.Ask). askOf x ∷ ys) (asks-front k xs)
+
+asks-rest : (k : ℕ) (xs : List Ask) → asksOf (drop k xs) ≡ drop k (asksOf xs)
+asks-rest zero xs = refl
+asks-rest (suc k) [] = refl
+asks-rest (suc k) (x ∷ xs) = asks-rest k xs
+
+asks-both : (xs ys : List Ask) → asksOf (xs ++ ys) ≡ asksOf xs ++ asksOf ys
+asks-both [] ys = refl
+asks-both (x ∷ xs) ys = ap (λ (zs : List paper.Ask). askOf x ∷ zs) (asks-both xs ys)
+
+-- a burst of the first k, and the others behind them
+pub front-handled : (k : ℕ) (l r : Link) (xs ys : List Ask) → Bursted (burst (linkOf l) (asksOf (take k xs))) r (asksOf ys)
+    → Bursted (burstOfFirst k (linkOf l) (asksOf xs)) r (asksOf (ys ++ drop k xs))
+front-handled k l r xs ys b = record {
+  link-is = b .link-is ∙ ap (λ (zs : List paper.Ask). burst (linkOf l) zs .link) (asks-front k xs);
+  records-are = asks-both ys (drop k xs) ∙ (λ i. (b .records-are ∙ ap (λ (zs : List paper.Ask). burst (linkOf l) zs .records) (asks-front k xs)) i ++ asks-rest k xs i);
+  sound = b .sound;
 }

@@ -1,6 +1,6 @@
 // A burst: the requests of several words in a single call.
 ghost use mathlib.Core.Path.{_≡_};
-ghost use Prim.Native.Nat.{min};
+ghost use Prim.Native.Nat.{_≤_, min};
 ghost use Rattle.model.specs.Burst as model;
 ghost use Rattle.model.specs.Request as request;
 ghost use Rattle.link.specs.Reading.{linkOf};
@@ -8,8 +8,10 @@ ghost use Rattle.link.specs.Sound.{Sound};
 ghost use Rattle.link.specs.Bursts.{Bursted};
 ghost use Rattle.burst.specs.Reading.{asksOf, resultIn, positionIn};
 ghost use Rattle.burst.specs.Fills.{Fills};
+ghost use Rattle.burst.specs.First.{burstOfFirst};
 use calls::Answer;
 use link::Link;
+use window::numbers::smaller;
 
 // A word, and what its request comes to: 0 and the position granted, or the refusal and 0.
 pub struct Ask {
@@ -64,10 +66,7 @@ fn fill(link: Link, word: u32) -> Filled
 fn handled(n: usize) -> usize
     ensures { λ r. ⌜ r ≡ min n 16 ⌝ }
 {
-    if n < 16 {
-        return n;
-    }
-    16
+    smaller(n, 16)
 }
 
 // The requests of the first 16 records, in order: their answers are filled in, and all else of the slice stays.
@@ -87,4 +86,30 @@ pub fn burst(link: Link, records: &mut [Ask]) -> Link
         i = i + 1;
     }
     last
+}
+
+// A link after a burst, and the array whose first records it was lent.
+pub struct HandedBack {
+    pub link: Link,
+    pub records: [Ask; 20],
+}
+
+fn lend_first(link: Link, records: [Ask; 20], count: usize) -> HandedBack
+    requires { ⌜ Sound link × (count ≤ 20) ⌝ }
+    ensures { λ r. ⌜ Bursted (burstOfFirst count (linkOf link) (asksOf records)) (r .link) (asksOf (r .records)) ⌝ }
+{
+    let mut rs = records;
+    let last = burst(link, &mut rs[..count]);
+    HandedBack {
+        link: last,
+        records: rs,
+    }
+}
+
+// A burst of the first records of an array, at most 20. No reference stands in the signature.
+pub fn burst_first(link: Link, records: [Ask; 20], count: usize) -> HandedBack
+    requires { ⌜ Sound link ⌝ }
+    ensures { λ r. ⌜ Bursted (burstOfFirst (min count 20) (linkOf link) (asksOf records)) (r .link) (asksOf (r .records)) ⌝ }
+{
+    lend_first(link, records, smaller(count, 20))
 }
