@@ -1,4 +1,6 @@
-// Plays a file of calls as domelink does, each call by value, and lends too: for tests. A record 4, mask (two bytes, low byte first), 0, 0 is a lend.
+// Plays a file of calls as domelink does, each call by value, and lends and bursts too: for tests. A record 4, mask (two bytes, low byte first), 0, 0
+// is a lend. A record 6, count, 0, 0, 0 is a burst; its words follow, four bytes each.
+mod bursts;
 mod call;
 mod input;
 mod output;
@@ -24,6 +26,9 @@ fn round_once(link: Link) -> Round
     let mut record = [0u8; 5];
     let got = io::read_full(libc::STDIN_FILENO, &mut record);
     if got == 5 {
+        if record[0] == 6 {
+            return bursts::round(link, record);
+        }
         let step = call::made(link, record);
         let answer = step.answer;
         let more = output::say(answer);
