@@ -1,11 +1,11 @@
 //! Plays a call file: reads a plan and 5-byte call records from standard input
 //! and writes one line for each to standard output. Records have three kinds;
-//! `allcalls.rs` has lends too.
+//! `allcalls.rs` has lends and bursts too.
 
 #[allow(dead_code)]
 mod scheduler;
 
-use scheduler::{refusal, Link, Plan};
+use scheduler::{refusal, Ask, Link, Plan};
 use std::io::{self, ErrorKind, Read, Write};
 
 /// Bytes in one call record.

@@ -20,6 +20,9 @@ pub const HEADER: usize = 12;
 /// Bytes in one entry of the plan.
 pub const ENTRY: usize = 4;
 
+/// Most records that a burst handles.
+pub const MOST_ASKED: usize = 16;
+
 /// Owner of a position that nobody has booked.
 const NOBODY: u8 = MOST_FLOWS as u8;
 
@@ -174,6 +177,16 @@ impl Word {
             | u32::from(self.quantum) << 10
             | u32::from(self.departure)
     }
+}
+
+/// A record of a burst: a word, and what its request comes to.
+#[derive(Clone, Copy, Debug, PartialEq, Eq)]
+pub struct Ask {
+    pub word: u32,
+    /// 0, or the number of the refusal.
+    pub result: u8,
+    /// The position granted, or 0.
+    pub position: u8,
 }
 
 /// Places that are looked at or changed together.
@@ -460,6 +473,18 @@ impl Link {
             ..asked
         }
         .join())
+    }
+
+    /// Asks for the words of the first 16 records, in order, and fills in their
+    /// answers.
+    #[inline]
+    pub fn burst(&mut self, records: &mut [Ask]) {
+        for record in records.iter_mut().take(MOST_ASKED) {
+            (record.result, record.position) = match self.request(record.word) {
+                Ok(word) => (0, word as u8),
+                Err(number) => (number, 0),
+            };
+        }
     }
 
     /// Gives one of a flow's cells back from a position on.

@@ -9,9 +9,10 @@ from driver import (
 from driver.formats import ALLCALLS
 from driver.side_by_side import made
 from driver.suite import Suite
-from driver.tally import DepartureTally, LendTally, QuestionTally, Tally
+from driver.tally import (
+    BurstTally, DepartureTally, LendTally, QuestionTally, Tally)
 from edges import open_choice, questions, refusals_page
-from edges.all_edges import EDGES, LEND_EDGES
+from edges.all_edges import BURST_EDGES, EDGES, LEND_EDGES
 from front_door import (
     asking_editor, old_program, plan_files, plan_lost_output, plan_read,
     plan_wrong_words, play_files, play_lost_output, slow_reader,
@@ -51,7 +52,7 @@ def tables():
     missing = sorted(set(REFUSALS) - refusals_page.numbers())
     yield ("docs: every refusal has an input",
            missing and "none for %s" % missing)
-    for kind, edges in (("edge", EDGES + LEND_EDGES),
+    for kind, edges in (("edge", EDGES + LEND_EDGES + BURST_EDGES),
                         ("question", questions.EDGES)):
         names = [edge.name for edge in edges]
         twice = sorted({name for name in names if names.count(name) > 1})
@@ -117,6 +118,19 @@ def play_lends(suites, only, count, seed):
     return tally
 
 
+def play_bursts(suites, only, count, seed):
+    """Files with bursts.  The tally of the generated ones."""
+    tally = BurstTally()
+    play_cases(suites, cases.burst_edges(), only)
+    play_cases(suites, cases.bursts_in_pieces(seed), only)
+    play_cases(suites, cases.bursts(count, seed), only, tally)
+    for suite in suites:
+        if not only:
+            suite.test("bursts of every length, and every answer in them",
+                       tally.trouble())
+    return tally
+
+
 def play_programs(suites, only, count, seed):
     """Each file through each program that reads it, and the totals if nothing
     is left out.  The tallies."""
@@ -125,6 +139,7 @@ def play_programs(suites, only, count, seed):
                play_departures(suites, only, count, seed)]
     if lending:
         tallies.append(play_lends(lending, only, count, seed))
+        tallies.append(play_bursts(lending, only, count, seed))
     for suite in suites:
         if not only:
             suite.totals()

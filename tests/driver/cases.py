@@ -8,8 +8,8 @@ with lends are for programs that read allcalls' records, the others for all.
 from demand3.check import check
 from driver.formats import ALLCALLS, DOMELINK, has_lends
 from edges import refusals_page
-from edges.all_edges import EDGES, LEND_EDGES
-from generator import departure_seeds, lend_seeds
+from edges.all_edges import BURST_EDGES, EDGES, LEND_EDGES
+from generator import burst_seeds, departure_seeds, lend_seeds
 from generator.seeds import generate, kind_of
 from simulator.listing import simulate
 
@@ -18,6 +18,7 @@ IN_PIECES = ("the listing of document 01", "a last record of 3 bytes",
              "plan: 19 bytes that say 20")
 LENDS_IN_PIECES = ("lend: 17 at a lent and at a booked slot",
                    "lend: a last record of 4 bytes")
+BURSTS_IN_PIECES = ("burst: on after a refusal", "burst: all but a byte")
 FEW = 4000                      # bytes of a file that is fed in pieces
 
 
@@ -153,3 +154,29 @@ def lends(count, seed):
     for number in range(seed, seed + count):
         yield ("lends, seed %d (%s)" % (number, lend_seeds.kind_of(number)),
                lambda number=number: from_lend_seed(number))
+
+
+# ---- files with bursts
+
+def burst_edges():
+    for edge in BURST_EDGES:
+        yield ("edge: " + edge.name,
+               lambda edge=edge: from_edge(edge, form=ALLCALLS))
+
+
+def bursts_in_pieces(seed):
+    yield from edges_in_pieces(BURSTS_IN_PIECES, BURST_EDGES, ALLCALLS)
+    for size, number in zip(PIECES, burst_seeds.small(seed, FEW)):
+        yield ("bursts, seed %d in pieces of %d" % (number, size),
+               lambda number=number, size=size: from_burst_seed(number, size))
+
+
+def from_burst_seed(seed, size=None):
+    data = burst_seeds.generate(seed)
+    return Case(data, simulate(data, ALLCALLS.kinds), size, form=ALLCALLS)
+
+
+def bursts(count, seed):
+    for number in range(seed, seed + count):
+        yield ("bursts, seed %d (%s)" % (number, burst_seeds.kind_of(number)),
+               lambda number=number: from_burst_seed(number))

@@ -5,6 +5,7 @@ ask until refused, give back a cell that was really taken, and so on.
 """
 
 import call_bytes
+from simulator.burst import burst
 from simulator.calls import answer
 from simulator.link import Link
 from simulator.plan import read_plan
@@ -73,6 +74,22 @@ class CallFile:
         """The flow that the current slot is lent to, or None."""
         letter, number = self.record(call_bytes.lend(mask))
         return number if letter == "L" else None
+
+    def word(self, flow, ahead=0, departure=None):
+        """A well-formed word, `ahead` quanta after the flow's next."""
+        if departure is None:
+            departure = self.link.ticks % self.slots
+        return call_bytes.word(self.plan.destination(flow), flow,
+                               (self.quantum[flow] + ahead) % 1024, departure)
+
+    def burst(self, words):
+        """A burst of any words."""
+        self.written.append(call_bytes.burst(words))
+        for word, (result, position) in zip(words, burst(self.link, words)):
+            if result == 0:
+                flow = word >> 20 & 63
+                self.quantum[flow] = (self.quantum[flow] + 1) % 1024
+                self.grants[flow].append(self.link.slot_of(position))
 
     # ---- where things stand
 

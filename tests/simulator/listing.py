@@ -1,17 +1,23 @@
 """The listing of a call file: its bytes in, its lines out."""
 
-from itertools import chain, repeat
-
+from simulator.burst import burst
 from simulator.calls import answer
 from simulator.link import Link
 from simulator.plan import read_plan
-from simulator.records import DOMELINK, SIZE, read_record
+from simulator.records import DOMELINK, read_record, split
 
 SHORTEST, LONGEST = 12, 76      # stated lengths of a plan that are looked at
 
 
 def line(letter, number):
     return letter if number is None else "%s %s" % (letter, number)
+
+
+def lines_of(link, call, heard):
+    """The lines of a call: one, but for a burst, which has one a record."""
+    if call and call[0] == "burst":
+        return ["B %d %d" % pair for pair in burst(link, *call[1:])]
+    return [line(*answer(link, call, heard))]
 
 
 def split_file(data):
@@ -28,17 +34,16 @@ def simulate(data, kinds=DOMELINK, heard=()):
     """The listing of a call file, as lines; `kinds` is a program's table of
     records.  `heard` is the program's listing, where it is at hand: it is
     followed where an answer is left open."""
-    split = split_file(data)
-    if split is None:
+    parts = split_file(data)
+    if parts is None:
         return ["P 1"]
-    refusal, plan = read_plan(split[0])
+    refusal, plan = read_plan(parts[0])
     lines = [line("P", refusal)]
     if refusal:
         return lines
     link = Link(plan)
-    rest = split[1]
-    starts = range(0, len(rest), SIZE)
-    for start, given in zip(starts, chain(heard[1:], repeat(None))):
-        call = read_record(rest[start:start + SIZE], kinds)
-        lines.append(line(*answer(link, call, given)))
+    for record in split(parts[1], kinds):
+        call = read_record(record, kinds)
+        given = heard[len(lines)] if len(lines) < len(heard) else None
+        lines.extend(lines_of(link, call, given))
     return lines
