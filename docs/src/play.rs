@@ -98,11 +98,7 @@ fn read_plan(input: &mut impl Read) -> io::Result<Result<Plan, u8>> {
 }
 
 /// Plays the records after the plan, chunk by chunk.
-fn play_calls<const LENDS: bool>(
-    link: &mut Link,
-    input: &mut impl Read,
-    output: &mut impl Write,
-) -> io::Result<()> {
+fn play_calls(link: &mut Link, input: &mut impl Read, output: &mut impl Write) -> io::Result<()> {
     let lines = Lines::new();
     let mut chunk = vec![0; CHUNK];
     let mut listing = vec![0; (CHUNK / RECORD + 1) * LINE];
@@ -120,7 +116,7 @@ fn play_calls<const LENDS: bool>(
         begun = records.remainder().len();
         for record in records {
             let record = record.try_into().expect("a record has five bytes");
-            let line = lines.answer::<LENDS>(link, record);
+            let line = lines.answer::<false>(link, record);
             listing[end..end + LINE].copy_from_slice(&line.bytes);
             end += line.length;
         }
@@ -133,6 +129,59 @@ fn play_calls<const LENDS: bool>(
     Ok(())
 }
 
+/// Most records of a burst in a call file.
+const MOST_RECORDS: u8 = 20;
+
+/// The records of a burst's words before the call.
+fn unfilled(words: &[u8]) -> Vec<Ask> {
+    let ask = |word: &[u8]| Ask {
+        word: u32::from_le_bytes(word.try_into().expect("a word has four bytes")),
+        result: u8::MAX,
+        position: u8::MAX,
+    };
+    words.chunks_exact(4).map(ask).collect()
+}
+
+/// Plays all records after the plan, bursts with their words among them.
+fn play_bursts(link: &mut Link, mut bytes: &[u8], output: &mut impl Write) -> io::Result<()> {
+    let lines = Lines::new();
+    while let Some((record, rest)) = bytes.split_first_chunk() {
+        let &[6, count @ 0..=MOST_RECORDS, 0, 0, 0] = record else {
+            let line = lines.answer::<true>(link, record);
+            output.write_all(&line.bytes[..line.length])?;
+            bytes = rest;
+            continue;
+        };
+        let Some((words, rest)) = rest.split_at_checked(4 * usize::from(count)) else {
+            break;
+        };
+        let mut records = unfilled(words);
+        link.burst(&mut records);
+        for ask in &records {
+            writeln!(output, "B {} {}", ask.result, ask.position)?;
+        }
+        bytes = rest;
+    }
+    if !bytes.is_empty() {
+        writeln!(output, "R {}", refusal::RECORD)?;
+    }
+    Ok(())
+}
+
+/// Plays the records after the plan; where `LENDS` is true, also lends and bursts.
+fn play_rest<const LENDS: bool>(
+    link: &mut Link,
+    input: &mut impl Read,
+    output: &mut impl Write,
+) -> io::Result<()> {
+    if !LENDS {
+        return play_calls(link, input, output);
+    }
+    let mut bytes = Vec::new();
+    input.read_to_end(&mut bytes)?;
+    play_bursts(link, &bytes, output)
+}
+
 /// Plays standard input.
 pub fn play<const LENDS: bool>() -> io::Result<()> {
     let mut input = io::stdin().lock();
@@ -141,7 +190,7 @@ pub fn play<const LENDS: bool>() -> io::Result<()> {
         Err(number) => writeln!(output, "P {number}")?,
         Ok(plan) => {
             writeln!(output, "P 0")?;
-            play_calls::<LENDS>(&mut Link::fresh(&plan), &mut input, &mut output)?;
+            play_rest::<LENDS>(&mut Link::fresh(&plan), &mut input, &mut output)?;
         }
     }
     output.flush()

@@ -639,6 +639,26 @@ mod tests {
     }
 
     #[test]
+    fn bursts() {
+        let mut link = fresh(4, 2, 4, &PAIR);
+        let unfilled = |word| Ask {
+            word,
+            result: 255,
+            position: 255,
+        };
+        let mut records = [unfilled(word(0, 0)); 18];
+        records[3] = unfilled(word(1, 0));
+        records[4] = unfilled(word(2, 0));
+        link.burst(&mut records);
+        let answers = records.map(|ask| (ask.result, ask.position));
+        assert_eq!(answers[..5], [(0, 1), (0, 2), (12, 0), (0, 3), (8, 0)]);
+        assert_eq!(answers[15..], [(12, 0), (255, 255), (255, 255)]);
+        assert_eq!(records[0].word, word(0, 0));
+        link.burst(&mut []);
+        assert_eq!(ask(&mut link, 1), Ok(4));
+    }
+
+    #[test]
     fn plan_lengths_and_counts() {
         let good = plan(4, 2, 4, &PAIR);
         assert_eq!(good.len(), 20);
