@@ -5,7 +5,7 @@ fault that the check has to name.  Some follow document 01, "Link cards we
 would send back"; the others break one bullet each.
 """
 
-from demand3 import wrong_departures, wrong_lends
+from demand3 import wrong_bursts, wrong_departures, wrong_lends
 from demand3.check import ALLCALLS, check
 from edges.edge_maker import TICK, ask, credit, edge, plan
 
@@ -100,4 +100,8 @@ def missed():
     for wrong, words in wrong_lends.WRONG:
         yield wrong.name, sent_back(wrong, words, ALLCALLS)
     for right, least in wrong_lends.RIGHT:
+        yield right.name, passed(right, least, ALLCALLS)
+    for wrong, words in wrong_bursts.WRONG:
+        yield wrong.name, sent_back(wrong, words, ALLCALLS)
+    for right, least in wrong_bursts.RIGHT:
         yield right.name, passed(right, least, ALLCALLS)

@@ -1,6 +1,6 @@
 -- The position of a grant on a sound link is one of the window, and so it fits a byte. Assumes nothing.
 use Prim.Native.Nat.{ℕ, zero, suc, _<_}
-use mathlib.Core.Path.{_≡_, refl, sym, ap, _∙_, subst}
+use mathlib.Core.Path.{_≡_, refl}
 use native.Mathlib.Omega.{arith}
 use Rattle.model.specs.Refusals.{firstOf}
 use Rattle.model.specs.Word.{flowOf, departureOf}
@@ -27,10 +27,8 @@ module _ (l : Link) (s : Sound l) (x : ℕ) where
   pub position-small : positionOf (request (linkOf l) x .answer) < 256
   position-small = go (firstOf (wordTests (planFor (l .plan)) x)) refl
     where
-      Small : Found → Type 0
-      Small f = f ≡ sought (linkOf l) i (departureOf x) → 0 ≡ firstOf (wordTests (planFor (l .plan)) x) → positionOf (request (linkOf l) x .answer) < 256
-
-      searched : (f : Found) → Small f
+      searched : (f : Found) → f ≡ sought (linkOf l) i (departureOf x) → 0 ≡ firstOf (wordTests (planFor (l .plan)) x)
+          → positionOf (request (linkOf l) x .answer) < 256
       searched (found j c p) e tests =
           let booking = found-at l s (model.window (linkOf l)) refl i (flow-there l s x i refl) (departureOf x) j c p e in
           let below : p < sizeOf l = rw (read-size l refl) at (booking .position) in

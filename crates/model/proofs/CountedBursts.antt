@@ -10,14 +10,13 @@ use borrow.Author.Tests.{ne-eqb}
 use Rattle.model.specs.Refusals.{firstOf}
 use Rattle.model.specs.Word.{flowOf, departureOf, depart}
 use Rattle.model.specs.Plan.{Plan, Accepted, flowCount, planOf, refusal}
-use Rattle.model.specs.Calls.{Call, Grant, Event, History, requested, accepted, refused}
+use Rattle.model.specs.Calls.{Call, Grant, History, requested, accepted, refused}
 use Rattle.model.specs.Link.{Link}
-use Rattle.model.specs.Request.{Found, found, nowhere, wordTests, sought, wouldBeValid, newestTests, answered, requestAfter, request}
+use Rattle.model.specs.Request.{Found, found, nowhere, wordTests, sought, wouldBeValid, answered, requestAfter, request}
 use Rattle.model.specs.Claim.{GrantedWordAt, Demand3}
 use Rattle.model.specs.Card.{Played, paper, step, play, started, run}
 use Rattle.model.specs.Burst.{Ask, filled, inOrder, burst}
-use Rattle.model.specs.CountedBursts.{Item, single, several, countsAs, replaced, answerIn, eventIn, eventsIn, stepWith, playWith, runWith}
-use Rattle.model.proofs.AfterHistory.{After}
+use Rattle.model.specs.CountedBursts.{Item, single, several, countsAs, replaced, eventIn, stepWith, playWith, runWith}
 use Rattle.model.proofs.AfterCalls.{Known, after-calls, after-fresh}
 use Rattle.model.proofs.Plan as plan
 use Rattle.model.proofs.Demand3.{meets}

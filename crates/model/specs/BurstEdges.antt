@@ -1,7 +1,7 @@
 -- Edges of bursts. Document 02, N7. Assumes nothing.
 --
 -- What each comes to is worked out from the request. Each flow's words carry the numbers of its quanta; T is 8 but for `single`.
-use Prim.Native.Nat.{ℕ, zero, suc}
+use Prim.Native.Nat.{ℕ}
 use mathlib.Core.List.{List, _∷_, [], _++_}
 use mathlib.Core.Option.{some, none}
 use lib.ListN.{replicate}

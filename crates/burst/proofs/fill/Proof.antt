@@ -1,13 +1,12 @@
 -- `burst::fill` meets its contract: what of the answer stands in the record. Assumes nothing.
 use borrow.Author.Needs.{needs}
-use Prim.Native.Nat.{ℕ, _<_}
+use Prim.Native.Nat.{_<_}
 use mathlib.Core.Path.{_≡_, refl, ap, _∙_}
 use native.Mathlib.Omega.{arith}
 use Rattle.calls.specs.Reading.{answerToRequest}
 use Rattle.model.specs.Calls.{Grant, accepted, refused}
 use Rattle.model.specs.Request.{request}
 use Rattle.model.specs.Burst.{resultOf, positionOf}
-use Rattle.link.specs.declared.Link.{Link}
 use Rattle.link.specs.Reading.{linkOf}
 use Rattle.link.proofs.GrantedPositions.{position-small}
 use Rattle.burst.specs.Reading.{resultIn, positionIn}

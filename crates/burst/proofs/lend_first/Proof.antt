@@ -1,7 +1,7 @@
 -- `burst::lend_first` meets its contract: a walk of its MIR, by hand. The first `count` records of a local array are lent to `burst`, for a lifetime that is made for the call, and come back at the list that `burst` left (`Front.antt`).
 -- All that the proof knows of `burst` is that it meets its contract. No parameter is had at exit (`stay-dropped`): each is plain data.
 -- Assumes nothing.
-use mathlib.Core.Path.{_≡_, refl, sym, _∙_, ap, subst}
+use mathlib.Core.Path.{_≡_, refl, sym, subst}
 use Prim.Native.Nat.{ℕ, _≤_, _<_, _^_}
 use native.Mathlib.Omega.{arith}
 use mathlib.Core.List.{List, [], _∷_, _++_}

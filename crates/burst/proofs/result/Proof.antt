@@ -1,6 +1,6 @@
 -- `burst::result` meets its contract. Assumes nothing.
 use borrow.Author.Needs.{needs}
-use mathlib.Core.Path.{_≡_, refl, ap}
+use mathlib.Core.Path.{_≡_, refl}
 use mathlib.Core.List.{_∷_, []}
 use denote.Enum.Declared.{tagOf}
 use types.Run.{OneOf, miss}
