@@ -13,7 +13,7 @@ from driver.formats import ALLCALLS
 from driver.image_suite import ImageSuite
 from driver.plain_rust import trouble
 from driver.suite import Suite, first_difference
-from edges.all_edges import EDGES, LEND_EDGES
+from edges.all_edges import ALLCALLS_EDGES, EDGES
 from front_door import c_player
 from images import export_tests
 
@@ -106,7 +106,7 @@ def plays(command):
 
 def some_edges():
     """Edges here and there, none of which leaves a choice open."""
-    edges = [edge for edge in EDGES + LEND_EDGES
+    edges = [edge for edge in EDGES + ALLCALLS_EDGES
              if edge.name != "lend: both flows can take it"]
     return edges[::len(edges) // WATCHED_FILES]
 

@@ -169,7 +169,7 @@ def lends(count, seed):
 
 def from_reset_seed(seed):
     data = reset_seeds.generate(seed)
-    return Case(data, simulate(data, ALLCALLS.kinds), form=ALLCALLS)
+    return Case(data, simulated(data, ALLCALLS), form=ALLCALLS)
 
 
 def resets(count, seed):
