@@ -22,7 +22,7 @@ CALLS = [
     ("request", WORD), ("request", WORD | 7), ("request", WORD | 1 << 20),
     ("credit", 0, 6), ("credit", 1, 1), ("tick",), ("lend", 1), ("lend", 3),
     ("request", 0xFFFFFFFF), ("request", 0), ("credit", 99, 99),
-    ("lend", 0xFFFF), ("lend", 0),
+    ("lend", 0xFFFF), ("lend", 0), ("reset",),
 ]
 
 # Numbers that have good ones in their low bytes.

@@ -6,7 +6,7 @@ None.
 from collections import Counter
 from functools import partial
 
-from generator import departure_seeds, lend_seeds
+from generator import departure_seeds, lend_seeds, reset_seeds
 from generator.dice import Dice
 from images import by_hand, fresh_calls
 from images.acceptance import broken, refusal_of
@@ -103,7 +103,7 @@ def tests():
             yield ("image: %d, %s" % (number, name),
                    partial(refused, number, image))
     yield from fresh_calls.self_tests()
-    for family in (lend_seeds, departure_seeds):
+    for family in (lend_seeds, departure_seeds, reset_seeds):
         for seed in range(FILES):
             yield ("image: taken after each call, %s %d" % (
                        family.__name__.split(".")[-1], seed),
