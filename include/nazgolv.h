@@ -144,10 +144,10 @@ uint64_t nazgolv_lend(uint8_t *image, size_t image_length, uint16_t mask);
 
 /*
  * Lets every flow start again in the head frame with its whole share, and
- * empties all positions; CP goes on, and so does what is held. A current slot
- * that was booked stays taken until the next tick. 0, or 23 where the link is
- * not quiet: a position later than CP is booked, or some flow holds a cell at CP
- * or at a later position. 23 changes nothing.
+ * empties all positions. CP and what was held before it stay. A current slot
+ * that was booked or marked taken is marked until the next tick. 0, or 23 where
+ * the link is not quiet: a position later than CP is booked, or some flow holds
+ * a cell at CP or at a later position. 23 changes nothing.
  */
 uint64_t nazgolv_reset(uint8_t *image, size_t image_length);
 
