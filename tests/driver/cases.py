@@ -54,8 +54,9 @@ class Case:
         """The right listing, with the lowest flow at each lend.  A file
         with neither lends nor resets has one listing, whatever the program."""
         if form not in self.known:
-            self.known[form] = (self.following(form) if has_other_calls(self.data)
-                                else self.own)
+            self.known[form] = (
+                self.following(form) if has_other_calls(self.data)
+                else self.own)
         return self.known[form]
 
     def following(self, form, heard=()):
@@ -169,7 +170,7 @@ def lends(count, seed):
 
 def from_reset_seed(seed):
     data = reset_seeds.generate(seed)
-    return Case(data, simulate(data, ALLCALLS.kinds), form=ALLCALLS)
+    return Case(data, simulated(data, ALLCALLS), form=ALLCALLS)
 
 
 def resets(count, seed):
