@@ -52,8 +52,8 @@ class Case:
         self.known = {form: self.own}
 
     def right(self, form):
-        """The right listing, with the lowest flow at each lend.  A file
-        with none of allcalls' own calls has one listing, whatever the program."""
+        """The right listing, with the lowest flow at each lend.  A file with
+        none of allcalls' own calls has one listing, whatever the program."""
         if form not in self.known:
             self.known[form] = (
                 self.following(form) if has_other_calls(self.data)
