@@ -2,12 +2,14 @@
 
 import itertools
 import tempfile
+from functools import partial
 
 from demand3 import wrong_listings
 from driver import (
     cases, plain_rust, question_cases, round_trips, wrong_answers)
+from driver.c_side import c_side
 from driver.formats import ALLCALLS
-from driver.side_by_side import made
+from driver.side_by_side import done
 from driver.suite import Suite
 from driver.tally import DepartureTally, LendTally, QuestionTally, Tally
 from edges import open_choice, questions, refusals_page
@@ -16,16 +18,23 @@ from front_door import (
     asking_editor, old_program, plan_files, plan_lost_output, plan_read,
     plan_wrong_words, play_files, play_lost_output, slow_reader,
     wrong_arguments)
+from images import self_tests
 
 FRONT_DOOR = (play_files, play_lost_output, plan_files, plan_read,
               plan_wrong_words, plan_lost_output, old_program, slow_reader,
               asking_editor, wrong_arguments)
-REFUSALS = range(1, 20)         # those of all programs
+REFUSALS = range(1, 23)         # those of all programs
 
 
 def wanted(names, only):
     """The pairs of a name and something whose name has the text `only`."""
     return (pair for pair in names if not only or only in pair[0])
+
+
+def test_all(suite, tests, only):
+    """Tests that are no files: each gives what went wrong, or None."""
+    for name, trouble in done(wanted(tests, only)):
+        suite.test(name, trouble)
 
 
 def listings():
@@ -64,6 +73,7 @@ def without_program(only):
     tests = itertools.chain(listings(), choices(), answers(), tables())
     for name, trouble in wanted(tests, only):
         suite.test(name, trouble)
+    test_all(suite, self_tests.tests(), only)
     return suite
 
 
@@ -71,19 +81,26 @@ def front_door(programs, only):
     """The suite of ./play, ./plan, tests/run and bench/run."""
     suite = Suite("front door")
     paths = {program.name: program.command[0] for program in programs}
-    for subject in FRONT_DOOR:
-        for name, test in wanted(subject.tests(paths), only):
-            suite.test(name, test())
+    test_all(suite, itertools.chain.from_iterable(
+        subject.tests(paths) for subject in FRONT_DOOR), only)
     return suite
+
+
+def played(make, suites):
+    """A case, and what came of it with each program."""
+    case = make()
+    return case, [suite.play(case) for suite in suites]
 
 
 def play_cases(suites, names, only, tally=None):
     """Each case through each program."""
-    for name, case in made(wanted(names, only)):
+    jobs = ((name, partial(played, make, suites))
+            for name, make in wanted(names, only))
+    for name, (case, outcomes) in done(jobs):
         if tally:
             tally.add(case)
-        for suite in suites:
-            suite.play(name, case)
+        for suite, outcome in zip(suites, outcomes):
+            suite.add(name, outcome)
 
 
 def play_files(suites, only, count, seed):
@@ -140,18 +157,36 @@ def play_questions(suite, only, count, seed):
         question_cases.every_room(), question_cases.in_pieces(seed),
         question_cases.many_lines(seed)), only)
     play_cases([suite], question_cases.seeds(count, seed), only, tally)
-    for name, test in wanted(round_trips.tests(suite, seed), only):
-        suite.test(name, test())
+    test_all(suite, round_trips.tests(suite, seed), only)
     if not only:
         suite.totals()
     return tally
 
 
-def play_all(domelink, allcalls, domeplan, only, count, seed):
+def c_suites(library, folder, only, count, seed):
+    """The suites of the C side, or none where there is no C compiler."""
+    side = c_side(library, folder)
+    if not side:
+        return []
+    test_all(side.own, side.tests(count, seed), only)
+    return side.suites
+
+
+def play_library(library, only, count, seed):
+    """The C side alone, over another library.  The suites and the tallies."""
+    with tempfile.TemporaryDirectory() as folder:
+        suites = c_suites(library, folder, only, count, seed)
+        tallies = play_programs(
+            [suite for suite in suites if suite.command], only, count, seed)
+    return suites, tallies
+
+
+def play_all(domelink, allcalls, domeplan, library, only, count, seed):
     """All tests, those of the programs first.  The suites and the tallies."""
     apart = [without_program(only), front_door((domelink, domeplan), only)]
     with tempfile.TemporaryDirectory() as folder:
-        programs = [domelink, allcalls, *plain_rust.suites(folder, only)]
+        programs = [domelink, allcalls, *plain_rust.suites(folder, only),
+                    *c_suites(library, folder, only, count, seed)]
         tallies = play_programs(
             [suite for suite in programs if suite.command], only, count, seed)
     tallies.append(play_questions(domeplan, only, count, seed))

@@ -11,7 +11,8 @@ from edges import refusals_page
 from edges.all_edges import EDGES, LEND_EDGES
 from generator import departure_seeds, lend_seeds
 from generator.seeds import generate, kind_of
-from simulator.listing import simulate
+from simulator.image import image_of
+from simulator.listing import steps
 
 PIECES = (1, 2, 3, 4, 7, 64)    # bytes at a time
 IN_PIECES = ("the listing of document 01", "a last record of 3 bytes",
@@ -22,20 +23,28 @@ FEW = 4000                      # bytes of a file that is fed in pieces
 
 
 class Right:
-    """A right listing of a call file."""
+    """A right listing of a call file, and the image that it ends with, b""
+    where there is none."""
 
-    def __init__(self, data, lines, form):
-        self.lines = lines
-        self.listing = "".join(line + "\n" for line in lines).encode()
-        self.verdict = check(data, lines, form.checked)     # on demand 3
+    def __init__(self, data, simulated, form):
+        self.lines, self.image = simulated
+        self.listing = "".join(line + "\n" for line in self.lines).encode()
+        self.verdict = check(data, self.lines, form.checked)    # on demand 3
+
+
+def simulated(data, form, heard=()):
+    """The simulator's listing, and its image at the end."""
+    lines, links = zip(*steps(data, form.kinds, heard))
+    return list(lines), image_of(links[-1]) if links[-1] else b""
 
 
 class Case:
-    def __init__(self, data, lines, size=None, trouble=None, form=DOMELINK):
+    def __init__(self, data, simulated, size=None, trouble=None,
+                 form=DOMELINK):
         self.data = data
         self.size = size            # bytes of a piece, or None for whole
         self.trouble = trouble      # what is wrong before anything is played
-        self.own = Right(data, lines, form)
+        self.own = Right(data, simulated, form)
         self.known = {form: self.own}
 
     def right(self, form):
@@ -48,16 +57,16 @@ class Case:
 
     def following(self, form, heard=()):
         """The right listing with a program's choices where it has a choice."""
-        return Right(self.data, simulate(self.data, form.kinds, heard), form)
+        return Right(self.data, simulated(self.data, form, heard), form)
 
 
 # ---- files for every program
 
 def from_edge(edge, size=None, form=DOMELINK):
     """The simulator has to give the hand-made listing too."""
-    lines = simulate(edge.data, form.kinds)
+    lines, image = simulated(edge.data, form)
     differs = lines != edge.lines and "the simulator gives %s" % lines[-9:]
-    return Case(edge.data, edge.lines, size, differs, form)
+    return Case(edge.data, (edge.lines, image), size, differs, form)
 
 
 def edges():
@@ -66,9 +75,9 @@ def edges():
 
 
 def from_page(data, last, form):
-    lines = simulate(data, form.kinds)
+    lines, image = simulated(data, form)
     differs = lines[-1] != last and "ends in " + lines[-1]
-    return Case(data, lines, None, differs, form)
+    return Case(data, (lines, image), None, differs, form)
 
 
 def page(form=DOMELINK):
@@ -107,7 +116,7 @@ def in_pieces(seed):
 
 def from_seed(seed, size=None):
     data = generate(seed)
-    return Case(data, simulate(data), size)
+    return Case(data, simulated(data, DOMELINK), size)
 
 
 def seeds(count, seed):
@@ -118,7 +127,7 @@ def seeds(count, seed):
 
 def from_departure_seed(seed):
     data = departure_seeds.generate(seed)
-    return Case(data, simulate(data))
+    return Case(data, simulated(data, DOMELINK))
 
 
 def departures(count, seed):
@@ -146,7 +155,7 @@ def lends_in_pieces(seed):
 
 def from_lend_seed(seed, size=None):
     data = lend_seeds.generate(seed)
-    return Case(data, simulate(data, ALLCALLS.kinds), size, form=ALLCALLS)
+    return Case(data, simulated(data, ALLCALLS), size, form=ALLCALLS)
 
 
 def lends(count, seed):

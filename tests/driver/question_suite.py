@@ -4,7 +4,7 @@ import re
 from itertools import zip_longest
 
 from driver.starting import play
-from driver.suite import PATIENCE, Suite
+from driver.suite import Outcome, Suite
 from simulator.questions import NO_QUESTION
 
 REASON = re.compile(r"\? [ -~]{3,150}")         # short, and in plain letters
@@ -40,28 +40,25 @@ def first_difference(case, output):
     return None
 
 
+def way(line, answer):
+    """How a question was answered: its word, and the refusal or 0."""
+    if answer.startswith("?"):
+        return "?"
+    word = line.split(b" ")[0].decode("latin-1")
+    if answer.startswith("R ") and answer[2:].isdecimal():
+        return word, int(answer[2:])
+    return word, 0
+
+
 class QuestionSuite(Suite):
     """The refusals that were seen are kept by the word of the question."""
 
-    def note(self, case, output):
-        answers = output.decode("latin-1").splitlines()
-        for line, answer in zip(case.lines, answers):
-            word = line.split(b" ")[0].decode("latin-1")
-            if answer.startswith("?"):
-                self.seen.add("?")
-            elif answer.startswith("R ") and answer[2:].isdecimal():
-                self.seen.add((word, int(answer[2:])))
-            else:
-                self.seen.add((word, 0))
-
-    def play(self, name, case):
+    def outcome(self, case):
         """One file of questions: answers and end."""
-        if self.without_end >= PATIENCE:
-            return
         played = self.start(case)
-        self.note(case, played.output)
-        self.end(name, played, case.trouble,
-                 first_difference(case, played.output))
+        answers = played.output.decode("latin-1").splitlines()
+        return Outcome([case.trouble, first_difference(case, played.output),
+                        played.trouble], set(map(way, case.lines, answers)))
 
     def answers(self, lines):
         """Its answers to some lines."""

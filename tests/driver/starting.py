@@ -8,7 +8,7 @@ import tempfile
 import termios
 import time
 
-LIMIT = 20              # seconds for one file
+LIMIT = 60              # seconds for one file
 NO_END = "no end after %d seconds" % LIMIT
 
 

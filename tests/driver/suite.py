@@ -1,5 +1,10 @@
-"""The tests of one program: played, counted, and a line for each failure."""
+"""The tests of one program: played, counted, and a line for each failure.
 
+A file is played in one of several processes, and what came of it is counted
+in the first.
+"""
+
+import multiprocessing
 from collections import Counter
 
 from demand3 import departure_ways, lend_ways
@@ -30,6 +35,20 @@ def first_difference(expected, got):
         place + 1, shown(want), shown(have))
 
 
+def refusals_in(lines):
+    return {int(line[2:]) for line in lines
+            if line[:1] in ("P", "R") and line[2:].isdecimal()}
+
+
+class Outcome:
+    """What came of a file."""
+
+    def __init__(self, troubles, seen, verdict=None):
+        self.troubles = troubles
+        self.seen = seen            # refusal numbers
+        self.verdict = verdict      # on demand 3, where calls were played
+
+
 class Suite:
     def __init__(self, name, command=None, form=DOMELINK):
         self.name = name
@@ -41,7 +60,7 @@ class Suite:
         self.lends = Counter()      # how lends ended
         self.departures = Counter()     # where they lay, how requests ended
         self.largest_k = -1         # at which the least count was tried
-        self.without_end = 0
+        self.without_end = multiprocessing.Value("i", 0)    # for all processes
 
     def test(self, name, *troubles):
         """One test: it passes if no trouble is named."""
@@ -52,24 +71,37 @@ class Suite:
         else:
             self.passed += 1
 
-    def note(self, lines, verdict):
-        """What came up in a listing, for the totals."""
-        for line in lines:
-            if line[:1] in ("P", "R") and line[2:].isdecimal():
-                self.seen.add(int(line[2:]))
-        self.lends += verdict.lends
-        self.departures += verdict.departures
-        self.largest_k = max(self.largest_k, verdict.largest_k())
+    def note(self, outcome):
+        """What came up in a file, for the totals."""
+        self.seen |= outcome.seen
+        if outcome.verdict:
+            self.lends += outcome.verdict.lends
+            self.departures += outcome.verdict.departures
+            self.largest_k = max(self.largest_k, outcome.verdict.largest_k())
+
+    def add(self, name, outcome):
+        """The test of a file that was played, if it was."""
+        if outcome:
+            self.note(outcome)
+            self.test(name, *outcome.troubles)
 
     def start(self, case):
         if case.size is None:
             return play(self.command, case.data)
         return play_in_pieces(self.command, case.data, case.size)
 
-    def play(self, name, case):
+    def play(self, case):
+        """What comes of a file, or None where no more are played."""
+        if self.without_end.value >= PATIENCE:
+            return None
+        outcome = self.outcome(case)
+        if NO_END in outcome.troubles:
+            with self.without_end:
+                self.without_end.value += 1
+        return outcome
+
+    def outcome(self, case):
         """One file through the program: listing, end and demand 3."""
-        if self.without_end >= PATIENCE:
-            return
         played = self.start(case)
         right = case.right(self.form)
         lines, verdict = right.lines, right.verdict
@@ -77,22 +109,18 @@ class Suite:
             lines = played.output.decode("latin-1").splitlines()
             verdict = check(case.data, lines, self.form.checked)
             right = case.following(self.form, lines)
-        self.note(lines, verdict)
-        self.end(name, played, case.trouble,
-                 first_difference(right.listing, played.output),
-                 verdict.faults and "demand 3, " + verdict.faults[0])
-
-    def end(self, name, played, *troubles):
-        """The test of a file that was played, with troubles found in it."""
-        self.test(name, *troubles, played.trouble)
-        self.without_end += played.trouble == NO_END
+        return Outcome(
+            [case.trouble, first_difference(right.listing, played.output),
+             verdict.faults and "demand 3, " + verdict.faults[0],
+             played.trouble], refusals_in(lines), verdict)
 
     def gave_up(self):
         """Whether files were left out, which is said."""
-        if self.without_end >= PATIENCE:
+        without_end = self.without_end.value
+        if without_end >= PATIENCE:
             print("%s: gave up after %d files without end"
-                  % (self.name, PATIENCE))
-        return self.without_end >= PATIENCE
+                  % (self.name, without_end))
+        return without_end >= PATIENCE
 
     def totals(self):
         """What has to have come up in all files together."""

@@ -8,7 +8,8 @@ from pathlib import Path
 
 from front_door.command import ROOT, start, trouble
 
-PROGRAMS = ("domelink", "allcalls", "domeplan")     # that tests/run starts
+BUILT = ("bin/domelink", "bin/allcalls", "bin/domeplan",
+         "staticlib/libimage.a")        # what tests/run needs
 MISSING = os.path.join(os.sep, "nowhere", "calls")
 
 # Arguments of tests/run, and words of the sentence.
@@ -27,6 +28,10 @@ TESTS_RUN = [
     (["--allcalls", "--program", MISSING], "no program at " + MISSING),
     (["--allcalls", "--simulate", MISSING], MISSING + " can't be read"),
     (["--allcalls", "--write", "-1", MISSING], "a seed has to be"),
+    (["--library", MISSING], "no library at " + MISSING),
+    (["--library", os.sep], "no library at " + os.sep),
+    (["--library", MISSING, "--program", MISSING], "not allowed with"),
+    (["--library", MISSING, "--allcalls"], "--allcalls goes with"),
     (["--allcalls"], "--allcalls goes with"),
     (["--domeplan", "--program", MISSING], "no program at " + MISSING),
     (["--domeplan", "--simulate", MISSING], MISSING + " can't be read"),
@@ -64,17 +69,18 @@ def without(*commands):
                        env=dict(os.environ, PATH=folder))
 
 
-def without_program(name):
-    """tests/run in a tree with one program missing."""
+def without_built(name):
+    """tests/run in a tree with one program missing, or the library."""
     with tempfile.TemporaryDirectory() as folder:
         root = Path(folder)
         shutil.copytree(ROOT / "tests", root / "tests")
-        built = root / "target/bin"
-        built.mkdir(parents=True)
-        for program in set(PROGRAMS) - {name}:
-            os.symlink(sys.executable, built / program)
-        return refused("tests/run", [], "there is no program at %s"
-                       % (built.resolve() / name), root)
+        target = root / "target"
+        for built in map(target.joinpath, BUILT):
+            built.parent.mkdir(parents=True, exist_ok=True)
+            if built != target / name:
+                os.symlink(sys.executable, built)
+        return refused("tests/run", [], " at %s" % (target.resolve() / name),
+                       root)
 
 
 def tests(programs):
@@ -83,9 +89,9 @@ def tests(programs):
             yield (" ".join([script, *arguments]),
                    lambda script=script, arguments=arguments, says=says:
                    refused(script, arguments, says))
-    for name in PROGRAMS:
+    for name in BUILT:
         yield ("tests/run without " + name,
-               lambda name=name: without_program(name))
+               lambda name=name: without_built(name))
     yield "bench/run without rustc", lambda: without("rustc")
     yield "bench/run without rt", lambda: without("rt")
     yield ("tests/run --only with no such test",

@@ -24,21 +24,24 @@ def split_file(data):
     return data[:length], data[length:]
 
 
-def simulate(data, kinds=DOMELINK, heard=()):
-    """The listing of a call file, as lines; `kinds` is a program's table of
-    records.  `heard` is the program's listing, where it is at hand: it is
-    followed where an answer is left open."""
+def steps(data, kinds=DOMELINK, heard=()):
+    """Each line of the listing of a call file, and the link after it, or None
+    where there is none; `kinds` is a program's table of records.  `heard` is
+    the program's listing, where it is at hand: it is followed where an answer
+    is left open."""
     split = split_file(data)
-    if split is None:
-        return ["P 1"]
-    refusal, plan = read_plan(split[0])
-    lines = [line("P", refusal)]
+    refusal, plan = read_plan(split[0]) if split else (1, None)
+    link = None if refusal else Link(plan)
+    yield line("P", refusal), link
     if refusal:
-        return lines
-    link = Link(plan)
+        return
     rest = split[1]
     starts = range(0, len(rest), SIZE)
     for start, given in zip(starts, chain(heard[1:], repeat(None))):
         call = read_record(rest[start:start + SIZE], kinds)
-        lines.append(line(*answer(link, call, given)))
-    return lines
+        yield line(*answer(link, call, given)), link
+
+
+def simulate(data, kinds=DOMELINK, heard=()):
+    """The listing of a call file, as lines."""
+    return [text for text, _ in steps(data, kinds, heard)]

@@ -12,6 +12,7 @@ class Plan:
     """The numbers of a plan, split into fields but not yet tested."""
 
     def __init__(self, data):
+        self.data = bytes(data)
         # Doc 01, Plan bytes: six header fields of 16 bits, low byte first.
         header = [data[i] + 256 * data[i + 1] for i in range(0, HEADER, 2)]
         self.length, self.flows, self.offset = header[:3]

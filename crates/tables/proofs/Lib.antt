@@ -6,6 +6,7 @@ mod CarriedRows
 pub mod HoldingChanges
 pub mod FreshTables
 pub mod UnbookedSlots
+mod WordsMade
 -- one pass over a row
 mod Padded
 mod PaddedFrom

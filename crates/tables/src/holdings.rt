@@ -168,7 +168,7 @@ fn unheld() -> [u8; 256]
 }
 
 // Stores a flow's table as its row.
-fn store(held: &mut Holdings, i: usize, table: [u8; 256])
+pub fn store(held: &mut Holdings, i: usize, table: [u8; 256])
     requires { ⌜ i < 16 ⌝ }
     ensures { λ r. ⌜ now (held .exit) ≡ withRow (now (held .entry)) i table ⌝ }
 {
@@ -179,6 +179,21 @@ fn store(held: &mut Holdings, i: usize, table: [u8; 256])
         held[q] = table[q - first];
         q += 1;
     }
+}
+
+// The table of flow i: its row.
+pub fn row_of(held: &Holdings, i: usize) -> [u8; 256]
+    requires { ⌜ i < 16 ⌝ }
+    ensures { λ r. ⌜ r ≡ row (now (held .entry)) i ⌝ }
+{
+    let first = 256 * i;
+    let mut table = unheld();
+    let mut p = 0;
+    while p < 256 {
+        table[p] = held[first + p];
+        p += 1;
+    }
+    table
 }
 
 // Nothing is held: the table of each flow, stored as that flow's row. None of the 255s that the array is made with is left.

@@ -1,0 +1,2 @@
+-- lists of fields
+pub mod FieldLists

@@ -1,0 +1,7 @@
+-- a buffer that is turned back, and a call that is made
+pub mod TurnedBack
+pub mod Stepping
+pub mod FreshImages
+pub mod LentImages
+-- demand 3 of a host's calls
+pub mod Demand3

@@ -1,0 +1,71 @@
+-- `image::nazgolv_lend` meets its contract. Assumes nothing.
+use borrow.Author.Needs.{needs}
+use Rattle.images.specs.Taken.{Taken}
+use Rattle.image.proofs.TurnedBack.{is-taken}
+use Rattle.image.proofs.Stepping.{writable}
+use Rattle.image.proofs.LentImages.{steps, lend-turned, lend-made}
+use Rattle.image.proofs.nazgolv_lend.Statement.{statement}
+use Rattle.image.proofs.nazgolv_lend.Tie as tie
+
+-- ---- the places of its code
+
+-- where the buffer was tested, and where the function is entered
+abbrev tested-at : tie.After-lend → tie.Else1
+tested-at c = c .before .before .before
+
+abbrev entered : tie.After-refusal → tie.Start
+entered c = c .before .before .before
+
+taken-at : (c : tie.Else1) → Taken (entered (c .before) .args .image .now)
+taken-at c = is-taken (c .before .refusal .ensures) (c .if1 .left)
+
+-- ---- the needs
+
+refusal-requires : tie.Need-refusal-requires
+refusal-requires c κs = search needs
+
+refused-requires : tie.Need-refused-requires
+refused-requires c κs = search needs
+
+same-length : tie.Need-same-length
+same-length c = search needs
+
+returns : tie.Need-returns
+returns c =
+    let t = c .before in
+    lend-turned (t .before .refusal .ensures) _ (t .if1 .taken) (c .refused .ensures)
+
+read-requires : tie.Need-read-requires
+read-requires c κs = taken-at (c .before)
+
+lend-requires : tie.Need-lend-requires
+lend-requires c κs = search needs
+
+hand-back-requires : tie.Need-hand-back-requires
+hand-back-requires c κs =
+    let s = c .before in
+    let t = taken-at (tested-at s) in
+    writable t (steps t _ (s .before .read .ensures .0) _ (s .lend .ensures))
+
+same-length-2 : tie.Need-same-length-2
+same-length-2 c = search needs
+
+returns-2 : tie.Need-returns-2
+returns-2 c =
+    let h = c .before .before in
+    let s = h .before .before in
+    lend-made (taken-at (tested-at s)) _ (s .before .read .ensures .0) _ (s .lend .ensures) (h .hand-back .ensures .0) (h .hand-back .ensures .1)
+
+pub nazgolv-lend-spec : {M : Type 1} → statement M
+nazgolv-lend-spec =
+    tie.close
+    (tie.spec
+    refusal-requires
+    refused-requires
+    same-length
+    returns
+    read-requires
+    lend-requires
+    hand-back-requires
+    same-length-2
+    returns-2)

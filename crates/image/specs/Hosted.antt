@@ -1,0 +1,23 @@
+-- What the contracts of the exports say of a host's calls, each on the image that the call before left. Document 02, N5: "a chain that starts with fresh
+-- and passes each image on unaltered". Assumes nothing.
+use Prim.Native.Nat.{ℕ}
+use mathlib.Core.Path.{_≡_}
+use mathlib.Core.List.{List, _∷_, []}
+use Rattle.model.specs.Calls.{History, requested, credited, ticked, lent}
+use Rattle.images.specs.Exports.{HandsBack, freshOn, requestOn, creditOn, tickOn}
+use Rattle.images.specs.Chain.{answerOf, turnOf, imageIn}
+use Rattle.image.specs.Lend.{LendsOn}
+
+-- This buffer is in hand after a host's calls with the events h, of which the newest is first. Each case has what the contract of that export ensures of
+-- its number r and of the buffer after it; the event has the answer that r stands for. The next call gets any buffer with the same image, whole: a call that gets less
+-- of it is turned back with 21, reaches no link, and is no call of the list.
+pub data Hosted (plan : List ℕ) : History → List ℕ → Type 0 where
+  by-fresh : (b : List ℕ) {after : List ℕ} → HandsBack (freshOn plan b) 0 after → Hosted plan [] after
+  by-request : {h : History} {b : List ℕ} → Hosted plan h b → (c : List ℕ) → imageIn c ≡ imageIn b → (word r : ℕ) {after : List ℕ}
+      → HandsBack (requestOn c word) r after → Hosted plan (requested word (answerOf r r) ∷ h) after
+  by-credit : {h : History} {b : List ℕ} → Hosted plan h b → (c : List ℕ) → imageIn c ≡ imageIn b → (flow position r : ℕ) {after : List ℕ}
+      → HandsBack (creditOn c flow position) r after → Hosted plan (credited flow position (answerOf tt r) ∷ h) after
+  by-tick : {h : History} {b : List ℕ} → Hosted plan h b → (c : List ℕ) → imageIn c ≡ imageIn b → (r : ℕ) {after : List ℕ}
+      → HandsBack (tickOn c) r after → Hosted plan (ticked (turnOf r) ∷ h) after
+  by-lend : {h : History} {b : List ℕ} → Hosted plan h b → (c : List ℕ) → imageIn c ≡ imageIn b → (mask r : ℕ) {after : List ℕ}
+      → LendsOn c mask r after → Hosted plan (lent mask (answerOf r r) ∷ h) after

@@ -1,0 +1,142 @@
+// The calls for a host in C, which keeps the link as an image in its own bytes. A number below 2 to the power 32 is what a call is
+// answered; else it is a refusal times that power.
+ghost use mathlib.Core.Path.{_≡_};
+ghost use Rattle.link.specs.Reading.{linkOf};
+ghost use Rattle.images.specs.Exports.{HandsBack, refusalNumber, writtenTo, freshOn, requestOn, creditOn, tickOn};
+ghost use Rattle.imagebytes.specs.Asked.{Writable};
+ghost use Rattle.image.specs.Numbers.{numberFor};
+ghost use Rattle.image.specs.Lend.{LendsOn};
+use calls::Answer;
+use imagebytes::read;
+use imagebytes::write;
+use link::Link;
+use link::Step;
+use plan::Verdict;
+use taken::layout::layout_of;
+use taken::refusal;
+
+fn wide(byte: u8) -> u64
+    ensures { λ r. ⌜ r ≡ byte ⌝ }
+{
+    byte as u64
+}
+
+// The number of a refusal.
+fn refused(number: u8) -> u64
+    ensures { λ r. ⌜ r ≡ refusalNumber number ⌝ }
+{
+    wide(number) * 4294967296
+}
+
+// The number of an answer.
+fn number_of(answer: Answer) -> u64
+    ensures { λ r. ⌜ r ≡ numberFor answer ⌝ }
+{
+    match answer {
+        Answer::Granted(word) => {
+            return word as u64;
+        }
+        Answer::Taken => {
+            return 0;
+        }
+        Answer::Turn(flow) => {
+            return wide(flow);
+        }
+        Answer::Idle => {
+            return 16;
+        }
+        Answer::Lent(flow) => {
+            return wide(flow);
+        }
+        Answer::Refused(number) => {
+            return refused(number);
+        }
+    }
+}
+
+// Writes the link that a call handed back, and answers the number of its answer.
+fn hand_back(step: Step, image: &mut [u8]) -> u64
+    requires { ⌜ Writable (step .link) (now image) ⌝ }
+    ensures result { λ r. ⌜ r ≡ numberFor (step .answer) ⌝ }
+    ensures buffer { λ r. ⌜ now (image .exit) ≡ writtenTo (now (image .entry)) (linkOf (step .link)) ⌝ }
+{
+    let link = step.link;
+    let answer = step.answer;
+    write(link, image);
+    number_of(answer)
+}
+
+// The image of a plan's fresh link.
+#[no_mangle]
+pub extern "C" fn nazgolv_fresh(plan: &[u8], image: &mut [u8]) -> u64
+    ensures { λ r. ⌜ HandsBack (freshOn (now (plan .entry)) (now (image .entry))) r (now (image .exit)) ⌝ }
+{
+    let outcome = plan::read(plan);
+    let verdict = outcome.verdict;
+    match verdict {
+        Verdict::Refused(number) => {
+            return refused(number);
+        }
+        Verdict::Accepted => {
+            let plan = outcome.plan;
+            let l = layout_of(plan);
+            if image.len() < l.total {
+                return refused(21);
+            }
+            write(Link::fresh(plan), image);
+            return 0;
+        }
+    }
+}
+
+// A word asks for a slot.
+#[no_mangle]
+pub extern "C" fn nazgolv_request(image: &mut [u8], word: u32) -> u64
+    ensures { λ r. ⌜ HandsBack (requestOn (now (image .entry)) word) r (now (image .exit)) ⌝ }
+{
+    let number = refusal(image);
+    if number != 0 {
+        return refused(number);
+    }
+    let link = read(image);
+    hand_back(link.request(word), image)
+}
+
+// A flow's cell falls free from a position on.
+#[no_mangle]
+pub extern "C" fn nazgolv_credit(image: &mut [u8], flow: usize, position: usize) -> u64
+    ensures { λ r. ⌜ HandsBack (creditOn (now (image .entry)) flow position) r (now (image .exit)) ⌝ }
+{
+    let number = refusal(image);
+    if number != 0 {
+        return refused(number);
+    }
+    let link = read(image);
+    hand_back(link.credit(flow, position), image)
+}
+
+// The current position goes on by one.
+#[no_mangle]
+pub extern "C" fn nazgolv_tick(image: &mut [u8]) -> u64
+    ensures { λ r. ⌜ HandsBack (tickOn (now (image .entry))) r (now (image .exit)) ⌝ }
+{
+    let number = refusal(image);
+    if number != 0 {
+        return refused(number);
+    }
+    let link = read(image);
+    hand_back(link.tick(), image)
+}
+
+// The current slot, when nobody booked it, goes to a flow of a mask that has a quantum ready.
+#[no_mangle]
+pub extern "C" fn nazgolv_lend(image: &mut [u8], mask: u16) -> u64
+    ensures { λ r. ⌜ LendsOn (now (image .entry)) mask r (now (image .exit)) ⌝ }
+{
+    let number = refusal(image);
+    if number != 0 {
+        return refused(number);
+    }
+    let link = read(image);
+    hand_back(link.lend(mask), image)
+}

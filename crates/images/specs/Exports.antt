@@ -1,0 +1,111 @@
+-- The exported calls on bytes. Document 02, N5: "A call reads the image, acts, and writes the image back". Assumes nothing.
+use Prim.Native.Nat.{ℕ, zero, suc, _*_, _^_}
+use mathlib.Core.Path.{_≡_}
+use mathlib.Core.List.{List, _∷_, [], _++_}
+use mathlib.Core.Option.{some, none}
+use mathlib.Core.Bool.{not}
+use lib.ListN.{length, drop}
+use lib.Dec.{ltb, eqb}
+use Rattle.model.specs.Refusals.{Line, firstOf, _when_}
+use Rattle.model.specs.Plan.{planOf, refusal}
+use Rattle.model.specs.Calls.{Call, Answer, Grant, Receipt, Turn, Loan, accepted, refused}
+use Rattle.model.specs.Link.{Link, Step}
+use Rattle.model.specs.Fresh as fresh
+use Rattle.model.specs.Request as request
+use Rattle.model.specs.Credit as credit
+use Rattle.model.specs.Tick as tick
+use Rattle.model.specs.Lend as lend
+use Rattle.images.specs.Image.{imageLength, imageOf, linkIn}
+use Rattle.images.specs.Taken.{refusalOf}
+
+-- what an exported call leaves in the buffer, and its answer
+pub record Called : Type 0 where
+  pub buffer : List ℕ
+  pub result : ℕ
+
+-- this number and this buffer are what was handed back
+abbrev pub HandsBack : Called → (r : ℕ) (after : List ℕ) → Type 0
+HandsBack called r after = (r ≡ called .result) × (after ≡ called .buffer)
+
+-- ---- "as one 64-bit number"
+
+-- "the refusal times 2 to the power 32"
+abbrev pub refusalNumber : ℕ → ℕ
+refusalNumber number = number * 2 ^ 32
+
+-- "else" what is answered, as a number
+abbrev pub numberOf : {A : Type 0} → (A → ℕ) → Answer A → ℕ
+numberOf f (accepted x) = f x
+numberOf f (refused number) = refusalNumber number
+
+-- "the word"
+abbrev pub grantNumber : Grant → ℕ
+grantNumber = numberOf (λ word. word)
+
+-- "0 for fresh and a credit"
+abbrev pub receiptNumber : Receipt → ℕ
+receiptNumber = numberOf (λ _. 0)
+
+-- "for a tick the flow or 16 for idle"
+abbrev pub turnNumber : Turn → ℕ
+turnNumber (some flow) = flow
+turnNumber none = 16
+
+-- "for a lend .. the flow"
+abbrev pub loanNumber : Loan → ℕ
+loanNumber = numberOf (λ flow. flow)
+
+-- ---- a call on the link itself: the next link, and the answer's number
+
+pub record Done : Type 0 where
+  pub link : Link
+  pub number : ℕ
+
+abbrev pub done : {A : Type 0} → (A → ℕ) → Step A → Done
+done number handed = record { link = handed .link; number = number (handed .answer) }
+
+abbrev pub onLink : Link → Call → Done
+onLink l (Call.request w) = done grantNumber (request.request l w)
+onLink l (Call.credit i p) = done receiptNumber (credit.credit l i p)
+onLink l Call.tick = done turnNumber (tick.tick l)
+-- the flow that gets the slot is open, as in the call on the link: any choice
+onLink l (Call.lend mask choice) = done loanNumber (lend.lend l mask choice)
+
+-- ---- the buffer
+
+-- a link's image, and behind it the buffer's own bytes: "Bytes past the image keep their values."
+abbrev pub writtenTo : List ℕ → Link → List ℕ
+writtenTo b l = imageOf l ++ drop (imageLength (l .plan)) b
+
+-- what is handed back, where the tests of the buffer gave the number r: a refusal leaves "the buffer as it came"
+unfoldable pub handedBack : ℕ → List ℕ → Done → Called
+handedBack zero b d = record { buffer = writtenTo b (d .link); result = d .number }
+handedBack (suc r) b d = record { buffer = b; result = refusalNumber (suc r) }
+
+-- ---- the exported calls
+
+-- "Fresh tests the plan first; then .. 21", for the image "to be written"
+abbrev pub freshTests : (plan b : List ℕ) → List Line
+freshTests plan b =
+    refusal plan when not (eqb (refusal plan) 0)
+    ∷ 21 when ltb (length b) (imageLength (planOf plan))
+    ∷ []
+
+unfoldable pub freshOn : (plan b : List ℕ) → Called
+freshOn plan b = handedBack (firstOf (freshTests plan b)) b (record { link = fresh.fresh (planOf plan); number = 0 })
+
+-- "A call reads the image, acts, and writes the image back; the result equals the call on the link itself"
+unfoldable pub calledOn : List ℕ → Call → Called
+calledOn b c = handedBack (refusalOf b) b (onLink (linkIn b) c)
+
+abbrev pub requestOn : List ℕ → (word : ℕ) → Called
+requestOn b w = calledOn b (Call.request w)
+
+abbrev pub creditOn : List ℕ → (flow position : ℕ) → Called
+creditOn b i p = calledOn b (Call.credit i p)
+
+abbrev pub tickOn : List ℕ → Called
+tickOn b = calledOn b Call.tick
+
+abbrev pub lendOn : List ℕ → (mask choice : ℕ) → Called
+lendOn b mask choice = calledOn b (Call.lend mask choice)

@@ -1,0 +1,246 @@
+-- Edges of images: when they are taken, and what the calls on them leave. Document 02, N5. Assumes nothing.
+--
+-- What each comes to is worked out from the request. The images are those of the listing's plan: F = 4, W = 2, T = 8, two flows with share 2 and 2 cells.
+use Prim.Native.Nat.{ℕ}
+use mathlib.Core.List.{List, _∷_, [], _++_}
+use lib.ListN.{take, drop, replicate}
+use Rattle.model.specs.Calls.{Call}
+use Rattle.model.specs.Tables.{table}
+use Rattle.model.specs.PlanBytes.{entry, plan, plan2, listing, single}
+use Rattle.images.specs.Exports.{refusalNumber}
+use Rattle.images.specs.ImageCases.{Case, blank, image, measures, taken, fault, gives, leaves, turnsBack, freshly, chained}
+use Rattle.images.specs.ImageCases.{total, planOffset, positionsOffset, positionCount, flowsOffset, flowCount, cp, mark, owner, frame, left, held}
+
+-- three bytes past an image
+abbrev past : List ℕ
+past = 0xAA ∷ 0xBB ∷ 0xCC ∷ []
+
+-- flow 0's first words, with quantum numbers 0 to 2, and flow 1's first
+abbrev word0 : ℕ
+word0 = 0x24000000
+
+abbrev word1 : ℕ
+word1 = 0x24000400
+
+abbrev word2 : ℕ
+word2 = 0x24000800
+
+abbrev other0 : ℕ
+other0 = 0x24100000
+
+-- ---- 21 and 22
+
+unfoldable pub lengthEdges : List Case
+lengthEdges =
+    -- the listing's plan; the smallest image; the longest, of 16 flows and 256 positions
+    measures listing 92
+    ∷ measures single 44
+    ∷ measures (plan 64 4 16 (table 16 (λ i. entry 1 1 i 63))) 8860
+    ∷ gives 0 blank
+    ∷ gives 0 (blank ++ past)
+    -- shorter than the header, and than the stated length
+    ∷ gives 21 []
+    ∷ gives 21 (take 15 blank)
+    ∷ gives 21 (take 16 blank)
+    ∷ gives 21 (take 91 blank)
+    -- 93 stated in 92 bytes, whatever else is wrong; in 93 bytes it is another fault
+    ∷ gives 21 (image (total 93 ∷ []))
+    ∷ gives 21 (image (total 93 ∷ planOffset 18 ∷ mark 2 ∷ []))
+    ∷ gives 22 (image (total 93 ∷ []) ++ (0 ∷ []))
+    -- too small a length stated
+    ∷ fault (total 90 ∷ [])
+    ∷ gives 22 (take 91 (image (total 90 ∷ [])))
+    ∷ fault (total 4 ∷ [])
+    ∷ fault (total 0 ∷ [])
+    -- the other fields of the header, 264 with the low byte of 8
+    ∷ fault (planOffset 18 ∷ [])
+    ∷ fault (positionsOffset 38 ∷ [])
+    ∷ fault (positionCount 7 ∷ [])
+    ∷ fault (positionCount 264 ∷ [])
+    ∷ fault (flowsOffset 50 ∷ [])
+    ∷ fault (flowCount 1 ∷ [])
+    ∷ fault (flowCount 258 ∷ [])
+    -- a plan that is refused with 7, its N being 3; and one that states four bytes fewer
+    ∷ gives 22 (take 16 blank ++ plan2 4 2 3 2 2 2 2 ++ drop 36 blank)
+    ∷ gives 22 (take 16 blank ++ (0x10 ∷ []) ++ drop 17 blank)
+    ∷ []
+
+-- ---- each condition at its edge, and broken
+
+unfoldable pub conditionEdges : List Case
+conditionEdges =
+    -- "CP is below T"
+    taken (cp 7 ∷ [])
+    ∷ fault (cp 8 ∷ [])
+    ∷ fault (cp 256 ∷ [])
+    -- "each IF is below W"
+    ∷ taken (frame 0 1 ∷ [])
+    ∷ fault (frame 0 2 ∷ [])
+    ∷ fault (frame 1 2 ∷ [])
+    ∷ fault (frame 0 256 ∷ [])
+    -- "the taken mark is 0 or 1", also where CP is booked
+    ∷ taken (mark 1 ∷ [])
+    ∷ taken (mark 1 ∷ cp 1 ∷ owner 1 0 ∷ left 0 1 ∷ [])
+    ∷ fault (mark 2 ∷ [])
+    ∷ fault (mark 256 ∷ [])
+    -- "every owner is a flow or none": flow 1 of two, and none but 16
+    ∷ taken (owner 7 1 ∷ frame 1 1 ∷ left 1 1 ∷ [])
+    ∷ fault (owner 7 2 ∷ [])
+    ∷ fault (owner 7 15 ∷ [])
+    ∷ fault (owner 7 17 ∷ [])
+    -- no byte of it is cut off: 256 is not flow 0, and 272 is not none
+    ∷ fault (owner 7 256 ∷ [])
+    ∷ fault (owner 1 256 ∷ left 0 1 ∷ [])
+    ∷ fault (owner 7 272 ∷ [])
+    ∷ fault (owner 0 65535 ∷ [])
+    -- "its bookings in a frame are at most its share", those that have gone by too
+    ∷ taken (frame 0 1 ∷ owner 1 0 ∷ owner 2 0 ∷ [])
+    ∷ fault (frame 0 1 ∷ owner 1 0 ∷ owner 2 0 ∷ owner 3 0 ∷ [])
+    ∷ fault (cp 3 ∷ frame 0 1 ∷ owner 1 0 ∷ owner 2 0 ∷ owner 3 0 ∷ [])
+    ∷ taken (frame 0 1 ∷ owner 1 0 ∷ owner 2 0 ∷ owner 3 1 ∷ left 1 1 ∷ [])
+    -- "none lies in a frame after IF", going round from HF: after a frame change frame 1 is HF, and frame 0 comes after it
+    ∷ taken (frame 0 1 ∷ owner 4 0 ∷ left 0 1 ∷ [])
+    ∷ fault (owner 4 0 ∷ [])
+    ∷ taken (cp 4 ∷ owner 5 0 ∷ owner 6 0 ∷ [])
+    ∷ fault (cp 4 ∷ frame 0 1 ∷ owner 1 0 ∷ [])
+    -- "those in IF and C add to the share", by all 16 bits
+    ∷ taken (owner 1 0 ∷ left 0 1 ∷ [])
+    ∷ taken (owner 1 0 ∷ owner 2 0 ∷ left 0 0 ∷ [])
+    ∷ fault (owner 1 0 ∷ [])
+    ∷ fault (left 0 1 ∷ [])
+    ∷ fault (left 1 3 ∷ [])
+    ∷ fault (left 0 258 ∷ [])
+    ∷ fault (owner 1 0 ∷ owner 2 0 ∷ frame 0 0 ∷ left 0 65535 ∷ [])
+    -- "its holdings are 0 to its cells", also at CP
+    ∷ taken (held 0 0 2 ∷ [])
+    ∷ fault (held 0 0 3 ∷ [])
+    ∷ fault (held 1 0 257 ∷ [])
+    ∷ fault (held 0 0 65535 ∷ [])
+    -- "later than CP a holding exceeds the one before it by at most one, and only at a position that the flow booked"
+    ∷ taken (owner 1 0 ∷ left 0 1 ∷ held 0 1 1 ∷ [])
+    ∷ fault (held 0 1 1 ∷ [])
+    ∷ fault (owner 1 0 ∷ left 0 1 ∷ held 1 1 1 ∷ [])
+    ∷ fault (owner 1 0 ∷ left 0 1 ∷ held 0 1 2 ∷ [])
+    -- also at the last position of the window
+    ∷ fault (held 0 7 1 ∷ [])
+    ∷ fault (cp 4 ∷ held 0 3 1 ∷ [])
+    -- it may fall, and stay, anywhere
+    ∷ taken (held 0 0 2 ∷ held 0 1 2 ∷ held 0 2 1 ∷ held 0 3 1 ∷ [])
+    -- the position before CP + 1 is CP
+    ∷ taken (cp 2 ∷ held 0 2 1 ∷ held 0 3 1 ∷ [])
+    ∷ fault (cp 2 ∷ held 0 3 1 ∷ [])
+    -- at CP and before it in the head frame nothing is compared
+    ∷ taken (cp 2 ∷ held 0 0 1 ∷ held 0 2 2 ∷ [])
+    ∷ taken (cp 3 ∷ held 0 3 1 ∷ [])
+    -- going round: with frame 1 as HF, position 0 comes after 7, and nothing is compared at CP = 4
+    ∷ taken (cp 4 ∷ held 0 4 1 ∷ held 0 5 1 ∷ held 0 6 1 ∷ held 0 7 1 ∷ held 0 0 1 ∷ [])
+    ∷ fault (cp 4 ∷ held 0 0 1 ∷ [])
+    ∷ taken (cp 4 ∷ held 0 4 2 ∷ [])
+    ∷ taken (cp 7 ∷ held 0 7 1 ∷ held 0 0 1 ∷ [])
+    ∷ []
+
+-- ---- three frames of one slot, one flow, and frame 1 as HF: 1, 2, 0 is the frames' order, and IF is 2
+
+-- the image with these owners
+abbrev inTurn : (owner0 owner1 owner2 remainder : ℕ) → List ℕ
+inTurn owner0 owner1 owner2 remainder =
+    0x30 ∷ 0x00 ∷ 0x10 ∷ 0x00 ∷ 0x20 ∷ 0x00 ∷ 0x03 ∷ 0x00 ∷ 0x26 ∷ 0x00 ∷ 0x01 ∷ 0x00 ∷ 0x01 ∷ 0x00 ∷ 0x00 ∷ 0x00
+    ∷ 0x10 ∷ 0x00 ∷ 0x01 ∷ 0x00 ∷ 0x0C ∷ 0x00 ∷ 0x01 ∷ 0x00 ∷ 0x03 ∷ 0x00 ∷ 0x01 ∷ 0x00 ∷ 0x01 ∷ 0x01 ∷ 0x00 ∷ 0x01
+    ∷ owner0 ∷ 0x00 ∷ owner1 ∷ 0x00 ∷ owner2 ∷ 0x00
+    ∷ 0x02 ∷ 0x00 ∷ remainder ∷ 0x00 ∷ 0x00 ∷ 0x00 ∷ 0x00 ∷ 0x00 ∷ 0x00 ∷ 0x00
+    ∷ []
+
+unfoldable pub frameEdges : List Case
+frameEdges =
+    gives 0 (inTurn 16 16 16 1)
+    -- a booking in the frame after IF, in the one before it, and in IF itself
+    ∷ gives 22 (inTurn 0 16 16 1)
+    ∷ gives 0 (inTurn 16 0 16 1)
+    ∷ gives 0 (inTurn 16 0 0 0)
+    ∷ gives 22 (inTurn 16 16 0 1)
+    ∷ []
+
+-- ---- calls
+
+-- after the listing's seven calls
+abbrev afterListing : List ℕ
+afterListing =
+    0x5C ∷ 0x00 ∷ 0x10 ∷ 0x00 ∷ 0x24 ∷ 0x00 ∷ 0x08 ∷ 0x00 ∷ 0x34 ∷ 0x00 ∷ 0x02 ∷ 0x00 ∷ 0x01 ∷ 0x00 ∷ 0x00 ∷ 0x00
+    ∷ 0x14 ∷ 0x00 ∷ 0x02 ∷ 0x00 ∷ 0x0C ∷ 0x00 ∷ 0x04 ∷ 0x00 ∷ 0x02 ∷ 0x00 ∷ 0x04 ∷ 0x00
+    ∷ 0x02 ∷ 0x02 ∷ 0x01 ∷ 0x09 ∷ 0x02 ∷ 0x02 ∷ 0x02 ∷ 0x09
+    -- positions 1, 2 and 4 are flow 0's, and 3 is flow 1's
+    ∷ 0x10 ∷ 0x00 ∷ 0x00 ∷ 0x00 ∷ 0x00 ∷ 0x00 ∷ 0x01 ∷ 0x00 ∷ 0x00 ∷ 0x00 ∷ 0x10 ∷ 0x00 ∷ 0x10 ∷ 0x00 ∷ 0x10 ∷ 0x00
+    -- flow 0 is in frame 1 with C = 1, and holds 0 1 2 2 2 2 2 2
+    ∷ 0x01 ∷ 0x00 ∷ 0x01 ∷ 0x00
+    ∷ 0x00 ∷ 0x00 ∷ 0x01 ∷ 0x00 ∷ 0x02 ∷ 0x00 ∷ 0x02 ∷ 0x00 ∷ 0x02 ∷ 0x00 ∷ 0x02 ∷ 0x00 ∷ 0x02 ∷ 0x00 ∷ 0x02 ∷ 0x00
+    -- flow 1 is in frame 0 with C = 1, and holds 0 0 0 1 1 1 1 1
+    ∷ 0x00 ∷ 0x00 ∷ 0x01 ∷ 0x00
+    ∷ 0x00 ∷ 0x00 ∷ 0x00 ∷ 0x00 ∷ 0x00 ∷ 0x00 ∷ 0x01 ∷ 0x00 ∷ 0x01 ∷ 0x00 ∷ 0x01 ∷ 0x00 ∷ 0x01 ∷ 0x00 ∷ 0x01 ∷ 0x00
+    ∷ []
+
+-- a buffer as it comes to fresh
+abbrev room : ℕ → List ℕ
+room size = replicate size 0xAA
+
+unfoldable pub exportEdges : List Case
+exportEdges =
+    -- fresh: the plan is tested first, then the buffer; what stood there is not read; bytes past the image keep their values
+    freshly listing (room 92) blank 0
+    ∷ freshly listing (room 94) (blank ++ (0xAA ∷ 0xAA ∷ [])) 0
+    ∷ freshly listing (room 91) (room 91) (refusalNumber 21)
+    ∷ freshly listing [] [] (refusalNumber 21)
+    ∷ freshly (plan2 4 2 3 2 2 2 2) (room 91) (room 91) (refusalNumber 7)
+    ∷ freshly (plan2 4 2 3 2 2 2 2) [] [] (refusalNumber 7)
+    ∷ freshly (take 11 listing) (room 92) (room 92) (refusalNumber 1)
+    -- the listing's calls: words, 12 times 2 to the power 32, 0 for the credit, flow 0 for the tick
+    ∷ chained listing (room 95)
+    (Call.request word0 ∷ Call.request word1 ∷ Call.request word2 ∷ Call.credit 0 4 ∷ Call.request word2 ∷ Call.request other0 ∷ Call.tick ∷ [])
+    (0x24000001 ∷ 0x24000402 ∷ 51539607552 ∷ 0 ∷ 0x24000804 ∷ 0x24100003 ∷ 0 ∷ []) (afterListing ++ (0xAA ∷ 0xAA ∷ 0xAA ∷ []))
+    -- images that come up are taken by the next call: a holding that rises at CP, where it is lent and not booked; a booked CP that is not held;
+    -- bookings in frame 1 with IF = 0, where frame 1 is HF
+    ∷ chained listing (room 92) (Call.tick ∷ Call.lend 1 0 ∷ Call.tick ∷ []) (16 ∷ 0 ∷ 16 ∷ [])
+    (image (cp 2 ∷ held 0 1 1 ∷ held 0 2 1 ∷ held 0 3 1 ∷ held 0 4 1 ∷ held 0 5 1 ∷ held 0 6 1 ∷ held 0 7 1 ∷ []))
+    ∷ chained listing (room 92) (Call.request word0 ∷ Call.credit 0 1 ∷ Call.tick ∷ Call.tick ∷ []) (0x24000001 ∷ 0 ∷ 0 ∷ 16 ∷ [])
+    (image (cp 2 ∷ owner 1 0 ∷ left 0 1 ∷ []))
+    ∷ chained listing (room 92)
+    (Call.tick ∷ Call.tick ∷ Call.tick ∷ Call.tick ∷ Call.request 0x24000004 ∷ Call.request 0x24000404 ∷ Call.request 0x24000804 ∷ Call.tick ∷ [])
+    (16 ∷ 16 ∷ 16 ∷ 16 ∷ 0x24000005 ∷ 0x24000406 ∷ 51539607552 ∷ 0 ∷ []) (image (cp 5 ∷ frame 1 1 ∷ owner 5 0 ∷ owner 6 0 ∷ held 0 5 1 ∷ held 0 6 2
+    ∷ held 0 7 2 ∷ held 0 0 2 ∷ held 0 1 2 ∷ held 0 2 2 ∷ held 0 3 2 ∷ []))
+    -- bytes past the image keep their values
+    ∷ leaves (blank ++ past) (Call.request word0) (image (owner 1 0 ∷ left 0 1 ∷ held 0 1 1 ∷ held 0 2 1 ∷ held 0 3 1 ∷ held 0 4 1 ∷ held 0 5 1
+    ∷ held 0 6 1 ∷ held 0 7 1 ∷ []) ++ past) 0x24000001
+    -- 12 is written back: IF goes to the newest frame
+    ∷ leaves (image (held 0 0 2 ∷ held 0 1 2 ∷ held 0 2 2 ∷ held 0 3 2 ∷ held 0 4 2 ∷ held 0 5 2 ∷ held 0 6 2 ∷ held 0 7 2 ∷ [])) (Call.request word0)
+    (image (frame 0 1 ∷ held 0 0 2 ∷ held 0 1 2 ∷ held 0 2 2 ∷ held 0 3 2 ∷ held 0 4 2 ∷ held 0 5 2 ∷ held 0 6 2 ∷ held 0 7 2 ∷ [])) (refusalNumber 12)
+    -- and so is 20
+    ∷ leaves blank (Call.request 0x24000007) (image (frame 0 1 ∷ [])) (refusalNumber 20)
+    -- other refusals leave the image: 8, 9 and 10, 14 and 15, 17 and 18
+    ∷ turnsBack (blank ++ past) (Call.request 0x24200000) 8
+    ∷ turnsBack blank (Call.request 0x20000000) 9
+    ∷ turnsBack blank (Call.request 0x24000008) 10
+    ∷ turnsBack blank (Call.credit 0 8) 13
+    ∷ turnsBack blank (Call.credit 0 0) 14
+    ∷ turnsBack blank (Call.credit 0 1) 15
+    ∷ turnsBack (image (mark 1 ∷ [])) (Call.lend 3 0) 17
+    ∷ turnsBack blank (Call.lend 0 0) 18
+    -- 21 and 22 come before 8
+    ∷ turnsBack (take 91 blank) (Call.request 0x24200000) 21
+    ∷ turnsBack (image (cp 8 ∷ [])) (Call.request 0x24200000) 22
+    ∷ turnsBack (image (cp 8 ∷ []) ++ past) (Call.credit 2 0) 22
+    ∷ turnsBack (image (held 0 0 257 ∷ [])) Call.tick 22
+    ∷ turnsBack (image (held 0 0 257 ∷ [])) (Call.lend 4 0) 22
+    -- idle is 16, and flow 0 is 0; a tick takes the mark off
+    ∷ leaves (image (mark 1 ∷ [])) Call.tick (image (cp 1 ∷ [])) 16
+    ∷ leaves (image (owner 1 0 ∷ left 0 1 ∷ [])) Call.tick (image (cp 1 ∷ owner 1 0 ∷ left 0 1 ∷ [])) 0
+    -- a lend is answered with its flow
+    ∷ leaves (image (cp 3 ∷ [])) (Call.lend 3 0)
+    (image (cp 3 ∷ mark 1 ∷ held 0 3 1 ∷ held 0 4 1 ∷ held 0 5 1 ∷ held 0 6 1 ∷ held 0 7 1 ∷ [])) 0
+    ∷ leaves (image (cp 3 ∷ [])) (Call.lend 3 1)
+    (image (cp 3 ∷ mark 1 ∷ held 1 3 1 ∷ held 1 4 1 ∷ held 1 5 1 ∷ held 1 6 1 ∷ held 1 7 1 ∷ [])) 1
+    ∷ []
+
+-- ---- all of them
+
+unfoldable pub imageEdges : List Case
+unfolding lengthEdges conditionEdges frameEdges exportEdges
+imageEdges = lengthEdges ++ conditionEdges ++ frameEdges ++ exportEdges

@@ -1,0 +1,192 @@
+"""The C side: the header, the player, and a host for tests, built over a
+library of the exports.  Where a tool that watches memory is there, the player
+and the host are run under it too.
+"""
+
+import shutil
+import subprocess
+from functools import partial
+from itertools import chain
+from pathlib import Path
+
+from driver.formats import ALLCALLS
+from driver.image_suite import ImageSuite
+from driver.plain_rust import trouble
+from driver.suite import Suite, first_difference
+from edges.all_edges import EDGES, LEND_EDGES
+from front_door import c_player
+from images import export_tests
+
+ROOT = Path(__file__).resolve().parents[2]
+HEADER = ROOT / "include"
+PLAYER = ROOT / "player/player.c"
+IMAGES = ROOT / "tests/images"
+HOST = IMAGES / "host.c"
+STRICT = ["-Wall", "-Wextra", "-pedantic", "-Werror", "-I", str(HEADER)]
+C99 = ["-std=c99", "-O2"]
+CHECKED = ["-g", "-fsanitize=address,undefined", "-fno-sanitize-recover=all"]
+VALGRIND = ["valgrind", "-q", "--error-exitcode=9", "--leak-check=full"]
+IMAGES_EACH = 10            # images by chance for each seed
+WATCHED_IMAGES = 100        # of them under a tool that watches
+WATCHED_FILES = 4           # edges, through the player
+
+
+def found(*names):
+    """The first of these commands that is there, or None."""
+    return next(filter(None, map(shutil.which, names)), None)
+
+
+class Builder:
+    def __init__(self, compiler, library, folder):
+        self.compiler = compiler
+        self.library = str(library)
+        self.folder = Path(folder)
+
+    def alone(self, name, source, *options, compiler=None):
+        """What is wrong with a source that is compiled alone, or None."""
+        return trouble(compiler or self.compiler, *STRICT, *options, "-c",
+                       str(source), "-o", str(self.folder / (name + ".o")))
+
+    def program(self, name, source, *options):
+        """The path of a program, and what went wrong or None."""
+        path = str(self.folder / name)
+        return path, trouble(self.compiler, *C99, *STRICT, *options,
+                             str(source), self.library, "-o", path)
+
+    def sanitises(self):
+        """Whether its programs can have the address sanitiser."""
+        source = self.folder / "empty.c"
+        source.write_text("int main(void)\n{\n    return 0;\n}\n")
+        path, wrong = self.program("empty", source, *CHECKED)
+        return not wrong and not trouble(path)
+
+
+# ---- the header
+
+def header_tests(builder):
+    sizes = IMAGES / "sizes.c"
+    yield ("C: the header as C99",
+           partial(builder.alone, "c99", sizes, "-std=c99"))
+    plus = found("c++", "g++", "clang++")
+    for standard in ("c++98", "c++17") if plus else ():
+        yield ("C: the header as " + standard, partial(
+            builder.alone, standard, sizes, "-x", "c++", "-std=" + standard,
+            "-Wno-long-long", compiler=plus))
+    yield "C: README's lines", partial(readme, builder)
+
+
+def readme(builder):
+    """The lines of C that README.md has."""
+    text = (ROOT / "README.md").read_text()
+    lines = [line for line in text.splitlines()
+             if line.startswith("    ") and line.endswith(";")]
+    source = builder.folder / "readme.c"
+    source.write_text(
+        '#include "nazgolv.h"\n'
+        "uint64_t readme(const uint8_t *plan, size_t plan_length);\n"
+        "uint64_t readme(const uint8_t *plan, size_t plan_length)\n"
+        "{\n%s\n    return made + word;\n}\n" % "\n".join(lines))
+    return builder.alone("readme", source, "-std=c99")
+
+
+# ---- under a tool that watches memory
+
+def plays(command):
+    """What is wrong with the player on some edges, or None."""
+    for edge in some_edges():
+        done = subprocess.run(command, input=edge.data, capture_output=True)
+        right = "".join(line + "\n" for line in edge.lines).encode()
+        wrong = first_difference(right, done.stdout) or (
+            (done.returncode or done.stderr) and "status %d: %s" % (
+                done.returncode, done.stderr[-300:].decode("latin-1")))
+        if wrong:
+            return "%s: %s" % (edge.name, wrong)
+    return None
+
+
+def some_edges():
+    """Edges here and there, none of which leaves a choice open."""
+    edges = [edge for edge in EDGES + LEND_EDGES
+             if edge.name != "lend: both flows can take it"]
+    return edges[::len(edges) // WATCHED_FILES]
+
+
+class Watcher:
+    def __init__(self, name, command, options):
+        self.name = name
+        self.command = command      # that a program is started by
+        self.options = options      # that it is compiled with
+
+    def player(self, builder):
+        path, wrong = builder.program("player under " + self.name, PLAYER,
+                                      *self.options)
+        return wrong or plays([*self.command, path])
+
+    def host(self, builder):
+        """Without guards, so that a buffer ends where its memory does."""
+        path, wrong = builder.program("host under " + self.name, HOST,
+                                      "-DGUARD=0", *self.options)
+        return wrong or export_tests.all_trials(
+            [*self.command, path], WATCHED_IMAGES)
+
+
+def watchers(builder):
+    """Those that are there; what is not is said."""
+    if found("valgrind"):
+        yield Watcher("valgrind", VALGRIND, ["-g"])
+    else:
+        print("valgrind is not on this machine: nothing runs under it")
+    if builder.sanitises():
+        yield Watcher("the address sanitiser", [], CHECKED)
+    else:
+        print("the compiler has no address sanitiser: nothing runs under it")
+
+
+def watched_tests(builder):
+    for watcher in watchers(builder):
+        yield ("C: the exports under " + watcher.name,
+               partial(watcher.host, builder))
+        yield ("C: the player under " + watcher.name,
+               partial(watcher.player, builder))
+
+
+# ---- all of it
+
+class CSide:
+    """What is played where there is a C compiler: tests of its own, the
+    player, and the exports."""
+
+    def __init__(self, compiler, library, folder):
+        self.builder = Builder(compiler, library, folder)
+        self.own = Suite("C side")
+        self.player = Suite("player", form=ALLCALLS)
+        self.exports = ImageSuite("exports", None)
+        self.suites = [self.own, self.player, self.exports]
+
+    def build(self, suite, source):
+        """The suite's program, or a test that failed."""
+        path, wrong = self.builder.program(suite.name, source)
+        self.own.test("C: %s compiled" % source.name, wrong)
+        suite.command = None if wrong else [path]
+
+    def tests(self, count, seed):
+        """Names and tests, which need no file of calls."""
+        self.build(self.player, PLAYER)
+        self.build(self.exports, HOST)
+        tests = [watched_tests(self.builder), header_tests(self.builder),
+                 c_player.build_tests(self.builder.library)]
+        if self.player.command:
+            tests.append(c_player.tests(*self.player.command))
+        if self.exports.command:
+            tests.append(export_tests.tests(
+                self.exports.command, IMAGES_EACH * count, seed))
+        return chain.from_iterable(tests)
+
+
+def c_side(library, folder):
+    """The C side, or None where there is no C compiler, which is said."""
+    compiler = found("cc", "gcc", "clang")
+    if compiler:
+        return CSide(compiler, library, folder)
+    print("no C compiler is on this machine: the C side is not played")
+    return None

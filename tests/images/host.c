@@ -1,0 +1,152 @@
+/*
+ * A C host for tests: it makes the calls that it is told to, on a buffer that it
+ * is told to make, and writes what they answer and what the buffer holds.
+ *
+ * Standard input is commands, a letter and numbers with their low byte first:
+ *
+ *   b  length (4), bytes           makes the buffer
+ *   f  length (4), bytes of a plan fresh
+ *   r  word (4)                    request
+ *   c  flow (8), position (8)      credit
+ *   t                              tick
+ *   l  mask (2)                    lend
+ *   g                              writes the length (4) and the bytes of the buffer
+ *
+ * Each call's result is written as 8 bytes. On both sides of a buffer and of a
+ * plan lie GUARD bytes, which have to stay as they were, and a plan has to stay
+ * too. With no guard a buffer ends where its memory does, for tools that watch.
+ */
+#include <stdio.h>
+#include <stdlib.h>
+#include <string.h>
+
+#include "nazgolv.h"
+
+#ifndef GUARD
+#define GUARD 64
+#endif
+#define MARK 0xA7
+
+struct bytes {
+    uint8_t *memory;
+    uint8_t *start;
+    size_t length;
+};
+
+static struct bytes buffer;
+
+static void stop(const char *text)
+{
+    fflush(stdout);
+    fprintf(stderr, "host: %s\n", text);
+    exit(1);
+}
+
+/* Bytes from standard input. */
+static void take(void *to, size_t length)
+{
+    if (length > 0 && fread(to, 1, length, stdin) != length)
+        stop("a command is cut off");
+}
+
+static uint64_t number(int length)
+{
+    uint8_t bytes[8];
+    uint64_t sum = 0;
+    take(bytes, (size_t)length);
+    while (length-- > 0)
+        sum = sum << 8 | bytes[length];
+    return sum;
+}
+
+static void put_number(uint64_t number, int length)
+{
+    while (length-- > 0) {
+        putchar((int)(number & 255));
+        number >>= 8;
+    }
+}
+
+/* Memory for a length that stands in the input, with the bytes after it. */
+static struct bytes make(void)
+{
+    struct bytes made;
+    made.length = (size_t)number(4);
+    made.memory = malloc(made.length + 2 * GUARD + (made.length + GUARD == 0));
+    if (!made.memory)
+        stop("no memory");
+    memset(made.memory, MARK, made.length + 2 * GUARD);
+    made.start = made.memory + GUARD;
+    take(made.start, made.length);
+    return made;
+}
+
+static void check_guards(struct bytes made)
+{
+    size_t i = GUARD;
+    while (i-- > 0)
+        if (made.memory[i] != MARK || made.start[made.length + i] != MARK)
+            stop("a byte outside of what was lent was written");
+}
+
+static uint64_t fresh(void)
+{
+    struct bytes plan = make();
+    uint8_t *copy = malloc(plan.length + 1);
+    uint64_t result;
+    if (!copy)
+        stop("no memory");
+    memcpy(copy, plan.start, plan.length);
+    result = nazgolv_fresh(plan.start, plan.length, buffer.start, buffer.length);
+    if (memcmp(copy, plan.start, plan.length) != 0)
+        stop("the plan was written");
+    check_guards(plan);
+    free(copy);
+    free(plan.memory);
+    return result;
+}
+
+static uint64_t credit(void)
+{
+    uint64_t flow = number(8), position = number(8);
+    return nazgolv_credit(buffer.start, buffer.length, (size_t)flow, (size_t)position);
+}
+
+static uint64_t call(int letter)
+{
+    switch (letter) {
+    case 'f':
+        return fresh();
+    case 'r':
+        return nazgolv_request(buffer.start, buffer.length, (uint32_t)number(4));
+    case 'c':
+        return credit();
+    case 't':
+        return nazgolv_tick(buffer.start, buffer.length);
+    case 'l':
+        return nazgolv_lend(buffer.start, buffer.length, (uint16_t)number(2));
+    }
+    stop("an unknown command");
+    return 0;
+}
+
+int main(void)
+{
+    int letter;
+    while ((letter = getchar()) != EOF) {
+        if (letter == 'b') {
+            free(buffer.memory);
+            buffer = make();
+        } else if (letter == 'g') {
+            put_number(buffer.length, 4);
+            fwrite(buffer.start, 1, buffer.length, stdout);
+        } else {
+            put_number(call(letter), 8);
+            check_guards(buffer);
+        }
+    }
+    free(buffer.memory);
+    if (fflush(stdout) != 0)
+        stop("output failed");
+    return 0;
+}

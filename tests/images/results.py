@@ -1,0 +1,38 @@
+"""The 64-bit results of the exported calls (document 02, N5)."""
+
+POWER = 1 << 32
+IDLE = 16
+
+
+def number_of(call, letter, number):
+    """The result of a call that the simulator answers so: the refusal times 2
+    to the power 32, else the word, the flow or 16 for idle, or 0."""
+    if letter == "R":
+        return number * POWER
+    if letter == "G":
+        return call[1] & ~1023 | number
+    if letter == "T" and number == "-":
+        return IDLE
+    return number or 0
+
+
+LETTERS = {"request": "G", "tick": "T", "lend": "L"}
+
+
+def line_of(call, result):
+    """The line of a result in a listing."""
+    if result >= POWER:
+        return "R %d" % (result // POWER)
+    name = call[0]
+    if name == "credit":
+        return "C" if result == 0 else "C with %d" % result
+    if name == "tick" and result == IDLE:
+        return "T -"
+    return "%s %d" % (LETTERS[name],
+                      result & 1023 if name == "request" else result)
+
+
+def said(result):
+    """A result in words, for messages."""
+    return "%#x" % result if result < POWER else "%d x 2^32 + %d" % divmod(
+        result, POWER)

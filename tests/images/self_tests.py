@@ -1,0 +1,112 @@
+"""What the simulator's images and the test of acceptance have to be, with no
+library: a name for each test, and the test, which gives what went wrong or
+None.
+"""
+
+from collections import Counter
+from functools import partial
+
+from generator import departure_seeds, lend_seeds
+from generator.dice import Dice
+from images import by_hand, fresh_calls
+from images.acceptance import broken, refusal_of
+from images.call_files import images_after
+from images.random_calls import some_call
+from images.random_images import any_image, taken_image
+from simulator.calls import answer
+from simulator.image import image_of, link_of
+from simulator.listing import steps
+from simulator.records import ALLCALLS
+
+CONDITIONS = sorted({condition for condition, _, _ in by_hand.BROKEN})
+FILES = 6               # of each family, looked at after each call
+FEW = 1500              # bytes of each
+TAKEN_IMAGES = 60       # by chance, with calls on each
+IMAGES = 600            # by chance, of which most are not taken
+
+
+def after_calls(edge, image):
+    """The simulator's image is the one worked out by hand."""
+    lines, links = zip(*steps(edge.data, ALLCALLS))
+    found = image_of(links[-1])
+    return (list(lines) != edge.lines and "the simulator gives %r" % [lines]
+            or found != image and "it is %s" % found.hex())
+
+
+def taken(image):
+    """And it is the same when it is read and written; bytes past it don't
+    count."""
+    if refusal_of(image):
+        return "it breaks %r" % broken(image)
+    found = image_of(link_of(image))
+    return found != image[:len(found)] and "read and written it differs"
+
+
+def breaks(condition, image):
+    """This condition and no other."""
+    return (broken(image) != {condition} and "it breaks %r" % broken(image)
+            or refused(22, image))
+
+
+def refused(number, image):
+    return refusal_of(image) != number and "%d is given" % refusal_of(image)
+
+
+def reached(family, seed):
+    """Every image that calls lead to is taken."""
+    data = family.generate(seed)[:FEW]
+    return next(("one breaks %r" % broken(image)
+                 for image in images_after(data, ()) if refusal_of(image)),
+                None)
+
+
+def kept(seed):
+    """A taken image by chance, and what each of some calls makes of it."""
+    dice = Dice(seed)
+    image = taken_image(dice)
+    link = link_of(image)
+    for _ in range(20):
+        if taken(image):
+            return "image %d: %s" % (seed, taken(image))
+        answer(link, some_call(dice, image))
+        image = image_of(link)
+    return None
+
+
+def all_kept():
+    return next(filter(None, map(kept, range(TAKEN_IMAGES))), None)
+
+
+def each_broken():
+    """Among images by chance, each condition is broken by one that breaks no
+    other."""
+    found = Counter()
+    for seed in range(IMAGES):
+        image = any_image(Dice(seed))
+        found[refusal_of(image)] += 1
+        if refusal_of(image) == 22 and len(broken(image)) == 1:
+            found.update(broken(image))
+    missing = [way for way in (0, 21, 22, *CONDITIONS) if not found[way]]
+    return missing and "never: %r" % missing
+
+
+def tests():
+    for edge, image in by_hand.AFTER_CALLS:
+        yield edge.name, partial(after_calls, edge, image)
+    for name, image in by_hand.TAKEN:
+        yield "image: taken, " + name, partial(taken, image)
+    for condition, name, image in by_hand.BROKEN:
+        yield ("image: 22, %s: %s" % (condition, name),
+               partial(breaks, condition, image))
+    for number, images in ((21, by_hand.SHORT), (22, by_hand.LONG_ENOUGH)):
+        for name, image in images:
+            yield ("image: %d, %s" % (number, name),
+                   partial(refused, number, image))
+    yield from fresh_calls.self_tests()
+    for family in (lend_seeds, departure_seeds):
+        for seed in range(FILES):
+            yield ("image: taken after each call, %s %d" % (
+                       family.__name__.split(".")[-1], seed),
+                   partial(reached, family, seed))
+    yield "image: calls leave taken images taken", all_kept
+    yield "image: each condition is broken by chance, it alone", each_broken

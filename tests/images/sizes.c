@@ -1,0 +1,32 @@
+/*
+ * The header alone, twice, as C and as C++: it compiles without a warning, and
+ * its numbers are those of document 02. An array of -1 elements is an error.
+ */
+#include "nazgolv.h"
+#include "nazgolv.h"
+
+#define SAME(name, left, right) typedef char name[(left) == (right) ? 1 : -1]
+
+SAME(header, NAZGOLV_HEADER, 2 * 8);
+SAME(longest_plan, NAZGOLV_PLAN_MAX, 12 + 4 * 16);
+SAME(longest, NAZGOLV_IMAGE_MAX, NAZGOLV_IMAGE_LENGTH(256, 16));
+SAME(of_the_listing, NAZGOLV_IMAGE_LENGTH(8, 2), 92);
+SAME(smallest, NAZGOLV_IMAGE_LENGTH(2, 1), 44);
+SAME(word, NAZGOLV_WORD(9, 1, 2, 3), 0x24100803);
+SAME(all_ones, NAZGOLV_WORD(63, 63, 1023, 1023), 0xFFFFFFFF);
+SAME(position, NAZGOLV_POSITION(0x24100803), 3);
+SAME(no_refusal, NAZGOLV_REFUSAL((uint64_t)0xFFFFFFFF), 0);
+SAME(refusal, NAZGOLV_REFUSAL((uint64_t)NAZGOLV_REFUSED_IMAGE << 32), 22);
+SAME(value, NAZGOLV_VALUE((uint64_t)0x24100803), 0x24100803);
+
+/* Its functions have these types. */
+uint64_t uses(const uint8_t *plan, uint8_t *image);
+uint64_t uses(const uint8_t *plan, uint8_t *image)
+{
+    size_t length = NAZGOLV_IMAGE_MAX;
+    return nazgolv_fresh(plan, NAZGOLV_PLAN_MAX, image, length)
+        + nazgolv_request(image, length, (uint32_t)0)
+        + nazgolv_credit(image, length, (size_t)0, (size_t)0)
+        + nazgolv_tick(image, length)
+        + nazgolv_lend(image, length, (uint16_t)0);
+}
