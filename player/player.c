@@ -8,6 +8,7 @@
  *   C           record 2, a flow, a position in two bytes, 0: the credit is taken
  *   T f, T -    record 3, four zeros: the slot that has come up is flow f's, or idle
  *   L f         record 4, a mask in two bytes, 0, 0: the slot is lent to flow f
+ *   Z           record 5, four zeros: the link is reset
  *   R n         the record is refused with n
  *
  * Exit status: 0 the listing is whole; 1 it is not; 2 wrong arguments.
@@ -77,6 +78,12 @@ static void lend(unsigned mask)
         say('L', NAZGOLV_VALUE(result));
 }
 
+static void reset(void)
+{
+    if (!refused(nazgolv_reset(image, sizeof image)))
+        puts("Z");
+}
+
 /* Plays one record; one with an unknown kind or a filler makes no call. */
 static void play(const uint8_t *record)
 {
@@ -89,6 +96,8 @@ static void play(const uint8_t *record)
         tick();
     else if (record[0] == 4 && two_bytes(at + 2) == 0)
         lend(two_bytes(at));
+    else if (record[0] == 5 && word_at(at) == 0)
+        reset();
     else
         say('R', NO_CALL);
 }

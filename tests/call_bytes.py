@@ -33,3 +33,4 @@ def lend(mask, fillers=(0, 0)):
 
 
 TICK = bytes([3, 0, 0, 0, 0])
+RESET = bytes([5, 0, 0, 0, 0])

@@ -1,4 +1,5 @@
-//! Plays a call file with lends: as `play.rs`, and a record of kind 4 is a lend.
+//! Plays a call file with lends and resets: as `play.rs`, and a record of kind 4
+//! is a lend, one of kind 5 a reset.
 
 #[allow(dead_code)]
 #[path = "play.rs"]

@@ -1,6 +1,6 @@
 //! Plays a call file: reads a plan and 5-byte call records from standard input
 //! and writes one line for each to standard output. Records have three kinds;
-//! `allcalls.rs` has lends too.
+//! `allcalls.rs` has lends and resets too.
 
 #[allow(dead_code)]
 mod scheduler;
@@ -40,6 +40,7 @@ struct Lines {
     flow: Vec<Line>,
     idle: Line,
     lent: Vec<Line>,
+    reset: Line,
     refused: Vec<Line>,
 }
 
@@ -55,14 +56,15 @@ impl Lines {
             flow: numbered('T', scheduler::MOST_FLOWS),
             idle: Line::new("T -\n"),
             lent: numbered('L', scheduler::MOST_FLOWS),
-            refused: numbered('R', usize::from(refusal::NOT_COME) + 1),
+            reset: Line::new("Z\n"),
+            refused: numbered('R', usize::from(refusal::NOT_QUIET) + 1),
         }
     }
 
     /// Makes the call of one record and picks the line that answers it. Where
-    /// `LENDS` is true, kind 4 is a lend.
+    /// `ALL` is true, kind 4 is a lend and kind 5 a reset.
     #[inline]
-    fn answer<const LENDS: bool>(&self, link: &mut Link, record: &[u8; RECORD]) -> Line {
+    fn answer<const ALL: bool>(&self, link: &mut Link, record: &[u8; RECORD]) -> Line {
         let answer = match *record {
             [1, a, b, c, d] => link
                 .request(u32::from_le_bytes([a, b, c, d]))
@@ -73,9 +75,10 @@ impl Lines {
             [3, 0, 0, 0, 0] => Ok(link
                 .tick()
                 .map_or(self.idle, |flow| self.flow[usize::from(flow)])),
-            [4, low, high, 0, 0] if LENDS => link
+            [4, low, high, 0, 0] if ALL => link
                 .lend(u16::from_le_bytes([low, high]))
                 .map(|flow| self.lent[usize::from(flow)]),
+            [5, 0, 0, 0, 0] if ALL => link.reset().map(|()| self.reset),
             _ => Err(refusal::RECORD),
         };
         answer.unwrap_or_else(|number| self.refused[usize::from(number)])
@@ -98,7 +101,7 @@ fn read_plan(input: &mut impl Read) -> io::Result<Result<Plan, u8>> {
 }
 
 /// Plays the records after the plan, chunk by chunk.
-fn play_calls<const LENDS: bool>(
+fn play_calls<const ALL: bool>(
     link: &mut Link,
     input: &mut impl Read,
     output: &mut impl Write,
@@ -120,7 +123,7 @@ fn play_calls<const LENDS: bool>(
         begun = records.remainder().len();
         for record in records {
             let record = record.try_into().expect("a record has five bytes");
-            let line = lines.answer::<LENDS>(link, record);
+            let line = lines.answer::<ALL>(link, record);
             listing[end..end + LINE].copy_from_slice(&line.bytes);
             end += line.length;
         }
@@ -134,14 +137,14 @@ fn play_calls<const LENDS: bool>(
 }
 
 /// Plays standard input.
-pub fn play<const LENDS: bool>() -> io::Result<()> {
+pub fn play<const ALL: bool>() -> io::Result<()> {
     let mut input = io::stdin().lock();
     let mut output = io::stdout().lock();
     match read_plan(&mut input)? {
         Err(number) => writeln!(output, "P {number}")?,
         Ok(plan) => {
             writeln!(output, "P 0")?;
-            play_calls::<LENDS>(&mut Link::fresh(&plan), &mut input, &mut output)?;
+            play_calls::<ALL>(&mut Link::fresh(&plan), &mut input, &mut output)?;
         }
     }
     output.flush()

@@ -44,6 +44,7 @@ pub mod refusal {
     pub const SLOT_TAKEN: u8 = 17;
     pub const NO_FLOW: u8 = 18;
     pub const NOT_COME: u8 = 20;
+    pub const NOT_QUIET: u8 = 23;
 }
 
 /// One flow of the plan.
@@ -237,6 +238,12 @@ impl Holdings {
         least.into_iter().fold(u8::MAX, u8::min)
     }
 
+    /// Whether something is held at some place from this one on.
+    fn some(&self, from: usize) -> bool {
+        let row = &self.blocks.as_flattened()[from..self.used * BLOCK];
+        row.iter().any(|&held| held > 0)
+    }
+
     /// One cell more from a place on.
     #[inline]
     fn raise(&mut self, from: usize) {
@@ -414,6 +421,13 @@ impl Table {
         }
     }
 
+    /// Whether nobody has booked a slot that is yet to come.
+    fn all_free(&self) -> bool {
+        let whole = whole_frame(self.slots);
+        let to_come = whole & (u64::MAX << self.slot << 1);
+        self.free[0] == to_come && self.free[1..self.frames].iter().all(|&free| free == whole)
+    }
+
     /// Makes the next frame the head; the old head becomes the newest.
     fn next_head(&mut self) {
         self.slot = 0;
@@ -517,6 +531,21 @@ impl Link {
         flow.held.raise(now);
         self.table.holder = number as u8;
         Ok(number as u8)
+    }
+
+    /// Lets every flow start again in the head frame, if no slot to come is
+    /// booked and no flow holds anything from now on. Whoever has the current
+    /// slot keeps it. Slots that have come up have no owner any more.
+    pub fn reset(&mut self) -> Result<(), u8> {
+        let now = self.table.slot;
+        if !self.table.all_free() || self.flows.iter().any(|flow| flow.held.some(now)) {
+            return Err(refusal::NOT_QUIET);
+        }
+        for flow in &mut self.flows {
+            flow.frame = 0;
+            flow.left = flow.share;
+        }
+        Ok(())
     }
 
     /// A frame change.
@@ -838,5 +867,42 @@ mod tests {
         assert_eq!(link.tick(), Some(0));
         assert!((0..8).all(|_| link.tick().is_none()));
         assert_eq!(link.lend(1), Ok(0));
+    }
+
+    #[test]
+    fn quiet_links_start_again() {
+        let mut link = fresh(4, 2, 4, &PAIR);
+        assert_eq!([link.reset(), link.reset()], [Ok(()); 2]);
+        assert_eq!(ask_after(&mut link, 0, 7), Err(20));
+        assert_eq!(link.reset(), Ok(()));
+        assert_eq!(ask(&mut link, 0), Ok(1));
+        // A booked slot to come stands in the way, though nothing is held.
+        assert_eq!(link.credit(0, 1), Ok(()));
+        assert_eq!(link.reset(), Err(23));
+        assert_eq!(link.tick(), Some(0));
+        // The current slot doesn't, and stays taken until the tick.
+        assert_eq!([link.reset(), link.reset()], [Ok(()); 2]);
+        assert_eq!(link.lend(1), Err(17));
+        assert_eq!([ask(&mut link, 0), ask(&mut link, 0)], [Ok(2), Ok(3)]);
+    }
+
+    #[test]
+    fn held_cells_stand_in_the_way() {
+        let mut link = fresh(4, 2, 4, &PAIR);
+        assert_eq!(link.lend(2), Ok(1));
+        assert_eq!(link.reset(), Err(23));
+        assert_eq!(link.credit(1, 1), Ok(()));
+        assert_eq!(link.reset(), Err(23));
+        assert_eq!(link.tick(), None);
+        assert_eq!(link.reset(), Ok(()));
+        // The last slot of the window.
+        assert_eq!(ask_after(&mut link, 0, 6), Ok(7));
+        ticks(&mut link, 5);
+        assert_eq!(link.reset(), Err(23));
+        assert_eq!(link.tick(), Some(0));
+        assert_eq!(link.reset(), Err(23));
+        assert_eq!(link.credit(0, 0), Ok(()));
+        ticks(&mut link, 1);
+        assert_eq!(link.reset(), Ok(()));
     }
 }

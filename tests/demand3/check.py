@@ -21,6 +21,7 @@ DOMELINK = {
 ALLCALLS = {
     **DOMELINK,
     4: ((3, 4), re.compile(r"(L|R) (\d+)\Z"), History.lend),
+    5: ((1, 2, 3, 4), re.compile(r"(Z)()\Z|(R) (\d+)\Z"), History.reset),
 }
 REFUSED = re.compile(r"R (\d+)\Z")
 

@@ -1,24 +1,30 @@
-"""The grants, credits, lends and ticks that a listing tells of, and the
-bullets of demand 3 counted over them."""
+"""The grants, credits, lends, ticks and resets that a listing tells of, and
+the bullets of demand 3 counted over them.
+
+The most and the least count begin afresh with each granted reset; all else is
+counted over the whole list."""
 
 import struct
 from collections import Counter
 
-from demand3 import departure_ways, lend_ways
+from demand3 import departure_ways, lend_ways, reset_ways
 
 
 class Verdict:
     """What was found: faults as text; grants and taken credits seen; how the
-    lends and the departures of well-formed words ended; and per flow the
-    largest k at which the least count was put to the test."""
+    lends, the resets and the departures of well-formed words ended; per flow
+    the largest k at which the least count was put to the test, from the
+    beginning or from a granted reset on; and the largest of the latter."""
 
     def __init__(self):
         self.faults = []
         self.grants = 0
         self.credits = 0
         self.lends = Counter()
+        self.resets = Counter()
         self.departures = Counter()
         self.least = {}
+        self.afresh = -1
 
     def largest_k(self):
         return max(self.least.values(), default=-1)
@@ -38,20 +44,30 @@ class History:
         self.now = 0                        # the current slot
         self.owner = {}                     # granted slot -> flow
         self.lent = {}                      # lent slot -> flow
-        self.in_frame = {}                  # (flow, frame) -> granted slots
-        self.count = [0] * self.flows       # granted slots in all
         self.held = [0] * self.flows        # held at the current slot
         # Later slot -> grants less credits of that slot, for each flow.
         self.change = [{} for _ in entries]
-        # Frames 0 to asked - 1 have each seen a refusal of this flow.
-        self.asked = [0] * self.flows
-        # Never full when it asked, and each of its tiles had come.
-        self.ready = [True] * self.flows
+        self.renewed = None                 # the slot of the last reset
+        self.count_afresh()
         self.verdict = verdict
         self.place = 1                      # line number, for messages
 
+    def count_afresh(self):
+        """What counts from here on for the most and the least."""
+        self.origin = self.frame()          # the frame that is head
+        self.in_frame = {}                  # (flow, frame) -> granted slots
+        self.count = [0] * self.flows       # granted slots in all
+        # Frames from the origin to asked - 1 have each seen a refusal.
+        self.asked = [self.origin] * self.flows
+        # Never full when it asked, and each of its tiles had come.
+        self.ready = [True] * self.flows
+
     def frame(self):
         return self.now // self.frame_slots
+
+    def changes(self):
+        """k, the frame changes that count."""
+        return self.frame() - self.origin
 
     def fault(self, text):
         self.verdict.faults.append("line %d: %s" % (self.place, text))
@@ -128,7 +144,7 @@ class History:
         if self.in_frame[key] > self.share[flow]:
             self.fault("flow %d has more than its share in frame %d" % key)
         self.count[flow] += 1
-        most = (self.window_frames + self.frame()) * self.share[flow]
+        most = (self.window_frames + self.changes()) * self.share[flow]
         if self.count[flow] > most:
             self.fault("flow %d has %d grants, above the most of %d"
                        % (flow, self.count[flow], most))
@@ -137,10 +153,12 @@ class History:
         """At least (W - 1 + k) times the share, for a stream that was refused
         in each frame up to this one, never asked while full, and named tiles
         that had come."""
-        k = self.frame()
-        if not self.ready[flow] or self.asked[flow] <= k:
+        if not self.ready[flow] or self.asked[flow] <= self.frame():
             return
-        self.verdict.least[flow] = k
+        k = self.changes()
+        self.verdict.least[flow] = max(k, self.verdict.least.get(flow, k))
+        if self.renewed is not None:
+            self.verdict.afresh = max(k, self.verdict.afresh)
         least = (self.window_frames - 1 + k) * self.share[flow]
         if self.count[flow] < least:
             self.fault("flow %d has %d grants, below the least of %d"
@@ -215,6 +233,13 @@ class History:
         self.lent[self.now] = flow
         self.held[flow] += 1
         self.check_levels(flow)
+
+    def reset(self, record, letter, number):
+        """Counts begin afresh; owners, and what is held, stay."""
+        self.verdict.resets[reset_ways.way(self, letter, number)] += 1
+        if letter == "Z":
+            self.renewed = self.now
+            self.count_afresh()
 
     def tick(self, record, letter, number):
         """A slot comes up for its owner, or idle if it has none."""

@@ -11,9 +11,10 @@ from driver.c_side import c_side
 from driver.formats import ALLCALLS
 from driver.side_by_side import done
 from driver.suite import Suite
-from driver.tally import DepartureTally, LendTally, QuestionTally, Tally
+from driver.tally import (
+    DepartureTally, LendTally, QuestionTally, ResetTally, Tally)
 from edges import open_choice, questions, refusals_page
-from edges.all_edges import EDGES, LEND_EDGES
+from edges.all_edges import ALLCALLS_EDGES, EDGES
 from front_door import (
     asking_editor, old_program, plan_files, plan_lost_output, plan_read,
     plan_wrong_words, play_files, play_lost_output, slow_reader,
@@ -23,7 +24,7 @@ from images import self_tests
 FRONT_DOOR = (play_files, play_lost_output, plan_files, plan_read,
               plan_wrong_words, plan_lost_output, old_program, slow_reader,
               asking_editor, wrong_arguments)
-REFUSALS = range(1, 23)         # those of all programs
+REFUSALS = range(1, 24)         # those of all programs
 
 
 def wanted(names, only):
@@ -60,7 +61,7 @@ def tables():
     missing = sorted(set(REFUSALS) - refusals_page.numbers())
     yield ("docs: every refusal has an input",
            missing and "none for %s" % missing)
-    for kind, edges in (("edge", EDGES + LEND_EDGES),
+    for kind, edges in (("edge", EDGES + ALLCALLS_EDGES),
                         ("question", questions.EDGES)):
         names = [edge.name for edge in edges]
         twice = sorted({name for name in names if names.count(name) > 1})
@@ -104,7 +105,7 @@ def play_cases(suites, names, only, tally=None):
 
 
 def play_files(suites, only, count, seed):
-    """Files without lends.  The tally of the generated ones."""
+    """Files for every program.  The tally of the generated ones."""
     tally = Tally()
     play_cases(suites, cases.edges(), only)
     play_cases(suites, cases.page(), only)
@@ -127,21 +128,29 @@ def play_departures(suites, only, count, seed):
 def play_lends(suites, only, count, seed):
     """Files with lends.  The tally of the generated ones."""
     tally = LendTally()
-    play_cases(suites, cases.lend_edges(), only)
+    play_cases(suites, cases.allcalls_edges(), only)
     play_cases(suites, cases.page(ALLCALLS), only)
-    play_cases(suites, cases.lends_in_pieces(seed), only)
+    play_cases(suites, cases.others_in_pieces(seed), only)
     play_cases(suites, cases.lends(count, seed), only, tally)
+    return tally
+
+
+def play_resets(suites, only, count, seed):
+    """Files with resets.  Their tally."""
+    tally = ResetTally()
+    play_cases(suites, cases.resets(count, seed), only, tally)
     return tally
 
 
 def play_programs(suites, only, count, seed):
     """Each file through each program that reads it, and the totals if nothing
     is left out.  The tallies."""
-    lending = [suite for suite in suites if suite.form is ALLCALLS]
+    others = [suite for suite in suites if suite.form is ALLCALLS]
     tallies = [play_files(suites, only, count, seed),
                play_departures(suites, only, count, seed)]
-    if lending:
-        tallies.append(play_lends(lending, only, count, seed))
+    if others:
+        tallies += [play_lends(others, only, count, seed),
+                    play_resets(others, only, count, seed)]
     for suite in suites:
         if not only:
             suite.totals()

@@ -2,14 +2,15 @@
 edges, the inputs of docs/REFUSALS.md, files in pieces, and generated files.
 
 Each function yields names, and with each name how the case is made.  Those
-with lends are for programs that read allcalls' records, the others for all.
+with lends or resets are for programs that read allcalls' records, the others
+for all.
 """
 
 from demand3.check import check
-from driver.formats import ALLCALLS, DOMELINK, has_lends
+from driver.formats import ALLCALLS, DOMELINK, has_other_calls
 from edges import refusals_page
-from edges.all_edges import EDGES, LEND_EDGES
-from generator import departure_seeds, lend_seeds
+from edges.all_edges import ALLCALLS_EDGES, EDGES
+from generator import departure_seeds, lend_seeds, reset_seeds
 from generator.seeds import generate, kind_of
 from simulator.image import image_of
 from simulator.listing import steps
@@ -17,8 +18,10 @@ from simulator.listing import steps
 PIECES = (1, 2, 3, 4, 7, 64)    # bytes at a time
 IN_PIECES = ("the listing of document 01", "a last record of 3 bytes",
              "plan: 19 bytes that say 20")
-LENDS_IN_PIECES = ("lend: 17 at a lent and at a booked slot",
-                   "lend: a last record of 4 bytes")
+OTHERS_IN_PIECES = ("lend: 17 at a lent and at a booked slot",
+                    "lend: a last record of 4 bytes",
+                    "reset: the mark of a booked slot",
+                    "reset: a last record of 4 bytes")
 FEW = 4000                      # bytes of a file that is fed in pieces
 
 
@@ -49,10 +52,11 @@ class Case:
 
     def right(self, form):
         """The right listing, with the lowest flow at each lend.  A file
-        without lends has one listing, whatever the program."""
+        with neither lends nor resets has one listing, whatever the program."""
         if form not in self.known:
-            self.known[form] = (self.following(form) if has_lends(self.data)
-                                else self.own)
+            self.known[form] = (
+                self.following(form) if has_other_calls(self.data)
+                else self.own)
         return self.known[form]
 
     def following(self, form, heard=()):
@@ -82,7 +86,7 @@ def from_page(data, last, form):
 
 def page(form=DOMELINK):
     """Each input of docs/REFUSALS.md ends in the line beside it."""
-    kind, program = ((" of a lend", "allcalls") if form is ALLCALLS
+    kind, program = ((" by allcalls", "allcalls") if form is ALLCALLS
                      else ("", None))
     for number, data, last in refusals_page.examples(program):
         yield ("docs: refusal %d%s" % (number, kind),
@@ -138,16 +142,16 @@ def departures(count, seed):
                lambda number=number: from_departure_seed(number))
 
 
-# ---- files with lends
+# ---- files with lends and resets
 
-def lend_edges():
-    for edge in LEND_EDGES:
+def allcalls_edges():
+    for edge in ALLCALLS_EDGES:
         yield ("edge: " + edge.name,
                lambda edge=edge: from_edge(edge, form=ALLCALLS))
 
 
-def lends_in_pieces(seed):
-    yield from edges_in_pieces(LENDS_IN_PIECES, LEND_EDGES, ALLCALLS)
+def others_in_pieces(seed):
+    yield from edges_in_pieces(OTHERS_IN_PIECES, ALLCALLS_EDGES, ALLCALLS)
     for size, number in zip(PIECES, lend_seeds.small(seed, FEW)):
         yield ("lends, seed %d in pieces of %d" % (number, size),
                lambda number=number, size=size: from_lend_seed(number, size))
@@ -162,3 +166,14 @@ def lends(count, seed):
     for number in range(seed, seed + count):
         yield ("lends, seed %d (%s)" % (number, lend_seeds.kind_of(number)),
                lambda number=number: from_lend_seed(number))
+
+
+def from_reset_seed(seed):
+    data = reset_seeds.generate(seed)
+    return Case(data, simulated(data, ALLCALLS), form=ALLCALLS)
+
+
+def resets(count, seed):
+    for number in range(seed, seed + count):
+        yield ("resets, seed %d (%s)" % (number, reset_seeds.kind_of(number)),
+               lambda number=number: from_reset_seed(number))

@@ -1,4 +1,4 @@
-"""How programs read call records: domelink's three kinds, and allcalls' one
+"""How programs read call records: domelink's three kinds, and allcalls' two
 more."""
 
 from demand3 import check
@@ -20,10 +20,10 @@ class Format:
 DOMELINK = Format(
     "DOMELINK", records.DOMELINK, check.DOMELINK, [*range(1, 17), 20])
 ALLCALLS = Format(
-    "ALLCALLS", records.ALLCALLS, check.ALLCALLS, [*range(1, 19), 20])
+    "ALLCALLS", records.ALLCALLS, check.ALLCALLS, [*range(1, 19), 20, 23])
 
 
-def has_lends(data):
+def has_other_calls(data):
     """Whether some record of a call file is a call for allcalls alone."""
     rest = data[int.from_bytes(data[:2], "little"):]
     return any(

@@ -7,7 +7,7 @@ in the first.
 import multiprocessing
 from collections import Counter
 
-from demand3 import departure_ways, lend_ways
+from demand3 import departure_ways, lend_ways, reset_ways
 from demand3.check import check
 from driver.formats import ALLCALLS, DOMELINK
 from driver.starting import NO_END, play, play_in_pieces
@@ -58,8 +58,10 @@ class Suite:
         self.failed = 0
         self.seen = set()           # refusal numbers in the listings
         self.lends = Counter()      # how lends ended
+        self.resets = Counter()     # how resets ended
         self.departures = Counter()     # where they lay, how requests ended
         self.largest_k = -1         # at which the least count was tried
+        self.afresh = -1            # the same after a granted reset
         self.without_end = multiprocessing.Value("i", 0)    # for all processes
 
     def test(self, name, *troubles):
@@ -76,8 +78,10 @@ class Suite:
         self.seen |= outcome.seen
         if outcome.verdict:
             self.lends += outcome.verdict.lends
+            self.resets += outcome.verdict.resets
             self.departures += outcome.verdict.departures
             self.largest_k = max(self.largest_k, outcome.verdict.largest_k())
+            self.afresh = max(self.afresh, outcome.verdict.afresh)
 
     def add(self, name, outcome):
         """The test of a file that was played, if it was."""
@@ -136,9 +140,13 @@ class Suite:
         self.test("requests ended in every way for every departure",
                   missing and "never seen: %s" % ", ".join(missing))
         if self.form is ALLCALLS:
-            self.lend_totals()
+            self.every_way("lends", lend_ways.WAYS, self.lends)
+            self.every_way("resets", reset_ways.WAYS, self.resets)
+            self.test("the least count was tried after a reset with k of 2 "
+                      "and more",
+                      self.afresh < 2 and "largest k %d" % self.afresh)
 
-    def lend_totals(self):
-        missing = [way for way in lend_ways.WAYS if not self.lends[way]]
-        self.test("lends ended in every way",
+    def every_way(self, calls, ways, seen):
+        missing = [way for way in ways if not seen[way]]
+        self.test(calls + " ended in every way",
                   missing and "never seen: %s" % ", ".join(missing))

@@ -4,6 +4,7 @@ from collections import Counter
 
 from demand3.departure_ways import PLACES
 from demand3.lend_ways import BITS, LENT, NO_FLOW, TAKEN
+from demand3.reset_ways import GRANTED, REFUSED
 from generator import departure_seeds
 
 OFTEN = 3               # times 20 has to come up for each file with departures
@@ -62,30 +63,44 @@ class DepartureTally(Tally):
             *[self.part(place, ends) for place, ends in PLACES.items()]])
 
 
-class LendTally(Tally):
-    """Also how the lends ended, the lowest flow always lent to."""
+class WaysTally(Tally):
+    """Also how the calls of one sort ended."""
+
+    sort = None             # of the calls, a field of the verdict
+    parts = ()              # a title and the ways under it
 
     def __init__(self):
         super().__init__()
-        self.lends = Counter()
+        self.ways = Counter()
 
     def add(self, case):
         super().add(case)
-        self.lends += case.own.verdict.lends
+        self.ways += getattr(case.own.verdict, self.sort)
 
     def part(self, title, ways):
-        return "%s %d: %s" % (
-            title, sum(self.lends[way] for way in ways),
-            ", ".join("%s %d" % (way.split(": ")[1], self.lends[way])
+        return "  %s %d: %s" % (
+            title, sum(self.ways[way] for way in ways),
+            ", ".join("%s %d" % (way.split(": ")[1], self.ways[way])
                       for way in ways))
 
     def text(self):
         return "\n".join([
             super().text(),
-            "%d lends in them" % sum(self.lends.values()),
-            self.part("  lent", LENT), self.part("  refused with 8", BITS),
-            self.part("  refused with 17", TAKEN),
-            self.part("  refused with 18", NO_FLOW)])
+            "%d %s in them" % (sum(self.ways.values()), self.sort),
+            *[self.part(*part) for part in self.parts]])
+
+
+class LendTally(WaysTally):
+    """The lowest flow is always lent to."""
+
+    sort = "lends"
+    parts = (("lent", LENT), ("refused with 8", BITS),
+             ("refused with 17", TAKEN), ("refused with 18", NO_FLOW))
+
+
+class ResetTally(WaysTally):
+    sort = "resets"
+    parts = ("granted", GRANTED), ("refused with 23", REFUSED)
 
 
 class QuestionTally:

@@ -2,9 +2,9 @@
 
 from edges import (
     call_records, credits, departures, from_the_paper, lends, plan_limits,
-    requests, three_slips, ticks)
+    requests, resets, three_slips, ticks)
 
 EDGES = (from_the_paper.EDGES + three_slips.EDGES + requests.EDGES
          + departures.EDGES + credits.EDGES + ticks.EDGES + call_records.EDGES
          + plan_limits.EDGES)
-LEND_EDGES = lends.EDGES
+ALLCALLS_EDGES = lends.EDGES + resets.EDGES

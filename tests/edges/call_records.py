@@ -1,7 +1,8 @@
 """Edges of domelink's call records: refusal 16, and where the plan ends."""
 
 from call_bytes import request
-from edges.edge_maker import BASE, Edge, TICK, TO, ask, credit, edge, lend
+from edges.edge_maker import (
+    BASE, Edge, RESET, TICK, TO, ask, credit, edge, lend)
 
 WORD = request(TO, 0)
 
@@ -24,6 +25,11 @@ NO_CALLS = [
          (lend(0), "R 16"), (lend(1, fillers=(0, 1)), "R 16"),
          (ask(0), "G 1"), (ask(0), "G 2"),
          (TICK, "T 0"), (lend(2), "R 16")),
+
+    # Nor has it one for a reset: flow 0 stays in frame 1.
+    edge("a reset is no call of domelink", BASE,
+         (RESET, "R 16"), (ask(0, departure=7), "R 20"),
+         (RESET, "R 16"), (ask(0), "G 4")),
 ]
 
 # A last record of 1 to 4 bytes, whatever they would begin; and none at all.

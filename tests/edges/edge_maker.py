@@ -6,7 +6,7 @@ without end, F, W, T, C, IF and HF are document 01's names.
 """
 
 import call_bytes
-from call_bytes import TICK, credit, lend   # noqa: F401  (for edge files)
+from call_bytes import RESET, TICK, credit, lend    # noqa: F401 (for edges)
 
 TO = 9              # every flow of the edges has this destination
 

@@ -41,6 +41,11 @@ TESTS_RUN = [
     (["--departures"], "--departures goes with"),
     (["--departures", "--allcalls", "--write", "1", MISSING],
      "--departures goes with"),
+    (["--resets"], "--resets goes with"),
+    (["--resets", "--simulate", MISSING], "--resets goes with"),
+    (["--resets", "--allcalls", "--write", "1", MISSING],
+     "--resets goes with"),
+    (["--resets", "--write", "-1", MISSING], "a seed has to be"),
 ]
 BENCH_RUN = [
     (["0"], "ROUNDS"),

@@ -74,6 +74,10 @@ class CallFile:
         letter, number = self.record(call_bytes.lend(mask))
         return number if letter == "L" else None
 
+    def reset(self):
+        """Whether it was granted."""
+        return self.record(call_bytes.RESET)[0] == "Z"
+
     # ---- where things stand
 
     def now(self):

@@ -9,6 +9,7 @@ leave its answer open, it follows the program if that gave a right one.
 from simulator.credit import credit
 from simulator.lend import lend
 from simulator.request import request
+from simulator.reset import reset
 from simulator.tick import tick
 
 CALLS = {
@@ -16,6 +17,7 @@ CALLS = {
     "credit": credit,
     "tick": tick,
     "lend": lend,
+    "reset": reset,
 }
 OPEN = {"lend"}
 

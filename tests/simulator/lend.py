@@ -15,8 +15,8 @@ def takers(link, mask):
 
 
 def taken(link):
-    """The current slot is booked, or was lent."""
-    return link.ticks in link.owner or link.ticks == link.lent
+    """The current slot is booked, or marked taken."""
+    return link.ticks in link.owner or link.ticks == link.marked
 
 
 def chosen(flows, heard):
@@ -35,6 +35,6 @@ def lend(link, mask, heard):
     if not flows:
         return "R", 18
     flow = chosen(flows, heard)
-    link.lent = link.ticks
+    link.marked = link.ticks
     link.flows[flow].held_from.append(link.ticks)
     return "L", flow

@@ -35,7 +35,7 @@ class Link:
         self.plan = plan
         self.ticks = 0              # slot `ticks` is current
         self.owner = {}             # granted slot -> flow
-        self.lent = None            # the slot that was lent last
+        self.marked = None          # the slot that was marked taken last
         self.flows = [Flow(plan.share(flow)) for flow in range(plan.flows)]
 
     # ---- frames and slots of the window

@@ -18,8 +18,9 @@ def flow_and_position(rest):
     return "credit", rest[0], rest[1] + 256 * rest[2]
 
 
-def zeros(rest):
-    return None if any(rest) else ("tick",)
+def zeros(name):
+    """A call without arguments, and four fillers."""
+    return lambda rest: None if any(rest) else (name,)
 
 
 def mask(rest):
@@ -28,8 +29,8 @@ def mask(rest):
     return "lend", rest[0] + 256 * rest[1]
 
 
-DOMELINK = {1: word, 2: flow_and_position, 3: zeros}
-ALLCALLS = {**DOMELINK, 4: mask}
+DOMELINK = {1: word, 2: flow_and_position, 3: zeros("tick")}
+ALLCALLS = {**DOMELINK, 4: mask, 5: zeros("reset")}
 
 
 def read_record(record, kinds=DOMELINK):

@@ -4,9 +4,9 @@ use mathlib.Core.Option.{Option, some, none}
 use Rattle.model.specs.Calls as model
 use Rattle.model.specs.Calls.{accepted, refused}
 use Rattle.model.specs.Record.{RecordCall}
-use Rattle.model.specs.Listing.{requestLine, creditLine, tickLine, lendLine}
+use Rattle.model.specs.Listing.{requestLine, creditLine, tickLine, lendLine, resetLine}
 use Rattle.calls.specs.declared.Record.the-variants.{Call}
-use Rattle.calls.specs.Reading.{recordFor, callIn, answerToRequest, answerToCredit, answerToTick, answerToLend, lineFor}
+use Rattle.calls.specs.Reading.{recordFor, callIn, answerToRequest, answerToCredit, answerToTick, answerToLend, answerToReset, lineFor}
 
 pub call-in : (c : Option RecordCall) → callIn (recordFor c) ≡ c
 call-in (some (RecordCall.request word)) = refl
@@ -29,3 +29,7 @@ line-of-tick none = refl
 pub line-of-lend : (a : model.Loan) → lineFor (answerToLend a) ≡ lendLine a
 line-of-lend (accepted flow) = refl
 line-of-lend (refused number) = refl
+
+pub line-of-reset : (a : model.Renewal) → lineFor (answerToReset a) ≡ resetLine a
+line-of-reset (accepted _) = refl
+line-of-reset (refused number) = refl

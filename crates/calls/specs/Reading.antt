@@ -7,11 +7,11 @@ use Rattle.calls.specs.declared.Call.the-variants.{Request, Credit, Tick
 use Rattle.calls.specs.declared.Record.{Record}
 use Rattle.calls.specs.declared.Record.the-variants.{NoCall}
 use Rattle.calls.specs.declared.Answer.{Answer}
-use Rattle.calls.specs.declared.Answer.the-variants.{Granted, Taken, Turn, Idle, Lent, Refused}
+use Rattle.calls.specs.declared.Answer.the-variants.{Granted, Taken, Turn, Idle, Lent, Reset, Refused}
 use Rattle.model.specs.Calls as model
 use Rattle.model.specs.Calls.{accepted, refused}
 use Rattle.model.specs.Record.{RecordCall}
-use Rattle.model.specs.Listing.{requestLine, creditLine, tickLine, lendLine, refusalLine}
+use Rattle.model.specs.Listing.{requestLine, creditLine, tickLine, lendLine, resetLine, refusalLine}
 
 -- ---- calls
 
@@ -64,6 +64,11 @@ abbrev pub answerToLend : model.Loan → Answer
 answerToLend (accepted flow) = Lent flow
 answerToLend (refused number) = Refused number
 
+-- a reset: granted, or the number of the refusal
+abbrev pub answerToReset : model.Renewal → Answer
+answerToReset (accepted _) = Reset
+answerToReset (refused number) = Refused number
+
 -- the line of an answer
 abbrev pub lineFor : Answer → List ℕ
 lineFor (Granted word) = requestLine (accepted word)
@@ -71,4 +76,5 @@ lineFor Taken = creditLine (accepted tt)
 lineFor (Turn flow) = tickLine (some flow)
 lineFor Idle = tickLine none
 lineFor (Lent flow) = lendLine (accepted flow)
+lineFor Reset = resetLine (accepted tt)
 lineFor (Refused number) = refusalLine number

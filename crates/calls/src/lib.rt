@@ -40,6 +40,8 @@ pub enum Answer {
     Idle,
     // The current slot is lent to a flow.
     Lent(u8),
+    // A reset is granted.
+    Reset,
     // A call is refused, by its number.
     Refused(u8),
 }

@@ -1,4 +1,4 @@
-// Lines: a letter, then a space and what is said unless the letter is C, and a newline.
+// Lines: a letter, then a space and what is said unless the letter is C or Z, and a newline.
 ghost use mathlib.Core.Path.{_≡_};
 ghost use mathlib.Core.List.{_∷_, []};
 ghost use Prim.Native.Nat.{_+_, _<_, _≤_};
@@ -80,6 +80,9 @@ pub fn write(answer: Answer, out: &mut [u8], at: usize) -> usize
         }
         Answer::Lent(flow) => {
             return put_number(b'L', flow as u32, out, at);
+        }
+        Answer::Reset => {
+            return put_pair(b'Z', b'\n', out, at);
         }
         Answer::Refused(number) => {
             return put_number(b'R', number as u32, out, at);

@@ -9,7 +9,7 @@ use Rattle.images.specs.Taken.{refusalOf}
 use Rattle.images.specs.Exports.{Called, HandsBack, calledOn}
 use Rattle.images.specs.Chain.{eventOf, imageIn, Chain, starts, goes-on}
 use Rattle.images.proofs.Chain.{chain-taken, chain-meets}
-use Rattle.image.specs.Hosted.{Hosted, by-fresh, by-request, by-credit, by-tick, by-lend}
+use Rattle.image.specs.Hosted.{Hosted, by-fresh, by-request, by-credit, by-tick, by-lend, by-reset}
 
 module _ (plan : List ℕ) where
   -- some calls make this chain
@@ -31,6 +31,7 @@ module _ (plan : List ℕ) where
   chained (by-credit x c same flow position r e) = one-more (chained x) c same (Call.credit flow position) e
   chained (by-tick x c same r e) = one-more (chained x) c same Call.tick e
   chained (by-lend x c same mask r e) = one-more (chained x) c same (Call.lend mask (e .choice)) (e .result-is, e .buffer-is)
+  chained (by-reset x c same r e) = one-more (chained x) c same Call.reset e
 
   -- a buffer with the image in hand is never turned back
   pub host-taken : {h : History} {b : List ℕ} → Hosted plan h b → (c : List ℕ) → imageIn c ≡ imageIn b → refusalOf c ≡ 0

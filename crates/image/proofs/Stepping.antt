@@ -5,13 +5,14 @@ use mathlib.Core.List.{List}
 use mathlib.Core.Option.{some, none}
 use native.Mathlib.Omega.{arith}
 use lib.ListN.{length}
-use Rattle.model.specs.Calls.{Call, Grant, Receipt, Turn, Loan, accepted, refused}
+use Rattle.model.specs.Calls.{Call, Grant, Receipt, Turn, Loan, Renewal, accepted, refused}
 use Rattle.model.specs.Link as model
 use Rattle.model.specs.Request as request
 use Rattle.model.specs.Credit as credit
 use Rattle.model.specs.Tick as tick
 use Rattle.model.specs.Lend as lend
-use Rattle.calls.specs.Reading.{answerToRequest, answerToCredit, answerToTick, answerToLend}
+use Rattle.model.specs.Reset as reset
+use Rattle.calls.specs.Reading.{answerToRequest, answerToCredit, answerToTick, answerToLend, answerToReset}
 use Rattle.calls.specs.declared.Answer.{Answer}
 use Rattle.link.specs.declared.Link.{Link}
 use Rattle.link.specs.declared.Step.{Step}
@@ -21,7 +22,7 @@ use Rattle.link.specs.Steps.{Stepped}
 use Rattle.images.specs.Image.{imageLength, planIn, linkIn}
 use Rattle.images.specs.Consistent.{Keepable}
 use Rattle.images.specs.Taken.{refusalOf, Taken}
-use Rattle.images.specs.Exports.{Called, HandsBack, grantNumber, receiptNumber, turnNumber, loanNumber, onLink, writtenTo, handedBack, calledOn}
+use Rattle.images.specs.Exports.{Called, HandsBack, grantNumber, receiptNumber, turnNumber, loanNumber, renewalNumber, onLink, writtenTo, handedBack, calledOn}
 use Rattle.images.proofs.Taken.{taken}
 use Rattle.images.proofs.ImageTaken.{read-kept}
 use Rattle.images.proofs.Closed.{KeptAfter}
@@ -46,6 +47,10 @@ turn-number none = refl
 pub loan-number : (a : Loan) → numberFor (answerToLend a) ≡ loanNumber a
 loan-number (accepted i) = refl
 loan-number (refused n) = refl
+
+renewal-number : (a : Renewal) → numberFor (answerToReset a) ≡ renewalNumber a
+renewal-number (accepted x) = refl
+renewal-number (refused n) = refl
 
 -- ---- a step of the code is the call c on the link in b
 
@@ -76,6 +81,9 @@ module _ {b : List ℕ} (l : Link) (e : linkOf l ≡ linkIn b) where
 
   pub steps-lend : (mask choice : ℕ) {s : Step} → Stepped answerToLend (lend.lend (linkOf l) mask choice) s → Steps b (Call.lend mask choice) s
   steps-lend mask choice = stepped loanNumber loan-number (λ x. lend.lend x mask choice) (Call.lend mask choice) refl
+
+  pub steps-reset : {s : Step} → Stepped answerToReset (reset.reset (linkOf l)) s → Steps b Call.reset s
+  steps-reset = stepped renewalNumber renewal-number reset.reset Call.reset refl
 
 -- ---- on an image that is taken
 

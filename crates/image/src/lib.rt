@@ -2,7 +2,7 @@
 // answered; else it is a refusal times that power.
 ghost use mathlib.Core.Path.{_≡_};
 ghost use Rattle.link.specs.Reading.{linkOf};
-ghost use Rattle.images.specs.Exports.{HandsBack, refusalNumber, writtenTo, freshOn, requestOn, creditOn, tickOn};
+ghost use Rattle.images.specs.Exports.{HandsBack, refusalNumber, writtenTo, freshOn, requestOn, creditOn, tickOn, resetOn};
 ghost use Rattle.imagebytes.specs.Asked.{Writable};
 ghost use Rattle.image.specs.Numbers.{numberFor};
 ghost use Rattle.image.specs.Lend.{LendsOn};
@@ -47,6 +47,9 @@ fn number_of(answer: Answer) -> u64
         }
         Answer::Lent(flow) => {
             return wide(flow);
+        }
+        Answer::Reset => {
+            return 0;
         }
         Answer::Refused(number) => {
             return refused(number);
@@ -139,4 +142,17 @@ pub extern "C" fn nazgolv_lend(image: &mut [u8], mask: u16) -> u64
     }
     let link = read(image);
     hand_back(link.lend(mask), image)
+}
+
+// Every frame is recycled, when the link is quiet.
+#[no_mangle]
+pub extern "C" fn nazgolv_reset(image: &mut [u8]) -> u64
+    ensures { λ r. ⌜ HandsBack (resetOn (now (image .entry))) r (now (image .exit)) ⌝ }
+{
+    let number = refusal(image);
+    if number != 0 {
+        return refused(number);
+    }
+    let link = read(image);
+    hand_back(link.reset(), image)
 }

@@ -14,6 +14,7 @@ use Rattle.model.specs.Link.{Link}
 use Rattle.model.specs.Credit.{creditTests, creditAfter, credit}
 use Rattle.model.specs.Tick.{nextPosition, tick}
 use Rattle.model.specs.Lend.{lendTests, chosen, lentAfter, lendAfter, lend}
+use Rattle.model.specs.Reset.{resetTests, resetAfter, reset}
 use Rattle.model.proofs.Slots.{some-position}
 use Rattle.images.specs.Consistent.{known, Keepable}
 use Rattle.images.specs.Exports.{refusalNumber, numberOf, turnNumber}
@@ -35,7 +36,7 @@ pub turn-read : (n : ℕ) → n ≤ 16 → (x : Turn) → known n x ≡ true →
 turn-read n most none e = refl
 turn-read n most (some i) e = let lt = ltb-true i n e in rw (ne-eqb i 16 (λ z. omega arith))
 
--- ---- the answers of credits, ticks and lends
+-- ---- the answers of credits, ticks, lends and resets
 
 pub tick-known : {l : Link} → Keepable l → known (flowCount (l .plan)) (tick l .answer) ≡ true
 unfolding tick
@@ -65,3 +66,11 @@ lend-proper {l} v mask choice = go (firstOf (lendTests l mask)) refl
     go : (r : ℕ) → firstOf (lendTests l mask) ≡ r → Proper Word (lendAfter r l mask choice .answer)
     go zero e = lent (chosen l mask choice)
     go (suc r) e = omega (arith, firstOf-most 17 (lendTests l mask) (omega arith))
+
+pub reset-proper : (l : Link) → Proper (λ _. Word 0) (reset l .answer)
+unfolding reset resetAfter
+reset-proper l = go (firstOf (resetTests l)) refl
+  where
+    go : (r : ℕ) → firstOf (resetTests l) ≡ r → Proper (λ _. Word 0) (resetAfter r l .answer)
+    go zero e = omega arith
+    go (suc r) e = omega (arith, firstOf-most 23 (resetTests l) (omega arith))

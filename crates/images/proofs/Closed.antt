@@ -15,11 +15,13 @@ use Rattle.model.specs.Request as request
 use Rattle.model.specs.Credit.{creditTests, lowered, creditAfter, credit}
 use Rattle.model.specs.Tick.{nextPosition, recycled, advanced, tick}
 use Rattle.model.specs.Lend.{lendTests, lentTo, chosen, lentAfter, lendAfter, lend}
+use Rattle.model.specs.Reset.{resetTests, renewed, resetAfter, reset}
 use Rattle.model.specs.Card.{Played, paper, step, play, started, run}
 use Rattle.images.specs.Consistent.{Keepable}
 use Rattle.images.proofs.FreshKept.{fresh-kept}
 use Rattle.images.proofs.CreditKept.{credit-kept}
 use Rattle.images.proofs.LendKept.{lend-kept}
+use Rattle.images.proofs.ResetKept.{reset-kept}
 use Rattle.images.proofs.TickKept.{tick-kept}
 use Rattle.images.proofs.RequestLeaves.{RequestLeaves, unchanged, moved, booked, request-leaves}
 use Rattle.images.proofs.RequestKept.{request-kept}
@@ -57,6 +59,14 @@ lend-plan l mask choice = go (firstOf (lendTests l mask))
     go zero = lent (chosen l mask choice)
     go (suc r) = refl
 
+reset-plan : (l : Link) → reset l .link .plan ≡ l .plan
+unfolding reset resetAfter renewed
+reset-plan l = go (firstOf (resetTests l))
+  where
+    go : (r : ℕ) → resetAfter r l .link .plan ≡ l .plan
+    go zero = refl
+    go (suc r) = refl
+
 pub tick-plan : (l : Link) → tick l .link .plan ≡ l .plan
 unfolding tick advanced recycled
 tick-plan l = go (eqb (nextPosition l % l .plan .slots) 0)
@@ -72,6 +82,7 @@ call-kept r v (Call.request w) = record { same-plan = left-plan (request-leaves 
 call-kept r v (Call.credit i p) = record { same-plan = credit-plan (r .state) i p; kept = credit-kept v i p }
 call-kept r v Call.tick = record { same-plan = tick-plan (r .state); kept = tick-kept v }
 call-kept r v (Call.lend mask choice) = record { same-plan = lend-plan (r .state) mask choice; kept = lend-kept v mask choice }
+call-kept r v Call.reset = record { same-plan = reset-plan (r .state); kept = reset-kept v }
 
 -- ---- and so after any list of calls
 

@@ -6,7 +6,7 @@ use native.Mathlib.Omega.{arith}
 use lib.ListN.{length, take, drop, length-append, length-drop, take-append-drop}
 use lib.Seq.{take-at, drop-at}
 use Rattle.model.specs.WrittenPlan.{AllBytes}
-use Rattle.model.specs.Calls.{Call, requested, credited, lent, ticked}
+use Rattle.model.specs.Calls.{Call, Event, requested, credited, lent, ticked}
 use Rattle.model.specs.Link.{Link}
 use Rattle.model.specs.Card.{Played, paper, step}
 use Rattle.images.specs.Image.{imageLength, imageOf, headerField, linkIn}
@@ -20,7 +20,7 @@ use Rattle.images.proofs.ReadBack.{image-length, header-stands, read-li
 use Rattle.images.proofs.ImageTaken.{image-taken, read-kept}
 use Rattle.images.proofs.Taken.{taken}
 use Rattle.images.proofs.WrittenAgain.{image-again}
-use Rattle.images.proofs.Answers.{answer-read, turn-read, credit-proper, tick-known, lend-proper}
+use Rattle.images.proofs.Answers.{answer-read, turn-read, credit-proper, tick-known, lend-proper, reset-proper}
 
 -- ---- 21 and 22: the buffer comes back as it came
 
@@ -36,6 +36,7 @@ module _ (r : Played paper) where
   link-is (Call.credit i p) = refl
   link-is Call.tick = refl
   link-is (Call.lend mask choice) = refl
+  link-is Call.reset = refl
 
   -- the number tells the event
   history-is : Keepable (r .state) → (c : Call) → eventOf c (onLink (r .state) c .number) ∷ r .history ≡ step paper r c .history
@@ -46,6 +47,7 @@ module _ (r : Played paper) where
   history-is v Call.tick = ap (λ x. ticked x ∷ r .history) (turn-read _ (v .accepted .flows-most) _ (tick-known v))
   history-is v (Call.lend mask choice) =
       ap (λ a. lent mask a ∷ r .history) (answer-read (λ x. x) (λ x. x) (λ x. refl) _ (lend-proper v mask choice))
+  history-is v Call.reset = ap (λ a. Event.reset a ∷ r .history) (answer-read (λ _. 0) (λ _. tt) (λ x. refl) _ (reset-proper (r .state)))
 
 -- the link that is left meets the conditions
 pub done-kept : {l : Link} → Keepable l → (c : Call) → KeptAfter l (onLink l c .link)

@@ -9,6 +9,7 @@ pub mod Holdings
 pub mod FreshKept
 pub mod CreditKept
 pub mod LendKept
+pub mod ResetKept
 pub mod OldHead
 pub mod FrameChangeKept
 pub mod TickKept

@@ -14,13 +14,14 @@ use Rattle.model.specs.Request.{request}
 use Rattle.model.specs.Credit.{credit}
 use Rattle.model.specs.Tick.{tick}
 use Rattle.model.specs.Lend.{lend}
+use Rattle.model.specs.Reset.{reset}
 use Rattle.images.specs.Image.{linkIn}
 use Rattle.images.specs.Consistent.{known, Keepable}
 use Rattle.images.specs.Taken.{imageTests, refusalOf}
 use Rattle.images.specs.Exports.{numberOf, turnNumber, Done, onLink, handedBack, freshTests, freshOn, calledOn}
 use Rattle.images.proofs.Numbers.{firstOf-most, Word, Proper}
 use Rattle.images.proofs.RequestLeaves.{request-proper}
-use Rattle.images.proofs.Answers.{credit-proper, tick-known, lend-proper}
+use Rattle.images.proofs.Answers.{credit-proper, tick-known, lend-proper, reset-proper}
 use Rattle.images.proofs.ImageTaken.{read-kept}
 use Rattle.images.proofs.Taken.{taken}
 
@@ -41,6 +42,7 @@ done-fits {l} v (Call.request w) = answer-fits (λ x. x) (request l w .answer) (
 done-fits {l} v (Call.credit i p) = answer-fits (λ _. 0) (credit l i p .answer) (credit-proper l i p)
 done-fits {l} v Call.tick = turn-fits (flowCount (l .plan)) (v .accepted .flows-most) (tick l .answer) (tick-known v)
 done-fits {l} v (Call.lend mask choice) = answer-fits (λ x. x) (lend l mask choice .answer) (lend-proper v mask choice)
+done-fits {l} v Call.reset = answer-fits (λ _. 0) (reset l .answer) (reset-proper l)
 
 handed-fits : (r : ℕ) (b : List ℕ) (d : Done) → r ≤ 22 → (r ≡ 0 → Long (d .number)) → Long (handedBack r b d .result)
 unfolding handedBack

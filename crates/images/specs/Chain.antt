@@ -25,6 +25,7 @@ eventOf (Call.request w) number = requested w (answerOf number number)
 eventOf (Call.credit i p) number = credited i p (answerOf tt number)
 eventOf Call.tick number = ticked (turnOf number)
 eventOf (Call.lend mask choice) number = lent mask (answerOf number number)
+eventOf Call.reset number = Event.reset (answerOf tt number)
 
 -- ---- the chain
 

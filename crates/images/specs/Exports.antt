@@ -8,13 +8,14 @@ use lib.ListN.{length, drop}
 use lib.Dec.{ltb, eqb}
 use Rattle.model.specs.Refusals.{Line, firstOf, _when_}
 use Rattle.model.specs.Plan.{planOf, refusal}
-use Rattle.model.specs.Calls.{Call, Answer, Grant, Receipt, Turn, Loan, accepted, refused}
+use Rattle.model.specs.Calls.{Call, Answer, Grant, Receipt, Turn, Loan, Renewal, accepted, refused}
 use Rattle.model.specs.Link.{Link, Step}
 use Rattle.model.specs.Fresh as fresh
 use Rattle.model.specs.Request as request
 use Rattle.model.specs.Credit as credit
 use Rattle.model.specs.Tick as tick
 use Rattle.model.specs.Lend as lend
+use Rattle.model.specs.Reset as reset
 use Rattle.images.specs.Image.{imageLength, imageOf, linkIn}
 use Rattle.images.specs.Taken.{refusalOf}
 
@@ -55,6 +56,10 @@ turnNumber none = 16
 abbrev pub loanNumber : Loan → ℕ
 loanNumber = numberOf (λ flow. flow)
 
+-- 0 for a reset, as for a credit
+abbrev pub renewalNumber : Renewal → ℕ
+renewalNumber = numberOf (λ _. 0)
+
 -- ---- a call on the link itself: the next link, and the answer's number
 
 pub record Done : Type 0 where
@@ -70,6 +75,7 @@ onLink l (Call.credit i p) = done receiptNumber (credit.credit l i p)
 onLink l Call.tick = done turnNumber (tick.tick l)
 -- the flow that gets the slot is open, as in the call on the link: any choice
 onLink l (Call.lend mask choice) = done loanNumber (lend.lend l mask choice)
+onLink l Call.reset = done renewalNumber (reset.reset l)
 
 -- ---- the buffer
 
@@ -109,3 +115,6 @@ tickOn b = calledOn b Call.tick
 
 abbrev pub lendOn : List ℕ → (mask choice : ℕ) → Called
 lendOn b mask choice = calledOn b (Call.lend mask choice)
+
+abbrev pub resetOn : List ℕ → Called
+resetOn b = calledOn b Call.reset

@@ -237,6 +237,21 @@ exportEdges =
     (image (cp 3 ∷ mark 1 ∷ held 0 3 1 ∷ held 0 4 1 ∷ held 0 5 1 ∷ held 0 6 1 ∷ held 0 7 1 ∷ [])) 0
     ∷ leaves (image (cp 3 ∷ [])) (Call.lend 3 1)
     (image (cp 3 ∷ mark 1 ∷ held 1 3 1 ∷ held 1 4 1 ∷ held 1 5 1 ∷ held 1 6 1 ∷ held 1 7 1 ∷ [])) 1
+    -- a reset on a fresh link changes nothing; one that is granted empties the owners, marks a booked current slot, and moves IF to HF
+    ∷ leaves (blank ++ past) Call.reset (blank ++ past) 0
+    ∷ leaves (image (cp 1 ∷ owner 1 0 ∷ left 0 1 ∷ [])) Call.reset (image (cp 1 ∷ mark 1 ∷ [])) 0
+    ∷ leaves (image (cp 4 ∷ [])) Call.reset (image (cp 4 ∷ frame 0 1 ∷ frame 1 1 ∷ [])) 0
+    -- what is held at positions that have gone by stays, and so does a mark
+    ∷ leaves (image (cp 2 ∷ owner 1 0 ∷ left 0 1 ∷ mark 1 ∷ held 0 1 1 ∷ [])) Call.reset (image (cp 2 ∷ mark 1 ∷ held 0 1 1 ∷ [])) 0
+    -- the next calls take such an image
+    ∷ chained listing (room 92) (Call.request word0 ∷ Call.credit 0 2 ∷ Call.tick ∷ Call.tick ∷ Call.reset ∷ Call.tick ∷ [])
+    (0x24000001 ∷ 0 ∷ 0 ∷ 16 ∷ 0 ∷ 16 ∷ []) (image (cp 3 ∷ held 0 1 1 ∷ []))
+    -- 23: a later position is booked, or a cell is held at CP or later; 21 and 22 come before it
+    ∷ turnsBack (image (owner 1 0 ∷ left 0 1 ∷ [])) Call.reset 23
+    ∷ turnsBack (image (held 0 0 1 ∷ []) ++ past) Call.reset 23
+    ∷ turnsBack (image (cp 4 ∷ held 1 4 1 ∷ [])) Call.reset 23
+    ∷ turnsBack (take 91 blank) Call.reset 21
+    ∷ turnsBack (image (cp 8 ∷ [])) Call.reset 22
     ∷ []
 
 -- ---- all of them

@@ -9,9 +9,9 @@ use Rattle.plan.specs.declared.Verdict.the-variants.{Accepted}
 use Rattle.plan.specs.Reading.{planFor, readOf, verdictFor, Valid}
 use Rattle.plan.proofs.Laws.{is-plan}
 use Rattle.calls.specs.declared.Answer.{Answer}
-use Rattle.calls.specs.Reading.{answerToRequest, answerToCredit, answerToTick, answerToLend}
+use Rattle.calls.specs.Reading.{answerToRequest, answerToCredit, answerToTick, answerToLend, answerToReset}
 use Rattle.model.specs.Plan as model
-use Rattle.model.specs.Calls.{Call, Grant, Receipt, Turn, Loan, History, accepted, refused, requested, credited, ticked, lent}
+use Rattle.model.specs.Calls.{Call, Grant, Receipt, Turn, Loan, Renewal, Event, History, accepted, refused, requested, credited, ticked, lent}
 use Rattle.model.specs.Claim.{Demand3}
 use Rattle.model.specs.Card.{Played, paper, step, play, started, run}
 use Rattle.model.proofs.Demand3.{meets-accepted}
@@ -44,6 +44,12 @@ one-loan (accepted i) (accepted j) e = cc
 one-loan (accepted i) (refused s) e = cc
 one-loan (refused r) (accepted j) e = cc
 one-loan (refused r) (refused s) e = cc
+
+one-renewal : (a b : Renewal) → answerToReset a ≡ answerToReset b → a ≡ b
+one-renewal (accepted u) (accepted v) e = refl
+one-renewal (accepted u) (refused s) e = cc
+one-renewal (refused r) (accepted v) e = cc
+one-renewal (refused r) (refused s) e = cc
 
 -- ---- the calls of the code are a run of the paper's card
 
@@ -82,6 +88,9 @@ run-of (Handed.by-tick {h} {l} g r a s e) =
 run-of (Handed.by-lend {h} {l} g mask r a s e) =
     let same = one-loan _ a (sym (s .is .answer-is) ∙ e) in
     one-more (run-of g) (Call.lend mask (s .choice)) _ (r .link) (λ k. record { state = sym (s .is .link-is) k; history = lent mask (same k) ∷ h })
+run-of (Handed.by-reset {h} {l} g r a s e) =
+    let same = one-renewal _ a (sym (s .answer-is) ∙ e) in
+    one-more (run-of g) Call.reset _ (r .link) (λ k. record { state = sym (s .link-is) k; history = Event.reset (same k) ∷ h })
 
 -- ---- demand 3
 

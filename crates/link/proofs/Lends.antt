@@ -46,7 +46,7 @@ use Rattle.link.proofs.Updated.{sound-with, sound-owners, sound-flows, 
 abbrev slotTests : (n owner : ℕ) (taken : Bool) (mask : ℕ) → List Line
 slotTests n owner taken mask = 8 when leb (2 ^ n) mask ∷ 17 when (not (eqb owner nobody) || taken) ∷ []
 
-unbooked-is : (x : ℕ) → unbooked (ownerOf x) ≡ eqb x nobody
+pub unbooked-is : (x : ℕ) → unbooked (ownerOf x) ≡ eqb x nobody
 unbooked-is x = go (eqb x nobody)
   where
     go : (b : Bool) → unbooked (cond b option.none (option.some x)) ≡ b

@@ -4,6 +4,7 @@ pub mod Readings
 mod Updated
 pub mod Stored
 -- the calls
+mod StartedFlows
 mod FreshLinks
 mod Masks
 mod Takers
@@ -14,6 +15,7 @@ mod Replies
 pub mod Requests
 pub mod Credits
 pub mod Lends
+mod Resets
 mod FrameChanges
 pub mod Ticks
 pub mod Demand3

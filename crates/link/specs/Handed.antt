@@ -4,12 +4,13 @@ use mathlib.Core.Path.{_≡_}
 use mathlib.Core.List.{_∷_, []}
 use Rattle.plan.specs.declared.Plan.{Plan}
 use Rattle.plan.specs.Reading.{planFor}
-use Rattle.calls.specs.Reading.{answerToRequest, answerToCredit, answerToTick, answerToLend}
-use Rattle.model.specs.Calls.{Grant, Receipt, Turn, Loan, History, requested, credited, ticked, lent}
+use Rattle.calls.specs.Reading.{answerToRequest, answerToCredit, answerToTick, answerToLend, answerToReset}
+use Rattle.model.specs.Calls.{Grant, Receipt, Turn, Loan, Renewal, Event, History, requested, credited, ticked, lent}
 use Rattle.model.specs.Fresh as fresh
 use Rattle.model.specs.Request as request
 use Rattle.model.specs.Credit as credit
 use Rattle.model.specs.Tick as tick
+use Rattle.model.specs.Reset as reset
 use Rattle.link.specs.declared.Link.{Link}
 use Rattle.link.specs.declared.Step.{Step}
 use Rattle.link.specs.Reading.{linkOf}
@@ -34,3 +35,5 @@ pub data Handed (p : Plan) : History → Link → Type 0 where
       → Stepped answerToTick (tick.tick (linkOf l)) r → r .answer ≡ answerToTick a → Handed p (ticked a ∷ h) (r .link)
   by-lend : {h : History} {l : Link} → Handed p h l → (mask : ℕ) (r : Step) (a : Loan)
       → Lends (linkOf l) mask r → r .answer ≡ answerToLend a → Handed p (lent mask a ∷ h) (r .link)
+  by-reset : {h : History} {l : Link} → Handed p h l → (r : Step) (a : Renewal)
+      → Stepped answerToReset (reset.reset (linkOf l)) r → r .answer ≡ answerToReset a → Handed p (Event.reset a ∷ h) (r .link)

@@ -5,6 +5,7 @@ pub mod Sound
 pub mod Steps
 pub mod Given
 pub mod Reply
-pub mod Fresh
+pub mod Started
 pub mod Lend
+pub mod Reset
 pub mod Handed

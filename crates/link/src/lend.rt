@@ -34,6 +34,16 @@ fn bits_from(mask: u16, n: usize) -> u16
     rest
 }
 
+// Whether a slot with this owner and this mark is booked or marked taken.
+pub(crate) fn booked_or_marked(owner: u8, taken: bool) -> bool
+    ensures { λ r. ⌜ r ≡ not (eqb owner nobody) || taken ⌝ }
+{
+    if owner != 16 {
+        return true;
+    }
+    taken
+}
+
 // The refusal of a lend before its flows are looked at, and 0 where there is none: n flows, the owner of the current position, and its mark.
 fn refusal(count: usize, owner: u8, taken: bool, mask: u16) -> u8
     ensures { λ r. ⌜ r ≡ firstOf (8 when leb (2 ^ count) mask ∷ 17 when (not (eqb owner nobody) || taken) ∷ []) ⌝ }
@@ -41,10 +51,7 @@ fn refusal(count: usize, owner: u8, taken: bool, mask: u16) -> u8
     if bits_from(mask, count) != 0 {
         return 8;
     }
-    if owner != 16 {
-        return 17;
-    }
-    if taken {
+    if booked_or_marked(owner, taken) {
         return 17;
     }
     0

@@ -8,6 +8,7 @@ mod fresh;
 pub mod lend;
 pub mod reply; // what a request comes to
 pub mod request;
+pub mod reset;
 pub mod tick;
 
 use calls::Answer;

@@ -6,7 +6,7 @@ use Rattle.model.specs.Plan.{Plan, Accepted}
 use Rattle.model.specs.Calls.{Call, History}
 use Rattle.model.specs.Link.{Link}
 use Rattle.model.specs.Fresh.{fresh}
-use Rattle.model.specs.History.{ticks, grants, credits, refusals}
+use Rattle.model.specs.History.{ticks, origin, credits, grantsSince, refusalsSince}
 use Rattle.model.specs.Card.{Played, paper, step, play, started, run}
 use Rattle.model.proofs.FreshKeeps.{fresh-keeps, fresh-least}
 use Rattle.model.proofs.HistoryCounts.{raises}
@@ -15,6 +15,7 @@ use Rattle.model.proofs.AfterRequest.{after-request}
 use Rattle.model.proofs.AfterCredit.{after-credit}
 use Rattle.model.proofs.AfterTick.{after-tick}
 use Rattle.model.proofs.AfterLend.{after-lend}
+use Rattle.model.proofs.AfterReset.{after-reset}
 
 -- what is known after the calls that were played
 abbrev Known : Plan → Played paper → Type 0
@@ -25,6 +26,7 @@ after-call r (Call.request w) g = after-request g w
 after-call r (Call.credit i p) g = after-credit g i p
 after-call r Call.tick g = after-tick g
 after-call r (Call.lend m x) g = after-lend g m x
+after-call r Call.reset g = after-reset g
 
 after-calls : {P : Plan} (r : Played paper) (calls : List Call) → Known P r → Known P (play paper r calls)
 unfolding play
@@ -33,7 +35,7 @@ after-calls r (c ∷ calls) g =
     after-calls (step paper r c) calls (subst (λ P. Known P r → Known P (step paper r c)) (g .plan-is) (after-call r c) g)
 
 after-fresh : {P : Plan} → Accepted P → After P (fresh P) []
-unfolding fresh ticks grants raises credits refusals tally
+unfolding fresh ticks origin grantsSince refusalsSince raises credits tally
 after-fresh ok = record { plan-is = refl; invariant = fresh-keeps ok; events = tt; least = λ i known asked. fresh-least ok i known }
 
 -- What holds of each link that stands after a history holds after every list of calls.

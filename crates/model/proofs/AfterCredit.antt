@@ -7,22 +7,22 @@ use Rattle.model.specs.Plan.{flowCount}
 use Rattle.model.specs.Calls.{Receipt, History, credited, accepted, refused}
 use Rattle.model.specs.Link.{Link, flow, withHeld, heldFrom}
 use Rattle.model.specs.Credit.{creditTests, lowered, creditAfter, credit}
-use Rattle.model.specs.History.{ticks, grants, credits, refusals}
+use Rattle.model.specs.History.{ticks, origin, credits, grantsSince, refusalsSince}
 use Rattle.model.proofs.LinkUpdates.{each-flow}
 use Rattle.model.proofs.CreditKeeps.{CreditPasses, credit-passes, credit-keeps}
 use Rattle.model.proofs.HistoryCounts.{raises}
-use Rattle.model.proofs.AfterHistory.{asked-before, LeastOf, After, after-event}
+use Rattle.model.proofs.AfterHistory.{LeastOf, After, after-event}
 
 module _ {l : Link} {h : History} (g : After (l .plan) l h) (i p : ℕ) where
   open Link l using (plan as P)
 
   -- no credit changes what the least count needs of a flow
   least-kept : (a : Receipt) (q : ℕ) → q < flowCount P → LeastOf P (credited i p a ∷ h) q (flow l q)
-  unfolding ticks grants raises refusals
-  least-kept a q known asked = g .least q known (asked-before asked (asked .refused-before))
+  unfolding ticks origin grantsSince refusalsSince
+  least-kept a q known asked = g .least q known (record { ready = asked .ready .1; refused-before = asked .refused-before })
 
   taken : CreditPasses l i p → After P (lowered l i p) (credited i p (accepted tt) ∷ h)
-  unfolding ticks grants raises credits lowered
+  unfolding ticks origin grantsSince raises credits lowered
   taken c = after-event g (record {
     plan-is = refl;
     keeps = credit-keeps (g .invariant) c;
@@ -37,7 +37,7 @@ module _ {l : Link} {h : History} (g : After (l .plan) l h) (i p : ℕ) where
   })
 
   not-taken : (r : ℕ) → After P l (credited i p (refused r) ∷ h)
-  unfolding ticks grants raises credits
+  unfolding ticks origin grantsSince raises credits
   not-taken r = after-event g (record {
     plan-is = refl;
     keeps = g .invariant;

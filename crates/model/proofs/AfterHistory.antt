@@ -1,20 +1,20 @@
 -- What is known of a link that stands after a history, and of one event more. Assumes nothing.
-use Prim.Native.Nat.{ℕ, _+_, _-_, _<_}
+use Prim.Native.Nat.{ℕ, _+_, _-_, _≤_, _<_}
 use mathlib.Core.Path.{_≡_, subst}
 use mathlib.Core.List.{_∷_}
 use native.Mathlib.Omega.{arith}
 use Rattle.model.specs.Plan.{Plan, flowCount}
 use Rattle.model.specs.Calls.{Event, History}
 use Rattle.model.specs.Link.{Link, Flow, flow}
-use Rattle.model.specs.History.{ticks, frameOf, grants, credits, refusedIn, upTo, grantedUpTo, lentUpTo, creditedUpTo}
-use Rattle.model.specs.Claim.{Each, ReadyAt, HeldAt, SoonAt, ComesUpAt, GrantedWordAt, AfterDepartureAt, LentFlowAt}
+use Rattle.model.specs.History.{ticks, frameOf, origin, credits, grantsSince, refusedIn, upTo, grantedUpTo, lentUpTo, creditedUpTo}
+use Rattle.model.specs.Claim.{Each, EachSince, ReadyAt, HeldAt, SoonAt, ComesUpAt, GrantedWordAt, AfterDepartureAt, LentFlowAt}
 use Rattle.model.proofs.Invariant.{Ledger, HoldsAt, Invariant}
 use Rattle.model.proofs.LeastCount.{Least}
 use Rattle.model.proofs.HistoryCounts.{raises, raises-are}
 
 -- the ledger of a history
 abbrev pub ledgerOf : Plan → History → Ledger
-ledgerOf P h = record { now = ticks h; origin = 0; grants = grants P h; raises = raises P h; credits = credits P h }
+ledgerOf P h = record { now = ticks h; origin = origin P h; grants = grantsSince P h; raises = raises P h; credits = credits P h }
 
 -- what the claim says of an event
 pub record Claimed (P : Plan) (e : Event) (h : History) : Type 0 where
@@ -25,18 +25,14 @@ pub record Claimed (P : Plan) (e : Event) (h : History) : Type 0 where
   pub after-departure : AfterDepartureAt P e h
   pub loan : LentFlowAt P e h
 
--- Flow i asked until it was refused, in each frame before the current one.
+-- Flow i asked until it was refused, in each frame before the current one, since the last granted reset.
 pub record AskedOn (P : Plan) (h : History) (i : ℕ) : Type 0 where
-  pub ready : Each (ReadyAt P i) h
-  pub refused-before : (f : ℕ) → f < frameOf P (ticks h) → 0 < refusedIn P h i f
-
-pub asked-before : {P : Plan} {e : Event} {h : History} {i : ℕ} → AskedOn P (e ∷ h) i
-    → ((f : ℕ) → f < frameOf P (ticks h) → 0 < refusedIn P h i f) → AskedOn P h i
-asked-before asked so-far = record { ready = asked .ready .1; refused-before = so-far }
+  pub ready : EachSince (ReadyAt P i) h
+  pub refused-before : (f : ℕ) → origin P h ≤ f → f < frameOf P (ticks h) → 0 < refusedIn P h i f
 
 -- what the least count needs of flow i, where the link has x for it
 abbrev pub LeastOf : Plan → History → ℕ → Flow → Type 0
-LeastOf P h i x = AskedOn P h i → Least P (frameOf P (ticks h)) 0 (grants P h) (refusedIn P h i) i (x .injection)
+LeastOf P h i x = AskedOn P h i → Least P (frameOf P (ticks h)) (origin P h) (grantsSince P h) (refusedIn P h i) i (x .injection)
 
 -- Link l stands after history h.
 pub record After (P : Plan) (l : Link) (h : History) : Type 0 where

@@ -5,20 +5,19 @@ use mathlib.Core.List.{_∷_}
 use mathlib.Core.Option.{Option, some, none}
 use mathlib.Core.Bool.{true}
 use native.Mathlib.Nat.{mod-lt}
-use native.Mathlib.Omega.{arith}
 use Rattle.model.specs.Refusals.{firstOf}
 use Rattle.model.specs.Plan.{flowCount}
 use Rattle.model.specs.Calls.{Loan, History, lent, accepted, refused, inMask}
 use Rattle.model.specs.Link.{Link, flow, withHeld, heldFrom}
 use Rattle.model.specs.Lend.{canTake, takes, lendTests, lentTo, chosen, lentAfter, lendAfter, lend}
-use Rattle.model.specs.History.{ticks, grants, credits, refusals}
+use Rattle.model.specs.History.{ticks, origin, credits, grantsSince, refusalsSince}
 use Rattle.model.proofs.Tests.{and-true}
 use Rattle.model.proofs.Tables.{firstFrom-some}
 use Rattle.model.proofs.Window.{Current}
 use Rattle.model.proofs.LinkUpdates.{each-flow}
 use Rattle.model.proofs.HistoryCounts.{raises}
 use Rattle.model.proofs.LendKeeps.{LendPasses, lend-passes, lent-keeps}
-use Rattle.model.proofs.AfterHistory.{asked-before, LeastOf, After, after-event}
+use Rattle.model.proofs.AfterHistory.{LeastOf, After, after-event}
 
 module _ {l : Link} {h : History} (g : After (l .plan) l h) (mask choice : ℕ) where
   open Link l using (plan as P)
@@ -27,11 +26,11 @@ module _ {l : Link} {h : History} (g : After (l .plan) l h) (mask choice : ℕ) 
 
   -- no lend changes what the least count needs of a flow
   least-kept : (a : Loan) (q : ℕ) → q < flowCount P → LeastOf P (lent mask a ∷ h) q (flow l q)
-  unfolding ticks grants refusals
-  least-kept a q known asked = g .least q known (asked-before asked (asked .refused-before))
+  unfolding ticks origin grantsSince refusalsSince
+  least-kept a q known asked = g .least q known (record { ready = asked .ready .1; refused-before = asked .refused-before })
 
   not-lent : (r : ℕ) → After P l (lent mask (refused r) ∷ h)
-  unfolding ticks grants raises credits
+  unfolding ticks origin grantsSince raises credits
   not-lent r = after-event g (record {
     plan-is = refl;
     keeps = v;
@@ -44,7 +43,7 @@ module _ {l : Link} {h : History} (g : After (l .plan) l h) (mask choice : ℕ) 
   })
 
   lent-to : LendPasses l mask → (i : ℕ) → i < flowCount P → takes l mask i ≡ true → After P (lentTo l i) (lent mask (accepted i) ∷ h)
-  unfolding ticks grants raises credits lentTo
+  unfolding ticks origin grantsSince raises credits lentTo
   lent-to free i known takes =
       let both = and-true (inMask mask i) (canTake l i) takes in
       after-event g (record {

@@ -1,5 +1,5 @@
 -- A request on a link that stands after a history. Assumes nothing.
-use Prim.Native.Nat.{ℕ, zero, suc, _<_}
+use Prim.Native.Nat.{ℕ, zero, suc, _≤_, _<_}
 use mathlib.Core.Path.{_≡_, refl, sym, ap, _∙_}
 use mathlib.Core.List.{_∷_}
 use mathlib.Core.Bool.{true, false}
@@ -15,7 +15,7 @@ use Rattle.model.specs.Window.{newest, later}
 use Rattle.model.specs.Link.{Link, window, flow, movedTo, withHeld, heldFrom}
 use Rattle.model.specs.Request.{Found, found, nowhere, wordTests, sought, newestTests, wouldBeValid, booked, refusedAtNewest}
 use Rattle.model.specs.Request.{answered, requestAfter, request}
-use Rattle.model.specs.History.{ticks, frameOf, grants, credits, refusals, refusedIn, wellFormed, inFrame, upTo}
+use Rattle.model.specs.History.{ticks, frameOf, wellFormed, origin, credits, grantsSince, refusalsSince, refusedIn, inFrame, upTo}
 use Rattle.model.proofs.Tests.{line-passed}
 use Rattle.model.proofs.Word.{departure-depart}
 use Rattle.model.proofs.Departures.{come-is}
@@ -25,7 +25,7 @@ use Rattle.model.proofs.LeastCount.{Least, least-recounted, least-other
 use Rattle.model.proofs.RequestSearch.{Persists, Searched, request-searched}
 use Rattle.model.proofs.RequestKeeps.{AfterGrant, after-grant, AfterRefusal, after-refusal}
 use Rattle.model.proofs.HistoryCounts.{well-formed-is, departure-below, refusals-with, refusals-without, raises, raises-are}
-use Rattle.model.proofs.AfterHistory.{AskedOn, asked-before, LeastOf, After, after-event}
+use Rattle.model.proofs.AfterHistory.{AskedOn, LeastOf, After, after-event}
 
 module _ {l : Link} {h : History} (g : After (l .plan) l h) (w : ℕ) where
   open Link l using (plan as P)
@@ -56,14 +56,15 @@ module _ {l : Link} {h : History} (g : After (l .plan) l h) (w : ℕ) where
   -- a refusal that flow q does not count
   not-counted : (r q : ℕ) → q < flowCount P → ((f : ℕ) → refusedIn P (refusedWith r ∷ h) q f ≡ refusedIn P h q f)
       → LeastOf P (refusedWith r ∷ h) q (flow l q)
-  unfolding ticks grants raises
+  unfolding ticks origin grantsSince
   not-counted r q known same asked =
-      least-recounted (g .least q known (asked-before asked (λ f lt. rw same at (asked .refused-before f lt)))) _ same
+      least-recounted
+      (g .least q known (record { ready = asked .ready .1; refused-before = λ f since lt. rw same at (asked .refused-before f since lt) })) _ same
 
   -- ---- a word that is not well formed
 
   ill-formed : (r : ℕ) → firstOf (wordTests P w) ≡ suc r → After P l (refusedWith (suc r) ∷ h)
-  unfolding ticks grants raises credits
+  unfolding ticks origin grantsSince raises credits
   ill-formed r e = after-event g (record {
     plan-is = refl;
     keeps = v;
@@ -91,18 +92,18 @@ module _ {l : Link} {h : History} (g : After (l .plan) l h) (w : ℕ) where
     below = departure-below P w well
 
     -- the premise of the least count, at this request
-    persists : (a : Grant) → AskedOn P (requested w a ∷ h) i → ((f : ℕ) → f < frameOf P t → 0 < R f) → Persists v known d R
+    persists : (a : Grant) → AskedOn P (requested w a ∷ h) i → ((f : ℕ) → origin P h ≤ f → f < frameOf P t → 0 < R f) → Persists v known d R
     persists a asked so-far =
         let ready = asked .ready .0 well refl in
         record {
           come = not-true (later (window l) d (l .current)) (sym (come-is (v .current) d below) ∙ ready .come);
           room = λ s le. omega (arith, ready .room s le, raises-are P (upTo i s) h);
-          least = g .least i known (asked-before asked so-far);
+          least = g .least i known (record { ready = asked .ready .1; refused-before = so-far });
         }
 
     -- u is the granted word
     granted : (j c p u : ℕ) → u ≡ depart w p → departureOf u ≡ p → AfterGrant v known d R j c p → After P (booked l i j c p) (grantedWith u ∷ h)
-    unfolding ticks grants raises credits refusals booked
+    unfolding ticks origin grantsSince refusalsSince raises credits booked
     granted j c p u is departs x = after-event g (record {
       plan-is = refl;
       keeps = rw departs (x .keeps);
@@ -118,14 +119,15 @@ module _ {l : Link} {h : History} (g : After (l .plan) l h) (w : ℕ) where
       least = each-flow l (LeastOf P (grantedWith u ∷ h)) i (withHeld (movedTo (flow l i) j c) (heldFrom l i p suc)) own others;
     })
       where
-        own : AskedOn P (grantedWith u ∷ h) i → Least P (frameOf P t) 0 (grants P (grantedWith u ∷ h)) R i j
+        own : AskedOn P (grantedWith u ∷ h) i → Least P (frameOf P t) (origin P h) (grantsSince P (grantedWith u ∷ h)) R i j
         own asked = rw departs (x .least (persists (accepted u) asked (asked .refused-before)))
 
         others : (q : ℕ) → q < flowCount P → (q ≡ i → ⊥) → LeastOf P (grantedWith u ∷ h) q (flow l q)
-        others q known other asked = least-other (g .least q known (asked-before asked (asked .refused-before))) _ (λ z. other (sym z))
+        others q known other asked =
+            least-other (g .least q known (record { ready = asked .ready .1; refused-before = asked .refused-before })) _ (λ z. other (sym z))
 
     refused-at-newest : (c r : ℕ) → AfterRefusal v known d R c → After P (refusedAtNewest l i c) (refusedWith r ∷ h)
-    unfolding ticks grants raises credits refusedAtNewest
+    unfolding ticks origin grantsSince raises credits refusedAtNewest
     refused-at-newest c r x = after-event g (record {
       plan-is = refl;
       keeps = x .keeps;
@@ -137,17 +139,17 @@ module _ {l : Link} {h : History} (g : After (l .plan) l h) (w : ℕ) where
       least = each-flow l (LeastOf P (refusedWith r ∷ h)) i (movedTo (flow l i) (newest (window l)) c) own others;
     })
       where
-        counts : (q f : ℕ) → refusedIn P (refusedWith r ∷ h) q f ≡ tally (inFrame P q f) (mark i t ∷ refusals P h)
+        counts : (q f : ℕ) → refusedIn P (refusedWith r ∷ h) q f ≡ tally (inFrame P q f) (mark i t ∷ refusalsSince P h)
         counts q f = ap (tally (inFrame P q f)) (refusals-with P w r h well)
 
         earlier : (f : ℕ) → f < frameOf P t → refusedIn P (refusedWith r ∷ h) i f ≡ R f
-        earlier f lt = counts i f ∙ in-frame-skip P i f (mark i t) (refusals P h) (λ z. omega arith)
+        earlier f lt = counts i f ∙ in-frame-skip P i f (mark i t) (refusalsSince P h) (λ z. omega arith)
 
-        own : AskedOn P (refusedWith r ∷ h) i → Least P (frameOf P t) 0 (grants P h) (refusedIn P (refusedWith r ∷ h) i) i (newest (window l))
-        own asked = x .least (persists (refused r) asked (λ f lt. rw (earlier f lt) at (asked .refused-before f lt))) _
+        own : AskedOn P (refusedWith r ∷ h) i → Least P (frameOf P t) (origin P h) (grantsSince P h) (refusedIn P (refusedWith r ∷ h) i) i (newest (window l))
+        own asked = x .least (persists (refused r) asked (λ f since lt. rw (earlier f lt) at (asked .refused-before f since lt))) _
 
         others : (q : ℕ) → q < flowCount P → (q ≡ i → ⊥) → LeastOf P (refusedWith r ∷ h) q (flow l q)
-        others q known other = not-counted r q known (λ f. counts q f ∙ in-frame-other P q f (mark i t) (refusals P h) (λ z. other (sym z)))
+        others q known other = not-counted r q known (λ f. counts q f ∙ in-frame-other P q f (mark i t) (refusalsSince P h) (λ z. other (sym z)))
 
     after-search : (f : Found) → Searched v known d R f → After P (answered l w f .link) (requested w (answered l w f .answer) ∷ h)
     unfolding answered

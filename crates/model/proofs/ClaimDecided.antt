@@ -1,10 +1,10 @@
 -- Whether a history keeps a clause of demand 3 is decided by computation. Assumes nothing.
 use Prim.Native.Nat.{ℕ, suc, _+_, _-_, _^_, _≤_, _<_, max}
-use mathlib.Core.Path.{_≡_, ap}
+use mathlib.Core.Path.{_≡_, ap, subst}
 use mathlib.Core.Logic.{_↔_, Dec·and}
 use mathlib.Core.List.{List, _∷_, []}
 use mathlib.Core.Option.{Option, some, none}
-use mathlib.Core.Bool.{_&&_, and-false}
+use mathlib.Core.Bool.{Bool, true, false, _&&_, and-false, cond}
 use native.Mathlib.Omega.{arith}
 use native.Mathlib.Decide.{decLe, decLt, ℕ-discrete}
 use borrow.Author.Tests.{ne-eqb}
@@ -12,9 +12,10 @@ use Rattle.model.specs.Tables.{tally}
 use Rattle.model.specs.Word.{flowOf, departureOf, depart}
 use Rattle.model.specs.Plan.{Plan, positions, flowCount, entry}
 use Rattle.model.specs.Calls.{Event, History, Turn, requested, credited, ticked, lent, accepted, refused, inMask}
-use Rattle.model.specs.History.{ticks, changes, Mark, wellFormed, hasCome, grants, lends, frameOf, ofFlow, atSlot, inFrame}
-use Rattle.model.specs.History.{grantedIn, grantedUpTo, lentUpTo, creditedUpTo, WasGranted}
-use Rattle.model.specs.Claim.{Each, AtRequest, AtGrant, AtTick, AtLoan, Room, Ready, ReadyAt, Persistent, Held, HeldAt, SoonAt, ComesUpAt}
+use Rattle.model.specs.History.{ticks, frameOf, wellFormed, hasCome, renews, origin, changes, Mark, grants, lends, grantsSince}
+use Rattle.model.specs.History.{ofFlow, atSlot, inFrame, grantedIn, refusedIn, grantedUpTo, lentUpTo, creditedUpTo, WasGranted}
+use Rattle.model.specs.Claim.{Each, EachSince, AtRequest, AtGrant, AtTick, AtLoan, Room, Ready, ReadyAt, RefusedInEachFrame, Persistent}
+use Rattle.model.specs.Claim.{Held, HeldAt, SoonAt, ComesUpAt}
 use Rattle.model.specs.Claim.{GrantedWord, GrantedWordAt, AfterDepartureAt, LentFlow, LentFlowAt, Clause, Says}
 use Rattle.model.proofs.Decidable.{same, implies, is-true, is-false, all-below, everywhere}
 use Rattle.model.proofs.PastMarks.{above, none-past, ownedEnd, end, same-granted, same-lent, same-credited}
@@ -27,6 +28,7 @@ at-request d (requested w a) h = d w h
 at-request d (credited j p a) h = yes tt
 at-request d (ticked x) h = yes tt
 at-request d (lent m a) h = yes tt
+at-request d (Event.reset a) h = yes tt
 
 unfoldable pub at-grant : {Q : ℕ → ℕ → History → Type 0} → ((w v : ℕ) (h : History) → Dec (Q w v h))
     → (e : Event) (h : History) → Dec (AtGrant Q e h)
@@ -35,6 +37,7 @@ at-grant d (requested w (refused r)) h = yes tt
 at-grant d (credited j p a) h = yes tt
 at-grant d (ticked x) h = yes tt
 at-grant d (lent m a) h = yes tt
+at-grant d (Event.reset a) h = yes tt
 
 unfoldable pub at-tick : {Q : Turn → History → Type 0} → ((x : Turn) (h : History) → Dec (Q x h))
     → (e : Event) (h : History) → Dec (AtTick Q e h)
@@ -42,6 +45,7 @@ at-tick d (requested w a) h = yes tt
 at-tick d (credited j p a) h = yes tt
 at-tick d (ticked x) h = d x h
 at-tick d (lent m a) h = yes tt
+at-tick d (Event.reset a) h = yes tt
 
 unfoldable pub at-loan : {Q : ℕ → ℕ → Type 0} → ((m i : ℕ) → Dec (Q m i)) → (e : Event) (h : History) → Dec (AtLoan Q e h)
 at-loan d (requested w a) h = yes tt
@@ -49,6 +53,7 @@ at-loan d (credited j p a) h = yes tt
 at-loan d (ticked x) h = yes tt
 at-loan d (lent m (accepted i)) h = d m i
 at-loan d (lent m (refused r)) h = yes tt
+at-loan d (Event.reset a) h = yes tt
 
 -- ---- the claims of one event
 
@@ -165,22 +170,41 @@ unfoldable pub each : {Q : Event → History → Type 0} → ((e : Event) (h : H
 each d [] = yes tt
 each d (e ∷ h) = Dec·and (d e h) (each d h)
 
+unfoldable pub unless : {A : Type 0} (b : Bool) → Dec A → Dec (cond b (Unit {0}) A)
+unless true d = yes tt
+unless false d = d
+
+unfoldable pub each-since : {Q : Event → History → Type 0} → ((e : Event) (h : History) → Dec (Q e h)) → (h : History) → Dec (EachSince Q h)
+unfolding unless
+each-since d [] = yes tt
+each-since d (e ∷ h) = unless (renews e) (Dec·and (d e h) (each-since d h))
+
+unfoldable pub refused-in-each : (P : Plan) (i : ℕ) (h : History) → Dec (RefusedInEachFrame P i h)
+refused-in-each P i h =
+    same frames (λ all k lt. all (origin P h + k) (omega arith) (omega arith))
+    (all-below {Q = λ k. 0 < refusedIn P h i (origin P h + k)} (suc (changes P h)) (λ k. decLt _ _))
+  where
+    frames : ((k : ℕ) → k < suc (changes P h) → 0 < refusedIn P h i (origin P h + k)) → RefusedInEachFrame P i h
+    frames all f since le =
+        let z : origin P h + (f - origin P h) ≡ f = omega arith in
+        subst (λ f. 0 < refusedIn P h i f) z (all (f - origin P h) (omega arith))
+
 unfoldable pub persistent : (P : Plan) (i : ℕ) (h : History) → Dec (Persistent P i h)
-unfolding Dec·and decLe decLt ℕ-discrete same implies is-true is-false all-below everywhere above ownedEnd end at-request has-room ready ready-at each
+unfolding Dec·and decLe decLt ℕ-discrete same implies is-true is-false all-below everywhere above ownedEnd end
+    at-request has-room ready ready-at each unless each-since refused-in-each
 persistent P i h =
-    same (λ r. record { refused-in-each-frame = λ f le. r .0 f (omega arith); ready-at-each-request = r .1 })
-    (λ p. ((λ f lt. p .refused-in-each-frame f (omega arith)), p .ready-at-each-request))
-    (Dec·and (all-below (suc (changes P h)) (λ f. decLt _ _)) (each (ready-at P i) h))
+    same (λ r. record { refused-in-each-frame = r .0; ready-at-each-request = r .1 }) (λ p. (p .refused-in-each-frame, p .ready-at-each-request))
+    (Dec·and (refused-in-each P i h) (each-since (ready-at P i) h))
 
 unfoldable pub decided : (clause : Clause) (P : Plan) (i : ℕ) (h : History) → Dec (Says clause P i h)
 unfolding persistent at-grant at-tick at-loan soon granted-word after-departure lent-flow answers-flow aboveAnswer comes-up held held-at
 decided Clause.most P i h = decLe _ _
 decided Clause.most-in-a-frame P i h =
-    everywhere (above (λ m. frameOf P (m .slot)) (grants P h)) (λ f. decLe _ _) (λ below f past. omega (arith, none-in f past))
+    everywhere (above (λ m. frameOf P (m .slot)) (grantsSince P h)) (λ f. decLe _ _) (λ below f past. omega (arith, none-in f past))
   where
-    none-in : (f : ℕ) → above (λ m. frameOf P (m .slot)) (grants P h) ≤ f → grantedIn P h i f ≡ 0
+    none-in : (f : ℕ) → above (λ m. frameOf P (m .slot)) (grantsSince P h) ≤ f → grantedIn P h i f ≡ 0
     none-in f past =
-        none-past (λ m. frameOf P (m .slot)) (inFrame P i f) f (grants P h) past
+        none-past (λ m. frameOf P (m .slot)) (inFrame P i f) f (grantsSince P h) past
         (λ m lt. rw (ne-eqb (frameOf P (m .slot)) f (omega arith)) (and-false (ofFlow i m)))
 decided Clause.least P i h = implies (persistent P i h) (decLe _ _)
 decided Clause.one-owner P i h =

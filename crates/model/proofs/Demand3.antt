@@ -1,8 +1,8 @@
 -- Demand 3: the card of documents 01 and 02 meets it. Assumes nothing.
 use Prim.Native.Nat.{ℕ, suc, _+_, _-_, _*_, _≤_, _<_}
-use mathlib.Core.Path.{_≡_, refl, subst}
+use mathlib.Core.Path.{_≡_, subst}
 use mathlib.Core.List.{[], _∷_}
-use mathlib.Core.Bool.{true}
+use mathlib.Core.Bool.{Bool, true, false, cond}
 use native.Mathlib.Omega.{arith}
 use lib.Dec.{eqb}
 use borrow.Author.Tests.{eqb-true, eq-eqb}
@@ -10,8 +10,8 @@ use Rattle.model.specs.Tables.{sum}
 use Rattle.model.specs.Plan.{Plan, flowCount, entry, planOf, Accepted}
 use Rattle.model.specs.Calls.{Event, History}
 use Rattle.model.specs.Link.{Link}
-use Rattle.model.specs.History.{Mark, ticks, changes, frameOf, grants, granted, grantedIn, ofFlow, atSlot, inFrame}
-use Rattle.model.specs.Claim.{Each, Clause, Says, Demand3}
+use Rattle.model.specs.History.{Mark, ticks, frameOf, renews, origin, changes, grantsSince, granted, grantedIn, ofFlow, atSlot, inFrame}
+use Rattle.model.specs.Claim.{Each, EachSince, Clause, Says, Demand3}
 use Rattle.model.specs.Card.{Meets, MeetsOn, paper}
 use Rattle.model.proofs.Tests.{and-true}
 use Rattle.model.proofs.Tallies.{all-map, sum-le, sum-const, sum-tail, tally-join, tally-split, Classed}
@@ -27,6 +27,14 @@ pub each-map : (Q R : Event → History → Type 0) → ((e : Event) (h : Histor
 each-map Q R f [] a = tt
 each-map Q R f (e ∷ h) a = (f e h (a .0), each-map Q R f h (a .1))
 
+pub each-since-map : (Q R : Event → History → Type 0) → ((e : Event) (h : History) → Q e h → R e h) → (h : History) → EachSince Q h → EachSince R h
+each-since-map Q R f [] a = tt
+each-since-map Q R f (e ∷ h) a = go (renews e) (each-since-map Q R f h) a
+  where
+    go : (b : Bool) → (EachSince Q h → EachSince R h) → cond b (Unit {0}) (Q e h × EachSince Q h) → cond b (Unit {0}) (R e h × EachSince R h)
+    go true rest a = tt
+    go false rest a = (f e h (a .0), rest (a .1))
+
 module _ (l : Link) (h : History) (g : After (l .plan) l h) (i : ℕ) (known : i < flowCount (l .plan)) where
   open Link l using (plan as P)
   open Current (g .invariant .current) using (accepted as ok)
@@ -34,14 +42,19 @@ module _ (l : Link) (h : History) (g : After (l .plan) l h) (i : ℕ) (known : i
   abbrev share : ℕ
   share = entry P i .share
 
-  abbrev inEach : ℕ → ℕ
-  inEach f = grantedIn P h i f
+  -- the frame with which the counts of grants begin
+  abbrev first : ℕ
+  first = origin P h
 
-  -- the frames that have begun: those already gone, and the window's
+  -- the grants in each frame from it on
+  abbrev inEach : ℕ → ℕ
+  inEach k = grantedIn P h i (first + k)
+
+  -- how many frames have begun since then: those already gone, and the window's
   abbrev begun : ℕ
   begun = P .frames + changes P h
 
-  change-count : changes P h ≡ frameOf P (ticks h)
+  change-count : first + changes P h ≡ frameOf P (ticks h)
   change-count = changes-are P ok h
 
   in-frame : Says Clause.most-in-a-frame P i h
@@ -49,37 +62,45 @@ module _ (l : Link) (h : History) (g : After (l .plan) l h) (i : ℕ) (known : i
 
   -- flow i's grants, frame by frame
   frames-cover : granted P h i ≤ sum begun inEach
-  frames-cover = tally-split begun (ofFlow i) (inFrame P i) (grants P h) (all-map _ _ in-one (grants P h) (g .invariant .marks .grants-in))
+  frames-cover =
+      tally-split begun (ofFlow i) (λ k. inFrame P i (first + k)) (grantsSince P h)
+      (all-map _ _ in-one (grantsSince P h) (g .invariant .marks .grants-in))
     where
-      in-one : (m : Mark) → Granted P (ticks h) 0 m → ofFlow i m ≡ true → Classed begun (inFrame P i) m
-      in-one m x e = record {
-        class = frameOf P (m .slot);
-        below = frame-high ok begun (m .slot) (rw change-count (omega (arith, x .begun)));
-        belongs = rw (e, eq-eqb (frameOf P (m .slot)) (frameOf P (m .slot)) refl);
-      }
+      in-one : (m : Mark) → Granted P (ticks h) first m → ofFlow i m ≡ true → Classed begun (λ k. inFrame P i (first + k)) m
+      in-one m x e =
+          let frame = frameOf P (m .slot) in
+          let below = frame-high ok (frameOf P (ticks h) + P .frames) (m .slot) (omega (arith, x .begun)) in
+          record {
+            class = frame - first;
+            below = omega (arith, x .since, change-count);
+            belongs = rw (e, eq-eqb frame (first + (frame - first)) (omega (arith, x .since)));
+          }
 
   frames-exclude : sum begun inEach ≤ granted P h i
   frames-exclude =
-      tally-join begun (ofFlow i) (inFrame P i) (λ m j k p q. let a = frame-is m j p in let b = frame-is m k q in omega arith)
-      (λ m j below p. and-true (ofFlow i m) (eqb (frameOf P (m .slot)) j) p .0) (grants P h)
+      tally-join begun (ofFlow i) (λ k. inFrame P i (first + k))
+      (λ m j k p q. let a = frame-is m j p in let b = frame-is m k q in omega arith)
+      (λ m j below p. and-true (ofFlow i m) (eqb (frameOf P (m .slot)) (first + j)) p .0) (grantsSince P h)
     where
-      frame-is : (m : Mark) (j : ℕ) → inFrame P i j m ≡ true → frameOf P (m .slot) ≡ j
-      frame-is m j p = eqb-true (frameOf P (m .slot)) j (and-true (ofFlow i m) (eqb (frameOf P (m .slot)) j) p .1)
+      frame-is : (m : Mark) (j : ℕ) → inFrame P i (first + j) m ≡ true → frameOf P (m .slot) ≡ first + j
+      frame-is m j p = eqb-true (frameOf P (m .slot)) (first + j) (and-true (ofFlow i m) (eqb (frameOf P (m .slot)) (first + j)) p .1)
 
   most : Says Clause.most P i h
-  most = omega (arith, frames-cover, sum-le begun inEach (λ f. share) (λ f below. in-frame f), sum-const begun share)
+  most = omega (arith, frames-cover, sum-le begun inEach (λ k. share) (λ k below. in-frame (first + k)), sum-const begun share)
 
   least : Says Clause.least P i h
   least p =
       let n = P .frames - 1 + changes P h in
+      let now = frameOf P (ticks h) in
       let asked : AskedOn P h i = record {
         ready = p .ready-at-each-request;
-        refused-before = λ f lt. p .refused-in-each-frame f (omega (arith, change-count));
+        refused-before = λ f since lt. p .refused-in-each-frame f since (omega (arith, change-count));
       } in
-      let full = g .least i known asked .after-a-refusal (p .refused-in-each-frame (frameOf P (ticks h)) (omega (arith, change-count))) in
+      let full = g .least i known asked .after-a-refusal (p .refused-in-each-frame now (omega (arith, change-count)) (omega (arith, change-count))) in
       let two = ok .two-frames in
       let one-more : begun ≡ suc n = omega arith in
-      let all-but-first : n * share ≤ sum (suc n) inEach = sum-tail n share inEach (λ f since below. full f since (omega (arith, change-count))) in
+      let all-but-first : n * share ≤ sum (suc n) inEach =
+      sum-tail n share inEach (λ k since below. full (first + k) (omega arith) (omega (arith, change-count))) in
       let together : sum (suc n) inEach ≤ granted P h i = subst (λ m. sum m inEach ≤ granted P h i) one-more frames-exclude in
       omega arith
 

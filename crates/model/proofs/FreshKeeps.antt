@@ -21,9 +21,9 @@ abbrev pub nothingYet : Ledger
 nothingYet = record { now = 0; origin = 0; grants = []; raises = []; credits = [] }
 
 module _ {P : Plan} (ok : Accepted P) where
-  flow-is : (i : ℕ) → i < flowCount P → flow (fresh P) i ≡ freshFlow P i
+  pub fresh-flow : (i : ℕ) → i < flowCount P → flow (fresh P) i ≡ freshFlow P i
   unfolding fresh
-  flow-is i known = flow-withFlows (fresh P) (freshFlow P) i known
+  fresh-flow i known = flow-withFlows (fresh P) (freshFlow P) i known
 
   pub fresh-keeps : Invariant (fresh P) nothingYet
   unfolding fresh ownerIn tally
@@ -35,7 +35,7 @@ module _ {P : Plan} (ok : Accepted P) where
       once = λ s. omega arith;
     };
     owned = record { one-owner = λ s. omega arith; to-come = λ s lt. refl; unmarked = λ e. refl };
-    injects = λ i known. subst (Injects P (frameOf P 0) [] i) (sym (flow-is i known)) (record {
+    injects = λ i known. subst (Injects P (frameOf P 0) [] i) (sym (fresh-flow i known)) (record {
       frame = 0;
       low = omega (arith, zero-div (P .slots));
       high = omega (arith, zero-div (P .slots), some-frame ok);
@@ -43,7 +43,7 @@ module _ {P : Plan} (ok : Accepted P) where
       spends = record { spent = omega arith; none-after = λ f h. refl };
       in-frames = λ f. omega arith;
     });
-    holds = λ i known. subst (Holds P 0 [] [] i) (sym (flow-is i known)) (λ s. record {
+    holds = λ i known. subst (Holds P 0 [] [] i) (sym (fresh-flow i known)) (λ s. record {
       at-slot = λ w. omega (arith, getD-replicate {A = ℕ} (positions P) (s % positions P) 0 0 (mod-lt s (some-position ok)));
       covered = omega arith;
       within = omega arith;
@@ -54,7 +54,7 @@ module _ {P : Plan} (ok : Accepted P) where
   fresh-least i known = record {
     before-injection = λ a low high e f since below.
         let in-first : a < P .frames = omega (arith, zero-div (P .slots)) in
-        let z : a ≡ 0 = sym (mod-eq-of-lt in-first) ∙ sym e ∙ ap (λ x. x .injection) (flow-is i known) in
+        let z : a ≡ 0 = sym (mod-eq-of-lt in-first) ∙ sym e ∙ ap (λ x. x .injection) (fresh-flow i known) in
         absurd (omega arith);
     after-a-change = λ since. absurd (omega (arith, zero-div (P .slots)));
     after-a-refusal = λ re. absurd (omega arith);

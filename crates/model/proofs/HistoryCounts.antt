@@ -1,8 +1,9 @@
--- What is counted over a history: frame changes, well-formed words, refusals by frame, and granted and lent slots together. Assumes nothing.
+-- What is counted over a history: frame changes, well-formed words, refusals by frame, marks before and since the last granted reset, and granted and
+-- lent slots together. Assumes nothing.
 use Prim.Native.Nat.{ℕ, suc, _+_, _%_, _<_}
 use mathlib.Core.Path.{_≡_, refl, sym, ap, _∙_}
-use mathlib.Core.List.{List, [], _∷_}
-use mathlib.Core.Bool.{Bool, true, false, not, _&&_}
+use mathlib.Core.List.{List, [], _∷_, _++_}
+use mathlib.Core.Bool.{Bool, true, false, not, _&&_, cond}
 use native.Mathlib.Nat.{zero-div}
 use native.Mathlib.Omega.{arith}
 use lib.Dec.{ltb, eqb}
@@ -11,10 +12,13 @@ use Rattle.model.specs.Tables.{bit, tally}
 use Rattle.model.specs.Refusals.{firstOf, _when_}
 use Rattle.model.specs.Word.{flowOf, destinationOf, departureOf}
 use Rattle.model.specs.Plan.{Plan, positions, flowCount, entry, Accepted}
-use Rattle.model.specs.Calls.{History, requested, credited, ticked, lent, accepted, refused}
+use Rattle.model.specs.Calls.{Event, History, requested, credited, ticked, lent, accepted, refused}
 use Rattle.model.specs.Request.{wordTests}
-use Rattle.model.specs.History.{Mark, ticks, slotAfter, changes, frameOf, wellFormed, grants, refusals, lends, refusedIn}
+use Rattle.model.specs.History.{Mark, ticks, frameOf, wellFormed, renews, origin, changes, marksOf, marksSince, grantAt, lendAt}
+use Rattle.model.specs.History.{grants, refusalsSince, lends, refusedIn}
+use Rattle.model.specs.Claim.{Each}
 use Rattle.model.proofs.Tests.{and-true}
+use Rattle.model.proofs.Tallies.{tally-append}
 use Rattle.model.proofs.Slots.{frame-stays, frame-changes, frames-go-on}
 use Rattle.model.proofs.Marks.{mark, in-frame-skip}
 
@@ -39,63 +43,104 @@ departure-below P w e =
 
 -- ---- frames
 
-pub changes-are : (P : Plan) → Accepted P → (h : History) → changes P h ≡ frameOf P (ticks h)
-unfolding changes ticks
+-- the frame changes since the last granted reset, from its frame on
+pub changes-are : (P : Plan) → Accepted P → (h : History) → origin P h + changes P h ≡ frameOf P (ticks h)
+unfolding origin changes ticks
 changes-are P ok [] = sym (zero-div (P .slots))
 changes-are P ok (requested w a ∷ h) = changes-are P ok h
 changes-are P ok (credited i p a ∷ h) = changes-are P ok h
 changes-are P ok (lent m a ∷ h) = changes-are P ok h
+changes-are P ok (Event.reset (accepted u) ∷ h) = omega arith
+changes-are P ok (Event.reset (refused r) ∷ h) = changes-are P ok h
 changes-are P ok (ticked x ∷ h) = go (changes-are P ok h) (eqb (suc (ticks h) % P .slots) 0) refl
   where
-    go : changes P h ≡ frameOf P (ticks h) → (b : Bool) → eqb (suc (ticks h) % P .slots) 0 ≡ b
-        → bit (eqb (suc (ticks h) % P .slots) 0) + changes P h ≡ frameOf P (suc (ticks h))
+    go : origin P h + changes P h ≡ frameOf P (ticks h) → (b : Bool) → eqb (suc (ticks h) % P .slots) 0 ≡ b
+        → origin P h + (bit (eqb (suc (ticks h) % P .slots) 0) + changes P h) ≡ frameOf P (suc (ticks h))
     go rest true e = omega (arith, ap bit e, frame-changes ok (ticks h) (eqb-true (suc (ticks h) % P .slots) 0 e))
     go rest false e = omega (arith, ap bit e, frame-stays ok (ticks h) (eqb-false (suc (ticks h) % P .slots) 0 e))
 
 -- ---- refusals
 
 pub refusals-with : (P : Plan) (w r : ℕ) (h : History) → wellFormed P w ≡ true
-    → refusals P (requested w (refused r) ∷ h) ≡ mark (flowOf w) (ticks h) ∷ refusals P h
-unfolding refusals
+    → refusalsSince P (requested w (refused r) ∷ h) ≡ mark (flowOf w) (ticks h) ∷ refusalsSince P h
+unfolding refusalsSince
 refusals-with P w r h e = rw e
 
-pub refusals-without : (P : Plan) (w r : ℕ) (h : History) → wellFormed P w ≡ false → refusals P (requested w (refused r) ∷ h) ≡ refusals P h
-unfolding refusals
+pub refusals-without : (P : Plan) (w r : ℕ) (h : History) → wellFormed P w ≡ false
+    → refusalsSince P (requested w (refused r) ∷ h) ≡ refusalsSince P h
+unfolding refusalsSince
 refusals-without P w r h e = rw e
 
 -- no request was refused in a frame to come
 pub refused-later : (P : Plan) → Accepted P → (i f : ℕ) (h : History) → frameOf P (ticks h) < f → refusedIn P h i f ≡ 0
-unfolding refusals ticks tally
+unfolding refusalsSince ticks tally
 refused-later P ok i f [] lt = refl
 refused-later P ok i f (requested w (accepted v) ∷ h) lt = refused-later P ok i f h lt
 refused-later P ok i f (requested w (refused r) ∷ h) lt = go (refused-later P ok i f h lt) (wellFormed P w) refl
   where
     go : refusedIn P h i f ≡ 0 → (b : Bool) → wellFormed P w ≡ b → refusedIn P (requested w (refused r) ∷ h) i f ≡ 0
-    go rest true e = rw (refusals-with P w r h e) (in-frame-skip P i f (mark (flowOf w) (ticks h)) (refusals P h) (λ z. omega arith) ∙ rest)
+    go rest true e = rw (refusals-with P w r h e) (in-frame-skip P i f (mark (flowOf w) (ticks h)) (refusalsSince P h) (λ z. omega arith) ∙ rest)
     go rest false e = rw (refusals-without P w r h e) rest
 refused-later P ok i f (credited j p a ∷ h) lt = refused-later P ok i f h lt
 refused-later P ok i f (lent m a ∷ h) lt = refused-later P ok i f h lt
+refused-later P ok i f (Event.reset (accepted u) ∷ h) lt = refl
+refused-later P ok i f (Event.reset (refused r) ∷ h) lt = refused-later P ok i f h lt
 refused-later P ok i f (ticked x ∷ h) lt =
     refused-later P ok i f h (omega (arith, frames-go-on ok (ticks h)))
+
+-- ---- marks before the last granted reset, and since
+
+-- the marks of each event up to the last granted reset
+unfoldable pub marksBefore : (Event → History → List Mark) → History → List Mark
+marksBefore f [] = []
+marksBefore f (e ∷ h) = cond (renews e) (f e h ++ marksOf f h) (marksBefore f h)
+
+pub split-at-reset : (f : Event → History → List Mark) (test : Mark → Bool) (h : History)
+    → tally test (marksOf f h) ≡ tally test (marksSince f h) + tally test (marksBefore f h)
+unfolding marksOf marksSince marksBefore tally
+split-at-reset f test [] = refl
+split-at-reset f test (e ∷ h) = go (renews e) (split-at-reset f test h)
+  where
+    go : (b : Bool) → tally test (marksOf f h) ≡ tally test (marksSince f h) + tally test (marksBefore f h)
+        → tally test (f e h ++ marksOf f h)
+        ≡ tally test (cond b [] (f e h ++ marksSince f h)) + tally test (cond b (f e h ++ marksOf f h) (marksBefore f h))
+    go true rest = omega arith
+    go false rest = omega (arith, tally-append test (f e h) (marksOf f h), tally-append test (f e h) (marksSince f h))
+
+-- ---- a list without a granted reset: both families of counts are over the whole list
+
+abbrev pub NoneGranted : History → Type 0
+NoneGranted = Each (λ e h. renews e ≡ false)
+
+pub since-the-start : (f : Event → History → List Mark) (h : History) → NoneGranted h → marksSince f h ≡ marksOf f h
+unfolding marksOf marksSince
+since-the-start f [] none = refl
+since-the-start f (e ∷ h) none = rw (none .0) (ap (f e h ++_) (since-the-start f h (none .1)))
+
+pub from-frame-0 : (P : Plan) (h : History) → NoneGranted h → origin P h ≡ 0
+unfolding origin
+from-frame-0 P [] none = refl
+from-frame-0 P (e ∷ h) none = rw (none .0) (from-frame-0 P h (none .1))
 
 -- ---- granted and lent slots
 
 -- the slots from which a flow's holding rose, granted and lent, in the order of the list
+abbrev raiseAt : Plan → Event → History → List Mark
+raiseAt P e h = grantAt P e h ++ lendAt e h
+
 unfoldable pub raises : Plan → History → List Mark
-raises P [] = []
-raises P (requested w (accepted v) ∷ h) = mark (flowOf w) (slotAfter P (ticks h) (departureOf v)) ∷ raises P h
-raises P (requested w (refused r) ∷ h) = raises P h
-raises P (credited i p a ∷ h) = raises P h
-raises P (ticked x ∷ h) = raises P h
-raises P (lent m (accepted i) ∷ h) = mark i (ticks h) ∷ raises P h
-raises P (lent m (refused r) ∷ h) = raises P h
+unfolding marksOf
+raises P h = marksOf (raiseAt P) h
 
 pub raises-are : (P : Plan) (f : Mark → Bool) (h : History) → tally f (raises P h) ≡ tally f (grants P h) + tally f (lends h)
 unfolding raises grants lends tally
 raises-are P f [] = refl
-raises-are P f (requested w (accepted v) ∷ h) = omega (arith, raises-are P f h)
-raises-are P f (requested w (refused r) ∷ h) = raises-are P f h
-raises-are P f (credited i p a ∷ h) = raises-are P f h
-raises-are P f (ticked x ∷ h) = raises-are P f h
-raises-are P f (lent m (accepted i) ∷ h) = omega (arith, raises-are P f h)
-raises-are P f (lent m (refused r) ∷ h) = raises-are P f h
+raises-are P f (e ∷ h) =
+    omega (
+      arith,
+      tally-append f (raiseAt P e h) (raises P h),
+      tally-append f (grantAt P e h) (lendAt e h),
+      tally-append f (grantAt P e h) (grants P h),
+      tally-append f (lendAt e h) (lends h),
+      raises-are P f h,
+    )

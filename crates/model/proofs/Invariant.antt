@@ -1,7 +1,7 @@
 -- The invariant that ties the link's tables, which go round, to the slots of the history, which are numbered on without end. Assumes nothing.
 use Prim.Native.Nat.{ℕ, suc, _+_, _-_, _%_, _≤_, _<_}
 use mathlib.Core.Path.{_≡_}
-use mathlib.Core.List.{List, _∷_}
+use mathlib.Core.List.{List, [], _∷_}
 use mathlib.Core.Option.{Option, none}
 use mathlib.Core.Bool.{Bool, false}
 use native.Mathlib.Decide.{decLt}
@@ -38,6 +38,10 @@ withLoan L m = record { now = L .now; origin = L .origin; grants = L .grants; ra
 
 abbrev pub atNextSlot : Ledger → Ledger
 atNextSlot L = record { now = suc (L .now); origin = L .origin; grants = L .grants; raises = L .raises; credits = L .credits }
+
+-- the counts of grants begin afresh
+abbrev pub atReset : Plan → Ledger → Ledger
+atReset P L = record { now = L .now; origin = frameOf P (L .now); grants = []; raises = L .raises; credits = L .credits }
 
 -- ---- a flow, where the grants are G, the raises B and the credits K
 

@@ -26,6 +26,8 @@ pub mod HeldFrom
 pub mod BookingKeeps
 pub mod CreditKeeps
 pub mod LendKeeps
+pub mod ResetTests
+pub mod ResetKeeps
 pub mod UnbookedSlots
 pub mod SearchedFrames
 pub mod NewestFrame
@@ -43,6 +45,7 @@ pub mod AfterRequest
 pub mod AfterCredit
 pub mod AfterTick
 pub mod AfterLend
+pub mod AfterReset
 pub mod AfterCalls
 pub mod LendChoice
 pub mod Demand3
@@ -50,7 +53,9 @@ pub mod ListingMeets
 pub mod Holding
 pub mod Buffer
 pub mod TwoHops
--- edges, cards that demand 3 sends back, a stream that meets the premise of the least count, and what the premise on tiles is for
+pub mod RequestsAlike
+pub mod AsFresh
+-- edges, cards that demand 3 sends back, streams that meet the premise of the least count, and what the premise on tiles is for
 pub mod Unfoldings
 pub mod Edges
 pub mod Decidable
@@ -60,5 +65,7 @@ pub mod BadHistories
 pub mod BadCards
 pub mod BadLends
 pub mod BadDepartures
+pub mod BadResets
 pub mod PersistentStream
+pub mod StreamAfterReset
 pub mod TilesToCome

@@ -15,6 +15,14 @@ use Rattle.model.proofs.Unfoldings.{plans-compute, calls-compute, count
 use Rattle.model.proofs.Decidable.{proved}
 use Rattle.model.proofs.ClaimDecided.{persistent}
 
+-- Flow i meets the premise of the least count, with k frame changes; and it is granted no more than the least count, which is n.
+pub record ExactlyLeast (P : Plan) (i : ℕ) (h : History) (k n : ℕ) : Type 0 where
+  pub is-persistent : Persistent P i h
+  pub frame-changes : changes P h ≡ k
+  pub granted-slots : granted P h i ≡ n
+  -- (W - 1 + k) × share
+  pub least-count : (P .frames - 1 + changes P h) * entry P i .share ≡ n
+
 -- F = 2, W = 2, two flows with share 1 and 2 cells
 abbrev bytes : List ℕ
 bytes = plan2 2 2 4 1 2 1 2
@@ -50,13 +58,9 @@ pub come-to : reverse h ≡ events
 unfolding calls-compute
 come-to = refl
 
-pub is-persistent : Persistent P 0 h
+pub exactly-least : ExactlyLeast P 0 h 2 3
 unfolding calls-compute counts-compute persistent
-is-persistent = proved (persistent P 0 h) tt
-
-pub two-frame-changes : changes P h ≡ 2
-unfolding calls-compute counts-compute
-two-frame-changes = refl
+exactly-least = record { is-persistent = proved (persistent P 0 h) tt; frame-changes = refl; granted-slots = refl; least-count = refl }
 
 pub other-flow-books : granted P h 1 ≡ 2
 unfolding calls-compute counts-compute
@@ -65,12 +69,3 @@ other-flow-books = refl
 pub credits-are-taken : tally (ofFlow 0) (credits P h) ≡ 2
 unfolding calls-compute counts-compute
 credits-are-taken = refl
-
-pub granted-slots : granted P h 0 ≡ 3
-unfolding calls-compute counts-compute
-granted-slots = refl
-
--- (W - 1 + k) × share
-pub least-count : (P .frames - 1 + changes P h) * entry P 0 .share ≡ 3
-unfolding calls-compute counts-compute
-least-count = refl

@@ -1,16 +1,16 @@
 -- The search, by what holds of each frame that it comes to; and the frame that it ends with. Assumes nothing.
-use Prim.Native.Nat.{ℕ, zero, suc, _+_, _%_, _≤_, _<_}
-use mathlib.Core.Path.{_≡_, refl, sym, ap, _∙_, subst}
+use Prim.Native.Nat.{ℕ, zero, suc, _+_, _-_, _*_, _%_, _≤_, _<_}
+use mathlib.Core.Path.{_≡_, refl, sym, ap, ap₂, _∙_, subst}
 use mathlib.Core.Option.{Option, some, none}
 use mathlib.Core.Bool.{Bool}
-use native.Mathlib.Nat.{mod-lt, mod-eq-of-lt, mod-add-mod}
+use native.Mathlib.Nat.{mod-lt, mod-eq-of-lt, mod-add-mod, mul-le-mul-right}
 use native.Mathlib.Numerals.{add-one}
 use native.Mathlib.Omega.{arith}
 use Rattle.model.specs.Tables.{ahead}
-use Rattle.model.specs.Window.{Window, start, next, newest}
+use Rattle.model.specs.Window.{Window, size, start, next, newest}
 use Rattle.model.specs.Request.{Found, found, nowhere, earliest, orElse, search}
 use Rattle.model.proofs.Round.{firstWith, firstWith-mod}
-use Rattle.model.proofs.Tables.{Hit, firstFrom-some}
+use Rattle.model.proofs.Tables.{Hit, firstFrom-some, firstFrom-same}
 
 -- the next frame, where frames are numbered on without end
 next-is : (w : Window) (a : ℕ) → next w (a % w .frames) ≡ suc a % w .frames
@@ -92,3 +92,44 @@ ends-with-newest w j h =
     ∙ lastFrame-is w (ahead (w .frames) j (newest w)) j
     ∙ ap (λ x. (j + ahead (w .frames) x (newest w)) % w .frames) (sym z)
     ∙ firstWith-mod some j (newest w) (mod-lt _ some)
+
+-- ---- the positions and the frames that a search looks at lie in the window
+
+module _ (w : Window) where
+  pub in-window : (j x : ℕ) → j < w .frames → x < w .slots → start w j + x < size w
+  in-window j x below h = let ends : suc j * w .slots ≤ w .frames * w .slots = mul-le-mul-right (w .slots) below in omega arith
+
+  next-below : (j : ℕ) → j < w .frames → next w j < w .frames
+  next-below j below = mod-lt (j + 1) (omega arith)
+
+module _ (w : Window) (share : ℕ) where
+  module _ (test test′ : ℕ → Bool) (same : (p : ℕ) → p < size w → test p ≡ test′ p) where
+    earliest-same : (j : ℕ) → j < w .frames → earliest w test share j ≡ earliest w test′ share j
+    earliest-same j below =
+        firstFrom-same (w .slots) (start w j) test test′ λ p low high.
+        same p (let z = in-window w j (p - start w j) below (omega arith) in omega arith)
+
+    -- tests that agree in the window
+    pub search-same : (more j c : ℕ) → j < w .frames → search w test share more j c ≡ search w test′ share more j c
+    unfolding search
+    search-same zero j zero below = refl
+    search-same zero j (suc c) below = ap (λ o. orElse j c o (nowhere (suc c))) (earliest-same j below)
+    search-same (suc more) j zero below = search-same more (next w j) share (next-below w j below)
+    search-same (suc more) j (suc c) below = ap₂ (orElse j c) (earliest-same j below) (search-same more (next w j) share (next-below w j below))
+
+  module _ (test : ℕ → Bool) {f r p : ℕ} where
+    or-else-below : (j c : ℕ) → j < w .frames → (o : Option ℕ) (rest : Found) → (rest ≡ found f r p → f < w .frames)
+        → orElse j c o rest ≡ found f r p → f < w .frames
+    or-else-below j c below (some q) rest later e = let z : j ≡ f = cc in omega arith
+    or-else-below j c below none rest later e = later e
+
+    -- the frame in which a position is found
+    pub found-below : (more j c : ℕ) → j < w .frames → search w test share more j c ≡ found f r p → f < w .frames
+    unfolding search
+    found-below zero j zero below e = let z : _≡_ {A = ℕ} 0 1 = cc in absurd (omega arith)
+    found-below zero j (suc c) below e =
+        or-else-below j c below (earliest w test share j) (nowhere (suc c)) (λ e. let z : _≡_ {A = ℕ} 0 1 = cc in absurd (omega arith)) e
+    found-below (suc more) j zero below e = found-below more (next w j) share (next-below w j below) e
+    found-below (suc more) j (suc c) below e =
+        or-else-below j c below (earliest w test share j) (search w test share more (next w j) share)
+        (found-below more (next w j) share (next-below w j below)) e

@@ -88,3 +88,10 @@ firstFrom-none (suc n) k f e p l h = go (λ e′ l′. firstFrom-none n (suc k) 
     go rest true q e′ d = cc
     go rest false q e′ (yes y) = let z : p ≡ k = omega arith in ap f z ∙ q
     go rest false q e′ (no y) = rest e′ (omega arith)
+
+-- a search goes by the numbers that it looks at
+pub firstFrom-same : (n k : ℕ) (f g : ℕ → Bool) → ((p : ℕ) → k ≤ p → p < k + n → f p ≡ g p) → firstFrom n k f ≡ firstFrom n k g
+unfolding firstFrom
+firstFrom-same zero k f g h = refl
+firstFrom-same (suc n) k f g h =
+    rw (h k (omega arith) (omega arith)) (ap (cond (g k) (some k)) (firstFrom-same n (suc k) f g (λ p l u. h p (omega arith) (omega arith))))

@@ -1,7 +1,7 @@
 -- Sums, and tallies of the entries of a list that pass a test. Assumes nothing.
 use Prim.Native.Nat.{ℕ, zero, suc, _+_, _*_, _≤_, _<_}
 use mathlib.Core.Path.{_≡_, refl, sym, ap, _∙_}
-use mathlib.Core.List.{List, [], _∷_}
+use mathlib.Core.List.{List, [], _∷_, _++_}
 use mathlib.Core.Bool.{Bool, true, false}
 use native.Mathlib.Decide.{decLt}
 use native.Mathlib.Omega.{arith}
@@ -92,6 +92,11 @@ module _ {A : Type 0} where
   pub tally-hit : (p : A → Bool) (x : A) (xs : List A) → p x ≡ true → tally p (x ∷ xs) ≡ suc (tally p xs)
   unfolding tally
   tally-hit p x xs e = omega (arith, ap bit e)
+
+  pub tally-append : (p : A → Bool) (xs ys : List A) → tally p (xs ++ ys) ≡ tally p xs + tally p ys
+  unfolding tally
+  tally-append p [] ys = omega arith
+  tally-append p (x ∷ xs) ys = omega (arith, tally-append p xs ys)
 
   -- a tally goes by the entries in the list
   pub tally-same : (p q : A → Bool) (xs : List A) → All (λ x. p x ≡ q x) xs → tally p xs ≡ tally q xs

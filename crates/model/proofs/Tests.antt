@@ -1,6 +1,6 @@
 -- Laws of tests: and, or, a test of some number below a bound, and the lines of a table of refusals. Assumes nothing.
 use Prim.Native.Nat.{ℕ, zero, suc, _≤_, _<_}
-use mathlib.Core.Path.{_≡_, refl, ap, _∙_}
+use mathlib.Core.Path.{_≡_, refl, sym, ap, _∙_}
 use mathlib.Core.List.{List, _∷_}
 use mathlib.Core.Bool.{Bool, true, false, not, _&&_, _||_}
 use native.Mathlib.Decide.{decLt}
@@ -25,6 +25,12 @@ pub or-true : (a b : Bool) → b ≡ true → a || b ≡ true
 or-true true b e = refl
 or-true false b e = e
 
+-- two tests of which each passes where the other does
+pub same-truth : (a b : Bool) → (a ≡ true → b ≡ true) → (b ≡ true → a ≡ true) → a ≡ b
+same-truth true b to from = sym (to refl)
+same-truth false true to from = from refl
+same-truth false false to from = refl
+
 pub within-true : (low high x : ℕ) → within low high x ≡ true → (low ≤ x) × (x ≤ high)
 within-true low high x e = let p = and-true _ _ e in (leb-true low x (p .0), leb-true x high (p .1))
 
@@ -46,6 +52,11 @@ pub any-of-none : (n : ℕ) (f : ℕ → Bool) → ((k : ℕ) → k < n → f k 
 unfolding any
 any-of-none zero f none-passes = refl
 any-of-none (suc n) f none-passes = rw (none-passes n (omega arith)) (any-of-none n f (λ k l. none-passes k (omega arith)))
+
+pub any-same : (n : ℕ) (f g : ℕ → Bool) → ((k : ℕ) → k < n → f k ≡ g k) → any n f ≡ any n g
+unfolding any
+any-same zero f g h = refl
+any-same (suc n) f g h = rw (h n (omega arith)) (ap (g n ||_) (any-same n f g (λ k l. h k (omega arith))))
 
 -- some number below n passes f
 pub any-hit : (n : ℕ) (f : ℕ → Bool) (k : ℕ) → k < n → f k ≡ true → any n f ≡ true

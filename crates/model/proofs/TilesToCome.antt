@@ -1,24 +1,24 @@
 -- The least count holds for tiles that have come by the test of their departure against CP, and does not hold without it, or where it is enough that
 -- a slot at that position has gone by. Assumes nothing.
-use Prim.Native.Nat.{ℕ, suc}
+use Prim.Native.Nat.{ℕ}
 use mathlib.Core.Path.{refl}
 use mathlib.Core.Logic.{Dec·and}
 use mathlib.Core.List.{_∷_, []}
 use native.Mathlib.Omega.{arith}
-use native.Mathlib.Decide.{decLe, decLt, ℕ-discrete}
+use native.Mathlib.Decide.{decLe, ℕ-discrete}
 use lib.Dec.{lit<}
 use Rattle.model.specs.Word.{flowOf, departureOf}
 use Rattle.model.specs.Plan.{Plan, planOf}
 use Rattle.model.specs.Calls.{Call, Event, History, requested, credited, ticked, lent}
-use Rattle.model.specs.History.{ticks, changes, wellFormed}
+use Rattle.model.specs.History.{ticks, wellFormed}
 use Rattle.model.specs.Claim.{ReadyAt, Clause}
 use Rattle.model.specs.Card.{run, paper}
 use Rattle.model.specs.PlanBytes.{listing, oneShare}
 use Rattle.model.specs.TilesToCome.{Premise, ReadyBy, PersistentBy, LeastBy, Come, AnyDeparture, SlotGone}
 use Rattle.model.proofs.Unfoldings.{plans-compute, calls-compute, counts-compute}
-use Rattle.model.proofs.Decidable.{proved, same, implies, is-true, all-below}
-use Rattle.model.proofs.ClaimDecided.{persistent, at-request, has-room, each}
-use Rattle.model.proofs.Demand3.{each-map, meets}
+use Rattle.model.proofs.Decidable.{proved, same, implies, is-true}
+use Rattle.model.proofs.ClaimDecided.{at-request, has-room, each-since, refused-in-each, persistent}
+use Rattle.model.proofs.Demand3.{each-since-map, meets}
 
 -- ---- it holds for tiles that have come
 
@@ -28,12 +28,13 @@ ready-by-come P i (requested w a) h x = λ well own. record { room = x well own 
 ready-by-come P i (credited j p a) h x = tt
 ready-by-come P i (ticked a) h x = tt
 ready-by-come P i (lent m a) h x = tt
+ready-by-come P i (Event.reset a) h x = tt
 
 pub least-by-come : LeastBy Come
 least-by-come bytes passes calls i known p =
     meets bytes passes calls i known Clause.least (record {
       refused-in-each-frame = p .refused-in-each-frame;
-      ready-at-each-request = each-map _ _ (ready-by-come (planOf bytes) i) (run paper (planOf bytes) calls .history) (p .ready-at-each-request);
+      ready-at-each-request = each-since-map _ _ (ready-by-come (planOf bytes) i) (run paper (planOf bytes) calls .history) (p .ready-at-each-request);
     })
 
 -- ---- it does not hold without that
@@ -41,10 +42,9 @@ least-by-come bytes passes calls i known p =
 persistent-by : {Q : Premise} → ((P : Plan) (t d : ℕ) → Dec (Q P t d)) → (P : Plan) (i : ℕ) (h : History) → Dec (PersistentBy Q P i h)
 unfolding persistent
 persistent-by q P i h =
-    same (λ r. record { refused-in-each-frame = λ f le. r .0 f (omega arith); ready-at-each-request = r .1 })
-    (λ p. ((λ f lt. p .refused-in-each-frame f (omega arith)), p .ready-at-each-request))
-    (Dec·and (all-below (suc (changes P h)) (λ f. decLt _ _))
-    (each
+    same (λ r. record { refused-in-each-frame = r .0; ready-at-each-request = r .1 }) (λ p. (p .refused-in-each-frame, p .ready-at-each-request))
+    (Dec·and (refused-in-each P i h)
+    (each-since
     (at-request λ w h. implies (is-true (wellFormed P w)) (implies (ℕ-discrete (flowOf w) i) (Dec·and (has-room P i h) (q P (ticks h) (departureOf w)))))
     h))
 

@@ -12,7 +12,7 @@ use Rattle.model.specs.Plan.{Plan, positions, planOf, refusal, Accepted}
 use Rattle.model.specs.Calls.{Call, History, requested, accepted}
 use Rattle.model.specs.Link.{Link}
 use Rattle.model.specs.Request.{request}
-use Rattle.model.specs.History.{ticks, slotAfter, frameOf, hasCome, grants}
+use Rattle.model.specs.History.{ticks, slotAfter, frameOf, hasCome, grantsSince}
 use Rattle.model.specs.Holding.{frameStart, InWindow}
 use Rattle.model.specs.TwoHops.{InStep, slotNow, Sends, LeavesAfterItCame}
 use Rattle.model.proofs.Plan as plan
@@ -32,7 +32,7 @@ pub record Grants (P : Plan) (t w v : ℕ) : Type 0 where
 
 -- what every grant of the paper's card is
 grants-are : (l : Link) (h : History) → After (l .plan) l h → (w v : ℕ) → request l w .answer ≡ accepted v → Grants (l .plan) (ticks h) w v
-unfolding ticks grants
+unfolding ticks grantsSince
 grants-are l h g w v e =
     let known : After (l .plan) (request l w .link) (requested w (accepted v) ∷ h) =
     subst (λ a. After (l .plan) (request l w .link) (requested w a ∷ h)) e (after-request g w) in

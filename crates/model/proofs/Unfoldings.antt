@@ -10,9 +10,10 @@ use Rattle.model.specs.Credit.{lowered, creditAfter, credit}
 use Rattle.model.specs.Tick.{recycled, advanced, tick}
 use Rattle.model.specs.Lend.{canTake, lentTo, chosen, lentAfter, lendAfter, lend}
 use Rattle.model.specs.WrittenPlan.{bytesOf, writeRefusal, writtenAfter, written}
+use Rattle.model.specs.Reset.{noneBooked, noneHeld, renewed, resetAfter, reset}
 use Rattle.model.specs.Record.{records, callOf}
 use Rattle.model.specs.Listing.{digits, decimal, outcomes, listing, planMissing, outputAfter, output}
-use Rattle.model.specs.History.{ticks, slotAfter, changes, wellFormed, grants, credits, refusals, lends}
+use Rattle.model.specs.History.{ticks, slotAfter, wellFormed, origin, changes, grants, credits, lends, grantsSince, refusalsSince}
 use Rattle.model.specs.Card.{play}
 
 -- a plan's refusal
@@ -29,9 +30,13 @@ unfoldable pub requests-compute : Unit {0}
 unfolding any firstFrom firstOf window-computes valid canLeave validFor search sought wouldBeValid booked refusedAtNewest answered requestAfter request
 requests-compute = tt
 
+unfoldable pub lends-compute : Unit {0}
+unfolding firstFrom firstOf window-computes canTake lentTo chosen lentAfter lendAfter lend
+lends-compute = tt
+
 -- the calls of the paper's card, and a list of calls played
 unfoldable pub calls-compute : Unit {0}
-unfolding fresh requests-compute lowered creditAfter credit recycled advanced tick canTake lentTo chosen lentAfter lendAfter lend play
+unfolding fresh requests-compute lowered creditAfter credit recycled advanced tick lends-compute noneBooked noneHeld renewed resetAfter reset play
 calls-compute = tt
 
 -- a plan written
@@ -46,5 +51,5 @@ program-computes = tt
 
 -- what is counted over a history
 unfoldable pub counts-compute : Unit {0}
-unfolding ahead tally ticks slotAfter changes wellFormed grants credits refusals lends
+unfolding ahead tally ticks slotAfter wellFormed origin changes grants credits lends grantsSince refusalsSince
 counts-compute = tt

@@ -11,7 +11,7 @@ use Rattle.model.specs.Plan.{Plan, positions, Accepted}
 use Rattle.model.specs.Window.{Window, head, newest, rank, later, passed, fromOn, everyFrom, last}
 use Rattle.model.specs.History.{frameOf}
 use Rattle.model.specs.Holding.{frameStart, InWindow}
-use Rattle.model.proofs.Tests.{and-false}
+use Rattle.model.proofs.Tests.{and-false, same-truth}
 use Rattle.model.proofs.Round.{ahead-mod}
 use Rattle.model.proofs.Tables.{every-at, every-intro}
 use Rattle.model.proofs.Slots.{some-frame, some-position, frame-begins, frame-ends, same-frame, current-in-window}
@@ -115,6 +115,13 @@ module _ {P : Plan} {t c : ℕ} (now : Current P t c) where
           go : (b : Bool) → leb s r ≡ b → not (fromOn w (s % T) (r % T)) || test (r % T) ≡ true
           go true e = rw (fromOn-is s r w-s w-r ∙ e) (h r w-r (leb-true s r e))
           go false e = rw (fromOn-is s r w-s w-r ∙ e)
+
+  pub everyFrom-same : (s : ℕ) (test test′ : ℕ → Bool) → InWindow P t s → ((r : ℕ) → InWindow P t r → s ≤ r → test (r % T) ≡ test′ (r % T))
+      → everyFrom w (s % T) test ≡ everyFrom w (s % T) test′
+  everyFrom-same s test test′ w-s same =
+      same-truth (everyFrom w (s % T) test) (everyFrom w (s % T) test′)
+      (λ e. everyFrom-intro s test′ w-s (λ r w-r le. sym (same r w-r le) ∙ everyFrom-at s test w-s e r w-r le))
+      (λ e. everyFrom-intro s test w-s (λ r w-r le. same r w-r le ∙ everyFrom-at s test′ w-s e r w-r le))
 
   -- ---- the newest frame and the last position
 

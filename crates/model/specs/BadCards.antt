@@ -9,7 +9,7 @@ use Rattle.model.specs.Tables.{table, every, firstFrom, ahead}
 use Rattle.model.specs.Refusals.{Line, firstOf, _when_}
 use Rattle.model.specs.Word.{flowOf, departureOf, depart}
 use Rattle.model.specs.Plan.{Plan, positions, flowCount}
-use Rattle.model.specs.Calls.{Grant, Receipt, Turn, Loan, accepted, refused}
+use Rattle.model.specs.Calls.{Grant, Receipt, Turn, Loan, Renewal, accepted, refused}
 use Rattle.model.specs.Window.{Window, passed, everyFrom, frameAt, start, next, newest}
 use Rattle.model.specs.Link.{Link, window, owner, flow, holding, share, cells, linkWith, withFlows, movedTo, withHeld}
 use Rattle.model.specs.Request.{Found, found, nowhere, wordTests, unbooked, canLeave, validFor, orElse, search, someInNewest, wouldBeValid}
@@ -21,30 +21,34 @@ use Rattle.model.specs.Card.{Card, both, paper}
 -- ---- the paper's card with another function for one call
 
 abbrev cardWith : (Plan → Link) → (Link → ℕ → Link × Grant) → (Link → ℕ → ℕ → Link × Receipt) → (Link → Link × Turn)
-    → (Link → ℕ → ℕ → Link × Loan) → Card
-cardWith fresh request credit tick lend = record {
+    → (Link → ℕ → ℕ → Link × Loan) → (Link → Link × Renewal) → Card
+cardWith fresh request credit tick lend reset = record {
   State = Link;
   fresh = fresh;
   request = request;
   credit = credit;
   tick = tick;
   lend = lend;
+  reset = reset;
 }
 
 abbrev withFresh : (Plan → Link) → Card
-withFresh fresh = cardWith fresh (paper .request) (paper .credit) (paper .tick) (paper .lend)
+withFresh fresh = cardWith fresh (paper .request) (paper .credit) (paper .tick) (paper .lend) (paper .reset)
 
 abbrev pub withRequest : (Link → ℕ → Link × Grant) → Card
-withRequest request = cardWith (paper .fresh) request (paper .credit) (paper .tick) (paper .lend)
+withRequest request = cardWith (paper .fresh) request (paper .credit) (paper .tick) (paper .lend) (paper .reset)
 
 abbrev withCredit : (Link → ℕ → ℕ → Link × Receipt) → Card
-withCredit credit = cardWith (paper .fresh) (paper .request) credit (paper .tick) (paper .lend)
+withCredit credit = cardWith (paper .fresh) (paper .request) credit (paper .tick) (paper .lend) (paper .reset)
 
 abbrev pub withTick : (Link → Link × Turn) → Card
-withTick tick = cardWith (paper .fresh) (paper .request) (paper .credit) tick (paper .lend)
+withTick tick = cardWith (paper .fresh) (paper .request) (paper .credit) tick (paper .lend) (paper .reset)
 
 abbrev pub withLend : (Link → ℕ → ℕ → Link × Loan) → Card
-withLend lend = cardWith (paper .fresh) (paper .request) (paper .credit) (paper .tick) lend
+withLend lend = cardWith (paper .fresh) (paper .request) (paper .credit) (paper .tick) lend (paper .reset)
+
+abbrev pub withReset : (Link → Link × Renewal) → Card
+withReset reset = cardWith (paper .fresh) (paper .request) (paper .credit) (paper .tick) (paper .lend) reset
 
 -- ---- "Link cards we would send back"
 
@@ -83,6 +87,7 @@ firstWindowOnly = record {
   credit = λ s i p. counted (s .ticks) (paper .credit (s .link) i p);
   tick = λ s. counted (suc (s .ticks)) (paper .tick (s .link));
   lend = λ s m x. counted (s .ticks) (paper .lend (s .link) m x);
+  reset = λ s. counted (s .ticks) (paper .reset (s .link));
 }
 
 -- the credit's tests, with another one of what the flow holds
@@ -141,7 +146,7 @@ validWith invented l i p =
 abbrev pub inventsHolding : (forRequests forCredits : Link → ℕ → ℕ → ℕ) → Card
 inventsHolding forRequests forCredits =
     cardWith (paper .fresh) (withValid (validWith forRequests) canLeave .request)
-    (withHoldingTest (λ l i p. everyFrom (window l) p (λ q. ltb 0 (forCredits l i q))) .credit) (paper .tick) (paper .lend)
+    (withHoldingTest (λ l i p. everyFrom (window l) p (λ q. ltb 0 (forCredits l i q))) .credit) (paper .tick) (paper .lend) (paper .reset)
 
 -- all of its cells everywhere, where the flow holds them anywhere in the window
 abbrev pub fullest : Link → ℕ → ℕ → ℕ

@@ -38,6 +38,10 @@ refusedFrom q d number = requested (wordOf 0 q d) (refused number)
 abbrev granted : ℕ → Event
 granted p = grantedFrom 0 0 p
 
+-- a granted reset
+abbrev renewed : Event
+renewed = Event.reset (accepted tt)
+
 unfoldable pub badHistories : List BadHistory
 badHistories =
     -- five slots with a share of 2, two frames and no frame change: slots 1, 2, 4 and 5, and after a tick slot 8, in frame 2
@@ -144,6 +148,46 @@ badHistories =
     -- refused with 20, though the tile has come: its departure is CP; and it lies before CP in the head frame
     ∷ record { clause = Clause.least; bytes = listing; events = refusedFrom 0 0 20 ∷ [] }
     ∷ record { clause = Clause.least; bytes = listing; events = ticked none ∷ ticked none ∷ refusedFrom 0 1 20 ∷ [] }
+    -- after a reset in frame 1 five slots of frames 1 to 3 are granted with a share of 2, and no frame change has come since
+    ∷ record {
+      clause = Clause.most;
+      bytes = plan2 4 2 16 2 8 2 8;
+      events =
+          ticked none ∷ ticked none ∷ ticked none ∷ ticked none ∷ renewed ∷ grantedFrom 0 4 5 ∷ grantedFrom 1 4 6 ∷ grantedFrom 2 4 0
+          ∷ grantedFrom 3 4 1 ∷ ticked (some 0) ∷ grantedFrom 4 5 4 ∷ [];
+    }
+    -- three slots of frame 1, with a refused reset between them
+    ∷ record {
+      clause = Clause.most-in-a-frame;
+      bytes = roomy;
+      events = granted 4 ∷ granted 5 ∷ Event.reset (refused 23) ∷ granted 6 ∷ [];
+    }
+    -- the slots that were granted before the reset do not count in the least
+    ∷ record {
+      clause = Clause.least;
+      bytes = listing;
+      events =
+          granted 1 ∷ credited 0 1 (accepted tt) ∷ grantedFrom 1 0 2 ∷ credited 0 2 (accepted tt) ∷ ticked (some 0) ∷ ticked (some 0)
+          ∷ renewed ∷ refusedFrom 2 2 12 ∷ [];
+    }
+    -- nor does it ask for a refusal in the frames before it, or that the requests before it were ready
+    ∷ record {
+      clause = Clause.least;
+      bytes = listing;
+      events = refusedFrom 0 7 20 ∷ ticked none ∷ ticked none ∷ ticked none ∷ ticked none ∷ renewed ∷ refusedFrom 0 4 11 ∷ [];
+    }
+    -- a slot that was served before the reset is lent after it, and one to come is granted again
+    ∷ record {
+      clause = Clause.one-owner;
+      bytes = listing;
+      events = granted 1 ∷ credited 0 1 (accepted tt) ∷ ticked (some 0) ∷ renewed ∷ lent 1 (accepted 0) ∷ [];
+    }
+    ∷ record { clause = Clause.one-owner; bytes = listing; events = granted 2 ∷ credited 0 2 (accepted tt) ∷ renewed ∷ granted 2 ∷ [] }
+    -- two cells are held over the reset, and then three
+    ∷ record { clause = Clause.within-cells; bytes = listing; events = granted 1 ∷ granted 2 ∷ renewed ∷ granted 3 ∷ [] }
+    -- a slot that was granted before the reset comes up idle; and with the clock put back position 1, which is slot 9, comes up with slot 3
+    ∷ record { clause = Clause.comes-up; bytes = listing; events = granted 1 ∷ credited 0 1 (accepted tt) ∷ renewed ∷ ticked none ∷ [] }
+    ∷ record { clause = Clause.comes-up; bytes = listing; events = ticked none ∷ ticked none ∷ renewed ∷ granted 1 ∷ ticked (some 0) ∷ [] }
     ∷ []
 
 -- ---- the next board's buffer

@@ -1,4 +1,4 @@
--- The calls of a list and their answers. Document 01, "The four calls"; document 02, N1. It names no link. Assumes nothing.
+-- The calls of a list and their answers. Document 01, "The four calls"; document 02, N1 and N6. It names no link. Assumes nothing.
 use Prim.Native.Nat.{ℕ, _/_, _%_, _^_}
 use mathlib.Core.List.{List}
 use mathlib.Core.Option.{Option}
@@ -12,6 +12,7 @@ pub data Call : Type 0 where
   credit : (flow position : ℕ) → Call
   tick : Call
   lend : (mask choice : ℕ) → Call
+  reset : Call
 
 -- document 02, N1: "a 16-bit mask, bit i for flow i"
 abbrev pub inMask : (mask i : ℕ) → Bool
@@ -38,12 +39,17 @@ Turn = Option ℕ
 abbrev pub Loan : Type 0
 Loan = Answer ℕ
 
+-- a reset: granted, or a refusal
+abbrev pub Renewal : Type 0
+Renewal = Answer (Unit {0})
+
 -- A call with its answer.
 pub data Event : Type 0 where
   requested : (word : ℕ) → Grant → Event
   credited : (flow position : ℕ) → Receipt → Event
   ticked : Turn → Event
   lent : (mask : ℕ) → Loan → Event
+  reset : Renewal → Event
 
 -- The events of a list of calls, the newest first: behind an event stands what was before it.
 abbrev pub History : Type 0

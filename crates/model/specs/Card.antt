@@ -3,7 +3,7 @@ use Prim.Native.Nat.{ℕ, _<_}
 use mathlib.Core.Path.{_≡_}
 use mathlib.Core.List.{List, _∷_, []}
 use Rattle.model.specs.Plan.{Plan, flowCount, planOf, refusal}
-use Rattle.model.specs.Calls.{Call, Grant, Receipt, Turn, Loan, Event, History, requested, credited, ticked, lent}
+use Rattle.model.specs.Calls.{Call, Grant, Receipt, Turn, Loan, Renewal, Event, History, requested, credited, ticked, lent}
 use Rattle.model.specs.Claim.{Demand3}
 use Rattle.model.specs.Link.{Link, Step}
 use Rattle.model.specs.Fresh as fresh
@@ -11,6 +11,7 @@ use Rattle.model.specs.Request as request
 use Rattle.model.specs.Credit as credit
 use Rattle.model.specs.Tick as tick
 use Rattle.model.specs.Lend as lend
+use Rattle.model.specs.Reset as reset
 
 pub record Card : Type 1 where
   pub State : Type 0
@@ -19,6 +20,7 @@ pub record Card : Type 1 where
   pub credit : State → ℕ → ℕ → State × Receipt
   pub tick : State → State × Turn
   pub lend : State → (mask choice : ℕ) → State × Loan
+  pub reset : State → State × Renewal
 
 -- a card after some calls, with their events
 pub record Played (c : Card) : Type 0 where
@@ -35,6 +37,7 @@ step c r (Call.request w) = next r (requested w) (c .request (r .state) w)
 step c r (Call.credit i p) = next r (credited i p) (c .credit (r .state) i p)
 step c r Call.tick = next r ticked (c .tick (r .state))
 step c r (Call.lend m x) = next r (lent m) (c .lend (r .state) m x)
+step c r Call.reset = next r Event.reset (c .reset (r .state))
 
 unfoldable pub play : (c : Card) → Played c → List Call → Played c
 play c r [] = r
@@ -68,4 +71,5 @@ paper = record {
   credit = λ l i p. both (credit.credit l i p);
   tick = λ l. both (tick.tick l);
   lend = λ l m x. both (lend.lend l m x);
+  reset = λ l. both (reset.reset l);
 }

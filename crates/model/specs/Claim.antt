@@ -1,9 +1,10 @@
--- Demand 3: one claim about the events of a whole list of calls. Document 01, "What demand 3 counts"; document 02, N1 and N4. It names no
+-- Demand 3: one claim about the events of a whole list of calls. Document 01, "What demand 3 counts"; document 02, N1, N4 and N6. It names no
 -- link. Assumes nothing.
 --
 -- With k frame changes so far a stream is granted at most (W + k) × share slots, and at most its share in any frame. One that asks until it is
 -- refused in each of the frames 0 to k, and at each of its well-formed requests names a tile that has come and holds fewer than its cells in every
--- slot from the current one on, is granted at least (W - 1 + k) × share.
+-- slot from the current one on, is granted at least (W - 1 + k) × share. After a granted reset all of this begins afresh, with the frame of the
+-- slot that is then current in the place of frame 0. What else is claimed is over the whole list.
 --
 -- Demand 3 cannot see what follows; demand 2's equations of each call say it:
 -- - which number a refusal has, and what C and IF are after it;
@@ -15,17 +16,20 @@
 --   third call; or once it asked for a tile that had not come. A card that gives a flow 12 for ever after its first 12 meets demand 3, and so does
 --   one that refuses whenever the tile has not come;
 -- - lends refused that should be answered, and with which number; a mark that stands past the tick, or that a refused lend sets; a lent slot booked in
---   the table of owners; what is held of a lent slot in slots that are gone, or in the current one.
+--   the table of owners; what is held of a lent slot in slots that are gone, or in the current one;
+-- - resets refused that should be granted; one granted over cells that are held, where they stay held; and a remainder C that a reset leaves as it
+--   was, since the least count is that of the frames after the one of the reset; an IF that it leaves, where W = 2; owners that it leaves at CP or
+--   before it; and what it does to holdings of slots that are gone.
 use Prim.Native.Nat.{ℕ, _+_, _-_, _*_, _^_, _≤_, _<_}
 use mathlib.Core.Path.{_≡_}
 use mathlib.Core.Logic.{_↔_}
 use mathlib.Core.List.{_∷_, []}
 use mathlib.Core.Option.{some}
-use mathlib.Core.Bool.{true, false}
+use mathlib.Core.Bool.{true, false, cond}
 use Rattle.model.specs.Word.{flowOf, departureOf, depart}
 use Rattle.model.specs.Plan.{Plan, positions, flowCount, entry}
 use Rattle.model.specs.Calls.{Event, History, Turn, requested, credited, ticked, lent, accepted, refused, inMask}
-use Rattle.model.specs.History.{ticks, changes, slotAfter, wellFormed, hasCome}
+use Rattle.model.specs.History.{ticks, slotAfter, wellFormed, hasCome, renews, origin, changes}
 use Rattle.model.specs.History.{granted, grantedIn, refusedIn, grantedUpTo, lentUpTo, creditedUpTo, ownersOf, WasGranted}
 
 -- ---- each event, and what was before it
@@ -34,12 +38,18 @@ abbrev pub Each : (Event → History → Type 0) → History → Type 0
 Each Q [] = Unit {0}
 Each Q (e ∷ h) = Q e h × Each Q h
 
+-- the same, since the last granted reset
+abbrev pub EachSince : (Event → History → Type 0) → History → Type 0
+EachSince Q [] = Unit {0}
+EachSince Q (e ∷ h) = cond (renews e) (Unit {0}) (Q e h × EachSince Q h)
+
 -- Q holds of the word, where the event is a request.
 abbrev pub AtRequest : (ℕ → History → Type 0) → Event → History → Type 0
 AtRequest Q (requested w a) h = Q w h
 AtRequest Q (credited j p a) h = Unit {0}
 AtRequest Q (ticked x) h = Unit {0}
 AtRequest Q (lent m a) h = Unit {0}
+AtRequest Q (Event.reset a) h = Unit {0}
 
 -- Q holds of the asked word and the granted one, where the event is a grant.
 abbrev pub AtGrant : (ℕ → ℕ → History → Type 0) → Event → History → Type 0
@@ -48,6 +58,7 @@ AtGrant Q (requested w (refused r)) h = Unit {0}
 AtGrant Q (credited j p a) h = Unit {0}
 AtGrant Q (ticked x) h = Unit {0}
 AtGrant Q (lent m a) h = Unit {0}
+AtGrant Q (Event.reset a) h = Unit {0}
 
 -- Q holds of the answer, where the event is a tick.
 abbrev pub AtTick : (Turn → History → Type 0) → Event → History → Type 0
@@ -55,6 +66,7 @@ AtTick Q (requested w a) h = Unit {0}
 AtTick Q (credited j p a) h = Unit {0}
 AtTick Q (ticked x) h = Q x h
 AtTick Q (lent m a) h = Unit {0}
+AtTick Q (Event.reset a) h = Unit {0}
 
 -- Q holds of the mask and the flow, where the event is a lend that is answered with a flow.
 abbrev pub AtLoan : (ℕ → ℕ → Type 0) → Event → History → Type 0
@@ -63,6 +75,7 @@ AtLoan Q (credited j p a) h = Unit {0}
 AtLoan Q (ticked x) h = Unit {0}
 AtLoan Q (lent m (accepted i)) h = Q m i
 AtLoan Q (lent m (refused r)) h = Unit {0}
+AtLoan Q (Event.reset a) h = Unit {0}
 
 -- ---- the stream that asks until it is refused
 
@@ -80,10 +93,14 @@ pub record Ready (P : Plan) (i w : ℕ) (h : History) : Type 0 where
 abbrev pub ReadyAt : Plan → ℕ → Event → History → Type 0
 ReadyAt P i = AtRequest (λ w h. wellFormed P w ≡ true → flowOf w ≡ i → Ready P i w h)
 
--- "in each of the frames 0 to k, one of its well-formed requests is refused"
+-- "in each of the frames 0 to k, one of its well-formed requests is refused"; since a granted reset, in each of the k + 1 frames from its frame on
+abbrev pub RefusedInEachFrame : Plan → ℕ → History → Type 0
+RefusedInEachFrame P i h = (f : ℕ) → origin P h ≤ f → f ≤ origin P h + changes P h → 0 < refusedIn P h i f
+
+-- "The stream asks until it is refused".
 pub record Persistent (P : Plan) (i : ℕ) (h : History) : Type 0 where
-  pub refused-in-each-frame : (f : ℕ) → f ≤ changes P h → 0 < refusedIn P h i f
-  pub ready-at-each-request : Each (ReadyAt P i) h
+  pub refused-in-each-frame : RefusedInEachFrame P i h
+  pub ready-at-each-request : EachSince (ReadyAt P i) h
 
 -- ---- what is held, granted and answered
 
@@ -132,9 +149,9 @@ LentFlowAt P = AtLoan (LentFlow P)
 -- ---- the clauses of the claim
 
 pub data Clause : Type 0 where
-  -- the most and the least that is granted; document 02, N1: they "speak of booked slots only"
+  -- the most and the least that is granted; document 02, N1: they "speak of booked slots only"; N6: they "begin afresh" after a granted reset
   most most-in-a-frame least : Clause
-  -- over the whole list
+  -- over the whole list, granted resets in it too
   within-cells one-owner within-a-window comes-up granted-words after-departure lent-flows : Clause
 
 -- what each says of flow i

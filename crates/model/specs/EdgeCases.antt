@@ -73,6 +73,7 @@ callMade (credited i p a) = Call.credit i p
 callMade (ticked x) = Call.tick
 callMade (lent m (accepted i)) = Call.lend m i
 callMade (lent m (refused r)) = Call.lend m 0
+callMade (Event.reset a) = Call.reset
 
 abbrev pub plays : List ℕ → List Event → Case
 plays bytes es = record { trial = link bytes (map callMade es); expected = events es }
@@ -99,6 +100,9 @@ pub data Answered : Type 0 where
   -- the current slot is lent to a flow of a mask, or not
   lend : (mask flow : ℕ) → Answered
   deny : (mask number : ℕ) → Answered
+  -- a reset is granted, or refused
+  renew : Answered
+  decline : (number : ℕ) → Answered
 
 -- k idle ticks, and then the rest
 abbrev pub idles : ℕ → List Answered → List Answered
@@ -123,6 +127,8 @@ played T at next (serve i ∷ rest) = ticked (some i) ∷ played T ((at + 1) % T
 played T at next (idle ∷ rest) = ticked none ∷ played T ((at + 1) % T) next rest
 played T at next (lend m i ∷ rest) = lent m (accepted i) ∷ played T at next rest
 played T at next (deny m r ∷ rest) = lent m (refused r) ∷ played T at next rest
+played T at next (renew ∷ rest) = Event.reset (accepted tt) ∷ played T at next rest
+played T at next (decline r ∷ rest) = Event.reset (refused r) ∷ played T at next rest
 
 abbrev pub follows : List ℕ → List Answered → Case
 follows bytes answered = plays bytes (played (positions (planOf bytes)) 0 (λ i. 0) answered)

@@ -1,4 +1,4 @@
--- The one table of edge cases: those that document 01 marks P, and more, by plan, calls, departures, lends and program, that tell wrong readings
+-- The one table of edge cases: those that document 01 marks P, and more, by plan, calls, departures, lends, resets and program, that tell wrong readings
 -- apart. Assumes nothing.
 use mathlib.Core.List.{List, _∷_, [], _++_}
 use mathlib.Core.Option.{some}
@@ -10,6 +10,7 @@ use Rattle.model.specs.CallEdges.{callEdges}
 use Rattle.model.specs.DepartureEdges.{departureEdges}
 use Rattle.model.specs.LendEdges.{lendEdges}
 use Rattle.model.specs.WriteEdges.{writeEdges}
+use Rattle.model.specs.ResetEdges.{resetEdges}
 use Rattle.model.specs.ProgramEdges.{programEdges}
 
 -- ---- the edges that the paper marks P
@@ -55,5 +56,5 @@ markedEdges =
 -- ---- all of them
 
 unfoldable pub edges : List Case
-unfolding markedEdges planEdges callEdges departureEdges lendEdges writeEdges programEdges
-edges = markedEdges ++ planEdges ++ callEdges ++ departureEdges ++ lendEdges ++ writeEdges ++ programEdges
+unfolding markedEdges planEdges callEdges departureEdges lendEdges writeEdges resetEdges programEdges
+edges = markedEdges ++ planEdges ++ callEdges ++ departureEdges ++ lendEdges ++ writeEdges ++ resetEdges ++ programEdges

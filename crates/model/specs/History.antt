@@ -1,12 +1,14 @@
--- What is counted over the events of a list of calls. Document 01, "What demand 3 counts"; document 02, N1 and N4. It names no link. Assumes nothing.
+-- What is counted over the events of a list of calls. Document 01, "What demand 3 counts"; document 02, N1, N4 and N6. It names no link. Assumes nothing.
+--
+-- Counts are of two families: over the whole list, and since the last granted reset, after which "the most and least counts begin afresh".
 use Prim.Native.Nat.{ℕ, suc, _+_, _/_, _%_, _<_}
-use mathlib.Core.List.{List, _∷_, []}
-use mathlib.Core.Bool.{Bool, _&&_, cond}
+use mathlib.Core.List.{List, _∷_, [], _++_}
+use mathlib.Core.Bool.{Bool, true, false, _&&_, cond}
 use lib.Dec.{leb, ltb, eqb}
 use Rattle.model.specs.Tables.{ahead, bit, tally}
 use Rattle.model.specs.Word.{flowOf, destinationOf, departureOf}
 use Rattle.model.specs.Plan.{Plan, positions, flowCount, entry}
-use Rattle.model.specs.Calls.{History, requested, credited, ticked, lent, accepted, refused}
+use Rattle.model.specs.Calls.{Event, History, requested, credited, ticked, lent, accepted, refused}
 
 -- ---- slots and frames, numbered on without end
 
@@ -17,6 +19,7 @@ ticks (requested w a ∷ h) = ticks h
 ticks (credited i p a ∷ h) = ticks h
 ticks (ticked x ∷ h) = suc (ticks h)
 ticks (lent m a ∷ h) = ticks h
+ticks (Event.reset a ∷ h) = ticks h
 
 -- "the first slot after slot t whose number modulo T is that position"
 unfoldable pub slotAfter : Plan → ℕ → ℕ → ℕ
@@ -25,14 +28,6 @@ slotAfter P t p = suc t + ahead (positions P) (suc t % positions P) p
 -- "frame f has slots f × F to f × F + F - 1"
 abbrev pub frameOf : Plan → ℕ → ℕ
 frameOf P s = s / P .slots
-
--- k: "A tick whose number is a multiple of F is a frame change."
-unfoldable pub changes : Plan → History → ℕ
-changes P [] = 0
-changes P (requested w a ∷ h) = changes P h
-changes P (credited i p a ∷ h) = changes P h
-changes P (ticked x ∷ h) = bit (eqb (suc (ticks h) % P .slots) 0) + changes P h
-changes P (lent m a ∷ h) = changes P h
 
 -- "A word is well formed if its flow is below n, its destination the plan's and its departure below T."
 unfoldable pub wellFormed : Plan → ℕ → Bool
@@ -43,48 +38,110 @@ wellFormed P w =
 abbrev pub hasCome : Plan → (t d : ℕ) → Bool
 hasCome P t d = eqb (frameOf P d) (frameOf P t % P .frames) && leb d (t % positions P)
 
--- ---- granted slots, taken credits, refusals, lent slots
+-- ---- since the last granted reset
+
+-- the event is a reset that is granted
+abbrev pub renews : Event → Bool
+renews (requested w a) = false
+renews (credited i p a) = false
+renews (ticked x) = false
+renews (lent m a) = false
+renews (Event.reset (accepted u)) = true
+renews (Event.reset (refused r)) = false
+
+-- Document 02, N6: the counts begin "with the rest of the frame that is then head". The frame of the slot that was current then, and frame 0 where no
+-- reset was granted.
+unfoldable pub origin : Plan → History → ℕ
+origin P [] = 0
+origin P (e ∷ h) = cond (renews e) (frameOf P (ticks h)) (origin P h)
+
+-- k: "A tick whose number is a multiple of F is a frame change."
+unfoldable pub changes : Plan → History → ℕ
+changes P [] = 0
+changes P (requested w a ∷ h) = changes P h
+changes P (credited i p a ∷ h) = changes P h
+changes P (ticked x ∷ h) = bit (eqb (suc (ticks h) % P .slots) 0) + changes P h
+changes P (lent m a ∷ h) = changes P h
+changes P (Event.reset (accepted u) ∷ h) = 0
+changes P (Event.reset (refused r) ∷ h) = changes P h
+
+-- ---- marks
 
 -- a slot of a flow
 pub record Mark : Type 0 where
   pub flow : ℕ
   pub slot : ℕ
 
+-- the marks of each event, after what was before it, over the whole list and since the last granted reset
+unfoldable pub marksOf : (Event → History → List Mark) → History → List Mark
+marksOf f [] = []
+marksOf f (e ∷ h) = f e h ++ marksOf f h
+
+unfoldable pub marksSince : (Event → History → List Mark) → History → List Mark
+marksSince f [] = []
+marksSince f (e ∷ h) = cond (renews e) [] (f e h ++ marksSince f h)
+
+-- ---- the mark of a granted slot, a taken credit, a refusal, a lent slot
+
 -- "A slot is granted by a request that is answered with a word." The position of a grant is the departure of that word.
+abbrev pub grantAt : Plan → Event → History → List Mark
+grantAt P (requested w (accepted v)) h = record { flow = flowOf w; slot = slotAfter P (ticks h) (departureOf v) } ∷ []
+grantAt P (requested w (refused r)) h = []
+grantAt P (credited i p a) h = []
+grantAt P (ticked x) h = []
+grantAt P (lent m a) h = []
+grantAt P (Event.reset a) h = []
+
+-- the slot that a taken credit is dated
+abbrev pub creditAt : Plan → Event → History → List Mark
+creditAt P (requested w a) h = []
+creditAt P (credited i p (accepted u)) h = record { flow = i; slot = slotAfter P (ticks h) p } ∷ []
+creditAt P (credited i p (refused r)) h = []
+creditAt P (ticked x) h = []
+creditAt P (lent m a) h = []
+creditAt P (Event.reset a) h = []
+
+-- the slot in which a well-formed request is refused: "A request after t ticks is made in the frame of slot t."
+abbrev pub refusalAt : Plan → Event → History → List Mark
+refusalAt P (requested w (accepted v)) h = []
+refusalAt P (requested w (refused r)) h = cond (wellFormed P w) (record { flow = flowOf w; slot = ticks h } ∷ []) []
+refusalAt P (credited i p a) h = []
+refusalAt P (ticked x) h = []
+refusalAt P (lent m a) h = []
+refusalAt P (Event.reset a) h = []
+
+-- document 02, N1: the slot that is lent, the current one of a lend that is answered with a flow
+abbrev pub lendAt : Event → History → List Mark
+lendAt (requested w a) h = []
+lendAt (credited i p a) h = []
+lendAt (ticked x) h = []
+lendAt (lent m (accepted i)) h = record { flow = i; slot = ticks h } ∷ []
+lendAt (lent m (refused r)) h = []
+lendAt (Event.reset a) h = []
+
+-- ---- over the whole list, newest first
+
 unfoldable pub grants : Plan → History → List Mark
-grants P [] = []
-grants P (requested w (accepted v) ∷ h) = record { flow = flowOf w; slot = slotAfter P (ticks h) (departureOf v) } ∷ grants P h
-grants P (requested w (refused r) ∷ h) = grants P h
-grants P (credited i p a ∷ h) = grants P h
-grants P (ticked x ∷ h) = grants P h
-grants P (lent m a ∷ h) = grants P h
+unfolding marksOf
+grants P h = marksOf (grantAt P) h
 
--- the slots that taken credits are dated
 unfoldable pub credits : Plan → History → List Mark
-credits P [] = []
-credits P (requested w a ∷ h) = credits P h
-credits P (credited i p (accepted u) ∷ h) = record { flow = i; slot = slotAfter P (ticks h) p } ∷ credits P h
-credits P (credited i p (refused r) ∷ h) = credits P h
-credits P (ticked x ∷ h) = credits P h
-credits P (lent m a ∷ h) = credits P h
+unfolding marksOf
+credits P h = marksOf (creditAt P) h
 
--- the slots in which a well-formed request was refused: "A request after t ticks is made in the frame of slot t."
-unfoldable pub refusals : Plan → History → List Mark
-refusals P [] = []
-refusals P (requested w (accepted v) ∷ h) = refusals P h
-refusals P (requested w (refused r) ∷ h) = cond (wellFormed P w) (record { flow = flowOf w; slot = ticks h } ∷ refusals P h) (refusals P h)
-refusals P (credited i p a ∷ h) = refusals P h
-refusals P (ticked x ∷ h) = refusals P h
-refusals P (lent m a ∷ h) = refusals P h
-
--- document 02, N1: the slots that were lent, each the current slot of a lend that was answered with a flow
 unfoldable pub lends : History → List Mark
-lends [] = []
-lends (requested w a ∷ h) = lends h
-lends (credited i p a ∷ h) = lends h
-lends (ticked x ∷ h) = lends h
-lends (lent m (accepted i) ∷ h) = record { flow = i; slot = ticks h } ∷ lends h
-lends (lent m (refused r) ∷ h) = lends h
+unfolding marksOf
+lends h = marksOf lendAt h
+
+-- ---- since the last granted reset
+
+unfoldable pub grantsSince : Plan → History → List Mark
+unfolding marksSince
+grantsSince P h = marksSince (grantAt P) h
+
+unfoldable pub refusalsSince : Plan → History → List Mark
+unfolding marksSince
+refusalsSince P h = marksSince (refusalAt P) h
 
 -- ---- tests of a mark
 
@@ -102,18 +159,18 @@ inFrame P i f m = ofFlow i m && eqb (frameOf P (m .slot)) f
 abbrev pub upTo : ℕ → ℕ → Mark → Bool
 upTo i s m = ofFlow i m && leb (m .slot) s
 
--- ---- counts for the most and the least that is granted
+-- ---- counts since the last granted reset, for the most and the least that is granted
 
--- flow i's granted slots, all of them and those of frame f
+-- flow i's granted slots, all of them and those of frame f: "in any frame" means booked since the reset
 abbrev pub granted : Plan → History → ℕ → ℕ
-granted P h i = tally (ofFlow i) (grants P h)
+granted P h i = tally (ofFlow i) (grantsSince P h)
 
 abbrev pub grantedIn : Plan → History → ℕ → ℕ → ℕ
-grantedIn P h i f = tally (inFrame P i f) (grants P h)
+grantedIn P h i f = tally (inFrame P i f) (grantsSince P h)
 
 -- its well-formed requests that were refused in frame f
 abbrev pub refusedIn : Plan → History → ℕ → ℕ → ℕ
-refusedIn P h i f = tally (inFrame P i f) (refusals P h)
+refusedIn P h i f = tally (inFrame P i f) (refusalsSince P h)
 
 -- ---- counts over the whole list, for what is held and who owns a slot
 

@@ -13,6 +13,7 @@ pub mod Tick
 -- document 02
 pub mod Lend
 pub mod WrittenPlan
+pub mod Reset
 -- the program
 pub mod Record
 pub mod Listing
@@ -24,6 +25,7 @@ pub mod Holding
 pub mod Buffer
 pub mod TilesToCome
 pub mod TwoHops
+pub mod AsFresh
 -- worked examples, and cards that are sent back
 pub mod PlanBytes
 pub mod EdgeCases
@@ -32,9 +34,11 @@ pub mod CallEdges
 pub mod DepartureEdges
 pub mod LendEdges
 pub mod WriteEdges
+pub mod ResetEdges
 pub mod ProgramEdges
 pub mod Edges
 pub mod BadHistories
 pub mod BadCards
 pub mod BadLends
 pub mod BadDepartures
+pub mod BadResets

@@ -11,7 +11,7 @@ use lib.Dec.{ltb}
 use Rattle.model.specs.Tables.{within}
 use Rattle.model.specs.Word.{departureOf}
 use Rattle.model.specs.Plan.{field16, planOf, refusal}
-use Rattle.model.specs.Calls.{Event, Grant, Receipt, Turn, Loan, accepted, refused}
+use Rattle.model.specs.Calls.{Event, Grant, Receipt, Turn, Loan, Renewal, accepted, refused}
 use Rattle.model.specs.Link.{Link, Step}
 use Rattle.model.specs.Fresh.{fresh}
 use Rattle.model.specs.Request.{request}
@@ -78,6 +78,11 @@ tickLine none = line "T" (text "-")
 abbrev pub lendLine : Loan → List ℕ
 lendLine (accepted flow) = line "L" (decimal flow)
 lendLine (refused number) = refusalLine number
+
+-- a reset, which it has none for either: `Z`
+abbrev pub resetLine : Renewal → List ℕ
+resetLine (accepted _) = text "Z\n"
+resetLine (refused number) = refusalLine number
 
 -- "It writes one line for each": the line of a call with its answer, or of a record that makes no call
 abbrev pub lineOf : Option RecordEvent → List ℕ

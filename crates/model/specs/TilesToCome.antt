@@ -7,8 +7,8 @@ use mathlib.Core.Bool.{true}
 use Rattle.model.specs.Word.{flowOf, departureOf}
 use Rattle.model.specs.Plan.{Plan, flowCount, entry, planOf, refusal}
 use Rattle.model.specs.Calls.{Call, Event, History}
-use Rattle.model.specs.History.{ticks, changes, wellFormed, hasCome, granted, refusedIn}
-use Rattle.model.specs.Claim.{Each, AtRequest, Room}
+use Rattle.model.specs.History.{ticks, wellFormed, hasCome, changes, granted}
+use Rattle.model.specs.Claim.{EachSince, AtRequest, Room, RefusedInEachFrame}
 use Rattle.model.specs.Card.{run, paper}
 
 -- A premise on the departure d of a request after t ticks.
@@ -21,8 +21,8 @@ ReadyBy Q P i = AtRequest (λ w h. wellFormed P w ≡ true → flowOf w ≡ i �
 
 -- the premise of the least count, with Q in the place of the claim's test
 pub record PersistentBy (Q : Premise) (P : Plan) (i : ℕ) (h : History) : Type 0 where
-  pub refused-in-each-frame : (f : ℕ) → f ≤ changes P h → 0 < refusedIn P h i f
-  pub ready-at-each-request : Each (ReadyBy Q P i) h
+  pub refused-in-each-frame : RefusedInEachFrame P i h
+  pub ready-at-each-request : EachSince (ReadyBy Q P i) h
 
 -- the least count of the paper's card for such a stream
 abbrev pub LeastBy : Premise → Type 0

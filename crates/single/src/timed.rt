@@ -21,6 +21,7 @@ fn number(answer: Answer) -> u64 {
         Answer::Turn(flow) => flow as u64,
         Answer::Idle => 16,
         Answer::Lent(flow) => flow as u64,
+        Answer::Reset => 1,
         Answer::Refused(number) => number as u64,
     }
 }

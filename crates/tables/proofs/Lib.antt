@@ -7,6 +7,7 @@ pub mod HoldingChanges
 pub mod FreshTables
 pub mod UnbookedSlots
 mod WordsMade
+mod LaterPositions
 -- one pass over a row
 mod Padded
 mod PaddedFrom

@@ -1,9 +1,9 @@
 // The owner of each position.
 ghost use mathlib.Core.Path.{_≡_};
 ghost use Prim.Native.Nat.{_≤_};
-ghost use Rattle.window.specs.Ranges.{inRange, replaced};
-ghost use Rattle.window.specs.Window.{Proper};
-ghost use Rattle.tables.specs.Owners.{nobody, everywhere, emptied};
+ghost use Rattle.window.specs.Ranges.{inRange, replaced, All};
+ghost use Rattle.window.specs.Window.{windowOf, Proper};
+ghost use Rattle.tables.specs.Owners.{nobody, unbookedAt, noneLater, everywhere, emptied};
 use window::Window;
 
 pub fn unbooked() -> [u8; 256]
@@ -31,4 +31,31 @@ pub fn empty_head(owner: &mut [u8; 256], w: Window)
 {
     let base = w.head * w.slots;
     empty(owner, base, base + w.slots);
+}
+
+// Whether nobody owns a position of the range from a to e.
+fn unbooked_in(owner: &[u8; 256], a: usize, e: usize) -> bool
+    requires { ⌜ (a ≤ e) × (e ≤ 256) ⌝ }
+    ensures { λ r. ⌜ All (unbookedAt (now (owner .entry))) a e r ⌝ }
+{
+    let mut all = true;
+    let mut q = a;
+    while q < e {
+        if owner[q] != 16 {
+            all = false;
+        }
+        q += 1;
+    }
+    all
+}
+
+// Whether nobody owns a position later than the current one: these are the ones after it up to T - 1, and those before the head frame.
+pub fn unbooked_later(owner: &[u8; 256], w: Window) -> bool
+    requires { ⌜ Proper w ⌝ }
+    ensures { λ r. ⌜ r ≡ noneLater (windowOf w) (now (owner .entry)) ⌝ }
+{
+    if unbooked_in(owner, w.current + 1, w.slots * w.frames) {
+        return unbooked_in(owner, 0, w.head * w.slots);
+    }
+    false
 }

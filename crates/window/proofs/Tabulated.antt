@@ -1,8 +1,9 @@
 -- Lists given place by place (`table`), and tests of every number below a bound (`every`): the model's laws and some more. Assumes nothing.
-use Prim.Native.Nat.{ℕ, zero, suc, _<_}
+use Prim.Native.Nat.{ℕ, zero, suc, _+_, _<_}
 use mathlib.Core.Path.{_≡_, refl, sym, _∙_}
 use mathlib.Core.List.{List}
 use mathlib.Core.Bool.{Bool, true, false}
+use native.Mathlib.Decide.{decLt}
 use native.Mathlib.Omega.{arith}
 use lib.ListN.{length, getD, replicate}
 use lib.Seq.{ext-getD}
@@ -30,6 +31,17 @@ every-miss n f k h e = go (every n f) refl
     go : (b : Bool) → every n f ≡ b → b ≡ false
     go true q = sym (every-at n f k q h) ∙ e
     go false q = refl
+
+pub every-none : (f : ℕ → Bool) → every 0 f ≡ true
+unfolding every
+every-none f = refl
+
+pub every-more : (n : ℕ) (f : ℕ → Bool) → every n f ≡ true → f n ≡ true → every (n + 1) f ≡ true
+every-more n f e h = every-intro (n + 1) f (λ k b. go k b (decLt k n))
+  where
+    go : (k : ℕ) → k < n + 1 → Dec (k < n) → f k ≡ true
+    go k b (yes d) = every-at n f k e d
+    go k b (no d) = let z : k ≡ n = omega arith in rw z h
 
 pub every-same : (n : ℕ) (f g : ℕ → Bool) → ((k : ℕ) → k < n → f k ≡ g k) → every n f ≡ every n g
 unfolding every

@@ -44,14 +44,20 @@ wide-requires-2 c κs = search needs
 returns-5 : tie.Need-returns-5
 returns-5 c = search needs
 
+enum-told-3 : tie.Need-enum-told-3
+enum-told-3 c = search needs
+
+returns-6 : tie.Need-returns-6
+returns-6 c = search needs
+
 enum-known-answer-4 : tie.Need-enum-known-answer-4
 enum-known-answer-4 c = search needs
 
 refused-requires : tie.Need-refused-requires
 refused-requires c κs = search needs
 
-returns-6 : tie.Need-returns-6
-returns-6 c = c .refused .ensures ∙ ap numberFor (sym (c .before .before .answer4 .given .1))
+returns-7 : tie.Need-returns-7
+returns-7 c = c .refused .ensures ∙ ap numberFor (sym (c .before .before .answer4 .given .1))
 
 pub number-of-spec : {M : Type 1} → statement M
 number-of-spec =
@@ -70,6 +76,8 @@ number-of-spec =
     enum-known-answer-3
     wide-requires-2
     returns-5
+    enum-told-3
+    returns-6
     enum-known-answer-4
     refused-requires
-    returns-6)
+    returns-7)

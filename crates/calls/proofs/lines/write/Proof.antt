@@ -119,6 +119,20 @@ returns-6 c =
     let a = c .before .before .before .before .before in
     line-put (a .before .before) (ap lineFor (sym (a .answer3 .given .1))) (c .before .before .put-number3 .ensures .0) (omega arith)
 
+enum-told-3 : tie.Need-enum-told-3
+enum-told-3 c = search needs
+
+put-pair-requires-4 : tie.Need-put-pair-requires-4
+put-pair-requires-4 c κs = omega (arith, room-there (c .before .before .before))
+
+same-length-7 : tie.Need-same-length-7
+same-length-7 c = search needs
+
+returns-7 : tie.Need-returns-7
+returns-7 c =
+    let a = c .before .before .before .before in
+    line-put (a .before .before) (ap lineFor (sym (a .enum-told3 .given .1))) (c .before .before .put-pair4 .ensures) (omega arith)
+
 enum-known-answer-4 : tie.Need-enum-known-answer-4
 enum-known-answer-4 c = search needs
 
@@ -128,11 +142,11 @@ cast-put-number-3 c = search needs
 put-number-requires-4 : tie.Need-put-number-requires-4
 put-number-requires-4 c κs = (omega arith, room-there (c .before .before .before .before))
 
-same-length-7 : tie.Need-same-length-7
-same-length-7 c = search needs
+same-length-8 : tie.Need-same-length-8
+same-length-8 c = search needs
 
-returns-7 : tie.Need-returns-7
-returns-7 c =
+returns-8 : tie.Need-returns-8
+returns-8 c =
     let a = c .before .before .before .before .before in
     line-put (a .before .before) (ap lineFor (sym (a .answer4 .given .1))) (c .before .before .put-number4 .ensures .0) (omega arith)
 
@@ -166,8 +180,12 @@ write-spec =
     put-number-requires-3
     same-length-6
     returns-6
+    enum-told-3
+    put-pair-requires-4
+    same-length-7
+    returns-7
     enum-known-answer-4
     cast-put-number-3
     put-number-requires-4
-    same-length-7
-    returns-7)
+    same-length-8
+    returns-8)

@@ -1,18 +1,19 @@
 -- `link::Link::fresh` meets its contract. Assumes nothing.
 use borrow.Author.Needs.{needs}
 use Rattle.link.proofs.Plans.{count-most}
-use Rattle.link.proofs.FreshLinks.{measures-fresh, read-fresh, sound-fresh}
+use Rattle.link.proofs.FreshLinks.{read-fresh, sound-fresh}
+use Rattle.link.proofs.StartedFlows.{measures-start}
 use Rattle.link.proofs.Link.fresh.Statement.{statement}
 use Rattle.link.proofs.Link.fresh.Tie as tie
 
-flows-requires : tie.Need-flows-requires
-flows-requires c κs = count-most _ (c .before .pre)
+flows-in-requires : tie.Need-flows-in-requires
+flows-in-requires c κs = count-most _ (c .before .pre)
 
 unbooked-requires : tie.Need-unbooked-requires
 unbooked-requires c κs = search needs
 
 every-slot-requires : tie.Need-every-slot-requires
-every-slot-requires c κs = measures-fresh _ (c .before .before .before .pre)
+every-slot-requires c κs = measures-start _ (c .before .before .before .pre)
 
 nothing-held-requires : tie.Need-nothing-held-requires
 nothing-held-requires c κs = search needs
@@ -23,8 +24,8 @@ returns c =
     let unbooked-at = words-at .before in
     let flows-at = unbooked-at .before in
     let valid = flows-at .before .before .pre in
-    rw (c .nothing-held .ensures, unbooked-at .unbooked .ensures, flows-at .flows .ensures)
+    rw (c .nothing-held .ensures, unbooked-at .unbooked .ensures, flows-at .flows-in .ensures)
     (read-fresh _ valid _, sound-fresh _ valid _ (words-at .every-slot .ensures))
 
 pub fresh-spec : {M : Type 1} → statement M
-fresh-spec = tie.close (tie.spec flows-requires unbooked-requires every-slot-requires nothing-held-requires returns)
+fresh-spec = tie.close (tie.spec flows-in-requires unbooked-requires every-slot-requires nothing-held-requires returns)

@@ -4,7 +4,6 @@ use mathlib.Core.Path.{_≡_, sym, _∙_}
 use mathlib.Core.Bool.{false}
 use Prim.Native.Nat.{_^_}
 use lib.Dec.{leb}
-use borrow.Author.Tests.{ne-eqb, eq-eqb}
 use Rattle.model.specs.Refusals.{firstOf}
 use Rattle.link.proofs.Masks.{bit-above, no-bit-above}
 use Rattle.link.proofs.lend.refusal.Statement.{statement}
@@ -21,17 +20,16 @@ returns : tie.Need-returns
 unfolding firstOf
 returns c = rw (bit-above _ _ (λ z. c .if1 .taken (c .before .bits-from .ensures ∙ z)))
 
+booked-or-marked-requires : tie.Need-booked-or-marked-requires
+booked-or-marked-requires c κs = search needs
+
 returns-2 : tie.Need-returns-2
 unfolding firstOf
-returns-2 c = rw (mask-below (c .before), ne-eqb _ _ (c .if2 .taken))
+returns-2 c = rw (mask-below (c .before .before), sym (c .before .booked-or-marked .ensures) ∙ c .if2 .taken)
 
 returns-3 : tie.Need-returns-3
 unfolding firstOf
-returns-3 c = rw (mask-below (c .before .before), eq-eqb _ _ (c .before .if2 .left), c .if3 .taken)
-
-returns-4 : tie.Need-returns-4
-unfolding firstOf
-returns-4 c = rw (mask-below (c .before .before), eq-eqb _ _ (c .before .if2 .left), c .if3 .left)
+returns-3 c = rw (mask-below (c .before .before), sym (c .before .booked-or-marked .ensures) ∙ c .if2 .left)
 
 pub refusal-spec : {M : Type 1} → statement M
-refusal-spec = tie.close (tie.spec bits-from-requires returns returns-2 returns-3 returns-4)
+refusal-spec = tie.close (tie.spec bits-from-requires returns booked-or-marked-requires returns-2 returns-3)

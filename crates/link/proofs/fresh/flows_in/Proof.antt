@@ -1,4 +1,4 @@
--- `link::fresh::flows` meets its contract: the flows below i are done. Assumes nothing.
+-- `link::fresh::flows_in` meets its contract: the flows below i are done. Assumes nothing.
 use borrow.Author.Needs.{needs}
 use Prim.Native.Nat.{ℕ, _-_, _≤_}
 use mathlib.Core.Path.{_≡_}
@@ -7,20 +7,20 @@ use native.Mathlib.Omega.{arith}
 use Rattle.plan.specs.declared.Entry.{Entry}
 use Rattle.link.specs.declared.Flow.{Flow}
 use Rattle.link.specs.Layout.{noFlow}
-use Rattle.link.specs.Fresh.{freshFlows}
+use Rattle.link.specs.Started.{startedFlows}
 use Rattle.window.proofs.Ranges.{replaced-none, replaced-more, replaced-done}
-use Rattle.link.proofs.fresh.flows.Statement.{statement}
-use Rattle.link.proofs.fresh.flows.Tie as tie
+use Rattle.link.proofs.fresh.flows_in.Statement.{statement}
+use Rattle.link.proofs.fresh.flows_in.Tie as tie
 
-record Done (count : ℕ) (entries : List Entry) (all : List Flow) (i : ℕ) : Type 0 where
+record Done (frame count : ℕ) (entries : List Entry) (all : List Flow) (i : ℕ) : Type 0 where
   pub at-most : i ≤ count
-  pub all-is : all ≡ freshFlows entries i
+  pub all-is : all ≡ startedFlows frame entries i
 
 abbrev Inv-loop : tie.InvT-loop
-Inv-loop count entries spare all₀ i₀ all i = Done count entries all i
+Inv-loop frame count entries spare all₀ i₀ all i = Done frame count entries all i
 
 abbrev μ-loop : tie.MeasureT-loop
-μ-loop count entries spare all₀ i₀ all i = count - i
+μ-loop frame count entries spare all₀ i₀ all i = count - i
 
 loop-holds : tie.Need-loop-holds Inv-loop μ-loop
 loop-holds c = record { at-most = omega arith; all-is = replaced-none 0 _ _ noFlow }
@@ -62,8 +62,8 @@ loop-again c = record {
 returns : tie.Need-returns Inv-loop μ-loop
 returns c = replaced-done _ _ _ _ _ _ (c .before .loop .inv .all-is) (omega arith)
 
-pub flows-spec : {M : Type 1} → statement M
-flows-spec =
+pub flows-in-spec : {M : Type 1} → statement M
+flows-in-spec =
     tie.close
     (tie.spec
     Inv-loop

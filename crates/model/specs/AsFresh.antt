@@ -1,0 +1,39 @@
+-- What a granted reset leaves: a link that takes requests like one that is fresh but for the clock. Document 02, N6: it "recycles every frame", and
+-- the clock "goes on". Assumes nothing.
+use Prim.Native.Nat.{ℕ, _/_, _<_}
+use mathlib.Core.Path.{_≡_}
+use mathlib.Core.List.{List, _∷_, []}
+use Rattle.model.specs.Plan.{Plan, Accepted, positions, entry}
+use Rattle.model.specs.Calls.{Grant, accepted}
+use Rattle.model.specs.Link.{Link, Flow, withCurrent, withFlows, movedTo}
+use Rattle.model.specs.Fresh.{freshFlow, fresh}
+use Rattle.model.specs.Request.{request}
+use Rattle.model.specs.Reset.{reset}
+
+-- the link that fresh makes, but with CP at p and each IF the frame of p
+abbrev pub flowAt : Plan → (p i : ℕ) → Flow
+flowAt P p i = movedTo (freshFlow P i) (p / P .slots) (entry P i .share)
+
+abbrev pub freshAt : Plan → (p : ℕ) → Link
+freshAt P p = withCurrent (withFlows (fresh P) (flowAt P p)) p
+
+-- the answers to requests with these words, one after the other
+unfoldable pub answersTo : Link → List ℕ → List Grant
+answersTo l [] = []
+answersTo l (w ∷ ws) = request l w .answer ∷ answersTo (request l w .link) ws
+
+-- On every link, whether or not calls lead to it from fresh: after a granted reset requests are answered as on that link.
+abbrev pub GoesOnAsFresh : Type 0
+GoesOnAsFresh =
+    (l : Link) → Accepted (l .plan) → l .current < positions (l .plan) → reset l .answer ≡ accepted tt
+    → (words : List ℕ) → answersTo (reset l .link) words ≡ answersTo (freshAt (l .plan) (l .current)) words
+
+-- A second reset in the same slot is granted, and changes nothing.
+abbrev pub TwiceIsOnce : Type 0
+TwiceIsOnce =
+    (l : Link) → l .current < positions (l .plan) → reset l .answer ≡ accepted tt
+    → reset (reset l .link) ≡ record { link = reset l .link; answer = accepted tt }
+
+-- On a fresh link a reset is granted, and changes nothing.
+abbrev pub FreshStays : Type 0
+FreshStays = (P : Plan) → Accepted P → reset (fresh P) ≡ record { link = fresh P; answer = accepted tt }

@@ -1,0 +1,32 @@
+"""Local reset, as document 02 has it (N6)."""
+
+from simulator.lend import taken
+
+
+def booked_later(link):
+    """Some slot after the current one is booked."""
+    return any(slot > link.ticks for slot in link.owner)
+
+
+def holds_from_now_on(link, flow):
+    """The flow holds something at the current slot, or at a later one of the
+    window."""
+    return any(link.from_slot(link.ticks, link.holdings(flow)))
+
+
+def quiet(link):
+    return not booked_later(link) and not any(
+        holds_from_now_on(link, flow) for flow in range(link.plan.flows))
+
+
+def reset(link):
+    """The clock goes on, and so do holdings."""
+    if not quiet(link):
+        return "R", 23
+    if taken(link):
+        link.marked = link.ticks
+    link.owner.clear()
+    for number, flow in enumerate(link.flows):
+        flow.frame = link.head_frame()
+        flow.left = link.plan.share(number)
+    return "Z", None
