@@ -33,6 +33,12 @@ def line_of(call, result):
                       result & 1023 if name == "request" else result)
 
 
+def record_line(call, result):
+    """The line of a request's result in a burst."""
+    return "B %d %d" % (result // POWER, 0 if result >= POWER
+                        else result & 1023)
+
+
 def said(result):
     """A result in words, for messages."""
     return "%#x" % result if result < POWER else "%d x 2^32 + %d" % divmod(

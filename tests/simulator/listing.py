@@ -2,16 +2,27 @@
 
 from itertools import chain, repeat
 
+from simulator.burst import burst
 from simulator.calls import answer
 from simulator.link import Link
 from simulator.plan import read_plan
-from simulator.records import DOMELINK, SIZE, read_record
+from simulator.records import DOMELINK, read_record, split
 
 SHORTEST, LONGEST = 12, 76      # stated lengths of a plan that are looked at
 
 
 def line(letter, number):
     return letter if number is None else "%s %s" % (letter, number)
+
+
+def lines_of(link, call, given):
+    """The lines of a call, each as the link comes to it: one, but for a burst,
+    which has one a record.  `given` are the lines heard of a program."""
+    if call and call[0] == "burst":
+        for pair, _ in zip(burst(link, *call[1:]), given):
+            yield "B %d %d" % pair
+    else:
+        yield line(*answer(link, call, next(given)))
 
 
 def split_file(data):
@@ -29,17 +40,16 @@ def steps(data, kinds=DOMELINK, heard=()):
     where there is none; `kinds` is a program's table of records.  `heard` is
     the program's listing, where it is at hand: it is followed where an answer
     is left open."""
-    split = split_file(data)
-    refusal, plan = read_plan(split[0]) if split else (1, None)
+    parts = split_file(data)
+    refusal, plan = read_plan(parts[0]) if parts else (1, None)
     link = None if refusal else Link(plan)
     yield line("P", refusal), link
     if refusal:
         return
-    rest = split[1]
-    starts = range(0, len(rest), SIZE)
-    for start, given in zip(starts, chain(heard[1:], repeat(None))):
-        call = read_record(rest[start:start + SIZE], kinds)
-        yield line(*answer(link, call, given)), link
+    given = chain(heard[1:], repeat(None))
+    for record in split(parts[1], kinds):
+        for text in lines_of(link, read_record(record, kinds), given):
+            yield text, link
 
 
 def simulate(data, kinds=DOMELINK, heard=()):

@@ -18,7 +18,7 @@ use Rattle.model.proofs.AfterLend.{after-lend}
 use Rattle.model.proofs.AfterReset.{after-reset}
 
 -- what is known after the calls that were played
-abbrev Known : Plan → Played paper → Type 0
+abbrev pub Known : Plan → Played paper → Type 0
 Known P r = After P (r .state) (r .history)
 
 after-call : (r : Played paper) (c : Call) → Known (r .state .plan) r → Known (r .state .plan) (step paper r c)
@@ -28,13 +28,13 @@ after-call r Call.tick g = after-tick g
 after-call r (Call.lend m x) g = after-lend g m x
 after-call r Call.reset g = after-reset g
 
-after-calls : {P : Plan} (r : Played paper) (calls : List Call) → Known P r → Known P (play paper r calls)
+pub after-calls : {P : Plan} (r : Played paper) (calls : List Call) → Known P r → Known P (play paper r calls)
 unfolding play
 after-calls r [] g = g
 after-calls r (c ∷ calls) g =
     after-calls (step paper r c) calls (subst (λ P. Known P r → Known P (step paper r c)) (g .plan-is) (after-call r c) g)
 
-after-fresh : {P : Plan} → Accepted P → After P (fresh P) []
+pub after-fresh : {P : Plan} → Accepted P → After P (fresh P) []
 unfolding fresh ticks origin grantsSince refusalsSince raises credits tally
 after-fresh ok = record { plan-is = refl; invariant = fresh-keeps ok; events = tt; least = λ i known asked. fresh-least ok i known }
 
