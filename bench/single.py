@@ -1,14 +1,20 @@
-"""One request, one credit and one tick: by value from proved code, and on
-`&mut self` in plain Rust.  Each program times stretches of calls of one
-kind."""
+"""One request, alone or in bursts of 16, one credit and one tick: by value
+from proved code, and on `&mut self` in plain Rust.  Each program times
+stretches of calls of one kind."""
 
 import re
 
 import programs
 
 CALLS = 4096            # the proved program plays no more
-LINE = re.compile(r"^(request|credit|tick) +([0-9.]+) ns", re.MULTILINE)
-ANSWERS = re.compile(r"^answers ([0-9]+)$", re.MULTILINE)
+LINE = re.compile(r"^(request|burst|credit|tick) +([0-9.]+) ns", re.MULTILINE)
+ANSWERS = re.compile(r"^(?:answers|in bursts) ([0-9]+)$", re.MULTILINE)
+
+# Files of bursts: the words, the state of the table, and the most slots that
+# go by between two bursts.
+BURSTS = [
+    ("granted", "dense", "64"), ("granted", "nearly full", "24"),
+    ("mixed", "dense", "64"), ("mixed", "nearly full", "24")]
 
 
 def figures(text):
@@ -20,21 +26,33 @@ def lowest(found):
     return {kind: min(one[kind] for one in found) for kind in found[0]}
 
 
-def measure(folder, rounds):
+def measure(folder, rounds, path):
     """The lowest figures of the two programs, started one after the other."""
-    path = programs.make(folder, "dense", CALLS)
     pair = (programs.proved("single"), folder / "single")
     texts = [[programs.played(program, path).decode() for program in pair]
              for _ in range(rounds)]
-    sums = {ANSWERS.search(text).group(1) for row in texts for text in row}
+    sums = {answer for row in texts for text in row
+            for answer in ANSWERS.findall(text)}
     if len(sums) != 1:
         programs.stop("the answers to single calls differ")
     return [lowest([figures(text) for text in column])
             for column in zip(*texts)]
 
 
+def show_bursts(folder, rounds):
+    """Nanoseconds a word, 16 words to a burst, and singly beside it."""
+    for words, table, stride in BURSTS:
+        path = programs.make(folder, words, CALLS, "--stride", stride)
+        ours, theirs = measure(folder, rounds, path)
+        print("16 words, %-7s %-11s burst %6.1f ns   plain Rust %6.1f ns"
+              "   ratio %6.2f   single requests %6.1f ns"
+              % (words, table, ours["burst"], theirs["burst"],
+                 ours["burst"] / theirs["burst"], ours["request"]))
+
+
 def show(folder, rounds):
-    by_value, by_reference = measure(folder, rounds)
+    path = programs.make(folder, "dense", CALLS)
+    by_value, by_reference = measure(folder, rounds, path)
     for kind, ours in by_value.items():
         theirs = by_reference[kind]
         print("%-8s by value %6.1f ns   by &mut %6.1f ns   ratio %6.2f"

@@ -72,7 +72,7 @@ extern "C" {
 
 /*
  * A result is a refusal, times 2 to the power 32, or else the call's value: 0
- * for fresh and credit, the word for request, the flow for tick and lend.
+ * for fresh, credit and reset, the word for request, the flow for tick and lend.
  */
 #define NAZGOLV_REFUSAL(result) ((uint32_t)((result) >> 32))
 #define NAZGOLV_VALUE(result) ((uint32_t)((result) & 0xFFFFFFFFu))
@@ -96,11 +96,12 @@ extern "C" {
 #define NAZGOLV_REFUSED_POSITION 13         /* credit: the position is none */
 #define NAZGOLV_REFUSED_PASSED 14           /* credit: the position is not to come */
 #define NAZGOLV_REFUSED_HOLDING 15          /* credit: 0 is held there or at some later position */
-#define NAZGOLV_REFUSED_TAKEN 17            /* lend: the slot is booked or lent */
+#define NAZGOLV_REFUSED_TAKEN 17            /* lend: the slot is booked or marked taken */
 #define NAZGOLV_REFUSED_TAKERS 18           /* lend: no flow of the mask can take it */
 #define NAZGOLV_REFUSED_NOT_COME 20         /* request: no position after the departure */
 #define NAZGOLV_REFUSED_SHORT 21            /* the buffer is shorter than the image */
 #define NAZGOLV_REFUSED_IMAGE 22            /* the bytes are no image of a link */
+#define NAZGOLV_REFUSED_NOT_QUIET 23        /* reset: a later slot is booked, or a cell held */
 
 /* ---- calls */
 
@@ -140,6 +141,15 @@ uint64_t nazgolv_tick(uint8_t *image, size_t image_length);
  * several gets it is left open.
  */
 uint64_t nazgolv_lend(uint8_t *image, size_t image_length, uint16_t mask);
+
+/*
+ * Lets every flow start again in the head frame with its whole share, and
+ * empties all positions. CP and what was held before it stay. A current slot
+ * that was booked or marked taken is marked until the next tick. 0, or 23 where
+ * the link is not quiet: a position later than CP is booked, or some flow holds
+ * a cell at CP or at a later position. 23 changes nothing.
+ */
+uint64_t nazgolv_reset(uint8_t *image, size_t image_length);
 
 #ifdef __cplusplus
 }

@@ -1,13 +1,18 @@
 /*
  * The player for fixed shows. It reads a file of calls from standard input (a
  * plan, then 5-byte records), keeps the link as one image, and writes one line
- * for the plan and one for each record:
+ * for the plan and one for each record, a burst having a line for each word:
  *
  *   P 0, P n    the plan is accepted, or refused with n
  *   G p         record 1, a word, low byte first: position p is granted
  *   C           record 2, a flow, a position in two bytes, 0: the credit is taken
  *   T f, T -    record 3, four zeros: the slot that has come up is flow f's, or idle
  *   L f         record 4, a mask in two bytes, 0, 0: the slot is lent to flow f
+ *   Z           record 5, four zeros: the link is reset
+ *   B r p       record 6, a count c of 0 to 20, three zeros, and then c words: a
+ *               burst, played as single requests. 0 and the position granted, or
+ *               the refusal and 0; of a burst's words only the first 16 are
+ *               asked, and the line of another is B 255 255
  *   R n         the record is refused with n
  *
  * Exit status: 0 the listing is whole; 1 it is not; 2 wrong arguments.
@@ -18,6 +23,8 @@
 
 #define RECORD 5            /* bytes of a record */
 #define NO_CALL 16          /* the refusal of a record that makes no call */
+#define WORDS 20            /* the most words of a burst */
+#define HANDLED 16          /* those of them that are asked */
 
 static uint8_t image[NAZGOLV_IMAGE_MAX];
 
@@ -77,6 +84,36 @@ static void lend(unsigned mask)
         say('L', NAZGOLV_VALUE(result));
 }
 
+static void reset(void)
+{
+    if (!refused(nazgolv_reset(image, sizeof image)))
+        puts("Z");
+}
+
+/* A word of a burst, as a single request. */
+static void ask(uint32_t word)
+{
+    uint64_t result = nazgolv_request(image, sizeof image, word);
+    unsigned refusal = NAZGOLV_REFUSAL(result);
+    unsigned position = refusal == 0 ? NAZGOLV_POSITION(NAZGOLV_VALUE(result)) : 0;
+    printf("B %u %u\n", refusal, position);
+}
+
+/* A burst, whose words are read first; where they are cut off, one line stands for all the rest. */
+static void burst(size_t count)
+{
+    uint8_t words[4 * WORDS];
+    size_t i;
+    if (fread(words, 1, 4 * count, stdin) != 4 * count) {
+        say('R', NO_CALL);
+        return;
+    }
+    for (i = 0; i < count && i < HANDLED; i++)
+        ask(word_at(words + 4 * i));
+    for (; i < count; i++)
+        puts("B 255 255");
+}
+
 /* Plays one record; one with an unknown kind or a filler makes no call. */
 static void play(const uint8_t *record)
 {
@@ -89,6 +126,10 @@ static void play(const uint8_t *record)
         tick();
     else if (record[0] == 4 && two_bytes(at + 2) == 0)
         lend(two_bytes(at));
+    else if (record[0] == 5 && word_at(at) == 0)
+        reset();
+    else if (record[0] == 6 && at[0] <= WORDS && at[1] == 0 && two_bytes(at + 2) == 0)
+        burst(at[0]);
     else
         say('R', NO_CALL);
 }

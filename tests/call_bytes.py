@@ -32,5 +32,13 @@ def lend(mask, fillers=(0, 0)):
     return struct.pack("<BHBB", 4, mask, *fillers)
 
 
+def burst(words, fillers=(0, 0, 0), count=None):
+    """A burst and its words; `count` is how many there are unless given."""
+    if count is None:
+        count = len(words)
+    return (struct.pack("<5B", 6, count, *fillers)
+            + b"".join(struct.pack("<I", each) for each in words))
+
+
 TICK = bytes([3, 0, 0, 0, 0])
 RESET = bytes([5, 0, 0, 0, 0])

@@ -1,5 +1,5 @@
-//! Plays a call file with lends and resets: as `play.rs`, and a record of kind 4
-//! is a lend, one of kind 5 a reset.
+//! Plays a call file with lends, resets and bursts: as `play.rs`, and a record
+//! of kind 4 is a lend, one of kind 5 a reset, one of kind 6 a burst.
 
 #[allow(dead_code)]
 #[path = "play.rs"]

@@ -1,18 +1,20 @@
 //! Makes call files for measuring. The same arguments give the same file.
 //!
-//! A round goes like this: some flows ask until they are refused, the credits
-//! that are due come in, and a few slots go by. The scheduler runs along, so
-//! that a credit is sent only for a slot that was granted.
+//! A round goes like this: some flows ask until they are refused, or a burst's
+//! words are asked, the credits that are due come in, and a few slots go by.
+//! The scheduler runs along, so that a credit is sent only for a slot that was
+//! granted.
 
 #[allow(dead_code)]
 mod scheduler;
 
-use scheduler::{Entry, Link, Plan, Word, MOST_FLOWS, MOST_FRAMES, MOST_SLOTS};
+use scheduler::{Entry, Link, Plan, Word, MOST_ASKED, MOST_FLOWS, MOST_FRAMES, MOST_SLOTS};
 use std::cmp::Reverse;
 use std::collections::BinaryHeap;
 use std::io::{self, BufWriter, Write};
 
-const USAGE: &str = "calls dense|small|ticks COUNT [--slots F] [--frames W] [--flows n] [--seed S]";
+const USAGE: &str = "calls dense|small|ticks|granted|mixed COUNT \
+    [--slots F] [--frames W] [--flows n] [--seed S] [--stride N]";
 
 /// A small generator of random numbers (splitmix64).
 struct Random(u64);
@@ -37,8 +39,20 @@ impl Random {
     }
 }
 
+/// Which words a round has.
+#[derive(Clone, Copy, PartialEq, Eq)]
+enum Words {
+    /// Those of some flows, each until it is refused.
+    UntilRefused,
+    /// As many as a burst handles, of flows that get a slot.
+    Granted,
+    /// The same of any flows, one in four with another destination.
+    Mixed,
+}
+
 /// What the command line asks for.
 struct Order {
+    words: Words,
     count: usize,
     slots: usize,
     frames: usize,
@@ -55,11 +69,11 @@ impl Order {
         let kind = words.next()?;
         let count = words.next()?.parse().ok()?;
         let (mut slots, mut frames) = match kind.as_str() {
-            "dense" | "ticks" => (64, 4),
+            "dense" | "ticks" | "granted" | "mixed" => (64, 4),
             "small" => (3, 8),
             _ => return None,
         };
-        let (mut flows, mut seed) = (None, 1);
+        let (mut flows, mut seed, mut stride) = (None, 1, None);
         while let Some(option) = words.next() {
             let value = words.next()?;
             match option.as_str() {
@@ -67,6 +81,7 @@ impl Order {
                 "--frames" => frames = value.parse().ok()?,
                 "--flows" => flows = Some(value.parse().ok()?),
                 "--seed" => seed = value.parse().ok()?,
+                "--stride" => stride = Some(value.parse().ok()?),
                 _ => return None,
             }
         }
@@ -75,13 +90,19 @@ impl Order {
             return None;
         }
         let sparse = kind == "ticks";
+        let usual = if sparse { 8 * slots } else { slots.div_ceil(2) };
         Some(Order {
+            words: match kind.as_str() {
+                "granted" => Words::Granted,
+                "mixed" => Words::Mixed,
+                _ => Words::UntilRefused,
+            },
             count,
             slots,
             frames,
             flows,
             seed,
-            stride: if sparse { 8 * slots } else { slots.div_ceil(2) },
+            stride: stride.unwrap_or(usual).max(1),
             askers: if sparse { 1 } else { flows.div_ceil(2) },
         })
     }
@@ -176,28 +197,74 @@ impl<W: Write> Maker<W> {
         Ok(true)
     }
 
-    /// One flow asks until it is refused. Its tiles have come: their departure
-    /// is the current position.
-    fn ask(&mut self, flow: usize) -> io::Result<()> {
-        loop {
-            let word = Word {
-                destination: self.entries[flow].destination,
-                flow: flow as u8,
-                quantum: self.quantum[flow],
-                departure: (self.now % self.positions) as u16,
-            };
-            let word = word.join();
-            let [a, b, c, d] = word.to_le_bytes();
-            if !self.write([1, a, b, c, d])? {
-                return Ok(());
+    /// A flow's next word. Its tile has come: the departure is the current
+    /// position.
+    fn word(&self, flow: usize) -> u32 {
+        let word = Word {
+            destination: self.entries[flow].destination,
+            flow: flow as u8,
+            quantum: self.quantum[flow],
+            departure: (self.now % self.positions) as u16,
+        };
+        word.join()
+    }
+
+    /// One flow asks once; whether it is granted a slot.
+    fn ask(&mut self, flow: usize) -> io::Result<bool> {
+        self.ask_with(flow, self.word(flow))
+    }
+
+    fn ask_with(&mut self, flow: usize, word: u32) -> io::Result<bool> {
+        let [a, b, c, d] = word.to_le_bytes();
+        if !self.write([1, a, b, c, d])? {
+            return Ok(false);
+        }
+        let Ok(granted) = self.link.request(word) else {
+            self.tally.refused += 1;
+            return Ok(false);
+        };
+        self.tally.granted += 1;
+        self.quantum[flow] = (self.quantum[flow] + 1) % 1024;
+        self.expect_credit(flow, Word::split(granted).departure.into());
+        Ok(true)
+    }
+
+    /// The words of a burst of flows that get a slot, if they are soon found.
+    fn ask_granted(&mut self) -> io::Result<()> {
+        let mut asked = 0;
+        for _ in 0..16 * MOST_ASKED {
+            let flow = self.random.below(self.entries.len());
+            let granted = self.link.clone().request(self.word(flow)).is_ok();
+            if asked < MOST_ASKED && granted {
+                self.ask(flow)?;
+                asked += 1;
             }
-            let Ok(granted) = self.link.request(word) else {
-                self.tally.refused += 1;
-                return Ok(());
-            };
-            self.tally.granted += 1;
-            self.quantum[flow] = (self.quantum[flow] + 1) % 1024;
-            self.expect_credit(flow, Word::split(granted).departure.into());
+        }
+        Ok(())
+    }
+
+    /// The words of a burst of any flows; one in four goes astray.
+    fn ask_mixed(&mut self) -> io::Result<()> {
+        for _ in 0..MOST_ASKED {
+            let flow = self.random.below(self.entries.len());
+            let astray = u32::from(self.random.once_in(4)) << 26;
+            self.ask_with(flow, self.word(flow) ^ astray)?;
+        }
+        Ok(())
+    }
+
+    /// The requests of a round.
+    fn ask_round(&mut self, order: &Order) -> io::Result<()> {
+        match order.words {
+            Words::Granted => self.ask_granted(),
+            Words::Mixed => self.ask_mixed(),
+            Words::UntilRefused => {
+                for _ in 0..=self.random.below(order.askers) {
+                    let flow = self.random.below(order.flows);
+                    while self.ask(flow)? {}
+                }
+                Ok(())
+            }
         }
     }
 
@@ -255,10 +322,7 @@ impl<W: Write> Maker<W> {
     /// Rounds until the file has all of its calls.
     fn make(mut self, order: &Order) -> io::Result<Tally> {
         while self.left > 0 {
-            for _ in 0..=self.random.below(order.askers) {
-                let flow = self.random.below(order.flows);
-                self.ask(flow)?;
-            }
+            self.ask_round(order)?;
             self.send_credits()?;
             for _ in 0..=self.random.below(order.stride) {
                 self.tick()?;

@@ -1,11 +1,11 @@
 //! Plays a call file: reads a plan and 5-byte call records from standard input
 //! and writes one line for each to standard output. Records have three kinds;
-//! `allcalls.rs` has lends and resets too.
+//! `allcalls.rs` has lends, resets and bursts too.
 
 #[allow(dead_code)]
 mod scheduler;
 
-use scheduler::{refusal, Link, Plan};
+use scheduler::{refusal, Ask, Link, Plan};
 use std::io::{self, ErrorKind, Read, Write};
 
 /// Bytes in one call record.
@@ -101,11 +101,7 @@ fn read_plan(input: &mut impl Read) -> io::Result<Result<Plan, u8>> {
 }
 
 /// Plays the records after the plan, chunk by chunk.
-fn play_calls<const ALL: bool>(
-    link: &mut Link,
-    input: &mut impl Read,
-    output: &mut impl Write,
-) -> io::Result<()> {
+fn play_calls(link: &mut Link, input: &mut impl Read, output: &mut impl Write) -> io::Result<()> {
     let lines = Lines::new();
     let mut chunk = vec![0; CHUNK];
     let mut listing = vec![0; (CHUNK / RECORD + 1) * LINE];
@@ -123,7 +119,7 @@ fn play_calls<const ALL: bool>(
         begun = records.remainder().len();
         for record in records {
             let record = record.try_into().expect("a record has five bytes");
-            let line = lines.answer::<ALL>(link, record);
+            let line = lines.answer::<false>(link, record);
             listing[end..end + LINE].copy_from_slice(&line.bytes);
             end += line.length;
         }
@@ -136,6 +132,59 @@ fn play_calls<const ALL: bool>(
     Ok(())
 }
 
+/// Most records of a burst in a call file.
+const MOST_RECORDS: u8 = 20;
+
+/// The records of a burst's words before the call.
+fn unfilled(words: &[u8]) -> Vec<Ask> {
+    let ask = |word: &[u8]| Ask {
+        word: u32::from_le_bytes(word.try_into().expect("a word has four bytes")),
+        result: u8::MAX,
+        position: u8::MAX,
+    };
+    words.chunks_exact(4).map(ask).collect()
+}
+
+/// Plays all records after the plan, bursts with their words among them.
+fn play_bursts(link: &mut Link, mut bytes: &[u8], output: &mut impl Write) -> io::Result<()> {
+    let lines = Lines::new();
+    while let Some((record, rest)) = bytes.split_first_chunk() {
+        let &[6, count @ 0..=MOST_RECORDS, 0, 0, 0] = record else {
+            let line = lines.answer::<true>(link, record);
+            output.write_all(&line.bytes[..line.length])?;
+            bytes = rest;
+            continue;
+        };
+        let Some((words, rest)) = rest.split_at_checked(4 * usize::from(count)) else {
+            break;
+        };
+        let mut records = unfilled(words);
+        link.burst(&mut records);
+        for ask in &records {
+            writeln!(output, "B {} {}", ask.result, ask.position)?;
+        }
+        bytes = rest;
+    }
+    if !bytes.is_empty() {
+        writeln!(output, "R {}", refusal::RECORD)?;
+    }
+    Ok(())
+}
+
+/// Plays the records after the plan; where `ALL` is true, also lends, resets and bursts.
+fn play_rest<const ALL: bool>(
+    link: &mut Link,
+    input: &mut impl Read,
+    output: &mut impl Write,
+) -> io::Result<()> {
+    if !ALL {
+        return play_calls(link, input, output);
+    }
+    let mut bytes = Vec::new();
+    input.read_to_end(&mut bytes)?;
+    play_bursts(link, &bytes, output)
+}
+
 /// Plays standard input.
 pub fn play<const ALL: bool>() -> io::Result<()> {
     let mut input = io::stdin().lock();
@@ -144,7 +193,7 @@ pub fn play<const ALL: bool>() -> io::Result<()> {
         Err(number) => writeln!(output, "P {number}")?,
         Ok(plan) => {
             writeln!(output, "P 0")?;
-            play_calls::<ALL>(&mut Link::fresh(&plan), &mut input, &mut output)?;
+            play_rest::<ALL>(&mut Link::fresh(&plan), &mut input, &mut output)?;
         }
     }
     output.flush()

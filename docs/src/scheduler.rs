@@ -20,6 +20,9 @@ pub const HEADER: usize = 12;
 /// Bytes in one entry of the plan.
 pub const ENTRY: usize = 4;
 
+/// Most records that a burst handles.
+pub const MOST_ASKED: usize = 16;
+
 /// Owner of a position that nobody has booked.
 const NOBODY: u8 = MOST_FLOWS as u8;
 
@@ -175,6 +178,16 @@ impl Word {
             | u32::from(self.quantum) << 10
             | u32::from(self.departure)
     }
+}
+
+/// A record of a burst: a word, and what its request comes to.
+#[derive(Clone, Copy, Debug, PartialEq, Eq)]
+pub struct Ask {
+    pub word: u32,
+    /// 0, or the number of the refusal.
+    pub result: u8,
+    /// The position granted, or 0.
+    pub position: u8,
 }
 
 /// Places that are looked at or changed together.
@@ -482,6 +495,18 @@ impl Link {
         .join())
     }
 
+    /// Asks for the words of the first 16 records, in order, and fills in their
+    /// answers.
+    #[inline]
+    pub fn burst(&mut self, records: &mut [Ask]) {
+        for record in records.iter_mut().take(MOST_ASKED) {
+            (record.result, record.position) = match self.request(record.word) {
+                Ok(word) => (0, word as u8),
+                Err(number) => (number, 0),
+            };
+        }
+    }
+
     /// Gives one of a flow's cells back from a position on.
     #[inline]
     pub fn credit(&mut self, flow: usize, position: usize) -> Result<(), u8> {
@@ -662,6 +687,26 @@ mod tests {
             departure: 3,
         };
         assert_eq!(Word::split(0x2410_0803), fields);
+    }
+
+    #[test]
+    fn bursts() {
+        let mut link = fresh(4, 2, 4, &PAIR);
+        let unfilled = |word| Ask {
+            word,
+            result: 255,
+            position: 255,
+        };
+        let mut records = [unfilled(word(0, 0)); 18];
+        records[3] = unfilled(word(1, 0));
+        records[4] = unfilled(word(2, 0));
+        link.burst(&mut records);
+        let answers = records.map(|ask| (ask.result, ask.position));
+        assert_eq!(answers[..5], [(0, 1), (0, 2), (12, 0), (0, 3), (8, 0)]);
+        assert_eq!(answers[15..], [(12, 0), (255, 255), (255, 255)]);
+        assert_eq!(records[0].word, word(0, 0));
+        link.burst(&mut []);
+        assert_eq!(ask(&mut link, 1), Ok(4));
     }
 
     #[test]

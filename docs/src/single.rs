@@ -1,11 +1,12 @@
-//! Measures single calls. It reads a call file from standard input, plays it
-//! from memory many times over and times each stretch of calls of one kind.
-//! The lowest time of each stretch counts, less the clock's own.
+//! Measures single calls, and requests in bursts of 16. It reads a call file
+//! from standard input, plays it from memory many times over and times each
+//! stretch of calls of one kind. The lowest time of each stretch counts, less
+//! the clock's own.
 
 #[allow(dead_code)]
 mod scheduler;
 
-use scheduler::{Link, Plan};
+use scheduler::{Ask, Link, Plan, MOST_ASKED};
 use std::hint::black_box;
 use std::io::{self, Read};
 use std::time::{Duration, Instant};
@@ -28,6 +29,8 @@ struct Stretch {
     kind: Kind,
     calls: Vec<u32>,
     lowest: Duration,
+    /// The same with requests in bursts.
+    lowest_in_bursts: Duration,
 }
 
 /// Makes a request; its answer as a number.
@@ -50,6 +53,25 @@ fn tick(link: &mut Link) -> u64 {
     link.tick().map_or(16, u64::from)
 }
 
+/// Makes a burst of at most 16 requests; the sum of its answers as numbers.
+fn burst(link: &mut Link, calls: &[u32]) -> u64 {
+    let mut records = [Ask {
+        word: 0,
+        result: 0,
+        position: 0,
+    }; MOST_ASKED];
+    for (record, &call) in records.iter_mut().zip(calls) {
+        record.word = call;
+    }
+    let records = &mut records[..calls.len()];
+    link.burst(records);
+    let number = |ask: &Ask| match ask.result {
+        0 => u64::from(ask.word & !0x3FF) + u64::from(ask.position),
+        refusal => refusal.into(),
+    };
+    records.iter().map(number).sum()
+}
+
 impl Stretch {
     /// Makes the calls and adds up their answers. Every answer is used within
     /// the time, or the compiler could leave out what makes it.
@@ -60,6 +82,18 @@ impl Stretch {
             Kind::Request => calls.map(|&call| request(link, call)).sum(),
             Kind::Credit => calls.map(|&call| credit(link, call)).sum(),
             Kind::Tick => calls.map(|_| tick(link)).sum(),
+        }
+    }
+
+    /// The same with requests in bursts.
+    #[inline]
+    fn play_in_bursts(&self, link: &mut Link) -> u64 {
+        match self.kind {
+            Kind::Request => {
+                let bursts = self.calls.chunks(MOST_ASKED);
+                bursts.map(|calls| burst(link, calls)).sum()
+            }
+            Kind::Credit | Kind::Tick => self.play(link),
         }
     }
 }
@@ -79,6 +113,7 @@ fn split_stretches(records: &[u8]) -> Option<Vec<Stretch>> {
                 kind,
                 calls: Vec::new(),
                 lowest: Duration::MAX,
+                lowest_in_bursts: Duration::MAX,
             });
         }
         let call = u32::from_le_bytes(record[1..].try_into().ok()?);
@@ -96,6 +131,18 @@ fn time_stretches(plan: &Plan, stretches: &mut [Stretch]) -> u64 {
         let begin = Instant::now();
         sum += stretch.play(&mut link);
         stretch.lowest = stretch.lowest.min(begin.elapsed());
+    }
+    sum
+}
+
+/// The same with requests in bursts.
+fn time_in_bursts(plan: &Plan, stretches: &mut [Stretch]) -> u64 {
+    let mut link = Link::fresh(plan);
+    let mut sum = 0;
+    for stretch in stretches {
+        let begin = Instant::now();
+        sum += stretch.play_in_bursts(&mut link);
+        stretch.lowest_in_bursts = stretch.lowest_in_bursts.min(begin.elapsed());
     }
     sum
 }
@@ -118,13 +165,19 @@ fn time_clock() -> Duration {
 }
 
 /// Prints the nanoseconds of one call of a kind.
-fn report(name: &str, kind: Kind, stretches: &[Stretch], clock: Duration) {
+fn report(
+    name: &str,
+    kind: Kind,
+    stretches: &[Stretch],
+    lowest: fn(&Stretch) -> Duration,
+    clock: Duration,
+) {
     let (mut calls, mut counted, mut spent) = (0, 0, Duration::ZERO);
     for stretch in stretches.iter().filter(|stretch| stretch.kind == kind) {
         calls += stretch.calls.len();
         if stretch.calls.len() >= SHORTEST {
             counted += stretch.calls.len();
-            spent += stretch.lowest.saturating_sub(clock);
+            spent += lowest(stretch).saturating_sub(clock);
         }
     }
     if counted == 0 {
@@ -152,16 +205,25 @@ fn main() -> io::Result<()> {
         std::process::exit(2);
     };
     let clock = time_clock();
-    let (mut whole, mut sum) = (Duration::MAX, 0);
+    let (mut whole, mut sum, mut in_bursts) = (Duration::MAX, 0, 0);
     for _ in 0..repeats {
         sum = time_stretches(&plan, &mut stretches);
+        in_bursts = time_in_bursts(&plan, &mut stretches);
         whole = whole.min(time_file(&plan, &stretches));
     }
     let (slots, frames, flows) = (plan.slots, plan.frames, plan.entries.len());
     println!("F = {slots}, W = {frames}, n = {flows}, lowest of {repeats}");
-    report("request", Kind::Request, &stretches, clock);
-    report("credit", Kind::Credit, &stretches, clock);
-    report("tick", Kind::Tick, &stretches, clock);
+    let singly = |stretch: &Stretch| stretch.lowest;
+    report("request", Kind::Request, &stretches, singly, clock);
+    report(
+        "burst",
+        Kind::Request,
+        &stretches,
+        |s| s.lowest_in_bursts,
+        clock,
+    );
+    report("credit", Kind::Credit, &stretches, singly, clock);
+    report("tick", Kind::Tick, &stretches, singly, clock);
     let calls: usize = stretches.iter().map(|stretch| stretch.calls.len()).sum();
     let each = whole.as_nanos() as f64 / calls.max(1) as f64;
     println!(
@@ -169,5 +231,6 @@ fn main() -> io::Result<()> {
         "any"
     );
     println!("answers {sum}");
+    println!("in bursts {in_bursts}");
     Ok(())
 }

@@ -11,6 +11,12 @@ import struct
 
 from demand3.history import History, Verdict
 
+# A burst, which counts as the requests of its first 16 words: its kind, the
+# most of its words, how many are handled, and the lines of its records.
+BURST, MOST_WORDS, HANDLED = 6, 20, 16
+FILLED = re.compile(r"B (?:0 (\d+)|([1-9]\d*) 0)\Z")
+UNTOUCHED = "B 255 255"
+
 # A program's kinds of records: for each the bytes that have to be 0, the lines
 # that can answer it, and what they tell.
 DOMELINK = {
@@ -22,6 +28,7 @@ ALLCALLS = {
     **DOMELINK,
     4: ((3, 4), re.compile(r"(L|R) (\d+)\Z"), History.lend),
     5: ((1, 2, 3, 4), re.compile(r"(Z)()\Z|(R) (\d+)\Z"), History.reset),
+    BURST: None,
 }
 REFUSED = re.compile(r"R (\d+)\Z")
 
@@ -34,8 +41,7 @@ def is_call(record, kinds):
 
 def take_line(history, record, text, kinds):
     if not is_call(record, kinds):
-        if not REFUSED.match(text):
-            history.fault("no call, yet answered %r" % text)
+        take_no_call(history, record, text, kinds)
         return
     _, lines, tell = kinds[record[0]]
     found = lines.match(text)
@@ -44,6 +50,49 @@ def take_line(history, record, text, kinds):
         return
     letter, number = [word for word in found.groups() if word is not None]
     tell(history, record, letter, number)
+
+
+def take_no_call(history, record, text, kinds):
+    if not REFUSED.match(text):
+        history.fault("no call, yet answered %r" % text)
+
+
+def take_handled(history, word, text, kinds):
+    """A burst's record that is handled, as the request of its word."""
+    found = FILLED.match(text)
+    if not found:
+        history.fault("a burst's record answered %r" % text)
+        return
+    position, number = found.groups()
+    letter = "R" if position is None else "G"
+    History.request(history, b"\x01" + word, letter, position or number)
+
+
+def take_untouched(history, word, text, kinds):
+    if text != UNTOUCHED:
+        history.fault("a burst's record past %d answered %r"
+                      % (HANDLED, text))
+
+
+def in_lines(rest, kinds):
+    """For each line of the listing the bytes that it answers, and how it is
+    taken."""
+    start = 0
+    while start < len(rest):
+        record = rest[start:start + 5]
+        start += 5
+        if record[0] != BURST or BURST not in kinds:
+            yield record, take_line
+        elif len(record) < 5 or record[1] > MOST_WORDS or any(record[2:]):
+            yield record, take_no_call
+        elif len(rest) < start + 4 * record[1]:
+            yield rest[start:], take_no_call
+            return
+        else:
+            for place in range(record[1]):
+                yield (rest[start:start + 4],
+                       take_handled if place < HANDLED else take_untouched)
+                start += 4
 
 
 def countable(data):
@@ -69,11 +118,11 @@ def check(data, lines, kinds=DOMELINK):
         return verdict
     history = History(data, verdict)
     rest = data[struct.unpack_from("<H", data)[0]:]
-    records = [rest[i:i + 5] for i in range(0, len(rest), 5)]
+    records = list(in_lines(rest, kinds))
     if len(lines) != len(records) + 1:
-        verdict.faults.append("%d records, but %d lines after the plan's"
+        verdict.faults.append("%d lines are due, and %d are after the plan's"
                               % (len(records), len(lines) - 1))
-    for record, text in zip(records, lines[1:]):
+    for (record, take), text in zip(records, lines[1:]):
         history.place += 1
-        take_line(history, record, text, kinds)
+        take(history, record, text, kinds)
     return verdict

@@ -12,7 +12,7 @@ from driver.formats import ALLCALLS
 from driver.side_by_side import done
 from driver.suite import Suite
 from driver.tally import (
-    DepartureTally, LendTally, QuestionTally, ResetTally, Tally)
+    BurstTally, DepartureTally, LendTally, QuestionTally, ResetTally, Tally)
 from edges import questions, refusals_page
 from edges.all_edges import ALLCALLS_EDGES, EDGES
 from front_door import (
@@ -136,6 +136,18 @@ def play_resets(suites, only, count, seed):
     return tally
 
 
+def play_bursts(suites, only, count, seed):
+    """Files with bursts.  The tally of the generated ones."""
+    tally = BurstTally()
+    play_cases(suites, cases.bursts_in_pieces(seed), only)
+    play_cases(suites, cases.bursts(count, seed), only, tally)
+    for suite in suites:
+        if not only:
+            suite.test("bursts of every length, and every answer in them",
+                       tally.trouble())
+    return tally
+
+
 def play_programs(suites, only, count, seed):
     """Each file through each program that reads it, and the totals if nothing
     is left out.  The tallies."""
@@ -144,7 +156,8 @@ def play_programs(suites, only, count, seed):
                play_departures(suites, only, count, seed)]
     if others:
         tallies += [play_lends(others, only, count, seed),
-                    play_resets(others, only, count, seed)]
+                    play_resets(others, only, count, seed),
+                    play_bursts(others, only, count, seed)]
     for suite in suites:
         if not only:
             suite.totals()

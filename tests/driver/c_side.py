@@ -13,7 +13,8 @@ from driver.formats import ALLCALLS
 from driver.image_suite import ImageSuite
 from driver.plain_rust import trouble
 from driver.suite import Suite, first_difference
-from edges.all_edges import EDGES, LEND_EDGES
+from edges import bursts, lends, resets
+from edges.all_edges import EDGES
 from front_door import c_player
 from images import export_tests
 
@@ -28,7 +29,7 @@ CHECKED = ["-g", "-fsanitize=address,undefined", "-fno-sanitize-recover=all"]
 VALGRIND = ["valgrind", "-q", "--error-exitcode=9", "--leak-check=full"]
 IMAGES_EACH = 10            # images by chance for each seed
 WATCHED_IMAGES = 100        # of them under a tool that watches
-WATCHED_FILES = 4           # edges, through the player
+WATCHED_FILES = 3           # edges of each sort, through the player
 
 
 def found(*names):
@@ -106,9 +107,10 @@ def plays(command):
 
 def some_edges():
     """Edges here and there, none of which leaves a choice open."""
-    edges = [edge for edge in EDGES + LEND_EDGES
-             if edge.name != "lend: both flows can take it"]
-    return edges[::len(edges) // WATCHED_FILES]
+    for edges in (EDGES, lends.EDGES, resets.EDGES, bursts.EDGES):
+        closed = [edge for edge in edges
+                  if edge.name != "lend: both flows can take it"]
+        yield from closed[::len(closed) // WATCHED_FILES]
 
 
 class Watcher:

@@ -2,15 +2,15 @@
 edges, the inputs of docs/REFUSALS.md, files in pieces, and generated files.
 
 Each function yields names, and with each name how the case is made.  Those
-with lends or resets are for programs that read allcalls' records, the others
-for all.
+with lends, resets or bursts are for programs that read allcalls' records, the
+others for all.
 """
 
 from demand3.check import check
 from driver.formats import ALLCALLS, DOMELINK, has_other_calls
 from edges import refusals_page
 from edges.all_edges import ALLCALLS_EDGES, EDGES
-from generator import departure_seeds, lend_seeds, reset_seeds
+from generator import burst_seeds, departure_seeds, lend_seeds, reset_seeds
 from generator.seeds import generate, kind_of
 from simulator.image import image_of
 from simulator.listing import steps
@@ -21,7 +21,8 @@ IN_PIECES = ("the listing of document 01", "a last record of 3 bytes",
 OTHERS_IN_PIECES = ("lend: 17 at a lent and at a booked slot",
                     "lend: a last record of 4 bytes",
                     "reset: the mark of a booked slot",
-                    "reset: a last record of 4 bytes")
+                    "reset: a last record of 4 bytes",
+                    "burst: on after a refusal", "burst: all but a byte")
 FEW = 4000                      # bytes of a file that is fed in pieces
 
 
@@ -51,11 +52,11 @@ class Case:
         self.known = {form: self.own}
 
     def right(self, form):
-        """The right listing.  A file with neither lends nor resets has one,
-        whatever the program."""
+        """The right listing.  A file with none of allcalls' own calls has one
+        listing, whatever the program."""
         if form not in self.known:
             self.known[form] = (
-                Right(self.data, simulate(self.data, form.kinds), form)
+                Right(self.data, simulated(self.data, form), form)
                 if has_other_calls(self.data) else self.own)
         return self.known[form]
 
@@ -138,7 +139,7 @@ def departures(count, seed):
                lambda number=number: from_departure_seed(number))
 
 
-# ---- files with lends and resets
+# ---- files with lends, resets and bursts
 
 def allcalls_edges():
     for edge in ALLCALLS_EDGES:
@@ -166,10 +167,27 @@ def lends(count, seed):
 
 def from_reset_seed(seed):
     data = reset_seeds.generate(seed)
-    return Case(data, simulate(data, ALLCALLS.kinds), form=ALLCALLS)
+    return Case(data, simulated(data, ALLCALLS), form=ALLCALLS)
 
 
 def resets(count, seed):
     for number in range(seed, seed + count):
         yield ("resets, seed %d (%s)" % (number, reset_seeds.kind_of(number)),
                lambda number=number: from_reset_seed(number))
+
+
+def bursts_in_pieces(seed):
+    for size, number in zip(PIECES, burst_seeds.small(seed, FEW)):
+        yield ("bursts, seed %d in pieces of %d" % (number, size),
+               lambda number=number, size=size: from_burst_seed(number, size))
+
+
+def from_burst_seed(seed, size=None):
+    data = burst_seeds.generate(seed)
+    return Case(data, simulated(data, ALLCALLS), size, form=ALLCALLS)
+
+
+def bursts(count, seed):
+    for number in range(seed, seed + count):
+        yield ("bursts, seed %d (%s)" % (number, burst_seeds.kind_of(number)),
+               lambda number=number: from_burst_seed(number))

@@ -1,4 +1,4 @@
-"""How programs read call records: domelink's three kinds, and allcalls' two
+"""How programs read call records: domelink's three kinds, and allcalls' three
 more."""
 
 from demand3 import check
@@ -27,7 +27,7 @@ def has_other_calls(data):
     """Whether some record of a call file is a call for allcalls alone."""
     rest = data[int.from_bytes(data[:2], "little"):]
     return any(
-        rest[start] not in records.DOMELINK
-        and records.read_record(rest[start:start + records.SIZE],
-                                records.ALLCALLS)
-        for start in range(0, len(rest), records.SIZE))
+        record[0] not in records.DOMELINK
+        and (records.begins_burst(record)
+             or records.read_record(record, records.ALLCALLS))
+        for record in records.split(rest, records.ALLCALLS))

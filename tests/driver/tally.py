@@ -6,8 +6,11 @@ from demand3 import turns
 from demand3.departure_ways import PLACES
 from demand3.lend_ways import BITS, LENT, NO_FLOW, TAKEN
 from demand3.reset_ways import GRANTED, REFUSED
-from generator import departure_seeds
+from generator import burst_seeds, departure_seeds
+from simulator.records import ALLCALLS, read_record, split
 
+# What can stand in a burst's record as its result.
+BURST_RESULTS = ("0", "8", "9", "10", "11", "12", "20", "255")
 OFTEN = 3               # times 20 has to come up for each file with departures
 
 
@@ -115,6 +118,47 @@ class LendTally(WaysTally):
 class ResetTally(WaysTally):
     sort = "resets"
     parts = ("granted", GRANTED), ("refused with 23", REFUSED)
+
+
+class BurstTally(Tally):
+    """Also how long the bursts were, what stood in their records, and how many
+    resets were granted between them."""
+
+    def __init__(self):
+        super().__init__()
+        self.lengths = Counter()
+        self.results = Counter()
+        self.resets = 0
+
+    def add(self, case):
+        super().add(case)
+        data = case.data
+        rest = data[int.from_bytes(data[:2], "little"):]
+        for record in split(rest, ALLCALLS):
+            call = read_record(record, ALLCALLS)
+            if call and call[0] == "burst":
+                self.lengths[len(call[1])] += 1
+        self.results.update(line.split()[1] for line in case.own.lines
+                            if line[0] == "B")
+        self.resets += case.own.lines.count("Z")
+
+    def trouble(self):
+        """What never came up, once each kind of file was there."""
+        if self.files < 10 * len(burst_seeds.ORDER):
+            return None
+        missing = [length for length in range(21) if not self.lengths[length]]
+        never = [result for result in BURST_RESULTS
+                 if not self.results[result]]
+        return (missing and "no burst of %s" % missing
+                or never and "no result %s" % ", ".join(never)
+                or not self.resets and "no reset granted")
+
+    def text(self):
+        return "%s\n%d bursts in them, with %d records: %s; %d resets" % (
+            super().text(), sum(self.lengths.values()),
+            sum(self.results.values()),
+            ", ".join("%s %d" % (result, self.results[result])
+                      for result in BURST_RESULTS), self.resets)
 
 
 class QuestionTally:

@@ -236,10 +236,10 @@ RECORDS = [
          (bytes([4, 0, 2, 0, 0]), "L 9"), (TICK, "T -"),
          (bytes([4, 0, 2, 0, 0]), "R 18"), (bytes([4, 2, 0, 0, 0]), "L 1")),
 
-    # Of the kinds that domelink has not, allcalls has two.
+    # Of the kinds that domelink has not, allcalls has three.
     edge("lend: other kinds", BASE,
          (bytes([0, 1, 0, 0, 0]), "R 16"), (bytes([5, 1, 0, 0, 0]), "R 16"),
-         (bytes([6, 0, 0, 0, 0]), "R 16"), (bytes([68, 1, 0, 0, 0]), "R 16"),
+         (bytes([7, 0, 0, 0, 0]), "R 16"), (bytes([68, 1, 0, 0, 0]), "R 16"),
          (bytes([132, 1, 0, 0, 0]), "R 16"), (bytes([255] * 5), "R 16"),
          (lend(1), "L 0")),
 

@@ -46,6 +46,10 @@ TESTS_RUN = [
     (["--resets", "--allcalls", "--write", "1", MISSING],
      "--resets goes with"),
     (["--resets", "--write", "-1", MISSING], "a seed has to be"),
+    (["--bursts"], "--bursts goes with"),
+    (["--bursts", "--allcalls", "--write", "1", MISSING],
+     "--bursts goes with"),
+    (["--bursts", "--resets", "--write", "1", MISSING], "goes with --write"),
 ]
 BENCH_RUN = [
     (["0"], "ROUNDS"),

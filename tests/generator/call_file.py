@@ -5,10 +5,13 @@ ask until refused, give back a cell that was really taken, and so on.
 """
 
 import call_bytes
+from simulator.burst import burst
 from simulator.calls import answer
 from simulator.link import Link
 from simulator.plan import read_plan
 from simulator.records import DOMELINK, read_record
+
+NO_WORDS = "burst", []
 
 
 class CallFile:
@@ -34,9 +37,13 @@ class CallFile:
         return len(self.written) - 1
 
     def record(self, record):
-        """Writes a record and plays it: the letter and number of its line."""
+        """Writes a record and plays it: the letter and number of its line,
+        which a burst without words has not."""
         self.written.append(record)
-        letter, number = answer(self.link, read_record(record, self.kinds))
+        call = read_record(record, self.kinds)
+        if call == NO_WORDS:
+            return None, None
+        letter, number = answer(self.link, call)
         if letter == "G":
             flow = int.from_bytes(record[1:5], "little") >> 20 & 63
             self.grants[flow].append(self.link.slot_of(number))
@@ -77,6 +84,22 @@ class CallFile:
     def reset(self):
         """Whether it was granted."""
         return self.record(call_bytes.RESET)[0] == "Z"
+
+    def word(self, flow, ahead=0, departure=None):
+        """A well-formed word, `ahead` quanta after the flow's next."""
+        if departure is None:
+            departure = self.link.ticks % self.slots
+        return call_bytes.word(self.plan.destination(flow), flow,
+                               (self.quantum[flow] + ahead) % 1024, departure)
+
+    def burst(self, words):
+        """A burst of any words."""
+        self.written.append(call_bytes.burst(words))
+        for word, (result, position) in zip(words, burst(self.link, words)):
+            if result == 0:
+                flow = word >> 20 & 63
+                self.quantum[flow] = (self.quantum[flow] + 1) % 1024
+                self.grants[flow].append(self.link.slot_of(position))
 
     # ---- where things stand
 

@@ -3,27 +3,39 @@ after each call, or at the end.
 """
 
 from images.host import Script, run
-from images.results import line_of
+from images.results import line_of, record_line
 from simulator.image import image_of
 from simulator.listing import split_file, steps
-from simulator.records import ALLCALLS, SIZE, read_record
+from simulator.records import ALLCALLS, read_record, split
 
 OLD = b"\xee"                           # in the buffer before fresh
 PAST = b"\xc3\x5a\x00"                  # after the image
 LONGEST = 8860
+HANDLED = 16                            # records of a burst
 
 
 def calls_of(rest):
-    """The calls of records, None for a record that makes none."""
-    return [read_record(rest[start:start + SIZE], ALLCALLS)
-            for start in range(0, len(rest), SIZE)]
+    """What each line of a listing answers: a call, or None where none is made,
+    and how its line is got from the call and its result.  A burst is made as
+    single requests."""
+    for record in split(rest, ALLCALLS):
+        call = read_record(record, ALLCALLS)
+        if not call:
+            yield None, "R 16"
+        elif call[0] != "burst":
+            yield call, line_of
+        else:
+            for word in call[1][:HANDLED]:
+                yield ("request", word), record_line
+            for _ in call[1][HANDLED:]:
+                yield None, "B 255 255"
 
 
 def script_of(plan, calls, length, each):
     script = Script()
     script.buffer(OLD * length + PAST)
     script.fresh(plan)
-    for call in calls:
+    for call, _ in calls:
         if each:
             script.get()
         if call:
@@ -44,11 +56,11 @@ class Played:
 def play(command, data, length, each=False):
     """Through a buffer of an image's length, and some bytes more.  The buffers
     are those after fresh and each call, or at the end alone."""
-    split = split_file(data)
-    if split is None:
+    parts = split_file(data)
+    if parts is None:
         return Played(["P 1"])
-    calls = calls_of(split[1])
-    answers, wrong = run(command, script_of(split[0], calls, length, each))
+    calls = list(calls_of(parts[1]))
+    answers, wrong = run(command, script_of(parts[0], calls, length, each))
     if wrong:
         return Played(wrong=wrong)
     buffers = [answer for answer in answers if isinstance(answer, bytes)]
@@ -56,8 +68,8 @@ def play(command, data, length, each=False):
     if made:
         return Played(["P %d" % (made >> 32)], buffers[:1])
     results = iter(results)
-    return Played(["P 0"] + [line_of(call, next(results)) if call else "R 16"
-                             for call in calls], buffers)
+    return Played(["P 0"] + [line(call, next(results)) if call else line
+                             for call, line in calls], buffers)
 
 
 def buffer_of(image, length):

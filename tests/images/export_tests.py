@@ -7,7 +7,7 @@ from functools import partial
 
 from edges import refusals_page
 from generator.dice import Dice
-from images import by_hand, fresh_calls
+from images import by_hand, fresh_calls, random_resets, resets_by_hand
 from images.call_files import buffer_of, play
 from images.on_images import Trial, troubles
 from images.random_calls import some_call
@@ -22,7 +22,7 @@ CALLS = [
     ("request", WORD), ("request", WORD | 7), ("request", WORD | 1 << 20),
     ("credit", 0, 6), ("credit", 1, 1), ("tick",), ("lend", 1), ("lend", 3),
     ("request", 0xFFFFFFFF), ("request", 0), ("credit", 99, 99),
-    ("lend", 0xFFFF), ("lend", 0),
+    ("lend", 0xFFFF), ("lend", 0), ("reset",),
 ]
 
 # Numbers that have good ones in their low bytes.
@@ -65,6 +65,10 @@ def images_by_hand():
         yield "21, " + name, image
     for name, image in by_hand.LONG_ENOUGH:
         yield "22, " + name, image
+    for name, image, refusal, left in resets_by_hand.RESETS:
+        yield "to be reset, " + name, image
+        if left != image:
+            yield "after a reset, " + name, left
 
 
 def every_call(command, name, image):
@@ -78,8 +82,14 @@ def random_trial(seed):
     return Trial("image %d" % seed, image, some_call(dice, image))
 
 
-def by_chance(command, seeds):
-    return first(troubles(command, [random_trial(seed) for seed in seeds]))
+def random_reset(seed):
+    """Of an image that is quiet, or nearly so."""
+    return Trial("image %d" % seed, random_resets.some_image(Dice(seed)),
+                 ("reset",))
+
+
+def by_chance(command, trial, seeds):
+    return first(troubles(command, [trial(seed) for seed in seeds]))
 
 
 def all_trials(command, count):
@@ -87,8 +97,9 @@ def all_trials(command, count):
     chance."""
     trials = [Trial(name, image, call) for name, image in images_by_hand()
               for call in CALLS]
-    return first(troubles(command, trials + [random_trial(seed)
-                                             for seed in range(count)]))
+    trials += [trial(seed) for trial in (random_trial, random_reset)
+               for seed in range(count)]
+    return first(troubles(command, trials))
 
 
 # ---- all of them
@@ -98,7 +109,7 @@ def tests(command, count, seed):
     for number, image, last in refusals_page.examples("image"):
         yield ("docs: refusal %d of an image" % number,
                partial(on_page, command, number, image, last))
-    for edge, image in by_hand.AFTER_CALLS:
+    for edge, image in by_hand.AFTER_CALLS + resets_by_hand.AFTER_CALLS:
         yield edge.name, partial(after_calls, command, edge, image)
     for name, image in images_by_hand():
         yield ("image: calls on one, " + name,
@@ -107,4 +118,6 @@ def tests(command, count, seed):
     for start in range(seed, seed + count, BATCH):
         seeds = range(start, min(start + BATCH, seed + count))
         yield ("image: calls on images by chance, from %d on" % start,
-               partial(by_chance, command, seeds))
+               partial(by_chance, command, random_trial, seeds))
+        yield ("image: resets of images by chance, from %d on" % start,
+               partial(by_chance, command, random_reset, seeds))

@@ -10,6 +10,7 @@
  *   c  flow (8), position (8)      credit
  *   t                              tick
  *   l  mask (2)                    lend
+ *   z                              reset
  *   g                              writes the length (4) and the bytes of the buffer
  *
  * Each call's result is written as 8 bytes. On both sides of a buffer and of a
@@ -125,6 +126,8 @@ static uint64_t call(int letter)
         return nazgolv_tick(buffer.start, buffer.length);
     case 'l':
         return nazgolv_lend(buffer.start, buffer.length, (uint16_t)number(2));
+    case 'z':
+        return nazgolv_reset(buffer.start, buffer.length);
     }
     stop("an unknown command");
     return 0;

@@ -10,6 +10,7 @@ CALLS = {
     "credit": lambda flow, position: b"c" + struct.pack("<QQ", flow, position),
     "tick": lambda: b"t",
     "lend": lambda mask: b"l" + struct.pack("<H", mask),
+    "reset": lambda: b"z",
 }
 RESULT, BUFFER = "result", "buffer"
 

@@ -62,8 +62,12 @@ def some_lend(dice, about):
                               dice.below(65536)])
 
 
+def some_reset(dice, about):
+    return ("reset",)
+
+
 KINDS = (some_request, some_request, some_request, some_credit, some_credit,
-         some_tick, some_lend)
+         some_tick, some_lend, some_reset)
 
 
 def some_call(dice, image):

@@ -17,6 +17,7 @@ def number_of(call, letter, number):
 
 
 LETTERS = {"request": "G", "tick": "T", "lend": "L"}
+ALONE = {"credit": "C", "reset": "Z"}       # letters without a number
 
 
 def line_of(call, result):
@@ -24,12 +25,18 @@ def line_of(call, result):
     if result >= POWER:
         return "R %d" % (result // POWER)
     name = call[0]
-    if name == "credit":
-        return "C" if result == 0 else "C with %d" % result
+    if name in ALONE:
+        return ALONE[name] + (" with %d" % result if result else "")
     if name == "tick" and result == IDLE:
         return "T -"
     return "%s %d" % (LETTERS[name],
                       result & 1023 if name == "request" else result)
+
+
+def record_line(call, result):
+    """The line of a request's result in a burst."""
+    return "B %d %d" % (result // POWER, 0 if result >= POWER
+                        else result & 1023)
 
 
 def said(result):

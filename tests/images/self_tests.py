@@ -6,13 +6,15 @@ None.
 from collections import Counter
 from functools import partial
 
-from generator import departure_seeds, lend_seeds
+from generator import departure_seeds, lend_seeds, reset_seeds
 from generator.dice import Dice
-from images import by_hand, fresh_calls
+from images import by_hand, fresh_calls, random_resets, resets_by_hand
 from images.acceptance import broken, refusal_of
 from images.call_files import images_after
+from images.on_images import Trial
 from images.random_calls import some_call
 from images.random_images import any_image, taken_image
+from images.results import POWER
 from simulator.calls import answer
 from simulator.image import image_of, link_of
 from simulator.listing import steps
@@ -23,6 +25,7 @@ FILES = 6               # of each family, looked at after each call
 FEW = 1500              # bytes of each
 TAKEN_IMAGES = 60       # by chance, with calls on each
 IMAGES = 600            # by chance, of which most are not taken
+QUIET_IMAGES = 300      # by chance, and nearly quiet ones
 
 
 def after_calls(edge, image):
@@ -90,8 +93,32 @@ def each_broken():
     return missing and "never: %r" % missing
 
 
+def reset(image, refusal, left):
+    """The result and the bytes are those worked out by hand, and what was
+    reset is taken, as it was before."""
+    found = Trial("", image, ("reset",)).right(0)
+    return (taken(image) or taken(left)
+            or found[0] != refusal * POWER and "it gives %d" % found[0]
+            or found[1] != left and "it leaves %s" % found[1].hex())
+
+
+def each_reset():
+    """Quiet images by chance and nearly quiet ones are taken, also after a
+    reset, and resets of them meet everything."""
+    found = set()
+    for seed in range(QUIET_IMAGES):
+        image = random_resets.some_image(Dice(seed))
+        link = link_of(image)
+        found |= random_resets.ways(image, answer(link, ("reset",))[0])
+        wrong = taken(image) or taken(image_of(link))
+        if wrong:
+            return "image %d: %s" % (seed, wrong)
+    missing = [way for way in random_resets.WAYS if way not in found]
+    return missing and "never: %r" % missing
+
+
 def tests():
-    for edge, image in by_hand.AFTER_CALLS:
+    for edge, image in by_hand.AFTER_CALLS + resets_by_hand.AFTER_CALLS:
         yield edge.name, partial(after_calls, edge, image)
     for name, image in by_hand.TAKEN:
         yield "image: taken, " + name, partial(taken, image)
@@ -102,11 +129,14 @@ def tests():
         for name, image in images:
             yield ("image: %d, %s" % (number, name),
                    partial(refused, number, image))
+    for name, *given in resets_by_hand.RESETS:
+        yield "image: reset, " + name, partial(reset, *given)
     yield from fresh_calls.self_tests()
-    for family in (lend_seeds, departure_seeds):
+    for family in (lend_seeds, departure_seeds, reset_seeds):
         for seed in range(FILES):
             yield ("image: taken after each call, %s %d" % (
                        family.__name__.split(".")[-1], seed),
                    partial(reached, family, seed))
     yield "image: calls leave taken images taken", all_kept
     yield "image: each condition is broken by chance, it alone", each_broken
+    yield "image: resets of images by chance meet everything", each_reset

@@ -17,6 +17,7 @@ SAME(all_ones, NAZGOLV_WORD(63, 63, 1023, 1023), 0xFFFFFFFF);
 SAME(position, NAZGOLV_POSITION(0x24100803), 3);
 SAME(no_refusal, NAZGOLV_REFUSAL((uint64_t)0xFFFFFFFF), 0);
 SAME(refusal, NAZGOLV_REFUSAL((uint64_t)NAZGOLV_REFUSED_IMAGE << 32), 22);
+SAME(not_quiet, NAZGOLV_REFUSED_NOT_QUIET, 23);
 SAME(value, NAZGOLV_VALUE((uint64_t)0x24100803), 0x24100803);
 
 /* Its functions have these types. */
@@ -28,5 +29,6 @@ uint64_t uses(const uint8_t *plan, uint8_t *image)
         + nazgolv_request(image, length, (uint32_t)0)
         + nazgolv_credit(image, length, (size_t)0, (size_t)0)
         + nazgolv_tick(image, length)
-        + nazgolv_lend(image, length, (uint16_t)0);
+        + nazgolv_lend(image, length, (uint16_t)0)
+        + nazgolv_reset(image, length);
 }

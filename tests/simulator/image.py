@@ -59,7 +59,7 @@ def image_of(link):
     plan_at, positions_at, flows_at, total = places
     header = [total, plan_at, positions_at, link.plan.slots,
               flows_at, link.plan.flows, link.ticks % link.plan.slots,
-              int(link.ticks == link.lent)]
+              int(link.ticks == link.marked)]
     return fields(header) + b"".join(parts)
 
 
@@ -91,7 +91,7 @@ def link_of(image):
         image[:HEADER])
     link = Link(read_plan(image[plan_at:positions_at])[1])
     link.ticks = now
-    link.lent = now if taken else None
+    link.marked = now if taken else None
     booked = numbers(image[positions_at:flows_at])
     link.owner = {slot: booked[slot % link.plan.slots]
                   for slot in window(link)

@@ -1,15 +1,26 @@
 """The listing of a call file: its bytes in, its lines out."""
 
+from simulator.burst import burst
 from simulator.calls import answer
 from simulator.link import Link
 from simulator.plan import read_plan
-from simulator.records import DOMELINK, SIZE, read_record
+from simulator.records import DOMELINK, read_record, split
 
 SHORTEST, LONGEST = 12, 76      # stated lengths of a plan that are looked at
 
 
 def line(letter, number):
     return letter if number is None else "%s %s" % (letter, number)
+
+
+def lines_of(link, call):
+    """The lines of a call, each as the link comes to it: one, but for a burst,
+    which has one a record."""
+    if call and call[0] == "burst":
+        for pair in burst(link, *call[1:]):
+            yield "B %d %d" % pair
+    else:
+        yield line(*answer(link, call))
 
 
 def split_file(data):
@@ -25,16 +36,15 @@ def split_file(data):
 def steps(data, kinds=DOMELINK):
     """Each line of the listing of a call file, and the link after it, or None
     where there is none; `kinds` is a program's table of records."""
-    split = split_file(data)
-    refusal, plan = read_plan(split[0]) if split else (1, None)
+    parts = split_file(data)
+    refusal, plan = read_plan(parts[0]) if parts else (1, None)
     link = None if refusal else Link(plan)
     yield line("P", refusal), link
     if refusal:
         return
-    rest = split[1]
-    for start in range(0, len(rest), SIZE):
-        call = read_record(rest[start:start + SIZE], kinds)
-        yield line(*answer(link, call)), link
+    for record in split(parts[1], kinds):
+        for text in lines_of(link, read_record(record, kinds)):
+            yield text, link
 
 
 def simulate(data, kinds=DOMELINK):

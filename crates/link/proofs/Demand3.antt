@@ -15,6 +15,9 @@ use Rattle.model.specs.Calls.{Call, Grant, Receipt, Turn, Loan, Renewal, Event,
 use Rattle.model.specs.Claim.{Demand3}
 use Rattle.model.specs.Card.{Played, paper, step, play, started, run}
 use Rattle.model.specs.Fairness.{FairOn}
+use Rattle.model.specs.CountedBursts.{several, countsAs, eventsIn}
+use Rattle.model.proofs.AfterCalls.{Known, after-calls, after-fresh}
+use Rattle.model.proofs.CountedBursts.{play-both, burst-played}
 use Rattle.model.proofs.Demand3.{meets-accepted}
 use Rattle.model.proofs.Fairness.{fair-accepted}
 use Rattle.link.specs.declared.Link.{Link}
@@ -75,24 +78,40 @@ module _ {P : model.Plan} {h : History} {l : Link} (made : RunOf P h l) where
     played = play-more (started paper P) (made .calls) c ∙ ap (λ r. step paper r c) (made .played) ∙ e;
   }
 
-run-of : {p : Plan} {h : History} {l : Link} → Handed p h l → RunOf (planFor p) h l
+  -- several more
+  several-more : (cs : List Call) (next : History) (k : Link)
+      → play paper (record { state = linkOf l; history = h }) cs ≡ record { state = linkOf k; history = next } → RunOf P next k
+  several-more cs next k e = record {
+    calls = made .calls ++ cs;
+    played = play-both (started paper P) (made .calls) cs ∙ ap (λ r. play paper r cs) (made .played) ∙ e;
+  }
+
+  known-of : model.Accepted P → Known P (record { state = linkOf l; history = h })
+  known-of ok = subst (Known P) (made .played) (after-calls (started paper P) (made .calls) (after-fresh ok))
+
+run-of : {p : Plan} → model.Accepted (planFor p) → {h : History} {l : Link} → Handed p h l → RunOf (planFor p) h l
 unfolding play
-run-of (Handed.by-fresh is) = record { calls = []; played = λ k. record { state = sym (is .0) k; history = [] } }
-run-of (Handed.by-request {h} {l} g w r a s e) =
+run-of ok (Handed.by-fresh is) = record { calls = []; played = λ k. record { state = sym (is .0) k; history = [] } }
+run-of ok (Handed.by-request {h} {l} g w r a s e) =
     let same = one-grant _ a (sym (s .answer-is) ∙ e) in
-    one-more (run-of g) (Call.request w) _ (r .link) (λ k. record { state = sym (s .link-is) k; history = requested w (same k) ∷ h })
-run-of (Handed.by-credit {h} {l} g i q r a s e) =
+    one-more (run-of ok g) (Call.request w) _ (r .link) (λ k. record { state = sym (s .link-is) k; history = requested w (same k) ∷ h })
+run-of ok (Handed.by-credit {h} {l} g i q r a s e) =
     let same = one-receipt _ a (sym (s .answer-is) ∙ e) in
-    one-more (run-of g) (Call.credit i q) _ (r .link) (λ k. record { state = sym (s .link-is) k; history = credited i q (same k) ∷ h })
-run-of (Handed.by-tick {h} {l} g r a s e) =
+    one-more (run-of ok g) (Call.credit i q) _ (r .link) (λ k. record { state = sym (s .link-is) k; history = credited i q (same k) ∷ h })
+run-of ok (Handed.by-tick {h} {l} g r a s e) =
     let same = one-turn _ a (sym (s .answer-is) ∙ e) in
-    one-more (run-of g) Call.tick _ (r .link) (λ k. record { state = sym (s .link-is) k; history = ticked (same k) ∷ h })
-run-of (Handed.by-lend {h} {l} g mask r a s e) =
+    one-more (run-of ok g) Call.tick _ (r .link) (λ k. record { state = sym (s .link-is) k; history = ticked (same k) ∷ h })
+run-of ok (Handed.by-lend {h} {l} g mask r a s e) =
     let same = one-loan _ a (sym (s .answer-is) ∙ e) in
-    one-more (run-of g) (Call.lend mask) _ (r .link) (λ k. record { state = sym (s .link-is) k; history = lent mask (same k) ∷ h })
-run-of (Handed.by-reset {h} {l} g r a s e) =
+    one-more (run-of ok g) (Call.lend mask) _ (r .link) (λ k. record { state = sym (s .link-is) k; history = lent mask (same k) ∷ h })
+run-of ok (Handed.by-reset {h} {l} g r a s e) =
     let same = one-renewal _ a (sym (s .answer-is) ∙ e) in
-    one-more (run-of g) Call.reset _ (r .link) (λ k. record { state = sym (s .link-is) k; history = Event.reset (same k) ∷ h })
+    one-more (run-of ok g) Call.reset _ (r .link) (λ k. record { state = sym (s .link-is) k; history = Event.reset (same k) ∷ h })
+run-of ok (Handed.by-burst {h} {l} g xs ys r b) =
+    let made = run-of ok g in
+    several-more made (countsAs (several xs)) _ r
+    (sym (burst-played (record { state = linkOf l; history = h }) (known-of made ok) xs)
+    ∙ λ k. record { state = sym (b .link-is) k; history = eventsIn (sym (b .records-are) k) ++ h })
 
 -- ---- what holds of every run of the paper's card holds of the code
 
@@ -108,7 +127,7 @@ accepted-passes (suc r) e = cc
 module _ (Q : model.Plan → History → Type 0) (runs : (P : model.Plan) → model.Accepted P → (calls : List Call) → Q P (run paper P calls .history)) where
   handed-has : (p : Plan) → Valid p → {h : History} {l : Link} → Handed p h l → Q (planFor p) h
   handed-has p valid g =
-      let made = run-of g in
+      let made = run-of (valid .accepted) g in
       subst (λ (r : Played paper). Q (planFor p) (r .history)) (made .played) (runs (planFor p) (valid .accepted) (made .calls))
 
   code-has : (bytes : List ℕ) (o : Outcome) → o ≡ readOf bytes → (o .verdict ≡ Accepted → Valid (o .plan)) → o .verdict ≡ Accepted

@@ -13,6 +13,7 @@ mod Searches
 pub mod Given
 mod Replies
 pub mod Requests
+pub mod GrantedPositions
 pub mod Credits
 pub mod Lends
 mod Resets

@@ -1,7 +1,7 @@
 -- What the contracts of the code say of a list of calls, each on the link that the call before handed back. Document 01, "What demand 3 counts". Assumes nothing.
 use Prim.Native.Nat.{ℕ}
 use mathlib.Core.Path.{_≡_}
-use mathlib.Core.List.{_∷_, []}
+use mathlib.Core.List.{List, _∷_, [], _++_}
 use Rattle.plan.specs.declared.Plan.{Plan}
 use Rattle.plan.specs.Reading.{planFor}
 use Rattle.calls.specs.Reading.{answerToRequest, answerToCredit, answerToTick, answerToLend, answerToReset}
@@ -12,11 +12,14 @@ use Rattle.model.specs.Credit as credit
 use Rattle.model.specs.Tick as tick
 use Rattle.model.specs.Lend as lend
 use Rattle.model.specs.Reset as reset
+use Rattle.model.specs.Burst as burst
+use Rattle.model.specs.CountedBursts.{eventsIn}
 use Rattle.link.specs.declared.Link.{Link}
 use Rattle.link.specs.declared.Step.{Step}
 use Rattle.link.specs.Reading.{linkOf}
 use Rattle.link.specs.Sound.{Sound}
 use Rattle.link.specs.Steps.{Stepped}
+use Rattle.link.specs.Bursts.{Bursted}
 
 -- l is a link that `Link::fresh` may hand back, by its contract
 abbrev pub Freshly : Plan → Link → Type 0
@@ -37,3 +40,6 @@ pub data Handed (p : Plan) : History → Link → Type 0 where
       → Stepped answerToLend (lend.lend (linkOf l) mask) r → r .answer ≡ answerToLend a → Handed p (lent mask a ∷ h) (r .link)
   by-reset : {h : History} {l : Link} → Handed p h l → (r : Step) (a : Renewal)
       → Stepped answerToReset (reset.reset (linkOf l)) r → r .answer ≡ answerToReset a → Handed p (Event.reset a ∷ h) (r .link)
+  -- document 02, N7: a burst of the records xs, which are ys after it, counts as the requests that stand in ys
+  by-burst : {h : History} {l : Link} → Handed p h l → (xs ys : List burst.Ask) (r : Link)
+      → Bursted (burst.burst (linkOf l) xs) r ys → Handed p (eventsIn ys ++ h) r

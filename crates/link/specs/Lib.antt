@@ -8,4 +8,5 @@ pub mod Reply
 pub mod Started
 pub mod Lend
 pub mod Reset
+pub mod Bursts
 pub mod Handed

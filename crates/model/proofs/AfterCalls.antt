@@ -31,7 +31,7 @@ after-call r Call.reset g = after-reset g
 pub after-step : {P : Plan} (r : Played paper) (c : Call) → Known P r → Known P (step paper r c)
 after-step r c g = subst (λ P. Known P r → Known P (step paper r c)) (g .plan-is) (after-call r c) g
 
-after-calls : {P : Plan} (r : Played paper) (calls : List Call) → Known P r → Known P (play paper r calls)
+pub after-calls : {P : Plan} (r : Played paper) (calls : List Call) → Known P r → Known P (play paper r calls)
 unfolding play
 after-calls r [] g = g
 after-calls r (c ∷ calls) g = after-calls (step paper r c) calls (after-step r c g)

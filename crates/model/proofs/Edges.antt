@@ -3,8 +3,8 @@ use mathlib.Core.Path.{refl}
 use Rattle.model.specs.Card.{paper}
 use Rattle.model.specs.EdgeCases.{Passes}
 use Rattle.model.specs.Edges.{edges}
-use Rattle.model.proofs.Unfoldings.{plans-compute, calls-compute, writer-computes, program-computes}
+use Rattle.model.proofs.Unfoldings.{plans-compute, calls-compute, bursts-compute, writer-computes, program-computes}
 
 pub edges-hold : Passes paper edges
-unfolding edges plans-compute calls-compute writer-computes program-computes
+unfolding edges plans-compute calls-compute bursts-compute writer-computes program-computes
 edges-hold = refl

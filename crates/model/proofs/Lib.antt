@@ -49,6 +49,7 @@ pub mod AfterReset
 pub mod AfterCalls
 pub mod LendTurn
 pub mod Demand3
+pub mod CountedBursts
 pub mod ListingMeets
 pub mod Holding
 pub mod Buffer

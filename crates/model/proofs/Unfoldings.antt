@@ -9,6 +9,7 @@ use Rattle.model.specs.Request.{valid, canLeave, validFor, search, sough
 use Rattle.model.specs.Credit.{lowered, creditAfter, credit}
 use Rattle.model.specs.Tick.{recycled, advanced, tick}
 use Rattle.model.specs.Lend.{canTake, lentTo, firstInTurn, lentAfter, lendAfter, lend}
+use Rattle.model.specs.Burst.{inOrder, burst}
 use Rattle.model.specs.WrittenPlan.{bytesOf, writeRefusal, writtenAfter, written}
 use Rattle.model.specs.Reset.{noneBooked, noneHeld, renewed, resetAfter, reset}
 use Rattle.model.specs.Record.{records, callOf}
@@ -38,6 +39,10 @@ lends-compute = tt
 unfoldable pub calls-compute : Unit {0}
 unfolding fresh requests-compute lowered creditAfter credit recycled advanced tick lends-compute noneBooked noneHeld renewed resetAfter reset play
 calls-compute = tt
+
+unfoldable pub bursts-compute : Unit {0}
+unfolding requests-compute inOrder burst
+bursts-compute = tt
 
 -- a plan written
 unfoldable pub writer-computes : Unit {0}

@@ -11,7 +11,8 @@ use Rattle.model.specs.Plan.{Plan, positions, planOf, refusal}
 use Rattle.model.specs.WrittenPlan as WrittenPlan
 use Rattle.model.specs.WrittenPlan.{Written}
 use Rattle.model.specs.Calls.{Call, Event, History, requested, credited, ticked, lent, accepted, refused}
-use Rattle.model.specs.Card.{Card, run}
+use Rattle.model.specs.Burst.{Ask, Burst, burst}
+use Rattle.model.specs.Card.{Card, paper, play, run}
 use Rattle.model.specs.Listing.{text, output}
 
 -- ---- what is tried, and what comes of it
@@ -25,6 +26,8 @@ pub data Trial : Type 0 where
   program : (input : List ℕ) → Trial
   -- a plan to be written in a buffer
   writing : (plan : Plan) (out : List ℕ) → Trial
+  -- records that a burst is lent after some calls, and calls on the link that it hands back
+  bursting : (bytes : List ℕ) (before : List Call) (records : List Ask) (after : List Call) → Trial
 
 pub data Outcome : Type 0 where
   -- the plan is refused
@@ -36,17 +39,24 @@ pub data Outcome : Type 0 where
   written : List ℕ → Outcome
   -- the writer's answer, and the buffer
   wrote : Written → Outcome
+  -- the records after a burst, and the events after it, oldest first
+  handed : (records : List Ask) → History → Outcome
 
 -- the outcome of a plan and calls, where the plan's tests give the number r: "Refused plans make no link."
 abbrev linkOutcome : Card → ℕ → List ℕ → List Call → Outcome
 linkOutcome c zero bytes calls = events (reverse (run c (planOf bytes) calls .history))
 linkOutcome c (suc r) bytes calls = refusedPlan (suc r)
 
+-- the outcome of a burst, and of the calls on the link that it hands back
+abbrev burstOutcome : Burst → List Call → Outcome
+burstOutcome b after = handed (b .records) (reverse (play paper (record { state = b .link; history = [] }) after .history))
+
 abbrev pub outcome : Card → Trial → Outcome
 outcome c (link bytes calls) = linkOutcome c (refusal bytes) bytes calls
 outcome c (granting w p) = word (depart w p)
 outcome c (program input) = written (output input)
 outcome c (writing plan out) = wrote (WrittenPlan.written plan out)
+outcome c (bursting bytes before records after) = burstOutcome (burst (run paper (planOf bytes) before .state) records) after
 
 pub record Case : Type 0 where
   pub trial : Trial
@@ -140,3 +150,14 @@ stores plan out count after = record { trial = writing plan out; expected = wrot
 
 abbrev pub declines : (number : ℕ) → Plan → (out : List ℕ) → Case
 declines number plan out = record { trial = writing plan out; expected = wrote (record { answer = refused number; out = out }) }
+
+-- ---- a burst after some calls: its records, which are lent with result 255 and position 255, and calls with their answers after it
+
+abbrev unfilled : Ask → Ask
+unfilled x = record { word = x .word; result = 255; position = 255 }
+
+abbrev pub fills : List ℕ → (before : List Call) → (records : List Ask) → (after : List Event) → Case
+fills bytes before records after = record {
+  trial = bursting bytes before (map unfilled records) (map callMade after);
+  expected = handed records after;
+}

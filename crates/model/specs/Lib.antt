@@ -14,6 +14,7 @@ pub mod Tick
 pub mod Lend
 pub mod WrittenPlan
 pub mod Reset
+pub mod Burst
 -- the program
 pub mod Record
 pub mod Listing
@@ -21,6 +22,7 @@ pub mod Listing
 pub mod History
 pub mod Claim
 pub mod Card
+pub mod CountedBursts
 pub mod Holding
 pub mod Buffer
 pub mod TilesToCome
@@ -37,6 +39,7 @@ pub mod LendEdges
 pub mod TurnEdges
 pub mod WriteEdges
 pub mod ResetEdges
+pub mod BurstEdges
 pub mod ProgramEdges
 pub mod Edges
 pub mod BadHistories

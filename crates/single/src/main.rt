@@ -1,4 +1,5 @@
-// Measures single calls by value. It reads a call file of at most 4096 calls from standard input, plays it many times and times each streak, the calls of one kind in a row. The lowest time of each streak counts, less the clock's own.
+// Measures single calls by value, and requests in bursts of 16. It reads a call file of at most 4096 calls from standard input, plays it many times and times each streak, the calls of one kind in a row. The lowest time of each streak counts, less the clock's own.
+mod several;
 mod timed;
 
 use calls::Answer;
@@ -26,6 +27,7 @@ fn play(
     words: &[u32; MOST],
     lowest: &mut [u64; MOST],
     count: usize,
+    in_bursts: bool,
 ) -> u64
     requires { ⌜ Valid plan × (count ≤ 4096) ⌝ }
 {
@@ -38,7 +40,7 @@ fn play(
     let mut from = 0;
     while from < count {
         let to = file::streak_end(kinds, from, count);
-        let t = timed::streak(step, kinds[from], words, from, to);
+        let t = timed::streak(step, kinds[from], words, from, to, in_bursts);
         step = t.step;
         lowest[from] = clock::least(lowest[from], t.spent);
         sum = std::num::wrapping_add_u64(sum, t.sum);
@@ -47,7 +49,35 @@ fn play(
     sum
 }
 
-// Plays the records many times over, and prints.
+// Plays the calls many times over; the sum of all answers.
+fn repeat(
+    plan: Plan,
+    kinds: &[u8; MOST],
+    words: &[u32; MOST],
+    lowest: &mut [u64; MOST],
+    count: usize,
+    in_bursts: bool,
+) -> u64
+    requires { ⌜ Valid plan × (count ≤ 4096) ⌝ }
+{
+    let mut sum = 0;
+    for _ in 0..REPEATS {
+        sum = play(plan, kinds, words, lowest, count, in_bursts);
+    }
+    sum
+}
+
+// Prints a line for each kind of call, and one for requests in bursts.
+fn tell(kinds: &[u8; MOST], lowest: &[u64; MOST], in_bursts: &[u64; MOST], count: usize, cost: u64)
+    requires { ⌜ count ≤ 4096 ⌝ }
+{
+    report::line(b"request", 1, kinds, lowest, count, cost);
+    report::line(b"burst", 1, kinds, in_bursts, count, cost);
+    report::line(b"credit", 2, kinds, lowest, count, cost);
+    report::line(b"tick", 3, kinds, lowest, count, cost);
+}
+
+// Plays the records, and prints.
 fn measure(plan: Plan, records: &[u8])
     requires { ⌜ Valid plan ⌝ }
 {
@@ -56,15 +86,14 @@ fn measure(plan: Plan, records: &[u8])
     let mut lowest = [u64::MAX; MOST];
     let count = file::split(records, &mut kinds, &mut words);
     let cost = clock::cost();
-    let mut sum = 0;
-    for _ in 0..REPEATS {
-        sum = play(plan, &kinds, &words, &mut lowest, count);
-    }
-    report::line(b"request", 1, &kinds, &lowest, count, cost);
-    report::line(b"credit", 2, &kinds, &lowest, count, cost);
-    report::line(b"tick", 3, &kinds, &lowest, count, cost);
+    let sum = repeat(plan, &kinds, &words, &mut lowest, count, false);
+    let mut in_bursts = [u64::MAX; MOST];
+    let same = repeat(plan, &kinds, &words, &mut in_bursts, count, true);
+    tell(&kinds, &lowest, &in_bursts, count, cost);
     report::print(b"answers ");
     report::print_number(sum);
+    report::print(b"\nin bursts ");
+    report::print_number(same);
     report::print(b"\n");
 }
 

@@ -1,10 +1,13 @@
 // Calls of one kind, by value, one after the other, and the time that they take.
 ghost use Prim.Native.Nat.{_≤_};
 ghost use Rattle.link.specs.Sound.{Sound};
+use crate::several;
+use burst::burst_first;
 use calls::Answer;
 use link::Step;
 use timing::clock;
 use timing::file::MOST;
+use window::numbers::smaller;
 
 // A link after some calls, with the last answer; the sum of their answers, and the nanoseconds that they took.
 pub(crate) struct Timed {
@@ -90,11 +93,46 @@ fn ticks(first: Step, from: usize, to: usize) -> Timed
     Timed { step, sum, spent }
 }
 
-// Plays a streak: the calls of a kind from one place to another.
-pub(crate) fn streak(step: Step, kind: u8, words: &[u32; MOST], from: usize, to: usize) -> Timed
+// The requests of a streak as bursts of 16; the last may have fewer.
+fn bursts(first: Step, words: &[u32; MOST], from: usize, to: usize) -> Timed
+    requires { ⌜ Sound (first .link) × (to ≤ 4096) ⌝ }
+    ensures { λ r. ⌜ Sound (r .step .link) ⌝ }
+{
+    let mut back = several::none(first.link);
+    let mut sum = 0;
+    let mut at = from;
+    let begin = clock::nanoseconds();
+    while at < to {
+        let count = smaller(to - at, 16);
+        back = burst_first(back.link, several::asks(words, at, count), count);
+        let records = back.records;
+        sum = std::num::wrapping_add_u64(sum, several::answers(records, count));
+        at += count;
+    }
+    let spent = clock::since(begin);
+    let link = back.link;
+    let step = Step {
+        link,
+        answer: Answer::Idle,
+    };
+    Timed { step, sum, spent }
+}
+
+// Plays a streak: the calls of a kind from one place to another, requests one by one or in bursts.
+pub(crate) fn streak(
+    step: Step,
+    kind: u8,
+    words: &[u32; MOST],
+    from: usize,
+    to: usize,
+    in_bursts: bool,
+) -> Timed
     requires { ⌜ Sound (step .link) × (to ≤ 4096) ⌝ }
     ensures { λ r. ⌜ Sound (r .step .link) ⌝ }
 {
+    if kind == 1 && in_bursts {
+        return bursts(step, words, from, to);
+    }
     if kind == 1 {
         return requests(step, words, from, to);
     }

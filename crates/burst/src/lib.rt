@@ -1,0 +1,115 @@
+// A burst: the requests of several words in a single call.
+ghost use mathlib.Core.Path.{_≡_};
+ghost use Prim.Native.Nat.{_≤_, min};
+ghost use Rattle.model.specs.Burst as model;
+ghost use Rattle.model.specs.Request as request;
+ghost use Rattle.link.specs.Reading.{linkOf};
+ghost use Rattle.link.specs.Sound.{Sound};
+ghost use Rattle.link.specs.Bursts.{Bursted};
+ghost use Rattle.burst.specs.Reading.{asksOf, resultIn, positionIn};
+ghost use Rattle.burst.specs.Fills.{Fills};
+ghost use Rattle.burst.specs.First.{burstOfFirst};
+use calls::Answer;
+use link::Link;
+use window::numbers::smaller;
+
+// A word, and what its request comes to: 0 and the position granted, or the refusal and 0.
+pub struct Ask {
+    pub word: u32,
+    pub result: u8,
+    pub position: u8,
+}
+
+// A link after a request, and what stands in its record then.
+struct Filled {
+    link: Link,
+    result: u8,
+    position: u8,
+}
+
+// The result number of an answer to a request.
+fn result(answer: Answer) -> u8
+    ensures { λ r. ⌜ r ≡ resultIn answer ⌝ }
+{
+    match answer {
+        Answer::Refused(number) => number,
+        _ => 0,
+    }
+}
+
+// The position of an answer to a request.
+fn position(answer: Answer) -> u8
+    ensures { λ r. ⌜ r ≡ positionIn answer ⌝ }
+{
+    match answer {
+        Answer::Granted(word) => (word % 256) as u8,
+        _ => 0,
+    }
+}
+
+// A word's request, on a link.
+fn fill(link: Link, word: u32) -> Filled
+    requires { ⌜ Sound link ⌝ }
+    ensures { λ r. ⌜ Fills (request.request (linkOf link) word) r ⌝ }
+{
+    let step = link.request(word);
+    let answer = step.answer;
+    let link = step.link;
+    Filled {
+        link,
+        result: result(answer),
+        position: position(answer),
+    }
+}
+
+// How many of n records a burst handles: all of them, or the first 16.
+fn handled(n: usize) -> usize
+    ensures { λ r. ⌜ r ≡ min n 16 ⌝ }
+{
+    smaller(n, 16)
+}
+
+// The requests of the first 16 records, in order: their answers are filled in, and all else of the slice stays.
+pub fn burst(link: Link, records: &mut [Ask]) -> Link
+    requires { ⌜ Sound link ⌝ }
+    ensures { λ r. ⌜ Bursted (model.burst (linkOf link) (asksOf (now (records .entry)))) r (asksOf (now (records .exit))) ⌝ }
+{
+    let mut last = link;
+    let n = handled(records.len());
+    let mut i = 0;
+    while i < n {
+        let r = &mut records[i];
+        let filled = fill(last, r.word);
+        r.result = filled.result;
+        r.position = filled.position;
+        last = filled.link;
+        i = i + 1;
+    }
+    last
+}
+
+// A link after a burst, and the array whose first records it was lent.
+pub struct HandedBack {
+    pub link: Link,
+    pub records: [Ask; 20],
+}
+
+fn lend_first(link: Link, records: [Ask; 20], count: usize) -> HandedBack
+    requires { ⌜ Sound link × (count ≤ 20) ⌝ }
+    ensures { λ r. ⌜ Bursted (burstOfFirst count (linkOf link) (asksOf records)) (r .link) (asksOf (r .records)) ⌝ }
+{
+    let mut rs = records;
+    let last = burst(link, &mut rs[..count]);
+    HandedBack {
+        link: last,
+        records: rs,
+    }
+}
+
+// A burst of the first records of an array, at most 20. No reference stands in the signature.
+pub fn burst_first(link: Link, records: [Ask; 20], count: usize) -> HandedBack
+    requires { ⌜ Sound link ⌝ }
+    ensures { λ r. ⌜ Bursted (burstOfFirst (min count 20) (linkOf link) (asksOf records)) (r .link) (asksOf (r .records)) ⌝ }
+{
+    lend_first(link, records, smaller(count, 20))
+}
