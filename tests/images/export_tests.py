@@ -16,6 +16,8 @@ from images.on_images import Trial, troubles
 from images.random_calls import some_call
 from images.random_images import any_image
 from images.results import POWER
+from simulator.listing import simulate
+from simulator.records import ALLCALLS
 
 BATCH = 100             # images by chance in one run of the host
 IN_TURN = 12            # files with lends in turn, looked at after each call
@@ -24,10 +26,9 @@ WORD = 9 << 26          # flow 0 to node 9, as in the images by hand
 # A call of each sort, and calls that another test would refuse.
 CALLS = [
     ("request", WORD), ("request", WORD | 7), ("request", WORD | 1 << 20),
-    ("credit", 0, 6), ("credit", 1, 1), ("tick",), ("lend", 1), ("lend", 2),
-    ("lend", 3),
+    ("credit", 0, 6), ("credit", 1, 1), ("tick",), ("reset",),
+    ("lend", 1), ("lend", 2), ("lend", 3), ("lend", 0xFFFF), ("lend", 0),
     ("request", 0xFFFFFFFF), ("request", 0), ("credit", 99, 99),
-    ("lend", 0xFFFF), ("lend", 0), ("reset",),
 ]
 
 # Numbers that have good ones in their low bytes.
@@ -124,14 +125,15 @@ def seeds_in_turn(seed):
 
 
 def in_turn(command, seed):
-    """The image after each call of the file has the flow to look from."""
+    """The answers of a file, and the image after each of its calls."""
     data = lend_seeds.generate(seed)
     images = images_after(data)
     length = len(images[-1])
     played = play(command, data, length, each=True)
     return (played.wrong or difference(played, images, length)
             or len(played.buffers) != len(images) and "%d images, not %d"
-            % (len(played.buffers), len(images)))
+            % (len(played.buffers), len(images))
+            or played.lines != simulate(data, ALLCALLS) and "other answers")
 
 
 # ---- all of them
