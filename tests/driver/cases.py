@@ -36,9 +36,9 @@ class Right:
         self.verdict = check(data, self.lines, form.checked)    # on demand 3
 
 
-def simulated(data, form, heard=()):
+def simulated(data, form):
     """The simulator's listing, and its image at the end."""
-    lines, links = zip(*steps(data, form.kinds, heard))
+    lines, links = zip(*steps(data, form.kinds))
     return list(lines), image_of(links[-1]) if links[-1] else b""
 
 
