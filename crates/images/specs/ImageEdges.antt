@@ -47,6 +47,8 @@ lengthEdges =
     ∷ gives 21 (image (total 95 ∷ []))
     ∷ gives 21 (image (total 95 ∷ planOffset 20 ∷ mark 2 ∷ []))
     ∷ gives 22 (image (total 95 ∷ []) ++ (0 ∷ []))
+    -- an image as it was before N8, without the flow to look from
+    ∷ gives 22 (0x5C ∷ 0x00 ∷ 0x10 ∷ 0x00 ∷ 0x24 ∷ 0x00 ∷ 0x08 ∷ 0x00 ∷ 0x34 ∷ 0x00 ∷ 0x02 ∷ 0x00 ∷ 0x00 ∷ 0x00 ∷ 0x00 ∷ 0x00 ∷ drop 18 blank)
     -- too small a length stated
     ∷ fault (total 92 ∷ [])
     ∷ gives 22 (take 93 (image (total 92 ∷ [])))
@@ -194,6 +196,8 @@ exportEdges =
     ∷ freshly listing (room 96) (blank ++ (0xAA ∷ 0xAA ∷ [])) 0
     ∷ freshly listing (room 93) (room 93) (refusalNumber 21)
     ∷ freshly listing [] [] (refusalNumber 21)
+    -- as long as an image was before N8
+    ∷ freshly listing (room 92) (room 92) (refusalNumber 21)
     ∷ freshly (plan2 4 2 3 2 2 2 2) (room 93) (room 93) (refusalNumber 7)
     ∷ freshly (plan2 4 2 3 2 2 2 2) [] [] (refusalNumber 7)
     ∷ freshly (take 11 listing) (room 94) (room 94) (refusalNumber 1)

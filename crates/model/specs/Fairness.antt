@@ -5,9 +5,10 @@
 -- answered with a flow, whichever that is, it is in the mask and can take the slot. In a stretch with no granted reset:
 -- - between two lends to one flow, every other flow that waits from the first of them on is lent to at least once;
 -- - no flow is lent to more than once more than one that waits, so that two that wait are lent to as often as each other, or one of them once more;
--- - of n lends in a row that are answered with a flow, one goes to a flow that waits.
+-- - of n lends in a row that are answered with a flow, at least one goes to each flow that waits.
 --
 -- Its limits:
+-- - It is said of lists of calls from a fresh link, each call on the link as the one before handed it back; of images, on each passed on unaltered.
 -- - It counts lent slots. It doesn't even out what is booked, and goes by no share.
 -- - A flow that at one lend is not in the mask, or holds all of its cells in the current slot or a later one, is passed over then, and is not made good
 --   for it: what is said of it begins anew with the next lend.
