@@ -36,10 +36,16 @@ extern "C" {
  * 16-bit fields, low byte first, without gaps:
  *
  *   header      total length; offset of the plan; offset and count of positions;
- *               offset and count of flows; CP; taken mark, 0 or 1
+ *               offset and count of flows; CP; taken mark, 0 or 1; the flow
+ *               that the next lend looks from, below the count of flows
  *   plan        its bytes, as they were given to fresh
  *   positions   for each the flow that booked it, or 16
  *   flows       for each IF, C, and what it holds at positions 0, 1, 2 and so on
+ *
+ * Versions: before lends went in turn the header ended with the mark and had 16
+ * bytes. An image that a library of then wrote is refused by this one and left
+ * as it came: with 22, or with 21 where it is cut off below 18 bytes or below the
+ * length that it states. There is nothing to convert: make a link with fresh.
  */
 
 /* ---- sizes, in bytes */
@@ -48,10 +54,10 @@ extern "C" {
 #define NAZGOLV_PLAN_MAX 76
 
 /* An image's header. */
-#define NAZGOLV_HEADER 16
+#define NAZGOLV_HEADER 18
 
 /* The longest image: F x W = 256 positions and 16 flows. */
-#define NAZGOLV_IMAGE_MAX 8860
+#define NAZGOLV_IMAGE_MAX 8862
 
 /* The image of a plan with this many positions (F x W) and flows. */
 #define NAZGOLV_IMAGE_LENGTH(positions, flows) \
@@ -137,17 +143,20 @@ uint64_t nazgolv_tick(uint8_t *image, size_t image_length);
 
 /*
  * Lends the current slot, which nobody booked, to a flow of the mask that has a
- * cell free; bit i is for flow i. The flow, or 8, 17 or 18. Which flow of
- * several gets it is left open.
+ * cell free; bit i is for flow i. The flow, or 8, 17 or 18. Flows get it in turn:
+ * the first one that can take it, from the flow after the last one lent to on and
+ * going round; from flow 0 on where no slot was lent since fresh, or since a
+ * granted reset. A refused lend is no turn.
  */
 uint64_t nazgolv_lend(uint8_t *image, size_t image_length, uint16_t mask);
 
 /*
- * Lets every flow start again in the head frame with its whole share, and
- * empties all positions. CP and what was held before it stay. A current slot
- * that was booked or marked taken is marked until the next tick. 0, or 23 where
- * the link is not quiet: a position later than CP is booked, or some flow holds
- * a cell at CP or at a later position. 23 changes nothing.
+ * Lets every flow start again in the head frame with its whole share, empties
+ * all positions, and lets the next lend look from flow 0. CP and what was held
+ * before it stay. A current slot that was booked or marked taken is marked until
+ * the next tick. 0, or 23 where the link is not quiet: a position later than CP
+ * is booked, or some flow holds a cell at CP or at a later position. 23 changes
+ * nothing.
  */
 uint64_t nazgolv_reset(uint8_t *image, size_t image_length);
 

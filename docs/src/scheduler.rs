@@ -334,6 +334,8 @@ struct Table {
 pub struct Link {
     table: Table,
     flows: Vec<Flow>,
+    /// The flow that the next lend looks at first.
+    turn: usize,
 }
 
 impl Table {
@@ -463,7 +465,11 @@ impl Link {
             held: Holdings::none(table.positions),
         };
         let flows = plan.entries.iter().map(flow).collect();
-        Link { table, flows }
+        Link {
+            table,
+            flows,
+            turn: 0,
+        }
     }
 
     /// Asks for a slot, after the word's departure if that is later than the
@@ -537,8 +543,8 @@ impl Link {
     }
 
     /// Lends the current slot, if nobody has it, to a flow of the mask that has
-    /// a cell free from now on. Bit i of the mask is for flow i; of several
-    /// flows the lowest gets the slot. The answer is the flow.
+    /// a cell free from now on. Bit i of the mask is for flow i; several flows
+    /// get their slots in turn. The answer is the flow.
     pub fn lend(&mut self, mask: u16) -> Result<u8, u8> {
         if u32::from(mask) >> self.flows.len() != 0 {
             return Err(refusal::FLOW);
@@ -548,13 +554,19 @@ impl Link {
         }
         let now = self.table.slot;
         let can_take = |flow: &Flow| flow.held.last_with(flow.cells, now).is_none();
-        let mut flows = self.flows.iter_mut().enumerate();
-        let taker = flows.find(|(i, flow)| mask >> i & 1 == 1 && can_take(flow));
-        let Some((number, flow)) = taker else {
+        // The flows from the one whose turn it is, then those before it.
+        let ahead = mask & u16::MAX << self.turn;
+        let mut flows = ones(ahead).chain(ones(mask & !ahead));
+        let Some(number) = flows.find(|&number| can_take(&self.flows[number])) else {
             return Err(refusal::NO_FLOW);
         };
-        flow.held.raise(now);
+        self.flows[number].held.raise(now);
         self.table.holder = number as u8;
+        self.turn = if number + 1 < self.flows.len() {
+            number + 1
+        } else {
+            0
+        };
         Ok(number as u8)
     }
 
@@ -570,6 +582,7 @@ impl Link {
             flow.frame = 0;
             flow.left = flow.share;
         }
+        self.turn = 0;
         Ok(())
     }
 
@@ -585,6 +598,15 @@ impl Link {
             }
         }
     }
+}
+
+/// The places of the bits that are 1, from the lowest on.
+fn ones(mut mask: u16) -> impl Iterator<Item = usize> {
+    std::iter::from_fn(move || {
+        let lowest = mask.trailing_zeros() as usize;
+        mask &= mask.wrapping_sub(1);
+        (lowest < MOST_FLOWS).then_some(lowest)
+    })
 }
 
 /// A word with a 1 for every slot of a frame.
@@ -912,6 +934,31 @@ mod tests {
         assert_eq!(link.tick(), Some(0));
         assert!((0..8).all(|_| link.tick().is_none()));
         assert_eq!(link.lend(1), Ok(0));
+    }
+
+    #[test]
+    fn flows_are_lent_to_in_turn() {
+        let entries = [[1, 8, 1, 9], [1, 8, 2, 9], [1, 8, 3, 9]];
+        let mut link = fresh(4, 2, 24, &entries);
+        let mut lend = |mask| {
+            let lent = link.lend(mask);
+            link.tick();
+            lent
+        };
+        // After the last one lent to, going round the flows of the mask.
+        assert_eq!([lend(4), lend(3), lend(3)], [Ok(2), Ok(0), Ok(1)]);
+        assert_eq!([lend(7), lend(7), lend(7)], [Ok(2), Ok(0), Ok(1)]);
+        assert_eq!([lend(2), lend(0), lend(5)], [Ok(1), Err(18), Ok(2)]);
+    }
+
+    #[test]
+    fn resets_begin_with_flow_0() {
+        let mut link = fresh(4, 2, 4, &PAIR);
+        assert_eq!([link.lend(3), link.lend(3)], [Ok(0), Err(17)]);
+        assert_eq!([link.reset(), link.credit(0, 1)], [Err(23), Ok(())]);
+        link.tick();
+        assert_eq!(link.reset(), Ok(()));
+        assert_eq!(link.lend(3), Ok(0));
     }
 
     #[test]

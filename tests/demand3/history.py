@@ -8,11 +8,13 @@ import struct
 from collections import Counter
 
 from demand3 import departure_ways, lend_ways, reset_ways
+from demand3.turns import Turns
 
 
 class Verdict:
     """What was found: faults as text; grants and taken credits seen; how the
-    lends, the resets and the departures of well-formed words ended; per flow
+    lends, the resets and the departures of well-formed words ended, and whose
+    turn it was at a lend; per flow
     the largest k at which the least count was put to the test, from the
     beginning or from a granted reset on; and the largest of the latter."""
 
@@ -21,6 +23,7 @@ class Verdict:
         self.grants = 0
         self.credits = 0
         self.lends = Counter()
+        self.turns = Counter()
         self.resets = Counter()
         self.departures = Counter()
         self.least = {}
@@ -47,6 +50,7 @@ class History:
         self.held = [0] * self.flows        # held at the current slot
         # Later slot -> grants less credits of that slot, for each flow.
         self.change = [{} for _ in entries]
+        self.turns = Turns(self.flows)      # at lends
         self.renewed = None                 # the slot of the last reset
         self.count_afresh()
         self.verdict = verdict
@@ -136,6 +140,20 @@ class History:
         if self.now in self.lent:
             self.fault("slot %d lent to %d and to %d"
                        % (self.now, self.lent[self.now], flow))
+
+    def waiting(self, mask):
+        """The flows of the mask that can take the current slot."""
+        return [flow for flow in range(self.flows) if mask >> flow & 1
+                and max(level for _, level in self.levels(flow))
+                < self.cells[flow]]
+
+    def check_turn(self, flow, mask):
+        """No flow is lent to again before one that waits.  Document 02, N8."""
+        waiting = self.waiting(mask)
+        self.verdict.turns.update(self.turns.ways(flow, mask))
+        for other in self.turns.lent(flow, waiting):
+            self.fault("lent to %d again before %d, which waits"
+                       % (flow, other))
 
     def check_most(self, flow, slot):
         """At most the share in a frame, and (W + k) times it in all."""
@@ -230,6 +248,7 @@ class History:
             self.fault("a lend to flow %d, which the plan has not" % flow)
             return
         self.check_lent(flow, mask)
+        self.check_turn(flow, mask)
         self.lent[self.now] = flow
         self.held[flow] += 1
         self.check_levels(flow)
@@ -239,6 +258,7 @@ class History:
         self.verdict.resets[reset_ways.way(self, letter, number)] += 1
         if letter == "Z":
             self.renewed = self.now
+            self.turns.begin()
             self.count_afresh()
 
     def tick(self, record, letter, number):

@@ -5,7 +5,8 @@ fault that the check has to name.  Some follow document 01, "Link cards we
 would send back"; the others break one bullet each.
 """
 
-from demand3 import wrong_bursts, wrong_departures, wrong_lends, wrong_resets
+from demand3 import (
+    wrong_bursts, wrong_departures, wrong_lends, wrong_resets, wrong_turns)
 from demand3.check import ALLCALLS, check
 from edges.edge_maker import TICK, ask, credit, edge, plan
 
@@ -97,7 +98,7 @@ def missed():
         yield wrong.name, sent_back(wrong, words)
     for right, least in wrong_departures.RIGHT:
         yield right.name, passed(right, least)
-    for subject in wrong_lends, wrong_resets, wrong_bursts:
+    for subject in wrong_lends, wrong_turns, wrong_resets, wrong_bursts:
         for wrong, words in subject.WRONG:
             yield wrong.name, sent_back(wrong, words, ALLCALLS)
         for right, least in subject.RIGHT:

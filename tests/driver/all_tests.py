@@ -13,7 +13,7 @@ from driver.side_by_side import done
 from driver.suite import Suite
 from driver.tally import (
     BurstTally, DepartureTally, LendTally, QuestionTally, ResetTally, Tally)
-from edges import open_choice, questions, refusals_page
+from edges import questions, refusals_page
 from edges.all_edges import ALLCALLS_EDGES, EDGES
 from front_door import (
     asking_editor, old_program, plan_files, plan_lost_output, plan_read,
@@ -44,12 +44,6 @@ def listings():
         yield "listing: " + name, trouble
 
 
-def choices():
-    """The simulator goes on from a right choice, and from no other."""
-    for name, trouble in open_choice.missed():
-        yield "choice: " + name, trouble
-
-
 def answers():
     """Wrong answers of domeplan are told."""
     for name, trouble in wrong_answers.missed():
@@ -71,7 +65,7 @@ def tables():
 def without_program(only):
     """The suite of what the tests themselves have to be."""
     suite = Suite("tests")
-    tests = itertools.chain(listings(), choices(), answers(), tables())
+    tests = itertools.chain(listings(), answers(), tables())
     for name, trouble in wanted(tests, only):
         suite.test(name, trouble)
     test_all(suite, self_tests.tests(), only)

@@ -13,7 +13,7 @@ from driver.formats import ALLCALLS
 from driver.image_suite import ImageSuite
 from driver.plain_rust import trouble
 from driver.suite import Suite, first_difference
-from edges import bursts, lends, resets
+from edges import bursts, lends, resets, turns
 from edges.all_edges import EDGES
 from front_door import c_player
 from images import export_tests
@@ -106,11 +106,10 @@ def plays(command):
 
 
 def some_edges():
-    """Edges here and there, none of which leaves a choice open."""
-    for edges in (EDGES, lends.EDGES, resets.EDGES, bursts.EDGES):
-        closed = [edge for edge in edges
-                  if edge.name != "lend: both flows can take it"]
-        yield from closed[::len(closed) // WATCHED_FILES]
+    """Edges here and there."""
+    for edges in (EDGES, lends.EDGES, turns.EDGES, resets.EDGES,
+                  bursts.EDGES):
+        yield from edges[::len(edges) // WATCHED_FILES]
 
 
 class Watcher:

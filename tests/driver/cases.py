@@ -36,9 +36,9 @@ class Right:
         self.verdict = check(data, self.lines, form.checked)    # on demand 3
 
 
-def simulated(data, form, heard=()):
+def simulated(data, form):
     """The simulator's listing, and its image at the end."""
-    lines, links = zip(*steps(data, form.kinds, heard))
+    lines, links = zip(*steps(data, form.kinds))
     return list(lines), image_of(links[-1]) if links[-1] else b""
 
 
@@ -52,17 +52,13 @@ class Case:
         self.known = {form: self.own}
 
     def right(self, form):
-        """The right listing, with the lowest flow at each lend.  A file with
-        none of allcalls' own calls has one listing, whatever the program."""
+        """The right listing.  A file with none of allcalls' own calls has one
+        listing, whatever the program."""
         if form not in self.known:
             self.known[form] = (
-                self.following(form) if has_other_calls(self.data)
-                else self.own)
+                Right(self.data, simulated(self.data, form), form)
+                if has_other_calls(self.data) else self.own)
         return self.known[form]
-
-    def following(self, form, heard=()):
-        """The right listing with a program's choices where it has a choice."""
-        return Right(self.data, simulated(self.data, form, heard), form)
 
 
 # ---- files for every program

@@ -34,9 +34,8 @@ class ImageSuite(Suite):
         verdict = right.verdict
         if played.lines != right.lines:
             verdict = check(case.data, played.lines, ALLCALLS.checked)
-            right = case.following(ALLCALLS, played.lines)
-        images = ([right.image] if not each
-                  else call_files.images_after(case.data, played.lines))
+        images = (call_files.images_after(case.data) if each
+                  else [right.image])
         outcome = ImageOutcome(
             [case.trouble, played.wrong,
              first_difference(right.listing, listing(played.lines)),

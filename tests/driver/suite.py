@@ -7,7 +7,7 @@ in the first.
 import multiprocessing
 from collections import Counter
 
-from demand3 import departure_ways, lend_ways, reset_ways
+from demand3 import departure_ways, lend_ways, reset_ways, turns
 from demand3.check import check
 from driver.formats import ALLCALLS, DOMELINK
 from driver.starting import NO_END, play, play_in_pieces
@@ -58,6 +58,7 @@ class Suite:
         self.failed = 0
         self.seen = set()           # refusal numbers in the listings
         self.lends = Counter()      # how lends ended
+        self.turns = Counter()      # which flow's turn it was
         self.resets = Counter()     # how resets ended
         self.departures = Counter()     # where they lay, how requests ended
         self.largest_k = -1         # at which the least count was tried
@@ -78,6 +79,7 @@ class Suite:
         self.seen |= outcome.seen
         if outcome.verdict:
             self.lends += outcome.verdict.lends
+            self.turns += outcome.verdict.turns
             self.resets += outcome.verdict.resets
             self.departures += outcome.verdict.departures
             self.largest_k = max(self.largest_k, outcome.verdict.largest_k())
@@ -112,10 +114,9 @@ class Suite:
         if played.output != right.listing:
             lines = played.output.decode("latin-1").splitlines()
             verdict = check(case.data, lines, self.form.checked)
-            right = case.following(self.form, lines)
         return Outcome(
             [case.trouble, first_difference(right.listing, played.output),
-             verdict.faults and "demand 3, " + verdict.faults[0],
+             verdict.faults and "by the listing, " + verdict.faults[0],
              played.trouble], refusals_in(lines), verdict)
 
     def gave_up(self):
@@ -141,6 +142,7 @@ class Suite:
                   missing and "never seen: %s" % ", ".join(missing))
         if self.form is ALLCALLS:
             self.every_way("lends", lend_ways.WAYS, self.lends)
+            self.every_way("turns", turns.WAYS, self.turns)
             self.every_way("resets", reset_ways.WAYS, self.resets)
             self.test("the least count was tried after a reset with k of 2 "
                       "and more",

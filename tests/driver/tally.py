@@ -2,6 +2,7 @@
 
 from collections import Counter
 
+from demand3 import turns
 from demand3.departure_ways import PLACES
 from demand3.lend_ways import BITS, LENT, NO_FLOW, TAKEN
 from demand3.reset_ways import GRANTED, REFUSED
@@ -94,11 +95,24 @@ class WaysTally(Tally):
 
 
 class LendTally(WaysTally):
-    """The lowest flow is always lent to."""
+    """Also whose turn it was."""
 
     sort = "lends"
     parts = (("lent", LENT), ("refused with 8", BITS),
              ("refused with 17", TAKEN), ("refused with 18", NO_FLOW))
+
+    def __init__(self):
+        super().__init__()
+        self.turns = Counter()
+
+    def add(self, case):
+        super().add(case)
+        self.turns += case.own.verdict.turns
+
+    def text(self):
+        return "%s\n  turns: %s" % (super().text(), ", ".join(
+            "%s %d" % (way.split(": ")[1], self.turns[way])
+            for way in turns.WAYS))
 
 
 class ResetTally(WaysTally):

@@ -2,9 +2,9 @@
 
 from edges import (
     bursts, call_records, credits, departures, from_the_paper, lends,
-    plan_limits, requests, resets, three_slips, ticks)
+    plan_limits, requests, resets, three_slips, ticks, turns)
 
 EDGES = (from_the_paper.EDGES + three_slips.EDGES + requests.EDGES
          + departures.EDGES + credits.EDGES + ticks.EDGES + call_records.EDGES
          + plan_limits.EDGES)
-ALLCALLS_EDGES = lends.EDGES + resets.EDGES + bursts.EDGES
+ALLCALLS_EDGES = lends.EDGES + turns.EDGES + resets.EDGES + bursts.EDGES

@@ -2,8 +2,7 @@
 take the slot, and what is held after it.
 
 Where a mask has several flows, only one of them can take the slot, but for
-one edge: its listing has the lowest, and a program that chooses otherwise is
-compared with the simulator alone.  open_choice.py has more of these.
+one edge; turns.py has more of these.
 """
 
 from edges.edge_maker import BASE, TICK, ask, credit, edge, lend, plan
@@ -128,7 +127,7 @@ WHO_CAN_TAKE = [
          (TICK, "T 0"), (TICK, "T -"),
          (lend(3), "L 1")),
 
-    # Both flows can take it: which of them gets it is left open.
+    # Both flows can take it, and it is flow 0's turn.
     edge("lend: both flows can take it", BASE,
          (lend(3), "L 0"), (lend(3), "R 17"), (TICK, "T -")),
 

@@ -4,7 +4,7 @@ allcalls' records, and to the kind of its traffic."""
 from generator.dice import Dice
 from generator.lends import end_in_lends
 from generator.traffic import (
-    lends_and_late_credits, lends_every_slot, lends_mixed,
+    lends_and_late_credits, lends_every_slot, lends_in_turn, lends_mixed,
     lends_until_refused)
 
 # The kinds of traffic, and the fewest and the most calls of a file.
@@ -12,6 +12,8 @@ TRAFFIC = {
     "every slot": (lends_every_slot.any_frames, 100, 700),
     "small frames": (lends_every_slot.small_frames, 50, 700),
     "sixteen flows": (lends_every_slot.sixteen_flows, 200, 700),
+    "in turn": (lends_in_turn.any_frames, 200, 900),
+    "sixteen in turn": (lends_in_turn.sixteen_flows, 300, 900),
     "late credits": (lends_and_late_credits.late_credits, 100, 700),
     "full later": (lends_and_late_credits.full_later, 100, 700),
     "mixed": (lends_mixed.mixed, 100, 700),
@@ -26,10 +28,10 @@ ORDER = (
     "every slot", "late credits", "full later", "mixed", "small frames",
     "until refused", "short", "sixteen flows", "late credits", "full later",
     "random bytes", "small frames", "until refused", "short", "every slot",
-    "mixed", "long",
+    "mixed", "in turn", "sixteen in turn", "in turn", "long",
 )
 LONG = ("every slot", "late credits", "small frames", "full later", "mixed",
-        "until refused", "sixteen flows")
+        "until refused", "sixteen flows", "in turn", "sixteen in turn")
 LONG_CALLS = 4000
 
 

@@ -3,8 +3,8 @@ allcalls' records, and to the kind of its traffic."""
 
 from generator.dice import Dice
 from generator.traffic import (
-    resets_mixed, resets_nearly_quiet, resets_until_refused,
-    resets_when_quiet)
+    resets_between_lends, resets_mixed, resets_nearly_quiet,
+    resets_until_refused, resets_when_quiet)
 
 # The kinds of traffic, and the fewest and the most calls of a file.
 TRAFFIC = {
@@ -12,6 +12,7 @@ TRAFFIC = {
     "small frames": (resets_when_quiet.small_frames, 50, 700),
     "sixteen flows": (resets_when_quiet.sixteen_flows, 200, 700),
     "nearly quiet": (resets_nearly_quiet.nearly_quiet, 100, 700),
+    "between lends": (resets_between_lends.between_lends, 100, 700),
     "until refused": (resets_until_refused.until_refused, 50, 600),
     "mixed": (resets_mixed.mixed, 100, 700),
     "random bytes": (resets_mixed.random_records, 20, 300),
@@ -23,9 +24,10 @@ TRAFFIC = {
 ORDER = (
     "quiet", "nearly quiet", "small frames", "until refused", "mixed",
     "nearly quiet", "short", "sixteen flows", "small frames",
-    "until refused", "random bytes", "quiet", "long",
+    "until refused", "random bytes", "quiet", "between lends", "long",
 )
-LONG = ("quiet", "nearly quiet", "until refused", "small frames", "mixed")
+LONG = ("quiet", "nearly quiet", "until refused", "small frames", "mixed",
+        "between lends")
 LONG_CALLS = 4000
 
 

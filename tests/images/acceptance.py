@@ -1,4 +1,4 @@
-"""When an image is taken (document 02, N5), told from its bytes alone.
+"""When an image is taken (document 02, N5 and N8), told from its bytes alone.
 
 Each condition has a name, so that an image can be made which breaks it and no
 other.  A condition that speaks of CP or of IF is looked at only where that is
@@ -11,7 +11,8 @@ from simulator.plan import read_plan
 
 HEADER = ("total length", "offset of the plan",
           "offset of positions", "count of positions",
-          "offset of flows", "count of flows", "CP", "taken mark")
+          "offset of flows", "count of flows", "CP", "taken mark",
+          "flow to look from")
 HEADER_SIZE = 2 * len(HEADER)
 NOBODY = 16
 PLAN = "the plan passes"
@@ -24,13 +25,15 @@ class Flow:
 
 
 class Tables:
-    """The numbers after the header, with CP and the mark."""
+    """The numbers after the header, with its last three: CP, the mark and the
+    flow to look from."""
 
     def __init__(self, data, plan):
         self.plan = plan
         self.slots, self.frames = plan.frame_slots, plan.window_frames
         self.total = plan.slots
-        self.current, self.taken = struct.unpack_from("<2H", data, 12)
+        self.current, self.taken, self.first = struct.unpack_from(
+            "<3H", data, 12)
         at = HEADER_SIZE + plan.length
         self.owner = struct.unpack_from("<%dH" % self.total, data, at)
         at += 2 * self.total
@@ -59,11 +62,18 @@ class Tables:
                 for step in range(1, (newest - frame) % self.frames + 1)]
 
 
+def tables_of(image):
+    """Those of an image that is taken."""
+    rest = image[HEADER_SIZE:]
+    length = rest[0] + 256 * rest[1]
+    return Tables(image, read_plan(rest[:length])[1])
+
+
 # ---- the conditions
 
 def listed_header(plan):
-    """The header of a plan's image but for CP and the mark, which have
-    conditions of their own."""
+    """The header of a plan's image but for CP, the mark and the flow to look
+    from, which have conditions of their own."""
     positions_at = HEADER_SIZE + plan.length
     flows_at = positions_at + 2 * plan.slots
     total = flows_at + 2 * plan.flows * (2 + plan.slots)
@@ -76,6 +86,8 @@ def of_the_link(tables):
         yield "CP is below T"
     if tables.taken > 1:
         yield "the taken mark is 0 or 1"
+    if tables.first >= tables.plan.flows:
+        yield "the flow to look from is below n"
     if any(owner >= tables.plan.flows and owner != NOBODY
            for owner in tables.owner):
         yield "every owner is a flow or none"

@@ -8,40 +8,40 @@ from edges.edge_maker import BASE, ask, credit, edge, plan
 from edges.from_the_paper import EDGES
 from images.fields import change
 
-# F = 4, W = 2, two flows with share 2 and 2 cells: 92 bytes.
-HEADER = "5C00 1000 2400 0800 3400 0200 %s %s"
+# F = 4, W = 2, two flows with share 2 and 2 cells: 94 bytes.
+HEADER = "5E00 1200 2600 0800 3600 0200 %s %s %s"
 PLAN = "1400 0200 0C00 0400 0200 0400  02 02 01 09  02 02 02 09"
 NOBODY = "1000 1000 1000 1000 1000 1000 1000 1000"
 NOTHING = "0000 0000 0000 0000 0000 0000 0000 0000"
 
 
-def image(current, taken, owners, *flows):
-    return bytes.fromhex(" ".join([HEADER % (current, taken), PLAN, owners,
-                                   *flows]))
+def image(current, taken, look_from, owners, *flows):
+    return bytes.fromhex(" ".join([HEADER % (current, taken, look_from), PLAN,
+                                   owners, *flows]))
 
 
-FRESH = image("0000", "0000", NOBODY,
+FRESH = image("0000", "0000", "0000", NOBODY,
               "0000 0200" + NOTHING,
               "0000 0200" + NOTHING)
 
 # The listing of document 01: flow 0 booked 1, 2 and 4, flow 1 booked 3; flow
 # 0's credit is dated 4, and its refusal 12 left IF at frame 1.
-PLAYED = image("0100", "0000",
+PLAYED = image("0100", "0000", "0000",
                "1000 0000 0000 0100 0000 1000 1000 1000",
                "0100 0100  0000 0100 0200 0200 0200 0200 0200 0200",
                "0000 0100  0000 0000 0000 0100 0100 0100 0100 0100")
 
-# Slot 1 is lent to flow 0.
-LENT = image("0100", "0100", NOBODY,
+# Slot 1 is lent to flow 0, and flow 1 comes after it.
+LENT = image("0100", "0100", "0100", NOBODY,
              "0000 0200  0000 0100 0100 0100 0100 0100 0100 0100",
              "0000 0200" + NOTHING)
 
-# One flow with share 2 and 4 cells: 16 + 16 + 16 + 20 = 68 bytes.  At slot 4
+# One flow with share 2 and 4 cells: 18 + 16 + 16 + 20 = 70 bytes.  At slot 4
 # positions 0 to 3 are slots 8 to 11.  The booking of slot 2 is gone and its
 # cell still held; 5, 6 and slot 8 are booked, and a cell is back from slot 10
 # on.
 GONE_ROUND = bytes.fromhex(
-    "4400 1000 2000 0800 3000 0100 0400 0000"
+    "4600 1200 2200 0800 3200 0100 0400 0000 0000"
     "1000 0100 0C00 0400 0200 0400  02 04 01 09"
     "0000 1000 1000 1000 1000 0000 0000 1000"
     "0000 0100  0400 0400 0300 0300 0100 0200 0300 0300")
@@ -49,16 +49,30 @@ GONE_ROUND = bytes.fromhex(
 # F = 1, W = 2, one flow with share 1 and 4 cells, after a tick and refusal 20
 # for departure 0: IF is frame 0, the newest.
 SMALLEST = bytes.fromhex(
-    "2C00 1000 2000 0200 2400 0100 0100 0000"
+    "2E00 1200 2200 0200 2600 0100 0100 0000 0000"
     "1000 0100 0C00 0100 0200 0400  01 04 01 09"
     "1000 1000  0000 0100 0000 0000")
 
-# One flow with share 2 and a cell: 68 bytes.  Its C in frame 0 was 1.
+# One flow with share 2 and a cell: 70 bytes.  Its C in frame 0 was 1.
 FULL_LATER = bytes.fromhex(
-    "4400 1000 2000 0800 3000 0100 0000 0000"
+    "4600 1200 2200 0800 3200 0100 0000 0000 0000"
     "1000 0100 0C00 0400 0200 0100  02 01 01 09"
     "1000 0000 1000 1000 1000 1000 1000 1000"
     "0100 0200  0000 0100 0100 0100 0100 0100 0100 0100")
+
+# Three flows with share 1 and 8 cells, fresh: 18 + 24 + 16 + 60 = 118 bytes.
+THREE_PLAN = plan(4, 2, (1, 8), (1, 8), (1, 8))
+THREE = bytes.fromhex(
+    "7600 1200 2A00 0800 3A00 0300 0000 0000 0000"
+    "1800 0300 0C00 0400 0200 1800"
+    "01 08 01 09  01 08 02 09  01 08 03 09" + NOBODY
+    + 3 * ("0000 0100" + NOTHING))
+
+# The most that there is: 18 + 76 + 2 x 256 + 16 x 2 x 258 = 8,862 bytes.
+LARGEST_PLAN = plan(64, 4, *[(4, 255)] * 16)
+LARGEST = (bytes.fromhex("9E22 1200 5E00 0001 5E02 1000 0000 0000 0000")
+           + LARGEST_PLAN + bytes([16, 0]) * 256
+           + (bytes([0, 0, 4, 0]) + bytes(512)) * 16)
 
 # (calls, the image after the last of them)
 AFTER_CALLS = [
@@ -86,13 +100,52 @@ AFTER_CALLS = [
           (TICK, "T -"), (ask(0, departure=0), "R 20")), SMALLEST),
 ]
 
-# ---- images that are taken
+# The flow to look from, after lends and other calls.
+AFTER_LENDS = [
+    (edge("image: fresh, three flows", THREE_PLAN), THREE),
+    (edge("image: lent to the middle one of three", THREE_PLAN,
+          (lend(2), "L 1")),
+     change(THREE, ("taken", 1), ("look from", 2), ("held", 1, [1] * 8))),
+    # Flow 0 comes after flow n - 1, as on a fresh link.
+    (edge("image: lent to the last one of three", THREE_PLAN,
+          (lend(4), "L 2")),
+     change(THREE, ("taken", 1), ("held", 2, [1] * 8))),
+    (edge("image: lent to the only one", plan(1, 2, (1, 4)),
+          (lend(1), "L 0")),
+     change(SMALLEST, ("CP", 0), ("taken", 1), ("held", 0, [1, 1]))),
+    (edge("image: lent to flow 14 of sixteen", LARGEST_PLAN,
+          (lend(0x4000), "L 14")),
+     change(LARGEST, ("taken", 1), ("look from", 15),
+            ("held", 14, [1] * 256))),
+    (edge("image: lent to flow 15 of sixteen", LARGEST_PLAN,
+          (lend(0x8000), "L 15")),
+     change(LARGEST, ("taken", 1), ("held", 15, [1] * 256))),
+    (edge("image: lends over changing masks", THREE_PLAN,
+          (lend(6), "L 1"), (TICK, "T -"), (lend(5), "L 2"), (TICK, "T -"),
+          (lend(6), "L 1"), (TICK, "T -"), (lend(3), "L 0")),
+     change(THREE, ("CP", 3), ("taken", 1), ("look from", 1),
+            ("held", 0, [0, 0, 0, 1, 1, 1, 1, 1]),
+            ("held", 1, [1, 1, 2, 2, 2, 2, 2, 2]),
+            ("held", 2, [0, 1, 1, 1, 1, 1, 1, 1]))),
+    (edge("image: refused lends leave the flow to look from", THREE_PLAN,
+          (lend(2), "L 1"), (lend(7), "R 17"), (TICK, "T -"),
+          (lend(0), "R 18"), (lend(8), "R 8")),
+     change(THREE, ("CP", 1), ("look from", 2), ("held", 1, [1] * 8))),
+    # Flow 1 books slot 1, and its refusal 20 leaves IF at frame 1.
+    (edge("image: other calls leave the flow to look from", THREE_PLAN,
+          (lend(1), "L 0"), (ask(1), "G 1"), (ask(1, departure=7), "R 20"),
+          (credit(0, 2), "C"), (credit(2, 2), "R 15"), (TICK, "T 1")),
+     change(THREE, ("CP", 1), ("look from", 1), ("owner", 1, 1),
+            ("IF", 1, 1), ("held", 0, [1, 1, 0, 0, 0, 0, 0, 0]),
+            ("held", 1, [0, 1, 1, 1, 1, 1, 1, 1]))),
+    (edge("image: a frame change leaves the flow to look from", THREE_PLAN,
+          (lend(1), "L 0"), *[(TICK, "T -")] * 4),
+     change(THREE, ("CP", 4), ("look from", 1), ("IF", 0, 1), ("IF", 1, 1),
+            ("IF", 2, 1), ("held", 0, [1] * 8))),
+]
+AFTER_CALLS += AFTER_LENDS
 
-# The most that there is: 16 + 76 + 2 x 256 + 16 x 2 x 258 = 8,860 bytes.
-LARGEST_PLAN = plan(64, 4, *[(4, 255)] * 16)
-LARGEST = (bytes.fromhex("9C22 1000 5C00 0001 5C02 1000 0000 0000")
-           + LARGEST_PLAN + bytes([16, 0]) * 256
-           + (bytes([0, 0, 4, 0]) + bytes(512)) * 16)
+# ---- images that are taken
 
 # Both flows have bookings in frame 0 up to their share.
 FULL_FRAME = change(FRESH, ("owner", 0, 0), ("owner", 1, 1), ("owner", 2, 0),
@@ -113,6 +166,10 @@ TAKEN = [
     ("CP is T - 1", change(FRESH, ("CP", 7))),
     ("the mark is 1", change(FRESH, ("taken", 1))),
     ("the mark is 1 though CP is booked", change(PLAYED, ("taken", 1))),
+    ("the flow to look from is n - 1", change(FRESH, ("look from", 1))),
+    ("the flow to look from is 2 of three", change(THREE, ("look from", 2))),
+    ("the flow to look from is 15 of sixteen",
+     change(LARGEST, ("look from", 15))),
     ("IF is W - 1", change(FRESH, ("IF", 0, 1))),
     ("as many bookings as the share in a frame", FULL_FRAME),
     ("the share in each of two frames", change(
@@ -157,11 +214,11 @@ TAKEN = [
 # ---- images that break one condition
 
 HEADER_FIELDS = [
-    ("total length", "total", (0, 1, 4, 15, 16, 90, 91, 92 + 256)),
-    ("offset of the plan", "plan at", (0, 15, 17, 18, 36, 16 + 256)),
-    ("offset of positions", "positions at", (0, 34, 35, 37, 36 + 256)),
+    ("total length", "total", (0, 1, 4, 17, 18, 92, 93, 94 + 256)),
+    ("offset of the plan", "plan at", (0, 16, 17, 19, 20, 38, 18 + 256)),
+    ("offset of positions", "positions at", (0, 36, 37, 39, 38 + 256)),
     ("count of positions", "positions", (0, 7, 9, 8 + 256)),
-    ("offset of flows", "flows at", (0, 51, 53, 54, 52 + 256)),
+    ("offset of flows", "flows at", (0, 52, 53, 55, 56, 54 + 256)),
     ("count of flows", "flows", (0, 1, 3, 2 + 256)),
 ]
 
@@ -182,6 +239,11 @@ LINKS = [
     ("the taken mark is 0 or 1", "2", [("taken", 2)]),
     ("the taken mark is 0 or 1", "256", [("taken", 256)]),
     ("the taken mark is 0 or 1", "257", [("taken", 257)]),
+    ("the flow to look from is below n", "n", [("look from", 2)]),
+    ("the flow to look from is below n", "16", [("look from", 16)]),
+    ("the flow to look from is below n", "256", [("look from", 256)]),
+    ("the flow to look from is below n", "257", [("look from", 257)]),
+    ("the flow to look from is below n", "65,535", [("look from", 65535)]),
     ("every owner is a flow or none", "n", [("owner", 0, 2)]),
     ("every owner is a flow or none", "15", [("owner", 7, 15)]),
     ("every owner is a flow or none", "17", [("owner", 5, 17)]),
@@ -250,33 +312,67 @@ BROKEN += [("the plan passes", name, change(FRESH, changed))
            for name, changed in PLANS]
 BROKEN += [(condition, name, change(FRESH, *changes))
            for condition, name, changes in LINKS]
+BROKEN += [("the flow to look from is below n", name,
+            change(whole, ("look from", value)))
+           for name, whole, value in (
+               ("n = 1", SMALLEST, 1), ("n = 3", THREE, 3),
+               ("n = 16", LARGEST, 16), ("n, after a lend", LENT, 2))]
+
+# ---- images of the version before N8, whose header ends with the mark: fresh
+# ones of 92, 44 and 8,860 bytes
+
+EIGHT_FIELDS = bytes.fromhex(" ".join([
+    "5C00 1000 2400 0800 3400 0200 0000 0000", PLAN, NOBODY,
+    "0000 0200" + NOTHING, "0000 0200" + NOTHING]))
+EIGHT_FIELDS_SMALLEST = bytes.fromhex(
+    "2C00 1000 2000 0200 2400 0100 0000 0000"
+    "1000 0100 0C00 0100 0200 0400  01 04 01 09"
+    "1000 1000  0000 0100 0000 0000")
+EIGHT_FIELDS_LARGEST = bytes.fromhex(
+    "9C22 1000 5C00 0001 5C02 1000 0000 0000") + LARGEST[18:]
 
 # ---- buffers that are too short, whatever else is wrong
 
 SHORT = [
-    ("no bytes", b""), ("one byte", FRESH[:1]), ("15 bytes", FRESH[:15]),
-    ("15 bytes that say 15", bytes([15]) + bytes(14)),
-    ("the header alone", FRESH[:16]), ("91 bytes", FRESH[:91]),
-    ("93 said, 92 there", change(FRESH, ("total", 93))),
-    ("65,535 said, 92 there", change(FRESH, ("total", 65535))),
-    ("348 said, 92 there", change(FRESH, ("total", 348))),
-    ("93 said, 92 there, and CP is T",
-     change(FRESH, ("total", 93), ("CP", 8))),
-    ("91 bytes, and the plan fails", change(FRESH, ("plan", 2, 3))[:91]),
-    ("8,859 bytes of the largest", LARGEST[:-1]),
+    ("no bytes", b""), ("one byte", FRESH[:1]), ("17 bytes", FRESH[:17]),
+    ("17 bytes that say 17", bytes([17]) + bytes(16)),
+    ("16 bytes that say 16", bytes([16]) + bytes(15)),
+    ("17 bytes that say 0", bytes(17)),
+    ("the header alone", FRESH[:18]), ("93 bytes", FRESH[:93]),
+    ("95 said, 94 there", change(FRESH, ("total", 95))),
+    ("65,535 said, 94 there", change(FRESH, ("total", 65535))),
+    ("350 said, 94 there", change(FRESH, ("total", 350))),
+    ("95 said, 94 there, and CP is T",
+     change(FRESH, ("total", 95), ("CP", 8))),
+    ("95 said, 94 there, and the flow to look from is n",
+     change(FRESH, ("total", 95), ("look from", 2))),
+    ("93 bytes, and the plan fails", change(FRESH, ("plan", 2, 3))[:93]),
+    ("8,861 bytes of the largest", LARGEST[:-1]),
+    ("a header of eight fields, and 91 of 92 bytes", EIGHT_FIELDS[:91]),
+    ("a header of eight fields alone", EIGHT_FIELDS[:16]),
 ]
 # Long enough for what they say, which is wrong.
 LONG_ENOUGH = [
-    ("16 bytes that say 16", bytes([16]) + bytes(15)),
-    ("16 bytes that say 0", bytes(16)),
-    ("91 bytes that say 91", change(FRESH, ("total", 91))[:91]),
-    ("20 bytes that say 18", bytes([18]) + bytes(19)),
-    ("93 bytes that say 93", change(FRESH, ("total", 93)) + b"\0"),
-    ("91 bytes that say 90", change(FRESH, ("total", 90))[:91]),
+    ("18 bytes that say 18", bytes([18]) + bytes(17)),
+    ("18 bytes that say 0", bytes(18)),
+    ("18 bytes that say 16", bytes([16]) + bytes(17)),
+    ("93 bytes that say 93", change(FRESH, ("total", 93))[:93]),
+    ("22 bytes that say 20", bytes([20]) + bytes(21)),
+    ("95 bytes that say 95", change(FRESH, ("total", 95)) + b"\0"),
+    ("93 bytes that say 92", change(FRESH, ("total", 92))[:93]),
+    ("a header of eight fields", EIGHT_FIELDS),
+    ("a header of eight fields, and bytes past it", EIGHT_FIELDS + bytes(9)),
+    ("a header of eight fields, the smallest", EIGHT_FIELDS_SMALLEST),
+    ("a header of eight fields, the largest", EIGHT_FIELDS_LARGEST),
+    # The lengths of one of the two headers, and the fields of the other.
+    ("nine fields with the offsets of eight",
+     EIGHT_FIELDS[:16] + FRESH[16:]),
+    ("eight fields with the offsets of nine",
+     FRESH[:16] + EIGHT_FIELDS[16:] + bytes(2)),
     # The fresh image, cut off in each of its parts, which it says itself.
     *[("the first %d bytes, which say so" % length,
        change(FRESH, ("total", length))[:length])
-      for length in (16, 17, 18, 27, 28, 35, 36, 37, 51, 52, 53, 57)],
+      for length in (18, 19, 20, 29, 30, 37, 38, 39, 53, 54, 55, 59)],
     # Its low byte alone would be a booking of flow 0.
     ("owner 256, with C one less",
      change(FRESH, ("owner", 1, 256), ("C", 0, 1))),
@@ -290,15 +386,17 @@ SHARES_ABOVE = BASE[:16] + bytes([3]) + BASE[17:]       # 2 and 3 of F = 4
 # (name, plan, bytes of the buffer, refusal)
 FRESH_CALLS = [
     ("cells above N, no buffer", CELLS_ABOVE, 0, 7),
-    ("cells above N, 91 bytes", CELLS_ABOVE, 91, 7),
-    ("cells above N, 92 bytes", CELLS_ABOVE, 92, 7),
-    ("shares above F, 15 bytes", SHARES_ABOVE, 15, 6),
+    ("cells above N, 93 bytes", CELLS_ABOVE, 93, 7),
+    ("cells above N, 94 bytes", CELLS_ABOVE, 94, 7),
+    ("shares above F, 17 bytes", SHARES_ABOVE, 17, 6),
     ("a plan of 11 bytes, no buffer", BASE[:11], 0, 1),
     ("no plan and no buffer", b"", 0, 1),
     ("a good plan, no buffer", BASE, 0, 21),
-    ("a good plan, 15 bytes", BASE, 15, 21),
-    ("a good plan, 91 bytes", BASE, 91, 21),
-    ("a good plan, 92 bytes", BASE, 92, 0),
-    ("the largest, 8,859 bytes", LARGEST_PLAN, 8859, 21),
-    ("the largest, 8,860 bytes", LARGEST_PLAN, 8860, 0),
+    ("a good plan, 17 bytes", BASE, 17, 21),
+    ("a good plan, 92 bytes", BASE, 92, 21),
+    ("a good plan, 93 bytes", BASE, 93, 21),
+    ("a good plan, 94 bytes", BASE, 94, 0),
+    ("the largest, 8,860 bytes", LARGEST_PLAN, 8860, 21),
+    ("the largest, 8,861 bytes", LARGEST_PLAN, 8861, 21),
+    ("the largest, 8,862 bytes", LARGEST_PLAN, 8862, 0),
 ]

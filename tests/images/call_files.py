@@ -10,7 +10,7 @@ from simulator.records import ALLCALLS, read_record, split
 
 OLD = b"\xee"                           # in the buffer before fresh
 PAST = b"\xc3\x5a\x00"                  # after the image
-LONGEST = 8860
+LONGEST = 8862
 HANDLED = 16                            # records of a burst
 
 
@@ -77,10 +77,10 @@ def buffer_of(image, length):
     return image + OLD * (length - len(image)) + PAST
 
 
-def images_after(data, heard):
+def images_after(data):
     """The simulator's image after each line, b"" for none."""
     return [image_of(link) if link else b""
-            for _, link in steps(data, ALLCALLS, heard)]
+            for _, link in steps(data, ALLCALLS)]
 
 
 def difference(played, images, length):

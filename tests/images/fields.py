@@ -7,7 +7,7 @@ is wrong moves nothing.
 import struct
 
 HEADER = ("total", "plan at", "positions at", "positions", "flows at",
-          "flows", "CP", "taken")
+          "flows", "CP", "taken", "look from")
 SIZE = 2 * len(HEADER)
 
 

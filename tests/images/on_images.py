@@ -17,20 +17,19 @@ class Trial:
         self.buffer = bytes(buffer)
         self.call = call
 
-    def right(self, result):
-        """The result and the buffer that are right, where this result says
-        which flow a slot is lent to."""
+    def right(self):
+        """The result and the buffer that are right."""
         refusal = refusal_of(self.buffer)
         if refusal:
             return refusal * POWER, self.buffer
         link = link_of(self.buffer)
-        given = answer(link, self.call, "L %d" % result)
+        given = answer(link, self.call)
         image = image_of(link)
         return (number_of(self.call, *given),
                 image + self.buffer[len(image):])
 
     def trouble(self, result, buffer):
-        right, kept = self.right(result)
+        right, kept = self.right()
         if result != right:
             return "%s: %r gives %s, not %s" % (
                 self.name, self.call, said(result), said(right))

@@ -67,7 +67,8 @@ def taken_image(dice):
     plan = some_plan(dice)
     current = dice.below(plan.slots)
     owner = [NOBODY] * plan.slots
-    changes = [("CP", current), ("taken", dice.below(2))]
+    changes = [("CP", current), ("taken", dice.below(2)),
+               ("look from", dice.below(plan.flows))]
     for number in range(plan.flows):
         frame = dice.below(plan.window_frames)
         booked = some_bookings(dice, plan, owner, number,
@@ -89,7 +90,8 @@ def some_field(dice, places):
     flow, position = dice.below(places.flows), dice.below(places.slots)
     return dice.pick([
         (dice.pick(HEADER),), (dice.pick(HEADER),),
-        ("CP",), ("taken",), ("owner", position), ("owner", position),
+        ("CP",), ("taken",), ("look from",),
+        ("owner", position), ("owner", position),
         ("IF", flow), ("IF", flow), ("C", flow), ("C", flow),
         ("held", flow, position), ("held", flow, position),
         ("held", flow, position)])
@@ -165,14 +167,14 @@ def change_length(dice, image):
     if dice.chance(50):
         return image + dice.data(dice.pick([1, 2, 16, 300]))
     return image[:dice.pick([dice.below(len(image)), len(image) - 1,
-                             len(image) - 2, dice.below(20)])]
+                             len(image) - 2, dice.below(22)])]
 
 
 def random_image(dice):
     """Random bytes, some with a total length that could be theirs."""
-    image = dice.data(dice.pick([0, 1, 15, 16, 17, 40, 92, 300]))
+    image = dice.data(dice.pick([0, 1, 16, 17, 18, 19, 40, 94, 300]))
     if dice.chance(70) and len(image) >= 2:
-        total = dice.pick([0, 16, len(image), len(image), len(image) + 1])
+        total = dice.pick([0, 18, len(image), len(image), len(image) + 1])
         image = total.to_bytes(2, "little") + image[2:]
     return image
 

@@ -2,15 +2,9 @@
 ones, where one thing is in the way.
 """
 
-from images.acceptance import NOBODY, Tables
+from images.acceptance import NOBODY, tables_of
 from images.fields import change
 from images.random_images import taken_image
-from simulator.plan import read_plan
-
-
-def tables_of(image):
-    length = image[16] + 256 * image[17]
-    return Tables(image, read_plan(image[16:16 + length])[1])
 
 
 def later(tables):

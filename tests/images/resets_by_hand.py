@@ -4,7 +4,7 @@ a reset leaves of them, and nearly quiet ones, which stay as they are.
 
 from call_bytes import RESET, TICK, lend
 from edges.edge_maker import BASE, ask, credit, edge
-from images.by_hand import FRESH, LARGEST, LENT
+from images.by_hand import FRESH, LARGEST, LENT, THREE
 from images.fields import change
 
 # Positions 1 and 2 have gone by; flow 0 held one cell at both, flow 1 one at
@@ -46,6 +46,16 @@ AFTER_CALLS = [
           *BUSY, (RESET, "Z"), (ask(1), "G 4")),
      change(MARKED, ("owner", 4, 1), ("IF", 1, 1), ("C", 1, 1),
             ("held", 1, [0, 0, 1, 0, 1, 1, 1, 1]))),
+    # The lent cell is back from slot 1 on; lends begin with flow 0 again.
+    (edge("image: a reset after a lend", BASE,
+          (lend(1), "L 0"), (credit(0, 1), "C"), (TICK, "T -"),
+          (RESET, "Z")),
+     change(FRESH, ("CP", 1), ("held", 0, 0, 1))),
+    (edge("image: a lend after a reset after a lend", BASE,
+          (lend(1), "L 0"), (credit(0, 1), "C"), (TICK, "T -"),
+          (RESET, "Z"), (lend(3), "L 0")),
+     change(FRESH, ("CP", 1), ("taken", 1), ("look from", 1),
+            ("held", 0, [1] * 8))),
     # Slot 4: the mark ends, and holdings go on where frame 0 was, as slots 8
     # to 11.
     (edge("image: a frame change after a reset", BASE,
@@ -97,6 +107,14 @@ GRANTED = [
     ("a mark and old holdings", MARKED, MARKED),
     ("bytes past it", change(FRESH, ("IF", 0, 1)) + b"\1\2\3",
      FRESH + b"\1\2\3"),
+    ("the flow to look from is n - 1", change(FRESH, ("look from", 1)),
+     FRESH),
+    ("the flow to look from is the middle one", change(
+        THREE, ("look from", 1)), THREE),
+    ("the flow to look from is 15", change(LARGEST, ("look from", 15)),
+     LARGEST),
+    ("a mark, and the flow to look from is n - 1", change(
+        MARKED, ("look from", 1)), MARKED),
 ]
 
 # One thing is in the way.
@@ -124,6 +142,11 @@ NEARLY_QUIET = [
     ("old holdings, and one at CP", change(MARKED, ("held", 1, 3, 1))),
     ("a mark, and the next position is booked", change(
         MARKED, ("owner", 4, 1), ("IF", 1, 1), ("C", 1, 1))),
+    # The flow to look from stays with all the rest.
+    ("the flow to look from is n - 1, and CP + 1 is booked", change(
+        FRESH, ("look from", 1), ("owner", 1, 0), ("C", 0, 1))),
+    ("the flow to look from is 15, and flow 0 holds a cell", change(
+        LARGEST, ("look from", 15), ("held", 0, [1] * 256))),
     ("the largest, whose last flow holds a cell at CP", change(
         LARGEST, ("held", 15, 0, 1))),
     ("the largest, whose position 255 is booked", change(

@@ -8,7 +8,8 @@ from functools import partial
 
 from generator import departure_seeds, lend_seeds, reset_seeds
 from generator.dice import Dice
-from images import by_hand, fresh_calls, random_resets, resets_by_hand
+from images import (
+    by_hand, fresh_calls, random_lends, random_resets, resets_by_hand)
 from images.acceptance import broken, refusal_of
 from images.call_files import images_after
 from images.on_images import Trial
@@ -24,8 +25,9 @@ CONDITIONS = sorted({condition for condition, _, _ in by_hand.BROKEN})
 FILES = 6               # of each family, looked at after each call
 FEW = 1500              # bytes of each
 TAKEN_IMAGES = 60       # by chance, with calls on each
-IMAGES = 600            # by chance, of which most are not taken
+IMAGES = 1000           # by chance, of which half are not taken
 QUIET_IMAGES = 300      # by chance, and nearly quiet ones
+FREE_IMAGES = 300       # by chance, whose current slot can be lent
 
 
 def after_calls(edge, image):
@@ -59,7 +61,7 @@ def reached(family, seed):
     """Every image that calls lead to is taken."""
     data = family.generate(seed)[:FEW]
     return next(("one breaks %r" % broken(image)
-                 for image in images_after(data, ()) if refusal_of(image)),
+                 for image in images_after(data) if refusal_of(image)),
                 None)
 
 
@@ -96,7 +98,7 @@ def each_broken():
 def reset(image, refusal, left):
     """The result and the bytes are those worked out by hand, and what was
     reset is taken, as it was before."""
-    found = Trial("", image, ("reset",)).right(0)
+    found = Trial("", image, ("reset",)).right()
     return (taken(image) or taken(left)
             or found[0] != refusal * POWER and "it gives %d" % found[0]
             or found[1] != left and "it leaves %s" % found[1].hex())
@@ -114,6 +116,33 @@ def each_reset():
         if wrong:
             return "image %d: %s" % (seed, wrong)
     missing = [way for way in random_resets.WAYS if way not in found]
+    return missing and "never: %r" % missing
+
+
+def lent(image, call):
+    """The answer, and the flow to look from after it, are told from the
+    image's bytes.  What went wrong or None, and what the lend met."""
+    link = link_of(image)
+    given = answer(link, call)
+    after = image_of(link)
+    first = int.from_bytes(after[16:18], "little")
+    wrong = (taken(image) or taken(after)
+             or given != random_lends.right_line(image, call[1])
+             and "%s %s is given" % given
+             or first != random_lends.next_field(image, *given)
+             and "the flow to look from is %d" % first)
+    return wrong, random_lends.ways(image, call[1], *given)
+
+
+def each_lend():
+    """Lends on images by chance meet everything."""
+    found = set()
+    for seed in range(FREE_IMAGES):
+        wrong, ways = lent(*random_lends.some_lend(Dice(seed)))
+        if wrong:
+            return "image %d: %s" % (seed, wrong)
+        found |= ways
+    missing = [way for way in random_lends.WAYS if way not in found]
     return missing and "never: %r" % missing
 
 
@@ -140,3 +169,4 @@ def tests():
     yield "image: calls leave taken images taken", all_kept
     yield "image: each condition is broken by chance, it alone", each_broken
     yield "image: resets of images by chance meet everything", each_reset
+    yield "image: lends on images by chance meet everything", each_lend

@@ -7,11 +7,11 @@
 
 #define SAME(name, left, right) typedef char name[(left) == (right) ? 1 : -1]
 
-SAME(header, NAZGOLV_HEADER, 2 * 8);
+SAME(header, NAZGOLV_HEADER, 2 * 9);
 SAME(longest_plan, NAZGOLV_PLAN_MAX, 12 + 4 * 16);
 SAME(longest, NAZGOLV_IMAGE_MAX, NAZGOLV_IMAGE_LENGTH(256, 16));
-SAME(of_the_listing, NAZGOLV_IMAGE_LENGTH(8, 2), 92);
-SAME(smallest, NAZGOLV_IMAGE_LENGTH(2, 1), 44);
+SAME(of_the_listing, NAZGOLV_IMAGE_LENGTH(8, 2), 94);
+SAME(smallest, NAZGOLV_IMAGE_LENGTH(2, 1), 46);
 SAME(word, NAZGOLV_WORD(9, 1, 2, 3), 0x24100803);
 SAME(all_ones, NAZGOLV_WORD(63, 63, 1023, 1023), 0xFFFFFFFF);
 SAME(position, NAZGOLV_POSITION(0x24100803), 3);

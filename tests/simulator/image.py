@@ -1,5 +1,5 @@
-"""Link images, as document 02 has them (N5): the bytes of a link, and the link
-of an image that is taken.
+"""Link images, as document 02 has them (N5 and N8): the bytes of a link, and
+the link of an image that is taken.
 
 The window's slots are those from the head frame's first on, and a position is
 a slot's number modulo T: the tables of an image, which go round, are counted
@@ -10,7 +10,7 @@ from simulator.link import Link
 from simulator.plan import read_plan
 
 NOBODY = 16             # the owner of a position that nobody booked
-HEADER = 16             # bytes: eight fields
+HEADER = 18             # bytes: nine fields
 
 
 def fields(numbers):
@@ -48,6 +48,12 @@ def flow_part(link, number):
                    *by_position(link, link.holdings(number))])
 
 
+def look_from(link):
+    """The flow after the last one lent to; 0 where none was since the link was
+    fresh or reset."""
+    return (link.last_lent + 1) % link.plan.flows
+
+
 def image_of(link):
     """A header, and without gaps the plan, the owners and the flows."""
     parts = [link.plan.data, owners(link),
@@ -59,7 +65,7 @@ def image_of(link):
     plan_at, positions_at, flows_at, total = places
     header = [total, plan_at, positions_at, link.plan.slots,
               flows_at, link.plan.flows, link.ticks % link.plan.slots,
-              int(link.ticks == link.marked)]
+              int(link.ticks == link.marked), look_from(link)]
     return fields(header) + b"".join(parts)
 
 
@@ -87,11 +93,12 @@ def set_flow(link, number, part):
 
 def link_of(image):
     """The link whose current slot is numbered as its position."""
-    total, plan_at, positions_at, _, flows_at, count, now, taken = numbers(
-        image[:HEADER])
+    (total, plan_at, positions_at, _, flows_at, count, now, taken,
+     first) = numbers(image[:HEADER])
     link = Link(read_plan(image[plan_at:positions_at])[1])
     link.ticks = now
     link.marked = now if taken else None
+    link.last_lent = first - 1
     booked = numbers(image[positions_at:flows_at])
     link.owner = {slot: booked[slot % link.plan.slots]
                   for slot in window(link)

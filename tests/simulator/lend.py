@@ -1,4 +1,4 @@
-"""Lend, as document 02 has it (N1)."""
+"""Lend, as document 02 has it (N1), in turn (N8)."""
 
 
 def can_take(link, flow):
@@ -19,14 +19,13 @@ def taken(link):
     return link.ticks in link.owner or link.ticks == link.marked
 
 
-def chosen(flows, heard):
-    """Which of these flows gets the slot is left open: the one that a program
-    lent to, if it is among them, else the lowest."""
-    return next((flow for flow in flows if heard == "L %d" % flow), flows[0])
+def first_in_turn(link, flows):
+    """Looking from the flow after the last one lent to, and going round."""
+    later = [flow for flow in flows if flow > link.last_lent]
+    return min(later or flows)
 
 
-def lend(link, mask, heard):
-    """`heard` is the line that a program gave, or None."""
+def lend(link, mask):
     if mask >> link.plan.flows:         # a bit at n or above
         return "R", 8
     if taken(link):
@@ -34,7 +33,8 @@ def lend(link, mask, heard):
     flows = takers(link, mask)
     if not flows:
         return "R", 18
-    flow = chosen(flows, heard)
+    flow = first_in_turn(link, flows)
+    link.last_lent = flow
     link.marked = link.ticks
     link.flows[flow].held_from.append(link.ticks)
     return "L", flow

@@ -36,6 +36,7 @@ class Link:
         self.ticks = 0              # slot `ticks` is current
         self.owner = {}             # granted slot -> flow
         self.marked = None          # the slot that was marked taken last
+        self.last_lent = -1         # the flow lent to last, or the one before 0
         self.flows = [Flow(plan.share(flow)) for flow in range(plan.flows)]
 
     # ---- frames and slots of the window

@@ -1,7 +1,5 @@
 """The listing of a call file: its bytes in, its lines out."""
 
-from itertools import chain, repeat
-
 from simulator.burst import burst
 from simulator.calls import answer
 from simulator.link import Link
@@ -15,14 +13,14 @@ def line(letter, number):
     return letter if number is None else "%s %s" % (letter, number)
 
 
-def lines_of(link, call, given):
+def lines_of(link, call):
     """The lines of a call, each as the link comes to it: one, but for a burst,
-    which has one a record.  `given` are the lines heard of a program."""
+    which has one a record."""
     if call and call[0] == "burst":
-        for pair, _ in zip(burst(link, *call[1:]), given):
+        for pair in burst(link, *call[1:]):
             yield "B %d %d" % pair
     else:
-        yield line(*answer(link, call, next(given)))
+        yield line(*answer(link, call))
 
 
 def split_file(data):
@@ -35,23 +33,20 @@ def split_file(data):
     return data[:length], data[length:]
 
 
-def steps(data, kinds=DOMELINK, heard=()):
+def steps(data, kinds=DOMELINK):
     """Each line of the listing of a call file, and the link after it, or None
-    where there is none; `kinds` is a program's table of records.  `heard` is
-    the program's listing, where it is at hand: it is followed where an answer
-    is left open."""
+    where there is none; `kinds` is a program's table of records."""
     parts = split_file(data)
     refusal, plan = read_plan(parts[0]) if parts else (1, None)
     link = None if refusal else Link(plan)
     yield line("P", refusal), link
     if refusal:
         return
-    given = chain(heard[1:], repeat(None))
     for record in split(parts[1], kinds):
-        for text in lines_of(link, read_record(record, kinds), given):
+        for text in lines_of(link, read_record(record, kinds)):
             yield text, link
 
 
-def simulate(data, kinds=DOMELINK, heard=()):
+def simulate(data, kinds=DOMELINK):
     """The listing of a call file, as lines."""
-    return [text for text, _ in steps(data, kinds, heard)]
+    return [text for text, _ in steps(data, kinds)]

@@ -1,4 +1,4 @@
-"""Local reset, as document 02 has it (N6)."""
+"""Local reset, as document 02 has it (N6 and N8)."""
 
 from simulator.lend import taken
 
@@ -26,6 +26,7 @@ def reset(link):
     if taken(link):
         link.marked = link.ticks
     link.owner.clear()
+    link.last_lent = -1             # the next lend looks from flow 0
     for number, flow in enumerate(link.flows):
         flow.frame = link.head_frame()
         flow.left = link.plan.share(number)

@@ -5,10 +5,11 @@ use mathlib.Core.List.{List, _∷_, [], _++_}
 use Rattle.model.specs.Plan.{flowCount, planOf}
 use Rattle.model.specs.Calls.{Call, History}
 use Rattle.model.specs.Claim.{Demand3}
+use Rattle.model.specs.Fairness.{FairOn}
 use Rattle.images.specs.Taken.{refusalOf}
 use Rattle.images.specs.Exports.{Called, HandsBack, calledOn}
 use Rattle.images.specs.Chain.{eventOf, imageIn, Chain, starts, goes-on}
-use Rattle.images.proofs.Chain.{chain-taken, chain-meets}
+use Rattle.images.proofs.Chain.{chain-taken, chain-meets, chain-fair}
 use Rattle.image.specs.Hosted.{Hosted, by-fresh, by-request, by-credit, by-tick, by-lend, by-reset}
 
 module _ (plan : List ℕ) where
@@ -30,7 +31,7 @@ module _ (plan : List ℕ) where
   chained (by-request x c same word r e) = one-more (chained x) c same (Call.request word) e
   chained (by-credit x c same flow position r e) = one-more (chained x) c same (Call.credit flow position) e
   chained (by-tick x c same r e) = one-more (chained x) c same Call.tick e
-  chained (by-lend x c same mask r e) = one-more (chained x) c same (Call.lend mask (e .choice)) (e .result-is, e .buffer-is)
+  chained (by-lend x c same mask r e) = one-more (chained x) c same (Call.lend mask) e
   chained (by-reset x c same r e) = one-more (chained x) c same Call.reset e
 
   -- a buffer with the image in hand is never turned back
@@ -39,3 +40,7 @@ module _ (plan : List ℕ) where
 
   pub host-meets : {h : History} {b : List ℕ} → Hosted plan h b → (i : ℕ) → i < flowCount (planOf plan) → Demand3 (planOf plan) i h
   host-meets x = chain-meets plan (chained x .chain)
+
+  -- document 02, N8
+  pub host-fair : {h : History} {b : List ℕ} → Hosted plan h b → FairOn (planOf plan) h
+  host-fair x = chain-fair plan (chained x .chain)

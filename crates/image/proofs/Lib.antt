@@ -2,6 +2,5 @@
 pub mod TurnedBack
 pub mod Stepping
 pub mod FreshImages
-pub mod LentImages
 -- demand 3 of a host's calls
 pub mod Demand3

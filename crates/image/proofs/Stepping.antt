@@ -44,7 +44,7 @@ turn-number : (a : Turn) → numberFor (answerToTick a) ≡ turnNumber a
 turn-number (some i) = refl
 turn-number none = refl
 
-pub loan-number : (a : Loan) → numberFor (answerToLend a) ≡ loanNumber a
+loan-number : (a : Loan) → numberFor (answerToLend a) ≡ loanNumber a
 loan-number (accepted i) = refl
 loan-number (refused n) = refl
 
@@ -79,8 +79,8 @@ module _ {b : List ℕ} (l : Link) (e : linkOf l ≡ linkIn b) where
   pub steps-tick : {s : Step} → Stepped answerToTick (tick.tick (linkOf l)) s → Steps b Call.tick s
   steps-tick = stepped turnNumber turn-number tick.tick Call.tick refl
 
-  pub steps-lend : (mask choice : ℕ) {s : Step} → Stepped answerToLend (lend.lend (linkOf l) mask choice) s → Steps b (Call.lend mask choice) s
-  steps-lend mask choice = stepped loanNumber loan-number (λ x. lend.lend x mask choice) (Call.lend mask choice) refl
+  pub steps-lend : (mask : ℕ) {s : Step} → Stepped answerToLend (lend.lend (linkOf l) mask) s → Steps b (Call.lend mask) s
+  steps-lend mask = stepped loanNumber loan-number (λ x. lend.lend x mask) (Call.lend mask) refl
 
   pub steps-reset : {s : Step} → Stepped answerToReset (reset.reset (linkOf l)) s → Steps b Call.reset s
   steps-reset = stepped renewalNumber renewal-number reset.reset Call.reset refl

@@ -4,9 +4,8 @@ use Prim.Native.Nat.{ℕ}
 use mathlib.Core.Path.{_≡_}
 use mathlib.Core.List.{List, _∷_, []}
 use Rattle.model.specs.Calls.{Event, History, requested, credited, ticked, lent}
-use Rattle.images.specs.Exports.{HandsBack, freshOn, requestOn, creditOn, tickOn, resetOn}
+use Rattle.images.specs.Exports.{HandsBack, freshOn, requestOn, creditOn, tickOn, lendOn, resetOn}
 use Rattle.images.specs.Chain.{answerOf, turnOf, imageIn}
-use Rattle.image.specs.Lend.{LendsOn}
 
 -- This buffer is in hand after a host's calls with the events h, of which the newest is first. Each case has what the contract of that export ensures of
 -- its number r and of the buffer after it; the event has the answer that r stands for. The next call gets any buffer with the same image, whole: a call that gets less
@@ -20,6 +19,6 @@ pub data Hosted (plan : List ℕ) : History → List ℕ → Type 0 where
   by-tick : {h : History} {b : List ℕ} → Hosted plan h b → (c : List ℕ) → imageIn c ≡ imageIn b → (r : ℕ) {after : List ℕ}
       → HandsBack (tickOn c) r after → Hosted plan (ticked (turnOf r) ∷ h) after
   by-lend : {h : History} {b : List ℕ} → Hosted plan h b → (c : List ℕ) → imageIn c ≡ imageIn b → (mask r : ℕ) {after : List ℕ}
-      → LendsOn c mask r after → Hosted plan (lent mask (answerOf r r) ∷ h) after
+      → HandsBack (lendOn c mask) r after → Hosted plan (lent mask (answerOf r r) ∷ h) after
   by-reset : {h : History} {b : List ℕ} → Hosted plan h b → (c : List ℕ) → imageIn c ≡ imageIn b → (r : ℕ) {after : List ℕ}
       → HandsBack (resetOn c) r after → Hosted plan (Event.reset (answerOf tt r) ∷ h) after

@@ -2,10 +2,9 @@
 // answered; else it is a refusal times that power.
 ghost use mathlib.Core.Path.{_≡_};
 ghost use Rattle.link.specs.Reading.{linkOf};
-ghost use Rattle.images.specs.Exports.{HandsBack, refusalNumber, writtenTo, freshOn, requestOn, creditOn, tickOn, resetOn};
+ghost use Rattle.images.specs.Exports.{HandsBack, refusalNumber, writtenTo, freshOn, requestOn, creditOn, tickOn, lendOn, resetOn};
 ghost use Rattle.imagebytes.specs.Asked.{Writable};
 ghost use Rattle.image.specs.Numbers.{numberFor};
-ghost use Rattle.image.specs.Lend.{LendsOn};
 use calls::Answer;
 use imagebytes::read;
 use imagebytes::write;
@@ -131,10 +130,10 @@ pub extern "C" fn nazgolv_tick(image: &mut [u8]) -> u64
     hand_back(link.tick(), image)
 }
 
-// The current slot, when nobody booked it, goes to a flow of a mask that has a quantum ready.
+// The current slot, when nobody booked it, goes in turn to a flow of a mask that has a quantum ready.
 #[no_mangle]
 pub extern "C" fn nazgolv_lend(image: &mut [u8], mask: u16) -> u64
-    ensures { λ r. ⌜ LendsOn (now (image .entry)) mask r (now (image .exit)) ⌝ }
+    ensures { λ r. ⌜ HandsBack (lendOn (now (image .entry)) mask) r (now (image .exit)) ⌝ }
 {
     let number = refusal(image);
     if number != 0 {

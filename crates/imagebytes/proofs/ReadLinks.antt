@@ -59,6 +59,7 @@ linkRead b p y u = record {
   flows = flowsFrom b y;
   held = heldFrom b y;
   taken = eqb (field16 b 14) 1;
+  first = field16 b 16;
 }
 
 -- the words of a window are those of its plan
@@ -74,6 +75,7 @@ pub record Stored (b : List ℕ) (p : Plan) (y : Layout) (l : Link) : Type 0 whe
   pub flows-are : l .flows ≡ flowsFrom b y
   pub held-is : l .held ≡ heldFrom b y
   pub taken-is : l .taken ≡ eqb (field16 b 14) 1
+  pub first-is : l .first ≡ field16 b 16
   pub words : WordsOf (p .slots) (p .frames) (l .owner) (l .unbooked)
 
 module _ {b : List ℕ} (t : Taken b) (p : Plan) (v : Valid p) (is : planFor p ≡ planIn b) (y : Layout) (laid : LaidOut (planFor p) y) where
@@ -183,7 +185,7 @@ module _ {b : List ℕ} (t : Taken b) (p : Plan) (v : Valid p) (is : planFor p �
   read-link : (u : List ℕ) → linkOf (linkRead b p y u) ≡ linkIn b
   unfolding linkOf linkIn
   read-link u =
-      (λ k. record { plan = P; current = field16 b 12; owners = owners k; flows = flows k; taken = eqb (field16 b 14) 1 })
+      (λ k. record { plan = P; current = field16 b 12; owners = owners k; flows = flows k; taken = eqb (field16 b 14) 1; lookFrom = field16 b 16 })
       ∙ ap (linkFrom b) is
     where
       owners : table T (λ q. ownerOf (getD (ownersFrom b y) q 0)) ≡ linkFrom b P .owners
@@ -220,6 +222,7 @@ module _ {b : List ℕ} (t : Taken b) (p : Plan) (v : Valid p) (is : planFor p �
           spare = λ q l. nothing-past b (partAt y i + 4) (y .size) q (omega (arith, size-is laid));
         });
     spare-flows = λ i h l. rw (flows-past b y few i (omega (arith, count)) l, rows-past b y few i (omega (arith, count)) l);
+    first = omega (arith, count-is p, met .look-from-below);
   }
     where
       owner : (q : ℕ) → q < 256 → (getD (ownersFrom b y) q 0 ≡ nobody → ⊥) → Dec (q < T) → getD (ownersFrom b y) q 0 < p .count
@@ -245,4 +248,5 @@ module _ {b : List ℕ} (t : Taken b) (p : Plan) (v : Valid p) (is : planFor p �
         flows = sym (e .flows-are) k;
         held = sym (e .held-is) k;
         taken = sym (e .taken-is) k;
+        first = sym (e .first-is) k;
       }

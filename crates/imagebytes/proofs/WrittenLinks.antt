@@ -22,13 +22,13 @@ use Rattle.link.specs.declared.Link.{Link}
 use Rattle.link.specs.Layout.{sizeOf, noFlow}
 use Rattle.link.specs.Reading.{linkOf}
 use Rattle.link.proofs.Readings.{read-count, read-flow, flows-most, size-most}
-use Rattle.images.specs.Image.{fields, imageLength, ownerField, imageOf}
+use Rattle.images.specs.Image.{fields, headerLength, imageLength, ownerField, imageOf}
 use Rattle.images.specs.Exports.{writtenTo}
 use Rattle.images.proofs.Fields.{length-fields}
 use Rattle.images.proofs.ReadBack.{image-length}
 use Rattle.taken.proofs.Layouts.{count-is}
 use Rattle.imagebytes.specs.Writing.{headerOf, partsOf}
-use Rattle.imagebytes.specs.Asked.{FlowFits, PartsFit, Writable}
+use Rattle.imagebytes.specs.Asked.{HeaderFits, FlowFits, PartsFit, Writable}
 
 -- ---- the parts
 
@@ -48,19 +48,19 @@ module _ (l : Link) where
   unfolding linkOf
   owners-are = map-table ownerField (sizeOf l) _ ∙ table-same (sizeOf l) _ _ (λ p _. owner-again (getD (l .owner) p 0))
 
-  pub image-is : fields (headerOf (planFor (l .plan)) (l .cp) (l .taken)) ++ bytesOf (planFor (l .plan))
+  pub image-is : fields (headerOf (planFor (l .plan)) (l .cp) (l .taken) (l .first)) ++ bytesOf (planFor (l .plan))
       ++ fields (table (sizeOf l) (λ p. getD (l .owner) p 0))
       ++ partsOf (sizeOf l) (l .flows) (l .held) (l .plan .count)
       ≡ imageOf (linkOf l)
   unfolding imageOf linkOf
   image-is =
-      λ k. fields (headerOf (planFor (l .plan)) (l .cp) (l .taken)) ++ bytesOf (planFor (l .plan)) ++ fields (sym owners-are k)
+      λ k. fields (headerOf (planFor (l .plan)) (l .cp) (l .taken) (l .first)) ++ bytesOf (planFor (l .plan)) ++ fields (sym owners-are k)
       ++ partsOf (sizeOf l) (l .flows) (l .held) (l .plan .count)
 
   -- ---- where they end
 
-  pub header-ends : {b after : List ℕ} {next : ℕ} → Puts (fields (headerOf (planFor (l .plan)) (l .cp) (l .taken))) b after 0 next → next ≡ 16
-  header-ends q = omega (arith, q .up-to, length-fields (headerOf (planFor (l .plan)) (l .cp) (l .taken)))
+  pub header-ends : {b after : List ℕ} {next : ℕ} → Puts (fields (headerOf (planFor (l .plan)) (l .cp) (l .taken) (l .first))) b after 0 next → next ≡ headerLength
+  header-ends q = omega (arith, q .up-to, length-fields (headerOf (planFor (l .plan)) (l .cp) (l .taken) (l .first)))
 
   pub plan-ends : {b after : List ℕ} {at next : ℕ} → Puts (bytesOf (planFor (l .plan))) b after at next → next ≡ at + (12 + 4 * l .plan .count)
   plan-ends q = omega (arith, q .up-to, length-is (planFor (l .plan)), count-is (l .plan))
@@ -87,9 +87,17 @@ module _ {l : Link} {b : List ℕ} (v : Writable l b) where
   count : model.flowCount (linkOf l .plan) ≡ l .plan .count
   count = read-count l
 
-  pub room : 28 + 4 * l .plan .count + 2 * sizeOf l + 2 * (l .plan .count * (2 + sizeOf l)) ≤ length b
+  pub room : 30 + 4 * l .plan .count + 2 * sizeOf l + 2 * (l .plan .count * (2 + sizeOf l)) ≤ length b
   unfolding linkOf
   room = omega (arith, v .there, count, ap (λ n. n * (2 + sizeOf l)) count)
+
+  pub header-room : HeaderFits (l .plan) (l .cp) (l .first) b
+  header-room = record {
+    plan = v .sound .plan;
+    cp-fits = omega (arith, v .sound .current, size-most l (v .sound));
+    first-fits = omega (arith, v .sound .first, flows-most l (v .sound));
+    there = omega (arith, room);
+  }
 
   pub each-fits : (i : ℕ) → i < l .plan .count → FlowFits (getD (l .flows) i noFlow)
   each-fits i h =
@@ -102,7 +110,7 @@ module _ {l : Link} {b : List ℕ} (v : Writable l b) where
       }
 
   -- where the flows begin
-  pub parts-fit : {c : List ℕ} → length c ≡ length b → (at : ℕ) → at ≡ 28 + 4 * l .plan .count + 2 * sizeOf l
+  pub parts-fit : {c : List ℕ} → length c ≡ length b → (at : ℕ) → at ≡ 30 + 4 * l .plan .count + 2 * sizeOf l
       → PartsFit (l .flows) (l .plan .count) (sizeOf l) c at
   parts-fit same at e = record {
     few = flows-most l (v .sound);

@@ -28,6 +28,7 @@ use Rattle.images.proofs.ImageTaken.{bit-most}
 use Rattle.taken.specs.declared.layout.Layout.{Layout}
 use Rattle.taken.specs.Layout.{fieldsOf, LaidOut}
 use Rattle.taken.proofs.Layouts.{count-is, total-is, plan-at, positions-at, size-is, flows-at, flows-are}
+use Rattle.imagebytes.specs.Asked.{HeaderFits}
 use Rattle.imagebytes.specs.Writing.{headerOf, entriesBytes, partOf, partsOf}
 
 pub puts-four : (a b c d : ℕ) (out : List ℕ) (at : ℕ)
@@ -64,9 +65,9 @@ mark-is : (b : Bool) → boolByte b ≡ bit b
 mark-is true = refl
 mark-is false = refl
 
-pub header-is : (p : Plan) {y : Layout} → LaidOut (planFor p) y → (cp : ℕ) (taken : Bool)
-    → fields (y .total ∷ y .plan ∷ y .positions ∷ y .size ∷ y .flows ∷ y .count ∷ cp ∷ boolByte taken ∷ []) ≡ fields (headerOf (planFor p) cp taken)
-header-is p laid cp taken = λ k. fields (laid .is k ++ (cp ∷ mark-is taken k ∷ []))
+pub header-is : (p : Plan) {y : Layout} → LaidOut (planFor p) y → (cp : ℕ) (taken : Bool) (first : ℕ)
+    → fields (y .total ∷ y .plan ∷ y .positions ∷ y .size ∷ y .flows ∷ y .count ∷ cp ∷ boolByte taken ∷ first ∷ []) ≡ fields (headerOf (planFor p) cp taken first)
+header-is p laid cp taken first = λ k. fields (laid .is k ++ (cp ∷ mark-is taken k ∷ first ∷ []))
 
 -- ---- the plan
 
@@ -107,9 +108,9 @@ part-fits i n w h =
 
 -- ---- what the header asks
 
-pub header-fits : (p : Plan) → Valid p → {y : Layout} → LaidOut (planFor p) y → (cp : ℕ) (taken : Bool) → cp < 65536
-    → AllFit (y .total ∷ y .plan ∷ y .positions ∷ y .size ∷ y .flows ∷ y .count ∷ cp ∷ boolByte taken ∷ [])
-header-fits p v laid cp taken h =
+pub header-fits : (p : Plan) {y : Layout} → LaidOut (planFor p) y → (cp : ℕ) (taken : Bool) (first : ℕ) {b : List ℕ} → HeaderFits p cp first b
+    → AllFit (y .total ∷ y .plan ∷ y .positions ∷ y .size ∷ y .flows ∷ y .count ∷ cp ∷ boolByte taken ∷ first ∷ [])
+header-fits p laid cp taken first v =
     omega (
       arith,
       laid .short,
@@ -119,8 +120,10 @@ header-fits p v laid cp taken h =
       size-is laid,
       flows-at laid,
       flows-are laid,
-      v .accepted .positions-most,
-      v .accepted .flows-most,
+      v .plan .accepted .positions-most,
+      v .plan .accepted .flows-most,
+      v .cp-fits,
+      v .first-fits,
       mark-is taken,
       bit-most taken,
     )

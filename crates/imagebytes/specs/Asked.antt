@@ -3,12 +3,14 @@ use Prim.Native.Nat.{ℕ, _+_, _*_, _≤_, _<_}
 use mathlib.Core.Path.{_≡_}
 use mathlib.Core.List.{List}
 use lib.ListN.{length, getD}
+use Rattle.plan.specs.declared.Plan.{Plan}
+use Rattle.plan.specs.Reading.{Valid}
 use Rattle.link.specs.declared.Flow.{Flow}
 use Rattle.link.specs.declared.Link.{Link}
 use Rattle.link.specs.Layout.{noFlow}
 use Rattle.link.specs.Reading.{linkOf}
 use Rattle.link.specs.Sound.{Sound}
-use Rattle.images.specs.Image.{fieldAt, imageLength}
+use Rattle.images.specs.Image.{fieldAt, headerLength, imageLength}
 use Rattle.images.specs.Consistent.{Keepable}
 use Rattle.taken.specs.declared.layout.Layout.{Layout}
 use Rattle.taken.specs.Layout.{Sized}
@@ -30,6 +32,13 @@ pub record HoldingsOn (b : List ℕ) (y : Layout) : Type 0 where
   pub bytes : (i p : ℕ) → i < y .count → p < y .size → fieldAt b (partAt y i + 4) p < 256
 
 -- ---- writing
+
+-- CP and the flow to look from fit their fields, and there is room for the header
+pub record HeaderFits (p : Plan) (cp first : ℕ) (b : List ℕ) : Type 0 where
+  pub plan : Valid p
+  pub cp-fits : cp < 65536
+  pub first-fits : first < 65536
+  pub there : headerLength ≤ length b
 
 -- a flow's frame and remainder fit their fields
 pub record FlowFits (f : Flow) : Type 0 where

@@ -14,9 +14,9 @@ use Rattle.link.specs.Layout.{flowRow, flowIn}
 use Rattle.link.specs.Reading.{flowOf}
 use Rattle.images.specs.Image.{fields, layout, flowPart}
 
--- the header's fields, with CP and the taken mark
-abbrev pub headerOf : Plan → (cp : ℕ) → (taken : Bool) → List ℕ
-headerOf P cp taken = layout P ++ (cp ∷ bit taken ∷ [])
+-- the header's fields, with CP, the taken mark and the flow to look from
+abbrev pub headerOf : Plan → (cp : ℕ) → (taken : Bool) → (first : ℕ) → List ℕ
+headerOf P cp taken first = layout P ++ (cp ∷ bit taken ∷ first ∷ [])
 
 -- the first n of sixteen entries
 abbrev pub entriesBytes : List Entry → ℕ → List ℕ

@@ -28,6 +28,7 @@ pub fn read(image: &[u8]) -> Link
     let held = read_held(image, l);
     let cp = field(image, 12);
     let mark = field(image, 14);
+    let first = field(image, 16);
     let w = window(plan.slots, plan.frames, cp);
     let words = words_of(&owner, w);
     Link {
@@ -38,5 +39,6 @@ pub fn read(image: &[u8]) -> Link
         flows,
         held,
         taken: mark == 1,
+        first,
     }
 }

@@ -10,7 +10,7 @@ ghost use Rattle.link.specs.Reading.{linkOf};
 ghost use Rattle.images.specs.Image.{fields};
 ghost use Rattle.images.specs.Exports.{writtenTo};
 ghost use Rattle.imagebytes.specs.Writing.{entriesBytes, headerOf, partOf, partsOf};
-ghost use Rattle.imagebytes.specs.Asked.{Writable, PartFits, PartsFit};
+ghost use Rattle.imagebytes.specs.Asked.{Writable, HeaderFits, PartFits, PartsFit};
 use fields::put_all;
 use fields::put_table;
 use link::Flow;
@@ -22,9 +22,9 @@ use tables::holdings::row_of;
 use taken::layout::layout_of;
 
 // Writes the header of an image and returns the place after it.
-fn put_header(plan: Plan, cp: usize, taken: bool, image: &mut [u8]) -> usize
-    requires { ⌜ Valid plan × ((cp < 65536) × (16 ≤ length (now image))) ⌝ }
-    ensures { λ r. ⌜ Puts (fields (headerOf (planFor plan) cp taken)) (now (image .entry)) (now (image .exit)) 0 r ⌝ }
+fn put_header(plan: Plan, cp: usize, taken: bool, first: usize, image: &mut [u8]) -> usize
+    requires { ⌜ HeaderFits plan cp first (now image) ⌝ }
+    ensures { λ r. ⌜ Puts (fields (headerOf (planFor plan) cp taken first)) (now (image .entry)) (now (image .exit)) 0 r ⌝ }
 {
     let l = layout_of(plan);
     let header = [
@@ -36,6 +36,7 @@ fn put_header(plan: Plan, cp: usize, taken: bool, image: &mut [u8]) -> usize
         l.count,
         cp,
         taken as usize,
+        first,
     ];
     put_all(&header, image, 0)
 }
@@ -132,7 +133,7 @@ pub fn write(link: Link, image: &mut [u8])
 {
     let plan = link.plan;
     let size = plan.slots * plan.frames;
-    let mut at = put_header(plan, link.cp, link.taken, image);
+    let mut at = put_header(plan, link.cp, link.taken, link.first, image);
     at = put_plan(plan, image, at);
     at = put_table(&link.owner, size, image, at);
     let flows = link.flows;

@@ -13,7 +13,7 @@ use Rattle.model.specs.Calls.{Answer, Turn, accepted, refused}
 use Rattle.model.specs.Link.{Link}
 use Rattle.model.specs.Credit.{creditTests, creditAfter, credit}
 use Rattle.model.specs.Tick.{nextPosition, tick}
-use Rattle.model.specs.Lend.{lendTests, chosen, lentAfter, lendAfter, lend}
+use Rattle.model.specs.Lend.{lendTests, firstInTurn, lentAfter, lendAfter, lend}
 use Rattle.model.specs.Reset.{resetTests, resetAfter, reset}
 use Rattle.model.proofs.Slots.{some-position}
 use Rattle.images.specs.Consistent.{known, Keepable}
@@ -52,9 +52,9 @@ credit-proper l i p = go (firstOf (creditTests l i p)) refl
     go zero e = omega arith
     go (suc r) e = omega (arith, firstOf-most 15 (creditTests l i p) (omega arith))
 
-pub lend-proper : {l : Link} → Keepable l → (mask choice : ℕ) → Proper Word (lend l mask choice .answer)
+pub lend-proper : {l : Link} → Keepable l → (mask : ℕ) → Proper Word (lend l mask .answer)
 unfolding lend lendAfter lentAfter
-lend-proper {l} v mask choice = go (firstOf (lendTests l mask)) refl
+lend-proper {l} v mask = go (firstOf (lendTests l mask)) refl
   where
     n : ℕ
     n = flowCount (l .plan)
@@ -63,8 +63,8 @@ lend-proper {l} v mask choice = go (firstOf (lendTests l mask)) refl
     lent none = omega arith
     lent (some k) = let some-flow : 0 < n = v .accepted .some-flow in omega (arith, mod-lt k some-flow, v .accepted .flows-most)
 
-    go : (r : ℕ) → firstOf (lendTests l mask) ≡ r → Proper Word (lendAfter r l mask choice .answer)
-    go zero e = lent (chosen l mask choice)
+    go : (r : ℕ) → firstOf (lendTests l mask) ≡ r → Proper Word (lendAfter r l mask .answer)
+    go zero e = lent (firstInTurn l mask)
     go (suc r) e = omega (arith, firstOf-most 17 (lendTests l mask) (omega arith))
 
 pub reset-proper : (l : Link) → Proper (λ _. Word 0) (reset l .answer)

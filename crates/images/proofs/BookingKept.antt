@@ -196,6 +196,7 @@ module _ {l : Link} {t : ℕ} (v : LinkAt l t) {i : ℕ} (knows : i < flowCount 
   unfolding request.booked
   booked-at = record {
     current = v .current;
+    look-from-below = v .look-from-below;
     owners-long = length-table T ownerNow;
     flows-long = length-table (flowCount P) _;
     owners-known = known-still;

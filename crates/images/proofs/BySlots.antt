@@ -50,6 +50,7 @@ pub record FlowAt (P : Plan) (t : ℕ) (owners : List (Option ℕ)) (i : ℕ) (x
 
 pub record LinkAt (l : Link) (t : ℕ) : Type 0 where
   pub current : Current (l .plan) t (l .current)
+  pub look-from-below : l .lookFrom < flowCount (l .plan)
   pub owners-long : length (l .owners) ≡ positions (l .plan)
   pub flows-long : length (l .flows) ≡ flowCount (l .plan)
   pub owners-known : (p : ℕ) → p < positions (l .plan) → known (flowCount (l .plan)) (owner l p) ≡ true
@@ -181,6 +182,7 @@ module _ {P : Plan} {t c : ℕ} (now : Current P t c) where
 pub at-current : {l : Link} → Keepable l → LinkAt l (l .current)
 at-current {l} v = record {
   current = now;
+  look-from-below = v .consistent .look-from-below;
   owners-long = v .whole .owners-long;
   flows-long = v .whole .flows-long;
   owners-known = v .consistent .owners-known;
@@ -196,6 +198,7 @@ kept-at {l} {t} v = record {
   whole = record { owners-long = v .owners-long; flows-long = v .flows-long; held-long = λ i h. v .flows i h .holds .long };
   consistent = record {
     current-below = subst (_< positions (l .plan)) (sym (v .current .current-is)) (mod-lt t (some-position (v .current .accepted)));
+    look-from-below = v .look-from-below;
     owners-known = v .owners-known;
     each-flow = λ i h. by-positions (v .current) (l .owners) i (flow l i) (v .flows i h);
   };

@@ -13,10 +13,12 @@ use Rattle.model.specs.Plan.{flowCount, planOf, refusal}
 use Rattle.model.specs.Calls.{Call, History}
 use Rattle.model.specs.Fresh.{fresh}
 use Rattle.model.specs.Claim.{Demand3}
+use Rattle.model.specs.Fairness.{FairOn}
 use Rattle.model.specs.Card.{Played, paper, step, play, started, run}
 use Rattle.model.proofs.Tests.{line-passed}
 use Rattle.model.proofs.Plan.{accepted}
 use Rattle.model.proofs.Demand3.{meets}
+use Rattle.model.proofs.Fairness.{fair}
 use Rattle.images.specs.Image.{imageLength, imageOf, headerField}
 use Rattle.images.specs.Consistent.{Keepable}
 use Rattle.images.specs.Taken.{refusalOf}
@@ -145,3 +147,9 @@ module _ (plan : List ℕ) where
   chain-meets {calls} ch i known =
       let f = chain-follows ch in
       subst (Demand3 (planOf plan) i) (sym (f .history-is)) (meets plan (f .plan-passes) calls i known)
+
+  -- and its lends are fair
+  pub chain-fair : {calls : List Call} {h : History} {b : List ℕ} → Chain plan calls h b → FairOn (planOf plan) h
+  chain-fair {calls} ch =
+      let f = chain-follows ch in
+      subst (FairOn (planOf plan)) (sym (f .history-is)) (fair plan (f .plan-passes) calls)

@@ -14,7 +14,7 @@ use Rattle.model.specs.Request.{request}
 use Rattle.model.specs.Request as request
 use Rattle.model.specs.Credit.{creditTests, lowered, creditAfter, credit}
 use Rattle.model.specs.Tick.{nextPosition, recycled, advanced, tick}
-use Rattle.model.specs.Lend.{lendTests, lentTo, chosen, lentAfter, lendAfter, lend}
+use Rattle.model.specs.Lend.{lendTests, lentTo, firstInTurn, lentAfter, lendAfter, lend}
 use Rattle.model.specs.Reset.{resetTests, renewed, resetAfter, reset}
 use Rattle.model.specs.Card.{Played, paper, step, play, started, run}
 use Rattle.images.specs.Consistent.{Keepable}
@@ -47,16 +47,16 @@ credit-plan l i p = go (firstOf (creditTests l i p))
     go zero = refl
     go (suc r) = refl
 
-lend-plan : (l : Link) (mask choice : ℕ) → lend l mask choice .link .plan ≡ l .plan
+lend-plan : (l : Link) (mask : ℕ) → lend l mask .link .plan ≡ l .plan
 unfolding lend lendAfter lentAfter lentTo
-lend-plan l mask choice = go (firstOf (lendTests l mask))
+lend-plan l mask = go (firstOf (lendTests l mask))
   where
     lent : (o : Option ℕ) → lentAfter l o .link .plan ≡ l .plan
     lent none = refl
     lent (some k) = refl
 
-    go : (r : ℕ) → lendAfter r l mask choice .link .plan ≡ l .plan
-    go zero = lent (chosen l mask choice)
+    go : (r : ℕ) → lendAfter r l mask .link .plan ≡ l .plan
+    go zero = lent (firstInTurn l mask)
     go (suc r) = refl
 
 reset-plan : (l : Link) → reset l .link .plan ≡ l .plan
@@ -81,7 +81,7 @@ pub call-kept : (r : Played paper) → Keepable (r .state) → (c : Call) → Ke
 call-kept r v (Call.request w) = record { same-plan = left-plan (request-leaves v w); kept = request-kept v w }
 call-kept r v (Call.credit i p) = record { same-plan = credit-plan (r .state) i p; kept = credit-kept v i p }
 call-kept r v Call.tick = record { same-plan = tick-plan (r .state); kept = tick-kept v }
-call-kept r v (Call.lend mask choice) = record { same-plan = lend-plan (r .state) mask choice; kept = lend-kept v mask choice }
+call-kept r v (Call.lend mask) = record { same-plan = lend-plan (r .state) mask; kept = lend-kept v mask }
 call-kept r v Call.reset = record { same-plan = reset-plan (r .state); kept = reset-kept v }
 
 -- ---- and so after any list of calls

@@ -96,8 +96,10 @@ module _ (l : Link) where
       passed e =
           let b = and-true _ _ e in
           let a = and-true _ _ (b .0) in
+          let below = and-true _ _ (a .0) in
           record {
-            current-below = ltb-true (l .current) (positions (l .plan)) (a .0);
+            current-below = ltb-true (l .current) (positions (l .plan)) (below .0);
+            look-from-below = ltb-true (l .lookFrom) (flowCount (l .plan)) (below .1);
             owners-known = λ p lt. every-at (positions (l .plan)) eachOwner p (a .1) lt;
             each-flow = λ i lt. flow-passed _ _ _ i _ (every-at (flowCount (l .plan)) eachFlow i (b .1) lt);
           }
@@ -106,6 +108,7 @@ module _ (l : Link) where
       passes v =
           rw (
             lt-ltb (l .current) (positions (l .plan)) (v .current-below),
+            lt-ltb (l .lookFrom) (flowCount (l .plan)) (v .look-from-below),
             every-intro (positions (l .plan)) eachOwner (v .owners-known),
             every-intro (flowCount (l .plan)) eachFlow (λ i lt. flow-passes _ _ _ i _ (v .each-flow i lt)),
           )

@@ -17,6 +17,7 @@ lowered-at : {l : Link} {t : ℕ} → LinkAt l t → {i p : ℕ} → CreditPasse
 unfolding lowered
 lowered-at {l} {t} v {i} {p} c = record {
   current = v .current;
+  look-from-below = v .look-from-below;
   owners-long = v .owners-long;
   flows-long = length-table (flowCount (l .plan)) _;
   owners-known = v .owners-known;

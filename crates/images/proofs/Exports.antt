@@ -35,7 +35,7 @@ module _ (r : Played paper) where
   link-is (Call.request w) = refl
   link-is (Call.credit i p) = refl
   link-is Call.tick = refl
-  link-is (Call.lend mask choice) = refl
+  link-is (Call.lend mask) = refl
   link-is Call.reset = refl
 
   -- the number tells the event
@@ -45,8 +45,8 @@ module _ (r : Played paper) where
   history-is v (Call.credit i p) =
       ap (λ a. credited i p a ∷ r .history) (answer-read (λ _. 0) (λ _. tt) (λ x. refl) _ (credit-proper (r .state) i p))
   history-is v Call.tick = ap (λ x. ticked x ∷ r .history) (turn-read _ (v .accepted .flows-most) _ (tick-known v))
-  history-is v (Call.lend mask choice) =
-      ap (λ a. lent mask a ∷ r .history) (answer-read (λ x. x) (λ x. x) (λ x. refl) _ (lend-proper v mask choice))
+  history-is v (Call.lend mask) =
+      ap (λ a. lent mask a ∷ r .history) (answer-read (λ x. x) (λ x. x) (λ x. refl) _ (lend-proper v mask))
   history-is v Call.reset = ap (λ a. Event.reset a ∷ r .history) (answer-read (λ _. 0) (λ _. tt) (λ x. refl) _ (reset-proper (r .state)))
 
 -- the link that is left meets the conditions

@@ -163,6 +163,7 @@ module _ {l : Link} {t : ℕ} (v : LinkAt l t) (change : suc t % l .plan .slots 
   unfolding recycled
   frame-change-at now = record {
     current = now;
+    look-from-below = v .look-from-below;
     owners-long = length-table T (emptied l);
     flows-long = length-table (flowCount P) _;
     owners-known = known-still v change;

@@ -51,6 +51,7 @@ module _ {P : Plan} (ok : Accepted P) where
   unfolding fresh
   fresh-kept = kept-at {t = 0} (record {
     current = record { accepted = ok; current-is = sym (zero-mod T) };
+    look-from-below = ok .some-flow;
     owners-long = length-replicate T none;
     flows-long = length-table (flowCount P) (freshFlow P);
     owners-known = λ p below. ap (known (flowCount P)) (unbooked p below);

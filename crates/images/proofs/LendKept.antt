@@ -1,5 +1,5 @@
--- A lend leaves a link that meets the conditions, whatever its choice. Assumes nothing.
-use Prim.Native.Nat.{ℕ, zero, suc, _%_, _<_}
+-- A lend leaves a link that meets the conditions. Assumes nothing.
+use Prim.Native.Nat.{ℕ, zero, suc, _+_, _%_, _<_}
 use mathlib.Core.Path.{_≡_, refl, sym, subst}
 use mathlib.Core.Option.{Option, some, none}
 use mathlib.Core.Bool.{true}
@@ -11,7 +11,7 @@ use Rattle.model.specs.Plan.{flowCount}
 use Rattle.model.specs.Calls.{inMask}
 use Rattle.model.specs.Window.{everyFrom}
 use Rattle.model.specs.Link.{Link, Flow, window, flow, holding, cells, withHeld, heldFrom}
-use Rattle.model.specs.Lend.{canTake, takes, lendTests, lentTo, chosen, lentAfter, lendAfter, lend}
+use Rattle.model.specs.Lend.{canTake, takes, lendTests, lentTo, firstInTurn, lentAfter, lendAfter, lend}
 use Rattle.model.proofs.Tests.{and-true}
 use Rattle.model.proofs.Tables.{length-table, firstFrom-some}
 use Rattle.model.proofs.Slots.{current-in-window}
@@ -24,6 +24,7 @@ lent-at : {l : Link} {t : ℕ} → LinkAt l t → {i : ℕ} → i < flowCount (l
 unfolding lentTo canTake
 lent-at {l} {t} v {i} known can = record {
   current = v .current;
+  look-from-below = mod-lt (i + 1) (omega arith);
   owners-long = v .owners-long;
   flows-long = length-table (flowCount (l .plan)) _;
   owners-known = v .owners-known;
@@ -45,20 +46,20 @@ lent-at {l} {t} v {i} known can = record {
     own : FlowAt (l .plan) t (l .owners) i x
     own = record { spends = v .flows i known .spends; within-share = v .flows i known .within-share; holds = holds }
 
-pub lend-kept : {l : Link} → Keepable l → (mask choice : ℕ) → Keepable (lend l mask choice .link)
-unfolding lend lendAfter lentAfter chosen
-lend-kept {l} v mask choice = go (firstOf (lendTests l mask))
+pub lend-kept : {l : Link} → Keepable l → (mask : ℕ) → Keepable (lend l mask .link)
+unfolding lend lendAfter lentAfter firstInTurn
+lend-kept {l} v mask = go (firstOf (lendTests l mask))
   where
     n : ℕ
     n = flowCount (l .plan)
 
-    lent : (o : Option ℕ) → chosen l mask choice ≡ o → Keepable (lentAfter l o .link)
+    lent : (o : Option ℕ) → firstInTurn l mask ≡ o → Keepable (lentAfter l o .link)
     lent none e = v
     lent (some k) e =
-        let hit = firstFrom-some n choice (λ k. takes l mask (k % n)) k e in
+        let hit = firstFrom-some n (l .lookFrom) (λ k. takes l mask (k % n)) k e in
         let can = and-true (inMask mask (k % n)) (canTake l (k % n)) (hit .passes) .1 in
         kept-at (lent-at (at-current v) (mod-lt k (omega (arith, v .accepted .some-flow))) can)
 
-    go : (r : ℕ) → Keepable (lendAfter r l mask choice .link)
-    go zero = lent (chosen l mask choice) refl
+    go : (r : ℕ) → Keepable (lendAfter r l mask .link)
+    go zero = lent (firstInTurn l mask) refl
     go (suc r) = v

@@ -199,7 +199,8 @@ module _ {l : Link} (v : Keepable l) where
         same =
             let current = header-stands .number 6 (omega arith) in
             let taken = ap (λ x. eqb x 1) (header-stands .number 7 (omega arith)) ∙ mark-again (l .taken) in
-            λ k. record { plan = P; current = current k; owners = owners-again k; flows = flows-again k; taken = taken k }
+            let look-from = header-stands .number 8 (omega arith) in
+            λ k. record { plan = P; current = current k; owners = owners-again k; flows = flows-again k; taken = taken k; lookFrom = look-from k }
 
 -- without bytes past it
 pub read-image : {l : Link} → Keepable l → linkIn (imageOf l) ≡ l

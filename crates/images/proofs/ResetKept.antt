@@ -76,6 +76,7 @@ module _ {l : Link} {t : ℕ} (v : LinkAt l t) (nothing-held : noneHeld l ≡ tr
   unfolding renewed
   renewed-at = record {
     current = v .current;
+    look-from-below = ok .some-flow;
     owners-long = length-table T _;
     flows-long = length-table (flowCount P) (fromHead l);
     owners-known = λ p below. ap (known (flowCount P)) (unbooked p below);

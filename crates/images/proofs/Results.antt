@@ -41,7 +41,7 @@ done-fits : {l : Link} → Keepable l → (c : Call) → Long (onLink l c .numbe
 done-fits {l} v (Call.request w) = answer-fits (λ x. x) (request l w .answer) (request-proper v w)
 done-fits {l} v (Call.credit i p) = answer-fits (λ _. 0) (credit l i p .answer) (credit-proper l i p)
 done-fits {l} v Call.tick = turn-fits (flowCount (l .plan)) (v .accepted .flows-most) (tick l .answer) (tick-known v)
-done-fits {l} v (Call.lend mask choice) = answer-fits (λ x. x) (lend l mask choice .answer) (lend-proper v mask choice)
+done-fits {l} v (Call.lend mask) = answer-fits (λ x. x) (lend l mask .answer) (lend-proper v mask)
 done-fits {l} v Call.reset = answer-fits (λ _. 0) (reset l .answer) (reset-proper l)
 
 handed-fits : (r : ℕ) (b : List ℕ) (d : Done) → r ≤ 22 → (r ≡ 0 → Long (d .number)) → Long (handedBack r b d .result)

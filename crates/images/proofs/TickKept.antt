@@ -36,6 +36,7 @@ module _ {l : Link} {t : ℕ} (v : LinkAt l t) where
   in-frame : (suc t % F ≡ 0 → ⊥) → LinkAt (withTaken (withCurrent l (nextPosition l)) false) (suc t)
   in-frame d = record {
     current = next-current;
+    look-from-below = v .look-from-below;
     owners-long = v .owners-long;
     flows-long = v .flows-long;
     owners-known = v .owners-known;

@@ -61,6 +61,7 @@ module _ {l : Link} {t : ℕ} (v : LinkAt l t) {i : ℕ} (knows : i < flowCount 
   pub moved-at : (j c : ℕ) → Walked l i j c → LinkAt (withFlow l i (movedTo (flow l i) j c)) t
   moved-at j c w = record {
     current = v .current;
+    look-from-below = v .look-from-below;
     owners-long = v .owners-long;
     flows-long = length-table (flowCount P) _;
     owners-known = v .owners-known;

@@ -80,7 +80,7 @@ module _ {b : List ℕ} (v : Taken b) (bytes : AllBytes b) where
   header-stands =
       stands-one (v .total-is) (stands-one (v .plan-offset-is) (stands-one (v .positions-offset-is) (stands-one (v .positions-are)
       (stands-one (v .flows-offset-is) (stands-one (v .flows-are) (stands-one refl
-      (stands-one (sym (mark-number (stateField b 1) (v .mark-is-bit))) stands-nothing)))))))
+      (stands-one (sym (mark-number (stateField b 1) (v .mark-is-bit))) (stands-one refl stands-nothing))))))))
 
   header-again : fields (header (linkIn b)) ≡ take headerLength b
   header-again = fields-again b bytes (header (linkIn b)) 0 (v .header-there) header-stands

@@ -24,7 +24,7 @@ abbrev pub eventOf : Call → (number : ℕ) → Event
 eventOf (Call.request w) number = requested w (answerOf number number)
 eventOf (Call.credit i p) number = credited i p (answerOf tt number)
 eventOf Call.tick number = ticked (turnOf number)
-eventOf (Call.lend mask choice) number = lent mask (answerOf number number)
+eventOf (Call.lend mask) number = lent mask (answerOf number number)
 eventOf Call.reset number = Event.reset (answerOf tt number)
 
 -- ---- the chain

@@ -1,4 +1,4 @@
--- The conditions on a link of which an image is taken. Document 02, N5, "An image is taken exactly if". Assumes nothing.
+-- The conditions on a link of which an image is taken. Document 02, N5, "An image is taken exactly if", and N8. Assumes nothing.
 use Prim.Native.Nat.{ℕ, _+_, _-_, _*_, _%_, _≤_, _<_}
 use mathlib.Core.Path.{_≡_}
 use mathlib.Core.List.{List}
@@ -76,6 +76,8 @@ module _ (P : Plan) (current : ℕ) (owners : List (Option ℕ)) (i : ℕ) (x : 
 pub record Consistent (l : Link) : Type 0 where
   -- "CP is below T"
   pub current-below : l .current < positions (l .plan)
+  -- N8: the flow to look from, "at n or above is a fault"
+  pub look-from-below : l .lookFrom < flowCount (l .plan)
   -- "every owner is a flow or none"
   pub owners-known : (p : ℕ) → p < positions (l .plan) → known (flowCount (l .plan)) (owner l p) ≡ true
   -- "and for each flow"
@@ -84,6 +86,7 @@ pub record Consistent (l : Link) : Type 0 where
 unfoldable pub consistent : Link → Bool
 consistent l =
     ltb (l .current) (positions (l .plan))
+    && ltb (l .lookFrom) (flowCount (l .plan))
     && every (positions (l .plan)) (λ p. known (flowCount (l .plan)) (owner l p))
     && every (flowCount (l .plan)) (λ i. flowTest (l .plan) (l .current) (l .owners) i (flow l i))
 

@@ -73,8 +73,7 @@ abbrev pub onLink : Link → Call → Done
 onLink l (Call.request w) = done grantNumber (request.request l w)
 onLink l (Call.credit i p) = done receiptNumber (credit.credit l i p)
 onLink l Call.tick = done turnNumber (tick.tick l)
--- the flow that gets the slot is open, as in the call on the link: any choice
-onLink l (Call.lend mask choice) = done loanNumber (lend.lend l mask choice)
+onLink l (Call.lend mask) = done loanNumber (lend.lend l mask)
 onLink l Call.reset = done renewalNumber (reset.reset l)
 
 -- ---- the buffer
@@ -113,8 +112,8 @@ creditOn b i p = calledOn b (Call.credit i p)
 abbrev pub tickOn : List ℕ → Called
 tickOn b = calledOn b Call.tick
 
-abbrev pub lendOn : List ℕ → (mask choice : ℕ) → Called
-lendOn b mask choice = calledOn b (Call.lend mask choice)
+abbrev pub lendOn : List ℕ → (mask : ℕ) → Called
+lendOn b mask = calledOn b (Call.lend mask)
 
 abbrev pub resetOn : List ℕ → Called
 resetOn b = calledOn b Call.reset

@@ -1,4 +1,4 @@
--- The image of a link: its layout, a link as bytes, and bytes read as a link. Document 02, N5, "a link image between calls". Assumes nothing.
+-- The image of a link: its layout, a link as bytes, and bytes read as a link. Document 02, N5, "a link image between calls", and N8. Assumes nothing.
 use Prim.Native.Nat.{ℕ, _+_, _*_}
 use mathlib.Core.List.{List, _∷_, [], _++_, map, flatMap}
 use mathlib.Core.Option.{Option, some, none}
@@ -23,11 +23,12 @@ fieldAt b at k = field16 b (at + 2 * k)
 -- ---- the table of the header's and each flow's own fields. "A field that a later request adds stands last in the header, or in each flow's part": it is
 -- a line here.
 
--- "CP and the taken mark"
+-- "CP and the taken mark"; N8: the flow to look from, which "the image carries"
 abbrev pub state : List (Link → ℕ)
 state =
     (λ l. l .current)
     ∷ (λ l. bit (l .taken))
+    ∷ (λ l. l .lookFrom)
     ∷ []
 
 -- "for each flow IF, C and its holdings at positions 0 to T-1", and how many fields that is
@@ -108,6 +109,7 @@ linkFrom b P = record {
   owners = table (positions P) (λ p. ownerIn (fieldAt b (positionsAt P) p));
   flows = table (flowCount P) (flowIn b P);
   taken = eqb (stateField b 1) 1;
+  lookFrom = stateField b 2;
 }
 
 unfoldable pub linkIn : List ℕ → Link

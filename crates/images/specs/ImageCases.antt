@@ -54,13 +54,13 @@ pub record Case : Type 0 where
 abbrev pub Pass : List Case → Type 0
 Pass cases = map (λ e. outcome (e .trial)) cases ≡ map (λ e. e .expected) cases
 
--- ---- images of the listing's plan, two flows and eight positions: 92 bytes
+-- ---- images of the listing's plan, two flows and eight positions: 94 bytes
 
 -- as fresh writes it
 abbrev pub blank : List ℕ
 blank =
-    -- total length, offset of the plan, offset and count of positions, offset and count of flows, CP, taken mark
-    0x5C ∷ 0x00 ∷ 0x10 ∷ 0x00 ∷ 0x24 ∷ 0x00 ∷ 0x08 ∷ 0x00 ∷ 0x34 ∷ 0x00 ∷ 0x02 ∷ 0x00 ∷ 0x00 ∷ 0x00 ∷ 0x00 ∷ 0x00
+    -- total length, offset of the plan, offset and count of positions, offset and count of flows, CP, taken mark, flow to look from
+    0x5E ∷ 0x00 ∷ 0x12 ∷ 0x00 ∷ 0x26 ∷ 0x00 ∷ 0x08 ∷ 0x00 ∷ 0x36 ∷ 0x00 ∷ 0x02 ∷ 0x00 ∷ 0x00 ∷ 0x00 ∷ 0x00 ∷ 0x00 ∷ 0x00 ∷ 0x00
     -- the plan
     ∷ 0x14 ∷ 0x00 ∷ 0x02 ∷ 0x00 ∷ 0x0C ∷ 0x00 ∷ 0x04 ∷ 0x00 ∷ 0x02 ∷ 0x00 ∷ 0x04 ∷ 0x00
     ∷ 0x02 ∷ 0x02 ∷ 0x01 ∷ 0x09 ∷ 0x02 ∷ 0x02 ∷ 0x02 ∷ 0x09
@@ -76,7 +76,7 @@ blank =
 
 -- a field that is changed, by its place in that image
 pub data Change : Type 0 where
-  total planOffset positionsOffset positionCount flowsOffset flowCount cp mark : (x : ℕ) → Change
+  total planOffset positionsOffset positionCount flowsOffset flowCount cp mark look : (x : ℕ) → Change
   owner : (position x : ℕ) → Change
   frame left : (flow x : ℕ) → Change
   held : (flow position x : ℕ) → Change
@@ -90,10 +90,11 @@ place (flowsOffset x) = 8
 place (flowCount x) = 10
 place (cp x) = 12
 place (mark x) = 14
-place (owner p x) = 36 + 2 * p
-place (frame i x) = 52 + 20 * i
-place (left i x) = 54 + 20 * i
-place (held i p x) = 56 + 20 * i + 2 * p
+place (look x) = 16
+place (owner p x) = 38 + 2 * p
+place (frame i x) = 54 + 20 * i
+place (left i x) = 56 + 20 * i
+place (held i p x) = 58 + 20 * i + 2 * p
 
 abbrev value : Change → ℕ
 value (total x) = x
@@ -104,6 +105,7 @@ value (flowsOffset x) = x
 value (flowCount x) = x
 value (cp x) = x
 value (mark x) = x
+value (look x) = x
 value (owner p x) = x
 value (frame i x) = x
 value (left i x) = x

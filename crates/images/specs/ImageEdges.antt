@@ -9,7 +9,7 @@ use Rattle.model.specs.Tables.{table}
 use Rattle.model.specs.PlanBytes.{entry, plan, plan2, listing, single}
 use Rattle.images.specs.Exports.{refusalNumber}
 use Rattle.images.specs.ImageCases.{Case, blank, image, measures, taken, fault, gives, leaves, turnsBack, freshly, chained}
-use Rattle.images.specs.ImageCases.{total, planOffset, positionsOffset, positionCount, flowsOffset, flowCount, cp, mark, owner, frame, left, held}
+use Rattle.images.specs.ImageCases.{total, planOffset, positionsOffset, positionCount, flowsOffset, flowCount, cp, mark, look, owner, frame, left, held}
 
 -- three bytes past an image
 abbrev past : List ℕ
@@ -33,36 +33,39 @@ other0 = 0x24100000
 unfoldable pub lengthEdges : List Case
 lengthEdges =
     -- the listing's plan; the smallest image; the longest, of 16 flows and 256 positions
-    measures listing 92
-    ∷ measures single 44
-    ∷ measures (plan 64 4 16 (table 16 (λ i. entry 1 1 i 63))) 8860
+    measures listing 94
+    ∷ measures single 46
+    ∷ measures (plan 64 4 16 (table 16 (λ i. entry 1 1 i 63))) 8862
     ∷ gives 0 blank
     ∷ gives 0 (blank ++ past)
     -- shorter than the header, and than the stated length
     ∷ gives 21 []
-    ∷ gives 21 (take 15 blank)
-    ∷ gives 21 (take 16 blank)
-    ∷ gives 21 (take 91 blank)
-    -- 93 stated in 92 bytes, whatever else is wrong; in 93 bytes it is another fault
-    ∷ gives 21 (image (total 93 ∷ []))
-    ∷ gives 21 (image (total 93 ∷ planOffset 18 ∷ mark 2 ∷ []))
-    ∷ gives 22 (image (total 93 ∷ []) ++ (0 ∷ []))
+    ∷ gives 21 (take 17 blank)
+    ∷ gives 21 (take 18 blank)
+    ∷ gives 21 (take 93 blank)
+    -- 95 stated in 94 bytes, whatever else is wrong; in 95 bytes it is another fault
+    ∷ gives 21 (image (total 95 ∷ []))
+    ∷ gives 21 (image (total 95 ∷ planOffset 20 ∷ mark 2 ∷ []))
+    ∷ gives 22 (image (total 95 ∷ []) ++ (0 ∷ []))
+    -- an image as it was before N8, without the flow to look from
+    ∷ gives 22 (0x5C ∷ 0x00 ∷ 0x10 ∷ 0x00 ∷ 0x24 ∷ 0x00 ∷ 0x08 ∷ 0x00 ∷ 0x34 ∷ 0x00 ∷ 0x02 ∷ 0x00 ∷ 0x00 ∷ 0x00 ∷ 0x00 ∷ 0x00 ∷ drop 18 blank)
     -- too small a length stated
-    ∷ fault (total 90 ∷ [])
-    ∷ gives 22 (take 91 (image (total 90 ∷ [])))
+    ∷ fault (total 92 ∷ [])
+    ∷ gives 22 (take 93 (image (total 92 ∷ [])))
     ∷ fault (total 4 ∷ [])
     ∷ fault (total 0 ∷ [])
     -- the other fields of the header, 264 with the low byte of 8
-    ∷ fault (planOffset 18 ∷ [])
-    ∷ fault (positionsOffset 38 ∷ [])
+    ∷ fault (planOffset 16 ∷ [])
+    ∷ fault (planOffset 20 ∷ [])
+    ∷ fault (positionsOffset 40 ∷ [])
     ∷ fault (positionCount 7 ∷ [])
     ∷ fault (positionCount 264 ∷ [])
-    ∷ fault (flowsOffset 50 ∷ [])
+    ∷ fault (flowsOffset 52 ∷ [])
     ∷ fault (flowCount 1 ∷ [])
     ∷ fault (flowCount 258 ∷ [])
     -- a plan that is refused with 7, its N being 3; and one that states four bytes fewer
-    ∷ gives 22 (take 16 blank ++ plan2 4 2 3 2 2 2 2 ++ drop 36 blank)
-    ∷ gives 22 (take 16 blank ++ (0x10 ∷ []) ++ drop 17 blank)
+    ∷ gives 22 (take 18 blank ++ plan2 4 2 3 2 2 2 2 ++ drop 38 blank)
+    ∷ gives 22 (take 18 blank ++ (0x10 ∷ []) ++ drop 19 blank)
     ∷ []
 
 -- ---- each condition at its edge, and broken
@@ -83,6 +86,10 @@ conditionEdges =
     ∷ taken (mark 1 ∷ cp 1 ∷ owner 1 0 ∷ left 0 1 ∷ [])
     ∷ fault (mark 2 ∷ [])
     ∷ fault (mark 256 ∷ [])
+    -- N8: the flow to look from, "at n or above is a fault"
+    ∷ taken (look 1 ∷ [])
+    ∷ fault (look 2 ∷ [])
+    ∷ fault (look 256 ∷ [])
     -- "every owner is a flow or none": flow 1 of two, and none but 16
     ∷ taken (owner 7 1 ∷ frame 1 1 ∷ left 1 1 ∷ [])
     ∷ fault (owner 7 2 ∷ [])
@@ -144,7 +151,7 @@ conditionEdges =
 -- the image with these owners
 abbrev inTurn : (owner0 owner1 owner2 remainder : ℕ) → List ℕ
 inTurn owner0 owner1 owner2 remainder =
-    0x30 ∷ 0x00 ∷ 0x10 ∷ 0x00 ∷ 0x20 ∷ 0x00 ∷ 0x03 ∷ 0x00 ∷ 0x26 ∷ 0x00 ∷ 0x01 ∷ 0x00 ∷ 0x01 ∷ 0x00 ∷ 0x00 ∷ 0x00
+    0x32 ∷ 0x00 ∷ 0x12 ∷ 0x00 ∷ 0x22 ∷ 0x00 ∷ 0x03 ∷ 0x00 ∷ 0x28 ∷ 0x00 ∷ 0x01 ∷ 0x00 ∷ 0x01 ∷ 0x00 ∷ 0x00 ∷ 0x00 ∷ 0x00 ∷ 0x00
     ∷ 0x10 ∷ 0x00 ∷ 0x01 ∷ 0x00 ∷ 0x0C ∷ 0x00 ∷ 0x01 ∷ 0x00 ∷ 0x03 ∷ 0x00 ∷ 0x01 ∷ 0x00 ∷ 0x01 ∷ 0x01 ∷ 0x00 ∷ 0x01
     ∷ owner0 ∷ 0x00 ∷ owner1 ∷ 0x00 ∷ owner2 ∷ 0x00
     ∷ 0x02 ∷ 0x00 ∷ remainder ∷ 0x00 ∷ 0x00 ∷ 0x00 ∷ 0x00 ∷ 0x00 ∷ 0x00 ∷ 0x00
@@ -165,7 +172,7 @@ frameEdges =
 -- after the listing's seven calls
 abbrev afterListing : List ℕ
 afterListing =
-    0x5C ∷ 0x00 ∷ 0x10 ∷ 0x00 ∷ 0x24 ∷ 0x00 ∷ 0x08 ∷ 0x00 ∷ 0x34 ∷ 0x00 ∷ 0x02 ∷ 0x00 ∷ 0x01 ∷ 0x00 ∷ 0x00 ∷ 0x00
+    0x5E ∷ 0x00 ∷ 0x12 ∷ 0x00 ∷ 0x26 ∷ 0x00 ∷ 0x08 ∷ 0x00 ∷ 0x36 ∷ 0x00 ∷ 0x02 ∷ 0x00 ∷ 0x01 ∷ 0x00 ∷ 0x00 ∷ 0x00 ∷ 0x00 ∷ 0x00
     ∷ 0x14 ∷ 0x00 ∷ 0x02 ∷ 0x00 ∷ 0x0C ∷ 0x00 ∷ 0x04 ∷ 0x00 ∷ 0x02 ∷ 0x00 ∷ 0x04 ∷ 0x00
     ∷ 0x02 ∷ 0x02 ∷ 0x01 ∷ 0x09 ∷ 0x02 ∷ 0x02 ∷ 0x02 ∷ 0x09
     -- positions 1, 2 and 4 are flow 0's, and 3 is flow 1's
@@ -185,24 +192,26 @@ room size = replicate size 0xAA
 unfoldable pub exportEdges : List Case
 exportEdges =
     -- fresh: the plan is tested first, then the buffer; what stood there is not read; bytes past the image keep their values
-    freshly listing (room 92) blank 0
-    ∷ freshly listing (room 94) (blank ++ (0xAA ∷ 0xAA ∷ [])) 0
-    ∷ freshly listing (room 91) (room 91) (refusalNumber 21)
+    freshly listing (room 94) blank 0
+    ∷ freshly listing (room 96) (blank ++ (0xAA ∷ 0xAA ∷ [])) 0
+    ∷ freshly listing (room 93) (room 93) (refusalNumber 21)
     ∷ freshly listing [] [] (refusalNumber 21)
-    ∷ freshly (plan2 4 2 3 2 2 2 2) (room 91) (room 91) (refusalNumber 7)
+    -- as long as an image was before N8
+    ∷ freshly listing (room 92) (room 92) (refusalNumber 21)
+    ∷ freshly (plan2 4 2 3 2 2 2 2) (room 93) (room 93) (refusalNumber 7)
     ∷ freshly (plan2 4 2 3 2 2 2 2) [] [] (refusalNumber 7)
-    ∷ freshly (take 11 listing) (room 92) (room 92) (refusalNumber 1)
+    ∷ freshly (take 11 listing) (room 94) (room 94) (refusalNumber 1)
     -- the listing's calls: words, 12 times 2 to the power 32, 0 for the credit, flow 0 for the tick
-    ∷ chained listing (room 95)
+    ∷ chained listing (room 97)
     (Call.request word0 ∷ Call.request word1 ∷ Call.request word2 ∷ Call.credit 0 4 ∷ Call.request word2 ∷ Call.request other0 ∷ Call.tick ∷ [])
     (0x24000001 ∷ 0x24000402 ∷ 51539607552 ∷ 0 ∷ 0x24000804 ∷ 0x24100003 ∷ 0 ∷ []) (afterListing ++ (0xAA ∷ 0xAA ∷ 0xAA ∷ []))
     -- images that come up are taken by the next call: a holding that rises at CP, where it is lent and not booked; a booked CP that is not held;
     -- bookings in frame 1 with IF = 0, where frame 1 is HF
-    ∷ chained listing (room 92) (Call.tick ∷ Call.lend 1 0 ∷ Call.tick ∷ []) (16 ∷ 0 ∷ 16 ∷ [])
-    (image (cp 2 ∷ held 0 1 1 ∷ held 0 2 1 ∷ held 0 3 1 ∷ held 0 4 1 ∷ held 0 5 1 ∷ held 0 6 1 ∷ held 0 7 1 ∷ []))
-    ∷ chained listing (room 92) (Call.request word0 ∷ Call.credit 0 1 ∷ Call.tick ∷ Call.tick ∷ []) (0x24000001 ∷ 0 ∷ 0 ∷ 16 ∷ [])
+    ∷ chained listing (room 94) (Call.tick ∷ Call.lend 1 ∷ Call.tick ∷ []) (16 ∷ 0 ∷ 16 ∷ [])
+    (image (cp 2 ∷ look 1 ∷ held 0 1 1 ∷ held 0 2 1 ∷ held 0 3 1 ∷ held 0 4 1 ∷ held 0 5 1 ∷ held 0 6 1 ∷ held 0 7 1 ∷ []))
+    ∷ chained listing (room 94) (Call.request word0 ∷ Call.credit 0 1 ∷ Call.tick ∷ Call.tick ∷ []) (0x24000001 ∷ 0 ∷ 0 ∷ 16 ∷ [])
     (image (cp 2 ∷ owner 1 0 ∷ left 0 1 ∷ []))
-    ∷ chained listing (room 92)
+    ∷ chained listing (room 94)
     (Call.tick ∷ Call.tick ∷ Call.tick ∷ Call.tick ∷ Call.request 0x24000004 ∷ Call.request 0x24000404 ∷ Call.request 0x24000804 ∷ Call.tick ∷ [])
     (16 ∷ 16 ∷ 16 ∷ 16 ∷ 0x24000005 ∷ 0x24000406 ∷ 51539607552 ∷ 0 ∷ []) (image (cp 5 ∷ frame 1 1 ∷ owner 5 0 ∷ owner 6 0 ∷ held 0 5 1 ∷ held 0 6 2
     ∷ held 0 7 2 ∷ held 0 0 2 ∷ held 0 1 2 ∷ held 0 2 2 ∷ held 0 3 2 ∷ []))
@@ -221,22 +230,27 @@ exportEdges =
     ∷ turnsBack blank (Call.credit 0 8) 13
     ∷ turnsBack blank (Call.credit 0 0) 14
     ∷ turnsBack blank (Call.credit 0 1) 15
-    ∷ turnsBack (image (mark 1 ∷ [])) (Call.lend 3 0) 17
-    ∷ turnsBack blank (Call.lend 0 0) 18
+    ∷ turnsBack (image (mark 1 ∷ [])) (Call.lend 3) 17
+    ∷ turnsBack blank (Call.lend 0) 18
     -- 21 and 22 come before 8
-    ∷ turnsBack (take 91 blank) (Call.request 0x24200000) 21
+    ∷ turnsBack (take 93 blank) (Call.request 0x24200000) 21
     ∷ turnsBack (image (cp 8 ∷ [])) (Call.request 0x24200000) 22
     ∷ turnsBack (image (cp 8 ∷ []) ++ past) (Call.credit 2 0) 22
     ∷ turnsBack (image (held 0 0 257 ∷ [])) Call.tick 22
-    ∷ turnsBack (image (held 0 0 257 ∷ [])) (Call.lend 4 0) 22
+    ∷ turnsBack (image (held 0 0 257 ∷ [])) (Call.lend 4) 22
     -- idle is 16, and flow 0 is 0; a tick takes the mark off
     ∷ leaves (image (mark 1 ∷ [])) Call.tick (image (cp 1 ∷ [])) 16
     ∷ leaves (image (owner 1 0 ∷ left 0 1 ∷ [])) Call.tick (image (cp 1 ∷ owner 1 0 ∷ left 0 1 ∷ [])) 0
-    -- a lend is answered with its flow
-    ∷ leaves (image (cp 3 ∷ [])) (Call.lend 3 0)
-    (image (cp 3 ∷ mark 1 ∷ held 0 3 1 ∷ held 0 4 1 ∷ held 0 5 1 ∷ held 0 6 1 ∷ held 0 7 1 ∷ [])) 0
-    ∷ leaves (image (cp 3 ∷ [])) (Call.lend 3 1)
+    -- a lend is answered with its flow, the first from the one to look from on; the next looks from the flow after it, going round
+    ∷ leaves (image (cp 3 ∷ [])) (Call.lend 3)
+    (image (cp 3 ∷ mark 1 ∷ look 1 ∷ held 0 3 1 ∷ held 0 4 1 ∷ held 0 5 1 ∷ held 0 6 1 ∷ held 0 7 1 ∷ [])) 0
+    ∷ leaves (image (cp 3 ∷ look 1 ∷ [])) (Call.lend 3)
     (image (cp 3 ∷ mark 1 ∷ held 1 3 1 ∷ held 1 4 1 ∷ held 1 5 1 ∷ held 1 6 1 ∷ held 1 7 1 ∷ [])) 1
+    -- no other call touches it, and a granted reset puts it back to 0
+    ∷ leaves (image (look 1 ∷ [])) Call.tick (image (cp 1 ∷ look 1 ∷ [])) 16
+    ∷ turnsBack (image (look 1 ∷ [])) (Call.lend 0) 18
+    ∷ leaves (image (look 1 ∷ [])) Call.reset blank 0
+    ∷ turnsBack (image (look 1 ∷ held 0 0 1 ∷ [])) Call.reset 23
     -- a reset on a fresh link changes nothing; one that is granted empties the owners, marks a booked current slot, and moves IF to HF
     ∷ leaves (blank ++ past) Call.reset (blank ++ past) 0
     ∷ leaves (image (cp 1 ∷ owner 1 0 ∷ left 0 1 ∷ [])) Call.reset (image (cp 1 ∷ mark 1 ∷ [])) 0
@@ -244,13 +258,13 @@ exportEdges =
     -- what is held at positions that have gone by stays, and so does a mark
     ∷ leaves (image (cp 2 ∷ owner 1 0 ∷ left 0 1 ∷ mark 1 ∷ held 0 1 1 ∷ [])) Call.reset (image (cp 2 ∷ mark 1 ∷ held 0 1 1 ∷ [])) 0
     -- the next calls take such an image
-    ∷ chained listing (room 92) (Call.request word0 ∷ Call.credit 0 2 ∷ Call.tick ∷ Call.tick ∷ Call.reset ∷ Call.tick ∷ [])
+    ∷ chained listing (room 94) (Call.request word0 ∷ Call.credit 0 2 ∷ Call.tick ∷ Call.tick ∷ Call.reset ∷ Call.tick ∷ [])
     (0x24000001 ∷ 0 ∷ 0 ∷ 16 ∷ 0 ∷ 16 ∷ []) (image (cp 3 ∷ held 0 1 1 ∷ []))
     -- 23: a later position is booked, or a cell is held at CP or later; 21 and 22 come before it
     ∷ turnsBack (image (owner 1 0 ∷ left 0 1 ∷ [])) Call.reset 23
     ∷ turnsBack (image (held 0 0 1 ∷ []) ++ past) Call.reset 23
     ∷ turnsBack (image (cp 4 ∷ held 1 4 1 ∷ [])) Call.reset 23
-    ∷ turnsBack (take 91 blank) Call.reset 21
+    ∷ turnsBack (take 93 blank) Call.reset 21
     ∷ turnsBack (image (cp 8 ∷ [])) Call.reset 22
     ∷ []
 

@@ -1,4 +1,4 @@
--- Demand 3 of the code: any list of calls on the link that fresh hands back for a plan that the reader accepts. Assumes nothing.
+-- Demand 3 of the code, and that it lends in turn: any list of calls on the link that fresh hands back for a plan that the reader accepts. Assumes nothing.
 use Prim.Native.Nat.{ℕ, zero, suc, _<_}
 use mathlib.Core.Path.{_≡_, refl, sym, ap, _∙_, subst}
 use mathlib.Core.List.{List, _∷_, [], _++_}
@@ -14,10 +14,12 @@ use Rattle.model.specs.Plan as model
 use Rattle.model.specs.Calls.{Call, Grant, Receipt, Turn, Loan, Renewal, Event, History, accepted, refused, requested, credited, ticked, lent}
 use Rattle.model.specs.Claim.{Demand3}
 use Rattle.model.specs.Card.{Played, paper, step, play, started, run}
+use Rattle.model.specs.Fairness.{FairOn}
 use Rattle.model.specs.CountedBursts.{several, countsAs, eventsIn}
 use Rattle.model.proofs.AfterCalls.{Known, after-calls, after-fresh}
 use Rattle.model.proofs.CountedBursts.{play-both, burst-played}
 use Rattle.model.proofs.Demand3.{meets-accepted}
+use Rattle.model.proofs.Fairness.{fair-accepted}
 use Rattle.link.specs.declared.Link.{Link}
 use Rattle.link.specs.Reading.{linkOf}
 use Rattle.link.specs.Handed.{Handed}
@@ -100,8 +102,8 @@ run-of ok (Handed.by-tick {h} {l} g r a s e) =
     let same = one-turn _ a (sym (s .answer-is) ∙ e) in
     one-more (run-of ok g) Call.tick _ (r .link) (λ k. record { state = sym (s .link-is) k; history = ticked (same k) ∷ h })
 run-of ok (Handed.by-lend {h} {l} g mask r a s e) =
-    let same = one-loan _ a (sym (s .is .answer-is) ∙ e) in
-    one-more (run-of ok g) (Call.lend mask (s .choice)) _ (r .link) (λ k. record { state = sym (s .is .link-is) k; history = lent mask (same k) ∷ h })
+    let same = one-loan _ a (sym (s .answer-is) ∙ e) in
+    one-more (run-of ok g) (Call.lend mask) _ (r .link) (λ k. record { state = sym (s .link-is) k; history = lent mask (same k) ∷ h })
 run-of ok (Handed.by-reset {h} {l} g r a s e) =
     let same = one-renewal _ a (sym (s .answer-is) ∙ e) in
     one-more (run-of ok g) Call.reset _ (r .link) (λ k. record { state = sym (s .link-is) k; history = Event.reset (same k) ∷ h })
@@ -111,12 +113,7 @@ run-of ok (Handed.by-burst {h} {l} g xs ys r b) =
     (sym (burst-played (record { state = linkOf l; history = h }) (known-of made ok) xs)
     ∙ λ k. record { state = sym (b .link-is) k; history = eventsIn (sym (b .records-are) k) ++ h })
 
--- ---- demand 3
-
-handed-meets : (p : Plan) → Valid p → {h : History} {l : Link} → Handed p h l → (i : ℕ) → i < model.flowCount (planFor p) → Demand3 (planFor p) i h
-handed-meets p valid g i known =
-    let made = run-of (valid .accepted) g in
-    subst (λ (r : Played paper). Demand3 (planFor p) i (r .history)) (made .played) (meets-accepted (planFor p) (valid .accepted) (made .calls) i known)
+-- ---- what holds of every run of the paper's card holds of the code
 
 verdict-of : (bytes : List ℕ) → readOf bytes .verdict ≡ verdictFor (model.refusal bytes)
 unfolding readOf
@@ -127,11 +124,26 @@ unfolding verdictFor
 accepted-passes zero e = refl
 accepted-passes (suc r) e = cc
 
+module _ (Q : model.Plan → History → Type 0) (runs : (P : model.Plan) → model.Accepted P → (calls : List Call) → Q P (run paper P calls .history)) where
+  handed-has : (p : Plan) → Valid p → {h : History} {l : Link} → Handed p h l → Q (planFor p) h
+  handed-has p valid g =
+      let made = run-of (valid .accepted) g in
+      subst (λ (r : Played paper). Q (planFor p) (r .history)) (made .played) (runs (planFor p) (valid .accepted) (made .calls))
+
+  code-has : (bytes : List ℕ) (o : Outcome) → o ≡ readOf bytes → (o .verdict ≡ Accepted → Valid (o .plan)) → o .verdict ≡ Accepted
+      → {h : History} {l : Link} → Handed (o .plan) h l → Q (model.planOf bytes) h
+  code-has bytes o is valid accepts {h} {l} g =
+      let passes = accepted-passes (model.refusal bytes) (sym (ap (λ (x : Outcome). x .verdict) is ∙ verdict-of bytes) ∙ accepts) in
+      let plan-is = ap (λ (x : Outcome). planFor (x .plan)) is ∙ is-plan bytes passes in
+      subst (λ P. Q P h) plan-is (handed-has (o .plan) (valid accepts) g)
+
 -- Bytes that `plan::read` accepts, the link that `Link::fresh` hands back, and any list of calls, each on the link that the one before handed back:
 -- demand 3 of their events, for each flow of the plan.
 pub code-meets : (bytes : List ℕ) (o : Outcome) → o ≡ readOf bytes → (o .verdict ≡ Accepted → Valid (o .plan)) → o .verdict ≡ Accepted
     → {h : History} {l : Link} → Handed (o .plan) h l → (i : ℕ) → i < model.flowCount (model.planOf bytes) → Demand3 (model.planOf bytes) i h
-code-meets bytes o is valid accepts {h} {l} g i known =
-    let passes = accepted-passes (model.refusal bytes) (sym (ap (λ (x : Outcome). x .verdict) is ∙ verdict-of bytes) ∙ accepts) in
-    let plan-is = ap (λ (x : Outcome). planFor (x .plan)) is ∙ is-plan bytes passes in
-    subst (λ P. i < model.flowCount P → Demand3 P i h) plan-is (handed-meets (o .plan) (valid accepts) g i) known
+code-meets = code-has (λ P h. (i : ℕ) → i < model.flowCount P → Demand3 P i h) meets-accepted
+
+-- and document 02, N8: lending in turn is fair
+pub code-fair : (bytes : List ℕ) (o : Outcome) → o ≡ readOf bytes → (o .verdict ≡ Accepted → Valid (o .plan)) → o .verdict ≡ Accepted
+    → {h : History} {l : Link} → Handed (o .plan) h l → FairOn (model.planOf bytes) h
+code-fair = code-has FairOn fair-accepted

@@ -36,6 +36,7 @@ freshLink p u = record {
   flows = startedFlows 0 (p .entries) (p .count);
   held = nothingHeld;
   taken = false;
+  first = 0;
 }
 
 module _ (p : Plan) (v : plan.Valid p) (u : List ℕ) where
@@ -77,4 +78,5 @@ module _ (p : Plan) (v : plan.Valid p) (u : List ℕ) where
     held-long = length-nothing;
     flows = λ i h. rw (flow-at i h) (record { frame = omega (arith, v .accepted .two-frames); spare = λ q _. nothing-at q });
     spare-flows = λ i h b. rw (started-past 0 (p .entries) (p .count) i h b, row-of-nothing i b);
+    first = rw (plan-count p) at (v .accepted .some-flow);
   }

@@ -1,9 +1,10 @@
 -- A lend on a link, as it is read. Assumes nothing.
-use Prim.Native.Nat.{ℕ, zero, suc, _^_, _≤_, _<_}
+use Prim.Native.Nat.{ℕ, zero, suc, _+_, _%_, _^_, _≤_, _<_}
 use mathlib.Core.Path.{_≡_, refl, sym, ap, _∙_}
 use mathlib.Core.List.{List, _∷_, []}
 use mathlib.Core.Option as option
 use mathlib.Core.Bool.{Bool, true, false, not, _&&_, _||_, cond}
+use native.Mathlib.Nat.{mod-lt}
 use native.Mathlib.Omega.{arith}
 use lib.Dec.{leb, ltb, eqb}
 use lib.ListN.{getD}
@@ -13,8 +14,10 @@ use Rattle.model.specs.Calls.{accepted, refused, inMask}
 use Rattle.model.specs.Window.{Window, everyFrom}
 use Rattle.model.specs.Link as model
 use Rattle.model.specs.Request.{unbooked}
-use Rattle.model.specs.Lend.{canTake, takes, lendTests, lentTo, lendAfter, lend}
-use Rattle.model.proofs.LendChoice.{each-taker, no-taker}
+use Rattle.model.specs.Tables.{firstFrom}
+use Rattle.model.specs.Lend.{canTake, takes, lendTests, takenBy, lentTo, firstInTurn, lentAfter, lendAfter, lend}
+use Rattle.model.proofs.LendTurn.{lend-is}
+use Rattle.model.proofs.Tables.{firstFrom-some, firstFrom-same}
 use Rattle.model.proofs.Tests.{and-true}
 use Rattle.calls.specs.declared.Answer.the-variants.{Lent, Refused}
 use Rattle.calls.specs.Reading.{answerToLend}
@@ -31,16 +34,17 @@ use Rattle.tables.proofs.HoldingChanges.{one-more}
 use Rattle.link.specs.declared.Flow.{Flow}
 use Rattle.link.specs.declared.Link.{Link}
 use Rattle.link.specs.Layout.{sizeFor, entryAt, flowAt, ownerAt}
-use Rattle.link.specs.Updates.{withHeld, withFlows, withHoldings, withTaken, withFlow}
+use Rattle.link.specs.Updates.{withHeld, withHoldings, withTaken, withFirst, withFlow}
 use Rattle.link.specs.Reading.{linkOf}
 use Rattle.link.specs.Sound.{Sound}
-use Rattle.link.specs.Lend.{takesIn, FirstTaker, Lends}
+use Rattle.link.specs.Lend.{takesIn, flowFound, firstTaker}
 use Rattle.link.proofs.Plans.{plan-count, plan-entry}
 use Rattle.link.specs.Steps.{Stepped}
 use Rattle.link.proofs.Given.{AtHand}
+use Rattle.link.proofs.Takers.{givenBy}
 use Rattle.link.proofs.Credits.{same-flow}
 use Rattle.link.proofs.Readings.{read-count, read-entry, read-flow, read-holding, read-owner, some-flow}
-use Rattle.link.proofs.Updated.{sound-with, sound-owners, sound-flows, read-from, sound-from}
+use Rattle.link.proofs.Updated.{sound-with, sound-first, sound-owners, sound-flows, read-from, sound-from}
 
 -- the tests of the current slot, with n flows, this owner and this mark
 abbrev slotTests : (n owner : ℕ) (taken : Bool) (mask : ℕ) → List Line
@@ -60,6 +64,11 @@ sound-marked l s t = sound-with l s (s .current) (sound-owners l s) (sound-flows
 marked-link : (l : Link) (t : Bool) → linkOf (withTaken l t) ≡ model.withTaken (linkOf l) t
 unfolding linkOf
 marked-link l t = refl
+
+-- and so it is with another flow to lend from
+turned-link : (l : Link) (i : ℕ) → linkOf (withFirst l i) ≡ model.withLookFrom (linkOf l) i
+unfolding linkOf
+turned-link l i = refl
 
 current-read : (l : Link) → linkOf l .current ≡ l .cp
 unfolding linkOf
@@ -118,8 +127,7 @@ module _ {l : Link} {plan : Plan} {w : code.Window} (a : AtHand l plan w) (mask 
       abbrev lentLink : Link
       lentLink = withTaken (withFlow l i (withHeld (flowAt l i) raised)) true
 
-      lent-link : linkOf lentLink ≡ lentTo (linkOf l) i
-      unfolding lentTo
+      lent-link : linkOf lentLink ≡ takenBy (linkOf l) i
       lent-link =
           marked-link (withFlow l i (withHeld (flowAt l i) raised)) true
           ∙ ap (λ (m : model.Link). model.withTaken m true)
@@ -133,54 +141,88 @@ module _ {l : Link} {plan : Plan} {w : code.Window} (a : AtHand l plan w) (mask 
 
   -- ---- what a lend comes to
 
+  some-here : 0 < plan .count
+  some-here = omega (arith, count-is, some-flow l (a .sound))
+
+  -- the flows in turn, as they are read
+  abbrev inTurn : option.Option ℕ
+  inTurn = givenBy plan w (l .held) mask (plan .count) (l .first)
+
+  turn-same : firstInTurn (linkOf l) mask ≡ inTurn
+  unfolding firstInTurn linkOf
+  turn-same =
+      ap (λ n. firstFrom n (l .first) (λ k. takes (linkOf l) mask (k % n))) (read-count l ∙ sym count-is)
+      ∙ firstFrom-same (plan .count) (l .first) _ _ (λ k low high. takes-same (k % plan .count) (omega (arith, count-is, mod-lt k some-here)))
+
   module _ {n : ℕ} (tests : n ≡ firstOf (slotTests (plan .count) (ownerAt l (l .cp)) (l .taken) mask)) where
-    pub lend-refused : (n ≡ 0 → ⊥) → Lends (linkOf l) mask (record { link = l; answer = Refused n })
+    pub lend-refused : (n ≡ 0 → ⊥) → Stepped answerToLend (lend (linkOf l) mask) (record { link = l; answer = Refused n })
     unfolding lend lendAfter
-    lend-refused nonzero = record {
-      choice = 0;
-      is = rw (← (tests ∙ tests-are)) (go n nonzero);
-      one-of-these = λ i e. absurd (let z : _≡_ {A = ℕ} 0 1 = cc in omega arith);
-    }
+    lend-refused nonzero = rw (← (tests ∙ tests-are)) (go n nonzero)
       where
-        go : (k : ℕ) → (k ≡ 0 → ⊥) → Stepped answerToLend (lendAfter k (linkOf l) mask 0) (record { link = l; answer = Refused k })
+        go : (k : ℕ) → (k ≡ 0 → ⊥) → Stepped answerToLend (lendAfter k (linkOf l) mask) (record { link = l; answer = Refused k })
         go zero some = absurd (some refl)
         go (suc r) some = record { link-is = refl; answer-is = refl; sound = a .sound }
 
-    module _ (z : n ≡ 0) {i : ℕ} (first : FirstTaker (takesIn plan w (l .held) mask) (plan .count) i) where
-      passes : firstOf (lendTests (linkOf l) mask) ≡ 0
-      passes = sym (tests ∙ tests-are) ∙ z
+    module _ (z : n ≡ 0) {i : ℕ} (first : i ≡ firstTaker (takesIn plan w (l .held) mask) (plan .count) (l .first)) where
+      comes-to : lend (linkOf l) mask ≡ lentAfter (linkOf l) inTurn
+      comes-to = lend-is (linkOf l) mask (sym (tests ∙ tests-are) ∙ z) ∙ ap (lentAfter (linkOf l)) turn-same
 
-      pub lend-to-nobody : i ≡ plan .count → Lends (linkOf l) mask (record { link = l; answer = Refused 18 })
-      lend-to-nobody end = record {
-        choice = 0;
-        is = rw (no-taker (linkOf l) mask passes (rw (read-count l) (some-flow l (a .sound))) nobody-takes 0)
-            (record { link-is = refl; answer-is = refl; sound = a .sound });
-        one-of-these = λ j e. absurd (let z : _≡_ {A = ℕ} 0 1 = cc in omega arith);
-      }
+      first-is : i ≡ flowFound (plan .count) inTurn
+      unfolding firstTaker
+      first-is = first
+
+      pub lend-to-nobody : i ≡ plan .count → Stepped answerToLend (lend (linkOf l) mask) (record { link = l; answer = Refused 18 })
+      unfolding lentAfter
+      lend-to-nobody end = rw comes-to (go inTurn first-is)
         where
-          nobody-takes : (j : ℕ) → j < paper.flowCount (linkOf l .plan) → takes (linkOf l) mask j ≡ false
-          nobody-takes j known =
-              let hj = rw (read-count l) at known in
-              takes-same j hj ∙ first .none-before j (omega (arith, count-is))
+          go : (o : option.Option ℕ) → i ≡ flowFound (plan .count) o → Stepped answerToLend (lentAfter (linkOf l) o) (record { link = l; answer = Refused 18 })
+          go option.none e = record { link-is = refl; answer-is = refl; sound = a .sound }
+          go (option.some k) e = absurd (omega (arith, mod-lt k some-here))
+
+      -- a flow was found
+      record Found : Type 0 where
+        number : ℕ
+        is : inTurn ≡ option.some number
+        flow-is : i ≡ number % plan .count
 
       module _ (some : i ≡ plan .count → ⊥) where
+        was-found : Found
+        was-found = go inTurn refl
+          where
+            go : (o : option.Option ℕ) → inTurn ≡ o → Found
+            go option.none e = absurd (some (first-is ∙ ap (flowFound (plan .count)) e))
+            go (option.some k) e = record { number = k; is = e; flow-is = first-is ∙ ap (flowFound (plan .count)) e }
+
         pub taker-below : i < l .plan .count
-        taker-below = omega (arith, first .at-most, count-is)
+        taker-below = omega (arith, was-found .flow-is, count-is, mod-lt (was-found .number) some-here)
 
         can-take : takesIn plan w (l .held) mask i ≡ true
-        can-take = first .takes (omega (arith, first .at-most))
+        can-take =
+            ap (takesIn plan w (l .held) mask) (was-found .flow-is)
+            ∙ firstFrom-some (plan .count) (l .first) (λ k. takesIn plan w (l .held) mask (k % plan .count)) (was-found .number) (was-found .is) .passes
 
-        pub lend-to-taker : {h : List ℕ} → h ≡ shifted (windowOf w) 1 i (l .cp) (l .held)
-            → Lends (linkOf l) mask (record { link = withTaken (withHoldings l h) true; answer = Lent i })
-        lend-to-taker e = record {
-          choice = i;
-          is = rw (each-taker (linkOf l) mask passes i known takes-there, e, same-flow l i (raised i taker-below can-take))
-              (record { link-is = lent-link i taker-below can-take; answer-is = refl; sound = sound-lent i taker-below can-take });
-          one-of-these = λ j e. let same : i ≡ j = cc in rw (← same) (known, takes-there);
-        }
-          where
-            known : i < paper.flowCount (linkOf l .plan)
-            known = rw (read-count l) taker-below
+        lent-is : lend (linkOf l) mask ≡ record { link = lentTo (linkOf l) i; answer = accepted i }
+        unfolding lentAfter
+        lent-is =
+            let same : was-found .number % paper.flowCount (linkOf l .plan) ≡ i =
+            ap (was-found .number %_) (read-count l ∙ sym count-is) ∙ sym (was-found .flow-is) in
+            comes-to ∙ ap (lentAfter (linkOf l)) (was-found .is) ∙ ap (λ j. record { link = lentTo (linkOf l) j; answer = accepted j }) same
 
-            takes-there : takes (linkOf l) mask i ≡ true
-            takes-there = takes-same i taker-below ∙ can-take
+        -- and the next lend looks at the one after it first
+        module _ {on : ℕ} (next-is : on ≡ (i + 1) % plan .count) where
+          on-below : on < l .plan .count
+          on-below = omega (arith, next-is, count-is, mod-lt (i + 1) some-here)
+
+          turned : linkOf (withFirst (lentLink i taker-below can-take) on) ≡ lentTo (linkOf l) i
+          unfolding lentTo
+          turned =
+              let next-read : on ≡ (i + 1) % paper.flowCount (linkOf l .plan) = next-is ∙ ap ((i + 1) %_) (count-is ∙ sym (read-count l)) in
+              turned-link (lentLink i taker-below can-take) on ∙ (λ k. model.withLookFrom (lent-link i taker-below can-take k) (next-read k))
+
+          pub lend-to-taker : {h : List ℕ} → h ≡ shifted (windowOf w) 1 i (l .cp) (l .held)
+              → Stepped answerToLend (lend (linkOf l) mask) (record { link = withFirst (withTaken (withHoldings l h) true) on; answer = Lent i })
+          lend-to-taker e = rw (lent-is, e, same-flow l i (raised i taker-below can-take)) (record {
+            link-is = turned;
+            answer-is = refl;
+            sound = sound-first _ (sound-lent i taker-below can-take) on-below;
+          })

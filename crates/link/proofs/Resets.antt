@@ -26,7 +26,7 @@ use Rattle.tables.specs.Holdings.{roomAt}
 use Rattle.link.specs.declared.Flow.{Flow}
 use Rattle.link.specs.declared.Link.{Link}
 use Rattle.link.specs.Layout.{FlowRow, sizeOf, entryAt, flowRow, flowIn, ownerAt}
-use Rattle.link.specs.Updates.{linkWith}
+use Rattle.link.specs.Updates.{linkWith, withFirst}
 use Rattle.link.specs.Reading.{flowOf, linkOf}
 use Rattle.link.specs.Sound.{Sound}
 use Rattle.link.specs.Started.{startedFlow, startedFlows}
@@ -34,9 +34,9 @@ use Rattle.link.specs.Reset.{noneHeldIn, quietIn}
 use Rattle.link.specs.Steps.{Stepped}
 use Rattle.link.proofs.Given.{AtHand}
 use Rattle.link.proofs.Lends.{unbooked-is}
-use Rattle.link.proofs.Readings.{read-count, read-entry, read-flow, read-holding, read-owner, read-frames, flows-most, size-most}
+use Rattle.link.proofs.Readings.{read-count, read-entry, read-flow, read-holding, read-owner, read-frames, flows-most, size-most, some-flow}
 use Rattle.link.proofs.StartedFlows.{read-unowned, sound-unowned, started-at, started-past, length-started}
-use Rattle.link.proofs.Updated.{sound-with}
+use Rattle.link.proofs.Updated.{sound-with, sound-first}
 
 -- ---- the tests
 
@@ -61,8 +61,12 @@ module _ (l : Link) where
 -- ---- the link after a granted reset
 
 -- nobody owns a position, the flows start in the head frame, and the mark is t
+abbrev recycledLink : Link → (head : ℕ) → (unbooked : List ℕ) → (t : Bool) → Link
+recycledLink l head u t = linkWith l (l .cp) (everywhere nobody) u (startedFlows head (l .plan .entries) (l .plan .count)) (l .held) t
+
+-- and the next lend looks at flow 0 first
 abbrev renewedLink : Link → (head : ℕ) → (unbooked : List ℕ) → (t : Bool) → Link
-renewedLink l head u t = linkWith l (l .cp) (everywhere nobody) u (startedFlows head (l .plan .entries) (l .plan .count)) (l .held) t
+renewedLink l head u t = withFirst (recycledLink l head u t) 0
 
 module _ {l : Link} {w : Window} (a : AtHand l (l .plan) w) where
   head-is : w .head ≡ seen.head (model.window (linkOf l))
@@ -100,12 +104,14 @@ module _ {l : Link} {w : Window} (a : AtHand l (l .plan) w) where
     sound-renewed : Words (l .plan .slots) (l .plan .frames) (λ q. true) u → Sound (renewedLink l (w .head) u t)
     sound-renewed words =
         let s = a .sound in
-        sound-with l s (s .current) (sound-unowned (l .plan) (s .plan) words) (record {
+        sound-first (recycledLink l (w .head) u t)
+        (sound-with l s (s .current) (sound-unowned (l .plan) (s .plan) words) (record {
           long = length-started (w .head) (l .plan .entries) (l .plan .count);
           rows = s .held-long;
           each = λ i h. rw (flow-then i h) (record { frame = head-below; spare = s .flows i h .spare });
           spare = λ i h b k. flowRow (started-past (w .head) (l .plan .entries) (l .plan .count) i h b k) (s .spare-flows i h b k .held);
-        })
+        }))
+        (some-flow l s)
 
   -- ---- what a reset comes to
 
@@ -127,7 +133,7 @@ module _ {l : Link} {w : Window} (a : AtHand l (l .plan) w) where
         → o ≡ everywhere nobody
         → Words (l .plan .slots) (l .plan .frames) (λ q. true) u
         → fs ≡ startedFlows (w .head) (l .plan .entries) (l .plan .count)
-        → Stepped answerToReset (reset (linkOf l)) (record { link = linkWith l (l .cp) o u fs (l .held) t; answer = Reset })
+        → Stepped answerToReset (reset (linkOf l)) (record { link = withFirst (linkWith l (l .cp) o u fs (l .held) t) 0; answer = Reset })
     reset-granted {u = u} {t = t} still mark owners words flows =
         rw (comes-to true (not-false r still), owners, flows)
         (record { link-is = read-renewed u t mark; answer-is = refl; sound = sound-renewed u t words })

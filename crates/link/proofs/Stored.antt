@@ -49,6 +49,7 @@ stored-reading l s = λ k. record {
   flows = flows k;
   held = held k;
   taken = l .taken;
+  first = l .first;
 }
   where
     owner : (p : ℕ) → p < 256 → Dec (p < sizeOf l) → storedOwner (model.owner (linkOf l) p) ≡ ownerAt l p

@@ -26,7 +26,7 @@ use Rattle.tables.proofs.Rows.{length-row, length-with-row, row-with-same, row-
 use Rattle.link.specs.declared.Flow.{Flow}
 use Rattle.link.specs.declared.Link.{Link}
 use Rattle.link.specs.Layout.{FlowRow, sizeFor, sizeOf, flowRow, flowIn, flowAt, noFlow}
-use Rattle.link.specs.Updates.{linkWith, withOwners, withFlow}
+use Rattle.link.specs.Updates.{linkWith, withOwners, withFirst, withFlow}
 use Rattle.link.specs.Reading.{spareFlow, flowOf, linkOf}
 use Rattle.link.specs.Sound.{Sound, SoundFlow}
 use Rattle.link.proofs.Readings.{read-count, read-flow, read-holding, read-owner, flows-most, size-most}
@@ -64,6 +64,23 @@ module _ (l : Link) (s : Sound l) where
     held-long = flows .rows;
     flows = flows .each;
     spare-flows = flows .spare;
+    first = s .first;
+  }
+
+  -- another flow to lend from
+  pub sound-first : {i : ℕ} → i < l .plan .count → Sound (withFirst l i)
+  sound-first below = record {
+    plan = s .plan;
+    current = s .current;
+    owners-long = s .owners-long;
+    owners = s .owners;
+    spare-owners = s .spare-owners;
+    unbooked = s .unbooked;
+    flows-long = s .flows-long;
+    held-long = s .held-long;
+    flows = s .flows;
+    spare-flows = s .spare-flows;
+    first = below;
   }
 
   pub sound-owners : SoundOwners (l .plan) (l .owner) (l .unbooked)

@@ -10,6 +10,7 @@ use Rattle.model.specs.Fresh as fresh
 use Rattle.model.specs.Request as request
 use Rattle.model.specs.Credit as credit
 use Rattle.model.specs.Tick as tick
+use Rattle.model.specs.Lend as lend
 use Rattle.model.specs.Reset as reset
 use Rattle.model.specs.Burst as burst
 use Rattle.model.specs.CountedBursts.{eventsIn}
@@ -18,7 +19,6 @@ use Rattle.link.specs.declared.Step.{Step}
 use Rattle.link.specs.Reading.{linkOf}
 use Rattle.link.specs.Sound.{Sound}
 use Rattle.link.specs.Steps.{Stepped}
-use Rattle.link.specs.Lend.{Lends}
 use Rattle.link.specs.Bursts.{Bursted}
 
 -- l is a link that `Link::fresh` may hand back, by its contract
@@ -37,7 +37,7 @@ pub data Handed (p : Plan) : History → Link → Type 0 where
   by-tick : {h : History} {l : Link} → Handed p h l → (r : Step) (a : Turn)
       → Stepped answerToTick (tick.tick (linkOf l)) r → r .answer ≡ answerToTick a → Handed p (ticked a ∷ h) (r .link)
   by-lend : {h : History} {l : Link} → Handed p h l → (mask : ℕ) (r : Step) (a : Loan)
-      → Lends (linkOf l) mask r → r .answer ≡ answerToLend a → Handed p (lent mask a ∷ h) (r .link)
+      → Stepped answerToLend (lend.lend (linkOf l) mask) r → r .answer ≡ answerToLend a → Handed p (lent mask a ∷ h) (r .link)
   by-reset : {h : History} {l : Link} → Handed p h l → (r : Step) (a : Renewal)
       → Stepped answerToReset (reset.reset (linkOf l)) r → r .answer ≡ answerToReset a → Handed p (Event.reset a ∷ h) (r .link)
   -- document 02, N7: a burst of the records xs, which are ys after it, counts as the requests that stand in ys

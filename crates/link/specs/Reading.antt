@@ -27,6 +27,7 @@ linkOf l = record {
   owners = table (sizeOf l) (λ p. ownerOf (ownerAt l p));
   flows = table (l .plan .count) (λ i. flowOf (sizeOf l) (flowAt l i));
   taken = l .taken;
+  lookFrom = l .first;
 }
 
 -- ---- the paper's link as it is stored: 256 positions and 16 flows
@@ -51,4 +52,5 @@ stored m = record {
   flows = table 16 (λ i. storedFlow (model.flow m i));
   held = rowsOf (model.holding m);
   taken = m .taken;
+  first = m .lookFrom;
 }

@@ -28,3 +28,5 @@ pub record Sound (l : Link) : Type 0 where
   pub held-long : Sixteen (l .held)
   pub flows : (i : ℕ) → i < l .plan .count → SoundFlow (l .plan) (flowAt l i)
   pub spare-flows : (i : ℕ) → l .plan .count ≤ i → i < 16 → flowAt l i ≡ spareFlow
+  -- the next lend looks at one of the plan's flows first
+  pub first : l .first < l .plan .count

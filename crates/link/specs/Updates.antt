@@ -32,9 +32,9 @@ withHeld x h = flowRow (x .flow) h
 
 -- ---- a link
 
--- another current position, other owners with their words, other flows and holdings, and another mark
+-- another current position, other owners with their words, other flows and holdings, and another mark; the flow to lend from stays
 abbrev pub linkWith : Link → (cp : ℕ) (owner unbooked : List ℕ) (flows : List Flow) (held : List ℕ) (taken : Bool) → Link
-linkWith l p o u fs h t = record { plan = l .plan; cp = p; owner = o; unbooked = u; flows = fs; held = h; taken = t }
+linkWith l p o u fs h t = record { plan = l .plan; cp = p; owner = o; unbooked = u; flows = fs; held = h; taken = t; first = l .first }
 
 abbrev pub withCurrent : Link → ℕ → Link
 withCurrent l p = linkWith l p (l .owner) (l .unbooked) (l .flows) (l .held) (l .taken)
@@ -50,6 +50,10 @@ withHoldings l h = linkWith l (l .cp) (l .owner) (l .unbooked) (l .flows) h (l .
 
 abbrev pub withTaken : Link → Bool → Link
 withTaken l t = linkWith l (l .cp) (l .owner) (l .unbooked) (l .flows) (l .held) t
+
+-- another flow to lend from
+abbrev pub withFirst : Link → ℕ → Link
+withFirst l i = record { plan = l .plan; cp = l .cp; owner = l .owner; unbooked = l .unbooked; flows = l .flows; held = l .held; taken = l .taken; first = i }
 
 -- another flow i, with its row
 abbrev pub withFlow : Link → ℕ → FlowRow → Link

@@ -49,6 +49,7 @@ impl Link {
             flows,
             held,
             taken: false,
+            first: 0,
         }
     }
 }

@@ -2,15 +2,18 @@
 ghost use mathlib.Core.Path.{_≡_};
 ghost use mathlib.Core.List.{_∷_, []};
 ghost use mathlib.Core.Bool.{not, _||_};
-ghost use Prim.Native.Nat.{_/_, _^_, _≤_};
+ghost use Prim.Native.Nat.{_/_, _^_, _<_};
 ghost use lib.Dec.{leb, eqb};
 ghost use Rattle.model.specs.Refusals.{firstOf, _when_};
+ghost use Rattle.model.specs.Lend as model;
+ghost use Rattle.calls.specs.Reading.{answerToLend};
 ghost use Rattle.plan.specs.Reading.{Valid};
 ghost use Rattle.window.specs.Window.{Proper};
 ghost use Rattle.tables.specs.Owners.{nobody};
 ghost use Rattle.link.specs.Reading.{linkOf};
 ghost use Rattle.link.specs.Sound.{Sound};
-ghost use Rattle.link.specs.Lend.{takesIn, FirstTaker, Lends};
+ghost use Rattle.link.specs.Steps.{Stepped};
+ghost use Rattle.link.specs.Lend.{takesIn, firstTaker};
 use crate::Answer;
 use crate::Link;
 use crate::Step;
@@ -19,6 +22,7 @@ use tables::holdings::Holdings;
 use tables::holdings::room_from;
 use tables::holdings::shift_from;
 use window::Window;
+use window::positions::next;
 use window::positions::window;
 
 // The bits of a mask from bit n on.
@@ -57,32 +61,32 @@ fn refusal(count: usize, owner: u8, taken: bool, mask: u16) -> u8
     0
 }
 
-// The first flow of a mask that can take the current slot, or n where there is none.
-fn taker(held: &Holdings, plan: Plan, w: Window, mask: u16) -> usize
-    requires { ⌜ Valid plan × Proper w ⌝ }
-    ensures { λ r. ⌜ FirstTaker (takesIn plan w (now (held .entry)) mask) (plan .count) r ⌝ }
+// The first flow of a mask that can take the current slot, looking from a flow on and going round, or n where there is none.
+fn taker(held: &Holdings, plan: Plan, w: Window, mask: u16, from: usize) -> usize
+    requires { ⌜ Valid plan × Proper w × from < plan .count ⌝ }
+    ensures { λ r. ⌜ r ≡ firstTaker (takesIn plan w (now (held .entry)) mask) (plan .count) from ⌝ }
 {
     let current = w.current;
-    let mut rest = mask;
-    let mut i = 0;
-    while i < plan.count {
+    let mut i = from;
+    let mut left = plan.count;
+    while 0 < left {
         let e = plan.entries[i];
-        if rest % 2 == 1 {
+        if (mask >> i) % 2 == 1 {
             if room_from(held, i, e.cells, w, current) {
                 return i;
             }
         }
-        rest /= 2;
-        i += 1;
+        i = next(plan.count, i);
+        left -= 1;
     }
-    i
+    plan.count
 }
 
 impl Link {
-    // The current slot, when nobody booked it, goes to a flow of a mask that has a quantum ready: here to the first that can take it.
+    // The current slot, when nobody booked it, goes to a flow of a mask that has a quantum ready: in turn, to the first that can take it.
     pub fn lend(mut self, mask: u16) -> Step
         requires { ⌜ Sound self ⌝ }
-        ensures { λ r. ⌜ Lends (linkOf self) mask r ⌝ }
+        ensures { λ r. ⌜ Stepped answerToLend (model.lend (linkOf self) mask) r ⌝ }
     {
         let plan = self.plan;
         let cp = self.cp;
@@ -95,7 +99,7 @@ impl Link {
                 answer: Answer::Refused(number),
             };
         }
-        let i = taker(&self.held, plan, w, mask);
+        let i = taker(&self.held, plan, w, mask, self.first);
         if i == plan.count {
             return Step {
                 link: self,
@@ -104,6 +108,7 @@ impl Link {
         }
         shift_from(&mut self.held, 1, i, w, cp);
         self.taken = true;
+        self.first = next(plan.count, i);
         Step {
             link: self,
             answer: Answer::Lent(i as u8),

@@ -1,5 +1,5 @@
 // One link of a plan: its current position, the owner of each position, each flow's frame and remainder, what each flow holds,
-// and whether the current slot is marked taken.
+// whether the current slot is marked taken, and whose turn it is to be lent to.
 ghost use mathlib.Core.Path.{_≡_};
 ghost use Rattle.link.specs.Updates.{movedTo};
 
@@ -43,6 +43,8 @@ pub struct Link {
     pub held: Holdings,
     // the current slot is marked taken
     pub taken: bool,
+    // the flow that the next lend looks at first
+    pub first: usize,
 }
 
 // What a call hands back.

@@ -73,6 +73,7 @@ impl Link {
         self.owner = owners;
         self.unbooked = words;
         self.flows = flows;
+        self.first = 0;
         Step {
             link: self,
             answer: Answer::Reset,

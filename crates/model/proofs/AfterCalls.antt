@@ -25,14 +25,16 @@ after-call : (r : Played paper) (c : Call) → Known (r .state .plan) r → Know
 after-call r (Call.request w) g = after-request g w
 after-call r (Call.credit i p) g = after-credit g i p
 after-call r Call.tick g = after-tick g
-after-call r (Call.lend m x) g = after-lend g m x
+after-call r (Call.lend m) g = after-lend g m
 after-call r Call.reset g = after-reset g
+
+pub after-step : {P : Plan} (r : Played paper) (c : Call) → Known P r → Known P (step paper r c)
+after-step r c g = subst (λ P. Known P r → Known P (step paper r c)) (g .plan-is) (after-call r c) g
 
 pub after-calls : {P : Plan} (r : Played paper) (calls : List Call) → Known P r → Known P (play paper r calls)
 unfolding play
 after-calls r [] g = g
-after-calls r (c ∷ calls) g =
-    after-calls (step paper r c) calls (subst (λ P. Known P r → Known P (step paper r c)) (g .plan-is) (after-call r c) g)
+after-calls r (c ∷ calls) g = after-calls (step paper r c) calls (after-step r c g)
 
 pub after-fresh : {P : Plan} → Accepted P → After P (fresh P) []
 unfolding fresh ticks origin grantsSince refusalsSince raises credits tally

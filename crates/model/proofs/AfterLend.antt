@@ -9,7 +9,7 @@ use Rattle.model.specs.Refusals.{firstOf}
 use Rattle.model.specs.Plan.{flowCount}
 use Rattle.model.specs.Calls.{Loan, History, lent, accepted, refused, inMask}
 use Rattle.model.specs.Link.{Link, flow, withHeld, heldFrom}
-use Rattle.model.specs.Lend.{canTake, takes, lendTests, lentTo, chosen, lentAfter, lendAfter, lend}
+use Rattle.model.specs.Lend.{canTake, takes, lendTests, lentTo, firstInTurn, lentAfter, lendAfter, lend}
 use Rattle.model.specs.History.{ticks, origin, credits, grantsSince, refusalsSince}
 use Rattle.model.proofs.Tests.{and-true}
 use Rattle.model.proofs.Tables.{firstFrom-some}
@@ -19,7 +19,7 @@ use Rattle.model.proofs.HistoryCounts.{raises}
 use Rattle.model.proofs.LendKeeps.{LendPasses, lend-passes, lent-keeps}
 use Rattle.model.proofs.AfterHistory.{LeastOf, After, after-event}
 
-module _ {l : Link} {h : History} (g : After (l .plan) l h) (mask choice : ℕ) where
+module _ {l : Link} {h : History} (g : After (l .plan) l h) (mask : ℕ) where
   open Link l using (plan as P)
   open After g using (invariant as v)
   open Current (v .current) using (accepted as ok)
@@ -59,18 +59,18 @@ module _ {l : Link} {h : History} (g : After (l .plan) l h) (mask choice : ℕ) 
             (least-kept (accepted i) i known) (λ q known d. least-kept (accepted i) q known);
       })
 
-  found : LendPasses l mask → (o : Option ℕ) → chosen l mask choice ≡ o → After P (lentAfter l o .link) (lent mask (lentAfter l o .answer) ∷ h)
-  unfolding chosen lentAfter
+  found : LendPasses l mask → (o : Option ℕ) → firstInTurn l mask ≡ o → After P (lentAfter l o .link) (lent mask (lentAfter l o .answer) ∷ h)
+  unfolding firstInTurn lentAfter
   found free none e = not-lent 18
   found free (some k) e =
-      let hit = firstFrom-some (flowCount P) choice (λ j. takes l mask (j % flowCount P)) k e in
+      let hit = firstFrom-some (flowCount P) (l .lookFrom) (λ j. takes l mask (j % flowCount P)) k e in
       lent-to free (k % flowCount P) (mod-lt k (ok .some-flow)) (hit .passes)
 
-  pub after-lend : After P (lend l mask choice .link) (lent mask (lend l mask choice .answer) ∷ h)
+  pub after-lend : After P (lend l mask .link) (lent mask (lend l mask .answer) ∷ h)
   unfolding lend lendAfter
   after-lend = go (firstOf (lendTests l mask)) refl
     where
       go : (r : ℕ) → firstOf (lendTests l mask) ≡ r
-          → After P (lendAfter r l mask choice .link) (lent mask (lendAfter r l mask choice .answer) ∷ h)
-      go zero e = found (lend-passes l mask e) (chosen l mask choice) refl
+          → After P (lendAfter r l mask .link) (lent mask (lendAfter r l mask .answer) ∷ h)
+      go zero e = found (lend-passes l mask e) (firstInTurn l mask) refl
       go (suc r) e = not-lent (suc r)

@@ -112,7 +112,7 @@ module _ (l : Link) (below : l .current < positions (l .plan)) (found : Quiet l)
   nothing-new : renewed (renewed l) ≡ renewed l
   unfolding renewed
   nothing-new =
-      ap₂ (λ flows taken. linkWith l (l .current) (table (positions P) (λ q. none)) flows taken)
+      ap₂ (λ flows taken. linkWith l (l .current) (table (positions P) (λ q. none)) flows taken (renewed l .lookFrom))
       (table-same (flowCount P) _ _ (λ i known. ap (λ x. movedTo x (head (window l)) (entry P i .share)) (from-head i known)))
       (ap (λ o. not (unbooked o) || renewed l .taken) (emptied (l .current) below))
 
@@ -152,8 +152,8 @@ module _ (P : Plan) (ok : Accepted P) where
   fresh-again =
       let flows-are = table-same (flowCount P) (fromHead (fresh P)) (freshFlow P) (λ i known.
       ap₂ (λ x j. movedTo x j (entry P i .share)) (fresh-flow ok i known) (zero-div (P .slots))) in
-      ap₂ (λ owners flows. linkWith (fresh P) 0 owners flows (not (unbooked (owner (fresh P) 0)) || false)) (table-replicate (positions P) none) flows-are
-      ∙ ap (λ o. linkWith (fresh P) 0 (replicate (positions P) none) (table (flowCount P) (freshFlow P)) (not (unbooked o) || false))
+      ap₂ (λ owners flows. linkWith (fresh P) 0 owners flows (not (unbooked (owner (fresh P) 0)) || false) 0) (table-replicate (positions P) none) flows-are
+      ∙ ap (λ o. linkWith (fresh P) 0 (replicate (positions P) none) (table (flowCount P) (freshFlow P)) (not (unbooked o) || false) 0)
       (unowned 0 (some-position ok))
 
 pub fresh-stays : FreshStays

@@ -16,30 +16,30 @@ use Rattle.model.proofs.BadCards.{two-flows, one-cell, sent-back, event
 -- slot 1 is granted to flow 0 and lent to flow 1
 pub lends-booked : Meets lendsBooked → ⊥
 unfolding events-compute
-lends-booked = sent-back lendsBooked two-flows (Call.request 0x24000000 ∷ Call.tick ∷ Call.lend 2 0 ∷ []) Clause.one-owner tt
+lends-booked = sent-back lendsBooked two-flows (Call.request 0x24000000 ∷ Call.tick ∷ Call.lend 2 ∷ []) Clause.one-owner tt
 
 -- slot 0 is lent to both flows
 pub forgets-mark : Meets forgetsMark → ⊥
 unfolding events-compute
-forgets-mark = sent-back forgetsMark two-flows (Call.lend 1 0 ∷ Call.lend 2 0 ∷ []) Clause.one-owner tt
+forgets-mark = sent-back forgetsMark two-flows (Call.lend 1 ∷ Call.lend 2 ∷ []) Clause.one-owner tt
 
 -- slots 0 and 1 are lent to a flow with one cell
 pub holds-no-loan : Meets holdsNoLoan → ⊥
 unfolding events-compute
-holds-no-loan = sent-back holdsNoLoan one-cell (Call.lend 1 0 ∷ Call.tick ∷ Call.lend 1 0 ∷ []) Clause.within-cells tt
+holds-no-loan = sent-back holdsNoLoan one-cell (Call.lend 1 ∷ Call.tick ∷ Call.lend 1 ∷ []) Clause.within-cells tt
 
 pub lends-to-full : Meets lendsToFull → ⊥
 unfolding events-compute
-lends-to-full = sent-back lendsToFull one-cell (Call.lend 1 0 ∷ Call.tick ∷ Call.lend 1 0 ∷ []) Clause.within-cells tt
+lends-to-full = sent-back lendsToFull one-cell (Call.lend 1 ∷ Call.tick ∷ Call.lend 1 ∷ []) Clause.within-cells tt
 
 pub ignores-mask : Meets ignoresMask → ⊥
 unfolding events-compute
-ignores-mask = sent-back ignoresMask two-flows (Call.lend 2 0 ∷ []) Clause.lent-flows tt
+ignores-mask = sent-back ignoresMask two-flows (Call.lend 2 ∷ []) Clause.lent-flows tt
 
 -- Demand 3 counts no refused lend, and so does not see a mark that stands past the tick. The answers differ: in the next slot the paper's card lends,
 -- and this one gives 17.
 abbrev lendAgain : List Call
-lendAgain = Call.lend 1 0 ∷ Call.tick ∷ Call.lend 1 0 ∷ []
+lendAgain = Call.lend 1 ∷ Call.tick ∷ Call.lend 1 ∷ []
 
 pub kept-mark-answers : run keepsMark (planOf listing) lendAgain .history ≡ lent 1 (refused 17) ∷ ticked none ∷ lent 1 (accepted 0) ∷ []
 unfolding calls-compute

@@ -23,12 +23,12 @@ served rest = Call.request 0x24000000 ∷ Call.credit 0 1 ∷ Call.tick ∷ Call
 
 pub unmarks-booked : Meets unmarksBooked → ⊥
 unfolding events-compute
-unmarks-booked = sent-back unmarksBooked two-flows (served (Call.lend 1 0 ∷ [])) Clause.one-owner tt
+unmarks-booked = sent-back unmarksBooked two-flows (served (Call.lend 1 ∷ [])) Clause.one-owner tt
 
 -- the same after a second reset
 pub unmarks-taken : Meets unmarksTaken → ⊥
 unfolding events-compute
-unmarks-taken = sent-back unmarksTaken two-flows (served (Call.reset ∷ Call.lend 1 0 ∷ [])) Clause.one-owner tt
+unmarks-taken = sent-back unmarksTaken two-flows (served (Call.reset ∷ Call.lend 1 ∷ [])) Clause.one-owner tt
 
 -- slot 1 is granted and comes up idle
 pub resets-booked : Meets resetsBooked → ⊥
@@ -38,7 +38,7 @@ resets-booked = sent-back resetsBooked two-flows (Call.request 0x24000000 ∷ Ca
 -- slots 0 and 1 are lent to a flow with one cell
 pub zeroes-held : Meets zeroesHeld → ⊥
 unfolding events-compute
-zeroes-held = sent-back zeroesHeld one-cell (Call.lend 1 0 ∷ Call.reset ∷ Call.tick ∷ Call.lend 1 0 ∷ []) Clause.within-cells tt
+zeroes-held = sent-back zeroesHeld one-cell (Call.lend 1 ∷ Call.reset ∷ Call.tick ∷ Call.lend 1 ∷ []) Clause.within-cells tt
 
 -- after two ticks position 1 is granted, which is slot 9, and slot 3 comes up for the flow
 pub puts-clock-back : Meets putsClockBack → ⊥
@@ -83,7 +83,7 @@ leaves-remainder e = let in-frame-0 : _≡_ {A = ℕ} 0 1 = ap (λ h. grantedIn 
 
 -- Nor a reset that is granted over cells which stay held. The paper's card refuses it.
 abbrev resetHeld : List Call
-resetHeld = Call.lend 1 0 ∷ Call.reset ∷ []
+resetHeld = Call.lend 1 ∷ Call.reset ∷ []
 
 pub held-reset-answers : run resetsHeld (planOf listing) resetHeld .history ≡ Event.reset (accepted tt) ∷ lent 1 (accepted 0) ∷ []
 unfolding calls-compute

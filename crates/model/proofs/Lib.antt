@@ -47,7 +47,7 @@ pub mod AfterTick
 pub mod AfterLend
 pub mod AfterReset
 pub mod AfterCalls
-pub mod LendChoice
+pub mod LendTurn
 pub mod Demand3
 pub mod CountedBursts
 pub mod ListingMeets
@@ -56,6 +56,12 @@ pub mod Buffer
 pub mod TwoHops
 pub mod RequestsAlike
 pub mod AsFresh
+pub mod TurnOrder
+pub mod Turns
+pub mod TurnCounts
+pub mod LookFrom
+pub mod Waiting
+pub mod Fairness
 -- edges, cards that demand 3 sends back, streams that meet the premise of the least count, and what the premise on tiles is for
 pub mod Unfoldings
 pub mod Edges
@@ -67,6 +73,9 @@ pub mod BadCards
 pub mod BadLends
 pub mod BadDepartures
 pub mod BadResets
+pub mod FairDecided
+pub mod BadTurns
+pub mod TwoHeads
 pub mod PersistentStream
 pub mod StreamAfterReset
 pub mod TilesToCome

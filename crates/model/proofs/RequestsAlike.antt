@@ -27,7 +27,7 @@ use Rattle.model.proofs.Window.{Current, passed-is, everyFrom-same}
 use Rattle.model.proofs.LinkUpdates.{owner-withOwners, flow-same, flow-other, heldFrom-at}
 use Rattle.model.proofs.SearchedFrames.{in-window, search-same, found-below}
 
--- Both links are this one with other owners, other flows and another mark.
+-- Both links are this one with other owners, other flows, another mark and another flow to lend from.
 module _ (base : Link) {t : ℕ} (now : Current (base .plan) t (base .current)) where
   open Link base using (plan as P)
   open Current now using (accepted as ok)
@@ -46,16 +46,27 @@ module _ (base : Link) {t : ℕ} (now : Current (base .plan) t (base .current)) 
     pub flows′ : List Flow
     pub taken : Bool
     pub taken′ : Bool
+    pub lookFrom : ℕ
+    pub lookFrom′ : ℕ
 
   abbrev pub first : Pair → Link
-  first x = linkWith base (base .current) (x .owners) (x .flows) (x .taken)
+  first x = linkWith base (base .current) (x .owners) (x .flows) (x .taken) (x .lookFrom)
 
   abbrev pub second : Pair → Link
-  second x = linkWith base (base .current) (x .owners′) (x .flows′) (x .taken′)
+  second x = linkWith base (base .current) (x .owners′) (x .flows′) (x .taken′) (x .lookFrom′)
 
   -- what two links have
   abbrev pub pair : Link → Link → Pair
-  pair k l = record { owners = k .owners; owners′ = l .owners; flows = k .flows; flows′ = l .flows; taken = k .taken; taken′ = l .taken }
+  pair k l = record {
+    owners = k .owners;
+    owners′ = l .owners;
+    flows = k .flows;
+    flows′ = l .flows;
+    taken = k .taken;
+    taken′ = l .taken;
+    lookFrom = k .lookFrom;
+    lookFrom′ = l .lookFrom;
+  }
 
   -- ---- what agrees
 

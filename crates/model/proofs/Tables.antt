@@ -4,7 +4,7 @@ use mathlib.Core.Path.{_≡_, refl, sym, ap, ap₂, _∙_}
 use mathlib.Core.List.{List, _∷_, [], _++_}
 use mathlib.Core.Option.{some, none}
 use mathlib.Core.Bool.{Bool, true, false, _&&_, cond}
-use native.Mathlib.Decide.{decLt, decLe}
+use native.Mathlib.Decide.{decLt, decLe, ℕ-discrete}
 use native.Mathlib.Nat.{zero-add, suc-add}
 use native.Mathlib.Omega.{arith}
 use lib.ListN.{getD, set, length}
@@ -62,11 +62,12 @@ unfolding every
 every-intro zero f h = refl
 every-intro (suc n) f h = rw (h n (omega arith)) (every-intro n f (λ k l. h k (omega arith)))
 
--- what a search of n numbers from k on finds passes, and lies among them
+-- what a search of n numbers from k on finds passes, lies among them, and is the first that does
 pub record Hit (n k p : ℕ) (f : ℕ → Bool) : Type 0 where
   pub low : k ≤ p
   pub high : p < k + n
   pub passes : f p ≡ true
+  pub none-before : (q : ℕ) → k ≤ q → q < p → f q ≡ false
 
 pub firstFrom-some : (n k : ℕ) (f : ℕ → Bool) (p : ℕ) → firstFrom n k f ≡ some p → Hit n k p f
 unfolding firstFrom
@@ -75,8 +76,16 @@ firstFrom-some (suc n) k f p e = go (firstFrom-some n (suc k) f p) (f k) refl e
   where
     go : (firstFrom n (suc k) f ≡ some p → Hit n (suc k) p f) → (b : Bool) → f k ≡ b → cond b (some k) (firstFrom n (suc k) f) ≡ some p
         → Hit (suc n) k p f
-    go rest true q e′ = let z : k ≡ p = cc in record { low = omega arith; high = omega arith; passes = rw (← z) q }
-    go rest false q e′ = let r = rest e′ in record { low = omega arith; high = omega arith; passes = r .passes }
+    go rest true q e′ =
+        let z : k ≡ p = cc in
+        record { low = omega arith; high = omega arith; passes = rw (← z) q; none-before = λ x l h. absurd (omega arith) }
+    go rest false q e′ =
+        let r = rest e′ in
+        record { low = omega arith; high = omega arith; passes = r .passes; none-before = λ x l h. here r x l h (ℕ-discrete x k) }
+      where
+        here : Hit n (suc k) p f → (x : ℕ) → k ≤ x → x < p → Dec (x ≡ k) → f x ≡ false
+        here r x l h (yes e) = ap f e ∙ q
+        here r x l h (no d) = r .none-before x (omega arith) h
 
 pub firstFrom-none : (n k : ℕ) (f : ℕ → Bool) → firstFrom n k f ≡ none → (p : ℕ) → k ≤ p → p < k + n → f p ≡ false
 unfolding firstFrom

@@ -8,7 +8,7 @@ use Rattle.model.specs.Fresh.{fresh}
 use Rattle.model.specs.Request.{valid, canLeave, validFor, search, sought, wouldBeValid, booked, refusedAtNewest, answered, requestAfter, request}
 use Rattle.model.specs.Credit.{lowered, creditAfter, credit}
 use Rattle.model.specs.Tick.{recycled, advanced, tick}
-use Rattle.model.specs.Lend.{canTake, lentTo, chosen, lentAfter, lendAfter, lend}
+use Rattle.model.specs.Lend.{canTake, lentTo, firstInTurn, lentAfter, lendAfter, lend}
 use Rattle.model.specs.Burst.{inOrder, burst}
 use Rattle.model.specs.WrittenPlan.{bytesOf, writeRefusal, writtenAfter, written}
 use Rattle.model.specs.Reset.{noneBooked, noneHeld, renewed, resetAfter, reset}
@@ -32,7 +32,7 @@ unfolding any firstFrom firstOf window-computes valid canLeave validFor search s
 requests-compute = tt
 
 unfoldable pub lends-compute : Unit {0}
-unfolding firstFrom firstOf window-computes canTake lentTo chosen lentAfter lendAfter lend
+unfolding firstFrom firstOf window-computes canTake lentTo firstInTurn lentAfter lendAfter lend
 lends-compute = tt
 
 -- the calls of the paper's card, and a list of calls played

@@ -21,7 +21,7 @@ use Rattle.model.specs.Card.{Card, both, paper}
 -- ---- the paper's card with another function for one call
 
 abbrev cardWith : (Plan → Link) → (Link → ℕ → Link × Grant) → (Link → ℕ → ℕ → Link × Receipt) → (Link → Link × Turn)
-    → (Link → ℕ → ℕ → Link × Loan) → (Link → Link × Renewal) → Card
+    → (Link → ℕ → Link × Loan) → (Link → Link × Renewal) → Card
 cardWith fresh request credit tick lend reset = record {
   State = Link;
   fresh = fresh;
@@ -44,7 +44,7 @@ withCredit credit = cardWith (paper .fresh) (paper .request) credit (paper .tick
 abbrev pub withTick : (Link → Link × Turn) → Card
 withTick tick = cardWith (paper .fresh) (paper .request) (paper .credit) tick (paper .lend) (paper .reset)
 
-abbrev pub withLend : (Link → ℕ → ℕ → Link × Loan) → Card
+abbrev pub withLend : (Link → ℕ → Link × Loan) → Card
 withLend lend = cardWith (paper .fresh) (paper .request) (paper .credit) (paper .tick) lend (paper .reset)
 
 abbrev pub withReset : (Link → Link × Renewal) → Card
@@ -66,7 +66,7 @@ grantsOne p next = withRequest (λ l w. (next l w, accepted (depart w p)))
 
 -- "writes no booking down": the owners stay as they are
 abbrev unwritten : Link → Link → Link
-unwritten l next = linkWith next (next .current) (l .owners) (next .flows) (next .taken)
+unwritten l next = linkWith next (next .current) (l .owners) (next .flows) (next .taken) (next .lookFrom)
 
 abbrev pub writesNoBooking : Card
 writesNoBooking = withRequest (λ l w. (unwritten l (paper .request l w .0), paper .request l w .1))
@@ -86,7 +86,7 @@ firstWindowOnly = record {
   request = λ s w. cond (ltb (s .ticks) (positions (s .link .plan))) (counted (s .ticks) (paper .request (s .link) w)) (s, refused 12);
   credit = λ s i p. counted (s .ticks) (paper .credit (s .link) i p);
   tick = λ s. counted (suc (s .ticks)) (paper .tick (s .link));
-  lend = λ s m x. counted (s .ticks) (paper .lend (s .link) m x);
+  lend = λ s m. counted (s .ticks) (paper .lend (s .link) m);
   reset = λ s. counted (s .ticks) (paper .reset (s .link));
 }
 

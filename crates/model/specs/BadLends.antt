@@ -20,9 +20,9 @@ module _ (idle : Link → Bool) (takes : Link → ℕ → ℕ → Bool) (lentTo 
   found l none = (l, refused 18)
 
   abbrev lendsBy : Card
-  lendsBy = withLend (λ l m x.
+  lendsBy = withLend (λ l m.
       cond (leb (2 ^ flowCount (l .plan)) m) (l, refused 8)
-      (cond (idle l) (found l (firstFrom (flowCount (l .plan)) x (λ k. takes l m (k % flowCount (l .plan))))) (l, refused 17)))
+      (cond (idle l) (found l (firstFrom (flowCount (l .plan)) (l .lookFrom) (λ k. takes l m (k % flowCount (l .plan))))) (l, refused 17)))
 
 -- neither booked nor marked taken
 abbrev isIdle : Link → Bool

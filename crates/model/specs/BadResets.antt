@@ -11,7 +11,7 @@ use Rattle.model.specs.Card.{Card}
 use Rattle.model.specs.BadCards.{withReset}
 
 -- the reset with another test, or another link
-abbrev resetsBy : (Link → Bool) → (Link → Link) → Card
+abbrev pub resetsBy : (Link → Bool) → (Link → Link) → Card
 resetsBy test next = withReset (λ l. cond (test l) (next l, accepted tt) (l, refused 23))
 
 -- forgets that the current slot was booked

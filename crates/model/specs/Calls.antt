@@ -1,17 +1,16 @@
--- The calls of a list and their answers. Document 01, "The four calls"; document 02, N1 and N6. It names no link. Assumes nothing.
+-- The calls of a list and their answers. Document 01, "The four calls"; document 02, N1, N6 and N8. It names no link. Assumes nothing.
 use Prim.Native.Nat.{ℕ, _/_, _%_, _^_}
 use mathlib.Core.List.{List}
 use mathlib.Core.Option.{Option}
 use mathlib.Core.Bool.{Bool}
 use lib.Dec.{eqb}
 
--- Requests have any word, credits any flow and position, and lends any mask. Which flow gets the lent slot "is left open": the choice, any number,
--- stands in the call, so that what holds of every list of calls holds for every choice, also for one that changes from call to call.
+-- Requests have any word, credits any flow and position, and lends any mask.
 pub data Call : Type 0 where
   request : (word : ℕ) → Call
   credit : (flow position : ℕ) → Call
   tick : Call
-  lend : (mask choice : ℕ) → Call
+  lend : (mask : ℕ) → Call
   reset : Call
 
 -- document 02, N1: "a 16-bit mask, bit i for flow i"

@@ -19,7 +19,7 @@ pub record Card : Type 1 where
   pub request : State → ℕ → State × Grant
   pub credit : State → ℕ → ℕ → State × Receipt
   pub tick : State → State × Turn
-  pub lend : State → (mask choice : ℕ) → State × Loan
+  pub lend : State → (mask : ℕ) → State × Loan
   pub reset : State → State × Renewal
 
 -- a card after some calls, with their events
@@ -36,7 +36,7 @@ abbrev pub step : (c : Card) → Played c → Call → Played c
 step c r (Call.request w) = next r (requested w) (c .request (r .state) w)
 step c r (Call.credit i p) = next r (credited i p) (c .credit (r .state) i p)
 step c r Call.tick = next r ticked (c .tick (r .state))
-step c r (Call.lend m x) = next r (lent m) (c .lend (r .state) m x)
+step c r (Call.lend m) = next r (lent m) (c .lend (r .state) m)
 step c r Call.reset = next r Event.reset (c .reset (r .state))
 
 unfoldable pub play : (c : Card) → Played c → List Call → Played c
@@ -50,8 +50,8 @@ started c P = record { state = c .fresh P; history = [] }
 abbrev pub run : (c : Card) → Plan → List Call → Played c
 run c P calls = play c (started c P) calls
 
--- Demand 3 of a card on one plan: for every list of calls, refused ones too, and every flow. Words, flows, positions, masks and
--- choices are any numbers, more than a program can be given.
+-- Demand 3 of a card on one plan: for every list of calls, refused ones too, and every flow. Words, flows, positions and
+-- masks are any numbers, more than a program can be given.
 abbrev pub MeetsOn : Card → Plan → Type 0
 MeetsOn c P = (calls : List Call) (i : ℕ) → i < flowCount P → Demand3 P i (run c P calls .history)
 
@@ -70,6 +70,6 @@ paper = record {
   request = λ l w. both (request.request l w);
   credit = λ l i p. both (credit.credit l i p);
   tick = λ l. both (tick.tick l);
-  lend = λ l m x. both (lend.lend l m x);
+  lend = λ l m. both (lend.lend l m);
   reset = λ l. both (reset.reset l);
 }

@@ -15,6 +15,7 @@
 --   count from the next frame on; or once it asked with all of its cells held in a slot from the current one on, as flow 0 does in the listing's
 --   third call; or once it asked for a tile that had not come. A card that gives a flow 12 for ever after its first 12 meets demand 3, and so does
 --   one that refuses whenever the tile has not come;
+-- - whose turn it is to be lent to: fairness says that (Fairness.antt);
 -- - lends refused that should be answered, and with which number; a mark that stands past the tick, or that a refused lend sets; a lent slot booked in
 --   the table of owners; what is held of a lent slot in slots that are gone, or in the current one;
 -- - resets refused that should be granted; one granted over cells that are held, where they stay held; and a remainder C that a reset leaves as it

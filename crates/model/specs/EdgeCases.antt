@@ -76,21 +76,16 @@ refuses number bytes = record { trial = link bytes []; expected = refusedPlan nu
 
 -- ---- calls with their answers, on a plan
 
--- the call of an event; what a lend leaves open is chosen so that its flow is the one
+-- the call of an event
 abbrev callMade : Event → Call
 callMade (requested w a) = Call.request w
 callMade (credited i p a) = Call.credit i p
 callMade (ticked x) = Call.tick
-callMade (lent m (accepted i)) = Call.lend m i
-callMade (lent m (refused r)) = Call.lend m 0
+callMade (lent m a) = Call.lend m
 callMade (Event.reset a) = Call.reset
 
 abbrev pub plays : List ℕ → List Event → Case
 plays bytes es = record { trial = link bytes (map callMade es); expected = events es }
-
--- calls and the answers that they are to have
-abbrev pub answers : List ℕ → List Call → List Event → Case
-answers bytes calls es = record { trial = link bytes calls; expected = events es }
 
 -- A call of a player and its answer. Its requests have destination 9, the flow's quantum number (the same again after a refusal) and the current
 -- position as departure, where no other is given.

@@ -22,4 +22,5 @@ fresh P = record {
   owners = replicate (positions P) none;
   flows = table (flowCount P) (freshFlow P);
   taken = false;  -- document 02, N1: nothing is lent
+  lookFrom = 0;  -- document 02, N8: "on a fresh link .. from flow 0"
 }

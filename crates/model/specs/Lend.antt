@@ -1,5 +1,5 @@
--- The lend of the idle slot. Document 02, N1. Assumes nothing.
-use Prim.Native.Nat.{ℕ, zero, suc, _%_, _^_}
+-- The lend of the idle slot. Document 02, N1 and N8. Assumes nothing.
+use Prim.Native.Nat.{ℕ, zero, suc, _+_, _%_, _^_}
 use mathlib.Core.List.{List, _∷_, []}
 use mathlib.Core.Option.{Option, some, none}
 use mathlib.Core.Bool.{Bool, true, not, _&&_, _||_}
@@ -9,7 +9,7 @@ use Rattle.model.specs.Refusals.{Line, firstOf, _when_}
 use Rattle.model.specs.Plan.{flowCount}
 use Rattle.model.specs.Calls.{Loan, accepted, refused, inMask}
 use Rattle.model.specs.Window.{everyFrom}
-use Rattle.model.specs.Link.{Link, Step, window, owner, flow, holding, cells, withFlow, withTaken, withHeld, heldFrom}
+use Rattle.model.specs.Link.{Link, Step, window, owner, flow, holding, cells, withFlow, withTaken, withLookFrom, withHeld, heldFrom}
 use Rattle.model.specs.Request.{unbooked}
 
 -- "A flow can take the slot if it holds fewer than its cells at the current and every later position."
@@ -29,15 +29,19 @@ lendTests l mask =
     ∷ []
 
 -- "its remainder C doesn't change, and its holding rises by one from the current position on. A lent slot is marked taken"
+abbrev pub takenBy : Link → ℕ → Link
+takenBy l i = withTaken (withFlow l i (withHeld (flow l i) (heldFrom l i (l .current) suc))) true
+
+-- N8: the link "remembers the flow to look from next", which is the one after the flow that the slot is lent to, going round the n flows
 unfoldable pub lentTo : Link → ℕ → Link
-lentTo l i = withTaken (withFlow l i (withHeld (flow l i) (heldFrom l i (l .current) suc))) true
+lentTo l i = withLookFrom (takenBy l i) ((i + 1) % flowCount (l .plan))
 
--- "Which flow of the mask that can take the slot gets it is left open". Here it is the first of them from flow `choice` on, going round the n flows:
--- each of them is the first for some choice, and whether there is one doesn't depend on it (proofs/LendChoice.antt). Only this looks at the choice.
-unfoldable pub chosen : Link → (mask choice : ℕ) → Option ℕ
-chosen l mask choice = firstFrom (flowCount (l .plan)) choice (λ k. takes l mask (k % flowCount (l .plan)))
+-- N8: "the first flow of the mask that can take it, looking from the flow after the last one lent to and going round". Where it is some k, that flow
+-- is k modulo n.
+unfoldable pub firstInTurn : Link → (mask : ℕ) → Option ℕ
+firstInTurn l mask = firstFrom (flowCount (l .plan)) (l .lookFrom) (λ k. takes l mask (k % flowCount (l .plan)))
 
--- the slot lent to the flow that was found, which is k modulo n
+-- the slot lent to the flow that was found
 unfoldable pub lentAfter : Link → Option ℕ → Step Loan
 -- "the answer is that flow"
 lentAfter l (some k) = record { link = lentTo l (k % flowCount (l .plan)); answer = accepted (k % flowCount (l .plan)) }
@@ -45,9 +49,9 @@ lentAfter l (some k) = record { link = lentTo l (k % flowCount (l .plan)); answe
 lentAfter l none = record { link = l; answer = refused 18 }
 
 -- the lend, where its first tests give the number r: "all three change nothing"
-unfoldable pub lendAfter : ℕ → Link → (mask choice : ℕ) → Step Loan
-lendAfter zero l mask choice = lentAfter l (chosen l mask choice)
-lendAfter (suc r) l mask choice = record { link = l; answer = refused (suc r) }
+unfoldable pub lendAfter : ℕ → Link → (mask : ℕ) → Step Loan
+lendAfter zero l mask = lentAfter l (firstInTurn l mask)
+lendAfter (suc r) l mask = record { link = l; answer = refused (suc r) }
 
-unfoldable pub lend : Link → (mask choice : ℕ) → Step Loan
-lend l mask choice = lendAfter (firstOf (lendTests l mask)) l mask choice
+unfoldable pub lend : Link → (mask : ℕ) → Step Loan
+lend l mask = lendAfter (firstOf (lendTests l mask)) l mask

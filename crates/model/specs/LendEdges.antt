@@ -2,10 +2,8 @@
 --
 -- What each comes to is worked out from the request. Masks: 1 is flow 0, 2 is flow 1, 3 both.
 use mathlib.Core.List.{List, _∷_, []}
-use mathlib.Core.Option.{none}
-use Rattle.model.specs.Calls.{Call, requested, ticked, lent, accepted}
 use Rattle.model.specs.PlanBytes.{planOfMany, listing, single, oneCell, oneShare}
-use Rattle.model.specs.EdgeCases.{Case, grant, refuse, credit, reject, serve, idle, idles, lend, deny, follows, answers}
+use Rattle.model.specs.EdgeCases.{Case, grant, refuse, credit, reject, serve, idle, idles, lend, deny, follows}
 
 unfoldable pub lendEdges : List Case
 lendEdges =
@@ -24,15 +22,12 @@ lendEdges =
     ∷ follows listing (lend 1 0 ∷ deny 2 17 ∷ grant 0 1 ∷ deny 2 17 ∷ serve 0 ∷ deny 2 17 ∷ idle ∷ lend 2 1 ∷ [])
     -- the empty mask; a bit at n or above comes first, then the slot, then the flows
     ∷ follows listing (deny 0 18 ∷ deny 4 8 ∷ deny 7 8 ∷ grant 0 1 ∷ serve 0 ∷ deny 4 8 ∷ deny 0 17 ∷ [])
-    -- either flow of a mask
+    -- either flow of a mask, in turn
     ∷ follows listing (lend 3 0 ∷ [])
-    ∷ follows listing (lend 3 1 ∷ [])
-    -- a flow that can't take it, or that the mask doesn't have, is passed over, whatever the choice
+    ∷ follows listing (lend 3 0 ∷ idle ∷ lend 3 1 ∷ [])
+    -- a flow that can't take it, or that the mask doesn't have, is passed over, whosever turn it is
     ∷ follows listing (grant 0 1 ∷ grant 0 2 ∷ deny 1 18 ∷ lend 3 1 ∷ [])
-    ∷ answers listing (Call.request 0x24000000 ∷ Call.request 0x24000400 ∷ Call.lend 3 0 ∷ [])
-    (requested 0x24000000 (accepted 0x24000001) ∷ requested 0x24000400 (accepted 0x24000402) ∷ lent 3 (accepted 1) ∷ [])
-    ∷ answers listing (Call.lend 1 1 ∷ Call.tick ∷ Call.lend 2 7 ∷ Call.tick ∷ Call.lend 2 0 ∷ [])
-    (lent 1 (accepted 0) ∷ ticked none ∷ lent 2 (accepted 1) ∷ ticked none ∷ lent 2 (accepted 1) ∷ [])
+    ∷ follows listing (lend 1 0 ∷ idle ∷ lend 1 0 ∷ idle ∷ lend 2 1 ∷ idle ∷ lend 2 1 ∷ [])
     -- 16 flows: bit 15 is a flow, and only a mask of more than 16 bits has one at 16
     ∷ follows (planOfMany 16) (deny 65536 8 ∷ lend 32768 15 ∷ [])
     -- lent cells are held on over a frame change, going round: at slot 5 one is free again

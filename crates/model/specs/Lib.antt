@@ -28,6 +28,7 @@ pub mod Buffer
 pub mod TilesToCome
 pub mod TwoHops
 pub mod AsFresh
+pub mod Fairness
 -- worked examples, and cards that are sent back
 pub mod PlanBytes
 pub mod EdgeCases
@@ -35,6 +36,7 @@ pub mod PlanEdges
 pub mod CallEdges
 pub mod DepartureEdges
 pub mod LendEdges
+pub mod TurnEdges
 pub mod WriteEdges
 pub mod ResetEdges
 pub mod BurstEdges
@@ -45,3 +47,4 @@ pub mod BadCards
 pub mod BadLends
 pub mod BadDepartures
 pub mod BadResets
+pub mod BadTurns

@@ -21,6 +21,7 @@ pub record Link : Type 0 where
   pub owners : List (Option ℕ)  -- the flow that booked each position
   pub flows : List Flow
   pub taken : Bool  -- document 02, N1: the current slot is marked taken
+  pub lookFrom : ℕ  -- document 02, N8: the flow that the next lend looks from
 
 -- what a call hands back: the next link and its answer
 pub record Step (A : Type 0) : Type 0 where
@@ -70,32 +71,36 @@ withHeld x h = flowWith x (x .injection) (x .remainder) h
 -- ---- a link that is changed
 
 -- Link l with these fields; what else it has stays. Every change of a link goes through this one.
-abbrev pub linkWith : Link → (current : ℕ) → (owners : List (Option ℕ)) → (flows : List Flow) → (taken : Bool) → Link
-linkWith l current owners flows taken = record {
+abbrev pub linkWith : Link → (current : ℕ) → (owners : List (Option ℕ)) → (flows : List Flow) → (taken : Bool) → (lookFrom : ℕ) → Link
+linkWith l current owners flows taken lookFrom = record {
   plan = l .plan;
   current = current;
   owners = owners;
   flows = flows;
   taken = taken;
+  lookFrom = lookFrom;
 }
 
 abbrev pub withCurrent : Link → ℕ → Link
-withCurrent l p = linkWith l p (l .owners) (l .flows) (l .taken)
+withCurrent l p = linkWith l p (l .owners) (l .flows) (l .taken) (l .lookFrom)
 
 -- the owner of each position p is f p
 abbrev pub withOwners : Link → (ℕ → Option ℕ) → Link
-withOwners l f = linkWith l (l .current) (table (positions (l .plan)) f) (l .flows) (l .taken)
+withOwners l f = linkWith l (l .current) (table (positions (l .plan)) f) (l .flows) (l .taken) (l .lookFrom)
 
 -- each flow i is f i
 abbrev pub withFlows : Link → (ℕ → Flow) → Link
-withFlows l f = linkWith l (l .current) (l .owners) (table (flowCount (l .plan)) f) (l .taken)
+withFlows l f = linkWith l (l .current) (l .owners) (table (flowCount (l .plan)) f) (l .taken) (l .lookFrom)
 
 -- flow i is x
 abbrev pub withFlow : Link → ℕ → Flow → Link
 withFlow l i x = withFlows l (λ j. cond (eqb j i) x (flow l j))
 
 abbrev pub withTaken : Link → Bool → Link
-withTaken l mark = linkWith l (l .current) (l .owners) (l .flows) mark
+withTaken l mark = linkWith l (l .current) (l .owners) (l .flows) mark (l .lookFrom)
+
+abbrev pub withLookFrom : Link → ℕ → Link
+withLookFrom l i = linkWith l (l .current) (l .owners) (l .flows) (l .taken) i
 
 -- flow i's holdings, changed by f at position p and at all later positions
 abbrev pub heldFrom : Link → ℕ → ℕ → (ℕ → ℕ) → List ℕ

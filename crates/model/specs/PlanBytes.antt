@@ -46,3 +46,7 @@ oneCell = plan1 4 2 8 2 1
 
 abbrev pub oneShare : List ℕ
 oneShare = plan1 4 2 16 1 8
+
+-- F = 4, W = 2, three flows with share 1, from nodes 1, 2 and 3 to node 9: the cells of the second are given, the others have 8
+abbrev pub plan3 : (cells1 : ℕ) → List ℕ
+plan3 cells1 = plan 4 2 30 (entry 1 8 1 9 ∷ entry 1 cells1 2 9 ∷ entry 1 8 3 9 ∷ [])

@@ -1,4 +1,4 @@
--- The local reset. Document 02, N6. Assumes nothing.
+-- The local reset. Document 02, N6 and N8. Assumes nothing.
 use Prim.Native.Nat.{ℕ, zero, suc}
 use mathlib.Core.List.{List, _∷_, []}
 use mathlib.Core.Option.{none}
@@ -9,7 +9,7 @@ use Rattle.model.specs.Refusals.{Line, firstOf, _when_}
 use Rattle.model.specs.Plan.{positions, flowCount}
 use Rattle.model.specs.Calls.{Renewal, accepted, refused}
 use Rattle.model.specs.Window.{head, later, everyFrom}
-use Rattle.model.specs.Link.{Link, Flow, Step, window, owner, flow, holding, share, withOwners, withFlows, withTaken, movedTo}
+use Rattle.model.specs.Link.{Link, Flow, Step, window, owner, flow, holding, share, withOwners, withFlows, withTaken, withLookFrom, movedTo}
 use Rattle.model.specs.Request.{unbooked}
 
 -- "no position later than CP is booked"
@@ -33,9 +33,10 @@ resetTests l =
 abbrev pub fromHead : Link → ℕ → Flow
 fromHead l i = movedTo (flow l i) (head (window l)) (share l i)
 
--- "the positions are emptied; a current slot that was booked or already marked taken is marked taken". CP stays: the clock "goes on".
+-- "the positions are emptied; a current slot that was booked or already marked taken is marked taken". CP stays: the clock "goes on". N8: the next lend
+-- looks "from flow 0".
 unfoldable pub renewed : Link → Link
-renewed l = withTaken (withFlows (withOwners l (λ q. none)) (fromHead l)) (not (unbooked (owner l (l .current))) || l .taken)
+renewed l = withLookFrom (withTaken (withFlows (withOwners l (λ q. none)) (fromHead l)) (not (unbooked (owner l (l .current))) || l .taken)) 0
 
 -- the reset, where its test gives the number r: "the call returns 23 and changes nothing"
 unfoldable pub resetAfter : ℕ → Link → Step Renewal

@@ -53,6 +53,7 @@ noLink = record {
   flows = replicate 16 noFlow;
   held = replicate 4096 0;
   taken = false;
+  first = 0;
 }
 
 -- bytes of the plan are still to come

@@ -43,6 +43,7 @@ pub(crate) fn no_link() -> Link
         flows,
         held,
         taken: false,
+        first: 0,
     }
 }
 

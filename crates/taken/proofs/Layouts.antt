@@ -28,11 +28,11 @@ module _ (p : Plan) where
 abbrev pub layoutFor : Plan → Layout
 layoutFor p =
     let size = p .slots * p .frames in
-    let positions = 28 + 4 * p .count in
+    let positions = 30 + 4 * p .count in
     let flows = positions + 2 * size in
     record {
       total = flows + 2 * (p .count * (2 + size));
-      plan = 16;
+      plan = 18;
       positions = positions;
       size = size;
       flows = flows;
@@ -56,7 +56,7 @@ module _ (p : Plan) (v : Valid p) where
       let flows : layoutFor p .flows ≡ flowsAt (planFor p) = omega arith in
       let count : p .count ≡ model.flowCount (planFor p) = omega arith in
       record {
-        is = λ k. total k ∷ 16 ∷ positions k ∷ (p .slots * p .frames) ∷ flows k ∷ count k ∷ [];
+        is = λ k. total k ∷ 18 ∷ positions k ∷ (p .slots * p .frames) ∷ flows k ∷ count k ∷ [];
         fields-are = refl;
         short = omega (arith, part-most, count-few p v, v .accepted .positions-most);
       }

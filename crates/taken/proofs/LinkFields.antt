@@ -61,16 +61,20 @@ module _ {b : List ℕ} {y : Layout} {p : Plan} (v : PlanOn b y p) where
       at : positionsAt P ≡ y .positions
       at = sym (positions-at (v .laid))
 
-  -- the tests at a current position
-  pub link-by-fields : (current : ℕ) → current ≡ model.field16 b 12
+  -- the tests at a current position, with a flow to look from
+  pub link-by-fields : (current look : ℕ) → current ≡ model.field16 b 12 → look ≡ model.field16 b 16
       → consistent (linkFrom b P)
       ≡ ltb current (y .size)
+      && ltb look (y .count)
       && every (y .size) (λ q. known (y .count) (ownerIn (fieldAt b (y .positions) q)))
       && every (p .count) (flowKept b P current)
   unfolding consistent
-  link-by-fields current e = rw e
-      (λ k. ltb (model.field16 b 12) (size k) && owners k && flows k)
+  link-by-fields current look e f = rw (e, f)
+      (λ k. ltb (model.field16 b 12) (size k) && ltb (model.field16 b 16) (count k) && owners k && flows k)
     where
+      count : model.flowCount P ≡ y .count
+      count = sym (flows-are (v .laid))
+
       size : model.positions P ≡ y .size
       size = sym (size-is (v .laid))
 

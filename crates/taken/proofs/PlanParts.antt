@@ -9,11 +9,11 @@ use lib.Seq.{take-all}
 use Rattle.model.specs.Plan.{field16}
 use Rattle.images.specs.Image.{planPart}
 
-pub plan-part : (b : List ℕ) (long end : ℕ) → long ≡ field16 b 16 → end ≡ min (16 + long) (length b) → take (end - 16) (drop 16 b) ≡ planPart b
-plan-part b long end is ends = go (decLe (16 + long) (length b))
+pub plan-part : (b : List ℕ) (long end : ℕ) → long ≡ field16 b 18 → end ≡ min (18 + long) (length b) → take (end - 18) (drop 18 b) ≡ planPart b
+plan-part b long end is ends = go (decLe (18 + long) (length b))
   where
-    go : Dec (16 + long ≤ length b) → take (end - 16) (drop 16 b) ≡ planPart b
-    go (yes h) = let e : end - 16 ≡ long = omega arith in rw (e, is)
+    go : Dec (18 + long ≤ length b) → take (end - 18) (drop 18 b) ≡ planPart b
+    go (yes h) = let e : end - 18 ≡ long = omega arith in rw (e, is)
     go (no h) =
-        take-all (end - 16) (drop 16 b) (omega (arith, length-drop 16 b))
-        ∙ sym (rw (← is) (take-all long (drop 16 b) (omega (arith, length-drop 16 b))))
+        take-all (end - 18) (drop 18 b) (omega (arith, length-drop 18 b))
+        ∙ sym (rw (← is) (take-all long (drop 18 b) (omega (arith, length-drop 18 b))))

@@ -16,7 +16,7 @@ use Rattle.plan.specs.declared.Verdict.the-variants.{Accepted, Refused}
 use Rattle.plan.specs.Reading.{planFor, verdictFor, readOf}
 use Rattle.plan.proofs.Laws.{is-plan}
 use Rattle.window.proofs.Tabulated.{every-at}
-use Rattle.images.specs.Image.{imageLength, layout, headerField, planPart, planIn, linkFrom, linkIn}
+use Rattle.images.specs.Image.{headerLength, imageLength, layout, headerField, planPart, planIn, linkFrom, linkIn}
 use Rattle.images.specs.Consistent.{consistent}
 use Rattle.images.specs.Taken.{listed, refusalOf}
 use Rattle.taken.specs.declared.layout.Layout.{Layout}
@@ -27,13 +27,13 @@ use Rattle.taken.proofs.Layouts.{total-is}
 module _ (b : List ℕ) where
   -- ---- 21
 
-  pub no-header : length b < 16 → 21 ≡ refusalOf b
+  pub no-header : length b < headerLength → 21 ≡ refusalOf b
   unfolding refusalOf firstOf
-  no-header h = rw (lt-ltb (length b) 16 h)
+  no-header h = rw (lt-ltb (length b) headerLength h)
 
   pub no-image : length b < headerField b 0 → 21 ≡ refusalOf b
   unfolding refusalOf firstOf
-  no-image h = rw (or-true (ltb (length b) 16) _ (lt-ltb (length b) (headerField b 0) h))
+  no-image h = rw (or-true (ltb (length b) headerLength) _ (lt-ltb (length b) (headerField b 0) h))
 
   -- ---- 22, in a buffer that is long enough
 
@@ -42,7 +42,7 @@ module _ (b : List ℕ) where
     pub no-plan : (refusal (planPart b) ≡ 0 → ⊥) → 22 ≡ refusalOf b
     unfolding refusalOf firstOf
     no-plan d =
-        rw (le-ltb (length b) 16 (v .header-there), le-ltb (length b) (headerField b 0) (v .image-there), ne-eqb (refusal (planPart b)) 0 d)
+        rw (le-ltb (length b) headerLength (v .header-there), le-ltb (length b) (headerField b 0) (v .image-there), ne-eqb (refusal (planPart b)) 0 d)
         (go (listed b))
       where
         go : (r : Bool) → 22 ≡ firstOf (22 when not r ∷ 22 when true ∷ [])
@@ -55,7 +55,7 @@ module _ (b : List ℕ) where
     unfolding refusalOf firstOf
     by-tests l m k p el em ek =
         rw (
-          le-ltb (length b) 16 (v .header-there),
+          le-ltb (length b) headerLength (v .header-there),
           le-ltb (length b) (headerField b 0) (v .image-there),
           eq-eqb (refusal (planPart b)) 0 p,
           el,

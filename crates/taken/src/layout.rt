@@ -6,7 +6,7 @@ ghost use Rattle.taken.specs.Layout.{fieldsOf, LaidOut, Sized};
 use plan::Plan;
 
 // The bytes of the header.
-pub const HEADER: usize = 16;
+pub const HEADER: usize = 18;
 
 // The layout of an image, as its header has it, and the number of fields of a flow's part.
 pub struct Layout {

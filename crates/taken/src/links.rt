@@ -5,7 +5,7 @@ ghost use lib.ListN.{length, getD};
 ghost use lib.Dec.{eqb};
 ghost use Rattle.model.specs.Tables as model;
 ghost use Rattle.plan.specs.Reading.{planFor};
-ghost use Rattle.images.specs.Image.{headerField, linkFrom};
+ghost use Rattle.images.specs.Image.{headerLength, headerField, linkFrom};
 ghost use Rattle.images.specs.Consistent as images;
 ghost use Rattle.taken.specs.Asked.{PlanOn};
 use crate::bookings::known;
@@ -17,7 +17,7 @@ use window::positions::window;
 
 // Whether the header begins with these fields.
 pub(crate) fn listed(image: &[u8], stated: [usize; 6]) -> bool
-    requires { ⌜ 16 ≤ length (now image) ⌝ }
+    requires { ⌜ headerLength ≤ length (now image) ⌝ }
     ensures { λ r. ⌜ r ≡ model.every 6 (λ k. eqb (headerField (now (image .entry)) k) (getD stated k 0)) ⌝ }
 {
     let mut k = 0;
@@ -37,6 +37,10 @@ pub(crate) fn consistent(image: &[u8], l: Layout, plan: Plan) -> bool
 {
     let cp = field(image, 12);
     if l.size <= cp {
+        return false;
+    }
+    let look = field(image, 16);
+    if l.count <= look {
         return false;
     }
     if !known(image, l.positions, l.size, l.count) {

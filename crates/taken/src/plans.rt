@@ -4,7 +4,7 @@ ghost use Prim.Native.Nat.{_≤_, _<_};
 ghost use lib.ListN.{length, getD};
 ghost use Rattle.plan.specs.declared.Verdict.the-variants.{Accepted};
 ghost use Rattle.plan.specs.Reading.{readOf, Valid};
-ghost use Rattle.images.specs.Image.{planPart};
+ghost use Rattle.images.specs.Image.{headerLength, planPart};
 use crate::layout::HEADER;
 use plan::Outcome;
 use window::numbers::smaller;
@@ -22,7 +22,7 @@ fn byte_or_zero(image: &[u8], at: usize) -> usize
 
 // Reads the plan of an image: as many bytes as it states, or those that are there.
 pub fn plan_in(image: &[u8]) -> Outcome
-    requires { ⌜ 16 ≤ length (now image) ⌝ }
+    requires { ⌜ headerLength ≤ length (now image) ⌝ }
     ensures is { λ r. ⌜ r ≡ readOf (planPart (now (image .entry))) ⌝ }
     ensures valid { λ r. ⌜ (r .verdict ≡ Accepted → Valid (r .plan)) ⌝ }
 {

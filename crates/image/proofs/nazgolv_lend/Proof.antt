@@ -1,9 +1,9 @@
 -- `image::nazgolv_lend` meets its contract. Assumes nothing.
 use borrow.Author.Needs.{needs}
+use Rattle.model.specs.Calls.{Call}
 use Rattle.images.specs.Taken.{Taken}
-use Rattle.image.proofs.TurnedBack.{is-taken}
-use Rattle.image.proofs.Stepping.{writable}
-use Rattle.image.proofs.LentImages.{steps, lend-turned, lend-made}
+use Rattle.image.proofs.TurnedBack.{turned, is-taken}
+use Rattle.image.proofs.Stepping.{Steps, steps-lend, writable, comes-to}
 use Rattle.image.proofs.nazgolv_lend.Statement.{statement}
 use Rattle.image.proofs.nazgolv_lend.Tie as tie
 
@@ -19,6 +19,9 @@ entered c = c .before .before .before
 taken-at : (c : tie.Else1) → Taken (entered (c .before) .args .image .now)
 taken-at c = is-taken (c .before .refusal .ensures) (c .if1 .left)
 
+steps-at : (c : tie.After-lend) → let s = entered (tested-at c .before) in Steps (s .args .image .now) (Call.lend (s .args .mask)) (c .lend .result)
+steps-at c = steps-lend _ (c .before .read .ensures .0) _ (c .lend .ensures)
+
 -- ---- the needs
 
 refusal-requires : tie.Need-refusal-requires
@@ -33,7 +36,7 @@ same-length c = search needs
 returns : tie.Need-returns
 returns c =
     let t = c .before in
-    lend-turned (t .before .refusal .ensures) _ (t .if1 .taken) (c .refused .ensures)
+    turned (t .before .refusal .ensures) (Call.lend ((entered (t .before)) .args .mask)) (t .if1 .taken) (c .refused .ensures)
 
 read-requires : tie.Need-read-requires
 read-requires c κs = taken-at (c .before)
@@ -44,8 +47,7 @@ lend-requires c κs = search needs
 hand-back-requires : tie.Need-hand-back-requires
 hand-back-requires c κs =
     let s = c .before in
-    let t = taken-at (tested-at s) in
-    writable t (steps t _ (s .before .read .ensures .0) _ (s .lend .ensures))
+    writable (taken-at (tested-at s)) (steps-at s)
 
 same-length-2 : tie.Need-same-length-2
 same-length-2 c = search needs
@@ -54,7 +56,7 @@ returns-2 : tie.Need-returns-2
 returns-2 c =
     let h = c .before .before in
     let s = h .before .before in
-    lend-made (taken-at (tested-at s)) _ (s .before .read .ensures .0) _ (s .lend .ensures) (h .hand-back .ensures .0) (h .hand-back .ensures .1)
+    comes-to (taken-at (tested-at s)) (steps-at s) (h .hand-back .ensures .0) (h .hand-back .ensures .1)
 
 pub nazgolv-lend-spec : {M : Type 1} → statement M
 nazgolv-lend-spec =

@@ -48,9 +48,12 @@ field-requires c κs = search needs
 field-requires-2 : tie.Need-field-requires-2
 field-requires-2 c κs = search needs
 
+field-requires-3 : tie.Need-field-requires-3
+field-requires-3 c κs = search needs
+
 -- where the marks of the header are read, and from there the tables
-abbrev tables-at : tie.After-field2 → tie.After-read-held
-tables-at c = c .before .before
+abbrev tables-at : tie.After-field3 → tie.After-read-held
+tables-at c = c .before .before .before
 
 module _ (c : tie.After-read-held) where
   abbrev flows-at : tie.After-read-flows
@@ -66,7 +69,7 @@ window-requires : tie.Need-window-requires
 window-requires c κs =
     let y = layout-at (tables-at c) in
     let r = read-at y in
-    rw (c .before .field .ensures .0) (measures-read (entered r .pre) (plan-at r) (valid-at r) (plan-here r) _ (y .layout-of .ensures))
+    rw (c .before .before .field .ensures .0) (measures-read (entered r .pre) (plan-at r) (valid-at r) (plan-here r) _ (y .layout-of .ensures))
 
 words-of-requires : tie.Need-words-of-requires
 words-of-requires c κs = c .before .window .ensures .1
@@ -81,11 +84,12 @@ returns c =
     made-of (entered r .pre) (plan-at r) (valid-at r) (plan-here r) _ (y .layout-of .ensures)
     (record {
       plan-is = refl;
-      cp-is = marks .before .field .ensures .0;
+      cp-is = marks .before .before .field .ensures .0;
       owner-is = owners-at h .read-table .ensures;
       flows-are = flows-at h .read-flows .ensures;
       held-is = h .read-held .ensures;
-      taken-is = ap (λ x. eqb x 1) (marks .field2 .ensures .0);
+      taken-is = ap (λ x. eqb x 1) (marks .before .field2 .ensures .0);
+      first-is = marks .field3 .ensures .0;
       words = words-read (w .window .result) (w .window .ensures .0) (c .words-of .ensures);
     })
 
@@ -100,6 +104,7 @@ read-spec =
     read-held-requires
     field-requires
     field-requires-2
+    field-requires-3
     window-requires
     words-of-requires
     returns)

@@ -6,7 +6,7 @@ use native.Mathlib.Omega.{arith}
 use Rattle.calls.proofs.Stores.{puts-then, puts-same}
 use Rattle.link.specs.declared.Link.{Link}
 use Rattle.link.proofs.Readings.{size-most}
-use Rattle.imagebytes.proofs.WrittenLinks.{image-is, header-ends, plan-ends, owners-end, written-is, room, parts-fit}
+use Rattle.imagebytes.proofs.WrittenLinks.{image-is, header-ends, plan-ends, owners-end, written-is, header-room, room, parts-fit}
 use Rattle.imagebytes.proofs.writing.write.Statement.{statement}
 use Rattle.imagebytes.proofs.writing.write.Tie as tie
 
@@ -25,7 +25,7 @@ abbrev plan-at : tie.After-put-table → tie.After-put-plan
 plan-at c = c .before .before .before .before .before .before
 
 -- the place after the plan
-plan-end : (c : tie.After-put-plan) → c .put-plan .result ≡ 28 + 4 * link-at (header-at c) .plan .count
+plan-end : (c : tie.After-put-plan) → c .put-plan .result ≡ 30 + 4 * link-at (header-at c) .plan .count
 plan-end c =
     let h = header-at c in
     omega (arith, header-ends (link-at h) (h .put-header .ensures), plan-ends (link-at h) (c .put-plan .ensures))
@@ -34,7 +34,7 @@ mul-size : tie.Need-mul-size
 mul-size c = search needs
 
 put-header-requires : tie.Need-put-header-requires
-put-header-requires c κs = search needs
+put-header-requires c κs = header-room (c .before .before .before .before .pre)
 
 put-plan-requires : tie.Need-put-plan-requires
 put-plan-requires c κs =

@@ -27,7 +27,7 @@ free-at c = c .before .before .before
 abbrev taker-at : tie.Else2 → tie.After-taker
 taker-at c = c .before .before
 
--- the flow that gets the slot is one of the plan's
+-- the flow that gets the slot is one of the plan's, and so one of sixteen
 module _ (c : tie.Else2) where
   abbrev refused-at : tie.After-refusal
   refused-at = free-at (taker-at c) .before
@@ -35,13 +35,10 @@ module _ (c : tie.Else2) where
   abbrev hand-there : AtHand (link-at (window-at refused-at)) (link-at (window-at refused-at) .plan) (window-at refused-at .window .result)
   hand-there = hand-at (window-at refused-at)
 
-  flow-few : taker-at c .taker .result < 16
-  flow-few =
-      omega (
-        arith,
-        taker-below hand-there _ (refused-at .refusal .ensures) (free-at (taker-at c) .if1 .left) (taker-at c .taker .ensures) (c .if2 .left),
-        flows-few hand-there,
-      )
+  flow-there : (taker-at c .taker .result < link-at (window-at refused-at) .plan .count) × (taker-at c .taker .result < 16)
+  flow-there =
+      let known = taker-below hand-there _ (refused-at .refusal .ensures) (free-at (taker-at c) .if1 .left) (taker-at c .taker .ensures) (c .if2 .left) in
+      (known, omega (arith, known, flows-few hand-there))
 
 window-requires : tie.Need-window-requires
 window-requires c κs = measures _ (c .before .pre)
@@ -62,7 +59,7 @@ returns c =
 taker-requires : tie.Need-taker-requires
 taker-requires c κs =
     let a = hand-at (window-at (c .before .before .before)) in
-    (plan-valid a, a .proper)
+    (plan-valid a, a .proper, a .sound .first)
 
 returns-2 : tie.Need-returns-2
 returns-2 c =
@@ -73,16 +70,20 @@ returns-2 c =
 shift-from-requires : tie.Need-shift-from-requires
 shift-from-requires c κs =
     let a = hand-there (c .before) in
-    record { proper = a .proper; flow = flow-few (c .before); position = rw (read-size _ (a .window-is)) (a .sound .current) }
+    record { proper = a .proper; flow = flow-there (c .before) .1; position = rw (read-size _ (a .window-is)) (a .sound .current) }
+
+next-requires : tie.Need-next-requires
+next-requires c κs = omega (arith, flow-there (c .before .before))
 
 cast-t12 : tie.Need-cast-t12
-cast-t12 c = omega (arith, flow-few (c .before .before))
+cast-t12 c = omega (arith, flow-there (c .before .before .before))
 
 returns-3 : tie.Need-returns-3
 returns-3 c =
-    let e = c .before .before in
+    let shifted = c .before in
+    let e = shifted .before .before in
     lend-to-taker (hand-there e) _ (refused-at e .refusal .ensures) (free-at (taker-at e) .if1 .left) (taker-at e .taker .ensures) (e .if2 .left)
-    (c .shift-from .ensures)
+    (c .next .ensures) (shifted .shift-from .ensures)
 
 pub lend-spec : {M : Type 1} → statement M
 lend-spec =
@@ -95,5 +96,6 @@ lend-spec =
     taker-requires
     returns-2
     shift-from-requires
+    next-requires
     cast-t12
     returns-3)

@@ -1,6 +1,6 @@
 -- `taken::links::consistent` meets its contract. Assumes nothing.
 use Prim.Native.Nat.{ℕ}
-use mathlib.Core.Path.{sym, ap, _∙_}
+use mathlib.Core.Path.{refl, sym, ap, _∙_}
 use mathlib.Core.Bool.{_&&_}
 use native.Mathlib.Omega.{arith}
 use borrow.Author.Tests.{lt-ltb, le-ltb, not-true, not-false}
@@ -12,9 +12,16 @@ use Rattle.taken.proofs.LinkFields.{owners-there, measures, parts-on, l
 use Rattle.taken.proofs.links.consistent.Statement.{statement}
 use Rattle.taken.proofs.links.consistent.Tie as tie
 
--- where the function is entered
+-- where CP is read, and where the function is entered
+abbrev current-at : tie.Else1 → tie.After-field
+current-at c = c .before .before
+
 abbrev entered : tie.After-field → tie.Start
 entered c = c .before .before
+
+-- where the flow to look from is read, and found to be one
+abbrev look-at : tie.Else2 → tie.After-field2
+look-at c = c .before .before
 
 field-requires : tie.Need-field-requires
 field-requires c κs = let v = c .before .pre in omega (arith, v .there)
@@ -22,40 +29,62 @@ field-requires c κs = let v = c .before .pre in omega (arith, v .there)
 returns : tie.Need-returns
 returns c =
     let f = c .before .before in
-    let s = entered f in
-    rw (link-by-fields (s .pre) _ (f .field .ensures .0), le-ltb _ _ (c .if1 .taken))
+    rw (link-by-fields (entered f .pre) _ _ (f .field .ensures .0) refl, le-ltb _ _ (c .if1 .taken))
 
-known-requires : tie.Need-known-requires
-known-requires c κs = owners-there (c .before .before .before .before .pre)
+field-requires-2 : tie.Need-field-requires-2
+field-requires-2 c κs = let v = entered (current-at c) .pre in omega (arith, v .there)
 
 returns-2 : tie.Need-returns-2
 returns-2 c =
-    let k = c .before in
-    let e = k .before in
-    let f = e .before .before in
-    rw (link-by-fields (entered f .pre) _ (f .field .ensures .0), lt-ltb _ _ (e .if1 .left), sym (k .known .ensures) ∙ not-true _ (c .if2 .taken))
+    let look = c .before .before in
+    let e = look .before in
+    let f = current-at e in
+    rw (link-by-fields (entered f .pre) _ _ (f .field .ensures .0) (look .field2 .ensures .0), lt-ltb _ _ (e .if1 .left), le-ltb _ _ (c .if2 .taken))
 
-window-requires : tie.Need-window-requires
-window-requires c κs =
-    let e = c .before .before in
-    let f = e .before .before in
-    measures (entered f .pre) _ (e .if1 .left)
-
-flows-kept-requires : tie.Need-flows-kept-requires
-flows-kept-requires c κs =
-    let f = c .before .before .before .before .before in
-    parts-on (entered f .pre) (c .window .result) (c .window .ensures .0) (c .window .ensures .1)
+known-requires : tie.Need-known-requires
+known-requires c κs = owners-there (entered (current-at (look-at c .before)) .pre)
 
 returns-3 : tie.Need-returns-3
 returns-3 c =
+    let k = c .before in
+    let g = k .before in
+    let look = look-at g in
+    let e = look .before in
+    let f = current-at e in
+    rw (
+      link-by-fields (entered f .pre) _ _ (f .field .ensures .0) (look .field2 .ensures .0),
+      lt-ltb _ _ (e .if1 .left),
+      lt-ltb _ _ (g .if2 .left),
+      sym (k .known .ensures) ∙ not-true _ (c .if3 .taken),
+    )
+
+window-requires : tie.Need-window-requires
+window-requires c κs =
+    let e = look-at (c .before .before) .before in
+    measures (entered (current-at e) .pre) _ (e .if1 .left)
+
+flows-kept-requires : tie.Need-flows-kept-requires
+flows-kept-requires c κs =
+    let e = look-at (c .before .before .before) .before in
+    parts-on (entered (current-at e) .pre) (c .window .result) (c .window .ensures .0) (c .window .ensures .1)
+
+returns-4 : tie.Need-returns-4
+returns-4 c =
     let w = c .before in
-    let g = w .before in
-    let k = g .before in
-    let e = k .before in
-    let f = e .before .before in
+    let h = w .before in
+    let k = h .before in
+    let g = k .before in
+    let look = look-at g in
+    let e = look .before in
+    let f = current-at e in
     let s = entered f in
     let current = ap (λ (x : Window). x .current) (w .window .ensures .0) in
-    rw (link-by-fields (s .pre) _ (f .field .ensures .0), lt-ltb _ _ (e .if1 .left), sym (k .known .ensures) ∙ not-false _ (g .if2 .left))
+    rw (
+      link-by-fields (s .pre) _ _ (f .field .ensures .0) (look .field2 .ensures .0),
+      lt-ltb _ _ (e .if1 .left),
+      lt-ltb _ _ (g .if2 .left),
+      sym (k .known .ensures) ∙ not-false _ (h .if3 .left),
+    )
     (c .flows-kept .ensures ∙ ap (λ (q : ℕ). every (s .args .plan .count) (flowKept (s .args .image .now) (planFor (s .args .plan)) q)) current)
 
 pub consistent-spec : {M : Type 1} → statement M
@@ -64,8 +93,10 @@ consistent-spec =
     (tie.spec
     field-requires
     returns
-    known-requires
+    field-requires-2
     returns-2
+    known-requires
+    returns-3
     window-requires
     flows-kept-requires
-    returns-3)
+    returns-4)

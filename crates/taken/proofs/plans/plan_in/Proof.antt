@@ -5,6 +5,7 @@ use mathlib.Core.Path.{_≡_, ap, _∙_}
 use native.Mathlib.Omega.{arith}
 use Rattle.model.specs.Plan.{field16}
 use Rattle.plan.specs.Reading.{readOf}
+use Rattle.images.specs.Image.{headerLength}
 use Rattle.taken.proofs.PlanParts.{plan-part}
 use Rattle.taken.proofs.plans.plan_in.Statement.{statement}
 use Rattle.taken.proofs.plans.plan_in.Tie as tie
@@ -48,7 +49,7 @@ returns c =
     let high = m .before in
     let low = high .before in
     let b = low .before .before .args .image .now in
-    let long : low .byte-or-zero .result + 256 * high .byte-or-zero2 .result ≡ field16 b 16 =
+    let long : low .byte-or-zero .result + 256 * high .byte-or-zero2 .result ≡ field16 b headerLength =
     omega (arith, low .byte-or-zero .ensures .0, high .byte-or-zero2 .ensures .0) in
     (c .read .ensures .0 ∙ ap readOf (plan-part b _ _ long (m .smaller .ensures)), c .read .ensures .1)
 
