@@ -52,10 +52,11 @@ pub mod Demand3
 pub mod ListingMeets
 pub mod Holding
 pub mod Buffer
+pub mod QuantumNumbers
 pub mod TwoHops
 pub mod RequestsAlike
 pub mod AsFresh
--- edges, cards that demand 3 sends back, streams that meet the premise of the least count, and what the premise on tiles is for
+-- edges, cards that demand 3 sends back, streams that meet the premise of the least count, and what its premises on words are for
 pub mod Unfoldings
 pub mod Edges
 pub mod Decidable
@@ -66,6 +67,7 @@ pub mod BadCards
 pub mod BadLends
 pub mod BadDepartures
 pub mod BadResets
+pub mod BadNumbers
 pub mod PersistentStream
 pub mod StreamAfterReset
-pub mod TilesToCome
+pub mod OtherPremises

@@ -23,7 +23,8 @@ pub mod Claim
 pub mod Card
 pub mod Holding
 pub mod Buffer
-pub mod TilesToCome
+pub mod OtherPremises
+pub mod QuantumNumbers
 pub mod TwoHops
 pub mod AsFresh
 -- worked examples, and cards that are sent back
@@ -32,6 +33,7 @@ pub mod EdgeCases
 pub mod PlanEdges
 pub mod CallEdges
 pub mod DepartureEdges
+pub mod NumberEdges
 pub mod LendEdges
 pub mod WriteEdges
 pub mod ResetEdges
@@ -42,3 +44,4 @@ pub mod BadCards
 pub mod BadLends
 pub mod BadDepartures
 pub mod BadResets
+pub mod BadNumbers
