@@ -5,7 +5,8 @@ fault that the check has to name.  Some follow document 01, "Link cards we
 would send back"; the others break one bullet each.
 """
 
-from demand3 import wrong_departures, wrong_lends, wrong_resets
+from demand3 import (
+    wrong_departures, wrong_lends, wrong_numbers, wrong_resets)
 from demand3.check import ALLCALLS, check
 from edges.edge_maker import TICK, ask, credit, edge, plan
 
@@ -93,12 +94,13 @@ def missed():
     cut = check(RIGHT.data, RIGHT.lines[:-1]).faults
     yield "a line is missing", None if cut else "not sent back"
     yield RIGHT.name, passed(RIGHT, {0: 9})
-    for wrong, words in wrong_departures.WRONG:
+    for wrong, words in wrong_departures.WRONG + wrong_numbers.WRONG:
         yield wrong.name, sent_back(wrong, words)
-    for right, least in wrong_departures.RIGHT:
+    for right, least in wrong_departures.RIGHT + wrong_numbers.RIGHT:
         yield right.name, passed(right, least)
-    for subject in wrong_lends, wrong_resets:
-        for wrong, words in subject.WRONG:
-            yield wrong.name, sent_back(wrong, words, ALLCALLS)
-        for right, least in subject.RIGHT:
-            yield right.name, passed(right, least, ALLCALLS)
+    for wrong, words in (wrong_lends.WRONG + wrong_resets.WRONG
+                         + wrong_numbers.WRONG_RESETS):
+        yield wrong.name, sent_back(wrong, words, ALLCALLS)
+    for right, least in (wrong_lends.RIGHT + wrong_resets.RIGHT
+                         + wrong_numbers.RIGHT_RESETS):
+        yield right.name, passed(right, least, ALLCALLS)

@@ -10,7 +10,8 @@ from demand3.check import check
 from driver.formats import ALLCALLS, DOMELINK, has_other_calls
 from edges import refusals_page
 from edges.all_edges import ALLCALLS_EDGES, EDGES
-from generator import departure_seeds, lend_seeds, reset_seeds
+from generator import (
+    departure_seeds, lend_seeds, number_seeds, reset_seeds)
 from generator.seeds import generate, kind_of
 from simulator.listing import simulate
 
@@ -130,6 +131,18 @@ def departures(count, seed):
         yield ("departures, seed %d (%s)"
                % (number, departure_seeds.kind_of(number)),
                lambda number=number: from_departure_seed(number))
+
+
+def from_number_seed(seed):
+    data = number_seeds.generate(seed)
+    return Case(data, simulate(data))
+
+
+def numbers(count, seed):
+    """Words with quantum numbers of all kinds."""
+    for number in range(seed, seed + count):
+        yield ("numbers, seed %d (%s)" % (number, number_seeds.kind_of(number)),
+               lambda number=number: from_number_seed(number))
 
 
 # ---- files with lends and resets

@@ -2,7 +2,7 @@
 
 from collections import Counter
 
-from demand3 import departure_ways, lend_ways, reset_ways
+from demand3 import departure_ways, lend_ways, number_ways, reset_ways
 from demand3.check import check
 from driver.formats import ALLCALLS, DOMELINK
 from driver.starting import NO_END, play, play_in_pieces
@@ -41,6 +41,7 @@ class Suite:
         self.lends = Counter()      # how lends ended
         self.resets = Counter()     # how resets ended
         self.departures = Counter()     # where they lay, how requests ended
+        self.numbers = Counter()    # which they were, how requests ended
         self.largest_k = -1         # at which the least count was tried
         self.afresh = -1            # the same after a granted reset
         self.without_end = 0
@@ -62,6 +63,7 @@ class Suite:
         self.lends += verdict.lends
         self.resets += verdict.resets
         self.departures += verdict.departures
+        self.numbers += verdict.numbers
         self.largest_k = max(self.largest_k, verdict.largest_k())
         self.afresh = max(self.afresh, verdict.afresh)
 
@@ -107,16 +109,22 @@ class Suite:
                   missing and "never seen: %s" % missing)
         self.test("the least count was tried with k of 2 and more",
                   self.largest_k < 2 and "largest k %d" % self.largest_k)
-        missing = [": ".join(way) for way in departure_ways.WAYS
-                   if not self.departures[way]]
-        self.test("requests ended in every way for every departure",
-                  missing and "never seen: %s" % ", ".join(missing))
+        self.every_end("departure", departure_ways.WAYS, self.departures)
+        self.every_end("number", [
+            way for way in number_ways.WAYS
+            if self.form is ALLCALLS or way not in number_ways.AFTER_RESETS
+        ], self.numbers)
         if self.form is ALLCALLS:
             self.every_way("lends", lend_ways.WAYS, self.lends)
             self.every_way("resets", reset_ways.WAYS, self.resets)
             self.test("the least count was tried after a reset with k of 2 "
                       "and more",
                       self.afresh < 2 and "largest k %d" % self.afresh)
+
+    def every_end(self, field, ways, seen):
+        missing = [": ".join(way) for way in ways if not seen[way]]
+        self.test("requests ended in every way for every " + field,
+                  missing and "never seen: %s" % ", ".join(missing))
 
     def every_way(self, calls, ways, seen):
         missing = [way for way in ways if not seen[way]]

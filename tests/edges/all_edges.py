@@ -1,10 +1,10 @@
 """All executed edges: for every program, and for allcalls alone."""
 
 from edges import (
-    call_records, credits, departures, from_the_paper, lends, plan_limits,
-    requests, resets, three_slips, ticks)
+    call_records, credits, departures, from_the_paper, lends, numbers,
+    plan_limits, requests, resets, three_slips, ticks)
 
 EDGES = (from_the_paper.EDGES + three_slips.EDGES + requests.EDGES
-         + departures.EDGES + credits.EDGES + ticks.EDGES + call_records.EDGES
+         + departures.EDGES + numbers.EDGES + credits.EDGES + ticks.EDGES + call_records.EDGES
          + plan_limits.EDGES)
-ALLCALLS_EDGES = lends.EDGES + resets.EDGES
+ALLCALLS_EDGES = lends.EDGES + resets.EDGES + numbers.ALLCALLS_EDGES

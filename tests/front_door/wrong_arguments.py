@@ -36,6 +36,9 @@ TESTS_RUN = [
     (["--departures"], "--departures goes with"),
     (["--departures", "--allcalls", "--write", "1", MISSING],
      "--departures goes with"),
+    (["--numbers"], "--numbers goes with"),
+    (["--numbers", "--departures", "--write", "1", MISSING],
+     "not allowed with"),
 ]
 BENCH_RUN = [
     (["0"], "ROUNDS"),

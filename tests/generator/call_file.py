@@ -23,9 +23,10 @@ class CallFile:
         self.link = Link(self.plan)
         self.flows = self.plan.flows
         self.slots = self.plan.slots
-        self.quantum = [0] * self.flows
-        # Granted slots of each flow, in the order of the grants.
+        # Granted slots of each flow, in the order of the grants, and how many
+        # there were at the last granted reset.
         self.grants = [[] for _ in range(self.flows)]
+        self.at_reset = [0] * self.flows
 
     def data(self):
         return b"".join(self.written)
@@ -48,16 +49,16 @@ class CallFile:
 
     # ---- well-formed calls
 
-    def ask(self, flow, departure=None):
-        """A request with the flow's next quantum.  The slot, or None."""
+    def ask(self, flow, departure=None, quantum=None):
+        """A request, with the flow's next quantum and for a tile that has come
+        where nothing else is named.  The slot, or None."""
         if departure is None:
             departure = self.link.ticks % self.slots
-        letter, number = self.record(call_bytes.request(
-            self.plan.destination(flow), flow, self.quantum[flow], departure))
-        if letter == "R":
-            return None
-        self.quantum[flow] = (self.quantum[flow] + 1) % 1024
-        return self.grants[flow][-1]
+        if quantum is None:
+            quantum = self.quantum(flow)
+        letter, _ = self.record(call_bytes.request(
+            self.plan.destination(flow), flow, quantum, departure))
+        return self.grants[flow][-1] if letter == "G" else None
 
     def give(self, flow, slot):
         """A credit dated a slot.  Whether it was taken."""
@@ -76,9 +77,16 @@ class CallFile:
 
     def reset(self):
         """Whether it was granted."""
-        return self.record(call_bytes.RESET)[0] == "Z"
+        granted = self.record(call_bytes.RESET)[0] == "Z"
+        if granted:
+            self.at_reset = list(map(len, self.grants))
+        return granted
 
     # ---- where things stand
+
+    def quantum(self, flow):
+        """The number of the flow's next quantum."""
+        return len(self.grants[flow]) % 1024
 
     def now(self):
         return self.link.ticks
