@@ -1,4 +1,5 @@
--- Demand 3 of the code: any list of calls on the link that fresh hands back for a plan that the reader accepts. Assumes nothing.
+-- Demand 3 of the code, and the numbers of the words that it grants: any list of calls on the link that fresh hands back for a plan that the reader
+-- accepts. Assumes nothing.
 use Prim.Native.Nat.{ℕ, zero, suc, _<_}
 use mathlib.Core.Path.{_≡_, refl, sym, ap, _∙_, subst}
 use mathlib.Core.List.{List, _∷_, [], _++_}
@@ -14,7 +15,9 @@ use Rattle.model.specs.Plan as model
 use Rattle.model.specs.Calls.{Call, Grant, Receipt, Turn, Loan, Renewal, Event, History, accepted, refused, requested, credited, ticked, lent}
 use Rattle.model.specs.Claim.{Demand3}
 use Rattle.model.specs.Card.{Played, paper, step, play, started, run}
+use Rattle.model.specs.QuantumNumbers.{InOrder}
 use Rattle.model.proofs.Demand3.{meets-accepted}
+use Rattle.model.proofs.QuantumNumbers.{numbers-in-order}
 use Rattle.link.specs.declared.Link.{Link}
 use Rattle.link.specs.Reading.{linkOf}
 use Rattle.link.specs.Handed.{Handed}
@@ -108,11 +111,25 @@ unfolding verdictFor
 accepted-passes zero e = refl
 accepted-passes (suc r) e = cc
 
+-- bytes that `plan::read` accepts, and the plan that it hands back
+module _ (bytes : List ℕ) (o : Outcome) (is : o ≡ readOf bytes) (accepts : o .verdict ≡ Accepted) where
+  passes : model.refusal bytes ≡ 0
+  passes = accepted-passes (model.refusal bytes) (sym (ap (λ (x : Outcome). x .verdict) is ∙ verdict-of bytes) ∙ accepts)
+
+  plan-is : planFor (o .plan) ≡ model.planOf bytes
+  plan-is = ap (λ (x : Outcome). planFor (x .plan)) is ∙ is-plan bytes passes
+
 -- Bytes that `plan::read` accepts, the link that `Link::fresh` hands back, and any list of calls, each on the link that the one before handed back:
 -- demand 3 of their events, for each flow of the plan.
 pub code-meets : (bytes : List ℕ) (o : Outcome) → o ≡ readOf bytes → (o .verdict ≡ Accepted → Valid (o .plan)) → o .verdict ≡ Accepted
     → {h : History} {l : Link} → Handed (o .plan) h l → (i : ℕ) → i < model.flowCount (model.planOf bytes) → Demand3 (model.planOf bytes) i h
 code-meets bytes o is valid accepts {h} {l} g i known =
-    let passes = accepted-passes (model.refusal bytes) (sym (ap (λ (x : Outcome). x .verdict) is ∙ verdict-of bytes) ∙ accepts) in
-    let plan-is = ap (λ (x : Outcome). planFor (x .plan)) is ∙ is-plan bytes passes in
-    subst (λ P. i < model.flowCount P → Demand3 P i h) plan-is (handed-meets (o .plan) (valid accepts) g i) known
+    subst (λ P. i < model.flowCount P → Demand3 P i h) (plan-is bytes o is accepts) (handed-meets (o .plan) (valid accepts) g i) known
+
+-- The words that a flow is granted by these calls are numbered 0, 1, 2 and so on modulo 1,024, in the order of their grants.
+pub code-numbers : (bytes : List ℕ) (o : Outcome) → o ≡ readOf bytes → o .verdict ≡ Accepted
+    → {h : History} {l : Link} → Handed (o .plan) h l → (i : ℕ) → i < model.flowCount (model.planOf bytes) → InOrder (model.planOf bytes) i h
+code-numbers bytes o is accepts {h} {l} g i known =
+    let made = subst (λ P. RunOf P h l) (plan-is bytes o is accepts) (run-of g) in
+    subst (λ (r : Played paper). InOrder (model.planOf bytes) i (r .history)) (made .played)
+    (numbers-in-order bytes (passes bytes o is accepts) (made .calls) i known)
