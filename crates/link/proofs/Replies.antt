@@ -1,11 +1,10 @@
 -- The reply to word x, whose flow is i, on link l: refused by the tests before the search, or what the search comes to. Assumes nothing.
-use Prim.Native.Nat.{ℕ, zero, suc, _<_}
+use Prim.Native.Nat.{ℕ, _<_}
 use mathlib.Core.Path.{_≡_, refl, sym, ap, _∙_}
 use mathlib.Core.Option.{some}
 use mathlib.Core.Bool.{cond}
-use native.Mathlib.Omega.{arith}
 use lib.Dec.{eqb}
-use borrow.Author.Tests.{eq-eqb, ne-eqb}
+use borrow.Author.Tests.{eq-eqb}
 use Rattle.model.specs.Refusals.{firstOf}
 use Rattle.model.specs.Word as word
 use Rattle.model.specs.Calls.{accepted, refused}

@@ -1,7 +1,7 @@
 -- Each card that takes the quantum number wrongly is sent back: by a clause of demand 3, by the order of granted words' numbers, or by its answers.
 -- Assumes nothing.
 use Prim.Native.Nat.{ℕ}
-use mathlib.Core.Path.{_≡_, refl, ap}
+use mathlib.Core.Path.{_≡_, refl}
 use mathlib.Core.List.{List, _∷_, []}
 use native.Mathlib.Omega.{arith}
 use lib.Dec.{lit<}
@@ -11,7 +11,7 @@ use Rattle.model.specs.Claim.{Clause}
 use Rattle.model.specs.Link.{Link, flow, withFlow, withNumber}
 use Rattle.model.specs.Card.{Meets, run, paper}
 use Rattle.model.specs.QuantumNumbers.{wordsGranted, NumbersInOrder}
-use Rattle.model.specs.PlanBytes.{listing, single}
+use Rattle.model.specs.PlanBytes.{listing}
 use Rattle.model.specs.BadNumbers.{ignoresNumber, countsRefusals, oneForAll, countsModulo, restartsNumbers, testsNumberEarly, testsNumberLate}
 use Rattle.model.proofs.Unfoldings.{plans-compute, calls-compute, counts-compute}
 use Rattle.model.proofs.Decidable.{refuted}
@@ -48,19 +48,24 @@ counts-modulo-1 = sent-back (countsModulo 1) two-flows (Call.request 0x24000000 
 
 -- Modulo 1,000 that takes 1,000 grants. The request's own equation tells it at once: on a link that expects 999 of flow 0 the word with that number is
 -- granted, and then 1,000 is expected, and not 0.
-abbrev expects999 : Link
-expects999 = withFlow (paper .fresh (planOf listing)) 0 (withNumber (flow (paper .fresh (planOf listing)) 0) 999)
+abbrev expects : ℕ → Link
+expects k = let l = paper .fresh (planOf listing) in withFlow l 0 (withNumber (flow l 0) k)
 
 abbrev numberAfter : Link → ℕ
 numberAfter l = flow l 0 .number
 
-pub after-999 : numberAfter (paper .request expects999 0x240F9C00 .0) ≡ 1000
+pub after-999 : numberAfter (paper .request (expects 999) 0x240F9C00 .0) ≡ 1000
 unfolding calls-compute
 after-999 = refl
 
-pub counts-modulo-1000 : numberAfter (countsModulo 1000 .request expects999 0x240F9C00 .0) ≡ 0
+pub counts-modulo-1000 : numberAfter (countsModulo 1000 .request (expects 999) 0x240F9C00 .0) ≡ 0
 unfolding calls-compute
 counts-modulo-1000 = refl
+
+-- 0 is expected after 1,023
+pub after-1023 : numberAfter (paper .request (expects 1023) 0x240FFC00 .0) ≡ 0
+unfolding calls-compute
+after-1023 = refl
 
 -- ---- by the numbers of granted words: 0 and 0
 

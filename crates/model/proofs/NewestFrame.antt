@@ -1,5 +1,5 @@
 -- The refusals in the newest frame, and that a tile which has come is not refused with 20. Assumes nothing.
-use Prim.Native.Nat.{ℕ, zero, suc, _+_, _≤_, _<_}
+use Prim.Native.Nat.{ℕ, zero, suc, _+_, _<_}
 use mathlib.Core.Path.{_≡_, refl, sym, ap, _∙_, subst}
 use mathlib.Core.List.{_∷_, []}
 use mathlib.Core.Option.{Option, some, none}
