@@ -54,7 +54,7 @@ fn refusal(count: usize, e: Entry, size: usize, expected: u16, word: u32) -> u8
 
 // The refusal where the search ends with no position, at the newest frame, with a remainder; `would` says whether that frame has a position
 // that would be valid but for the departure. A spent share is refused before the search, so that 11 doesn't come from here.
-fn nowhere(left: usize, would: bool) -> u8
+fn nowhere(left: u16, would: bool) -> u8
     ensures { λ r. ⌜ r ≡ firstOf (model.newestTests would left) ⌝ }
 {
     if left == 0 {
@@ -121,7 +121,7 @@ pub fn ask<'a>(
         w,
         late,
         departure(word),
-        e.share as usize,
+        e.share as u16,
         flow.frame,
         flow.left,
     );
