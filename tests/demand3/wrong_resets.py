@@ -49,6 +49,11 @@ WRONG = [
     (edge("grants more than the share after it", ROOMY,
           (RESET, "Z"), (ask(0), "G 1"), (ask(0), "G 2")),
      "more than its share in frame 0"),
+    # Slot 12 is the fifth since the reset, with no frame change since.
+    (edge("counts frame changes before it in the most", plan(4, 2, (2, 8)),
+          *[(TICK, "T -")] * 4, (RESET, "Z"),
+          (ask(0), "G 5"), (ask(0), "G 6"), (ask(0), "G 0"), (ask(0), "G 1"),
+          (TICK, "T 0"), (ask(0), "G 4")), "5 grants, above the most of 4"),
     (edge("answers a reset like a credit", BASE, (RESET, "C")),
      "answered 'C'"),
     (edge("answers a reset with a number", BASE, (RESET, "Z 0")),

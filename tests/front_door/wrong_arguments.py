@@ -38,7 +38,12 @@ TESTS_RUN = [
      "--departures goes with"),
     (["--numbers"], "--numbers goes with"),
     (["--numbers", "--departures", "--write", "1", MISSING],
-     "not allowed with"),
+     "goes with --write alone"),
+    (["--resets"], "--resets goes with"),
+    (["--resets", "--simulate", MISSING], "--resets goes with"),
+    (["--resets", "--allcalls", "--write", "1", MISSING],
+     "--resets goes with"),
+    (["--resets", "--write", "-1", MISSING], "a seed has to be"),
 ]
 BENCH_RUN = [
     (["0"], "ROUNDS"),
