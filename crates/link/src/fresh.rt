@@ -41,7 +41,7 @@ pub(crate) fn flows_in(
     while i < count {
         let e = entries[i];
         let f = all[i];
-        all[i] = f.moved_to(frame, e.share as u16);
+        all[i] = f.moved_to(frame, e.share as usize);
         i += 1;
     }
     all

@@ -20,13 +20,13 @@ use unbooked::Unbooked;
 // A flow's injection frame, its remainder, and the quantum number that is expected of its next word.
 pub struct Flow {
     pub frame: usize,
-    pub left: u16,
-    pub number: u16,
+    pub left: usize,
+    pub number: usize,
 }
 
 impl Flow {
     // The flow in another frame, with another remainder.
-    pub(crate) fn moved_to(mut self, frame: usize, left: u16) -> Flow
+    pub(crate) fn moved_to(mut self, frame: usize, left: usize) -> Flow
         ensures { λ r. ⌜ r ≡ movedTo self frame left ⌝ }
     {
         self.frame = frame;
@@ -35,7 +35,7 @@ impl Flow {
     }
 
     // The flow after a grant: in that frame, with that remainder, and with the next number, which goes round after 1,023.
-    pub(crate) fn granted_in(mut self, frame: usize, left: u16) -> Flow
+    pub(crate) fn granted_in(mut self, frame: usize, left: usize) -> Flow
         requires { ⌜ self .number < 1024 ⌝ }
         ensures { λ r. ⌜ r ≡ grantedIn self frame left ⌝ }
     {

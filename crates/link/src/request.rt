@@ -33,7 +33,7 @@ use window::positions::window;
 
 // The refusal of a word by the tests before the search, and 0 where it passes them: n flows, the entry and the expected number of the word's flow
 // (of flow 0 where there is none), and T.
-fn refusal(count: usize, e: Entry, size: usize, expected: u16, word: u32) -> u8
+fn refusal(count: usize, e: Entry, size: usize, expected: usize, word: u32) -> u8
     ensures { λ r. ⌜ ((p : Plan) (k : ℕ) → WordOn p k count e size expected word → r ≡ firstOf (model.requestTests (planFor p) k word)) ⌝ }
 {
     let fields = word::split(word);
@@ -46,7 +46,7 @@ fn refusal(count: usize, e: Entry, size: usize, expected: u16, word: u32) -> u8
     if size <= fields.departure as usize {
         return 10;
     }
-    if fields.quantum != expected {
+    if fields.quantum as usize != expected {
         return 24;
     }
     0
@@ -54,7 +54,7 @@ fn refusal(count: usize, e: Entry, size: usize, expected: u16, word: u32) -> u8
 
 // The refusal where the search ends with no position, at the newest frame, with a remainder; `would` says whether that frame has a position
 // that would be valid but for the departure. A spent share is refused before the search, so that 11 doesn't come from here.
-fn nowhere(left: u16, would: bool) -> u8
+fn nowhere(left: usize, would: bool) -> u8
     ensures { λ r. ⌜ r ≡ firstOf (model.newestTests would left) ⌝ }
 {
     if left == 0 {
@@ -121,7 +121,7 @@ pub fn ask<'a>(
         w,
         late,
         departure(word),
-        e.share as u16,
+        e.share as usize,
         flow.frame,
         flow.left,
     );

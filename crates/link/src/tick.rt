@@ -39,7 +39,7 @@ pub fn leave_head(flows: [Flow; 16], plan: Plan, head: usize, on: usize) -> [Flo
         let e = plan.entries[i];
         let f = all[i];
         if f.frame == head {
-            all[i] = f.moved_to(on, e.share as u16);
+            all[i] = f.moved_to(on, e.share as usize);
         }
         i += 1;
     }

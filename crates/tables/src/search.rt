@@ -57,9 +57,9 @@ fn search(
     unbooked: &Unbooked,
     w: Window,
     low: usize,
-    share: u16,
+    share: usize,
     first: usize,
-    remainder: u16,
+    remainder: usize,
 ) -> Found
     requires { ⌜ Proper w × (first < w .frames) ⌝ }
     ensures { λ r. ⌜ ((owners : List ℕ) (late : ℕ → Bool) → Gathering w owners (now (unbooked .entry)) late low
@@ -94,9 +94,9 @@ pub fn find(
     w: Window,
     late: usize,
     departure: usize,
-    share: u16,
+    share: usize,
     first: usize,
-    remainder: u16,
+    remainder: usize,
 ) -> Found
     requires { ⌜ SearchFrom w departure first ⌝ }
     ensures { λ r. ⌜ ((owners : List ℕ) (test : ℕ → Bool) → Gathering w owners (now (unbooked .entry)) test late

@@ -38,6 +38,9 @@ returns-3 c =
     let f = flow-at d in
     λ p k on. word-10 _ _ (f .before .before .split .ensures) p k on (f .if1 .left) (d .if2 .left) (c .if3 .taken)
 
+cast-if4 : tie.Need-cast-if4
+cast-if4 c = search needs
+
 returns-4 : tie.Need-returns-4
 returns-4 c =
     let b = c .before .before in
@@ -54,4 +57,4 @@ returns-5 c =
 
 pub refusal-spec : {M : Type 1} → statement M
 refusal-spec =
-    tie.close (tie.spec split-requires cast-if1 returns returns-2 cast-if3 returns-3 returns-4 returns-5)
+    tie.close (tie.spec split-requires cast-if1 returns returns-2 cast-if3 returns-3 cast-if4 returns-4 returns-5)
