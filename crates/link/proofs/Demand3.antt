@@ -22,7 +22,7 @@ use Rattle.model.proofs.AfterCalls.{Known, after-calls, after-fresh}
 use Rattle.model.proofs.CountedBursts.{play-both, burst-played}
 use Rattle.model.proofs.Demand3.{meets-accepted}
 use Rattle.model.proofs.Fairness.{fair-accepted}
-use Rattle.model.proofs.QuantumNumbers.{numbers-in-order}
+use Rattle.model.proofs.QuantumNumbers.{numbers-accepted}
 use Rattle.link.specs.declared.Link.{Link}
 use Rattle.link.specs.Reading.{linkOf}
 use Rattle.link.specs.Handed.{Handed}
