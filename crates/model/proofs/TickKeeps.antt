@@ -18,6 +18,14 @@ use Rattle.model.proofs.Invariant.{Ledger, atNextSlot, Invariant}
 use Rattle.model.proofs.NextSlot.{next-position, next-current, marks-stay, owned-on}
 use Rattle.model.proofs.FrameChangeKeeps.{frame-change-keeps}
 
+-- a flow that moves to the next frame keeps its number
+pub left-number : (l : Link) (i : ℕ) → leftHead l i .number ≡ flow l i .number
+left-number l i = go (eqb (flow l i .injection) (head (window l)))
+  where
+    go : (b : Bool) → cond b (movedTo (flow l i) (next (window l) (head (window l))) (share l i)) (flow l i) .number ≡ flow l i .number
+    go true = refl
+    go false = refl
+
 module _ {l : Link} {L : Ledger} (v : Invariant l L) where
   open Link l using (plan as P)
   open Plan P using (slots as F)
@@ -44,14 +52,6 @@ module _ {l : Link} {L : Ledger} (v : Invariant l L) where
 
   -- ---- the tick
 
-  -- a flow that moves to the next frame keeps its number
-  left-number : (i : ℕ) → leftHead l i .number ≡ flow l i .number
-  left-number i = go (eqb (flow l i .injection) (head (window l)))
-    where
-      go : (b : Bool) → cond b (movedTo (flow l i) (next (window l) (head (window l))) (share l i)) (flow l i) .number ≡ flow l i .number
-      go true = refl
-      go false = refl
-
   -- what is known of the next link
   pub record Advances (k : Link) : Type 0 where
     pub plan-is : k .plan ≡ l .plan
@@ -76,7 +76,7 @@ module _ {l : Link} {L : Ledger} (v : Invariant l L) where
             keeps = keeps;
             answer-is = ap (owner (recycled l)) (next-position v) ∙ keeps .bookings .owners-are (suc t) (current-in-window ok (suc t));
             flows-in-frame = λ d. absurd (d change);
-            numbers-stay = λ i known. ap (λ x. x .number) (flow-withFlows l _ i known) ∙ left-number i;
+            numbers-stay = λ i known. ap (λ x. x .number) (flow-withFlows l _ i known) ∙ left-number l i;
           }
       go false e =
           let d : suc t % F ≡ 0 → ⊥ = λ z. eqb-false (nextPosition l % F) 0 e (place ∙ z) in
