@@ -21,7 +21,7 @@ abbrev pub fieldAt : List ℕ → (at k : ℕ) → ℕ
 fieldAt b at k = field16 b (at + 2 * k)
 
 -- ---- the table of the header's and each flow's own fields. "A field that a later request adds stands last in the header, or in each flow's part": it is
--- a line here.
+-- added here, and where it is read.
 
 -- "CP and the taken mark"; N8: the flow to look from, which "the image carries"
 abbrev pub state : List (Link → ℕ)

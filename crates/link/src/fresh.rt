@@ -14,7 +14,7 @@ use tables::holdings::nothing_held;
 use tables::owners::unbooked;
 use unbooked::frames::every_slot;
 
-// Sixteen flows that a plan does not have: the number that is expected of each is 0.
+// Sixteen flows that a plan does not have: in frame 0, with nothing left and number 0.
 fn no_flows() -> [Flow; 16]
     ensures { λ r. ⌜ r ≡ noFlows ⌝ }
 {

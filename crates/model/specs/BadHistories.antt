@@ -100,13 +100,13 @@ badHistories =
           grantedFrom 0 0 1 ∷ grantedFrom 1 0 2 ∷ refusedFrom 2 0 11 ∷ ticked (some 0) ∷ grantedFrom 2 1 0 ∷ refusedFrom 3 1 11
           ∷ ticked (some 0) ∷ grantedFrom 3 2 1 ∷ refusedFrom 4 2 11 ∷ ticked (some 0) ∷ refusedFrom 4 0 11 ∷ [];
     }
-    -- both cells are held at slot 2; then, and at no request of its own that is well formed, the flow asks for another node, and flow 1 asks;
+    -- both cells are held at slot 2; then, and at no request of its own that is well formed, the flow asks for another node, with number 7, and flow 1 asks;
     -- both fall free from slot 3 on, and slot 2 is gone when it asks again, at CP = 3 with departure 0 and at CP = 4 with departure 4
     ∷ record {
       clause = Clause.least;
       bytes = listing;
       events =
-          grantedFrom 0 0 1 ∷ grantedFrom 1 0 2 ∷ requested 0x20000800 (refused 9) ∷ requested 0x24100000 (accepted 0x24100003)
+          grantedFrom 0 0 1 ∷ grantedFrom 1 0 2 ∷ requested 0x20001C00 (refused 9) ∷ requested 0x24100000 (accepted 0x24100003)
           ∷ credited 0 3 (accepted tt) ∷ credited 0 3 (accepted tt) ∷ ticked (some 0) ∷ ticked (some 0) ∷ ticked (some 1)
           ∷ refusedFrom 2 0 12 ∷ ticked none ∷ refusedFrom 2 4 12 ∷ [];
     }

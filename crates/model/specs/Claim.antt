@@ -3,8 +3,8 @@
 --
 -- With k frame changes so far a stream is granted at most (W + k) × share slots, and at most its share in any frame. One that asks until it is
 -- refused in each of the frames 0 to k, and at each of its well-formed requests names a tile that has come, carries the expected number and holds
--- fewer than its cells in every slot from the current one on, is granted at least (W - 1 + k) × share. After a granted reset all of this begins afresh, with the frame of the
--- slot that is then current in the place of frame 0. What else is claimed is over the whole list.
+-- fewer than its cells in every slot from the current one on, is granted at least (W - 1 + k) × share. After a granted reset all of this begins
+-- afresh, with the frame of the slot that is then current in the place of frame 0. What else is claimed is over the whole list.
 --
 -- Demand 3 cannot see what follows; demand 2's equations of each call say it:
 -- - which number a refusal has, and what C and IF are after it;
@@ -91,8 +91,8 @@ pub record Ready (P : Plan) (i w : ℕ) (h : History) : Type 0 where
   -- document 02, N4: the word "names a tile that has come, by this test of its departure against CP and by no other"
   pub come : hasCome P (ticks h) (departureOf w) ≡ true
   -- Document 02, N9: the word "also carries the expected number". The grants are those of the whole list, as no reset starts the numbers afresh. A
-  -- word is well formed whatever its number, so that by the letter a refusal with 24 is one of the refusals of 'asks until it is refused'. With this
-  -- premise there is none: it is asked of each of the stream's well-formed requests, and 24 is for a word with another number.
+  -- word is well formed whatever its number, so that by the letter a refusal with 24 is one of the refusals of 'asks until it is refused'. Of a stream
+  -- that keeps this premise at each of its well-formed requests a link that gives 24 only to a word with another number has none.
   pub number : quantumOf w ≡ expectedNumber P h i
 
 -- "Each request means each of its well-formed requests."

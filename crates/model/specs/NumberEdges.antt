@@ -1,6 +1,6 @@
 -- Edges of quantum numbers. Document 02, N9. Assumes nothing.
 --
--- What each comes to is worked out from the request. Where a row says no more, F = 4 and W = 2; the arguments of `refuseAs` are the flow, the quantum
+-- What each comes to is worked out from the request. That 0 comes after 1,023 is an edge of images, and `after-1023` of BadNumbers. Where a row says no more, F = 4 and W = 2; the arguments of `refuseAs` are the flow, the quantum
 -- number and the departure of the word, and the refusal.
 use mathlib.Core.List.{List, _∷_, []}
 use Rattle.model.specs.Calls.{requested, accepted, refused}
@@ -20,12 +20,12 @@ numberEdges =
     ∷ follows listing (grant 0 1 ∷ grant 0 2 ∷ refuseAs 0 0 0 24 ∷ refuse 0 12 ∷ [])
     -- 24 before 20, and the link is unchanged: the flow's frame has not moved, so that 1 is granted and not 4
     ∷ follows listing (refuseAs 0 1 7 24 ∷ grant 0 1 ∷ [])
-    -- neither has it in the newest frame, where 11 would leave C as it is, and after 12 a refusal with 24 leaves C the share
+    -- nor in the newest frame: after 12 C is the share, 24 leaves it, and two are booked there
     ∷ follows listing (grant 0 1 ∷ grant 0 2 ∷ refuse 0 12 ∷ refuseAs 0 3 0 24 ∷ credit 0 4 ∷ grant 0 4 ∷ credit 0 5 ∷ grant 0 5 ∷ [])
     -- 8 and 9 come first: flow 2 of two, for which no number is kept, and node 8, each with number 1
     ∷ plays listing (requested 0x24200400 (refused 8) ∷ requested 0x20000400 (refused 9) ∷ requested 0x24000000 (accepted 0x24000001) ∷ [])
     -- 8 and 9 leave the number, and so do 10, 11, 12 and 20
-    ∷ plays listing (requested 0x20000000 (refused 9) ∷ requested 0x24000008 (refused 10) ∷ requested 0x24000400 (refused 24) ∷ [])
+    ∷ plays listing (requested 0x24200000 (refused 8) ∷ requested 0x20000000 (refused 9) ∷ requested 0x24000008 (refused 10) ∷ requested 0x24000400 (refused 24) ∷ [])
     ∷ follows single (grant 0 1 ∷ refuse 0 11 ∷ refuse 0 11 ∷ serve 0 ∷ refuseAs 0 2 1 24 ∷ grant 0 0 ∷ [])
     ∷ follows listing (grant 0 1 ∷ grant 0 2 ∷ refuse 0 12 ∷ credit 0 4 ∷ refuseAs 0 3 0 24 ∷ grant 0 4 ∷ [])
     ∷ follows listing (refuseFrom 0 7 20 ∷ refuseAs 0 1 0 24 ∷ grant 0 4 ∷ [])
