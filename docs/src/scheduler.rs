@@ -477,9 +477,10 @@ impl Link {
     }
 
     /// Asks for a slot, after the word's departure if that is later than the
-    /// current position. The flow's words are numbered 0, 1, 2 and so on, and
-    /// after a refusal the number is the same again. The answer is the word with the booked position as
-    /// its departure, or the number of the refusal.
+    /// current position. The flow's words are numbered 0, 1, 2 and so on modulo
+    /// 1,024, and after a refusal the number is the same again. The answer is
+    /// the word with the booked position as its departure, or the number of the
+    /// refusal.
     #[inline]
     pub fn request(&mut self, word: u32) -> Result<u32, u8> {
         let asked = Word::split(word);
@@ -712,14 +713,18 @@ mod tests {
             result: 255,
             position: 255,
         };
-        let mut records = [unfilled(word(0, 0)); 18];
-        records[3] = unfilled(word(1, 0));
-        records[4] = unfilled(word(2, 0));
+        let mut records = [unfilled(word(0, 2, 0)); 18];
+        records[0] = unfilled(word(0, 0, 0));
+        records[1] = unfilled(word(0, 1, 0));
+        records[3] = unfilled(word(1, 0, 0));
+        records[4] = unfilled(word(2, 0, 0));
+        records[5] = unfilled(word(0, 1, 0));
         link.burst(&mut records);
         let answers = records.map(|ask| (ask.result, ask.position));
         assert_eq!(answers[..5], [(0, 1), (0, 2), (12, 0), (0, 3), (8, 0)]);
+        assert_eq!(answers[5..7], [(24, 0), (12, 0)]);
         assert_eq!(answers[15..], [(12, 0), (255, 255), (255, 255)]);
-        assert_eq!(records[0].word, word(0, 0));
+        assert_eq!(records[1].word, word(0, 1, 0));
         link.burst(&mut []);
         assert_eq!(ask(&mut link, 1), Ok(4));
     }

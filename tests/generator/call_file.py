@@ -5,7 +5,7 @@ ask until refused, give back a cell that was really taken, and so on.
 """
 
 import call_bytes
-from simulator.burst import burst
+from simulator.burst import HANDLED
 from simulator.calls import answer
 from simulator.link import Link
 from simulator.plan import read_plan
@@ -64,12 +64,8 @@ class CallFile:
     def ask(self, flow, departure=None, quantum=None):
         """A request, with the flow's next quantum and for a tile that has come
         where nothing else is named.  The slot, or None."""
-        if departure is None:
-            departure = self.link.ticks % self.slots
-        if quantum is None:
-            quantum = self.quantum(flow)
-        letter, _ = self.record(call_bytes.request(
-            self.plan.destination(flow), flow, quantum, departure))
+        letter, _ = self.record(call_bytes.request_of(
+            self.word(flow, departure, quantum)))
         return self.grants[flow][-1] if letter == "G" else None
 
     def give(self, flow, slot):
@@ -94,22 +90,27 @@ class CallFile:
             self.at_reset = list(self.granted)
         return granted
 
-    def word(self, flow, ahead=0, departure=None, quantum=None):
-        """A well-formed word, `ahead` quanta after the flow's next where no
-        number is named."""
+    def word(self, flow, departure=None, quantum=None):
+        """A well-formed word, with the flow's next quantum and for a tile that
+        has come where nothing else is named."""
         if departure is None:
             departure = self.link.ticks % self.slots
         if quantum is None:
-            quantum = (self.quantum(flow) + ahead) % 1024
+            quantum = self.quantum(flow)
         return call_bytes.word(self.plan.destination(flow), flow, quantum,
                                departure)
 
-    def burst(self, words):
-        """A burst of any words."""
+    def burst(self, makers):
+        """A burst of any words; each is made by a function when those before
+        it have been answered."""
+        words = []
+        for place, make in enumerate(makers):
+            words.append(make())
+            if place < HANDLED:
+                letter, number = answer(self.link, ("request", words[-1]))
+                if letter == "G":
+                    self.note_grant(words[-1], number)
         self.written.append(call_bytes.burst(words))
-        for word, (result, position) in zip(words, burst(self.link, words)):
-            if result == 0:
-                self.note_grant(word, position)
 
     # ---- where things stand
 

@@ -8,8 +8,8 @@ from generator.numbers import number
 NEAR = 3                # grants before and after the one that has number 0
 
 
-def near_round(file, flow):
-    return (file.quantum(flow) + NEAR) % 1024 < 2 * NEAR
+def near_round(file, flow, near=NEAR):
+    return (file.quantum(flow) + near) % 1024 < 2 * near
 
 
 def some_words(dice, file, flow, wrong):
