@@ -3,7 +3,8 @@ number is granted, or one with the expected number is refused; and right ones,
 with the k up to which the least count is tried for each flow.
 """
 
-from edges.edge_maker import BASE, RESET, TICK, ask, credit, edge, plan
+from edges.edge_maker import (
+    BASE, RESET, TICK, ask, burst, credit, edge, plan)
 from edges.numbers import ONE_BY_ONE, granted
 
 EACH_FRAME = plan(1, 2, (1, 255))       # F = 1, W = 2, share 1
@@ -45,7 +46,7 @@ RIGHT = [
           (ask(0), "R 11")), {0: 0}),
 ]
 
-# With resets, for allcalls.
+# With resets and bursts, for allcalls.
 ALLCALLS_WRONG = [
     # The least since the reset is (W - 1) x share = 2.
     (edge("starts the numbers afresh with a reset", BASE,
@@ -54,6 +55,12 @@ ALLCALLS_WRONG = [
     (edge("grants 0 again after a reset", BASE,
           (ask(0), "G 1"), (credit(0, 1), "C"), (TICK, "T 0"), (RESET, "Z"),
           (ask(0, quantum=0), "G 2")), DUE % (0, 0, 1)),
+    (edge("looks at a number before the burst alone", BASE,
+          (burst(ask(0), ask(0, quantum=0)), "B 0 1", "B 0 2")),
+     DUE % (0, 0, 1)),
+    # The least is 2 in frame 0.
+    (edge("counts the words of a burst after it", BASE,
+          (burst(ask(0), ask(0, quantum=1)), "B 0 1", "B 24 0")), LEAST),
 ]
 
 ALLCALLS_RIGHT = [
@@ -65,4 +72,6 @@ ALLCALLS_RIGHT = [
     (edge("numbers counted since a reset are wrong", BASE,
           (ask(0), "G 1"), (credit(0, 1), "C"), (TICK, "T 0"), (RESET, "Z"),
           (ask(0, quantum=0), "R 24")), {}),
+    (edge("a wrong number in a burst takes the premise away", BASE,
+          (burst(ask(0, quantum=1), ask(0)), "B 24 0", "B 0 1")), {}),
 ]

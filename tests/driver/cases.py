@@ -23,7 +23,8 @@ OTHERS_IN_PIECES = ("lend: 17 at a lent and at a booked slot",
                     "lend: a last record of 4 bytes",
                     "reset: the mark of a booked slot",
                     "reset: a last record of 4 bytes",
-                    "burst: on after a refusal", "burst: all but a byte")
+                    "burst: on after a refusal", "burst: all but a byte",
+                    "number: each flow's own in a burst")
 FEW = 4000                      # bytes of a file that is fed in pieces
 
 

@@ -3,7 +3,7 @@ on modulo 1,024 of each flow.  Refusal 24 stands after 10, and changes nothing.
 """
 
 from edges.edge_maker import (
-    BASE, RESET, TICK, ask, credit, edge, lend, plan)
+    BASE, RESET, TICK, ask, burst, credit, edge, lend, plan)
 
 ONE_SLOT = plan(1, 2, (1, 4))           # F = 1, W = 2
 ROOMY = plan(4, 2, (2, 9), (2, 9))      # T = 8, shares 2 and 2
@@ -13,6 +13,10 @@ WRONG = (1, 2, 511, 512, 1000, 1022, 1023)
 def wrong(flow, *numbers, **fields):
     return [(ask(flow, quantum=number, **fields), "R 24")
             for number in numbers]
+
+
+def words(flow, *numbers):
+    return [ask(flow, quantum=number) for number in numbers]
 
 
 EXPECTED = [
@@ -103,8 +107,10 @@ ROUND_AGAIN = edge(
 
 EDGES = (EXPECTED + NOTHING_CHANGES + IN_ORDER + LEFT_ALONE + [ROUND_AGAIN])
 
-# Lends and resets leave it, for allcalls.
-ALLCALLS_EDGES = [
+# ---- for allcalls
+
+# Lends and resets leave it.
+OTHER_CALLS = [
     edge("number: lends leave it", BASE,
          (lend(1), "L 0"), *wrong(0, 1), (ask(0, quantum=0), "G 1"),
          (lend(2), "R 17"), (TICK, "T 0"), (TICK, "T -"), (lend(2), "L 1"),
@@ -120,3 +126,52 @@ ALLCALLS_EDGES = [
          *wrong(0, 0, 2), *wrong(1, 0, 1), (ask(1, quantum=2), "G 4"),
          (ask(0, quantum=1), "G 5")),
 ]
+
+# Both cells of flow 0 are booked by 0 and 1.
+BURSTS = [
+    edge("number: it moves in a burst", BASE,
+         (burst(*words(0, 0, 1, 2, 2)), "B 0 1", "B 0 2", "B 12 0", "B 12 0")),
+    edge("number: the same twice in a burst", BASE,
+         (burst(*words(0, 0, 0)), "B 0 1", "B 24 0"), *wrong(0, 0),
+         (ask(0, quantum=1), "G 2")),
+    edge("number: one ahead in a burst", BASE,
+         (burst(*words(0, 1, 0, 2, 1)), "B 24 0", "B 0 1", "B 24 0", "B 0 2"),
+         (ask(0, quantum=2), "R 12")),
+    # Departure 7 would leave IF at frame 1.
+    edge("number: 24 in a burst leaves the frame", BASE,
+         (burst(ask(0, quantum=1, departure=7), ask(0, quantum=0)),
+          "B 24 0", "B 0 1")),
+    edge("number: each flow's own in a burst", BASE,
+         (burst(ask(0), *words(1, 1, 0), ask(0), *words(1, 2, 1)),
+          "B 0 1", "B 24 0", "B 0 2", "B 0 3", "B 24 0", "B 0 4")),
+    edge("number: 8, 9 and 10 before 24 in a burst", BASE,
+         (burst(ask(2, quantum=7), ask(0, quantum=7, to=8),
+                ask(0, quantum=7, departure=8), ask(0, quantum=7), ask(0)),
+          "B 8 0", "B 9 0", "B 10 0", "B 24 0", "B 0 1")),
+    edge("number: refusals in a burst leave it", ONE_SLOT,
+         (burst(*words(0, 0, 1, 1, 0, 2)),
+          "B 0 1", "B 11 0", "B 11 0", "B 24 0", "B 24 0"),
+         (TICK, "T 0"), (burst(*words(0, 2, 1)), "B 24 0", "B 0 0")),
+    # The 17th isn't asked.
+    edge("number: sixteen times 24", BASE,
+         (burst(*words(0, *[5] * 16), ask(0)), *["B 24 0"] * 16, "B 255 255"),
+         (ask(0, quantum=0), "G 1")),
+    edge("number: requests and bursts count together", ROOMY,
+         (ask(0), "G 1"), (burst(*words(0, 0, 1, 2)),
+                           "B 24 0", "B 0 2", "B 0 4"), *wrong(0, 2, 4),
+         (ask(0, quantum=3), "G 5"), (burst(*words(0, 3)), "B 24 0")),
+    # Slots 1,021 to 1,026: words 1,020 to 1,023, and then 0 and 1.
+    edge("number: 1,023 and 0 in a burst", ONE_BY_ONE,
+         *[step for slot in range(1, 1021) for step in granted(slot)],
+         (burst(*words(0, 1020, 1021, 1022, 0, 1023, 1023, 0, 1, 1)),
+          "B 0 253", "B 0 254", "B 0 255", "B 24 0", "B 0 0", "B 24 0",
+          "B 0 1", "B 0 2", "B 24 0"), *wrong(0, 1, 1023, 3),
+         (ask(0, quantum=2), "G 3")),
+    edge("number: a reset between bursts leaves it", BASE,
+         (burst(ask(0), ask(1)), "B 0 1", "B 0 2"), (credit(0, 1), "C"),
+         (credit(1, 2), "C"), (TICK, "T 0"), (TICK, "T 1"), (RESET, "Z"),
+         (burst(*words(0, 0, 1), *words(1, 0, 1)),
+          "B 24 0", "B 0 3", "B 24 0", "B 0 4")),
+]
+
+ALLCALLS_EDGES = OTHER_CALLS + BURSTS
