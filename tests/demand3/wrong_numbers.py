@@ -1,6 +1,6 @@
-"""Listings that the check of demand 3 has to send back since a word with another
-number is granted, or one with the expected number is refused; and right ones,
-with the k up to which the least count is tried for each flow.
+"""Listings that the check of demand 3 has to send back since a word with
+another number is granted, or one with the expected number is refused; and
+right ones, with the k up to which the least count is tried for each flow.
 """
 
 from edges.edge_maker import (

@@ -149,7 +149,8 @@ def from_number_seed(seed):
 def numbers(count, seed):
     """Words with quantum numbers of all kinds."""
     for number in range(seed, seed + count):
-        yield ("numbers, seed %d (%s)" % (number, number_seeds.kind_of(number)),
+        yield ("numbers, seed %d (%s)"
+               % (number, number_seeds.kind_of(number)),
                lambda number=number: from_number_seed(number))
 
 

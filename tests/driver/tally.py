@@ -141,12 +141,13 @@ class ResetTally(WaysTally):
 
 
 class BurstTally(Tally):
-    """Also how long the bursts were, what stood in their records, and how many
-    resets were granted between them."""
+    """Also how long the bursts were, what stood in their records, which
+    quantum numbers came up, and how many resets were granted between them."""
 
     def __init__(self):
         super().__init__()
         self.lengths = Counter()
+        self.numbers = Counter()
         self.results = Counter()
         self.resets = 0
 
@@ -160,6 +161,7 @@ class BurstTally(Tally):
                 self.lengths[len(call[1])] += 1
         self.results.update(line.split()[1] for line in case.own.lines
                             if line[0] == "B")
+        self.numbers += case.own.verdict.numbers
         self.resets += case.own.lines.count("Z")
 
     def trouble(self):
@@ -169,8 +171,10 @@ class BurstTally(Tally):
         missing = [length for length in range(21) if not self.lengths[length]]
         never = [result for result in BURST_RESULTS
                  if not self.results[result]]
+        never += [", ".join(way) for way in number_ways.WAYS
+                  if not self.numbers[way]]
         return (missing and "no burst of %s" % missing
-                or never and "no result %s" % ", ".join(never)
+                or never and "never seen: %s" % "; ".join(never)
                 or not self.resets and "no reset granted")
 
     def text(self):

@@ -1,5 +1,6 @@
-"""Edges of the quantum number (document 02, N9): the link expects 0, 1, 2 and so
-on modulo 1,024 of each flow.  Refusal 24 stands after 10, and changes nothing.
+"""Edges of the quantum number (document 02, N9): the link expects 0, 1, 2 and
+so on modulo 1,024 of each flow.  Refusal 24 stands after 10, and changes
+nothing.
 """
 
 from edges.edge_maker import (
@@ -54,7 +55,8 @@ IN_ORDER = [
          (ask(0, quantum=7), "R 24"), (ask(0), "G 1")),
     edge("number: 24 before 11", ONE_SLOT,
          (ask(0, quantum=0), "G 1"), (ask(0, quantum=0), "R 24"),
-         (ask(0, quantum=1), "R 11"), (ask(0, quantum=0, departure=2), "R 10")),
+         (ask(0, quantum=1), "R 11"),
+         (ask(0, quantum=0, departure=2), "R 10")),
     edge("number: 24 before 12", BASE,
          (ask(0), "G 1"), (ask(0), "G 2"), *wrong(0, 1, 3), (ask(0), "R 12")),
     edge("number: 24 before 20", BASE,

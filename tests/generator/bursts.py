@@ -1,6 +1,6 @@
-"""Bursts of several sorts, also wrong ones.  A word is a function that makes it
-when those before it have been answered, so that it can carry its flow's next
-number.
+"""Bursts of several sorts, also wrong ones.  A word is a function that makes
+it when those before it have been answered, so that it can carry its flow's
+next number.
 """
 
 from functools import partial

@@ -1,5 +1,5 @@
-"""A seed to the bytes of its call file with quantum numbers of all kinds, and to
-the kind of its traffic."""
+"""A seed to the bytes of its call file with quantum numbers of all kinds, and
+to the kind of its traffic."""
 
 from generator.dice import Dice
 from generator.traffic import (

@@ -338,7 +338,8 @@ BROKEN += [("the flow to look from is below n", name,
 BROKEN += [("the expected number is below 1,024", name,
             change(whole, ("number", flow, 1024)))
            for name, whole, flow in (
-               ("of the only flow", SMALLEST, 0), ("of the middle one", THREE, 1),
+               ("of the only flow", SMALLEST, 0),
+               ("of the middle one", THREE, 1),
                ("of flow 15", LARGEST, 15), ("after calls", PLAYED, 0))]
 
 # ---- buffers that are too short, whatever else is wrong

@@ -29,8 +29,8 @@ AFTER_CALLS = [
             ("held", 1, [0, 0, 0, 1, 1, 1, 1, 1]))),
     (edge("image: 24 leaves the image", BASE,
           (ask(0), "G 1"), (ask(0, quantum=0), "R 24"),
-          (ask(0, quantum=2), "R 24"), (ask(0, quantum=0, departure=7), "R 24"),
-          (ask(1, quantum=1), "R 24")), booked(FRESH, 0, 1, 1)),
+          (ask(0, quantum=2), "R 24"), (ask(1, quantum=1), "R 24"),
+          (ask(0, quantum=0, departure=7), "R 24")), booked(FRESH, 0, 1, 1)),
     # IF is frame 1 after 20, and the number is 1 still.
     (edge("image: refusals leave the number", BASE,
           (ask(0), "G 1"), (ask(0, departure=7), "R 20"),

@@ -1,5 +1,6 @@
-"""Images that an earlier version of the library wrote.  They are refused: before
-N8 the header ended with the mark, and before N9 a flow's part had no number.
+"""Images that an earlier version of the library wrote.  They are refused:
+before N8 the header ended with the mark, and before N9 a flow's part had no
+number.
 """
 
 from images.by_hand import FRESH, LARGEST_PLAN, NOBODY, NOTHING, PLAN
@@ -21,7 +22,8 @@ EIGHT_FIELDS_SMALLEST = bytes.fromhex(
 EIGHT_FIELDS_LARGEST = bytes.fromhex(
     "9C22 1000 5C00 0001 5C02 1000 0000 0000") + LARGEST
 
-# ---- before N9: fresh ones of 94, 46 and 8,862 bytes, and document 01's listing
+# ---- before N9: fresh ones of 94, 46 and 8,862 bytes, and one after the
+# listing of document 01
 
 NO_NUMBERS = bytes.fromhex(
     "5E00 1200 2600 0800 3600 0200 0000 0000 0000" + TWO_FLOWS)

@@ -1,5 +1,5 @@
-"""Requests on taken images by chance, whose flows expect any numbers.  What the
-number comes to is told from the bytes of the images before and after.
+"""Requests on taken images by chance, whose flows expect any numbers.  What
+the number comes to is told from the bytes of the images before and after.
 """
 
 from images.acceptance import tables_of

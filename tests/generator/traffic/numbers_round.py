@@ -1,5 +1,5 @@
-"""More than 1,024 grants of one flow, or of two: their numbers go round.  Wrong
-numbers come now and then, and often where they go round."""
+"""More than 1,024 grants of one flow, or of two: their numbers go round.
+Wrong numbers come now and then, and often where they go round."""
 
 from generator import good_plans
 from generator.call_file import CallFile
@@ -8,8 +8,8 @@ from generator.numbers import number
 NEAR = 3                # grants before and after the one that has number 0
 
 
-def near_round(file, flow, near=NEAR):
-    return (file.quantum(flow) + near) % 1024 < 2 * near
+def near_round(file, flow):
+    return (file.quantum(flow) + NEAR) % 1024 < 2 * NEAR
 
 
 def some_words(dice, file, flow, wrong):
