@@ -14,9 +14,9 @@ from demand3.turns import Turns
 class Verdict:
     """What was found: faults as text; grants and taken credits seen; how the
     lends, the resets, and the departures and the numbers of well-formed words
-    ended, and whose turn it was at a lend; per flow
-    the largest k at which the least count was put to the test, from the
-    beginning or from a granted reset on; and the largest of the latter."""
+    ended, and whose turn it was at a lend; per flow the largest k at which the
+    least count was put to the test, from the beginning or from a granted reset
+    on; and the largest of the latter."""
 
     def __init__(self):
         self.faults = []
