@@ -40,12 +40,15 @@ extern "C" {
  *               that the next lend looks from, below the count of flows
  *   plan        its bytes, as they were given to fresh
  *   positions   for each the flow that booked it, or 16
- *   flows       for each IF, C, and what it holds at positions 0, 1, 2 and so on
+ *   flows       for each IF, C, what it holds at positions 0, 1, 2 and so on, and
+ *               the quantum number that its next word has to carry, below 1,024
  *
- * Versions: before lends went in turn the header ended with the mark and had 16
- * bytes. An image that a library of then wrote is refused by this one and left
- * as it came: with 22, or with 21 where it is cut off below 18 bytes or below the
- * length that it states. There is nothing to convert: make a link with fresh.
+ * Versions: before quantum numbers were tested a flow's part ended with what it
+ * holds and was two bytes shorter; before lends went in turn the header, too,
+ * ended with the mark and had 16 bytes. An image that a library of then wrote is
+ * refused by this one and left as it came: with 22, or with 21 where it is cut
+ * off below 18 bytes or below the length that it states. There is nothing to
+ * convert: make a link with fresh.
  */
 
 /* ---- sizes, in bytes */
@@ -57,16 +60,20 @@ extern "C" {
 #define NAZGOLV_HEADER 18
 
 /* The longest image: F x W = 256 positions and 16 flows. */
-#define NAZGOLV_IMAGE_MAX 8862
+#define NAZGOLV_IMAGE_MAX 8894
 
 /* The image of a plan with this many positions (F x W) and flows. */
 #define NAZGOLV_IMAGE_LENGTH(positions, flows) \
     ((size_t)NAZGOLV_HEADER + 12 + 4 * (size_t)(flows) + 2 * (size_t)(positions) \
-     + 2 * (size_t)(flows) * (2 + (size_t)(positions)))
+     + 2 * (size_t)(flows) * (3 + (size_t)(positions)))
 
 /* ---- the look-ahead word: destination, flow, quantum, departure */
 
-/* Each part below its limit: destination 64, flow 64, quantum and departure 1,024. */
+/*
+ * Each part below its limit: destination 64, flow 64, quantum and departure
+ * 1,024. A flow's words carry the numbers 0, 1, 2 and so on modulo 1,024 as their
+ * quantum: one more after a grant, and the same again after a refusal.
+ */
 #define NAZGOLV_WORD(destination, flow, quantum, departure) \
     ((uint32_t)(destination) << 26 | (uint32_t)(flow) << 20 \
      | (uint32_t)(quantum) << 10 | (uint32_t)(departure))
@@ -108,6 +115,7 @@ extern "C" {
 #define NAZGOLV_REFUSED_SHORT 21            /* the buffer is shorter than the image */
 #define NAZGOLV_REFUSED_IMAGE 22            /* the bytes are no image of a link */
 #define NAZGOLV_REFUSED_NOT_QUIET 23        /* reset: a later slot is booked, or a cell held */
+#define NAZGOLV_REFUSED_NUMBER 24           /* request: not the flow's next quantum number */
 
 /* ---- calls */
 
@@ -130,7 +138,7 @@ uint64_t nazgolv_fresh(const uint8_t *plan, size_t plan_length,
 
 /*
  * Asks for a slot. The word with the position that is booked as its departure,
- * or 8 to 12 or 20; 11, 12 and 20 change the image too.
+ * or 8 to 12, 20 or 24; 11, 12 and 20 change the image too.
  */
 uint64_t nazgolv_request(uint8_t *image, size_t image_length, uint32_t word);
 
@@ -152,8 +160,8 @@ uint64_t nazgolv_lend(uint8_t *image, size_t image_length, uint16_t mask);
 
 /*
  * Lets every flow start again in the head frame with its whole share, empties
- * all positions, and lets the next lend look from flow 0. CP and what was held
- * before it stay. A current slot that was booked or marked taken is marked until
+ * all positions, and lets the next lend look from flow 0. CP, what was held
+ * before it, and the quantum numbers stay. A current slot that was booked or marked taken is marked until
  * the next tick. 0, or 23 where the link is not quiet: a position later than CP
  * is booked, or some flow holds a cell at CP or at a later position. 23 changes
  * nothing.

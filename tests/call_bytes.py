@@ -20,8 +20,12 @@ def word(destination, flow, quantum=0, departure=0):
     return destination << 26 | flow << 20 | quantum << 10 | departure
 
 
+def request_of(word):
+    return struct.pack("<BI", 1, word)
+
+
 def request(destination, flow, quantum=0, departure=0):
-    return struct.pack("<BI", 1, word(destination, flow, quantum, departure))
+    return request_of(word(destination, flow, quantum, departure))
 
 
 def credit(flow, position, filler=0):

@@ -57,7 +57,7 @@ impl Lines {
             idle: Line::new("T -\n"),
             lent: numbered('L', scheduler::MOST_FLOWS),
             reset: Line::new("Z\n"),
-            refused: numbered('R', usize::from(refusal::NOT_QUIET) + 1),
+            refused: numbered('R', usize::from(refusal::NUMBER) + 1),
         }
     }
 

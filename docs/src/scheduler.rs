@@ -48,6 +48,7 @@ pub mod refusal {
     pub const NO_FLOW: u8 = 18;
     pub const NOT_COME: u8 = 20;
     pub const NOT_QUIET: u8 = 23;
+    pub const NUMBER: u8 = 24;
 }
 
 /// One flow of the plan.
@@ -302,6 +303,8 @@ struct Flow {
     cells: u8,
     /// Slots of the share that are left in the injection frame.
     left: u8,
+    /// The quantum number of the next word.
+    number: u16,
     /// The injection frame; the head frame is 0.
     frame: usize,
     held: Holdings,
@@ -461,6 +464,7 @@ impl Link {
             share: entry.share,
             cells: entry.cells,
             left: entry.share,
+            number: 0,
             frame: 0,
             held: Holdings::none(table.positions),
         };
@@ -473,8 +477,10 @@ impl Link {
     }
 
     /// Asks for a slot, after the word's departure if that is later than the
-    /// current position. The answer is the word with the booked position as
-    /// its departure, or the number of the refusal.
+    /// current position. The flow's words are numbered 0, 1, 2 and so on modulo
+    /// 1,024, and after a refusal the number is the same again. The answer is
+    /// the word with the booked position as its departure, or the number of the
+    /// refusal.
     #[inline]
     pub fn request(&mut self, word: u32) -> Result<u32, u8> {
         let asked = Word::split(word);
@@ -487,7 +493,11 @@ impl Link {
         if usize::from(asked.departure) >= self.table.positions {
             return Err(refusal::DEPARTURE);
         }
+        if asked.quantum != flow.number {
+            return Err(refusal::NUMBER);
+        }
         let booked = self.table.book(flow, asked.flow, asked.departure.into())?;
+        flow.number = (flow.number + 1) & 0x3FF;
         Ok(Word {
             departure: booked as u16,
             ..asked
@@ -643,21 +653,27 @@ mod tests {
     }
 
     /// A word for destination 9.
-    fn word(flow: u8, departure: u16) -> u32 {
+    fn word(flow: u8, quantum: u16, departure: u16) -> u32 {
         Word {
             destination: 9,
             flow,
-            quantum: 0,
+            quantum,
             departure,
         }
         .join()
     }
 
+    /// The position that a request with a number gets.
+    fn ask_as(link: &mut Link, flow: u8, quantum: u16, departure: u16) -> Result<u16, u8> {
+        let granted = link.request(word(flow, quantum, departure))?;
+        Ok(Word::split(granted).departure)
+    }
+
     /// The position that a request to destination 9 gets, for a tile that
     /// leaves the board before at a position.
     fn ask_after(link: &mut Link, flow: u8, departure: u16) -> Result<u16, u8> {
-        let granted = link.request(word(flow, departure))?;
-        Ok(Word::split(granted).departure)
+        let quantum = link.flows[usize::from(flow)].number;
+        ask_as(link, flow, quantum, departure)
     }
 
     /// The same for a tile that has come: its departure is the current position.
@@ -697,14 +713,18 @@ mod tests {
             result: 255,
             position: 255,
         };
-        let mut records = [unfilled(word(0, 0)); 18];
-        records[3] = unfilled(word(1, 0));
-        records[4] = unfilled(word(2, 0));
+        let mut records = [unfilled(word(0, 2, 0)); 18];
+        records[0] = unfilled(word(0, 0, 0));
+        records[1] = unfilled(word(0, 1, 0));
+        records[3] = unfilled(word(1, 0, 0));
+        records[4] = unfilled(word(2, 0, 0));
+        records[5] = unfilled(word(0, 1, 0));
         link.burst(&mut records);
         let answers = records.map(|ask| (ask.result, ask.position));
         assert_eq!(answers[..5], [(0, 1), (0, 2), (12, 0), (0, 3), (8, 0)]);
+        assert_eq!(answers[5..7], [(24, 0), (12, 0)]);
         assert_eq!(answers[15..], [(12, 0), (255, 255), (255, 255)]);
-        assert_eq!(records[0].word, word(0, 0));
+        assert_eq!(records[1].word, word(0, 1, 0));
         link.burst(&mut []);
         assert_eq!(ask(&mut link, 1), Ok(4));
     }
@@ -787,11 +807,11 @@ mod tests {
     #[test]
     fn request_refusals() {
         let mut link = fresh(4, 2, 4, &PAIR);
-        assert_eq!(link.request(word(2, 0)), Err(8));
-        assert_eq!(link.request(word(63, 1023) ^ 1 << 26), Err(8));
-        assert_eq!(link.request(word(0, 1023) ^ 1 << 26), Err(9));
-        assert_eq!(link.request(word(0, 8)), Err(10));
-        assert_eq!(link.request(word(0, 7)), Err(20));
+        assert_eq!(link.request(word(2, 0, 0)), Err(8));
+        assert_eq!(link.request(word(63, 7, 1023) ^ 1 << 26), Err(8));
+        assert_eq!(link.request(word(0, 7, 1023) ^ 1 << 26), Err(9));
+        assert_eq!(link.request(word(0, 7, 8)), Err(10));
+        assert_eq!(link.request(word(0, 0, 7)), Err(20));
         let mut link = fresh(1, 2, 1, &LONE);
         assert_eq!(ask(&mut link, 0), Ok(1));
         assert_eq!(ask(&mut link, 0), Err(11));
@@ -853,6 +873,31 @@ mod tests {
         let mut link = fresh(4, 2, 8, &[[2, 1, 0, 9]]);
         assert_eq!(ask_after(&mut link, 0, 1), Ok(2));
         assert_eq!(ask(&mut link, 0), Err(12));
+    }
+
+    #[test]
+    fn words_are_numbered() {
+        let mut link = fresh(4, 2, 4, &[[2, 2, 1, 9], [2, 2, 2, 9]]);
+        assert_eq!(ask_as(&mut link, 0, 1, 7), Err(24));
+        assert_eq!(ask_as(&mut link, 0, 0, 0), Ok(1));
+        assert_eq!(ask_as(&mut link, 0, 0, 0), Err(24));
+        assert_eq!(ask_as(&mut link, 1, 1, 0), Err(24));
+        assert_eq!(ask_as(&mut link, 1, 0, 0), Ok(2));
+        assert_eq!(ask_as(&mut link, 0, 1, 0), Ok(3));
+        assert_eq!(ask_as(&mut link, 0, 1, 0), Err(24));
+        assert_eq!(ask_as(&mut link, 0, 2, 0), Err(12));
+    }
+
+    #[test]
+    fn numbers_go_round() {
+        let mut link = fresh(1, 2, 255, &[[1, 255, 1, 9]]);
+        for number in (0..1024).chain([0, 1]) {
+            let next = 1 - (number % 2);
+            assert_eq!(ask_as(&mut link, 0, number ^ 1023, 1 - next), Err(24));
+            assert_eq!(ask_as(&mut link, 0, number, 1 - next), Ok(next));
+            assert_eq!(link.credit(0, next.into()), Ok(()));
+            assert_eq!(link.tick(), Some(0));
+        }
     }
 
     #[test]

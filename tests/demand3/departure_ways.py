@@ -4,12 +4,12 @@ played."""
 
 GRANTED = "granted"
 PLACES = {
-    "CP": (GRANTED, "11", "12"),
-    "before CP": (GRANTED, "11", "12"),
-    "later in the head frame": (GRANTED, "11", "12"),
-    "in a frame between": (GRANTED, "11", "12"),
-    "in the newest frame": (GRANTED, "11", "20", "12"),
-    "the window's last slot": ("11", "20", "12"),
+    "CP": (GRANTED, "11", "12", "24"),
+    "before CP": (GRANTED, "11", "12", "24"),
+    "later in the head frame": (GRANTED, "11", "12", "24"),
+    "in a frame between": (GRANTED, "11", "12", "24"),
+    "in the newest frame": (GRANTED, "11", "20", "12", "24"),
+    "the window's last slot": ("11", "20", "12", "24"),
 }
 WAYS = tuple((place, end) for place, ends in PLACES.items() for end in ends)
 

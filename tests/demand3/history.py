@@ -2,21 +2,21 @@
 the bullets of demand 3 counted over them.
 
 The most and the least count begin afresh with each granted reset; all else is
-counted over the whole list."""
+counted over the whole list, the quantum numbers too."""
 
 import struct
 from collections import Counter
 
-from demand3 import departure_ways, lend_ways, reset_ways
+from demand3 import departure_ways, lend_ways, number_ways, reset_ways
 from demand3.turns import Turns
 
 
 class Verdict:
     """What was found: faults as text; grants and taken credits seen; how the
-    lends, the resets and the departures of well-formed words ended, and whose
-    turn it was at a lend; per flow
-    the largest k at which the least count was put to the test, from the
-    beginning or from a granted reset on; and the largest of the latter."""
+    lends, the resets, and the departures and the numbers of well-formed words
+    ended, and whose turn it was at a lend; per flow the largest k at which the
+    least count was put to the test, from the beginning or from a granted reset
+    on; and the largest of the latter."""
 
     def __init__(self):
         self.faults = []
@@ -26,6 +26,7 @@ class Verdict:
         self.turns = Counter()
         self.resets = Counter()
         self.departures = Counter()
+        self.numbers = Counter()
         self.least = {}
         self.afresh = -1
 
@@ -48,6 +49,7 @@ class History:
         self.owner = {}                     # granted slot -> flow
         self.lent = {}                      # lent slot -> flow
         self.held = [0] * self.flows        # held at the current slot
+        self.granted = [0] * self.flows     # granted slots in the whole list
         # Later slot -> grants less credits of that slot, for each flow.
         self.change = [{} for _ in entries]
         self.turns = Turns(self.flows)      # at lends
@@ -63,7 +65,8 @@ class History:
         self.count = [0] * self.flows       # granted slots in all
         # Frames from the origin to asked - 1 have each seen a refusal.
         self.asked = [self.origin] * self.flows
-        # Never full when it asked, and each of its tiles had come.
+        # Never full when it asked, each of its tiles had come, and each of
+        # its words had the expected number.
         self.ready = [True] * self.flows
 
     def frame(self):
@@ -84,6 +87,10 @@ class History:
         """Whether the position was current in this frame, or is."""
         last = self.now - (self.now - departure) % self.total
         return last >= self.frame() * self.frame_slots
+
+    def expected(self, flow):
+        """The number of the flow's next quantum, no reset counting."""
+        return self.granted[flow] % 1024
 
     def taken(self):
         """Whether the current slot has an owner."""
@@ -130,6 +137,12 @@ class History:
             self.fault("slot %d is granted for a tile that comes in slot %d"
                        % (slot, comes))
 
+    def check_number(self, flow, quantum):
+        """The words that a flow is granted are numbered in order."""
+        if quantum != self.expected(flow):
+            self.fault("flow %d is granted number %d, where %d is due"
+                       % (flow, quantum, self.expected(flow)))
+
     def check_lent(self, flow, mask):
         """A lent slot has no other owner, and its flow is in the mask."""
         if not mask >> flow & 1:
@@ -169,8 +182,8 @@ class History:
 
     def check_least(self, flow):
         """At least (W - 1 + k) times the share, for a stream that was refused
-        in each frame up to this one, never asked while full, and named tiles
-        that had come."""
+        in each frame up to this one, never asked while full, named tiles
+        that had come, and numbered its words as expected."""
         if not self.ready[flow] or self.asked[flow] <= self.frame():
             return
         k = self.changes()
@@ -189,20 +202,21 @@ class History:
         return (flow < self.flows and word >> 26 == self.destination[flow]
                 and word & 1023 < self.total)
 
-    def note_asking(self, flow, departure):
+    def note_asking(self, flow, quantum, departure):
         """The least count's premise on each request, looked at before it is
-        answered: room, and a tile that has come."""
+        answered: room, a tile that has come, and the expected number."""
         if self.ready[flow]:
             full = max(level for _, level in self.levels(flow))
             self.ready[flow] = (full < self.cells[flow]
-                                and self.has_come(departure))
+                                and self.has_come(departure)
+                                and quantum == self.expected(flow))
 
     def note_refused(self, flow):
         if self.asked[flow] == self.frame():
             self.asked[flow] += 1
             self.check_least(flow)
 
-    def note_granted(self, flow, departure, position):
+    def note_granted(self, flow, quantum, departure, position):
         if flow >= self.flows:
             self.fault("a grant to flow %d, which the plan has not" % flow)
             return
@@ -210,21 +224,26 @@ class History:
         self.verdict.grants += 1
         self.check_owner(flow, slot, position)
         self.check_departure(slot, departure)
+        self.check_number(flow, quantum)
         self.check_most(flow, slot)
+        self.granted[flow] += 1
         self.owner[slot] = flow
         self.move(flow, slot, 1)
 
     def request(self, record, letter, number):
         word = struct.unpack_from("<I", record, 1)[0]
-        flow, departure = word >> 20 & 63, word & 1023
+        flow, quantum = word >> 20 & 63, word >> 10 & 1023
+        departure = word & 1023
         if self.well_formed(word):
             self.verdict.departures[
                 departure_ways.way(self, departure, letter, number)] += 1
-            self.note_asking(flow, departure)
+            self.verdict.numbers[
+                number_ways.way(self, flow, quantum, letter, number)] += 1
+            self.note_asking(flow, quantum, departure)
             if letter == "R":
                 self.note_refused(flow)
         if letter == "G":
-            self.note_granted(flow, departure, int(number))
+            self.note_granted(flow, quantum, departure, int(number))
 
     def credit(self, record, letter, number):
         if letter != "C":

@@ -4,8 +4,8 @@ least count is tried for each flow.
 """
 
 import call_bytes
-from edges.bursts import BAD, burst, edge
-from edges.edge_maker import BASE, TICK, ask, plan
+from edges.bursts import BAD
+from edges.edge_maker import BASE, TICK, ask, burst, edge, plan
 
 ROOMY = plan(1, 2, (1, 255))            # every tick is a frame change
 NEXT = ask(0, quantum=1)

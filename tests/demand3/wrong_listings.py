@@ -6,7 +6,8 @@ would send back"; the others break one bullet each.
 """
 
 from demand3 import (
-    wrong_bursts, wrong_departures, wrong_lends, wrong_resets, wrong_turns)
+    wrong_bursts, wrong_departures, wrong_lends, wrong_numbers, wrong_resets,
+    wrong_turns)
 from demand3.check import ALLCALLS, check
 from edges.edge_maker import TICK, ask, credit, edge, plan
 
@@ -94,12 +95,15 @@ def missed():
     cut = check(RIGHT.data, RIGHT.lines[:-1]).faults
     yield "a line is missing", None if cut else "not sent back"
     yield RIGHT.name, passed(RIGHT, {0: 9})
-    for wrong, words in wrong_departures.WRONG:
+    for wrong, words in wrong_departures.WRONG + wrong_numbers.WRONG:
         yield wrong.name, sent_back(wrong, words)
-    for right, least in wrong_departures.RIGHT:
+    for right, least in wrong_departures.RIGHT + wrong_numbers.RIGHT:
         yield right.name, passed(right, least)
-    for subject in wrong_lends, wrong_turns, wrong_resets, wrong_bursts:
-        for wrong, words in subject.WRONG:
-            yield wrong.name, sent_back(wrong, words, ALLCALLS)
-        for right, least in subject.RIGHT:
-            yield right.name, passed(right, least, ALLCALLS)
+    for wrong, words in (
+            wrong_lends.WRONG + wrong_turns.WRONG + wrong_resets.WRONG
+            + wrong_bursts.WRONG + wrong_numbers.ALLCALLS_WRONG):
+        yield wrong.name, sent_back(wrong, words, ALLCALLS)
+    for right, least in (
+            wrong_lends.RIGHT + wrong_turns.RIGHT + wrong_resets.RIGHT
+            + wrong_bursts.RIGHT + wrong_numbers.ALLCALLS_RIGHT):
+        yield right.name, passed(right, least, ALLCALLS)

@@ -12,7 +12,8 @@ from driver.formats import ALLCALLS
 from driver.side_by_side import done
 from driver.suite import Suite
 from driver.tally import (
-    BurstTally, DepartureTally, LendTally, QuestionTally, ResetTally, Tally)
+    BurstTally, DepartureTally, LendTally, NumberTally, QuestionTally,
+    ResetTally, Tally)
 from edges import questions, refusals_page
 from edges.all_edges import ALLCALLS_EDGES, EDGES
 from front_door import (
@@ -24,7 +25,7 @@ from images import self_tests
 FRONT_DOOR = (play_files, play_lost_output, plan_files, plan_read,
               plan_wrong_words, plan_lost_output, old_program, slow_reader,
               asking_editor, wrong_arguments)
-REFUSALS = range(1, 24)         # those of all programs
+REFUSALS = range(1, 25)         # those of all programs
 
 
 def wanted(names, only):
@@ -119,6 +120,17 @@ def play_departures(suites, only, count, seed):
     return tally
 
 
+def play_numbers(suites, only, count, seed):
+    """Files with quantum numbers of all kinds.  Their tally."""
+    tally = NumberTally()
+    play_cases(suites, cases.numbers(count, seed), only, tally)
+    for suite in suites:
+        if not only:
+            suite.test("the files with numbers come to 24 often",
+                       tally.trouble())
+    return tally
+
+
 def play_lends(suites, only, count, seed):
     """Files with lends.  The tally of the generated ones."""
     tally = LendTally()
@@ -153,7 +165,8 @@ def play_programs(suites, only, count, seed):
     is left out.  The tallies."""
     others = [suite for suite in suites if suite.form is ALLCALLS]
     tallies = [play_files(suites, only, count, seed),
-               play_departures(suites, only, count, seed)]
+               play_departures(suites, only, count, seed),
+               play_numbers(suites, only, count, seed)]
     if others:
         tallies += [play_lends(others, only, count, seed),
                     play_resets(others, only, count, seed),

@@ -13,7 +13,7 @@ from driver.formats import ALLCALLS
 from driver.image_suite import ImageSuite
 from driver.plain_rust import trouble
 from driver.suite import Suite, first_difference
-from edges import bursts, lends, resets, turns
+from edges import bursts, lends, numbers, resets, turns
 from edges.all_edges import EDGES
 from front_door import c_player
 from images import export_tests
@@ -108,7 +108,7 @@ def plays(command):
 def some_edges():
     """Edges here and there."""
     for edges in (EDGES, lends.EDGES, turns.EDGES, resets.EDGES,
-                  bursts.EDGES):
+                  bursts.EDGES, numbers.ALLCALLS_EDGES):
         yield from edges[::len(edges) // WATCHED_FILES]
 
 

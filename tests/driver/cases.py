@@ -10,7 +10,8 @@ from demand3.check import check
 from driver.formats import ALLCALLS, DOMELINK, has_other_calls
 from edges import refusals_page
 from edges.all_edges import ALLCALLS_EDGES, EDGES
-from generator import burst_seeds, departure_seeds, lend_seeds, reset_seeds
+from generator import (
+    burst_seeds, departure_seeds, lend_seeds, number_seeds, reset_seeds)
 from generator.seeds import generate, kind_of
 from simulator.image import image_of
 from simulator.listing import steps
@@ -22,7 +23,8 @@ OTHERS_IN_PIECES = ("lend: 17 at a lent and at a booked slot",
                     "lend: a last record of 4 bytes",
                     "reset: the mark of a booked slot",
                     "reset: a last record of 4 bytes",
-                    "burst: on after a refusal", "burst: all but a byte")
+                    "burst: on after a refusal", "burst: all but a byte",
+                    "number: each flow's own in a burst")
 FEW = 4000                      # bytes of a file that is fed in pieces
 
 
@@ -137,6 +139,19 @@ def departures(count, seed):
         yield ("departures, seed %d (%s)"
                % (number, departure_seeds.kind_of(number)),
                lambda number=number: from_departure_seed(number))
+
+
+def from_number_seed(seed):
+    data = number_seeds.generate(seed)
+    return Case(data, simulated(data, DOMELINK))
+
+
+def numbers(count, seed):
+    """Words with quantum numbers of all kinds."""
+    for number in range(seed, seed + count):
+        yield ("numbers, seed %d (%s)"
+               % (number, number_seeds.kind_of(number)),
+               lambda number=number: from_number_seed(number))
 
 
 # ---- files with lends, resets and bursts

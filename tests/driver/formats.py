@@ -18,9 +18,9 @@ class Format:
 
 
 DOMELINK = Format(
-    "DOMELINK", records.DOMELINK, check.DOMELINK, [*range(1, 17), 20])
+    "DOMELINK", records.DOMELINK, check.DOMELINK, [*range(1, 17), 20, 24])
 ALLCALLS = Format(
-    "ALLCALLS", records.ALLCALLS, check.ALLCALLS, [*range(1, 19), 20, 23])
+    "ALLCALLS", records.ALLCALLS, check.ALLCALLS, [*range(1, 19), 20, 23, 24])
 
 
 def has_other_calls(data):

@@ -7,7 +7,7 @@ in the first.
 import multiprocessing
 from collections import Counter
 
-from demand3 import departure_ways, lend_ways, reset_ways, turns
+from demand3 import departure_ways, lend_ways, number_ways, reset_ways, turns
 from demand3.check import check
 from driver.formats import ALLCALLS, DOMELINK
 from driver.starting import NO_END, play, play_in_pieces
@@ -61,6 +61,7 @@ class Suite:
         self.turns = Counter()      # which flow's turn it was
         self.resets = Counter()     # how resets ended
         self.departures = Counter()     # where they lay, how requests ended
+        self.numbers = Counter()    # which they were, how requests ended
         self.largest_k = -1         # at which the least count was tried
         self.afresh = -1            # the same after a granted reset
         self.without_end = multiprocessing.Value("i", 0)    # for all processes
@@ -82,6 +83,7 @@ class Suite:
             self.turns += outcome.verdict.turns
             self.resets += outcome.verdict.resets
             self.departures += outcome.verdict.departures
+            self.numbers += outcome.verdict.numbers
             self.largest_k = max(self.largest_k, outcome.verdict.largest_k())
             self.afresh = max(self.afresh, outcome.verdict.afresh)
 
@@ -136,10 +138,11 @@ class Suite:
                   missing and "never seen: %s" % missing)
         self.test("the least count was tried with k of 2 and more",
                   self.largest_k < 2 and "largest k %d" % self.largest_k)
-        missing = [": ".join(way) for way in departure_ways.WAYS
-                   if not self.departures[way]]
-        self.test("requests ended in every way for every departure",
-                  missing and "never seen: %s" % ", ".join(missing))
+        self.every_end("departure", departure_ways.WAYS, self.departures)
+        self.every_end("number", [
+            way for way in number_ways.WAYS
+            if self.form is ALLCALLS or way not in number_ways.AFTER_RESETS
+        ], self.numbers)
         if self.form is ALLCALLS:
             self.every_way("lends", lend_ways.WAYS, self.lends)
             self.every_way("turns", turns.WAYS, self.turns)
@@ -147,6 +150,11 @@ class Suite:
             self.test("the least count was tried after a reset with k of 2 "
                       "and more",
                       self.afresh < 2 and "largest k %d" % self.afresh)
+
+    def every_end(self, field, ways, seen):
+        missing = [": ".join(way) for way in ways if not seen[way]]
+        self.test("requests ended in every way for every " + field,
+                  missing and "never seen: %s" % ", ".join(missing))
 
     def every_way(self, calls, ways, seen):
         missing = [way for way in ways if not seen[way]]

@@ -2,16 +2,15 @@
 
 from collections import Counter
 
-from demand3 import turns
-from demand3.departure_ways import PLACES
+from demand3 import departure_ways, number_ways, turns
 from demand3.lend_ways import BITS, LENT, NO_FLOW, TAKEN
 from demand3.reset_ways import GRANTED, REFUSED
-from generator import burst_seeds, departure_seeds
+from generator import burst_seeds, departure_seeds, number_seeds
 from simulator.records import ALLCALLS, read_record, split
 
 # What can stand in a burst's record as its result.
-BURST_RESULTS = ("0", "8", "9", "10", "11", "12", "20", "255")
-OFTEN = 3               # times 20 has to come up for each file with departures
+BURST_RESULTS = ("0", "8", "9", "10", "11", "12", "20", "24", "255")
+OFTEN = 3               # times 20 or 24 has to come up for each of their files
 
 
 class Tally:
@@ -33,38 +32,59 @@ class Tally:
                 % (self.files, self.calls, self.met, self.met_later))
 
 
-class DepartureTally(Tally):
-    """Also where the departures lay, and how the requests ended."""
+class WordTally(Tally):
+    """Also where a field of the well-formed words lay, and how the requests
+    ended."""
+
+    sort = None             # of the words' fields, a field of the verdict
+    title = None            # what its places are of
+    places = {}             # where it can lie, and the ends that are shown
+    refusal = None          # that has to come up often
+    kinds = ()              # of the files, in the order of their seeds
 
     def __init__(self):
         super().__init__()
-        self.departures = Counter()
+        self.ends = Counter()
 
     def add(self, case):
         super().add(case)
-        self.departures += case.own.verdict.departures
-
-    def refused_with(self, number):
-        return sum(count for (_, end), count in self.departures.items()
-                   if end == number)
+        self.ends += getattr(case.own.verdict, self.sort)
 
     def trouble(self):
-        """Whether 20 came up too seldom, once each kind was there."""
-        if self.files < len(departure_seeds.ORDER):
+        """Whether its refusal came up too seldom, once each kind was there."""
+        if self.files < len(self.kinds):
             return None
-        found, least = self.refused_with("20"), OFTEN * self.files
+        found = sum(count for (_, end), count in self.ends.items()
+                    if end == self.refusal)
+        least = OFTEN * self.files
         return found < least and "%d times, and not %d" % (found, least)
 
     def part(self, place, ends):
         return "  %s: %s" % (place, ", ".join(
-            "%s %d" % (end, self.departures[place, end]) for end in ends))
+            "%s %d" % (end, self.ends[place, end]) for end in ends))
 
     def text(self):
         return "\n".join([
             super().text(),
-            "%d well-formed words in them, by the place of the departure"
-            % sum(self.departures.values()),
-            *[self.part(place, ends) for place, ends in PLACES.items()]])
+            "%d well-formed words in them, by %s"
+            % (sum(self.ends.values()), self.title),
+            *[self.part(place, ends) for place, ends in self.places.items()]])
+
+
+class DepartureTally(WordTally):
+    sort = "departures"
+    title = "the place of the departure"
+    places = departure_ways.PLACES
+    refusal = "20"
+    kinds = departure_seeds.ORDER
+
+
+class NumberTally(WordTally):
+    sort = "numbers"
+    title = "the quantum number"
+    places = number_ways.PLACES
+    refusal = "24"
+    kinds = number_seeds.ORDER
 
 
 class WaysTally(Tally):
@@ -121,12 +141,13 @@ class ResetTally(WaysTally):
 
 
 class BurstTally(Tally):
-    """Also how long the bursts were, what stood in their records, and how many
-    resets were granted between them."""
+    """Also how long the bursts were, what stood in their records, which
+    quantum numbers came up, and how many resets were granted between them."""
 
     def __init__(self):
         super().__init__()
         self.lengths = Counter()
+        self.numbers = Counter()
         self.results = Counter()
         self.resets = 0
 
@@ -140,6 +161,7 @@ class BurstTally(Tally):
                 self.lengths[len(call[1])] += 1
         self.results.update(line.split()[1] for line in case.own.lines
                             if line[0] == "B")
+        self.numbers += case.own.verdict.numbers
         self.resets += case.own.lines.count("Z")
 
     def trouble(self):
@@ -149,8 +171,10 @@ class BurstTally(Tally):
         missing = [length for length in range(21) if not self.lengths[length]]
         never = [result for result in BURST_RESULTS
                  if not self.results[result]]
+        never += [", ".join(way) for way in number_ways.WAYS
+                  if not self.numbers[way]]
         return (missing and "no burst of %s" % missing
-                or never and "no result %s" % ", ".join(never)
+                or never and "never seen: %s" % "; ".join(never)
                 or not self.resets and "no reset granted")
 
     def text(self):

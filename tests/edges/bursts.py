@@ -1,14 +1,11 @@
 """Edges of burst, for allcalls: results and positions in order, what is left
-untouched, and records that make no burst.
-
-A burst's step stands beside the lines of its records; one without records has
-none.  Each word carries its flow's number, as if those before it were granted
-or refused as they are.
+untouched, and records that make no burst.  Those of its words' numbers stand
+with the other edges of the quantum number.
 """
 
 import call_bytes
 from edges.edge_maker import (
-    BASE, Edge, RESET, TICK, ask, credit, lend, plan, records)
+    BASE, RESET, TICK, ask, burst, credit, edge, lend, plan)
 
 ROOMY = plan(4, 2, (2, 4), (2, 4))      # T = 8, two flows
 ONE_SHARE = plan(4, 2, (1, 8))          # T = 8, one flow
@@ -16,21 +13,6 @@ SINGLE_SLOT = plan(1, 2, (1, 4))        # every tick is a frame change
 WIDE = plan(64, 4, (64, 255))           # T = 256
 BAD = ask(7)                            # refused with 8
 NO_WORDS = call_bytes.burst([])
-
-
-def burst(*asks, **header):
-    """A burst of these requests' words, made for the current position."""
-    return lambda current: call_bytes.burst(
-        [int.from_bytes(each(current)[1:], "little") for each in asks],
-        **header)
-
-
-def edge(name, plan_bytes, *steps):
-    """An accepted plan, then calls, each beside its lines."""
-    calls = records(plan_bytes, [call for call, *_ in steps])
-    return Edge(name, plan_bytes + b"".join(calls),
-                ["P 0"] + [line for _, *lines in steps for line in lines])
-
 
 IN_ORDER = [
     # Both cells of flow 0, then 12 twice: a refusal ends nothing.

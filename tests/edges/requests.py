@@ -1,4 +1,5 @@
-"""Edges of request: its refusals 8 to 12, and which slot is booked."""
+"""Edges of request: its refusals 8 to 12, and which slot is booked.  Those of
+the departure and of the quantum number have files of their own."""
 
 from call_bytes import request
 from edges.edge_maker import BASE, TICK, ask, credit, edge, plan
@@ -20,10 +21,6 @@ REFUSED_WORDS = [
                        "02 02 01 05 02 02 01 06"),
          (request(5, 1), "R 9"), (request(6, 0), "R 9"),
          (request(6, 1), "G 1"), (request(5, 0), "G 2")),
-
-    # The quantum number is not tested and does not matter.
-    edge("any quantum number", BASE,
-         (ask(0, quantum=1023), "G 1"), (ask(0, quantum=7), "G 2")),
 ]
 
 BOOKED_SLOTS = [

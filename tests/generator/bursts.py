@@ -1,6 +1,12 @@
-"""Bursts of several sorts, also wrong ones."""
+"""Bursts of several sorts, also wrong ones.  A word is a function that makes
+it when those before it have been answered, so that it can carry its flow's
+next number.
+"""
+
+from functools import partial
 
 import call_bytes
+from generator.numbers import number, weighted
 from generator.odd_calls import odd_word
 
 MOST = 20               # words of a burst; 16 of them are handled
@@ -12,44 +18,62 @@ def some_count(dice):
                       dice.below(MOST + 1), dice.below(MOST + 1)])
 
 
-def numbered(file, flows, departures=None):
-    """A word for each flow, numbered as if each were granted."""
-    seen = [0] * file.flows
-    words = []
-    for place, flow in enumerate(flows):
-        departure = departures[place] if departures else None
-        words.append(file.word(flow, seen[flow], departure))
-        seen[flow] += 1
-    return words
+def some_flows(dice, file):
+    return [dice.below(file.flows) for _ in range(some_count(dice))]
+
+
+def words_of(file, flows):
+    """A word of each flow."""
+    return [partial(file.word, flow) for flow in flows]
 
 
 def of_any_flows(dice, file):
-    return numbered(file, [dice.below(file.flows)
-                           for _ in range(some_count(dice))])
+    return words_of(file, some_flows(dice, file))
 
 
 def of_one_flow(dice, file):
-    return numbered(file, [dice.below(file.flows)] * some_count(dice))
+    return words_of(file, [dice.below(file.flows)] * some_count(dice))
 
 
 def with_departures(dice, file):
-    count = some_count(dice)
-    return numbered(file, [dice.below(file.flows) for _ in range(count)],
-                    [dice.below(file.slots) for _ in range(count)])
+    return [partial(file.word, flow, dice.below(file.slots))
+            for flow in some_flows(dice, file)]
+
+
+def wrong_number(dice, file, flow, kinds):
+    return lambda: file.word(flow, quantum=number(dice, file, flow, kinds))
+
+
+def with_wrong_numbers(dice, file):
+    """Some words have another number, or each as if those before it were
+    granted."""
+    flows = some_flows(dice, file)
+    if dice.chance(20):
+        return as_if_granted(file, flows)
+    kinds = weighted(dice)
+    return [wrong_number(dice, file, flow, kinds) if dice.chance(40) else word
+            for flow, word in zip(flows, words_of(file, flows))]
+
+
+def as_if_granted(file, flows):
+    """Numbers that are fixed before the burst: right up to a refusal."""
+    first = [file.quantum(flow) for flow in range(file.flows)]
+    return [partial(file.word, flow, quantum=(
+                first[flow] + flows[:place].count(flow)) % 1024)
+            for place, flow in enumerate(flows)]
 
 
 def with_odd_words(dice, file):
     """Words of which some are refused by their own tests."""
-    words = of_any_flows(dice, file)
-    for place in range(len(words)):
-        if dice.chance(30):
-            words[place] = int.from_bytes(odd_word(dice, file)[1:], "little")
-    return words
+    def odd():
+        return int.from_bytes(odd_word(dice, file)[1:], "little")
+    return [odd if dice.chance(30) else word
+            for word in of_any_flows(dice, file)]
 
 
 def some_burst(dice, file):
     make = dice.pick([of_any_flows, of_any_flows, of_one_flow,
-                      with_departures, with_odd_words])
+                      with_departures, with_wrong_numbers, with_odd_words])
     file.burst(make(dice, file))
 
 
@@ -68,7 +92,7 @@ def broken_burst(dice, file):
 
 def cut_burst(dice, file):
     """A burst whose words the file's end cuts off, or its record."""
-    words = numbered(file, [dice.below(file.flows)
-                            for _ in range(dice.between(1, MOST))])
-    whole = call_bytes.burst(words)
+    words = as_if_granted(file, [dice.below(file.flows)
+                                 for _ in range(dice.between(1, MOST))])
+    whole = call_bytes.burst([word() for word in words])
     file.last_bytes(whole[:dice.between(1, len(whole) - 1)])

@@ -5,7 +5,7 @@ ask until refused, give back a cell that was really taken, and so on.
 """
 
 import call_bytes
-from simulator.burst import burst
+from simulator.burst import HANDLED
 from simulator.calls import answer
 from simulator.link import Link
 from simulator.plan import read_plan
@@ -26,9 +26,11 @@ class CallFile:
         self.link = Link(self.plan)
         self.flows = self.plan.flows
         self.slots = self.plan.slots
-        self.quantum = [0] * self.flows
-        # Granted slots of each flow, in the order of the grants.
+        # Granted slots of each flow, in the order of the grants; how many
+        # there were in all, and at the last granted reset.
         self.grants = [[] for _ in range(self.flows)]
+        self.granted = [0] * self.flows
+        self.at_reset = [0] * self.flows
 
     def data(self):
         return b"".join(self.written)
@@ -45,9 +47,13 @@ class CallFile:
             return None, None
         letter, number = answer(self.link, call)
         if letter == "G":
-            flow = int.from_bytes(record[1:5], "little") >> 20 & 63
-            self.grants[flow].append(self.link.slot_of(number))
+            self.note_grant(int.from_bytes(record[1:5], "little"), number)
         return letter, number
+
+    def note_grant(self, word, position):
+        flow = word >> 20 & 63
+        self.grants[flow].append(self.link.slot_of(position))
+        self.granted[flow] += 1
 
     def last_bytes(self, rest):
         """Writes bytes that are no whole record, at the file's end."""
@@ -55,16 +61,12 @@ class CallFile:
 
     # ---- well-formed calls
 
-    def ask(self, flow, departure=None):
-        """A request with the flow's next quantum.  The slot, or None."""
-        if departure is None:
-            departure = self.link.ticks % self.slots
-        letter, number = self.record(call_bytes.request(
-            self.plan.destination(flow), flow, self.quantum[flow], departure))
-        if letter == "R":
-            return None
-        self.quantum[flow] = (self.quantum[flow] + 1) % 1024
-        return self.grants[flow][-1]
+    def ask(self, flow, departure=None, quantum=None):
+        """A request, with the flow's next quantum and for a tile that has come
+        where nothing else is named.  The slot, or None."""
+        letter, _ = self.record(call_bytes.request_of(
+            self.word(flow, departure, quantum)))
+        return self.grants[flow][-1] if letter == "G" else None
 
     def give(self, flow, slot):
         """A credit dated a slot.  Whether it was taken."""
@@ -83,25 +85,38 @@ class CallFile:
 
     def reset(self):
         """Whether it was granted."""
-        return self.record(call_bytes.RESET)[0] == "Z"
+        granted = self.record(call_bytes.RESET)[0] == "Z"
+        if granted:
+            self.at_reset = list(self.granted)
+        return granted
 
-    def word(self, flow, ahead=0, departure=None):
-        """A well-formed word, `ahead` quanta after the flow's next."""
+    def word(self, flow, departure=None, quantum=None):
+        """A well-formed word, with the flow's next quantum and for a tile that
+        has come where nothing else is named."""
         if departure is None:
             departure = self.link.ticks % self.slots
-        return call_bytes.word(self.plan.destination(flow), flow,
-                               (self.quantum[flow] + ahead) % 1024, departure)
+        if quantum is None:
+            quantum = self.quantum(flow)
+        return call_bytes.word(self.plan.destination(flow), flow, quantum,
+                               departure)
 
-    def burst(self, words):
-        """A burst of any words."""
+    def burst(self, makers):
+        """A burst of any words; each is made by a function when those before
+        it have been answered."""
+        words = []
+        for place, make in enumerate(makers):
+            words.append(make())
+            if place < HANDLED:
+                letter, number = answer(self.link, ("request", words[-1]))
+                if letter == "G":
+                    self.note_grant(words[-1], number)
         self.written.append(call_bytes.burst(words))
-        for word, (result, position) in zip(words, burst(self.link, words)):
-            if result == 0:
-                flow = word >> 20 & 63
-                self.quantum[flow] = (self.quantum[flow] + 1) % 1024
-                self.grants[flow].append(self.link.slot_of(position))
 
     # ---- where things stand
+
+    def quantum(self, flow):
+        """The number of the flow's next quantum."""
+        return self.granted[flow] % 1024
 
     def now(self):
         return self.link.ticks

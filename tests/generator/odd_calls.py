@@ -19,8 +19,11 @@ def odd_word(dice, file):
         else:
             departure = dice.pick([file.slots, 1023, file.slots - 1,
                                    dice.below(1024)])
-    return call_bytes.request(destination, min(flow, 63), dice.below(1024),
-                           min(departure, 1023))
+    quantum = dice.below(1024)
+    if flow < file.flows and dice.chance(70):
+        quantum = file.quantum(flow)
+    return call_bytes.request(destination, min(flow, 63), quantum,
+                              min(departure, 1023))
 
 
 def odd_credit(dice, file):

@@ -3,7 +3,10 @@ the way."""
 
 import call_bytes
 from generator.lends import some_lend
+from generator.numbers import number, one_behind, since_reset
 from simulator.reset import quiet
+
+OTHERS = (since_reset, since_reset, one_behind)     # numbers of quanta
 
 
 def broken_reset(dice):
@@ -52,12 +55,17 @@ def wait_until_quiet(dice, file, tries):
 
 
 def in_the_same_slot(dice, file):
-    """Lends, requests and resets right after a reset."""
+    """Lends, requests and resets right after a reset; one request in four has
+    another number, as the one that would begin afresh."""
     for _ in range(dice.pick([0, 1, 2, 4])):
         act = dice.below(5)
         if act < 2:
             some_lend(dice, file)
         elif act < 4:
-            file.ask(dice.below(file.flows))
+            flow = dice.below(file.flows)
+            if dice.chance(25):
+                file.ask(flow, quantum=number(dice, file, flow, OTHERS))
+            else:
+                file.ask(flow)
         else:
             file.reset()

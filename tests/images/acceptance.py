@@ -1,4 +1,5 @@
-"""When an image is taken (document 02, N5 and N8), told from its bytes alone.
+"""When an image is taken (document 02, N5, N8 and N9), told from its bytes
+alone.
 
 Each condition has a name, so that an image can be made which breaks it and no
 other.  A condition that speaks of CP or of IF is looked at only where that is
@@ -21,7 +22,7 @@ PLAN = "the plan passes"
 class Flow:
     def __init__(self, entry, numbers):
         self.share, self.cells = entry[:2]
-        self.frame, self.left, *self.held = numbers
+        self.frame, self.left, *self.held, self.number = numbers
 
 
 class Tables:
@@ -37,7 +38,7 @@ class Tables:
         at = HEADER_SIZE + plan.length
         self.owner = struct.unpack_from("<%dH" % self.total, data, at)
         at += 2 * self.total
-        part = struct.Struct("<%dH" % (2 + self.total))
+        part = struct.Struct("<%dH" % (3 + self.total))
         self.flows = [
             Flow(entry, part.unpack_from(data, at + number * part.size))
             for number, entry in enumerate(plan.entries)]
@@ -76,7 +77,7 @@ def listed_header(plan):
     from, which have conditions of their own."""
     positions_at = HEADER_SIZE + plan.length
     flows_at = positions_at + 2 * plan.slots
-    total = flows_at + 2 * plan.flows * (2 + plan.slots)
+    total = flows_at + 2 * plan.flows * (3 + plan.slots)
     return (total, HEADER_SIZE, positions_at, plan.slots, flows_at,
             plan.flows)
 
@@ -100,6 +101,8 @@ def of_a_flow(tables, number, flow):
         yield "bookings in a frame are at most the share"
     if any(held > flow.cells for held in flow.held):
         yield "holdings are 0 to the cells"
+    if flow.number >= 1024:
+        yield "the expected number is below 1,024"
 
 
 def of_its_frame(tables, number, flow):

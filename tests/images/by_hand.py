@@ -8,8 +8,8 @@ from edges.edge_maker import BASE, ask, credit, edge, plan
 from edges.from_the_paper import EDGES
 from images.fields import change
 
-# F = 4, W = 2, two flows with share 2 and 2 cells: 94 bytes.
-HEADER = "5E00 1200 2600 0800 3600 0200 %s %s %s"
+# F = 4, W = 2, two flows with share 2 and 2 cells: 98 bytes.
+HEADER = "6200 1200 2600 0800 3600 0200 %s %s %s"
 PLAN = "1400 0200 0C00 0400 0200 0400  02 02 01 09  02 02 02 09"
 NOBODY = "1000 1000 1000 1000 1000 1000 1000 1000"
 NOTHING = "0000 0000 0000 0000 0000 0000 0000 0000"
@@ -21,65 +21,67 @@ def image(current, taken, look_from, owners, *flows):
 
 
 FRESH = image("0000", "0000", "0000", NOBODY,
-              "0000 0200" + NOTHING,
-              "0000 0200" + NOTHING)
+              "0000 0200" + NOTHING + "0000",
+              "0000 0200" + NOTHING + "0000")
 
 # The listing of document 01: flow 0 booked 1, 2 and 4, flow 1 booked 3; flow
-# 0's credit is dated 4, and its refusal 12 left IF at frame 1.
+# 0's credit is dated 4, and its refusal 12 left IF at frame 1.  Their next
+# numbers are 3 and 1.
 PLAYED = image("0100", "0000", "0000",
                "1000 0000 0000 0100 0000 1000 1000 1000",
-               "0100 0100  0000 0100 0200 0200 0200 0200 0200 0200",
-               "0000 0100  0000 0000 0000 0100 0100 0100 0100 0100")
+               "0100 0100  0000 0100 0200 0200 0200 0200 0200 0200  0300",
+               "0000 0100  0000 0000 0000 0100 0100 0100 0100 0100  0100")
 
 # Slot 1 is lent to flow 0, and flow 1 comes after it.
 LENT = image("0100", "0100", "0100", NOBODY,
-             "0000 0200  0000 0100 0100 0100 0100 0100 0100 0100",
-             "0000 0200" + NOTHING)
+             "0000 0200  0000 0100 0100 0100 0100 0100 0100 0100  0000",
+             "0000 0200" + NOTHING + "0000")
 
-# One flow with share 2 and 4 cells: 18 + 16 + 16 + 20 = 70 bytes.  At slot 4
+# One flow with share 2 and 4 cells: 18 + 16 + 16 + 22 = 72 bytes.  At slot 4
 # positions 0 to 3 are slots 8 to 11.  The booking of slot 2 is gone and its
 # cell still held; 5, 6 and slot 8 are booked, and a cell is back from slot 10
-# on.
+# on.  Four words were granted.
 GONE_ROUND = bytes.fromhex(
-    "4600 1200 2200 0800 3200 0100 0400 0000 0000"
+    "4800 1200 2200 0800 3200 0100 0400 0000 0000"
     "1000 0100 0C00 0400 0200 0400  02 04 01 09"
     "0000 1000 1000 1000 1000 0000 0000 1000"
-    "0000 0100  0400 0400 0300 0300 0100 0200 0300 0300")
+    "0000 0100  0400 0400 0300 0300 0100 0200 0300 0300  0400")
 
 # F = 1, W = 2, one flow with share 1 and 4 cells, after a tick and refusal 20
 # for departure 0: IF is frame 0, the newest.
 SMALLEST = bytes.fromhex(
-    "2E00 1200 2200 0200 2600 0100 0100 0000 0000"
+    "3000 1200 2200 0200 2600 0100 0100 0000 0000"
     "1000 0100 0C00 0100 0200 0400  01 04 01 09"
-    "1000 1000  0000 0100 0000 0000")
+    "1000 1000  0000 0100 0000 0000  0000")
 
-# One flow with share 2 and a cell: 70 bytes.  Its C in frame 0 was 1.
+# One flow with share 2 and a cell: 72 bytes.  Its C in frame 0 was 1.
 FULL_LATER = bytes.fromhex(
-    "4600 1200 2200 0800 3200 0100 0000 0000 0000"
+    "4800 1200 2200 0800 3200 0100 0000 0000 0000"
     "1000 0100 0C00 0400 0200 0100  02 01 01 09"
     "1000 0000 1000 1000 1000 1000 1000 1000"
-    "0100 0200  0000 0100 0100 0100 0100 0100 0100 0100")
+    "0100 0200  0000 0100 0100 0100 0100 0100 0100 0100  0100")
 
-# Three flows with share 1 and 8 cells, fresh: 18 + 24 + 16 + 60 = 118 bytes.
+# Three flows with share 1 and 8 cells, fresh: 18 + 24 + 16 + 66 = 124 bytes.
 THREE_PLAN = plan(4, 2, (1, 8), (1, 8), (1, 8))
 THREE = bytes.fromhex(
-    "7600 1200 2A00 0800 3A00 0300 0000 0000 0000"
+    "7C00 1200 2A00 0800 3A00 0300 0000 0000 0000"
     "1800 0300 0C00 0400 0200 1800"
     "01 08 01 09  01 08 02 09  01 08 03 09" + NOBODY
-    + 3 * ("0000 0100" + NOTHING))
+    + 3 * ("0000 0100" + NOTHING + "0000"))
 
-# The most that there is: 18 + 76 + 2 x 256 + 16 x 2 x 258 = 8,862 bytes.
+# The most that there is: 18 + 76 + 2 x 256 + 16 x 2 x 259 = 8,894 bytes.
 LARGEST_PLAN = plan(64, 4, *[(4, 255)] * 16)
-LARGEST = (bytes.fromhex("9E22 1200 5E00 0001 5E02 1000 0000 0000 0000")
+LARGEST = (bytes.fromhex("BE22 1200 5E00 0001 5E02 1000 0000 0000 0000")
            + LARGEST_PLAN + bytes([16, 0]) * 256
-           + (bytes([0, 0, 4, 0]) + bytes(512)) * 16)
+           + (bytes([0, 0, 4, 0]) + bytes(512) + bytes(2)) * 16)
 
 # (calls, the image after the last of them)
 AFTER_CALLS = [
     (edge("image: fresh", BASE), FRESH),
     (edge("image: refusals that change nothing", BASE,
           (ask(2), "R 8"), (ask(0, to=8), "R 9"),
-          (ask(0, departure=8), "R 10"), (credit(0, 8), "R 13"),
+          (ask(0, departure=8), "R 10"), (ask(0, quantum=1), "R 24"),
+          (ask(0, quantum=1, departure=7), "R 24"), (credit(0, 8), "R 13"),
           (credit(0, 0), "R 14"), (credit(0, 1), "R 15"),
           (lend(4), "R 8"), (lend(0), "R 18")), FRESH),
     (edge("image: 20 moves IF", BASE, (ask(0, departure=7), "R 20")),
@@ -136,7 +138,8 @@ AFTER_LENDS = [
           (lend(1), "L 0"), (ask(1), "G 1"), (ask(1, departure=7), "R 20"),
           (credit(0, 2), "C"), (credit(2, 2), "R 15"), (TICK, "T 1")),
      change(THREE, ("CP", 1), ("look from", 1), ("owner", 1, 1),
-            ("IF", 1, 1), ("held", 0, [1, 1, 0, 0, 0, 0, 0, 0]),
+            ("IF", 1, 1), ("number", 1, 1),
+            ("held", 0, [1, 1, 0, 0, 0, 0, 0, 0]),
             ("held", 1, [0, 1, 1, 1, 1, 1, 1, 1]))),
     (edge("image: a frame change leaves the flow to look from", THREE_PLAN,
           (lend(1), "L 0"), *[(TICK, "T -")] * 4),
@@ -170,6 +173,14 @@ TAKEN = [
     ("the flow to look from is 2 of three", change(THREE, ("look from", 2))),
     ("the flow to look from is 15 of sixteen",
      change(LARGEST, ("look from", 15))),
+    ("the expected number is 1,023", change(FRESH, ("number", 0, 1023))),
+    ("the expected number of the last flow is 1,023",
+     change(FRESH, ("number", 1, 1023))),
+    ("the expected number of each of sixteen flows is 1,023", change(
+        LARGEST, *[("number", flow, 1023) for flow in range(16)])),
+    # No chain leads there: slot 1 is booked, and no word was granted.
+    ("the expected number is below the bookings",
+     change(PLAYED, ("number", 0, 0), ("number", 1, 1022))),
     ("IF is W - 1", change(FRESH, ("IF", 0, 1))),
     ("as many bookings as the share in a frame", FULL_FRAME),
     ("the share in each of two frames", change(
@@ -214,7 +225,7 @@ TAKEN = [
 # ---- images that break one condition
 
 HEADER_FIELDS = [
-    ("total length", "total", (0, 1, 4, 17, 18, 92, 93, 94 + 256)),
+    ("total length", "total", (0, 1, 4, 17, 18, 94, 96, 97, 98 + 256)),
     ("offset of the plan", "plan at", (0, 16, 17, 19, 20, 38, 18 + 256)),
     ("offset of positions", "positions at", (0, 36, 37, 39, 38 + 256)),
     ("count of positions", "positions", (0, 7, 9, 8 + 256)),
@@ -282,6 +293,13 @@ LINKS = [
     ("holdings are 0 to the cells", "257",
      [("CP", 3), ("held", 1, 2, 257)]),
     ("holdings are 0 to the cells", "65,535", [("held", 0, 0, 65535)]),
+    ("the expected number is below 1,024", "1,024", [("number", 0, 1024)]),
+    ("the expected number is below 1,024", "1,025", [("number", 1, 1025)]),
+    # Their low bytes are 0, and 255 as 1,023's is.
+    ("the expected number is below 1,024", "1,280", [("number", 0, 1280)]),
+    ("the expected number is below 1,024", "32,768", [("number", 1, 32768)]),
+    ("the expected number is below 1,024", "1,279", [("number", 0, 1279)]),
+    ("the expected number is below 1,024", "65,535", [("number", 1, 65535)]),
     ("a later holding rises by at most one", "just after CP",
      [("owner", 1, 0), ("C", 0, 1), ("held", 0, [0] + [2] * 7)]),
     ("a later holding rises by at most one", "at the window's end",
@@ -317,19 +335,12 @@ BROKEN += [("the flow to look from is below n", name,
            for name, whole, value in (
                ("n = 1", SMALLEST, 1), ("n = 3", THREE, 3),
                ("n = 16", LARGEST, 16), ("n, after a lend", LENT, 2))]
-
-# ---- images of the version before N8, whose header ends with the mark: fresh
-# ones of 92, 44 and 8,860 bytes
-
-EIGHT_FIELDS = bytes.fromhex(" ".join([
-    "5C00 1000 2400 0800 3400 0200 0000 0000", PLAN, NOBODY,
-    "0000 0200" + NOTHING, "0000 0200" + NOTHING]))
-EIGHT_FIELDS_SMALLEST = bytes.fromhex(
-    "2C00 1000 2000 0200 2400 0100 0000 0000"
-    "1000 0100 0C00 0100 0200 0400  01 04 01 09"
-    "1000 1000  0000 0100 0000 0000")
-EIGHT_FIELDS_LARGEST = bytes.fromhex(
-    "9C22 1000 5C00 0001 5C02 1000 0000 0000") + LARGEST[18:]
+BROKEN += [("the expected number is below 1,024", name,
+            change(whole, ("number", flow, 1024)))
+           for name, whole, flow in (
+               ("of the only flow", SMALLEST, 0),
+               ("of the middle one", THREE, 1),
+               ("of flow 15", LARGEST, 15), ("after calls", PLAYED, 0))]
 
 # ---- buffers that are too short, whatever else is wrong
 
@@ -338,41 +349,34 @@ SHORT = [
     ("17 bytes that say 17", bytes([17]) + bytes(16)),
     ("16 bytes that say 16", bytes([16]) + bytes(15)),
     ("17 bytes that say 0", bytes(17)),
-    ("the header alone", FRESH[:18]), ("93 bytes", FRESH[:93]),
-    ("95 said, 94 there", change(FRESH, ("total", 95))),
-    ("65,535 said, 94 there", change(FRESH, ("total", 65535))),
-    ("350 said, 94 there", change(FRESH, ("total", 350))),
-    ("95 said, 94 there, and CP is T",
-     change(FRESH, ("total", 95), ("CP", 8))),
-    ("95 said, 94 there, and the flow to look from is n",
-     change(FRESH, ("total", 95), ("look from", 2))),
-    ("93 bytes, and the plan fails", change(FRESH, ("plan", 2, 3))[:93]),
-    ("8,861 bytes of the largest", LARGEST[:-1]),
-    ("a header of eight fields, and 91 of 92 bytes", EIGHT_FIELDS[:91]),
-    ("a header of eight fields alone", EIGHT_FIELDS[:16]),
+    ("the header alone", FRESH[:18]), ("97 bytes", FRESH[:97]),
+    ("96 bytes, all but the last number", FRESH[:96]),
+    ("99 said, 98 there", change(FRESH, ("total", 99))),
+    ("65,535 said, 98 there", change(FRESH, ("total", 65535))),
+    ("354 said, 98 there", change(FRESH, ("total", 354))),
+    ("99 said, 98 there, and CP is T",
+     change(FRESH, ("total", 99), ("CP", 8))),
+    ("99 said, 98 there, and the flow to look from is n",
+     change(FRESH, ("total", 99), ("look from", 2))),
+    ("99 said, 98 there, and an expected number is 1,024",
+     change(FRESH, ("total", 99), ("number", 0, 1024))),
+    ("97 bytes, and the plan fails", change(FRESH, ("plan", 2, 3))[:97]),
+    ("8,893 bytes of the largest", LARGEST[:-1]),
 ]
 # Long enough for what they say, which is wrong.
 LONG_ENOUGH = [
     ("18 bytes that say 18", bytes([18]) + bytes(17)),
     ("18 bytes that say 0", bytes(18)),
     ("18 bytes that say 16", bytes([16]) + bytes(17)),
-    ("93 bytes that say 93", change(FRESH, ("total", 93))[:93]),
+    ("97 bytes that say 97", change(FRESH, ("total", 97))[:97]),
     ("22 bytes that say 20", bytes([20]) + bytes(21)),
-    ("95 bytes that say 95", change(FRESH, ("total", 95)) + b"\0"),
-    ("93 bytes that say 92", change(FRESH, ("total", 92))[:93]),
-    ("a header of eight fields", EIGHT_FIELDS),
-    ("a header of eight fields, and bytes past it", EIGHT_FIELDS + bytes(9)),
-    ("a header of eight fields, the smallest", EIGHT_FIELDS_SMALLEST),
-    ("a header of eight fields, the largest", EIGHT_FIELDS_LARGEST),
-    # The lengths of one of the two headers, and the fields of the other.
-    ("nine fields with the offsets of eight",
-     EIGHT_FIELDS[:16] + FRESH[16:]),
-    ("eight fields with the offsets of nine",
-     FRESH[:16] + EIGHT_FIELDS[16:] + bytes(2)),
+    ("99 bytes that say 99", change(FRESH, ("total", 99)) + b"\0"),
+    ("97 bytes that say 96", change(FRESH, ("total", 96))[:97]),
     # The fresh image, cut off in each of its parts, which it says itself.
     *[("the first %d bytes, which say so" % length,
        change(FRESH, ("total", length))[:length])
-      for length in (18, 19, 20, 29, 30, 37, 38, 39, 53, 54, 55, 59)],
+      for length in (18, 19, 20, 29, 30, 37, 38, 39, 53, 54, 55, 59, 74, 76,
+                     94, 95, 96)],
     # Its low byte alone would be a booking of flow 0.
     ("owner 256, with C one less",
      change(FRESH, ("owner", 1, 256), ("C", 0, 1))),
@@ -386,17 +390,18 @@ SHARES_ABOVE = BASE[:16] + bytes([3]) + BASE[17:]       # 2 and 3 of F = 4
 # (name, plan, bytes of the buffer, refusal)
 FRESH_CALLS = [
     ("cells above N, no buffer", CELLS_ABOVE, 0, 7),
-    ("cells above N, 93 bytes", CELLS_ABOVE, 93, 7),
-    ("cells above N, 94 bytes", CELLS_ABOVE, 94, 7),
+    ("cells above N, 97 bytes", CELLS_ABOVE, 97, 7),
+    ("cells above N, 98 bytes", CELLS_ABOVE, 98, 7),
     ("shares above F, 17 bytes", SHARES_ABOVE, 17, 6),
     ("a plan of 11 bytes, no buffer", BASE[:11], 0, 1),
     ("no plan and no buffer", b"", 0, 1),
     ("a good plan, no buffer", BASE, 0, 21),
     ("a good plan, 17 bytes", BASE, 17, 21),
-    ("a good plan, 92 bytes", BASE, 92, 21),
-    ("a good plan, 93 bytes", BASE, 93, 21),
-    ("a good plan, 94 bytes", BASE, 94, 0),
-    ("the largest, 8,860 bytes", LARGEST_PLAN, 8860, 21),
-    ("the largest, 8,861 bytes", LARGEST_PLAN, 8861, 21),
-    ("the largest, 8,862 bytes", LARGEST_PLAN, 8862, 0),
+    ("a good plan, 94 bytes", BASE, 94, 21),
+    ("a good plan, 96 bytes", BASE, 96, 21),
+    ("a good plan, 97 bytes", BASE, 97, 21),
+    ("a good plan, 98 bytes", BASE, 98, 0),
+    ("the largest, 8,862 bytes", LARGEST_PLAN, 8862, 21),
+    ("the largest, 8,893 bytes", LARGEST_PLAN, 8893, 21),
+    ("the largest, 8,894 bytes", LARGEST_PLAN, 8894, 0),
 ]

@@ -10,7 +10,7 @@ from simulator.records import ALLCALLS, read_record, split
 
 OLD = b"\xee"                           # in the buffer before fresh
 PAST = b"\xc3\x5a\x00"                  # after the image
-LONGEST = 8862
+LONGEST = 8894
 HANDLED = 16                            # records of a burst
 
 

@@ -7,10 +7,12 @@ from functools import partial
 from itertools import islice
 
 from edges import refusals_page
-from generator import lend_seeds
+from generator import burst_seeds, lend_seeds, number_seeds
 from generator.dice import Dice
 from images import (
-    by_hand, fresh_calls, random_lends, random_resets, resets_by_hand)
+    by_hand, fresh_calls, numbers_by_hand, old_versions, random_lends,
+    random_numbers, random_resets, resets_by_hand)
+from images.acceptance import refusal_of, tables_of
 from images.call_files import buffer_of, difference, images_after, play
 from images.on_images import Trial, troubles
 from images.random_calls import some_call
@@ -21,11 +23,11 @@ from simulator.records import ALLCALLS
 
 BATCH = 100             # images by chance in one run of the host
 IN_TURN = 12            # files with lends in turn, looked at after each call
+ROUND = 2               # files of each sort whose numbers go round, the same
 WORD = 9 << 26          # flow 0 to node 9, as in the images by hand
 
 # A call of each sort, and calls that another test would refuse.
 CALLS = [
-    ("request", WORD), ("request", WORD | 7), ("request", WORD | 1 << 20),
     ("credit", 0, 6), ("credit", 1, 1), ("tick",), ("reset",),
     ("lend", 1), ("lend", 2), ("lend", 3), ("lend", 0xFFFF), ("lend", 0),
     ("request", 0xFFFFFFFF), ("request", 0), ("credit", 99, 99),
@@ -36,6 +38,20 @@ WIDE = [("credit", 1 << 8, 1), ("credit", 1 << 16, 1), ("credit", 1 << 32, 1),
         ("credit", 1 << 63, 1), ("credit", 0, 1 + (1 << 8)),
         ("credit", 0, 1 + (1 << 16)), ("credit", 0, 1 + (1 << 32)),
         ("credit", 0, (1 << 64) - 1), ("credit", (1 << 64) - 1, 1)]
+
+
+def words_on(image):
+    """Requests with the numbers that an image expects, and with others."""
+    due = [0, 0]
+    if not refusal_of(image):
+        due = [flow.number for flow in tables_of(image).flows] + [0]
+    first, second = due[0] << 10, due[1] << 10 | 1 << 20
+    return [("request", WORD | word) for word in (
+        first, first | 7, second, first ^ 1 << 10, second ^ 1023 << 10)]
+
+
+def calls_on(image):
+    return words_on(image) + CALLS
 
 
 def first(troubles):
@@ -67,9 +83,9 @@ def images_by_hand():
         yield "taken, " + name, image
     for condition, name, image in by_hand.BROKEN:
         yield "22, %s: %s" % (condition, name), image
-    for name, image in by_hand.SHORT:
+    for name, image in by_hand.SHORT + old_versions.SHORT:
         yield "21, " + name, image
-    for name, image in by_hand.LONG_ENOUGH:
+    for name, image in by_hand.LONG_ENOUGH + old_versions.LONG_ENOUGH:
         yield "22, " + name, image
     for name, image, refusal, left in resets_by_hand.RESETS:
         yield "to be reset, " + name, image
@@ -79,7 +95,14 @@ def images_by_hand():
 
 def every_call(command, name, image):
     return first(troubles(command, [Trial(name, image, call)
-                                    for call in CALLS + WIDE]))
+                                    for call in calls_on(image) + WIDE]))
+
+
+def one_call(command, image, call, result, left):
+    """The result and the bytes are those worked out by hand."""
+    trial = Trial("the image", image, call)
+    return (first(troubles(command, [trial]))
+            or trial.right() != (result, left) and "not as by hand")
 
 
 def random_trial(seed):
@@ -99,6 +122,11 @@ def random_lend(seed):
     return Trial("image %d" % seed, *random_lends.some_lend(Dice(seed)))
 
 
+def random_number(seed):
+    """A request with the expected number, or with another."""
+    return Trial("image %d" % seed, *random_numbers.some_request(Dice(seed)))
+
+
 def by_chance(command, trial, seeds):
     return first(troubles(command, [trial(seed) for seed in seeds]))
 
@@ -107,26 +135,35 @@ def all_trials(command, count):
     """One run of the host: calls on all images by hand, and on some by
     chance."""
     trials = [Trial(name, image, call) for name, image in images_by_hand()
-              for call in CALLS]
+              for call in calls_on(image)]
     trials += [trial(seed)
-               for trial in (random_trial, random_reset, random_lend)
+               for trial in (random_trial, random_reset, random_lend,
+                             random_number)
                for seed in range(count)]
     return first(troubles(command, trials))
 
 
-# ---- long runs of lends over changing masks
+# ---- long runs: of lends over changing masks, and of numbers that go round
 
-def seeds_in_turn(seed):
-    """Seeds of files whose lends go round."""
+LONG_RUNS = (
+    ("lends", lend_seeds, ("in turn", "sixteen in turn"), IN_TURN),
+    ("numbers", number_seeds, ("round",), ROUND),
+    ("numbers of two flows", number_seeds, ("two round",), 1),
+    ("bursts", burst_seeds, ("round",), ROUND),
+)
+
+
+def seeds_of(family, kinds, seed):
+    """Seeds of files of these kinds."""
     while True:
-        if lend_seeds.kind_of(seed) in ("in turn", "sixteen in turn"):
+        if family.kind_of(seed) in kinds:
             yield seed
         seed += 1
 
 
-def in_turn(command, seed):
+def each_image(command, family, seed):
     """The answers of a file, and the image after each of its calls."""
-    data = lend_seeds.generate(seed)
+    data = family.generate(seed)
     images = images_after(data)
     length = len(images[-1])
     played = play(command, data, length, each=True)
@@ -143,11 +180,14 @@ def tests(command, count, seed):
     for number, image, last in refusals_page.examples("image"):
         yield ("docs: refusal %d of an image" % number,
                partial(on_page, command, number, image, last))
-    for edge, image in by_hand.AFTER_CALLS + resets_by_hand.AFTER_CALLS:
+    for edge, image in (by_hand.AFTER_CALLS + resets_by_hand.AFTER_CALLS
+                        + numbers_by_hand.AFTER_CALLS):
         yield edge.name, partial(after_calls, command, edge, image)
     for name, image in images_by_hand():
         yield ("image: calls on one, " + name,
                partial(every_call, command, name, image))
+    for name, *given in numbers_by_hand.CALLS:
+        yield "image: number, " + name, partial(one_call, command, *given)
     yield from fresh_calls.tests(command)
     for start in range(seed, seed + count, BATCH):
         seeds = range(start, min(start + BATCH, seed + count))
@@ -157,6 +197,9 @@ def tests(command, count, seed):
                partial(by_chance, command, random_reset, seeds))
         yield ("image: lends on images by chance, from %d on" % start,
                partial(by_chance, command, random_lend, seeds))
-    for number in islice(seeds_in_turn(seed), IN_TURN):
-        yield ("image: after each call of lends, seed %d" % number,
-               partial(in_turn, command, number))
+        yield ("image: requests on images by chance, from %d on" % start,
+               partial(by_chance, command, random_number, seeds))
+    for name, family, kinds, files in LONG_RUNS:
+        for number in islice(seeds_of(family, kinds, seed), files):
+            yield ("image: after each call of %s, seed %d" % (name, number),
+                   partial(each_image, command, family, number))

@@ -19,12 +19,12 @@ class Places:
         self.slots = slots * frames
         self.owners = SIZE + length
         self.parts = self.owners + 2 * self.slots
-        self.part = 2 * (2 + self.slots)
+        self.part = 2 * (3 + self.slots)
 
     def of(self, name, *place):
         """Where a field begins: a header field by its name, "plan" and a byte
-        of the plan, "owner" and a position, "IF" or "C" and a flow, or "held"
-        with a flow and a position."""
+        of the plan, "owner" and a position, "IF", "C" or "number" and a flow,
+        or "held" with a flow and a position."""
         if name in HEADER:
             return 2 * HEADER.index(name)
         if name == "plan":
@@ -34,6 +34,8 @@ class Places:
         start = self.parts + place[0] * self.part
         if name == "held":
             return start + 4 + 2 * place[1]
+        if name == "number":
+            return start + self.part - 2
         return start + 2 * ("IF", "C").index(name)
 
 

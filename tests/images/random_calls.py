@@ -4,6 +4,7 @@ of the image."""
 import struct
 
 from images.acceptance import HEADER_SIZE
+from images.fields import Places
 
 
 class About:
@@ -16,6 +17,16 @@ class About:
         self.frame_slots = max(1, plan[6])
         self.entries = list(struct.iter_unpack("4B", plan[12:76]))
         self.current = int.from_bytes(image[12:14], "little")
+        self.numbers = numbers_of(image, self.flows)
+
+
+def numbers_of(image, flows):
+    """What is expected of each flow, or 0 where no number can be read."""
+    if len(image) < HEADER_SIZE + 12:
+        return [0] * flows
+    at = [Places(image).of("number", flow) for flow in range(flows)]
+    return [int.from_bytes(image[each:each + 2], "little") & 1023
+            for each in at]
 
 
 def position(dice, about):
@@ -30,13 +41,18 @@ def some_request(dice, about):
     flow = dice.below(about.flows)
     destination = about.entries[flow][3] & 63
     departure = position(dice, about)
+    quantum = about.numbers[flow]
+    if dice.chance(15):
+        quantum = dice.pick([quantum + 1, quantum - 1, 0, 1023,
+                             dice.pick(about.numbers),
+                             dice.below(1024)]) & 1023
     if dice.chance(10):
         flow = dice.pick([about.flows, 63, dice.below(64)]) & 63
     if dice.chance(5):
         destination = dice.below(64)
     if dice.chance(5):
         departure = dice.pick([about.slots, 1023, dice.below(1024)]) & 1023
-    return ("request", destination << 26 | flow << 20 | dice.below(1024) << 10
+    return ("request", destination << 26 | flow << 20 | quantum << 10
             | departure)
 
 

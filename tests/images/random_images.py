@@ -63,6 +63,11 @@ def some_holdings(dice, plan, owner, number, current):
     return held
 
 
+def some_number(dice):
+    """A quantum number, often one at a border."""
+    return dice.pick([0, 1, 1022, 1023, dice.below(1024), dice.below(1024)])
+
+
 def taken_image(dice):
     plan = some_plan(dice)
     current = dice.below(plan.slots)
@@ -74,7 +79,8 @@ def taken_image(dice):
         booked = some_bookings(dice, plan, owner, number,
                                current // plan.frame_slots, frame)
         changes += [("IF", number, frame),
-                    ("C", number, plan.share(number) - booked)]
+                    ("C", number, plan.share(number) - booked),
+                    ("number", number, some_number(dice))]
     changes += [("held", number,
                  some_holdings(dice, plan, owner, number, current))
                 for number in range(plan.flows)]
@@ -93,13 +99,14 @@ def some_field(dice, places):
         ("CP",), ("taken",), ("look from",),
         ("owner", position), ("owner", position),
         ("IF", flow), ("IF", flow), ("C", flow), ("C", flow),
+        ("number", flow), ("number", flow),
         ("held", flow, position), ("held", flow, position),
         ("held", flow, position)])
 
 
 def other_value(dice, value):
     return dice.pick([value + 1, value - 1, value + 1, value - 1, 0, 1, 2, 15,
-                      16, 17, 255, 256, value + 256, 65535,
+                      16, 17, 255, 256, value + 256, 1023, 1024, 65535,
                       dice.below(65536), dice.below(20)]) % 65536
 
 
@@ -172,7 +179,7 @@ def change_length(dice, image):
 
 def random_image(dice):
     """Random bytes, some with a total length that could be theirs."""
-    image = dice.data(dice.pick([0, 1, 16, 17, 18, 19, 40, 94, 300]))
+    image = dice.data(dice.pick([0, 1, 16, 17, 18, 19, 40, 98, 300]))
     if dice.chance(70) and len(image) >= 2:
         total = dice.pick([0, 18, len(image), len(image), len(image) + 1])
         image = total.to_bytes(2, "little") + image[2:]

@@ -12,8 +12,11 @@ from images.fields import change
 OLD_HOLDINGS = [("held", 0, [0, 1, 1, 0, 0, 0, 0, 0]),
                 ("held", 1, [0, 0, 1, 0, 0, 0, 0, 0])]
 
+# Flow 0 was granted two words and flow 1 one.
+NUMBERS = [("number", 0, 2), ("number", 1, 1)]
+
 # At slot 3, which flow 0 had booked; all positions are empty.
-MARKED = change(FRESH, ("CP", 3), ("taken", 1), *OLD_HOLDINGS)
+MARKED = change(FRESH, ("CP", 3), ("taken", 1), *OLD_HOLDINGS, *NUMBERS)
 
 BUSY = [(ask(0), "G 1"), (ask(1), "G 2"), (ask(0), "G 3"),
         (credit(0, 3), "C"), (credit(0, 3), "C"), (credit(1, 3), "C"),
@@ -33,11 +36,11 @@ AFTER_CALLS = [
      change(FRESH, ("CP", 5), ("IF", 0, 1), ("IF", 1, 1))),
     (edge("image: a reset at a booked slot", BASE,
           (ask(0), "G 1"), (credit(0, 1), "C"), (TICK, "T 0"), (RESET, "Z")),
-     change(FRESH, ("CP", 1), ("taken", 1))),
+     change(FRESH, ("CP", 1), ("taken", 1), ("number", 0, 1))),
     (edge("image: a reset keeps what was held", BASE,
           (ask(0), "G 1"), (credit(0, 2), "C"), (TICK, "T 0"),
           (RESET, "R 23"), (TICK, "T -"), (RESET, "Z")),
-     change(FRESH, ("CP", 2), ("held", 0, 1, 1))),
+     change(FRESH, ("CP", 2), ("held", 0, 1, 1), ("number", 0, 1))),
     (edge("image: a mark and old holdings after a reset", BASE,
           *BUSY, (RESET, "Z")), MARKED),
     (edge("image: a second reset in the slot", BASE,
@@ -45,7 +48,10 @@ AFTER_CALLS = [
     (edge("image: a request after a reset", BASE,
           *BUSY, (RESET, "Z"), (ask(1), "G 4")),
      change(MARKED, ("owner", 4, 1), ("IF", 1, 1), ("C", 1, 1),
-            ("held", 1, [0, 0, 1, 0, 1, 1, 1, 1]))),
+            ("held", 1, [0, 0, 1, 0, 1, 1, 1, 1]), ("number", 1, 2))),
+    (edge("image: 24 after a reset", BASE,
+          *BUSY, (RESET, "Z"), (ask(0, quantum=0), "R 24"),
+          (ask(1, quantum=0), "R 24")), MARKED),
     # The lent cell is back from slot 1 on; lends begin with flow 0 again.
     (edge("image: a reset after a lend", BASE,
           (lend(1), "L 0"), (credit(0, 1), "C"), (TICK, "T -"),
@@ -60,7 +66,7 @@ AFTER_CALLS = [
     # to 11.
     (edge("image: a frame change after a reset", BASE,
           *BUSY, (RESET, "Z"), (TICK, "T -")),
-     change(FRESH, ("CP", 4), ("IF", 0, 1), ("IF", 1, 1))),
+     change(FRESH, ("CP", 4), ("IF", 0, 1), ("IF", 1, 1), *NUMBERS)),
 ]
 
 # ---- resets of images that need not come of calls
@@ -115,6 +121,14 @@ GRANTED = [
      LARGEST),
     ("a mark, and the flow to look from is n - 1", change(
         MARKED, ("look from", 1)), MARKED),
+    # The numbers stay as they are.
+    ("the expected numbers are 1,023 and 1",
+     change(FRESH, ("IF", 0, 1), ("number", 0, 1023), ("number", 1, 1)),
+     change(FRESH, ("number", 0, 1023), ("number", 1, 1))),
+    ("each of sixteen expected numbers is another",
+     change(LARGEST, ("look from", 3),
+            *[("number", flow, 64 * flow) for flow in range(16)]),
+     change(LARGEST, *[("number", flow, 64 * flow) for flow in range(16)])),
 ]
 
 # One thing is in the way.
@@ -147,6 +161,8 @@ NEARLY_QUIET = [
         FRESH, ("look from", 1), ("owner", 1, 0), ("C", 0, 1))),
     ("the flow to look from is 15, and flow 0 holds a cell", change(
         LARGEST, ("look from", 15), ("held", 0, [1] * 256))),
+    ("the expected number is 1,023, and CP + 1 is booked", change(
+        FRESH, ("number", 0, 1023), ("owner", 1, 0), ("C", 0, 1))),
     ("the largest, whose last flow holds a cell at CP", change(
         LARGEST, ("held", 15, 0, 1))),
     ("the largest, whose position 255 is booked", change(

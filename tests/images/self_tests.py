@@ -6,16 +6,18 @@ None.
 from collections import Counter
 from functools import partial
 
-from generator import departure_seeds, lend_seeds, reset_seeds
+from generator import (
+    burst_seeds, departure_seeds, lend_seeds, number_seeds, reset_seeds)
 from generator.dice import Dice
 from images import (
-    by_hand, fresh_calls, random_lends, random_resets, resets_by_hand)
+    by_hand, fresh_calls, numbers_by_hand, old_versions, random_lends,
+    random_numbers, random_resets, resets_by_hand)
 from images.acceptance import broken, refusal_of
 from images.call_files import images_after
 from images.on_images import Trial
 from images.random_calls import some_call
 from images.random_images import any_image, taken_image
-from images.results import POWER
+from images.results import POWER, said
 from simulator.calls import answer
 from simulator.image import image_of, link_of
 from simulator.listing import steps
@@ -28,6 +30,7 @@ TAKEN_IMAGES = 60       # by chance, with calls on each
 IMAGES = 1000           # by chance, of which half are not taken
 QUIET_IMAGES = 300      # by chance, and nearly quiet ones
 FREE_IMAGES = 300       # by chance, whose current slot can be lent
+NUMBERED_IMAGES = 600   # by chance, with a request on each
 
 
 def after_calls(edge, image):
@@ -95,12 +98,12 @@ def each_broken():
     return missing and "never: %r" % missing
 
 
-def reset(image, refusal, left):
-    """The result and the bytes are those worked out by hand, and what was
-    reset is taken, as it was before."""
-    found = Trial("", image, ("reset",)).right()
+def called(image, call, result, left):
+    """The result and the bytes are those worked out by hand, and what is left
+    is taken, as it was before."""
+    found = Trial("", image, call).right()
     return (taken(image) or taken(left)
-            or found[0] != refusal * POWER and "it gives %d" % found[0]
+            or found[0] != result and "it gives %s" % said(found[0])
             or found[1] != left and "it leaves %s" % found[1].hex())
 
 
@@ -146,22 +149,46 @@ def each_lend():
     return missing and "never: %r" % missing
 
 
+def each_number():
+    """Requests on images by chance meet everything."""
+    found = set()
+    for seed in range(NUMBERED_IMAGES):
+        image, call = random_numbers.some_request(Dice(seed))
+        link = link_of(image)
+        given = answer(link, call)
+        after = image_of(link)
+        wrong = (taken(image) or taken(after)
+                 or random_numbers.wrong(image, call, *given, after))
+        if wrong:
+            return "image %d: %s" % (seed, wrong)
+        found.add(random_numbers.way(image, call, *given))
+    missing = [way for way in random_numbers.WAYS if way not in found]
+    return missing and "never: %r" % missing
+
+
 def tests():
-    for edge, image in by_hand.AFTER_CALLS + resets_by_hand.AFTER_CALLS:
+    for edge, image in (by_hand.AFTER_CALLS + resets_by_hand.AFTER_CALLS
+                        + numbers_by_hand.AFTER_CALLS):
         yield edge.name, partial(after_calls, edge, image)
     for name, image in by_hand.TAKEN:
         yield "image: taken, " + name, partial(taken, image)
     for condition, name, image in by_hand.BROKEN:
         yield ("image: 22, %s: %s" % (condition, name),
                partial(breaks, condition, image))
-    for number, images in ((21, by_hand.SHORT), (22, by_hand.LONG_ENOUGH)):
+    for number, images in (
+            (21, by_hand.SHORT + old_versions.SHORT),
+            (22, by_hand.LONG_ENOUGH + old_versions.LONG_ENOUGH)):
         for name, image in images:
             yield ("image: %d, %s" % (number, name),
                    partial(refused, number, image))
-    for name, *given in resets_by_hand.RESETS:
-        yield "image: reset, " + name, partial(reset, *given)
+    for name, image, refusal, left in resets_by_hand.RESETS:
+        yield "image: reset, " + name, partial(
+            called, image, ("reset",), refusal * POWER, left)
+    for name, *given in numbers_by_hand.CALLS:
+        yield "image: number, " + name, partial(called, *given)
     yield from fresh_calls.self_tests()
-    for family in (lend_seeds, departure_seeds, reset_seeds):
+    for family in (lend_seeds, departure_seeds, reset_seeds, number_seeds,
+                   burst_seeds):
         for seed in range(FILES):
             yield ("image: taken after each call, %s %d" % (
                        family.__name__.split(".")[-1], seed),
@@ -170,3 +197,4 @@ def tests():
     yield "image: each condition is broken by chance, it alone", each_broken
     yield "image: resets of images by chance meet everything", each_reset
     yield "image: lends on images by chance meet everything", each_lend
+    yield "image: requests on images by chance meet everything", each_number

@@ -1,5 +1,5 @@
-"""Link images, as document 02 has them (N5 and N8): the bytes of a link, and
-the link of an image that is taken.
+"""Link images, as document 02 has them (N5, N8 and N9): the bytes of a link,
+and the link of an image that is taken.
 
 The window's slots are those from the head frame's first on, and a position is
 a slot's number modulo T: the tables of an image, which go round, are counted
@@ -8,6 +8,7 @@ from the history, and made into one.
 
 from simulator.link import Link
 from simulator.plan import read_plan
+from simulator.request import expected
 
 NOBODY = 16             # the owner of a position that nobody booked
 HEADER = 18             # bytes: nine fields
@@ -42,10 +43,12 @@ def owners(link):
 
 
 def flow_part(link, number):
-    """IF, C, and the holdings at positions 0 to T - 1."""
+    """IF, C, the holdings at positions 0 to T - 1, and the quantum number of
+    the next word."""
     flow = link.flows[number]
     return fields([flow.frame % link.plan.window_frames, flow.left,
-                   *by_position(link, link.holdings(number))])
+                   *by_position(link, link.holdings(number)),
+                   expected(link, number)])
 
 
 def look_from(link):
@@ -84,10 +87,11 @@ def set_holdings(link, number, held):
 
 
 def set_flow(link, number, part):
-    frame, left, *held = part
+    frame, left, *held, granted = part
     head, frames = link.head_frame(), link.plan.window_frames
     link.flows[number].frame = head + (frame - head) % frames
     link.flows[number].left = left
+    link.flows[number].granted = granted
     set_holdings(link, number, held)
 
 

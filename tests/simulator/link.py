@@ -15,6 +15,7 @@ class Flow:
     def __init__(self, share):
         self.frame = 0              # IF, a frame number
         self.left = share           # C
+        self.granted = 0            # slots, over all calls
         # Slots from which on a cell is held, and from which on it is back:
         # granted and lent slots, and those of taken credits, from the head
         # frame on.

@@ -1,4 +1,5 @@
-"""Request, as document 01 has it, with the departure of document 02 (N4)."""
+"""Request, as document 01 has it, with the departure of document 02 (N4) and
+the quantum number (N9)."""
 
 
 def later_than_current(link, slot):
@@ -41,6 +42,7 @@ def book(link, number, slot):
     link.owner[slot] = number
     flow.held_from.append(slot)
     flow.left -= 1
+    flow.granted += 1
 
 
 def search(link, number, comes):
@@ -74,10 +76,18 @@ def word_refusal(plan, word):
     return 0
 
 
+def expected(link, number):
+    """The quantum number of the flow's next word: its grants so far, whatever
+    came in between.  Doc 02, N9."""
+    return link.flows[number].granted % 1024
+
+
 def request(link, word):
     refusal = word_refusal(link.plan, word)
     if refusal:
         return "R", refusal
+    if word >> 10 & 1023 != expected(link, word >> 20 & 63):
+        return "R", 24
     slot, refusal = search(link, word >> 20 & 63, arrival(link, word & 1023))
     if refusal:
         return "R", refusal

@@ -6,10 +6,11 @@ use Rattle.model.specs.Plan.{flowCount, planOf}
 use Rattle.model.specs.Calls.{Call, History}
 use Rattle.model.specs.Claim.{Demand3}
 use Rattle.model.specs.Fairness.{FairOn}
+use Rattle.model.specs.QuantumNumbers.{InOrder}
 use Rattle.images.specs.Taken.{refusalOf}
 use Rattle.images.specs.Exports.{Called, HandsBack, calledOn}
 use Rattle.images.specs.Chain.{eventOf, imageIn, Chain, starts, goes-on}
-use Rattle.images.proofs.Chain.{chain-taken, chain-meets, chain-fair}
+use Rattle.images.proofs.Chain.{chain-taken, chain-meets, chain-fair, chain-numbers}
 use Rattle.image.specs.Hosted.{Hosted, by-fresh, by-request, by-credit, by-tick, by-lend, by-reset}
 
 module _ (plan : List ℕ) where
@@ -44,3 +45,7 @@ module _ (plan : List ℕ) where
   -- document 02, N8
   pub host-fair : {h : History} {b : List ℕ} → Hosted plan h b → FairOn (planOf plan) h
   host-fair x = chain-fair plan (chained x .chain)
+
+  -- document 02, N9
+  pub host-numbers : {h : History} {b : List ℕ} → Hosted plan h b → (i : ℕ) → i < flowCount (planOf plan) → InOrder (planOf plan) i h
+  host-numbers x = chain-numbers plan (chained x .chain)

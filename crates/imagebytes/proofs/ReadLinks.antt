@@ -138,6 +138,9 @@ module _ {b : List ℕ} (t : Taken b) (p : Plan) (v : Valid p) (is : planFor p �
     holding-is : (q : ℕ) → fieldAt b (partAt y i + 4) q ≡ flowField b P i (2 + q)
     holding-is q = part-field (2 + q) (partAt y i + 4 + 2 * q) (omega arith)
 
+    number : field16 b (partAt y i + 4 + 2 * y .size) ≡ flowField b P i (2 + T)
+    number = part-field (2 + T) (partAt y i + 4 + 2 * y .size) (omega (arith, size-is laid))
+
     holding-most : (q : ℕ) → q < T → fieldAt b (partAt y i + 4) q < 256
     holding-most q l =
         let held = getD-table T (λ q. flowField b P i (2 + q)) q 0 l in
@@ -199,7 +202,7 @@ module _ {b : List ℕ} (t : Taken b) (p : Plan) (v : Valid p) (is : planFor p �
           let remainder = part-field i h 1 (partAt y i + 2) (omega arith) in
           let held = table-same T (λ q. getD (rowFrom b y i) q 0) (λ q. flowField b P i (2 + q)) (row-is i h) in
           ap₂ (λ f r. flowOf T (flowRow f r)) (flows-in b y few i (omega (arith, count))) (rows-in b y few i (omega (arith, count)))
-          ∙ (λ k. record { injection = injection k; remainder = remainder k; held = held k })
+          ∙ (λ k. record { injection = injection k; remainder = remainder k; held = held k; number = number i h k })
 
       flows : table (p .count) (λ i. flowOf T (flowRow (getD (flowsFrom b y) i noFlow) (row (heldFrom b y) i))) ≡ linkFrom b P .flows
       flows = table-same (p .count) _ (flowIn b P) flow ∙ ap (λ n. table n (flowIn b P)) (sym (count-is p))
@@ -219,6 +222,7 @@ module _ {b : List ℕ} (t : Taken b) (p : Plan) (v : Valid p) (is : planFor p �
         rw (flows-in b y few i (omega (arith, count)), rows-in b y few i (omega (arith, count)))
         (record {
           frame = omega (arith, injection, flow-met i h .injection-below);
+          number = omega (arith, number i h, flow-met i h .number-below);
           spare = λ q l. nothing-past b (partAt y i + 4) (y .size) q (omega (arith, size-is laid));
         });
     spare-flows = λ i h l. rw (flows-past b y few i (omega (arith, count)) l, rows-past b y few i (omega (arith, count)) l);

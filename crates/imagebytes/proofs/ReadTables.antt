@@ -44,9 +44,9 @@ nothing-past b at count q h = go (decLt q 256)
 -- ---- sixteen flows
 
 module _ (b : List ℕ) (y : Layout) (few : y .count ≤ 16) where
-  pub flows-in : (i : ℕ) → i < y .count → getD (flowsFrom b y) i noFlow ≡ flowFrom b (partAt y i)
+  pub flows-in : (i : ℕ) → i < y .count → getD (flowsFrom b y) i noFlow ≡ flowFrom b (y .size) (partAt y i)
   flows-in i h =
-      replaced-at (inRange 0 (y .count)) (λ i f. flowFrom b (partAt y i)) (replicate 16 noFlow) i noFlow (rw length-replicate (omega arith))
+      replaced-at (inRange 0 (y .count)) (λ i f. flowFrom b (y .size) (partAt y i)) (replicate 16 noFlow) i noFlow (rw length-replicate (omega arith))
       ∙ rw (in-range 0 (y .count) i (omega arith) h)
 
   pub flows-past : (i : ℕ) → y .count ≤ i → i < 16 → getD (flowsFrom b y) i noFlow ≡ noFlow

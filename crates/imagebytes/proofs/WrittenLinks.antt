@@ -87,9 +87,9 @@ module _ {l : Link} {b : List ℕ} (v : Writable l b) where
   count : model.flowCount (linkOf l .plan) ≡ l .plan .count
   count = read-count l
 
-  pub room : 30 + 4 * l .plan .count + 2 * sizeOf l + 2 * (l .plan .count * (2 + sizeOf l)) ≤ length b
+  pub room : 30 + 4 * l .plan .count + 2 * sizeOf l + 2 * (l .plan .count * (3 + sizeOf l)) ≤ length b
   unfolding linkOf
-  room = omega (arith, v .there, count, ap (λ n. n * (2 + sizeOf l)) count)
+  room = omega (arith, v .there, count, ap (λ n. n * (3 + sizeOf l)) count)
 
   pub header-room : HeaderFits (l .plan) (l .cp) (l .first) b
   header-room = record {
@@ -107,6 +107,7 @@ module _ {l : Link} {b : List ℕ} (v : Writable l b) where
       record {
         frame-fits = omega (arith, v .sound .flows i h .frame, v .sound .plan .accepted .frames-most);
         left-fits = omega (arith, left, v .keepable .consistent .each-flow i below .spent, ok .entries-fit i below .share-most, ok .slots-most);
+        number-fits = omega (arith, v .sound .flows i h .number);
       }
 
   -- where the flows begin

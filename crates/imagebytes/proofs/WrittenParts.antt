@@ -24,6 +24,7 @@ use Rattle.fields.specs.Fields.{AllFit}
 use Rattle.fields.proofs.FieldLists.{flat-more, fields-append}
 use Rattle.images.specs.Image.{fields, flowPart}
 use Rattle.images.proofs.Fields.{length-fields}
+use Rattle.images.proofs.FlowParts.{part-length}
 use Rattle.images.proofs.ImageTaken.{bit-most}
 use Rattle.taken.specs.declared.layout.Layout.{Layout}
 use Rattle.taken.specs.Layout.{fieldsOf, LaidOut}
@@ -84,15 +85,19 @@ plan-is p =
 -- ---- the flows
 
 module _ (T : ℕ) (f : Flow) (held : List ℕ) (i : ℕ) where
-  pub part-is : {r : List ℕ} → r ≡ row held i → fields (f .frame ∷ f .left ∷ []) ++ fields (table T (λ p. getD r p 0)) ≡ partOf T f held i
+  pub part-is : {r : List ℕ} → r ≡ row held i → fields (f .frame ∷ f .left ∷ []) ++ fields (table T (λ p. getD r p 0)) ++ fields (f .number ∷ []) ≡ partOf T f held i
   part-is {r} e =
-      ap (λ (x : List ℕ). fields (f .frame ∷ f .left ∷ []) ++ fields (table T (λ p. getD x p 0))) e
-      ∙ sym (fields-append (f .frame ∷ f .left ∷ []) (table T (λ p. getD (row held i) p 0)))
+      let start = f .frame ∷ f .left ∷ [] in
+      let holdings = table T (λ p. getD (row held i) p 0) in
+      ap (λ (x : List ℕ). fields start ++ fields (table T (λ p. getD x p 0)) ++ fields (f .number ∷ [])) e
+      ∙ ap (_++ fields (f .number ∷ [])) (sym (fields-append start holdings))
+      ∙ sym (fields-append (start ++ holdings) (f .number ∷ []))
 
-  pub length-part : length (partOf T f held i) ≡ 2 * (2 + T)
+  pub length-part : length (partOf T f held i) ≡ 2 * (3 + T)
   length-part =
+      let x = flowOf T (flowRow f (row held i)) in
       let held-long = length-table T (λ p. getD (row held i) p 0) in
-      omega (arith, length-fields (flowPart (flowOf T (flowRow f (row held i)))))
+      omega (arith, length-fields (flowPart x), part-length x)
 
 pub parts-more : (T : ℕ) (flows : List Flow) (held : List ℕ) (i : ℕ)
     → partsOf T flows held (i + 1) ≡ partsOf T flows held i ++ partOf T (getD flows i noFlow) held i

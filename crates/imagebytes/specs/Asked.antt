@@ -22,7 +22,7 @@ use Rattle.imagebytes.specs.Reading.{partAt}
 pub record FlowsOn (b : List ℕ) (y : Layout) : Type 0 where
   pub sized : Sized y
   pub few : y .count ≤ 16
-  pub fields-are : y .fields ≡ 2 + y .size
+  pub fields-are : y .fields ≡ 3 + y .size
   pub there : y .total ≤ length b
 
 -- and each holding is a byte
@@ -40,24 +40,25 @@ pub record HeaderFits (p : Plan) (cp first : ℕ) (b : List ℕ) : Type 0 where
   pub first-fits : first < 65536
   pub there : headerLength ≤ length b
 
--- a flow's frame and remainder fit their fields
+-- a flow's frame, remainder and expected number fit their fields
 pub record FlowFits (f : Flow) : Type 0 where
   pub frame-fits : f .frame < 65536
   pub left-fits : f .left < 65536
+  pub number-fits : f .number < 65536
 
 -- there is room at a place for the part of flow i with T positions
 pub record PartFits (f : Flow) (i T : ℕ) (b : List ℕ) (at : ℕ) : Type 0 where
   pub fits : FlowFits f
   pub flow : i < 16
   pub size-most : T ≤ 256
-  pub there : at + 2 * (2 + T) ≤ length b
+  pub there : at + 2 * (3 + T) ≤ length b
 
 -- and for those of n flows
 pub record PartsFit (flows : List Flow) (n T : ℕ) (b : List ℕ) (at : ℕ) : Type 0 where
   pub few : n ≤ 16
   pub size-most : T ≤ 256
   pub each-fits : (i : ℕ) → i < n → FlowFits (getD flows i noFlow)
-  pub there : at + 2 * (n * (2 + T)) ≤ length b
+  pub there : at + 2 * (n * (3 + T)) ≤ length b
 
 -- a link of which there can be an image, and room for it
 pub record Writable (l : Link) (b : List ℕ) : Type 0 where

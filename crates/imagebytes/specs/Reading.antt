@@ -24,13 +24,13 @@ ownersFrom b y = tableFrom b (y .positions) (y .size) nobody
 abbrev pub partAt : Layout → ℕ → ℕ
 partAt y i = y .flows + 2 * (i * y .fields)
 
--- the injection frame and the remainder at a place
-abbrev pub flowFrom : List ℕ → ℕ → Flow
-flowFrom b at = record { frame = field16 b at; left = field16 b (at + 2) }
+-- the injection frame, the remainder and, after T holdings, the expected number of a part at a place
+abbrev pub flowFrom : List ℕ → (T at : ℕ) → Flow
+flowFrom b T at = record { frame = field16 b at; left = field16 b (at + 2); number = field16 b (at + 4 + 2 * T) }
 
 -- the first n of sixteen
 abbrev pub flowsFrom : List ℕ → Layout → List Flow
-flowsFrom b y = replaced (inRange 0 (y .count)) (λ i f. flowFrom b (partAt y i)) (replicate 16 noFlow)
+flowsFrom b y = replaced (inRange 0 (y .count)) (λ i f. flowFrom b (y .size) (partAt y i)) (replicate 16 noFlow)
 
 -- what flow i holds
 abbrev pub rowFrom : List ℕ → Layout → ℕ → List ℕ

@@ -11,6 +11,7 @@ ghost use Rattle.images.specs.Image.{fields};
 ghost use Rattle.images.specs.Exports.{writtenTo};
 ghost use Rattle.imagebytes.specs.Writing.{entriesBytes, headerOf, partOf, partsOf};
 ghost use Rattle.imagebytes.specs.Asked.{Writable, HeaderFits, PartFits, PartsFit};
+use fields::put;
 use fields::put_all;
 use fields::put_table;
 use link::Flow;
@@ -101,7 +102,8 @@ fn put_flow(
     let start = [flow.frame, flow.left];
     let next = put_all(&start, image, at);
     let row = row_of(held, i);
-    put_table(&row, size, image, next)
+    let last = put_table(&row, size, image, next);
+    put(flow.number, image, last)
 }
 
 // Writes the parts of all flows and returns the place after them.

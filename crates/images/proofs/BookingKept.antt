@@ -182,6 +182,7 @@ module _ {l : Link} {t : ℕ} (v : LinkAt l t) {i : ℕ} (knows : i < flowCount 
       within-cells = x .holds .within-cells;
       grows = λ r w-r after. omega (arith, x .holds .grows r w-r after, booking-other n (r % T) d (mod-lt r (some-position ok)));
     };
+    number-below = x .number-below;
   }
     where
       x : FlowAt P t (l .owners) n (flow l n)
@@ -204,7 +205,7 @@ module _ {l : Link} {t : ℕ} (v : LinkAt l t) {i : ℕ} (knows : i < flowCount 
   }
     where
       x : Flow
-      x = withHeld (movedTo (flow l i) j c) (heldFrom l i p suc)
+      x = request.bookedFlow l i j c p
 
       own : FlowAt P t owners i x
-      own = record { spends = spends-one; within-share = share-kept; holds = holds }
+      own = record { spends = spends-one; within-share = share-kept; holds = holds; number-below = mod-lt (flow l i .number + 1) (omega arith) }

@@ -45,6 +45,7 @@ pub record FlowAt (P : Plan) (t : ℕ) (owners : List (Option ℕ)) (i : ℕ) (x
   pub spends : Spends P (frameOf P t) owners i (x .injection) (x .remainder)
   pub within-share : (j : ℕ) → j < P .frames → bookingsIn P owners i j ≤ entry P i .share
   pub holds : HoldsWell P t owners i (x .held)
+  pub number-below : x .number < 1024
 
 -- ---- a link
 
@@ -119,6 +120,7 @@ module _ {P : Plan} {t c : ℕ} (now : Current P t c) where
       };
       within-share = v .within-share;
       holds = record { long = long; within-cells = v .within-cells; grows = grows };
+      number-below = v .number-below;
     }
       where
         k : ℕ
@@ -152,6 +154,7 @@ module _ {P : Plan} {t c : ℕ} (now : Current P t c) where
       spent = ap (λ j. bookingsIn P owners i j + x .remainder) (sp .injection-is) ∙ sp .spent;
       within-cells = v .holds .within-cells;
       grows = grows;
+      number-below = v .number-below;
     }
       where
         k : ℕ

@@ -14,11 +14,13 @@ use Rattle.model.specs.Calls.{Call, History}
 use Rattle.model.specs.Fresh.{fresh}
 use Rattle.model.specs.Claim.{Demand3}
 use Rattle.model.specs.Fairness.{FairOn}
+use Rattle.model.specs.QuantumNumbers.{InOrder}
 use Rattle.model.specs.Card.{Played, paper, step, play, started, run}
 use Rattle.model.proofs.Tests.{line-passed}
 use Rattle.model.proofs.Plan.{accepted}
 use Rattle.model.proofs.Demand3.{meets}
 use Rattle.model.proofs.Fairness.{fair}
+use Rattle.model.proofs.QuantumNumbers.{numbers-in-order}
 use Rattle.images.specs.Image.{imageLength, imageOf, headerField}
 use Rattle.images.specs.Consistent.{Keepable}
 use Rattle.images.specs.Taken.{refusalOf}
@@ -141,15 +143,23 @@ module _ (plan : List ℕ) where
       let image = imageOf (cardAfter calls .state) in
       ap refusalOf (image-and-rest c image (same ∙ f .image-is)) ∙ taken _ .1 (image-taken (kept-after (f .plan-passes) calls) _)
 
-  -- and its answers meet demand 3
+  -- what holds of the paper's every run holds of its answers
+  chain-has : (Q : History → Type 0) → (refusal plan ≡ 0 → (calls : List Call) → Q (run paper (planOf plan) calls .history))
+      → {calls : List Call} {h : History} {b : List ℕ} → Chain plan calls h b → Q h
+  chain-has Q has {calls} ch =
+      let f = chain-follows ch in
+      subst Q (sym (f .history-is)) (has (f .plan-passes) calls)
+
+  -- they meet demand 3
   pub chain-meets : {calls : List Call} {h : History} {b : List ℕ} → Chain plan calls h b → (i : ℕ) → i < flowCount (planOf plan)
       → Demand3 (planOf plan) i h
-  chain-meets {calls} ch i known =
-      let f = chain-follows ch in
-      subst (Demand3 (planOf plan) i) (sym (f .history-is)) (meets plan (f .plan-passes) calls i known)
+  chain-meets ch i known = chain-has (Demand3 (planOf plan) i) (λ passes calls. meets plan passes calls i known) ch
 
-  -- and its lends are fair
+  -- its lends are fair
   pub chain-fair : {calls : List Call} {h : History} {b : List ℕ} → Chain plan calls h b → FairOn (planOf plan) h
-  chain-fair {calls} ch =
-      let f = chain-follows ch in
-      subst (FairOn (planOf plan)) (sym (f .history-is)) (fair plan (f .plan-passes) calls)
+  chain-fair ch = chain-has (FairOn (planOf plan)) (fair plan) ch
+
+  -- and its granted words are numbered in order
+  pub chain-numbers : {calls : List Call} {h : History} {b : List ℕ} → Chain plan calls h b → (i : ℕ) → i < flowCount (planOf plan)
+      → InOrder (planOf plan) i h
+  chain-numbers ch i known = chain-has (InOrder (planOf plan) i) (λ passes calls. numbers-in-order plan passes calls i known) ch

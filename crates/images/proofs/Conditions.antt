@@ -53,7 +53,8 @@ module _ (P : Plan) (current : ℕ) (owners : List (Option ℕ)) (i : ℕ) (x : 
   pub flow-passed : flowTest P current owners i x ≡ true → ConsistentFlow P current owners i x
   unfolding flowTest
   flow-passed e =
-      let f = and-true _ _ e in
+      let g = and-true _ _ e in
+      let f = and-true _ _ (g .0) in
       let d = and-true _ _ (f .0) in
       let c = and-true _ _ (d .0) in
       let b = and-true _ _ (c .0) in
@@ -65,6 +66,7 @@ module _ (P : Plan) (current : ℕ) (owners : List (Option ℕ)) (i : ℕ) (x : 
         spent = eqb-true _ _ (c .1);
         within-cells = λ p lt. leb-true _ _ (every-at T cellsKept p (d .1) lt);
         grows = λ p lt is-later. leb-true _ _ (where-passed _ _ (every-at T growthKept p (f .1) lt) is-later);
+        number-below = ltb-true (x .number) 1024 (g .1);
       }
 
   pub flow-passes : ConsistentFlow P current owners i x → flowTest P current owners i x ≡ true
@@ -77,6 +79,7 @@ module _ (P : Plan) (current : ℕ) (owners : List (Option ℕ)) (i : ℕ) (x : 
         eq-eqb _ _ (v .spent),
         every-intro T cellsKept (λ p lt. le-leb _ _ (v .within-cells p lt)),
         every-intro T growthKept (λ p lt. made-where _ _ (λ is-later. le-leb _ _ (v .grows p lt is-later))),
+        lt-ltb (x .number) 1024 (v .number-below),
       )
 
 -- ---- a link

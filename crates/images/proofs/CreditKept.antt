@@ -33,7 +33,7 @@ lowered-at {l} {t} v {i} {p} c = record {
         (slotAt-position (v .current .accepted) t p (c .position)) (lowered-well v (c .known) (slotAt-in-window (v .current .accepted) t p))
 
     own : FlowAt (l .plan) t (l .owners) i x
-    own = record { spends = v .flows i (c .known) .spends; within-share = v .flows i (c .known) .within-share; holds = holds }
+    own = record { spends = v .flows i (c .known) .spends; within-share = v .flows i (c .known) .within-share; holds = holds; number-below = v .flows i (c .known) .number-below }
 
 pub credit-kept : {l : Link} → Keepable l → (i p : ℕ) → Keepable (credit l i p .link)
 unfolding credit creditAfter

@@ -23,6 +23,7 @@ use Rattle.model.proofs.Tables.{length-table}
 use Rattle.model.proofs.Slots.{some-frame, some-position, frame-begins}
 use Rattle.model.proofs.Window.{Current, head-is, last-is}
 use Rattle.model.proofs.LinkUpdates.{flow-withFlows, carriedOn-at}
+use Rattle.model.proofs.TickKeeps.{left-number}
 use Rattle.images.specs.Consistent.{known, bookedBy, bookingsIn}
 use Rattle.images.proofs.Bookings.{booking}
 use Rattle.images.proofs.OldHead.{ownersAfter, step, kept, added, owner-is, known-still, bookings-last, bookings-stay}
@@ -155,6 +156,7 @@ module _ {l : Link} {t : ℕ} (v : LinkAt l t) (change : suc t % l .plan .slots 
       spends = subst (λ a. Spends P a owners i (leftHead l i .injection) (leftHead l i .remainder)) (sym (step v change)) spends-on;
       within-share = share-kept;
       holds = holds-on (leftHead l i);
+      number-below = subst (_< 1024) (sym (left-number l i)) (f .number-below);
     }
 
   -- ---- the frame change

@@ -45,6 +45,7 @@ module _ {P : Plan} (ok : Accepted P) where
       within-cells = λ p below. omega (arith, nothing-held p below);
       grows = λ s w after. omega (arith, nothing-held (s % T) (mod-lt s (some-position ok)));
     };
+    number-below = omega arith;
   }
 
   pub fresh-kept : Keepable (fresh P)

@@ -75,11 +75,13 @@ module _ {l : Link} (v : Keepable l) where
       let long = v .whole .held-long i lt in
       let injection : Fit (flow l i .injection) = omega (arith, f .injection-below, ok .frames-most) in
       let remainder : Fit (flow l i .remainder) = omega (arith, f .spent, e .share-most, ok .slots-most) in
-      (injection, (remainder, all-of Fit 0 (flow l i .held) (λ p below. omega (arith, f .within-cells p (omega arith), e .cells-most))))
+      let number : Fit (flow l i .number) = omega (arith, f .number-below) in
+      let held = all-of Fit 0 (flow l i .held) (λ p below. omega (arith, f .within-cells p (omega arith), e .cells-most)) in
+      (injection, (remainder, all-append (flow l i .held) (flow l i .number ∷ []) held (number, tt)))
 
   size-fits : Fit (imageLength P)
   size-fits =
-      let fields-most : flowFields P ≤ 258 = omega (arith, ok .positions-most) in
+      let fields-most : flowFields P ≤ 259 = omega (arith, ok .positions-most) in
       omega (arith, ok .flows-most, ok .positions-most, mul-le-mul (ok .flows-most) fields-most)
 
   header-fits : All Fit (header l)

@@ -44,7 +44,7 @@ lent-at {l} {t} v {i} known can = record {
         (λ r w after. omega arith) (λ lt. absurd (omega arith)) (λ lt. absurd (omega arith)))
 
     own : FlowAt (l .plan) t (l .owners) i x
-    own = record { spends = v .flows i known .spends; within-share = v .flows i known .within-share; holds = holds }
+    own = record { spends = v .flows i known .spends; within-share = v .flows i known .within-share; holds = holds; number-below = v .flows i known .number-below }
 
 pub lend-kept : {l : Link} → Keepable l → (mask : ℕ) → Keepable (lend l mask .link)
 unfolding lend lendAfter lentAfter firstInTurn

@@ -20,6 +20,7 @@ pub mod RequestKept
 pub mod Closed
 -- bytes
 pub mod Fields
+pub mod FlowParts
 pub mod ReadBack
 -- when an image is taken
 pub mod Conditions

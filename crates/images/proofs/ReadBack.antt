@@ -20,6 +20,7 @@ use Rattle.images.specs.Image.{fields, fieldAt, headerLength, flowFields
 use Rattle.images.specs.Image.{planPart, planIn, ownerIn, flowField, flowIn, linkFrom, linkIn}
 use Rattle.images.specs.Consistent.{known, Keepable}
 use Rattle.images.proofs.Fields.{length-fields, Stands, stand-behind, Even, parts-length, parts-at}
+use Rattle.images.proofs.FlowParts.{part-length, part-held, part-number}
 
 -- an owner is read back
 owner-again : (n : ℕ) → n ≤ 16 → (o : Option ℕ) → known n o ≡ true → ownerIn (ownerField o) ≡ o
@@ -55,7 +56,7 @@ module _ {l : Link} (v : Keepable l) where
   owners-length = length-map (l .owners) ownerField ∙ v .whole .owners-long
 
   even : Even flowPart noFlow (flowFields P) (l .flows)
-  even i lt = let e = v .whole .held-long i (omega (arith, v .whole .flows-long)) in omega arith
+  even i lt = let e = v .whole .held-long i (omega (arith, v .whole .flows-long)) in omega (arith, part-length (flow l i))
 
   flows-length : length flowNumbers ≡ n * flowFields P
   flows-length = parts-length flowPart noFlow (flowFields P) (l .flows) even ∙ ap (_* flowFields P) (v .whole .flows-long)
@@ -172,14 +173,14 @@ module _ {l : Link} (v : Keepable l) where
           each : (p : ℕ) → p < length (flowIn b P i .held) → getD (flowIn b P i .held) p 0 ≡ getD (x .held) p 0
           each p below =
               let p-below : p < T = omega (arith, length-table T (λ p. flowField b P i (2 + p))) in
-              let two : 2 + p ≡ suc (suc p) = omega arith in
-              getD-table T _ p 0 p-below ∙ part-stands (2 + p) (omega arith) ∙ ap (λ k. getD (flowPart x) k 0) two
+              getD-table T _ p 0 p-below ∙ part-stands (2 + p) (omega arith) ∙ part-held x p (omega (arith, v .whole .held-long i lt))
 
       flow-again : flowIn b P i ≡ x
       flow-again =
           let injection = part-stands 0 (omega arith) in
           let remainder = part-stands 1 (omega arith) in
-          λ k. record { injection = injection k; remainder = remainder k; held = held-again k }
+          let number = part-stands (2 + T) (omega arith) ∙ part-number x T (v .whole .held-long i lt) in
+          λ k. record { injection = injection k; remainder = remainder k; held = held-again k; number = number k }
 
     flows-again : linkFrom b P .flows ≡ l .flows
     flows-again = ext-getD noFlow (linkFrom b P .flows) (l .flows) (length-table n _ ∙ sym (v .whole .flows-long)) each

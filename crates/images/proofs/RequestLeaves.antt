@@ -15,7 +15,7 @@ use Rattle.model.specs.Plan.{Plan, positions, flowCount}
 use Rattle.model.specs.Calls.{refused}
 use Rattle.model.specs.Window.{start, head, frameAt, newest, passed, everyFrom}
 use Rattle.model.specs.Link.{Link, window, owner, flow, holding, share, cells, withFlow, movedTo}
-use Rattle.model.specs.Request.{Found, found, nowhere, wordTests, unbooked, valid, validFor, search, sought, wouldBeValid, refusedAtNewest, answered, requestAfter, request}
+use Rattle.model.specs.Request.{Found, found, nowhere, requestTests, unbooked, valid, validFor, search, sought, wouldBeValid, refusedAtNewest, answered, requestAfter, request}
 use Rattle.model.specs.Request as request
 use Rattle.model.proofs.Round.{firstWith, firstWith-low, firstWith-high, firstWith-mod, ahead-mod}
 use Rattle.model.proofs.Word.{depart-small}
@@ -191,21 +191,25 @@ module _ {l : Link} (v : Keepable l) (word : ℕ) (known : flowOf word < flowCou
       refused-proper false false = omega arith
 
 module _ {l : Link} (v : Keepable l) (word : ℕ) where
-  asked : firstOf (wordTests (l .plan) word) ≡ 0 → flowOf word < flowCount (l .plan)
+  -- what the tests before the search give
+  abbrev tested : ℕ
+  tested = firstOf (requestTests (l .plan) (flow l (flowOf word) .number) word)
+
+  asked : tested ≡ 0 → flowOf word < flowCount (l .plan)
   asked e = ltb-true (flowOf word) (flowCount (l .plan)) (not-false _ (line-passed _ 7 _ e .0))
 
   pub request-leaves : RequestLeaves l (request l word .link)
   unfolding request requestAfter
-  request-leaves = go (firstOf (wordTests (l .plan) word)) refl
+  request-leaves = go tested refl
     where
-      go : (r : ℕ) → firstOf (wordTests (l .plan) word) ≡ r → RequestLeaves l (requestAfter r l word .link)
+      go : (r : ℕ) → tested ≡ r → RequestLeaves l (requestAfter r l word .link)
       go zero e = answered-leaves v word (asked e) (comesTo v word (asked e)) (searched v word (asked e))
       go (suc r) e = unchanged
 
   pub request-proper : Proper Word (request l word .answer)
   unfolding request requestAfter
-  request-proper = go (firstOf (wordTests (l .plan) word)) refl
+  request-proper = go tested refl
     where
-      go : (r : ℕ) → firstOf (wordTests (l .plan) word) ≡ r → Proper Word (requestAfter r l word .answer)
+      go : (r : ℕ) → tested ≡ r → Proper Word (requestAfter r l word .answer)
       go zero e = answered-proper v word (asked e) (comesTo v word (asked e)) (searched v word (asked e))
-      go (suc r) e = omega (arith, firstOf-most 10 (wordTests (l .plan) word) (omega arith))
+      go (suc r) e = omega (arith, firstOf-most 24 (requestTests (l .plan) (flow l (flowOf word) .number) word) (omega arith))

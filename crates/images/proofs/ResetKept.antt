@@ -70,6 +70,7 @@ module _ {l : Link} {t : ℕ} (v : LinkAt l t) (nothing-held : noneHeld l ≡ tr
       within-cells = v .flows i h .holds .within-cells;
       grows = λ s w after. omega (arith, empty-from i h s w (omega arith));
     };
+    number-below = v .flows i h .number-below;
   }
 
   renewed-at : LinkAt (renewed l) t

@@ -50,6 +50,7 @@ module _ {l : Link} {t : ℕ} (v : LinkAt l t) where
             within-cells = f .holds .within-cells;
             grows = λ s w after. f .holds .grows s (before s w) (omega arith);
           };
+          number-below = f .number-below;
         };
   }
     where

@@ -69,4 +69,4 @@ module _ {l : Link} {t : ℕ} (v : LinkAt l t) {i : ℕ} (knows : i < flowCount 
   }
     where
       own : FlowAt P t (l .owners) i (movedTo (flow l i) j c)
-      own = record { spends = walked-spends w; within-share = old .within-share; holds = old .holds }
+      own = record { spends = walked-spends w; within-share = old .within-share; holds = old .holds; number-below = old .number-below }

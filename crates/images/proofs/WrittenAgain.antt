@@ -5,6 +5,7 @@ use mathlib.Core.List.{List, _∷_, [], _++_, map, flatMap}
 use mathlib.Core.Option.{some, none}
 use mathlib.Core.Bool.{Bool, true, false, cond}
 use native.Mathlib.Nat.{mod-lt, div-add-mod', div-lt-iff-lt-mul}
+use native.Mathlib.Decide.{decLt}
 use native.Mathlib.Omega.{arith}
 use lib.ListN.{length, getD, take, drop, length-map}
 use lib.Seq.{getD-drop, take-add}
@@ -20,6 +21,7 @@ use Rattle.images.specs.Image.{fields, fieldAt, headerLength, flowFields
 use Rattle.images.specs.Image.{stateField, planPart, planIn, ownerIn, flowField, flowIn, linkIn}
 use Rattle.images.specs.Taken.{Taken}
 use Rattle.images.specs.Chain.{imageIn}
+use Rattle.images.proofs.FlowParts.{part-length, part-held, part-number}
 use Rattle.images.proofs.Fields.{Stands, stands-nothing, stands-one, fields-again, Even, parts-length, parts-at}
 
 -- ---- bytes of a part of the buffer
@@ -116,20 +118,30 @@ module _ {b : List ℕ} (v : Taken b) (bytes : AllBytes b) where
   abbrev m : ℕ
   m = flowFields P
 
+  held-long : (i : ℕ) → length (flowIn b P i .held) ≡ T
+  held-long i = length-table T (λ p. flowField b P i (2 + p))
+
   even : Even flowPart noFlow m flowsRead
   even i lt =
       let below : i < n = omega (arith, length-table n (flowIn b P)) in
       ap (λ x. length (flowPart x)) (getD-table n (flowIn b P) i noFlow below) ∙ part-long
     where
       part-long : length (flowPart (flowIn b P i)) ≡ m
-      part-long = omega (arith, length-table T (λ p. flowField b P i (2 + p)))
+      part-long = omega (arith, part-length (flowIn b P i), held-long i)
 
   part-at : (i j : ℕ) → j < m → getD (flowPart (flowIn b P i)) j 0 ≡ flowField b P i j
   part-at i zero lt = refl
   part-at i (suc zero) lt = refl
-  part-at i (suc (suc p)) lt =
-      let two : 2 + p ≡ suc (suc p) = omega arith in
-      getD-table T (λ p. flowField b P i (2 + p)) p 0 (omega arith) ∙ ap (flowField b P i) two
+  part-at i (suc (suc p)) lt = ap (λ k. getD (flowPart (flowIn b P i)) k 0) two ∙ go (decLt p T) ∙ ap (flowField b P i) (sym two)
+    where
+      two : suc (suc p) ≡ 2 + p
+      two = omega arith
+
+      go : Dec (p < T) → getD (flowPart (flowIn b P i)) (2 + p) 0 ≡ flowField b P i (2 + p)
+      go (yes below) = part-held (flowIn b P i) p (omega (arith, held-long i)) ∙ getD-table T (λ p. flowField b P i (2 + p)) p 0 below
+      go (no past) =
+          let last : 2 + p ≡ 2 + T = omega arith in
+          ap (λ k. getD (flowPart (flowIn b P i)) k 0) last ∙ part-number (flowIn b P i) T (held-long i) ∙ ap (flowField b P i) (sym last)
 
   abbrev flows : List ℕ
   flows = flatMap flowPart flowsRead

@@ -1,4 +1,4 @@
--- The conditions on a link of which an image is taken. Document 02, N5, "An image is taken exactly if", and N8. Assumes nothing.
+-- The conditions on a link of which an image is taken. Document 02, N5, "An image is taken exactly if", N8 and N9. Assumes nothing.
 use Prim.Native.Nat.{ℕ, _+_, _-_, _*_, _%_, _≤_, _<_}
 use mathlib.Core.Path.{_≡_}
 use mathlib.Core.List.{List}
@@ -60,6 +60,8 @@ module _ (P : Plan) (current : ℕ) (owners : List (Option ℕ)) (i : ℕ) (x : 
     pub within-cells : (p : ℕ) → p < positions P → getD (x .held) p 0 ≤ entry P i .cells
     -- "later than CP a holding exceeds the one before it by at most one, and only at a position that the flow booked"
     pub grows : (p : ℕ) → p < positions P → later (windowAt P current) p current ≡ true → getD (x .held) p 0 ≤ growsTo p
+    -- N9: the expected number, "1,024 or above is a fault"
+    pub number-below : x .number < 1024
 
   -- the same as a test
   unfoldable pub flowTest : Bool
@@ -70,6 +72,7 @@ module _ (P : Plan) (current : ℕ) (owners : List (Option ℕ)) (i : ℕ) (x : 
       && eqb (bookingsIn P owners i (x .injection) + x .remainder) (entry P i .share)
       && every (positions P) (λ p. leb (getD (x .held) p 0) (entry P i .cells))
       && every (positions P) (λ p. not (later (windowAt P current) p current) || leb (getD (x .held) p 0) (growsTo p))
+      && ltb (x .number) 1024
 
 -- ---- a link
 

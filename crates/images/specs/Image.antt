@@ -1,4 +1,4 @@
--- The image of a link: its layout, a link as bytes, and bytes read as a link. Document 02, N5, "a link image between calls", and N8. Assumes nothing.
+-- The image of a link: its layout, a link as bytes, and bytes read as a link. Document 02, N5, "a link image between calls", N8 and N9. Assumes nothing.
 use Prim.Native.Nat.{ℕ, _+_, _*_}
 use mathlib.Core.List.{List, _∷_, [], _++_, map, flatMap}
 use mathlib.Core.Option.{Option, some, none}
@@ -21,7 +21,7 @@ abbrev pub fieldAt : List ℕ → (at k : ℕ) → ℕ
 fieldAt b at k = field16 b (at + 2 * k)
 
 -- ---- the table of the header's and each flow's own fields. "A field that a later request adds stands last in the header, or in each flow's part": it is
--- a line here.
+-- added here, and where it is read.
 
 -- "CP and the taken mark"; N8: the flow to look from, which "the image carries"
 abbrev pub state : List (Link → ℕ)
@@ -31,12 +31,13 @@ state =
     ∷ (λ l. l .lookFrom)
     ∷ []
 
--- "for each flow IF, C and its holdings at positions 0 to T-1", and how many fields that is
+-- "for each flow IF, C and its holdings at positions 0 to T-1"; N9: the number that is expected of it, which images "carry"
 abbrev pub flowPart : Flow → List ℕ
-flowPart x = x .injection ∷ x .remainder ∷ x .held
+flowPart x = x .injection ∷ x .remainder ∷ (x .held ++ (x .number ∷ []))
 
+-- how many fields that is
 abbrev pub flowFields : Plan → ℕ
-flowFields P = 2 + positions P
+flowFields P = 3 + positions P
 
 -- ---- the parts, "without gaps"
 
@@ -99,6 +100,7 @@ flowIn b P i = record {
   injection = flowField b P i 0;
   remainder = flowField b P i 1;
   held = table (positions P) (λ p. flowField b P i (2 + p));
+  number = flowField b P i (2 + positions P);
 }
 
 -- the link of plan P whose tables stand in b

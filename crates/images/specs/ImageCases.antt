@@ -54,31 +54,33 @@ pub record Case : Type 0 where
 abbrev pub Pass : List Case → Type 0
 Pass cases = map (λ e. outcome (e .trial)) cases ≡ map (λ e. e .expected) cases
 
--- ---- images of the listing's plan, two flows and eight positions: 94 bytes
+-- ---- images of the listing's plan, two flows and eight positions: 98 bytes
 
 -- as fresh writes it
 abbrev pub blank : List ℕ
 blank =
     -- total length, offset of the plan, offset and count of positions, offset and count of flows, CP, taken mark, flow to look from
-    0x5E ∷ 0x00 ∷ 0x12 ∷ 0x00 ∷ 0x26 ∷ 0x00 ∷ 0x08 ∷ 0x00 ∷ 0x36 ∷ 0x00 ∷ 0x02 ∷ 0x00 ∷ 0x00 ∷ 0x00 ∷ 0x00 ∷ 0x00 ∷ 0x00 ∷ 0x00
+    0x62 ∷ 0x00 ∷ 0x12 ∷ 0x00 ∷ 0x26 ∷ 0x00 ∷ 0x08 ∷ 0x00 ∷ 0x36 ∷ 0x00 ∷ 0x02 ∷ 0x00 ∷ 0x00 ∷ 0x00 ∷ 0x00 ∷ 0x00 ∷ 0x00 ∷ 0x00
     -- the plan
     ∷ 0x14 ∷ 0x00 ∷ 0x02 ∷ 0x00 ∷ 0x0C ∷ 0x00 ∷ 0x04 ∷ 0x00 ∷ 0x02 ∷ 0x00 ∷ 0x04 ∷ 0x00
     ∷ 0x02 ∷ 0x02 ∷ 0x01 ∷ 0x09 ∷ 0x02 ∷ 0x02 ∷ 0x02 ∷ 0x09
     -- owners
     ∷ 0x10 ∷ 0x00 ∷ 0x10 ∷ 0x00 ∷ 0x10 ∷ 0x00 ∷ 0x10 ∷ 0x00 ∷ 0x10 ∷ 0x00 ∷ 0x10 ∷ 0x00 ∷ 0x10 ∷ 0x00 ∷ 0x10 ∷ 0x00
-    -- flow 0: IF, C, holdings
+    -- flow 0: IF, C, holdings, expected number
     ∷ 0x00 ∷ 0x00 ∷ 0x02 ∷ 0x00
     ∷ 0x00 ∷ 0x00 ∷ 0x00 ∷ 0x00 ∷ 0x00 ∷ 0x00 ∷ 0x00 ∷ 0x00 ∷ 0x00 ∷ 0x00 ∷ 0x00 ∷ 0x00 ∷ 0x00 ∷ 0x00 ∷ 0x00 ∷ 0x00
+    ∷ 0x00 ∷ 0x00
     -- flow 1
     ∷ 0x00 ∷ 0x00 ∷ 0x02 ∷ 0x00
     ∷ 0x00 ∷ 0x00 ∷ 0x00 ∷ 0x00 ∷ 0x00 ∷ 0x00 ∷ 0x00 ∷ 0x00 ∷ 0x00 ∷ 0x00 ∷ 0x00 ∷ 0x00 ∷ 0x00 ∷ 0x00 ∷ 0x00 ∷ 0x00
+    ∷ 0x00 ∷ 0x00
     ∷ []
 
 -- a field that is changed, by its place in that image
 pub data Change : Type 0 where
   total planOffset positionsOffset positionCount flowsOffset flowCount cp mark look : (x : ℕ) → Change
   owner : (position x : ℕ) → Change
-  frame left : (flow x : ℕ) → Change
+  frame left expected : (flow x : ℕ) → Change
   held : (flow position x : ℕ) → Change
 
 abbrev place : Change → ℕ
@@ -92,9 +94,10 @@ place (cp x) = 12
 place (mark x) = 14
 place (look x) = 16
 place (owner p x) = 38 + 2 * p
-place (frame i x) = 54 + 20 * i
-place (left i x) = 56 + 20 * i
-place (held i p x) = 58 + 20 * i + 2 * p
+place (frame i x) = 54 + 22 * i
+place (left i x) = 56 + 22 * i
+place (held i p x) = 58 + 22 * i + 2 * p
+place (expected i x) = 74 + 22 * i
 
 abbrev value : Change → ℕ
 value (total x) = x
@@ -110,6 +113,7 @@ value (owner p x) = x
 value (frame i x) = x
 value (left i x) = x
 value (held i p x) = x
+value (expected i x) = x
 
 -- the fresh image, changed
 abbrev pub image : List Change → List ℕ

@@ -1,4 +1,4 @@
--- Edges of images: when they are taken, and what the calls on them leave. Document 02, N5. Assumes nothing.
+-- Edges of images: when they are taken, and what the calls on them leave. Document 02, N5, N8 and N9. Assumes nothing.
 --
 -- What each comes to is worked out from the request. The images are those of the listing's plan: F = 4, W = 2, T = 8, two flows with share 2 and 2 cells.
 use Prim.Native.Nat.{ℕ}
@@ -9,7 +9,7 @@ use Rattle.model.specs.Tables.{table}
 use Rattle.model.specs.PlanBytes.{entry, plan, plan2, listing, single}
 use Rattle.images.specs.Exports.{refusalNumber}
 use Rattle.images.specs.ImageCases.{Case, blank, image, measures, taken, fault, gives, leaves, turnsBack, freshly, chained}
-use Rattle.images.specs.ImageCases.{total, planOffset, positionsOffset, positionCount, flowsOffset, flowCount, cp, mark, look, owner, frame, left, held}
+use Rattle.images.specs.ImageCases.{total, planOffset, positionsOffset, positionCount, flowsOffset, flowCount, cp, mark, look, owner, frame, left, held, expected}
 
 -- three bytes past an image
 abbrev past : List ℕ
@@ -28,30 +28,35 @@ word2 = 0x24000800
 abbrev other0 : ℕ
 other0 = 0x24100000
 
+-- what stands after the header, without the numbers that are expected
+abbrev unnumbered : List ℕ
+unnumbered = take 56 (drop 18 blank) ++ take 20 (drop 76 blank)
+
 -- ---- 21 and 22
 
 unfoldable pub lengthEdges : List Case
 lengthEdges =
     -- the listing's plan; the smallest image; the longest, of 16 flows and 256 positions
-    measures listing 94
-    ∷ measures single 46
-    ∷ measures (plan 64 4 16 (table 16 (λ i. entry 1 1 i 63))) 8862
+    measures listing 98
+    ∷ measures single 48
+    ∷ measures (plan 64 4 16 (table 16 (λ i. entry 1 1 i 63))) 8894
     ∷ gives 0 blank
     ∷ gives 0 (blank ++ past)
     -- shorter than the header, and than the stated length
     ∷ gives 21 []
     ∷ gives 21 (take 17 blank)
     ∷ gives 21 (take 18 blank)
-    ∷ gives 21 (take 93 blank)
-    -- 95 stated in 94 bytes, whatever else is wrong; in 95 bytes it is another fault
-    ∷ gives 21 (image (total 95 ∷ []))
-    ∷ gives 21 (image (total 95 ∷ planOffset 20 ∷ mark 2 ∷ []))
-    ∷ gives 22 (image (total 95 ∷ []) ++ (0 ∷ []))
-    -- an image as it was before N8, without the flow to look from
-    ∷ gives 22 (0x5C ∷ 0x00 ∷ 0x10 ∷ 0x00 ∷ 0x24 ∷ 0x00 ∷ 0x08 ∷ 0x00 ∷ 0x34 ∷ 0x00 ∷ 0x02 ∷ 0x00 ∷ 0x00 ∷ 0x00 ∷ 0x00 ∷ 0x00 ∷ drop 18 blank)
+    ∷ gives 21 (take 97 blank)
+    -- 99 stated in 98 bytes, whatever else is wrong; in 99 bytes it is another fault
+    ∷ gives 21 (image (total 99 ∷ []))
+    ∷ gives 21 (image (total 99 ∷ planOffset 20 ∷ mark 2 ∷ []))
+    ∷ gives 22 (image (total 99 ∷ []) ++ (0 ∷ []))
+    -- images as they were before N8, without the flow to look from, and before N9, without numbers
+    ∷ gives 22 (0x5C ∷ 0x00 ∷ 0x10 ∷ 0x00 ∷ 0x24 ∷ 0x00 ∷ 0x08 ∷ 0x00 ∷ 0x34 ∷ 0x00 ∷ 0x02 ∷ 0x00 ∷ 0x00 ∷ 0x00 ∷ 0x00 ∷ 0x00 ∷ unnumbered)
+    ∷ gives 22 (0x5E ∷ 0x00 ∷ 0x12 ∷ 0x00 ∷ 0x26 ∷ 0x00 ∷ 0x08 ∷ 0x00 ∷ 0x36 ∷ 0x00 ∷ 0x02 ∷ 0x00 ∷ 0x00 ∷ 0x00 ∷ 0x00 ∷ 0x00 ∷ 0x00 ∷ 0x00 ∷ unnumbered)
     -- too small a length stated
-    ∷ fault (total 92 ∷ [])
-    ∷ gives 22 (take 93 (image (total 92 ∷ [])))
+    ∷ fault (total 96 ∷ [])
+    ∷ gives 22 (take 97 (image (total 96 ∷ [])))
     ∷ fault (total 4 ∷ [])
     ∷ fault (total 0 ∷ [])
     -- the other fields of the header, 264 with the low byte of 8
@@ -144,6 +149,12 @@ conditionEdges =
     ∷ fault (cp 4 ∷ held 0 0 1 ∷ [])
     ∷ taken (cp 4 ∷ held 0 4 2 ∷ [])
     ∷ taken (cp 7 ∷ held 0 7 1 ∷ held 0 0 1 ∷ [])
+    -- N9: the expected number, "1,024 or above is a fault", by all 16 bits
+    ∷ taken (expected 0 1023 ∷ expected 1 7 ∷ [])
+    ∷ fault (expected 0 1024 ∷ [])
+    ∷ fault (expected 1 1024 ∷ [])
+    ∷ fault (expected 1 1280 ∷ [])
+    ∷ fault (expected 0 65535 ∷ [])
     ∷ []
 
 -- ---- three frames of one slot, one flow, and frame 1 as HF: 1, 2, 0 is the frames' order, and IF is 2
@@ -151,10 +162,10 @@ conditionEdges =
 -- the image with these owners
 abbrev inTurn : (owner0 owner1 owner2 remainder : ℕ) → List ℕ
 inTurn owner0 owner1 owner2 remainder =
-    0x32 ∷ 0x00 ∷ 0x12 ∷ 0x00 ∷ 0x22 ∷ 0x00 ∷ 0x03 ∷ 0x00 ∷ 0x28 ∷ 0x00 ∷ 0x01 ∷ 0x00 ∷ 0x01 ∷ 0x00 ∷ 0x00 ∷ 0x00 ∷ 0x00 ∷ 0x00
+    0x34 ∷ 0x00 ∷ 0x12 ∷ 0x00 ∷ 0x22 ∷ 0x00 ∷ 0x03 ∷ 0x00 ∷ 0x28 ∷ 0x00 ∷ 0x01 ∷ 0x00 ∷ 0x01 ∷ 0x00 ∷ 0x00 ∷ 0x00 ∷ 0x00 ∷ 0x00
     ∷ 0x10 ∷ 0x00 ∷ 0x01 ∷ 0x00 ∷ 0x0C ∷ 0x00 ∷ 0x01 ∷ 0x00 ∷ 0x03 ∷ 0x00 ∷ 0x01 ∷ 0x00 ∷ 0x01 ∷ 0x01 ∷ 0x00 ∷ 0x01
     ∷ owner0 ∷ 0x00 ∷ owner1 ∷ 0x00 ∷ owner2 ∷ 0x00
-    ∷ 0x02 ∷ 0x00 ∷ remainder ∷ 0x00 ∷ 0x00 ∷ 0x00 ∷ 0x00 ∷ 0x00 ∷ 0x00 ∷ 0x00
+    ∷ 0x02 ∷ 0x00 ∷ remainder ∷ 0x00 ∷ 0x00 ∷ 0x00 ∷ 0x00 ∷ 0x00 ∷ 0x00 ∷ 0x00 ∷ 0x00 ∷ 0x00
     ∷ []
 
 unfoldable pub frameEdges : List Case
@@ -172,17 +183,19 @@ frameEdges =
 -- after the listing's seven calls
 abbrev afterListing : List ℕ
 afterListing =
-    0x5E ∷ 0x00 ∷ 0x12 ∷ 0x00 ∷ 0x26 ∷ 0x00 ∷ 0x08 ∷ 0x00 ∷ 0x36 ∷ 0x00 ∷ 0x02 ∷ 0x00 ∷ 0x01 ∷ 0x00 ∷ 0x00 ∷ 0x00 ∷ 0x00 ∷ 0x00
+    0x62 ∷ 0x00 ∷ 0x12 ∷ 0x00 ∷ 0x26 ∷ 0x00 ∷ 0x08 ∷ 0x00 ∷ 0x36 ∷ 0x00 ∷ 0x02 ∷ 0x00 ∷ 0x01 ∷ 0x00 ∷ 0x00 ∷ 0x00 ∷ 0x00 ∷ 0x00
     ∷ 0x14 ∷ 0x00 ∷ 0x02 ∷ 0x00 ∷ 0x0C ∷ 0x00 ∷ 0x04 ∷ 0x00 ∷ 0x02 ∷ 0x00 ∷ 0x04 ∷ 0x00
     ∷ 0x02 ∷ 0x02 ∷ 0x01 ∷ 0x09 ∷ 0x02 ∷ 0x02 ∷ 0x02 ∷ 0x09
     -- positions 1, 2 and 4 are flow 0's, and 3 is flow 1's
     ∷ 0x10 ∷ 0x00 ∷ 0x00 ∷ 0x00 ∷ 0x00 ∷ 0x00 ∷ 0x01 ∷ 0x00 ∷ 0x00 ∷ 0x00 ∷ 0x10 ∷ 0x00 ∷ 0x10 ∷ 0x00 ∷ 0x10 ∷ 0x00
-    -- flow 0 is in frame 1 with C = 1, and holds 0 1 2 2 2 2 2 2
+    -- flow 0 is in frame 1 with C = 1, holds 0 1 2 2 2 2 2 2, and its next word is to have number 3
     ∷ 0x01 ∷ 0x00 ∷ 0x01 ∷ 0x00
     ∷ 0x00 ∷ 0x00 ∷ 0x01 ∷ 0x00 ∷ 0x02 ∷ 0x00 ∷ 0x02 ∷ 0x00 ∷ 0x02 ∷ 0x00 ∷ 0x02 ∷ 0x00 ∷ 0x02 ∷ 0x00 ∷ 0x02 ∷ 0x00
-    -- flow 1 is in frame 0 with C = 1, and holds 0 0 0 1 1 1 1 1
+    ∷ 0x03 ∷ 0x00
+    -- flow 1 is in frame 0 with C = 1, holds 0 0 0 1 1 1 1 1, and its next word is to have number 1
     ∷ 0x00 ∷ 0x00 ∷ 0x01 ∷ 0x00
     ∷ 0x00 ∷ 0x00 ∷ 0x00 ∷ 0x00 ∷ 0x00 ∷ 0x00 ∷ 0x01 ∷ 0x00 ∷ 0x01 ∷ 0x00 ∷ 0x01 ∷ 0x00 ∷ 0x01 ∷ 0x00 ∷ 0x01 ∷ 0x00
+    ∷ 0x01 ∷ 0x00
     ∷ []
 
 -- a buffer as it comes to fresh
@@ -192,32 +205,33 @@ room size = replicate size 0xAA
 unfoldable pub exportEdges : List Case
 exportEdges =
     -- fresh: the plan is tested first, then the buffer; what stood there is not read; bytes past the image keep their values
-    freshly listing (room 94) blank 0
-    ∷ freshly listing (room 96) (blank ++ (0xAA ∷ 0xAA ∷ [])) 0
-    ∷ freshly listing (room 93) (room 93) (refusalNumber 21)
+    freshly listing (room 98) blank 0
+    ∷ freshly listing (room 100) (blank ++ (0xAA ∷ 0xAA ∷ [])) 0
+    ∷ freshly listing (room 97) (room 97) (refusalNumber 21)
     ∷ freshly listing [] [] (refusalNumber 21)
-    -- as long as an image was before N8
+    -- as long as an image was before N8, and before N9
     ∷ freshly listing (room 92) (room 92) (refusalNumber 21)
-    ∷ freshly (plan2 4 2 3 2 2 2 2) (room 93) (room 93) (refusalNumber 7)
+    ∷ freshly listing (room 94) (room 94) (refusalNumber 21)
+    ∷ freshly (plan2 4 2 3 2 2 2 2) (room 97) (room 97) (refusalNumber 7)
     ∷ freshly (plan2 4 2 3 2 2 2 2) [] [] (refusalNumber 7)
-    ∷ freshly (take 11 listing) (room 94) (room 94) (refusalNumber 1)
+    ∷ freshly (take 11 listing) (room 98) (room 98) (refusalNumber 1)
     -- the listing's calls: words, 12 times 2 to the power 32, 0 for the credit, flow 0 for the tick
-    ∷ chained listing (room 97)
+    ∷ chained listing (room 101)
     (Call.request word0 ∷ Call.request word1 ∷ Call.request word2 ∷ Call.credit 0 4 ∷ Call.request word2 ∷ Call.request other0 ∷ Call.tick ∷ [])
     (0x24000001 ∷ 0x24000402 ∷ 51539607552 ∷ 0 ∷ 0x24000804 ∷ 0x24100003 ∷ 0 ∷ []) (afterListing ++ (0xAA ∷ 0xAA ∷ 0xAA ∷ []))
     -- images that come up are taken by the next call: a holding that rises at CP, where it is lent and not booked; a booked CP that is not held;
     -- bookings in frame 1 with IF = 0, where frame 1 is HF
-    ∷ chained listing (room 94) (Call.tick ∷ Call.lend 1 ∷ Call.tick ∷ []) (16 ∷ 0 ∷ 16 ∷ [])
+    ∷ chained listing (room 98) (Call.tick ∷ Call.lend 1 ∷ Call.tick ∷ []) (16 ∷ 0 ∷ 16 ∷ [])
     (image (cp 2 ∷ look 1 ∷ held 0 1 1 ∷ held 0 2 1 ∷ held 0 3 1 ∷ held 0 4 1 ∷ held 0 5 1 ∷ held 0 6 1 ∷ held 0 7 1 ∷ []))
-    ∷ chained listing (room 94) (Call.request word0 ∷ Call.credit 0 1 ∷ Call.tick ∷ Call.tick ∷ []) (0x24000001 ∷ 0 ∷ 0 ∷ 16 ∷ [])
-    (image (cp 2 ∷ owner 1 0 ∷ left 0 1 ∷ []))
-    ∷ chained listing (room 94)
+    ∷ chained listing (room 98) (Call.request word0 ∷ Call.credit 0 1 ∷ Call.tick ∷ Call.tick ∷ []) (0x24000001 ∷ 0 ∷ 0 ∷ 16 ∷ [])
+    (image (cp 2 ∷ owner 1 0 ∷ left 0 1 ∷ expected 0 1 ∷ []))
+    ∷ chained listing (room 98)
     (Call.tick ∷ Call.tick ∷ Call.tick ∷ Call.tick ∷ Call.request 0x24000004 ∷ Call.request 0x24000404 ∷ Call.request 0x24000804 ∷ Call.tick ∷ [])
     (16 ∷ 16 ∷ 16 ∷ 16 ∷ 0x24000005 ∷ 0x24000406 ∷ 51539607552 ∷ 0 ∷ []) (image (cp 5 ∷ frame 1 1 ∷ owner 5 0 ∷ owner 6 0 ∷ held 0 5 1 ∷ held 0 6 2
-    ∷ held 0 7 2 ∷ held 0 0 2 ∷ held 0 1 2 ∷ held 0 2 2 ∷ held 0 3 2 ∷ []))
+    ∷ held 0 7 2 ∷ held 0 0 2 ∷ held 0 1 2 ∷ held 0 2 2 ∷ held 0 3 2 ∷ expected 0 2 ∷ []))
     -- bytes past the image keep their values
     ∷ leaves (blank ++ past) (Call.request word0) (image (owner 1 0 ∷ left 0 1 ∷ held 0 1 1 ∷ held 0 2 1 ∷ held 0 3 1 ∷ held 0 4 1 ∷ held 0 5 1
-    ∷ held 0 6 1 ∷ held 0 7 1 ∷ []) ++ past) 0x24000001
+    ∷ held 0 6 1 ∷ held 0 7 1 ∷ expected 0 1 ∷ []) ++ past) 0x24000001
     -- 12 is written back: IF goes to the newest frame
     ∷ leaves (image (held 0 0 2 ∷ held 0 1 2 ∷ held 0 2 2 ∷ held 0 3 2 ∷ held 0 4 2 ∷ held 0 5 2 ∷ held 0 6 2 ∷ held 0 7 2 ∷ [])) (Call.request word0)
     (image (frame 0 1 ∷ held 0 0 2 ∷ held 0 1 2 ∷ held 0 2 2 ∷ held 0 3 2 ∷ held 0 4 2 ∷ held 0 5 2 ∷ held 0 6 2 ∷ held 0 7 2 ∷ [])) (refusalNumber 12)
@@ -232,8 +246,24 @@ exportEdges =
     ∷ turnsBack blank (Call.credit 0 1) 15
     ∷ turnsBack (image (mark 1 ∷ [])) (Call.lend 3) 17
     ∷ turnsBack blank (Call.lend 0) 18
+    -- N9: 24, after 10 and before all that moves IF, leaves it too: a number ahead, one behind, that of another flow
+    ∷ turnsBack (blank ++ past) (Call.request word1) 24
+    ∷ turnsBack (image (expected 0 1 ∷ [])) (Call.request word0) 24
+    ∷ turnsBack (image (expected 1 1 ∷ [])) (Call.request other0) 24
+    ∷ turnsBack blank (Call.request 0x24000408) 10
+    ∷ turnsBack blank (Call.request 0x24000407) 24
+    ∷ turnsBack (image (frame 0 1 ∷ owner 4 0 ∷ owner 5 0 ∷ left 0 0 ∷ [])) (Call.request word1) 24
+    -- 1,023 and then 0; a lend, a credit, a tick and a reset leave it
+    ∷ leaves (image (expected 0 1023 ∷ [])) (Call.request 0x240FFC00) (image (owner 1 0 ∷ left 0 1 ∷ held 0 1 1 ∷ held 0 2 1 ∷ held 0 3 1 ∷ held 0 4 1
+    ∷ held 0 5 1 ∷ held 0 6 1 ∷ held 0 7 1 ∷ [])) 0x240FFC01
+    ∷ leaves (image (cp 3 ∷ expected 0 5 ∷ [])) (Call.lend 3)
+    (image (cp 3 ∷ mark 1 ∷ look 1 ∷ held 0 3 1 ∷ held 0 4 1 ∷ held 0 5 1 ∷ held 0 6 1 ∷ held 0 7 1 ∷ expected 0 5 ∷ [])) 0
+    ∷ leaves (image (cp 3 ∷ held 0 3 1 ∷ held 0 4 1 ∷ held 0 5 1 ∷ held 0 6 1 ∷ held 0 7 1 ∷ expected 0 5 ∷ [])) (Call.credit 0 4)
+    (image (cp 3 ∷ held 0 3 1 ∷ expected 0 5 ∷ [])) 0
+    ∷ leaves (image (cp 3 ∷ expected 1 1023 ∷ [])) Call.tick (image (cp 4 ∷ frame 0 1 ∷ frame 1 1 ∷ expected 1 1023 ∷ [])) 16
+    ∷ leaves (image (expected 0 5 ∷ expected 1 6 ∷ [])) Call.reset (image (expected 0 5 ∷ expected 1 6 ∷ [])) 0
     -- 21 and 22 come before 8
-    ∷ turnsBack (take 93 blank) (Call.request 0x24200000) 21
+    ∷ turnsBack (take 97 blank) (Call.request 0x24200000) 21
     ∷ turnsBack (image (cp 8 ∷ [])) (Call.request 0x24200000) 22
     ∷ turnsBack (image (cp 8 ∷ []) ++ past) (Call.credit 2 0) 22
     ∷ turnsBack (image (held 0 0 257 ∷ [])) Call.tick 22
@@ -258,13 +288,13 @@ exportEdges =
     -- what is held at positions that have gone by stays, and so does a mark
     ∷ leaves (image (cp 2 ∷ owner 1 0 ∷ left 0 1 ∷ mark 1 ∷ held 0 1 1 ∷ [])) Call.reset (image (cp 2 ∷ mark 1 ∷ held 0 1 1 ∷ [])) 0
     -- the next calls take such an image
-    ∷ chained listing (room 94) (Call.request word0 ∷ Call.credit 0 2 ∷ Call.tick ∷ Call.tick ∷ Call.reset ∷ Call.tick ∷ [])
-    (0x24000001 ∷ 0 ∷ 0 ∷ 16 ∷ 0 ∷ 16 ∷ []) (image (cp 3 ∷ held 0 1 1 ∷ []))
+    ∷ chained listing (room 98) (Call.request word0 ∷ Call.credit 0 2 ∷ Call.tick ∷ Call.tick ∷ Call.reset ∷ Call.tick ∷ [])
+    (0x24000001 ∷ 0 ∷ 0 ∷ 16 ∷ 0 ∷ 16 ∷ []) (image (cp 3 ∷ held 0 1 1 ∷ expected 0 1 ∷ []))
     -- 23: a later position is booked, or a cell is held at CP or later; 21 and 22 come before it
     ∷ turnsBack (image (owner 1 0 ∷ left 0 1 ∷ [])) Call.reset 23
     ∷ turnsBack (image (held 0 0 1 ∷ []) ++ past) Call.reset 23
     ∷ turnsBack (image (cp 4 ∷ held 1 4 1 ∷ [])) Call.reset 23
-    ∷ turnsBack (take 93 blank) Call.reset 21
+    ∷ turnsBack (take 97 blank) Call.reset 21
     ∷ turnsBack (image (cp 8 ∷ [])) Call.reset 22
     ∷ []
 

@@ -109,7 +109,7 @@ module _ {l : Link} {plan : Plan} {w : code.Window} (a : AtHand l plan w) (i p :
     sound-lower : Sound (withFlow l i (withHeld (flowAt l i) lower))
     sound-lower =
         sound-from l (a .sound) (windowOf w) (a .window-is) i p flow-below (λ x. x - 1) lower lower-is (flowAt l i .flow)
-        (a .sound .flows i flow-below .frame)
+        (a .sound .flows i flow-below .frame) (a .sound .flows i flow-below .number)
 
     pub credit-taken : {h : List ℕ} → h ≡ shifted (windowOf w) 255 i p (l .held)
         → Stepped answerToCredit (credit (linkOf l) i p) (record { link = withHoldings l h; answer = Taken })

@@ -1,4 +1,5 @@
--- Demand 3 of the code, and that it lends in turn: any list of calls on the link that fresh hands back for a plan that the reader accepts. Assumes nothing.
+-- Demand 3 of the code, that it lends in turn, and the numbers of the words that it grants: any list of calls on the link that fresh hands back for a
+-- plan that the reader accepts. Assumes nothing.
 use Prim.Native.Nat.{ℕ, zero, suc, _<_}
 use mathlib.Core.Path.{_≡_, refl, sym, ap, _∙_, subst}
 use mathlib.Core.List.{List, _∷_, [], _++_}
@@ -15,11 +16,13 @@ use Rattle.model.specs.Calls.{Call, Grant, Receipt, Turn, Loan, Renewal, Event,
 use Rattle.model.specs.Claim.{Demand3}
 use Rattle.model.specs.Card.{Played, paper, step, play, started, run}
 use Rattle.model.specs.Fairness.{FairOn}
+use Rattle.model.specs.QuantumNumbers.{InOrder}
 use Rattle.model.specs.CountedBursts.{several, countsAs, eventsIn}
 use Rattle.model.proofs.AfterCalls.{Known, after-calls, after-fresh}
 use Rattle.model.proofs.CountedBursts.{play-both, burst-played}
 use Rattle.model.proofs.Demand3.{meets-accepted}
 use Rattle.model.proofs.Fairness.{fair-accepted}
+use Rattle.model.proofs.QuantumNumbers.{numbers-accepted}
 use Rattle.link.specs.declared.Link.{Link}
 use Rattle.link.specs.Reading.{linkOf}
 use Rattle.link.specs.Handed.{Handed}
@@ -147,3 +150,8 @@ code-meets = code-has (λ P h. (i : ℕ) → i < model.flowCount P → Demand3 P
 pub code-fair : (bytes : List ℕ) (o : Outcome) → o ≡ readOf bytes → (o .verdict ≡ Accepted → Valid (o .plan)) → o .verdict ≡ Accepted
     → {h : History} {l : Link} → Handed (o .plan) h l → FairOn (model.planOf bytes) h
 code-fair = code-has FairOn fair-accepted
+
+-- and N9: the words that a flow is granted by these calls are numbered 0, 1, 2 and so on modulo 1,024, in the order of their grants
+pub code-numbers : (bytes : List ℕ) (o : Outcome) → o ≡ readOf bytes → (o .verdict ≡ Accepted → Valid (o .plan)) → o .verdict ≡ Accepted
+    → {h : History} {l : Link} → Handed (o .plan) h l → (i : ℕ) → i < model.flowCount (model.planOf bytes) → InOrder (model.planOf bytes) i h
+code-numbers = code-has (λ P h. (i : ℕ) → i < model.flowCount P → InOrder P i h) numbers-accepted

@@ -146,11 +146,16 @@ module _ (l : Link) (s : Sound l) where
   sound-after i h = record {
     frame = go (eqb (flowAt l i .flow .frame) (windowAt l .head));
     spare = λ q k. replaced-off _ _ (flowAt l i .held) q 0 (past-head q k) ∙ s .flows i h .spare q k;
+    number = same-number (eqb (flowAt l i .flow .frame) (windowAt l .head));
   }
     where
       go : (b : Bool) → cond b (movedTo (flowAt l i .flow) (onAt l) (entryAt l i .share)) (flowAt l i .flow) .frame < l .plan .frames
       go true = mod-lt _ (omega (arith, s .plan .accepted .two-frames))
       go false = s .flows i h .frame
+
+      same-number : (b : Bool) → cond b (movedTo (flowAt l i .flow) (onAt l) (entryAt l i .share)) (flowAt l i .flow) .number < 1024
+      same-number true = s .flows i h .number
+      same-number false = s .flows i h .number
 
   -- ---- the link
 

@@ -1,11 +1,11 @@
 -- The fresh link, as it is read. Assumes nothing.
-use Prim.Native.Nat.{ℕ, _*_, _<_}
+use Prim.Native.Nat.{ℕ, _*_, _≤_, _<_}
 use mathlib.Core.Path.{_≡_, sym, ap, _∙_}
 use mathlib.Core.List.{List}
 use mathlib.Core.Bool.{true, false}
 use mathlib.Core.Option.{none}
 use native.Mathlib.Omega.{arith}
-use lib.ListN.{getD, replicate}
+use lib.ListN.{length, getD, replicate}
 use Rattle.model.specs.Tables.{table}
 use Rattle.model.specs.Plan as paper
 use Rattle.model.specs.Link as model
@@ -15,15 +15,16 @@ use Rattle.plan.specs.Reading as plan
 use Rattle.link.specs.declared.Link.{Link}
 use Rattle.unbooked.specs.Words.{Words}
 use Rattle.tables.specs.Holdings.{nothingHeld}
-use Rattle.link.specs.Layout.{flowRow, flowAt}
+use Rattle.link.specs.Layout.{flowRow, flowAt, noFlow}
 use Rattle.tables.specs.Owners.{nobody, ownerOf, everywhere}
 use Rattle.link.specs.Reading.{flowOf, linkOf}
-use Rattle.link.specs.Started.{startedFlow, startedFlows}
+use Rattle.link.specs.Started.{noFlows, startedFlow, startedFlows}
 use Rattle.link.specs.Sound.{Sound}
 use Rattle.window.proofs.Tabulated.{table-same, replicate-table}
 use Rattle.tables.proofs.FreshTables.{nothing-at, length-nothing, row-of-nothing}
 use Rattle.link.proofs.Plans.{plan-count, plan-entry, count-most}
 use Rattle.link.proofs.StartedFlows.{measures-start, read-unowned, sound-unowned, started-at, started-past, length-started}
+use Rattle.link.proofs.StartedFlows.{no-flow-at, length-no-flows}
 
 -- ---- the link
 
@@ -33,17 +34,20 @@ freshLink p u = record {
   cp = 0;
   owner = everywhere nobody;
   unbooked = u;
-  flows = startedFlows 0 (p .entries) (p .count);
+  flows = startedFlows 0 (p .entries) (p .count) noFlows;
   held = nothingHeld;
   taken = false;
   first = 0;
 }
 
 module _ (p : Plan) (v : plan.Valid p) (u : List ℕ) where
-  flow-at : (i : ℕ) → i < p .count → flowAt (freshLink p u) i ≡ flowRow (startedFlow 0 (getD (p .entries) i plan.noEntry)) (everywhere 0)
+  few : p .count ≤ length noFlows
+  few = rw length-no-flows (count-most p v)
+
+  flow-at : (i : ℕ) → i < p .count → flowAt (freshLink p u) i ≡ flowRow (startedFlow 0 (getD (p .entries) i plan.noEntry) noFlow) (everywhere 0)
   flow-at i h =
-      let b = count-most p v in
-      rw (started-at 0 (p .entries) (p .count) b i h, row-of-nothing i (omega arith))
+      let below : i < 16 = omega (arith, count-most p v) in
+      rw (started-at 0 (p .entries) (p .count) noFlows few i h, no-flow-at i below, row-of-nothing i below)
 
   pub read-fresh : linkOf (freshLink p u) ≡ fresh (plan.planFor p)
   unfolding linkOf fresh
@@ -59,7 +63,7 @@ module _ (p : Plan) (v : plan.Valid p) (u : List ℕ) where
       held = table-same T _ _ (λ q b. nothing-at q) ∙ sym (replicate-table T 0)
 
       start : ℕ → model.Flow
-      start i = record { injection = 0; remainder = paper.entry (plan.planFor p) i .share; held = replicate T 0 }
+      start i = record { injection = 0; remainder = paper.entry (plan.planFor p) i .share; held = replicate T 0; number = 0 }
 
       flows : table (p .count) (λ i. flowOf T (flowAt (freshLink p u) i)) ≡ table (paper.flowCount (plan.planFor p)) start
       flows =
@@ -74,9 +78,13 @@ module _ (p : Plan) (v : plan.Valid p) (u : List ℕ) where
     owners = unowned .owned;
     spare-owners = unowned .spare;
     unbooked = unowned .words;
-    flows-long = length-started 0 (p .entries) (p .count);
+    flows-long = length-started 0 (p .entries) (p .count) noFlows ∙ length-no-flows;
     held-long = length-nothing;
-    flows = λ i h. rw (flow-at i h) (record { frame = omega (arith, v .accepted .two-frames); spare = λ q _. nothing-at q });
-    spare-flows = λ i h b. rw (started-past 0 (p .entries) (p .count) i h b, row-of-nothing i b);
+    flows = λ i h. rw (flow-at i h) (record {
+      frame = omega (arith, v .accepted .two-frames);
+      spare = λ q _. nothing-at q;
+      number = omega arith;
+    });
+    spare-flows = λ i h b. rw (started-past 0 (p .entries) (p .count) noFlows i h, no-flow-at i b, row-of-nothing i b);
     first = rw (plan-count p) at (v .accepted .some-flow);
   }

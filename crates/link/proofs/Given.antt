@@ -6,7 +6,7 @@ use mathlib.Core.Bool.{Bool, true, false, cond}
 use native.Mathlib.Omega.{arith}
 use lib.Dec.{ltb}
 use lib.ListN.{getD}
-use borrow.Author.Tests.{ltb-true}
+use borrow.Author.Tests.{lt-ltb, ltb-true}
 use Rattle.plan.specs.declared.Entry.{Entry}
 use Rattle.plan.specs.declared.Plan.{Plan}
 use Rattle.plan.specs.Reading.{Valid, noEntry}
@@ -27,7 +27,7 @@ use Rattle.link.specs.Reading.{linkOf}
 use Rattle.link.specs.Sound.{Sound}
 use Rattle.link.specs.Given.{WindowOn, CreditOn, placed, RequestOn, WordOn}
 use Rattle.link.proofs.Plans.{count-some, count-most}
-use Rattle.link.proofs.Readings.{read-size, read-slots, read-frames, some-flow, flows-most}
+use Rattle.link.proofs.Readings.{read-flow, read-size, read-slots, read-frames, some-flow, flows-most}
 use Rattle.link.proofs.Searches.{sought-same, would-same}
 
 pub record AtHand (l : Link) (plan : Plan) (w : Window) : Type 0 where
@@ -115,11 +115,23 @@ module _ {l : Link} {plan : Plan} {w : Window} (a : AtHand l plan w) where
 -- ---- what a request on link l is given
 
 module _ {l : Link} {n : ℕ} {e : Entry} {w : Window} {unbooked held : List ℕ} {i : ℕ} {f : Flow} {x : ℕ} (o : RequestOn l n e w unbooked held i f x) where
-  pub word-on : WordOn (l .plan) n e (sizeOf w) x
+  -- flow i is the word's, where the plan has it
+  own-place : flowOf x < n → i ≡ flowOf x
+  own-place below = o .place-is ∙ rw (lt-ltb (flowOf x) n below)
+
+  -- the number that is expected of it
+  number-on : flowOf x < n → f .number ≡ model.flow (linkOf l) (flowOf x) .number
+  number-on below =
+      let there : flowOf x < l .plan .count = rw (← o .window .count-is) below in
+      ap (λ (g : Flow). g .number) (o .flow-is ∙ ap (λ (j : ℕ). getD (l .flows) j noFlow) (own-place below))
+      ∙ sym (ap (λ (g : model.Flow). g .number) (read-flow l (flowOf x) there))
+
+  pub word-on : WordOn (l .plan) (model.flow (linkOf l) (flowOf x) .number) n e (sizeOf w) (f .number) x
   word-on = record {
     count-is = o .window .count-is;
     entry-is = o .entry-is ∙ ap (λ (k : ℕ). getD (l .plan .entries) k noEntry) (o .place-is);
     size-is = read-size l (o .window .window-is);
+    number-is = number-on;
   }
 
   pub place-on : i ≡ placed (l .plan .count) (flowOf x)
@@ -133,6 +145,9 @@ module _ {l : Link} {n : ℕ} {e : Entry} {w : Window} {unbooked held : List ℕ
   words-on =
       let is = o .window .window-is in
       rw (read-slots l is, read-frames l is, o .unbooked-is) (o .window .sound .unbooked)
+
+  pub number-below : f .number < 1024
+  number-below = rw (o .flow-is) (o .window .sound .flows i flow-on .number)
 
   pub flow-few : i < 16
   flow-few = omega (arith, flow-on, flows-most l (o .window .sound))

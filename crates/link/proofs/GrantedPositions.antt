@@ -2,18 +2,16 @@
 use Prim.Native.Nat.{ℕ, zero, suc, _<_}
 use mathlib.Core.Path.{_≡_, refl}
 use native.Mathlib.Omega.{arith}
-use Rattle.model.specs.Refusals.{firstOf}
 use Rattle.model.specs.Word.{flowOf, departureOf}
 use Rattle.model.specs.Link as model
-use Rattle.model.specs.Request.{wordTests, Found, found, nowhere, sought, request}
+use Rattle.model.specs.Request.{Found, found, nowhere, sought, request}
 use Rattle.model.specs.Burst.{positionOf}
 use Rattle.model.proofs.Word.{departure-depart}
-use Rattle.plan.specs.Reading.{planFor}
 use Rattle.link.specs.declared.Link.{Link}
 use Rattle.link.specs.Layout.{sizeOf}
 use Rattle.link.specs.Reading.{linkOf}
 use Rattle.link.specs.Sound.{Sound}
-use Rattle.link.specs.Given.{placed}
+use Rattle.link.specs.Given.{placed, testsOf}
 use Rattle.link.proofs.Readings.{read-size, measures}
 use Rattle.link.proofs.Words.{word-refused}
 use Rattle.link.proofs.Searches.{found-at}
@@ -25,9 +23,9 @@ module _ (l : Link) (s : Sound l) (x : ℕ) where
   i = placed (l .plan .count) (flowOf x)
 
   pub position-small : positionOf (request (linkOf l) x .answer) < 256
-  position-small = go (firstOf (wordTests (planFor (l .plan)) x)) refl
+  position-small = go (testsOf l x) refl
     where
-      searched : (f : Found) → f ≡ sought (linkOf l) i (departureOf x) → 0 ≡ firstOf (wordTests (planFor (l .plan)) x)
+      searched : (f : Found) → f ≡ sought (linkOf l) i (departureOf x) → 0 ≡ testsOf l x
           → positionOf (request (linkOf l) x .answer) < 256
       searched (found j c p) e tests =
           let booking = found-at l s (model.window (linkOf l)) refl i (flow-there l s x i refl) (departureOf x) j c p e in
@@ -36,6 +34,6 @@ module _ (l : Link) (s : Sound l) (x : ℕ) where
           rw (request-found l s x i refl tests refl j c p e, departure-depart x p (omega (arith, small))) small
       searched (nowhere c) e tests = rw (request-nowhere l s x i refl tests refl c e) (omega arith)
 
-      go : (n : ℕ) → n ≡ firstOf (wordTests (planFor (l .plan)) x) → positionOf (request (linkOf l) x .answer) < 256
+      go : (n : ℕ) → n ≡ testsOf l x → positionOf (request (linkOf l) x .answer) < 256
       go zero tests = searched (sought (linkOf l) i (departureOf x)) refl tests
       go (suc n) tests = rw (word-refused l x tests (λ z. omega arith)) (omega arith)

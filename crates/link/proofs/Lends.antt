@@ -137,7 +137,8 @@ module _ {l : Link} {plan : Plan} {w : code.Window} (a : AtHand l plan w) (mask 
       sound-lent : Sound lentLink
       sound-lent =
           sound-marked (withFlow l i (withHeld (flowAt l i) raised))
-          (sound-from l (a .sound) (windowOf w) (a .window-is) i (l .cp) hi suc raised raised-is (flowAt l i .flow) (a .sound .flows i hi .frame)) true
+          (sound-from l (a .sound) (windowOf w) (a .window-is) i (l .cp) hi suc raised raised-is (flowAt l i .flow)
+          (a .sound .flows i hi .frame) (a .sound .flows i hi .number)) true
 
   -- ---- what a lend comes to
 

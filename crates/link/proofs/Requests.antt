@@ -7,14 +7,12 @@ use native.Mathlib.Nat.{mod-lt}
 use native.Mathlib.Omega.{arith}
 use lib.ListN.{set}
 use lib.Seq.{set-getD}
-use Rattle.model.specs.Refusals.{firstOf}
 use Rattle.model.specs.Word.{flowOf, departureOf}
 use Rattle.model.specs.Window.{newest}
 use Rattle.model.specs.Plan as paper
 use Rattle.model.specs.Link as model
-use Rattle.model.specs.Request.{wordTests, Found, found, nowhere, sought, booked, refusedAtNewest, request}
+use Rattle.model.specs.Request.{Found, found, nowhere, sought, nextNumber, bookedFlow, booked, refusedAtNewest, request}
 use Rattle.plan.specs.declared.Plan.{Plan}
-use Rattle.plan.specs.Reading.{planFor}
 use Rattle.calls.specs.Reading.{answerToRequest}
 use Rattle.window.specs.declared.Window.{Window}
 use Rattle.window.specs.Ranges.{replaced}
@@ -31,10 +29,10 @@ use Rattle.link.specs.declared.reply.Reply.{Reply}
 use Rattle.link.specs.declared.Flow.{Flow}
 use Rattle.link.specs.declared.Link.{Link}
 use Rattle.link.specs.Layout.{sizeOf, entryAt, flowRow, flowAt, noFlow}
-use Rattle.link.specs.Updates.{movedTo, withOwners, withFlows, withHoldings, withFlow}
+use Rattle.link.specs.Updates.{movedTo, grantedIn, withOwners, withFlows, withHoldings, withFlow}
 use Rattle.link.specs.Reading.{linkOf}
 use Rattle.link.specs.Sound.{Sound}
-use Rattle.link.specs.Given.{placed}
+use Rattle.link.specs.Given.{placed, testsOf}
 use Rattle.link.specs.Reply.{replyOf}
 use Rattle.link.proofs.Plans.{plan-count, plan-entry}
 use Rattle.link.specs.Steps.{Stepped}
@@ -102,21 +100,21 @@ module _ {l : Link} {plan : Plan} {w : Window} (a : AtHand l plan w) (i : ℕ) (
 
     module _ {u : List ℕ} (x : Booked (w .slots) j p (l .unbooked) u) where
       abbrev bookedLink : Link
-      bookedLink = withFlow (owned u) i (flowRow (movedTo (flowAt l i .flow) j c) raised)
+      bookedLink = withFlow (owned u) i (flowRow (grantedIn (flowAt l i .flow) j c) raised)
 
       booked-link : linkOf bookedLink ≡ booked (linkOf l) i j c p
       unfolding booked linkOf
       booked-link =
-          read-from (owned u) (sound-owned x) (windowOf w) (a .window-is) i p hi suc raised raised-is (movedTo (flowAt l i .flow) j c)
-          (λ k. model.movedTo (sym (read-flow (owned u) i hi) k) j c)
-          ∙ ap (λ (m : model.Link). model.withFlow m i (model.withHeld (model.movedTo (model.flow m i) j c) (model.heldFrom m i p suc)))
+          read-from (owned u) (sound-owned x) (windowOf w) (a .window-is) i p hi suc raised raised-is (grantedIn (flowAt l i .flow) j c)
+          (λ k. let f = sym (read-flow (owned u) i hi) k in model.withNumber (model.movedTo f j c) (nextNumber (f .number)))
+          ∙ ap (λ (m : model.Link). model.withFlow m i (bookedFlow m i j c p))
           (read-with-owner l (a .sound) p i position-there hi u)
 
       sound-booked : Sound bookedLink
       unfolding linkOf
       sound-booked =
-          sound-from (owned u) (sound-owned x) (windowOf w) (a .window-is) i p hi suc raised raised-is (movedTo (flowAt l i .flow) j c)
-          (rw (read-frames l (a .window-is)) at (booking .frame))
+          sound-from (owned u) (sound-owned x) (windowOf w) (a .window-is) i p hi suc raised raised-is (grantedIn (flowAt l i .flow) j c)
+          (rw (read-frames l (a .window-is)) at (booking .frame)) (mod-lt _ (omega arith))
 
   -- no position: flow i is in the newest frame
   module _ (c : ℕ) where
@@ -133,7 +131,11 @@ module _ {l : Link} {plan : Plan} {w : Window} (a : AtHand l plan w) (i : ℕ) (
     unfolding linkOf
     sound-stopped =
         sound-with-flow l (a .sound) i hi _ (length-row (l .held) i)
-        (record { frame = mod-lt _ (omega (arith, a .sound .plan .accepted .two-frames)); spare = a .sound .flows i hi .spare })
+        (record {
+          frame = mod-lt _ (omega (arith, a .sound .plan .accepted .two-frames));
+          spare = a .sound .flows i hi .spare;
+          number = a .sound .flows i hi .number;
+        })
 
 -- ---- what a reply comes to
 
@@ -162,9 +164,9 @@ module _ {l : Link} {plan : Plan} {w : Window} (a : AtHand l plan w) (x : ℕ) {
   there = flow-there l (a .sound) x i place
 
   replied : Replied (replyOf i (request (linkOf l) x))
-  replied = go (firstOf (wordTests (planFor (l .plan)) x)) refl
+  replied = go (testsOf l x) refl
     where
-      searched : 0 ≡ firstOf (wordTests (planFor (l .plan)) x) → (r : Found) → r ≡ sought (linkOf l) i (departureOf x) → Replied (replyOf i (request (linkOf l) x))
+      searched : 0 ≡ testsOf l x → (r : Found) → r ≡ sought (linkOf l) i (departureOf x) → Replied (replyOf i (request (linkOf l) x))
       searched tests (found j c p) e =
           let small : p < 1024 = omega (arith, position-below a i there (departureOf x) j c p e, a .proper .measures .positions-most) in
           subst Replied (reply-found l (a .sound) x i place tests refl j c p e small) (record {
@@ -180,7 +182,7 @@ module _ {l : Link} {plan : Plan} {w : Window} (a : AtHand l plan w) (x : ℕ) {
           (rw (request-nowhere l (a .sound) x i place tests refl c e, ← flow-alone l i (stopped a i there c))
           (record { link-is = stopped-link a i there c; answer-is = refl; sound = sound-stopped a i there c })))
 
-      go : (n : ℕ) → n ≡ firstOf (wordTests (planFor (l .plan)) x) → Replied (replyOf i (request (linkOf l) x))
+      go : (n : ℕ) → n ≡ testsOf l x → Replied (replyOf i (request (linkOf l) x))
       go zero tests = searched tests (sought (linkOf l) i (departureOf x)) refl
       go (suc n) tests =
           subst Replied (reply-refused l (a .sound) x i place tests (λ z. omega arith))

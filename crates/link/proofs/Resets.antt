@@ -1,9 +1,10 @@
 -- A reset on a link, as it is read. Assumes nothing.
-use Prim.Native.Nat.{ℕ, _<_}
+use Prim.Native.Nat.{ℕ, _≤_, _<_}
 use mathlib.Core.Path.{_≡_, refl, sym, ap, _∙_}
 use mathlib.Core.List.{List}
 use mathlib.Core.Bool.{Bool, true, false, not, _&&_, _||_, cond}
 use lib.Dec.{ltb, eqb}
+use lib.ListN.{length, getD}
 use borrow.Author.Tests.{not-true, not-false}
 use Rattle.model.specs.Tables.{table, every}
 use Rattle.model.specs.Plan as paper
@@ -25,7 +26,7 @@ use Rattle.tables.specs.Rows.{row}
 use Rattle.tables.specs.Holdings.{roomAt}
 use Rattle.link.specs.declared.Flow.{Flow}
 use Rattle.link.specs.declared.Link.{Link}
-use Rattle.link.specs.Layout.{FlowRow, sizeOf, entryAt, flowRow, flowIn, ownerAt}
+use Rattle.link.specs.Layout.{FlowRow, sizeOf, entryAt, flowRow, flowIn, ownerAt, noFlow}
 use Rattle.link.specs.Updates.{linkWith, withFirst}
 use Rattle.link.specs.Reading.{flowOf, linkOf}
 use Rattle.link.specs.Sound.{Sound}
@@ -60,9 +61,9 @@ module _ (l : Link) where
 
 -- ---- the link after a granted reset
 
--- nobody owns a position, the flows start in the head frame, and the mark is t
+-- nobody owns a position, the flows start in the head frame with their numbers, and the mark is t
 abbrev recycledLink : Link → (head : ℕ) → (unbooked : List ℕ) → (t : Bool) → Link
-recycledLink l head u t = linkWith l (l .cp) (everywhere nobody) u (startedFlows head (l .plan .entries) (l .plan .count)) (l .held) t
+recycledLink l head u t = linkWith l (l .cp) (everywhere nobody) u (startedFlows head (l .plan .entries) (l .plan .count) (l .flows)) (l .held) t
 
 -- and the next lend looks at flow 0 first
 abbrev renewedLink : Link → (head : ℕ) → (unbooked : List ℕ) → (t : Bool) → Link
@@ -77,10 +78,12 @@ module _ {l : Link} {w : Window} (a : AtHand l (l .plan) w) where
 
   -- the flows and holdings then
   abbrev flowThen : ℕ → FlowRow
-  flowThen = flowIn (startedFlows (w .head) (l .plan .entries) (l .plan .count)) (l .held)
+  flowThen = flowIn (startedFlows (w .head) (l .plan .entries) (l .plan .count) (l .flows)) (l .held)
 
-  flow-then : (i : ℕ) → i < l .plan .count → flowThen i ≡ flowRow (startedFlow (w .head) (entryAt l i)) (row (l .held) i)
-  flow-then i h = ap (λ (f : Flow). flowRow f (row (l .held) i)) (started-at (w .head) (l .plan .entries) (l .plan .count) (flows-most l (a .sound)) i h)
+  flow-then : (i : ℕ) → i < l .plan .count → flowThen i ≡ flowRow (startedFlow (w .head) (entryAt l i) (getD (l .flows) i noFlow)) (row (l .held) i)
+  flow-then i h =
+      let few : l .plan .count ≤ length (l .flows) = rw (a .sound .flows-long) (flows-most l (a .sound)) in
+      ap (λ (f : Flow). flowRow f (row (l .held) i)) (started-at (w .head) (l .plan .entries) (l .plan .count) (l .flows) few i h)
 
   read-then : (i : ℕ) → i < l .plan .count → flowOf (sizeOf l) (flowThen i) ≡ fromHead (linkOf l) i
   read-then i h =
@@ -106,10 +109,12 @@ module _ {l : Link} {w : Window} (a : AtHand l (l .plan) w) where
         let s = a .sound in
         sound-first (recycledLink l (w .head) u t)
         (sound-with l s (s .current) (sound-unowned (l .plan) (s .plan) words) (record {
-          long = length-started (w .head) (l .plan .entries) (l .plan .count);
+          long = length-started (w .head) (l .plan .entries) (l .plan .count) (l .flows) ∙ s .flows-long;
           rows = s .held-long;
-          each = λ i h. rw (flow-then i h) (record { frame = head-below; spare = s .flows i h .spare });
-          spare = λ i h b k. flowRow (started-past (w .head) (l .plan .entries) (l .plan .count) i h b k) (s .spare-flows i h b k .held);
+          each = λ i h. rw (flow-then i h) (record { frame = head-below; spare = s .flows i h .spare; number = s .flows i h .number });
+          spare = λ i h b.
+              ap (λ (f : Flow). flowRow f (row (l .held) i)) (started-past (w .head) (l .plan .entries) (l .plan .count) (l .flows) i h)
+              ∙ s .spare-flows i h b;
         }))
         (some-flow l s)
 
@@ -132,7 +137,7 @@ module _ {l : Link} {w : Window} (a : AtHand l (l .plan) w) where
         → t ≡ not (eqb (ownerAt l (l .cp)) nobody) || l .taken
         → o ≡ everywhere nobody
         → Words (l .plan .slots) (l .plan .frames) (λ q. true) u
-        → fs ≡ startedFlows (w .head) (l .plan .entries) (l .plan .count)
+        → fs ≡ startedFlows (w .head) (l .plan .entries) (l .plan .count) (l .flows)
         → Stepped answerToReset (reset (linkOf l)) (record { link = withFirst (linkWith l (l .cp) o u fs (l .held) t) 0; answer = Reset })
     reset-granted {u = u} {t = t} still mark owners words flows =
         rw (comes-to true (not-false r still), owners, flows)

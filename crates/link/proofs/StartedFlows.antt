@@ -6,7 +6,7 @@ use mathlib.Core.Bool.{true}
 use mathlib.Core.Option.{none}
 use native.Mathlib.Nat.{mul-pos}
 use native.Mathlib.Omega.{arith}
-use lib.ListN.{length, getD, replicate, length-replicate, getD-replicate}
+use lib.ListN.{length, getD, length-replicate, getD-replicate}
 use Rattle.model.specs.Tables.{table}
 use Rattle.plan.specs.declared.Entry.{Entry}
 use Rattle.plan.specs.declared.Plan.{Plan}
@@ -18,8 +18,9 @@ use Rattle.window.proofs.Ranges.{in-range, past-range, length-replaced, replace
 use Rattle.tables.specs.Owners.{nobody, ownerOf, everywhere}
 use Rattle.tables.proofs.FreshTables.{length-everywhere, everywhere-at}
 use Rattle.tables.proofs.UnbookedSlots.{words-unowned}
+use Rattle.link.specs.declared.Flow.{Flow}
 use Rattle.link.specs.Layout.{noFlow}
-use Rattle.link.specs.Started.{startedFlow, startedFlows}
+use Rattle.link.specs.Started.{noFlows, startedFlow, startedFlows}
 use Rattle.link.proofs.Updated.{SoundOwners}
 
 -- the measures of a window at position 0
@@ -46,15 +47,23 @@ sound-unowned p v words = record {
   words = words-unowned (p .slots) (p .frames) (v .accepted .positions-most) words;
 }
 
--- ---- n flows in frame j
+-- ---- the first n of sixteen flows, in frame j
 
-module _ (j : ℕ) (entries : List Entry) (n : ℕ) where
-  pub started-at : n ≤ 16 → (i : ℕ) → i < n → getD (startedFlows j entries n) i noFlow ≡ startedFlow j (getD entries i plan.noEntry)
-  started-at few i h =
-      replaced-at _ _ (replicate 16 noFlow) i noFlow (rw length-replicate (omega arith)) ∙ rw (in-range 0 n i (omega arith) h)
+module _ (j : ℕ) (entries : List Entry) (n : ℕ) (flows : List Flow) where
+  pub started-at : n ≤ length flows → (i : ℕ) → i < n
+      → getD (startedFlows j entries n flows) i noFlow ≡ startedFlow j (getD entries i plan.noEntry) (getD flows i noFlow)
+  started-at few i h = replaced-at _ _ flows i noFlow (omega arith) ∙ rw (in-range 0 n i (omega arith) h)
 
-  pub started-past : (i : ℕ) → n ≤ i → i < 16 → getD (startedFlows j entries n) i noFlow ≡ noFlow
-  started-past i h b = replaced-off _ _ (replicate 16 noFlow) i noFlow (past-range 0 n i h) ∙ getD-replicate 16 i noFlow noFlow b
+  pub started-past : (i : ℕ) → n ≤ i → getD (startedFlows j entries n flows) i noFlow ≡ getD flows i noFlow
+  started-past i h = replaced-off _ _ flows i noFlow (past-range 0 n i h)
 
-  pub length-started : length (startedFlows j entries n) ≡ 16
-  length-started = length-replaced _ _ (replicate 16 noFlow) ∙ length-replicate 16 noFlow
+  pub length-started : length (startedFlows j entries n flows) ≡ length flows
+  length-started = length-replaced _ _ flows
+
+-- ---- flows that the plan does not have
+
+pub no-flow-at : (i : ℕ) → i < 16 → getD noFlows i noFlow ≡ noFlow
+no-flow-at i b = getD-replicate 16 i noFlow noFlow b
+
+pub length-no-flows : length noFlows ≡ 16
+length-no-flows = length-replicate 16 noFlow

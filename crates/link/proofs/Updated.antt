@@ -198,9 +198,10 @@ module _ (l : Link) (s : Sound l) where
         → linkOf (withFlow l i (flowRow f h)) ≡ model.withFlow (linkOf l) i (model.withHeld y (model.heldFrom (linkOf l) i p g))
     read-from reads = read-with-flow i hi _ long-from ∙ (λ k. model.withFlow (linkOf l) i (model.withHeld (reads k) (held-from k)))
 
-    pub sound-from : f .frame < l .plan .frames → Sound (withFlow l i (flowRow f h))
+    pub sound-from : f .frame < l .plan .frames → f .number < 1024 → Sound (withFlow l i (flowRow f h))
     unfolding linkOf fromIn
-    sound-from hj = sound-with-flow i hi _ long-from (record {
+    sound-from hj hk = sound-with-flow i hi _ long-from (record {
       frame = hj;
+      number = hk;
       spare = λ q b. at-position q ∙ replaced-off _ _ (flowAt l i .held) q 0 (rw (le-ltb q (sizeOf l) b)) ∙ s .flows i hi .spare q b;
     })

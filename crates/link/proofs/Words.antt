@@ -1,17 +1,18 @@
--- The word's own tests, and what a request is where the word fails or passes them. Assumes nothing.
+-- The tests of a word before the search, and what a request is where the word fails or passes them. Assumes nothing.
 use Prim.Native.Nat.{ℕ, zero, suc, _≤_, _<_}
 use mathlib.Core.Path.{_≡_, refl, sym, ap, _∙_}
-use mathlib.Core.List.{_∷_, []}
+use mathlib.Core.List.{List, _∷_}
 use mathlib.Core.Bool.{Bool, true, false, not, cond}
 use native.Mathlib.Omega.{arith}
 use lib.Dec.{ltb, eqb}
 use lib.ListN.{getD}
 use borrow.Author.Tests.{lt-ltb, le-ltb, ltb-true, eq-eqb, ne-eqb}
-use Rattle.model.specs.Refusals.{firstOf, _when_}
+use Rattle.model.specs.Refusals.{Line, firstOf, _when_}
 use Rattle.model.specs.Word as word
 use Rattle.model.specs.Plan as paper
 use Rattle.model.specs.Calls.{refused}
-use Rattle.model.specs.Request.{wordTests, sought, answered, requestAfter, request}
+use Rattle.model.specs.Link as model
+use Rattle.model.specs.Request.{numberTests, requestTests, sought, answered, requestAfter, request}
 use Rattle.plan.specs.declared.Plan.{Plan}
 use Rattle.plan.specs.declared.Entry.{Entry}
 use Rattle.plan.specs.Reading.{noEntry, planFor}
@@ -20,7 +21,7 @@ use Rattle.word.specs.Reading.{fieldsOf}
 use Rattle.link.specs.declared.Link.{Link}
 use Rattle.link.specs.Layout.{sizeFor}
 use Rattle.link.specs.Reading.{linkOf}
-use Rattle.link.specs.Given.{placed, WordOn}
+use Rattle.link.specs.Given.{placed, WordOn, testsOf}
 use Rattle.link.proofs.Plans.{plan-count, plan-entry}
 
 -- ---- the fields of a word that was split
@@ -32,13 +33,16 @@ module _ (x : ℕ) (f : Fields) (is : fieldsOf f ≡ word.split x) where
   destination-is : word.destinationOf x ≡ f .destination
   destination-is = ap (λ (y : word.Fields). y .destination) (sym is)
 
+  quantum-is : word.quantumOf x ≡ f .quantum
+  quantum-is = ap (λ (y : word.Fields). y .quantum) (sym is)
+
   departure-is : word.departureOf x ≡ f .departure
   departure-is = ap (λ (y : word.Fields). y .departure) (sym is)
 
--- ---- the tests, of plan p with n flows, T positions and the entry e for the flow of the word
+-- ---- the tests, of plan p with n flows and T positions, and for the flow of the word the entry e and the number k that is expected of it
 
-module _ (x : ℕ) (f : Fields) (is : fieldsOf f ≡ word.split x) (p : Plan) {n : ℕ} {e : Entry} {T : ℕ} (on : WordOn p n e T x) where
-  pub word-8 : n ≤ f .flow → 8 ≡ firstOf (wordTests (planFor p) x)
+module _ (x : ℕ) (f : Fields) (is : fieldsOf f ≡ word.split x) (p : Plan) (k : ℕ) {n : ℕ} {e : Entry} {T expected : ℕ} (on : WordOn p k n e T expected x) where
+  pub word-8 : n ≤ f .flow → 8 ≡ firstOf (requestTests (planFor p) k x)
   unfolding firstOf
   word-8 h = rw (plan-count p, flow-is x f is, le-ltb (f .flow) (p .count) (rw (← on .count-is) h))
 
@@ -53,27 +57,39 @@ module _ (x : ℕ) (f : Fields) (is : fieldsOf f ≡ word.split x) (p : Plan) {n
         ap (λ (y : paper.Entry). y .destination) (plan-entry p (f .flow) flow-there)
         ∙ sym (ap (λ (y : Entry). y .destination) (on .entry-is ∙ ap (λ (k : ℕ). getD (p .entries) k noEntry) there))
 
-    pub word-9 : (f .destination ≡ e .destination → ⊥) → 9 ≡ firstOf (wordTests (planFor p) x)
+    pub word-9 : (f .destination ≡ e .destination → ⊥) → 9 ≡ firstOf (requestTests (planFor p) k x)
     unfolding firstOf
     word-9 n =
         rw (plan-count p, flow-is x f is, lt-ltb (f .flow) (p .count) flow-there, destination-is x f is, destination-there, ne-eqb _ _ n)
 
     module _ (d : f .destination ≡ e .destination) where
-      pub word-10 : T ≤ f .departure → 10 ≡ firstOf (wordTests (planFor p) x)
+      pub word-10 : T ≤ f .departure → 10 ≡ firstOf (requestTests (planFor p) k x)
       unfolding firstOf
       word-10 b =
           rw (plan-count p, flow-is x f is, lt-ltb (f .flow) (p .count) flow-there, destination-is x f is, destination-there, eq-eqb _ _ d)
           (rw (departure-is x f is, le-ltb (f .departure) (sizeFor p) (rw (← on .size-is) b)))
 
-      pub word-passes : f .departure < T → 0 ≡ firstOf (wordTests (planFor p) x)
-      unfolding firstOf
-      word-passes b =
-          rw (plan-count p, flow-is x f is, lt-ltb (f .flow) (p .count) flow-there, destination-is x f is, destination-there, eq-eqb _ _ d)
-          (rw (departure-is x f is, lt-ltb (f .departure) (sizeFor p) (rw (← on .size-is) b)))
+      module _ (b : f .departure < T) where
+        -- the expected number is that of the word's flow
+        expected-is : expected ≡ k
+        expected-is = on .number-is (rw (flow-is x f is) h)
+
+        -- what is left is the test of the number
+        last-test : firstOf (requestTests (planFor p) k x) ≡ cond (not (eqb (f .quantum) k)) 24 0
+        unfolding firstOf
+        last-test =
+            rw (plan-count p, flow-is x f is, lt-ltb (f .flow) (p .count) flow-there, destination-is x f is, destination-there, eq-eqb _ _ d)
+            (rw (departure-is x f is, lt-ltb (f .departure) (sizeFor p) (rw (← on .size-is) b), quantum-is x f is))
+
+        pub word-24 : (f .quantum ≡ expected → ⊥) → 24 ≡ firstOf (requestTests (planFor p) k x)
+        word-24 differs = sym (last-test ∙ rw (ne-eqb (f .quantum) k (λ z. differs (z ∙ sym expected-is))))
+
+        pub word-passes : f .quantum ≡ expected → 0 ≡ firstOf (requestTests (planFor p) k x)
+        word-passes same = sym (last-test ∙ rw (eq-eqb (f .quantum) k (same ∙ expected-is)))
 
 -- ---- the request of a word on link l, whose tests give n
 
-module _ (l : Link) (x : ℕ) {n : ℕ} (tests : n ≡ firstOf (wordTests (planFor (l .plan)) x)) where
+module _ (l : Link) (x : ℕ) {n : ℕ} (tests : n ≡ testsOf l x) where
   pub word-refused : (n ≡ 0 → ⊥) → request (linkOf l) x ≡ record { link = linkOf l; answer = refused n }
   unfolding request requestAfter linkOf
   word-refused nonzero = rw (← tests) (go n nonzero)
@@ -97,13 +113,13 @@ module _ (l : Link) (x : ℕ) {n : ℕ} (tests : n ≡ firstOf (wordTests (planF
         let P = planFor (l .plan) in
         let flow-there = ltb (word.flowOf x) (paper.flowCount P) in
         let own-destination = eqb (word.destinationOf x) (paper.entry P (word.flowOf x) .destination) in
-        ltb-true _ _ (passes-third flow-there own-destination _ (sym tests ∙ z))
+        ltb-true _ _ (passes-third flow-there own-destination _ (numberTests (model.flow (linkOf l) (word.flowOf x) .number) x) (sym tests ∙ z))
       where
-        passes-third : (a b c : Bool) → firstOf (8 when not a ∷ 9 when not b ∷ 10 when not c ∷ []) ≡ 0 → c ≡ true
-        passes-third true true true e = refl
-        passes-third true true false e = absurd (omega arith)
-        passes-third true false c e = absurd (omega arith)
-        passes-third false b c e = absurd (omega arith)
+        passes-third : (a b c : Bool) (rest : List Line) → firstOf (8 when not a ∷ 9 when not b ∷ 10 when not c ∷ rest) ≡ 0 → c ≡ true
+        passes-third true true true rest e = refl
+        passes-third true true false rest e = absurd (omega arith)
+        passes-third true false c rest e = absurd (omega arith)
+        passes-third false b c rest e = absurd (omega arith)
 
     -- flow i is the word's
     module _ (i : ℕ) (e : i ≡ placed (l .plan .count) (word.flowOf x)) where

@@ -7,10 +7,12 @@ use lib.ListN.{getD}
 use lib.Dec.{ltb}
 use Rattle.plan.specs.declared.Entry.{Entry}
 use Rattle.plan.specs.declared.Plan.{Plan}
-use Rattle.plan.specs.Reading.{noEntry}
+use Rattle.plan.specs.Reading.{noEntry, planFor}
+use Rattle.model.specs.Refusals.{firstOf}
 use Rattle.model.specs.Word.{flowOf}
 use Rattle.model.specs.Link as model
 use Rattle.model.specs.Window.{everyFrom}
+use Rattle.model.specs.Request.{requestTests}
 use Rattle.link.specs.declared.Flow.{Flow}
 use Rattle.link.specs.declared.Link.{Link}
 use Rattle.window.specs.declared.Window.{Window}
@@ -47,7 +49,7 @@ pub record Creditable (n : ℕ) (w : Window) (held : List ℕ) (i p : ℕ) : Typ
   pub position : p < sizeOf w
   pub some-held : everyFrom (windowOf w) p (someHeld (row held i)) ≡ true
 
--- ---- a request on link l: what the flows hold, the unbooked slots, and of the word's flow its entry, frame and remainder
+-- ---- a request on link l: what the flows hold, the unbooked slots, and of the word's flow its entry, and the flow
 
 -- flow i of a plan of n flows, and 0 where there is none
 abbrev pub placed : ℕ → ℕ → ℕ
@@ -61,8 +63,13 @@ pub record RequestOn (l : Link) (n : ℕ) (e : Entry) (w : Window) (unbooked hel
   pub entry-is : e ≡ entryAt l i
   pub flow-is : f ≡ flowAt l i .flow
 
--- the word's own tests are given n, T and the entry of its flow
-pub record WordOn (p : Plan) (n : ℕ) (e : Entry) (T word : ℕ) : Type 0 where
+-- the tests before the search are given n, T, and of the word's flow its entry and the number k that is expected of it
+pub record WordOn (p : Plan) (k n : ℕ) (e : Entry) (T expected word : ℕ) : Type 0 where
   pub count-is : n ≡ p .count
   pub entry-is : e ≡ getD (p .entries) (placed n (flowOf word)) noEntry
   pub size-is : T ≡ sizeFor p
+  pub number-is : flowOf word < n → expected ≡ k
+
+-- what these tests come to, of a word on link l
+abbrev pub testsOf : Link → ℕ → ℕ
+testsOf l word = firstOf (requestTests (planFor (l .plan)) (model.flow (linkOf l) (flowOf word) .number) word)

@@ -8,7 +8,7 @@ use Rattle.tables.specs.Owners.{nobody, ownerOf, everywhere}
 use Rattle.link.specs.declared.Flow.{Flow}
 use Rattle.link.specs.declared.Link.{Link}
 use Rattle.link.specs.Layout.{FlowRow, sizeOf, noFlow, flowRow, flowAt, ownerAt}
-use Rattle.link.specs.Updates.{movedTo}
+use Rattle.link.specs.Updates.{movedTo, withNumber}
 use Rattle.plan.specs.Reading as plan
 use Rattle.model.specs.Tables.{table}
 use Rattle.model.specs.Link as model
@@ -18,7 +18,12 @@ use Rattle.model.specs.Request.{unbooked}
 
 -- the holdings at the first T positions
 abbrev pub flowOf : ℕ → FlowRow → model.Flow
-flowOf T x = record { injection = x .flow .frame; remainder = x .flow .left; held = table T (λ p. getD (x .held) p 0) }
+flowOf T x = record {
+  injection = x .flow .frame;
+  remainder = x .flow .left;
+  held = table T (λ p. getD (x .held) p 0);
+  number = x .flow .number;
+}
 
 unfoldable pub linkOf : Link → model.Link
 linkOf l = record {
@@ -41,7 +46,7 @@ storedOwner none = nobody
 storedOwner (some i) = i
 
 abbrev pub storedFlow : model.Flow → Flow
-storedFlow f = movedTo noFlow (f .injection) (f .remainder)
+storedFlow f = withNumber (movedTo noFlow (f .injection) (f .remainder)) (f .number)
 
 unfoldable pub stored : model.Link → Link
 stored m = record {

@@ -10,10 +10,11 @@ use Rattle.link.specs.Reading.{spareFlow}
 use Rattle.plan.specs.declared.Plan.{Plan}
 use Rattle.plan.specs.Reading.{Valid}
 
--- a flow: IF is one of W frames, and nothing is held past the T positions
+-- a flow: IF is one of W frames, nothing is held past the T positions, and a number modulo 1,024 is expected
 pub record SoundFlow (plan : Plan) (x : FlowRow) : Type 0 where
   pub frame : x .flow .frame < plan .frames
   pub spare : (p : ℕ) → sizeFor plan ≤ p → getD (x .held) p 0 ≡ 0
+  pub number : x .flow .number < 1024
 
 pub record Sound (l : Link) : Type 0 where
   pub plan : Valid (l .plan)

@@ -1,4 +1,5 @@
--- Flows that start in a frame with their share, as they are stored: those of a fresh link, and of one after a reset. Assumes nothing.
+-- Flows that start in a frame with their share, as they are stored: those of a fresh link, and of one after a reset, which keep their numbers.
+-- Assumes nothing.
 use Prim.Native.Nat.{ℕ}
 use mathlib.Core.List.{List}
 use lib.ListN.{getD, replicate}
@@ -9,10 +10,14 @@ use Rattle.link.specs.declared.Flow.{Flow}
 use Rattle.link.specs.Layout.{noFlow}
 use Rattle.link.specs.Updates.{movedTo}
 
--- in frame j, with its share
-abbrev pub startedFlow : ℕ → Entry → Flow
-startedFlow j e = movedTo noFlow j (e .share)
+-- flows that the plan does not have
+abbrev pub noFlows : List Flow
+noFlows = replicate 16 noFlow
 
--- the first n of sixteen, by their entries
-abbrev pub startedFlows : (j : ℕ) → List Entry → ℕ → List Flow
-startedFlows j entries n = replaced (inRange 0 n) (λ i f. startedFlow j (getD entries i noEntry)) (replicate 16 noFlow)
+-- in frame j, with its share
+abbrev pub startedFlow : ℕ → Entry → Flow → Flow
+startedFlow j e f = movedTo f j (e .share)
+
+-- the first n of these flows, by their entries
+abbrev pub startedFlows : (j : ℕ) → List Entry → (n : ℕ) → List Flow → List Flow
+startedFlows j entries n = replaced (inRange 0 n) (λ i. startedFlow j (getD entries i noEntry))

@@ -11,12 +11,21 @@ use Rattle.plan.specs.Reading.{noEntry}
 use Rattle.window.specs.Ranges.{inRange, replaced}
 use Rattle.tables.specs.Rows.{withRow}
 use Rattle.link.specs.Layout.{FlowRow, flowRow}
+use Rattle.model.specs.Request.{nextNumber}
 
 -- ---- a flow
 
 -- another frame and another remainder
 abbrev pub movedTo : Flow → ℕ → ℕ → Flow
-movedTo f j c = record { frame = j; left = c }
+movedTo f j c = record { frame = j; left = c; number = f .number }
+
+-- another number
+abbrev pub withNumber : Flow → ℕ → Flow
+withNumber f k = record { frame = f .frame; left = f .left; number = k }
+
+-- after a grant: another frame and another remainder, and the next number
+abbrev pub grantedIn : Flow → ℕ → ℕ → Flow
+grantedIn f j c = withNumber (movedTo f j c) (nextNumber (f .number))
 
 -- a flow that was in the head frame goes on in the next one, with its share
 abbrev pub leftHead : (head on share : ℕ) → Flow → Flow

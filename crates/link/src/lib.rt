@@ -1,7 +1,8 @@
-// One link of a plan: its current position, the owner of each position, each flow's frame and remainder, what each flow holds,
-// whether the current slot is marked taken, and whose turn it is to be lent to.
+// One link of a plan: its current position, the owner of each position, each flow's frame, remainder and expected number, what each flow
+// holds, whether the current slot is marked taken, and whose turn it is to be lent to.
 ghost use mathlib.Core.Path.{_≡_};
-ghost use Rattle.link.specs.Updates.{movedTo};
+ghost use Prim.Native.Nat.{_<_};
+ghost use Rattle.link.specs.Updates.{movedTo, grantedIn};
 
 pub mod credit;
 mod fresh;
@@ -16,10 +17,11 @@ use plan::Plan;
 use tables::holdings::Holdings;
 use unbooked::Unbooked;
 
-// A flow's injection frame and its remainder.
+// A flow's injection frame, its remainder, and the quantum number that is expected of its next word.
 pub struct Flow {
     pub frame: usize,
     pub left: usize,
+    pub number: usize,
 }
 
 impl Flow {
@@ -29,6 +31,17 @@ impl Flow {
     {
         self.frame = frame;
         self.left = left;
+        self
+    }
+
+    // The flow after a grant: in that frame, with that remainder, and with the next number, which goes round after 1,023.
+    pub(crate) fn granted_in(mut self, frame: usize, left: usize) -> Flow
+        requires { ⌜ self .number < 1024 ⌝ }
+        ensures { λ r. ⌜ r ≡ grantedIn self frame left ⌝ }
+    {
+        self.frame = frame;
+        self.left = left;
+        self.number = (self.number + 1) % 1024;
         self
     }
 }

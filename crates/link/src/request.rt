@@ -1,4 +1,5 @@
 // The request.
+ghost use Prim.Native.Nat.{ℕ};
 ghost use mathlib.Core.Path.{_≡_};
 ghost use Rattle.plan.specs.Reading.{planFor};
 ghost use Rattle.plan.specs.declared.Plan.{Plan};
@@ -30,9 +31,10 @@ use unbooked::frames::book;
 use window::Window;
 use window::positions::window;
 
-// The refusal of a word by its own tests, and 0 where it passes them: n flows, the entry of the word's flow (of flow 0 where there is none), and T.
-fn refusal(count: usize, e: Entry, size: usize, word: u32) -> u8
-    ensures { λ r. ⌜ ((p : Plan) → WordOn p count e size word → r ≡ firstOf (model.wordTests (planFor p) word)) ⌝ }
+// The refusal of a word by the tests before the search, and 0 where it passes them: n flows, the entry and the expected number of the word's flow
+// (of flow 0 where there is none), and T.
+fn refusal(count: usize, e: Entry, size: usize, expected: usize, word: u32) -> u8
+    ensures { λ r. ⌜ ((p : Plan) (k : ℕ) → WordOn p k count e size expected word → r ≡ firstOf (model.requestTests (planFor p) k word)) ⌝ }
 {
     let fields = word::split(word);
     if count <= fields.flow as usize {
@@ -43,6 +45,9 @@ fn refusal(count: usize, e: Entry, size: usize, word: u32) -> u8
     }
     if size <= fields.departure as usize {
         return 10;
+    }
+    if fields.quantum as usize != expected {
+        return 24;
     }
     0
 }
@@ -101,7 +106,7 @@ pub fn ask<'a>(
     ensures { λ r. ⌜ ((l : Link) → RequestOn l count e w (now (unbooked .entry)) (now (held .entry)) i flow word
         → r ≡ replyOf i (model.request (linkOf l) word)) ⌝ }
 {
-    let number = refusal(count, e, w.slots * w.frames, word);
+    let number = refusal(count, e, w.slots * w.frames, flow.number, word);
     if number != 0 {
         return refused(flow, number);
     }
@@ -123,7 +128,7 @@ pub fn ask<'a>(
     match found {
         Found::At(frame, left, position) => {
             return Reply {
-                flow: flow.moved_to(frame, left),
+                flow: flow.granted_in(frame, left),
                 position,
                 granted: true,
                 answer: Answer::Granted(word::depart(word, position as u8)),

@@ -49,7 +49,8 @@ fn quiet<'a>(owner: &'a [u8; 256], held: &'a Holdings, count: usize, w: Window) 
 }
 
 impl Link {
-    // Every frame is recycled, when the link is quiet: the flows start again in the head frame. The clock goes on, and what is held stays.
+    // Every frame is recycled, when the link is quiet: the flows start again in the head frame. The clock goes on, and what is held stays, as do
+    // the expected numbers.
     pub fn reset(mut self) -> Step
         requires { ⌜ Sound self ⌝ }
         ensures { λ r. ⌜ Stepped answerToReset (model.reset (linkOf self)) r ⌝ }
@@ -68,7 +69,7 @@ impl Link {
         let owners = unbooked();
         let words = every_slot(plan.slots, plan.frames);
         let entries = plan.entries;
-        let flows = flows_in(w.head, entries, plan.count);
+        let flows = flows_in(self.flows, w.head, entries, plan.count);
         self.taken = taken;
         self.owner = owners;
         self.unbooked = words;

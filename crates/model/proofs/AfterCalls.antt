@@ -1,14 +1,14 @@
 -- A list of calls: the link that a run of the paper's card comes to stands after the run's history. Assumes nothing.
-use mathlib.Core.Path.{refl, subst}
+use mathlib.Core.Path.{refl, ap, subst}
 use mathlib.Core.List.{List, [], _∷_}
 use Rattle.model.specs.Tables.{tally}
 use Rattle.model.specs.Plan.{Plan, Accepted}
 use Rattle.model.specs.Calls.{Call, History}
 use Rattle.model.specs.Link.{Link}
 use Rattle.model.specs.Fresh.{fresh}
-use Rattle.model.specs.History.{ticks, origin, credits, grantsSince, refusalsSince}
+use Rattle.model.specs.History.{ticks, origin, grants, credits, grantsSince, refusalsSince}
 use Rattle.model.specs.Card.{Played, paper, step, play, started, run}
-use Rattle.model.proofs.FreshKeeps.{fresh-keeps, fresh-least}
+use Rattle.model.proofs.FreshKeeps.{fresh-flow, fresh-keeps, fresh-least}
 use Rattle.model.proofs.HistoryCounts.{raises}
 use Rattle.model.proofs.AfterHistory.{After}
 use Rattle.model.proofs.AfterRequest.{after-request}
@@ -37,8 +37,14 @@ after-calls r [] g = g
 after-calls r (c ∷ calls) g = after-calls (step paper r c) calls (after-step r c g)
 
 pub after-fresh : {P : Plan} → Accepted P → After P (fresh P) []
-unfolding fresh ticks origin grantsSince refusalsSince raises credits tally
-after-fresh ok = record { plan-is = refl; invariant = fresh-keeps ok; events = tt; least = λ i known asked. fresh-least ok i known }
+unfolding fresh ticks origin grants grantsSince refusalsSince raises credits tally
+after-fresh ok = record {
+  plan-is = refl;
+  invariant = fresh-keeps ok;
+  events = tt;
+  least = λ i known asked. fresh-least ok i known;
+  numbers = λ i known. ap (λ x. x .number) (fresh-flow ok i known);
+}
 
 -- What holds of each link that stands after a history holds after every list of calls.
 pub after-run : (Q : Plan → Link → History → Type 0) → ((l : Link) (h : History) → After (l .plan) l h → Q (l .plan) l h)

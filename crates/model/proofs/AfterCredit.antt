@@ -7,11 +7,11 @@ use Rattle.model.specs.Plan.{flowCount}
 use Rattle.model.specs.Calls.{Receipt, History, credited, accepted, refused}
 use Rattle.model.specs.Link.{Link, flow, withHeld, heldFrom}
 use Rattle.model.specs.Credit.{creditTests, lowered, creditAfter, credit}
-use Rattle.model.specs.History.{ticks, origin, credits, grantsSince, refusalsSince}
+use Rattle.model.specs.History.{ticks, origin, grants, credits, grantsSince, refusalsSince}
 use Rattle.model.proofs.LinkUpdates.{each-flow}
 use Rattle.model.proofs.CreditKeeps.{CreditPasses, credit-passes, credit-keeps}
 use Rattle.model.proofs.HistoryCounts.{raises}
-use Rattle.model.proofs.AfterHistory.{LeastOf, After, after-event}
+use Rattle.model.proofs.AfterHistory.{LeastOf, NumberOf, After, after-event}
 
 module _ {l : Link} {h : History} (g : After (l .plan) l h) (i p : ℕ) where
   open Link l using (plan as P)
@@ -22,7 +22,7 @@ module _ {l : Link} {h : History} (g : After (l .plan) l h) (i p : ℕ) where
   least-kept a q known asked = g .least q known (record { ready = asked .ready .1; refused-before = asked .refused-before })
 
   taken : CreditPasses l i p → After P (lowered l i p) (credited i p (accepted tt) ∷ h)
-  unfolding ticks origin grantsSince raises credits lowered
+  unfolding ticks origin grants grantsSince raises credits lowered
   taken c = after-event g (record {
     plan-is = refl;
     keeps = credit-keeps (g .invariant) c;
@@ -31,13 +31,15 @@ module _ {l : Link} {h : History} (g : After (l .plan) l h) (i p : ℕ) where
     word = tt;
     after-departure = tt;
     loan = tt;
+    numbered = tt;
     least =
         each-flow l (LeastOf P (credited i p (accepted tt) ∷ h)) i (withHeld (flow l i) (heldFrom l i p (λ x. x - 1)))
         (least-kept (accepted tt) i (c .known)) (λ q known d. least-kept (accepted tt) q known);
+    numbers = each-flow l (NumberOf P h) i (withHeld (flow l i) (heldFrom l i p (λ x. x - 1))) (g .numbers i (c .known)) (λ q known d. g .numbers q known);
   })
 
   not-taken : (r : ℕ) → After P l (credited i p (refused r) ∷ h)
-  unfolding ticks origin grantsSince raises credits
+  unfolding ticks origin grants grantsSince raises credits
   not-taken r = after-event g (record {
     plan-is = refl;
     keeps = g .invariant;
@@ -46,7 +48,9 @@ module _ {l : Link} {h : History} (g : After (l .plan) l h) (i p : ℕ) where
     word = tt;
     after-departure = tt;
     loan = tt;
+    numbered = tt;
     least = least-kept (refused r);
+    numbers = g .numbers;
   })
 
   pub after-credit : After P (credit l i p .link) (credited i p (credit l i p .answer) ∷ h)

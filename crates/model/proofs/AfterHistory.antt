@@ -6,8 +6,10 @@ use native.Mathlib.Omega.{arith}
 use Rattle.model.specs.Plan.{Plan, flowCount}
 use Rattle.model.specs.Calls.{Event, History}
 use Rattle.model.specs.Link.{Link, Flow, flow}
+use Rattle.model.specs.Word.{flowOf, quantumOf}
 use Rattle.model.specs.History.{ticks, frameOf, origin, credits, grantsSince, refusedIn, upTo, grantedUpTo, lentUpTo, creditedUpTo}
-use Rattle.model.specs.Claim.{Each, EachSince, ReadyAt, HeldAt, SoonAt, ComesUpAt, GrantedWordAt, AfterDepartureAt, LentFlowAt}
+use Rattle.model.specs.History.{expectedNumber}
+use Rattle.model.specs.Claim.{Each, EachSince, AtGrant, ReadyAt, HeldAt, SoonAt, ComesUpAt, GrantedWordAt, AfterDepartureAt, LentFlowAt}
 use Rattle.model.proofs.Invariant.{Ledger, HoldsAt, Invariant}
 use Rattle.model.proofs.LeastCount.{Least}
 use Rattle.model.proofs.HistoryCounts.{raises, raises-are}
@@ -16,7 +18,15 @@ use Rattle.model.proofs.HistoryCounts.{raises, raises-are}
 abbrev pub ledgerOf : Plan → History → Ledger
 ledgerOf P h = record { now = ticks h; origin = origin P h; grants = grantsSince P h; raises = raises P h; credits = credits P h }
 
--- what the claim says of an event
+-- a granted word carries the number that was expected
+abbrev pub NumberedAt : Plan → Event → History → Type 0
+NumberedAt P = AtGrant (λ w v h. quantumOf v ≡ expectedNumber P h (flowOf w))
+
+-- flow i expects its grants so far, where the link has x for it
+abbrev pub NumberOf : Plan → History → ℕ → Flow → Type 0
+NumberOf P h i x = x .number ≡ expectedNumber P h i
+
+-- what the claim says of an event, and which number a granted word carries
 pub record Claimed (P : Plan) (e : Event) (h : History) : Type 0 where
   pub held : (i : ℕ) → i < flowCount P → HeldAt P i e h
   pub soon : SoonAt P e h
@@ -24,6 +34,7 @@ pub record Claimed (P : Plan) (e : Event) (h : History) : Type 0 where
   pub word : GrantedWordAt P e h
   pub after-departure : AfterDepartureAt P e h
   pub loan : LentFlowAt P e h
+  pub numbered : NumberedAt P e h
 
 -- Flow i asked until it was refused, in each frame before the current one, since the last granted reset.
 pub record AskedOn (P : Plan) (h : History) (i : ℕ) : Type 0 where
@@ -40,6 +51,7 @@ pub record After (P : Plan) (l : Link) (h : History) : Type 0 where
   pub invariant : Invariant l (ledgerOf P h)
   pub events : Each (Claimed P) h
   pub least : (i : ℕ) → i < flowCount P → LeastOf P h i (flow l i)
+  pub numbers : (i : ℕ) → i < flowCount P → NumberOf P h i (flow l i)
 
 -- ---- one event more
 
@@ -52,7 +64,9 @@ pub record OneMore (P : Plan) (k : Link) (e : Event) (h : History) : Type 0 wher
   pub word : GrantedWordAt P e h
   pub after-departure : AfterDepartureAt P e h
   pub loan : LentFlowAt P e h
+  pub numbered : NumberedAt P e h
   pub least : (i : ℕ) → i < flowCount P → LeastOf P (e ∷ h) i (flow k i)
+  pub numbers : (i : ℕ) → i < flowCount P → NumberOf P (e ∷ h) i (flow k i)
 
 -- What the flows hold is in the invariant.
 pub after-event : {P : Plan} {l k : Link} {e : Event} {h : History} → After P l h → OneMore P k e h → After P k (e ∷ h)
@@ -61,6 +75,7 @@ after-event {P} {l} {k} {e} {h} g more = record {
   invariant = more .keeps;
   events = (claimed, g .events);
   least = more .least;
+  numbers = more .numbers;
 }
   where
     HoldsIn : Plan → ℕ → ℕ → Type 0
@@ -83,4 +98,5 @@ after-event {P} {l} {k} {e} {h} g more = record {
       word = more .word;
       after-departure = more .after-departure;
       loan = more .loan;
+      numbered = more .numbered;
     }

@@ -10,14 +10,14 @@ use Rattle.model.specs.Plan.{flowCount}
 use Rattle.model.specs.Calls.{Loan, History, lent, accepted, refused, inMask}
 use Rattle.model.specs.Link.{Link, flow, withHeld, heldFrom}
 use Rattle.model.specs.Lend.{canTake, takes, lendTests, lentTo, firstInTurn, lentAfter, lendAfter, lend}
-use Rattle.model.specs.History.{ticks, origin, credits, grantsSince, refusalsSince}
+use Rattle.model.specs.History.{ticks, origin, grants, credits, grantsSince, refusalsSince}
 use Rattle.model.proofs.Tests.{and-true}
 use Rattle.model.proofs.Tables.{firstFrom-some}
 use Rattle.model.proofs.Window.{Current}
 use Rattle.model.proofs.LinkUpdates.{each-flow}
 use Rattle.model.proofs.HistoryCounts.{raises}
 use Rattle.model.proofs.LendKeeps.{LendPasses, lend-passes, lent-keeps}
-use Rattle.model.proofs.AfterHistory.{LeastOf, After, after-event}
+use Rattle.model.proofs.AfterHistory.{LeastOf, NumberOf, After, after-event}
 
 module _ {l : Link} {h : History} (g : After (l .plan) l h) (mask : ℕ) where
   open Link l using (plan as P)
@@ -30,7 +30,7 @@ module _ {l : Link} {h : History} (g : After (l .plan) l h) (mask : ℕ) where
   least-kept a q known asked = g .least q known (record { ready = asked .ready .1; refused-before = asked .refused-before })
 
   not-lent : (r : ℕ) → After P l (lent mask (refused r) ∷ h)
-  unfolding ticks origin grantsSince raises credits
+  unfolding ticks origin grants grantsSince raises credits
   not-lent r = after-event g (record {
     plan-is = refl;
     keeps = v;
@@ -39,11 +39,13 @@ module _ {l : Link} {h : History} (g : After (l .plan) l h) (mask : ℕ) where
     word = tt;
     after-departure = tt;
     loan = tt;
+    numbered = tt;
     least = least-kept (refused r);
+    numbers = g .numbers;
   })
 
   lent-to : LendPasses l mask → (i : ℕ) → i < flowCount P → takes l mask i ≡ true → After P (lentTo l i) (lent mask (accepted i) ∷ h)
-  unfolding ticks origin grantsSince raises credits lentTo
+  unfolding ticks origin grants grantsSince raises credits lentTo
   lent-to free i known takes =
       let both = and-true (inMask mask i) (canTake l i) takes in
       after-event g (record {
@@ -54,9 +56,12 @@ module _ {l : Link} {h : History} (g : After (l .plan) l h) (mask : ℕ) where
         word = tt;
         after-departure = tt;
         loan = record { mask-below = free .mask-below; known = known; in-mask = both .0 };
+        numbered = tt;
         least =
             each-flow l (LeastOf P (lent mask (accepted i) ∷ h)) i (withHeld (flow l i) (heldFrom l i (l .current) suc))
             (least-kept (accepted i) i known) (λ q known d. least-kept (accepted i) q known);
+        numbers =
+            each-flow l (NumberOf P h) i (withHeld (flow l i) (heldFrom l i (l .current) suc)) (g .numbers i known) (λ q known d. g .numbers q known);
       })
 
   found : LendPasses l mask → (o : Option ℕ) → firstInTurn l mask ≡ o → After P (lentAfter l o .link) (lent mask (lentAfter l o .answer) ∷ h)

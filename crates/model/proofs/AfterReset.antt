@@ -1,6 +1,6 @@
 -- A reset on a link that stands after a history. Assumes nothing.
 use Prim.Native.Nat.{ℕ, _<_}
-use mathlib.Core.Path.{_≡_, refl, sym, ap, _∙_}
+use mathlib.Core.Path.{_≡_, refl, sym, ap, _∙_, subst}
 use mathlib.Core.List.{_∷_}
 use mathlib.Core.Bool.{Bool, true, false, cond}
 use native.Mathlib.Omega.{arith}
@@ -9,7 +9,7 @@ use Rattle.model.specs.Plan.{flowCount}
 use Rattle.model.specs.Calls.{Event, History, Renewal, accepted, refused}
 use Rattle.model.specs.Link.{Link, Step, flow}
 use Rattle.model.specs.Reset.{quiet, fromHead, renewed, reset}
-use Rattle.model.specs.History.{ticks, frameOf, origin, credits, grantsSince, refusalsSince}
+use Rattle.model.specs.History.{ticks, frameOf, origin, grants, credits, grantsSince, refusalsSince}
 use Rattle.model.proofs.Round.{mod-unique}
 use Rattle.model.proofs.Slots.{some-frame}
 use Rattle.model.proofs.Window.{Current, head-is}
@@ -17,7 +17,7 @@ use Rattle.model.proofs.LinkUpdates.{flow-withFlows}
 use Rattle.model.proofs.ResetTests.{granted, notGranted, reset-is, Quiet, quiet-parts}
 use Rattle.model.proofs.ResetKeeps.{renewed-keeps}
 use Rattle.model.proofs.HistoryCounts.{raises}
-use Rattle.model.proofs.AfterHistory.{LeastOf, After, after-event}
+use Rattle.model.proofs.AfterHistory.{LeastOf, NumberOf, After, after-event}
 
 module _ {l : Link} {h : History} (g : After (l .plan) l h) where
   open Link l using (plan as P)
@@ -38,7 +38,7 @@ module _ {l : Link} {h : History} (g : After (l .plan) l h) where
   }
 
   after-granted : Quiet l → After P (renewed l) (Event.reset (accepted tt) ∷ h)
-  unfolding ticks origin grantsSince raises credits renewed
+  unfolding ticks origin grants grantsSince raises credits renewed
   after-granted q = after-event g (record {
     plan-is = refl;
     keeps = renewed-keeps v (q .none-booked);
@@ -47,11 +47,13 @@ module _ {l : Link} {h : History} (g : After (l .plan) l h) where
     word = tt;
     after-departure = tt;
     loan = tt;
+    numbered = tt;
     least = least-afresh;
+    numbers = λ q known. subst (NumberOf P h q) (sym (flow-withFlows l (fromHead l) q known)) (g .numbers q known);
   })
 
   after-refused : After P l (Event.reset (refused 23) ∷ h)
-  unfolding ticks origin grantsSince refusalsSince raises credits
+  unfolding ticks origin grants grantsSince refusalsSince raises credits
   after-refused = after-event g (record {
     plan-is = refl;
     keeps = v;
@@ -60,7 +62,9 @@ module _ {l : Link} {h : History} (g : After (l .plan) l h) where
     word = tt;
     after-departure = tt;
     loan = tt;
+    numbered = tt;
     least = λ q known asked. g .least q known (record { ready = asked .ready .1; refused-before = asked .refused-before });
+    numbers = g .numbers;
   })
 
   pub after-reset : After P (reset l .link) (Event.reset (reset l .answer) ∷ h)

@@ -1,6 +1,6 @@
 -- A tick on a link that stands after a history. Assumes nothing.
 use Prim.Native.Nat.{ℕ, suc, _%_, _<_}
-use mathlib.Core.Path.{_≡_, ap}
+use mathlib.Core.Path.{_≡_, ap, _∙_}
 use mathlib.Core.List.{_∷_}
 use native.Mathlib.Decide.{ℕ-discrete}
 use native.Mathlib.Numerals.{add-one}
@@ -75,7 +75,7 @@ module _ {l : Link} {h : History} (g : After (l .plan) l h) where
   comes-up i = rw (on .answer-is, add-one t, still-to-come i (suc t) (omega arith)) (owned i (suc t) (grantsSince P h) (v .bookings .once (suc t)))
 
   pub after-tick : After P (tick l .link) (ticked (tick l .answer) ∷ h)
-  unfolding tick ticks origin grantsSince raises credits
+  unfolding tick ticks origin grants grantsSince raises credits
   after-tick = after-event g (record {
     plan-is = on .plan-is;
     keeps = on .keeps;
@@ -84,5 +84,7 @@ module _ {l : Link} {h : History} (g : After (l .plan) l h) where
     word = tt;
     after-departure = tt;
     loan = tt;
+    numbered = tt;
     least = λ q known. least-ticked (tick l .answer) q known (ℕ-discrete (suc t % P .slots) 0);
+    numbers = λ q known. on .numbers-stay q known ∙ g .numbers q known;
   })

@@ -1,4 +1,4 @@
--- A granted reset leaves a link that takes requests like one that is fresh but for the clock; a second one and one on a fresh link change nothing.
+-- A granted reset leaves a link that takes requests like one that is fresh but for the clock and the expected numbers; a second one and one on a fresh link change nothing.
 -- Assumes nothing.
 use Prim.Native.Nat.{ℕ, zero, suc, _%_, _<_}
 use mathlib.Core.Path.{_≡_, refl, sym, ap, ap₂, _∙_, subst}
@@ -64,17 +64,22 @@ module _ (l : Link) (ok : Accepted (l .plan)) (below : l .current < positions (l
       (everyFrom-at now t (λ q. eqb (holding l i q) 0) (current-in-window ok t)
       (subst (λ p. everyFrom (window l) p (λ q. eqb (holding l i q) 0) ≡ true) (now .current-is) held) s w (omega arith))
 
-  alike : Alike l now (renewed l) (freshAt P t)
+  -- the numbers that are expected stay
+  abbrev numbers : ℕ → ℕ
+  numbers i = flow l i .number
+
+  alike : Alike l now (renewed l) (freshAt P t numbers)
   unfolding renewed fresh
   alike = record {
     owners = λ s w after.
         owner-withOwners l (λ q. none) (s % T) (mod-lt s (some-position ok))
         ∙ sym (getD-replicate T (s % T) none none (mod-lt s (some-position ok)));
-    flows = λ i known. rw (flow-withFlows l (fromHead l) i known, flow-withFlows (fresh P) (flowAt P t) i known) (record {
+    flows = λ i known. rw (flow-withFlows l (fromHead l) i known, flow-withFlows (fresh P) (flowAt P t numbers) i known) (record {
       frame = refl;
       frame-below = rw (head-is now) (mod-lt _ (some-frame ok));
       remainder = refl;
       held = λ s w after. nothing-held i known s w after ∙ sym (getD-replicate T (s % T) 0 0 (mod-lt s (some-position ok)));
+      number = refl;
     });
   }
 
@@ -84,7 +89,7 @@ goes-on-as-fresh l ok below e words =
     let was-quiet = granted-quiet l e in
     let q = quiet-parts l was-quiet in
     ap (λ s. answersTo (s .link) words) (quiet-granted l was-quiet)
-    ∙ answers-alike l (now l ok below q) words (pair l (now l ok below q) (renewed l) (freshAt (l .plan) (l .current))) (alike l ok below q)
+    ∙ answers-alike l (now l ok below q) words (pair l (now l ok below q) (renewed l) (freshAt (l .plan) (l .current) (numbers l ok below q))) (alike l ok below q)
 
 -- ---- a second reset
 

@@ -1,6 +1,6 @@
 -- Each bad card is sent back: by a clause of demand 3, or, where the card invents the holding, by its answers. Assumes nothing.
 use Prim.Native.Nat.{ℕ, _+_, _≤_, _<_}
-use mathlib.Core.Path.{_≡_, refl}
+use mathlib.Core.Path.{_≡_, refl, ap}
 use mathlib.Core.List.{List, _∷_, []}
 use native.Mathlib.Omega.{arith}
 use lib.Dec.{eqb, lit<}
@@ -32,7 +32,7 @@ abbrev pub two-flows : Sample
 unfolding plans-compute
 two-flows = record { bytes = listing; accepted-plan = refl; some-flow = lit< tt }
 
-abbrev one-flow : Sample
+abbrev pub one-flow : Sample
 unfolding plans-compute
 one-flow = record { bytes = single; accepted-plan = refl; some-flow = lit< tt }
 
@@ -74,15 +74,18 @@ unfolding events-compute
 grants-one-most p next =
     sent-back (grantsOne p next) one-flow (Call.request 0x24000000 ∷ Call.request 0x24000400 ∷ Call.request 0x24000800 ∷ []) Clause.most tt
 
-twice : (x : ℕ) → bit (eqb x x) + (bit (eqb x x) + 0) + 0 ≤ 1 → ⊥
-twice x le = let two = rw (eq-eqb x x refl) at le in omega arith
+twice : (x y : ℕ) → x ≡ y → bit (eqb x y) + (bit (eqb y y) + 0) + 0 ≤ 1 → ⊥
+twice x y e le = let two = rw (eq-eqb x y e, eq-eqb y y refl) at le in omega arith
 
 -- two grants of one slot
 pub grants-one-owner : (p : ℕ) (next : Link → ℕ → Link) → Meets (grantsOne p next) → ⊥
 unfolding events-compute
 grants-one-owner p next meets =
-    let s = slotAfter (planOf listing) 0 (departureOf (depart 0x24000000 p)) in
-    twice s (meets listing refl (Call.request 0x24000000 ∷ Call.request 0x24000000 ∷ []) 0 (lit< tt) Clause.one-owner s)
+    let same-position : departureOf (depart 0x24000400 p) ≡ departureOf (depart 0x24000000 p) = omega arith in
+    let slotOf : ℕ → ℕ = slotAfter (planOf listing) 0 in
+    let s = slotOf (departureOf (depart 0x24000000 p)) in
+    twice (slotOf (departureOf (depart 0x24000400 p))) s (ap slotOf same-position)
+    (meets listing refl (Call.request 0x24000000 ∷ Call.request 0x24000400 ∷ []) 0 (lit< tt) Clause.one-owner s)
 
 -- slot 1 is granted and comes up idle
 pub writes-no-booking : Meets writesNoBooking → ⊥

@@ -12,8 +12,8 @@ use borrow.Author.Tests.{leb-false, lt-ltb, lt-leb, eqb-true, eqb-false, eq-eqb,
 use Rattle.model.specs.Tables.{bit, tally}
 use Rattle.model.specs.Plan.{Plan, positions, flowCount, entry}
 use Rattle.model.specs.Window.{passed, everyFrom}
-use Rattle.model.specs.Link.{Link, Flow, window, owner, flow, holding, cells, withFlow, movedTo, withHeld, heldFrom}
-use Rattle.model.specs.Request.{unbooked, valid, booked}
+use Rattle.model.specs.Link.{Link, Flow, window, owner, flow, holding, cells, withFlow, movedTo}
+use Rattle.model.specs.Request.{unbooked, valid, bookedFlow, booked}
 use Rattle.model.specs.History.{Mark, frameOf, atSlot}
 use Rattle.model.specs.Holding.{InWindow}
 use Rattle.model.proofs.Tests.{and-true}
@@ -161,7 +161,7 @@ module _ {l : Link} {L : Ledger} (v : Invariant l L) {i : ℕ} (known : i < flow
     }
       where
         x : Flow
-        x = withHeld (movedTo (flow l i) (a % P .frames) c) (heldFrom l i (s % T) suc)
+        x = bookedFlow l i (a % P .frames) c (s % T)
 
         own : Injects P (frameOf P t) (m ∷ L .grants) i x
         own = record {

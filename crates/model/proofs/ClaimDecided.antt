@@ -9,11 +9,11 @@ use native.Mathlib.Omega.{arith}
 use native.Mathlib.Decide.{decLe, decLt, ℕ-discrete}
 use borrow.Author.Tests.{ne-eqb}
 use Rattle.model.specs.Tables.{tally}
-use Rattle.model.specs.Word.{flowOf, departureOf, depart}
+use Rattle.model.specs.Word.{flowOf, quantumOf, departureOf, depart}
 use Rattle.model.specs.Plan.{Plan, positions, flowCount, entry}
 use Rattle.model.specs.Calls.{Event, History, Turn, requested, credited, ticked, lent, accepted, refused, inMask}
 use Rattle.model.specs.History.{ticks, frameOf, wellFormed, hasCome, renews, origin, changes, Mark, grants, lends, grantsSince}
-use Rattle.model.specs.History.{ofFlow, atSlot, inFrame, grantedIn, refusedIn, grantedUpTo, lentUpTo, creditedUpTo, WasGranted}
+use Rattle.model.specs.History.{ofFlow, atSlot, inFrame, grantedIn, refusedIn, grantedUpTo, lentUpTo, creditedUpTo, expectedNumber, WasGranted}
 use Rattle.model.specs.Claim.{Each, EachSince, AtRequest, AtGrant, AtTick, AtLoan, Room, Ready, ReadyAt, RefusedInEachFrame, Persistent}
 use Rattle.model.specs.Claim.{Held, HeldAt, SoonAt, ComesUpAt}
 use Rattle.model.specs.Claim.{GrantedWord, GrantedWordAt, AfterDepartureAt, LentFlow, LentFlowAt, Clause, Says}
@@ -157,8 +157,8 @@ has-room P i h = everywhere (suc (max (ticks h) (end P h))) (λ s. implies (decL
 
 unfoldable pub ready : (P : Plan) (i w : ℕ) (h : History) → Dec (Ready P i w h)
 ready P i w h =
-    same (λ r. record { room = r .0; come = r .1 }) (λ x. (x .room, x .come))
-    (Dec·and (has-room P i h) (is-true (hasCome P (ticks h) (departureOf w))))
+    same (λ r. record { room = r .0; come = r .1 .0; number = r .1 .1 }) (λ x. (x .room, (x .come, x .number)))
+    (Dec·and (has-room P i h) (Dec·and (is-true (hasCome P (ticks h) (departureOf w))) (ℕ-discrete (quantumOf w) (expectedNumber P h i))))
 
 unfoldable pub ready-at : (P : Plan) (i : ℕ) (e : Event) (h : History) → Dec (ReadyAt P i e h)
 unfolding at-request

@@ -11,8 +11,8 @@ use Rattle.model.specs.Refusals.{firstOf}
 use Rattle.model.specs.Word.{flowOf, departureOf, depart}
 use Rattle.model.specs.Plan.{Plan, Accepted, flowCount, planOf, refusal}
 use Rattle.model.specs.Calls.{Call, Grant, History, requested, accepted, refused}
-use Rattle.model.specs.Link.{Link}
-use Rattle.model.specs.Request.{Found, found, nowhere, wordTests, sought, wouldBeValid, answered, requestAfter, request}
+use Rattle.model.specs.Link.{Link, flow}
+use Rattle.model.specs.Request.{Found, found, nowhere, requestTests, sought, wouldBeValid, answered, requestAfter, request}
 use Rattle.model.specs.Claim.{GrantedWordAt, Demand3}
 use Rattle.model.specs.Card.{Played, paper, step, play, started, run}
 use Rattle.model.specs.Burst.{Ask, filled, inOrder, burst}
@@ -40,7 +40,7 @@ found-numbered l w (nowhere c) = newest-numbered (eqb c 0) (wouldBeValid l (flow
 
 request-numbered : (l : Link) (w : ℕ) → Numbered (request l w .answer)
 unfolding request requestAfter
-request-numbered l w = go (firstOf (wordTests (l .plan) w))
+request-numbered l w = go (firstOf (requestTests (l .plan) (flow l (flowOf w) .number) w))
   where
     go : (r : ℕ) → Numbered (requestAfter r l w .answer)
     go zero = found-numbered l w (sought l (flowOf w) (departureOf w))

@@ -13,7 +13,7 @@ use Rattle.model.specs.Refusals.{firstOf, _when_}
 use Rattle.model.specs.Word.{flowOf, destinationOf, departureOf}
 use Rattle.model.specs.Plan.{Plan, positions, flowCount, entry, Accepted}
 use Rattle.model.specs.Calls.{Event, History, requested, credited, ticked, lent, accepted, refused}
-use Rattle.model.specs.Request.{wordTests}
+use Rattle.model.specs.Request.{wordTests, numberTests, requestTests}
 use Rattle.model.specs.History.{Mark, ticks, frameOf, wellFormed, renews, origin, changes, marksOf, marksSince, grantAt, lendAt}
 use Rattle.model.specs.History.{grants, refusalsSince, lends, refusedIn}
 use Rattle.model.specs.Claim.{Each}
@@ -34,6 +34,20 @@ pub well-formed-is : (P : Plan) (w : ℕ) → wellFormed P w ≡ eqb (firstOf (w
 unfolding wellFormed
 well-formed-is P w =
     three-tests (ltb (flowOf w) (flowCount P)) (eqb (destinationOf w) (entry P (flowOf w) .destination)) (ltb (departureOf w) (positions P))
+
+-- the number is tested where the word is well formed
+tested-last : (a b c d : Bool)
+    → firstOf (8 when a ∷ 9 when b ∷ 10 when c ∷ 24 when d ∷ [])
+    ≡ cond (eqb (firstOf (8 when a ∷ 9 when b ∷ 10 when c ∷ [])) 0) (firstOf (24 when d ∷ [])) (firstOf (8 when a ∷ 9 when b ∷ 10 when c ∷ []))
+unfolding firstOf
+tested-last true b c d = refl
+tested-last false true c d = refl
+tested-last false false true d = refl
+tested-last false false false d = refl
+
+pub request-number : (P : Plan) (k w : ℕ)
+    → firstOf (requestTests P k w) ≡ cond (eqb (firstOf (wordTests P w)) 0) (firstOf (numberTests k w)) (firstOf (wordTests P w))
+request-number P k w = tested-last _ _ _ _
 
 pub departure-below : (P : Plan) (w : ℕ) → wellFormed P w ≡ true → departureOf w < positions P
 unfolding wellFormed

@@ -53,6 +53,7 @@ pub mod CountedBursts
 pub mod ListingMeets
 pub mod Holding
 pub mod Buffer
+pub mod QuantumNumbers
 pub mod TwoHops
 pub mod RequestsAlike
 pub mod AsFresh
@@ -62,7 +63,7 @@ pub mod TurnCounts
 pub mod LookFrom
 pub mod Waiting
 pub mod Fairness
--- edges, cards that demand 3 sends back, streams that meet the premise of the least count, and what the premise on tiles is for
+-- edges, cards that demand 3 sends back, streams that meet the premise of the least count, and what its premises on words are for
 pub mod Unfoldings
 pub mod Edges
 pub mod Decidable
@@ -76,6 +77,7 @@ pub mod BadResets
 pub mod FairDecided
 pub mod BadTurns
 pub mod TwoHeads
+pub mod BadNumbers
 pub mod PersistentStream
 pub mod StreamAfterReset
-pub mod TilesToCome
+pub mod OtherPremises

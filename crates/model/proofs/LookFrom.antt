@@ -5,14 +5,14 @@ use mathlib.Core.Bool.{Bool, true, false, cond}
 use lib.Dec.{eqb}
 use Rattle.model.specs.Refusals.{firstOf}
 use Rattle.model.specs.Word.{flowOf, departureOf}
-use Rattle.model.specs.Link.{Link}
-use Rattle.model.specs.Request.{Found, found, nowhere, wordTests, sought, booked, refusedAtNewest, answered, requestAfter, request}
+use Rattle.model.specs.Link.{Link, flow}
+use Rattle.model.specs.Request.{Found, found, nowhere, requestTests, sought, booked, refusedAtNewest, answered, requestAfter, request}
 use Rattle.model.specs.Credit.{creditTests, lowered, creditAfter, credit}
 use Rattle.model.specs.Tick.{nextPosition, recycled, advanced, tick}
 
 pub request-leaves : (l : Link) (w : ℕ) → request l w .link .lookFrom ≡ l .lookFrom
 unfolding request requestAfter answered booked refusedAtNewest
-request-leaves l w = go (firstOf (wordTests (l .plan) w))
+request-leaves l w = go (firstOf (requestTests (l .plan) (flow l (flowOf w) .number) w))
   where
     at-found : (f : Found) → answered l w f .link .lookFrom ≡ l .lookFrom
     at-found (found j c p) = refl

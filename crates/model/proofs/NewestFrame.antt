@@ -1,5 +1,5 @@
 -- The refusals in the newest frame, and that a tile which has come is not refused with 20. Assumes nothing.
-use Prim.Native.Nat.{ℕ, zero, suc, _+_, _≤_, _<_}
+use Prim.Native.Nat.{ℕ, zero, suc, _+_, _<_}
 use mathlib.Core.Path.{_≡_, refl, sym, ap, _∙_, subst}
 use mathlib.Core.List.{_∷_, []}
 use mathlib.Core.Option.{Option, some, none}
@@ -13,7 +13,7 @@ use Rattle.model.specs.Word.{flowOf, departureOf}
 use Rattle.model.specs.Calls.{Grant, refused}
 use Rattle.model.specs.Window.{Window, start, newest, later, next}
 use Rattle.model.specs.Link.{Link, window, flow, share}
-use Rattle.model.specs.Request.{wordTests, valid, validFor, Found, found, nowhere, orElse, earliest, search, sought}
+use Rattle.model.specs.Request.{requestTests, valid, validFor, Found, found, nowhere, orElse, earliest, search, sought}
 use Rattle.model.specs.Request.{wouldBeValid, newestTests, answered, requestAfter, request}
 use Rattle.model.proofs.Tests.{any-of-none}
 use Rattle.model.proofs.Tables.{firstFrom-none}
@@ -77,13 +77,14 @@ module _ (l : Link) (i d : ℕ) (come : later (window l) d (l .current) ≡ fals
 
 -- ---- the request
 
--- the word's own tests give no more than 10
-own-numbers : (a b c : Bool) → firstOf (8 when a ∷ 9 when b ∷ 10 when c ∷ []) ≤ 10
+-- the tests before the search give no 20
+not-20 : (a b c d : Bool) → firstOf (8 when a ∷ 9 when b ∷ 10 when c ∷ 24 when d ∷ []) ≡ 20 → ⊥
 unfolding firstOf
-own-numbers true b c = omega arith
-own-numbers false true c = omega arith
-own-numbers false false true = omega arith
-own-numbers false false false = omega arith
+not-20 true b c d e = omega arith
+not-20 false true c d e = omega arith
+not-20 false false true d e = omega arith
+not-20 false false false true e = omega arith
+not-20 false false false false e = omega arith
 
 refused-number : {a b : ℕ} → _≡_ {A = Grant} (refused a) (refused b) → a ≡ b
 refused-number e = cc
@@ -91,7 +92,7 @@ refused-number e = cc
 pub come-not-20 : (l : Link) (w : ℕ) → later (window l) (departureOf w) (l .current) ≡ false → flow l (flowOf w) .injection < l .plan .frames
     → request l w .answer ≡ refused 20 → ⊥
 unfolding request requestAfter answered
-come-not-20 l w come below = tested (firstOf (wordTests (l .plan) w)) (own-numbers _ _ _)
+come-not-20 l w come below = tested (firstOf (requestTests (l .plan) (flow l (flowOf w) .number) w)) (not-20 _ _ _ _)
   where
     i : ℕ
     i = flowOf w
@@ -106,6 +107,6 @@ come-not-20 l w come below = tested (firstOf (wordTests (l .plan) w)) (own-numbe
         let z = refused-number (ap refused (sym number) ∙ a) in
         omega arith
 
-    tested : (r : ℕ) → r ≤ 10 → requestAfter r l w .answer ≡ refused 20 → ⊥
+    tested : (r : ℕ) → (r ≡ 20 → ⊥) → requestAfter r l w .answer ≡ refused 20 → ⊥
     tested zero h a = searched (sought l i (departureOf w)) refl a
-    tested (suc r) h a = let z = refused-number a in omega arith
+    tested (suc r) h a = h (refused-number a)

@@ -17,7 +17,7 @@ use Rattle.model.specs.Plan.{positions, flowCount, entry}
 use Rattle.model.specs.Calls.{Grant, accepted, refused}
 use Rattle.model.specs.Window.{Window, start, newest, fromOn}
 use Rattle.model.specs.Link.{Link, Flow, Step, window, linkWith, owner, flow, holding, share, cells, withFlow}
-use Rattle.model.specs.Request.{Found, found, nowhere, wordTests, unbooked, valid, canLeave, validFor, search, sought}
+use Rattle.model.specs.Request.{Found, found, nowhere, requestTests, nextNumber, unbooked, valid, canLeave, validFor, search, sought}
 use Rattle.model.specs.Request.{wouldBeValid, newestTests, booked, refusedAtNewest, answered, requestAfter, request}
 use Rattle.model.specs.Holding.{InWindow}
 use Rattle.model.specs.AsFresh.{answersTo}
@@ -75,6 +75,7 @@ module _ (base : Link) {t : ℕ} (now : Current (base .plan) t (base .current)) 
     pub frame-below : x .injection < P .frames
     pub remainder : x .remainder ≡ y .remainder
     pub held : (s : ℕ) → InWindow P t s → t < s → getD (x .held) (s % T) 0 ≡ getD (y .held) (s % T) 0
+    pub number : x .number ≡ y .number
 
   pub record Alike (k l : Link) : Type 0 where
     pub owners : (s : ℕ) → InWindow P t s → t < s → owner k (s % T) ≡ owner l (s % T)
@@ -141,6 +142,7 @@ module _ (base : Link) {t : ℕ} (now : Current (base .plan) t (base .current)) 
               heldFrom-at k i p suc (s % T) position
               ∙ ap (λ x. cond (fromOn w p (s % T)) (suc x) x) (a .flows i known .held s w-s after)
               ∙ sym (heldFrom-at l i p suc (s % T) position);
+          number = ap nextNumber (a .flows i known .number);
         });
       }
 
@@ -153,6 +155,7 @@ module _ (base : Link) {t : ℕ} (now : Current (base .plan) t (base .current)) 
           frame-below = mod-lt _ (some-frame ok);
           remainder = refl;
           held = a .flows i known .held;
+          number = a .flows i known .number;
         });
       }
 
@@ -179,7 +182,19 @@ module _ (base : Link) {t : ℕ} (now : Current (base .plan) t (base .current)) 
         ap₂ (λ would answers. refused (firstOf (newestTests would r)) ∷ answers) (would-same x a known)
         (rest (pair (refusedAtNewest (first x) i r) (refusedAtNewest (second x) i r)) (refused-alike x a known r))
 
-    tested : (r : ℕ) → firstOf (wordTests P u) ≡ r → list (requestAfter r (first x) u) ≡ list (requestAfter r (second x) u)
+    -- the tests before the search give the same: where the plan has the flow, both expect the same number of it
+    abbrev number : Link → ℕ
+    number m = firstOf (requestTests P (flow m i .number) u)
+
+    tests-same : number (first x) ≡ number (second x)
+    unfolding firstOf
+    tests-same = go (ltb i (flowCount P)) refl
+      where
+        go : (b : Bool) → ltb i (flowCount P) ≡ b → number (first x) ≡ number (second x)
+        go true e = ap (λ k. firstOf (requestTests P k u)) (a .flows i (ltb-true i (flowCount P) e) .number)
+        go false e = rw e
+
+    tested : (r : ℕ) → number (first x) ≡ r → list (requestAfter r (first x) u) ≡ list (requestAfter r (second x) u)
     unfolding requestAfter
     tested zero e =
         let known = ltb-true i (flowCount P) (not-false (ltb i (flowCount P)) (line-passed _ 7 _ e .0)) in
@@ -190,4 +205,7 @@ module _ (base : Link) {t : ℕ} (now : Current (base .plan) t (base .current)) 
   pub answers-alike : (words : List ℕ) → Answers words
   unfolding answersTo request
   answers-alike [] x a = refl
-  answers-alike (u ∷ words) x a = tested u words (answers-alike words) x a (firstOf (wordTests P u)) refl
+  answers-alike (u ∷ words) x a =
+      let rest = answers-alike words in
+      tested u words rest x a (number u words rest x a (first x)) refl
+      ∙ ap (λ r. list u words rest x a (requestAfter r (second x) u)) (tests-same u words rest x a)

@@ -1,20 +1,30 @@
 -- A tick keeps the invariant, and answers the flow that was granted its slot. Assumes nothing.
-use Prim.Native.Nat.{ℕ, suc, _%_}
+use Prim.Native.Nat.{ℕ, suc, _%_, _<_}
 use mathlib.Core.Path.{_≡_, refl, sym, ap, _∙_}
 use mathlib.Core.Bool.{Bool, true, false, cond}
 use lib.Dec.{eqb}
 use borrow.Author.Tests.{eqb-true, eqb-false}
-use Rattle.model.specs.Plan.{Plan}
-use Rattle.model.specs.Link.{Link, owner, flow, withCurrent, withTaken}
-use Rattle.model.specs.Tick.{recycled, nextPosition, advanced}
+use Rattle.model.specs.Plan.{Plan, flowCount}
+use Rattle.model.specs.Window.{head, next}
+use Rattle.model.specs.Link.{Link, window, owner, flow, share, withCurrent, withTaken, movedTo}
+use Rattle.model.specs.Tick.{leftHead, recycled, nextPosition, advanced}
 use Rattle.model.specs.History.{frameOf}
 use Rattle.model.specs.Holding.{InWindow}
 use Rattle.model.proofs.Slots.{frame-stays, current-in-window, place-of-position}
 use Rattle.model.proofs.Window.{Current}
+use Rattle.model.proofs.LinkUpdates.{flow-withFlows}
 use Rattle.model.proofs.SlotOwners.{ownerIn}
 use Rattle.model.proofs.Invariant.{Ledger, atNextSlot, Invariant}
 use Rattle.model.proofs.NextSlot.{next-position, next-current, marks-stay, owned-on}
 use Rattle.model.proofs.FrameChangeKeeps.{frame-change-keeps}
+
+-- a flow that moves to the next frame keeps its number
+pub left-number : (l : Link) (i : ℕ) → leftHead l i .number ≡ flow l i .number
+left-number l i = go (eqb (flow l i .injection) (head (window l)))
+  where
+    go : (b : Bool) → cond b (movedTo (flow l i) (next (window l) (head (window l))) (share l i)) (flow l i) .number ≡ flow l i .number
+    go true = refl
+    go false = refl
 
 module _ {l : Link} {L : Ledger} (v : Invariant l L) where
   open Link l using (plan as P)
@@ -48,6 +58,7 @@ module _ {l : Link} {L : Ledger} (v : Invariant l L) where
     pub keeps : Invariant k (atNextSlot L)
     pub answer-is : owner k (nextPosition l) ≡ ownerIn (L .grants) (suc t)
     pub flows-in-frame : (suc t % F ≡ 0 → ⊥) → (i : ℕ) → flow k i ≡ flow l i
+    pub numbers-stay : (i : ℕ) → i < flowCount P → flow k i .number ≡ flow l i .number
 
   pub advances : Advances (advanced l)
   unfolding advanced recycled
@@ -65,6 +76,7 @@ module _ {l : Link} {L : Ledger} (v : Invariant l L) where
             keeps = keeps;
             answer-is = ap (owner (recycled l)) (next-position v) ∙ keeps .bookings .owners-are (suc t) (current-in-window ok (suc t));
             flows-in-frame = λ d. absurd (d change);
+            numbers-stay = λ i known. ap (λ x. x .number) (flow-withFlows l _ i known) ∙ left-number l i;
           }
       go false e =
           let d : suc t % F ≡ 0 → ⊥ = λ z. eqb-false (nextPosition l % F) 0 e (place ∙ z) in
@@ -73,4 +85,5 @@ module _ {l : Link} {L : Ledger} (v : Invariant l L) where
             keeps = in-frame d;
             answer-is = ap (owner l) (next-position v) ∙ in-frame d .bookings .owners-are (suc t) (current-in-window ok (suc t));
             flows-in-frame = λ d i. refl;
+            numbers-stay = λ i known. refl;
           }

@@ -80,6 +80,9 @@ split-depart w p h =
 pub departure-depart : (w p : ℕ) → p < 1024 → departureOf (depart w p) ≡ p
 departure-depart w p h = ap (λ (f : Fields). f .departure) (split-depart w p h)
 
+pub quantum-depart : (w p : ℕ) → p < 1024 → quantumOf (depart w p) ≡ quantumOf w
+quantum-depart w p h = ap (λ (f : Fields). f .quantum) (split-depart w p h)
+
 pub depart-small : (w p : ℕ) → p < 1024 → depart w p < 2 ^ 32
 depart-small w p h = let f = split-fits w in omega arith
 

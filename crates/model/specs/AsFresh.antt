@@ -1,21 +1,21 @@
--- What a granted reset leaves: a link that takes requests like one that is fresh but for the clock. Document 02, N6: it "recycles every frame", and
--- the clock "goes on". Assumes nothing.
+-- What a granted reset leaves: a link that takes requests like one that is fresh but for the clock and the numbers that are expected. Document 02, N6:
+-- it "recycles every frame", and the clock "goes on"; N9: "resets leave it", the number of each flow. Assumes nothing.
 use Prim.Native.Nat.{ℕ, _/_, _<_}
 use mathlib.Core.Path.{_≡_}
 use mathlib.Core.List.{List, _∷_, []}
 use Rattle.model.specs.Plan.{Plan, Accepted, positions, entry}
 use Rattle.model.specs.Calls.{Grant, accepted}
-use Rattle.model.specs.Link.{Link, Flow, withCurrent, withFlows, movedTo}
+use Rattle.model.specs.Link.{Link, Flow, flow, withCurrent, withFlows, movedTo, withNumber}
 use Rattle.model.specs.Fresh.{freshFlow, fresh}
 use Rattle.model.specs.Request.{request}
 use Rattle.model.specs.Reset.{reset}
 
--- the link that fresh makes, but with CP at p and each IF the frame of p
-abbrev pub flowAt : Plan → (p i : ℕ) → Flow
-flowAt P p i = movedTo (freshFlow P i) (p / P .slots) (entry P i .share)
+-- the link that fresh makes, but with CP at p, each IF the frame of p, and each flow i's number `numbers i`
+abbrev pub flowAt : Plan → (p : ℕ) → (numbers : ℕ → ℕ) → (i : ℕ) → Flow
+flowAt P p numbers i = withNumber (movedTo (freshFlow P i) (p / P .slots) (entry P i .share)) (numbers i)
 
-abbrev pub freshAt : Plan → (p : ℕ) → Link
-freshAt P p = withCurrent (withFlows (fresh P) (flowAt P p)) p
+abbrev pub freshAt : Plan → (p : ℕ) → (numbers : ℕ → ℕ) → Link
+freshAt P p numbers = withCurrent (withFlows (fresh P) (flowAt P p numbers)) p
 
 -- the answers to requests with these words, one after the other
 unfoldable pub answersTo : Link → List ℕ → List Grant
@@ -26,7 +26,7 @@ answersTo l (w ∷ ws) = request l w .answer ∷ answersTo (request l w .link) w
 abbrev pub GoesOnAsFresh : Type 0
 GoesOnAsFresh =
     (l : Link) → Accepted (l .plan) → l .current < positions (l .plan) → reset l .answer ≡ accepted tt
-    → (words : List ℕ) → answersTo (reset l .link) words ≡ answersTo (freshAt (l .plan) (l .current)) words
+    → (words : List ℕ) → answersTo (reset l .link) words ≡ answersTo (freshAt (l .plan) (l .current) (λ i. flow l i .number)) words
 
 -- A second reset in the same slot is granted, and changes nothing.
 abbrev pub TwiceIsOnce : Type 0

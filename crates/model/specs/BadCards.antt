@@ -12,7 +12,7 @@ use Rattle.model.specs.Plan.{Plan, positions, flowCount}
 use Rattle.model.specs.Calls.{Grant, Receipt, Turn, Loan, Renewal, accepted, refused}
 use Rattle.model.specs.Window.{Window, passed, everyFrom, frameAt, start, next, newest}
 use Rattle.model.specs.Link.{Link, window, owner, flow, holding, share, cells, linkWith, withFlows, movedTo, withHeld}
-use Rattle.model.specs.Request.{Found, found, nowhere, wordTests, unbooked, canLeave, validFor, orElse, search, someInNewest, wouldBeValid}
+use Rattle.model.specs.Request.{Found, found, nowhere, requestTests, unbooked, canLeave, validFor, orElse, search, someInNewest, wouldBeValid}
 use Rattle.model.specs.Request.{newestTests, refusedAtNewest, answered}
 use Rattle.model.specs.Credit.{creditAfter}
 use Rattle.model.specs.Tick.{nextPosition}
@@ -123,7 +123,7 @@ module _ (sought : Link → (i d : ℕ) → Found) (would : Link → ℕ → Boo
   searched (suc r) l w = (l, refused (suc r))
 
   abbrev searches : Card
-  searches = withRequest (λ l w. searched (firstOf (wordTests (l .plan) w)) l w)
+  searches = withRequest (λ l w. searched (firstOf (requestTests (l .plan) (flow l (flowOf w) .number) w)) l w)
 
 abbrev withSearch : (Link → (i d : ℕ) → Found) → Card
 withSearch sought = searches sought wouldBeValid

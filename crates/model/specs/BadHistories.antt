@@ -34,9 +34,9 @@ grantedFrom q d p = requested (wordOf 0 q d) (accepted (wordOf 0 q p))
 abbrev refusedFrom : (q d number : ℕ) → Event
 refusedFrom q d number = requested (wordOf 0 q d) (refused number)
 
--- its request with departure 0, granted position p
-abbrev granted : ℕ → Event
-granted p = grantedFrom 0 0 p
+-- its request with quantum number q and departure 0, granted position p
+abbrev granted : (q p : ℕ) → Event
+granted q p = grantedFrom q 0 p
 
 -- a granted reset
 abbrev renewed : Event
@@ -48,29 +48,29 @@ badHistories =
     record {
       clause = Clause.most;
       bytes = plan2 4 2 16 2 8 2 8;
-      events = granted 1 ∷ granted 2 ∷ granted 4 ∷ granted 5 ∷ ticked (some 0) ∷ granted 0 ∷ [];
+      events = granted 0 1 ∷ granted 1 2 ∷ granted 2 4 ∷ granted 3 5 ∷ ticked (some 0) ∷ granted 4 0 ∷ [];
     }
     -- three slots of frame 1
-    ∷ record { clause = Clause.most-in-a-frame; bytes = roomy; events = granted 4 ∷ granted 5 ∷ granted 6 ∷ [] }
+    ∷ record { clause = Clause.most-in-a-frame; bytes = roomy; events = granted 0 4 ∷ granted 1 5 ∷ granted 2 6 ∷ [] }
     -- one slot where the least count is 2, with a cell free
-    ∷ record { clause = Clause.least; bytes = listing; events = granted 1 ∷ requested 0x24000400 (refused 12) ∷ [] }
+    ∷ record { clause = Clause.least; bytes = listing; events = granted 0 1 ∷ requested 0x24000400 (refused 12) ∷ [] }
     -- slot 1 for both flows
-    ∷ record { clause = Clause.one-owner; bytes = listing; events = granted 1 ∷ requested 0x24100000 (accepted 0x24100001) ∷ [] }
+    ∷ record { clause = Clause.one-owner; bytes = listing; events = granted 0 1 ∷ requested 0x24100000 (accepted 0x24100001) ∷ [] }
     -- three slots held with 2 cells
-    ∷ record { clause = Clause.within-cells; bytes = listing; events = granted 1 ∷ granted 4 ∷ granted 5 ∷ [] }
+    ∷ record { clause = Clause.within-cells; bytes = listing; events = granted 0 1 ∷ granted 1 4 ∷ granted 2 5 ∷ [] }
     -- a credit with nothing held
     ∷ record { clause = Clause.within-cells; bytes = listing; events = credited 0 1 (accepted tt) ∷ [] }
     -- a credit from slot 2 on, where 2 are held, but from slot 5 on none
     ∷ record {
       clause = Clause.within-cells;
       bytes = listing;
-      events = granted 1 ∷ granted 2 ∷ credited 0 5 (accepted tt) ∷ credited 0 5 (accepted tt) ∷ credited 0 2 (accepted tt) ∷ [];
+      events = granted 0 1 ∷ granted 1 2 ∷ credited 0 5 (accepted tt) ∷ credited 0 5 (accepted tt) ∷ credited 0 2 (accepted tt) ∷ [];
     }
     -- position 0 before the first tick is slot 8
-    ∷ record { clause = Clause.within-a-window; bytes = listing; events = granted 0 ∷ [] }
+    ∷ record { clause = Clause.within-a-window; bytes = listing; events = granted 0 0 ∷ [] }
     -- a granted slot comes up idle, and for another flow
-    ∷ record { clause = Clause.comes-up; bytes = listing; events = granted 1 ∷ ticked none ∷ [] }
-    ∷ record { clause = Clause.comes-up; bytes = listing; events = granted 1 ∷ ticked (some 1) ∷ [] }
+    ∷ record { clause = Clause.comes-up; bytes = listing; events = granted 0 1 ∷ ticked none ∷ [] }
+    ∷ record { clause = Clause.comes-up; bytes = listing; events = granted 0 1 ∷ ticked (some 1) ∷ [] }
     -- a slot that nobody was granted comes up for a flow, and for a number that is no flow
     ∷ record { clause = Clause.comes-up; bytes = listing; events = ticked (some 1) ∷ [] }
     ∷ record { clause = Clause.comes-up; bytes = listing; events = ticked (some 7) ∷ [] }
@@ -79,7 +79,7 @@ badHistories =
     ∷ record { clause = Clause.granted-words; bytes = listing; events = requested 0x24000000 (accepted 0x24100001) ∷ [] }
     ∷ record { clause = Clause.granted-words; bytes = listing; events = requested 0x24000000 (accepted 0x24000401) ∷ [] }
     -- the answer's departure is not below T
-    ∷ record { clause = Clause.granted-words; bytes = listing; events = granted 9 ∷ [] }
+    ∷ record { clause = Clause.granted-words; bytes = listing; events = granted 0 9 ∷ [] }
     -- the asked word has another node than the plan's, flow 2 of two, and departure T
     ∷ record { clause = Clause.granted-words; bytes = listing; events = requested 0x20000000 (accepted 0x20000001) ∷ [] }
     ∷ record { clause = Clause.granted-words; bytes = listing; events = requested 0x24200000 (accepted 0x24200001) ∷ [] }
@@ -89,7 +89,7 @@ badHistories =
       clause = Clause.most;
       bytes = plan2 4 2 16 2 8 2 8;
       events =
-          granted 1 ∷ granted 2 ∷ granted 4 ∷ granted 5 ∷ ticked (some 0) ∷ ticked (some 0) ∷ ticked none ∷ ticked (some 0)
+          granted 0 1 ∷ granted 1 2 ∷ granted 2 4 ∷ granted 3 5 ∷ ticked (some 0) ∷ ticked (some 0) ∷ ticked none ∷ ticked (some 0)
           ∷ grantedFrom 4 4 0 ∷ grantedFrom 5 4 1 ∷ ticked (some 0) ∷ grantedFrom 6 5 4 ∷ [];
     }
     -- three frames and three frame changes: the least count is 5, and four slots are granted
@@ -100,20 +100,20 @@ badHistories =
           grantedFrom 0 0 1 ∷ grantedFrom 1 0 2 ∷ refusedFrom 2 0 11 ∷ ticked (some 0) ∷ grantedFrom 2 1 0 ∷ refusedFrom 3 1 11
           ∷ ticked (some 0) ∷ grantedFrom 3 2 1 ∷ refusedFrom 4 2 11 ∷ ticked (some 0) ∷ refusedFrom 4 0 11 ∷ [];
     }
-    -- both cells are held at slot 2; then, and at no request of its own that is well formed, the flow asks for another node, and flow 1 asks;
+    -- both cells are held at slot 2; then, and at no request of its own that is well formed, the flow asks for another node, with number 7, and flow 1 asks;
     -- both fall free from slot 3 on, and slot 2 is gone when it asks again, at CP = 3 with departure 0 and at CP = 4 with departure 4
     ∷ record {
       clause = Clause.least;
       bytes = listing;
       events =
-          grantedFrom 0 0 1 ∷ grantedFrom 1 0 2 ∷ requested 0x20000800 (refused 9) ∷ requested 0x24100000 (accepted 0x24100003)
+          grantedFrom 0 0 1 ∷ grantedFrom 1 0 2 ∷ requested 0x20001C00 (refused 9) ∷ requested 0x24100000 (accepted 0x24100003)
           ∷ credited 0 3 (accepted tt) ∷ credited 0 3 (accepted tt) ∷ ticked (some 0) ∷ ticked (some 0) ∷ ticked (some 1)
           ∷ refusedFrom 2 0 12 ∷ ticked none ∷ refusedFrom 2 4 12 ∷ [];
     }
     -- flow 2 of two, with the node 0 that an entry past the last has
     ∷ record { clause = Clause.granted-words; bytes = listing; events = requested 0x00200000 (accepted 0x00200001) ∷ [] }
     -- slot 1 is booked by flow 0 and lent to flow 1; slot 0 is lent to both
-    ∷ record { clause = Clause.one-owner; bytes = listing; events = granted 1 ∷ ticked (some 0) ∷ lent 2 (accepted 1) ∷ [] }
+    ∷ record { clause = Clause.one-owner; bytes = listing; events = granted 0 1 ∷ ticked (some 0) ∷ lent 2 (accepted 1) ∷ [] }
     ∷ record { clause = Clause.one-owner; bytes = listing; events = lent 1 (accepted 0) ∷ lent 2 (accepted 1) ∷ [] }
     -- three lent slots held with 2 cells; and one lent and two granted
     ∷ record {
@@ -121,7 +121,7 @@ badHistories =
       bytes = listing;
       events = lent 1 (accepted 0) ∷ ticked none ∷ lent 1 (accepted 0) ∷ ticked none ∷ lent 1 (accepted 0) ∷ [];
     }
-    ∷ record { clause = Clause.within-cells; bytes = listing; events = lent 1 (accepted 0) ∷ granted 1 ∷ granted 2 ∷ [] }
+    ∷ record { clause = Clause.within-cells; bytes = listing; events = lent 1 (accepted 0) ∷ granted 0 1 ∷ granted 1 2 ∷ [] }
     -- a lend is no grant of the next slot
     ∷ record { clause = Clause.comes-up; bytes = listing; events = ticked none ∷ lent 1 (accepted 0) ∷ ticked (some 0) ∷ [] }
     -- lent to a flow that the mask does not have, and to flow 2 of two
@@ -130,7 +130,7 @@ badHistories =
     -- a mask with a bit at n is answered
     ∷ record { clause = Clause.lent-flows; bytes = listing; events = lent 5 (accepted 0) ∷ [] }
     -- a lent slot does not count in the least: one slot is granted where the least count is 2
-    ∷ record { clause = Clause.least; bytes = roomy; events = lent 1 (accepted 0) ∷ granted 1 ∷ requested 0x24000400 (refused 12) ∷ [] }
+    ∷ record { clause = Clause.least; bytes = roomy; events = lent 1 (accepted 0) ∷ granted 0 1 ∷ requested 0x24000400 (refused 12) ∷ [] }
     -- the departure's own slot, and an earlier one
     ∷ record { clause = Clause.after-departure; bytes = listing; events = grantedFrom 0 2 2 ∷ [] }
     ∷ record { clause = Clause.after-departure; bytes = listing; events = grantedFrom 0 5 1 ∷ [] }
@@ -148,6 +148,14 @@ badHistories =
     -- refused with 20, though the tile has come: its departure is CP; and it lies before CP in the head frame
     ∷ record { clause = Clause.least; bytes = listing; events = refusedFrom 0 0 20 ∷ [] }
     ∷ record { clause = Clause.least; bytes = listing; events = ticked none ∷ ticked none ∷ refusedFrom 0 1 20 ∷ [] }
+    -- refused with 24, though the word carries the expected number: on a fresh link; after a grant to another flow; and after a reset
+    ∷ record { clause = Clause.least; bytes = listing; events = refusedFrom 0 0 24 ∷ [] }
+    ∷ record { clause = Clause.least; bytes = listing; events = requested 0x24100000 (accepted 0x24100001) ∷ refusedFrom 0 0 24 ∷ [] }
+    ∷ record {
+      clause = Clause.least;
+      bytes = listing;
+      events = granted 0 1 ∷ credited 0 1 (accepted tt) ∷ ticked (some 0) ∷ renewed ∷ refusedFrom 1 1 24 ∷ [];
+    }
     -- after a reset in frame 1 five slots of frames 1 to 3 are granted with a share of 2, and no frame change has come since
     ∷ record {
       clause = Clause.most;
@@ -160,14 +168,14 @@ badHistories =
     ∷ record {
       clause = Clause.most-in-a-frame;
       bytes = roomy;
-      events = granted 4 ∷ granted 5 ∷ Event.reset (refused 23) ∷ granted 6 ∷ [];
+      events = granted 0 4 ∷ granted 1 5 ∷ Event.reset (refused 23) ∷ granted 2 6 ∷ [];
     }
     -- the slots that were granted before the reset do not count in the least
     ∷ record {
       clause = Clause.least;
       bytes = listing;
       events =
-          granted 1 ∷ credited 0 1 (accepted tt) ∷ grantedFrom 1 0 2 ∷ credited 0 2 (accepted tt) ∷ ticked (some 0) ∷ ticked (some 0)
+          granted 0 1 ∷ credited 0 1 (accepted tt) ∷ grantedFrom 1 0 2 ∷ credited 0 2 (accepted tt) ∷ ticked (some 0) ∷ ticked (some 0)
           ∷ renewed ∷ refusedFrom 2 2 12 ∷ [];
     }
     -- nor does it ask for a refusal in the frames before it, or that the requests before it were ready
@@ -180,14 +188,14 @@ badHistories =
     ∷ record {
       clause = Clause.one-owner;
       bytes = listing;
-      events = granted 1 ∷ credited 0 1 (accepted tt) ∷ ticked (some 0) ∷ renewed ∷ lent 1 (accepted 0) ∷ [];
+      events = granted 0 1 ∷ credited 0 1 (accepted tt) ∷ ticked (some 0) ∷ renewed ∷ lent 1 (accepted 0) ∷ [];
     }
-    ∷ record { clause = Clause.one-owner; bytes = listing; events = granted 2 ∷ credited 0 2 (accepted tt) ∷ renewed ∷ granted 2 ∷ [] }
+    ∷ record { clause = Clause.one-owner; bytes = listing; events = granted 0 2 ∷ credited 0 2 (accepted tt) ∷ renewed ∷ granted 1 2 ∷ [] }
     -- two cells are held over the reset, and then three
-    ∷ record { clause = Clause.within-cells; bytes = listing; events = granted 1 ∷ granted 2 ∷ renewed ∷ granted 3 ∷ [] }
+    ∷ record { clause = Clause.within-cells; bytes = listing; events = granted 0 1 ∷ granted 1 2 ∷ renewed ∷ granted 2 3 ∷ [] }
     -- a slot that was granted before the reset comes up idle; and with the clock put back position 1, which is slot 9, comes up with slot 3
-    ∷ record { clause = Clause.comes-up; bytes = listing; events = granted 1 ∷ credited 0 1 (accepted tt) ∷ renewed ∷ ticked none ∷ [] }
-    ∷ record { clause = Clause.comes-up; bytes = listing; events = ticked none ∷ ticked none ∷ renewed ∷ granted 1 ∷ ticked (some 0) ∷ [] }
+    ∷ record { clause = Clause.comes-up; bytes = listing; events = granted 0 1 ∷ credited 0 1 (accepted tt) ∷ renewed ∷ ticked none ∷ [] }
+    ∷ record { clause = Clause.comes-up; bytes = listing; events = ticked none ∷ ticked none ∷ renewed ∷ granted 0 1 ∷ ticked (some 0) ∷ [] }
     ∷ []
 
 -- ---- the next board's buffer
@@ -195,7 +203,7 @@ badHistories =
 -- N = 4: three slots of flow 0 and two of flow 1, one more than the buffer holds
 unfoldable pub overfull : List Event
 overfull =
-    granted 1 ∷ granted 2 ∷ granted 3 ∷ requested 0x24100000 (accepted 0x24100004) ∷ requested 0x24100400 (accepted 0x24100405) ∷ []
+    granted 0 1 ∷ granted 1 2 ∷ granted 2 3 ∷ requested 0x24100000 (accepted 0x24100004) ∷ requested 0x24100400 (accepted 0x24100405) ∷ []
 
 -- at slot 5, the last of them
 abbrev pub Overfills : Type 0

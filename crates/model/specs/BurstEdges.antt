@@ -1,6 +1,6 @@
--- Edges of bursts. Document 02, N7. Assumes nothing.
+-- Edges of bursts. Document 02, N7 and N9. Assumes nothing.
 --
--- What each comes to is worked out from the request. Each flow's words carry the numbers of its quanta; T is 8 but for `single`.
+-- What each comes to is worked out from the request. Where a row says no more, each flow's words carry the numbers of its quanta; T is 8 but for `single`.
 use Prim.Native.Nat.{ℕ}
 use mathlib.Core.List.{List, _∷_, [], _++_}
 use mathlib.Core.Option.{some, none}
@@ -29,6 +29,10 @@ burstEdges =
     (requested (wordOf 1 0 0) (accepted (wordOf 1 0 3)) ∷ requested (wordOf 0 2 0) (refused 12) ∷ ticked (some 0) ∷ ticked (some 0) ∷ ticked (some 1) ∷ [])
     -- each record finds what those before it booked
     ∷ fills listing [] (gets 0 0 0 1 ∷ gets 1 0 0 2 ∷ gets 0 1 0 3 ∷ gets 1 1 0 4 ∷ []) (requested (wordOf 1 2 0) (refused 12) ∷ [])
+    -- the number moves within a burst: one behind, that of the other flow, and one behind again are refused with 24
+    ∷ fills listing []
+    (gets 0 0 0 1 ∷ fails 0 0 0 24 ∷ gets 0 1 0 2 ∷ fails 1 1 0 24 ∷ gets 1 0 0 3 ∷ fails 0 1 0 24 ∷ fails 0 2 0 12 ∷ [])
+    (requested (wordOf 0 1 0) (refused 24) ∷ requested (wordOf 1 1 0) (accepted (wordOf 1 1 4)) ∷ [])
     -- a grant of position 0 and a refusal differ in the result alone
     ∷ fills listing (replicate 7 Call.tick) (gets 0 0 7 0 ∷ []) (ticked (some 0) ∷ [])
     ∷ fills listing (replicate 7 Call.tick) (fails 0 0 8 10 ∷ []) (ticked none ∷ [])

@@ -102,8 +102,8 @@ callEdges =
     ∷ follows (plan1 2 3 4 2 2) (grant 0 1 ∷ grant 0 2 ∷ credit 0 4 ∷ credit 0 4 ∷ serve 0 ∷ serve 0 ∷ grant 0 4 ∷ [])
     -- three flows
     ∷ follows threeFlows (grant 2 1 ∷ grant 2 4 ∷ refuse 2 11 ∷ grant 1 2 ∷ serve 2 ∷ serve 1 ∷ idle ∷ serve 2 ∷ credit 2 5 ∷ grant 2 0 ∷ [])
-    -- the quantum number is not tested: the same again after a grant
-    ∷ plays listing (requested 0x24000000 (accepted 0x24000001) ∷ requested 0x24000000 (accepted 0x24000002) ∷ requested 0x240FFC00 (refused 12) ∷ [])
+    -- the quantum number is tested: the same again after a grant gives 24, and so does another
+    ∷ plays listing (requested 0x24000000 (accepted 0x24000001) ∷ requested 0x24000000 (refused 24) ∷ requested 0x240FFC00 (refused 24) ∷ [])
     -- 8 though node 0 is that of an entry past the last
     ∷ plays listing (requested 0x00200000 (refused 8) ∷ [])
     ∷ []

@@ -1,10 +1,10 @@
--- Demand 3: one claim about the events of a whole list of calls. Document 01, "What demand 3 counts"; document 02, N1, N4 and N6. It names no
--- link. Assumes nothing.
+-- Demand 3: one claim about the events of a whole list of calls. Document 01, "What demand 3 counts"; document 02, N1, N4, N6 and N9. It names
+-- no link. Assumes nothing.
 --
 -- With k frame changes so far a stream is granted at most (W + k) × share slots, and at most its share in any frame. One that asks until it is
--- refused in each of the frames 0 to k, and at each of its well-formed requests names a tile that has come and holds fewer than its cells in every
--- slot from the current one on, is granted at least (W - 1 + k) × share. After a granted reset all of this begins afresh, with the frame of the
--- slot that is then current in the place of frame 0. What else is claimed is over the whole list.
+-- refused in each of the frames 0 to k, and at each of its well-formed requests names a tile that has come, carries the expected number and holds
+-- fewer than its cells in every slot from the current one on, is granted at least (W - 1 + k) × share. After a granted reset all of this begins
+-- afresh, with the frame of the slot that is then current in the place of frame 0. What else is claimed is over the whole list.
 --
 -- Demand 3 cannot see what follows; demand 2's equations of each call say it:
 -- - which number a refusal has, and what C and IF are after it;
@@ -13,8 +13,9 @@
 --   modulo T);
 -- - requests refused to a stream that lapsed once: in some frame it was not refused, so that a stream that asks for less than its share has no least
 --   count from the next frame on; or once it asked with all of its cells held in a slot from the current one on, as flow 0 does in the listing's
---   third call; or once it asked for a tile that had not come. A card that gives a flow 12 for ever after its first 12 meets demand 3, and so does
---   one that refuses whenever the tile has not come;
+--   third call; or once it asked for a tile that had not come, or with another number than the expected one. A card that gives a flow 12 for ever after
+--   its first 12 meets demand 3, and so does one that refuses whenever the tile has not come;
+-- - words granted with another number than the expected one (`QuantumNumbers.antt` says which numbers granted words carry);
 -- - whose turn it is to be lent to: fairness says that (Fairness.antt);
 -- - lends refused that should be answered, and with which number; a mark that stands past the tick, or that a refused lend sets; a lent slot booked in
 --   the table of owners; what is held of a lent slot in slots that are gone, or in the current one;
@@ -27,11 +28,11 @@ use mathlib.Core.Logic.{_↔_}
 use mathlib.Core.List.{_∷_, []}
 use mathlib.Core.Option.{some}
 use mathlib.Core.Bool.{true, false, cond}
-use Rattle.model.specs.Word.{flowOf, departureOf, depart}
+use Rattle.model.specs.Word.{flowOf, quantumOf, departureOf, depart}
 use Rattle.model.specs.Plan.{Plan, positions, flowCount, entry}
 use Rattle.model.specs.Calls.{Event, History, Turn, requested, credited, ticked, lent, accepted, refused, inMask}
 use Rattle.model.specs.History.{ticks, slotAfter, wellFormed, hasCome, renews, origin, changes}
-use Rattle.model.specs.History.{granted, grantedIn, refusedIn, grantedUpTo, lentUpTo, creditedUpTo, ownersOf, WasGranted}
+use Rattle.model.specs.History.{granted, grantedIn, refusedIn, grantedUpTo, lentUpTo, creditedUpTo, expectedNumber, ownersOf, WasGranted}
 
 -- ---- each event, and what was before it
 
@@ -89,6 +90,10 @@ pub record Ready (P : Plan) (i w : ℕ) (h : History) : Type 0 where
   pub room : Room P i h
   -- document 02, N4: the word "names a tile that has come, by this test of its departure against CP and by no other"
   pub come : hasCome P (ticks h) (departureOf w) ≡ true
+  -- Document 02, N9: the word "also carries the expected number". The grants are those of the whole list, as no reset starts the numbers afresh. A
+  -- word is well formed whatever its number, so that by the letter a refusal with 24 is one of the refusals of 'asks until it is refused'. Of a stream
+  -- that keeps this premise at each of its well-formed requests a link that gives 24 only to a word with another number has none.
+  pub number : quantumOf w ≡ expectedNumber P h i
 
 -- "Each request means each of its well-formed requests."
 abbrev pub ReadyAt : Plan → ℕ → Event → History → Type 0

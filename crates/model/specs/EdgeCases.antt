@@ -96,6 +96,8 @@ pub data Answered : Type 0 where
   -- the same of a request with this departure
   grantFrom : (flow departure position : ℕ) → Answered
   refuseFrom : (flow departure number : ℕ) → Answered
+  -- a request with this departure and this quantum number is refused
+  refuseAs : (flow quantum departure number : ℕ) → Answered
   -- a credit is taken, or refused
   credit : (flow position : ℕ) → Answered
   reject : (flow position number : ℕ) → Answered
@@ -126,6 +128,7 @@ played T at next (refuse i r ∷ rest) = requested (wordOf i (next i) at) (refus
 played T at next (grantFrom i d p ∷ rest) =
     requested (wordOf i (next i) d) (accepted (wordOf i (next i) p)) ∷ played T at (λ j. cond (eqb j i) (suc (next j)) (next j)) rest
 played T at next (refuseFrom i d r ∷ rest) = requested (wordOf i (next i) d) (refused r) ∷ played T at next rest
+played T at next (refuseAs i q d r ∷ rest) = requested (wordOf i q d) (refused r) ∷ played T at next rest
 played T at next (credit i p ∷ rest) = credited i p (accepted tt) ∷ played T at next rest
 played T at next (reject i p r ∷ rest) = credited i p (refused r) ∷ played T at next rest
 played T at next (serve i ∷ rest) = ticked (some i) ∷ played T ((at + 1) % T) next rest

@@ -1,5 +1,5 @@
--- The one table of edge cases: those that document 01 marks P, and more, by plan, calls, departures, lends, turns, resets, bursts and program, that tell
--- wrong readings apart. Assumes nothing.
+-- The one table of edge cases: those that document 01 marks P, and more, by plan, calls, departures, numbers, lends, turns, resets, bursts and program,
+-- that tell wrong readings apart. Assumes nothing.
 use mathlib.Core.List.{List, _∷_, [], _++_}
 use mathlib.Core.Option.{some}
 use Rattle.model.specs.Calls.{Event, requested, credited, ticked, accepted, refused}
@@ -8,6 +8,7 @@ use Rattle.model.specs.EdgeCases.{Trial, Outcome, Case, Answered, grant,
 use Rattle.model.specs.PlanEdges.{planEdges}
 use Rattle.model.specs.CallEdges.{callEdges}
 use Rattle.model.specs.DepartureEdges.{departureEdges}
+use Rattle.model.specs.NumberEdges.{numberEdges}
 use Rattle.model.specs.LendEdges.{lendEdges}
 use Rattle.model.specs.TurnEdges.{turnEdges}
 use Rattle.model.specs.WriteEdges.{writeEdges}
@@ -58,5 +59,5 @@ markedEdges =
 -- ---- all of them
 
 unfoldable pub edges : List Case
-unfolding markedEdges planEdges callEdges departureEdges lendEdges turnEdges writeEdges resetEdges burstEdges programEdges
-edges = markedEdges ++ planEdges ++ callEdges ++ departureEdges ++ lendEdges ++ turnEdges ++ writeEdges ++ resetEdges ++ burstEdges ++ programEdges
+unfolding markedEdges planEdges callEdges departureEdges numberEdges lendEdges turnEdges writeEdges resetEdges burstEdges programEdges
+edges = markedEdges ++ planEdges ++ callEdges ++ departureEdges ++ numberEdges ++ lendEdges ++ turnEdges ++ writeEdges ++ resetEdges ++ burstEdges ++ programEdges

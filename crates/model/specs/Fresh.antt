@@ -13,6 +13,7 @@ freshFlow P i = record {
   injection = 0;
   remainder = entry P i .share;
   held = replicate (positions P) 0;
+  number = 0;  -- document 02, N9: "0 when fresh"
 }
 
 unfoldable pub fresh : Plan → Link

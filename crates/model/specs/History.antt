@@ -1,4 +1,4 @@
--- What is counted over the events of a list of calls. Document 01, "What demand 3 counts"; document 02, N1, N4 and N6. It names no link. Assumes nothing.
+-- What is counted over the events of a list of calls. Document 01, "What demand 3 counts"; document 02, N1, N4, N6 and N9. It names no link. Assumes nothing.
 --
 -- Counts are of two families: over the whole list, and since the last granted reset, after which "the most and least counts begin afresh".
 use Prim.Native.Nat.{ℕ, suc, _+_, _/_, _%_, _<_}
@@ -183,6 +183,14 @@ lentUpTo h i s = tally (upTo i s) (lends h)
 
 abbrev pub creditedUpTo : Plan → History → ℕ → ℕ → ℕ
 creditedUpTo P h i s = tally (upTo i s) (credits P h)
+
+-- flow i's grants, those before a reset too
+abbrev pub grantedInAll : Plan → History → ℕ → ℕ
+grantedInAll P h i = tally (ofFlow i) (grants P h)
+
+-- Document 02, N9: the number that is expected of flow i's next word: "0 when fresh, one more modulo 1,024 after each grant; lending and resets leave it"
+abbrev pub expectedNumber : Plan → History → ℕ → ℕ
+expectedNumber P h i = grantedInAll P h i % 1024
 
 -- the grants and the lends of slot s, of all flows
 abbrev pub ownersOf : Plan → History → ℕ → ℕ

@@ -25,7 +25,8 @@ pub mod Card
 pub mod CountedBursts
 pub mod Holding
 pub mod Buffer
-pub mod TilesToCome
+pub mod OtherPremises
+pub mod QuantumNumbers
 pub mod TwoHops
 pub mod AsFresh
 pub mod Fairness
@@ -35,6 +36,7 @@ pub mod EdgeCases
 pub mod PlanEdges
 pub mod CallEdges
 pub mod DepartureEdges
+pub mod NumberEdges
 pub mod LendEdges
 pub mod TurnEdges
 pub mod WriteEdges
@@ -48,3 +50,4 @@ pub mod BadLends
 pub mod BadDepartures
 pub mod BadResets
 pub mod BadTurns
+pub mod BadNumbers

@@ -14,6 +14,7 @@ pub record Flow : Type 0 where
   pub injection : ℕ  -- IF
   pub remainder : ℕ  -- C
   pub held : List ℕ  -- what the flow holds at each position
+  pub number : ℕ  -- document 02, N9: the quantum number that is expected of its next word
 
 pub record Link : Type 0 where
   pub plan : Plan
@@ -34,7 +35,7 @@ window l = record { slots = l .plan .slots; frames = l .plan .frames; current = 
 -- ---- what is read of a link
 
 abbrev pub noFlow : Flow
-noFlow = record { injection = 0; remainder = 0; held = [] }
+noFlow = record { injection = 0; remainder = 0; held = []; number = 0 }
 
 abbrev pub owner : Link → ℕ → Option ℕ
 owner l p = getD (l .owners) p none
@@ -55,18 +56,22 @@ cells l i = entry (l .plan) i .cells
 -- ---- a flow that is changed
 
 -- Flow x with these fields; what else it has stays. Every change of a flow goes through this one.
-abbrev pub flowWith : Flow → (injection remainder : ℕ) → (held : List ℕ) → Flow
-flowWith x injection remainder held = record {
+abbrev pub flowWith : Flow → (injection remainder : ℕ) → (held : List ℕ) → (number : ℕ) → Flow
+flowWith x injection remainder held number = record {
   injection = injection;
   remainder = remainder;
   held = held;
+  number = number;
 }
 
 abbrev pub movedTo : Flow → ℕ → ℕ → Flow
-movedTo x j c = flowWith x j c (x .held)
+movedTo x j c = flowWith x j c (x .held) (x .number)
 
 abbrev pub withHeld : Flow → List ℕ → Flow
-withHeld x h = flowWith x (x .injection) (x .remainder) h
+withHeld x h = flowWith x (x .injection) (x .remainder) h (x .number)
+
+abbrev pub withNumber : Flow → ℕ → Flow
+withNumber x k = flowWith x (x .injection) (x .remainder) (x .held) k
 
 -- ---- a link that is changed
 

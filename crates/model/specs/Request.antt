@@ -1,16 +1,17 @@
--- The request. Document 01, "The four calls", "Request", and refusals 8 to 12; document 02, N4, and refusal 20. Assumes nothing.
-use Prim.Native.Nat.{ℕ, zero, suc, _+_}
-use mathlib.Core.List.{List, _∷_, []}
+-- The request. Document 01, "The four calls", "Request", and refusals 8 to 12; document 02, N4 and N9, and refusals 20 and 24. Assumes nothing.
+use Prim.Native.Nat.{ℕ, zero, suc, _+_, _%_}
+use mathlib.Core.List.{List, _∷_, [], _++_}
 use mathlib.Core.Option.{Option, some, none}
 use mathlib.Core.Bool.{Bool, true, false, not, _&&_, _||_, cond}
 use lib.Dec.{ltb, eqb}
 use Rattle.model.specs.Tables.{any, firstFrom, ahead}
 use Rattle.model.specs.Refusals.{Line, firstOf, _when_}
-use Rattle.model.specs.Word.{flowOf, destinationOf, departureOf, depart}
+use Rattle.model.specs.Word.{flowOf, destinationOf, quantumOf, departureOf, depart}
 use Rattle.model.specs.Plan.{Plan, positions, flowCount, entry}
 use Rattle.model.specs.Calls.{Grant, accepted, refused}
 use Rattle.model.specs.Window.{Window, start, next, newest, later, passed, everyFrom}
-use Rattle.model.specs.Link.{Link, Step, window, owner, flow, holding, share, cells, withOwners, withFlow, movedTo, withHeld, heldFrom}
+use Rattle.model.specs.Link.{Link, Flow, Step, window, owner, flow, holding, share, cells, withOwners, withFlow, movedTo, withHeld}
+use Rattle.model.specs.Link.{withNumber, heldFrom}
 
 -- ---- the word's own tests
 
@@ -23,6 +24,18 @@ wordTests P w =
     -- "not below T"
     ∷ 10 when not (ltb (departureOf w) (positions P))
     ∷ []
+
+-- Document 02, N9, where the number `expected` is expected of the word's flow: "A word with another number is refused as 24, tested straight after 10".
+abbrev pub numberTests : (expected w : ℕ) → List Line
+numberTests expected w = 24 when not (eqb (quantumOf w) expected) ∷ []
+
+-- all that is tested before the search
+abbrev pub requestTests : Plan → (expected w : ℕ) → List Line
+requestTests P expected w = wordTests P w ++ numberTests expected w
+
+-- "one more modulo 1,024"
+abbrev pub nextNumber : ℕ → ℕ
+nextNumber k = (k + 1) % 1024
 
 -- ---- which positions are valid
 
@@ -101,11 +114,12 @@ newestTests would c =
 
 -- ---- what the request does
 
--- flow i books position p of frame j, with C left
-unfoldable pub booked : Link → ℕ → ℕ → ℕ → ℕ → Link
-booked l i j c p =
-    withFlow (withOwners l (λ q. cond (eqb q p) (some i) (owner l q))) i
-    (withHeld (movedTo (flow l i) j c) (heldFrom l i p suc))
+-- flow i after it booked position p of frame j, with C left; document 02, N9: its number is one more "after each grant"
+abbrev pub bookedFlow : Link → (i j c p : ℕ) → Flow
+bookedFlow l i j c p = withNumber (withHeld (movedTo (flow l i) j c) (heldFrom l i p suc)) (nextNumber (flow l i .number))
+
+unfoldable pub booked : Link → (i j c p : ℕ) → Link
+booked l i j c p = withFlow (withOwners l (λ q. cond (eqb q p) (some i) (owner l q))) i (bookedFlow l i j c p)
 
 -- "11 and 12 leave IF newest, with C as the request rule leaves it, and nothing else changed." 20 "leaves what 12 leaves".
 unfoldable pub refusedAtNewest : Link → ℕ → ℕ → Link
@@ -115,10 +129,10 @@ unfoldable pub answered : Link → ℕ → Found → Step Grant
 answered l w (found j c p) = record { link = booked l (flowOf w) j c p; answer = accepted (depart w p) }
 answered l w (nowhere c) = record { link = refusedAtNewest l (flowOf w) c; answer = refused (firstOf (newestTests (wouldBeValid l (flowOf w)) c)) }
 
--- the request, where the word's own tests give the number r
+-- the request, where the tests before the search give the number r; 24 too is answered "with the link unchanged"
 unfoldable pub requestAfter : ℕ → Link → ℕ → Step Grant
 requestAfter zero l w = answered l w (sought l (flowOf w) (departureOf w))
 requestAfter (suc r) l w = record { link = l; answer = refused (suc r) }
 
 unfoldable pub request : Link → ℕ → Step Grant
-request l w = requestAfter (firstOf (wordTests (l .plan) w)) l w
+request l w = requestAfter (firstOf (requestTests (l .plan) (flow l (flowOf w) .number) w)) l w

@@ -1,4 +1,4 @@
--- The local reset. Document 02, N6 and N8. Assumes nothing.
+-- The local reset. Document 02, N6, N8 and N9. Assumes nothing.
 use Prim.Native.Nat.{ℕ, zero, suc}
 use mathlib.Core.List.{List, _∷_, []}
 use mathlib.Core.Option.{none}
@@ -29,7 +29,7 @@ resetTests l =
     23 when not (quiet l)
     ∷ []
 
--- "every IF becomes HF, every C the share"; what a flow holds stays
+-- "every IF becomes HF, every C the share"; what a flow holds stays, and so does its number (N9)
 abbrev pub fromHead : Link → ℕ → Flow
 fromHead l i = movedTo (flow l i) (head (window l)) (share l i)
 

@@ -30,7 +30,11 @@ pub(crate) fn no_link() -> Link
         count: 0,
         entries,
     };
-    let flow = Flow { frame: 0, left: 0 };
+    let flow = Flow {
+        frame: 0,
+        left: 0,
+        number: 0,
+    };
     let owner = [0u8; 256];
     let unbooked = [0u64; 8];
     let flows = [flow; 16];

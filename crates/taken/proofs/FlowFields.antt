@@ -56,6 +56,10 @@ module _ (b : List ℕ) (P : Plan) (ok : Accepted P) (current i : ℕ) where
   abbrev pub part : ℕ
   part = flowsAt P + 2 * (i * flowFields P)
 
+  -- where the number stands that is expected of it
+  abbrev pub numberAt : ℕ
+  numberAt = part + 4 + 2 * positions P
+
   -- its field k
   pub field-is : (k at : ℕ) → at ≡ part + 2 * k → flowField b P i k ≡ field16 b at
   field-is k at e = ap (field16 b) (omega arith)
@@ -98,21 +102,26 @@ module _ (b : List ℕ) (P : Plan) (ok : Accepted P) (current i : ℕ) where
       rw (held-is p l, held-is (before window p) last, owner-is p l)
 
   abbrev flowAs : Flow
-  flowAs = record { injection = field16 b part; remainder = field16 b (part + 2); held = flowIn b P i .held }
+  flowAs = record { injection = field16 b part; remainder = field16 b (part + 2); held = flowIn b P i .held; number = field16 b numberAt }
 
   flow-as : flowIn b P i ≡ flowAs
   flow-as =
       let injection = field-is 0 part (omega arith) in
       let remainder = field-is 1 (part + 2) (omega arith) in
-      λ k. record { injection = injection k; remainder = remainder k; held = flowIn b P i .held }
+      let number = field-is (2 + positions P) numberAt (omega arith) in
+      λ k. record { injection = injection k; remainder = remainder k; held = flowIn b P i .held; number = number k }
 
-  pub flow-by-fields : flowKept b P current i ≡ spendsWell b (positionsAt P) part window i share && holdsWell b (positionsAt P) (part + 4) window i cells
+  -- the conditions on flow i by its fields
+  abbrev pub byFields : Bool
+  byFields =
+      spendsWell b (positionsAt P) part window i share && holdsWell b (positionsAt P) (part + 4) window i cells && ltb (field16 b numberAt) 1024
+
+  pub flow-by-fields : flowKept b P current i ≡ byFields
   unfolding flowTest
   flow-by-fields = ap (flowTest P current owners i) flow-as ∙ go (decLt (field16 b part) (P .frames))
     where
-      go : Dec (field16 b part < P .frames)
-          → flowTest P current owners i flowAs ≡ spendsWell b (positionsAt P) part window i share && holdsWell b (positionsAt P) (part + 4) window i cells
+      go : Dec (field16 b part < P .frames) → flowTest P current owners i flowAs ≡ byFields
       go (yes h) =
           let spent = ap (λ n. eqb (n + field16 b (part + 2)) share) (bookings-are (field16 b part) h) in
-          rw (lt-ltb (field16 b part) (P .frames) h, ← and-assoc) (λ k. frames-are (field16 b part) k && spent k && cells-are k && grows-are k)
+          rw (lt-ltb (field16 b part) (P .frames) h, ← and-assoc) (λ k. frames-are (field16 b part) k && spent k && cells-are k && grows-are k && ltb (field16 b numberAt) 1024)
       go (no h) = rw (le-ltb (field16 b part) (P .frames) (omega arith))

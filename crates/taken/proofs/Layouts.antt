@@ -31,26 +31,26 @@ layoutFor p =
     let positions = 30 + 4 * p .count in
     let flows = positions + 2 * size in
     record {
-      total = flows + 2 * (p .count * (2 + size));
+      total = flows + 2 * (p .count * (3 + size));
       plan = 18;
       positions = positions;
       size = size;
       flows = flows;
       count = p .count;
-      fields = 2 + size;
+      fields = 3 + size;
     }
 
 module _ (p : Plan) (v : Valid p) where
   -- what stands before the flows, and their fields
-  pub part-most : p .count * (2 + p .slots * p .frames) ≤ 4128
+  pub part-most : p .count * (3 + p .slots * p .frames) ≤ 4144
   part-most =
-      let fields : 2 + p .slots * p .frames ≤ 258 = omega (arith, v .accepted .positions-most) in
+      let fields : 3 + p .slots * p .frames ≤ 259 = omega (arith, v .accepted .positions-most) in
       mul-le-mul (count-few p v) fields
 
   pub laid-out : LaidOut (planFor p) (layoutFor p)
   laid-out =
       let n = count-is p in
-      let fields = ap (_* (2 + p .slots * p .frames)) n in
+      let fields = ap (_* (3 + p .slots * p .frames)) n in
       let total : layoutFor p .total ≡ imageLength (planFor p) = omega arith in
       let positions : layoutFor p .positions ≡ positionsAt (planFor p) = omega arith in
       let flows : layoutFor p .flows ≡ flowsAt (planFor p) = omega arith in

@@ -14,9 +14,9 @@ fieldsOf y = y .total ∷ y .plan ∷ y .positions ∷ y .size ∷ y .flows ∷ 
 pub record LaidOut (P : Plan) (y : Layout) : Type 0 where
   pub is : fieldsOf y ≡ images.layout P
   pub fields-are : y .fields ≡ images.flowFields P
-  pub short : y .total ≤ 8862
+  pub short : y .total ≤ 8894
 
 -- the parts of the flows stand last
 pub record Sized (y : Layout) : Type 0 where
   pub ends : y .total ≡ y .flows + 2 * (y .count * y .fields)
-  pub short : y .total ≤ 8862
+  pub short : y .total ≤ 8894

@@ -18,6 +18,9 @@ use window::Window;
 use window::positions::ahead;
 use window::positions::before;
 
+// How many quantum numbers there are.
+const NUMBERS: usize = 1024;
+
 // Whether flow i's bookings in frame j are at most its share, and none where the frame comes after its injection frame.
 fn frame_kept(
     image: &[u8],
@@ -138,7 +141,10 @@ fn flow_kept(image: &[u8], l: Layout, plan: Plan, w: Window, i: usize) -> bool
     if !spends_well(image, l.positions, at, w, i, e.share as usize) {
         return false;
     }
-    holds_well(image, l.positions, at + 4, w, i, e.cells as usize)
+    if !holds_well(image, l.positions, at + 4, w, i, e.cells as usize) {
+        return false;
+    }
+    field(image, at + 4 + 2 * l.size) < NUMBERS
 }
 
 // Whether each flow of a plan does.

@@ -30,7 +30,7 @@ pub fn layout_of(plan: Plan) -> Layout
     let size = plan.slots * plan.frames;
     let positions = HEADER + 12 + 4 * plan.count;
     let flows = positions + 2 * size;
-    let fields = 2 + size;
+    let fields = 3 + size;
     Layout {
         total: flows + 2 * (plan.count * fields),
         plan: HEADER,

@@ -2,7 +2,7 @@
 ask."""
 
 from generator import good_plans
-from generator.bursts import MOST, numbered
+from generator.bursts import MOST, words_of
 from generator.call_file import CallFile
 from generator.traffic.asking_until_refused import (
     Stream, often_small_frame, one_frame)
@@ -25,7 +25,7 @@ class BurstStream(Stream):
         grants = self.file.grants[self.flow]
         count = self.dice.between(1, MOST)
         wanted = len(grants) + min(count, HANDLED)
-        self.file.burst(numbered(self.file, [self.flow] * count))
+        self.file.burst(words_of(self.file, [self.flow] * count))
         return len(grants) == wanted
 
     def ask_until_refused(self):

@@ -11,7 +11,7 @@ use Rattle.imagebytes.proofs.flows.read_flows.Statement.{statement}
 use Rattle.imagebytes.proofs.flows.read_flows.Tie as tie
 
 abbrev Inv-loop : tie.InvT-loop
-Inv-loop image l all₀ count i₀ all i = Replacing (λ j f. flowFrom image (partAt l j)) 0 count (replicate 16 noFlow) all i
+Inv-loop image l all₀ count i₀ all i = Replacing (λ j f. flowFrom image (l .size) (partAt l j)) 0 count (replicate 16 noFlow) all i
 
 abbrev μ-loop : tie.MeasureT-loop
 μ-loop image l all₀ count i₀ all i = count - i
@@ -43,7 +43,7 @@ loop-again : tie.Need-loop-again Inv-loop μ-loop
 loop-again c =
     let f = c .before in
     let l = f .before .before in
-    let at = ap (flowFrom (l .before .before .args .image .now)) (f .flow .ensures .0) in
+    let at = ap (flowFrom (l .before .before .args .image .now) (l .before .before .args .l .size)) (f .flow .ensures .0) in
     replacing-more noFlow (l .loop .inv) (f .before .loop-test .taken) (c .read-flow .ensures ∙ at)
 
 returns : tie.Need-returns Inv-loop μ-loop

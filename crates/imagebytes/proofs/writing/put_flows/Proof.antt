@@ -11,7 +11,7 @@ use Rattle.imagebytes.proofs.writing.put_flows.Statement.{statement}
 use Rattle.imagebytes.proofs.writing.put_flows.Tie as tie
 
 abbrev Inv-loop : tie.InvT-loop
-Inv-loop held count size image₀ at flows next₀ i₀ image next i = PuttingParts (partsOf size flows held) (2 * (2 + size)) count image₀ image at next i
+Inv-loop held count size image₀ at flows next₀ i₀ image next i = PuttingParts (partsOf size flows held) (2 * (3 + size)) count image₀ image at next i
 
 abbrev μ-loop : tie.MeasureT-loop
 μ-loop held count size image₀ at flows next₀ i₀ image next i = count - i
@@ -35,7 +35,7 @@ put-flow-requires c κs =
       fits = s .pre .each-fits (l .loop .i) (i .loop-test .taken);
       flow = omega arith;
       size-most = s .pre .size-most;
-      there = omega (arith, part-fits (l .loop .i) (s .args .count) (2 + s .args .size) (i .loop-test .taken));
+      there = omega (arith, part-fits (l .loop .i) (s .args .count) (3 + s .args .size) (i .loop-test .taken));
     }
 
 add-i : tie.Need-add-i Inv-loop μ-loop

@@ -50,13 +50,14 @@ every-slot-requires : tie.Need-every-slot-requires
 every-slot-requires c κs = let a = hand-at (window-at (quiet-at (c .before) .before .before)) in measures-start _ (a .sound .plan)
 
 flows-in-requires : tie.Need-flows-in-requires
-flows-in-requires c κs = flows-few (hand-at (window-at (quiet-at (marked-at c) .before .before)))
+flows-in-requires c κs = flows-few (hand-at (window-at (quiet-at (marked-at (c .before)) .before .before)))
 
 returns-2 : tie.Need-returns-2
 returns-2 c =
-    let m = marked-at (c .before) in
+    let entries-at = c .before .before in
+    let m = marked-at entries-at in
     let e = quiet-at m in
-    let words = c .before .before in
+    let words = entries-at .before in
     reset-granted (hand-at (window-at (e .before .before))) (e .before .quiet .ensures) (e .if1 .left)
     (m .booked-or-marked .ensures) (words .before .unbooked .ensures) (words .every-slot .ensures) (c .flows-in .ensures)
 

@@ -12,15 +12,15 @@ use Rattle.window.proofs.Ranges.{replaced-none, replaced-more, replaced-done}
 use Rattle.link.proofs.fresh.flows_in.Statement.{statement}
 use Rattle.link.proofs.fresh.flows_in.Tie as tie
 
-record Done (frame count : ℕ) (entries : List Entry) (all : List Flow) (i : ℕ) : Type 0 where
+record Done (frame count : ℕ) (entries : List Entry) (all₀ all : List Flow) (i : ℕ) : Type 0 where
   pub at-most : i ≤ count
-  pub all-is : all ≡ startedFlows frame entries i
+  pub all-is : all ≡ startedFlows frame entries i all₀
 
 abbrev Inv-loop : tie.InvT-loop
-Inv-loop frame count entries spare all₀ i₀ all i = Done frame count entries all i
+Inv-loop frame count entries all₀ i₀ all i = Done frame count entries all₀ all i
 
 abbrev μ-loop : tie.MeasureT-loop
-μ-loop frame count entries spare all₀ i₀ all i = count - i
+μ-loop frame count entries all₀ i₀ all i = count - i
 
 loop-holds : tie.Need-loop-holds Inv-loop μ-loop
 loop-holds c = record { at-most = omega arith; all-is = replaced-none 0 _ _ noFlow }
@@ -30,6 +30,12 @@ mul-e c = search needs
 
 array-copy-out-e : tie.Need-array-copy-out-e Inv-loop μ-loop
 array-copy-out-e c = search needs
+
+mul-f : tie.Need-mul-f Inv-loop μ-loop
+mul-f c = search needs
+
+array-copy-out-f : tie.Need-array-copy-out-f Inv-loop μ-loop
+array-copy-out-f c = search needs
 
 cast-moved-to : tie.Need-cast-moved-to Inv-loop μ-loop
 cast-moved-to c = search needs
@@ -51,7 +57,7 @@ loop-less c = search needs
 
 -- where flow i is looked at
 abbrev loop-at : tie.After-moved-to Inv-loop μ-loop → tie.At-loop Inv-loop μ-loop
-loop-at c = c .before .before .before .before
+loop-at c = c .before .before .before .before .before
 
 loop-again : tie.Need-loop-again Inv-loop μ-loop
 loop-again c = record {
@@ -71,6 +77,8 @@ flows-in-spec =
     loop-holds
     mul-e
     array-copy-out-e
+    mul-f
+    array-copy-out-f
     cast-moved-to
     moved-to-requires
     mul-all

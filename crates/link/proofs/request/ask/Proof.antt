@@ -1,4 +1,4 @@
--- `link::request::ask` meets its contract: refused by the word's own tests, granted what the search found, or refused at the newest frame.
+-- `link::request::ask` meets its contract: refused by the tests before the search, granted what the search found, or refused at the newest frame.
 -- Assumes nothing.
 use borrow.Author.Needs.{needs}
 use Prim.Native.Nat.{ℕ, _<_}
@@ -9,18 +9,17 @@ use Rattle.model.specs.Refusals.{firstOf}
 use Rattle.model.specs.Word as word
 use Rattle.model.specs.Window.{newest}
 use Rattle.model.specs.Link as model
-use Rattle.model.specs.Request.{wordTests, newestTests, found, nowhere, sought}
-use Rattle.plan.specs.Reading.{planFor}
+use Rattle.model.specs.Request.{newestTests, found, nowhere, sought}
 use Rattle.window.specs.Window.{windowOf}
 use Rattle.tables.specs.Rows.{row}
 use Rattle.tables.specs.Search.{foundOf, lateAt, Gathering}
 use Rattle.link.specs.declared.Flow.{Flow}
 use Rattle.link.specs.declared.Link.{Link}
-use Rattle.link.specs.Updates.{movedTo}
+use Rattle.link.specs.Updates.{movedTo, grantedIn}
 use Rattle.link.specs.Reading.{linkOf}
-use Rattle.link.specs.Given.{RequestOn}
+use Rattle.link.specs.Given.{RequestOn, testsOf}
 use Rattle.link.specs.Reply.{refusedWith, grantedWith}
-use Rattle.link.proofs.Given.{word-on, place-on, flow-on, flow-few, words-on, search-from, sought-on, would-on}
+use Rattle.link.proofs.Given.{word-on, place-on, flow-on, number-below, flow-few, words-on, search-from, sought-on, would-on}
 use Rattle.link.proofs.Readings.{read-size}
 use Rattle.link.proofs.Words.{departure-below}
 use Rattle.link.proofs.Searches.{found-at, spent-at-newest}
@@ -73,8 +72,8 @@ OnAt s l =
     (s .args .i) (s .args .flow) (s .args .word)
 
 tests-are : (c : tie.After-refusal) (l : Link) → OnAt (entered c) l
-    → c .refusal .result ≡ firstOf (wordTests (planFor (l .plan)) (entered c .args .word))
-tests-are c l o = c .refusal .ensures (l .plan) (word-on o)
+    → c .refusal .result ≡ testsOf l (entered c .args .word)
+tests-are c l o = c .refusal .ensures (l .plan) _ (word-on o)
 
 -- the newest frame as the link has it
 newest-is : (c : tie.After-newest) (l : Link) → OnAt (start (passed-at c)) l → c .newest .result ≡ newest (model.window (linkOf l))
@@ -180,8 +179,8 @@ find-requires c κs =
 enum-known-found : tie.Need-enum-known-found
 enum-known-found c = search needs
 
-moved-to-requires : tie.Need-moved-to-requires
-moved-to-requires c κs = search needs
+granted-in-requires : tie.Need-granted-in-requires
+granted-in-requires c κs = number-below (start (passed-at (newest-at (at-find (c .before)))) .pre .given)
 
 cast-depart : tie.Need-cast-depart
 cast-depart c =
@@ -199,8 +198,8 @@ returns-3 c =
     λ l o.
     let small = position-small f l o in
     let granted = word.depart (start p .args .word) (position-at f) in
-    rw (c .depart .ensures, c .before .moved-to .ensures)
-    (ap (λ (x : Flow). grantedWith (movedTo x (frame-at f) (left-at f)) (position-at f) granted) (o .flow-is)
+    rw (c .depart .ensures, c .before .granted-in .ensures)
+    (ap (λ (x : Flow). grantedWith (grantedIn x (frame-at f) (left-at f)) (position-at f) granted) (o .flow-is)
     ∙ reply-found l (o .window .sound) _ _ (place-on o) (tests-are (p .before) l o) (p .if1 .left) _ _ _ (position-found f l o)
     (omega (arith, small)))
 
@@ -213,8 +212,8 @@ valid-in-newest-requires c κs = let n = newest-at (c .before .before .before) i
 nowhere-requires : tie.Need-nowhere-requires
 nowhere-requires c κs = search needs
 
-moved-to-requires-2 : tie.Need-moved-to-requires-2
-moved-to-requires-2 c κs = search needs
+moved-to-requires : tie.Need-moved-to-requires
+moved-to-requires c κs = search needs
 
 refused-requires-3 : tie.Need-refused-requires-3
 refused-requires-3 c κs = search needs
@@ -230,7 +229,7 @@ returns-4 c =
     λ l o.
     let none = ap foundOf (sym (f .found2 .given .1)) ∙ found-is find-at l o in
     let would = look .valid-in-newest .ensures (l .owner) _ (gathering find-at l o) ∙ would-on o in
-    rw (c .refused3 .ensures, c .before .before .nowhere .ensures, c .before .moved-to2 .ensures)
+    rw (c .refused3 .ensures, c .before .before .nowhere .ensures, c .before .moved-to .ensures)
     ((λ k. refusedWith (movedTo (o .flow-is k) (newest-is n l o k) left) (firstOf (newestTests (would k) left)))
     ∙ reply-nowhere l (o .window .sound) _ _ (place-on o) (tests-are (p .before) l o) (p .if1 .left) _ none)
 
@@ -250,13 +249,13 @@ ask-spec =
     cast-find
     find-requires
     enum-known-found
-    moved-to-requires
+    granted-in-requires
     cast-depart
     depart-requires
     returns-3
     enum-known-found-2
     valid-in-newest-requires
     nowhere-requires
-    moved-to-requires-2
+    moved-to-requires
     refused-requires-3
     returns-4)

@@ -1,17 +1,19 @@
 -- `taken::flows::flow_kept` meets its contract. Assumes nothing.
 use borrow.Author.Needs.{needs}
-use Prim.Native.Nat.{_+_, _*_, _≤_}
+use Prim.Native.Nat.{_+_, _*_, _≤_, _<_}
 use mathlib.Core.Path.{_≡_, refl, sym, _∙_}
-use mathlib.Core.Bool.{_&&_}
+use mathlib.Core.Bool.{true, _&&_}
 use native.Mathlib.Omega.{arith}
 use lib.ListN.{length, getD}
+use lib.Dec.{ltb}
 use borrow.Author.Tests.{not-true, not-false}
 use Rattle.plan.specs.declared.Entry.{Entry}
 use Rattle.plan.specs.Reading.{noEntry, planFor}
+use Rattle.model.specs.Plan.{field16}
 use Rattle.window.specs.Window.{windowOf, sizeOf}
 use Rattle.taken.specs.Flows.{spendsWell, holdsWell, flowKept}
 use Rattle.taken.proofs.Layouts.{count-is, flows-are, sized}
-use Rattle.taken.proofs.FlowParts.{flow-few, part-there, owners-on, held-on, flow-is}
+use Rattle.taken.proofs.FlowParts.{size-same, flow-few, part-there, owners-on, held-on, flow-is}
 use Rattle.taken.proofs.flows.flow_kept.Statement.{statement}
 use Rattle.taken.proofs.flows.flow_kept.Tie as tie
 
@@ -20,7 +22,7 @@ abbrev entered : tie.After-flow → tie.Start
 entered c = c .before .before .before
 
 module _ (c : tie.After-flow) where
-  there : let s = entered c in c .flow .result + 4 + 2 * sizeOf (s .args .w) ≤ length (s .args .image .now)
+  there : let s = entered c in c .flow .result + 6 + 2 * sizeOf (s .args .w) ≤ length (s .args .image .now)
   there = let s = entered c in part-there (s .pre .parts) _ (s .pre .flow) (c .flow .result) (c .flow .ensures .1)
 
   abbrev entry-at : Entry
@@ -32,6 +34,7 @@ module _ (c : tie.After-flow) where
       flowKept (s .args .image .now) (planFor (s .args .t3)) (s .args .w .current) (s .args .i)
       ≡ spendsWell (s .args .image .now) owners (c .flow .result) (windowOf (s .args .w)) (s .args .i) (entry-at .share)
       && holdsWell (s .args .image .now) owners (c .flow .result + 4) (windowOf (s .args .w)) (s .args .i) (entry-at .cells)
+      && ltb (field16 (s .args .image .now) (c .flow .result + 4 + 2 * s .args .l .size)) 1024
   tests = let s = entered c in flow-is (s .pre .parts) (s .args .i) (s .pre .flow) entry-at refl (c .flow .ensures .0)
 
 mul-e : tie.Need-mul-e
@@ -72,12 +75,47 @@ holds-well-requires c κs =
     let s = entered f in
     held-on (s .pre .parts) _ (s .pre .flow) (f .flow .result) (f .flow .ensures .1)
 
+-- ---- after the test of what is held
+
+-- where the flow's part is known
+abbrev part-of : tie.After-holds-well → tie.After-flow
+part-of c = c .before .before .before .before .before
+
+-- the test of its frame and remainder was passed
+spent : (c : tie.After-holds-well) → let f = part-of c in
+    let s = entered f in
+    spendsWell (s .args .image .now) (s .args .l .positions) (f .flow .result) (windowOf (s .args .w)) (s .args .i) (entry-at f .share) ≡ true
+spent c =
+    let e = c .before .before in
+    sym (e .before .spends-well .ensures) ∙ not-false _ (e .if1 .left)
+
+-- its number is there
+number-there : (e : tie.Else2) → let f = part-of (e .before) in
+    f .flow .result + 4 + 2 * entered f .args .l .size + 1 < length (entered f .args .image .now)
+number-there e = let f = part-of (e .before) in omega (arith, there f, size-same (entered f .pre .parts))
+
 returns-2 : tie.Need-returns-2
 returns-2 c =
+    let h = c .before in
+    rw (tests (part-of h), spent h, sym (h .holds-well .ensures) ∙ not-true _ (c .if2 .taken))
+
+add-field : tie.Need-add-field
+add-field c = search needs
+
+mul-field : tie.Need-mul-field
+mul-field c = omega (arith, number-there (c .before))
+
+add-field-2 : tie.Need-add-field-2
+add-field-2 c = omega (arith, number-there (c .before))
+
+field-requires : tie.Need-field-requires
+field-requires c κs = omega (arith, number-there (c .before))
+
+returns-3 : tie.Need-returns-3
+returns-3 c =
     let e = c .before .before in
-    let k = e .before in
-    let f = k .before .before in
-    rw (tests f, sym (k .spends-well .ensures) ∙ not-false _ (e .if1 .left)) (c .holds-well .ensures)
+    let h = e .before in
+    rw (tests (part-of h), spent h, sym (h .holds-well .ensures) ∙ not-false _ (e .if2 .left), ← c .field .ensures .0)
 
 pub flow-kept-spec : {M : Type 1} → statement M
 flow-kept-spec =
@@ -92,4 +130,9 @@ flow-kept-spec =
     add-holds-well
     cast-holds-well
     holds-well-requires
-    returns-2)
+    returns-2
+    add-field
+    mul-field
+    add-field-2
+    field-requires
+    returns-3)

@@ -1,0 +1,42 @@
+-- The quantum numbers of a link and of the words that it grants. Document 02, N9. Assumes nothing.
+use Prim.Native.Nat.{ℕ, _%_, _<_}
+use mathlib.Core.Path.{_≡_}
+use mathlib.Core.List.{List, _∷_, [], _++_, map}
+use mathlib.Core.Bool.{cond}
+use lib.Dec.{eqb}
+use Rattle.model.specs.Tables.{table}
+use Rattle.model.specs.Word.{flowOf, quantumOf}
+use Rattle.model.specs.Plan.{Plan, flowCount, planOf, refusal}
+use Rattle.model.specs.Calls.{Call, Event, History, requested, credited, ticked, lent, accepted, refused}
+use Rattle.model.specs.History.{grantedInAll, expectedNumber}
+use Rattle.model.specs.Link.{flow}
+use Rattle.model.specs.Card.{Card, paper, run}
+
+-- "The link now keeps the number it expects for each flow": after every list of calls it is the flow's grants so far, modulo 1,024.
+abbrev pub NumberIsCount : Type 0
+NumberIsCount =
+    (bytes : List ℕ) → refusal bytes ≡ 0 → (calls : List Call) (i : ℕ) → i < flowCount (planOf bytes)
+    → flow (run paper (planOf bytes) calls .state) i .number ≡ expectedNumber (planOf bytes) (run paper (planOf bytes) calls .history) i
+
+-- the word that an event grants to flow i
+abbrev pub wordGranted : ℕ → Event → List ℕ
+wordGranted i (requested w (accepted v)) = cond (eqb (flowOf w) i) (v ∷ []) []
+wordGranted i (requested w (refused r)) = []
+wordGranted i (credited j p a) = []
+wordGranted i (ticked x) = []
+wordGranted i (lent m a) = []
+wordGranted i (Event.reset a) = []
+
+-- the words that are granted to flow i, in the order of their grants
+unfoldable pub wordsGranted : ℕ → History → List ℕ
+wordsGranted i [] = []
+wordsGranted i (e ∷ h) = wordsGranted i h ++ wordGranted i e
+
+-- Document 01: "A flow's quanta are numbered 0, 1, 2 and so on modulo 1,024". So are the words that a flow is granted.
+abbrev pub InOrder : Plan → ℕ → History → Type 0
+InOrder P i h = map quantumOf (wordsGranted i h) ≡ table (grantedInAll P h i) (λ k. k % 1024)
+
+abbrev pub NumbersInOrder : Card → Type 0
+NumbersInOrder c =
+    (bytes : List ℕ) → refusal bytes ≡ 0 → (calls : List Call) (i : ℕ) → i < flowCount (planOf bytes)
+    → InOrder (planOf bytes) i (run c (planOf bytes) calls .history)
