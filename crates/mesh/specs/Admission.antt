@@ -1,0 +1,60 @@
+-- Which sets of streams are admitted, and the refusals of the others. Document 02, N10. Assumes nothing.
+use Prim.Native.Nat.{ℕ, _≤_, _<_}
+use mathlib.Core.Path.{_≡_}
+use mathlib.Core.List.{List, _∷_, [], _++_}
+use mathlib.Core.Bool.{Bool, true, not, _&&_}
+use lib.ListN.{length}
+use lib.Dec.{ltb, eqb}
+use Rattle.model.specs.Tables.{any, within}
+use Rattle.model.specs.Refusals.{Line, firstOf, _when_}
+use Rattle.mesh.specs.Mesh.{Link, inMesh, links, keep, someOf}
+use Rattle.mesh.specs.Streams.{Stream, stream, load}
+
+-- "a share outside 1 to F, a node above 63 or equal ends"
+unfoldable pub streamFits : (F : ℕ) → Stream → Bool
+streamFits F s =
+    within 1 F (s .share) && within 0 63 (s .source) && within 0 63 (s .destination) && not (eqb (s .source) (s .destination))
+
+-- the shares on a link add to more than F
+abbrev pub over : (F : ℕ) → List Stream → Link → Bool
+over F streams l = ltb F (load streams l)
+
+-- the tests before the links are looked at
+abbrev pub numberTests : (F : ℕ) → List Stream → List Line
+numberTests F streams =
+    -- "ahead of all else, that there are more than 64 streams"
+    25 when ltb 64 (length streams)
+    -- "An F outside 1 to 64 gives 3"
+    ∷ 3 when not (within 1 64 F)
+    -- "an entry with .. gives 4"
+    ∷ 4 when any (length streams) (λ i. not (streamFits F (stream streams i)))
+    ∷ []
+
+-- the number of the first of them that applies, and 0 where none does
+unfoldable pub misasked : (F : ℕ) → List Stream → ℕ
+misasked F streams = firstOf (numberTests F streams)
+
+-- the refusal of a set of streams, and 0 where it is admitted: "then 25 means that some link is over"
+unfoldable pub refusal : (F : ℕ) → List Stream → ℕ
+refusal F streams = firstOf (numberTests F streams ++ (25 when someOf (over F streams) links ∷ []))
+
+-- the links that are over, by from and then to node
+unfoldable pub overLinks : (F : ℕ) → List Stream → List Link
+overLinks F streams = keep (over F streams) links
+
+-- ---- what admitted means
+
+pub record FittingStream (F : ℕ) (s : Stream) : Type 0 where
+  pub some-share : 1 ≤ s .share
+  pub share-most : s .share ≤ F
+  pub source-most : s .source ≤ 63
+  pub destination-most : s .destination ≤ 63
+  pub ends-differ : s .source ≡ s .destination → ⊥
+
+-- "The set is admitted exactly when on every link the shares add to at most F", of up to 64 streams within their limits
+pub record Admitted (F : ℕ) (streams : List Stream) : Type 0 where
+  pub few : length streams ≤ 64
+  pub some-slot : 1 ≤ F
+  pub slots-most : F ≤ 64
+  pub streams-fit : (i : ℕ) → i < length streams → FittingStream F (stream streams i)
+  pub none-over : (l : Link) → inMesh l ≡ true → load streams l ≤ F

@@ -1,0 +1,1 @@
+// Streams over the mesh of boards.
