@@ -1,1 +1,4 @@
 pub mod Edges
+pub mod Raised
+pub mod Lines
+pub mod Gathered

@@ -4,7 +4,7 @@ use mathlib.Core.Path.{_≡_}
 use mathlib.Core.List.{List, _∷_, [], _++_}
 use mathlib.Core.Bool.{Bool, true, not, _&&_}
 use lib.ListN.{length}
-use lib.Dec.{ltb, eqb}
+use lib.Dec.{leb, ltb, eqb}
 use Rattle.model.specs.Tables.{any, within}
 use Rattle.model.specs.Refusals.{Line, firstOf, _when_}
 use Rattle.mesh.specs.Mesh.{Link, inMesh, links, keep, someOf}
@@ -13,7 +13,7 @@ use Rattle.mesh.specs.Streams.{Stream, stream, load}
 -- "a share outside 1 to F, a node above 63 or equal ends"
 unfoldable pub streamFits : (F : ℕ) → Stream → Bool
 streamFits F s =
-    within 1 F (s .share) && within 0 63 (s .source) && within 0 63 (s .destination) && not (eqb (s .source) (s .destination))
+    within 1 F (s .share) && leb (s .source) 63 && leb (s .destination) 63 && not (eqb (s .source) (s .destination))
 
 -- the shares on a link add to more than F
 abbrev pub over : (F : ℕ) → List Stream → Link → Bool

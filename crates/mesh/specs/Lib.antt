@@ -4,5 +4,6 @@ pub mod Admission
 pub mod Way
 pub mod Sharing
 pub mod Reading
+pub mod Loads
 pub mod EdgeCases
 pub mod Edges

@@ -6,9 +6,12 @@ use Rattle.model.specs.Tables.{table}
 use Rattle.mesh.specs.Mesh.{Side, north, west, east, south, Link, link}
 use Rattle.mesh.specs.Streams.{Stream, load}
 
--- source, destination and share of a stream, three numbers after those of the streams before it
+abbrev pub streamWith : (source destination share : ℕ) → Stream
+streamWith source destination share = record { source = source; destination = destination; share = share }
+
+-- "source, destination and share", three numbers for each stream
 abbrev pub streamAt : List ℕ → ℕ → Stream
-streamAt numbers i = record { source = getD numbers (3 * i) 0; destination = getD numbers (3 * i + 1) 0; share = getD numbers (3 * i + 2) 0 }
+streamAt numbers i = streamWith (getD numbers (3 * i) 0) (getD numbers (3 * i + 1) 0) (getD numbers (3 * i + 2) 0)
 
 -- the streams of some numbers: one or two numbers left over have no effect
 abbrev pub streamsOf : List ℕ → List Stream
