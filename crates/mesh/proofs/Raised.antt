@@ -72,3 +72,13 @@ module _ (share : ℕ) (loads : List ℕ) where
       raise-one 256 (raised-at p) (raised-at q) i share l
       (omega (arith, ap (λ b. cond b share 0) old, ap (λ b. cond b share 0) new))
       (λ k lk d. ap (λ b. getD loads k 0 + cond b share 0) (same k d))
+
+-- ---- loads that stay small
+
+module _ {loads : List ℕ} {most : ℕ} (s : Small loads most) where
+  pub small-within : (bound : ℕ) → most ≤ bound → Small loads bound
+  small-within bound l = record { whole = s .whole; small = λ k. omega (arith, s .small k) }
+
+  -- loads to which a share of at most 64 was added
+  pub small-after : {after : List ℕ} (p : ℕ → Bool) (share : ℕ) → after ≡ raised p share loads → share ≤ 64 → Small after (most + 64)
+  small-after p share e l = let r = raised-small share loads p most s in record { whole = ap length e ∙ r .whole; small = λ k. omega (arith, ap (λ xs. getD xs k 0) e, r .small k) }
