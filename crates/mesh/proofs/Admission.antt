@@ -66,13 +66,13 @@ module _ (F : ℕ) (streams : List Stream) where
   unfolding misasked refusal
   refused-before some = first-kept _ _ _ _ some
 
-  refused-by-links : misasked F streams ≡ 0 → cond (someOf (over F streams) links) 25 0 ≡ refusal F streams
+  pub refused-by-links : misasked F streams ≡ 0 → cond (someOf (over F streams) links) 25 0 ≡ refusal F streams
   unfolding misasked refusal
   refused-by-links e = last-alone _ _ _ _ e
 
 -- ---- the table of loads
 
-sum-same : (n : ℕ) (f g : ℕ → ℕ) → ((i : ℕ) → i < n → f i ≡ g i) → sum n f ≡ sum n g
+pub sum-same : (n : ℕ) (f g : ℕ → ℕ) → ((i : ℕ) → i < n → f i ≡ g i) → sum n f ≡ sum n g
 unfolding sum
 sum-same zero f g h = refl
 sum-same (suc n) f g h = omega (arith, h n (omega arith), sum-same n f g (λ i l. h i (omega arith)))

@@ -6,3 +6,8 @@ pub mod Tests
 pub mod OnWay
 pub mod Links
 pub mod Admission
+pub mod Admitted
+pub mod Order
+pub mod Sharing
+pub mod Walks
+pub mod Ways

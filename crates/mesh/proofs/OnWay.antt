@@ -6,7 +6,7 @@ use native.Mathlib.Omega.{arith}
 use lib.Dec.{leb, ltb, eqb}
 use borrow.Author.Tests.{ltb-true, leb-true, eqb-true, lt-ltb, le-leb, eq-eqb}
 use Rattle.model.proofs.Tests.{and-true}
-use Rattle.mesh.specs.Mesh.{Side, north, west, east, south, column, row, joined}
+use Rattle.mesh.specs.Mesh.{Side, north, west, east, south, Link, column, row, joined, inMesh}
 use Rattle.mesh.specs.Streams.{onWay}
 
 module _ (line line′ a b c d : ℕ) where
@@ -54,3 +54,10 @@ module _ (s d : ℕ) where
   on-way-joined most west node h = lt-ltb 0 (column node) (omega (arith, h .1 .0))
   on-way-joined most east node h = lt-ltb (column node) 7 (omega (arith, h .1 .1))
   on-way-joined most south node h = lt-ltb (row node) 7 (omega (arith, h .1 .1))
+
+-- a link of the mesh leaves one of the 64 boards, and leads to one
+pub mesh-parts : (l : Link) → inMesh l ≡ true → (l .from < 64) × (joined (l .side) (l .from) ≡ true)
+mesh-parts l there = let p = and-true (ltb (l .from) 64) (joined (l .side) (l .from)) there in (ltb-true (l .from) 64 (p .0), p .1)
+
+pub mesh-whole : (l : Link) → l .from < 64 → joined (l .side) (l .from) ≡ true → inMesh l ≡ true
+mesh-whole l h j = rw (lt-ltb (l .from) 64 h) j

@@ -71,3 +71,9 @@ linksAt node = link north node ∷ link west node ∷ link east node ∷ link so
 -- the links of the mesh, by the node that they leave and then by the node that they lead to
 unfoldable pub links : List Link
 links = keep inMesh (flatMap linksAt (table 64 (λ node. node)))
+
+-- each number is above the one before it
+unfoldable pub ascending : List ℕ → Bool
+ascending [] = true
+ascending (a ∷ []) = true
+ascending (a ∷ b ∷ rest) = ltb a b && ascending (b ∷ rest)

@@ -2,24 +2,24 @@
 use Prim.Native.Nat.{ℕ, _+_, _-_, _*_, _<_}
 use mathlib.Core.Path.{_≡_}
 use mathlib.Core.List.{List, _∷_, [], _++_}
-use mathlib.Core.Bool.{cond}
+use mathlib.Core.Bool.{true, cond}
 use lib.ListN.{length, getD}
 use lib.Dec.{ltb}
 use Rattle.model.specs.Tables.{table}
-use Rattle.mesh.specs.Mesh.{Side, north, west, east, south, Link, link, to, column, row}
-use Rattle.mesh.specs.Streams.{Stream}
+use Rattle.mesh.specs.Mesh.{Side, north, west, east, south, Link, link, to, column, row, inMesh}
+use Rattle.mesh.specs.Streams.{Stream, uses}
 
 -- so many links to the east, or to another side, each from where the one before leads
-abbrev eastward : (count node : ℕ) → List Link
+abbrev pub eastward : (count node : ℕ) → List Link
 eastward count node = table count (λ k. link east (node + k))
 
-abbrev westward : (count node : ℕ) → List Link
+abbrev pub westward : (count node : ℕ) → List Link
 westward count node = table count (λ k. link west (node - k))
 
-abbrev southward : (count node : ℕ) → List Link
+abbrev pub southward : (count node : ℕ) → List Link
 southward count node = table count (λ k. link south (node + 8 * k))
 
-abbrev northward : (count node : ℕ) → List Link
+abbrev pub northward : (count node : ℕ) → List Link
 northward count node = table count (λ k. link north (node - 8 * k))
 
 -- from a node to a column of its row
@@ -57,3 +57,11 @@ pub record In (l : Link) (ls : List Link) : Type 0 where
   pub place : ℕ
   pub within : place < length ls
   pub there : getD ls place l ≡ l
+
+-- The way of a stream: it leads from the source to the destination, is as long as they lie apart, and its links are the links of the mesh that the stream uses.
+pub record RightWay (s : Stream) (ls : List Link) : Type 0 where
+  pub walk : Walk (s .source) ls (s .destination)
+  pub as-long : length ls ≡ distance s
+  pub all-used : (l : Link) → In l ls → uses s l ≡ true
+  pub none-else : (l : Link) → uses s l ≡ true → In l ls
+  pub in-mesh : (l : Link) → In l ls → inMesh l ≡ true
