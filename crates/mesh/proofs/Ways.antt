@@ -103,3 +103,75 @@ module _ (s : Stream) where
       rw (le-ltb (column from-node) (column to-node) (omega (arith, h .1 .0, h .1 .1)))
       (in-table (column from-node - column to-node) (λ k. link west (from-node - k)) (column from-node - column node) (link west node) (omega (arith, h .1 .0, h .1 .1))
       (ap (link west) (omega (arith, h .0, h .1 .1))))
+
+  used-south : (node : ℕ) → OnWay from-node to-node south node → In (link south node) second
+  used-south node h =
+      rw (lt-ltb (row (corner s)) (row to-node) (omega (arith, h .1 .0, h .1 .1)))
+      (in-table (row to-node - row (corner s)) (λ k. link south (corner s + 8 * k)) (row node - row from-node) (link south node) (omega (arith, h .1 .0, h .1 .1))
+      (ap (link south) (omega (arith, h .0, h .1 .0))))
+
+  used-north : (node : ℕ) → OnWay from-node to-node north node → In (link north node) second
+  used-north node h =
+      rw (le-ltb (row (corner s)) (row to-node) (omega (arith, h .1 .0, h .1 .1)))
+      (in-table (row (corner s) - row to-node) (λ k. link north (corner s - 8 * k)) (row from-node - row node) (link north node) (omega (arith, h .1 .0, h .1 .1))
+      (ap (link north) (omega (arith, h .0, h .1 .1))))
+
+  used-in-way : (side : Side) (node : ℕ) → OnWay from-node to-node side node → In (link side node) (way s)
+  unfolding way
+  used-in-way north node h = in-second first second (used-north node h)
+  used-in-way west node h = in-first first second (used-west node h)
+  used-in-way east node h = in-first first second (used-east node h)
+  used-in-way south node h = in-second first second (used-south node h)
+
+  -- a link that stands in the way is used
+  same-use : {l : Link} {side : Side} {node : ℕ} → link side node ≡ l → OnWay from-node to-node side node → uses s l ≡ true
+  unfolding uses
+  same-use {l} {side} {node} e h = ap (uses s) (sym e) ∙ way-on from-node to-node side node h
+
+  row-used : (l : Link) → In l first → uses s l ≡ true
+  row-used l i = go (ltb (column from-node) (column to-node)) refl i
+    where
+      go : (b : Bool) → ltb (column from-node) (column to-node) ≡ b
+          → In l (cond b (eastward (column to-node - column from-node) from-node) (westward (column from-node - column to-node) from-node)) → uses s l ≡ true
+      go true e i =
+          let m = of-table (column to-node - column from-node) (λ k. link east (from-node + k)) l i in
+          same-use {side = east} (m .is) (omega (arith, m .below), (omega (arith, m .below), omega (arith, m .below)))
+      go false e i =
+          let m = of-table (column from-node - column to-node) (λ k. link west (from-node - k)) l i in
+          same-use {side = west} (m .is) (omega (arith, m .below), (omega (arith, m .below), omega (arith, m .below)))
+
+  column-used : (l : Link) → In l second → uses s l ≡ true
+  column-used l i = go (ltb (row (corner s)) (row to-node)) refl i
+    where
+      go : (b : Bool) → ltb (row (corner s)) (row to-node) ≡ b
+          → In l (cond b (southward (row to-node - row (corner s)) (corner s)) (northward (row (corner s) - row to-node) (corner s))) → uses s l ≡ true
+      go true e i =
+          let m = of-table (row to-node - row (corner s)) (λ k. link south (corner s + 8 * k)) l i in
+          same-use {side = south} (m .is) (omega (arith, m .below), (omega (arith, m .below), omega (arith, m .below)))
+      go false e i =
+          let m = of-table (row (corner s) - row to-node) (λ k. link north (corner s - 8 * k)) l i in
+          same-use {side = north} (m .is) (omega (arith, m .below), (omega (arith, m .below), omega (arith, m .below)))
+
+  way-used : (l : Link) → In l (way s) → uses s l ≡ true
+  unfolding way
+  way-used l i = ⊎-elim (row-used l) (column-used l) (in-either first second i)
+
+  -- ---- within the mesh
+
+  node-most : from-node ≤ 63 → to-node ≤ 63 → (side : Side) (node : ℕ) → OnWay from-node to-node side node → node < 64
+  node-most f t north node h = omega (arith, h .1 .1)
+  node-most f t west node h = omega (arith, h .0)
+  node-most f t east node h = omega (arith, h .0)
+  node-most f t south node h = omega (arith, h .1 .1)
+
+  pub right-way : from-node ≤ 63 → to-node ≤ 63 → RightWay s (way s)
+  unfolding uses
+  right-way f t = record {
+    walk = way-walk;
+    as-long = way-length;
+    all-used = way-used;
+    none-else = λ l e. used-in-way (l .side) (l .from) (on-way from-node to-node (l .side) (l .from) e);
+    in-mesh = λ l i.
+        let h = on-way from-node to-node (l .side) (l .from) (way-used l i) in
+        mesh-whole l (node-most f t (l .side) (l .from) h) (on-way-joined from-node to-node t (l .side) (l .from) h);
+  }
