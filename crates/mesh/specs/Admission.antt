@@ -7,7 +7,7 @@ use lib.ListN.{length}
 use lib.Dec.{leb, ltb, eqb}
 use Rattle.model.specs.Tables.{any, within}
 use Rattle.model.specs.Refusals.{Line, firstOf, _when_}
-use Rattle.mesh.specs.Mesh.{Link, inMesh, links, keep, someOf}
+use Rattle.mesh.specs.Mesh.{Link, to, inMesh, links, keep, someOf}
 use Rattle.mesh.specs.Streams.{Stream, stream, load}
 
 -- "a share outside 1 to F, a node above 63 or equal ends"
@@ -41,6 +41,10 @@ refusal F streams = firstOf (numberTests F streams ++ (25 when someOf (over F st
 -- the links that are over, by from and then to node
 unfoldable pub overLinks : (F : ℕ) → List Stream → List Link
 overLinks F streams = keep (over F streams) links
+
+-- a link that is over, as numbers: from node, to node and load
+abbrev pub overNumbers : List Stream → Link → List ℕ
+overNumbers streams l = l .from ∷ to l ∷ load streams l ∷ []
 
 -- ---- what admitted means
 

@@ -2,9 +2,8 @@
 use Prim.Native.Nat.{ℕ, zero, suc}
 use mathlib.Core.Path.{_≡_}
 use mathlib.Core.List.{List, _∷_, [], map, flatMap}
-use Rattle.mesh.specs.Mesh.{Link, to}
-use Rattle.mesh.specs.Streams.{Stream, load}
-use Rattle.mesh.specs.Admission.{misasked, refusal, overLinks}
+use Rattle.mesh.specs.Streams.{Stream}
+use Rattle.mesh.specs.Admission.{misasked, refusal, overLinks, overNumbers}
 
 -- what comes of a set of streams
 pub data Outcome : Type 0 where
@@ -13,10 +12,6 @@ pub data Outcome : Type 0 where
   refused : (number : ℕ) → Outcome
   -- it is refused with this number, and these links are over: from node, to node and load of each
   overloaded : (number : ℕ) → (links : List ℕ) → Outcome
-
--- a link that is over, as numbers
-abbrev pub overNumbers : List Stream → Link → List ℕ
-overNumbers streams l = l .from ∷ to l ∷ load streams l ∷ []
 
 abbrev linksOutcome : (number : ℕ) → (links : List ℕ) → Outcome
 linksOutcome zero [] = admitted

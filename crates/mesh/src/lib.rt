@@ -1,10 +1,14 @@
 // Streams over the mesh of boards: what they put on each link, and whether a set of them is admitted.
 mod entries;
 mod loads;
+mod places;
 
 ghost use mathlib.Core.Path.{_≡_};
 ghost use Rattle.mesh.specs.Admission as admission;
 ghost use Rattle.mesh.specs.Reading.{streamsOf, loadsWhen};
+pub use loads::any_over;
+pub use places::link_from;
+pub use places::link_to;
 
 // The load of each link, four places for each node, or the number of a test before the links that applies.
 pub struct Measured {

@@ -83,8 +83,8 @@ pub(crate) fn gathered(numbers: &[usize], count: usize) -> [usize; 256]
     loads
 }
 
-// Whether some load is above F.
-pub(crate) fn any_over(loads: &[usize; 256], slots: usize) -> bool
+// Whether some load of a table is above F.
+pub fn any_over(loads: &[usize; 256], slots: usize) -> bool
     ensures { λ r. ⌜ r ≡ any 256 (λ k. ltb slots (getD (now (loads .entry)) k 0)) ⌝ }
 {
     let mut k = 0;
