@@ -106,7 +106,7 @@ no-loads streams (suc r) some = refl
 -- ---- the links
 
 -- the test of the table is the test of the links
-over-table : {F : ℕ} {streams : List Stream} {loads : List ℕ} → Asked F streams → loads ≡ loadsWhen 0 streams
+pub over-table : {F : ℕ} {streams : List Stream} {loads : List ℕ} → Asked F streams → loads ≡ loadsWhen 0 streams
     → any 256 (λ k. ltb F (getD loads k 0)) ≡ someOf (over F streams) links
 over-table {F} {streams} {loads} a e =
     any-same 256 _ _ (λ k l. ap (ltb F) (ap (λ xs. getD xs k 0) e ∙ getD-table 256 (λ k. load streams (linkAt k)) k 0 l))

@@ -63,7 +63,7 @@ some-none p q (x ∷ xs) none = go (some-none p q xs none) (q x) refl
     go rest false e = rest
 
 -- what is kept of a list is nothing exactly when no entry passes
-none-kept : {A : Type 0} (p : A → Bool) (xs : List A) → someOf p xs ≡ false → keep p xs ≡ []
+pub none-kept : {A : Type 0} (p : A → Bool) (xs : List A) → someOf p xs ≡ false → keep p xs ≡ []
 unfolding keep someOf
 none-kept p [] e = refl
 none-kept p (x ∷ xs) e = go (none-kept p xs) (p x) e
@@ -72,7 +72,7 @@ none-kept p (x ∷ xs) e = go (none-kept p xs) (p x) e
     go rest true f = absurd (let z : _≡_ {A = ℕ} 0 1 = cc in omega arith)
     go rest false f = rest f
 
-nothing-kept : {A : Type 0} (p : A → Bool) (xs : List A) → keep p xs ≡ [] → someOf p xs ≡ false
+pub nothing-kept : {A : Type 0} (p : A → Bool) (xs : List A) → keep p xs ≡ [] → someOf p xs ≡ false
 unfolding keep someOf
 nothing-kept p [] e = refl
 nothing-kept p (x ∷ xs) e = go (nothing-kept p xs) (p x) e

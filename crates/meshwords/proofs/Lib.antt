@@ -1,0 +1,2 @@
+pub mod OverLines
+pub mod AskedLines
