@@ -170,8 +170,8 @@ def play_questions(suite, only, count, seed):
     tally = QuestionTally()
     play_cases([suite], itertools.chain(
         question_cases.edges(), question_cases.page(), question_cases.ends(),
-        question_cases.every_room(), question_cases.in_pieces(seed),
-        question_cases.many_lines(seed)), only)
+        question_cases.every_room(), question_cases.every_way(),
+        question_cases.in_pieces(seed), question_cases.many_lines(seed)), only)
     play_cases([suite], question_cases.seeds(count, seed), only, tally)
     test_all(suite, round_trips.tests(suite, seed), only)
     if not only:
