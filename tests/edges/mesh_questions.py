@@ -40,6 +40,8 @@ SETS = [
     ("all links of one board, by the board that they lead to",
      "1 9 17 1 9 10 1 9 8 1 9 1 1 9 17 1 9 10 1 9 8 1 9 1 1", "R 25",
      "9 1 2 9 8 2 9 10 2 9 17 2"),
+    ("by the board that they leave first", "1 2 1 1 1 9 1 2 1 1 1 9 1",
+     "R 25", "1 9 2 2 1 2"),
     ("two links, with other loads", "64 3 5 36 3 4 34 4 5 30", "R 25",
      "3 4 70 4 5 66"),
     # Shares that add to F, and to one more.

@@ -60,6 +60,8 @@ linkEdges =
     -- the links of one board, by the board that they lead to
     ∷ overloads 1 (streamOf 9 17 1 ∷ streamOf 9 10 1 ∷ streamOf 9 8 1 ∷ streamOf 9 1 1 ∷ streamOf 9 17 1 ∷ streamOf 9 10 1 ∷ streamOf 9 8 1 ∷ streamOf 9 1 1 ∷ [])
     (9 ∷ 1 ∷ 2 ∷ 9 ∷ 8 ∷ 2 ∷ 9 ∷ 10 ∷ 2 ∷ 9 ∷ 17 ∷ 2 ∷ [])
+    -- by the board that they leave first, though the second leads to a lower one
+    ∷ overloads 1 (streamOf 2 1 1 ∷ streamOf 1 9 1 ∷ streamOf 2 1 1 ∷ streamOf 1 9 1 ∷ []) (1 ∷ 9 ∷ 2 ∷ 2 ∷ 1 ∷ 2 ∷ [])
     -- shares that add to 64, to 65, and to 320, which is 64 modulo 256
     ∷ admits 64 (streamOf 3 4 32 ∷ streamOf 2 5 32 ∷ [])
     ∷ overloads 64 (streamOf 3 4 32 ∷ streamOf 2 5 33 ∷ []) (3 ∷ 4 ∷ 65 ∷ [])

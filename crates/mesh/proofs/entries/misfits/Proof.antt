@@ -19,6 +19,10 @@ Inv-loop slots numbers count i₀ i = None (misfit slots numbers) count i
 abbrev μ-loop : tie.MeasureT-loop
 μ-loop slots numbers count i₀ i = count - i
 
+-- the turn of the loop that a stream is tested in
+abbrev turn : tie.After-fits2 Inv-loop μ-loop → tie.In-loop Inv-loop μ-loop
+turn c = c .before .before .before .before
+
 loop-holds : tie.Need-loop-holds Inv-loop μ-loop
 loop-holds c = none-yet _ _
 
@@ -61,7 +65,7 @@ fits-requires c κs = search needs
 returns : tie.Need-returns Inv-loop μ-loop
 returns c =
     let fits = c .before in
-    let loop = fits .before .before .before .before in
+    let loop = turn fits in
     found-one (loop .before .loop .inv) (loop .loop-test .taken) (not-is (fits .fits2 .ensures) (c .if1 .taken))
 
 add-i : tie.Need-add-i Inv-loop μ-loop
@@ -73,7 +77,7 @@ loop-less c = search needs
 loop-again : tie.Need-loop-again Inv-loop μ-loop
 loop-again c =
     let fits = c .before in
-    let loop = fits .before .before .before .before in
+    let loop = turn fits in
     none-more (loop .before .loop .inv) (loop .loop-test .taken) (not-is (fits .fits2 .ensures) (c .if1 .left))
 
 returns-2 : tie.Need-returns-2 Inv-loop μ-loop

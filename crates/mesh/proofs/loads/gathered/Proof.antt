@@ -12,6 +12,13 @@ Inv-loop numbers count loads₀ i₀ loads i = GatheredTo numbers count loads i
 abbrev μ-loop : tie.MeasureT-loop
 μ-loop numbers count loads₀ i₀ loads i = count - i
 
+-- the turn of the loop that a stream is added in, and where the function is entered
+abbrev turn : tie.After-shared-slice-known4 Inv-loop μ-loop → tie.In-loop Inv-loop μ-loop
+turn c = c .before .before .before .before
+
+abbrev begun : tie.In-loop Inv-loop μ-loop → tie.Start Inv-loop μ-loop
+begun c = c .before .before .before .before
+
 zeros-requires : tie.Need-zeros-requires Inv-loop μ-loop
 zeros-requires c κs = search needs
 
@@ -53,8 +60,8 @@ shared-slice-read-add-stream-3 c = search needs
 
 add-stream-requires : tie.Need-add-stream-requires Inv-loop μ-loop
 add-stream-requires c κs =
-    let loop = c .before .before .before .before in
-    let start = loop .before .before .before .before in
+    let loop = turn c in
+    let start = begun loop in
     let here = loop .before .loop .i in
     let more = loop .loop-test .taken in
     (gathered-small (loop .before .loop .inv) (start .pre), (start .pre .sources here more, (start .pre .destinations here more, start .pre .shares here more)))
@@ -67,7 +74,7 @@ loop-less c = search needs
 
 loop-again : tie.Need-loop-again Inv-loop μ-loop
 loop-again c =
-    let loop = c .before .before .before .before .before in
+    let loop = turn (c .before) in
     one-gathered (loop .before .loop .inv) (loop .loop-test .taken) (c .add-stream .ensures)
 
 returns : tie.Need-returns Inv-loop μ-loop
