@@ -10,23 +10,23 @@ use Rattle.model.specs.Refusals.{Line, firstOf, _when_}
 use Rattle.mesh.specs.Mesh.{Link, to, inMesh, links, keep, someOf}
 use Rattle.mesh.specs.Streams.{Stream, stream, load}
 
--- "a share outside 1 to F, a node above 63 or equal ends"
+-- a stream within its limits: a share of 1 to F, nodes of the mesh, and two of them
 unfoldable pub streamFits : (F : ℕ) → Stream → Bool
 streamFits F s =
     within 1 F (s .share) && leb (s .source) 63 && leb (s .destination) 63 && not (eqb (s .source) (s .destination))
 
--- the shares on a link add to more than F
+-- a link carries more than F
 abbrev pub over : (F : ℕ) → List Stream → Link → Bool
 over F streams l = ltb F (load streams l)
 
 -- the tests before the links are looked at
 abbrev pub numberTests : (F : ℕ) → List Stream → List Line
 numberTests F streams =
-    -- "ahead of all else, that there are more than 64 streams"
+    -- the number of streams, before anything else is looked at
     25 when ltb 64 (length streams)
-    -- "An F outside 1 to 64 gives 3"
+    -- F
     ∷ 3 when not (within 1 64 F)
-    -- "an entry with .. gives 4"
+    -- the streams, one by one
     ∷ 4 when any (length streams) (λ i. not (streamFits F (stream streams i)))
     ∷ []
 
@@ -34,7 +34,7 @@ numberTests F streams =
 unfoldable pub misasked : (F : ℕ) → List Stream → ℕ
 misasked F streams = firstOf (numberTests F streams)
 
--- the refusal of a set of streams, and 0 where it is admitted: "then 25 means that some link is over"
+-- the refusal of a set of streams, and 0 where it is admitted: after those tests, 25 for a link of the mesh that carries too much
 unfoldable pub refusal : (F : ℕ) → List Stream → ℕ
 refusal F streams = firstOf (numberTests F streams ++ (25 when someOf (over F streams) links ∷ []))
 
@@ -55,7 +55,7 @@ pub record FittingStream (F : ℕ) (s : Stream) : Type 0 where
   pub destination-most : s .destination ≤ 63
   pub ends-differ : s .source ≡ s .destination → ⊥
 
--- "The set is admitted exactly when on every link the shares add to at most F", of up to 64 streams within their limits
+-- at most 64 streams, each within its limits, and no link of the mesh that carries more than F
 pub record Admitted (F : ℕ) (streams : List Stream) : Type 0 where
   pub few : length streams ≤ 64
   pub some-slot : 1 ≤ F

@@ -7,7 +7,7 @@ use Rattle.model.specs.Tables.{table}
 
 -- ---- boards
 
--- "node number = column + 8 × row"
+-- boards are numbered row by row, eight to a row
 abbrev pub column : (node : ℕ) → ℕ
 column node = node % 8
 
@@ -37,7 +37,7 @@ joined west node = ltb 0 (column node)
 joined east node = ltb (column node) 7
 joined south node = ltb (row node) 7
 
--- a "directed link", by the board that it leaves and the side on which it does
+-- a directed link, by the board that it leaves and the side on which it does
 pub record Link : Type 0 where
   pub from : ℕ
   pub side : Side

@@ -9,7 +9,7 @@ use Rattle.mesh.specs.Streams.{Stream, load}
 abbrev pub streamWith : (source destination share : ℕ) → Stream
 streamWith source destination share = record { source = source; destination = destination; share = share }
 
--- "source, destination and share", three numbers for each stream
+-- three numbers for each stream: where it comes from, where it goes to, and its share
 abbrev pub streamAt : List ℕ → ℕ → Stream
 streamAt numbers i = streamWith (getD numbers (3 * i) 0) (getD numbers (3 * i + 1) 0) (getD numbers (3 * i + 2) 0)
 
@@ -28,7 +28,7 @@ sideAt (suc (suc (suc k))) = south
 abbrev pub linkAt : ℕ → Link
 linkAt k = link (sideAt (k % 4)) (k / 4)
 
--- the table of loads, where no test before has given a refusal; else it is empty
+-- the table of loads, if no test before the links gave a refusal; else nothing is carried anywhere
 abbrev pub loadsWhen : (refusal : ℕ) → List Stream → List ℕ
 loadsWhen zero streams = table 256 (λ k. load streams (linkAt k))
 loadsWhen (suc r) streams = replicate 256 0

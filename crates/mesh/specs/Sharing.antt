@@ -8,7 +8,7 @@ use Rattle.model.specs.Plan as plan
 use Rattle.mesh.specs.Mesh.{Link}
 use Rattle.mesh.specs.Streams.{Stream, stream, uses}
 
--- Some streams of a set, no one twice, that all use a link, as the flows of a plan with frames of F slots: flow j has the share of stream `chosen j`.
+-- Some streams of a set, no one twice, that all use a link, as the flows of a plan with frames of F slots: flow j has the share of stream `chosen j`. A plan has at most 16 flows; nothing here needs that.
 pub record Carried (F : ℕ) (streams : List Stream) (l : Link) (P : plan.Plan) : Type 0 where
   pub slots-are : P .slots ≡ F
   pub chosen : ℕ → ℕ

@@ -7,7 +7,7 @@ use lib.Dec.{leb, ltb, eqb}
 use Rattle.model.specs.Tables.{sum}
 use Rattle.mesh.specs.Mesh.{Side, north, west, east, south, Link, column, row}
 
--- "streams with source, destination and share"
+-- a stream: the nodes that it comes from and goes to, and its slots of a frame
 pub record Stream : Type 0 where
   pub source : ℕ
   pub destination : ℕ
@@ -19,8 +19,8 @@ noStream = record { source = 0; destination = 0; share = 0 }
 abbrev pub stream : List Stream → ℕ → Stream
 stream streams i = getD streams i noStream
 
--- "Each runs along its row first and then along its column": which of the links that leave a node on a side lie on the way. By where they lie, and not by
--- a walk: in the source's row between the two columns, and in the destination's column between the two rows.
+-- The row comes first, the column after it: which of the links that leave a node on a side lie on the way. By where they lie, and not by a walk: in the
+-- source's row between the two columns, and in the destination's column between the two rows.
 abbrev pub onWay : (source destination : ℕ) → Side → (node : ℕ) → Bool
 onWay s d east node = eqb (row node) (row s) && (leb (column s) (column node) && ltb (column node) (column d))
 onWay s d west node = eqb (row node) (row s) && (ltb (column d) (column node) && leb (column node) (column s))
@@ -30,10 +30,10 @@ onWay s d north node = eqb (column node) (column d) && (ltb (row d) (row node) &
 unfoldable pub uses : Stream → Link → Bool
 uses s l = onWay (s .source) (s .destination) (l .side) (l .from)
 
--- "and uses its share on every directed link of the way"
+-- what a stream takes of a link: its share where the link is on its way
 abbrev pub shareOn : Link → Stream → ℕ
 shareOn l s = cond (uses s l) (s .share) 0
 
--- what "the shares add to" on a link
+-- what all streams take of a link together
 unfoldable pub load : List Stream → Link → ℕ
 load streams l = sum (length streams) (λ i. shareOn l (stream streams i))

@@ -11,17 +11,17 @@ use Rattle.mesh.specs.Admission.{misasked, refusal, overLinks, overNumbers}
 use Rattle.mesh.specs.Reading.{streamsOf}
 use Rattle.replies.specs.Lines.{cannot, spaced}
 
--- "`ok`, or `R` and the refusal"
+-- whether a set is admitted: a word for yes, and the refusal for no
 abbrev pub admissionLine : (refusal : ℕ) → List ℕ
 admissionLine zero = text "ok\n"
 admissionLine (suc r) = refusalLine (suc r)
 
--- "the links that are over, by from and then to node, each with its load; `ok` if there is none"
+-- the links that are over, each with its two nodes and its load, or the word for none
 abbrev pub linksLine : List Stream → List Link → List ℕ
 linksLine streams [] = text "ok\n"
 linksLine streams (l ∷ ls) = text "over" ++ flatMap spaced (flatMap (overNumbers streams) (l ∷ ls)) ++ text "\n"
 
--- "`R` for 3, 4 or more than 64 streams"
+-- the refusals before the links come first
 abbrev pub overLine : (misasked : ℕ) → (F : ℕ) → List Stream → List ℕ
 overLine zero F streams = linksLine streams (overLinks F streams)
 overLine (suc r) F streams = refusalLine (suc r)
@@ -31,7 +31,7 @@ abbrev pub meshLine : (over : Bool) → (F : ℕ) → List Stream → List ℕ
 meshLine false F streams = admissionLine (refusal F streams)
 meshLine true F streams = overLine (misasked F streams) F streams
 
--- "F and then source, destination, share for each stream"
+-- F, and three numbers for each stream
 unfoldable pub meshAnswer : (over : Bool) → (numbers : List ℕ) → List ℕ
 meshAnswer over numbers =
     cond (eqb (length numbers) 0) (cannot "F is missing")
