@@ -8,7 +8,7 @@ use native.Mathlib.Omega.{arith}
 use lib.ListN.{length, getD, set}
 use Rattle.model.specs.Tables.{table}
 use Rattle.model.proofs.Tables.{getD-table, getD-table-past, length-table, table-same, table-getD, set-table}
-use Rattle.mesh.specs.Loads.{Small, raised}
+use Rattle.mesh.specs.Loads.{Small, Addable, raised}
 
 -- ---- tables of any length
 
@@ -76,8 +76,14 @@ module _ (share : ℕ) (loads : List ℕ) where
 -- ---- loads that stay small
 
 module _ {loads : List ℕ} {most : ℕ} (s : Small loads most) where
-  pub small-within : (bound : ℕ) → most ≤ bound → Small loads bound
-  small-within bound l = record { whole = s .whole; small = λ k. omega (arith, s .small k) }
+  pub addable : {side line high share : ℕ} → most ≤ 4352 → side < 4 → line < 8 → high ≤ 8 → share ≤ 64 → Addable loads side line high share
+  addable l side line high share = record {
+    small = record { whole = s .whole; small = λ k. omega (arith, s .small k) };
+    side-below = side;
+    line-below = line;
+    high-most = high;
+    share-most = share;
+  }
 
   -- loads to which a share of at most 64 was added
   pub small-after : {after : List ℕ} (p : ℕ → Bool) (share : ℕ) → after ≡ raised p share loads → share ≤ 64 → Small after (most + 64)

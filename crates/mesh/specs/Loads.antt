@@ -29,6 +29,12 @@ stepOf west node = column node
 stepOf east node = column node
 stepOf south node = row node
 
+-- a side, a line and a step of the mesh
+pub record Spot (side line step : ℕ) : Type 0 where
+  pub side-below : side < 4
+  pub line-below : line < 8
+  pub step-below : step < 8
+
 -- k is the place of this side of the node that is so far along this line
 pub record Place (side line step k : ℕ) : Type 0 where
   pub within : k < 256
@@ -40,6 +46,21 @@ pub record Place (side line step k : ℕ) : Type 0 where
 unfoldable pub inLine : (side line low high : ℕ) → (k : ℕ) → Bool
 inLine side line low high k =
     eqb (k % 4) side && (eqb (lineOf (sideAt side) (k / 4)) line && (leb low (stepOf (sideAt side) (k / 4)) && ltb (stepOf (sideAt side) (k / 4)) high))
+
+-- what is asked of the loads, the side, the line, where it ends, and the share that is added along it
+pub record Addable (loads : List ℕ) (side line high share : ℕ) : Type 0 where
+  pub small : Small loads 4352
+  pub side-below : side < 4
+  pub line-below : line < 8
+  pub high-most : high ≤ 8
+  pub share-most : share ≤ 64
+
+-- what is asked of the loads and of a stream that is added to them
+pub record Joining (loads : List ℕ) (source destination share : ℕ) : Type 0 where
+  pub small : Small loads 4096
+  pub source-most : source ≤ 63
+  pub destination-most : destination ≤ 63
+  pub share-most : share ≤ 64
 
 -- a share more at some places
 unfoldable pub raised : (places : ℕ → Bool) → (share : ℕ) → List ℕ → List ℕ

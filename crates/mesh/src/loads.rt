@@ -1,12 +1,12 @@
 // The table of loads: four places for each node, one for each side, in the order of the nodes that lie there.
-ghost use Prim.Native.Nat.{_+_, _≤_, _<_};
+ghost use Prim.Native.Nat.{_+_};
 ghost use mathlib.Core.Path.{_≡_};
-ghost use lib.ListN.{length, getD, replicate};
+ghost use lib.ListN.{getD, replicate};
 ghost use lib.Dec.{ltb};
 ghost use Rattle.model.specs.Tables.{any, table};
 ghost use Rattle.mesh.specs.Streams.{shareOn};
 ghost use Rattle.mesh.specs.Reading.{streamWith, linkAt};
-ghost use Rattle.mesh.specs.Loads.{Small, SmallStreams, Place, inLine, raised, gatheredLoads};
+ghost use Rattle.mesh.specs.Loads.{Addable, Joining, SmallStreams, Spot, Place, inLine, raised, gatheredLoads};
 
 // A table where no link has a load.
 pub(crate) fn zeros() -> [usize; 256]
@@ -17,7 +17,7 @@ pub(crate) fn zeros() -> [usize; 256]
 
 // The place of a node's side. The node is given by a line, a row for west and east and else a column, and by how far along the line it is.
 fn place(side: usize, line: usize, step: usize) -> usize
-    requires { ⌜ (side < 4) × ((line < 8) × (step < 8)) ⌝ }
+    requires { ⌜ Spot side line step ⌝ }
     ensures { λ r. ⌜ Place side line step r ⌝ }
 {
     if side == 1 {
@@ -38,7 +38,7 @@ fn add_in_line(
     high: usize,
     share: usize,
 )
-    requires { ⌜ Small (now loads) 4352 × ((side < 4) × ((line < 8) × ((high ≤ 8) × (share ≤ 64)))) ⌝ }
+    requires { ⌜ Addable (now loads) side line high share ⌝ }
     ensures { λ _. ⌜ now (loads .exit) ≡ raised (inLine side line low high) share (now (loads .entry)) ⌝ }
 {
     let mut step = low;
@@ -51,7 +51,7 @@ fn add_in_line(
 
 // Adds a stream's share to the links that it uses: those to the north, west, east and south, of which at most two have any.
 fn add_stream(loads: &mut [usize; 256], source: usize, destination: usize, share: usize)
-    requires { ⌜ Small (now loads) 4096 × ((source ≤ 63) × ((destination ≤ 63) × (share ≤ 64))) ⌝ }
+    requires { ⌜ Joining (now loads) source destination share ⌝ }
     ensures { λ _. ⌜ now (loads .exit) ≡ table 256 (λ k. getD (now (loads .entry)) k 0 + shareOn (linkAt k) (streamWith source destination share)) ⌝ }
 {
     let column = source % 8;

@@ -13,7 +13,7 @@ abbrev μ-loop : tie.MeasureT-loop
 μ-loop loads₀ side line low high share step₀ loads step = high - step
 
 loop-holds : tie.Need-loop-holds Inv-loop μ-loop
-loop-holds c = none-added _ _ _ _ _ (c .pre .0 .whole)
+loop-holds c = none-added _ _ _ _ _ (c .pre .small .whole)
 
 place-requires : tie.Need-place-requires Inv-loop μ-loop
 place-requires c κs = search needs
@@ -28,7 +28,7 @@ add-loads : tie.Need-add-loads Inv-loop μ-loop
 add-loads c =
     let place = c .before in
     let loop = place .before .before in
-    omega (arith, added-small (loop .loop .inv) (loop .before .pre .0) (loop .before .pre .1 .1 .1 .1) (place .place .result))
+    omega (arith, added-small (loop .loop .inv) (loop .before .pre .small) (loop .before .pre .share-most) (place .place .result))
 
 mul-loads-2 : tie.Need-mul-loads-2 Inv-loop μ-loop
 mul-loads-2 c = search needs

@@ -2,7 +2,7 @@
 use Prim.Native.Nat.{_≤_}
 use mathlib.Core.Path.{_≡_, ap, _∙_}
 use Rattle.mesh.specs.Loads.{Small, raised}
-use Rattle.mesh.proofs.Raised.{small-within, small-after}
+use Rattle.mesh.proofs.Raised.{addable, small-after}
 use Rattle.mesh.proofs.Gathered.{to-west, to-east, to-south, stream-added}
 use native.Mathlib.Omega.{arith}
 use borrow.Author.Needs.{needs}
@@ -21,13 +21,13 @@ abbrev west-at : tie.After-add-in-line3 → tie.After-add-in-line2
 west-at c = c .before .before
 
 north-small : (c : tie.After-add-in-line) → Small (c .add-in-line .last .0) 4160
-north-small c = let start = begun (c .before) in small-after (start .pre .0) _ _ (c .add-in-line .ensures) (start .pre .1 .1 .1)
+north-small c = let start = begun (c .before) in small-after (start .pre .small) _ _ (c .add-in-line .ensures) (start .pre .share-most)
 
 west-small : (c : tie.After-add-in-line2) → Small (c .add-in-line2 .last .0) 4224
-west-small c = small-after (north-small (north-at c)) _ _ (c .add-in-line2 .ensures) (begun (north-at c .before) .pre .1 .1 .1)
+west-small c = small-after (north-small (north-at c)) _ _ (c .add-in-line2 .ensures) (begun (north-at c .before) .pre .share-most)
 
 east-small : (c : tie.After-add-in-line3) → Small (c .add-in-line3 .last .0) 4288
-east-small c = small-after (west-small (west-at c)) _ _ (c .add-in-line3 .ensures) (begun (north-at (west-at c) .before) .pre .1 .1 .1)
+east-small c = small-after (west-small (west-at c)) _ _ (c .add-in-line3 .ensures) (begun (north-at (west-at c) .before) .pre .share-most)
 
 -- ---- the needs
 
@@ -38,7 +38,7 @@ add-add-in-line-2 : tie.Need-add-add-in-line-2
 add-add-in-line-2 c = search needs
 
 add-in-line-requires : tie.Need-add-in-line-requires
-add-in-line-requires c κs = (small-within (begun c .pre .0) 4352 (omega arith), (omega arith, (omega arith, (omega arith, begun c .pre .1 .1 .1))))
+add-in-line-requires c κs = addable (begun c .pre .small) (omega arith) (omega arith) (omega arith) (omega arith) (begun c .pre .share-most)
 
 add-add-in-line-3 : tie.Need-add-add-in-line-3
 add-add-in-line-3 c = search needs
@@ -47,13 +47,13 @@ add-add-in-line-4 : tie.Need-add-add-in-line-4
 add-add-in-line-4 c = search needs
 
 add-in-line-requires-2 : tie.Need-add-in-line-requires-2
-add-in-line-requires-2 c κs = (small-within (north-small (c .before)) 4352 (omega arith), (omega arith, (omega arith, (omega arith, begun (c .before .before) .pre .1 .1 .1))))
+add-in-line-requires-2 c κs = addable (north-small (c .before)) (omega arith) (omega arith) (omega arith) (omega arith) (begun (c .before .before) .pre .share-most)
 
 add-in-line-requires-3 : tie.Need-add-in-line-requires-3
-add-in-line-requires-3 c κs = (small-within (west-small (c .before)) 4352 (omega arith), (omega arith, (omega arith, (omega arith, begun (north-at (c .before) .before) .pre .1 .1 .1))))
+add-in-line-requires-3 c κs = addable (west-small (c .before)) (omega arith) (omega arith) (omega arith) (omega arith) (begun (north-at (c .before) .before) .pre .share-most)
 
 add-in-line-requires-4 : tie.Need-add-in-line-requires-4
-add-in-line-requires-4 c κs = (small-within (east-small (c .before)) 4352 (omega arith), (omega arith, (omega arith, (omega arith, begun (north-at (west-at (c .before)) .before) .pre .1 .1 .1))))
+add-in-line-requires-4 c κs = addable (east-small (c .before)) (omega arith) (omega arith) (omega arith) (omega arith) (begun (north-at (west-at (c .before)) .before) .pre .share-most)
 
 returns : tie.Need-returns
 returns c =

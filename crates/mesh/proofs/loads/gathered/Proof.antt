@@ -64,7 +64,12 @@ add-stream-requires c κs =
     let start = begun loop in
     let here = loop .before .loop .i in
     let more = loop .loop-test .taken in
-    (gathered-small (loop .before .loop .inv) (start .pre), (start .pre .sources here more, (start .pre .destinations here more, start .pre .shares here more)))
+    record {
+      small = gathered-small (loop .before .loop .inv) (start .pre);
+      source-most = start .pre .sources here more;
+      destination-most = start .pre .destinations here more;
+      share-most = start .pre .shares here more;
+    }
 
 add-i : tie.Need-add-i Inv-loop μ-loop
 add-i c = search needs

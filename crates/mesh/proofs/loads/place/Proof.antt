@@ -18,7 +18,7 @@ add-result-2 : tie.Need-add-result-2
 add-result-2 c = search needs
 
 returns : tie.Need-returns
-returns c = west-place (c .before .pre .1 .0) (c .before .pre .1 .1) (c .if1 .taken)
+returns c = west-place (c .before .pre .line-below) (c .before .pre .step-below) (c .if1 .taken)
 
 mul-result-3 : tie.Need-mul-result-3
 mul-result-3 c = search needs
@@ -33,7 +33,7 @@ add-result-4 : tie.Need-add-result-4
 add-result-4 c = search needs
 
 returns-2 : tie.Need-returns-2
-returns-2 c = let start = c .before .before in east-place (start .pre .1 .0) (start .pre .1 .1) (c .if2 .taken)
+returns-2 c = let start = c .before .before in east-place (start .pre .line-below) (start .pre .step-below) (c .if2 .taken)
 
 mul-result-5 : tie.Need-mul-result-5
 mul-result-5 c = search needs
@@ -48,7 +48,7 @@ add-result-6 : tie.Need-add-result-6
 add-result-6 c = search needs
 
 returns-3 : tie.Need-returns-3
-returns-3 c = let start = c .before .before in column-place (start .pre .1 .0) (start .pre .1 .1) (start .pre .0) (c .before .if1 .left) (c .if2 .left)
+returns-3 c = let start = c .before .before in column-place (start .pre .line-below) (start .pre .step-below) (start .pre .side-below) (c .before .if1 .left) (c .if2 .left)
 
 pub place-spec : {M : Type 1} → statement M
 place-spec =
