@@ -40,7 +40,7 @@ def fits(slots, source, destination, share):
             and source != destination)
 
 
-def misasked(slots, streams):
+def refusal_before_ways(slots, streams):
     """The refusal before any way is walked, or 0."""
     if len(streams) > MOST_STREAMS:
         return 25

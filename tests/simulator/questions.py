@@ -70,7 +70,7 @@ def to_mesh(fields):
     asked = streams_of(fields)
     if asked is None:
         return NO_QUESTION
-    refusal = mesh.misasked(*asked)
+    refusal = mesh.refusal_before_ways(*asked)
     if not refusal and mesh.overloads(*asked):
         refusal = 25
     return refused(refusal) if refusal else "ok"
@@ -80,7 +80,7 @@ def to_mesh_over(fields):
     asked = streams_of(fields)
     if asked is None:
         return NO_QUESTION
-    refusal = mesh.misasked(*asked)
+    refusal = mesh.refusal_before_ways(*asked)
     if refusal:
         return refused(refusal)
     found = [str(number) for hop in mesh.overloads(*asked) for number in hop]

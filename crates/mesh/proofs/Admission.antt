@@ -13,7 +13,7 @@ use Rattle.model.proofs.Tests.{in-range, any-none, any-same, line-passed}
 use Rattle.model.proofs.Tables.{getD-table, table-same}
 use Rattle.mesh.specs.Mesh.{links, someOf}
 use Rattle.mesh.specs.Streams.{Stream, stream, shareOn, load}
-use Rattle.mesh.specs.Admission.{streamFits, over, misasked, refusal, FittingStream}
+use Rattle.mesh.specs.Admission.{streamFits, over, refusalBeforeLinks, refusal, FittingStream}
 use Rattle.mesh.specs.Reading.{streamAt, streamsOf, linkAt, loadsWhen}
 use Rattle.mesh.specs.Loads.{SmallStreams, gatheredLoads}
 use Rattle.mesh.proofs.Tests.{fitting, count-is, stream-is}
@@ -48,8 +48,8 @@ pub record Asked (F : ℕ) (streams : List Stream) : Type 0 where
   pub streams-fit : (i : ℕ) → i < length streams → FittingStream F (stream streams i)
 
 module _ (F : ℕ) (streams : List Stream) where
-  pub well-asked : misasked F streams ≡ 0 → Asked F streams
-  unfolding misasked
+  pub well-asked : refusalBeforeLinks F streams ≡ 0 → Asked F streams
+  unfolding refusalBeforeLinks
   well-asked e =
       let count = line-passed _ 24 _ e in
       let slots = line-passed _ 2 _ (count .1) in
@@ -62,12 +62,12 @@ module _ (F : ℕ) (streams : List Stream) where
         streams-fit = λ i l. fitting F (stream streams i) (not-false _ (any-none (length streams) _ (entries .0) i l));
       }
 
-  pub refused-before : (misasked F streams ≡ 0 → ⊥) → misasked F streams ≡ refusal F streams
-  unfolding misasked refusal
+  pub refused-before : (refusalBeforeLinks F streams ≡ 0 → ⊥) → refusalBeforeLinks F streams ≡ refusal F streams
+  unfolding refusalBeforeLinks refusal
   refused-before some = first-kept _ _ _ _ some
 
-  pub refused-by-links : misasked F streams ≡ 0 → cond (someOf (over F streams) links) 25 0 ≡ refusal F streams
-  unfolding misasked refusal
+  pub refused-by-links : refusalBeforeLinks F streams ≡ 0 → cond (someOf (over F streams) links) 25 0 ≡ refusal F streams
+  unfolding refusalBeforeLinks refusal
   refused-by-links e = last-alone _ _ _ _ e
 
 -- ---- the table of loads
@@ -113,7 +113,7 @@ over-table {F} {streams} {loads} a e =
     ∙ sym (some-over F streams (a .streams-fit))
 
 -- where no test before the links applies, and the table's test came out so
-pub refused-by-table : (F : ℕ) (streams : List Stream) (loads : List ℕ) → misasked F streams ≡ 0 → loads ≡ loadsWhen 0 streams → (b : Bool)
+pub refused-by-table : (F : ℕ) (streams : List Stream) (loads : List ℕ) → refusalBeforeLinks F streams ≡ 0 → loads ≡ loadsWhen 0 streams → (b : Bool)
     → any 256 (λ k. ltb F (getD loads k 0)) ≡ b → cond b 25 0 ≡ refusal F streams
 refused-by-table F streams loads e same b came =
     ap (λ t. cond t 25 0) (sym came ∙ over-table (well-asked F streams e) same) ∙ refused-by-links F streams e

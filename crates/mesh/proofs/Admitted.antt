@@ -13,7 +13,7 @@ use Rattle.model.specs.Refusals.{_when_, firstOf}
 use Rattle.model.proofs.Tests.{and-true, any-none, any-of-none}
 use Rattle.mesh.specs.Mesh.{Side, north, west, east, south, Link, link, joined, inMesh, keep, someOf, links}
 use Rattle.mesh.specs.Streams.{Stream, stream, load}
-use Rattle.mesh.specs.Admission.{streamFits, over, misasked, refusal, overLinks, FittingStream, Admitted}
+use Rattle.mesh.specs.Admission.{streamFits, over, refusalBeforeLinks, refusal, overLinks, FittingStream, Admitted}
 use Rattle.mesh.specs.Reading.{sideAt, linkAt}
 use Rattle.mesh.proofs.OnWay.{mesh-parts}
 use Rattle.mesh.proofs.Links.{links-are, some-over}
@@ -94,8 +94,8 @@ fits F s f =
       ne-eqb (s .source) (s .destination) (f .ends-differ),
     )
 
-asked-well : (F : ℕ) (streams : List Stream) → Asked F streams → misasked F streams ≡ 0
-unfolding misasked firstOf
+asked-well : (F : ℕ) (streams : List Stream) → Asked F streams → refusalBeforeLinks F streams ≡ 0
+unfolding refusalBeforeLinks firstOf
 asked-well F streams a =
     let fit = any-of-none (length streams) (λ i. not (streamFits F (stream streams i))) (λ i l. ap not (fits F (stream streams i) (a .streams-fit i l))) in
     rw (le-ltb 64 (length streams) (a .few), le-leb 1 F (a .some-slot), le-leb F 64 (a .slots-most), fit)
@@ -103,16 +103,16 @@ asked-well F streams a =
 module _ (F : ℕ) (streams : List Stream) where
   -- no refusal: the set is admitted
   pub admitted : refusal F streams ≡ 0 → Admitted F streams
-  admitted e = go (ℕ-discrete (misasked F streams) 0)
+  admitted e = go (ℕ-discrete (refusalBeforeLinks F streams) 0)
     where
-      none : misasked F streams ≡ 0 → someOf (over F streams) links ≡ false
+      none : refusalBeforeLinks F streams ≡ 0 → someOf (over F streams) links ≡ false
       none z = off (someOf (over F streams) links) (refused-by-links F streams z ∙ e)
         where
           off : (b : Bool) → _≡_ {A = ℕ} (cond b 25 0) 0 → b ≡ false
           off true f = absurd (omega arith)
           off false f = refl
 
-      go : Dec (misasked F streams ≡ 0) → Admitted F streams
+      go : Dec (refusalBeforeLinks F streams ≡ 0) → Admitted F streams
       go (no some) = absurd (some (refused-before F streams some ∙ e))
       go (yes z) =
           let asked = well-asked F streams z in
@@ -141,14 +141,15 @@ module _ (F : ℕ) (streams : List Stream) where
   pub admits : Admitted F streams → refusal F streams ≡ 0
   admits a = sym (refused-by-links F streams passed) ∙ ap (λ b. cond b 25 0) (none-over-links a)
     where
-      passed : misasked F streams ≡ 0
+      passed : refusalBeforeLinks F streams ≡ 0
       passed = asked-well F streams (record { few = a .few; some-slot = a .some-slot; slots-most = a .slots-most; streams-fit = a .streams-fit })
 
-  -- the links that are over: none exactly when the set is admitted
+  -- the links that are over: none in an admitted set
   pub none-listed : refusal F streams ≡ 0 → overLinks F streams ≡ []
   unfolding overLinks
   none-listed e = none-kept (over F streams) links (none-over-links (admitted e))
 
-  pub listed-none : misasked F streams ≡ 0 → overLinks F streams ≡ [] → refusal F streams ≡ 0
+  -- a set that passes the tests before the links is admitted where none is listed
+  pub listed-none : refusalBeforeLinks F streams ≡ 0 → overLinks F streams ≡ [] → refusal F streams ≡ 0
   unfolding overLinks
   listed-none z e = sym (refused-by-links F streams z) ∙ ap (λ b. cond b 25 0) (nothing-kept (over F streams) links e)

@@ -13,8 +13,8 @@ use Rattle.model.proofs.Tables.{getD-table, table-same}
 use Rattle.model.proofs.Tallies.{sum-le, sum-const}
 use Rattle.limits.proofs.Tests.{sum-more}
 use Rattle.mesh.specs.Mesh.{Side, north, west, east, south, column, row}
-use Rattle.mesh.specs.Streams.{onWay, uses, shareOn}
-use Rattle.mesh.specs.Reading.{streamWith, streamAt, sideAt, linkAt}
+use Rattle.mesh.specs.Streams.{streamWith, onWay, uses, shareOn}
+use Rattle.mesh.specs.Reading.{streamAt, sideAt, linkAt}
 use Rattle.mesh.specs.Loads.{Small, SmallStreams, inLine, raised, gatheredLoads}
 use Rattle.mesh.proofs.Raised.{small-table, getD-raised, raised-table, at-most}
 use Rattle.mesh.proofs.Lines.{off-side}

@@ -9,29 +9,33 @@ use borrow.Author.Tests.{ltb-true}
 use Rattle.mesh.specs.Mesh.{Side, north, west, east, south, Link, link, to, beside, column, row, joined, inMesh, keep, links, ascending}
 use Rattle.mesh.proofs.OnWay.{mesh-parts}
 
+-- the number of a board, by where it stands
+pub node-is : (node : ℕ) → node ≡ column node + 8 * row node
+node-is node = omega arith
+
 -- 8 rows and 8 columns of 7 pairs of boards, each with a link in either direction
 pub links-count : length links ≡ 224
 unfolding links keep flatMap
 links-count = refl
 
--- by the node that they leave, and then by the node that they lead to
+-- by from and then to node
 pub links-ascend : ascending (map (λ l. 64 * l .from + to l) links) ≡ true
 unfolding links keep flatMap ascending
 links-ascend = refl
 
 -- no board is beside itself
-apart : (side : Side) (node : ℕ) → joined side node ≡ true → beside side node ≡ node → ⊥
-apart north node j e = omega (arith, ltb-true 0 (row node) j)
-apart west node j e = omega (arith, ltb-true 0 (column node) j)
-apart east node j e = omega arith
-apart south node j e = omega arith
+not-beside-itself : (side : Side) (node : ℕ) → joined side node ≡ true → beside side node ≡ node → ⊥
+not-beside-itself north node j e = omega (arith, ltb-true 0 (row node) j)
+not-beside-itself west node j e = omega (arith, ltb-true 0 (column node) j)
+not-beside-itself east node j e = omega arith
+not-beside-itself south node j e = omega arith
 
 -- "directed": the link from a to b and the link from b to a are different
 pub two-directions : (l m : Link) → inMesh l ≡ true → m .from ≡ to l → to m ≡ l .from → l ≡ m → ⊥
 two-directions l m there starts ends same =
     let joins = mesh-parts l there .1 in
     let back : beside (l .side) (l .from) ≡ l .from = cc in
-    apart (l .side) (l .from) joins back
+    not-beside-itself (l .side) (l .from) joins back
 
 same-side : (s t : Side) (node : ℕ) → joined s node ≡ true → joined t node ≡ true → beside s node ≡ beside t node → s ≡ t
 same-side north north node j k e = refl

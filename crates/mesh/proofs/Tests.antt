@@ -12,7 +12,7 @@ use Rattle.model.specs.Refusals.{_when_, firstOf}
 use Rattle.model.proofs.Tests.{and-true, within-true, in-range, any-none, any-same, line-passed}
 use Rattle.model.proofs.Tables.{length-table, getD-table}
 use Rattle.mesh.specs.Streams.{Stream, noStream, stream}
-use Rattle.mesh.specs.Admission.{streamFits, misasked, FittingStream}
+use Rattle.mesh.specs.Admission.{streamFits, refusalBeforeLinks, FittingStream}
 use Rattle.mesh.specs.Reading.{streamAt, streamsOf}
 
 -- ---- a stream
@@ -55,28 +55,28 @@ module _ (numbers : List ℕ) where
   abbrev pub misfitting : ℕ → Bool
   misfitting F = any count (λ i. not (streamFits F (streamAt numbers i)))
 
-  tests-are : (F : ℕ) → misasked F (streamsOf numbers) ≡ firstOf (25 when ltb 64 count ∷ 3 when not (within 1 64 F) ∷ 4 when misfitting F ∷ [])
-  unfolding misasked
+  tests-are : (F : ℕ) → refusalBeforeLinks F (streamsOf numbers) ≡ firstOf (25 when ltb 64 count ∷ 3 when not (within 1 64 F) ∷ 4 when misfitting F ∷ [])
+  unfolding refusalBeforeLinks
   tests-are F =
       let many = ap (ltb 64) count-is in
       let misfits = some-stream (λ s. not (streamFits F s)) in
       λ k. firstOf (25 when many k ∷ 3 when not (within 1 64 F) ∷ 4 when misfits k ∷ [])
 
   module _ (F : ℕ) where
-    pub gives-25 : 64 < count → 25 ≡ misasked F (streamsOf numbers)
+    pub gives-25 : 64 < count → 25 ≡ refusalBeforeLinks F (streamsOf numbers)
     unfolding firstOf
     gives-25 l = rw (tests-are F, lt-ltb 64 count l)
 
     module _ (few : count ≤ 64) where
-      pub no-slot : F < 1 → 3 ≡ misasked F (streamsOf numbers)
+      pub no-slot : F < 1 → 3 ≡ refusalBeforeLinks F (streamsOf numbers)
       unfolding firstOf
       no-slot l = rw (tests-are F, le-ltb 64 count few, lt-leb 1 F l)
 
-      pub many-slots : 1 ≤ F → 64 < F → 3 ≡ misasked F (streamsOf numbers)
+      pub many-slots : 1 ≤ F → 64 < F → 3 ≡ refusalBeforeLinks F (streamsOf numbers)
       unfolding firstOf
       many-slots one l = rw (tests-are F, le-ltb 64 count few, le-leb 1 F one, lt-leb F 64 l)
 
       -- 4 or nothing, by the last test
-      pub gives-4 : 1 ≤ F → F ≤ 64 → (b : Bool) → misfitting F ≡ b → cond b 4 0 ≡ misasked F (streamsOf numbers)
+      pub gives-4 : 1 ≤ F → F ≤ 64 → (b : Bool) → misfitting F ≡ b → cond b 4 0 ≡ refusalBeforeLinks F (streamsOf numbers)
       unfolding firstOf
       gives-4 one most b e = rw (tests-are F, le-ltb 64 count few, le-leb 1 F one, le-leb F 64 most, e)

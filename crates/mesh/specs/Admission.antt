@@ -10,7 +10,7 @@ use Rattle.model.specs.Refusals.{Line, firstOf, _when_}
 use Rattle.mesh.specs.Mesh.{Link, to, inMesh, links, keep, someOf}
 use Rattle.mesh.specs.Streams.{Stream, stream, load}
 
--- a stream within its limits: a share of 1 to F, nodes of the mesh, and two of them
+-- a stream within its limits: a share of 1 to F, and the nodes of two boards of the mesh
 unfoldable pub streamFits : (F : ℕ) → Stream → Bool
 streamFits F s =
     within 1 F (s .share) && leb (s .source) 63 && leb (s .destination) 63 && not (eqb (s .source) (s .destination))
@@ -31,8 +31,8 @@ numberTests F streams =
     ∷ []
 
 -- the number of the first of them that applies, and 0 where none does
-unfoldable pub misasked : (F : ℕ) → List Stream → ℕ
-misasked F streams = firstOf (numberTests F streams)
+unfoldable pub refusalBeforeLinks : (F : ℕ) → List Stream → ℕ
+refusalBeforeLinks F streams = firstOf (numberTests F streams)
 
 -- the refusal of a set of streams, and 0 where it is admitted: after those tests, 25 for a link of the mesh that carries too much
 unfoldable pub refusal : (F : ℕ) → List Stream → ℕ

@@ -3,7 +3,7 @@ use Prim.Native.Nat.{ℕ, zero, suc}
 use mathlib.Core.Path.{_≡_}
 use mathlib.Core.List.{List, _∷_, [], map, flatMap}
 use Rattle.mesh.specs.Streams.{Stream}
-use Rattle.mesh.specs.Admission.{misasked, refusal, overLinks, overNumbers}
+use Rattle.mesh.specs.Admission.{refusalBeforeLinks, refusal, overLinks, overNumbers}
 
 -- what comes of a set of streams
 pub data Outcome : Type 0 where
@@ -23,7 +23,7 @@ outcomeAfter zero F streams = linksOutcome (refusal F streams) (flatMap (overNum
 outcomeAfter (suc r) F streams = refused (refusal F streams)
 
 abbrev pub outcome : (F : ℕ) → List Stream → Outcome
-outcome F streams = outcomeAfter (misasked F streams) F streams
+outcome F streams = outcomeAfter (refusalBeforeLinks F streams) F streams
 
 pub record Case : Type 0 where
   pub slots : ℕ
@@ -35,9 +35,6 @@ abbrev pub Passes : List Case → Type 0
 Passes cases = map (λ e. outcome (e .slots) (e .streams)) cases ≡ map (λ e. e .expected) cases
 
 -- ---- ways to write them
-
-abbrev pub streamOf : (source destination share : ℕ) → Stream
-streamOf source destination share = record { source = source; destination = destination; share = share }
 
 abbrev pub admits : (F : ℕ) → List Stream → Case
 admits F streams = record { slots = F; streams = streams; expected = admitted }

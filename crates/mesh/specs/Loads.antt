@@ -15,14 +15,14 @@ pub record Small (loads : List ℕ) (most : ℕ) : Type 0 where
   pub whole : length loads ≡ 256
   pub small : (k : ℕ) → getD loads k 0 ≤ most
 
--- the row of a node, or its column, in which a side's neighbour lies
+-- the row of a board, or its column, in which a side's neighbour lies
 abbrev pub lineOf : Side → (node : ℕ) → ℕ
 lineOf north node = column node
 lineOf west node = row node
 lineOf east node = row node
 lineOf south node = column node
 
--- how far along it the node is
+-- how far along it the board is
 abbrev pub stepOf : Side → (node : ℕ) → ℕ
 stepOf north node = row node
 stepOf west node = column node
@@ -35,19 +35,19 @@ pub record Spot (side line step : ℕ) : Type 0 where
   pub line-below : line < 8
   pub step-below : step < 8
 
--- k is the place of this side of the node that is so far along this line
+-- k is the place of this side of the board that is so far along this line
 pub record Place (side line step k : ℕ) : Type 0 where
   pub within : k < 256
   pub side-is : k % 4 ≡ side
   pub line-is : lineOf (sideAt side) (k / 4) ≡ line
   pub step-is : stepOf (sideAt side) (k / 4) ≡ step
 
--- the places of this side of a line's nodes, from one of them up to before another
+-- the places of this side of a line's boards, from one of them up to before another
 unfoldable pub inLine : (side line low high : ℕ) → (k : ℕ) → Bool
 inLine side line low high k =
     eqb (k % 4) side && (eqb (lineOf (sideAt side) (k / 4)) line && (leb low (stepOf (sideAt side) (k / 4)) && ltb (stepOf (sideAt side) (k / 4)) high))
 
--- what is asked of the loads, the side, the line, where it ends, and the share that is added along it
+-- What is asked of the loads, the side, the line, where it ends, and the share that is added along it. A stream is added in four lines, to loads of at most 4096, which are 64 shares of 64: 4352 is 4096 and four times 64.
 pub record Addable (loads : List ℕ) (side line high share : ℕ) : Type 0 where
   pub small : Small loads 4352
   pub side-below : side < 4

@@ -7,7 +7,7 @@ use Rattle.model.specs.Tables.{table}
 
 -- ---- boards
 
--- boards are numbered row by row, eight to a row
+-- A node is a board's number: column + 8 × row, with eight boards to a row (`node-is`).
 abbrev pub column : (node : ℕ) → ℕ
 column node = node % 8
 
@@ -16,14 +16,14 @@ row node = node / 8
 
 -- ---- links
 
--- The sides of a board, in the order of the nodes that lie there. Columns grow to the east, rows to the south.
+-- The sides of a board, in the order of the nodes of the boards there. Columns grow to the east, rows to the south.
 pub data Side : Type 0 where
   north : Side
   west : Side
   east : Side
   south : Side
 
--- the node on a side
+-- the node of the board on a side
 abbrev pub beside : Side → (node : ℕ) → ℕ
 beside north node = node - 8
 beside west node = node - 1
@@ -37,12 +37,12 @@ joined west node = ltb 0 (column node)
 joined east node = ltb (column node) 7
 joined south node = ltb (row node) 7
 
--- a directed link, by the board that it leaves and the side on which it does
+-- a directed link, by the node of the board that it leaves and the side on which it does
 pub record Link : Type 0 where
   pub from : ℕ
   pub side : Side
 
--- the board that it leads to
+-- the node of the board that it leads to
 abbrev pub to : Link → ℕ
 to l = beside (l .side) (l .from)
 
@@ -68,7 +68,7 @@ link side node = record { from = node; side = side }
 abbrev pub linksAt : (node : ℕ) → List Link
 linksAt node = link north node ∷ link west node ∷ link east node ∷ link south node ∷ []
 
--- the links of the mesh, by the node that they leave and then by the node that they lead to
+-- the links of the mesh, by from and then to node
 unfoldable pub links : List Link
 links = keep inMesh (flatMap linksAt (table 64 (λ node. node)))
 

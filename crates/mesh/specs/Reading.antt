@@ -4,10 +4,7 @@ use mathlib.Core.List.{List}
 use lib.ListN.{length, getD, replicate}
 use Rattle.model.specs.Tables.{table}
 use Rattle.mesh.specs.Mesh.{Side, north, west, east, south, Link, link}
-use Rattle.mesh.specs.Streams.{Stream, load}
-
-abbrev pub streamWith : (source destination share : ℕ) → Stream
-streamWith source destination share = record { source = source; destination = destination; share = share }
+use Rattle.mesh.specs.Streams.{Stream, streamWith, load}
 
 -- three numbers for each stream: where it comes from, where it goes to, and its share
 abbrev pub streamAt : List ℕ → ℕ → Stream
@@ -24,7 +21,7 @@ sideAt (suc zero) = west
 sideAt (suc (suc zero)) = east
 sideAt (suc (suc (suc k))) = south
 
--- the link at a place of the table: four places for each node
+-- the link at a place of the table: four places for each board
 abbrev pub linkAt : ℕ → Link
 linkAt k = link (sideAt (k % 4)) (k / 4)
 

@@ -7,19 +7,22 @@ use lib.Dec.{leb, ltb, eqb}
 use Rattle.model.specs.Tables.{sum}
 use Rattle.mesh.specs.Mesh.{Side, north, west, east, south, Link, column, row}
 
--- a stream: the nodes that it comes from and goes to, and its slots of a frame
+-- a stream: the nodes of the boards that it comes from and goes to, and its slots of a frame
 pub record Stream : Type 0 where
   pub source : ℕ
   pub destination : ℕ
   pub share : ℕ
 
+abbrev pub streamWith : (source destination share : ℕ) → Stream
+streamWith source destination share = record { source = source; destination = destination; share = share }
+
 abbrev pub noStream : Stream
-noStream = record { source = 0; destination = 0; share = 0 }
+noStream = streamWith 0 0 0
 
 abbrev pub stream : List Stream → ℕ → Stream
 stream streams i = getD streams i noStream
 
--- The row comes first, the column after it: which of the links that leave a node on a side lie on the way. By where they lie, and not by a walk: in the
+-- The row comes first, the column after it: which of the links that leave a board on a side lie on the way. By where they lie, and not by a walk: in the
 -- source's row between the two columns, and in the destination's column between the two rows.
 abbrev pub onWay : (source destination : ℕ) → Side → (node : ℕ) → Bool
 onWay s d east node = eqb (row node) (row s) && (leb (column s) (column node) && ltb (column node) (column d))

@@ -22,11 +22,11 @@ southward count node = table count (λ k. link south (node + 8 * k))
 abbrev pub northward : (count node : ℕ) → List Link
 northward count node = table count (λ k. link north (node - 8 * k))
 
--- from a node to a column of its row
+-- from a board to a column of its row
 abbrev pub alongRow : (node target : ℕ) → List Link
 alongRow node target = cond (ltb (column node) target) (eastward (target - column node) node) (westward (column node - target) node)
 
--- from a node to a row of its column
+-- from a board to a row of its column
 abbrev pub alongColumn : (node target : ℕ) → List Link
 alongColumn node target = cond (ltb (row node) target) (southward (target - row node) node) (northward (row node - target) node)
 
@@ -47,7 +47,7 @@ apart a b = (a - b) + (b - a)
 abbrev pub distance : Stream → ℕ
 distance s = apart (column (s .source)) (column (s .destination)) + apart (row (s .source)) (row (s .destination))
 
--- Links that lead from a node to another: the first begins there, each link's end is the next one's start, and the last ends there.
+-- Links that lead from a board to another: the first begins there, each link's end is the next one's start, and the last ends there.
 pub data Walk : (from : ℕ) → List Link → (to : ℕ) → Type 0 where
   arrived : {node : ℕ} → Walk node [] node
   hop : {end : ℕ} {ls : List Link} → (l : Link) → Walk (to l) ls end → Walk (l .from) (l ∷ ls) end

@@ -5,7 +5,8 @@ ghost use mathlib.Core.Bool.{not};
 ghost use lib.ListN.{length};
 ghost use Rattle.model.specs.Tables.{any};
 ghost use Rattle.mesh.specs.Admission as admission;
-ghost use Rattle.mesh.specs.Reading.{streamAt, streamsOf, streamWith};
+ghost use Rattle.mesh.specs.Streams.{streamWith};
+ghost use Rattle.mesh.specs.Reading.{streamAt, streamsOf};
 
 // Whether a stream keeps its limits in frames of so many slots.
 fn fits(slots: usize, source: usize, destination: usize, share: usize) -> bool
@@ -46,9 +47,9 @@ fn misfits(slots: usize, numbers: &[usize], count: usize) -> bool
     false
 }
 
-// The number of the first test that applies, and 0 where none does.
-pub(crate) fn misasked(slots: usize, numbers: &[usize]) -> u8
-    ensures { λ r. ⌜ r ≡ admission.misasked slots (streamsOf (now (numbers .entry))) ⌝ }
+// The number of the first of these tests that applies, and 0 where none does.
+pub(crate) fn refusal_before_links(slots: usize, numbers: &[usize]) -> u8
+    ensures { λ r. ⌜ r ≡ admission.refusalBeforeLinks slots (streamsOf (now (numbers .entry))) ⌝ }
 {
     let count = numbers.len() / 3;
     if 64 < count {

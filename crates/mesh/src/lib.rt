@@ -10,7 +10,7 @@ pub use loads::any_over;
 pub use places::link_from;
 pub use places::link_to;
 
-// The load of each link, four places for each node, or the number of a test before the links that applies.
+// The load of each link, four places for each board, or the number of the first test before the links that applies.
 pub struct Measured {
     pub refusal: u8,
     pub table: [usize; 256],
@@ -18,10 +18,10 @@ pub struct Measured {
 
 // What streams put on the links. Their numbers are the source, the destination and the share of each.
 pub fn measure(slots: usize, numbers: &[usize]) -> Measured
-    ensures refusal { λ r. ⌜ r .refusal ≡ admission.misasked slots (streamsOf (now (numbers .entry))) ⌝ }
+    ensures refusal { λ r. ⌜ r .refusal ≡ admission.refusalBeforeLinks slots (streamsOf (now (numbers .entry))) ⌝ }
     ensures table { λ r. ⌜ r .table ≡ loadsWhen (r .refusal) (streamsOf (now (numbers .entry))) ⌝ }
 {
-    let refusal = entries::misasked(slots, numbers);
+    let refusal = entries::refusal_before_links(slots, numbers);
     if refusal != 0 {
         let table = loads::zeros();
         return Measured { refusal, table };

@@ -1,11 +1,11 @@
-// The table of loads: four places for each node, one for each side, in the order of the nodes that lie there.
+// The table of loads: four places for each board, one for each side, in the order of the nodes of the boards there.
 ghost use Prim.Native.Nat.{_+_};
 ghost use mathlib.Core.Path.{_≡_};
 ghost use lib.ListN.{getD, replicate};
 ghost use lib.Dec.{ltb};
 ghost use Rattle.model.specs.Tables.{any, table};
-ghost use Rattle.mesh.specs.Streams.{shareOn};
-ghost use Rattle.mesh.specs.Reading.{streamWith, linkAt};
+ghost use Rattle.mesh.specs.Streams.{streamWith, shareOn};
+ghost use Rattle.mesh.specs.Reading.{linkAt};
 ghost use Rattle.mesh.specs.Loads.{Addable, Joining, SmallStreams, Spot, Place, inLine, raised, gatheredLoads};
 
 // A table where no link has a load.
@@ -15,7 +15,7 @@ pub(crate) fn zeros() -> [usize; 256]
     [0usize; 256]
 }
 
-// The place of a node's side. The node is given by a line, a row for west and east and else a column, and by how far along the line it is.
+// The place of a board's side. The board is given by a line, a row for west and east and else a column, and by how far along the line it is.
 fn place(side: usize, line: usize, step: usize) -> usize
     requires { ⌜ Spot side line step ⌝ }
     ensures { λ r. ⌜ Place side line step r ⌝ }
@@ -29,7 +29,7 @@ fn place(side: usize, line: usize, step: usize) -> usize
     4 * (8 * step + line) + side
 }
 
-// Adds a share to the links on one side of a line's nodes, from one of them up to before another.
+// Adds a share to the links on one side of a line's boards, from one of them up to before another.
 fn add_in_line(
     loads: &mut [usize; 256],
     side: usize,

@@ -4,7 +4,7 @@ ghost use mathlib.Core.Path.{_≡_};
 ghost use Rattle.mesh.specs.Mesh.{to};
 ghost use Rattle.mesh.specs.Reading.{linkAt};
 
-// A node some nodes before this one, and 0 where there is none.
+// The node so many before this one, and 0 where there is none.
 fn before(node: usize, by: usize) -> usize
     ensures { λ r. ⌜ r ≡ node - by ⌝ }
 {
@@ -14,14 +14,14 @@ fn before(node: usize, by: usize) -> usize
     node - by
 }
 
-// The node that the link at a place leaves.
+// The node of the board that the link at a place leaves.
 pub fn link_from(k: usize) -> usize
     ensures { λ r. ⌜ r ≡ linkAt k .from ⌝ }
 {
     k / 4
 }
 
-// The node that the link at a place leads to.
+// The node of the board that the link at a place leads to.
 pub fn link_to(k: usize) -> usize
     ensures { λ r. ⌜ r ≡ to (linkAt k) ⌝ }
 {

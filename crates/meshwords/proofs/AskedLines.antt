@@ -10,7 +10,7 @@ use borrow.Author.Tests.{eq-eqb, ne-eqb}
 use Rattle.model.specs.Listing.{text, refusalLine}
 use Rattle.replies.specs.Lines.{cannot}
 use Rattle.mesh.specs.Streams.{Stream}
-use Rattle.mesh.specs.Admission.{misasked, refusal}
+use Rattle.mesh.specs.Admission.{refusalBeforeLinks, refusal}
 use Rattle.mesh.specs.Reading.{streamsOf}
 use Rattle.meshwords.specs.Answers.{admissionLine, overLine, meshLine, meshAnswer}
 
@@ -19,7 +19,7 @@ pub refused-line : (r n : ℕ) → r ≡ n → (r ≡ 0 → ⊥) → refusalLine
 refused-line zero n e some = absurd (some refl)
 refused-line (suc r) n e some = ap admissionLine e
 
-pub over-refused : (F : ℕ) (streams : List Stream) (r : ℕ) → r ≡ misasked F streams → (r ≡ 0 → ⊥) → refusalLine r ≡ overLine (misasked F streams) F streams
+pub over-refused : (F : ℕ) (streams : List Stream) (r : ℕ) → r ≡ refusalBeforeLinks F streams → (r ≡ 0 → ⊥) → refusalLine r ≡ overLine (refusalBeforeLinks F streams) F streams
 over-refused F streams zero e some = absurd (some refl)
 over-refused F streams (suc r) e some = ap (λ n. overLine n F streams) e
 

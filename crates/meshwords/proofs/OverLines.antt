@@ -17,13 +17,13 @@ use Rattle.tokens.proofs.BytesRead.{table-more}
 use Rattle.replies.specs.Lines.{spaced}
 use Rattle.mesh.specs.Mesh.{Link, to, keep, someOf, links}
 use Rattle.mesh.specs.Streams.{Stream, load}
-use Rattle.mesh.specs.Admission.{over, misasked, overLinks, overNumbers}
+use Rattle.mesh.specs.Admission.{over, refusalBeforeLinks, overLinks, overNumbers}
 use Rattle.mesh.specs.Reading.{linkAt, loadsWhen}
 use Rattle.mesh.proofs.Links.{over-links-are}
 use Rattle.mesh.proofs.Admission.{Asked, well-asked, over-table}
 use Rattle.mesh.proofs.Admitted.{none-kept, nothing-kept}
 use Rattle.meshwords.specs.Answers.{linksLine}
-use Rattle.meshwords.specs.Overloads.{placeNumbers, overloads, tableLine}
+use Rattle.meshwords.specs.Overloads.{placeNumbers, overloadNumbers, tableLine}
 
 -- ---- numbers one after another
 
@@ -69,16 +69,16 @@ at-place F loads k = cond (ltb F (getD loads k 0)) (placeNumbers k (getD loads k
 
 pub record OverTo (F : ℕ) (loads before after : List ℕ) (at next k : ℕ) : Type 0 where
   pub within : k ≤ 256
-  pub puts : Puts (flatMap spaced (overloads F loads k)) before after at next
+  pub puts : Puts (flatMap spaced (overloadNumbers F loads k)) before after at next
   pub most : next ≤ at + 63 * k
 
 pub none-put : (F : ℕ) (loads out : List ℕ) (at : ℕ) → OverTo F loads out out at at 0
-unfolding flatMap overloads
+unfolding flatMap overloadNumbers
 none-put F loads out at = record { within = omega arith; puts = puts-none out at; most = omega arith }
 
 module _ {F : ℕ} {loads before after : List ℕ} {at next k : ℕ} (s : OverTo F loads before after at next k) where
-  one-more : flatMap spaced (overloads F loads k) ++ flatMap spaced (at-place F loads k) ≡ flatMap spaced (overloads F loads (k + 1))
-  unfolding overloads
+  one-more : flatMap spaced (overloadNumbers F loads k) ++ flatMap spaced (at-place F loads k) ≡ flatMap spaced (overloadNumbers F loads (k + 1))
+  unfolding overloadNumbers
   one-more =
       sym (flat-append spaced (flatMap (at-place F loads) (table k (λ j. j))) (at-place F loads k))
       ∙ ap (flatMap spaced)
@@ -89,8 +89,8 @@ module _ {F : ℕ} {loads before after : List ℕ} {at next k : ℕ} (s : OverTo
       → next′ ≤ next + 63 → OverTo F loads before after′ at next′ (k + 1)
   one-put l p m = record { within = omega arith; puts = puts-same one-more (puts-then (s .puts) p); most = omega (arith, s .most) }
 
-  pub all-put : 256 ≤ k → Puts (flatMap spaced (overloads F loads 256)) before after at next
-  all-put l = let z : k ≡ 256 = omega (arith, s .within) in puts-same (ap (λ n. flatMap spaced (overloads F loads n)) z) (s .puts)
+  pub all-put : 256 ≤ k → Puts (flatMap spaced (overloadNumbers F loads 256)) before after at next
+  all-put l = let z : k ≡ 256 = omega (arith, s .within) in puts-same (ap (λ n. flatMap spaced (overloadNumbers F loads n)) z) (s .puts)
 
 -- ---- the line
 
@@ -99,12 +99,12 @@ some-link : (streams : List Stream) (ls : List Link) → (ls ≡ [] → ⊥)
 some-link streams [] some = absurd (some refl)
 some-link streams (l ∷ ls) some = refl
 
-module _ (F : ℕ) (streams : List Stream) (loads : List ℕ) (asked : misasked F streams ≡ 0) (same : loads ≡ loadsWhen 0 streams) where
+module _ (F : ℕ) (streams : List Stream) (loads : List ℕ) (asked : refusalBeforeLinks F streams ≡ 0) (same : loads ≡ loadsWhen 0 streams) where
   load-at : (k : ℕ) → k < 256 → load streams (linkAt k) ≡ getD loads k 0
   load-at k l = sym (ap (λ xs. getD xs k 0) same ∙ getD-table 256 (λ k. load streams (linkAt k)) k 0 l)
 
-  numbers-are : flatMap (overNumbers streams) (overLinks F streams) ≡ overloads F loads 256
-  unfolding overloads
+  numbers-are : flatMap (overNumbers streams) (overLinks F streams) ≡ overloadNumbers F loads 256
+  unfolding overloadNumbers
   numbers-are =
       ap (flatMap (overNumbers streams)) (over-links-are F streams (well-asked F streams asked .streams-fit))
       ∙ flat-keep (overNumbers streams) (over F streams) (table 256 linkAt)
@@ -115,7 +115,7 @@ module _ (F : ℕ) (streams : List Stream) (loads : List ℕ) (asked : misasked 
   table-line-is = go (any 256 (λ k. ltb F (getD loads k 0))) (over-table (well-asked F streams asked) same)
     where
       go : (b : Bool) → b ≡ someOf (over F streams) links
-          → cond b (text "over" ++ flatMap spaced (overloads F loads 256) ++ text "\n") (text "ok\n") ≡ linksLine streams (overLinks F streams)
+          → cond b (text "over" ++ flatMap spaced (overloadNumbers F loads 256) ++ text "\n") (text "ok\n") ≡ linksLine streams (overLinks F streams)
       go true e =
           ap (λ ns. text "over" ++ flatMap spaced ns ++ text "\n") (sym numbers-are)
           ∙ some-link streams (overLinks F streams) (λ z. let y = nothing-kept (over F streams) links z in let w : _≡_ {A = ℕ} 0 1 = cc in omega arith)
@@ -126,5 +126,5 @@ module _ (F : ℕ) (loads : List ℕ) {r : Bool} (test : r ≡ any 256 (λ k. lt
   pub none-line : not r ≡ true → text "ok\n" ≡ tableLine F loads
   none-line e = rw (sym test ∙ not-true r e)
 
-  pub some-line : not r ≡ false → text "over" ++ flatMap spaced (overloads F loads 256) ++ text "\n" ≡ tableLine F loads
+  pub some-line : not r ≡ false → text "over" ++ flatMap spaced (overloadNumbers F loads 256) ++ text "\n" ≡ tableLine F loads
   some-line e = rw (sym test ∙ not-false r e)

@@ -7,7 +7,7 @@ use lib.Dec.{eqb}
 use Rattle.model.specs.Listing.{text, refusalLine}
 use Rattle.mesh.specs.Mesh.{Link}
 use Rattle.mesh.specs.Streams.{Stream}
-use Rattle.mesh.specs.Admission.{misasked, refusal, overLinks, overNumbers}
+use Rattle.mesh.specs.Admission.{refusalBeforeLinks, refusal, overLinks, overNumbers}
 use Rattle.mesh.specs.Reading.{streamsOf}
 use Rattle.replies.specs.Lines.{cannot, spaced}
 
@@ -22,14 +22,14 @@ linksLine streams [] = text "ok\n"
 linksLine streams (l ∷ ls) = text "over" ++ flatMap spaced (flatMap (overNumbers streams) (l ∷ ls)) ++ text "\n"
 
 -- the refusals before the links come first
-abbrev pub overLine : (misasked : ℕ) → (F : ℕ) → List Stream → List ℕ
+abbrev pub overLine : (before : ℕ) → (F : ℕ) → List Stream → List ℕ
 overLine zero F streams = linksLine streams (overLinks F streams)
 overLine (suc r) F streams = refusalLine (suc r)
 
 -- the answer to F and streams
 abbrev pub meshLine : (over : Bool) → (F : ℕ) → List Stream → List ℕ
 meshLine false F streams = admissionLine (refusal F streams)
-meshLine true F streams = overLine (misasked F streams) F streams
+meshLine true F streams = overLine (refusalBeforeLinks F streams) F streams
 
 -- F, and three numbers for each stream
 unfoldable pub meshAnswer : (over : Bool) → (numbers : List ℕ) → List ℕ

@@ -15,12 +15,12 @@ abbrev pub placeNumbers : (k load : ℕ) → List ℕ
 placeNumbers k load = linkAt k .from ∷ to (linkAt k) ∷ load ∷ []
 
 -- the numbers of the links at the first places whose loads are above F
-unfoldable pub overloads : (F : ℕ) → (loads : List ℕ) → (places : ℕ) → List ℕ
-overloads F loads places = flatMap (λ k. cond (ltb F (getD loads k 0)) (placeNumbers k (getD loads k 0)) []) (table places (λ k. k))
+unfoldable pub overloadNumbers : (F : ℕ) → (loads : List ℕ) → (places : ℕ) → List ℕ
+overloadNumbers F loads places = flatMap (λ k. cond (ltb F (getD loads k 0)) (placeNumbers k (getD loads k 0)) []) (table places (λ k. k))
 
 -- the line of a table of loads
 abbrev pub tableLine : (F : ℕ) → (loads : List ℕ) → List ℕ
 tableLine F loads =
     cond (any 256 (λ k. ltb F (getD loads k 0)))
-    (text "over" ++ flatMap spaced (overloads F loads 256) ++ text "\n")
+    (text "over" ++ flatMap spaced (overloadNumbers F loads 256) ++ text "\n")
     (text "ok\n")

@@ -10,7 +10,7 @@ ghost use Rattle.calls.specs.Lines.{Puts};
 ghost use Rattle.mesh.specs.Reading.{streamsOf};
 ghost use Rattle.replies.specs.Lines.{spaced, room, Says};
 ghost use Rattle.meshwords.specs.Answers as answers;
-ghost use Rattle.meshwords.specs.Overloads.{placeNumbers, overloads, tableLine};
+ghost use Rattle.meshwords.specs.Overloads.{placeNumbers, overloadNumbers, tableLine};
 
 // Stores the two nodes and the load of the link at a place.
 fn put_link(k: usize, load: usize, out: &mut [u8], at: usize) -> usize
@@ -18,9 +18,9 @@ fn put_link(k: usize, load: usize, out: &mut [u8], at: usize) -> usize
     ensures put { λ r. ⌜ Puts (flatMap spaced (placeNumbers k load)) (now (out .entry)) (now (out .exit)) at r ⌝ }
     ensures most { λ r. ⌜ r ≤ at + 63 ⌝ }
 {
-    let to = replies::put_number(mesh::link_from(k), out, at);
-    let carried = replies::put_number(mesh::link_to(k), out, to);
-    replies::put_number(load, out, carried)
+    let after_from = replies::put_number(mesh::link_from(k), out, at);
+    let after_to = replies::put_number(mesh::link_to(k), out, after_from);
+    replies::put_number(load, out, after_to)
 }
 
 // The same if its load is above F, and else nothing.
@@ -38,7 +38,7 @@ fn put_if_over(slots: usize, k: usize, load: usize, out: &mut [u8], at: usize) -
 // Stores all links whose loads are above F.
 fn put_over(slots: usize, loads: &[usize; 256], out: &mut [u8], at: usize) -> usize
     requires { ⌜ at + 16128 ≤ length (now out) ⌝ }
-    ensures put { λ r. ⌜ Puts (flatMap spaced (overloads slots (now (loads .entry)) 256)) (now (out .entry)) (now (out .exit)) at r ⌝ }
+    ensures put { λ r. ⌜ Puts (flatMap spaced (overloadNumbers slots (now (loads .entry)) 256)) (now (out .entry)) (now (out .exit)) at r ⌝ }
     ensures most { λ r. ⌜ r ≤ at + 16128 ⌝ }
 {
     let mut next = at;

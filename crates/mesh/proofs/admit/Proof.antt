@@ -4,7 +4,7 @@ use mathlib.Core.List.{List}
 use mathlib.Core.Path.{_≡_, sym, ap, _∙_}
 use mathlib.Core.Bool.{Bool, true, false, cond}
 use Rattle.mesh.specs.Streams.{Stream}
-use Rattle.mesh.specs.Admission.{misasked, refusal}
+use Rattle.mesh.specs.Admission.{refusalBeforeLinks, refusal}
 use Rattle.mesh.specs.Reading.{streamsOf, loadsWhen}
 use Rattle.mesh.proofs.Admission.{refused-before, refused-by-table}
 use native.Mathlib.Omega.{arith}
@@ -34,7 +34,7 @@ module _ (c : tie.After-any-over) where
   abbrev streams : List Stream
   streams = streamsOf (start .args .numbers .now)
 
-  none-before : misasked (start .args .slots) streams ≡ 0
+  none-before : refusalBeforeLinks (start .args .slots) streams ≡ 0
   none-before = sym (passed .before .measure .ensures .0) ∙ passed .if1 .left
 
   by-links : (b : Bool) → c .any-over .result ≡ b → cond b 25 0 ≡ refusal (start .args .slots) streams

@@ -11,10 +11,10 @@ use Rattle.mesh.proofs.measure.Tie as tie
 
 -- where no test before the links applies
 asked : (c : tie.Else1) → Asked (c .before .before .before .args .slots) (streamsOf (c .before .before .before .args .numbers .now))
-asked c = well-asked _ _ (sym (c .before .misasked .ensures) ∙ c .if1 .left)
+asked c = well-asked _ _ (sym (c .before .refusal-before-links .ensures) ∙ c .if1 .left)
 
-misasked-requires : tie.Need-misasked-requires
-misasked-requires c κs = search needs
+refusal-before-links-requires : tie.Need-refusal-before-links-requires
+refusal-before-links-requires c κs = search needs
 
 zeros-requires : tie.Need-zeros-requires
 zeros-requires c κs = search needs
@@ -22,7 +22,7 @@ zeros-requires c κs = search needs
 returns : tie.Need-returns
 returns c =
     let tests = c .before .before in
-    (tests .misasked .ensures, c .zeros .ensures ∙ no-loads _ _ (c .before .if1 .taken))
+    (tests .refusal-before-links .ensures, c .zeros .ensures ∙ no-loads _ _ (c .before .if1 .taken))
 
 gathered-requires : tie.Need-gathered-requires
 gathered-requires c κs = small-streams _ (asked c)
@@ -30,8 +30,8 @@ gathered-requires c κs = small-streams _ (asked c)
 returns-2 : tie.Need-returns-2
 returns-2 c =
     let tests = c .before .before in
-    (sym (c .before .if1 .left) ∙ tests .misasked .ensures, c .gathered .ensures ∙ loads-are (tests .before .before .args .numbers .now))
+    (sym (c .before .if1 .left) ∙ tests .refusal-before-links .ensures, c .gathered .ensures ∙ loads-are (tests .before .before .args .numbers .now))
 
 pub measure-spec : {M : Type 1} → statement M
 measure-spec =
-    tie.close (tie.spec misasked-requires zeros-requires returns gathered-requires returns-2)
+    tie.close (tie.spec refusal-before-links-requires zeros-requires returns gathered-requires returns-2)

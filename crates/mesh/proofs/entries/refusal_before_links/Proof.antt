@@ -1,4 +1,4 @@
--- `mesh::entries::misasked` meets its contract: each return goes by the tests on the way. Assumes nothing.
+-- `mesh::entries::refusal_before_links` meets its contract: each return goes by the tests on the way. Assumes nothing.
 use Prim.Native.Nat.{ℕ}
 use mathlib.Core.List.{List}
 use mathlib.Core.Path.{sym, _∙_}
@@ -6,8 +6,8 @@ use mathlib.Core.Bool.{true, false}
 use Rattle.mesh.proofs.Tests.{gives-25, no-slot, many-slots, gives-4}
 use native.Mathlib.Omega.{arith}
 use borrow.Author.Needs.{needs}
-use Rattle.mesh.proofs.entries.misasked.Statement.{statement}
-use Rattle.mesh.proofs.entries.misasked.Tie as tie
+use Rattle.mesh.proofs.entries.refusal_before_links.Statement.{statement}
+use Rattle.mesh.proofs.entries.refusal_before_links.Tie as tie
 
 -- the numbers, at each place
 abbrev given : tie.Start → List ℕ
@@ -42,6 +42,6 @@ returns-5 c =
     let some = few .before in
     gives-4 (few-given (some .before)) _ (some .before .if1 .left) (some .if2 .left) (few .if3 .left) false (sym (c .before .misfits .ensures) ∙ c .if4 .left)
 
-pub misasked-spec : {M : Type 1} → statement M
-misasked-spec =
+pub refusal-before-links-spec : {M : Type 1} → statement M
+refusal-before-links-spec =
     tie.close (tie.spec returns returns-2 returns-3 misfits-requires returns-4 returns-5)
