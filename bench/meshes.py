@@ -10,8 +10,7 @@ import programs
 CORNERS = [(0, 63), (63, 0), (7, 56), (56, 7)]  # 14 links apart
 STREAMS = 64
 # F.  A link between corners carries 16 or 17: with 17 none is over, and all
-# are looked at;
-# with 15 the first that carries anything is over.
+# are looked at; with 15 the first that carries anything is over.
 SLOTS = {"admitted": 17, "refused": 15}
 FIGURES = re.compile(r"check ([0-9]+) ns\nanswers ([0-9]+)\n")
 

@@ -1,8 +1,8 @@
 """Edges of the words `mesh` and `mesh-over`: a line, and the answer that it has
 to get, worked out by hand from document 02, N10.
 
-    0  1  2  3  4  5  6  7      the boards of the first rows; a stream goes
-    8  9 10 11 12 13 14 15      along its row first and then along its column
+    0  1  2  3  4  5  6  7      the boards of the first rows; a stream goes along
+    8  9 10 11 12 13 14 15      its source's row, then its destination's column
    16 17 18 19 20 21 22 23
 """
 
