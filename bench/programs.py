@@ -11,8 +11,8 @@ from datetime import datetime
 from pathlib import Path
 
 ROOT = Path(__file__).resolve().parent.parent
-PROVED = ("domelink", "single")
-PLAIN = ("play", "calls", "single")
+PROVED = ("domelink", "single", "meshtime")
+PLAIN = ("play", "calls", "single", "mesh")
 RUSTC = ["rustc", "--edition", "2021", "-C", "opt-level=3",
          "-C", "codegen-units=1"]
 LAST = 20               # lines shown of a check that failed

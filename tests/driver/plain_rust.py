@@ -35,6 +35,8 @@ def own_tests(suite, folder):
     tests = folder + "/tests"
     suite.test("the scheduler's own tests",
                build("scheduler.rs", tests, "--test") or trouble(tests))
+    suite.test("the own tests of the check of the mesh",
+               build("mesh.rs", tests, "--test") or trouble(tests))
 
 
 def player(folder, name, source, form):

@@ -1,6 +1,6 @@
 """Files of questions with their right answers, to be put to domeplan: the
-edges, the questions of docs/REFUSALS.md, every room, files in pieces, many
-lines at once, and generated files.
+edges, the questions of docs/REFUSALS.md, every room, every way over the mesh,
+files in pieces, many lines at once, and generated files.
 
 Each function yields names, and with each name how the case is made.
 """
@@ -15,6 +15,7 @@ IN_PIECES = 4                           # every fourth edge is fed so
 MANY = 20000                            # lines at once
 FLOWS = range(1, 17)
 ROOMS = range(81)                       # the longest plan has 76 bytes
+BOARDS = range(64)                      # of the mesh
 
 
 class Questions:
@@ -122,6 +123,18 @@ def every_room():
         data = b"".join(b"room %d 16 2 16%s\n" % (room, entries)
                         for room in ROOMS)
         yield ("question: every room for %d flows" % flows,
+               lambda data=data: simulated(data))
+
+
+def every_way():
+    """Each of the 4,032 pairs of boards: a stream alone, which is admitted,
+    and two of the same ends that are over on every link of their way."""
+    for source in BOARDS:
+        ends = [b"%d %d" % (source, destination) for destination in BOARDS
+                if destination != source]
+        data = b"".join(b"mesh 1 %s 1\nmesh-over 1 %s 1 %s 1\n"
+                        % (pair, pair, pair) for pair in ends)
+        yield ("question: every way from board %d" % source,
                lambda data=data: simulated(data))
 
 

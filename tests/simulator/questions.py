@@ -2,6 +2,7 @@
 
 import re
 
+from simulator import mesh
 from simulator.plan import read_plan
 from simulator.plan_writer import Asked, write_plan
 
@@ -56,7 +57,38 @@ def to_read(fields):
     return " ".join(["plan"] + [str(number) for number in numbers])
 
 
-WORDS = {b"plan": to_plan, b"room": to_room, b"read": to_read}
+def streams_of(fields):
+    """F, and the streams after it as threes of numbers; None for neither."""
+    numbers = numbers_of(fields)
+    if not numbers or len(numbers) % 3 != 1:
+        return None
+    return numbers[0], [tuple(numbers[i:i + 3])
+                        for i in range(1, len(numbers), 3)]
+
+
+def to_mesh(fields):
+    asked = streams_of(fields)
+    if asked is None:
+        return NO_QUESTION
+    refusal = mesh.refusal_before_ways(*asked)
+    if not refusal and mesh.overloads(*asked):
+        refusal = 25
+    return refused(refusal) if refusal else "ok"
+
+
+def to_mesh_over(fields):
+    asked = streams_of(fields)
+    if asked is None:
+        return NO_QUESTION
+    refusal = mesh.refusal_before_ways(*asked)
+    if refusal:
+        return refused(refusal)
+    found = [str(number) for hop in mesh.overloads(*asked) for number in hop]
+    return " ".join(["over"] + found) if found else "ok"
+
+
+WORDS = {b"plan": to_plan, b"room": to_room, b"read": to_read,
+         b"mesh": to_mesh, b"mesh-over": to_mesh_over}
 
 
 def answer(line):

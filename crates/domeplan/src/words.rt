@@ -30,6 +30,12 @@ fn numbered(line: &[u8]) -> u8 {
     if asks(line, b"room") {
         return 2;
     }
+    if asks(line, b"mesh") {
+        return 7;
+    }
+    if asks(line, b"mesh-over") {
+        return 8;
+    }
     0
 }
 
@@ -40,6 +46,12 @@ fn answer_numbers(word: u8, numbers: &[usize], out: &mut [u8]) -> usize
 {
     if word == 1 {
         return planwords::plan(numbers, out);
+    }
+    if word == 7 {
+        return meshwords::mesh(numbers, out);
+    }
+    if word == 8 {
+        return meshwords::mesh_over(numbers, out);
     }
     planwords::room(numbers, out)
 }
@@ -78,7 +90,10 @@ pub(crate) fn answer(line: &[u8], out: &mut [u8]) -> usize
     }
     let word = numbered(line);
     if word == 0 {
-        return replies::say(b"? the first word is none of plan, room and read\n", out);
+        return replies::say(
+            b"? the first word is none of plan, room, read, mesh and mesh-over\n",
+            out,
+        );
     }
     read_and_answer(word, line, out)
 }

@@ -1,0 +1,13 @@
+pub mod Edges
+pub mod Raised
+pub mod Lines
+pub mod Gathered
+pub mod Tests
+pub mod OnWay
+pub mod Links
+pub mod Admission
+pub mod Admitted
+pub mod Order
+pub mod Sharing
+pub mod Walks
+pub mod Ways

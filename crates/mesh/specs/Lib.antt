@@ -1,0 +1,9 @@
+pub mod Mesh
+pub mod Streams
+pub mod Admission
+pub mod Way
+pub mod Sharing
+pub mod Reading
+pub mod Loads
+pub mod EdgeCases
+pub mod Edges

@@ -1,0 +1,3 @@
+pub mod OverLines
+pub mod AskedLines
+pub mod MeshLineEdges
