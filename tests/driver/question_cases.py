@@ -1,6 +1,6 @@
 """Files of questions with their right answers, to be put to domeplan: the
-edges, the questions of docs/REFUSALS.md, every room, files in pieces, many
-lines at once, and generated files.
+edges, the questions of docs/REFUSALS.md, every room, every count, files in
+pieces, many lines at once, and generated files.
 
 Each function yields names, and with each name how the case is made.
 """
@@ -15,6 +15,8 @@ IN_PIECES = 4                           # every fourth edge is fed so
 MANY = 20000                            # lines at once
 FLOWS = range(1, 17)
 ROOMS = range(81)                       # the longest plan has 76 bytes
+COUNTED_SLOTS = range(19)               # of a frame whose lists are counted
+COUNTED_FLOWS = range(11)
 
 
 class Questions:
@@ -122,6 +124,15 @@ def every_room():
         data = b"".join(b"room %d 16 2 16%s\n" % (room, entries)
                         for room in ROOMS)
         yield ("question: every room for %d flows" % flows,
+               lambda data=data: simulated(data))
+
+
+def every_count():
+    """F = 1 to 16 and n = 1 to 8, and what lies beside them."""
+    for slots in COUNTED_SLOTS:
+        data = b"".join(b"count %d %d\n" % (slots, flows)
+                        for flows in COUNTED_FLOWS)
+        yield ("question: every count for F = %d" % slots,
                lambda data=data: simulated(data))
 
 

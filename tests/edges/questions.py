@@ -7,7 +7,7 @@ of the bytes and by `plan` of their numbers.
 
 import struct
 
-from edges import plan_limits
+from edges import count_questions, plan_limits
 from edges.edge_maker import BASE
 
 NO_QUESTION = "?"               # stands for this and any reason
@@ -244,9 +244,9 @@ def to_plan(name, data, number):
 EDGES = [
     Question("%s: %s" % (word, name), line, answer)
     for word, table in (("plan", PLANS), ("room", ROOMS), ("read", READS),
-                        ("long", LENGTHS))
+                        ("count", count_questions.COUNTS), ("long", LENGTHS))
     for name, line, answer in table]
 EDGES += [Question("no question: " + name, line, NO_QUESTION)
-          for name, line in FAULTS]
+          for name, line in FAULTS + count_questions.FAULTS]
 EDGES += [to_read(*row) for row in read_edges()]
 EDGES += [to_plan(*row) for row in written_edges()]

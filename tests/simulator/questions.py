@@ -2,6 +2,7 @@
 
 import re
 
+from simulator import share_counts
 from simulator.plan import read_plan
 from simulator.plan_writer import Asked, write_plan
 
@@ -56,7 +57,17 @@ def to_read(fields):
     return " ".join(["plan"] + [str(number) for number in numbers])
 
 
-WORDS = {b"plan": to_plan, b"room": to_room, b"read": to_read}
+def to_count(fields):
+    """F and n, and nothing else."""
+    numbers = numbers_of(fields)
+    if numbers is None or len(numbers) != 2:
+        return NO_QUESTION
+    refusal, counts = share_counts.count(*numbers)
+    return refused(refusal) if refusal else "%d %d" % counts
+
+
+WORDS = {b"plan": to_plan, b"room": to_room, b"read": to_read,
+         b"count": to_count}
 
 
 def answer(line):
