@@ -7,7 +7,7 @@ use native.Mathlib.Nat.{pow-zero, pow-succ', pow-le-pow-left, pow-le-pow-right}
 use native.Mathlib.Omega.{arith}
 use lib.ListN.{length}
 use lib.Dec.{ltb}
-use Rattle.model.specs.Tables.{sum, bit, tally}
+use Rattle.model.specs.Tables.{bit, tally}
 use Rattle.model.proofs.Tallies.{sum-const}
 use Rattle.shares.specs.ShareLists.{shareLists, total}
 use Rattle.shares.specs.Counts.{acceptedLists, refusedLists}

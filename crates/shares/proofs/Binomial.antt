@@ -1,6 +1,6 @@
 -- The lists that are accepted are as many as the binomial coefficient of F over n. Assumes nothing.
-use Prim.Native.Nat.{ℕ, zero, suc, _+_, _-_, _^_}
-use mathlib.Core.Path.{_≡_, refl, sym, ap, _∙_}
+use Prim.Native.Nat.{ℕ, zero, suc, _-_, _^_}
+use mathlib.Core.Path.{_≡_}
 use native.Mathlib.Omega.{arith}
 use Rattle.shares.specs.Counts.{acceptedLists, refusedLists}
 use Rattle.shares.specs.Binomial.{choose}

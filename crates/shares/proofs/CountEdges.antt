@@ -1,7 +1,7 @@
 -- Every edge of the count comes out as the request has it. Assumes nothing.
 use Prim.Native.Nat.{ℕ, _-_, _^_}
-use mathlib.Core.Path.{_≡_, refl, sym, ap, _∙_}
-use mathlib.Core.List.{List, map}
+use mathlib.Core.Path.{_≡_, refl, _∙_}
+use mathlib.Core.List.{map}
 use mathlib.Core.Bool.{cond}
 use Rattle.model.specs.Refusals.{condition}
 use Rattle.model.specs.Calls.{Answer, accepted, refused}

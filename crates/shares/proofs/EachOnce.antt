@@ -1,14 +1,14 @@
 -- The enumeration has each share list exactly once, and no other list. Assumes nothing.
-use Prim.Native.Nat.{ℕ, zero, suc, _+_, _≤_, _<_}
-use mathlib.Core.Path.{_≡_, refl, sym, ap, ap₂, _∙_}
+use Prim.Native.Nat.{ℕ, zero, suc, _≤_, _<_}
+use mathlib.Core.Path.{_≡_, refl, ap, ap₂, _∙_}
 use mathlib.Core.List.{List, _∷_, []}
-use mathlib.Core.Bool.{Bool, true, false, _&&_}
+use mathlib.Core.Bool.{true, _&&_}
 use native.Mathlib.Decide.{ℕ-discrete}
 use native.Mathlib.Omega.{arith}
-use lib.ListN.{length, getD}
+use lib.ListN.{getD}
 use lib.Dec.{eqb}
 use borrow.Author.Tests.{eqb-true, eq-eqb, ne-eqb}
-use Rattle.model.specs.Tables.{sum, bit, tally}
+use Rattle.model.specs.Tables.{sum, tally}
 use Rattle.model.proofs.Tests.{and-true}
 use Rattle.shares.specs.ShareLists.{shareLists}
 use Rattle.shares.specs.Enumerated.{ShareList, sameList, times, EachOnce}

@@ -1,13 +1,13 @@
 -- Share lists counted by their first share. Assumes nothing.
 use Prim.Native.Nat.{ℕ, zero, suc, _+_}
 use mathlib.Core.Path.{_≡_, refl, sym, ap, _∙_}
-use mathlib.Core.List.{List, _∷_, [], _++_, map, flatMap}
+use mathlib.Core.List.{List, _∷_, [], map, flatMap}
 use mathlib.Core.Bool.{Bool, false}
 use native.Mathlib.Omega.{arith}
 use lib.ListN.{length, getD}
 use Rattle.model.specs.Tables.{table, sum, bit, tally}
 use Rattle.model.proofs.Tallies.{tally-append}
-use Rattle.shares.specs.ShareLists.{sharesOf, shareLists, total}
+use Rattle.shares.specs.ShareLists.{shareLists, total}
 use Rattle.shares.proofs.Sums.{sum-first}
 
 pub tally-no : (lists : List (List ℕ)) → tally (λ l. false) lists ≡ 0

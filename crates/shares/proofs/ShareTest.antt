@@ -1,5 +1,5 @@
 -- The share test on lists is line 6 of a plan's tests. Assumes nothing.
-use Prim.Native.Nat.{ℕ, zero, suc, _+_, _≤_, _<_}
+use Prim.Native.Nat.{ℕ, zero, suc, _+_}
 use mathlib.Core.Path.{_≡_, refl, sym, ap, _∙_}
 use mathlib.Core.List.{List, _∷_, [], map}
 use mathlib.Core.Bool.{false}
@@ -8,8 +8,8 @@ use lib.ListN.{length, getD, length-map}
 use lib.Dec.{ltb}
 use borrow.Author.Tests.{le-ltb}
 use Rattle.model.specs.Tables.{sum}
-use Rattle.model.specs.Refusals.{Line, _when_, condition}
-use Rattle.model.specs.Plan.{Plan, Entry, noEntry, flowCount, entry, limitTests, Accepted}
+use Rattle.model.specs.Refusals.{_when_, condition}
+use Rattle.model.specs.Plan.{Plan, Entry, noEntry, flowCount, limitTests, Accepted}
 use Rattle.shares.specs.ShareLists.{total, shareTest}
 use Rattle.shares.specs.Enumerated.{ShareList}
 use Rattle.shares.specs.PlanShares.{sharesIn}

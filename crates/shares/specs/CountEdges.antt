@@ -22,7 +22,7 @@ Pass cases = map (λ e. counted (e .slots) (e .flows)) cases ≡ map (λ e. e .e
 
 unfoldable pub countEdges : List Case
 countEdges =
-    -- "F = 4 and n = 2 give 6 accepted and 10 refused"
+    -- the request's example: four slots and two flows
     gives 4 2 6 10
     -- one list of one share, which fills the frame
     ∷ gives 1 1 1 0

@@ -1,4 +1,4 @@
--- How many plans fit. Document 02, N11: "its meaning is the number of lists and not the method". Assumes nothing.
+-- How many plans fit. Document 02, N11: numbers of lists, however they are come by. Assumes nothing.
 use Prim.Native.Nat.{ℕ}
 use mathlib.Core.Bool.{not, _||_, cond}
 use Rattle.model.specs.Tables.{within, tally}
@@ -12,23 +12,23 @@ pub record Counts : Type 0 where
   pub accepts : ℕ
   pub refuses : ℕ
 
--- the lists "that the share test accepts"
+-- N11, the first number: how many lists pass the share test
 unfoldable pub acceptedLists : (F n : ℕ) → ℕ
 acceptedLists F n = tally (λ shares. not (condition (shareTest F shares))) (shareLists F n)
 
--- "and those that it refuses with 6"
+-- N11, the second: how many lists fail it, by 6
 unfoldable pub refusedLists : (F n : ℕ) → ℕ
 refusedLists F n = tally (λ shares. condition (shareTest F shares)) (shareLists F n)
 
--- "F outside 1 to 16 or n outside 1 to 8 is refused with 26"
+-- N11, the refusal: 26, where F is not 1 to 16 or n is not 1 to 8
 abbrev pub rangeTest : (F n : ℕ) → Line
 rangeTest F n = 26 when (not (within 1 16 F) || not (within 1 8 n))
 
--- "For F and n, count"
+-- N11, the answer for F and n: both numbers, or the refusal
 unfoldable pub counted : (F n : ℕ) → Answer Counts
 counted F n = cond (condition (rangeTest F n)) (refused 26) (accepted (record { accepts = acceptedLists F n; refuses = refusedLists F n }))
 
--- the crate's answer, from the paper's: the two numbers, or the refusal
+-- the crate's answer, from the paper's: this paper's numbers for each of its cases
 abbrev pub countedFor : Answer Counts → Counted
 countedFor (accepted counts) = Lists (counts .accepts) (counts .refuses)
 countedFor (refused number) = Refused number

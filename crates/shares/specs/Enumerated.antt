@@ -7,7 +7,7 @@ use lib.ListN.{length, getD}
 use lib.Dec.{eqb}
 use Rattle.model.specs.Tables.{tally}
 
--- "n shares, each 1 to F"
+-- a list of n shares, each of them 1 to F
 pub record ShareList (F n : ℕ) (shares : List ℕ) : Type 0 where
   pub many : length shares ≡ n
   pub some-slot : (i : ℕ) → i < n → 1 ≤ getD shares i 0

@@ -3,8 +3,8 @@ ghost use mathlib.Core.Path.{_≡_};
 ghost use Prim.Native.Nat.{_≤_, _^_};
 ghost use Rattle.shares.specs.Counts.{acceptedLists};
 
-// How many lists of so many shares fit into the slots that are left. A flow takes a share of at least one of them, and the flows after it go on with the
-// rest.
+// How many lists of so many shares fit into the slots that are left. A flow's share is one slot at least, and the flows after it go on with the rest: none
+// of the slots, one, and so on.
 pub(crate) fn fitting(left: usize, flows: usize) -> u64
     requires { ⌜ (left ≤ 16) × (flows ≤ 8) ⌝ }
     ensures { λ r. ⌜ r ≡ acceptedLists left flows ⌝ }

@@ -6,7 +6,7 @@ use lib.ListN.{length, getD}
 use lib.Dec.{eqb}
 use Rattle.model.specs.Listing.{text, decimal, refusalLine}
 use Rattle.model.specs.Calls.{Answer, accepted, refused}
-use Rattle.shares.specs.Counts.{Counts, counted, countedFor}
+use Rattle.shares.specs.Counts.{Counts, counted}
 use Rattle.shares.specs.declared.Counted.{Counted}
 use Rattle.shares.specs.declared.Counted.the-variants.{Lists, Refused}
 use Rattle.replies.specs.Lines.{cannot, spaced}

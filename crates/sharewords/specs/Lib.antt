@@ -1,1 +1,2 @@
 pub mod CountWord
+pub mod CountLineEdges
