@@ -25,7 +25,7 @@ from images import self_tests
 FRONT_DOOR = (play_files, play_lost_output, plan_files, plan_read,
               plan_wrong_words, plan_lost_output, old_program, slow_reader,
               asking_editor, wrong_arguments)
-REFUSALS = range(1, 26)         # those of all programs
+REFUSALS = range(1, 27)         # those of all programs
 
 
 def wanted(names, only):
@@ -184,6 +184,7 @@ def play_questions(suite, only, count, seed):
     play_cases([suite], itertools.chain(
         question_cases.edges(), question_cases.page(), question_cases.ends(),
         question_cases.every_room(), question_cases.every_way(),
+        question_cases.every_count(),
         question_cases.in_pieces(seed), question_cases.many_lines(seed)), only)
     play_cases([suite], question_cases.seeds(count, seed), only, tally)
     test_all(suite, round_trips.tests(suite, seed), only)

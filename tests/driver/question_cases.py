@@ -1,6 +1,6 @@
 """Files of questions with their right answers, to be put to domeplan: the
 edges, the questions of docs/REFUSALS.md, every room, every way over the mesh,
-files in pieces, many lines at once, and generated files.
+every count, files in pieces, many lines at once, and generated files.
 
 Each function yields names, and with each name how the case is made.
 """
@@ -16,6 +16,8 @@ MANY = 20000                            # lines at once
 FLOWS = range(1, 17)
 ROOMS = range(81)                       # the longest plan has 76 bytes
 BOARDS = range(64)                      # of the mesh
+COUNTED_SLOTS = range(19)               # of a frame whose lists are counted
+COUNTED_FLOWS = range(11)
 
 
 class Questions:
@@ -135,6 +137,15 @@ def every_way():
         data = b"".join(b"mesh 1 %s 1\nmesh-over 1 %s 1 %s 1\n"
                         % (pair, pair, pair) for pair in ends)
         yield ("question: every way from board %d" % source,
+               lambda data=data: simulated(data))
+
+
+def every_count():
+    """F = 1 to 16 and n = 1 to 8, and what lies beside them."""
+    for slots in COUNTED_SLOTS:
+        data = b"".join(b"count %d %d\n" % (slots, flows)
+                        for flows in COUNTED_FLOWS)
+        yield ("question: every count for F = %d" % slots,
                lambda data=data: simulated(data))
 
 

@@ -1,6 +1,7 @@
 """A seed to the lines of its file for domeplan, and to their kind."""
 
-from generator import asked_plans, mesh_streams, odd_lines, plan_hex
+from generator import (
+    asked_plans, counted_frames, mesh_streams, odd_lines, plan_hex)
 from generator.dice import Dice
 
 FEWEST, MOST = 10, 50           # lines of a file
@@ -45,16 +46,23 @@ def mesh(dice):
                     mesh_streams.numbers(dice))
 
 
+def count(dice):
+    return question(dice, b"count", counted_frames.numbers(dice))
+
+
+QUESTIONS = [plan, room, read, mesh, count]
+
+
 def odd(dice):
-    return odd_lines.odd(dice, dice.pick([plan, room, read, mesh])(dice))
+    return odd_lines.odd(dice, dice.pick(QUESTIONS)(dice))
 
 
 def mixed(dice):
-    return dice.pick([plan, wide_plan, room, read, mesh, odd])(dice)
+    return dice.pick([*QUESTIONS, wide_plan, odd])(dice)
 
 
 KINDS = {"plans": plan, "too wide": wide_plan, "rooms": room, "reads": read,
-         "meshes": mesh, "odd lines": odd, "mixed": mixed}
+         "meshes": mesh, "counts": count, "odd lines": odd, "mixed": mixed}
 ORDER = tuple(KINDS)            # the kinds of seeds 0, 1, 2 and so on
 
 

@@ -2,7 +2,7 @@
 
 import re
 
-from simulator import mesh
+from simulator import mesh, share_counts
 from simulator.plan import read_plan
 from simulator.plan_writer import Asked, write_plan
 
@@ -87,8 +87,17 @@ def to_mesh_over(fields):
     return " ".join(["over"] + found) if found else "ok"
 
 
+def to_count(fields):
+    """F and n, and nothing else."""
+    numbers = numbers_of(fields)
+    if numbers is None or len(numbers) != 2:
+        return NO_QUESTION
+    refusal, counts = share_counts.count(*numbers)
+    return refused(refusal) if refusal else "%d %d" % counts
+
+
 WORDS = {b"plan": to_plan, b"room": to_room, b"read": to_read,
-         b"mesh": to_mesh, b"mesh-over": to_mesh_over}
+         b"mesh": to_mesh, b"mesh-over": to_mesh_over, b"count": to_count}
 
 
 def answer(line):

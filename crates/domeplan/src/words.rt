@@ -36,6 +36,9 @@ fn numbered(line: &[u8]) -> u8 {
     if asks(line, b"mesh-over") {
         return 8;
     }
+    if asks(line, b"count") {
+        return 3;
+    }
     0
 }
 
@@ -52,6 +55,9 @@ fn answer_numbers(word: u8, numbers: &[usize], out: &mut [u8]) -> usize
     }
     if word == 8 {
         return meshwords::mesh_over(numbers, out);
+    }
+    if word == 3 {
+        return sharewords::count(numbers, out);
     }
     planwords::room(numbers, out)
 }
@@ -91,7 +97,7 @@ pub(crate) fn answer(line: &[u8], out: &mut [u8]) -> usize
     let word = numbered(line);
     if word == 0 {
         return replies::say(
-            b"? the first word is none of plan, room, read, mesh and mesh-over\n",
+            b"? the first word is none of plan, room, read, mesh, mesh-over and count\n",
             out,
         );
     }

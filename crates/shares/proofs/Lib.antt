@@ -1,0 +1,10 @@
+pub mod Sums
+pub mod FirstShare
+pub mod SlotsLeft
+pub mod AllLists
+pub mod CountLoop
+pub mod Answers
+pub mod EachOnce
+pub mod Binomial
+pub mod ShareTest
+pub mod CountEdges

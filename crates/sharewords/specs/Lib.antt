@@ -1,0 +1,2 @@
+pub mod CountWord
+pub mod CountLineEdges
