@@ -1,0 +1,81 @@
+-- `extras::ranges::misfits` meets its contract. The loop: no layer before layer i breaks its limits. Assumes nothing.
+use Prim.Native.Nat.{ℕ, _-_}
+use mathlib.Core.Path.{_≡_, ap, sym, _∙_}
+use mathlib.Core.Bool.{Bool, not}
+use native.Mathlib.Omega.{arith}
+use lib.ListN.{getD}
+use borrow.Author.Needs.{needs}
+use Rattle.limits.proofs.Tests.{None, none-yet, none-more, found-one, none-at-all, not-is}
+use Rattle.extras.specs.declared.Extras.{Extras}
+use Rattle.extras.specs.Extras.{layerFits, layer}
+use Rattle.extras.specs.Reading.{extrasFor, layerFor, noLayer}
+use Rattle.extras.proofs.Layers.{layer-is}
+use Rattle.extras.proofs.ranges.misfits.Statement.{statement}
+use Rattle.extras.proofs.ranges.misfits.Tie as tie
+
+abbrev misfit : Extras → ℕ → Bool
+misfit x i = not (layerFits (layer (extrasFor x) i))
+
+abbrev Inv-loop : tie.InvT-loop
+Inv-loop x i₀ i = None (misfit x) (x .count) i
+
+abbrev μ-loop : tie.MeasureT-loop
+μ-loop x i₀ i = x .count - i
+
+-- where an iteration starts: the layer that is read is the one given
+module _ (c : tie.In-loop Inv-loop μ-loop) where
+  abbrev given : Extras
+  given = c .before .before .args .t1
+
+  abbrev place : ℕ
+  place = c .before .loop .i
+
+  as-given : layerFits (layerFor (getD (given .layers) place noLayer)) ≡ layerFits (layer (extrasFor given) place)
+  as-given = ap layerFits (sym (layer-is given place (c .loop-test .taken)))
+
+loop-holds : tie.Need-loop-holds Inv-loop μ-loop
+loop-holds c = none-yet _ _
+
+mul-e : tie.Need-mul-e Inv-loop μ-loop
+mul-e c = search needs
+
+element-copy-out-e : tie.Need-element-copy-out-e Inv-loop μ-loop
+element-copy-out-e c = omega arith
+
+fits-requires : tie.Need-fits-requires Inv-loop μ-loop
+fits-requires c κs = search needs
+
+returns : tie.Need-returns Inv-loop μ-loop
+returns c =
+    let step = c .before .before .before in
+    found-one (step .before .loop .inv) (step .loop-test .taken) (not-is (c .before .fits2 .ensures ∙ as-given step) (c .if1 .taken))
+
+add-i : tie.Need-add-i Inv-loop μ-loop
+add-i c = search needs
+
+loop-less : tie.Need-loop-less Inv-loop μ-loop
+loop-less c = search needs
+
+loop-again : tie.Need-loop-again Inv-loop μ-loop
+loop-again c =
+    let step = c .before .before .before in
+    none-more (step .before .loop .inv) (step .loop-test .taken) (not-is (c .before .fits2 .ensures ∙ as-given step) (c .if1 .left))
+
+returns-2 : tie.Need-returns-2 Inv-loop μ-loop
+returns-2 c = none-at-all (c .before .loop .inv) (c .loop-test .left)
+
+pub misfits-spec : {M : Type 1} → statement M
+misfits-spec =
+    tie.close
+    (tie.spec
+    Inv-loop
+    μ-loop
+    loop-holds
+    mul-e
+    element-copy-out-e
+    fits-requires
+    returns
+    add-i
+    loop-less
+    loop-again
+    returns-2)

@@ -1,0 +1,5 @@
+pub mod Extras
+pub mod Best
+pub mod Claim
+pub mod Reading
+pub mod Edges

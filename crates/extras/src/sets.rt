@@ -1,0 +1,61 @@
+// Sets by their masks.
+ghost use mathlib.Core.Path.{_≡_};
+ghost use mathlib.Core.Bool.{cond};
+ghost use Prim.Native.Nat.{_≤_, _<_, _^_, min};
+ghost use Rattle.model.specs.Calls.{inMask};
+ghost use Rattle.extras.specs.Extras as model;
+ghost use Rattle.extras.specs.Reading.{extrasFor, Inside};
+use crate::Extras;
+
+// What a set takes of a frame, and what it is worth.
+pub(crate) struct Sums {
+    pub share: usize,
+    pub worth: usize,
+}
+
+// The number of sets of n layers.
+pub(crate) fn set_count(n: usize) -> usize
+    requires { ⌜ n ≤ 12 ⌝ }
+    ensures is { λ r. ⌜ r ≡ 2 ^ n ⌝ }
+    ensures most { λ r. ⌜ r ≤ 4096 ⌝ }
+{
+    1usize << n
+}
+
+// How many sets are looked at: as many as the budget allows, and as there are.
+pub(crate) fn looked_at(budget: usize, sets: usize) -> usize
+    ensures { λ r. ⌜ r ≡ min budget sets ⌝ }
+{
+    if budget < sets {
+        return budget;
+    }
+    sets
+}
+
+// What layer i adds to the sum over a set: nothing where it isn't in it.
+fn added(mask: usize, i: usize, amount: usize) -> usize
+    requires { ⌜ i < 64 ⌝ }
+    ensures is { λ r. ⌜ r ≡ cond (inMask mask i) amount 0 ⌝ }
+    ensures most { λ r. ⌜ r ≤ amount ⌝ }
+{
+    if (mask >> i) % 2 == 1 {
+        return amount;
+    }
+    0
+}
+
+pub(crate) fn totals(x: Extras, mask: usize) -> Sums
+    requires { ⌜ Inside x ⌝ }
+    ensures { λ r. ⌜ (r .share ≡ model.shareOf (extrasFor x) mask) × (r .worth ≡ model.worthOf (extrasFor x) mask) ⌝ }
+{
+    let mut share = 0;
+    let mut worth = 0;
+    let mut i = 0;
+    while i < x.count {
+        let e = x.layers[i];
+        share += added(mask, i, e.share);
+        worth += added(mask, i, e.worth);
+        i += 1;
+    }
+    Sums { share, worth }
+}
