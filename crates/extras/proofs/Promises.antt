@@ -5,11 +5,11 @@ use mathlib.Core.Bool.{Bool, true, false, cond}
 use native.Mathlib.Decide.{decLe}
 use native.Mathlib.Nat.{one-le-pow}
 use native.Mathlib.Omega.{arith}
-use lib.Dec.{leb}
-use borrow.Author.Tests.{leb-true, le-leb, lt-leb, eqb-false, ne-eqb}
+use lib.Dec.{leb, ltb, eqb}
+use borrow.Author.Tests.{leb-true, le-leb, lt-leb, eqb-false, ne-eqb, lt-ltb}
 use Rattle.model.specs.Tables.{sum}
 use Rattle.model.specs.Calls.{Answer, accepted, refused, inMask}
-use Rattle.model.proofs.Tests.{or-false}
+use Rattle.model.proofs.Tests.{or-false, or-true}
 use Rattle.extras.specs.Extras.{Extras, Chosen, layerCount, layer, shareOf, worthOf, fits, setCount, lookedAt, allLookedAt}
 use Rattle.extras.specs.Extras.{bestWorth, bestMask, singlesWorth, ceilingOf, outside, choose}
 use Rattle.extras.specs.Extras as model
@@ -158,6 +158,11 @@ refused-is x number a = go (outside x) refl a
     go : (b : Bool) → outside x ≡ b → cond b (refused 27) (accepted (model.best x)) ≡ refused number → (number ≡ 27) × (outside x ≡ true)
     go true e r = (cc, e)
     go false e r = absurd (let z : _≡_ {A = ℕ} 0 1 = cc in omega arith)
+
+-- more than twelve layers are refused, whatever else is given
+pub many-refused : (x : Extras) → 12 < layerCount x → choose x ≡ refused 27
+unfolding choose outside
+many-refused x h = rw (or-true (eqb (x .budget) 0) (ltb 12 (layerCount x)) (lt-ltb _ _ h))
 
 -- there is one best of some sets
 pub one-best : {x : Extras} {k mask worth mask′ worth′ : ℕ} → Best x k mask worth → Best x k mask′ worth′ → (mask ≡ mask′) × (worth ≡ worth′)

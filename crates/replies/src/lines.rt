@@ -21,7 +21,7 @@ pub fn put(bytes: &[u8], out: &mut [u8], at: usize) -> usize
 }
 
 // Stores a number's decimal digits.
-fn put_decimal(n: usize, out: &mut [u8], at: usize) -> usize
+pub fn put_decimal(n: usize, out: &mut [u8], at: usize) -> usize
     requires { ⌜ at + length (decimal n) ≤ length (now out) ⌝ }
     ensures { λ r. ⌜ Puts (decimal n) (now (out .entry)) (now (out .exit)) at r ⌝ }
 {

@@ -1,0 +1,2 @@
+pub mod ExtrasWord
+pub mod Asked
