@@ -8,7 +8,7 @@ use native.Mathlib.Numerals.{add-one}
 use native.Mathlib.Nat.{zero-div}
 use native.Mathlib.Omega.{arith}
 use lib.Dec.{leb, eqb}
-use borrow.Author.Tests.{le-leb, eq-eqb, eqb-true}
+use borrow.Author.Tests.{le-leb, lt-leb, leb-true, lt-ltb, le-ltb, eq-eqb, eqb-true}
 use Rattle.model.specs.Tables.{sum, firstFrom}
 use Rattle.model.specs.Calls.{inMask, accepted}
 use Rattle.model.proofs.Tables.{Hit, firstFrom-some, firstFrom-none}
@@ -16,6 +16,8 @@ use Rattle.model.proofs.Tests.{and-true}
 use Rattle.extras.specs.Extras.{Extras, Layer, layerCount, layer, shareOf, worthOf, fits, greatest, bestWorth, lowestBest, bestMask, maskFound}
 use Rattle.extras.specs.Extras.{lookedAt, allLookedAt, singlesWorth, outside, choose}
 use Rattle.extras.specs.Best.{Best}
+use Rattle.extras.specs.declared.search.Best as Set
+use Rattle.extras.specs.Search.{betterOf}
 use Rattle.extras.proofs.Summing.{sum-zero}
 
 -- ---- the empty set
@@ -73,6 +75,21 @@ module _ {x : Extras} {k mask worth : ℕ} (b : Best x k mask worth) where
       go : (m : ℕ) → m < k + 1 → fits x m ≡ true → Dec (m < k) → worthOf x m ≤ worthOf x k
       go m l g (yes y) = omega (arith, b .greatest m y g)
       go m l g (no n) = let z : m ≡ k = omega arith in omega (arith, ap (worthOf x) z)
+
+abbrev BestNow : Extras → ℕ → Set.Best → Type 0
+BestNow x k r = Best x (k + 1) (r .mask) (r .worth)
+
+-- the code's choice between the best so far and the next set
+pub next-best : {x : Extras} {k share worth : ℕ} {b : Set.Best} → Best x k (b .mask) (b .worth) → share ≡ shareOf x k → worth ≡ worthOf x k
+    → BestNow x k (betterOf b (record { mask = k; worth = worth }) share (x .slots))
+next-best {x} {k} {share} {worth} {b} h e f = go (decLt (x .slots) share) (decLe worth (b .worth))
+  where
+    go : Dec (x .slots < share) → Dec (worth ≤ b .worth) → BestNow x k (betterOf b (record { mask = k; worth = worth }) share (x .slots))
+    go (yes over) d = rw (lt-ltb (x .slots) share over) (still-best h (λ g. absurd (omega (arith, leb-true (shareOf x k) (x .slots) g))))
+    go (no fit) (yes less) = rw (le-ltb (x .slots) share (omega arith), le-leb worth (b .worth) less) (still-best h (λ g. omega arith))
+    go (no fit) (no more) =
+        rw (le-ltb (x .slots) share (omega arith), lt-leb worth (b .worth) (omega arith), f)
+        (new-best h (le-leb (shareOf x k) (x .slots) (omega arith)) (omega arith))
 
 -- ---- there is one
 

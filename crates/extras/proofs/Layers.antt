@@ -1,23 +1,28 @@
 -- What is given, read as the request's, and the limits that it keeps. Assumes nothing.
 use Prim.Native.Nat.{ℕ, _≤_, _<_}
-use mathlib.Core.Path.{_≡_, subst}
-use mathlib.Core.Bool.{false, not}
+use mathlib.Core.Path.{_≡_, refl, sym, ap, _∙_, subst}
+use mathlib.Core.Bool.{false, not, cond}
+use mathlib.Core.List.{List}
 use native.Mathlib.Omega.{arith}
 use lib.ListN.{getD}
 use borrow.Author.Tests.{eqb-false, ltb-false, not-false}
+use Rattle.model.specs.Tables.{sum}
+use Rattle.model.specs.Calls.{inMask}
 use Rattle.model.proofs.Tables.{length-table, getD-table}
 use Rattle.model.proofs.Tests.{or-false, and-true, in-range, within-true, any-none}
 use Rattle.extras.specs.declared.Extras.{Extras}
 use Rattle.extras.specs.Extras as model
-use Rattle.extras.specs.Extras.{layerFits, outside}
-use Rattle.extras.specs.Reading.{extrasFor, layerFor, noLayer, Inside}
+use Rattle.extras.specs.Extras.{shareOf, worthOf, layerFits, outside}
+use Rattle.extras.specs.Reading.{extrasFor, layerAt, Inside}
+use Rattle.extras.specs.Search.{Amounts, sumIn}
+use Rattle.extras.proofs.Summing.{sum-same}
 
 module _ (x : Extras) where
   pub count-is : model.layerCount (extrasFor x) ≡ x .count
-  count-is = length-table (x .count) _
+  count-is = length-table (x .count) (layerAt x)
 
-  pub layer-is : (i : ℕ) → i < x .count → model.layer (extrasFor x) i ≡ layerFor (getD (x .layers) i noLayer)
-  layer-is i h = getD-table (x .count) _ i model.noLayer h
+  pub layer-is : (i : ℕ) → i < x .count → model.layer (extrasFor x) i ≡ layerAt x i
+  layer-is i h = getD-table (x .count) (layerAt x) i model.noLayer h
 
 -- the limits of a layer
 pub record LayerInside (e : model.Layer) : Type 0 where
@@ -63,5 +68,33 @@ module _ (x : Extras) (h : Inside x) (i : ℕ) (l : i < x .count) where
   pub place-small : i < 12
   place-small = omega (arith, place-there, limits (extrasFor x) (h .inside) .few)
 
-  pub element-inside : LayerInside (layerFor (getD (x .layers) i noLayer))
+  pub element-inside : LayerInside (layerAt x i)
   element-inside = subst LayerInside (layer-is x i l) (limits (extrasFor x) (h .inside) .layer-inside i place-there)
+
+module _ (x : Extras) (h : Inside x) where
+  pub shares-small : Amounts (x .shares) (x .count)
+  shares-small = record {
+    few = omega (arith, count-is x, limits (extrasFor x) (h .inside) .few);
+    small = λ i l. omega (arith, element-inside x h i l .share-most);
+  }
+
+  pub worths-small : Amounts (x .worths) (x .count)
+  worths-small = record { few = shares-small .few; small = λ i l. element-inside x h i l .worth-most }
+
+-- ---- the sums of its arrays are those of the request
+
+module _ (x : Extras) (mask : ℕ) where
+  -- the sum of a field over a set, by the array that has it
+  field-sum : (f : model.Layer → ℕ) (amounts : List ℕ) → ((i : ℕ) → f (layerAt x i) ≡ getD amounts i 0)
+      → sumIn amounts (x .count) mask ≡ model.sumOver (inMask mask) f (extrasFor x)
+  field-sum f amounts e =
+      sum-same (x .count) _ _ (λ i l. ap (λ a. cond (inMask mask i) a 0) (sym (ap f (layer-is x i l) ∙ e i)))
+      ∙ ap (λ n. sum n (λ i. cond (inMask mask i) (f (model.layer (extrasFor x) i)) 0)) (sym (count-is x))
+
+  pub share-is : sumIn (x .shares) (x .count) mask ≡ shareOf (extrasFor x) mask
+  unfolding shareOf
+  share-is = field-sum (λ e. e .share) (x .shares) (λ i. refl)
+
+  pub worth-is : sumIn (x .worths) (x .count) mask ≡ worthOf (extrasFor x) mask
+  unfolding worthOf
+  worth-is = field-sum (λ e. e .worth) (x .worths) (λ i. refl)

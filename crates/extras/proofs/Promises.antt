@@ -9,13 +9,14 @@ use lib.Dec.{leb, ltb, eqb}
 use borrow.Author.Tests.{leb-true, le-leb, lt-leb, eqb-false, ne-eqb, lt-ltb}
 use Rattle.model.specs.Tables.{sum}
 use Rattle.model.specs.Calls.{Answer, accepted, refused, inMask}
+use Rattle.model.proofs.Tallies.{sum-le}
 use Rattle.model.proofs.Tests.{or-false, or-true}
 use Rattle.extras.specs.Extras.{Extras, Chosen, layerCount, layer, shareOf, worthOf, fits, setCount, lookedAt, allLookedAt}
 use Rattle.extras.specs.Extras.{bestWorth, bestMask, singlesWorth, ceilingOf, outside, choose}
 use Rattle.extras.specs.Extras as model
 use Rattle.extras.specs.Best.{Best}
 use Rattle.extras.specs.Claim.{withBudget, NoWorse, Promised}
-use Rattle.extras.proofs.Summing.{sum-most, term-most}
+use Rattle.extras.proofs.Summing.{term-most}
 use Rattle.extras.proofs.Layers.{Limits, limits}
 use Rattle.extras.proofs.BestSets.{SomeBest, some-best, worth-defined, mask-defined}
 
@@ -32,7 +33,7 @@ module _ (x : Extras) (mask : ℕ) (f : fits x mask ≡ true) where
 
   below-singles : worthOf x mask ≤ singlesWorth x
   unfolding worthOf
-  below-singles = sum-most (layerCount x) _ _ (λ i l. go i l (inMask mask i) refl)
+  below-singles = sum-le (layerCount x) _ _ (λ i l. go i l (inMask mask i) refl)
     where
       go : (i : ℕ) → i < layerCount x → (b : Bool) → inMask mask i ≡ b
           → cond b (layer x i .worth) 0 ≤ cond (leb (layer x i .share) (x .slots)) (layer x i .worth) 0

@@ -4,13 +4,11 @@ use mathlib.Core.Path.{_≡_, refl, ap, _∙_}
 use native.Mathlib.Decide.{decLt}
 use native.Mathlib.Omega.{arith}
 use Rattle.model.specs.Tables.{sum}
+use Rattle.model.proofs.Tallies.{sum-le, sum-const}
 use Rattle.limits.proofs.Tests.{sum-more}
 
--- a sum is at most another whose terms are no smaller
-pub sum-most : (n : ℕ) (f g : ℕ → ℕ) → ((i : ℕ) → i < n → f i ≤ g i) → sum n f ≤ sum n g
-unfolding sum
-sum-most zero f g h = omega arith
-sum-most (suc n) f g h = omega (arith, h n (omega arith), sum-most n f g (λ i l. h i (omega arith)))
+pub sum-same : (n : ℕ) (f g : ℕ → ℕ) → ((i : ℕ) → i < n → f i ≡ g i) → sum n f ≡ sum n g
+sum-same n f g h = omega (arith, sum-le n f g (λ i l. omega (arith, h i l)), sum-le n g f (λ i l. omega (arith, h i l)))
 
 -- each term is at most the sum
 pub term-most : (n : ℕ) (f : ℕ → ℕ) (i : ℕ) → i < n → f i ≤ sum n f
@@ -23,9 +21,7 @@ term-most (suc n) f i h = go (λ l. term-most n f i l) (decLt i n)
     go rest (no l) = let z : i ≡ n = omega arith in omega (arith, ap f z)
 
 pub sum-zero : (n : ℕ) (f : ℕ → ℕ) → ((i : ℕ) → i < n → f i ≡ 0) → sum n f ≡ 0
-unfolding sum
-sum-zero zero f h = refl
-sum-zero (suc n) f h = omega (arith, h n (omega arith), sum-zero n f (λ i l. h i (omega arith)))
+sum-zero n f h = sum-same n f (λ i. 0) h ∙ sum-const n 0 ∙ omega arith
 
 -- A loop that adds up f 0, f 1 and so on, n of them and each at most `most`: i of them are added.
 pub record Summed (f : ℕ → ℕ) (most n i s : ℕ) : Type 0 where

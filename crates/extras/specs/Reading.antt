@@ -5,21 +5,21 @@ use mathlib.Core.Path.{_≡_}
 use lib.ListN.{getD}
 use Rattle.model.specs.Tables.{table}
 use Rattle.model.specs.Calls.{Answer, accepted, refused}
-use Rattle.extras.specs.declared.Layer.{Layer}
 use Rattle.extras.specs.declared.Extras.{Extras}
 use Rattle.extras.specs.declared.Chosen.{Chosen}
 use Rattle.extras.specs.declared.Choice.{Choice}
 use Rattle.extras.specs.Extras as model
 
-abbrev pub layerFor : Layer → model.Layer
-layerFor e = record { share = e .share; worth = e .worth }
+abbrev pub layerWith : (share worth : ℕ) → model.Layer
+layerWith share worth = record { share = share; worth = worth }
 
-abbrev pub noLayer : Layer
-noLayer = record { share = 0; worth = 0 }
+-- layer i
+abbrev pub layerAt : Extras → ℕ → model.Layer
+layerAt x i = layerWith (getD (x .shares) i 0) (getD (x .worths) i 0)
 
 -- the first `count` layers: what stands past them has no effect
 abbrev pub extrasFor : Extras → model.Extras
-extrasFor x = record { slots = x .slots; budget = x .budget; layers = table (x .count) (λ i. layerFor (getD (x .layers) i noLayer)) }
+extrasFor x = record { slots = x .slots; budget = x .budget; layers = table (x .count) (layerAt x) }
 
 abbrev pub chosenFor : Chosen → model.Chosen
 chosenFor c = record { mask = c .mask; worth = c .worth; ceiling = c .ceiling }

@@ -26,8 +26,9 @@ fn singles(x: Extras) -> usize
     let mut worth = 0;
     let mut i = 0;
     while i < x.count {
-        let e = x.layers[i];
-        worth += added(e.share, x.slots, e.worth);
+        let share = x.shares[i];
+        let single = x.worths[i];
+        worth += added(share, x.slots, single);
         i += 1;
     }
     worth

@@ -11,18 +11,14 @@ ghost use Rattle.extras.specs.Reading.{extrasFor, answerFor};
 // The most layers.
 pub const MOST: usize = 12;
 
-// An optional layer: the slots of a frame that it takes, and what it is worth.
-pub struct Layer {
-    pub share: usize,
-    pub worth: usize,
-}
-
-// The slots left in a frame, how many sets may be looked at, n and the layers, of which those from n on have no effect.
+// The slots left in a frame, how many sets may be looked at, n, and of each layer its share, the slots of a frame that it takes, and what it is
+// worth. What stands at place n and from there on has no effect.
 pub struct Extras {
     pub slots: usize,
     pub budget: usize,
     pub count: usize,
-    pub layers: [Layer; MOST],
+    pub shares: [usize; MOST],
+    pub worths: [usize; MOST],
 }
 
 // A set by its mask, bit i for layer i; what it is worth; and what no set that fits is worth more than.

@@ -4,22 +4,21 @@ ghost use mathlib.Core.Bool.{not};
 ghost use Prim.Native.Nat.{_≤_};
 ghost use Rattle.model.specs.Tables.{any};
 ghost use Rattle.extras.specs.Extras as model;
-ghost use Rattle.extras.specs.Reading.{extrasFor, layerFor};
+ghost use Rattle.extras.specs.Reading.{extrasFor, layerWith};
 use crate::Extras;
-use crate::Layer;
 use crate::MOST;
 
 // Whether a layer keeps its limits.
-fn fits(e: Layer) -> bool
-    ensures { λ r. ⌜ r ≡ model.layerFits (layerFor e) ⌝ }
+fn fits(share: usize, worth: usize) -> bool
+    ensures { λ r. ⌜ r ≡ model.layerFits (layerWith share worth) ⌝ }
 {
-    if e.share < 1 {
+    if share < 1 {
         return false;
     }
-    if 64 < e.share {
+    if 64 < share {
         return false;
     }
-    e.worth <= 1000
+    worth <= 1000
 }
 
 // Whether some layer breaks its limits.
@@ -29,8 +28,9 @@ fn misfits(x: Extras) -> bool
 {
     let mut i = 0;
     while i < x.count {
-        let e = x.layers[i];
-        if !fits(e) {
+        let share = x.shares[i];
+        let worth = x.worths[i];
+        if !fits(share, worth) {
             return true;
         }
         i += 1;

@@ -1,9 +1,11 @@
 // The best of the sets looked at.
-ghost use Prim.Native.Nat.{_+_, _≤_};
+ghost use mathlib.Core.Path.{_≡_};
+ghost use Prim.Native.Nat.{_≤_};
 ghost use Rattle.extras.specs.Best as sought;
 ghost use Rattle.extras.specs.Reading.{extrasFor, Inside};
+ghost use Rattle.extras.specs.Search.{betterOf};
 use crate::Extras;
-use crate::sets::totals;
+use crate::sets::sum_over;
 
 // A set and its worth.
 pub(crate) struct Best {
@@ -11,22 +13,17 @@ pub(crate) struct Best {
     pub worth: usize,
 }
 
-// The best of the sets below a mask, and of that one.
-fn better(x: Extras, mask: usize, best: Best) -> Best
-    requires { ⌜ Inside x × sought.Best (extrasFor x) mask (best .mask) (best .worth) ⌝ }
-    ensures { λ r. ⌜ sought.Best (extrasFor x) (mask + 1) (r .mask) (r .worth) ⌝ }
+// The best so far, or a set that is looked at after it, if that one fits and is worth more.
+fn better(best: Best, set: Best, share: usize, slots: usize) -> Best
+    ensures { λ r. ⌜ r ≡ betterOf best set share slots ⌝ }
 {
-    let set = totals(x, mask);
-    if x.slots < set.share {
+    if slots < share {
         return best;
     }
     if set.worth <= best.worth {
         return best;
     }
-    Best {
-        mask,
-        worth: set.worth,
-    }
+    set
 }
 
 // The best of the first sets.
@@ -37,7 +34,9 @@ pub(crate) fn best_of(x: Extras, looked: usize) -> Best
     let mut best = Best { mask: 0, worth: 0 };
     let mut mask = 1;
     while mask < looked {
-        best = better(x, mask, best);
+        let share = sum_over(&x.shares, x.count, mask);
+        let worth = sum_over(&x.worths, x.count, mask);
+        best = better(best, Best { mask, worth }, share, x.slots);
         mask += 1;
     }
     best

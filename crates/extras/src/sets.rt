@@ -3,15 +3,8 @@ ghost use mathlib.Core.Path.{_≡_};
 ghost use mathlib.Core.Bool.{cond};
 ghost use Prim.Native.Nat.{_≤_, _<_, _^_, min};
 ghost use Rattle.model.specs.Calls.{inMask};
-ghost use Rattle.extras.specs.Extras as model;
-ghost use Rattle.extras.specs.Reading.{extrasFor, Inside};
-use crate::Extras;
-
-// What a set takes of a frame, and what it is worth.
-pub(crate) struct Sums {
-    pub share: usize,
-    pub worth: usize,
-}
+ghost use Rattle.extras.specs.Search.{Amounts, sumIn};
+use crate::MOST;
 
 // The number of sets of n layers.
 pub(crate) fn set_count(n: usize) -> usize
@@ -44,18 +37,17 @@ fn added(mask: usize, i: usize, amount: usize) -> usize
     0
 }
 
-pub(crate) fn totals(x: Extras, mask: usize) -> Sums
-    requires { ⌜ Inside x ⌝ }
-    ensures { λ r. ⌜ (r .share ≡ model.shareOf (extrasFor x) mask) × (r .worth ≡ model.worthOf (extrasFor x) mask) ⌝ }
+// The sum of some amounts, one for each layer, over a set.
+pub(crate) fn sum_over(amounts: &[usize; MOST], count: usize, mask: usize) -> usize
+    requires { ⌜ Amounts (now amounts) count ⌝ }
+    ensures { λ r. ⌜ r ≡ sumIn (now (amounts .entry)) count mask ⌝ }
 {
-    let mut share = 0;
-    let mut worth = 0;
+    let mut sum = 0;
     let mut i = 0;
-    while i < x.count {
-        let e = x.layers[i];
-        share += added(mask, i, e.share);
-        worth += added(mask, i, e.worth);
+    while i < count {
+        let amount = amounts[i];
+        sum += added(mask, i, amount);
         i += 1;
     }
-    Sums { share, worth }
+    sum
 }

@@ -1,25 +1,28 @@
 -- The line that answers the word `extras`. Assumes nothing.
-use Prim.Native.Nat.{ℕ, _-_, _%_, _≤_, _<_}
+use Prim.Native.Nat.{ℕ, _+_, _*_, _-_, _%_, _≤_, _<_}
 use mathlib.Core.Path.{_≡_, sym, ap, _∙_}
 use mathlib.Core.List.{List}
 use native.Mathlib.Decide.{decLe}
 use native.Mathlib.Omega.{arith}
 use lib.ListN.{length, getD}
 use borrow.Author.Tests.{lt-ltb, le-ltb, eq-eqb, ne-eqb}
+use Rattle.model.specs.Tables.{table}
 use Rattle.model.proofs.Tables.{length-table, getD-table, table-same}
 use Rattle.extras.specs.declared.Extras as given
 use Rattle.extras.specs.Extras.{layerCount, choose}
-use Rattle.extras.specs.Reading.{extrasFor, layerFor, noLayer}
+use Rattle.extras.specs.Reading.{extrasFor, layerWith}
 use Rattle.extras.proofs.Promises.{many-refused}
 use Rattle.replies.specs.Lines.{cannot}
 use Rattle.extrawords.specs.ExtrasWord.{layersAsked, layerAsked, extrasAsked, chosenLine, answerToExtras}
-use Rattle.extrawords.specs.Asked.{layerAt, structAsked}
+use Rattle.extrawords.specs.Asked.{structAsked}
 
 -- up to twelve layers what the choice is given is what is asked
 few-asked : (numbers : List ℕ) → layersAsked numbers ≤ 12 → extrasFor (structAsked numbers) ≡ extrasAsked numbers
 unfolding structAsked
 few-asked numbers few =
-    let layers = table-same (layersAsked numbers) _ (layerAsked numbers) (λ i l. ap layerFor (getD-table 12 (layerAt numbers) i noLayer (omega arith))) in
+    let every : (from i : ℕ) → i < layersAsked numbers → getD (table 12 (λ j. getD numbers (from + 2 * j) 0)) i 0 ≡ getD numbers (from + 2 * i) 0
+    = λ from i l. getD-table 12 (λ j. getD numbers (from + 2 * j) 0) i 0 (omega arith) in
+    let layers = table-same (layersAsked numbers) _ (layerAsked numbers) (λ i l k. layerWith (every 2 i l k) (every 3 i l k)) in
     λ k. record { slots = getD numbers 0 0; budget = getD numbers 1 0; layers = layers k }
 
 -- and with more of them both are refused

@@ -3,18 +3,15 @@ use Prim.Native.Nat.{ℕ, _+_, _*_}
 use mathlib.Core.List.{List}
 use lib.ListN.{getD}
 use Rattle.model.specs.Tables.{table}
-use Rattle.extras.specs.declared.Layer as given
-use Rattle.extras.specs.declared.Extras as given-extras
+use Rattle.extras.specs.declared.Extras.{Extras}
 use Rattle.extrawords.specs.ExtrasWord.{layersAsked}
 
-abbrev pub layerAt : List ℕ → ℕ → given.Layer
-layerAt numbers i = record { share = getD numbers (2 + 2 * i) 0; worth = getD numbers (2 + 2 * i + 1) 0 }
-
 -- there are twelve places, whatever is asked for
-unfoldable pub structAsked : List ℕ → given-extras.Extras
+unfoldable pub structAsked : List ℕ → Extras
 structAsked numbers = record {
   slots = getD numbers 0 0;
   budget = getD numbers 1 0;
   count = layersAsked numbers;
-  layers = table 12 (layerAt numbers);
+  shares = table 12 (λ i. getD numbers (2 + 2 * i) 0);
+  worths = table 12 (λ i. getD numbers (3 + 2 * i) 0);
 }

@@ -16,7 +16,7 @@ layersAsked numbers = (length numbers - 2) / 2
 
 -- share and worth for each layer, after the slots and the budget
 abbrev pub layerAsked : List ℕ → ℕ → Layer
-layerAsked numbers i = record { share = getD numbers (2 + 2 * i) 0; worth = getD numbers (2 + 2 * i + 1) 0 }
+layerAsked numbers i = record { share = getD numbers (2 + 2 * i) 0; worth = getD numbers (3 + 2 * i) 0 }
 
 -- the slots left, the budget, and then the layers, any number of them
 abbrev pub extrasAsked : List ℕ → Extras

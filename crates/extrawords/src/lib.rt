@@ -8,11 +8,10 @@ ghost use Rattle.extras.specs.Reading.{answerFor};
 ghost use Rattle.calls.specs.Lines.{Puts};
 ghost use Rattle.replies.specs.Lines as said;
 ghost use Rattle.extrawords.specs.ExtrasWord as answers;
-ghost use Rattle.extrawords.specs.Asked.{layerAt, structAsked};
+ghost use Rattle.extrawords.specs.Asked.{structAsked};
 use extras::Choice;
 use extras::Chosen;
 use extras::Extras;
-use extras::Layer;
 use extras::MOST;
 
 // The number at a place, and 0 past the last.
@@ -25,33 +24,33 @@ fn number_at(numbers: &[usize], place: usize) -> usize
     0
 }
 
-// The layers at the twelve places; those that are not asked for are all zero.
-fn layers(numbers: &[usize]) -> [Layer; MOST]
-    ensures { λ r. ⌜ r ≡ table 12 (layerAt (now (numbers .entry))) ⌝ }
+// Every second number from a place on, twelve of them.
+fn every_second(numbers: &[usize], from: usize) -> [usize; MOST]
+    requires { ⌜ from < 4 ⌝ }
+    ensures { λ r. ⌜ r ≡ table 12 (λ i. getD (now (numbers .entry)) (from + 2 * i) 0) ⌝ }
 {
-    let none = Layer { share: 0, worth: 0 };
-    let mut all = [none; MOST];
+    let mut all = [0usize; MOST];
     let mut i = 0;
     while i < MOST {
-        let share = number_at(numbers, 2 + 2 * i);
-        let worth = number_at(numbers, 2 + 2 * i + 1);
-        all[i] = Layer { share, worth };
+        all[i] = number_at(numbers, from + 2 * i);
         i += 1;
     }
     all
 }
 
-// What the choice is given.
+// What the choice is given; layers that are not asked for are all zero.
 fn asked(numbers: &[usize]) -> Extras
     requires { ⌜ 2 ≤ length (now numbers) ⌝ }
     ensures { λ r. ⌜ r ≡ structAsked (now (numbers .entry)) ⌝ }
 {
-    let layers = layers(numbers);
+    let shares = every_second(numbers, 2);
+    let worths = every_second(numbers, 3);
     Extras {
         slots: numbers[0],
         budget: numbers[1],
         count: (numbers.len() - 2) / 2,
-        layers,
+        shares,
+        worths,
     }
 }
 

@@ -6,29 +6,42 @@ use Rattle.extrawords.specs.Asked.{structAsked}
 use Rattle.extrawords.proofs.asked.Statement.{statement}
 use Rattle.extrawords.proofs.asked.Tie as tie
 
-layers-requires : tie.Need-layers-requires
-layers-requires c κs = search needs
+every-second-requires : tie.Need-every-second-requires
+every-second-requires c κs = search needs
 
-shared-slice-read-t4 : tie.Need-shared-slice-read-t4
-shared-slice-read-t4 c = search needs
+every-second-requires-2 : tie.Need-every-second-requires-2
+every-second-requires-2 c κs = search needs
 
-shared-slice-read-t6 : tie.Need-shared-slice-read-t6
-shared-slice-read-t6 c = search needs
+shared-slice-read-t5 : tie.Need-shared-slice-read-t5
+shared-slice-read-t5 c = search needs
 
-sub-t8 : tie.Need-sub-t8
-sub-t8 c = search needs
+shared-slice-read-t7 : tie.Need-shared-slice-read-t7
+shared-slice-read-t7 c = search needs
+
+sub-t9 : tie.Need-sub-t9
+sub-t9 c = search needs
 
 returns : tie.Need-returns
 unfolding structAsked
 returns c =
-    let layers = c .before .before in
-    let numbers = layers .before .before .args .numbers .now in
+    let worths = c .before .before in
+    let shares = worths .before in
+    let numbers = shares .before .before .args .numbers .now in
     λ i. record {
       slots = getD numbers 0 0;
       budget = getD numbers 1 0;
       count = layersAsked numbers;
-      layers = layers .layers .ensures i;
+      shares = shares .every-second .ensures i;
+      worths = worths .every-second2 .ensures i;
     }
 
 pub asked-spec : {M : Type 1} → statement M
-asked-spec = tie.close (tie.spec layers-requires shared-slice-read-t4 shared-slice-read-t6 sub-t8 returns)
+asked-spec =
+    tie.close
+    (tie.spec
+    every-second-requires
+    every-second-requires-2
+    shared-slice-read-t5
+    shared-slice-read-t7
+    sub-t9
+    returns)

@@ -4,11 +4,10 @@ use mathlib.Core.Bool.{cond}
 use mathlib.Core.Path.{_≡_, ap, sym, _∙_}
 use native.Mathlib.Omega.{arith}
 use lib.Dec.{leb}
-use lib.ListN.{getD}
 use borrow.Author.Needs.{needs}
 use Rattle.extras.specs.declared.Extras.{Extras}
 use Rattle.extras.specs.Extras.{Layer, layerCount, layer}
-use Rattle.extras.specs.Reading.{extrasFor, layerFor, noLayer}
+use Rattle.extras.specs.Reading.{extrasFor, layerAt}
 use Rattle.extras.proofs.Layers.{LayerInside, count-is, layer-is, place-there, place-small, element-inside}
 use Rattle.extras.proofs.Summing.{Summed, none-added, one-added, all-added}
 use Rattle.extras.proofs.ceiling.singles.Statement.{statement}
@@ -40,34 +39,40 @@ module _ (c : tie.In-loop Inv-loop μ-loop) where
   small : place < 12
   small = place-small given (c .before .before .pre) place there
 
-  inside : LayerInside (layerFor (getD (given .layers) place noLayer))
+  inside : LayerInside (layerAt given place)
   inside = element-inside given (c .before .before .pre) place there
 
-  as-given : singly (given .slots) (layerFor (getD (given .layers) place noLayer)) ≡ single given place
+  as-given : singly (given .slots) (layerAt given place) ≡ single given place
   as-given = ap (singly (given .slots)) (sym (layer-is given place there))
 
 -- the sum after a layer
-more : (c : tie.After-added Inv-loop μ-loop) → let step = c .before .before in
+more : (c : tie.After-added Inv-loop μ-loop) → let step = c .before .before .before in
     Summed (single (given step)) 1000 (layerCount (extrasFor (given step))) (place step + 1) (step .before .loop .worth + c .added .result)
 more c =
-    let step = c .before .before in
+    let step = c .before .before .before in
     one-added (step .before .loop .inv) (place-there (given step) (step .before .before .pre) (place step) (there step)) (c .added .ensures .0 ∙ as-given step)
     (omega (arith, c .added .ensures .1, inside step .worth-most))
 
 loop-holds : tie.Need-loop-holds Inv-loop μ-loop
 loop-holds c = none-added _ _ _
 
-mul-e : tie.Need-mul-e Inv-loop μ-loop
-mul-e c = omega (arith, small c)
+mul-share : tie.Need-mul-share Inv-loop μ-loop
+mul-share c = omega (arith, small c)
 
-element-copy-out-e : tie.Need-element-copy-out-e Inv-loop μ-loop
-element-copy-out-e c = small c
+element-copy-out-share : tie.Need-element-copy-out-share Inv-loop μ-loop
+element-copy-out-share c = small c
+
+mul-single : tie.Need-mul-single Inv-loop μ-loop
+mul-single c = omega (arith, small (c .before))
+
+element-copy-out-single : tie.Need-element-copy-out-single Inv-loop μ-loop
+element-copy-out-single c = small (c .before)
 
 added-requires : tie.Need-added-requires Inv-loop μ-loop
 added-requires c κs = search needs
 
 add-worth : tie.Need-add-worth Inv-loop μ-loop
-add-worth c = let step = c .before .before in omega (arith, more c .bound, small step)
+add-worth c = let step = c .before .before .before in omega (arith, more c .bound, small step)
 
 add-i : tie.Need-add-i Inv-loop μ-loop
 add-i c = search needs
@@ -88,8 +93,10 @@ singles-spec =
     Inv-loop
     μ-loop
     loop-holds
-    mul-e
-    element-copy-out-e
+    mul-share
+    element-copy-out-share
+    mul-single
+    element-copy-out-single
     added-requires
     add-worth
     add-i

@@ -11,15 +11,14 @@ returns c = rw (lt-leb _ _ (c .if1 .taken))
 
 returns-2 : tie.Need-returns-2
 unfolding layerFits
-returns-2 c = let first = c .before .before in rw (le-leb _ _ (first .if1 .left), lt-leb _ _ (c .if2 .taken))
+returns-2 c = rw (le-leb _ _ (c .before .if1 .left), lt-leb _ _ (c .if2 .taken))
 
 returns-3 : tie.Need-returns-3
 unfolding layerFits
 returns-3 c =
-    let second = c .before in
-    let first = second .before .before in
-    let worth = first .before .before .args .e .worth in
-    rw (le-leb _ _ (first .if1 .left), le-leb _ _ (second .if2 .left), le-leb 0 worth (omega arith))
+    let first = c .before in
+    let worth = first .before .args .worth in
+    rw (le-leb _ _ (first .if1 .left), le-leb _ _ (c .if2 .left), le-leb 0 worth (omega arith))
 
 pub fits-spec : {M : Type 1} → statement M
 fits-spec = tie.close (tie.spec returns returns-2 returns-3)

@@ -3,12 +3,11 @@ use Prim.Native.Nat.{ℕ, _-_}
 use mathlib.Core.Path.{_≡_, ap, sym, _∙_}
 use mathlib.Core.Bool.{Bool, not}
 use native.Mathlib.Omega.{arith}
-use lib.ListN.{getD}
 use borrow.Author.Needs.{needs}
 use Rattle.limits.proofs.Tests.{None, none-yet, none-more, found-one, none-at-all, not-is}
 use Rattle.extras.specs.declared.Extras.{Extras}
 use Rattle.extras.specs.Extras.{layerFits, layer}
-use Rattle.extras.specs.Reading.{extrasFor, layerFor, noLayer}
+use Rattle.extras.specs.Reading.{extrasFor, layerAt}
 use Rattle.extras.proofs.Layers.{layer-is}
 use Rattle.extras.proofs.ranges.misfits.Statement.{statement}
 use Rattle.extras.proofs.ranges.misfits.Tie as tie
@@ -30,24 +29,31 @@ module _ (c : tie.In-loop Inv-loop μ-loop) where
   abbrev place : ℕ
   place = c .before .loop .i
 
-  as-given : layerFits (layerFor (getD (given .layers) place noLayer)) ≡ layerFits (layer (extrasFor given) place)
+  as-given : layerFits (layerAt given place) ≡ layerFits (layer (extrasFor given) place)
   as-given = ap layerFits (sym (layer-is given place (c .loop-test .taken)))
 
 loop-holds : tie.Need-loop-holds Inv-loop μ-loop
 loop-holds c = none-yet _ _
 
-mul-e : tie.Need-mul-e Inv-loop μ-loop
-mul-e c = search needs
+mul-share : tie.Need-mul-share Inv-loop μ-loop
+mul-share c = search needs
 
-element-copy-out-e : tie.Need-element-copy-out-e Inv-loop μ-loop
-element-copy-out-e c = omega arith
+element-copy-out-share : tie.Need-element-copy-out-share Inv-loop μ-loop
+element-copy-out-share c = omega arith
+
+mul-worth : tie.Need-mul-worth Inv-loop μ-loop
+mul-worth c = search needs
+
+element-copy-out-worth : tie.Need-element-copy-out-worth Inv-loop μ-loop
+element-copy-out-worth c = omega arith
 
 fits-requires : tie.Need-fits-requires Inv-loop μ-loop
 fits-requires c κs = search needs
 
 returns : tie.Need-returns Inv-loop μ-loop
 returns c =
-    let step = c .before .before .before in
+    let read = c .before .before in
+    let step = read .before .before in
     found-one (step .before .loop .inv) (step .loop-test .taken) (not-is (c .before .fits2 .ensures ∙ as-given step) (c .if1 .taken))
 
 add-i : tie.Need-add-i Inv-loop μ-loop
@@ -58,7 +64,8 @@ loop-less c = search needs
 
 loop-again : tie.Need-loop-again Inv-loop μ-loop
 loop-again c =
-    let step = c .before .before .before in
+    let read = c .before .before in
+    let step = read .before .before in
     none-more (step .before .loop .inv) (step .loop-test .taken) (not-is (c .before .fits2 .ensures ∙ as-given step) (c .if1 .left))
 
 returns-2 : tie.Need-returns-2 Inv-loop μ-loop
@@ -71,8 +78,10 @@ misfits-spec =
     Inv-loop
     μ-loop
     loop-holds
-    mul-e
-    element-copy-out-e
+    mul-share
+    element-copy-out-share
+    mul-worth
+    element-copy-out-worth
     fits-requires
     returns
     add-i
