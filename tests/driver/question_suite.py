@@ -12,6 +12,7 @@ REASON = re.compile(r"\? [ -~]{3,150}")         # short, and in plain letters
 # Each word, and what has to have come up for it: 0 is an answer.
 WAYS = {"plan": {0, 2, 3, 4, 5, 6, 7}, "room": {0, 2, 3, 4, 5, 6, 7, 19},
         "read": {0, 1, 2, 3, 4, 5, 6, 7}}
+WAYS["extras"] = {0, 27}
 
 
 def is_right(expected, answer):

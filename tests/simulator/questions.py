@@ -2,6 +2,7 @@
 
 import re
 
+from simulator.extras import Extras, Layer, choose
 from simulator.plan import read_plan
 from simulator.plan_writer import Asked, write_plan
 
@@ -56,7 +57,18 @@ def to_read(fields):
     return " ".join(["plan"] + [str(number) for number in numbers])
 
 
+def to_extras(fields):
+    """Slots and budget, and two numbers for each layer."""
+    numbers = numbers_of(fields)
+    if numbers is None or len(numbers) < 2 or len(numbers) % 2:
+        return NO_QUESTION
+    layers = [Layer(*numbers[i:i + 2]) for i in range(2, len(numbers), 2)]
+    refusal, chosen = choose(Extras(*numbers[:2], layers))
+    return refused(refusal) if refusal else "%d %d %d" % chosen
+
+
 WORDS = {b"plan": to_plan, b"room": to_room, b"read": to_read}
+WORDS[b"extras"] = to_extras
 
 
 def answer(line):
