@@ -15,6 +15,10 @@ use Rattle.extras.specs.Extras.{Extras, Chosen, layerCount, layer, share
 use Rattle.extras.specs.Extras.{bestWorth, bestMask, singlesWorth, ceilingOf, outside, choose}
 use Rattle.extras.specs.Extras as model
 use Rattle.extras.specs.Best.{Best}
+use Rattle.extras.specs.declared.Extras as code
+use Rattle.extras.specs.declared.Chosen as Answered
+use Rattle.extras.specs.declared.Choice.{Choice}
+use Rattle.extras.specs.Reading.{extrasFor, chosenFor, answerFor}
 use Rattle.extras.specs.Claim.{withBudget, NoWorse, Promised}
 use Rattle.extras.proofs.Summing.{term-most}
 use Rattle.extras.proofs.Layers.{Limits, limits}
@@ -150,6 +154,10 @@ unfolding choose
 promised x c a =
     let p = answered-is x c (outside x) refl a in
     rw (p .1) (of-best x (p .0))
+
+-- by the contract of `extras::choose`, the same of what the code answers
+pub answer-promised : (x : code.Extras) (c : Answered.Chosen) → answerFor (Choice.Best c) ≡ choose (extrasFor x) → Promised (extrasFor x) (chosenFor c)
+answer-promised x c e = promised (extrasFor x) (chosenFor c) (sym e)
 
 -- a refusal is 27, and stands for a number outside the limits
 pub refused-is : (x : Extras) (number : ℕ) → choose x ≡ refused number → (number ≡ 27) × (outside x ≡ true)

@@ -19,10 +19,10 @@ pub record NoWorse (x : Extras) (c : Chosen) : Type 0 where
 pub record Promised (x : Extras) (c : Chosen) : Type 0 where
   -- the best of the sets looked at, by worth and then by mask; it fits
   pub best : Best x (lookedAt x) (c .mask) (c .worth)
-  -- no fitting set at all passes the ceiling
+  -- of all sets none that fits is worth more than the ceiling
   pub ceiling-holds : (m : ℕ) → m < setCount x → fits x m ≡ true → worthOf x m ≤ c .ceiling
   pub worth-within : c .worth ≤ c .ceiling
-  -- with all sets looked at, no fitting set is worth more
+  -- and where all were looked at, none that fits is worth more than the answer
   pub complete : setCount x ≤ x .budget → (m : ℕ) → m < setCount x → fits x m ≡ true → worthOf x m ≤ c .worth
   -- a larger budget is answered too, and no worse
   pub larger-budget : (budget : ℕ) → x .budget ≤ budget → NoWorse (withBudget x budget) c

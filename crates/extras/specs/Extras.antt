@@ -37,7 +37,7 @@ layer x i = getD (x .layers) i noLayer
 abbrev pub sumOver : (t : ℕ → Bool) → (f : Layer → ℕ) → Extras → ℕ
 sumOver t f x = sum (layerCount x) (λ i. cond (t i) (f (layer x i)) 0)
 
--- Sets are numbered by their mask: layer i is in a set where bit i of its mask is 1. What a set takes of a frame, and what it is worth:
+-- The number of a set is its mask, and bit i stands for layer i. What a set takes of a frame, and what it is worth:
 unfoldable pub shareOf : Extras → (mask : ℕ) → ℕ
 shareOf x mask = sumOver (inMask mask) (λ e. e .share) x
 
@@ -82,11 +82,11 @@ maskFound none = 0
 abbrev pub bestMask : Extras → (k : ℕ) → ℕ
 bestMask x k = maskFound (lowestBest x k)
 
--- the sum of the worths of the layers that fit singly
+-- what the layers that fit on their own are worth together
 abbrev pub singlesWorth : Extras → ℕ
 singlesWorth x = sumOver (λ i. leb (layer x i .share) (x .slots)) (λ e. e .worth) x
 
--- the worth itself when all sets were looked at, else what the layers that fit singly are worth together
+-- where no set is left to look at, the worth that was found; otherwise what all layers that fit on their own are worth together
 abbrev pub ceilingOf : Extras → ℕ
 ceilingOf x = cond (allLookedAt x) (bestWorth x (lookedAt x)) (singlesWorth x)
 
@@ -105,7 +105,7 @@ best x = record { mask = bestMask x (lookedAt x); worth = bestWorth x (lookedAt 
 unfoldable pub layerFits : Layer → Bool
 layerFits e = within 1 64 (e .share) && within 0 1000 (e .worth)
 
--- a budget of 0, more than 12 layers, or a number outside its limits
+-- no set may be looked at, there are more than twelve layers, or the slots or a layer break their limits
 unfoldable pub outside : Extras → Bool
 outside x =
     eqb (x .budget) 0 || ltb 12 (layerCount x) || not (within 0 64 (x .slots)) || any (layerCount x) (λ i. not (layerFits (layer x i)))
