@@ -35,16 +35,16 @@ def proved(name):
     return ROOT / "target/bin" / name
 
 
-def prove():
-    """Proves and compiles the proved programs; stops where that fails."""
-    done = subprocess.run(["rt", "check", *PROVED], cwd=ROOT,
+def prove(*names):
+    """Proves and compiles proved programs; stops where that fails."""
+    done = subprocess.run(["rt", "check", *names], cwd=ROOT,
                           stdout=subprocess.PIPE, stderr=subprocess.STDOUT,
                           encoding="utf-8", errors="replace")
     if done.returncode != 0:
         for line in done.stdout.splitlines()[-LAST:]:
             print(line, file=sys.stderr)
         stop("rt check %s failed with status %d: nothing is measured"
-             % (" ".join(PROVED), done.returncode))
+             % (" ".join(names), done.returncode))
 
 
 def build(folder):
@@ -56,7 +56,7 @@ def build(folder):
                                        "-o", str(folder / name)])
         if done.returncode != 0:
             stop("rustc doesn't compile %s: nothing is measured" % source)
-    prove()
+    prove(*PROVED)
 
 
 def said(*words):

@@ -1,13 +1,13 @@
 -- The best of the sets 0 to k - 1: that there is one, that there is only one, and that it is the one defined. Assumes nothing.
 use Prim.Native.Nat.{ℕ, zero, suc, _+_, _^_, _≤_, _<_, max}
-use mathlib.Core.Path.{_≡_, refl, sym, ap, ap₂, _∙_}
+use mathlib.Core.Path.{_≡_, refl, sym, ap, _∙_}
 use mathlib.Core.Bool.{Bool, true, false, _&&_, cond}
 use mathlib.Core.Option.{Option, some, none}
 use native.Mathlib.Decide.{decLt, decLe}
 use native.Mathlib.Numerals.{add-one}
 use native.Mathlib.Nat.{zero-div}
 use native.Mathlib.Omega.{arith}
-use lib.Dec.{leb, eqb}
+use lib.Dec.{eqb}
 use borrow.Author.Tests.{le-leb, lt-leb, leb-true, lt-ltb, le-ltb, eq-eqb, eqb-true}
 use Rattle.model.specs.Tables.{sum, firstFrom}
 use Rattle.model.specs.Calls.{inMask, accepted}
@@ -98,22 +98,19 @@ pub record SomeBest (x : Extras) (k : ℕ) : Type 0 where
   pub worth : ℕ
   pub best : Best x k mask worth
 
-unlike : {t : Bool} → t ≡ false → t ≡ true → ⊥
-unlike f g = let z : _≡_ {A = ℕ} 0 1 = cc in omega arith
-
 some-next : (x : Extras) (k : ℕ) → SomeBest x k → SomeBest x (k + 1)
-some-next x k s = go (fits x k) refl (decLe (worthOf x k) (s .worth))
-  where
-    go : (t : Bool) → fits x k ≡ t → Dec (worthOf x k ≤ s .worth) → SomeBest x (k + 1)
-    go false f d = record { mask = s .mask; worth = s .worth; best = still-best (s .best) (λ g. absurd (unlike f g)) }
-    go true f (yes y) = record { mask = s .mask; worth = s .worth; best = still-best (s .best) (λ g. y) }
-    go true f (no n) = record { mask = k; worth = worthOf x k; best = new-best (s .best) f (omega arith) }
+some-next x k s =
+    let r = betterOf (record { mask = s .mask; worth = s .worth }) (record { mask = k; worth = worthOf x k }) (shareOf x k) (x .slots) in
+    record { mask = r .mask; worth = r .worth; best = next-best (s .best) refl refl }
 
 pub some-best : (x : Extras) (k : ℕ) → SomeBest x (suc k)
 some-best x zero = record { mask = 0; worth = 0; best = first-best x }
 some-best x (suc k) = rw (← add-one (suc k)) (some-next x (suc k) (some-best x k))
 
 -- ---- it is the one defined
+
+unlike : {t : Bool} → t ≡ false → t ≡ true → ⊥
+unlike f g = let z : _≡_ {A = ℕ} 0 1 = cc in omega arith
 
 -- the greatest of some numbers is at least each of them, and one of them, or 0
 greatest-least : (k : ℕ) (t : ℕ → Bool) (f : ℕ → ℕ) (w : ℕ) → ((m : ℕ) → m < k → t m ≡ true → f m ≤ w) → greatest k t f ≤ w

@@ -1,17 +1,16 @@
 -- What is promised of an answer holds of every answer. Document 02, N12. Assumes nothing.
-use Prim.Native.Nat.{ℕ, zero, suc, _+_, _≤_, _<_}
-use mathlib.Core.Path.{_≡_, refl, sym, ap, _∙_}
+use Prim.Native.Nat.{ℕ, zero, suc, _≤_, _<_}
+use mathlib.Core.Path.{_≡_, refl, sym, _∙_}
 use mathlib.Core.Bool.{Bool, true, false, cond}
 use native.Mathlib.Decide.{decLe}
 use native.Mathlib.Nat.{one-le-pow}
 use native.Mathlib.Omega.{arith}
 use lib.Dec.{leb, ltb, eqb}
 use borrow.Author.Tests.{leb-true, le-leb, lt-leb, eqb-false, ne-eqb, lt-ltb}
-use Rattle.model.specs.Tables.{sum}
-use Rattle.model.specs.Calls.{Answer, accepted, refused, inMask}
+use Rattle.model.specs.Calls.{accepted, refused, inMask}
 use Rattle.model.proofs.Tallies.{sum-le}
 use Rattle.model.proofs.Tests.{or-false, or-true}
-use Rattle.extras.specs.Extras.{Extras, Chosen, layerCount, layer, shareOf, worthOf, fits, setCount, lookedAt, allLookedAt}
+use Rattle.extras.specs.Extras.{Extras, Chosen, layerCount, layer, shareOf, worthOf, fits, setCount, lookedAt}
 use Rattle.extras.specs.Extras.{bestWorth, bestMask, singlesWorth, ceilingOf, outside, choose}
 use Rattle.extras.specs.Extras as model
 use Rattle.extras.specs.Best.{Best}
@@ -19,10 +18,10 @@ use Rattle.extras.specs.declared.Extras as code
 use Rattle.extras.specs.declared.Chosen as Answered
 use Rattle.extras.specs.declared.Choice.{Choice}
 use Rattle.extras.specs.Reading.{extrasFor, chosenFor, answerFor}
-use Rattle.extras.specs.Claim.{withBudget, NoWorse, Promised}
+use Rattle.extras.specs.Claim.{withBudget, Promised}
 use Rattle.extras.proofs.Summing.{term-most}
 use Rattle.extras.proofs.Layers.{Limits, limits}
-use Rattle.extras.proofs.BestSets.{SomeBest, some-best, worth-defined, mask-defined}
+use Rattle.extras.proofs.BestSets.{some-best, worth-defined, mask-defined}
 
 -- ---- a set that fits is worth at most the layers that fit singly
 

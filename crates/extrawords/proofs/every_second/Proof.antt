@@ -1,7 +1,6 @@
 -- `extrawords::every_second` meets its contract. The loop: the first i numbers are stored. Assumes nothing.
 use Prim.Native.Nat.{_+_, _*_, _-_}
 use mathlib.Core.Path.{refl}
-use native.Mathlib.Omega.{arith}
 use lib.ListN.{getD}
 use borrow.Author.Needs.{needs}
 use Rattle.extrawords.proofs.Filled.{FilledTo, none-filled, one-filled, all-filled}
