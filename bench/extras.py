@@ -5,6 +5,8 @@ Time is the processor's, whatever else the machine does meanwhile."""
 import os
 import random
 import subprocess
+import tempfile
+from pathlib import Path
 
 import programs
 
@@ -20,7 +22,7 @@ def question(dice, budget):
 
 def make(folder, budget):
     """A file of questions, the same layers for each budget."""
-    path = folder / ("extras-%d" % budget)
+    path = Path(folder) / ("extras-%d" % budget)
     dice = random.Random(12)
     path.write_text("".join(question(dice, budget)
                             for _ in range(QUESTIONS)))
@@ -39,11 +41,15 @@ def microseconds(path):
     return 1e6 * (usage.ru_utime + usage.ru_stime) / QUESTIONS
 
 
-def show(folder, rounds):
-    paths = [make(folder, budget) for budget in (SETS, 1)]
-    best = [float("inf")] * len(paths)
-    for _ in range(rounds):
-        best = [min(least, microseconds(path))
-                for least, path in zip(best, paths)]
+def show(rounds):
+    programs.prove("domeplan")
+    print(programs.commit(), programs.build_of("domeplan"),
+          programs.processors(), sep="\n", flush=True)
+    with tempfile.TemporaryDirectory() as folder:
+        paths = [make(folder, budget) for budget in (SETS, 1)]
+        best = [float("inf")] * len(paths)
+        for _ in range(rounds):
+            best = [min(least, microseconds(path))
+                    for least, path in zip(best, paths)]
     print("12 layers, all %d sets %6.1f microseconds a question, "
           "one set %.1f" % (SETS, *best))

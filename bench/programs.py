@@ -88,11 +88,14 @@ def processors():
         name, os.cpu_count() or "unknown")
 
 
+def commit():
+    return "commit " + said("git", "describe", "--always", "--dirty")
+
+
 def builds():
     """What is measured and where: the commit, the proved programs, the
     compiler and the processors."""
-    commit = said("git", "describe", "--always", "--dirty")
-    return ["commit " + commit, *map(build_of, PROVED),
+    return [commit(), *map(build_of, PROVED),
             said("rustc", "--version"), processors()]
 
 

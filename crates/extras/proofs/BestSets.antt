@@ -16,7 +16,7 @@ use Rattle.model.proofs.Tests.{and-true}
 use Rattle.extras.specs.Extras.{Extras, Layer, layerCount, layer, shareOf, worthOf, fits, greatest, bestWorth, lowestBest, bestMask, maskFound}
 use Rattle.extras.specs.Extras.{lookedAt, allLookedAt, singlesWorth, outside, choose}
 use Rattle.extras.specs.Best.{Best}
-use Rattle.extras.specs.declared.search.Best as Set
+use Rattle.extras.specs.declared.search.SetWorth.{SetWorth}
 use Rattle.extras.specs.Search.{betterOf}
 use Rattle.extras.proofs.Summing.{sum-zero}
 
@@ -76,11 +76,11 @@ module _ {x : Extras} {k mask worth : ℕ} (b : Best x k mask worth) where
       go m l g (yes y) = omega (arith, b .greatest m y g)
       go m l g (no n) = let z : m ≡ k = omega arith in omega (arith, ap (worthOf x) z)
 
-abbrev BestNow : Extras → ℕ → Set.Best → Type 0
+abbrev BestNow : Extras → ℕ → SetWorth → Type 0
 BestNow x k r = Best x (k + 1) (r .mask) (r .worth)
 
 -- the code's choice between the best so far and the next set
-pub next-best : {x : Extras} {k share worth : ℕ} {b : Set.Best} → Best x k (b .mask) (b .worth) → share ≡ shareOf x k → worth ≡ worthOf x k
+pub next-best : {x : Extras} {k share worth : ℕ} {b : SetWorth} → Best x k (b .mask) (b .worth) → share ≡ shareOf x k → worth ≡ worthOf x k
     → BestNow x k (betterOf b (record { mask = k; worth = worth }) share (x .slots))
 next-best {x} {k} {share} {worth} {b} h e f = go (decLt (x .slots) share) (decLe worth (b .worth))
   where

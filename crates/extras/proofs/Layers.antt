@@ -12,7 +12,7 @@ use Rattle.model.proofs.Tables.{length-table, getD-table}
 use Rattle.model.proofs.Tests.{or-false, and-true, in-range, within-true, any-none}
 use Rattle.extras.specs.declared.Extras.{Extras}
 use Rattle.extras.specs.Extras as model
-use Rattle.extras.specs.Extras.{shareOf, worthOf, layerFits, outside}
+use Rattle.extras.specs.Extras.{shareOf, worthOf, layerInside, outside}
 use Rattle.extras.specs.Reading.{extrasFor, layerAt, Inside}
 use Rattle.extras.specs.Search.{Amounts, sumIn}
 use Rattle.extras.proofs.Summing.{sum-same}
@@ -37,8 +37,8 @@ pub record Limits (x : model.Extras) : Type 0 where
   pub slots-most : x .slots ≤ 64
   pub layer-inside : (i : ℕ) → i < model.layerCount x → LayerInside (model.layer x i)
 
-layer-limits : (e : model.Layer) → not (layerFits e) ≡ false → LayerInside e
-unfolding layerFits
+layer-limits : (e : model.Layer) → not (layerInside e) ≡ false → LayerInside e
+unfolding layerInside
 layer-limits e h =
     let both = and-true _ _ (not-false _ h) in
     let share = within-true 1 64 (e .share) (both .0) in

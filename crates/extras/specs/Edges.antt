@@ -37,7 +37,7 @@ edges =
     -- a set that doesn't fit is looked at too and uses up the budget
     picks 1 2 (of 64 5 ∷ of 1 7 ∷ []) 0 0 7
     ∷ picks 1 3 (of 64 5 ∷ of 1 7 ∷ []) 2 7 7
-    -- one set short of all the ceiling is the sum of the layers that fit singly, though no set is worth more; on a tie the lowest mask
+    -- one set short of all the ceiling is the sum of the worths of the layers that fit singly, though no set is worth more; on a tie the lowest mask
     ∷ picks 1 3 (of 1 5 ∷ of 1 5 ∷ []) 1 5 10
     ∷ picks 1 4 (of 1 5 ∷ of 1 5 ∷ []) 1 5 5
     ∷ picks 1 1 (of 1 5 ∷ of 1 5 ∷ []) 0 0 10

@@ -82,11 +82,11 @@ maskFound none = 0
 abbrev pub bestMask : Extras → (k : ℕ) → ℕ
 bestMask x k = maskFound (lowestBest x k)
 
--- what the layers that fit on their own are worth together
+-- what the layers that fit singly are worth together
 abbrev pub singlesWorth : Extras → ℕ
 singlesWorth x = sumOver (λ i. leb (layer x i .share) (x .slots)) (λ e. e .worth) x
 
--- where no set is left to look at, the worth that was found; otherwise what all layers that fit on their own are worth together
+-- where no set is left to look at, the worth that was found; otherwise what all layers that fit singly are worth together
 abbrev pub ceilingOf : Extras → ℕ
 ceilingOf x = cond (allLookedAt x) (bestWorth x (lookedAt x)) (singlesWorth x)
 
@@ -102,13 +102,13 @@ best x = record { mask = bestMask x (lookedAt x); worth = bestWorth x (lookedAt 
 -- ---- the refusal
 
 -- a share of 1 to 64 and a worth of 0 to 1,000
-unfoldable pub layerFits : Layer → Bool
-layerFits e = within 1 64 (e .share) && within 0 1000 (e .worth)
+unfoldable pub layerInside : Layer → Bool
+layerInside e = within 1 64 (e .share) && within 0 1000 (e .worth)
 
 -- no set may be looked at, there are more than twelve layers, or the slots or a layer break their limits
 unfoldable pub outside : Extras → Bool
 outside x =
-    eqb (x .budget) 0 || ltb 12 (layerCount x) || not (within 0 64 (x .slots)) || any (layerCount x) (λ i. not (layerFits (layer x i)))
+    eqb (x .budget) 0 || ltb 12 (layerCount x) || not (within 0 64 (x .slots)) || any (layerCount x) (λ i. not (layerInside (layer x i)))
 
 unfoldable pub choose : Extras → Answer Chosen
 choose x = cond (outside x) (refused 27) (accepted (best x))

@@ -9,8 +9,8 @@ use crate::Extras;
 use crate::MOST;
 
 // Whether a layer keeps its limits.
-fn fits(share: usize, worth: usize) -> bool
-    ensures { λ r. ⌜ r ≡ model.layerFits (layerWith share worth) ⌝ }
+fn layer_inside(share: usize, worth: usize) -> bool
+    ensures { λ r. ⌜ r ≡ model.layerInside (layerWith share worth) ⌝ }
 {
     if share < 1 {
         return false;
@@ -22,15 +22,15 @@ fn fits(share: usize, worth: usize) -> bool
 }
 
 // Whether some layer breaks its limits.
-fn misfits(x: Extras) -> bool
+fn some_outside(x: Extras) -> bool
     requires { ⌜ x .count ≤ 12 ⌝ }
-    ensures { λ r. ⌜ r ≡ any (x .count) (λ i. not (model.layerFits (model.layer (extrasFor x) i))) ⌝ }
+    ensures { λ r. ⌜ r ≡ any (x .count) (λ i. not (model.layerInside (model.layer (extrasFor x) i))) ⌝ }
 {
     let mut i = 0;
     while i < x.count {
         let share = x.shares[i];
         let worth = x.worths[i];
-        if !fits(share, worth) {
+        if !layer_inside(share, worth) {
             return true;
         }
         i += 1;
@@ -51,5 +51,5 @@ pub(crate) fn outside(x: Extras) -> bool
     if 64 < x.slots {
         return true;
     }
-    misfits(x)
+    some_outside(x)
 }

@@ -1,2 +1,3 @@
 pub mod ExtrasWord
 pub mod Asked
+pub mod ChosenLineEdges

@@ -3,7 +3,7 @@ use Prim.Native.Nat.{_+_, _*_, _-_}
 use mathlib.Core.Path.{refl}
 use lib.ListN.{getD}
 use borrow.Author.Needs.{needs}
-use Rattle.extrawords.proofs.Filled.{FilledTo, none-filled, one-filled, all-filled}
+use Rattle.tokens.proofs.Filled.{FilledTo, none-filled, one-filled, all-filled}
 use Rattle.extrawords.proofs.every_second.Statement.{statement}
 use Rattle.extrawords.proofs.every_second.Tie as tie
 

@@ -52,15 +52,15 @@ returns-3 c =
     let slots = asked (before-2 second) .slots in
     rw (some-budget (before-2 second), few-layers second, le-leb 0 slots (omega arith), lt-leb slots 64 (c .if3 .taken))
 
-misfits-requires : tie.Need-misfits-requires
-misfits-requires c κs = search needs
+some-outside-requires : tie.Need-some-outside-requires
+some-outside-requires c κs = search needs
 
 returns-4 : tie.Need-returns-4
 unfolding outside
 returns-4 c =
     let third = c .before in
     let second = before-3 third in
-    rw (some-budget (before-2 second), few-layers second, few-slots third, count-is (asked (before-2 second))) (c .misfits .ensures)
+    rw (some-budget (before-2 second), few-layers second, few-slots third, count-is (asked (before-2 second))) (c .some-outside .ensures)
 
 pub outside-spec : {M : Type 1} → statement M
-outside-spec = tie.close (tie.spec returns returns-2 returns-3 misfits-requires returns-4)
+outside-spec = tie.close (tie.spec returns returns-2 returns-3 some-outside-requires returns-4)

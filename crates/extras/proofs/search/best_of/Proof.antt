@@ -3,9 +3,9 @@ use Prim.Native.Nat.{ℕ, _-_, _≤_}
 use mathlib.Core.Path.{_≡_, _∙_}
 use native.Mathlib.Omega.{arith}
 use borrow.Author.Needs.{needs}
-use Rattle.extras.specs.Best as sought
+use Rattle.extras.specs.Best.{Best}
 use Rattle.extras.specs.declared.Extras.{Extras}
-use Rattle.extras.specs.declared.search.Best.{Best}
+use Rattle.extras.specs.declared.search.SetWorth.{SetWorth}
 use Rattle.extras.specs.Extras.{shareOf, worthOf}
 use Rattle.extras.specs.Reading.{extrasFor, Inside}
 use Rattle.extras.proofs.Layers.{shares-small, worths-small, share-is, worth-is}
@@ -13,9 +13,9 @@ use Rattle.extras.proofs.BestSets.{first-best, next-best}
 use Rattle.extras.proofs.search.best_of.Statement.{statement}
 use Rattle.extras.proofs.search.best_of.Tie as tie
 
-pub record BestSoFar (x : Extras) (looked mask : ℕ) (best : Best) : Type 0 where
+pub record BestSoFar (x : Extras) (looked mask : ℕ) (best : SetWorth) : Type 0 where
   pub within : mask ≤ looked
-  pub best-below : sought.Best (extrasFor x) mask (best .mask) (best .worth)
+  pub best-below : Best (extrasFor x) mask (best .mask) (best .worth)
 
 abbrev Inv-loop : tie.InvT-loop
 Inv-loop looked x best₀ mask₀ best mask = BestSoFar x looked mask best

@@ -1,4 +1,4 @@
--- `extras::ranges::misfits` meets its contract. The loop: no layer before layer i breaks its limits. Assumes nothing.
+-- `extras::ranges::some_outside` meets its contract. The loop: no layer before layer i breaks its limits. Assumes nothing.
 use Prim.Native.Nat.{ℕ, _-_}
 use mathlib.Core.Path.{_≡_, ap, sym, _∙_}
 use mathlib.Core.Bool.{Bool, not}
@@ -6,17 +6,17 @@ use native.Mathlib.Omega.{arith}
 use borrow.Author.Needs.{needs}
 use Rattle.limits.proofs.Tests.{None, none-yet, none-more, found-one, none-at-all, not-is}
 use Rattle.extras.specs.declared.Extras.{Extras}
-use Rattle.extras.specs.Extras.{layerFits, layer}
+use Rattle.extras.specs.Extras.{layerInside, layer}
 use Rattle.extras.specs.Reading.{extrasFor, layerAt}
 use Rattle.extras.proofs.Layers.{layer-is}
-use Rattle.extras.proofs.ranges.misfits.Statement.{statement}
-use Rattle.extras.proofs.ranges.misfits.Tie as tie
+use Rattle.extras.proofs.ranges.some_outside.Statement.{statement}
+use Rattle.extras.proofs.ranges.some_outside.Tie as tie
 
-abbrev misfit : Extras → ℕ → Bool
-misfit x i = not (layerFits (layer (extrasFor x) i))
+abbrev outside-at : Extras → ℕ → Bool
+outside-at x i = not (layerInside (layer (extrasFor x) i))
 
 abbrev Inv-loop : tie.InvT-loop
-Inv-loop x i₀ i = None (misfit x) (x .count) i
+Inv-loop x i₀ i = None (outside-at x) (x .count) i
 
 abbrev μ-loop : tie.MeasureT-loop
 μ-loop x i₀ i = x .count - i
@@ -29,8 +29,8 @@ module _ (c : tie.In-loop Inv-loop μ-loop) where
   abbrev place : ℕ
   place = c .before .loop .i
 
-  as-given : layerFits (layerAt given place) ≡ layerFits (layer (extrasFor given) place)
-  as-given = ap layerFits (sym (layer-is given place (c .loop-test .taken)))
+  as-given : layerInside (layerAt given place) ≡ layerInside (layer (extrasFor given) place)
+  as-given = ap layerInside (sym (layer-is given place (c .loop-test .taken)))
 
 loop-holds : tie.Need-loop-holds Inv-loop μ-loop
 loop-holds c = none-yet _ _
@@ -47,14 +47,14 @@ mul-worth c = search needs
 element-copy-out-worth : tie.Need-element-copy-out-worth Inv-loop μ-loop
 element-copy-out-worth c = omega arith
 
-fits-requires : tie.Need-fits-requires Inv-loop μ-loop
-fits-requires c κs = search needs
+layer-inside-requires : tie.Need-layer-inside-requires Inv-loop μ-loop
+layer-inside-requires c κs = search needs
 
 returns : tie.Need-returns Inv-loop μ-loop
 returns c =
     let read = c .before .before in
     let step = read .before .before in
-    found-one (step .before .loop .inv) (step .loop-test .taken) (not-is (c .before .fits2 .ensures ∙ as-given step) (c .if1 .taken))
+    found-one (step .before .loop .inv) (step .loop-test .taken) (not-is (c .before .layer-inside .ensures ∙ as-given step) (c .if1 .taken))
 
 add-i : tie.Need-add-i Inv-loop μ-loop
 add-i c = search needs
@@ -66,13 +66,13 @@ loop-again : tie.Need-loop-again Inv-loop μ-loop
 loop-again c =
     let read = c .before .before in
     let step = read .before .before in
-    none-more (step .before .loop .inv) (step .loop-test .taken) (not-is (c .before .fits2 .ensures ∙ as-given step) (c .if1 .left))
+    none-more (step .before .loop .inv) (step .loop-test .taken) (not-is (c .before .layer-inside .ensures ∙ as-given step) (c .if1 .left))
 
 returns-2 : tie.Need-returns-2 Inv-loop μ-loop
 returns-2 c = none-at-all (c .before .loop .inv) (c .loop-test .left)
 
-pub misfits-spec : {M : Type 1} → statement M
-misfits-spec =
+pub some-outside-spec : {M : Type 1} → statement M
+some-outside-spec =
     tie.close
     (tie.spec
     Inv-loop
@@ -82,7 +82,7 @@ misfits-spec =
     element-copy-out-share
     mul-worth
     element-copy-out-worth
-    fits-requires
+    layer-inside-requires
     returns
     add-i
     loop-less
