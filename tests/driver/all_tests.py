@@ -25,7 +25,7 @@ from images import self_tests
 FRONT_DOOR = (play_files, play_lost_output, plan_files, plan_read,
               plan_wrong_words, plan_lost_output, old_program, slow_reader,
               asking_editor, wrong_arguments)
-REFUSALS = range(1, 27)         # those of all programs
+REFUSALS = range(1, 28)         # those of all programs
 
 
 def wanted(names, only):

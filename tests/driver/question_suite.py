@@ -13,7 +13,7 @@ REASON = re.compile(r"\? [ -~]{3,150}")         # short, and in plain letters
 WAYS = {"plan": {0, 2, 3, 4, 5, 6, 7}, "room": {0, 2, 3, 4, 5, 6, 7, 19},
         "read": {0, 1, 2, 3, 4, 5, 6, 7},
         "mesh": {0, 3, 4, 25}, "mesh-over": {0, 3, 4, 25},
-        "count": {0, 26}}
+        "count": {0, 26}, "extras": {0, 27}}
 
 
 def is_right(expected, answer):

@@ -7,7 +7,8 @@ of the bytes and by `plan` of their numbers.
 
 import struct
 
-from edges import count_questions, mesh_questions, plan_limits
+from edges import (
+    count_questions, extras_questions, mesh_questions, plan_limits)
 from edges.edge_maker import BASE
 
 NO_QUESTION = "?"               # stands for this and any reason
@@ -247,10 +248,11 @@ EDGES = [
                         ("mesh", mesh_questions.MESHES),
                         ("mesh-over", mesh_questions.OVERS),
                         ("count", count_questions.COUNTS),
+                        ("extras", extras_questions.EXTRAS),
                         ("long", LENGTHS))
     for name, line, answer in table]
 EDGES += [Question("no question: " + name, line, NO_QUESTION)
           for name, line in FAULTS + mesh_questions.FAULTS
-          + count_questions.FAULTS]
+          + count_questions.FAULTS + extras_questions.FAULTS]
 EDGES += [to_read(*row) for row in read_edges()]
 EDGES += [to_plan(*row) for row in written_edges()]

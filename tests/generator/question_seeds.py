@@ -1,7 +1,8 @@
 """A seed to the lines of its file for domeplan, and to their kind."""
 
 from generator import (
-    asked_plans, counted_frames, mesh_streams, odd_lines, plan_hex)
+    asked_extras, asked_plans, counted_frames, mesh_streams, odd_lines,
+    plan_hex)
 from generator.dice import Dice
 
 FEWEST, MOST = 10, 50           # lines of a file
@@ -50,7 +51,11 @@ def count(dice):
     return question(dice, b"count", counted_frames.numbers(dice))
 
 
-QUESTIONS = [plan, room, read, mesh, count]
+def extras(dice):
+    return question(dice, b"extras", asked_extras.numbers(dice))
+
+
+QUESTIONS = [plan, room, read, mesh, count, extras]
 
 
 def odd(dice):
@@ -62,7 +67,8 @@ def mixed(dice):
 
 
 KINDS = {"plans": plan, "too wide": wide_plan, "rooms": room, "reads": read,
-         "meshes": mesh, "counts": count, "odd lines": odd, "mixed": mixed}
+         "meshes": mesh, "counts": count, "extras": extras,
+         "odd lines": odd, "mixed": mixed}
 ORDER = tuple(KINDS)            # the kinds of seeds 0, 1, 2 and so on
 
 

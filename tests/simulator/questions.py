@@ -3,6 +3,7 @@
 import re
 
 from simulator import mesh, share_counts
+from simulator.extras import Extras, Layer, choose
 from simulator.plan import read_plan
 from simulator.plan_writer import Asked, write_plan
 
@@ -96,8 +97,19 @@ def to_count(fields):
     return refused(refusal) if refusal else "%d %d" % counts
 
 
+def to_extras(fields):
+    """Slots and budget, and two numbers for each layer."""
+    numbers = numbers_of(fields)
+    if numbers is None or len(numbers) < 2 or len(numbers) % 2:
+        return NO_QUESTION
+    layers = [Layer(*numbers[i:i + 2]) for i in range(2, len(numbers), 2)]
+    refusal, chosen = choose(Extras(*numbers[:2], layers))
+    return refused(refusal) if refusal else "%d %d %d" % chosen
+
+
 WORDS = {b"plan": to_plan, b"room": to_room, b"read": to_read,
-         b"mesh": to_mesh, b"mesh-over": to_mesh_over, b"count": to_count}
+         b"mesh": to_mesh, b"mesh-over": to_mesh_over, b"count": to_count,
+         b"extras": to_extras}
 
 
 def answer(line):

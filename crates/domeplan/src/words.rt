@@ -39,6 +39,9 @@ fn numbered(line: &[u8]) -> u8 {
     if asks(line, b"count") {
         return 3;
     }
+    if asks(line, b"extras") {
+        return 5;
+    }
     0
 }
 
@@ -58,6 +61,9 @@ fn answer_numbers(word: u8, numbers: &[usize], out: &mut [u8]) -> usize
     }
     if word == 3 {
         return sharewords::count(numbers, out);
+    }
+    if word == 5 {
+        return extrawords::extras(numbers, out);
     }
     planwords::room(numbers, out)
 }
@@ -97,7 +103,7 @@ pub(crate) fn answer(line: &[u8], out: &mut [u8]) -> usize
     let word = numbered(line);
     if word == 0 {
         return replies::say(
-            b"? the first word is none of plan, room, read, mesh, mesh-over and count\n",
+            b"? the first word is none of plan, room, read, mesh, mesh-over, count and extras\n",
             out,
         );
     }

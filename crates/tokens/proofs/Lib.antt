@@ -4,3 +4,4 @@ pub mod DigitValues
 pub mod FirstPiece
 pub mod NumbersRead
 pub mod BytesRead
+pub mod Filled

@@ -1,0 +1,5 @@
+pub mod Summing
+pub mod Layers
+pub mod BestSets
+pub mod Promises
+pub mod Edges

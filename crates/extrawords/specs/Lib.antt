@@ -1,0 +1,3 @@
+pub mod ExtrasWord
+pub mod Asked
+pub mod ChosenLineEdges
