@@ -1,0 +1,79 @@
+-- The tests of a stored programme are those of its entries. Assumes nothing.
+use Prim.Native.Nat.{ℕ, _≤_, _<_}
+use mathlib.Core.Path.{_≡_, refl, ap, _∙_}
+use mathlib.Core.List.{[], _∷_}
+use mathlib.Core.Bool.{Bool, true, false, not, _||_, cond}
+use native.Mathlib.Omega.{arith}
+use lib.ListN.{length}
+use lib.Dec.{ltb}
+use borrow.Author.Tests.{lt-ltb, le-ltb, not-false}
+use Rattle.model.specs.Tables.{any}
+use Rattle.model.specs.Refusals.{_when_, firstOf}
+use Rattle.model.proofs.Tables.{length-table, getD-table}
+use Rattle.model.proofs.Tests.{or-true, any-none, any-same}
+use Rattle.programme.specs.declared.Programme.{Programme}
+use Rattle.programme.specs.Week.{Entry, week, noEntry, entry, inWeek, shareMinute, someOutside, someShared, refusal}
+use Rattle.programme.specs.Reading.{stored, entriesOf, AllInWeek}
+use Rattle.programme.proofs.Entries.{in-week}
+
+module _ (p : Programme) where
+  -- ---- the outcomes of the tests
+
+  abbrev at : ℕ → Entry
+  at = stored (p .showings)
+
+  abbrev pub outside : Bool
+  outside = any (p .count) (λ i. not (inWeek (at i)))
+
+  abbrev pub clash : Bool
+  clash = any (p .count) (λ i. any i (λ j. shareMinute (at j) (at i)))
+
+  abbrev tested : (minute : ℕ) → ℕ
+  tested minute = firstOf (28 when (outside || ltb 64 (p .count) || not (ltb minute week)) ∷ 29 when clash ∷ [])
+
+  -- ---- they are those of the entries
+
+  count-is : length (entriesOf p) ≡ p .count
+  count-is = length-table (p .count) at
+
+  entry-is : (i : ℕ) → i < p .count → entry (entriesOf p) i ≡ at i
+  entry-is i h = getD-table (p .count) at i noEntry h
+
+  outside-is : someOutside (entriesOf p) ≡ outside
+  outside-is =
+      ap (λ n. any n (λ i. not (inWeek (entry (entriesOf p) i)))) count-is
+      ∙ any-same (p .count) _ _ (λ i h. ap (λ e. not (inWeek e)) (entry-is i h))
+
+  clash-is : someShared (entriesOf p) ≡ clash
+  clash-is =
+      ap (λ n. any n (λ i. any i (λ j. shareMinute (entry (entriesOf p) j) (entry (entriesOf p) i)))) count-is
+      ∙ any-same (p .count) _ _ (λ i h. any-same i _ _ (λ j k. λ t. shareMinute (entry-is j (omega arith) t) (entry-is i h t)))
+
+  tests-are : (minute : ℕ) → refusal (entriesOf p) minute ≡ tested minute
+  unfolding refusal
+  tests-are minute =
+      λ t. firstOf (28 when (outside-is t || ltb 64 (count-is t) || not (ltb minute week)) ∷ 29 when clash-is t ∷ [])
+
+  -- ---- the number, by the first test that applies
+
+  gives-28 : (minute : ℕ) → outside || ltb 64 (p .count) || not (ltb minute week) ≡ true → 28 ≡ refusal (entriesOf p) minute
+  unfolding firstOf
+  gives-28 minute e = rw (tests-are minute, e)
+
+  pub too-many : (minute : ℕ) → 64 < p .count → 28 ≡ refusal (entriesOf p) minute
+  too-many minute h = gives-28 minute (rw (or-true outside (ltb 64 (p .count)) (lt-ltb 64 (p .count) h)))
+
+  pub no-minute : (minute : ℕ) → week ≤ minute → 28 ≡ refusal (entriesOf p) minute
+  no-minute minute h = gives-28 minute (or-true (outside || ltb 64 (p .count)) (not (ltb minute week)) (ap not (le-ltb minute week h)))
+
+  pub entry-outside : (minute : ℕ) → outside ≡ true → 28 ≡ refusal (entriesOf p) minute
+  entry-outside minute e = gives-28 minute (rw e)
+
+  -- 29 or nothing, by the last test
+  pub passed-28 : (minute : ℕ) → p .count ≤ 64 → minute < week → outside ≡ false → (b : Bool) → clash ≡ b → cond b 29 0 ≡ refusal (entriesOf p) minute
+  unfolding firstOf
+  passed-28 minute few h e b q = rw (tests-are minute, e, le-ltb 64 (p .count) few, lt-ltb minute week h, q)
+
+  -- what is known once no entry lies outside
+  pub all-in-week : outside ≡ false → AllInWeek (p .showings) (p .count)
+  all-in-week e = record { each = λ i h. in-week (at i) (not-false _ (any-none (p .count) _ e i h)) }
