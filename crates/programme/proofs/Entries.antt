@@ -1,6 +1,6 @@
 -- An entry by itself: when it lies in the week, and when it runs. Assumes nothing.
 use Prim.Native.Nat.{ℕ, _≤_, _<_}
-use mathlib.Core.Path.{_≡_, sym}
+use mathlib.Core.Path.{_≡_, sym, _∙_}
 use mathlib.Core.Bool.{true, false, _&&_}
 use native.Mathlib.Decide.{decLe}
 use native.Mathlib.Omega.{arith}
@@ -37,6 +37,9 @@ in-week e p =
     let q = and-true _ _ p in
     let r = and-true _ _ (q .0) in
     record { before-end = ltb-true (e .start) (e .end) (r .0); to-the-end = within-true 0 week (e .end) (q .1) .1 }
+
+pub lies-in-week : (e : Entry) → InWeek e → inWeek e ≡ true
+lies-in-week e h = sym (in-by-end e (h .before-end)) ∙ le-leb (e .end) week (h .to-the-end)
 
 -- ---- running
 

@@ -1,21 +1,16 @@
 -- In a programme that passes at most one entry runs at any minute, so that the answer's plan is that of the only one. Assumes nothing.
-use Prim.Native.Nat.{ℕ, zero, suc, _≤_, _<_}
-use mathlib.Core.Path.{_≡_, refl, sym, ap, _∙_}
+use Prim.Native.Nat.{ℕ, suc, _≤_, _<_}
+use mathlib.Core.Path.{_≡_, refl, ap}
 use mathlib.Core.List.{List, _∷_, []}
 use mathlib.Core.Bool.{Bool, true, false, cond}
 use native.Mathlib.Decide.{decLt}
 use native.Mathlib.Omega.{arith}
 use lib.ListN.{length}
-use Rattle.model.specs.Calls.{accepted}
-use Rattle.programme.specs.Week.{Entry, week, entry, runs, shareMinute, refusal, Shown, plan, dark, running, shownBy, planAt, Passed}
+use Rattle.programme.specs.Week.{Entry, entry, runs, refusal, running, Passed}
+use Rattle.programme.specs.Meaning.{RunsAt, AllDark}
 use Rattle.programme.proofs.Entries.{runs-true}
 use Rattle.programme.proofs.SharedMinutes.{share-at}
-use Rattle.programme.proofs.Passed.{passed, passing-answer}
-
--- an entry that runs at a minute, by its place
-pub record RunsAt (entries : List Entry) (minute i : ℕ) : Type 0 where
-  pub below : i < length entries
-  pub runs-then : runs (entry entries i) minute ≡ true
+use Rattle.programme.proofs.Passed.{passed}
 
 -- ---- at most one
 
@@ -38,6 +33,38 @@ module _ (entries : List Entry) (asked : ℕ) (p : Passed entries asked) (minute
       go (no l) (yes m) = absurd (not-earlier i j now-i now-j m)
       go (no l) (no m) = omega arith
 
--- Whatever minute was asked for: at any minute at most one entry runs.
-pub one-at-most : (entries : List Entry) (asked : ℕ) → refusal entries asked ≡ 0 → (minute i j : ℕ) → RunsAt entries minute i → RunsAt entries minute j → i ≡ j
-one-at-most entries asked e minute i j = only-one entries asked (passed entries asked e) minute i j
+module _ (entries : List Entry) (asked : ℕ) (e : refusal entries asked ≡ 0) (minute : ℕ) where
+  -- Whatever minute was asked for: at any minute at most one entry runs.
+  pub one-at-most : (i j : ℕ) → RunsAt entries minute i → RunsAt entries minute j → i ≡ j
+  one-at-most = only-one entries asked (passed entries asked e) minute
+
+-- ---- the entries that run, as a list
+
+none-run : (entries : List Entry) (minute : ℕ) → AllDark entries minute → running entries minute ≡ []
+unfolding running
+none-run [] minute h = refl
+none-run (e ∷ rest) minute h = rw (h 0 (omega arith)) (none-run rest minute (λ i l. h (suc i) (omega arith)))
+
+pub one-running : (entries : List Entry) (minute : ℕ) → ((i j : ℕ) → RunsAt entries minute i → RunsAt entries minute j → i ≡ j) → length (running entries minute) ≤ 1
+unfolding running
+one-running [] minute h = omega arith
+one-running (e ∷ rest) minute h = go (one-running rest minute later) (runs e minute) refl
+  where
+    shift : (i : ℕ) → RunsAt rest minute i → RunsAt (e ∷ rest) minute (suc i)
+    shift i r = record { below = omega (arith, r .below); runs-then = r .runs-then }
+
+    later : (i j : ℕ) → RunsAt rest minute i → RunsAt rest minute j → i ≡ j
+    later i j r s = omega (arith, h (suc i) (suc j) (shift i r) (shift j s))
+
+    go : length (running rest minute) ≤ 1 → (b : Bool) → runs e minute ≡ b → length (cond b (e ∷ running rest minute) (running rest minute)) ≤ 1
+    go some false q = some
+    go some true q = omega (arith, ap length (none-run rest minute dark-after))
+      where
+        dark-after : AllDark rest minute
+        dark-after i l = none (runs (entry rest i) minute) refl
+          where
+            none : (b : Bool) → runs (entry rest i) minute ≡ b → b ≡ false
+            none false r = refl
+            none true r =
+                let z = h 0 (suc i) (record { below = omega arith; runs-then = q }) (shift i (record { below = l; runs-then = r })) in
+                absurd (omega arith)
