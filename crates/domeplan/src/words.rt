@@ -30,6 +30,9 @@ fn numbered(line: &[u8]) -> u8 {
     if asks(line, b"room") {
         return 2;
     }
+    if asks(line, b"programme") {
+        return 6;
+    }
     0
 }
 
@@ -40,6 +43,9 @@ fn answer_numbers(word: u8, numbers: &[usize], out: &mut [u8]) -> usize
 {
     if word == 1 {
         return planwords::plan(numbers, out);
+    }
+    if word == 6 {
+        return programmewords::programme(numbers, out);
     }
     planwords::room(numbers, out)
 }
@@ -78,7 +84,10 @@ pub(crate) fn answer(line: &[u8], out: &mut [u8]) -> usize
     }
     let word = numbered(line);
     if word == 0 {
-        return replies::say(b"? the first word is none of plan, room and read\n", out);
+        return replies::say(
+            b"? the first word is none of plan, room, read and programme\n",
+            out,
+        );
     }
     read_and_answer(word, line, out)
 }

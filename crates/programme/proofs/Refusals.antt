@@ -1,7 +1,7 @@
 -- The tests of a stored programme are those of its entries. Assumes nothing.
 use Prim.Native.Nat.{ℕ, _≤_, _<_}
 use mathlib.Core.Path.{_≡_, refl, ap, _∙_}
-use mathlib.Core.List.{[], _∷_}
+use mathlib.Core.List.{List, [], _∷_}
 use mathlib.Core.Bool.{Bool, true, false, not, _||_, cond}
 use native.Mathlib.Omega.{arith}
 use lib.ListN.{length}
@@ -9,10 +9,11 @@ use lib.Dec.{ltb}
 use borrow.Author.Tests.{lt-ltb, le-ltb, not-false}
 use Rattle.model.specs.Tables.{any}
 use Rattle.model.specs.Refusals.{_when_, firstOf}
+use Rattle.model.specs.Calls.{refused}
 use Rattle.model.proofs.Tables.{length-table, getD-table}
 use Rattle.model.proofs.Tests.{or-true, any-none, any-same}
 use Rattle.programme.specs.declared.Programme.{Programme}
-use Rattle.programme.specs.Week.{Entry, week, noEntry, entry, inWeek, shareMinute, someOutside, someShared, refusal}
+use Rattle.programme.specs.Week.{Entry, week, noEntry, entry, inWeek, shareMinute, someOutside, someShared, refusal, planAt}
 use Rattle.programme.specs.Reading.{stored, entriesOf, AllInWeek}
 use Rattle.programme.proofs.Entries.{in-week}
 
@@ -77,3 +78,8 @@ module _ (p : Programme) where
   -- what is known once no entry lies outside
   pub all-in-week : outside ≡ false → AllInWeek (p .showings) (p .count)
   all-in-week e = record { each = λ i h. in-week (at i) (not-false _ (any-none (p .count) _ e i h)) }
+
+-- more than 64 entries, stored or not
+pub many-refused : (entries : List Entry) (minute : ℕ) → 64 < length entries → planAt entries minute ≡ refused 28
+unfolding planAt refusal firstOf
+many-refused entries minute h = rw (or-true (someOutside entries) (ltb 64 (length entries)) (lt-ltb 64 (length entries) h))

@@ -1,0 +1,2 @@
+pub mod Programmes
+pub mod Asked
