@@ -7,7 +7,7 @@ of the bytes and by `plan` of their numbers.
 
 import struct
 
-from edges import plan_limits
+from edges import plan_limits, programme_questions
 from edges.edge_maker import BASE
 
 NO_QUESTION = "?"               # stands for this and any reason
@@ -250,3 +250,7 @@ EDGES += [Question("no question: " + name, line, NO_QUESTION)
           for name, line in FAULTS]
 EDGES += [to_read(*row) for row in read_edges()]
 EDGES += [to_plan(*row) for row in written_edges()]
+EDGES += [Question("programme: " + name, line, answer)
+          for name, line, answer in programme_questions.ROWS]
+EDGES += [Question("no question: programme, " + name, line, NO_QUESTION)
+          for name, line in programme_questions.FAULTS]

@@ -1,7 +1,8 @@
 """Lines of domeplan that are no question, or are one by a hair."""
 
 WORDS = (b"", b"plan", b"room", b"read", b"PLAN", b"Read", b"rooms", b"p",
-         b"write", b"plan\t", b"\xef\xbb\xbfplan")
+         b"write", b"plan\t", b"\xef\xbb\xbfplan", b"programme", b"program",
+         b"programmes")
 FIELDS = (b"", b" ", b"+1", b"-1", b"1.5", b"0x1", b"1e3", b"one", b"1,000",
           b"1000000000", b"0000000000", b"18446744073709551617", b"9" * 40,
           b"\t1", b"1\r", b"\x00", b"\xb2", b"/", b":", b"000000001",

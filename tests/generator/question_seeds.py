@@ -1,6 +1,6 @@
 """A seed to the lines of its file for domeplan, and to their kind."""
 
-from generator import asked_plans, odd_lines, plan_hex
+from generator import asked_plans, asked_programmes, odd_lines, plan_hex
 from generator.dice import Dice
 
 FEWEST, MOST = 10, 50           # lines of a file
@@ -40,16 +40,21 @@ def read(dice):
     return ("read " + plan_hex.digits(dice, data)).encode()
 
 
+def programme(dice):
+    return question(dice, b"programme", asked_programmes.numbers(dice))
+
+
 def odd(dice):
-    return odd_lines.odd(dice, dice.pick([plan, room, read])(dice))
+    return odd_lines.odd(dice, dice.pick(
+        [plan, room, read, programme])(dice))
 
 
 def mixed(dice):
-    return dice.pick([plan, wide_plan, room, read, odd])(dice)
+    return dice.pick([plan, wide_plan, room, read, programme, odd])(dice)
 
 
 KINDS = {"plans": plan, "too wide": wide_plan, "rooms": room, "reads": read,
-         "odd lines": odd, "mixed": mixed}
+         "programmes": programme, "odd lines": odd, "mixed": mixed}
 ORDER = tuple(KINDS)            # the kinds of seeds 0, 1, 2 and so on
 
 

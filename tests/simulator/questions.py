@@ -4,12 +4,14 @@ import re
 
 from simulator.plan import read_plan
 from simulator.plan_writer import Asked, write_plan
+from simulator.programme import DARK, plan_at
 
 NO_QUESTION = "?"               # stands for this and any reason
 LONGEST = 4000                  # bytes of a line
 NUMBER = re.compile(rb"[0-9]{1,9}")
 BYTES = re.compile(rb"(?:[0-9A-Fa-f]{2})*")
 ROOMY = 4096                    # a buffer that holds any plan
+LAST_PLAN = 2 ** 16 - 1         # the largest number of a plan
 
 
 def numbers_of(fields):
@@ -56,7 +58,22 @@ def to_read(fields):
     return " ".join(["plan"] + [str(number) for number in numbers])
 
 
+def to_programme(fields):
+    """The minute, and three numbers for each entry."""
+    numbers = numbers_of(fields)
+    if not numbers or len(numbers) % 3 != 1:
+        return NO_QUESTION
+    entries = [numbers[i:i + 3] for i in range(1, len(numbers), 3)]
+    if any(plan > LAST_PLAN for _, _, plan in entries):
+        return NO_QUESTION
+    refusal, plan = plan_at(numbers[0], entries)
+    if refusal:
+        return refused(refusal)
+    return "dark" if plan is DARK else "plan %d" % plan
+
+
 WORDS = {b"plan": to_plan, b"room": to_room, b"read": to_read}
+WORDS[b"programme"] = to_programme
 
 
 def answer(line):
