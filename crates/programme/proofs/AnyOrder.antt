@@ -11,7 +11,7 @@ use Rattle.programme.specs.Week.{Entry, week, runs, inWeek, shareMinute,
 use Rattle.programme.proofs.EntryTests.{or-swap, or-cross, some, pairs, some-is, pairs-are, share-either-way}
 use Rattle.programme.proofs.OneAtMost.{one-at-most, one-running}
 
--- ---- in another order
+-- ---- in another order: `List·Permᴰ xs ys` is that ys has the entries of xs, each as often, in some order
 
 some-reordered : (f : Entry → Bool) {xs ys : List Entry} → List·Permᴰ xs ys → some f xs ≡ some f ys
 unfolding some

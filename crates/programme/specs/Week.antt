@@ -41,7 +41,7 @@ inWeek e = ltb (e .start) (e .end) && within 0 week (e .start) && within 0 week 
 unfoldable pub shareMinute : Entry → Entry → Bool
 shareMinute a b = any week (λ minute. runs a minute && runs b minute)
 
--- some entry does not lie in the week so
+-- some entry does not keep to that
 abbrev pub someOutside : List Entry → Bool
 someOutside entries = any (length entries) (λ i. not (inWeek (entry entries i)))
 
