@@ -1,5 +1,4 @@
 -- Every edge of the table comes out as expected. Assumes nothing.
-use Prim.Native.Nat.{ℕ}
 use mathlib.Core.Path.{_≡_, refl, ap₂, _∙_}
 use mathlib.Core.List.{List, _∷_, [], map}
 use Rattle.model.specs.Tables.{any}

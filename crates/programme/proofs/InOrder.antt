@@ -1,8 +1,8 @@
 -- Entries that follow one another in the week, touching or not, pass. Assumes nothing.
 use Prim.Native.Nat.{ℕ, zero, suc, _≤_, _<_}
-use mathlib.Core.Path.{_≡_, refl, sym, ap, _∙_}
+use mathlib.Core.Path.{_≡_, ap}
 use mathlib.Core.List.{List, _∷_, []}
-use mathlib.Core.Bool.{Bool, true, false, not, _||_}
+use mathlib.Core.Bool.{false, not}
 use native.Mathlib.Decide.{decLt}
 use native.Mathlib.Omega.{arith}
 use lib.ListN.{length}
@@ -10,7 +10,7 @@ use lib.Dec.{ltb}
 use borrow.Author.Tests.{lt-ltb, le-ltb}
 use Rattle.model.specs.Refusals.{firstOf}
 use Rattle.model.proofs.Tests.{and-false, any-of-none}
-use Rattle.programme.specs.Week.{Entry, week, entry, inWeek, shareMinute, someOutside, someShared, refusal, InWeek, Passed}
+use Rattle.programme.specs.Week.{Entry, week, entry, shareMinute, someOutside, someShared, refusal, InWeek, Passed}
 use Rattle.programme.specs.Meaning.{InOrder}
 use Rattle.programme.proofs.Entries.{lies-in-week}
 use Rattle.programme.proofs.SharedMinutes.{share-is}

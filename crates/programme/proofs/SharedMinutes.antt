@@ -1,6 +1,6 @@
 -- Two entries of the week share a minute exactly if each starts before the other ends. Assumes nothing.
 use Prim.Native.Nat.{ℕ, zero, suc, _≤_, _<_}
-use mathlib.Core.Path.{_≡_, refl, ap₂, _∙_}
+use mathlib.Core.Path.{_≡_, refl, ap₂}
 use mathlib.Core.Bool.{Bool, true, false, _&&_, _||_}
 use native.Mathlib.Decide.{decLe}
 use native.Mathlib.Omega.{arith}

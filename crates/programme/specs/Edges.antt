@@ -1,7 +1,7 @@
 -- Edge cases of a programme, one table. Document 02, N13. Assumes nothing.
 --
 -- What each comes to is worked out from the request.
-use Prim.Native.Nat.{ℕ, suc, _+_, _*_}
+use Prim.Native.Nat.{ℕ, _+_, _*_}
 use mathlib.Core.Path.{_≡_}
 use mathlib.Core.List.{List, _∷_, [], map, _++_}
 use Rattle.model.specs.Tables.{table}

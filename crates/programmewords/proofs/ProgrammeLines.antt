@@ -1,5 +1,5 @@
 -- The lines of numbers that ask about a programme. Assumes nothing.
-use Prim.Native.Nat.{ℕ, _+_, _-_, _*_, _/_, _%_, _≤_, _<_}
+use Prim.Native.Nat.{ℕ, _+_, _-_, _*_, _%_, _≤_}
 use mathlib.Core.Path.{_≡_, refl, sym, ap, _∙_}
 use mathlib.Core.List.{List}
 use mathlib.Core.Bool.{true, false}
@@ -17,7 +17,7 @@ use Rattle.programme.specs.Week.{Shown, plan, dark, planAt}
 use Rattle.programme.specs.Reading.{noShowing, entryFor, entriesOf, runningFor}
 use Rattle.programme.proofs.Refusals.{many-refused}
 use Rattle.replies.specs.Lines.{cannot}
-use Rattle.programmewords.specs.Programmes.{minuteAsked, entriesAsked, entryAsked, programmeAsked, widePlan, shownLine, answerToProgramme}
+use Rattle.programmewords.specs.Programmes.{minuteAsked, entriesAsked, entryAsked, programmeAsked, shownLine, answerToProgramme}
 use Rattle.programmewords.specs.Asked.{WholeEntries, showingAt, storedAsked, runningLine}
 
 -- past the numbers there are only zeros

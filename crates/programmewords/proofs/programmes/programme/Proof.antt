@@ -1,5 +1,6 @@
 -- `programmewords::programmes::programme` meets its contract. Assumes nothing.
-use Prim.Native.Nat.{_-_, _/_}
+use Prim.Native.Nat.{ℕ, _-_, _/_}
+use mathlib.Core.List.{List}
 use mathlib.Core.Path.{sym, _∙_}
 use lib.ListN.{length}
 use native.Mathlib.Omega.{arith}
@@ -11,7 +12,10 @@ use Rattle.programmewords.proofs.programmes.programme.Statement.{statem
 use Rattle.programmewords.proofs.programmes.programme.Tie as tie
 
 -- where the numbers pass the tests of their count
-whole-entries : (c : tie.Else2) → let numbers = c .before .before .before .before .args .numbers .now in WholeEntries numbers ((length numbers - 1) / 3)
+abbrev asked : tie.Else2 → List ℕ
+asked c = c .before .before .before .before .args .numbers .now
+
+whole-entries : (c : tie.Else2) → WholeEntries (asked c) ((length (asked c) - 1) / 3)
 whole-entries c = record { many = omega (arith, c .before .if1 .left, c .if2 .left) }
 
 slice-aggregate-say : tie.Need-slice-aggregate-say

@@ -6,6 +6,16 @@ use borrow.Author.Needs.{needs}
 use Rattle.programmewords.proofs.programmes.say_plan.Statement.{statement}
 use Rattle.programmewords.proofs.programmes.say_plan.Tie as tie
 
+-- the places where the word and the number are put, and the start
+abbrev numbered : tie.After-put2 → tie.After-put-number
+numbered c = c .before .before .before .before .before
+
+abbrev worded : tie.After-put-number → tie.After-put
+worded c = c .before .before .before .before
+
+abbrev begun : tie.After-put → tie.Start
+begun c = c .before .before .before .before
+
 slice-aggregate-put : tie.Need-slice-aggregate-put
 slice-aggregate-put c = search needs
 
@@ -27,10 +37,10 @@ same-length c = search needs
 returns : tie.Need-returns
 returns c =
     let end = c .before .before in
-    let number = end .before .before .before .before .before in
-    let word = number .before .before .before .before in
+    let number = numbered end in
+    let word = worded number in
     let all = puts-then (puts-then (word .put .ensures) (number .put-number .ensures .0)) (end .put2 .ensures) in
-    says all (omega (arith, end .put2 .ensures .up-to, number .put-number .ensures .1, word .put .ensures .up-to, word .before .before .before .before .pre))
+    says all (omega (arith, end .put2 .ensures .up-to, number .put-number .ensures .1, word .put .ensures .up-to, begun word .pre))
 
 pub say-plan-spec : {M : Type 1} → statement M
 say-plan-spec =

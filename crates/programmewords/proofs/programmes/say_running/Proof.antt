@@ -31,19 +31,28 @@ same-length : tie.Need-same-length
 same-length c = search needs
 
 returns : tie.Need-returns
-returns c = says-same (ap runningLine (sym (c .before .before .before .before .before .answer .given .1))) (c .before .before .say-plan .ensures)
+returns c =
+    let said = c .before .before in
+    let told = said .before .before .before in
+    says-same (ap runningLine (sym (told .answer .given .1))) (said .say-plan .ensures)
 
 same-length-2 : tie.Need-same-length-2
 same-length-2 c = search needs
 
 returns-2 : tie.Need-returns-2
-returns-2 c = says-same (ap runningLine (sym (c .before .before .before .before .before .enum-told .given .1))) (c .before .before .say .ensures)
+returns-2 c =
+    let said = c .before .before in
+    let told = said .before .before .before in
+    says-same (ap runningLine (sym (told .enum-told .given .1))) (said .say .ensures)
 
 same-length-3 : tie.Need-same-length-3
 same-length-3 c = search needs
 
 returns-3 : tie.Need-returns-3
-returns-3 c = says-same (ap runningLine (sym (c .before .before .before .before .before .answer2 .given .1))) (c .before .before .say-refusal .ensures)
+returns-3 c =
+    let said = c .before .before in
+    let told = said .before .before .before in
+    says-same (ap runningLine (sym (told .answer2 .given .1))) (said .say-refusal .ensures)
 
 pub say-running-spec : {M : Type 1} → statement M
 say-running-spec =
