@@ -11,7 +11,7 @@ RANDOM = 40                     # programmes by chance
 
 # Numbers beside the lines that they are printed as.
 PRINTED = [
-    # The issue's own line.
+    # The line of the help page.
     ("1200 1275 7", ["mon 00:00 - mon 20:00 dark",
                      "mon 20:00 - mon 21:15 plan 7",
                      "mon 21:15 - sun 24:00 dark"]),
