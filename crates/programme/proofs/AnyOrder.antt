@@ -7,7 +7,7 @@ use native.Mathlib.Omega.{arith}
 use lib.ListN.{length}
 use lib.Dec.{ltb}
 use Rattle.model.specs.Refusals.{firstOf, _when_}
-use Rattle.programme.specs.Week.{Entry, week, runs, inWeek, shareMinute, refusal, running, shownBy, answered, planAt}
+use Rattle.programme.specs.Week.{Entry, week, runs, keepsLimits, shareMinute, refusal, running, planOrDark, answered, planAt}
 use Rattle.programme.proofs.EntryTests.{or-swap, or-cross, some, pairs, some-is, pairs-are, share-either-way}
 use Rattle.programme.proofs.OneAtMost.{one-at-most, one-running}
 
@@ -43,10 +43,10 @@ length-reordered (List·Permᴰ·trans d₁ d₂) = length-reordered d₁ ∙ le
 pub refusal-in-any-order : {xs ys : List Entry} → List·Permᴰ xs ys → (minute : ℕ) → refusal xs minute ≡ refusal ys minute
 unfolding refusal
 refusal-in-any-order {xs} {ys} d minute =
-    let outside = some-is (λ e. not (inWeek e)) xs ∙ some-reordered (λ e. not (inWeek e)) d ∙ sym (some-is (λ e. not (inWeek e)) ys) in
+    let breaks = some-is (λ e. not (keepsLimits e)) xs ∙ some-reordered (λ e. not (keepsLimits e)) d ∙ sym (some-is (λ e. not (keepsLimits e)) ys) in
     let shared = pairs-are xs ∙ pairs-reordered d ∙ sym (pairs-are ys) in
     let many = length-reordered d in
-    λ t. firstOf (28 when (outside t || ltb 64 (many t) || not (ltb minute week)) ∷ 29 when shared t ∷ [])
+    λ t. firstOf (28 when (breaks t || ltb 64 (many t) || not (ltb minute week)) ∷ 29 when shared t ∷ [])
 
 -- Where at most one entry runs, the same one does.
 running-swapped : (a b : Entry) (rest : List Entry) (minute : ℕ) → length (running (a ∷ b ∷ rest) minute) ≤ 1 → running (a ∷ b ∷ rest) minute ≡ running (b ∷ a ∷ rest) minute
@@ -83,8 +83,8 @@ running-reordered (List·Permᴰ·trans d₁ d₂) minute h =
 -- Whatever order the entries come in, the answer is the same, refusals included.
 pub any-order : {xs ys : List Entry} → List·Permᴰ xs ys → (minute : ℕ) → planAt xs minute ≡ planAt ys minute
 unfolding planAt
-any-order {xs} {ys} d minute = go (refusal xs minute) refl ∙ ap (λ r. answered r (shownBy (running ys minute))) (refusal-in-any-order d minute)
+any-order {xs} {ys} d minute = go (refusal xs minute) refl ∙ ap (λ r. answered r (planOrDark (running ys minute))) (refusal-in-any-order d minute)
   where
-    go : (r : ℕ) → refusal xs minute ≡ r → answered r (shownBy (running xs minute)) ≡ answered r (shownBy (running ys minute))
-    go zero e = ap (λ l. answered 0 (shownBy l)) (running-reordered d minute (one-running xs minute (one-at-most xs minute e minute)))
+    go : (r : ℕ) → refusal xs minute ≡ r → answered r (planOrDark (running xs minute)) ≡ answered r (planOrDark (running ys minute))
+    go zero e = ap (λ l. answered 0 (planOrDark l)) (running-reordered d minute (one-running xs minute (one-at-most xs minute e minute)))
     go (suc r) e = refl

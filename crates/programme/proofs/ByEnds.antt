@@ -11,40 +11,40 @@ use Rattle.model.specs.Tables.{any}
 use Rattle.model.specs.Refusals.{_when_, firstOf}
 use Rattle.model.specs.Calls.{Answer}
 use Rattle.model.proofs.Tests.{any-none, any-same}
-use Rattle.programme.specs.Week.{Entry, week, entry, someOutside, someShared, refusal, Shown, running, shownBy, answered, planAt, InWeek}
-use Rattle.programme.proofs.Entries.{in-week}
-use Rattle.programme.proofs.SharedMinutes.{overlap, share-is}
+use Rattle.programme.specs.Week.{Entry, week, entry, someBreaksLimits, someShared, refusal, AtMinute, running, planOrDark, answered, planAt, KeepsLimits}
+use Rattle.programme.proofs.OneEntry.{keeps-limits}
+use Rattle.programme.proofs.SharedMinutes.{sharedByEnds, share-is}
 
 -- some two entries of which each starts before the other ends
-abbrev pub someOverlap : List Entry → Bool
-someOverlap entries = any (length entries) (λ i. any i (λ j. overlap (entry entries j) (entry entries i)))
+abbrev pub someSharedByEnds : List Entry → Bool
+someSharedByEnds entries = any (length entries) (λ i. any i (λ j. sharedByEnds (entry entries j) (entry entries i)))
 
-pub shared-by-ends : (entries : List Entry) → someOutside entries ≡ false → someShared entries ≡ someOverlap entries
+pub shared-by-ends : (entries : List Entry) → someBreaksLimits entries ≡ false → someShared entries ≡ someSharedByEnds entries
 shared-by-ends entries e =
     any-same (length entries) _ _ (λ i h. any-same i _ _ (λ j l. share-is (entry entries j) (entry entries i) (inside j (omega arith)) (inside i h)))
   where
-    inside : (i : ℕ) → i < length entries → InWeek (entry entries i)
-    inside i h = in-week (entry entries i) (not-false _ (any-none (length entries) _ e i h))
+    inside : (i : ℕ) → i < length entries → KeepsLimits (entry entries i)
+    inside i h = keeps-limits (entry entries i) (not-false _ (any-none (length entries) _ e i h))
 
 -- the refusal by that test
 abbrev pub refusalByEnds : List Entry → ℕ → ℕ
 refusalByEnds entries minute = firstOf (
-    28 when (someOutside entries || ltb 64 (length entries) || not (ltb minute week))
-    ∷ 29 when someOverlap entries
+    28 when (someBreaksLimits entries || ltb 64 (length entries) || not (ltb minute week))
+    ∷ 29 when someSharedByEnds entries
     ∷ [])
 
 pub refused-by-ends : (entries : List Entry) (minute : ℕ) → refusal entries minute ≡ refusalByEnds entries minute
 unfolding refusal firstOf
-refused-by-ends entries minute = go (someOutside entries) refl
+refused-by-ends entries minute = go (someBreaksLimits entries) refl
   where
-    go : (b : Bool) → someOutside entries ≡ b → refusal entries minute ≡ refusalByEnds entries minute
+    go : (b : Bool) → someBreaksLimits entries ≡ b → refusal entries minute ≡ refusalByEnds entries minute
     go true e = rw e
     go false e = rw (shared-by-ends entries e)
 
 -- the answer by that test
-abbrev pub answerByEnds : List Entry → ℕ → Answer Shown
-answerByEnds entries minute = answered (refusalByEnds entries minute) (shownBy (running entries minute))
+abbrev pub answerByEnds : List Entry → ℕ → Answer AtMinute
+answerByEnds entries minute = answered (refusalByEnds entries minute) (planOrDark (running entries minute))
 
 pub answered-by-ends : (entries : List Entry) (minute : ℕ) → planAt entries minute ≡ answerByEnds entries minute
 unfolding planAt
-answered-by-ends entries minute = ap (λ r. answered r (shownBy (running entries minute))) (refused-by-ends entries minute)
+answered-by-ends entries minute = ap (λ r. answered r (planOrDark (running entries minute))) (refused-by-ends entries minute)

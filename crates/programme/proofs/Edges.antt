@@ -3,7 +3,7 @@ use mathlib.Core.Path.{_≡_, refl, ap₂, _∙_}
 use mathlib.Core.List.{List, _∷_, [], map}
 use Rattle.model.specs.Tables.{any}
 use Rattle.model.specs.Refusals.{firstOf}
-use Rattle.programme.specs.Week.{inWeek, running, planAt}
+use Rattle.programme.specs.Week.{keepsLimits, running, planAt}
 use Rattle.programme.specs.Edges.{Case, Hold, edges}
 use Rattle.programme.proofs.ByEnds.{answerByEnds, answered-by-ends}
 
@@ -12,5 +12,5 @@ by-ends [] = refl
 by-ends (c ∷ rest) = ap₂ _∷_ (answered-by-ends (c .entries) (c .minute)) (by-ends rest)
 
 pub edges-hold : Hold edges
-unfolding edges any firstOf inWeek running
+unfolding edges any firstOf keepsLimits running
 edges-hold = by-ends edges ∙ refl

@@ -4,17 +4,17 @@ use mathlib.Core.Path.{_≡_, refl}
 use mathlib.Core.Bool.{true, false}
 use native.Mathlib.Omega.{arith}
 use Rattle.model.specs.Tables.{table}
-use Rattle.programme.specs.Week.{Entry, runs, plan, dark, running, shownBy}
+use Rattle.programme.specs.Week.{Entry, runs, plan, dark, running, planOrDark}
 
-pub shown-plan : (n : ℕ) (f : ℕ → Entry) (minute i : ℕ) → i < n → runs (f i) minute ≡ true → ((k : ℕ) → k < i → runs (f k) minute ≡ false)
-    → shownBy (running (table n f) minute) ≡ plan (f i .plan)
+pub plan-of-first : (n : ℕ) (f : ℕ → Entry) (minute i : ℕ) → i < n → runs (f i) minute ≡ true → ((k : ℕ) → k < i → runs (f k) minute ≡ false)
+    → planOrDark (running (table n f) minute) ≡ plan (f i .plan)
 unfolding running
-shown-plan zero f minute i l e before = absurd (omega arith)
-shown-plan (suc n) f minute zero l e before = rw e
-shown-plan (suc n) f minute (suc i) l e before =
-    rw (before 0 (omega arith)) (shown-plan n (λ k. f (suc k)) minute i (omega arith) e (λ k h. before (suc k) (omega arith)))
+plan-of-first zero f minute i l e before = absurd (omega arith)
+plan-of-first (suc n) f minute zero l e before = rw e
+plan-of-first (suc n) f minute (suc i) l e before =
+    rw (before 0 (omega arith)) (plan-of-first n (λ k. f (suc k)) minute i (omega arith) e (λ k h. before (suc k) (omega arith)))
 
-pub shown-dark : (n : ℕ) (f : ℕ → Entry) (minute : ℕ) → ((k : ℕ) → k < n → runs (f k) minute ≡ false) → shownBy (running (table n f) minute) ≡ dark
+pub dark-of-none : (n : ℕ) (f : ℕ → Entry) (minute : ℕ) → ((k : ℕ) → k < n → runs (f k) minute ≡ false) → planOrDark (running (table n f) minute) ≡ dark
 unfolding running
-shown-dark zero f minute none = refl
-shown-dark (suc n) f minute none = rw (none 0 (omega arith)) (shown-dark n (λ k. f (suc k)) minute (λ k h. none (suc k) (omega arith)))
+dark-of-none zero f minute none = refl
+dark-of-none (suc n) f minute none = rw (none 0 (omega arith)) (dark-of-none n (λ k. f (suc k)) minute (λ k h. none (suc k) (omega arith)))

@@ -1,4 +1,4 @@
-pub mod Entries
+pub mod OneEntry
 pub mod SharedMinutes
 pub mod FirstRunning
 pub mod Refusals

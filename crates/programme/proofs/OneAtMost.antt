@@ -7,20 +7,20 @@ use native.Mathlib.Decide.{decLt}
 use native.Mathlib.Omega.{arith}
 use lib.ListN.{length}
 use Rattle.programme.specs.Week.{Entry, entry, runs, refusal, running, Passed}
-use Rattle.programme.specs.Meaning.{RunsAt, AllDark}
-use Rattle.programme.proofs.Entries.{runs-true}
+use Rattle.programme.specs.Meaning.{RunsAt, NoneRuns}
+use Rattle.programme.proofs.OneEntry.{runs-true}
 use Rattle.programme.proofs.SharedMinutes.{share-at}
 use Rattle.programme.proofs.Passed.{passed}
 
 -- ---- at most one
 
 module _ (entries : List Entry) (asked : ℕ) (p : Passed entries asked) (minute : ℕ) where
-  -- an earlier entry does not run when a later one does
-  not-earlier : (i j : ℕ) → RunsAt entries minute i → RunsAt entries minute j → j < i → ⊥
-  not-earlier i j now-i now-j l =
-      let in-i = p .in-week i (now-i .below) in
+  -- an entry at a lower place does not run when one at a higher place does
+  not-lower : (i j : ℕ) → RunsAt entries minute i → RunsAt entries minute j → j < i → ⊥
+  not-lower i j now-i now-j l =
+      let keeps-i = p .keeps-limits i (now-i .below) in
       let run-i = runs-true (entry entries i) minute (now-i .runs-then) in
-      let shared = share-at (entry entries j) (entry entries i) minute (omega (arith, run-i .1, in-i .to-the-end)) (now-j .runs-then) (now-i .runs-then) in
+      let shared = share-at (entry entries j) (entry entries i) minute (omega (arith, run-i .1, keeps-i .to-the-end)) (now-j .runs-then) (now-i .runs-then) in
       let none = p .apart i j (now-i .below) l in
       let z : _≡_ {A = ℕ} 0 1 = cc in
       omega arith
@@ -29,8 +29,8 @@ module _ (entries : List Entry) (asked : ℕ) (p : Passed entries asked) (minute
   only-one i j now-i now-j = go (decLt i j) (decLt j i)
     where
       go : Dec (i < j) → Dec (j < i) → i ≡ j
-      go (yes l) d = absurd (not-earlier j i now-j now-i l)
-      go (no l) (yes m) = absurd (not-earlier i j now-i now-j m)
+      go (yes l) d = absurd (not-lower j i now-j now-i l)
+      go (no l) (yes m) = absurd (not-lower i j now-i now-j m)
       go (no l) (no m) = omega arith
 
 module _ (entries : List Entry) (asked : ℕ) (e : refusal entries asked ≡ 0) (minute : ℕ) where
@@ -40,7 +40,7 @@ module _ (entries : List Entry) (asked : ℕ) (e : refusal entries asked ≡ 0) 
 
 -- ---- the entries that run, as a list
 
-none-run : (entries : List Entry) (minute : ℕ) → AllDark entries minute → running entries minute ≡ []
+none-run : (entries : List Entry) (minute : ℕ) → NoneRuns entries minute → running entries minute ≡ []
 unfolding running
 none-run [] minute h = refl
 none-run (e ∷ rest) minute h = rw (h 0 (omega arith)) (none-run rest minute (λ i l. h (suc i) (omega arith)))
@@ -58,10 +58,10 @@ one-running (e ∷ rest) minute h = go (one-running rest minute later) (runs e m
 
     go : length (running rest minute) ≤ 1 → (b : Bool) → runs e minute ≡ b → length (cond b (e ∷ running rest minute) (running rest minute)) ≤ 1
     go some false q = some
-    go some true q = omega (arith, ap length (none-run rest minute dark-after))
+    go some true q = omega (arith, ap length (none-run rest minute none-runs-after))
       where
-        dark-after : AllDark rest minute
-        dark-after i l = none (runs (entry rest i) minute) refl
+        none-runs-after : NoneRuns rest minute
+        none-runs-after i l = none (runs (entry rest i) minute) refl
           where
             none : (b : Bool) → runs (entry rest i) minute ≡ b → b ≡ false
             none false r = refl

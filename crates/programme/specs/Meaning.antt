@@ -4,7 +4,7 @@ use mathlib.Core.Path.{_≡_}
 use mathlib.Core.List.{List}
 use mathlib.Core.Bool.{true, false}
 use lib.ListN.{length}
-use Rattle.programme.specs.Week.{Entry, entry, runs, InWeek}
+use Rattle.programme.specs.Week.{Entry, entry, runs, KeepsLimits}
 
 -- the entry at a place runs at a minute
 pub record RunsAt (entries : List Entry) (minute i : ℕ) : Type 0 where
@@ -12,18 +12,18 @@ pub record RunsAt (entries : List Entry) (minute i : ℕ) : Type 0 where
   pub runs-then : runs (entry entries i) minute ≡ true
 
 -- an entry of this plan runs
-pub record Plays (entries : List Entry) (minute number : ℕ) : Type 0 where
+pub record PlanRuns (entries : List Entry) (minute number : ℕ) : Type 0 where
   pub place : ℕ
   pub there : RunsAt entries minute place
   pub of-plan : entry entries place .plan ≡ number
 
 -- no entry runs
-abbrev pub AllDark : List Entry → ℕ → Type 0
-AllDark entries minute = (i : ℕ) → i < length entries → runs (entry entries i) minute ≡ false
+abbrev pub NoneRuns : List Entry → ℕ → Type 0
+NoneRuns entries minute = (i : ℕ) → i < length entries → runs (entry entries i) minute ≡ false
 
--- ---- entries that follow one another: each starts where the one before it ends, or later
+-- ---- entries that follow one another: each starts at the minute at which the one at the place before it ends, or at a later one
 
 pub record InOrder (entries : List Entry) : Type 0 where
   pub few : length entries ≤ 64
-  pub in-week : (i : ℕ) → i < length entries → InWeek (entry entries i)
+  pub keeps-limits : (i : ℕ) → i < length entries → KeepsLimits (entry entries i)
   pub follows : (i : ℕ) → suc i < length entries → entry entries i .end ≤ entry entries (suc i) .start

@@ -33,17 +33,17 @@ runs e minute = leb (e .start) minute && ltb minute (e .end)
 
 -- ---- the refusals
 
--- the start is before the end, and both are minutes of the week, 0 to 10,080
-unfoldable pub inWeek : Entry → Bool
-inWeek e = ltb (e .start) (e .end) && within 0 week (e .start) && within 0 week (e .end)
+-- the start is before the end, and both are 0 to 10,080
+unfoldable pub keepsLimits : Entry → Bool
+keepsLimits e = ltb (e .start) (e .end) && within 0 week (e .start) && within 0 week (e .end)
+
+-- some entry doesn't start before it ends, or lies outside the week
+abbrev pub someBreaksLimits : List Entry → Bool
+someBreaksLimits entries = any (length entries) (λ i. not (keepsLimits (entry entries i)))
 
 -- two entries share a minute: at some minute of the week both run
 unfoldable pub shareMinute : Entry → Entry → Bool
 shareMinute a b = any week (λ minute. runs a minute && runs b minute)
-
--- some entry does not keep to that
-abbrev pub someOutside : List Entry → Bool
-someOutside entries = any (length entries) (λ i. not (inWeek (entry entries i)))
 
 -- some two entries share a minute
 abbrev pub someShared : List Entry → Bool
@@ -52,16 +52,16 @@ someShared entries = any (length entries) (λ i. any i (λ j. shareMinute (entry
 -- the refusal of a programme and a minute, and 0 where there is none: every reason for 28 is tested before 29
 unfoldable pub refusal : List Entry → ℕ → ℕ
 refusal entries minute = firstOf (
-    28 when (someOutside entries || ltb 64 (length entries) || not (ltb minute week))
+    28 when (someBreaksLimits entries || ltb 64 (length entries) || not (ltb minute week))
     ∷ 29 when someShared entries
     ∷ [])
 
 -- ---- the answer
 
--- what is on at a minute: a plan, or nothing, which is no plan's number
-pub data Shown : Type 0 where
-  plan : (number : ℕ) → Shown
-  dark : Shown
+-- what runs at a minute: a plan, or nothing, which is dark and no plan's number
+pub data AtMinute : Type 0 where
+  plan : (number : ℕ) → AtMinute
+  dark : AtMinute
 
 -- the entries that run at a minute
 unfoldable pub running : List Entry → ℕ → List Entry
@@ -69,26 +69,26 @@ running [] minute = []
 running (e ∷ rest) minute = cond (runs e minute) (e ∷ running rest minute) (running rest minute)
 
 -- the plan of the entry that runs, which is the only one (`one-at-most`), and dark where none does
-abbrev pub shownBy : List Entry → Shown
-shownBy [] = dark
-shownBy (e ∷ others) = plan (e .plan)
+abbrev pub planOrDark : List Entry → AtMinute
+planOrDark [] = dark
+planOrDark (e ∷ others) = plan (e .plan)
 
-abbrev pub answered : ℕ → Shown → Answer Shown
-answered zero shown = accepted shown
-answered (suc r) shown = refused (suc r)
+abbrev pub answered : ℕ → AtMinute → Answer AtMinute
+answered zero found = accepted found
+answered (suc r) found = refused (suc r)
 
 -- the answer for a minute
-unfoldable pub planAt : List Entry → ℕ → Answer Shown
-planAt entries minute = answered (refusal entries minute) (shownBy (running entries minute))
+unfoldable pub planAt : List Entry → ℕ → Answer AtMinute
+planAt entries minute = answered (refusal entries minute) (planOrDark (running entries minute))
 
 -- ---- what is known of a programme that passes, with the minute that was asked for
 
-pub record InWeek (e : Entry) : Type 0 where
+pub record KeepsLimits (e : Entry) : Type 0 where
   pub before-end : e .start < e .end
   pub to-the-end : e .end ≤ week
 
 pub record Passed (entries : List Entry) (minute : ℕ) : Type 0 where
   pub few : length entries ≤ 64
   pub minute-in : minute < week
-  pub in-week : (i : ℕ) → i < length entries → InWeek (entry entries i)
+  pub keeps-limits : (i : ℕ) → i < length entries → KeepsLimits (entry entries i)
   pub apart : (i j : ℕ) → i < length entries → j < i → shareMinute (entry entries j) (entry entries i) ≡ false

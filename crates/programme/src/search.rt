@@ -4,31 +4,31 @@ ghost use Prim.Native.Nat.{_≤_};
 ghost use Rattle.model.specs.Tables.{table};
 ghost use Rattle.model.specs.Calls.{accepted};
 ghost use Rattle.programme.specs.Week as week;
-ghost use Rattle.programme.specs.Reading.{entryFor, stored, runningFor};
-use crate::Running;
-use crate::Showing;
+ghost use Rattle.programme.specs.Reading.{entryFor, stored, answerFor};
+use crate::AtMinute;
+use crate::Entry;
 
-fn runs(s: Showing, minute: usize) -> bool
-    ensures { λ r. ⌜ r ≡ week.runs (entryFor s) minute ⌝ }
+fn runs(e: Entry, minute: usize) -> bool
+    ensures { λ r. ⌜ r ≡ week.runs (entryFor e) minute ⌝ }
 {
-    if minute < s.start {
+    if minute < e.start {
         return false;
     }
-    minute < s.end
+    minute < e.end
 }
 
-// What runs at a minute, by the first entry that does.
-pub(crate) fn running(showings: [Showing; 64], count: usize, minute: usize) -> Running
+// The plan of the first entry that runs at a minute, or dark.
+pub(crate) fn plan_or_dark(entries: [Entry; 64], count: usize, minute: usize) -> AtMinute
     requires { ⌜ count ≤ 64 ⌝ }
-    ensures { λ r. ⌜ r ≡ runningFor (accepted (week.shownBy (week.running (table count (stored showings)) minute))) ⌝ }
+    ensures { λ r. ⌜ r ≡ answerFor (accepted (week.planOrDark (week.running (table count (stored entries)) minute))) ⌝ }
 {
     let mut i = 0;
     while i < count {
-        let s = showings[i];
-        if runs(s, minute) {
-            return Running::Plan(s.plan);
+        let e = entries[i];
+        if runs(e, minute) {
+            return AtMinute::Plan(e.plan);
         }
         i += 1;
     }
-    Running::Dark
+    AtMinute::Dark
 }

@@ -11,30 +11,30 @@ use borrow.Author.Tests.{eq-eqb, ne-eqb}
 use Rattle.model.specs.Tables.{table, any}
 use Rattle.model.specs.Calls.{Answer, accepted, refused}
 use Rattle.model.proofs.Tables.{length-table, getD-table, table-same}
-use Rattle.programme.specs.declared.Showing.{Showing}
+use Rattle.programme.specs.declared.Entry.{Entry as CodeEntry}
 use Rattle.programme.specs.declared.Programme.{Programme}
-use Rattle.programme.specs.Week.{Shown, plan, dark, planAt}
-use Rattle.programme.specs.Reading.{noShowing, entryFor, entriesOf, runningFor}
+use Rattle.programme.specs.Week.{AtMinute, plan, dark, planAt}
+use Rattle.programme.specs.Reading.{emptyEntry, entryFor, entriesOf, answerFor}
 use Rattle.programme.proofs.Refusals.{many-refused}
 use Rattle.replies.specs.Lines.{cannot}
-use Rattle.programmewords.specs.Programmes.{minuteAsked, entriesAsked, entryAsked, programmeAsked, shownLine, answerToProgramme}
-use Rattle.programmewords.specs.Asked.{WholeEntries, showingAt, storedAsked, runningLine}
+use Rattle.programmewords.specs.Programmes.{minuteAsked, entriesAsked, entryAsked, programmeAsked, programmeLine, answerToProgramme}
+use Rattle.programmewords.specs.Asked.{WholeEntries, storedEntry, storedAsked, lineFor}
 
 -- past the numbers there are only zeros
-pub past : (numbers : List ℕ) (count k : ℕ) → WholeEntries numbers count → count ≤ k → showingAt numbers k ≡ noShowing
+pub past : (numbers : List ℕ) (count k : ℕ) → WholeEntries numbers count → count ≤ k → storedEntry numbers k ≡ emptyEntry
 past numbers count k w h =
     let zero-at : (j : ℕ) → 1 + 3 * k ≤ j → getD numbers j 0 ≡ 0 = λ j l. List·getD-eq-default numbers 0 {n = j} (omega (arith, w .many)) in
     λ t. record { start = zero-at (1 + 3 * k) (omega arith) t; end = zero-at (1 + 3 * k + 1) (omega arith) t; plan = zero-at (1 + 3 * k + 2) (omega arith) t }
 
-pub stored-is : (numbers : List ℕ) (count : ℕ) (showings : List Showing) → WholeEntries numbers count → showings ≡ table 64 (showingAt numbers)
-    → _≡_ {A = Programme} (record { count = count; showings = showings }) (storedAsked numbers)
+pub stored-is : (numbers : List ℕ) (count : ℕ) (entries : List CodeEntry) → WholeEntries numbers count → entries ≡ table 64 (storedEntry numbers)
+    → _≡_ {A = Programme} (record { count = count; entries = entries }) (storedAsked numbers)
 unfolding storedAsked
-stored-is numbers count showings w e =
+stored-is numbers count entries w e =
     let same : count ≡ entriesAsked numbers = omega (arith, w .many) in
-    λ t. record { count = same t; showings = e t }
+    λ t. record { count = same t; entries = e t }
 
 -- the line of an answer as it is stored is that of the answer
-stored-line : (a : Answer Shown) → runningLine (runningFor a) ≡ shownLine a
+stored-line : (a : Answer AtMinute) → lineFor (answerFor a) ≡ programmeLine a
 stored-line (accepted (plan number)) = refl
 stored-line (accepted dark) = refl
 stored-line (refused number) = refl
@@ -47,9 +47,9 @@ stored-answer numbers minute = go (decLe (entriesAsked numbers) 64)
     go : Dec (entriesAsked numbers ≤ 64) → planAt (entriesOf (storedAsked numbers)) minute ≡ planAt (programmeAsked numbers) minute
     go (yes few) =
         ap (λ es. planAt es minute) (table-same (entriesAsked numbers) _ (entryAsked numbers)
-        (λ i l. ap entryFor (getD-table 64 (showingAt numbers) i noShowing (omega arith))))
+        (λ i l. ap entryFor (getD-table 64 (storedEntry numbers) i emptyEntry (omega arith))))
     go (no many) =
-        many-refused (entriesOf (storedAsked numbers)) minute (omega (arith, length-table (entriesAsked numbers) (λ i. entryFor (getD (table 64 (showingAt numbers)) i noShowing))))
+        many-refused (entriesOf (storedAsked numbers)) minute (omega (arith, length-table (entriesAsked numbers) (λ i. entryFor (getD (table 64 (storedEntry numbers)) i emptyEntry))))
         ∙ sym (many-refused (programmeAsked numbers) minute (omega (arith, length-table (entriesAsked numbers) (entryAsked numbers))))
 
 module _ (numbers : List ℕ) where
@@ -72,8 +72,8 @@ module _ (numbers : List ℕ) where
 
     -- what runs, by the programme as it is stored
     pub narrow-line : any count (λ i. ltb 65535 (getD numbers (1 + 3 * i + 2) 0)) ≡ false
-        → runningLine (runningFor (planAt (entriesOf (storedAsked numbers)) (minuteAsked numbers))) ≡ answerToProgramme numbers
+        → lineFor (answerFor (planAt (entriesOf (storedAsked numbers)) (minuteAsked numbers))) ≡ answerToProgramme numbers
     unfolding answerToProgramme
     narrow-line e =
-        stored-line (planAt (entriesOf (storedAsked numbers)) (minuteAsked numbers)) ∙ ap shownLine (stored-answer numbers (minuteAsked numbers))
+        stored-line (planAt (entriesOf (storedAsked numbers)) (minuteAsked numbers)) ∙ ap programmeLine (stored-answer numbers (minuteAsked numbers))
         ∙ rw (ne-eqb (length numbers) 0 (whole .1), eq-eqb ((length numbers - 1) % 3) 0 (whole .2), ap (λ n. any n (λ i. ltb 65535 (getD numbers (1 + 3 * i + 2) 0))) (whole .0) ∙ e)

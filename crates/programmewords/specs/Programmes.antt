@@ -8,7 +8,7 @@ use Rattle.model.specs.Tables.{table, any}
 use Rattle.model.specs.Calls.{Answer, accepted, refused}
 use Rattle.model.specs.Listing.{text, refusalLine}
 use Rattle.replies.specs.Lines.{cannot, spaced}
-use Rattle.programme.specs.Week.{Entry, Shown, plan, dark, planAt}
+use Rattle.programme.specs.Week.{Entry, AtMinute, plan, dark, planAt}
 
 -- the minute that is asked about comes first
 abbrev pub minuteAsked : List ℕ → ℕ
@@ -29,14 +29,18 @@ abbrev pub widePlan : List ℕ → Bool
 widePlan numbers = any (entriesAsked numbers) (λ i. ltb 65535 (entryAsked numbers i .plan))
 
 -- `plan` and the number, `dark`, or `R` and the refusal
-abbrev pub shownLine : Answer Shown → List ℕ
-shownLine (accepted (plan number)) = text "plan" ++ spaced number ++ text "\n"
-shownLine (accepted dark) = text "dark\n"
-shownLine (refused number) = refusalLine number
+abbrev pub programmeLine : Answer AtMinute → List ℕ
+programmeLine (accepted (plan number)) = text "plan" ++ spaced number ++ text "\n"
+programmeLine (accepted dark) = text "dark\n"
+programmeLine (refused number) = refusalLine number
 
-unfoldable pub answerToProgramme : (numbers : List ℕ) → List ℕ
-answerToProgramme numbers =
+-- the line for some numbers by the answer for them: first come the reasons for which they ask about no programme
+abbrev pub lineOn : (numbers : List ℕ) → Answer AtMinute → List ℕ
+lineOn numbers answer =
     cond (eqb (length numbers) 0) (cannot "the minute is missing")
     (cond (not (eqb ((length numbers - 1) % 3) 0)) (cannot "each entry has a start, an end and a plan: the numbers after the minute are no multiple of three")
     (cond (widePlan numbers) (cannot "a plan's number is above 65,535")
-    (shownLine (planAt (programmeAsked numbers) (minuteAsked numbers)))))
+    (programmeLine answer)))
+
+unfoldable pub answerToProgramme : (numbers : List ℕ) → List ℕ
+answerToProgramme numbers = lineOn numbers (planAt (programmeAsked numbers) (minuteAsked numbers))

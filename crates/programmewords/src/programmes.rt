@@ -8,10 +8,10 @@ ghost use Rattle.model.specs.Tables.{table, any};
 ghost use Rattle.model.specs.Listing.{text};
 ghost use Rattle.replies.specs.Lines as said;
 ghost use Rattle.programmewords.specs.Programmes.{answerToProgramme};
-ghost use Rattle.programmewords.specs.Asked.{WholeEntries, NarrowPlans, showingAt, storedAsked, runningLine};
+ghost use Rattle.programmewords.specs.Asked.{WholeEntries, NarrowPlans, storedEntry, storedAsked, lineFor};
+use programme::AtMinute;
+use programme::Entry;
 use programme::Programme;
-use programme::Running;
-use programme::Showing;
 
 // The largest number of a plan.
 const WIDEST: usize = 65535;
@@ -31,13 +31,13 @@ fn any_wide(numbers: &[usize], count: usize) -> bool
     false
 }
 
-// Entry i.
-fn showing(numbers: &[usize], i: usize) -> Showing
+// The entry at place i.
+fn entry_at(numbers: &[usize], i: usize) -> Entry
     requires { ⌜ (3 * i + 4 ≤ length (now numbers)) × (getD (now numbers) (1 + 3 * i + 2) 0 ≤ 65535) ⌝ }
-    ensures { λ r. ⌜ r ≡ showingAt (now (numbers .entry)) i ⌝ }
+    ensures { λ r. ⌜ r ≡ storedEntry (now (numbers .entry)) i ⌝ }
 {
     let at = 1 + 3 * i;
-    Showing {
+    Entry {
         start: numbers[at],
         end: numbers[at + 1],
         plan: numbers[at + 2] as u16,
@@ -45,11 +45,11 @@ fn showing(numbers: &[usize], i: usize) -> Showing
 }
 
 // The first 64 entries; those that are not asked about are all zero.
-fn showings(numbers: &[usize], count: usize) -> [Showing; 64]
+fn entries(numbers: &[usize], count: usize) -> [Entry; 64]
     requires { ⌜ WholeEntries (now numbers) count × NarrowPlans (now numbers) count ⌝ }
-    ensures { λ r. ⌜ r ≡ table 64 (showingAt (now (numbers .entry))) ⌝ }
+    ensures { λ r. ⌜ r ≡ table 64 (storedEntry (now (numbers .entry))) ⌝ }
 {
-    let none = Showing {
+    let none = Entry {
         start: 0,
         end: 0,
         plan: 0,
@@ -57,7 +57,7 @@ fn showings(numbers: &[usize], count: usize) -> [Showing; 64]
     let mut all = [none; 64];
     let mut i = 0;
     while i < 64 && i < count {
-        all[i] = showing(numbers, i);
+        all[i] = entry_at(numbers, i);
         i += 1;
     }
     all
@@ -68,8 +68,8 @@ fn asked(numbers: &[usize], count: usize) -> Programme
     requires { ⌜ WholeEntries (now numbers) count × NarrowPlans (now numbers) count ⌝ }
     ensures { λ r. ⌜ r ≡ storedAsked (now (numbers .entry)) ⌝ }
 {
-    let showings = showings(numbers, count);
-    Programme { count, showings }
+    let entries = entries(numbers, count);
+    Programme { count, entries }
 }
 
 // Says a plan's number.
@@ -83,14 +83,14 @@ fn say_plan(number: u16, out: &mut [u8]) -> usize
 }
 
 // Says what runs.
-fn say_running(answer: Running, out: &mut [u8]) -> usize
+fn say_answer(answer: AtMinute, out: &mut [u8]) -> usize
     requires { ⌜ said.room ≤ length (now out) ⌝ }
-    ensures { λ r. ⌜ said.Says (runningLine answer) (now (out .entry)) (now (out .exit)) r ⌝ }
+    ensures { λ r. ⌜ said.Says (lineFor answer) (now (out .entry)) (now (out .exit)) r ⌝ }
 {
     match answer {
-        Running::Plan(number) => say_plan(number, out),
-        Running::Dark => replies::say(b"dark\n", out),
-        Running::Refused(number) => replies::say_refusal(number, out),
+        AtMinute::Plan(number) => say_plan(number, out),
+        AtMinute::Dark => replies::say(b"dark\n", out),
+        AtMinute::Refused(number) => replies::say_refusal(number, out),
     }
 }
 
@@ -99,9 +99,9 @@ fn say_asked(numbers: &[usize], count: usize, out: &mut [u8]) -> usize
     requires { ⌜ WholeEntries (now numbers) count × NarrowPlans (now numbers) count × (said.room ≤ length (now out)) ⌝ }
     ensures { λ r. ⌜ said.Says (answerToProgramme (now (numbers .entry))) (now (out .entry)) (now (out .exit)) r ⌝ }
 {
-    let week = asked(numbers, count);
-    let answer = programme::plan_at(week, numbers[0]);
-    say_running(answer, out)
+    let p = asked(numbers, count);
+    let answer = programme::plan_at(p, numbers[0]);
+    say_answer(answer, out)
 }
 
 // Answers the word `programme` and its numbers.

@@ -5,7 +5,7 @@ use mathlib.Core.Bool.{Bool, true, false, cond}
 use borrow.Author.Needs.{needs}
 use Rattle.programme.specs.Week.{refusal}
 use Rattle.programme.specs.Reading.{entriesOf}
-use Rattle.programme.proofs.Refusals.{outside, too-many, no-minute, entry-outside, passed-28, all-in-week}
+use Rattle.programme.proofs.Refusals.{breaks, too-many, no-minute, entry-breaks, passed-28, all-keep-limits}
 use Rattle.programme.proofs.broken.Statement.{statement}
 use Rattle.programme.proofs.broken.Tie as tie
 
@@ -24,14 +24,14 @@ module _ (c : tie.Else3) where
   few : asked .args .p .count ≤ 64
   few = minute-passed .before .if1 .left
 
-  none-outside : outside (asked .args .p) ≡ false
-  none-outside = sym (c .before .any-outside .ensures) ∙ c .if3 .left
+  none-breaks : breaks (asked .args .p) ≡ false
+  none-breaks = sym (c .before .any-breaks-limits .ensures) ∙ c .if3 .left
 
 -- 29 or 0, by the last test
-last-test : (c : tie.After-any-clash) (b : Bool) → c .any-clash .result ≡ b → cond b 29 0 ≡ refusal (entriesOf (asked (c .before) .args .p)) (asked (c .before) .args .minute)
+last-test : (c : tie.After-any-shared) (b : Bool) → c .any-shared .result ≡ b → cond b 29 0 ≡ refusal (entriesOf (asked (c .before) .args .p)) (asked (c .before) .args .minute)
 last-test c b e =
     let start = asked (c .before) in
-    passed-28 (start .args .p) (start .args .minute) (few (c .before)) (minute-passed (c .before) .if2 .left) (none-outside (c .before)) b (sym (c .any-clash .ensures) ∙ e)
+    passed-28 (start .args .p) (start .args .minute) (few (c .before)) (minute-passed (c .before) .if2 .left) (none-breaks (c .before)) b (sym (c .any-shared .ensures) ∙ e)
 
 returns : tie.Need-returns
 returns c = let start = c .before .before in too-many (start .args .p) (start .args .minute) (c .if1 .taken)
@@ -39,16 +39,16 @@ returns c = let start = c .before .before in too-many (start .args .p) (start .a
 returns-2 : tie.Need-returns-2
 returns-2 c = let start = begun (c .before) in no-minute (start .args .p) (start .args .minute) (c .if2 .taken)
 
-any-outside-requires : tie.Need-any-outside-requires
-any-outside-requires c κs = search needs
+any-breaks-limits-requires : tie.Need-any-breaks-limits-requires
+any-breaks-limits-requires c κs = search needs
 
 returns-3 : tie.Need-returns-3
 returns-3 c =
     let start = begun (c .before .before .before .before) in
-    entry-outside (start .args .p) (start .args .minute) (sym (c .before .any-outside .ensures) ∙ c .if3 .taken)
+    entry-breaks (start .args .p) (start .args .minute) (sym (c .before .any-breaks-limits .ensures) ∙ c .if3 .taken)
 
-any-clash-requires : tie.Need-any-clash-requires
-any-clash-requires c κs = (few c, all-in-week (asked c .args .p) (none-outside c))
+any-shared-requires : tie.Need-any-shared-requires
+any-shared-requires c κs = (few c, all-keep-limits (asked c .args .p) (none-breaks c))
 
 returns-4 : tie.Need-returns-4
 returns-4 c = last-test (c .before) true (c .if4 .taken)
@@ -62,8 +62,8 @@ broken-spec =
     (tie.spec
     returns
     returns-2
-    any-outside-requires
+    any-breaks-limits-requires
     returns-3
-    any-clash-requires
+    any-shared-requires
     returns-4
     returns-5)

@@ -2,7 +2,7 @@
 use mathlib.Core.Path.{_≡_, sym, ap, _∙_}
 use borrow.Author.Needs.{needs}
 use Rattle.programme.specs.Week.{refusal}
-use Rattle.programme.specs.Reading.{entriesOf, runningFor}
+use Rattle.programme.specs.Reading.{entriesOf, answerFor}
 use Rattle.programme.proofs.Passed.{few-entries, refused-answer, passing-answer}
 use Rattle.programme.proofs.plan_at.Statement.{statement}
 use Rattle.programme.proofs.plan_at.Tie as tie
@@ -19,13 +19,13 @@ returns c =
     let start = c .before .before in
     refused-answer (entriesOf (start .args .p)) (start .args .minute) (c .before .broken .result) (c .before .broken .ensures) (c .if1 .taken)
 
-running-requires : tie.Need-running-requires
-running-requires c κs = let start = c .before .before .before in few-entries (start .args .p) (start .args .minute) (none-broken (c .before))
+plan-or-dark-requires : tie.Need-plan-or-dark-requires
+plan-or-dark-requires c κs = let start = c .before .before .before in few-entries (start .args .p) (start .args .minute) (none-broken (c .before))
 
 returns-2 : tie.Need-returns-2
 returns-2 c =
     let passed = c .before .before in
-    c .running .ensures ∙ ap runningFor (passing-answer _ _ (none-broken passed))
+    c .plan-or-dark .ensures ∙ ap answerFor (passing-answer _ _ (none-broken passed))
 
 pub plan-at-spec : {M : Type 1} → statement M
-plan-at-spec = tie.close (tie.spec broken-requires returns running-requires returns-2)
+plan-at-spec = tie.close (tie.spec broken-requires returns plan-or-dark-requires returns-2)

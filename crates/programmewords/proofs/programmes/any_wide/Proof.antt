@@ -1,4 +1,4 @@
--- `programmewords::programmes::any_wide` meets its contract. The loop: no plan before entry i has a wide number. Assumes nothing.
+-- `programmewords::programmes::any_wide` meets its contract. The loop: no entry below place i has a wide plan. Assumes nothing.
 use Prim.Native.Nat.{ℕ, _+_, _*_, _-_}
 use mathlib.Core.Bool.{Bool}
 use mathlib.Core.List.{List}

@@ -4,13 +4,13 @@ use Rattle.programmewords.proofs.ProgrammeLines.{stored-is}
 use Rattle.programmewords.proofs.programmes.asked.Statement.{statement}
 use Rattle.programmewords.proofs.programmes.asked.Tie as tie
 
-showings-requires : tie.Need-showings-requires
-showings-requires c κs = search needs
+entries-requires : tie.Need-entries-requires
+entries-requires c κs = search needs
 
 returns : tie.Need-returns
 returns c =
     let start = c .before .before in
-    stored-is (start .args .numbers .now) (start .args .count) (c .showings .result) (start .pre .0) (c .showings .ensures)
+    stored-is (start .args .numbers .now) (start .args .count) (c .entries .result) (start .pre .0) (c .entries .ensures)
 
 pub asked-spec : {M : Type 1} → statement M
-asked-spec = tie.close (tie.spec showings-requires returns)
+asked-spec = tie.close (tie.spec entries-requires returns)

@@ -1,9 +1,9 @@
 -- `programmewords::programmes::say_asked` meets its contract. Assumes nothing.
 use mathlib.Core.Path.{ap, _∙_}
 use Rattle.programme.specs.Week.{planAt}
-use Rattle.programme.specs.Reading.{entriesOf, runningFor}
+use Rattle.programme.specs.Reading.{entriesOf, answerFor}
 use Rattle.programmewords.specs.Programmes.{minuteAsked}
-use Rattle.programmewords.specs.Asked.{runningLine}
+use Rattle.programmewords.specs.Asked.{lineFor}
 use Rattle.replies.proofs.PutOn.{says-same}
 use Rattle.programmewords.proofs.ProgrammeLines.{narrow-line}
 use borrow.Author.Needs.{needs}
@@ -19,8 +19,8 @@ shared-slice-read-plan-at c = search needs
 plan-at-requires : tie.Need-plan-at-requires
 plan-at-requires c κs = search needs
 
-say-running-requires : tie.Need-say-running-requires
-say-running-requires c κs = search needs
+say-answer-requires : tie.Need-say-answer-requires
+say-answer-requires c κs = search needs
 
 same-length : tie.Need-same-length
 same-length c = search needs
@@ -28,12 +28,12 @@ same-length c = search needs
 returns : tie.Need-returns
 returns c =
     let said = c .before .before in
-    let shown = said .before .before in
-    let asked = shown .before .before in
+    let found = said .before .before in
+    let asked = found .before .before in
     let start = asked .before .before .before in
     let numbers = start .args .numbers .now in
-    let answer = shown .plan-at .ensures ∙ ap (λ p. runningFor (planAt (entriesOf p) (minuteAsked numbers))) (asked .asked .ensures) in
-    says-same (ap runningLine answer ∙ narrow-line numbers (start .args .count) (start .pre .0) (start .pre .1 .narrow)) (said .say-running .ensures)
+    let answer = found .plan-at .ensures ∙ ap (λ p. answerFor (planAt (entriesOf p) (minuteAsked numbers))) (asked .asked .ensures) in
+    says-same (ap lineFor answer ∙ narrow-line numbers (start .args .count) (start .pre .0) (start .pre .1 .narrow)) (said .say-answer .ensures)
 
 pub say-asked-spec : {M : Type 1} → statement M
 say-asked-spec =
@@ -42,6 +42,6 @@ say-asked-spec =
     asked-requires
     shared-slice-read-plan-at
     plan-at-requires
-    say-running-requires
+    say-answer-requires
     same-length
     returns)

@@ -1,4 +1,4 @@
--- An entry by itself: when it lies in the week, and when it runs. Assumes nothing.
+-- An entry by itself: when it keeps its limits, and when it runs. Assumes nothing.
 use Prim.Native.Nat.{ℕ, _≤_, _<_}
 use mathlib.Core.Path.{_≡_, sym, _∙_}
 use mathlib.Core.Bool.{true, false, _&&_}
@@ -8,20 +8,20 @@ use lib.Dec.{leb, ltb, leb·zero}
 use borrow.Author.Tests.{ltb-true, leb-true, lt-ltb, le-ltb, le-leb, lt-leb}
 use Rattle.model.specs.Tables.{within}
 use Rattle.model.proofs.Tests.{and-true, and-false, within-true}
-use Rattle.programme.specs.Week.{Entry, week, runs, inWeek, InWeek}
+use Rattle.programme.specs.Week.{Entry, week, runs, keepsLimits, KeepsLimits}
 
--- ---- in the week
+-- ---- its limits
 
-pub ends-first : (e : Entry) → e .end ≤ e .start → false ≡ inWeek e
-unfolding inWeek
+pub ends-first : (e : Entry) → e .end ≤ e .start → false ≡ keepsLimits e
+unfolding keepsLimits
 ends-first e h = rw (le-ltb (e .start) (e .end) h)
 
 -- of an entry that starts before it ends only the end can lie outside
-pub in-by-end : (e : Entry) → e .start < e .end → leb (e .end) week ≡ inWeek e
-unfolding inWeek
-in-by-end e h = go (decLe (e .end) week)
+pub limits-by-end : (e : Entry) → e .start < e .end → leb (e .end) week ≡ keepsLimits e
+unfolding keepsLimits
+limits-by-end e h = go (decLe (e .end) week)
   where
-    go : Dec (e .end ≤ week) → leb (e .end) week ≡ inWeek e
+    go : Dec (e .end ≤ week) → leb (e .end) week ≡ keepsLimits e
     go (yes y) = rw (
       le-leb (e .end) week y,
       lt-ltb (e .start) (e .end) h,
@@ -31,15 +31,15 @@ in-by-end e h = go (decLe (e .end) week)
     )
     go (no y) = rw (lt-leb (e .end) week (omega arith), leb·zero (e .end)) (sym (and-false (ltb (e .start) (e .end) && within 0 week (e .start))))
 
-pub in-week : (e : Entry) → inWeek e ≡ true → InWeek e
-unfolding inWeek
-in-week e p =
+pub keeps-limits : (e : Entry) → keepsLimits e ≡ true → KeepsLimits e
+unfolding keepsLimits
+keeps-limits e p =
     let q = and-true _ _ p in
     let r = and-true _ _ (q .0) in
     record { before-end = ltb-true (e .start) (e .end) (r .0); to-the-end = within-true 0 week (e .end) (q .1) .1 }
 
-pub lies-in-week : (e : Entry) → InWeek e → inWeek e ≡ true
-lies-in-week e h = sym (in-by-end e (h .before-end)) ∙ le-leb (e .end) week (h .to-the-end)
+pub kept-passes : (e : Entry) → KeepsLimits e → keepsLimits e ≡ true
+kept-passes e h = sym (limits-by-end e (h .before-end)) ∙ le-leb (e .end) week (h .to-the-end)
 
 -- ---- running
 

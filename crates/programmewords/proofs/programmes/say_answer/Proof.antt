@@ -1,10 +1,10 @@
--- `programmewords::programmes::say_running` meets its contract, answer by answer. Assumes nothing.
+-- `programmewords::programmes::say_answer` meets its contract, answer by answer. Assumes nothing.
 use mathlib.Core.Path.{sym, ap}
 use Rattle.replies.proofs.PutOn.{says-same}
-use Rattle.programmewords.specs.Asked.{runningLine}
+use Rattle.programmewords.specs.Asked.{lineFor}
 use borrow.Author.Needs.{needs}
-use Rattle.programmewords.proofs.programmes.say_running.Statement.{statement}
-use Rattle.programmewords.proofs.programmes.say_running.Tie as tie
+use Rattle.programmewords.proofs.programmes.say_answer.Statement.{statement}
+use Rattle.programmewords.proofs.programmes.say_answer.Tie as tie
 
 enum-known-answer : tie.Need-enum-known-answer
 enum-known-answer c = search needs
@@ -34,7 +34,7 @@ returns : tie.Need-returns
 returns c =
     let said = c .before .before in
     let told = said .before .before .before in
-    says-same (ap runningLine (sym (told .answer .given .1))) (said .say-plan .ensures)
+    says-same (ap lineFor (sym (told .answer .given .1))) (said .say-plan .ensures)
 
 same-length-2 : tie.Need-same-length-2
 same-length-2 c = search needs
@@ -43,7 +43,7 @@ returns-2 : tie.Need-returns-2
 returns-2 c =
     let said = c .before .before in
     let told = said .before .before .before in
-    says-same (ap runningLine (sym (told .enum-told .given .1))) (said .say .ensures)
+    says-same (ap lineFor (sym (told .enum-told .given .1))) (said .say .ensures)
 
 same-length-3 : tie.Need-same-length-3
 same-length-3 c = search needs
@@ -52,10 +52,10 @@ returns-3 : tie.Need-returns-3
 returns-3 c =
     let said = c .before .before in
     let told = said .before .before .before in
-    says-same (ap runningLine (sym (told .answer2 .given .1))) (said .say-refusal .ensures)
+    says-same (ap lineFor (sym (told .answer2 .given .1))) (said .say-refusal .ensures)
 
-pub say-running-spec : {M : Type 1} → statement M
-say-running-spec =
+pub say-answer-spec : {M : Type 1} → statement M
+say-answer-spec =
     tie.close
     (tie.spec
     enum-known-answer

@@ -1,27 +1,27 @@
--- `programmewords::programmes::showings` meets its contract. Assumes nothing.
+-- `programmewords::programmes::entries` meets its contract. Assumes nothing.
 use Prim.Native.Nat.{_-_}
 use borrow.Author.Needs.{needs}
 use borrow.Author.Tests.{ltb-true, ltb-false}
 use native.Mathlib.Omega.{arith}
 use Rattle.model.proofs.Tests.{any-none}
-use Rattle.programme.specs.Reading.{noShowing}
-use Rattle.programmewords.specs.Asked.{showingAt}
+use Rattle.programme.specs.Reading.{emptyEntry}
+use Rattle.programmewords.specs.Asked.{storedEntry}
 use Rattle.programmewords.proofs.Filled.{FilledTo, none-filled, one-filled, all-filled}
 use Rattle.programmewords.proofs.ProgrammeLines.{past}
-use Rattle.programmewords.proofs.programmes.showings.Statement.{statement}
-use Rattle.programmewords.proofs.programmes.showings.Tie as tie
+use Rattle.programmewords.proofs.programmes.entries.Statement.{statement}
+use Rattle.programmewords.proofs.programmes.entries.Tie as tie
 
 abbrev Inv-loop : tie.InvT-loop
-Inv-loop numbers count all₀ i₀ all i = FilledTo 64 noShowing (showingAt numbers) all i
+Inv-loop numbers count all₀ i₀ all i = FilledTo 64 emptyEntry (storedEntry numbers) all i
 
 abbrev μ-loop : tie.MeasureT-loop
 μ-loop numbers count all₀ i₀ all i = 64 - i
 
 loop-holds : tie.Need-loop-holds Inv-loop μ-loop
-loop-holds c = none-filled 64 noShowing _
+loop-holds c = none-filled 64 emptyEntry _
 
-showing-requires : tie.Need-showing-requires Inv-loop μ-loop
-showing-requires c κs =
+entry-at-requires : tie.Need-entry-at-requires Inv-loop μ-loop
+entry-at-requires c κs =
     let loop = c .before .before in
     let start = loop .before .before in
     let asked = ltb-true (loop .loop .i) (start .args .count) (c .if1 .taken) in
@@ -40,7 +40,7 @@ loop-less : tie.Need-loop-less Inv-loop μ-loop
 loop-less c = search needs
 
 loop-again : tie.Need-loop-again Inv-loop μ-loop
-loop-again c = one-filled (c .before .before .before .loop .inv) (omega arith) (c .showing .ensures)
+loop-again c = one-filled (c .before .before .before .loop .inv) (omega arith) (c .entry-at .ensures)
 
 returns : tie.Need-returns Inv-loop μ-loop
 returns c =
@@ -52,14 +52,14 @@ returns c =
 returns-2 : tie.Need-returns-2 Inv-loop μ-loop
 returns-2 c = all-filled (c .before .loop .inv) (λ k l h. absurd (omega arith))
 
-pub showings-spec : {M : Type 1} → statement M
-showings-spec =
+pub entries-spec : {M : Type 1} → statement M
+entries-spec =
     tie.close
     (tie.spec
     Inv-loop
     μ-loop
     loop-holds
-    showing-requires
+    entry-at-requires
     mul-all
     array-set-from-all
     add-i

@@ -1,39 +1,39 @@
--- `programme::clashes::any_clash` meets its contract. The loop: no entry before entry i shares a minute with an earlier one. Assumes nothing.
+-- `programme::shared::any_shared` meets its contract. The loop: no entry below place i shares a minute with one at a lower place. Assumes nothing.
 use Prim.Native.Nat.{ℕ, _-_}
 use mathlib.Core.Bool.{Bool}
 use mathlib.Core.List.{List}
 use mathlib.Core.Path.{sym, _∙_}
 use Rattle.model.specs.Tables.{any}
-use Rattle.programme.specs.declared.Showing.{Showing}
+use Rattle.programme.specs.declared.Entry.{Entry as CodeEntry}
 use Rattle.programme.specs.Week.{shareMinute}
 use Rattle.programme.specs.Reading.{stored}
 use Rattle.limits.proofs.Tests.{None, none-yet, none-more, found-one, none-at-all}
 use borrow.Author.Needs.{needs}
 use native.Mathlib.Omega.{arith}
-use Rattle.programme.proofs.clashes.any_clash.Statement.{statement}
-use Rattle.programme.proofs.clashes.any_clash.Tie as tie
+use Rattle.programme.proofs.shared.any_shared.Statement.{statement}
+use Rattle.programme.proofs.shared.any_shared.Tie as tie
 
-abbrev clashing : List Showing → ℕ → Bool
-clashing showings i = any i (λ j. shareMinute (stored showings j) (stored showings i))
+abbrev sharesBelow : List CodeEntry → ℕ → Bool
+sharesBelow entries i = any i (λ j. shareMinute (stored entries j) (stored entries i))
 
 abbrev Inv-loop : tie.InvT-loop
-Inv-loop showings count i₀ i = None (clashing showings) count i
+Inv-loop entries count i₀ i = None (sharesBelow entries) count i
 
 abbrev μ-loop : tie.MeasureT-loop
-μ-loop showings count i₀ i = count - i
+μ-loop entries count i₀ i = count - i
 
 loop-holds : tie.Need-loop-holds Inv-loop μ-loop
 loop-holds c = none-yet _ _
 
-clashes-before-requires : tie.Need-clashes-before-requires Inv-loop μ-loop
-clashes-before-requires c κs =
+shared-below-requires : tie.Need-shared-below-requires Inv-loop μ-loop
+shared-below-requires c κs =
     let pre = c .before .before .pre in
     (omega arith, record { each = λ i h. pre .1 .each i (omega (arith, c .loop-test .taken)) })
 
 returns : tie.Need-returns Inv-loop μ-loop
 returns c =
     let step = c .before .before in
-    found-one (step .before .loop .inv) (step .loop-test .taken) (sym (c .before .clashes-before .ensures) ∙ c .if1 .taken)
+    found-one (step .before .loop .inv) (step .loop-test .taken) (sym (c .before .shared-below .ensures) ∙ c .if1 .taken)
 
 add-i : tie.Need-add-i Inv-loop μ-loop
 add-i c = search needs
@@ -44,19 +44,19 @@ loop-less c = search needs
 loop-again : tie.Need-loop-again Inv-loop μ-loop
 loop-again c =
     let step = c .before .before in
-    none-more (step .before .loop .inv) (step .loop-test .taken) (sym (c .before .clashes-before .ensures) ∙ c .if1 .left)
+    none-more (step .before .loop .inv) (step .loop-test .taken) (sym (c .before .shared-below .ensures) ∙ c .if1 .left)
 
 returns-2 : tie.Need-returns-2 Inv-loop μ-loop
 returns-2 c = none-at-all (c .before .loop .inv) (c .loop-test .left)
 
-pub any-clash-spec : {M : Type 1} → statement M
-any-clash-spec =
+pub any-shared-spec : {M : Type 1} → statement M
+any-shared-spec =
     tie.close
     (tie.spec
     Inv-loop
     μ-loop
     loop-holds
-    clashes-before-requires
+    shared-below-requires
     returns
     add-i
     loop-less

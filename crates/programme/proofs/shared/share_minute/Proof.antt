@@ -1,8 +1,8 @@
--- `programme::clashes::clash` meets its contract. Assumes nothing.
+-- `programme::shared::share_minute` meets its contract. Assumes nothing.
 use Rattle.programme.specs.Reading.{entryFor}
 use Rattle.programme.proofs.SharedMinutes.{apart, by-other-start}
-use Rattle.programme.proofs.clashes.clash.Statement.{statement}
-use Rattle.programme.proofs.clashes.clash.Tie as tie
+use Rattle.programme.proofs.shared.share_minute.Statement.{statement}
+use Rattle.programme.proofs.shared.share_minute.Tie as tie
 
 returns : tie.Need-returns
 returns c =
@@ -15,5 +15,5 @@ returns-2 c =
     let start = passed .before .before .before in
     by-other-start (entryFor (start .args .a)) (entryFor (start .args .b)) (start .pre .0) (start .pre .1) (passed .if1 .left)
 
-pub clash-spec : {M : Type 1} → statement M
-clash-spec = tie.close (tie.spec returns returns-2)
+pub share-minute-spec : {M : Type 1} → statement M
+share-minute-spec = tie.close (tie.spec returns returns-2)
