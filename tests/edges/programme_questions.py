@@ -20,7 +20,7 @@ ROWS = [
     ("no entry", "programme 0", "dark"),
     ("no entry, the last minute", "programme 10079", "dark"),
     ("no entry, a minute past the week", "programme 10080", "R 28"),
-    # Up to but not including the end.
+    # At the start, and up to the minute before the end.
     ("at the start", "programme 10 10 20 7", "plan 7"),
     ("before the start", "programme 9 10 20 7", "dark"),
     ("the last minute", "programme 19 10 20 7", "plan 7"),

@@ -121,7 +121,7 @@ def time_of(minute):
 
 
 def spans(entries):
-    """What is on from each minute at which something changes, told from the
+    """What runs from each minute at which something changes, told from the
     week marked minute by minute."""
     place = [None] * 10080
     for number, (start, end, _) in enumerate(entries):

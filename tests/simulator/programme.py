@@ -14,7 +14,7 @@ def marked(entries):
     """The plan of each minute, or None where two entries mark one."""
     week = [DARK] * WEEK
     for start, end, plan in entries:
-        # Doc 02, N13: up to but not including its end.
+        # Doc 02, N13: the end is no minute of the showing.
         for minute in range(start, end):
             if week[minute] is not DARK:
                 return None
@@ -22,15 +22,15 @@ def marked(entries):
     return week
 
 
-def lies_outside(start, end, _plan):
-    """Doc 02, N13: its start isn't before its end, or it lies outside."""
+def breaks_limits(start, end, _plan):
+    """Doc 02, N13: it doesn't start before it ends, or lies outside."""
     return start >= end or start < 0 or end > WEEK
 
 
 def plan_at(minute, entries):
     """The refusal (0 for none), and the plan that runs or DARK."""
     if (len(entries) > MOST or not 0 <= minute < WEEK
-            or any(lies_outside(*entry) for entry in entries)):
+            or any(breaks_limits(*entry) for entry in entries)):
         return OUTSIDE, DARK
     week = marked(entries)
     return (SHARED, DARK) if week is None else (0, week[minute])
