@@ -37,11 +37,10 @@ fn entry_at(numbers: &[usize], i: usize) -> Entry
     ensures { λ r. ⌜ r ≡ storedEntry (now (numbers .entry)) i ⌝ }
 {
     let at = 1 + 3 * i;
-    Entry {
-        start: numbers[at],
-        end: numbers[at + 1],
-        plan: numbers[at + 2] as u16,
-    }
+    let start = numbers[at];
+    let end = numbers[at + 1];
+    let plan = numbers[at + 2] as u16;
+    Entry { start, end, plan }
 }
 
 // The first 64 entries; those that are not asked about are all zero.
