@@ -8,7 +8,7 @@ ghost use Rattle.programme.specs.Reading.{entryFor, stored};
 use crate::Entry;
 use crate::WEEK;
 
-// Whether an entry starts before it ends, and lies in the week: where it starts first, its start does if its end does.
+// Whether an entry starts before it ends and lies in the week. Where it starts before it ends, only the end can lie outside.
 fn keeps_limits(e: Entry) -> bool
     ensures { λ r. ⌜ r ≡ keepsLimits (entryFor e) ⌝ }
 {

@@ -13,7 +13,7 @@ const WEEK: usize = 10080;
 // The most entries of a programme.
 const MOST: usize = 64;
 
-// An entry: a showing, in minutes of the week, and its plan. It runs at its start and up to the minute before its end.
+// An entry: a showing's start and end in minutes of the week, and its plan. It runs at its start and up to the minute before its end.
 pub struct Entry {
     pub start: usize,
     pub end: usize,

@@ -1,7 +1,7 @@
 -- Every edge of the word `programme` comes out as expected. Assumes nothing.
+use Prim.Native.Nat.{ℕ}
 use mathlib.Core.Path.{_≡_, refl, ap, ap₂, _∙_}
 use mathlib.Core.List.{List, _∷_, [], map, flatMap}
-use Prim.Native.Nat.{ℕ}
 use Rattle.model.specs.Tables.{any}
 use Rattle.model.specs.Refusals.{firstOf}
 use Rattle.model.specs.Listing.{digits, decimal}

@@ -34,7 +34,7 @@ programmeLine (accepted (plan number)) = text "plan" ++ spaced number ++ text "\
 programmeLine (accepted dark) = text "dark\n"
 programmeLine (refused number) = refusalLine number
 
--- the line for some numbers by the answer for them: first come the reasons for which they ask about no programme
+-- the line for numbers and an answer: a reason why the numbers are no question, or else the answer's line
 abbrev pub lineOn : (numbers : List ℕ) → Answer AtMinute → List ℕ
 lineOn numbers answer =
     cond (eqb (length numbers) 0) (cannot "the minute is missing")
