@@ -18,14 +18,14 @@ from edges import questions, refusals_page
 from edges.all_edges import ALLCALLS_EDGES, EDGES
 from front_door import (
     asking_editor, old_program, plan_files, plan_lost_output, plan_read,
-    plan_wrong_words, play_files, play_lost_output, slow_reader,
+    plan_week, plan_wrong_words, play_files, play_lost_output, slow_reader,
     wrong_arguments)
 from images import self_tests
 
-FRONT_DOOR = (play_files, play_lost_output, plan_files, plan_read,
+FRONT_DOOR = (play_files, play_lost_output, plan_files, plan_read, plan_week,
               plan_wrong_words, plan_lost_output, old_program, slow_reader,
               asking_editor, wrong_arguments)
-REFUSALS = range(1, 28)         # those of all programs
+REFUSALS = range(1, 30)         # those of all programs
 
 
 def wanted(names, only):

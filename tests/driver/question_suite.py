@@ -9,11 +9,12 @@ from simulator.questions import NO_QUESTION
 
 REASON = re.compile(r"\? [ -~]{3,150}")         # short, and in plain letters
 
-# Each word, and what has to have come up for it: 0 is an answer.
+# Each word, and what has to have come up for it: 0 is an answer, and an answer
+# that is a word by itself stands here as that word.
 WAYS = {"plan": {0, 2, 3, 4, 5, 6, 7}, "room": {0, 2, 3, 4, 5, 6, 7, 19},
         "read": {0, 1, 2, 3, 4, 5, 6, 7},
-        "mesh": {0, 3, 4, 25}, "mesh-over": {0, 3, 4, 25},
-        "count": {0, 26}, "extras": {0, 27}}
+        "mesh": {"ok", 3, 4, 25}, "mesh-over": {0, "ok", 3, 4, 25},
+        "count": {0, 26}, "extras": {0, 27}, "programme": {0, "dark", 28, 29}}
 
 
 def is_right(expected, answer):
@@ -49,7 +50,7 @@ def way(line, answer):
     word = line.split(b" ")[0].decode("latin-1")
     if answer.startswith("R ") and answer[2:].isdecimal():
         return word, int(answer[2:])
-    return word, 0
+    return word, answer if answer.isalpha() else 0
 
 
 class QuestionSuite(Suite):
@@ -73,8 +74,8 @@ class QuestionSuite(Suite):
         if self.gave_up():
             return
         for word, numbers in WAYS.items():
-            missing = sorted(number for number in numbers
-                             if (word, number) not in self.seen)
+            missing = sorted((number for number in numbers
+                              if (word, number) not in self.seen), key=str)
             self.test("%s: each way was seen, 0 for an answer" % word,
                       missing and "never seen: %s" % missing)
         self.test("lines that are no question were seen",

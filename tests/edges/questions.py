@@ -8,7 +8,8 @@ of the bytes and by `plan` of their numbers.
 import struct
 
 from edges import (
-    count_questions, extras_questions, mesh_questions, plan_limits)
+    count_questions, extras_questions, mesh_questions, plan_limits,
+    programme_questions)
 from edges.edge_maker import BASE
 
 NO_QUESTION = "?"               # stands for this and any reason
@@ -249,6 +250,7 @@ EDGES = [
                         ("mesh-over", mesh_questions.OVERS),
                         ("count", count_questions.COUNTS),
                         ("extras", extras_questions.EXTRAS),
+                        ("programme", programme_questions.ROWS),
                         ("long", LENGTHS))
     for name, line, answer in table]
 EDGES += [Question("no question: " + name, line, NO_QUESTION)
@@ -256,3 +258,5 @@ EDGES += [Question("no question: " + name, line, NO_QUESTION)
           + count_questions.FAULTS + extras_questions.FAULTS]
 EDGES += [to_read(*row) for row in read_edges()]
 EDGES += [to_plan(*row) for row in written_edges()]
+EDGES += [Question("no question: programme, " + name, line, NO_QUESTION)
+          for name, line in programme_questions.FAULTS]

@@ -8,14 +8,14 @@ from front_door.command import redirected, start, trouble
 from front_door.plan_tree import NOT_DONE, NUMBERS, in_trees
 
 
-def both(tree):
-    """Words that make a plan file, and words that print one."""
-    return NUMBERS, ["--read", tree.file]
+def all_ways(tree):
+    """Words that make a plan file, that print one, and that print a week."""
+    return NUMBERS, ["--read", tree.file], ["--week", "1200", "1275", "7"]
 
 
 def each(tree, ends, says):
-    """What is wrong where both have to end with status 2, or None."""
-    for words in both(tree):
+    """What is wrong where each has to end with status 2, or None."""
+    for words in all_ways(tree):
         wrong = trouble(ends(words), NOT_DONE, says=says)
         if wrong:
             return "%s: %s" % (words[0], wrong)
@@ -66,7 +66,7 @@ def terminal(tree):
 def breaks_off(tree):
     """Though its answer is there."""
     tree.instead('echo %s\nkill -9 $$\n' % BASE.hex())
-    for words in both(tree):
+    for words in all_ways(tree):
         ended = tree.start(*words)
         last = ended.errors.splitlines()[-1]
         if (ended.status, ended.output, last) != (
@@ -82,7 +82,7 @@ def answers_nonsense(tree):
     for answer in ("", "140", "14 00", "14OO", "nothing", "R", "R x", "plan",
                    "plan 4 2 x", "plan 4 2", "R 1\\n2"):
         tree.instead("cat >/dev/null\nprintf '%s\\n'\n" % answer)
-        for words in both(tree):
+        for words in all_ways(tree):
             ended = tree.start(*words)
             if (ended.status != NOT_DONE or ended.output
                     or "domeplan answered '" not in ended.errors):

@@ -59,7 +59,8 @@ def nothing_is_built(tree):
     """Wrong words are said before anything is proved."""
     tree.program.unlink()
     tree.rt("exit 0\n")
-    for words in (["4"], ["4", "2", "x"], ["--fast"], ["--read", "nowhere"]):
+    for words in (["4"], ["4", "2", "x"], ["--fast"], ["--read", "nowhere"],
+                  ["--week", "1"], ["--week", "1", "2", "x"]):
         tree.start(*words)
     return tree.rt_words() and "rt was started with %r" % tree.rt_words()
 

@@ -10,7 +10,7 @@ from front_door.command import ROOT, start
 
 NEEDED = ("tools/front_door.sh", "docs/REFUSALS.md", "crates.txt")
 TOOLS = ("cat", "dirname", "find", "head", "mv", "od", "readlink", "sed",
-         "sh", "touch", "tr")
+         "sh", "sort", "touch", "tr")
 
 
 class Tree:

@@ -1,8 +1,8 @@
 """A seed to the lines of its file for domeplan, and to their kind."""
 
 from generator import (
-    asked_extras, asked_plans, counted_frames, mesh_streams, odd_lines,
-    plan_hex)
+    asked_extras, asked_plans, asked_programmes, counted_frames,
+    mesh_streams, odd_lines, plan_hex)
 from generator.dice import Dice
 
 FEWEST, MOST = 10, 50           # lines of a file
@@ -55,7 +55,11 @@ def extras(dice):
     return question(dice, b"extras", asked_extras.numbers(dice))
 
 
-QUESTIONS = [plan, room, read, mesh, count, extras]
+def programme(dice):
+    return question(dice, b"programme", asked_programmes.numbers(dice))
+
+
+QUESTIONS = [plan, room, read, mesh, count, extras, programme]
 
 
 def odd(dice):
@@ -68,7 +72,7 @@ def mixed(dice):
 
 KINDS = {"plans": plan, "too wide": wide_plan, "rooms": room, "reads": read,
          "meshes": mesh, "counts": count, "extras": extras,
-         "odd lines": odd, "mixed": mixed}
+         "programmes": programme, "odd lines": odd, "mixed": mixed}
 ORDER = tuple(KINDS)            # the kinds of seeds 0, 1, 2 and so on
 
 

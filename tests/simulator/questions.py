@@ -6,12 +6,14 @@ from simulator import mesh, share_counts
 from simulator.extras import Extras, Layer, choose
 from simulator.plan import read_plan
 from simulator.plan_writer import Asked, write_plan
+from simulator.programme import DARK, plan_at
 
 NO_QUESTION = "?"               # stands for this and any reason
 LONGEST = 4000                  # bytes of a line
 NUMBER = re.compile(rb"[0-9]{1,9}")
 BYTES = re.compile(rb"(?:[0-9A-Fa-f]{2})*")
 ROOMY = 4096                    # a buffer that holds any plan
+LAST_PLAN = 2 ** 16 - 1         # the largest number of a plan
 
 
 def numbers_of(fields):
@@ -107,9 +109,23 @@ def to_extras(fields):
     return refused(refusal) if refusal else "%d %d %d" % chosen
 
 
+def to_programme(fields):
+    """The minute, and three numbers for each entry."""
+    numbers = numbers_of(fields)
+    if not numbers or len(numbers) % 3 != 1:
+        return NO_QUESTION
+    entries = [numbers[i:i + 3] for i in range(1, len(numbers), 3)]
+    if any(plan > LAST_PLAN for _, _, plan in entries):
+        return NO_QUESTION
+    refusal, plan = plan_at(numbers[0], entries)
+    if refusal:
+        return refused(refusal)
+    return "dark" if plan is DARK else "plan %d" % plan
+
+
 WORDS = {b"plan": to_plan, b"room": to_room, b"read": to_read,
          b"mesh": to_mesh, b"mesh-over": to_mesh_over, b"count": to_count,
-         b"extras": to_extras}
+         b"extras": to_extras, b"programme": to_programme}
 
 
 def answer(line):

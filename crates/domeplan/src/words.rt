@@ -31,16 +31,19 @@ fn numbered(line: &[u8]) -> u8 {
         return 2;
     }
     if asks(line, b"mesh") {
-        return 7;
-    }
-    if asks(line, b"mesh-over") {
-        return 8;
-    }
-    if asks(line, b"count") {
         return 3;
     }
-    if asks(line, b"extras") {
+    if asks(line, b"mesh-over") {
+        return 4;
+    }
+    if asks(line, b"count") {
         return 5;
+    }
+    if asks(line, b"extras") {
+        return 6;
+    }
+    if asks(line, b"programme") {
+        return 7;
     }
     0
 }
@@ -53,17 +56,20 @@ fn answer_numbers(word: u8, numbers: &[usize], out: &mut [u8]) -> usize
     if word == 1 {
         return planwords::plan(numbers, out);
     }
-    if word == 7 {
+    if word == 3 {
         return meshwords::mesh(numbers, out);
     }
-    if word == 8 {
+    if word == 4 {
         return meshwords::mesh_over(numbers, out);
     }
-    if word == 3 {
+    if word == 5 {
         return sharewords::count(numbers, out);
     }
-    if word == 5 {
+    if word == 6 {
         return extrawords::extras(numbers, out);
+    }
+    if word == 7 {
+        return programmewords::programme(numbers, out);
     }
     planwords::room(numbers, out)
 }
@@ -103,7 +109,7 @@ pub(crate) fn answer(line: &[u8], out: &mut [u8]) -> usize
     let word = numbered(line);
     if word == 0 {
         return replies::say(
-            b"? the first word is none of plan, room, read, mesh, mesh-over, count and extras\n",
+            b"? the first word is none of plan, room, read, mesh, mesh-over, count, extras and programme\n",
             out,
         );
     }

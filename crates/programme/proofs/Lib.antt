@@ -1,0 +1,12 @@
+pub mod OneEntry
+pub mod SharedMinutes
+pub mod FirstRunning
+pub mod Refusals
+pub mod Passed
+pub mod OneAtMost
+pub mod Meaning
+pub mod InOrder
+pub mod EntryTests
+pub mod AnyOrder
+pub mod ByEnds
+pub mod Edges

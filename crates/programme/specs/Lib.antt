@@ -1,0 +1,4 @@
+pub mod Week
+pub mod Meaning
+pub mod Edges
+pub mod Reading

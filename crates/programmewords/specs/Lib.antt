@@ -1,0 +1,3 @@
+pub mod Programmes
+pub mod Asked
+pub mod ProgrammeLineEdges
