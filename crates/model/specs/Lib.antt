@@ -30,6 +30,7 @@ pub mod QuantumNumbers
 pub mod TwoHops
 pub mod AsFresh
 pub mod Fairness
+pub mod TwoRuns
 -- worked examples, and cards that are sent back
 pub mod PlanBytes
 pub mod EdgeCases
