@@ -63,6 +63,8 @@ pub mod TurnCounts
 pub mod LookFrom
 pub mod Waiting
 pub mod Fairness
+pub mod EventsOfRuns
+pub mod AskedInFrames
 -- edges, cards that demand 3 sends back, streams that meet the premise of the least count, and what its premises on words are for
 pub mod Unfoldings
 pub mod Edges
