@@ -127,3 +127,41 @@ asked-on {P} {i} {h} happened none x = record {
       rw (since-the-start (refusalAt P) h none)
       (omega (arith, x .eleven-in-each-frame f ended, elevens-in-all P (inFrame P i f) h happened));
 }
+
+-- ---- a beginning of the list
+
+-- a refusal with 11 is one in the frame that is then current
+eleven-now : (P : Plan) (i f : ℕ) (e : Event) (h : History) → f < frameOf P (ticks h) → tally (inFrame P i f) (elevenAt e h) ≡ 0
+unfolding tally
+eleven-now P i f (requested w (accepted v)) h lt = refl
+eleven-now P i f (requested w (refused r)) h lt = go (eqb r 11)
+  where
+    go : (b : Bool) → tally (inFrame P i f) (cond b (mark (flowOf w) (ticks h) ∷ []) []) ≡ 0
+    go true = in-frame-skip P i f (mark (flowOf w) (ticks h)) [] (λ z. omega arith)
+    go false = refl
+eleven-now P i f (credited j p a) h lt = refl
+eleven-now P i f (ticked x) h lt = refl
+eleven-now P i f (lent m a) h lt = refl
+eleven-now P i f (Event.reset a) h lt = refl
+
+event-goes-on : {P : Plan} → Accepted P → (e : Event) (h : History) → frameOf P (ticks h) ≤ frameOf P (ticks (e ∷ h))
+unfolding ticks
+event-goes-on ok (requested w a) h = omega arith
+event-goes-on ok (credited j p a) h = omega arith
+event-goes-on ok (ticked x) h = frames-go-on ok (ticks h)
+event-goes-on ok (lent m a) h = omega arith
+event-goes-on ok (Event.reset a) h = omega arith
+
+-- A flow that asks on in a list does so in each of its beginnings.
+pub asks-on-before : {P : Plan} → Accepted P → {i : ℕ} {e : Event} {h : History} → AsksOn P i (e ∷ h) → AsksOn P i h
+unfolding marksOf
+asks-on-before {P} ok {i} {e} {h} x = record {
+  eleven-in-each-frame = λ f ended.
+      omega (
+        arith,
+        x .eleven-in-each-frame f (omega (arith, event-goes-on ok e h)),
+        tally-append (inFrame P i f) (elevenAt e h) (marksOf elevenAt h),
+        eleven-now P i f e h ended,
+      );
+  ready-at-each-request = x .ready-at-each-request .1;
+}

@@ -65,6 +65,7 @@ pub mod Waiting
 pub mod Fairness
 pub mod EventsOfRuns
 pub mod AskedInFrames
+pub mod NewestGrants
 -- edges, cards that demand 3 sends back, streams that meet the premise of the least count, and what its premises on words are for
 pub mod Unfoldings
 pub mod Edges
