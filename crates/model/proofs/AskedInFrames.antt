@@ -48,6 +48,12 @@ module _ (P : Plan) (w : ℕ) (a : Grant) (h : History) where
   asks-without e = rw e
 
   module _ (i : ℕ) where
+    -- one request, by its word and the current slot
+    pub asked-is : (f : ℕ)
+        → askedIn P (requested w a ∷ h) i f ≡ tally (inFrame P i f) (cond (wellFormed P w) (mark (flowOf w) (ticks h) ∷ []) []) + askedIn P h i f
+    unfolding asks
+    asked-is f = tally-append (inFrame P i f) (askAt P (requested w a) h) (asks P h)
+
     -- a request of flow i, well formed
     pub asked-one-more : wellFormed P w ≡ true → flowOf w ≡ i
         → askedIn P (requested w a ∷ h) i (frameOf P (ticks h)) ≡ suc (askedIn P h i (frameOf P (ticks h)))

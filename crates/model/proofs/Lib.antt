@@ -66,6 +66,8 @@ pub mod Fairness
 pub mod EventsOfRuns
 pub mod AskedInFrames
 pub mod NewestGrants
+pub mod AlignedRuns
+pub mod SameFrames
 -- edges, cards that demand 3 sends back, streams that meet the premise of the least count, and what its premises on words are for
 pub mod Unfoldings
 pub mod Edges
