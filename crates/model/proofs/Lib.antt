@@ -86,3 +86,6 @@ pub mod BadNumbers
 pub mod PersistentStream
 pub mod StreamAfterReset
 pub mod OtherPremises
+pub mod Alignments
+pub mod TwoRunsDecided
+pub mod TwoShows
