@@ -89,3 +89,4 @@ pub mod OtherPremises
 pub mod Alignments
 pub mod TwoRunsDecided
 pub mod TwoShows
+pub mod LessAsked
