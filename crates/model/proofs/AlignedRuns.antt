@@ -11,6 +11,11 @@ use Rattle.model.specs.TwoRuns.{SameButNumber, Neighbours, Aligned, star
 use Rattle.model.proofs.HistoryCounts.{NoneGranted}
 use Rattle.model.proofs.AskedInFrames.{asks, askedIn, asked-is, asked-by-another}
 
+-- words that are equal but for their numbers are both well formed, or neither
+pub same-well-formed : (P : Plan) {w₁ w₂ : ℕ} → SameButNumber w₁ w₂ → wellFormed P w₁ ≡ wellFormed P w₂
+unfolding wellFormed
+same-well-formed P same = rw (same .flow, same .destination, same .departure)
+
 module _ (i : ℕ) where
   -- ---- an event of the neighbours
 
@@ -56,11 +61,6 @@ module _ (i : ℕ) where
   none-granted (both-credit x) = let n = none-granted x in ((refl, n .0), (refl, n .1))
   none-granted (first-alone e other x) = let n = none-granted x in ((neighbours-renew e other, n .0), n .1)
   none-granted (second-alone e other x) = let n = none-granted x in (n .0, (neighbours-renew e other, n .1))
-
-  -- words that are equal but for their numbers are both well formed, or neither
-  pub same-well-formed : (P : Plan) {w₁ w₂ : ℕ} → SameButNumber w₁ w₂ → wellFormed P w₁ ≡ wellFormed P w₂
-  unfolding wellFormed
-  same-well-formed P same = rw (same .flow, same .destination, same .departure)
 
   pub aligned-asked : (P : Plan) (f : ℕ) {h₁ h₂ : History} → Aligned i h₁ h₂ → askedIn P h₁ i f ≡ askedIn P h₂ i f
   unfolding asks

@@ -94,14 +94,14 @@ requested-eleven l w = go (request l w .answer) refl
 
 -- what is known of event e, after h
 pub record Happened (P : Plan) (e : Event) (h : History) : Type 0 where
-  pub before : Counts P h
-  pub after : Counts P (e ∷ h)
+  pub counts-before : Counts P h
+  pub counts-after : Counts P (e ∷ h)
   pub word : GrantedWordAt P e h
   pub eleven : ElevenWellFormed P e
 
 module _ {P : Plan} where
   happens : {l k : Link} {e : Event} {h : History} → After P l h → After P k (e ∷ h) → ElevenWellFormed P e → Happened P e h
-  happens g later eleven = record { before = counts g; after = counts later; word = later .events .0 .word; eleven = eleven }
+  happens g later eleven = record { counts-before = counts g; counts-after = counts later; word = later .events .0 .word; eleven = eleven }
 
   one-more : (r : Played paper) (c : Call) → Known P r → Each (Happened P) (r .history) → Each (Happened P) (step paper r c .history)
   one-more r (Call.request w) g each =

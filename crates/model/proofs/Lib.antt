@@ -65,6 +65,7 @@ pub mod Waiting
 pub mod Fairness
 pub mod EventsOfRuns
 pub mod AskedInFrames
+pub mod AskingOn
 pub mod NewestGrants
 pub mod AlignedRuns
 pub mod SameFrames

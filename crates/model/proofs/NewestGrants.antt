@@ -24,27 +24,28 @@ use Rattle.model.proofs.Invariant.{Begun}
 use Rattle.model.proofs.HistoryCounts.{NoneGranted, from-frame-0, refusals-with}
 use Rattle.model.proofs.AfterHistory.{AskedOn}
 use Rattle.model.proofs.EventsOfRuns.{Counts, Happened}
-use Rattle.model.proofs.AskedInFrames.{asks, askedIn, asked-one-more, asked-ill-formed, asked-by-another, asked-later, asked-on, asks-on-before}
+use Rattle.model.proofs.AskedInFrames.{asks, askedIn, asked-one-more, asked-ill-formed, asked-by-another, asked-later}
+use Rattle.model.proofs.AskingOn.{asked-on, asks-on-before}
+
+-- the frame of the current slot, and the newest one
+abbrev pub now : Plan → History → ℕ
+now P h = frameOf P (ticks h)
+
+abbrev pub newestFrame : Plan → History → ℕ
+newestFrame P h = now P h + P .frames - 1
 
 module _ (P : Plan) (i : ℕ) where
-  -- the frame of the current slot, and the newest one
-  abbrev pub now : History → ℕ
-  now h = frameOf P (ticks h)
-
-  abbrev pub newestFrame : History → ℕ
-  newestFrame h = now h + P .frames - 1
-
   -- In a frame after the first, the newest frame has as many of flow i's grants as it asked for in this one, up to its share.
   abbrev Exact : History → Type 0
-  Exact h = 0 < now h → grantedIn P h i (newestFrame h) ≡ min (entry P i .share) (askedIn P h i (now h))
+  Exact h = 0 < now P h → grantedIn P h i (newestFrame P h) ≡ min (entry P i .share) (askedIn P h i (now P h))
 
   -- how a request of flow i is answered, by the number of those before it in its frame
   abbrev pub Decided : Grant → History → Type 0
-  Decided (accepted v) h = (askedIn P h i (now h) < entry P i .share) × (frameOf P (slotAfter P (ticks h) (departureOf v)) ≡ newestFrame h)
-  Decided (refused r) h = entry P i .share ≤ askedIn P h i (now h)
+  Decided (accepted v) h = (askedIn P h i (now P h) < entry P i .share) × (frameOf P (slotAfter P (ticks h) (departureOf v)) ≡ newestFrame P h)
+  Decided (refused r) h = entry P i .share ≤ askedIn P h i (now P h)
 
   abbrev pub DecidedAt : Event → History → Type 0
-  DecidedAt (requested w a) h = wellFormed P w ≡ true → flowOf w ≡ i → 0 < now h → Decided a h
+  DecidedAt (requested w a) h = wellFormed P w ≡ true → flowOf w ≡ i → 0 < now P h → Decided a h
   DecidedAt (credited j p a) h = Unit {0}
   DecidedAt (ticked x) h = Unit {0}
   DecidedAt (lent m a) h = Unit {0}
@@ -59,7 +60,7 @@ module _ {P : Plan} (ok : Accepted P) {i : ℕ} (known : i < flowCount P) {h : H
   share = entry P i .share
 
   abbrev newest : ℕ
-  newest = newestFrame P i h
+  newest = newestFrame P h
 
   -- ---- a grant
 
@@ -71,31 +72,31 @@ module _ {P : Plan} (ok : Accepted P) {i : ℕ} (known : i < flowCount P) {h : H
     with-it = requested w (accepted v) ∷ h
 
     -- the frames before the newest have the whole share already
-    falls-in-newest : flowOf w ≡ i → 0 < now P i h → frameOf P slot ≡ newest
+    falls-in-newest : flowOf w ≡ i → 0 < now P h → frameOf P slot ≡ newest
     unfolding ticks grantsSince
     falls-in-newest own later = go (decLt frame newest)
       where
         frame : ℕ
         frame = frameOf P slot
 
-        low : now P i h ≤ frame
-        low = frame-low ok (now P i h) slot (omega (arith, slot-to-come P (ticks h) (departureOf v), frame-begins ok (ticks h)))
+        low : now P h ≤ frame
+        low = frame-low ok (now P h) slot (omega (arith, slot-to-come P (ticks h) (departureOf v), frame-begins ok (ticks h)))
 
-        high : frame < now P i h + P .frames
-        high = frame-high ok (now P i h + P .frames) slot (omega (arith, x .after .begun .0))
+        high : frame < now P h + P .frames
+        high = frame-high ok (now P h + P .frames) slot (omega (arith, x .counts-after .begun .0))
 
         go : Dec (frame < newest) → frame ≡ newest
         go (no at-least) = omega (arith, high)
         go (yes before) =
-            let full = x .before .after-a-change i known asked (omega (arith, from-0)) frame (omega (arith, from-0, low)) before in
-            let most = x .after .in-frames i known frame in
+            let full = x .counts-before .after-a-change i known asked (omega (arith, from-0)) frame (omega (arith, from-0, low)) before in
+            let most = x .counts-after .in-frames i known frame in
             absurd (omega (arith, in-frame-hit P i frame (mark (flowOf w) slot) (grantsSince P h) own refl))
 
     grant-decided : Exact P i h → DecidedAt P i (requested w (accepted v)) h
     unfolding grantsSince
     grant-decided exact well own later =
         let in-newest = falls-in-newest own later in
-        let most = x .after .in-frames i known newest in
+        let most = x .counts-after .in-frames i known newest in
         let one-more = in-frame-hit P i newest (mark (flowOf w) slot) (grantsSince P h) own in-newest in
         (omega (arith, exact later), in-newest)
 
@@ -103,9 +104,9 @@ module _ {P : Plan} (ok : Accepted P) {i : ℕ} (known : i < flowCount P) {h : H
     unfolding ticks grantsSince
     grant-exact exact later = go (ℕ-discrete (flowOf w) i)
       where
-        go : Dec (flowOf w ≡ i) → grantedIn P with-it i newest ≡ min share (askedIn P with-it i (now P i h))
+        go : Dec (flowOf w ≡ i) → grantedIn P with-it i newest ≡ min share (askedIn P with-it i (now P h))
         go (yes own) =
-            let most = x .after .in-frames i known newest in
+            let most = x .counts-after .in-frames i known newest in
             omega (
               arith,
               exact later,
@@ -117,7 +118,7 @@ module _ {P : Plan} (ok : Accepted P) {i : ℕ} (known : i < flowCount P) {h : H
               arith,
               exact later,
               in-frame-other P i newest (mark (flowOf w) slot) (grantsSince P h) other,
-              asked-by-another P w (accepted v) h i (now P i h) other,
+              asked-by-another P w (accepted v) h i (now P h) other,
             )
 
   -- ---- a refusal
@@ -127,14 +128,14 @@ module _ {P : Plan} (ok : Accepted P) {i : ℕ} (known : i < flowCount P) {h : H
     with-refusal = requested w (refused r) ∷ h
 
     -- the newest frame has the whole share too
-    newest-full : wellFormed P w ≡ true → flowOf w ≡ i → 0 < now P i h → grantedIn P h i newest ≡ share
+    newest-full : wellFormed P w ≡ true → flowOf w ≡ i → 0 < now P h → grantedIn P h i newest ≡ share
     unfolding ticks origin grantsSince
     newest-full well own later =
-        let counted : refusedIn P with-refusal i (now P i h) ≡ suc (refusedIn P h i (now P i h)) =
-        ap (tally (inFrame P i (now P i h))) (refusals-with P w r h well)
-        ∙ in-frame-hit P i (now P i h) (mark (flowOf w) (ticks h)) (refusalsSince P h) own refl in
+        let counted : refusedIn P with-refusal i (now P h) ≡ suc (refusedIn P h i (now P h)) =
+        ap (tally (inFrame P i (now P h))) (refusals-with P w r h well)
+        ∙ in-frame-hit P i (now P h) (mark (flowOf w) (ticks h)) (refusalsSince P h) own refl in
         let two = ok .two-frames in
-        x .after .after-a-refusal i known asked-too (omega (arith, counted)) newest (omega (arith, from-0)) (omega arith)
+        x .counts-after .after-a-refusal i known asked-too (omega (arith, counted)) newest (omega (arith, from-0)) (omega arith)
 
     refusal-decided : Exact P i h → DecidedAt P i (requested w (refused r)) h
     refusal-decided exact well own later = omega (arith, exact later, newest-full well own later)
@@ -143,22 +144,22 @@ module _ {P : Plan} (ok : Accepted P) {i : ℕ} (known : i < flowCount P) {h : H
     unfolding ticks grantsSince
     refusal-exact exact later = go (wellFormed P w) refl (ℕ-discrete (flowOf w) i)
       where
-        go : (b : Bool) → wellFormed P w ≡ b → Dec (flowOf w ≡ i) → grantedIn P h i newest ≡ min share (askedIn P with-refusal i (now P i h))
+        go : (b : Bool) → wellFormed P w ≡ b → Dec (flowOf w ≡ i) → grantedIn P h i newest ≡ min share (askedIn P with-refusal i (now P h))
         go true well (yes own) =
             omega (arith, newest-full well own later, refusal-decided exact well own later, asked-one-more P w (refused r) h i well own)
-        go true well (no other) = omega (arith, exact later, asked-by-another P w (refused r) h i (now P i h) other)
-        go false ill d = omega (arith, exact later, asked-ill-formed P w (refused r) h i (now P i h) ill)
+        go true well (no other) = omega (arith, exact later, asked-by-another P w (refused r) h i (now P h) other)
+        go false ill d = omega (arith, exact later, asked-ill-formed P w (refused r) h i (now P h) ill)
 
 -- ---- a tick
 
 module _ {P : Plan} (ok : Accepted P) (i : ℕ) (h : History) (before : Counts P h) where
   -- nothing is granted yet in a frame past the newest
-  none-past-newest : (f : ℕ) → now P i h + P .frames ≤ f → grantedIn P h i f ≡ 0
+  none-past-newest : (f : ℕ) → now P h + P .frames ≤ f → grantedIn P h i f ≡ 0
   none-past-newest f past = tally-none (inFrame P i f) (grantsSince P h) (all-map _ _ below (grantsSince P h) (before .begun))
     where
       below : (m : Mark) → Begun P (ticks h) m → inFrame P i f m ≡ false
       below m begun =
-          let high = frame-high ok (now P i h + P .frames) (m .slot) (omega arith) in
+          let high = frame-high ok (now P h + P .frames) (m .slot) (omega arith) in
           rw (ne-eqb (frameOf P (m .slot)) f (λ z. omega arith)) (and-false (ofFlow i m))
 
   tick-exact : (x : Turn) → Exact P i h → Exact P i (ticked x ∷ h)
@@ -170,7 +171,7 @@ module _ {P : Plan} (ok : Accepted P) (i : ℕ) (h : History) (before : Counts P
 
       go : Dec (suc (ticks h) % P .slots ≡ 0) → grantedIn P h i (next + P .frames - 1) ≡ min (entry P i .share) (askedIn P h i next)
       go (yes change) =
-          let begins : next ≡ suc (now P i h) = frame-changes ok (ticks h) change in
+          let begins : next ≡ suc (now P h) = frame-changes ok (ticks h) change in
           omega (arith, none-past-newest (next + P .frames - 1) (omega arith), asked-later ok i next h (omega arith))
       go (no same) = let stays = frame-stays ok (ticks h) same in rw stays (exact (rw stays at later))
 
@@ -190,7 +191,7 @@ module _ {P : Plan} (ok : Accepted P) {i : ℕ} (known : i < flowCount P) where
   one-more (requested w (refused r)) h x none from-0 asked asked-too exact =
       (refusal-exact ok known from-0 asked w r x asked-too exact, refusal-decided ok known from-0 asked w r x asked-too exact)
   one-more (credited j p a) h x none from-0 asked asked-too exact = (exact, tt)
-  one-more (ticked a) h x none from-0 asked asked-too exact = (tick-exact ok i h (x .before) a exact, tt)
+  one-more (ticked a) h x none from-0 asked asked-too exact = (tick-exact ok i h (x .counts-before) a exact, tt)
   one-more (lent m a) h x none from-0 asked asked-too exact = (exact, tt)
   one-more (Event.reset (accepted u)) h x none from-0 asked asked-too exact = absurd (let z : _≡_ {A = ℕ} 1 0 = ap bit none in omega arith)
   one-more (Event.reset (refused r)) h x none from-0 asked asked-too exact = (exact, tt)

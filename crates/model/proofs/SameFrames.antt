@@ -26,45 +26,42 @@ record Settled (P : Plan) (i : ℕ) (e : Event) (h : History) : Type 0 where
 
 module _ {P : Plan} (ok : Accepted P) (i : ℕ) where
   -- one request of flow i, in both runs
-  module _ {h₁ h₂ : History} (aligned : Aligned i h₁ h₂) {w₁ w₂ : ℕ} (own : flowOf w₁ ≡ i) (same : SameButNumber w₁ w₂) (later : 1 ≤ changes P h₁) where
+  module _ {h₁ h₂ : History} (aligned : Aligned i h₁ h₂) {w₁ w₂ : ℕ} (own : flowOf w₁ ≡ i) (same : SameButNumber w₁ w₂) (later : 0 < now P h₁) where
     same-slot : ticks h₁ ≡ ticks h₂
     same-slot = aligned-ticks i aligned
 
     own-too : flowOf w₂ ≡ i
     own-too = sym (same .flow) ∙ own
 
-    later₁ : 0 < now P i h₁
-    later₁ = omega (arith, changes-are P ok h₁)
-
-    later₂ : 0 < now P i h₂
-    later₂ = omega (arith, later₁, ap (frameOf P) same-slot)
+    later-too : 0 < now P h₂
+    later-too = omega (arith, ap (frameOf P) same-slot)
 
     -- the flow's requests before it in the frame
-    same-count : askedIn P h₁ i (now P i h₁) ≡ askedIn P h₂ i (now P i h₂)
-    same-count = aligned-asked i P (now P i h₁) aligned ∙ ap (λ t. askedIn P h₂ i (frameOf P t)) same-slot
+    same-count : askedIn P h₁ i (now P h₁) ≡ askedIn P h₂ i (now P h₂)
+    same-count = aligned-asked i P (now P h₁) aligned ∙ ap (λ t. askedIn P h₂ i (frameOf P t)) same-slot
 
     alike : (a₁ a₂ : Grant) → Settled P i (requested w₁ a₁) h₁ → Settled P i (requested w₂ a₂) h₂ → SameFrame P h₁ a₁ h₂ a₂
     alike (accepted v₁) (accepted v₂) x y =
-        let one = x .decided (x .happened .word .asked-well-formed) own later₁ in
-        let two = y .decided (y .happened .word .asked-well-formed) own-too later₂ in
-        one .1 ∙ ap (λ t. frameOf P t + P .frames - 1) same-slot ∙ sym (two .1)
+        let one = x .decided (x .happened .word .asked-well-formed) own later in
+        let two = y .decided (y .happened .word .asked-well-formed) own-too later-too in
+        omega (arith, one .1, two .1, ap (frameOf P) same-slot)
     alike (accepted v₁) (refused r₂) x y =
         let well = x .happened .word .asked-well-formed in
-        let one = x .decided well own later₁ in
-        let two = y .decided (sym (same-well-formed i P same) ∙ well) own-too later₂ in
+        let one = x .decided well own later in
+        let two = y .decided (sym (same-well-formed P same) ∙ well) own-too later-too in
         omega (arith, one .0, same-count)
     alike (refused r₁) (accepted v₂) x y =
         let well = y .happened .word .asked-well-formed in
-        let one = x .decided (same-well-formed i P same ∙ well) own later₁ in
-        let two = y .decided well own-too later₂ in
+        let one = x .decided (same-well-formed P same ∙ well) own later in
+        let two = y .decided well own-too later-too in
         omega (arith, two .0, same-count)
     alike (refused r₁) (refused r₂) x y = tt
 
   each-alike : {h₁ h₂ : History} (aligned : Aligned i h₁ h₂) → Each (Settled P i) h₁ → Each (Settled P i) h₂ → SameFrames P 1 aligned
   each-alike start s₁ s₂ = tt
   each-alike (both-tick x) s₁ s₂ = each-alike x (s₁ .1) (s₂ .1)
-  each-alike (both-request {a₁ = a₁} {a₂ = a₂} own same x) s₁ s₂ =
-      (λ later. alike x own same later a₁ a₂ (s₁ .0) (s₂ .0), each-alike x (s₁ .1) (s₂ .1))
+  each-alike (both-request {h₁ = h₁} {a₁ = a₁} {a₂ = a₂} own same x) s₁ s₂ =
+      (λ later. alike x own same (omega (arith, changes-are P ok h₁)) a₁ a₂ (s₁ .0) (s₂ .0), each-alike x (s₁ .1) (s₂ .1))
   each-alike (both-credit x) s₁ s₂ = each-alike x (s₁ .1) (s₂ .1)
   each-alike (first-alone e other x) s₁ s₂ = each-alike x (s₁ .1) s₂
   each-alike (second-alone e other x) s₁ s₂ = each-alike x s₁ (s₂ .1)

@@ -1,11 +1,11 @@
--- Two runs from one plan in which one flow makes the same calls: what its neighbours can't change. Document 02, N14, "The neighbours can't move a
--- stream's frames". It names no link, only calls and answers. Assumes nothing.
+-- Two runs from one plan in which one flow makes the same calls: what its neighbours can't change. Document 02, N14. It names no link, only calls and
+-- answers. Assumes nothing.
 --
 -- Its limits:
--- - It is said of a flow that asks on in each of the two runs, by `AsksOn`. The runs may differ before: in frame 0 the flow's requests may be answered
---   otherwise (`not-from-the-start`), and so its numbers may be others from then on.
--- - The slot in the frame may differ (`other-slots`). So may what the flow holds, and which of its credits are taken.
--- - A list with a reset, granted or refused, is aligned with no other.
+-- - It is said of a flow that asks on, by `AsksOn`, in both runs. In frame 0 its requests may be answered otherwise in the one than in the other
+--   (`not-from-the-start`), and so its words may carry other numbers from then on.
+-- - "The slot in the frame may differ" (`other-slots`). So may what the flow holds, and which of its credits are taken.
+-- - A list with a reset in it, granted or refused, is aligned with no other. A burst is its requests, as in demand 3's list.
 use Prim.Native.Nat.{ℕ, _≤_, _<_}
 use mathlib.Core.Path.{_≡_}
 use mathlib.Core.List.{List, _∷_, []}
@@ -21,14 +21,14 @@ use Rattle.model.specs.Card.{run, paper}
 
 -- ---- two runs with the same calls of flow i
 
--- "the same requests (quantum numbers aside)": the words' other three fields are equal
+-- requests that are the same, "quantum numbers aside": the other three fields of their words are equal
 pub record SameButNumber (w₁ w₂ : ℕ) : Type 0 where
   pub destination : destinationOf w₁ ≡ destinationOf w₂
   pub flow : flowOf w₁ ≡ flowOf w₂
   pub departure : departureOf w₁ ≡ departureOf w₂
 
--- "the other flows' calls and all lending may differ at will": an event that one run may have by itself. A flow other than i may be one that the plan
--- does not have, and a lend may go to flow i.
+-- An event that one run may have by itself: "the other flows' calls and all lending". Another flow may be one that the plan does not have, and a lend
+-- may go to flow i.
 abbrev pub Neighbours : ℕ → Event → Type 0
 Neighbours i (requested w a) = flowOf w ≡ i → ⊥
 Neighbours i (credited j p a) = j ≡ i → ⊥
@@ -37,8 +37,8 @@ Neighbours i (lent m a) = Unit {0}
 -- "There is no reset."
 Neighbours i (Event.reset a) = ⊥
 
--- "Two runs from one plan have the same ticks, and the same requests (quantum numbers aside) and credits of one flow, in the same places", whatever
--- the answers are. As in a history, the newest event is first.
+-- The two runs have "the same ticks", and flow i's requests and credits "in the same places", whatever their answers are. As in a history, the newest
+-- event is first.
 pub data Aligned (i : ℕ) : (h₁ h₂ : History) → Type 0 where
   start : Aligned i [] []
   both-tick : {h₁ h₂ : History} {x₁ x₂ : Turn} → Aligned i h₁ h₂ → Aligned i (ticked x₁ ∷ h₁) (ticked x₂ ∷ h₂)
@@ -59,21 +59,20 @@ elevenAt (ticked x) h = []
 elevenAt (lent m a) h = []
 elevenAt (Event.reset a) h = []
 
--- "the flow asks until refused with 11 in every frame": at least once in each frame that has ended, from frame 0 on. So it is where the frame that has
--- not ended counts too.
+-- "until refused with 11 in every frame": at least once in each frame that has ended, from frame 0 on. The frame that is current need not count; where
+-- it does, this holds too.
 abbrev pub ElevenInEachFrame : Plan → ℕ → History → Type 0
 ElevenInEachFrame P i h = (f : ℕ) → f < frameOf P (ticks h) → 0 < tally (inFrame P i f) (marksOf elevenAt h)
 
--- "In each run the flow asks until refused with 11 in every frame, never holds all of its cells in a slot from the current one on when it asks, its
--- words name tiles that have come, and each carries the number which that run expects." The last three are `Ready`, at each of its well-formed
--- requests, by the counts of this run.
+-- The flow asks until it is refused with 11; and at each of its well-formed requests it is `Ready`, which is that it has a cell free in every slot "from
+-- the current one on", that its word names a tile that has come, and that it carries "the number which that run expects".
 pub record AsksOn (P : Plan) (i : ℕ) (h : History) : Type 0 where
   pub eleven-in-each-frame : ElevenInEachFrame P i h
   pub ready-at-each-request : Each (ReadyAt P i) h
 
 -- ---- what follows
 
--- "granted in both runs or refused in both, and a grant falls in the same frame", where a₁ is answered after h₁ and a₂ after h₂
+-- "granted in both runs or refused in both, and a grant falls in the same frame": the one is answered a₁ after h₁, the other a₂ after h₂
 abbrev pub SameFrame : Plan → (h₁ : History) (a₁ : Grant) (h₂ : History) (a₂ : Grant) → Type 0
 SameFrame P h₁ (accepted v₁) h₂ (accepted v₂) =
     frameOf P (slotAfter P (ticks h₁) (departureOf v₁)) ≡ frameOf P (slotAfter P (ticks h₂) (departureOf v₂))
@@ -81,7 +80,7 @@ SameFrame P h₁ (accepted v₁) h₂ (refused r₂) = ⊥
 SameFrame P h₁ (refused r₁) h₂ (accepted v₂) = ⊥
 SameFrame P h₁ (refused r₁) h₂ (refused r₂) = Unit {0}
 
--- Each request of flow i, well formed or not, from frame change number k on.
+-- so of each request of flow i, well formed or not, that comes after k frame changes or more
 abbrev pub SameFrames : Plan → (k : ℕ) {i : ℕ} {h₁ h₂ : History} → Aligned i h₁ h₂ → Type 0
 SameFrames P k start = Unit {0}
 SameFrames P k (both-tick x) = SameFrames P k x
@@ -90,8 +89,8 @@ SameFrames P k (both-credit x) = SameFrames P k x
 SameFrames P k (first-alone e other x) = SameFrames P k x
 SameFrames P k (second-alone e other x) = SameFrames P k x
 
--- Of any two lists of calls on the paper's card, from the bytes of one accepted plan, in which flow i's calls are aligned: if Q holds of each run, flow
--- i's requests from frame change number k on fall in the same frames.
+-- Two lists of calls on the paper's card, from the bytes of one accepted plan, and a flow i of it whose calls are aligned; if each run is as Q asks,
+-- flow i's requests fall in the same frames, from frame change number k on.
 abbrev pub UnmovedFrom : (k : ℕ) → (Q : Plan → ℕ → History → Type 0) → Type 0
 UnmovedFrom k Q =
     (bytes : List ℕ) → refusal bytes ≡ 0 → (calls₁ calls₂ : List Call) (i : ℕ) → i < flowCount (planOf bytes)
@@ -99,6 +98,6 @@ UnmovedFrom k Q =
     → Q (planOf bytes) i (run paper (planOf bytes) calls₁ .history) → Q (planOf bytes) i (run paper (planOf bytes) calls₂ .history)
     → SameFrames (planOf bytes) k aligned
 
--- "Then from the first frame change on": this is `same-frames`, in proofs/SameFrames.antt.
+-- "from the first frame change on". That it is so is `same-frames`, in proofs/SameFrames.antt.
 abbrev pub Unmoved : Type 0
 Unmoved = UnmovedFrom 1 AsksOn
