@@ -67,8 +67,7 @@ pub not-from-the-start : UnmovedFrom 0 AsksOn → ⊥
 unfolding pairs-compute
 not-from-the-start unmoved =
     let same = told asks-on 0 unequal (Call.request 0x24000000 ∷ []) (neighbour ++ Call.request 0x24000000 ∷ []) refl (lit< tt) tt tt tt unmoved in
-    let frames : _≡_ {A = ℕ} 0 1 = same .0 (lit≤ tt) in
-    omega arith
+    omega (arith, same .0 (lit≤ tt))
 
 -- ---- without 'until refused with 11 in every frame'
 
@@ -78,16 +77,14 @@ unfolding pairs-compute
 not-from-frame-1 unmoved =
     let calls = Call.request 0x24000000 ∷ tick4 ++ Call.request 0x24000404 ∷ [] in
     let same = told eleven-later 1 unequal calls (neighbour ++ calls) refl (lit< tt) tt tt tt unmoved in
-    let frames : _≡_ {A = ℕ} 1 2 = same .0 (lit≤ tt) in
-    omega arith
+    omega (arith, same .0 (lit≤ tt))
 
 pub not-without-11 : UnmovedFrom 1 WithoutEleven → ⊥
 unfolding pairs-compute
 not-without-11 unmoved =
     let calls = Call.request 0x24000000 ∷ tick4 ++ Call.request 0x24000404 ∷ [] in
     let same = told ready 1 unequal calls (neighbour ++ calls) refl (lit< tt) tt tt tt unmoved in
-    let frames : _≡_ {A = ℕ} 1 2 = same .0 (lit≤ tt) in
-    omega arith
+    omega (arith, same .0 (lit≤ tt))
 
 -- ---- without 'never holds all of its cells'
 
