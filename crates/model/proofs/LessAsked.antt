@@ -14,7 +14,7 @@ use Rattle.model.specs.TwoRuns.{AsksOn, SameFrames, UnmovedFrom}
 use Rattle.model.specs.LessAsked.{HasRoom, WithoutEleven, ElevenLater, WithoutRoom, WithoutCome, WithoutNumber}
 use Rattle.model.proofs.Unfoldings.{plans-compute, calls-compute, counts-compute}
 use Rattle.model.proofs.Decidable.{IsYes, proved}
-use Rattle.model.proofs.ClaimDecided.{has-room, ready-at, each, persistent}
+use Rattle.model.proofs.ClaimDecided.{has-room, persistent}
 use Rattle.model.proofs.OtherPremises.{Decides, come, numbered, both}
 use Rattle.model.proofs.Alignments.{alignment, found}
 use Rattle.model.proofs.TwoRunsDecided.{asks-on, eleven-later, asks-on-by}
@@ -39,11 +39,8 @@ module _ {Q : Plan → ℕ → History → Type 0} (decide : (P : Plan) (i : ℕ
 unfoldable room : Decides HasRoom
 room P i w h = has-room P i h
 
-unfoldable ready : (P : Plan) (i : ℕ) (h : History) → Dec (WithoutEleven P i h)
-ready P i h = each (ready-at P i) h
-
 unfoldable pairs-compute : Unit {0}
-unfolding plans-compute calls-compute counts-compute persistent asks-on eleven-later asks-on-by come numbered both room ready alignment found
+unfolding plans-compute calls-compute counts-compute persistent asks-on eleven-later asks-on-by come numbered both room alignment found
 pairs-compute = tt
 
 -- ---- the calls
@@ -80,11 +77,8 @@ not-from-frame-1 unmoved =
     omega (arith, same .0 (lit≤ tt))
 
 pub not-without-11 : UnmovedFrom 1 WithoutEleven → ⊥
-unfolding pairs-compute
 not-without-11 unmoved =
-    let calls = Call.request 0x24000000 ∷ tick4 ++ Call.request 0x24000404 ∷ [] in
-    let same = told ready 1 unequal calls (neighbour ++ calls) refl (lit< tt) tt tt tt unmoved in
-    omega (arith, same .0 (lit≤ tt))
+    not-from-frame-1 (λ bytes passes calls₁ calls₂ i known aligned one two. unmoved bytes passes calls₁ calls₂ i known aligned (one .ready) (two .ready))
 
 -- ---- without 'never holds all of its cells'
 
