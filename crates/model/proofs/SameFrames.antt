@@ -5,13 +5,13 @@ use mathlib.Core.Path.{_≡_, sym, ap, _∙_}
 use mathlib.Core.List.{List, [], _∷_}
 use native.Mathlib.Omega.{arith}
 use Rattle.model.specs.Word.{flowOf}
-use Rattle.model.specs.Plan.{Plan, flowCount, Accepted}
+use Rattle.model.specs.Plan.{Plan, flowCount, planOf, Accepted}
 use Rattle.model.specs.Calls.{Call, Grant, Event, History, requested, accepted, refused}
 use Rattle.model.specs.History.{ticks, frameOf, changes}
 use Rattle.model.specs.Claim.{Each}
 use Rattle.model.specs.Card.{run, paper}
 use Rattle.model.specs.TwoRuns.{SameButNumber, Aligned, start, both-tick, both-request, both-credit, first-alone, second-alone}
-use Rattle.model.specs.TwoRuns.{AsksOn, SameFrame, SameFrames, Unmoved}
+use Rattle.model.specs.TwoRuns.{AsksOn, SameFrame, SameFrames, UnmovedOn, Unmoved}
 use Rattle.model.proofs.Plan as plan
 use Rattle.model.proofs.HistoryCounts.{NoneGranted, changes-are}
 use Rattle.model.proofs.EventsOfRuns.{Happened, each-happened}
@@ -77,8 +77,11 @@ module _ {P : Plan} (ok : Accepted P) (i : ℕ) where
       each-both [] x y = tt
       each-both (e ∷ h) x y = (record { happened = x .0; decided = y .0 }, each-both h (x .1) (y .1))
 
-pub same-frames : Unmoved
-same-frames bytes passes calls₁ calls₂ i known aligned on₁ on₂ =
-    let ok = plan.accepted bytes passes in
+-- on any plan that keeps the limits, and so on the plan of any bytes that are accepted
+pub same-frames-accepted : (P : Plan) → Accepted P → UnmovedOn P 1 AsksOn
+same-frames-accepted P ok calls₁ calls₂ i known aligned on₁ on₂ =
     let none = none-granted i aligned in
     each-alike ok i aligned (each-settled ok i known calls₁ (none .0) on₁) (each-settled ok i known calls₂ (none .1) on₂)
+
+pub same-frames : Unmoved
+same-frames bytes passes = same-frames-accepted (planOf bytes) (plan.accepted bytes passes)

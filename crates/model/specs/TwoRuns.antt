@@ -89,14 +89,16 @@ SameFrames P k (both-credit x) = SameFrames P k x
 SameFrames P k (first-alone e other x) = SameFrames P k x
 SameFrames P k (second-alone e other x) = SameFrames P k x
 
--- Two lists of calls on the paper's card, from the bytes of one accepted plan, and a flow i of it whose calls are aligned; if each run is as Q asks,
--- flow i's requests fall in the same frames, from frame change number k on.
+-- Two lists of calls on the paper's card, from one plan, and a flow i of it whose calls are aligned. If each run is as Q asks, flow i's requests are
+-- answered so, from frame change number k on.
+abbrev pub UnmovedOn : Plan → (k : ℕ) → (Q : Plan → ℕ → History → Type 0) → Type 0
+UnmovedOn P k Q =
+    (calls₁ calls₂ : List Call) (i : ℕ) → i < flowCount P → (aligned : Aligned i (run paper P calls₁ .history) (run paper P calls₂ .history))
+    → Q P i (run paper P calls₁ .history) → Q P i (run paper P calls₂ .history) → SameFrames P k aligned
+
+-- for the bytes of every accepted plan
 abbrev pub UnmovedFrom : (k : ℕ) → (Q : Plan → ℕ → History → Type 0) → Type 0
-UnmovedFrom k Q =
-    (bytes : List ℕ) → refusal bytes ≡ 0 → (calls₁ calls₂ : List Call) (i : ℕ) → i < flowCount (planOf bytes)
-    → (aligned : Aligned i (run paper (planOf bytes) calls₁ .history) (run paper (planOf bytes) calls₂ .history))
-    → Q (planOf bytes) i (run paper (planOf bytes) calls₁ .history) → Q (planOf bytes) i (run paper (planOf bytes) calls₂ .history)
-    → SameFrames (planOf bytes) k aligned
+UnmovedFrom k Q = (bytes : List ℕ) → refusal bytes ≡ 0 → UnmovedOn (planOf bytes) k Q
 
 -- "from the first frame change on". That it is so is `same-frames`, in proofs/SameFrames.antt.
 abbrev pub Unmoved : Type 0
