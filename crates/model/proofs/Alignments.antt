@@ -1,7 +1,7 @@
 -- Two runs with a flow's calls in the same places are aligned by computation: an alignment of two histories is looked for from the newest event on.
 -- Assumes nothing.
 use Prim.Native.Nat.{ℕ, zero, suc, _+_}
-use mathlib.Core.Path.{_≡_, sym, subst₂}
+use mathlib.Core.Path.{_≡_}
 use mathlib.Core.Logic.{Dec·and}
 use mathlib.Core.List.{_∷_, []}
 use mathlib.Core.Option.{Option, some, none, IsSome}

@@ -1,9 +1,9 @@
 -- What is known of each event of a run of the paper's card: of the counts before it and after it, of a granted word, and of a word refused with 11.
 -- Assumes nothing.
 use Prim.Native.Nat.{ℕ, zero, suc, _+_, _-_, _≤_, _<_}
-use mathlib.Core.Path.{_≡_, refl, sym, ap, _∙_, subst}
+use mathlib.Core.Path.{_≡_, refl, ap, _∙_, subst}
 use mathlib.Core.List.{List, [], _∷_}
-use mathlib.Core.Bool.{Bool, true, false, not, cond}
+use mathlib.Core.Bool.{Bool, true, false, cond}
 use native.Mathlib.Omega.{arith}
 use lib.Dec.{eqb}
 use borrow.Author.Tests.{ne-eqb}
@@ -12,7 +12,7 @@ use Rattle.model.specs.Word.{flowOf}
 use Rattle.model.specs.Plan.{Plan, flowCount, entry, Accepted}
 use Rattle.model.specs.Calls.{Call, Grant, Event, History, requested, credited, ticked, lent, accepted, refused}
 use Rattle.model.specs.Link.{Link, flow}
-use Rattle.model.specs.Request.{wordTests, numberTests, requestTests, requestAfter, request}
+use Rattle.model.specs.Request.{wordTests, numberTests, requestAfter, request}
 use Rattle.model.specs.History.{ticks, frameOf, wellFormed, origin, grantsSince, grantedIn, refusedIn}
 use Rattle.model.specs.Claim.{Each, GrantedWordAt}
 use Rattle.model.specs.Card.{Played, paper, step, play, started, run}

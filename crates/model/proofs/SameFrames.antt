@@ -1,13 +1,13 @@
 -- The neighbours can't move a stream's frames: of two runs from one plan with the same calls of one flow, which asks on in each of them, that flow's
 -- requests are answered alike from the first frame change on, with grants in the same frames. Assumes nothing.
-use Prim.Native.Nat.{ℕ, _+_, _-_, _≤_, _<_}
+use Prim.Native.Nat.{ℕ, _<_}
 use mathlib.Core.Path.{_≡_, sym, ap, _∙_}
 use mathlib.Core.List.{List, [], _∷_}
 use native.Mathlib.Omega.{arith}
 use Rattle.model.specs.Word.{flowOf}
 use Rattle.model.specs.Plan.{Plan, flowCount, planOf, Accepted}
 use Rattle.model.specs.Calls.{Call, Grant, Event, History, requested, accepted, refused}
-use Rattle.model.specs.History.{ticks, frameOf, changes}
+use Rattle.model.specs.History.{ticks, frameOf}
 use Rattle.model.specs.Claim.{Each}
 use Rattle.model.specs.Card.{run, paper}
 use Rattle.model.specs.TwoRuns.{SameButNumber, Aligned, start, both-tick, both-request, both-credit, first-alone, second-alone}

@@ -6,7 +6,7 @@ use mathlib.Core.Option.{some, none}
 use native.Mathlib.Omega.{arith}
 use lib.Dec.{lit<}
 use Rattle.model.specs.Plan.{Plan, planOf, refusal}
-use Rattle.model.specs.Calls.{Call, Event, History, requested, credited, ticked, lent, accepted, refused}
+use Rattle.model.specs.Calls.{Call, History, requested, credited, ticked, lent, accepted, refused}
 use Rattle.model.specs.History.{changes, WasGranted}
 use Rattle.model.specs.Card.{run, paper}
 use Rattle.model.specs.PlanBytes.{unequal}
