@@ -3,7 +3,6 @@
 use Prim.Native.Nat.{ℕ, _<_}
 use mathlib.Core.Path.{_≡_, refl}
 use mathlib.Core.List.{List, _∷_, [], _++_}
-use mathlib.Core.Option.{IsSome}
 use native.Mathlib.Omega.{arith}
 use lib.Dec.{lit<, lit≤}
 use Rattle.model.specs.Plan.{Plan, flowCount, planOf, refusal}
@@ -11,12 +10,13 @@ use Rattle.model.specs.Calls.{Call, History}
 use Rattle.model.specs.Card.{run, paper}
 use Rattle.model.specs.PlanBytes.{plan1, unequal}
 use Rattle.model.specs.TwoRuns.{AsksOn, SameFrames, UnmovedFrom}
+use Rattle.model.specs.Outlines.{outline, NoReset}
 use Rattle.model.specs.LessAsked.{HasRoom, WithoutEleven, ElevenLater, WithoutRoom, WithoutCome, WithoutNumber}
 use Rattle.model.proofs.Unfoldings.{plans-compute, calls-compute, counts-compute}
 use Rattle.model.proofs.Decidable.{IsYes, proved}
 use Rattle.model.proofs.ClaimDecided.{has-room, persistent}
 use Rattle.model.proofs.OtherPremises.{Decides, come, numbered, both}
-use Rattle.model.proofs.Alignments.{alignment, found}
+use Rattle.model.proofs.Outlines.{aligned-by}
 use Rattle.model.proofs.TwoRunsDecided.{asks-on, eleven-later, asks-on-by}
 
 -- what the statement says of flow 0 in two lists of calls that keep its premise Q
@@ -31,16 +31,16 @@ module _ {Q : Plan → ℕ → History → Type 0} (decide : (P : Plan) (i : ℕ
     abbrev h₂ : History
     h₂ = run paper P calls₂ .history
 
-    told : refusal bytes ≡ 0 → 0 < flowCount P → (aligned : IsSome (alignment 0 h₁ h₂)) → IsYes (decide P 0 h₁) → IsYes (decide P 0 h₂)
-        → UnmovedFrom k Q → SameFrames P k (found (alignment 0 h₁ h₂) aligned)
-    told passes known aligned yes₁ yes₂ unmoved =
-        unmoved bytes passes calls₁ calls₂ 0 known (found (alignment 0 h₁ h₂) aligned) (proved (decide P 0 h₁) yes₁) (proved (decide P 0 h₂) yes₂)
+    told : refusal bytes ≡ 0 → 0 < flowCount P → (none₁ : NoReset h₁) (none₂ : NoReset h₂) (same : outline 0 h₁ ≡ outline 0 h₂) → IsYes (decide P 0 h₁)
+        → IsYes (decide P 0 h₂) → UnmovedFrom k Q → SameFrames P k (aligned-by 0 h₁ none₁ h₂ none₂ same)
+    told passes known none₁ none₂ same yes₁ yes₂ unmoved =
+        unmoved bytes passes calls₁ calls₂ 0 known (aligned-by 0 h₁ none₁ h₂ none₂ same) (proved (decide P 0 h₁) yes₁) (proved (decide P 0 h₂) yes₂)
 
 unfoldable room : Decides HasRoom
 room P i w h = has-room P i h
 
 unfoldable pairs-compute : Unit {0}
-unfolding plans-compute calls-compute counts-compute persistent asks-on eleven-later asks-on-by come numbered both room alignment found
+unfolding plans-compute calls-compute counts-compute persistent asks-on eleven-later asks-on-by come numbered both room outline aligned-by
 pairs-compute = tt
 
 -- ---- the calls
@@ -63,7 +63,7 @@ tick4 = Call.tick ∷ Call.tick ∷ Call.tick ∷ Call.tick ∷ []
 pub not-from-the-start : UnmovedFrom 0 AsksOn → ⊥
 unfolding pairs-compute
 not-from-the-start unmoved =
-    let same = told asks-on 0 unequal (Call.request 0x24000000 ∷ []) (neighbour ++ Call.request 0x24000000 ∷ []) refl (lit< tt) tt tt tt unmoved in
+    let same = told asks-on 0 unequal (Call.request 0x24000000 ∷ []) (neighbour ++ Call.request 0x24000000 ∷ []) refl (lit< tt) refl refl refl tt tt unmoved in
     omega (arith, same .0 (lit≤ tt))
 
 -- ---- without 'until refused with 11 in every frame'
@@ -73,7 +73,7 @@ pub not-from-frame-1 : UnmovedFrom 1 ElevenLater → ⊥
 unfolding pairs-compute
 not-from-frame-1 unmoved =
     let calls = Call.request 0x24000000 ∷ tick4 ++ Call.request 0x24000404 ∷ [] in
-    let same = told eleven-later 1 unequal calls (neighbour ++ calls) refl (lit< tt) tt tt tt unmoved in
+    let same = told eleven-later 1 unequal calls (neighbour ++ calls) refl (lit< tt) refl refl refl tt tt unmoved in
     omega (arith, same .0 (lit≤ tt))
 
 pub not-without-11 : UnmovedFrom 1 WithoutEleven → ⊥
@@ -88,7 +88,7 @@ unfolding pairs-compute
 not-without-room unmoved =
     let before = until11 ++ tick4 ++ Call.tick ∷ [] in
     told (asks-on-by (both come numbered)) 1 (plan1 4 2 16 1 3) (before ++ Call.request 0x24000805 ∷ [])
-    (before ++ Call.lend 1 ∷ Call.request 0x24000805 ∷ []) refl (lit< tt) tt tt tt unmoved
+    (before ++ Call.lend 1 ∷ Call.request 0x24000805 ∷ []) refl (lit< tt) refl refl refl tt tt unmoved
     .0 (lit≤ tt)
 
 -- ---- without 'tiles that have come'
@@ -101,7 +101,7 @@ not-without-come unmoved =
     let booked = Call.request 0x24100004 ∷ Call.request 0x24100404 ∷ Call.request 0x24100804
     ∷ Call.request 0x24100C00 ∷ Call.request 0x24101000 ∷ Call.request 0x24101400 ∷ [] in
     told (asks-on-by (both room numbered)) 1 unequal (before ++ Call.request 0x24000802 ∷ []) (before ++ booked ++ Call.request 0x24000802 ∷ []) refl
-    (lit< tt) tt tt tt unmoved
+    (lit< tt) refl refl refl tt tt unmoved
     .0 (lit≤ tt)
 
 -- ---- without 'the number which that run expects'
@@ -111,6 +111,6 @@ pub not-without-number : UnmovedFrom 1 WithoutNumber → ⊥
 unfolding pairs-compute
 not-without-number unmoved =
     let before = until11 ++ tick4 in
-    told (asks-on-by (both room come)) 1 unequal (before ++ Call.request 0x24000804 ∷ []) (before ++ Call.request 0x24000C04 ∷ []) refl (lit< tt) tt tt tt
+    told (asks-on-by (both room come)) 1 unequal (before ++ Call.request 0x24000804 ∷ []) (before ++ Call.request 0x24000C04 ∷ []) refl (lit< tt) refl refl refl tt tt
     unmoved
     .0 (lit≤ tt)

@@ -69,6 +69,7 @@ pub mod AskingOn
 pub mod NewestGrants
 pub mod AlignedRuns
 pub mod SameFrames
+pub mod Outlines
 -- edges, cards that demand 3 sends back, streams that meet the premise of the least count, and what its premises on words are for
 pub mod Unfoldings
 pub mod Edges
@@ -87,7 +88,6 @@ pub mod BadNumbers
 pub mod PersistentStream
 pub mod StreamAfterReset
 pub mod OtherPremises
-pub mod Alignments
 pub mod TwoRunsDecided
 pub mod TwoShows
 pub mod LessAsked

@@ -5,17 +5,19 @@ use mathlib.Core.List.{List, _∷_, [], reverse}
 use mathlib.Core.Option.{some, none}
 use native.Mathlib.Omega.{arith}
 use lib.Dec.{lit<}
+use Rattle.model.specs.Tables.{tally}
 use Rattle.model.specs.Plan.{Plan, planOf, refusal}
 use Rattle.model.specs.Calls.{Call, History, requested, credited, ticked, lent, accepted, refused}
 use Rattle.model.specs.History.{changes, WasGranted}
 use Rattle.model.specs.Card.{run, paper}
 use Rattle.model.specs.PlanBytes.{unequal}
 use Rattle.model.specs.TwoRuns.{Aligned, AsksOn, SameFrames}
+use Rattle.model.specs.Outlines.{outline}
 use Rattle.model.proofs.Unfoldings.{plans-compute, calls-compute, counts-compute}
 use Rattle.model.proofs.Decidable.{proved}
 use Rattle.model.proofs.ClaimDecided.{persistent}
 use Rattle.model.proofs.SameFrames.{same-frames}
-use Rattle.model.proofs.Alignments.{alignment, found}
+use Rattle.model.proofs.Outlines.{aligned-by}
 use Rattle.model.proofs.TwoRunsDecided.{asks-on}
 
 abbrev P : Plan
@@ -76,8 +78,8 @@ unfolding plans-compute
 accepted-plan = refl
 
 pub aligned : Aligned 0 h₁ h₂
-unfolding calls-compute alignment
-aligned = found (alignment 0 h₁ h₂) tt
+unfolding calls-compute tally outline
+aligned = aligned-by 0 h₁ refl h₂ refl refl
 
 pub both-ask-on : AsksOn P 0 h₁ × AsksOn P 0 h₂
 unfolding calls-compute counts-compute persistent asks-on

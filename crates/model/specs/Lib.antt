@@ -31,6 +31,7 @@ pub mod TwoHops
 pub mod AsFresh
 pub mod Fairness
 pub mod TwoRuns
+pub mod Outlines
 pub mod LessAsked
 -- worked examples, and cards that are sent back
 pub mod PlanBytes
