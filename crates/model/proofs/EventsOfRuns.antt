@@ -55,9 +55,9 @@ not-11 false true c e = omega arith
 not-11 false false true e = omega arith
 not-11 false false false e = omega arith
 
-eleven-well-formed : (l : Link) (w : ℕ) → request l w .answer ≡ refused 11 → wellFormed (l .plan) w ≡ true
+well-formed-by-11 : (l : Link) (w : ℕ) → request l w .answer ≡ refused 11 → wellFormed (l .plan) w ≡ true
 unfolding request requestAfter
-eleven-well-formed l w e = go (firstOf (wordTests P w)) refl (rw (request-number P number w) at e)
+well-formed-by-11 l w e = go (firstOf (wordTests P w)) refl (rw (request-number P number w) at e)
   where
     P : Plan
     P = l .plan
@@ -75,20 +75,20 @@ eleven-well-formed l w e = go (firstOf (wordTests P w)) refl (rw (request-number
         absurd (not-11 _ _ _ (tests ∙ refused-number refusal))
 
 -- Where the event is a refusal with 11, the word is well formed.
-abbrev pub ElevenWellFormed : Plan → Event → Type 0
-ElevenWellFormed P (requested w (accepted v)) = Unit {0}
-ElevenWellFormed P (requested w (refused r)) = r ≡ 11 → wellFormed P w ≡ true
-ElevenWellFormed P (credited j p a) = Unit {0}
-ElevenWellFormed P (ticked x) = Unit {0}
-ElevenWellFormed P (lent m a) = Unit {0}
-ElevenWellFormed P (Event.reset a) = Unit {0}
+abbrev pub WellFormedIf11 : Plan → Event → Type 0
+WellFormedIf11 P (requested w (accepted v)) = Unit {0}
+WellFormedIf11 P (requested w (refused r)) = r ≡ 11 → wellFormed P w ≡ true
+WellFormedIf11 P (credited j p a) = Unit {0}
+WellFormedIf11 P (ticked x) = Unit {0}
+WellFormedIf11 P (lent m a) = Unit {0}
+WellFormedIf11 P (Event.reset a) = Unit {0}
 
-requested-eleven : (l : Link) (w : ℕ) → ElevenWellFormed (l .plan) (requested w (request l w .answer))
-requested-eleven l w = go (request l w .answer) refl
+requested-11 : (l : Link) (w : ℕ) → WellFormedIf11 (l .plan) (requested w (request l w .answer))
+requested-11 l w = go (request l w .answer) refl
   where
-    go : (a : Grant) → request l w .answer ≡ a → ElevenWellFormed (l .plan) (requested w a)
+    go : (a : Grant) → request l w .answer ≡ a → WellFormedIf11 (l .plan) (requested w a)
     go (accepted v) e = tt
-    go (refused r) e = λ eleven. eleven-well-formed l w (e ∙ ap refused eleven)
+    go (refused r) e = λ is-11. well-formed-by-11 l w (e ∙ ap refused is-11)
 
 -- ---- each event of a run
 
@@ -97,16 +97,16 @@ pub record Happened (P : Plan) (e : Event) (h : History) : Type 0 where
   pub counts-before : Counts P h
   pub counts-after : Counts P (e ∷ h)
   pub word : GrantedWordAt P e h
-  pub eleven : ElevenWellFormed P e
+  pub well-formed-if-11 : WellFormedIf11 P e
 
 module _ {P : Plan} where
-  happens : {l k : Link} {e : Event} {h : History} → After P l h → After P k (e ∷ h) → ElevenWellFormed P e → Happened P e h
-  happens g later eleven = record { counts-before = counts g; counts-after = counts later; word = later .events .0 .word; eleven = eleven }
+  happens : {l k : Link} {e : Event} {h : History} → After P l h → After P k (e ∷ h) → WellFormedIf11 P e → Happened P e h
+  happens g later if-11 = record { counts-before = counts g; counts-after = counts later; word = later .events .0 .word; well-formed-if-11 = if-11 }
 
   one-more : (r : Played paper) (c : Call) → Known P r → Each (Happened P) (r .history) → Each (Happened P) (step paper r c .history)
   one-more r (Call.request w) g each =
-      let eleven = subst (λ Q. ElevenWellFormed Q (requested w (request (r .state) w .answer))) (g .plan-is) (requested-eleven (r .state) w) in
-      (happens g (after-step r (Call.request w) g) eleven, each)
+      let if-11 = subst (λ Q. WellFormedIf11 Q (requested w (request (r .state) w .answer))) (g .plan-is) (requested-11 (r .state) w) in
+      (happens g (after-step r (Call.request w) g) if-11, each)
   one-more r (Call.credit i p) g each = (happens g (after-step r (Call.credit i p) g) tt, each)
   one-more r Call.tick g each = (happens g (after-step r Call.tick g) tt, each)
   one-more r (Call.lend m) g each = (happens g (after-step r (Call.lend m) g) tt, each)

@@ -1,23 +1,25 @@
--- With any part left out of what is asked of each run, the neighbours can move a stream's frames; and before the first frame change they can in any
--- case. Each by a pair of short lists whose last request tells. Assumes nothing.
+-- With any part left out of what is asked of each run, the frames may differ; and before the first frame change they may in any case. Each by a pair of
+-- short lists. Assumes nothing.
 use Prim.Native.Nat.{ℕ, _<_}
 use mathlib.Core.Path.{_≡_, refl}
 use mathlib.Core.List.{List, _∷_, [], _++_}
 use native.Mathlib.Omega.{arith}
+use native.Mathlib.Decide.{decLe, ℕ-discrete}
 use lib.Dec.{lit<, lit≤}
 use Rattle.model.specs.Plan.{Plan, flowCount, planOf, refusal}
 use Rattle.model.specs.Calls.{Call, History}
 use Rattle.model.specs.Card.{run, paper}
 use Rattle.model.specs.PlanBytes.{plan1, unequal}
-use Rattle.model.specs.TwoRuns.{AsksOn, SameFrames, UnmovedFrom}
+use Rattle.model.specs.TwoRuns.{SameFrames, UnmovedFrom}
 use Rattle.model.specs.Outlines.{outline, NoReset}
-use Rattle.model.specs.LessAsked.{HasRoom, WithoutEleven, ElevenLater, WithoutRoom, WithoutCome, WithoutNumber}
+use Rattle.model.specs.LessAsked.{HasRoom, EveryFrame, Frame0, LaterFrame, AllAsked, Without11, Without11InFrame0, Without11Later}
+use Rattle.model.specs.LessAsked.{WithoutRoom, WithoutCome, WithoutNumber}
 use Rattle.model.proofs.Unfoldings.{plans-compute, calls-compute, counts-compute}
 use Rattle.model.proofs.Decidable.{IsYes, proved}
-use Rattle.model.proofs.ClaimDecided.{has-room, persistent}
+use Rattle.model.proofs.ClaimDecided.{has-room, ready, persistent}
 use Rattle.model.proofs.OtherPremises.{Decides, come, numbered, both}
 use Rattle.model.proofs.Outlines.{aligned-by}
-use Rattle.model.proofs.TwoRunsDecided.{asks-on, eleven-later, asks-on-by}
+use Rattle.model.proofs.TwoRunsDecided.{asks-until-11-by}
 
 -- what the statement says of flow 0 in two lists of calls that keep its premise Q
 module _ {Q : Plan → ℕ → History → Type 0} (decide : (P : Plan) (i : ℕ) (h : History) → Dec (Q P i h)) where
@@ -32,15 +34,24 @@ module _ {Q : Plan → ℕ → History → Type 0} (decide : (P : Plan) (i : ℕ
     h₂ = run paper P calls₂ .history
 
     told : refusal bytes ≡ 0 → 0 < flowCount P → (none₁ : NoReset h₁) (none₂ : NoReset h₂) (same : outline 0 h₁ ≡ outline 0 h₂) → IsYes (decide P 0 h₁)
-        → IsYes (decide P 0 h₂) → UnmovedFrom k Q → SameFrames P k (aligned-by 0 h₁ none₁ h₂ none₂ same)
+        → IsYes (decide P 0 h₂) → UnmovedFrom paper k Q → SameFrames P k (aligned-by 0 h₁ none₁ h₂ none₂ same)
     told passes known none₁ none₂ same yes₁ yes₂ unmoved =
         unmoved bytes passes calls₁ calls₂ 0 known (aligned-by 0 h₁ none₁ h₂ none₂ same) (proved (decide P 0 h₁) yes₁) (proved (decide P 0 h₂) yes₂)
 
 unfoldable room : Decides HasRoom
 room P i w h = has-room P i h
 
+unfoldable every-frame : (f : ℕ) → Dec (EveryFrame f)
+every-frame f = yes tt
+
+unfoldable frame-0 : (f : ℕ) → Dec (Frame0 f)
+frame-0 f = ℕ-discrete f 0
+
+unfoldable later-frame : (f : ℕ) → Dec (LaterFrame f)
+later-frame f = decLe 1 f
+
 unfoldable pairs-compute : Unit {0}
-unfolding plans-compute calls-compute counts-compute persistent asks-on eleven-later asks-on-by come numbered both room outline aligned-by
+unfolding plans-compute calls-compute counts-compute persistent asks-until-11-by come numbered both room every-frame frame-0 later-frame outline aligned-by
 pairs-compute = tt
 
 -- ---- the calls
@@ -60,57 +71,77 @@ tick4 = Call.tick ∷ Call.tick ∷ Call.tick ∷ Call.tick ∷ []
 -- ---- before the first frame change
 
 -- the first request of flow 0: slot 1, of frame 0, and slot 4, of frame 1
-pub not-from-the-start : UnmovedFrom 0 AsksOn → ⊥
+pub not-from-the-start : UnmovedFrom paper 0 AllAsked → ⊥
 unfolding pairs-compute
 not-from-the-start unmoved =
-    let same = told asks-on 0 unequal (Call.request 0x24000000 ∷ []) (neighbour ++ Call.request 0x24000000 ∷ []) refl (lit< tt) refl refl refl tt tt unmoved in
-    omega (arith, same .0 (lit≤ tt))
+    let calls₂ = neighbour ++ Call.request 0x24000000 ∷ Call.request 0x24000400 ∷ Call.request 0x24000400 ∷ [] in
+    let same = told (asks-until-11-by every-frame ready) 0 unequal until11 calls₂ refl (lit< tt) refl refl refl tt tt unmoved in
+    omega (arith, same .1 .1 .0 (lit≤ tt))
 
 -- ---- without 'until refused with 11 in every frame'
 
--- The flow asks once in frame 0 and once in frame 1. Its second slot is 5, of frame 1, and 8, of frame 2: frame 0 is needed in the premise.
-pub not-from-frame-1 : UnmovedFrom 1 ElevenLater → ⊥
+-- Flow 0 asks once in frame 0, and until it is refused with 11 in frame 1. There its first slot is 5, of frame 1, and 8, of frame 2.
+pub not-without-11-in-frame-0 : UnmovedFrom paper 1 Without11InFrame0 → ⊥
 unfolding pairs-compute
-not-from-frame-1 unmoved =
-    let calls = Call.request 0x24000000 ∷ tick4 ++ Call.request 0x24000404 ∷ [] in
-    let same = told eleven-later 1 unequal calls (neighbour ++ calls) refl (lit< tt) refl refl refl tt tt unmoved in
+not-without-11-in-frame-0 unmoved =
+    let before = Call.request 0x24000000 ∷ tick4 ++ Call.request 0x24000404 ∷ [] in
+    let calls₁ = before ++ Call.request 0x24000804 ∷ Call.request 0x24000C04 ∷ [] in
+    let calls₂ = neighbour ++ before ++ Call.request 0x24000804 ∷ Call.request 0x24000804 ∷ [] in
+    let same = told (asks-until-11-by later-frame ready) 1 unequal calls₁ calls₂ refl (lit< tt) refl refl refl tt tt unmoved in
+    omega (arith, same .1 .1 .0 (lit≤ tt))
+
+-- It asks for nothing in frame 1. In frame 2 its slot is 9, of that frame, and 12, of frame 3.
+pub not-without-11-later : UnmovedFrom paper 1 Without11Later → ⊥
+unfolding pairs-compute
+not-without-11-later unmoved =
+    let before = until11 ++ tick4 ++ tick4 in
+    let calls₁ = before ++ Call.request 0x24000800 ∷ [] in
+    let calls₂ = before ++ neighbour ++ Call.request 0x24000800 ∷ [] in
+    let same = told (asks-until-11-by frame-0 ready) 1 unequal calls₁ calls₂ refl (lit< tt) refl refl refl tt tt unmoved in
     omega (arith, same .0 (lit≤ tt))
 
-pub not-without-11 : UnmovedFrom 1 WithoutEleven → ⊥
+pub not-without-11 : UnmovedFrom paper 1 Without11 → ⊥
 not-without-11 unmoved =
-    not-from-frame-1 (λ bytes passes calls₁ calls₂ i known aligned one two. unmoved bytes passes calls₁ calls₂ i known aligned (one .ready) (two .ready))
+    not-without-11-later
+    (λ bytes passes calls₁ calls₂ i known aligned one two.
+    unmoved bytes passes calls₁ calls₂ i known aligned (one .ready-at-each-request) (two .ready-at-each-request))
 
 -- ---- without 'never holds all of its cells'
 
--- One flow with 3 cells: slot 5 is lent to it in the second run, in which it then holds 3. Slot 8 is granted, or 12.
-pub not-without-room : UnmovedFrom 1 WithoutRoom → ⊥
+-- One flow with 3 cells: slot 5 is lent to it in the second run, in which it then holds 3. Slot 8 is granted, or it is refused with 12. After a credit
+-- it asks until it is refused with 11.
+pub not-without-room : UnmovedFrom paper 1 WithoutRoom → ⊥
 unfolding pairs-compute
 not-without-room unmoved =
     let before = until11 ++ tick4 ++ Call.tick ∷ [] in
-    told (asks-on-by (both come numbered)) 1 (plan1 4 2 16 1 3) (before ++ Call.request 0x24000805 ∷ [])
-    (before ++ Call.lend 1 ∷ Call.request 0x24000805 ∷ []) refl (lit< tt) refl refl refl tt tt unmoved
-    .0 (lit≤ tt)
+    let calls₁ = before ++ Call.request 0x24000805 ∷ Call.credit 0 7 ∷ Call.request 0x24000C05 ∷ Call.request 0x24000C05 ∷ [] in
+    let calls₂ = before ++ Call.lend 1 ∷ Call.request 0x24000805 ∷ Call.credit 0 7 ∷ Call.request 0x24000805 ∷ Call.request 0x24000C05 ∷ [] in
+    told (asks-until-11-by every-frame (both come numbered)) 1 (plan1 4 2 16 1 3) calls₁ calls₂ refl (lit< tt) refl refl refl tt tt unmoved
+    .1 .1 .0 (lit≤ tt)
 
 -- ---- without 'tiles that have come'
 
--- At slot 4 flow 0 asks for a tile that comes at slot 10. Slot 11 is granted, or 20 where flow 1 has booked it.
-pub not-without-come : UnmovedFrom 1 WithoutCome → ⊥
+-- At slot 4 flow 0 asks for a tile that comes at slot 10. Slot 11 is granted, or it is refused with 20, where flow 1 has booked that slot. Then it asks
+-- for a tile that has come until it is refused with 11.
+pub not-without-come : UnmovedFrom paper 1 WithoutCome → ⊥
 unfolding pairs-compute
 not-without-come unmoved =
     let before = until11 ++ tick4 in
     let booked = Call.request 0x24100004 ∷ Call.request 0x24100404 ∷ Call.request 0x24100804
     ∷ Call.request 0x24100C00 ∷ Call.request 0x24101000 ∷ Call.request 0x24101400 ∷ [] in
-    told (asks-on-by (both room numbered)) 1 unequal (before ++ Call.request 0x24000802 ∷ []) (before ++ booked ++ Call.request 0x24000802 ∷ []) refl
-    (lit< tt) refl refl refl tt tt unmoved
-    .0 (lit≤ tt)
+    let calls₁ = before ++ Call.request 0x24000802 ∷ Call.request 0x24000C04 ∷ Call.request 0x24000C04 ∷ [] in
+    let calls₂ = before ++ booked ++ Call.request 0x24000802 ∷ Call.request 0x24000804 ∷ Call.request 0x24000C04 ∷ [] in
+    told (asks-until-11-by every-frame (both room numbered)) 1 unequal calls₁ calls₂ refl (lit< tt) refl refl refl tt tt unmoved
+    .1 .1 .0 (lit≤ tt)
 
 -- ---- without 'the number which that run expects'
 
--- 2 is expected. Slot 8 is granted, or 24.
-pub not-without-number : UnmovedFrom 1 WithoutNumber → ⊥
+-- The words of flow 0 are the same in both runs, numbers too. At slot 4 the first run expects 2, and the second 1: the word with 2 is granted slot 8, or
+-- it is refused with 24. Then flow 0 asks until it is refused with 11, with words that one run or the other expects.
+pub not-without-number : UnmovedFrom paper 1 WithoutNumber → ⊥
 unfolding pairs-compute
 not-without-number unmoved =
-    let before = until11 ++ tick4 in
-    told (asks-on-by (both room come)) 1 unequal (before ++ Call.request 0x24000804 ∷ []) (before ++ Call.request 0x24000C04 ∷ []) refl (lit< tt) refl refl refl tt tt
-    unmoved
-    .0 (lit≤ tt)
+    let later = Call.request 0x24000404 ∷ Call.request 0x24000804 ∷ Call.request 0x24000C04 ∷ [] in
+    let calls = until11 ++ tick4 ++ Call.request 0x24000804 ∷ later in
+    told (asks-until-11-by every-frame (both room come)) 1 unequal calls (neighbour ++ calls) refl (lit< tt) refl refl refl tt tt unmoved
+    .1 .1 .1 .0 (lit≤ tt)

@@ -89,5 +89,5 @@ pub mod PersistentStream
 pub mod StreamAfterReset
 pub mod OtherPremises
 pub mod TwoRunsDecided
-pub mod TwoShows
+pub mod DifferingRuns
 pub mod LessAsked

@@ -15,7 +15,7 @@ use Rattle.model.specs.Calls.{Grant, Turn, Event, History, requested, cr
 use Rattle.model.specs.History.{Mark, ticks, slotAfter, frameOf, wellFormed, renews, origin, grantsSince, refusalsSince, ofFlow, inFrame}
 use Rattle.model.specs.History.{grantedIn, refusedIn}
 use Rattle.model.specs.Claim.{Each}
-use Rattle.model.specs.TwoRuns.{AsksOn}
+use Rattle.model.specs.TwoRuns.{AsksUntil11}
 use Rattle.model.proofs.Tests.{and-false}
 use Rattle.model.proofs.Tallies.{all-map, tally-none}
 use Rattle.model.proofs.Slots.{frame-begins, frame-low, frame-high, frame-stays, frame-changes}
@@ -25,7 +25,7 @@ use Rattle.model.proofs.HistoryCounts.{NoneGranted, from-frame-0, refus
 use Rattle.model.proofs.AfterHistory.{AskedOn}
 use Rattle.model.proofs.EventsOfRuns.{Counts, Happened}
 use Rattle.model.proofs.AskedInFrames.{asks, askedIn, asked-one-more, asked-ill-formed, asked-by-another, asked-later}
-use Rattle.model.proofs.AskingOn.{asked-on, asks-on-before}
+use Rattle.model.proofs.AskingOn.{asked-on, until-11-before}
 
 -- the frame of the current slot, and the newest one
 abbrev pub now : Plan → History → ℕ
@@ -196,11 +196,11 @@ module _ {P : Plan} (ok : Accepted P) {i : ℕ} (known : i < flowCount P) where
   one-more (Event.reset (accepted u)) h x none from-0 asked asked-too exact = absurd (let z : _≡_ {A = ℕ} 1 0 = ap bit none in omega arith)
   one-more (Event.reset (refused r)) h x none from-0 asked asked-too exact = (exact, tt)
 
-  pub paced : (h : History) → Each (Happened P) h → NoneGranted h → AsksOn P i h → Paced P i h
+  pub paced : (h : History) → Each (Happened P) h → NoneGranted h → AsksUntil11 P i h → Paced P i h
   unfolding ticks
   paced [] happened none on = record { exact = λ later. absurd (omega (arith, zero-div (P .slots))); decided = tt }
   paced (e ∷ h) happened none on =
-      let before = asks-on-before ok on in
+      let before = until-11-before ok on in
       let rest = paced h (happened .1) (none .1) before in
       let more = one-more e h (happened .0) (none .0) (from-frame-0 P h (none .1)) (asked-on (happened .1) (none .1) before) (asked-on happened none on)
       (rest .exact) in

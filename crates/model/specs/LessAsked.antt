@@ -7,9 +7,9 @@ use Rattle.model.specs.Word.{flowOf}
 use Rattle.model.specs.Plan.{Plan}
 use Rattle.model.specs.Calls.{History}
 use Rattle.model.specs.History.{ticks, frameOf, wellFormed, marksOf, inFrame}
-use Rattle.model.specs.Claim.{Each, AtRequest, Room, ReadyAt}
+use Rattle.model.specs.Claim.{Each, AtRequest, Room, Ready, ReadyAt}
 use Rattle.model.specs.OtherPremises.{Premise, Both, Come, Numbered}
-use Rattle.model.specs.TwoRuns.{elevenAt, ElevenInEachFrame}
+use Rattle.model.specs.TwoRuns.{refusal11At}
 
 -- Q at each of flow i's well-formed requests
 abbrev pub AtEachRequest : Premise → Plan → ℕ → History → Type 0
@@ -18,26 +18,46 @@ AtEachRequest Q P i = Each (AtRequest (λ w h. wellFormed P w ≡ true → flowO
 abbrev pub HasRoom : Premise
 HasRoom P i w h = Room P i h
 
--- without 'until refused with 11 in every frame'
-abbrev pub WithoutEleven : Plan → ℕ → History → Type 0
-WithoutEleven P i = Each (ReadyAt P i)
+-- all three: room, a tile that has come, and the expected number
+abbrev pub IsReady : Premise
+IsReady P i w h = Ready P i w h
 
--- with it in the frames after frame 0 alone
-pub record ElevenLater (P : Plan) (i : ℕ) (h : History) : Type 0 where
-  pub eleven : (f : ℕ) → 1 ≤ f → f < frameOf P (ticks h) → 0 < tally (inFrame P i f) (marksOf elevenAt h)
-  pub ready : Each (ReadyAt P i) h
+-- Flow i is refused with 11 in each frame that counts, and Q holds at each of its well-formed requests. The current frame is one of them here: so by
+-- either reading of 'in every frame' no other part is left out.
+pub record AsksUntil11By (Counts : ℕ → Type 0) (Q : Premise) (P : Plan) (i : ℕ) (h : History) : Type 0 where
+  pub refused-11-in-each-frame : (f : ℕ) → Counts f → f ≤ frameOf P (ticks h) → 0 < tally (inFrame P i f) (marksOf refusal11At h)
+  pub ready-at-each-request : AtEachRequest Q P i h
 
--- with it, and with Q of each request
-pub record AsksOnBy (Q : Premise) (P : Plan) (i : ℕ) (h : History) : Type 0 where
-  pub eleven : ElevenInEachFrame P i h
-  pub requests : AtEachRequest Q P i h
+-- which frames count
+abbrev pub EveryFrame : ℕ → Type 0
+EveryFrame f = Unit {0}
+
+abbrev pub Frame0 : ℕ → Type 0
+Frame0 f = f ≡ 0
+
+abbrev pub LaterFrame : ℕ → Type 0
+LaterFrame f = 1 ≤ f
+
+-- nothing left out
+abbrev pub AllAsked : Plan → ℕ → History → Type 0
+AllAsked = AsksUntil11By EveryFrame IsReady
+
+-- without 'until refused with 11 in every frame'; with it in the frames after frame 0 alone; and with it in frame 0 alone
+abbrev pub Without11 : Plan → ℕ → History → Type 0
+Without11 P i = Each (ReadyAt P i)
+
+abbrev pub Without11InFrame0 : Plan → ℕ → History → Type 0
+Without11InFrame0 = AsksUntil11By LaterFrame IsReady
+
+abbrev pub Without11Later : Plan → ℕ → History → Type 0
+Without11Later = AsksUntil11By Frame0 IsReady
 
 -- without 'never holds all of its cells', without 'tiles that have come', and without 'the number which that run expects'
 abbrev pub WithoutRoom : Plan → ℕ → History → Type 0
-WithoutRoom = AsksOnBy (Both Come Numbered)
+WithoutRoom = AsksUntil11By EveryFrame (Both Come Numbered)
 
 abbrev pub WithoutCome : Plan → ℕ → History → Type 0
-WithoutCome = AsksOnBy (Both HasRoom Numbered)
+WithoutCome = AsksUntil11By EveryFrame (Both HasRoom Numbered)
 
 abbrev pub WithoutNumber : Plan → ℕ → History → Type 0
-WithoutNumber = AsksOnBy (Both HasRoom Come)
+WithoutNumber = AsksUntil11By EveryFrame (Both HasRoom Come)

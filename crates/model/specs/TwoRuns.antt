@@ -2,10 +2,11 @@
 -- answers. Assumes nothing.
 --
 -- Its limits:
--- - It is said of a flow that asks on, by `AsksOn`, in both runs. In frame 0 its requests may be answered otherwise in the one than in the other
+-- - It is said of a flow that asks until it is refused with 11, by `AsksUntil11`, in both runs. A card that never gives 11
+--   keeps it, as no run on it is one: which answers a card gives is for demand 3 to say. In frame 0 its requests may be answered otherwise in the one than in the other
 --   (`not-from-the-start`), and so its words may carry other numbers from then on.
 -- - "The slot in the frame may differ" (`other-slots`). So may what the flow holds, and which of its credits are taken.
--- - A list with a reset in it, granted or refused, is aligned with no other. A burst is its requests, as in demand 3's list.
+-- - A list with a reset in it, granted or refused, is aligned with none. A burst is its requests, as in demand 3's list.
 use Prim.Native.Nat.{ℕ, _≤_, _<_}
 use mathlib.Core.Path.{_≡_}
 use mathlib.Core.List.{List, _∷_, []}
@@ -17,7 +18,7 @@ use Rattle.model.specs.Plan.{Plan, flowCount, planOf, refusal}
 use Rattle.model.specs.Calls.{Call, Grant, Receipt, Turn, Event, History, requested, credited, ticked, lent, accepted, refused}
 use Rattle.model.specs.History.{ticks, slotAfter, frameOf, changes, Mark, marksOf, inFrame}
 use Rattle.model.specs.Claim.{Each, ReadyAt}
-use Rattle.model.specs.Card.{run, paper}
+use Rattle.model.specs.Card.{Card, run}
 
 -- ---- two runs with the same calls of flow i
 
@@ -51,23 +52,23 @@ pub data Aligned (i : ℕ) : (h₁ h₂ : History) → Type 0 where
 -- ---- what is asked of each run
 
 -- the slot in which a request is refused with 11
-abbrev pub elevenAt : Event → History → List Mark
-elevenAt (requested w (accepted v)) h = []
-elevenAt (requested w (refused r)) h = cond (eqb r 11) (record { flow = flowOf w; slot = ticks h } ∷ []) []
-elevenAt (credited j p a) h = []
-elevenAt (ticked x) h = []
-elevenAt (lent m a) h = []
-elevenAt (Event.reset a) h = []
+abbrev pub refusal11At : Event → History → List Mark
+refusal11At (requested w (accepted v)) h = []
+refusal11At (requested w (refused r)) h = cond (eqb r 11) (record { flow = flowOf w; slot = ticks h } ∷ []) []
+refusal11At (credited j p a) h = []
+refusal11At (ticked x) h = []
+refusal11At (lent m a) h = []
+refusal11At (Event.reset a) h = []
 
--- "until refused with 11 in every frame": at least once in each frame that has ended, from frame 0 on. The frame that is current need not count; where
--- it does, this holds too.
-abbrev pub ElevenInEachFrame : Plan → ℕ → History → Type 0
-ElevenInEachFrame P i h = (f : ℕ) → f < frameOf P (ticks h) → 0 < tally (inFrame P i f) (marksOf elevenAt h)
+-- "until refused with 11 in every frame": at least once in each frame that has ended, from frame 0 on. The frame that is current need not count; if
+-- that frame is asked for too, this follows.
+abbrev pub Refused11InEachFrame : Plan → ℕ → History → Type 0
+Refused11InEachFrame P i h = (f : ℕ) → f < frameOf P (ticks h) → 0 < tally (inFrame P i f) (marksOf refusal11At h)
 
 -- The flow asks until it is refused with 11; and at each of its well-formed requests it is `Ready`, which is that it has a cell free in every slot "from
 -- the current one on", that its word names a tile that has come, and that it carries "the number which that run expects".
-pub record AsksOn (P : Plan) (i : ℕ) (h : History) : Type 0 where
-  pub eleven-in-each-frame : ElevenInEachFrame P i h
+pub record AsksUntil11 (P : Plan) (i : ℕ) (h : History) : Type 0 where
+  pub refused-11-in-each-frame : Refused11InEachFrame P i h
   pub ready-at-each-request : Each (ReadyAt P i) h
 
 -- ---- what follows
@@ -89,17 +90,17 @@ SameFrames P k (both-credit x) = SameFrames P k x
 SameFrames P k (first-alone e other x) = SameFrames P k x
 SameFrames P k (second-alone e other x) = SameFrames P k x
 
--- Two lists of calls on the paper's card, from one plan, and a flow i of it whose calls are aligned. If each run is as Q asks, flow i's requests are
--- answered so, from frame change number k on.
-abbrev pub UnmovedOn : Plan → (k : ℕ) → (Q : Plan → ℕ → History → Type 0) → Type 0
-UnmovedOn P k Q =
-    (calls₁ calls₂ : List Call) (i : ℕ) → i < flowCount P → (aligned : Aligned i (run paper P calls₁ .history) (run paper P calls₂ .history))
-    → Q P i (run paper P calls₁ .history) → Q P i (run paper P calls₂ .history) → SameFrames P k aligned
+-- Two lists of calls on a card, from one plan, and a flow i of it whose calls are aligned. If each run is as Q asks, flow i's requests are answered so,
+-- from frame change number k on.
+abbrev pub UnmovedOn : Card → Plan → (k : ℕ) → (Q : Plan → ℕ → History → Type 0) → Type 0
+UnmovedOn c P k Q =
+    (calls₁ calls₂ : List Call) (i : ℕ) → i < flowCount P → (aligned : Aligned i (run c P calls₁ .history) (run c P calls₂ .history))
+    → Q P i (run c P calls₁ .history) → Q P i (run c P calls₂ .history) → SameFrames P k aligned
 
 -- for the bytes of every accepted plan
-abbrev pub UnmovedFrom : (k : ℕ) → (Q : Plan → ℕ → History → Type 0) → Type 0
-UnmovedFrom k Q = (bytes : List ℕ) → refusal bytes ≡ 0 → UnmovedOn (planOf bytes) k Q
+abbrev pub UnmovedFrom : Card → (k : ℕ) → (Q : Plan → ℕ → History → Type 0) → Type 0
+UnmovedFrom c k Q = (bytes : List ℕ) → refusal bytes ≡ 0 → UnmovedOn c (planOf bytes) k Q
 
--- "from the first frame change on". That it is so is `same-frames`, in proofs/SameFrames.antt.
-abbrev pub Unmoved : Type 0
-Unmoved = UnmovedFrom 1 AsksOn
+-- "from the first frame change on". That the paper's card keeps it is `same-frames`, in proofs/SameFrames.antt.
+abbrev pub Unmoved : Card → Type 0
+Unmoved c = UnmovedFrom c 1 AsksUntil11

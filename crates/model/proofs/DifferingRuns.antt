@@ -1,5 +1,5 @@
--- Two runs that meet what is asked of them, over two frame changes: neighbours, lends and numbers differ, a credit is taken in one of them alone, and
--- so does the slot that a request is granted. Assumes nothing.
+-- Two runs that meet what is asked of them, over two frame changes: neighbours, lends, numbers and the slot of a request differ, and a credit is taken
+-- in one of them alone. Assumes nothing.
 use mathlib.Core.Path.{_≡_, refl}
 use mathlib.Core.List.{List, _∷_, [], reverse}
 use mathlib.Core.Option.{some, none}
@@ -11,14 +11,14 @@ use Rattle.model.specs.Calls.{Call, History, requested, credited, ticked
 use Rattle.model.specs.History.{changes, WasGranted}
 use Rattle.model.specs.Card.{run, paper}
 use Rattle.model.specs.PlanBytes.{unequal}
-use Rattle.model.specs.TwoRuns.{Aligned, AsksOn, SameFrames}
+use Rattle.model.specs.TwoRuns.{Aligned, AsksUntil11, SameFrames}
 use Rattle.model.specs.Outlines.{outline}
 use Rattle.model.proofs.Unfoldings.{plans-compute, calls-compute, counts-compute}
 use Rattle.model.proofs.Decidable.{proved}
 use Rattle.model.proofs.ClaimDecided.{persistent}
 use Rattle.model.proofs.SameFrames.{same-frames}
 use Rattle.model.proofs.Outlines.{aligned-by}
-use Rattle.model.proofs.TwoRunsDecided.{asks-on}
+use Rattle.model.proofs.TwoRunsDecided.{asks-until-11}
 
 abbrev P : Plan
 P = planOf unequal
@@ -28,12 +28,12 @@ abbrev calls₁ : List Call
 calls₁ =
     Call.lend 1 ∷ Call.request 0x24000000 ∷ Call.request 0x24000400 ∷ Call.request 0x24000800 ∷ Call.credit 0 1
     ∷ Call.tick ∷ Call.tick ∷ Call.lend 3 ∷ Call.tick ∷ Call.tick
-    -- frame 1: flow 0 asks, with a departure that is no position among it
+    -- frame 1: flow 0 asks; one of its words has a departure that is no position
     ∷ Call.request 0x24000804 ∷ Call.request 0x24000C08 ∷ Call.request 0x24000C04
     -- frame 2
     ∷ Call.tick ∷ Call.tick ∷ Call.tick ∷ Call.tick ∷ Call.request 0x24000C00 ∷ Call.request 0x24001000 ∷ []
 
--- Slot 0 is lent to flow 1, which then takes the slots of frame 0 and most of frame 1, and gives a cell back. There is a word of flow 2, too.
+-- Slot 0 is lent to flow 1, which then takes slots 1 to 3, then 5 to 7, and slot 8 of frame 2, and gives a cell back. There is a word of flow 2, too.
 abbrev calls₂ : List Call
 calls₂ =
     Call.lend 2 ∷ Call.request 0x24100000 ∷ Call.request 0x24100400 ∷ Call.request 0x24100800
@@ -81,9 +81,9 @@ pub aligned : Aligned 0 h₁ h₂
 unfolding calls-compute tally outline
 aligned = aligned-by 0 h₁ refl h₂ refl refl
 
-pub both-ask-on : AsksOn P 0 h₁ × AsksOn P 0 h₂
-unfolding calls-compute counts-compute persistent asks-on
-both-ask-on = (proved (asks-on P 0 h₁) tt, proved (asks-on P 0 h₂) tt)
+pub both-ask-until-11 : AsksUntil11 P 0 h₁ × AsksUntil11 P 0 h₂
+unfolding calls-compute counts-compute persistent asks-until-11
+both-ask-until-11 = (proved (asks-until-11 P 0 h₁) tt, proved (asks-until-11 P 0 h₂) tt)
 
 pub frame-changes : (changes P h₁ ≡ 2) × (changes P h₂ ≡ 2)
 unfolding calls-compute counts-compute
@@ -96,4 +96,4 @@ other-slots = ((lit< tt, λ x. omega arith), (lit< tt, λ x. omega arith))
 
 -- what `same-frames` says of them
 pub frames-are-the-same : SameFrames P 1 aligned
-frames-are-the-same = same-frames unequal accepted-plan calls₁ calls₂ 0 (lit< tt) aligned (both-ask-on .0) (both-ask-on .1)
+frames-are-the-same = same-frames unequal accepted-plan calls₁ calls₂ 0 (lit< tt) aligned (both-ask-until-11 .0) (both-ask-until-11 .1)
