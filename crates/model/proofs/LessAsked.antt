@@ -8,18 +8,18 @@ use native.Mathlib.Decide.{decLe, ℕ-discrete}
 use lib.Dec.{lit<, lit≤}
 use Rattle.model.specs.Plan.{Plan, flowCount, planOf, refusal}
 use Rattle.model.specs.Calls.{Call, History}
-use Rattle.model.specs.Card.{run, paper}
+use Rattle.model.specs.Card.{step, run, paper}
 use Rattle.model.specs.PlanBytes.{plan1, unequal}
 use Rattle.model.specs.TwoRuns.{SameFrames, UnmovedFrom}
 use Rattle.model.specs.Outlines.{outline, NoReset}
 use Rattle.model.specs.LessAsked.{HasRoom, EveryFrame, Frame0, LaterFrame, AllAsked, Without11, Without11InFrame0, Without11Later}
-use Rattle.model.specs.LessAsked.{WithoutRoom, WithoutCome, WithoutNumber}
+use Rattle.model.specs.LessAsked.{WithoutRoom, WithoutCome, WithoutNumber, UnmovedByReset}
 use Rattle.model.proofs.Unfoldings.{plans-compute, calls-compute, counts-compute}
 use Rattle.model.proofs.Decidable.{IsYes, proved}
 use Rattle.model.proofs.ClaimDecided.{has-room, ready, persistent}
 use Rattle.model.proofs.OtherPremises.{Decides, come, numbered, both}
 use Rattle.model.proofs.Outlines.{aligned-by}
-use Rattle.model.proofs.TwoRunsDecided.{asks-until-11-by}
+use Rattle.model.proofs.TwoRunsDecided.{asks-until-11, asks-until-11-by}
 
 -- what the statement says of flow 0 in two lists of calls that keep its premise Q
 module _ {Q : Plan → ℕ → History → Type 0} (decide : (P : Plan) (i : ℕ) (h : History) → Dec (Q P i h)) where
@@ -51,7 +51,7 @@ unfoldable later-frame : (f : ℕ) → Dec (LaterFrame f)
 later-frame f = decLe 1 f
 
 unfoldable pairs-compute : Unit {0}
-unfolding plans-compute calls-compute counts-compute persistent asks-until-11-by come numbered both room every-frame frame-0 later-frame outline aligned-by
+unfolding plans-compute calls-compute counts-compute persistent asks-until-11 asks-until-11-by come numbered both room every-frame frame-0 later-frame outline aligned-by
 pairs-compute = tt
 
 -- ---- the calls
@@ -117,7 +117,7 @@ not-without-room unmoved =
     let calls₁ = before ++ Call.request 0x24000805 ∷ Call.credit 0 7 ∷ Call.request 0x24000C05 ∷ Call.request 0x24000C05 ∷ [] in
     let calls₂ = before ++ Call.lend 1 ∷ Call.request 0x24000805 ∷ Call.credit 0 7 ∷ Call.request 0x24000805 ∷ Call.request 0x24000C05 ∷ [] in
     told (asks-until-11-by every-frame (both come numbered)) 1 (plan1 4 2 16 1 3) calls₁ calls₂ refl (lit< tt) refl refl refl tt tt unmoved
-    .1 .1 .0 (lit≤ tt)
+    .1 .1 .0 (lit≤ {n = 1} tt)
 
 -- ---- without 'tiles that have come'
 
@@ -145,3 +145,20 @@ not-without-number unmoved =
     let calls = until11 ++ tick4 ++ Call.request 0x24000804 ∷ later in
     told (asks-until-11-by every-frame (both room come)) 1 unequal calls (neighbour ++ calls) refl (lit< tt) refl refl refl tt tt unmoved
     .1 .1 .1 .0 (lit≤ tt)
+
+-- ---- without 'There is no reset'
+
+-- Flow 0 has had both of its cells back, and at slot 5 there is a reset: it is granted, or refused with 23 where flow 1 has booked a slot. Then the slot of
+-- flow 0 is 6, of frame 1, and 8, of frame 2.
+pub not-with-a-reset : UnmovedByReset paper → ⊥
+unfolding pairs-compute
+not-with-a-reset unmoved =
+    let calls = until11 ++ Call.credit 0 1 ∷ Call.credit 0 4 ∷ tick4 ++ Call.tick ∷ [] in
+    let booked = calls ++ Call.request 0x24100005 ∷ [] in
+    let P = planOf unequal in
+    let r₁ = run paper P (calls ++ Call.reset ∷ []) in
+    let r₂ = run paper P (booked ++ Call.reset ∷ []) in
+    let aligned = aligned-by 0 (run paper P calls .history) refl (run paper P booked .history) refl refl in
+    let asks₁ = proved (asks-until-11 P 0 (step paper r₁ (Call.request 0x24000805) .history)) tt in
+    let asks₂ = proved (asks-until-11 P 0 (step paper r₂ (Call.request 0x24000805) .history)) tt in
+    omega (arith, unmoved unequal refl calls booked 0x24000805 (lit< tt) aligned (lit≤ tt) r₁ r₂ refl refl asks₁ asks₂)

@@ -1,15 +1,17 @@
 -- What is asked of each of two runs, with one part of it left out: for pairs of runs that show what each part is for. Document 02, N14. Assumes nothing.
 use Prim.Native.Nat.{ℕ, _≤_, _<_}
 use mathlib.Core.Path.{_≡_}
+use mathlib.Core.List.{List, _∷_, [], _++_}
 use mathlib.Core.Bool.{true}
 use Rattle.model.specs.Tables.{tally}
 use Rattle.model.specs.Word.{flowOf}
-use Rattle.model.specs.Plan.{Plan}
-use Rattle.model.specs.Calls.{History}
-use Rattle.model.specs.History.{ticks, frameOf, wellFormed, marksOf, inFrame}
+use Rattle.model.specs.Plan.{Plan, flowCount, planOf, refusal}
+use Rattle.model.specs.Calls.{Call, History}
+use Rattle.model.specs.History.{ticks, frameOf, changes, wellFormed, marksOf, inFrame}
 use Rattle.model.specs.Claim.{Each, AtRequest, Room, Ready, ReadyAt}
+use Rattle.model.specs.Card.{Card, Played, step, run}
 use Rattle.model.specs.OtherPremises.{Premise, Both, Come, Numbered}
-use Rattle.model.specs.TwoRuns.{refusal11At}
+use Rattle.model.specs.TwoRuns.{Aligned, refusal11At, AsksUntil11, SameFrame}
 
 -- Q at each of flow i's well-formed requests
 abbrev pub AtEachRequest : Premise → Plan → ℕ → History → Type 0
@@ -61,3 +63,16 @@ WithoutCome = AsksUntil11By EveryFrame (Both HasRoom Numbered)
 
 abbrev pub WithoutNumber : Plan → ℕ → History → Type 0
 WithoutNumber = AsksUntil11By EveryFrame (Both HasRoom Come)
+
+-- Without 'There is no reset': two aligned runs in which there was a frame change have a reset each, and then the same request of the flow. Each run is
+-- as it is asked to be, and the request is answered alike.
+abbrev pub UnmovedByResetOn : Card → Plan → Type 0
+UnmovedByResetOn c P =
+    (calls₁ calls₂ : List Call) (w : ℕ) → flowOf w < flowCount P → Aligned (flowOf w) (run c P calls₁ .history) (run c P calls₂ .history)
+    → 1 ≤ changes P (run c P calls₁ .history)
+    → (r₁ r₂ : Played c) → r₁ ≡ run c P (calls₁ ++ Call.reset ∷ []) → r₂ ≡ run c P (calls₂ ++ Call.reset ∷ [])
+    → AsksUntil11 P (flowOf w) (step c r₁ (Call.request w) .history) → AsksUntil11 P (flowOf w) (step c r₂ (Call.request w) .history)
+    → SameFrame P (r₁ .history) (c .request (r₁ .state) w .1) (r₂ .history) (c .request (r₂ .state) w .1)
+
+abbrev pub UnmovedByReset : Card → Type 0
+UnmovedByReset c = (bytes : List ℕ) → refusal bytes ≡ 0 → UnmovedByResetOn c (planOf bytes)
