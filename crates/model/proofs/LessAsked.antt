@@ -1,10 +1,10 @@
--- With any part left out of what is asked of each run, the frames may differ; and before the first frame change they may in any case. Each by a pair of
--- short lists. Assumes nothing.
+-- With any part left out of what is asked of each run, or with a reset, the frames may differ; and before the first frame change they may in any case.
+-- Each by a pair of short lists. Assumes nothing.
 use Prim.Native.Nat.{ℕ, _<_}
 use mathlib.Core.Path.{_≡_, refl}
 use mathlib.Core.List.{List, _∷_, [], _++_}
 use native.Mathlib.Omega.{arith}
-use native.Mathlib.Decide.{decLe, ℕ-discrete}
+use native.Mathlib.Decide.{ℕ-discrete}
 use lib.Dec.{lit<, lit≤}
 use Rattle.model.specs.Plan.{Plan, flowCount, planOf, refusal}
 use Rattle.model.specs.Calls.{Call, History}
@@ -12,10 +12,10 @@ use Rattle.model.specs.Card.{step, run, paper}
 use Rattle.model.specs.PlanBytes.{plan1, unequal}
 use Rattle.model.specs.TwoRuns.{SameFrames, UnmovedFrom}
 use Rattle.model.specs.Outlines.{outline, NoReset}
-use Rattle.model.specs.LessAsked.{HasRoom, EveryFrame, Frame0, LaterFrame, AllAsked, Without11, Without11InFrame0, Without11Later}
+use Rattle.model.specs.LessAsked.{HasRoom, EveryFrame, EveryFrameBut, AllAsked, Without11, Without11In}
 use Rattle.model.specs.LessAsked.{WithoutRoom, WithoutCome, WithoutNumber, UnmovedByReset}
 use Rattle.model.proofs.Unfoldings.{plans-compute, calls-compute, counts-compute}
-use Rattle.model.proofs.Decidable.{IsYes, proved}
+use Rattle.model.proofs.Decidable.{IsYes, implies, proved}
 use Rattle.model.proofs.ClaimDecided.{has-room, ready, persistent}
 use Rattle.model.proofs.OtherPremises.{Decides, come, numbered, both}
 use Rattle.model.proofs.Outlines.{aligned-by}
@@ -44,27 +44,24 @@ room P i w h = has-room P i h
 unfoldable every-frame : (f : ℕ) → Dec (EveryFrame f)
 every-frame f = yes tt
 
-unfoldable frame-0 : (f : ℕ) → Dec (Frame0 f)
-frame-0 f = ℕ-discrete f 0
-
-unfoldable later-frame : (f : ℕ) → Dec (LaterFrame f)
-later-frame f = decLe 1 f
+unfoldable but : (g f : ℕ) → Dec (EveryFrameBut g f)
+but g f = implies (ℕ-discrete f g) (no (λ x. x))
 
 unfoldable pairs-compute : Unit {0}
-unfolding plans-compute calls-compute counts-compute persistent asks-until-11 asks-until-11-by come numbered both room every-frame frame-0 later-frame outline aligned-by
+unfolding plans-compute calls-compute counts-compute persistent asks-until-11 asks-until-11-by come numbered both room every-frame but outline aligned-by
 pairs-compute = tt
 
 -- ---- the calls
 
--- flow 1 takes the rest of frame 0
+-- flow 1 takes the slots of the current frame after its first
 abbrev neighbour : List Call
 neighbour = Call.request 0x24100000 ∷ Call.request 0x24100400 ∷ Call.request 0x24100800 ∷ []
 
--- flow 0 is granted slots 1 and 4, and then refused with 11
+-- in frame 0: flow 0 is granted slots 1 and 4, or slot 4 after those, and then refused with 11
 abbrev until11 : List Call
 until11 = Call.request 0x24000000 ∷ Call.request 0x24000400 ∷ Call.request 0x24000800 ∷ []
 
--- to the first slot of frame 1
+-- from the first slot of a frame to that of the next
 abbrev tick4 : List Call
 tick4 = Call.tick ∷ Call.tick ∷ Call.tick ∷ Call.tick ∷ []
 
@@ -81,28 +78,28 @@ not-from-the-start unmoved =
 -- ---- without 'until refused with 11 in every frame'
 
 -- Flow 0 asks once in frame 0, and until it is refused with 11 in frame 1. There its first slot is 5, of frame 1, and 8, of frame 2.
-pub not-without-11-in-frame-0 : UnmovedFrom paper 1 Without11InFrame0 → ⊥
+pub not-without-11-in-frame-0 : UnmovedFrom paper 1 (Without11In 0) → ⊥
 unfolding pairs-compute
 not-without-11-in-frame-0 unmoved =
     let before = Call.request 0x24000000 ∷ tick4 ++ Call.request 0x24000404 ∷ [] in
     let calls₁ = before ++ Call.request 0x24000804 ∷ Call.request 0x24000C04 ∷ [] in
     let calls₂ = neighbour ++ before ++ Call.request 0x24000804 ∷ Call.request 0x24000804 ∷ [] in
-    let same = told (asks-until-11-by later-frame ready) 1 unequal calls₁ calls₂ refl (lit< tt) refl refl refl tt tt unmoved in
+    let same = told (asks-until-11-by (but 0) ready) 1 unequal calls₁ calls₂ refl (lit< tt) refl refl refl tt tt unmoved in
     omega (arith, same .1 .1 .0 (lit≤ tt))
 
--- It asks for nothing in frame 1. In frame 2 its slot is 9, of that frame, and 12, of frame 3.
-pub not-without-11-later : UnmovedFrom paper 1 Without11Later → ⊥
+-- It asks for nothing in frame 1. In frame 2 its first slot is 9, of that frame, and 12, of frame 3.
+pub not-without-11-in-frame-1 : UnmovedFrom paper 1 (Without11In 1) → ⊥
 unfolding pairs-compute
-not-without-11-later unmoved =
+not-without-11-in-frame-1 unmoved =
     let before = until11 ++ tick4 ++ tick4 in
-    let calls₁ = before ++ Call.request 0x24000800 ∷ [] in
-    let calls₂ = before ++ neighbour ++ Call.request 0x24000800 ∷ [] in
-    let same = told (asks-until-11-by frame-0 ready) 1 unequal calls₁ calls₂ refl (lit< tt) refl refl refl tt tt unmoved in
-    omega (arith, same .0 (lit≤ tt))
+    let calls₁ = before ++ Call.request 0x24000800 ∷ Call.request 0x24000C00 ∷ Call.request 0x24001000 ∷ [] in
+    let calls₂ = before ++ neighbour ++ Call.request 0x24000800 ∷ Call.request 0x24000C00 ∷ Call.request 0x24000C00 ∷ [] in
+    let same = told (asks-until-11-by (but 1) ready) 1 unequal calls₁ calls₂ refl (lit< tt) refl refl refl tt tt unmoved in
+    omega (arith, same .1 .1 .0 (lit≤ tt))
 
 pub not-without-11 : UnmovedFrom paper 1 Without11 → ⊥
 not-without-11 unmoved =
-    not-without-11-later
+    not-without-11-in-frame-1
     (λ bytes passes calls₁ calls₂ i known aligned one two.
     unmoved bytes passes calls₁ calls₂ i known aligned (one .ready-at-each-request) (two .ready-at-each-request))
 

@@ -65,7 +65,7 @@ pub mod Waiting
 pub mod Fairness
 pub mod EventsOfRuns
 pub mod AskedInFrames
-pub mod AskingOn
+pub mod AskingUntil11
 pub mod NewestGrants
 pub mod AlignedRuns
 pub mod SameFrames

@@ -1,5 +1,5 @@
--- A flow that asks on: in a frame after the first, each of its well-formed requests is granted exactly if fewer than its share of them came before it in
--- that frame, and then in the newest frame. Assumes nothing.
+-- A flow that asks until it is refused with 11: in a frame after the first, each of its well-formed requests is granted exactly if fewer than its
+-- share of them came before it in that frame, and then in the newest frame. Assumes nothing.
 use Prim.Native.Nat.{ℕ, suc, _+_, _-_, _%_, _≤_, _<_, min}
 use mathlib.Core.Path.{_≡_, refl, ap, _∙_}
 use mathlib.Core.List.{[], _∷_}
@@ -25,7 +25,7 @@ use Rattle.model.proofs.HistoryCounts.{NoneGranted, from-frame-0, refus
 use Rattle.model.proofs.AfterHistory.{AskedOn}
 use Rattle.model.proofs.EventsOfRuns.{Counts, Happened}
 use Rattle.model.proofs.AskedInFrames.{asks, askedIn, asked-one-more, asked-ill-formed, asked-by-another, asked-later}
-use Rattle.model.proofs.AskingOn.{asked-on, until-11-before}
+use Rattle.model.proofs.AskingUntil11.{asked-on, until-11-before}
 
 -- the frame of the current slot, and the newest one
 abbrev pub now : Plan → History → ℕ

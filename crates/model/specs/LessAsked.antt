@@ -1,4 +1,4 @@
--- What is asked of each of two runs, with one part of it left out: for pairs of runs that show what each part is for. Document 02, N14. Assumes nothing.
+-- What is asked of two runs, with one part of it left out: for pairs of runs that show what each part is for. Document 02, N14. Assumes nothing.
 use Prim.Native.Nat.{ℕ, _≤_, _<_}
 use mathlib.Core.Path.{_≡_}
 use mathlib.Core.List.{List, _∷_, [], _++_}
@@ -34,25 +34,19 @@ pub record AsksUntil11By (Counts : ℕ → Type 0) (Q : Premise) (P : Plan) (i :
 abbrev pub EveryFrame : ℕ → Type 0
 EveryFrame f = Unit {0}
 
-abbrev pub Frame0 : ℕ → Type 0
-Frame0 f = f ≡ 0
-
-abbrev pub LaterFrame : ℕ → Type 0
-LaterFrame f = 1 ≤ f
+abbrev pub EveryFrameBut : ℕ → ℕ → Type 0
+EveryFrameBut g f = f ≡ g → ⊥
 
 -- nothing left out
 abbrev pub AllAsked : Plan → ℕ → History → Type 0
 AllAsked = AsksUntil11By EveryFrame IsReady
 
--- without 'until refused with 11 in every frame'; with it in the frames after frame 0 alone; and with it in frame 0 alone
+-- without 'until refused with 11 in every frame', and without it in frame g alone
 abbrev pub Without11 : Plan → ℕ → History → Type 0
 Without11 P i = Each (ReadyAt P i)
 
-abbrev pub Without11InFrame0 : Plan → ℕ → History → Type 0
-Without11InFrame0 = AsksUntil11By LaterFrame IsReady
-
-abbrev pub Without11Later : Plan → ℕ → History → Type 0
-Without11Later = AsksUntil11By Frame0 IsReady
+abbrev pub Without11In : (g : ℕ) → Plan → ℕ → History → Type 0
+Without11In g = AsksUntil11By (EveryFrameBut g) IsReady
 
 -- without 'never holds all of its cells', without 'tiles that have come', and without 'the number which that run expects'
 abbrev pub WithoutRoom : Plan → ℕ → History → Type 0

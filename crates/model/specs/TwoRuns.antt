@@ -2,9 +2,9 @@
 -- answers. Assumes nothing.
 --
 -- Its limits:
--- - It is said of a flow that asks until it is refused with 11, by `AsksUntil11`, in both runs. A card that never gives 11
---   keeps it, as no run on it is one: which answers a card gives is for demand 3 to say. In frame 0 its requests may be answered otherwise in the one than in the other
---   (`not-from-the-start`), and so its words may carry other numbers from then on.
+-- - It is said of a flow that asks until it is refused with 11, by `AsksUntil11`, in both runs. In frame 0 its requests may be answered otherwise in the
+--   one than in the other (`not-from-the-start`), and so its words may carry other numbers from then on.
+-- - A card that never gives 11 keeps it, since no flow has such a run on it. Which answers a card gives is not said here.
 -- - "The slot in the frame may differ" (`other-slots`). So may what the flow holds, and which of its credits are taken.
 -- - A list with a reset in it, granted or refused, is aligned with none. A burst is its requests, as in demand 3's list.
 use Prim.Native.Nat.{ℕ, _≤_, _<_}

@@ -1,4 +1,5 @@
--- A flow that asks on: its refusals with 11 are among those that demand 3 counts, and it asks on in every beginning of the list. Assumes nothing.
+-- A flow that asks until it is refused with 11: its refusals with 11 are among those that demand 3 counts, and it asks so in every beginning of the
+-- list. Assumes nothing.
 use Prim.Native.Nat.{ℕ, _≤_, _<_}
 use mathlib.Core.Path.{_≡_, refl}
 use mathlib.Core.List.{[], _∷_}
@@ -54,7 +55,7 @@ since-each : (Q : Event → History → Type 0) (h : History) → NoneGranted h 
 since-each Q [] none each = tt
 since-each Q (e ∷ h) none each = rw (none .0) (each .0, since-each Q h (none .1) (each .1))
 
--- A flow that asks on by the counts of two runs does so by those of demand 3.
+-- So the flow asks as demand 3 has it.
 pub asked-on : {P : Plan} {i : ℕ} {h : History} → Each (Happened P) h → NoneGranted h → AsksUntil11 P i h → AskedOn P h i
 unfolding refusalsSince
 asked-on {P} {i} {h} happened none x = record {
@@ -88,7 +89,7 @@ event-goes-on ok (ticked x) h = frames-go-on ok (ticks h)
 event-goes-on ok (lent m a) h = omega arith
 event-goes-on ok (Event.reset a) h = omega arith
 
--- A flow that asks on in a list does so in each of its beginnings.
+-- A flow that asks so in a list does in each of its beginnings.
 pub until-11-before : {P : Plan} → Accepted P → {i : ℕ} {e : Event} {h : History} → AsksUntil11 P i (e ∷ h) → AsksUntil11 P i h
 unfolding marksOf
 until-11-before {P} ok {i} {e} {h} x = record {
