@@ -79,11 +79,13 @@ def refused_lend(dice, run, flow):
 
 # How a run's neighbours are: the calls, and how many stand between two calls
 # of the flow.
+QUIET = (), 0
 MANNERS = (
-    ((), 0),
+    QUIET,
     ((ask, ask, ask_oddly, give, no_such_flow, lend, refused_lend), 2),
     ((ask_until_refused,), 1),
     ((ask_until_refused, lend, give), 2),
+    ((ask_until_refused, ask_until_refused, lend, lend_to_it), 2),
     ((lend, lend_to_it), 1),
     ((ask, give), 3),
     ((ask_oddly, give, lend), 3),
@@ -95,7 +97,7 @@ class Neighbours:
 
     def __init__(self, dice, run, flow):
         self.dice, self.run, self.flow = dice, run, flow
-        self.change()
+        self.calls, self.most = QUIET
 
     def change(self):
         self.calls, self.most = self.dice.pick(MANNERS)

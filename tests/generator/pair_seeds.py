@@ -11,8 +11,8 @@ PAIRS = 10              # of a seed
 # and in how many of a hundred frames, requests and so on a premise is given
 # up.
 KINDS = {
-    "small": (6, 3, 8, 0),
-    "few cells": (4, 3, 8, 0),
+    "small": (8, 3, 7, 0),
+    "few cells": (5, 3, 8, 0),
     "single slots": (2, 8, 12, 0),
     "careless": (6, 4, 6, 4),
     "wide": (16, 4, 4, 0),
@@ -44,17 +44,26 @@ def plan(dice, kind):
     return draft
 
 
+def some_flow(dice, draft):
+    """Any flow, or the one with the largest share."""
+    flows = range(len(draft.entries))
+    if dice.chance(40):
+        return dice.pick(flows)
+    return max(flows, key=lambda flow: draft.entries[flow][0])
+
+
 class Pair:
     """The traffic of a pair."""
 
     def __init__(self, dice, kind):
         self.dice = dice
         draft = plan(dice, kind)
-        flow = dice.below(len(draft.entries))
+        flow = some_flow(dice, draft)
         self.both = AlignedRuns(draft, flow)
         self.neighbours = [Neighbours(dice, run, flow)
                            for run in self.both.runs]
         _, _, self.changes, self.careless = KINDS[kind]
+        self.changing = 0 if dice.chance(40) else 100
 
     def between(self):
         for neighbours in self.neighbours:
@@ -77,7 +86,8 @@ class Pair:
 
     def ask(self):
         """Whether some run granted it; None where it would be without room."""
-        if not self.both.make_room() and not self.dice.chance(self.careless):
+        careless = self.dice.chance(self.careless)
+        if not careless and not self.both.make_room():
             return None
         return self.both.ask(self.departure(), self.numbers())
 
@@ -122,19 +132,21 @@ class Pair:
             both.give(run.later_slot(dice))
 
     def some_call(self):
-        self.dice.pick([self.ask, self.ask, self.ask_together,
+        self.dice.pick([self.ask, self.ask, self.ask, self.ask_together,
                         self.ill_formed, self.credit, self.credit])()
 
     def frame(self):
         """A frame in which the flow asks until it is refused."""
         dice, both = self.dice, self.both
         for neighbours in self.neighbours:
-            if dice.chance(50):
+            if dice.chance(self.changing):
                 neighbours.change()
+        self.changing = 60
         when = dice.below(both.plan.frame_slots)
+        often = dice.pick([10, 25, 70])
         due = not dice.chance(self.careless)
         for offset in range(both.plan.frame_slots):
-            if dice.chance(25):
+            if dice.chance(often):
                 self.between()
                 self.some_call()
             if due and offset >= when:
