@@ -16,8 +16,9 @@ THREE_CELLS = plan(4, 2, (1, 3))
 
 class Pair:
     def __init__(self, name, plan_bytes, first, second, broken=None,
-                 says=None):
+                 says=None, flow=0):
         self.name = name
+        self.flow = flow            # whose frames are looked at
         self.first = edge("pair: %s, one run" % name, plan_bytes, *first)
         self.second = edge("pair: %s, the other" % name, plan_bytes, *second)
         self.broken = broken        # the premise that it breaks, or None

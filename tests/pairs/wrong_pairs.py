@@ -1,36 +1,19 @@
 """Pairs of listings that the check has to send back, each with words of the
-fault; right ones, with what is counted in them; and the edges in pairs."""
+fault; right ones, which it must not; and pairs that break one premise."""
 
-from edges import pairs as edge_pairs
-from edges.edge_maker import TICK, ask, burst, credit, edge, lend, plan
-from edges.pairs import FIRST_FRAME, ONE, OTHER, SHARES, WITNESS, Pair, ticks
-from pairs.check import (
-    BOTH_REFUSED, GRANTS_DIFFER, ILL_FORMED, ONE_CREDIT, ONE_LEND,
-    OTHER_NUMBER, OTHER_SLOT, SAME_SLOT, judge)
-from pairs.run import FULL, NO_11
+from edges.edge_maker import TICK, ask, burst, credit, edge, plan
+from edges.pairs import (
+    FIRST_FRAME, ONE, OTHER, PAIRS, SHARES, WITNESS, Pair, ticks)
+from pairs.check import judge
+from pairs.right_pairs import RIGHT, ill, in_second
 
 MOVED = "is granted in frames %d and %d"
 ONE_ONLY = "is granted in one run, refused in the other"
 APART = "not aligned"
 
-# Two frames of flow 0 alone: slot 8 is granted in frame 1, and slot 12 in
-# frame 2.
+# Two frames of flow 0 alone: slot 8 is granted in frame 1.
 SECOND_FRAME = [*FIRST_FRAME, (ask(0), "G 0"), (ask(0), "R 11"),
                 *ticks("-", "-", "-", 0)]
-
-
-def in_second(name, *others):
-    """The last request in slot 4, of flow 0 alone in both, and another last
-    request of the second run."""
-    return Pair(name, SHARES, [*FIRST_FRAME, (ask(0), "G 0")],
-                [*FIRST_FRAME, *others])
-
-
-def ill(name, line, other):
-    """A word of the flow with departure 8, which is T."""
-    return Pair(name, SHARES,
-                [*FIRST_FRAME, (ask(0, departure=8), line)],
-                [*FIRST_FRAME, (ask(0, departure=8), other)])
 
 
 WRONG = [
@@ -80,62 +63,20 @@ WRONG = [
     (Pair("a credit before the request", SHARES,
           [*FIRST_FRAME, (credit(0, 5), "C"), (ask(0), "G 0")],
           [*FIRST_FRAME, (ask(0), "G 0"), (credit(0, 5), "C")]), APART),
+    (Pair("the neighbours' own flow", SHARES, ONE, OTHER, flow=1), APART),
     (in_second("an answer of another call", (ask(0), "C")), "answered 'C'"),
 ]
 
-# With the frame changes up to which they are judged, the premise that is
-# broken, and what is counted.
-RIGHT = [
-    (WITNESS, 2, None, {
-        OTHER_SLOT: 2, BOTH_REFUSED: 2, OTHER_NUMBER: 4, GRANTS_DIFFER: 2,
-        ONE_CREDIT: 1, ONE_LEND: 1}),
-    (Pair("the same run twice", SHARES, ONE, ONE), 2, None,
-     {SAME_SLOT: 2, BOTH_REFUSED: 2}),
-    (ill("an ill-formed word refused alike", "R 10", "R 10"), 1, None,
-     {ILL_FORMED: 1}),
-    # The frame that has not ended needs no 11; frame 0 does.
-    (in_second("no 11 in the last frame", (ask(0), "G 1")), 1, None,
-     {OTHER_SLOT: 1}),
-    (Pair("no 11 in frame 0 of one run", SHARES,
-          [(ask(0), "G 1"), (ask(0), "G 4"), *ticks(0, "-", "-", 0),
-           (ask(0), "G 0")],
-          [(ask(0), "G 1"), (ask(0), "R 11"), *ticks(0, "-", "-", "-"),
-           (ask(0), "R 11")]), 0, NO_11, {GRANTS_DIFFER: 1}),
-    # What is judged before the premise breaks stays judged.
-    (Pair("no 11 in frame 1", SHARES,
-          [*FIRST_FRAME, (ask(0), "G 0"), *ticks("-", "-", "-", 0),
-           (ask(0), "G 4")],
-          [*FIRST_FRAME, (ask(0), "G 1"), *ticks("-", "-", "-", "-"),
-           (ask(0), "R 11")]), 1, NO_11, {OTHER_SLOT: 1}),
-    # Slots 1 and 4 and the lent one; then a credit from slot 6 on, which
-    # leaves the current slot as it is.
-    (Pair("full at the current slot alone", edge_pairs.THREE_CELLS,
-          [*FIRST_FRAME, *ticks("-"), (credit(0, 6), "C"), (ask(0), "G 0")],
-          [*FIRST_FRAME, *ticks("-"), (lend(1), "L 0"), (credit(0, 6), "C"),
-           (ask(0), "R 11")]), 1, FULL, {}),
-    (Pair("a burst of other flows' words too", SHARES,
-          [*FIRST_FRAME, (burst(ask(1), ask(0), ask(1), ask(0)),
-                          "B 0 5", "B 0 0", "B 0 6", "B 11 0")],
-          [*FIRST_FRAME, (ask(0), "G 0"), (lend(2), "R 17"),
-           (ask(0), "R 11")]), 1, None, {SAME_SLOT: 1, BOTH_REFUSED: 1}),
-    # A word and a credit for flow 2, which is not there.
-    (Pair("calls of flows that are not there", SHARES,
-          [*FIRST_FRAME, (ask(0), "G 0")],
-          [*FIRST_FRAME, (ask(2), "R 8"), (credit(2, 5), "R 8"),
-           (ask(0), "G 0")]), 1, None, {SAME_SLOT: 1}),
-]
-
-
 def sent_back(pair, words):
     """What went wrong with a pair that has to be sent back, or None."""
-    faults = judge(0, *pair.runs()).faults
+    faults = judge(pair.flow, *pair.runs()).faults
     found = any(words in fault for fault in faults)
     return None if found else "not sent back: %r" % faults
 
 
 def passed(pair, changes, broken, ways):
     """The same for a right one."""
-    verdict = judge(0, *pair.runs())
+    verdict = judge(pair.flow, *pair.runs())
     found = verdict.changes, verdict.broken, dict(+verdict.ways)
     if verdict.faults or found != (changes, broken, ways):
         return "sent back: %r, %r" % (verdict.faults, found)
@@ -170,6 +111,6 @@ def missed():
         yield name, None if verdict.faults else "not sent back"
     for right in RIGHT:
         yield right[0].name, passed(*right)
-    for pair in edge_pairs.PAIRS:
+    for pair in PAIRS:
         if pair.broken:
             yield "the premise is needed: " + pair.name, premise_needed(pair)
