@@ -1,26 +1,30 @@
 """A seed to its pairs of aligned runs, and to their kind."""
 
 from generator import good_plans
-from generator.aligned_runs import AlignedRuns
 from generator.dice import Dice
-from generator.neighbours import Neighbours
+from generator.traffic.in_pairs import Pair
 
 PAIRS = 10              # of a seed
 
-# The kinds: the most slots and frames of a window, the most frame changes,
-# and in how many of a hundred frames, requests and so on a premise is given
-# up.
+# The kinds: the most slots of a frame that are somebody's, the most frames of
+# the window, the most flows, the most frame changes, and in how many of a
+# hundred places where a premise could break that is left to chance.
 KINDS = {
-    "small": (8, 3, 7, 0),
-    "few cells": (5, 3, 8, 0),
-    "single slots": (2, 8, 12, 0),
-    "careless": (6, 4, 6, 4),
-    "wide": (16, 4, 4, 0),
+    "small": (8, 3, 5, 7, 0),
+    "few cells": (5, 4, 5, 8, 0),
+    "single slots": (2, 8, 2, 12, 0),
+    "careless": (6, 4, 5, 6, 4),
+    "wide": (16, 4, 5, 4, 0),
+    "many flows": (40, 4, 16, 3, 0),
 }
 
 # The kinds of seeds 0, 1, 2 and so on, which then begin again.
-ORDER = ("small", "few cells", "small", "single slots", "small", "careless",
-         "few cells", "wide", "small", "few cells")
+ORDER = (
+    "small", "few cells", "small", "single slots", "small", "careless",
+    "few cells", "wide", "small", "few cells", "small", "many flows", "small",
+    "few cells", "wide", "single slots", "small", "careless", "small",
+    "few cells",
+)
 
 
 def kind_of(seed):
@@ -29,10 +33,10 @@ def kind_of(seed):
 
 
 def plan(dice, kind):
-    most_slots, most_frames, _, _ = KINDS[kind]
+    most_slots, most_frames, most_flows, _, _ = KINDS[kind]
     frame_slots = dice.between(1, most_slots)
     window_frames = dice.between(2, most_frames)
-    flows = min(frame_slots, dice.between(2, 5))
+    flows = min(frame_slots, dice.between(2, most_flows))
 
     def cells(share):
         if kind == "few cells":
@@ -44,125 +48,17 @@ def plan(dice, kind):
     return draft
 
 
-def some_flow(dice, draft):
-    """Any flow, or the one with the largest share."""
-    flows = range(len(draft.entries))
-    if dice.chance(40):
-        return dice.pick(flows)
-    return max(flows, key=lambda flow: draft.entries[flow][0])
-
-
-class Pair:
-    """The traffic of a pair."""
-
-    def __init__(self, dice, kind):
-        self.dice = dice
-        draft = plan(dice, kind)
-        flow = some_flow(dice, draft)
-        self.both = AlignedRuns(draft, flow)
-        self.neighbours = [Neighbours(dice, run, flow)
-                           for run in self.both.runs]
-        _, _, self.changes, self.careless = KINDS[kind]
-        self.changing = 0 if dice.chance(40) else 100
-
-    def between(self):
-        for neighbours in self.neighbours:
-            neighbours.call()
-
-    def departure(self):
-        """Of a tile that has come, in all but careless requests."""
-        both, dice = self.both, self.dice
-        if dice.chance(self.careless):
-            return dice.below(both.plan.slots)
-        slot = both.now() - (dice.between(0, both.offset())
-                             if dice.chance(30) else 0)
-        return slot % both.plan.slots
-
-    def numbers(self):
-        """The runs' own, in all but careless requests."""
-        if self.dice.chance(self.careless):
-            return None, self.dice.below(1024)
-        return None, None
-
-    def ask(self):
-        """Whether some run granted it; None where it would be without room."""
-        careless = self.dice.chance(self.careless)
-        if not careless and not self.both.make_room():
-            return None
-        return self.both.ask(self.departure(), self.numbers())
-
-    def ask_until_refused(self):
-        """Whether it was, with no neighbours left out between."""
-        while True:
-            self.between()
-            granted = self.ask()
-            if not granted:
-                return granted is not None
-
-    def ask_together(self):
-        """Some requests, in a burst in one run."""
-        dice, both = self.dice, self.both
-        count = dice.between(1, 4)
-        if not both.make_room(count) or both.room() < count:
-            return
-        words = []
-        for neighbours in self.neighbours:
-            words.append([word for _ in range(count) for word in (
-                *[neighbours.word() for _ in range(dice.below(4))], None)])
-        both.ask_together(words)
-
-    def ill_formed(self):
-        """A word of the flow with another destination or departure."""
-        dice, both = self.dice, self.both
-        to, departure = both.plan.destination(both.flow), both.now()
-        if dice.chance(50):
-            to = (to + dice.between(1, 63)) % 64
-        else:
-            departure = dice.between(both.plan.slots, 1023)
-        both.ask_word(to << 26 | both.flow << 20 | dice.below(1024) << 10
-                      | departure % 1024)
-
-    def credit(self):
-        """At any position, also at one that no run takes."""
-        dice, both = self.dice, self.both
-        run = dice.pick(both.runs)
-        if dice.chance(10):
-            both.credit(dice.below(both.plan.slots + 3))
-        else:
-            both.give(run.later_slot(dice))
-
-    def some_call(self):
-        self.dice.pick([self.ask, self.ask, self.ask, self.ask_together,
-                        self.ill_formed, self.credit, self.credit])()
-
-    def frame(self):
-        """A frame in which the flow asks until it is refused."""
-        dice, both = self.dice, self.both
-        for neighbours in self.neighbours:
-            if dice.chance(self.changing):
-                neighbours.change()
-        self.changing = 60
-        when = dice.below(both.plan.frame_slots)
-        often = dice.pick([10, 25, 70])
-        due = not dice.chance(self.careless)
-        for offset in range(both.plan.frame_slots):
-            if dice.chance(often):
-                self.between()
-                self.some_call()
-            if due and offset >= when:
-                due = not self.ask_until_refused()
-            self.between()
-            both.tick()
-
-    def files(self):
-        for _ in range(self.dice.between(2, self.changes)):
-            self.frame()
-        if self.dice.chance(50):
-            self.ask_until_refused()
-        return self.both.flow, self.both.files()
-
-
 def generate(seed):
     """The pairs of a seed: of each the flow, and its two call files."""
     dice = Dice(seed)
-    return [Pair(dice, kind_of(seed)).files() for _ in range(PAIRS)]
+    kind = kind_of(seed)
+    *_, changes, careless = KINDS[kind]
+    return [Pair(dice, plan(dice, kind), careless).files(changes)
+            for _ in range(PAIRS)]
+
+
+def files(seed):
+    """The same as files, each with the end of its name."""
+    for place, (_, pair) in enumerate(generate(seed)):
+        for run, data in zip("ab", pair):
+            yield "-%d%s" % (place, run), data
