@@ -17,19 +17,34 @@ BURST, MOST_WORDS, HANDLED = 6, 20, 16
 FILLED = re.compile(r"B (?:0 (\d+)|([1-9]\d*) 0)\Z")
 UNTOUCHED = "B 255 255"
 
-# A program's kinds of records: for each the bytes that have to be 0, the lines
-# that can answer it, and what they tell.
-DOMELINK = {
-    1: ((), re.compile(r"(G|R) (\d+)\Z"), History.request),
-    2: ((4,), re.compile(r"(C)()\Z|(R) (\d+)\Z"), History.credit),
-    3: ((1, 2, 3, 4), re.compile(r"(T) (\d+|-)\Z"), History.tick),
+# The lines that can answer a call, by its kind.
+LINES = {
+    1: re.compile(r"(G|R) (\d+)\Z"),
+    2: re.compile(r"(C)()\Z|(R) (\d+)\Z"),
+    3: re.compile(r"(T) (\d+|-)\Z"),
+    4: re.compile(r"(L|R) (\d+)\Z"),
+    5: re.compile(r"(Z)()\Z|(R) (\d+)\Z"),
 }
-ALLCALLS = {
-    **DOMELINK,
-    4: ((3, 4), re.compile(r"(L|R) (\d+)\Z"), History.lend),
-    5: ((1, 2, 3, 4), re.compile(r"(Z)()\Z|(R) (\d+)\Z"), History.reset),
-    BURST: None,
-}
+
+
+def domelink(told):
+    """Its kinds of records: for each the bytes that have to be 0, the lines
+    that can answer it, and the method of the class that is told of them."""
+    return {1: ((), LINES[1], told.request),
+            2: ((4,), LINES[2], told.credit),
+            3: ((1, 2, 3, 4), LINES[3], told.tick)}
+
+
+def allcalls(told):
+    """The same with three kinds more."""
+    return {**domelink(told),
+            4: ((3, 4), LINES[4], told.lend),
+            5: ((1, 2, 3, 4), LINES[5], told.reset),
+            BURST: None}
+
+
+DOMELINK = domelink(History)
+ALLCALLS = allcalls(History)
 REFUSED = re.compile(r"R (\d+)\Z")
 
 
@@ -65,7 +80,8 @@ def take_handled(history, word, text, kinds):
         return
     position, number = found.groups()
     letter = "R" if position is None else "G"
-    History.request(history, b"\x01" + word, letter, position or number)
+    _, _, tell = kinds[1]
+    tell(history, b"\x01" + word, letter, position or number)
 
 
 def take_untouched(history, word, text, kinds):
@@ -105,6 +121,19 @@ def countable(data):
             and frame_slots > 0 and window_frames > 0)
 
 
+def tell_all(history, data, lines, kinds):
+    """Each line after the plan's, told beside the bytes that it answers."""
+    rest = data[struct.unpack_from("<H", data)[0]:]
+    records = list(in_lines(rest, kinds))
+    if len(lines) != len(records) + 1:
+        history.verdict.faults.append(
+            "%d lines are due, and %d are after the plan's"
+            % (len(records), len(lines) - 1))
+    for (record, take), text in zip(records, lines[1:]):
+        history.place += 1
+        take(history, record, text, kinds)
+
+
 def check(data, lines, kinds=DOMELINK):
     """The verdict on the listing `lines` of the call file `data`."""
     verdict = Verdict()
@@ -116,13 +145,5 @@ def check(data, lines, kinds=DOMELINK):
     if not countable(data):
         verdict.faults.append("accepted a plan that has no slots or flows")
         return verdict
-    history = History(data, verdict)
-    rest = data[struct.unpack_from("<H", data)[0]:]
-    records = list(in_lines(rest, kinds))
-    if len(lines) != len(records) + 1:
-        verdict.faults.append("%d lines are due, and %d are after the plan's"
-                              % (len(records), len(lines) - 1))
-    for (record, take), text in zip(records, lines[1:]):
-        history.place += 1
-        take(history, record, text, kinds)
+    tell_all(History(data, verdict), data, lines, kinds)
     return verdict

@@ -6,9 +6,10 @@ from functools import partial
 
 from demand3 import wrong_listings
 from driver import (
-    cases, plain_rust, question_cases, round_trips, wrong_answers)
+    cases, pair_suite, plain_rust, question_cases, round_trips, wrong_answers)
 from driver.c_side import c_side
 from driver.formats import ALLCALLS
+from driver.pair_suite import PairSuite
 from driver.side_by_side import done
 from driver.suite import Suite
 from driver.tally import (
@@ -21,6 +22,7 @@ from front_door import (
     plan_week, plan_wrong_words, play_files, play_lost_output, slow_reader,
     wrong_arguments)
 from images import self_tests
+from pairs import wrong_pairs
 
 FRONT_DOOR = (play_files, play_lost_output, plan_files, plan_read, plan_week,
               plan_wrong_words, plan_lost_output, old_program, slow_reader,
@@ -45,6 +47,12 @@ def listings():
         yield "listing: " + name, trouble
 
 
+def pairs():
+    """The check of pairs of runs sends back what it has to."""
+    for name, trouble in wrong_pairs.missed():
+        yield "pair: " + name, trouble
+
+
 def answers():
     """Wrong answers of domeplan are told."""
     for name, trouble in wrong_answers.missed():
@@ -66,7 +74,7 @@ def tables():
 def without_program(only):
     """The suite of what the tests themselves have to be."""
     suite = Suite("tests")
-    tests = itertools.chain(listings(), answers(), tables())
+    tests = itertools.chain(listings(), pairs(), answers(), tables())
     for name, trouble in wanted(tests, only):
         suite.test(name, trouble)
     test_all(suite, self_tests.tests(), only)
@@ -177,6 +185,18 @@ def play_programs(suites, only, count, seed):
     return tallies
 
 
+def play_pairs(suites, only, count, seed):
+    """Pairs of runs through each program that reads allcalls' records, and
+    the totals if nothing is left out.  Their suites."""
+    suites = [PairSuite(suite) for suite in suites
+              if suite.form is ALLCALLS and suite.command]
+    play_cases(suites, pair_suite.seeds(count, seed), only)
+    for suite in suites:
+        if not only:
+            suite.totals()
+    return suites
+
+
 def play_questions(suite, only, count, seed):
     """Questions of the show editor, and the totals if nothing is left out.
     The tally of the generated ones."""
@@ -215,9 +235,11 @@ def play_all(domelink, allcalls, domeplan, library, only, count, seed):
     """All tests, those of the programs first.  The suites and the tallies."""
     apart = [without_program(only), front_door((domelink, domeplan), only)]
     with tempfile.TemporaryDirectory() as folder:
-        programs = [domelink, allcalls, *plain_rust.suites(folder, only),
-                    *c_suites(library, folder, only, count, seed)]
+        players = [domelink, allcalls, *plain_rust.suites(folder, only)]
+        programs = players + c_suites(library, folder, only, count, seed)
         tallies = play_programs(
             [suite for suite in programs if suite.command], only, count, seed)
-    tallies.append(play_questions(domeplan, only, count, seed))
-    return programs + [domeplan] + apart, tallies
+        in_pairs = play_pairs(players, only, count, seed)
+    tallies += [in_pairs[0].tally,
+                play_questions(domeplan, only, count, seed)]
+    return programs + in_pairs + [domeplan] + apart, tallies

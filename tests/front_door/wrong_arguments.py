@@ -53,6 +53,10 @@ TESTS_RUN = [
     (["--bursts", "--allcalls", "--write", "1", MISSING],
      "--bursts goes with"),
     (["--bursts", "--resets", "--write", "1", MISSING], "goes with --write"),
+    (["--pairs"], "--pairs goes with"),
+    (["--pairs", "--allcalls", "--write", "1", MISSING],
+     "--pairs goes with"),
+    (["--pairs", "--write", "1", MISSING], "can't be written"),
 ]
 BENCH_RUN = [
     (["0"], "ROUNDS"),

@@ -63,6 +63,13 @@ pub mod TurnCounts
 pub mod LookFrom
 pub mod Waiting
 pub mod Fairness
+pub mod EventsOfRuns
+pub mod AskedInFrames
+pub mod AskingUntil11
+pub mod NewestGrants
+pub mod AlignedRuns
+pub mod SameFrames
+pub mod Outlines
 -- edges, cards that demand 3 sends back, streams that meet the premise of the least count, and what its premises on words are for
 pub mod Unfoldings
 pub mod Edges
@@ -81,3 +88,6 @@ pub mod BadNumbers
 pub mod PersistentStream
 pub mod StreamAfterReset
 pub mod OtherPremises
+pub mod TwoRunsDecided
+pub mod DifferingRuns
+pub mod LessAsked

@@ -86,7 +86,7 @@ not-20 false false true d e = omega arith
 not-20 false false false true e = omega arith
 not-20 false false false false e = omega arith
 
-refused-number : {a b : ℕ} → _≡_ {A = Grant} (refused a) (refused b) → a ≡ b
+pub refused-number : {a b : ℕ} → _≡_ {A = Grant} (refused a) (refused b) → a ≡ b
 refused-number e = cc
 
 pub come-not-20 : (l : Link) (w : ℕ) → later (window l) (departureOf w) (l .current) ≡ false → flow l (flowOf w) .injection < l .plan .frames

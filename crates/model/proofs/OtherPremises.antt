@@ -40,16 +40,16 @@ least-by-claim bytes passes calls i known p =
 -- ---- it does not hold by less
 
 -- a premise that can be decided
-abbrev Decides : Premise → Type 0
+abbrev pub Decides : Premise → Type 0
 Decides Q = (P : Plan) (i w : ℕ) (h : History) → Dec (Q P i w h)
 
-unfoldable come : Decides Come
+unfoldable pub come : Decides Come
 come P i w h = is-true (hasCome P (ticks h) (departureOf w))
 
-unfoldable numbered : Decides Numbered
+unfoldable pub numbered : Decides Numbered
 numbered P i w h = ℕ-discrete (quantumOf w) (expectedNumber P h i)
 
-unfoldable both : {Q R : Premise} → Decides Q → Decides R → Decides (Both Q R)
+unfoldable pub both : {Q R : Premise} → Decides Q → Decides R → Decides (Both Q R)
 both q r P i w h = Dec·and (q P i w h) (r P i w h)
 
 persistent-by : {Q : Premise} → Decides Q → (P : Plan) (i : ℕ) (h : History) → Dec (PersistentBy Q P i h)

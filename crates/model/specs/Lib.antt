@@ -30,6 +30,9 @@ pub mod QuantumNumbers
 pub mod TwoHops
 pub mod AsFresh
 pub mod Fairness
+pub mod TwoRuns
+pub mod Outlines
+pub mod LessAsked
 -- worked examples, and cards that are sent back
 pub mod PlanBytes
 pub mod EdgeCases

@@ -50,3 +50,7 @@ oneShare = plan1 4 2 16 1 8
 -- F = 4, W = 2, three flows with share 1, from nodes 1, 2 and 3 to node 9: the cells of the second are given, the others have 8
 abbrev pub plan3 : (cells1 : ℕ) → List ℕ
 plan3 cells1 = plan 4 2 30 (entry 1 8 1 9 ∷ entry 1 cells1 2 9 ∷ entry 1 8 3 9 ∷ [])
+
+-- F = 4, W = 2, two flows with 8 cells, of which one has share 1 and the other 3
+abbrev pub unequal : List ℕ
+unequal = plan2 4 2 40 1 8 3 8

@@ -1,0 +1,1 @@
+"""Pairs of runs: the neighbours can't move a stream's frames."""
