@@ -4,7 +4,8 @@ import re
 
 from front_door.command import ROOT
 
-FILE = re.compile(r"[\w./-]+\.(?:antt|rt|md|py|rs|c|h|svg|txt)|[\w.-]+/[\w./-]*")
+FILE = re.compile(r"[\w./-]+\.(?:antt|rt|md|py|rs|c|h|svg|txt)"
+                  r"|[\w.-]+/[\w./-]*")
 
 
 def page(name):
