@@ -42,7 +42,7 @@ count_seconds() {
     seconds=0
     while kill -0 $$ 2>/dev/null; do
         printf '\r%s: rt check %s: %s s ' "$script" "$crate" "$seconds" >&2
-        sleep 1 || return
+        sleep 1 2>/dev/null || return
         seconds=$((seconds + 1))
     done
 }
