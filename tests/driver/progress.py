@@ -1,0 +1,85 @@
+"""A line on standard error that says how far the work is.  It is written where
+standard error is a terminal, and nowhere else."""
+
+import os
+import subprocess
+import sys
+import time
+
+BETWEEN = 0.1           # seconds from one writing of the line to the next
+COLUMNS = 80            # where the terminal doesn't say how many it has
+SECOND = 1.0
+
+
+def columns(stream):
+    try:
+        return os.get_terminal_size(stream.fileno()).columns or COLUMNS
+    except OSError:
+        return COLUMNS
+
+
+class Line:
+    def __init__(self, stream):
+        self.stream = stream
+        self.on = stream is not None and stream.isatty()
+        self.width = 0              # of the text that stands there
+
+    def show(self, text):
+        """Writes a text over the one that stands there."""
+        if self.on:
+            text = text[:columns(self.stream) - 1]
+            self.stream.write("\r" + text.ljust(self.width))
+            self.stream.flush()
+            self.width = len(text)
+
+    def clear(self):
+        """Leaves the line empty, for what is printed next."""
+        if self.on and self.width:
+            self.stream.write("\r" + " " * self.width + "\r")
+            self.stream.flush()
+            self.width = 0
+
+
+line = Line(sys.stderr)
+
+
+def counting(sort, things, total):
+    """The things, with the line written before each that comes late enough
+    after the last writing."""
+    end = " of %d" % total if total is not None else " so far"
+    due = 0.0
+    try:
+        for place, thing in enumerate(things):
+            if time.monotonic() >= due:
+                line.show("%s: %d%s" % (sort, place, end))
+                due = time.monotonic() + BETWEEN
+            yield thing
+    finally:
+        line.clear()
+
+
+def counted(sort, things, total=None):
+    """The things as they come, which the line counts."""
+    return counting(sort, things, total) if line.on else things
+
+
+def run(text, words, **options):
+    """subprocess.run with output as text, and a line that counts seconds."""
+    begun = time.monotonic()
+    started = subprocess.Popen(words, encoding="utf-8", errors="replace",
+                               **options)
+    with started:
+        while True:
+            line.show("%s: %d s" % (text, time.monotonic() - begun))
+            try:
+                output, errors = started.communicate(
+                    timeout=SECOND if line.on else None)
+                break
+            except subprocess.TimeoutExpired:
+                pass
+            except BaseException:       # as subprocess.run does
+                started.kill()
+                raise
+    line.clear()
+    return subprocess.CompletedProcess(words, started.returncode, output,
+                                       errors)
