@@ -282,7 +282,8 @@ def output_is_lost(tree):
                         NOT_COMPARED, b"", says)
         if wrong:
             return "%s: %s" % (way, wrong)
-    return None
+    return trouble(start(redirected(">&-", tree.command, "--help")),
+                   NOT_COMPARED, b"", "output was lost")
 
 
 def python3_is_missing(tree):

@@ -188,7 +188,8 @@ def check_output_lost(tree):
                 way, tree.command, "--check", path)), NOT_DONE, b"", says)
             if wrong:
                 return "%s: %s" % (way, wrong)
-    return None
+    return trouble(start(redirected(">&-", tree.command, "--help")),
+                   NOT_DONE, b"", "output was lost")
 
 
 def check_odd_answers(tree):
