@@ -25,6 +25,7 @@ from front_door import (
 from front_door import comparison_page
 from front_door import readme, rules_page
 from front_door import man_pages, progress, versions
+from front_door import check_log, checklist_page, flights, plan_check
 from images import self_tests
 from pairs import wrong_pairs
 
@@ -34,6 +35,7 @@ FRONT_DOOR = (play_files, play_lost_output, plan_files, plan_read, plan_week,
 FRONT_DOOR += (comparison_page,)
 FRONT_DOOR += (readme, rules_page)
 FRONT_DOOR += (versions, man_pages, progress)
+FRONT_DOOR += (plan_check, check_log, checklist_page, flights)
 REFUSALS = range(1, 30)         # those of all programs
 
 
