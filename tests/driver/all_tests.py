@@ -22,15 +22,15 @@ from front_door import (
     asking_editor, old_program, plan_files, plan_lost_output, plan_read,
     plan_week, plan_wrong_words, play_files, play_lost_output, slow_reader,
     wrong_arguments)
-from front_door import man_pages, progress, versions
 from images import self_tests
 from pairs import wrong_pairs
+from front_door import man_pages, progress, versions
 
 FRONT_DOOR = (play_files, play_lost_output, plan_files, plan_read, plan_week,
               plan_wrong_words, plan_lost_output, old_program, slow_reader,
               asking_editor, wrong_arguments)
-FRONT_DOOR += (versions, man_pages, progress)
 REFUSALS = range(1, 30)         # those of all programs
+FRONT_DOOR += (versions, man_pages, progress)
 
 
 def wanted(names, only):
