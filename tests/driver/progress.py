@@ -44,16 +44,18 @@ line = Line(sys.stderr)
 
 
 def counting(sort, things, total):
-    """The things, with the line written before each that comes late enough
-    after the last writing."""
-    end = " of %d" % total if total is not None else " so far"
-    due = 0.0
+    """The things, with a line that says how many are done, written again
+    where the last writing is long enough ago."""
+    text = sort + (": %%d of %d" % total if total is not None
+                   else ": %d so far")
+    line.show(text % 0)
+    due = time.monotonic() + BETWEEN
     try:
-        for place, thing in enumerate(things):
-            if time.monotonic() >= due:
-                line.show("%s: %d%s" % (sort, place, end))
-                due = time.monotonic() + BETWEEN
+        for done, thing in enumerate(things, 1):
             yield thing
+            if time.monotonic() >= due:
+                line.show(text % done)
+                due = time.monotonic() + BETWEEN
     finally:
         line.clear()
 
