@@ -46,15 +46,14 @@ line = Line(sys.stderr)
 def counting(sort, things, total):
     """The things, with a line that says how many are done, written again
     where the last writing is long enough ago."""
-    text = sort + (": %%d of %d" % total if total is not None
-                   else ": %d so far")
-    line.show(text % 0)
+    end = " so far" if total is None else " of %d" % total
+    line.show("%s: 0%s" % (sort, end))
     due = time.monotonic() + BETWEEN
     try:
         for done, thing in enumerate(things, 1):
             yield thing
             if time.monotonic() >= due:
-                line.show(text % done)
+                line.show("%s: %d%s" % (sort, done, end))
                 due = time.monotonic() + BETWEEN
     finally:
         line.clear()
