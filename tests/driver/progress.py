@@ -64,23 +64,27 @@ def counted(sort, things, total=None):
     return counting(sort, things, total) if line.on else things
 
 
+def ended(started, text):
+    """What a process writes; the line counts the seconds up to its end."""
+    begun = time.monotonic()
+    while True:
+        line.show("%s: %d s" % (text, time.monotonic() - begun))
+        try:
+            return started.communicate(timeout=SECOND if line.on else None)
+        except subprocess.TimeoutExpired:
+            pass
+
+
 def run(text, words, **options):
     """subprocess.run with output as text, and a line that counts seconds."""
-    begun = time.monotonic()
-    started = subprocess.Popen(words, encoding="utf-8", errors="replace",
-                               **options)
-    with started:
-        while True:
-            line.show("%s: %d s" % (text, time.monotonic() - begun))
-            try:
-                output, errors = started.communicate(
-                    timeout=SECOND if line.on else None)
-                break
-            except subprocess.TimeoutExpired:
-                pass
-            except BaseException:       # as subprocess.run does
-                started.kill()
-                raise
-    line.clear()
+    with subprocess.Popen(words, encoding="utf-8", errors="replace",
+                          **options) as started:
+        try:
+            output, errors = ended(started, text)
+        except BaseException:       # as subprocess.run does
+            started.kill()
+            raise
+        finally:
+            line.clear()
     return subprocess.CompletedProcess(words, started.returncode, output,
                                        errors)
