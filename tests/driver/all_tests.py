@@ -24,19 +24,19 @@ from front_door import (
     wrong_arguments)
 from front_door import comparison_page
 from front_door import readme, rules_page
-from front_door import man_pages, progress, versions
 from front_door import check_log, checklist_page, flights, plan_check
 from images import self_tests
 from pairs import wrong_pairs
+from front_door import help_pages, man_pages, progress, versions
 
 FRONT_DOOR = (play_files, play_lost_output, plan_files, plan_read, plan_week,
               plan_wrong_words, plan_lost_output, old_program, slow_reader,
               asking_editor, wrong_arguments)
 FRONT_DOOR += (comparison_page,)
 FRONT_DOOR += (readme, rules_page)
-FRONT_DOOR += (versions, man_pages, progress)
 FRONT_DOOR += (plan_check, check_log, checklist_page, flights)
 REFUSALS = range(1, 30)         # those of all programs
+FRONT_DOOR += (versions, help_pages, man_pages, progress)
 
 
 def wanted(names, only):

@@ -44,16 +44,17 @@ line = Line(sys.stderr)
 
 
 def counting(sort, things, total):
-    """The things, with the line written before each that comes late enough
-    after the last writing."""
-    end = " of %d" % total if total is not None else " so far"
-    due = 0.0
+    """The things, with a line that says how many are done, written again
+    where the last writing is long enough ago."""
+    end = " so far" if total is None else " of %d" % total
+    line.show("%s: 0%s" % (sort, end))
+    due = time.monotonic() + BETWEEN
     try:
-        for place, thing in enumerate(things):
-            if time.monotonic() >= due:
-                line.show("%s: %d%s" % (sort, place, end))
-                due = time.monotonic() + BETWEEN
+        for done, thing in enumerate(things, 1):
             yield thing
+            if time.monotonic() >= due:
+                line.show("%s: %d%s" % (sort, done, end))
+                due = time.monotonic() + BETWEEN
     finally:
         line.clear()
 
@@ -63,23 +64,27 @@ def counted(sort, things, total=None):
     return counting(sort, things, total) if line.on else things
 
 
+def ended(started, text):
+    """What a process writes; the line counts the seconds up to its end."""
+    begun = time.monotonic()
+    while True:
+        line.show("%s: %d s" % (text, time.monotonic() - begun))
+        try:
+            return started.communicate(timeout=SECOND if line.on else None)
+        except subprocess.TimeoutExpired:
+            pass
+
+
 def run(text, words, **options):
     """subprocess.run with output as text, and a line that counts seconds."""
-    begun = time.monotonic()
-    started = subprocess.Popen(words, encoding="utf-8", errors="replace",
-                               **options)
-    with started:
-        while True:
-            line.show("%s: %d s" % (text, time.monotonic() - begun))
-            try:
-                output, errors = started.communicate(
-                    timeout=SECOND if line.on else None)
-                break
-            except subprocess.TimeoutExpired:
-                pass
-            except BaseException:       # as subprocess.run does
-                started.kill()
-                raise
-    line.clear()
+    with subprocess.Popen(words, encoding="utf-8", errors="replace",
+                          **options) as started:
+        try:
+            output, errors = ended(started, text)
+        except BaseException:       # as subprocess.run does
+            started.kill()
+            raise
+        finally:
+            line.clear()
     return subprocess.CompletedProcess(words, started.returncode, output,
                                        errors)

@@ -6,14 +6,17 @@ import subprocess
 
 from front_door.command import ROOT, start
 from front_door.plan_tree import PlanTree
-from front_door.play_tree import PlayTree
 from front_door.tree import named
 from simulator.questions import WORDS
 
-PAGES = ("domelink", "domeplan", "play", "plan")
+COMMANDS = {"play": "play", "plan": "plan", "check-log": "check-log",
+            "calls": "tools/calls"}
+PAGES = ("domelink", "domeplan", *COMMANDS)
 SECTIONS = ("NAME", "SYNOPSIS", "DESCRIPTION", "EXIT STATUS", "EXAMPLES",
             "SEE ALSO")
-# Options that a page has and --help has not yet.
+# Commands that have a page and are not here yet, and options that a page has
+# and --help has not yet.
+MISSING = {"check-log", "calls"}
 PENDING = {"play": {"--dense", "--explain", "--window", "--svg", "--timeline",
                     "--page", "--allcalls"},
            "plan": {"--check"}}
@@ -68,29 +71,41 @@ def laid_out(name):
     return done.stderr[:300] or done.returncode and "groff failed"
 
 
-# ---- the scripts' pages
+# ---- pages of commands that have --help
 
 def differing(found, wanted):
     return found != wanted and "%s for %s" % (found, wanted)
 
 
-def options_are_those_of_help(tree):
+def help_of(name):
+    """The words of --help, or None where the command is not here yet."""
+    path = ROOT / COMMANDS[name]
+    if name in MISSING and not path.exists():
+        return None
+    return start([path, "--help"]).output.decode()
+
+
+def options_of_help(name, text):
     """In the synopsis, too."""
-    asked = set(OPTION.findall(tree.start("--help").output.decode()))
-    named_here = {option for head in heads(section(tree.script, "OPTIONS"))
-                  for option in OPTION.findall(head)}
-    in_synopsis = set(OPTION.findall(section(tree.script, "SYNOPSIS")))
-    return differing(in_synopsis, named_here) or differing(
-        named_here - PENDING[tree.script] - NOT_IN_HELP,
-        asked - PENDING[tree.script] - NOT_IN_HELP)
+    described = {option for head in heads(section(name, "OPTIONS"))
+                 for option in OPTION.findall(head)}
+    in_synopsis = set(OPTION.findall(section(name, "SYNOPSIS")))
+    left_out = PENDING.get(name, set()) | NOT_IN_HELP
+    return differing(in_synopsis, described) or differing(
+        described - left_out, set(OPTION.findall(text)) - left_out)
 
 
-def statuses_are_those_of_help(tree):
+def statuses_of_help(name, text):
     """What --help says after 'Exit status' is numbers with what they mean."""
-    text = tree.start("--help").output.decode().split("Exit status")[1]
-    asked = re.findall(r"(?:^:|[;\n])\s*(\d)\s", text)
-    return differing(set(heads(section(tree.script, "EXIT STATUS"))),
-                     set(asked))
+    after = text.split("Exit status")[1]
+    return differing(set(heads(section(name, "EXIT STATUS"))),
+                     set(re.findall(r"(?:^:|[;\n])\s*(\d)\s", after)))
+
+
+def as_help(name):
+    text = help_of(name)
+    return text is not None and (options_of_help(name, text)
+                                 or statuses_of_help(name, text))
 
 
 def example_of_a_week(tree):
@@ -130,9 +145,6 @@ def examples_of_domeplan(programs):
             or differing(answers, answered))
 
 
-SCRIPTS = (options_are_those_of_help, statuses_are_those_of_help)
-
-
 def tests(programs):
     for name in PAGES:
         for test in (complete, laid_out):
@@ -142,5 +154,6 @@ def tests(programs):
     for test in (examples_of_domelink, examples_of_domeplan):
         yield ("man: " + test.__name__.replace("_", " "),
                lambda test=test: test(programs))
-    yield from named(PlayTree, SCRIPTS, programs)
-    yield from named(PlanTree, (*SCRIPTS, example_of_a_week), programs)
+    for name in COMMANDS:
+        yield "man %s: as help" % name, lambda name=name: as_help(name)
+    yield from named(PlanTree, (example_of_a_week,), programs)
