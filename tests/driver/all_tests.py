@@ -21,12 +21,14 @@ from front_door import (
     asking_editor, old_program, plan_files, plan_lost_output, plan_read,
     plan_week, plan_wrong_words, play_files, play_lost_output, slow_reader,
     wrong_arguments)
+from front_door import calls_text, play_explain, play_options, play_states
 from images import self_tests
 from pairs import wrong_pairs
 
 FRONT_DOOR = (play_files, play_lost_output, plan_files, plan_read, plan_week,
               plan_wrong_words, plan_lost_output, old_program, slow_reader,
               asking_editor, wrong_arguments)
+FRONT_DOOR += (calls_text, play_explain, play_options, play_states)
 REFUSALS = range(1, 30)         # those of all programs
 
 
@@ -233,7 +235,8 @@ def play_library(library, only, count, seed):
 
 def play_all(domelink, allcalls, domeplan, library, only, count, seed):
     """All tests, those of the programs first.  The suites and the tallies."""
-    apart = [without_program(only), front_door((domelink, domeplan), only)]
+    apart = [without_program(only),
+             front_door((domelink, allcalls, domeplan), only)]
     with tempfile.TemporaryDirectory() as folder:
         players = [domelink, allcalls, *plain_rust.suites(folder, only)]
         programs = players + c_suites(library, folder, only, count, seed)

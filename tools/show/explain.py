@@ -57,7 +57,8 @@ def without_plan(listing):
         raise ListingError("the file begins with no plan, and the listing "
                            "doesn't say so")
     row = refusal(1, "plan", rows())
-    return paragraph("  P 1", "the plan is refused with 1: %s; what to do: %s"
+    return paragraph("  P 1", "the plan is refused with 1: %s; what to do: %s; "
+                     "a text for tools/calls begins with the word plan"
                      % (row.when, row.what_to_do)) + "\n"
 
 
