@@ -99,6 +99,7 @@ def no_python(tree):
 
 
 def wrong_words(tree):
+    stand_in(tree)
     for words, says in (
             (("--svg",), "--svg names no file to write"),
             (("--window", tree.calls, "7", "8"), "and 3 are named"),

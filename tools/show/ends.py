@@ -30,9 +30,9 @@ def write_output(script, data):
     """Writes bytes to standard output, or ends with 3."""
     if sys.stdout is None:
         stop(script, 3, "standard output is closed: nothing can be written")
+    left = memoryview(data)
     try:
-        sys.stdout.buffer.write(data)
-        sys.stdout.buffer.flush()
+        while left:
+            left = left[os.write(sys.stdout.fileno(), left):]
     except OSError:
-        os.dup2(os.open(os.devnull, os.O_WRONLY), 1)
         stop(script, 3, "output was lost: standard output took no more")
