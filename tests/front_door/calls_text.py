@@ -124,8 +124,9 @@ def there_and_back():
     """Every file's text has its bytes, whichever records are calls."""
     files = [edge.data for edge in EDGES + ALLCALLS_EDGES]
     for sort in (seeds, number_seeds, burst_seeds):
-        files += [sort.generate(seed) for seed in range(24)]
-    for data in (file[:6000] for file in files):
+        files += [sort.generate(seed) for seed in range(12)
+                  if "long" not in sort.kind_of(seed)]
+    for data in (file[:2000] for file in files):
         for all_calls in (False, True):
             text = text_lines.text_of(data, all_calls)
             if call_text.bytes_of(text, all_calls) != data:
