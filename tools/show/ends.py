@@ -1,7 +1,10 @@
 """How a command for people reads its files, writes its output and ends."""
 
 import os
+import signal
 import sys
+
+signal.signal(signal.SIGINT, signal.SIG_DFL)    # a break ends it without words
 
 
 def stop(script, status, text):

@@ -81,7 +81,7 @@ def main(words):
         text, refused = explained(data, listing.decode("ascii", "replace"),
                                   all_calls)
     except ListingError as wrong:
-        stop("explain", 2, str(wrong))
+        stop("play", 2, "the listing doesn't fit the file: %s" % wrong)
     write_output("play", text.encode())
     sys.exit(1 if refused else 0)
 
