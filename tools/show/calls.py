@@ -29,7 +29,7 @@ A line is one of these; what follows a # is a comment:
   burst 2                             a burst of the next 2 asks or words
 
 A departure that isn't given is the current position, a number the count of
-the flow's asks so far that are not marked again, modulo 1,024.  ask 0 to=9
+the flow's asks so far that are not marked again, modulo 1,024.  ask 0 to=8
 names another node than the plan's.  word and bytes count for neither.
 The numbers are not tested, so that what a link refuses can be written too.
 
