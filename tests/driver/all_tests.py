@@ -25,6 +25,7 @@ from front_door import (
 from front_door import comparison_page
 from front_door import readme, rules_page
 from front_door import check_log, checklist_page, flights, plan_check
+from front_door import calls_text, play_explain, play_options, play_states
 from images import self_tests
 from pairs import wrong_pairs
 from front_door import help_pages, man_pages, progress, versions
@@ -35,6 +36,7 @@ FRONT_DOOR = (play_files, play_lost_output, plan_files, plan_read, plan_week,
 FRONT_DOOR += (comparison_page,)
 FRONT_DOOR += (readme, rules_page)
 FRONT_DOOR += (plan_check, check_log, checklist_page, flights)
+FRONT_DOOR += (calls_text, play_explain, play_options, play_states)
 REFUSALS = range(1, 30)         # those of all programs
 FRONT_DOOR += (versions, help_pages, man_pages, progress)
 
@@ -244,7 +246,8 @@ def play_library(library, only, count, seed):
 
 def play_all(domelink, allcalls, domeplan, library, only, count, seed):
     """All tests, those of the programs first.  The suites and the tallies."""
-    apart = [without_program(only), front_door((domelink, domeplan), only)]
+    apart = [without_program(only),
+             front_door((domelink, allcalls, domeplan), only)]
     with tempfile.TemporaryDirectory() as folder:
         players = [domelink, allcalls, *plain_rust.suites(folder, only)]
         programs = players + c_suites(library, folder, only, count, seed)
