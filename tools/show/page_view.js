@@ -209,7 +209,7 @@ function show(number) {
   const state = stateAfter(shown), [asked, answered] = callWords(shown);
   const refused = shown ? refusalsOf(flight.calls[shown - 1]) : [];
   byId("slider").value = shown;
-  byId("slider").setAttribute("aria-valuetext", `call ${shown} of ${flight.calls.length}: ${asked} ${answered}`);
+  byId("slider").setAttribute("aria-valuetext", `call ${shown} of ${flight.calls.length}`);
   byId("number").textContent = `${shown} of ${flight.calls.length}`;
   byId("call").textContent = asked;
   byId("answer").textContent = answered;
@@ -236,7 +236,7 @@ function fillSought() {
   flight.calls.forEach((call) => refusalsOf(call).forEach((number) =>
     counts.set(number, (counts.get(number) || 0) + 1)));
   const all = Array.from(counts.values()).reduce((sum, count) => sum + count, 0);
-  element("option", byId("sought"), "", `any (${all})`).value = 0;
+  element("option", byId("sought"), "", `any refusal (${all})`).value = 0;
   Array.from(counts.keys()).sort((one, other) => one - other).forEach((number) => {
     element("option", byId("sought"), "", `${number} (${counts.get(number)})`).value = number;
   });

@@ -11,7 +11,7 @@ link.  --timeline OUT writes an SVG of the booked, lent and idle slots of the
 whole file by flow.  --page OUT writes one HTML page that needs no network:
 the window and the holdings call by call.  With --name NAME pictures name the
 file so; with --allcalls FILE and LISTING are those of allcalls, which has
-lends, resets and bursts too.
+lends, resets and bursts too.  OUT may be -, standard output.
 
 Exit status: 0 the pictures are whole; 2 nothing was drawn; 3 a picture could
 not be written.
@@ -30,7 +30,8 @@ from replay import ListingError, Replay
 NOTHING_DRAWN, NOT_WRITTEN = 2, 3
 FLAGS = ("--window", "--allcalls")
 VALUED = ("--svg", "--timeline", "--page", "--name")
-PICTURES = ("--window", "--svg", "--timeline", "--page")
+OUTPUTS = ("--svg", "--timeline", "--page")
+PICTURES = ("--window", *OUTPUTS)
 
 
 class Wrong(Exception):
@@ -51,6 +52,8 @@ def options_of(words):
         if word == "--":
             others += words
             break
+        if word in options:
+            raise Wrong("%s is there twice" % word)
         if word in FLAGS:
             options[word] = True
         elif word in VALUED:
@@ -71,11 +74,11 @@ def call_number(text, last):
     if not (text.isascii() and text.isdigit()):
         raise Wrong("'%s' is no call number; calls are numbered 1 to %d, and "
                     "0 is the link before them" % (text, last))
-    number = int(text[:20])
-    if number > last:
+    digits = text.lstrip("0") or "0"
+    if len(digits) > len(str(last)) or int(digits) > last:
         raise Wrong("there is no call %s: the file has %d calls"
                     % (text, last))
-    return number
+    return int(digits)
 
 
 def check(options, others):
@@ -90,6 +93,19 @@ def check(options, others):
     if len(others) == 3 and not ("--window" in options or "--svg" in options):
         raise Wrong("a call number goes with --window or --svg alone, and "
                     "'%s' is one word too many" % others[2])
+    check_outputs(options, others[:2])
+
+
+def check_outputs(options, inputs):
+    """No picture goes over a file that is read, or over another picture."""
+    outputs = [options[option] for option in OUTPUTS if option in options]
+    for place, output in enumerate(outputs):
+        for other in inputs:
+            if os.path.realpath(output) == os.path.realpath(other):
+                raise Wrong("the picture would be written over '%s', which "
+                            "it is made from" % output)
+        if output in outputs[:place]:
+            raise Wrong("two pictures can't both go to '%s'" % output)
 
 
 # ---- reading and writing
@@ -119,7 +135,10 @@ def replay_of(path, listing_path, all_calls):
 
 
 def write(path, content):
-    """Writes a picture.  A file that is not whole is taken away again."""
+    """Writes a picture to a file, or to standard output for -."""
+    if path == "-":
+        show(content)
+        return
     try:
         with open(path, "w", encoding="utf-8", newline="\n") as output:
             output.write(content)
@@ -127,20 +146,22 @@ def write(path, content):
         raise NotWritten("'%s' can't be written: %s" % (path, error.strerror))
 
 
-def show(lines):
-    """Writes the lines of a drawing on standard output."""
+def show(text):
+    """Writes on standard output."""
+    if sys.stdout is None:
+        raise NotWritten("standard output is closed: nothing can be written")
     try:
-        sys.stdout.write("\n".join(line.rstrip() for line in lines) + "\n")
-        sys.stdout.flush()
-    except (OSError, ValueError) as error:
-        raise NotWritten("output was lost, and the drawing is not whole: %s"
-                         % getattr(error, "strerror", error))
+        sys.stdout.buffer.write(text.encode("utf-8"))
+        sys.stdout.buffer.flush()
+    except OSError as error:
+        raise NotWritten("output was lost, and the picture is not whole: %s"
+                         % error.strerror)
 
 
 def marks():
     """The marks of curves that standard output can take."""
     try:
-        window.BLOCKS.encode(sys.stdout.encoding or "ascii")
+        window.BLOCKS.encode(getattr(sys.stdout, "encoding", None) or "ascii")
     except (LookupError, UnicodeEncodeError):
         return window.PLAIN
     return window.BLOCKS
@@ -163,10 +184,8 @@ def draw(words):
     if "--page" in options:
         write(options["--page"], page.page(replay, name))
     if "--window" in options:
-        if sys.stdout is None:
-            raise NotWritten("standard output is closed: the drawing can't "
-                             "be written")
-        show(window.drawing(state, last, marks()))
+        show("\n".join(line.rstrip() for line in window.drawing(
+            state, last, marks())) + "\n")
 
 
 def end(status, sentence):
@@ -180,11 +199,11 @@ def end(status, sentence):
 
 
 def main(words):
-    if words in (["--help"], ["-h"]):
-        sys.stdout.write(__doc__)
-        return
     try:
-        draw(words)
+        if words in (["--help"], ["-h"]):
+            show(__doc__)
+        else:
+            draw(words)
     except Wrong as error:
         end(NOTHING_DRAWN, error)
     except NotWritten as error:

@@ -16,7 +16,7 @@ def level(held, cells):
         return 0
     if held >= cells:
         return 8
-    return 1 + (held - 1) * 7 // max(cells - 1, 1)
+    return max(1, 8 * held // cells)
 
 
 def frames_of(values, frame_slots):
