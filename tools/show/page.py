@@ -22,10 +22,9 @@ import re
 from pathlib import Path
 
 import colours
+import refusals
 
 HERE = Path(__file__).resolve().parent
-REFUSALS = HERE.parents[1] / "docs" / "REFUSALS.md"
-ROW = re.compile(r"\| (\d+) \| ([^|]*) \| ([^|]*) \|")
 
 
 def answer_of(call, answer):
@@ -64,14 +63,14 @@ def row_of(step):
 
 def refusals_of(replay):
     """Each refusal that comes up: when it is given, and what to do."""
-    numbers = {answer.refusal for step in replay.steps
-               for answer in step.answers if answer.refusal}
+    known = refusals.rows()
     said = {}
-    for line in REFUSALS.read_text(encoding="utf-8").splitlines():
-        row = ROW.match(line)
-        if row and int(row[1]) in numbers:
-            said.setdefault(int(row[1]), [row[2], row[3]])
-    return said
+    for step in replay.steps:
+        for answer in step.answers:
+            if answer.refusal and answer.refusal not in said:
+                row = refusals.refusal(answer.refusal, step.call.kind, known)
+                said[answer.refusal] = [row.when, row.what_to_do]
+    return dict(sorted(said.items()))
 
 
 def flight(replay, name):

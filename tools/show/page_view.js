@@ -32,7 +32,7 @@ function refusedWith(number) {
 
 function advice(number) {
   const said = flight.refusals[number];
-  return said ? `What to do: ${said[1]}.` : "";
+  return said && said[1] ? `What to do: ${said[1]}.` : "";
 }
 
 // A slot by its number, position and frame.

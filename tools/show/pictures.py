@@ -169,11 +169,16 @@ def marks():
 
 # ---- pictures
 
+def printable(name):
+    """A name that can stand in a picture."""
+    return "".join(letter if letter.isprintable() else "?" for letter in name)
+
+
 def draw(words):
     options, others = options_of(words)
     check(options, others)
     replay = replay_of(others[0], others[1], "--allcalls" in options)
-    name = options.get("--name", os.path.basename(others[0]))
+    name = printable(options.get("--name", os.path.basename(others[0])))
     last = len(replay.steps)
     state = replay.state_after(
         call_number(others[2] if len(others) == 3 else None, last))
