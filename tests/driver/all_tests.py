@@ -21,12 +21,14 @@ from front_door import (
     asking_editor, old_program, plan_files, plan_lost_output, plan_read,
     plan_week, plan_wrong_words, play_files, play_lost_output, slow_reader,
     wrong_arguments)
+from front_door import check_log, flights, plan_check
 from images import self_tests
 from pairs import wrong_pairs
 
 FRONT_DOOR = (play_files, play_lost_output, plan_files, plan_read, plan_week,
               plan_wrong_words, plan_lost_output, old_program, slow_reader,
               asking_editor, wrong_arguments)
+FRONT_DOOR += (plan_check, check_log, flights)
 REFUSALS = range(1, 30)         # those of all programs
 
 
