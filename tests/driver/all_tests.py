@@ -22,6 +22,7 @@ from front_door import (
     plan_week, plan_wrong_words, play_files, play_lost_output, slow_reader,
     wrong_arguments)
 from front_door import check_log, flights, plan_check
+from front_door import picture_errors, picture_pages, pictures
 from images import self_tests
 from pairs import wrong_pairs
 
@@ -29,6 +30,7 @@ FRONT_DOOR = (play_files, play_lost_output, plan_files, plan_read, plan_week,
               plan_wrong_words, plan_lost_output, old_program, slow_reader,
               asking_editor, wrong_arguments)
 FRONT_DOOR += (plan_check, check_log, flights)
+FRONT_DOOR += (pictures, picture_pages, picture_errors)
 REFUSALS = range(1, 30)         # those of all programs
 
 

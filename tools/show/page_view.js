@@ -134,7 +134,7 @@ function buildCurve(flow) {
   const badge = element("span", title, "badge", String(flow.number));
   dress(badge, flow.number);
   element("strong", title, "", `Flow ${flow.number}`);
-  element("span", title, "facts", `share ${flow.share}, ${flow.cells} cells, node ${flow.source} to ${flow.destination}`);
+  element("span", title, "facts", `share ${flow.share}, node ${flow.source} to ${flow.destination}`);
   const image = drawn("svg", card, { viewBox: `0 -4 ${SLOTS} ${HIGH + 4}`, preserveAspectRatio: "none", "aria-hidden": "true" });
   const area = drawn("path", image, { fill: flow.fill, class: "area" });
   for (let frame = 1; frame < flight.W; frame += 1) {
@@ -236,7 +236,7 @@ function fillSought() {
   flight.calls.forEach((call) => refusalsOf(call).forEach((number) =>
     counts.set(number, (counts.get(number) || 0) + 1)));
   const all = Array.from(counts.values()).reduce((sum, count) => sum + count, 0);
-  element("option", byId("sought"), "", `any refusal (${all})`).value = 0;
+  element("option", byId("sought"), "", `any (${all})`).value = 0;
   Array.from(counts.keys()).sort((one, other) => one - other).forEach((number) => {
     element("option", byId("sought"), "", `${number} (${counts.get(number)})`).value = number;
   });

@@ -18,6 +18,7 @@ not be written.
 """
 
 import os
+import stat
 import sys
 
 import call_file
@@ -96,14 +97,23 @@ def check(options, others):
     check_outputs(options, others[:2])
 
 
+def same_file(one, other):
+    """Whether two files, each a path or a number, are one regular file."""
+    try:
+        stats = os.stat(one), os.stat(other)
+    except OSError:
+        return False
+    return stat.S_ISREG(stats[0].st_mode) and os.path.samestat(*stats)
+
+
 def check_outputs(options, inputs):
-    """No picture goes over a file that is read, or over another picture."""
+    """No picture goes over a file that is read, standard input too, or over
+    another picture."""
     outputs = [options[option] for option in OUTPUTS if option in options]
     for place, output in enumerate(outputs):
-        for other in inputs:
-            if os.path.realpath(output) == os.path.realpath(other):
-                raise Wrong("the picture would be written over '%s', which "
-                            "it is made from" % output)
+        if any(same_file(output, source) for source in (*inputs, 0)):
+            raise Wrong("the picture would be written over '%s', which it is "
+                        "made from" % output)
         if output in outputs[:place]:
             raise Wrong("two pictures can't both go to '%s'" % output)
 
