@@ -63,13 +63,13 @@ def bad_files():
 
 
 def files_that_cannot_be_written():
-    for option in ("--svg", "--timeline", "--page"):
-        for path in ("/nowhere/out", "/dev/full", "/"):
-            done = drawn(LISTING, option, path)
-            wrong = trouble(done.ended, NOT_WRITTEN, b"",
-                            "'%s' can't be written" % path)
-            if wrong:
-                return "%s: %s" % (option, wrong)
+    for option, path in (("--svg", "/nowhere/out"), ("--timeline", "/"),
+                         ("--page", "/dev/full")):
+        done = drawn(LISTING, option, path)
+        wrong = trouble(done.ended, NOT_WRITTEN, b"",
+                        "'%s' can't be written" % path)
+        if wrong:
+            return "%s: %s" % (option, wrong)
     return None
 
 

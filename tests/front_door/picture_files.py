@@ -10,6 +10,13 @@ from call_bytes import plan, request
 from front_door.command import ROOT, start
 
 SHOW = ROOT / "tools" / "show"
+sys.path.append(str(SHOW))
+
+import call_file        # noqa: E402
+import colours          # noqa: E402, F401 (for tests)
+import page             # noqa: E402
+from replay import Replay       # noqa: E402
+
 COMMAND = [sys.executable, "-B", SHOW / "pictures.py"]
 
 
@@ -56,3 +63,10 @@ def drawn(played, *words, after=(), name="calls", **options):
                                    for word in words), *played.options,
                        path / name, path / "listing", *after], **options)
         return Drawn(ended, out)
+
+
+def flight_of(played):
+    """What the page of a file has for its script."""
+    return page.flight_in_html(Replay(
+        call_file.read(played.data, bool(played.options)),
+        played.listing.decode()), "calls")

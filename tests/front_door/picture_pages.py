@@ -9,7 +9,8 @@ from html.parser import HTMLParser
 
 from edges.all_edges import ALLCALLS_EDGES, EDGES
 from front_door.command import LIMIT, ROOT, trouble
-from front_door.picture_files import LISTING, SHOW, Played, drawn
+from front_door.picture_files import (
+    LISTING, SHOW, Played, drawn, flight_of)
 from simulator.listing import simulate, split_file, steps
 from simulator.records import ALLCALLS, DOMELINK, read_record, split
 
@@ -18,15 +19,16 @@ ROWS = [[1, 0, 0, 0, 9, 1], [1, 0, 1, 0, 9, 2], [1, 0, 2, 0, 9, -12],
         [2, 0, 4, 0], [1, 0, 2, 0, 9, 4], [1, 1, 0, 0, 9, 3], [3, 0]]
 KEPT = ("sparse", "dense")              # flights whose pages stand in docs
 CONTROLS = {"button", "input", "select"}
-FROM_OUTSIDE = re.compile(r"\b(src|href|srcset|action)\s*=|url\(|@import|fetch\(")
+FROM_OUTSIDE = re.compile(
+    r"\b(src|href|srcset|action)\s*=|url\(|@import|fetch\(")
 
-# Reads flights from standard input, and writes the owners and the holdings
-# after each call of each.
+# Reads flights, each with calls, from standard input, and writes the owners
+# and the holdings after these calls.
 COUNTS = """
-const flights = JSON.parse(require("fs").readFileSync(0, "utf8"));
-console.log(JSON.stringify(flights.map((flight) => {
+const asked = JSON.parse(require("fs").readFileSync(0, "utf8"));
+console.log(JSON.stringify(asked.map(({ flight, calls }) => {
   const stateAfter = player(flight);
-  return [...Array(flight.calls.length + 1).keys()].map((number) => {
+  return calls.map((number) => {
     const state = stateAfter(number);
     return [state.owners, state.holdings];
   });
@@ -126,15 +128,33 @@ def kept_pages():
 
 # ---- what its script counts
 
-def simulated(data, kinds):
-    """Owners and holdings after each call, by the second simulator."""
-    found = []
-    for _, link in steps(data, kinds):
-        first = link.first_slot()
-        found.append([[link.owner.get(slot) for slot in range(
-            first, first + link.plan.slots)],
-            [link.holdings(flow) for flow in range(link.plan.flows)]])
-    return found
+class Sample:
+    """A call file for the script, and the calls after which it is looked
+    at: every one of an edge, some of a flight."""
+
+    def __init__(self, data, kinds=DOMELINK, apart=1):
+        self.data, self.kinds = data, kinds
+        self.lines = last_lines(data, kinds)
+        self.calls = range(0, len(self.lines), apart)
+
+    def flight(self):
+        return flight_of(Played(
+            self.data, simulate(self.data, self.kinds),
+            ["--allcalls"] * (self.kinds is ALLCALLS)))
+
+    def expected(self):
+        """Owners and holdings by the second simulator."""
+        wanted = [self.lines[call] for call in self.calls]
+        after = {line: held_and_owned(link) for line, (_, link) in enumerate(
+            steps(self.data, self.kinds)) if line in wanted}
+        return [after[line] for line in wanted]
+
+
+def held_and_owned(link):
+    first = link.first_slot()
+    return [[link.owner.get(slot)
+             for slot in range(first, first + link.plan.slots)],
+            [link.holdings(flow) for flow in range(link.plan.flows)]]
 
 
 def last_lines(data, kinds):
@@ -148,45 +168,37 @@ def last_lines(data, kinds):
     return places
 
 
-def flight_of(data, all_calls):
-    """What the page would have for some bytes."""
-    lines = simulate(data, ALLCALLS if all_calls else DOMELINK)
-    text, wrong = page(Played(data, lines, ["--allcalls"] * all_calls))
-    return json.loads(Reader(text).flight), wrong
-
-
-def script_counts(files):
-    """What the page's script counts for flights, call by call."""
-    flights = [flight_of(data, all_calls)[0] for data, all_calls in files]
-    script = (SHOW / "page_replay.js").read_text() + COUNTS
-    done = subprocess.run(
-        ["node", "-e", script], input=json.dumps(flights).encode(),
-        stdout=subprocess.PIPE, timeout=LIMIT, check=True)
-    return json.loads(done.stdout)
-
-
-def sample_files():
+def samples():
     """Some edges of each sort, and the flights."""
-    edges = [(edge.data, False) for edge in EDGES[::12]
+    found = [Sample(edge.data) for edge in EDGES[::7]
              if edge.lines[0] == "P 0"]
-    edges += [(edge.data, True) for edge in ALLCALLS_EDGES[::9]]
-    return edges + [((ROOT / "flights" / name).read_bytes(), False)
-                    for name in KEPT]
+    found += [Sample(edge.data, ALLCALLS) for edge in ALLCALLS_EDGES[::5]]
+    return found + [Sample((ROOT / "flights" / name).read_bytes(),
+                           apart=apart)
+                    for name, apart in (("sparse", 1), ("dense", 61))]
+
+
+def script_counts(looked_at):
+    """What the page's script counts."""
+    asked = "[%s]" % ",".join('{"flight":%s,"calls":%s}' % (
+        sample.flight(), list(sample.calls)) for sample in looked_at)
+    script = (SHOW / "page_replay.js").read_text() + COUNTS
+    done = subprocess.run(["node", "-e", script], input=asked.encode(),
+                          stdout=subprocess.PIPE, timeout=LIMIT, check=True)
+    return json.loads(done.stdout)
 
 
 def script_agrees_with_simulator():
     if not shutil.which("node"):
         return None
-    files = sample_files()
-    for (data, all_calls), counted in zip(files, script_counts(files)):
-        kinds = ALLCALLS if all_calls else DOMELINK
-        states = simulated(data, kinds)
-        expected = [states[place] for place in last_lines(data, kinds)]
-        for number, pair in enumerate(zip(counted, expected)):
-            if pair[0] != pair[1]:
-                return "call %d: %r for %r" % (number, *pair)
+    looked_at = samples()
+    for sample, counted in zip(looked_at, script_counts(looked_at)):
+        expected = sample.expected()
         if len(counted) != len(expected):
-            return "%d calls for %d" % (len(counted), len(expected))
+            return "%d states for %d" % (len(counted), len(expected))
+        for call, found, right in zip(sample.calls, counted, expected):
+            if found != right:
+                return "call %d: %r for %r" % (call, found, right)
     return None
 
 

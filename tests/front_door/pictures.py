@@ -2,11 +2,11 @@
 
 import os
 import re
-import sys
 from xml.etree import ElementTree
 
 from front_door.command import ROOT, trouble
-from front_door.picture_files import LENT, LISTING, ONE_SLOT, SHOW, Played, drawn
+from front_door.picture_files import (
+    LENT, LISTING, ONE_SLOT, Played, colours, drawn)
 from simulator.listing import simulate
 
 UTF8 = dict(os.environ, PYTHONIOENCODING="utf-8")
@@ -182,9 +182,6 @@ def odd_names():
 def colours_apart():
     """In grey each fill differs from the next one by 8 of 100 at least, and a
     number has a contrast of 4.5 on its flow's fill."""
-    sys.path.insert(0, str(SHOW))
-    import colours
-    sys.path.pop(0)
     greys = sorted(116 * colours.luminance(fill) ** (1 / 3) - 16
                    for fill in colours.FILLS)
     close = [pair for pair in zip(greys, greys[1:]) if pair[1] - pair[0] < 8]
