@@ -12,11 +12,7 @@ IDLE, LENT = ".", "L"
 
 def level(held, cells):
     """0 where nothing is held, 8 where all cells are, 1 to 7 between."""
-    if held <= 0:
-        return 0
-    if held >= cells:
-        return 8
-    return max(1, 8 * held // cells)
+    return max(1, 8 * held // cells) if held else 0
 
 
 def frames_of(values, frame_slots):
