@@ -23,6 +23,7 @@ from front_door import (
     wrong_arguments)
 from front_door import check_log, flights, plan_check
 from front_door import picture_errors, picture_pages, pictures
+from front_door import calls_text, play_explain, play_options, play_states
 from images import self_tests
 from pairs import wrong_pairs
 
@@ -31,6 +32,7 @@ FRONT_DOOR = (play_files, play_lost_output, plan_files, plan_read, plan_week,
               asking_editor, wrong_arguments)
 FRONT_DOOR += (plan_check, check_log, flights)
 FRONT_DOOR += (pictures, picture_pages, picture_errors)
+FRONT_DOOR += (calls_text, play_explain, play_options, play_states)
 REFUSALS = range(1, 30)         # those of all programs
 
 
@@ -237,7 +239,8 @@ def play_library(library, only, count, seed):
 
 def play_all(domelink, allcalls, domeplan, library, only, count, seed):
     """All tests, those of the programs first.  The suites and the tallies."""
-    apart = [without_program(only), front_door((domelink, domeplan), only)]
+    apart = [without_program(only),
+             front_door((domelink, allcalls, domeplan), only)]
     with tempfile.TemporaryDirectory() as folder:
         players = [domelink, allcalls, *plain_rust.suites(folder, only)]
         programs = players + c_suites(library, folder, only, count, seed)

@@ -14,7 +14,7 @@ from front_door.play_tree import (
 def dense_flight(tree):
     with open(tree.root / "flights/dense", "rb") as source:
         listing = start([tree.program], stdin=source).output
-    return trouble(tree.start(cwd="/"), output=listing)
+    return trouble(tree.start("--dense", cwd="/"), output=listing)
 
 
 def a_file(tree):

@@ -4,7 +4,7 @@ The plan's numbers are split and not tested, since the listing says whether
 the plan is accepted.  A record that is no call is kept as its bytes.
 """
 
-HEADER, ENTRY = 12, 4           # bytes of a plan's header, and of a flow's entry
+HEADER, ENTRY = 12, 4           # bytes of a plan's header and of a flow's entry
 SHORTEST, LONGEST = 12, 76      # lengths that a plan may state
 RECORD = 5                      # bytes of a record
 BURST_WORDS = 20                # the most words that stand behind a burst

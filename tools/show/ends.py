@@ -1,7 +1,10 @@
 """How a command for people reads its files, writes its output and ends."""
 
 import os
+import signal
 import sys
+
+signal.signal(signal.SIGINT, signal.SIG_DFL)    # a break ends it without words
 
 
 def stop(script, status, text):
@@ -30,9 +33,9 @@ def write_output(script, data):
     """Writes bytes to standard output, or ends with 3."""
     if sys.stdout is None:
         stop(script, 3, "standard output is closed: nothing can be written")
+    left = memoryview(data)
     try:
-        sys.stdout.buffer.write(data)
-        sys.stdout.buffer.flush()
+        while left:
+            left = left[os.write(sys.stdout.fileno(), left):]
     except OSError:
-        os.dup2(os.open(os.devnull, os.O_WRONLY), 1)
         stop(script, 3, "output was lost: standard output took no more")

@@ -57,7 +57,8 @@ def without_plan(listing):
         raise ListingError("the file begins with no plan, and the listing "
                            "doesn't say so")
     row = refusal(1, "plan", rows())
-    return paragraph("  P 1", "the plan is refused with 1: %s; what to do: %s"
+    return paragraph("  P 1", "the plan is refused with 1: %s; what to do: %s; "
+                     "a text for tools/calls begins with the word plan"
                      % (row.when, row.what_to_do)) + "\n"
 
 
@@ -80,7 +81,7 @@ def main(words):
         text, refused = explained(data, listing.decode("ascii", "replace"),
                                   all_calls)
     except ListingError as wrong:
-        stop("explain", 2, str(wrong))
+        stop("play", 2, "the listing doesn't fit the file: %s" % wrong)
     write_output("play", text.encode())
     sys.exit(1 if refused else 0)
 
