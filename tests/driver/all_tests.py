@@ -21,7 +21,7 @@ from front_door import (
     asking_editor, old_program, plan_files, plan_lost_output, plan_read,
     plan_week, plan_wrong_words, play_files, play_lost_output, slow_reader,
     wrong_arguments)
-from front_door import check_log, flights, plan_check
+from front_door import check_log, checklist_page, flights, plan_check
 from front_door import picture_errors, picture_pages, pictures
 from front_door import calls_text, play_explain, play_options, play_states
 from images import self_tests
@@ -30,7 +30,7 @@ from pairs import wrong_pairs
 FRONT_DOOR = (play_files, play_lost_output, plan_files, plan_read, plan_week,
               plan_wrong_words, plan_lost_output, old_program, slow_reader,
               asking_editor, wrong_arguments)
-FRONT_DOOR += (plan_check, check_log, flights)
+FRONT_DOOR += (plan_check, check_log, checklist_page, flights)
 FRONT_DOOR += (pictures, picture_pages, picture_errors)
 FRONT_DOOR += (calls_text, play_explain, play_options, play_states)
 REFUSALS = range(1, 30)         # those of all programs

@@ -73,6 +73,14 @@ COMPARED = [
       "and flow 1 left",
       "moved by one slot SENT agrees: is its first line slot 2? it has to be "
       "slot 1"]),
+    # One slot that differs is no shift, and one stream is too few to tell.
+    ("0 0 0 0 0", "- 0 0 0 0", DIFFER,
+     ["differ: 4 of 5 slots agree; BOOKED has 5 and SENT has 5",
+      "the first that differs is slot 1: it was booked for flow 0, "
+      "and nothing left"]),
+    ("- - 1 - -", "- 1 - - -", DIFFER,
+     ["differ: 3 of 5 slots agree; BOOKED has 5 and SENT has 5",
+      "the first that differs is slot 2: nobody booked it, and flow 1 left"]),
 ]
 
 # With --slots: F, the slot that differs, and its name.  Slot s is in frame
@@ -282,7 +290,8 @@ def output_is_lost(tree):
                         NOT_COMPARED, b"", says)
         if wrong:
             return "%s: %s" % (way, wrong)
-    return None
+    return trouble(start(redirected(">&-", tree.command, "--help")),
+                   NOT_COMPARED, b"", "output was lost")
 
 
 def python3_is_missing(tree):

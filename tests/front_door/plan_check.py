@@ -116,15 +116,18 @@ def check_with_the_usual_tools(tree):
 # ---- plans that are refused
 
 def check_refusals(tree):
-    """Status 1, the words of docs/REFUSALS.md, and what to do."""
+    """Status 1, the words of docs/REFUSALS.md, and what to do about a plan,
+    which but for 1 is all."""
     when = refusals_page.sentences()
     for number, data, last in refusals_page.examples():
         if last.startswith("P"):
+            ended = tree.start("--check", "-", input=data)
             wrong = trouble(
-                tree.start("--check", "-", input=data), REFUSED,
-                b"" if number < 3 else None,
+                ended, REFUSED, b"" if number < 3 else None,
                 "plan: standard input is refused with %d: %s; what to do: %s"
-                % (number, when[number], REMEDIES[number]))
+                % (number, when[number], REMEDIES[number])) or (
+                number > 1 and not ended.errors.endswith(
+                    REMEDIES[number] + "\n") and ended.errors)
             if wrong:
                 return "refusal %d: %s" % (number, wrong)
     return None
@@ -188,7 +191,8 @@ def check_output_lost(tree):
                 way, tree.command, "--check", path)), NOT_DONE, b"", says)
             if wrong:
                 return "%s: %s" % (way, wrong)
-    return None
+    return trouble(start(redirected(">&-", tree.command, "--help")),
+                   NOT_DONE, b"", "output was lost")
 
 
 def check_odd_answers(tree):
