@@ -10,7 +10,7 @@ from html.parser import HTMLParser
 from edges.all_edges import ALLCALLS_EDGES, EDGES
 from front_door.command import LIMIT, ROOT, trouble
 from front_door.picture_files import (
-    LISTING, SHOW, Played, drawn, flight_of)
+    LENT, LISTING, ONE_SLOT, SHOW, Played, drawn, flight_of)
 from simulator.listing import simulate, split_file, steps
 from simulator.records import ALLCALLS, DOMELINK, read_record, split
 
@@ -34,6 +34,44 @@ console.log(JSON.stringify(asked.map(({ flight, calls }) => {
   });
 })));
 """
+
+
+# Reads a flight, and writes what is said of each call, the refusal's row of
+# docs/REFUSALS.md left out, and the calls that n and p find from the middle.
+SENTENCES = """
+const flight = JSON.parse(require("fs").readFileSync(0, "utf8"));
+flight.refusals = {};
+const stateAfter = player(flight);
+console.log(JSON.stringify(flight.calls.map((call, number) =>
+  callWords(flight, call, stateAfter(number)).join(" ")).concat(
+  [`n ${refusalFrom(flight, 0, 1, 0)} p ${refusalFrom(flight, 7, -1, 12)}` +
+   ` none ${refusalFrom(flight, 3, 1, 0)} ${refusalFrom(flight, 0, 1, 11)}`])));
+"""
+SAID = [
+    (LISTING, [
+        "Flow 0 asks for a slot: quantum 0, departure 0. Granted slot 1, "
+        "position 1 of frame 0, which comes up with the next tick.",
+        "Flow 0 asks for a slot: quantum 1, departure 0. Granted slot 2, "
+        "position 2 of frame 0, which comes up in 2 ticks.",
+        "Flow 0 asks for a slot: quantum 2, departure 0. Refused with 12.",
+        "Flow 0 gives a cell back, dated position 4. Taken: it holds one less "
+        "from slot 4, position 4 of frame 1 on.",
+        "Flow 0 asks for a slot: quantum 2, departure 0. Granted slot 4, "
+        "position 4 of frame 1, which comes up in 4 ticks.",
+        "Flow 1 asks for a slot: quantum 0, departure 0. Granted slot 3, "
+        "position 3 of frame 0, which comes up in 3 ticks.",
+        "A tick: slot 1, position 1 of frame 0 has come up. It is flow 0's.",
+        "n 3 p 3 none 0 0"]),
+    (LENT, [
+        "The current slot is to be lent; flows that wait: 0. Lent to flow 0.",
+        "A tick: slot 1, position 1 of frame 0 has come up. Nobody booked "
+        "it."]),
+    (ONE_SLOT, [
+        "Flow 0 asks for a slot: quantum 0, departure 0. Granted slot 1, "
+        "position 1 of frame 1, which comes up with the next tick.",
+        "A tick: slot 1, position 1 of frame 1 has come up. It is flow 0's. "
+        "A frame change: frame 1 is head now, and frame 2 the newest."]),
+]
 
 
 class Reader(HTMLParser):
@@ -178,14 +216,20 @@ def samples():
                     for name, apart in (("sparse", 1), ("dense", 61))]
 
 
+def by_node(script, asked):
+    """What a script of ours on top of the page's own answers."""
+    scripts = [(SHOW / name).read_text().replace('"use strict";', "")
+               for name in ("page_replay.js", "page_words.js")]
+    done = subprocess.run(
+        ["node", "-e", "\n".join([*scripts, script])], input=asked.encode(),
+        stdout=subprocess.PIPE, timeout=LIMIT, check=True)
+    return json.loads(done.stdout)
+
+
 def script_counts(looked_at):
     """What the page's script counts."""
-    asked = "[%s]" % ",".join('{"flight":%s,"calls":%s}' % (
-        sample.flight(), list(sample.calls)) for sample in looked_at)
-    script = (SHOW / "page_replay.js").read_text() + COUNTS
-    done = subprocess.run(["node", "-e", script], input=asked.encode(),
-                          stdout=subprocess.PIPE, timeout=LIMIT, check=True)
-    return json.loads(done.stdout)
+    return by_node(COUNTS, "[%s]" % ",".join('{"flight":%s,"calls":%s}' % (
+        sample.flight(), list(sample.calls)) for sample in looked_at))
 
 
 def script_agrees_with_simulator():
@@ -202,8 +246,21 @@ def script_agrees_with_simulator():
     return None
 
 
+# ---- what its script says
+
+def script_speaks():
+    if not shutil.which("node"):
+        return None
+    for played, expected in SAID:
+        found = by_node(SENTENCES, flight_of(played))
+        for number, pair in enumerate(zip(found, expected), 1):
+            if pair[0] != pair[1]:
+                return "call %d: %s" % (number, pair[0])
+    return None
+
+
 TESTS = (calls_and_answers, no_network, labels, name_is_no_tag, kept_pages,
-         script_agrees_with_simulator)
+         script_agrees_with_simulator, script_speaks)
 
 
 def tests(programs):

@@ -1,8 +1,8 @@
 """One HTML page of a call file's play, which needs no network.
 
 The page has the plan, and each call with its answer, as JSON; the script of
-page_replay.js counts from them what the window and the holdings are, and
-that of page_view.js draws.  A call is a list: its kind, its numbers, and last
+page_replay.js counts from them what the window and the holdings are, that of
+page_words.js says them, and that of page_view.js draws.  A call is a list: its kind, its numbers, and last
 its answer.
 
     1, flow, quantum number, departure, destination, position granted
@@ -101,14 +101,20 @@ def flight_in_html(replay, name):
         in_html(flight(replay, name))[:-1], calls)
 
 
+def beside(name):
+    """The text of a file that stands beside this one."""
+    return (HERE / name).read_text(encoding="utf-8")
+
+
 def page(replay, name):
     """The whole page."""
     parts = {
         "NAME": html.escape(name),
-        "STYLE": (HERE / "page.css").read_text(encoding="utf-8"),
+        "STYLE": beside("page.css"),
         "FLIGHT": flight_in_html(replay, name),
-        "REPLAY": (HERE / "page_replay.js").read_text(encoding="utf-8"),
-        "VIEW": (HERE / "page_view.js").read_text(encoding="utf-8"),
+        "REPLAY": beside("page_replay.js"),
+        "WORDS": beside("page_words.js"),
+        "VIEW": beside("page_view.js"),
     }
     return re.sub("@([A-Z]+)@", lambda place: parts[place[1]],
-                  (HERE / "page.html").read_text(encoding="utf-8"))
+                  beside("page.html"))

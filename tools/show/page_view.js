@@ -1,5 +1,5 @@
 "use strict";
-// Draws the link after a call, and says the call and its answer in words.
+// Draws the link after a call, with the call and its answer in words.
 
 const flight = JSON.parse(document.getElementById("flight").textContent);
 const stateAfter = player(flight);
@@ -23,81 +23,12 @@ function drawn(kind, parent, attributes) {
   return made;
 }
 
-// ---- words
-
-function refusedWith(number) {
-  const said = flight.refusals[number];
-  return said ? `Refused with ${number}: ${said[0]}.` : `Refused with ${number}.`;
-}
-
-function advice(number) {
-  const said = flight.refusals[number];
-  return said && said[1] ? `What to do: ${said[1]}.` : "";
-}
-
-// A slot by its number, position and frame.
-function place(slot) {
-  return `slot ${slot}, position ${slot % SLOTS} of frame ${Math.floor(slot / flight.F)}`;
-}
-
-function grantWords(before, position) {
-  const slot = slotOf(flight, before, position), away = slot - before.ticks;
-  return `Granted ${place(slot)}, which comes up ${away === 1 ? "with the next tick" : `in ${away} ticks`}.`;
-}
-
-function requestWords(call, before) {
-  const [, flow, number, departure, , answer] = call;
-  return [`Flow ${flow} asks for a slot: quantum ${number}, departure ${departure}.`,
-    answer < 0 ? refusedWith(-answer) : grantWords(before, answer)];
-}
-
-function creditWords(call, before) {
-  const [, flow, position, answer] = call;
-  return [`Flow ${flow} gives a cell back, dated position ${position}.`,
-    answer < 0 ? refusedWith(-answer) : `Taken: it holds one less from ${place(slotOf(flight, before, position))} on.`];
-}
-
-function tickWords(call, before) {
-  const now = before.ticks + 1;
-  const change = now % flight.F ? "" : ` A frame change: frame ${now / flight.F} is head now, and frame ${now / flight.F + flight.W - 1} the newest.`;
-  return [`A tick: ${place(now)} has come up.`,
-    (call[1] < 0 ? "Nobody booked it." : `It is flow ${call[1]}'s.`) + change];
-}
-
-function flowsOf(mask) {
-  const flows = Array.from({ length: 16 }, (_, flow) => flow).filter((flow) => (mask >> flow) & 1);
-  return flows.length ? flows.join(", ") : "none";
-}
-
-function lendWords(call) {
-  return [`The current slot is to be lent; flows that wait: ${flowsOf(call[1])}.`,
-    call[2] < 0 ? refusedWith(-call[2]) : `Lent to flow ${call[2]}.`];
-}
-
-function resetWords(call) {
-  return ["The link is to be reset.", call[1] < 0 ? refusedWith(-call[1]) : "Reset: every flow starts again in the head frame."];
-}
-
-function burstWords(call) {
-  const words = call[1].map(([flow, , , , answer]) => {
-    const result = answer === null ? "not looked at" : answer < 0 ? `refused with ${-answer}` : `position ${answer}`;
-    return `flow ${flow} ${result}`;
-  });
-  return [`A burst of ${call[1].length} requests.`, words.length ? `Answers: ${words.join("; ")}.` : ""];
-}
-
-const WORDS = [
-  (call) => ["A record that is no call.", refusedWith(-call[1])],
-  requestWords, creditWords, tickWords, lendWords, resetWords, burstWords,
-];
-
-// What a call asks, and its answer.
-function callWords(number) {
+// What the call that is shown asks, and its answer.
+function wordsOf(number) {
   if (number === 0) {
     return ["The fresh link, before the first call.", "Nothing is booked, and nothing is held."];
   }
-  const call = flight.calls[number - 1];
-  return WORDS[call[0]](call, stateAfter(number - 1));
+  return callWords(flight, flight.calls[number - 1], stateAfter(number - 1));
 }
 
 // The slots of the window that a call is about, by their place in it.
@@ -206,14 +137,14 @@ function drawCurves(state) {
 
 function show(number) {
   shown = Math.max(0, Math.min(number, flight.calls.length));
-  const state = stateAfter(shown), [asked, answered] = callWords(shown);
+  const state = stateAfter(shown), [asked, answered] = wordsOf(shown);
   const refused = shown ? refusalsOf(flight.calls[shown - 1]) : [];
   byId("slider").value = shown;
   byId("slider").setAttribute("aria-valuetext", `call ${shown} of ${flight.calls.length}`);
   byId("number").textContent = `${shown} of ${flight.calls.length}`;
   byId("call").textContent = asked;
   byId("answer").textContent = answered;
-  byId("advice").textContent = refused.length ? advice(refused[0]) : "";
+  byId("advice").textContent = refused.length ? advice(flight, refused[0]) : "";
   byId("said").classList.toggle("refused", refused.length > 0);
   drawWindow(shown, state);
   drawCurves(state);
