@@ -19,26 +19,24 @@ from driver.tally import (
 from edges import questions, refusals_page
 from edges.all_edges import ALLCALLS_EDGES, EDGES
 from front_door import (
-    asking_editor, old_program, plan_files, plan_lost_output, plan_read,
-    plan_week, plan_wrong_words, play_files, play_lost_output, slow_reader,
-    wrong_arguments)
+    asking_editor, calls_text, check_log, checklist_page, comparison_page,
+    flights, help_pages, man_pages, old_program, picture_errors,
+    picture_pages, pictures, plan_check, plan_files, plan_lost_output,
+    plan_read, plan_week, plan_wrong_words, play_explain, play_files,
+    play_lost_output, play_options, play_states, progress, readme,
+    rules_page, slow_reader, versions, wrong_arguments)
 from front_door import comparison_page
-from front_door import readme, rules_page
-from front_door import check_log, checklist_page, flights, plan_check
-from front_door import calls_text, play_explain, play_options, play_states
 from images import self_tests
 from pairs import wrong_pairs
-from front_door import help_pages, man_pages, progress, versions
 
-FRONT_DOOR = (play_files, play_lost_output, plan_files, plan_read, plan_week,
-              plan_wrong_words, plan_lost_output, old_program, slow_reader,
-              asking_editor, wrong_arguments)
-FRONT_DOOR += (comparison_page,)
-FRONT_DOOR += (readme, rules_page)
-FRONT_DOOR += (plan_check, check_log, checklist_page, flights)
-FRONT_DOOR += (calls_text, play_explain, play_options, play_states)
+FRONT_DOOR = (
+    play_files, play_lost_output, play_explain, play_options, play_states,
+    pictures, picture_pages, picture_errors, calls_text, plan_files,
+    plan_read, plan_check, plan_week, plan_wrong_words, plan_lost_output,
+    check_log, flights, old_program, slow_reader, asking_editor,
+    wrong_arguments, progress, versions, help_pages, man_pages, readme,
+    rules_page, checklist_page, comparison_page)
 REFUSALS = range(1, 30)         # those of all programs
-FRONT_DOOR += (versions, help_pages, man_pages, progress)
 
 
 def wanted(names, only):

@@ -6,7 +6,7 @@ LINES, COLUMNS = 40, 80
 COMMANDS = ("play", "plan", "check-log", "tools/calls", "tests/run",
             "bench/run")
 # Commands that are not here yet, or whose page is still too large.
-PENDING = {"play", "plan", "check-log", "tools/calls"}
+PENDING = set()
 
 
 def fits(name):

@@ -16,10 +16,8 @@ SECTIONS = ("NAME", "SYNOPSIS", "DESCRIPTION", "EXIT STATUS", "EXAMPLES",
             "SEE ALSO")
 # Commands that have a page and are not here yet, and options that a page has
 # and --help has not yet.
-MISSING = {"check-log", "calls"}
-PENDING = {"play": {"--dense", "--explain", "--window", "--svg", "--timeline",
-                    "--page", "--allcalls"},
-           "plan": {"--check"}}
+MISSING = set()
+PENDING = {}
 NOT_IN_HELP = {"--help"}        # who reads it has found it
 OPTION = re.compile(r"(?<![\w-])--[a-z][a-z-]*")
 
