@@ -1,5 +1,5 @@
 # shellcheck shell=sh disable=SC2034,SC2154
-# What ./play and ./plan have in common. Whoever sources it has set script, its own name, crate, that of its program, and here, the tree's root.
+# What ./play, ./plan and ./check-log have in common. Whoever sources it has set script, its own name, crate, that of its program, and here, the tree's root.
 program=$here/target/bin/$crate
 
 # Ends with an exit status and a sentence on standard error.

@@ -25,7 +25,6 @@ from front_door import (
     plan_read, plan_week, plan_wrong_words, play_explain, play_files,
     play_lost_output, play_options, play_states, progress, readme,
     rules_page, slow_reader, versions, wrong_arguments)
-from front_door import comparison_page
 from images import self_tests
 from pairs import wrong_pairs
 

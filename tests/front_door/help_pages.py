@@ -5,13 +5,9 @@ from front_door.command import ROOT, start, trouble
 LINES, COLUMNS = 40, 80
 COMMANDS = ("play", "plan", "check-log", "tools/calls", "tests/run",
             "bench/run")
-# Commands that are not here yet, or whose page is still too large.
-PENDING = set()
 
 
 def fits(name):
-    if name in PENDING:
-        return None
     ended = start([ROOT / name, "--help"])
     lines = ended.output.decode().splitlines()
     widest = max(map(len, lines), default=0)

@@ -14,10 +14,6 @@ COMMANDS = {"play": "play", "plan": "plan", "check-log": "check-log",
 PAGES = ("domelink", "domeplan", *COMMANDS)
 SECTIONS = ("NAME", "SYNOPSIS", "DESCRIPTION", "EXIT STATUS", "EXAMPLES",
             "SEE ALSO")
-# Commands that have a page and are not here yet, and options that a page has
-# and --help has not yet.
-MISSING = set()
-PENDING = {}
 NOT_IN_HELP = {"--help"}        # who reads it has found it
 OPTION = re.compile(r"(?<![\w-])--[a-z][a-z-]*")
 
@@ -76,11 +72,8 @@ def differing(found, wanted):
 
 
 def help_of(name):
-    """The words of --help, or None where the command is not here yet."""
-    path = ROOT / COMMANDS[name]
-    if name in MISSING and not path.exists():
-        return None
-    return start([path, "--help"]).output.decode()
+    """The words of --help."""
+    return start([ROOT / COMMANDS[name], "--help"]).output.decode()
 
 
 def options_of_help(name, text):
@@ -88,9 +81,8 @@ def options_of_help(name, text):
     described = {option for head in heads(section(name, "OPTIONS"))
                  for option in OPTION.findall(head)}
     in_synopsis = set(OPTION.findall(section(name, "SYNOPSIS")))
-    left_out = PENDING.get(name, set()) | NOT_IN_HELP
     return differing(in_synopsis, described) or differing(
-        described - left_out, set(OPTION.findall(text)) - left_out)
+        described - NOT_IN_HELP, set(OPTION.findall(text)) - NOT_IN_HELP)
 
 
 def statuses_of_help(name, text):
@@ -102,8 +94,7 @@ def statuses_of_help(name, text):
 
 def as_help(name):
     text = help_of(name)
-    return text is not None and (options_of_help(name, text)
-                                 or statuses_of_help(name, text))
+    return options_of_help(name, text) or statuses_of_help(name, text)
 
 
 def example_of_a_week(tree):
