@@ -22,7 +22,7 @@ from front_door import (
     plan_week, plan_wrong_words, play_files, play_lost_output, slow_reader,
     wrong_arguments)
 from front_door import check_log, checklist_page, flights, plan_check
-from front_door import picture_errors, picture_pages, pictures
+from front_door import picture_errors, picture_pages, picture_scripts, pictures
 from front_door import calls_text, play_explain, play_options, play_states
 from images import self_tests
 from pairs import wrong_pairs
@@ -31,7 +31,7 @@ FRONT_DOOR = (play_files, play_lost_output, plan_files, plan_read, plan_week,
               plan_wrong_words, plan_lost_output, old_program, slow_reader,
               asking_editor, wrong_arguments)
 FRONT_DOOR += (plan_check, check_log, checklist_page, flights)
-FRONT_DOOR += (pictures, picture_pages, picture_errors)
+FRONT_DOOR += (pictures, picture_pages, picture_scripts, picture_errors)
 FRONT_DOOR += (calls_text, play_explain, play_options, play_states)
 REFUSALS = range(1, 30)         # those of all programs
 
