@@ -109,7 +109,7 @@ def svg(played, *words, **options):
     """What pictures.py wrote as SVG, read, or what is wrong."""
     done = drawn(played, *words, **options)
     wrong = trouble(done.ended, output=b"")
-    return (None, wrong) if wrong else (ElementTree.fromstring(done.text), None)
+    return None if wrong else ElementTree.fromstring(done.text), wrong
 
 
 def all_of(root, tag):

@@ -18,8 +18,8 @@ class Ledger:
         for booking in replay.bookings:
             side = self.lent if booking.lent else self.booked
             side[booking.slot] = booking.flow
-        self.idle = [slot for slot in range(1, self.ticks + 1)
-                     if slot not in self.booked and slot not in self.lent]
+        self.idle = {slot for slot in range(1, self.ticks + 1)
+                     if slot not in self.booked and slot not in self.lent}
         self.end = max([self.ticks, *self.booked])      # the last slot drawn
 
     def count(self, side, flow):
@@ -73,9 +73,8 @@ def band(ledger, plan, first, top):
               for slot in slots if slot in ledger.booked]
     parts += [lent_mark(slot, ledger.lent[slot], top)
               for slot in slots if slot in ledger.lent]
-    idle = set(ledger.idle)
     parts += [mark(slot, len(plan.flows), top, IDLE)
-              for slot in slots if slot in idle]
+              for slot in slots if slot in ledger.idle]
     return parts
 
 
