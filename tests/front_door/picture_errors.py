@@ -121,6 +121,18 @@ def not_over_its_own_file(tree):
         tree.calls.read_bytes() != LISTING.data and "the file is gone")
 
 
+def no_file_to_draw(tree):
+    """The only file that is named is the one to write: it stays."""
+    with_pictures(tree)
+    for option in ("--svg", "--timeline", "--page"):
+        wrong = trouble(tree.start(option, tree.calls), NOTHING_DRAWN, b"",
+                        "none is named") or (
+            tree.calls.read_bytes() != LISTING.data and "the file is gone")
+        if wrong:
+            return "%s: %s" % (option, wrong)
+    return None
+
+
 def closed_output(tree):
     with_pictures(tree)
     return trouble(start(redirected(">&-", tree.command, "--window",
@@ -131,7 +143,7 @@ def closed_output(tree):
 TESTS = (wrong_words, missing_words, bad_files, files_that_cannot_be_written,
          lost_output, help_fits_a_screen)
 THROUGH_PLAY = (window_through_play, page_through_play, not_over_its_own_file,
-                closed_output)
+                no_file_to_draw, closed_output)
 
 
 def tests(programs):

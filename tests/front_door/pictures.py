@@ -23,7 +23,7 @@ head      0  |.001|
 newest    4  |0...|
 
 Holdings by slot, head frame first: '█' is all of the flow's cells, ' ' none
-flow 0: share 2, holds 1 of 2 cells now, at most 2, no cell free
+flow 0: share 2, holds 1 of 2 cells now, at most 2, none left to book with
              | ▄██|████|
 flow 1: share 2, holds 0 of 2 cells now, at most 1
              |   ▄|▄▄▄▄|
@@ -37,7 +37,7 @@ head      0  |.00.|
 newest    4  |....|
 
 Holdings by slot, head frame first: '#' is all of the flow's cells, ' ' none
-flow 0: share 2, holds 0 of 2 cells now, at most 2, no cell free
+flow 0: share 2, holds 0 of 2 cells now, at most 2, none left to book with
              | -##|####|
 flow 1: share 2, holds 0 of 2 cells now, at most 0
              |    |    |

@@ -128,10 +128,12 @@ function drawCurves(state) {
   curves.forEach((curve, flow) => {
     const held = state.holdings[flow], cells = flight.flows[flow].cells;
     const most = Math.max(...held.slice(now));
+    // Whatever slot is booked, it is held in the window's last slot too.
+    const full = held[held.length - 1] >= cells;
     curve.area.setAttribute("d", areaPath(held, cells));
     curve.current.setAttribute("d", `M${now + 0.5} 0V${HIGH}`);
-    curve.words.textContent = `Holds ${held[now]} of ${cells} now, at most ${most}${most >= cells ? ": no cell is free" : ""}. Granted so far: ${state.granted[flow]}.`;
-    curve.card.classList.toggle("full", most >= cells);
+    curve.words.textContent = `Holds ${held[now]} of ${cells} now, at most ${most}${full ? ": none left to book with" : ""}. Granted so far: ${state.granted[flow]}.`;
+    curve.card.classList.toggle("full", full);
   });
 }
 

@@ -206,7 +206,7 @@ def draw(words):
 def end(status, sentence):
     """Ends with a sentence, also where standard output takes no more."""
     try:
-        sys.stderr.write("pictures: %s\n" % sentence)
+        sys.stderr.write("play: %s\n" % sentence)
         sys.stderr.flush()
     except (OSError, ValueError, AttributeError):
         pass

@@ -70,7 +70,8 @@ def holding_words(state, flow):
     letter = " (%s)" % LETTERS[number] if number > 9 else ""
     held = state.holdings[number]
     coming = held[current_place(state):]
-    note = ", no cell free" if max(coming) >= flow.cells else ""
+    # Whatever slot is booked, it is held in the window's last slot too.
+    note = ", none left to book with" if coming[-1] >= flow.cells else ""
     return "flow %d%s: share %d, holds %d of %d cells now, at most %d%s" % (
         number, letter, flow.share, coming[0], flow.cells, max(coming), note)
 
