@@ -24,7 +24,7 @@ def show(rounds):
     with tempfile.TemporaryDirectory() as folder:
         paths = {pair: write(folder, pair) for pair in (LEAST, *ASKED)}
         best = dict.fromkeys(paths, float("inf"))
-        for _ in range(rounds):
+        for _ in programs.in_rounds("count", rounds):
             for pair, path in paths.items():
                 best[pair] = min(best[pair], programs.seconds(
                     programs.proved("domeplan"), path))

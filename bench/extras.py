@@ -48,7 +48,7 @@ def show(rounds):
     with tempfile.TemporaryDirectory() as folder:
         paths = [make(folder, budget) for budget in (SETS, 1)]
         best = [float("inf")] * len(paths)
-        for _ in range(rounds):
+        for _ in programs.in_rounds("extras", rounds):
             best = [min(least, microseconds(path))
                     for least, path in zip(best, paths)]
     print("12 layers, all %d sets %6.1f microseconds a question, "

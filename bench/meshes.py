@@ -36,7 +36,7 @@ def show(folder, rounds):
 def show_kind(kind, slots, folder, rounds):
     pair = (programs.proved("meshtime"), folder / "mesh")
     found = [[figures(program, slots) for program in pair]
-             for _ in range(rounds)]
+             for _ in programs.in_rounds("mesh " + kind, rounds)]
     if len({answers for row in found for _, answers in row}) != 1:
         programs.stop("the answers to checks of the mesh differ")
     ours, theirs = (min(column)[0] for column in zip(*found))

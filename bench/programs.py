@@ -10,6 +10,8 @@ import time
 from datetime import datetime
 from pathlib import Path
 
+from driver import progress
+
 ROOT = Path(__file__).resolve().parent.parent
 PROVED = ("domelink", "single", "meshtime")
 PLAIN = ("play", "calls", "single", "mesh")
@@ -20,6 +22,7 @@ LAST = 20               # lines shown of a check that failed
 
 def stop(text):
     """Ends with a sentence: nothing is measured."""
+    progress.line.clear()
     print("bench/run: " + text, file=sys.stderr)
     raise SystemExit(2)
 
@@ -37,9 +40,9 @@ def proved(name):
 
 def prove(*names):
     """Proves and compiles proved programs; stops where that fails."""
-    done = subprocess.run(["rt", "check", *names], cwd=ROOT,
-                          stdout=subprocess.PIPE, stderr=subprocess.STDOUT,
-                          encoding="utf-8", errors="replace")
+    words = ["rt", "check", *names]
+    done = progress.run(" ".join(words), words, cwd=ROOT,
+                        stdout=subprocess.PIPE, stderr=subprocess.STDOUT)
     if done.returncode != 0:
         for line in done.stdout.splitlines()[-LAST:]:
             print(line, file=sys.stderr)
@@ -50,7 +53,7 @@ def prove(*names):
 def build(folder):
     """The plain Rust programs, and the proved ones where they are missing or
     their sources have changed: rt leaves a program that is up to date."""
-    for name in PLAIN:
+    for name in progress.counted("programs in plain Rust", PLAIN, len(PLAIN)):
         source = "docs/src/%s.rs" % name
         done = subprocess.run(RUSTC + [str(ROOT / source),
                                        "-o", str(folder / name)])
@@ -99,6 +102,11 @@ def builds():
             said("rustc", "--version"), processors()]
 
 
+def in_rounds(sort, rounds):
+    """So many rounds of measuring, which a line counts."""
+    return progress.counted(sort + ", rounds", range(rounds), rounds)
+
+
 def make(folder, kind, count, *options):
     """A call file of a kind."""
     path = folder / ("-".join((kind, str(count)) + options) + ".calls")
@@ -135,7 +143,7 @@ def fastest(folder, paths, rounds):
     for path in paths:
         same_listings(pair, path)
     best = [[float("inf")] * len(pair) for _ in paths]
-    for _ in range(rounds):
+    for _ in in_rounds("call files", rounds):
         for times, path in zip(best, paths):
             for place, program in enumerate(pair):
                 times[place] = min(times[place], seconds(program, path))

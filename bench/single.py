@@ -30,7 +30,7 @@ def measure(folder, rounds, path):
     """The lowest figures of the two programs, started one after the other."""
     pair = (programs.proved("single"), folder / "single")
     texts = [[programs.played(program, path).decode() for program in pair]
-             for _ in range(rounds)]
+             for _ in programs.in_rounds("single calls", rounds)]
     sums = {answer for row in texts for text in row
             for answer in ANSWERS.findall(text)}
     if len(sums) != 1:

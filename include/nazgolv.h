@@ -31,6 +31,13 @@
 extern "C" {
 #endif
 
+/* ---- the version: the first number goes up where older images are refused */
+
+#define NAZGOLV_VERSION "4.5.0"
+#define NAZGOLV_VERSION_MAJOR 4
+#define NAZGOLV_VERSION_MINOR 5
+#define NAZGOLV_VERSION_PATCH 0
+
 /* ---- the image
  *
  * 16-bit fields, low byte first, without gaps:

@@ -10,6 +10,7 @@ from driver import (
 from driver.c_side import c_side
 from driver.formats import ALLCALLS
 from driver.pair_suite import PairSuite
+from driver.progress import counted
 from driver.side_by_side import done
 from driver.suite import Suite
 from driver.tally import (
@@ -18,15 +19,22 @@ from driver.tally import (
 from edges import questions, refusals_page
 from edges.all_edges import ALLCALLS_EDGES, EDGES
 from front_door import (
-    asking_editor, old_program, plan_files, plan_lost_output, plan_read,
-    plan_week, plan_wrong_words, play_files, play_lost_output, slow_reader,
-    wrong_arguments)
+    asking_editor, calls_text, check_log, checklist_page, comparison_page,
+    flights, help_pages, man_pages, old_program, picture_errors,
+    picture_pages, picture_scripts, pictures, plan_check, plan_files,
+    plan_lost_output, plan_read, plan_week, plan_wrong_words, play_explain,
+    play_files, play_lost_output, play_options, play_states, progress, readme,
+    rules_page, slow_reader, versions, wrong_arguments)
 from images import self_tests
 from pairs import wrong_pairs
 
-FRONT_DOOR = (play_files, play_lost_output, plan_files, plan_read, plan_week,
-              plan_wrong_words, plan_lost_output, old_program, slow_reader,
-              asking_editor, wrong_arguments)
+FRONT_DOOR = (
+    play_files, play_lost_output, play_explain, play_options, play_states,
+    pictures, picture_pages, picture_scripts, picture_errors, calls_text,
+    plan_files, plan_read, plan_check, plan_week, plan_wrong_words,
+    plan_lost_output, check_log, flights, old_program, slow_reader,
+    asking_editor, wrong_arguments, progress, versions, help_pages, man_pages,
+    readme, rules_page, checklist_page, comparison_page)
 REFUSALS = range(1, 30)         # those of all programs
 
 
@@ -37,7 +45,7 @@ def wanted(names, only):
 
 def test_all(suite, tests, only):
     """Tests that are no files: each gives what went wrong, or None."""
-    for name, trouble in done(wanted(tests, only)):
+    for name, trouble in done(suite.name, wanted(tests, only)):
         suite.test(name, trouble)
 
 
@@ -75,7 +83,7 @@ def without_program(only):
     """The suite of what the tests themselves have to be."""
     suite = Suite("tests")
     tests = itertools.chain(listings(), pairs(), answers(), tables())
-    for name, trouble in wanted(tests, only):
+    for name, trouble in counted(suite.name, wanted(tests, only)):
         suite.test(name, trouble)
     test_all(suite, self_tests.tests(), only)
     return suite
@@ -96,11 +104,11 @@ def played(make, suites):
     return case, [suite.play(case) for suite in suites]
 
 
-def play_cases(suites, names, only, tally=None):
-    """Each case through each program."""
+def play_cases(sort, suites, names, only, tally=None):
+    """Each case of a sort through each program."""
     jobs = ((name, partial(played, make, suites))
             for name, make in wanted(names, only))
-    for name, (case, outcomes) in done(jobs):
+    for name, (case, outcomes) in done(sort, jobs):
         if tally:
             tally.add(case)
         for suite, outcome in zip(suites, outcomes):
@@ -110,17 +118,18 @@ def play_cases(suites, names, only, tally=None):
 def play_files(suites, only, count, seed):
     """Files for every program.  The tally of the generated ones."""
     tally = Tally()
-    play_cases(suites, cases.edges(), only)
-    play_cases(suites, cases.page(), only)
-    play_cases(suites, cases.in_pieces(seed), only)
-    play_cases(suites, cases.seeds(count, seed), only, tally)
+    play_cases("edges", suites, cases.edges(), only)
+    play_cases("docs/REFUSALS.md", suites, cases.page(), only)
+    play_cases("files in pieces", suites, cases.in_pieces(seed), only)
+    play_cases("call files", suites, cases.seeds(count, seed), only, tally)
     return tally
 
 
 def play_departures(suites, only, count, seed):
     """Files with departures of all kinds.  Their tally."""
     tally = DepartureTally()
-    play_cases(suites, cases.departures(count, seed), only, tally)
+    play_cases("departures", suites, cases.departures(count, seed), only,
+               tally)
     for suite in suites:
         if not only:
             suite.test("the files with departures come to 20 often",
@@ -131,7 +140,7 @@ def play_departures(suites, only, count, seed):
 def play_numbers(suites, only, count, seed):
     """Files with quantum numbers of all kinds.  Their tally."""
     tally = NumberTally()
-    play_cases(suites, cases.numbers(count, seed), only, tally)
+    play_cases("numbers", suites, cases.numbers(count, seed), only, tally)
     for suite in suites:
         if not only:
             suite.test("the files with numbers come to 24 often",
@@ -142,25 +151,25 @@ def play_numbers(suites, only, count, seed):
 def play_lends(suites, only, count, seed):
     """Files with lends.  The tally of the generated ones."""
     tally = LendTally()
-    play_cases(suites, cases.allcalls_edges(), only)
-    play_cases(suites, cases.page(ALLCALLS), only)
-    play_cases(suites, cases.others_in_pieces(seed), only)
-    play_cases(suites, cases.lends(count, seed), only, tally)
+    play_cases("edges", suites, cases.allcalls_edges(), only)
+    play_cases("docs/REFUSALS.md", suites, cases.page(ALLCALLS), only)
+    play_cases("files in pieces", suites, cases.others_in_pieces(seed), only)
+    play_cases("lends", suites, cases.lends(count, seed), only, tally)
     return tally
 
 
 def play_resets(suites, only, count, seed):
     """Files with resets.  Their tally."""
     tally = ResetTally()
-    play_cases(suites, cases.resets(count, seed), only, tally)
+    play_cases("resets", suites, cases.resets(count, seed), only, tally)
     return tally
 
 
 def play_bursts(suites, only, count, seed):
     """Files with bursts.  The tally of the generated ones."""
     tally = BurstTally()
-    play_cases(suites, cases.bursts_in_pieces(seed), only)
-    play_cases(suites, cases.bursts(count, seed), only, tally)
+    play_cases("files in pieces", suites, cases.bursts_in_pieces(seed), only)
+    play_cases("bursts", suites, cases.bursts(count, seed), only, tally)
     for suite in suites:
         if not only:
             suite.test("bursts of every length, and every answer in them",
@@ -190,7 +199,7 @@ def play_pairs(suites, only, count, seed):
     the totals if nothing is left out.  Their suites."""
     suites = [PairSuite(suite) for suite in suites
               if suite.form is ALLCALLS and suite.command]
-    play_cases(suites, pair_suite.seeds(count, seed), only)
+    play_cases("pairs", suites, pair_suite.seeds(count, seed), only)
     for suite in suites:
         if not only:
             suite.totals()
@@ -201,12 +210,13 @@ def play_questions(suite, only, count, seed):
     """Questions of the show editor, and the totals if nothing is left out.
     The tally of the generated ones."""
     tally = QuestionTally()
-    play_cases([suite], itertools.chain(
+    play_cases("questions", [suite], itertools.chain(
         question_cases.edges(), question_cases.page(), question_cases.ends(),
         question_cases.every_room(), question_cases.every_way(),
         question_cases.every_count(),
         question_cases.in_pieces(seed), question_cases.many_lines(seed)), only)
-    play_cases([suite], question_cases.seeds(count, seed), only, tally)
+    play_cases("files of questions", [suite],
+               question_cases.seeds(count, seed), only, tally)
     test_all(suite, round_trips.tests(suite, seed), only)
     if not only:
         suite.totals()
@@ -233,7 +243,8 @@ def play_library(library, only, count, seed):
 
 def play_all(domelink, allcalls, domeplan, library, only, count, seed):
     """All tests, those of the programs first.  The suites and the tallies."""
-    apart = [without_program(only), front_door((domelink, domeplan), only)]
+    apart = [without_program(only),
+             front_door((domelink, allcalls, domeplan), only)]
     with tempfile.TemporaryDirectory() as folder:
         players = [domelink, allcalls, *plain_rust.suites(folder, only)]
         programs = players + c_suites(library, folder, only, count, seed)

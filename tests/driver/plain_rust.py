@@ -4,6 +4,7 @@ its own tests."""
 import subprocess
 from pathlib import Path
 
+from driver import progress
 from driver.formats import ALLCALLS, DOMELINK
 from driver.suite import Suite
 
@@ -20,8 +21,8 @@ def has_rustc():
 
 def trouble(*words):
     """The end of what a command wrote if it failed, or None."""
-    done = subprocess.run(words, stdout=subprocess.PIPE, text=True,
-                          stderr=subprocess.STDOUT)
+    done = progress.run("plain Rust", words, stdout=subprocess.PIPE,
+                        stderr=subprocess.STDOUT)
     return done.stdout[-400:] or "failed" if done.returncode else None
 
 

@@ -9,6 +9,7 @@ from collections import Counter
 
 from demand3 import departure_ways, lend_ways, number_ways, reset_ways, turns
 from demand3.check import check
+from driver import progress
 from driver.formats import ALLCALLS, DOMELINK
 from driver.starting import NO_END, play, play_in_pieces
 
@@ -71,6 +72,7 @@ class Suite:
         troubles = [trouble for trouble in troubles if trouble]
         if troubles:
             self.failed += 1
+            progress.line.clear()
             print("FAILED %s, %s: %s" % (self.name, name, "; ".join(troubles)))
         else:
             self.passed += 1

@@ -113,10 +113,10 @@ def page_is_missing(tree):
 # ---- pages
 
 def version(tree):
-    """Also where there is neither git nor rt."""
+    """Also where there is neither git nor rt, nor the file VERSION."""
     tree.only_tools()
     return trouble(tree.start("--version"), output=(
-        b"Nazgolv, commit unknown\nkit unknown\n"
+        b"Nazgolv version unknown, commit unknown\nkit unknown\n"
         b"program target/bin/domeplan is built\n"))
 
 

@@ -14,7 +14,7 @@ from front_door.play_tree import (
 def dense_flight(tree):
     with open(tree.root / "flights/dense", "rb") as source:
         listing = start([tree.program], stdin=source).output
-    return trouble(tree.start(cwd="/"), output=listing)
+    return trouble(tree.start("--dense", cwd="/"), output=listing)
 
 
 def a_file(tree):
@@ -113,10 +113,10 @@ def closed_input(tree):
 
 
 def version(tree):
-    """Also where there is neither git nor rt."""
+    """Also where there is neither git nor rt, nor the file VERSION."""
     tree.only_tools()
     return trouble(tree.start("--version"), output=(
-        b"Nazgolv, commit unknown\nkit unknown\n"
+        b"Nazgolv version unknown, commit unknown\nkit unknown\n"
         b"program target/bin/domelink is built\n"))
 
 

@@ -2,16 +2,20 @@
 
 import call_bytes
 from edges.edge_maker import BASE
+from front_door.command import ROOT
 from front_door.tree import Tree, named
 
 PLAYED, REFUSED, NOT_PLAYED, NOT_WHOLE = range(4)      # exit statuses of play
 ACCEPTED = BASE + call_bytes.TICK
 LISTING = b"P 0\nT -\n"
+SHOW = tuple("tools/show/" + path.name              # what says and draws plays
+             for path in sorted((ROOT / "tools/show").iterdir())
+             if path.is_file())
 
 
 class PlayTree(Tree):
     script, crate = "play", "domelink"
-    needed = ("flights/dense",)
+    needed = ("flights/dense", "flights/listing", *SHOW)
 
     def __init__(self, folder, program):
         super().__init__(folder, program)

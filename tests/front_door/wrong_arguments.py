@@ -89,7 +89,8 @@ def without_built(name):
     """tests/run in a tree with one program missing, or the library."""
     with tempfile.TemporaryDirectory() as folder:
         root = Path(folder)
-        shutil.copytree(ROOT / "tests", root / "tests")
+        for part in ("tests", "tools"):
+            shutil.copytree(ROOT / part, root / part)
         target = root / "target"
         for built in map(target.joinpath, BUILT):
             built.parent.mkdir(parents=True, exist_ok=True)

@@ -1,0 +1,152 @@
+"""Pictures that can't be drawn or written: a sentence and a status."""
+
+import shutil
+
+from front_door.command import redirected, start, trouble
+from front_door.picture_files import COMMAND, LISTING, SHOW, Played, drawn
+from front_door.play_tree import in_trees
+
+NOTHING_DRAWN, NOT_WRITTEN = 2, 3
+
+# Words before the file, words after the listing, and words of the sentence.
+WRONG_WORDS = [
+    ([], [], "no picture is asked for"),
+    (["--fast"], [], "there is no option '--fast'"),
+    (["--window", "--window"], [], "--window is there twice"),
+    (["--window"], ["8"], "there is no call 8: the file has 7 calls"),
+    (["--window"], ["9" * 5000], "there is no call 999"),
+    (["--window"], ["-1"], "there is no option '-1'"),
+    (["--window"], ["last"], "'last' is no call number"),
+    (["--window"], ["²"], "'²' is no call number"),
+    (["--window"], ["1", "2"], "there are 4 words"),
+    (["--timeline", "OUT"], ["1"], "a call number goes with --window"),
+    (["--svg", "OUT"], ["--page"], "--page needs a word after it"),
+    (["--svg", "x", "--page", "x"], [], "two pictures can't both go to 'x'"),
+]
+BAD_FILES = [
+    (Played(b"", ["P 1"]), "is no file of calls: "),
+    (Played(LISTING.data[:14], ["P 1"]), "states 20 bytes, and 14 are there"),
+    (Played(bytes.fromhex("0c0000000c00040002000400"), ["P 2"]),
+     "is refused with 2"),
+    (Played(LISTING.data, ["P 0", "G 1"]), "the listing doesn't fit"),
+    (Played(LISTING.data, ["P 0"] + 8 * ["T -"]), "the listing doesn't fit"),
+    (Played(LISTING.data, []), "the listing doesn't fit"),
+]
+
+
+def wrong_words():
+    for before, after, says in WRONG_WORDS:
+        done = drawn(LISTING, *before, after=after)
+        wrong = trouble(done.ended, NOTHING_DRAWN, b"", says)
+        if wrong or done.text is not None:
+            return "%s: %s" % (before + after, wrong or "a file is written")
+    return None
+
+
+def missing_words():
+    for words in (["--window"], ["--window", "calls"]):
+        wrong = trouble(start([*COMMAND, *words]), NOTHING_DRAWN, b"",
+                        "a call file and its listing have to be named")
+        if wrong:
+            return wrong
+    return None
+
+
+def bad_files():
+    for played, says in BAD_FILES:
+        done = drawn(played, "--window")
+        wrong = trouble(done.ended, NOTHING_DRAWN, b"", says)
+        if wrong:
+            return "%s: %s" % (says, wrong)
+    return trouble(start([*COMMAND, "--window", "nowhere", "listing"]),
+                   NOTHING_DRAWN, b"", "'nowhere' can't be read")
+
+
+def files_that_cannot_be_written():
+    for option, path in (("--svg", "/nowhere/out"), ("--timeline", "/"),
+                         ("--page", "/dev/full")):
+        done = drawn(LISTING, option, path)
+        wrong = trouble(done.ended, NOT_WRITTEN, b"",
+                        "'%s' can't be written" % path)
+        if wrong:
+            return "%s: %s" % (option, wrong)
+    return None
+
+
+def lost_output():
+    with open("/dev/full", "wb") as full:
+        for words in (["--window"], ["--svg", "-"]):
+            wrong = trouble(drawn(LISTING, *words, stdout=full).ended,
+                            NOT_WRITTEN, says="output was lost")
+            if wrong:
+                return wrong
+        return trouble(start([*COMMAND, "--help"], stdout=full), NOT_WRITTEN,
+                       says="output was lost")
+
+
+def help_fits_a_screen():
+    ended = start([*COMMAND, "--help"])
+    lines = ended.output.decode().splitlines()
+    return trouble(ended) or (
+        (len(lines) > 40 or max(map(len, lines)) > 80) and "too large") or (
+        "Exit status" not in ended.output.decode() and "no status")
+
+
+# ---- through ./play
+
+def with_pictures(tree):
+    shutil.copytree(SHOW, tree.root / "tools/show", dirs_exist_ok=True)
+    tree.calls.write_bytes(LISTING.data)
+
+
+def window_through_play(tree):
+    with_pictures(tree)
+    ended = tree.start("--window", tree.calls, "3")
+    return trouble(ended) or (
+        b"after call 3 of 7" not in ended.output and "another picture")
+
+
+def page_through_play(tree):
+    with_pictures(tree)
+    out = tree.root / "out.html"
+    return trouble(tree.start("--page", out, tree.calls), output=b"") or (
+        "<title>calls, call by call" not in out.read_text() and "no title")
+
+
+def not_over_its_own_file(tree):
+    """The file that ./play reads stays as it is."""
+    with_pictures(tree)
+    return trouble(tree.start("--svg", tree.calls, tree.calls),
+                   NOTHING_DRAWN, b"", "would be written over") or (
+        tree.calls.read_bytes() != LISTING.data and "the file is gone")
+
+
+def no_file_to_draw(tree):
+    """The only file that is named is the one to write: it stays."""
+    with_pictures(tree)
+    for option in ("--svg", "--timeline", "--page"):
+        wrong = trouble(tree.start(option, tree.calls), NOTHING_DRAWN, b"",
+                        "none is named") or (
+            tree.calls.read_bytes() != LISTING.data and "the file is gone")
+        if wrong:
+            return "%s: %s" % (option, wrong)
+    return None
+
+
+def closed_output(tree):
+    with_pictures(tree)
+    return trouble(start(redirected(">&-", tree.command, "--window",
+                                    tree.calls)), NOT_WRITTEN,
+                   says="standard output is closed")
+
+
+TESTS = (wrong_words, missing_words, bad_files, files_that_cannot_be_written,
+         lost_output, help_fits_a_screen)
+THROUGH_PLAY = (window_through_play, page_through_play, not_over_its_own_file,
+                no_file_to_draw, closed_output)
+
+
+def tests(programs):
+    for test in TESTS:
+        yield "pictures: " + test.__name__.replace("_", " "), test
+    yield from in_trees(THROUGH_PLAY, programs)

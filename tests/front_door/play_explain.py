@@ -1,0 +1,257 @@
+"""./play in words: document 01's listing, --explain, and the summary."""
+
+import re
+
+import call_bytes
+from edges import from_the_paper, refusals_page
+from edges.edge_maker import BASE
+from front_door.command import into_full_pipe, redirected, start, trouble
+from front_door.play_tree import (
+    NOT_PLAYED, NOT_WHOLE, PLAYED, REFUSED, in_trees)
+from front_door.show_tools import explain
+from simulator.listing import simulate
+from simulator.records import ALLCALLS, DOMELINK
+
+LISTING = b"P 0\nG 1\nG 2\nR 12\nC\nG 4\nG 3\nT 0\n"    # document 01 prints it
+
+# F = 4 and T = 8: positions 0 to 3 are in frame 0, 4 to 7 in frame 1.
+IN_WORDS = """\
+  P 0   the plan is accepted: F = 4 slots to a frame, W = 2 frames in the
+        window, T = 8 positions, N = 4 places in the buffer
+        flow 0: from node 1 to node 9, share 2, 2 cells
+        flow 1: from node 2 to node 9, share 2, 2 cells
+
+    1   flow 0 asks for a slot: quantum 0, departure 0
+  G 1   granted slot 1 (position 1, frame 0); there it holds 1 of its 2 cells
+    2   flow 0 asks for a slot: quantum 1, departure 0
+  G 2   granted slot 2 (position 2, frame 0); there it holds 2 of its 2 cells
+    3   flow 0 asks for a slot: quantum 2, departure 0
+  R 12  refused with 12: the flow has share left in the newest frame, but no
+        position that would be valid, whatever the word's departure: its cells
+        are all held, or the slots are booked (here all of its 2 cells are
+        held); what to do: wait for credits or the next frame
+    4   flow 0 gives a cell back, dated position 4
+  C     taken: from slot 4 (position 4, frame 1) on flow 0 holds one less
+    5   flow 0 asks for a slot: quantum 2, departure 0
+  G 4   granted slot 4 (position 4, frame 1); there it holds 2 of its 2 cells
+    6   flow 1 asks for a slot: quantum 0, departure 0
+  G 3   granted slot 3 (position 3, frame 0); there it holds 1 of its 2 cells
+    7   a tick
+  T 0   slot 1 (position 1, frame 0) has come up: it is flow 0's
+
+Summary
+        flow 0: 4 requests, 3 granted, 1 refused (1 with 12)
+            1 credit, 1 taken, 0 refused; held at most 2 of 2 cells
+        flow 1: 1 request, 1 granted, 0 refused
+            0 credits, 0 taken, 0 refused; held at most 1 of 2 cells
+        1 slot came up: 1 booked, 0 idle
+"""
+
+# For allcalls, of the same plan: slots 0 and 4 are lent, 1 to 3 stay idle,
+# and 4 is flow 0's second cell in use, so that it holds 2 there.
+ALL_CALLS = """\
+plan F=4 W=2 N=4
+flow share=2 cells=2 from=1 to=9
+flow share=2 cells=2 from=2 to=9
+lend 1
+credit 1 1
+reset
+tick 4
+lend 0 1
+burst 2
+  ask 0
+  ask 5 to=9
+ask 0 number=9
+bytes 07 00 00
+"""
+ALL_IN_WORDS = """\
+    1   the current slot is to be lent to flow 1
+  L 1   lent to flow 1: slot 0 (position 0, frame 0)
+    2   flow 1 gives a cell back, dated position 1
+  C     taken: from slot 1 (position 1, frame 0) on flow 1 holds one less
+    3   a local reset
+  R 23  refused with 23:
+    4   a tick
+  T -   slot 1 (position 1, frame 0) has come up: nobody booked it
+    5   a tick
+  T -   slot 2 (position 2, frame 0) has come up: nobody booked it
+    6   a tick
+  T -   slot 3 (position 3, frame 0) has come up: nobody booked it
+    7   a tick
+  T -   slot 4 (position 4, frame 1) has come up, with a frame change: nobody
+        booked it
+    8   the current slot is to be lent to flow 0 or 1
+  L 0   lent to flow 0: slot 4 (position 4, frame 1)
+    9   a burst of 2 requests
+  B 0 5 flow 0 asks for a slot: quantum 0, departure 4: granted slot 5 (position
+        5, frame 1)
+  B 8 0 flow 5 asks for a slot: quantum 0, departure 4, to node 9: refused with
+   10   flow 0 asks for a slot: quantum 9, departure 4
+  R 24  refused with 24:
+   11   3 bytes that are no call: 07 00 00
+  R 16  refused with 16:
+Summary
+        flow 0: 2 requests, 1 granted, 1 refused (1 with 24); lent 1 slot
+            0 credits, 0 taken, 0 refused; held at most 2 of 2 cells
+        flow 1: 0 requests, 0 granted, 0 refused; lent 1 slot
+            1 credit, 1 taken, 0 refused; held at most 1 of 2 cells
+        of no flow: 3 calls refused (1 with 8, 1 with 16, 1 with 23)
+        4 slots came up: 0 booked, 1 lent, 3 idle
+"""
+
+
+# ---- files in words
+
+def without_a_file(tree):
+    """Document 01's listing in words, from any folder."""
+    return trouble(tree.start(cwd="/"), output=IN_WORDS.encode())
+
+
+def text_and_bytes(tree):
+    """A text, its bytes, and both as standard input."""
+    data = from_the_paper.EDGES[0].data
+    text = b"# by hand\nplan F=4 W=2 N=4\nflow share=2 cells=2 from=1 to=9\n" \
+        b"flow share=2 cells=2 from=2 to=9\nask 0\nask 0\nask 0\n" \
+        b"credit 0 4\nask 0 again\nask 1\ntick\n"
+    for content in (data, text):
+        path = tree.write("a 'b' c", content)
+        wrong = trouble(tree.start("--explain", path),
+                        output=IN_WORDS.encode()) or trouble(
+            tree.start("--explain", "-", input=content),
+            output=IN_WORDS.encode())
+        if wrong:
+            return wrong
+    return None
+
+
+def all_calls(tree, program):
+    """Lends, a burst and what is refused, through allcalls."""
+    tree.copy(program, "target/bin/allcalls")
+    path = tree.write("all.calls", ALL_CALLS)
+    ended = tree.start("--allcalls", "--explain", path)
+    said = ended.output.decode()
+    for line in ALL_IN_WORDS.splitlines():
+        if line not in said:
+            return "no line %r in %s" % (line, said)
+    return trouble(ended) or trouble(
+        tree.start("--explain", path), NOT_PLAYED, b"",
+        "line 4: lend is a call for the program allcalls")
+
+
+def the_dense_flight(tree):
+    """What the summary adds up to, against the bare listing."""
+    lines = tree.start("--dense").output.decode().splitlines()
+    said = tree.start("--explain", "--dense").output.decode()
+    idle = lines.count("T -")
+    ticks = sum(line.startswith("T") for line in lines)
+    counts = [sum(map(int, re.findall(pattern, said))) for pattern in (
+        r"(\d+) granted, ", r"granted, (\d+) refused", r"(\d+) taken")]
+    if counts != [sum(line.startswith(letter) for line in lines)
+                  for letter in "GRC"]:
+        return "granted, refused, taken: %s" % counts
+    last = "        %d slots came up: %d booked, %d idle\n" % (
+        ticks, ticks - idle, idle)
+    return None if said.endswith(last) else said[-200:]
+
+
+# ---- refusals
+
+def plain(text):
+    return " ".join(text.split())
+
+
+def every_refusal():
+    """Each number's sentence, on the inputs of docs/REFUSALS.md."""
+    for only, kinds in ((None, DOMELINK), ("allcalls", ALLCALLS)):
+        for number, data, last in refusals_page.examples(only):
+            listing = "".join(line + "\n" for line in simulate(data, kinds))
+            said, _ = explain.explained(data, listing, kinds is ALLCALLS)
+            when = [row[1] for row in refusals_page.refusal_rows(
+                refusals_page.page()) if row[0] == number and row[4] == only]
+            if "refused with %d: %s" % (number, when[0].split(" (")[0]) \
+                    not in re.sub(r" \(here[^)]*\)", "", plain(said)):
+                return "%s: %s" % (last, said)
+    return None
+
+
+def number_that_is_expected(tree):
+    """24 says which number was expected: one word was granted."""
+    calls = tree.write("number", BASE + 2 * call_bytes.request(9, 0))
+    ended = tree.start("--explain", calls)
+    said = plain(ended.output.decode())
+    return trouble(ended) or (
+        "modulo 1,024 (here 1 is); what to do: after" not in said and said)
+
+
+def refused_plan(tree):
+    """It is said, and the status is 1."""
+    for content, says in (
+            (b"plan F=65 W=2 N=4\nflow share=1 cells=1 from=1 to=9\n",
+             "P 3 the plan is refused with 3: F is not 1 to 64"),
+            (b"no plan at all", "P 1 the plan is refused with 1: ")):
+        ended = tree.start("--explain", tree.write("refused", content))
+        wrong = trouble(ended, REFUSED) or (
+            not plain(ended.output.decode()).startswith(says)
+            and ended.output.decode())
+        if wrong:
+            return wrong
+    return None
+
+
+# ---- what can't be said
+
+def wrong_text(tree):
+    calls = tree.write("text", "plan F=4 W=2 N=4\ntick 5\naks 0\n")
+    return trouble(tree.start("--explain", calls), NOT_PLAYED, b"",
+                   "play: '%s', line 3: 'aks' is none of" % calls)
+
+
+def program_breaks_off(tree):
+    tree.instead('echo "P 0"\nexit 1\n')
+    return trouble(tree.start("--explain", tree.calls), NOT_WHOLE, b"",
+                   "play: domelink broke off")
+
+
+def program_says_so(tree):
+    tree.instead('echo "P 0"\necho "domelink: input was lost" >&2\n')
+    return trouble(tree.start("--explain", tree.calls), NOT_WHOLE, b"",
+                   "play: domelink: input was lost")
+
+
+def listing_of_another(tree):
+    tree.instead('echo "P 0"\n')
+    return trouble(tree.start("--explain", tree.calls), NOT_PLAYED, b"",
+                   "the listing ends after line 1, before the file does")
+
+
+def lost_words(tree):
+    many = tree.write("many", BASE + 500 * call_bytes.TICK)
+    return (trouble(into_full_pipe([tree.command, "--explain", many]),
+                    NOT_WHOLE, says="play: output was lost")
+            or trouble(start(redirected(">&-", tree.command, "--explain",
+                                        many)), NOT_WHOLE, b"",
+                       "standard output is closed"))
+
+
+def no_python(tree):
+    """With no file the bare listing is played, and it is said why."""
+    tree.only_tools()
+    return (trouble(tree.start(), PLAYED, LISTING,
+                    "python3 is not on the path: this is the bare listing")
+            or trouble(tree.start("--explain", tree.calls), NOT_PLAYED, b"",
+                       "python3, which --explain needs, is not on the path"))
+
+
+TESTS = (
+    without_a_file, text_and_bytes, the_dense_flight,
+    number_that_is_expected, refused_plan, wrong_text, program_breaks_off,
+    program_says_so, listing_of_another, lost_words, no_python)
+
+
+def tests(programs):
+    yield "./play: every refusal in words", every_refusal
+    yield from in_trees(TESTS, programs)
+
+    def with_all_calls(tree):
+        return all_calls(tree, programs["allcalls"])
+    yield from in_trees((with_all_calls,), programs)

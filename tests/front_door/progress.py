@@ -1,0 +1,172 @@
+"""Lines that count while something takes long: on a terminal, and nowhere
+else."""
+
+import os
+import pty
+import re
+import select
+import shutil
+import subprocess
+import sys
+import tempfile
+
+from front_door.command import LIMIT, ROOT, Ended, start, trouble
+from front_door.plan_tree import PlanTree
+from front_door.play_tree import PlayTree
+from front_door.tree import named
+
+NOTHING_DONE = 2                # exit status of play and plan
+SLOWLY = "sleep 1.5\n"
+BUILDS = "echo 'all proved'\nmv built target/bin/%s\n"
+FAILS = "echo 'not proved'\nexit 1\n"
+
+
+def written(master):
+    """What is written to a terminal, up to its end."""
+    text = b""
+    while select.select([master], [], [], LIMIT)[0]:
+        try:
+            text += os.read(master, 4096)
+        except OSError:         # nobody has the other end any more
+            break
+    return text.decode(errors="replace").replace("\r\n", "\n")
+
+
+def on_a_terminal(words, **options):
+    """How a command ends whose standard error is a terminal."""
+    master, slave = pty.openpty()
+    with tempfile.TemporaryFile() as output:
+        process = subprocess.Popen(
+            [str(word) for word in words], stdin=subprocess.DEVNULL,
+            stdout=output, stderr=slave, **options)
+        os.close(slave)
+        errors = written(master)
+        os.close(master)
+        status = process.wait(timeout=LIMIT)
+        output.seek(0)
+        return Ended(status, output.read(), errors)
+
+
+def seen(text):
+    """What is left to be seen on a terminal: a line that is written over
+    keeps what is not covered."""
+    lines = []
+    for line in text.split("\n"):
+        shown = ""
+        for piece in line.split("\r"):
+            shown = piece + shown[len(piece):]
+        lines.append(shown.rstrip())
+    return lines
+
+
+def wrong_lines(ended, counts, left):
+    """What is wrong where each of these counts has to come up, and these
+    lines are what is left at the end; or None."""
+    missing = [count for count in counts if "\r" + count not in ended.errors]
+    if ended.status or missing:
+        return "status %d, no %s: %r" % (ended.status, missing,
+                                         ended.errors[-300:])
+    return seen(ended.errors) != left and "left: %r" % seen(ended.errors)
+
+
+# ---- ./play and ./plan while rt proves and builds
+
+def environment(tree, script):
+    """The tree's own, where the program is still to be built by this rt."""
+    os.rename(tree.program, tree.root / "built")
+    tree.rt(script)
+    os.symlink(shutil.which("sleep"), tree.root / "bin/sleep")
+    return dict(os.environ, PATH=tree.path)
+
+
+def first_line(tree):
+    return ("%s: target/bin/%s is missing: it is proved and built first, "
+            "which takes some minutes" % (tree.script, tree.crate))
+
+
+def counts_seconds_on_a_terminal(tree):
+    """And what rt says stands on lines of its own."""
+    ended = on_a_terminal([tree.command, *tree.good],
+                          env=environment(tree, SLOWLY + BUILDS % tree.crate))
+    counts = ["%s: rt check %s: %d s" % (tree.script, tree.crate, seconds)
+              for seconds in (0, 1)]
+    return (wrong_lines(ended, counts, [first_line(tree), "all proved", ""])
+            or ended.output != tree.output and "other output")
+
+
+def failure_on_a_terminal(tree):
+    ended = on_a_terminal([tree.command, *tree.good],
+                          env=environment(tree, FAILS))
+    left = seen(ended.errors)
+    if ended.status != NOTHING_DONE or left[1] != "not proved":
+        return "status %d: %r" % (ended.status, left)
+    return "rt check %s failed" % tree.crate not in left[2] and left[2]
+
+
+def no_count_on_a_pipe(tree):
+    ended = start([tree.command, *tree.good],
+                  env=environment(tree, BUILDS % tree.crate))
+    return ended.errors != first_line(tree) + "\nall proved\n" and ended.errors
+
+
+# ---- tests/run and bench/run
+
+def some_edges(program):
+    """One edge, which is also played in pieces of six sizes."""
+    return [sys.executable, ROOT / "tests/run", "--program", program, "0",
+            "--only", "edge: a last record of 3 bytes"]
+
+
+def tests_run_counts_on_a_terminal(programs):
+    ended = on_a_terminal(some_edges(programs["domelink"]))
+    return wrong_lines(ended, ["edges: 0 of 1", "files in pieces: 0 of 6"],
+                       [""])
+
+
+def tests_run_fails_on_a_terminal(programs):
+    """Failures stand on lines of their own: cat is no player."""
+    words = some_edges(shutil.which("cat"))
+    ended = on_a_terminal(["sh", "-c", 'exec "$@" >&2', "sh", *words])
+    failed = [line for line in seen(ended.errors) if "FAILED" in line]
+    wrong = [line for line in failed if not line.startswith("FAILED cat, ")]
+    return (not failed or wrong) and "lines %r" % wrong[:2]
+
+
+def tests_run_is_silent_on_a_pipe(programs):
+    return trouble(start(some_edges(programs["domelink"])))
+
+
+def measured(starting):
+    """bench/run of one question, with an rt that has nothing to do."""
+    with tempfile.TemporaryDirectory() as folder:
+        os.symlink(shutil.which("true"), os.path.join(folder, "rt"))
+        path = folder + os.pathsep + os.environ.get("PATH", os.defpath)
+        return starting([sys.executable, ROOT / "bench/run", "--counts", "1"],
+                        env=dict(os.environ, PATH=path))
+
+
+def bench_run_counts_on_a_terminal(programs):
+    return wrong_lines(measured(on_a_terminal),
+                       ["rt check domeplan: 0 s", "count, rounds: 0 of 1"],
+                       [""])
+
+
+def bench_run_is_silent_on_a_pipe(programs):
+    ended = measured(start)
+    return trouble(ended) or (
+        not re.search(rb"^count 16 8 +[0-9.]+ micro", ended.output, re.M)
+        and "no figures")
+
+
+RUNNING = (tests_run_counts_on_a_terminal, tests_run_fails_on_a_terminal,
+           tests_run_is_silent_on_a_pipe, bench_run_counts_on_a_terminal,
+           bench_run_is_silent_on_a_pipe)
+
+
+def tests(programs):
+    yield from named(PlayTree, (counts_seconds_on_a_terminal,
+                                no_count_on_a_pipe), programs)
+    yield from named(PlanTree, (failure_on_a_terminal,), programs)
+    for test in RUNNING:
+        yield ("progress: " + test.__name__.replace("_", " "),
+               lambda test=test: test(programs))

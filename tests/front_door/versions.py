@@ -1,0 +1,94 @@
+"""VERSION, ./play and ./plan, the C header, the list of changes and the man
+pages name one version."""
+
+import re
+import shutil
+
+from front_door.command import ROOT, trouble
+from front_door.plan_tree import PlanTree
+from front_door.play_tree import PlayTree
+from front_door.tree import named
+
+VERSION = ROOT / "VERSION"
+PARTS = ("MAJOR", "MINOR", "PATCH")
+
+
+def text_of(name):
+    return (ROOT / name).read_text(encoding="utf-8")
+
+
+def version():
+    return VERSION.read_text().rstrip("\n")
+
+
+def headings():
+    """The versions of the list of changes, in its order, as numbers."""
+    found = re.findall(r"^## (\d+)\.(\d+)\.(\d+) \(\d{4}-\d\d-\d\d\): \S",
+                       text_of("CHANGELOG.md"), re.MULTILINE)
+    return [tuple(map(int, numbers)) for numbers in found]
+
+
+# ---- files
+
+def one_line():
+    """Three numbers and a newline, nothing else."""
+    text = VERSION.read_text()
+    return not re.fullmatch(r"\d+\.\d+\.\d+\n", text) and repr(text)
+
+
+def c_header():
+    """As text and as numbers, each once."""
+    header = text_of("include/nazgolv.h")
+    expected = [('NAZGOLV_VERSION', '"%s"' % version())] + [
+        ("NAZGOLV_VERSION_" + part, number)
+        for part, number in zip(PARTS, version().split("."))]
+    found = re.findall(r"^#define (NAZGOLV_VERSION\w*) (.+)$", header,
+                       re.MULTILINE)
+    return found != expected and "%s, and VERSION has %s" % (found, version())
+
+
+def changes():
+    """The newest version first, and the others in falling order."""
+    found = headings()
+    if ".".join(map(str, found[0])) != version():
+        return "the first heading is of %s" % (found[0],)
+    return (found != sorted(set(found), reverse=True)
+            and "not in falling order: %s" % found)
+
+
+def landings():
+    """Each landing's note is named once."""
+    text = text_of("CHANGELOG.md")
+    notes = ["docs/landings/" + path.name
+             for path in (ROOT / "docs/landings").glob("N*.md")]
+    wrong = [note for note in notes if text.count("`%s`" % note) != 1]
+    return wrong and "not once in CHANGELOG.md: " + ", ".join(wrong)
+
+
+def man_pages():
+    """The first line of each page."""
+    pages = sorted((ROOT / "docs/man").glob("*.1"))
+    wrong = [page.name for page in pages if '"Nazgolv %s"' % version()
+             not in page.read_text().split("\n")[0]]
+    return (wrong or not pages) and "another version: %s" % wrong
+
+
+# ---- scripts
+
+def version_comes_first(tree):
+    shutil.copy(VERSION, tree.root)
+    tree.only_tools()
+    return trouble(tree.start("--version"), output=(
+        "Nazgolv version %s, commit unknown\nkit unknown\n"
+        "program target/bin/%s is built\n"
+        % (version(), tree.crate)).encode())
+
+
+FILES = (one_line, c_header, changes, landings, man_pages)
+
+
+def tests(programs):
+    for test in FILES:
+        yield "version: " + test.__name__.replace("_", " "), test
+    for kind in (PlayTree, PlanTree):
+        yield from named(kind, (version_comes_first,), programs)

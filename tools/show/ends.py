@@ -1,0 +1,41 @@
+"""How a command for people reads its files, writes its output and ends."""
+
+import os
+import signal
+import sys
+
+signal.signal(signal.SIGINT, signal.SIG_DFL)    # a break ends it without words
+
+
+def stop(script, status, text):
+    """Ends with a sentence on standard error."""
+    try:
+        print("%s: %s" % (script, text), file=sys.stderr, flush=True)
+    except (OSError, AttributeError):
+        pass                    # standard error takes nothing
+    sys.exit(status)
+
+
+def read_file(script, path):
+    """A file's bytes; - is standard input."""
+    try:
+        if path == "-":
+            return sys.stdin.buffer.read()
+        with open(path, "rb") as source:
+            return source.read()
+    except AttributeError:
+        stop(script, 2, "standard input is closed, and - stands for it")
+    except OSError as wrong:
+        stop(script, 2, "'%s' can't be read: %s" % (path, wrong.strerror))
+
+
+def write_output(script, data):
+    """Writes bytes to standard output, or ends with 3."""
+    if sys.stdout is None:
+        stop(script, 3, "standard output is closed: nothing can be written")
+    left = memoryview(data)
+    try:
+        while left:
+            left = left[os.write(sys.stdout.fileno(), left):]
+    except OSError:
+        stop(script, 3, "output was lost: standard output took no more")

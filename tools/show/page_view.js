@@ -1,0 +1,209 @@
+"use strict";
+// Draws the link after a call, with the call and its answer in words.
+
+const flight = JSON.parse(document.getElementById("flight").textContent);
+const stateAfter = player(flight);
+const SLOTS = flight.F * flight.W;
+const SVG = "http://www.w3.org/2000/svg";
+const HIGH = 40; // a curve's height in its own units
+let shown = 0; // the number of the call that is shown
+
+const byId = (name) => document.getElementById(name);
+
+function element(kind, parent, className, words) {
+  const made = parent.appendChild(document.createElement(kind));
+  made.className = className || "";
+  made.textContent = words || "";
+  return made;
+}
+
+function drawn(kind, parent, attributes) {
+  const made = parent.appendChild(document.createElementNS(SVG, kind));
+  Object.entries(attributes).forEach(([name, value]) => made.setAttribute(name, value));
+  return made;
+}
+
+// What the call that is shown asks, and its answer.
+function wordsOf(number) {
+  if (number === 0) {
+    return ["The fresh link, before the first call.", "Nothing is booked, and nothing is held."];
+  }
+  return callWords(flight, flight.calls[number - 1], stateAfter(number - 1));
+}
+
+// The slots of the window that a call is about, by their place in it.
+function touched(number, state) {
+  const call = number ? flight.calls[number - 1] : [3, -1];
+  const positions = call[0] === 1 ? [call[5]] : call[0] === 2 && call[3] === 0 ? [call[2]] :
+    call[0] === 6 ? call[1].map((word) => word[4]) : [];
+  return positions.filter((position) => position !== null && position >= 0)
+    .map((position) => slotOf(flight, state, position) - firstSlot(flight, state));
+}
+
+// ---- what is built once
+
+function buildWindow() {
+  const root = byId("window");
+  root.style.setProperty("--wide", flight.F);
+  root.style.setProperty("--middle", Math.min(flight.F, 32));
+  root.style.setProperty("--slim", Math.min(flight.F, 16));
+  const labels = [], slots = [];
+  for (let frame = 0; frame < flight.W; frame += 1) {
+    const box = element("div", root, "frame");
+    labels.push(element("div", box, "name"));
+    const row = element("div", box, "slots");
+    for (let slot = 0; slot < flight.F; slot += 1) {
+      slots.push(element("span", row, "slot"));
+    }
+  }
+  return { labels, slots };
+}
+
+function buildCurve(flow) {
+  const card = element("div", byId("holdings"), "card");
+  const title = element("div", card, "title");
+  const badge = element("span", title, "badge", String(flow.number));
+  dress(badge, flow.number);
+  element("strong", title, "", `Flow ${flow.number}`);
+  element("span", title, "facts", `share ${flow.share}, node ${flow.source} to ${flow.destination}`);
+  const image = drawn("svg", card, { viewBox: `0 -4 ${SLOTS} ${HIGH + 4}`, preserveAspectRatio: "none", "aria-hidden": "true" });
+  const area = drawn("path", image, { fill: flow.fill, class: "area" });
+  for (let frame = 1; frame < flight.W; frame += 1) {
+    drawn("path", image, { d: `M${frame * flight.F} 0V${HIGH}`, class: "edge" });
+  }
+  drawn("path", image, { d: `M0 0H${SLOTS}`, class: "cells" });
+  const current = drawn("path", image, { class: "current" });
+  return { card, area, current, words: element("p", card, "words") };
+}
+
+flight.flows.forEach((flow, number) => { flow.number = number; });
+const parts = buildWindow();
+const curves = flight.flows.map(buildCurve);
+
+// ---- what is drawn for each call
+
+function dress(slot, flow) {
+  const shown = flow === null ? null : flight.flows[flow];
+  const bar = shown && shown.barred ? `linear-gradient(to top, transparent 2px, ${shown.ink} 2px 5px, transparent 5px) ` : "";
+  slot.style.background = shown ? bar + shown.fill : "";
+  slot.style.color = shown ? shown.ink : "";
+}
+
+function drawWindow(number, state) {
+  const first = firstSlot(flight, state), about = touched(number, state);
+  parts.labels.forEach((label, frame) => {
+    const from = (first + frame * flight.F) % SLOTS;
+    const name = frame === 0 ? "Head frame" : frame === flight.W - 1 ? "Newest frame" : "Frame";
+    label.textContent = `${name} ${first / flight.F + frame}: positions ${from} to ${from + flight.F - 1}`;
+  });
+  parts.slots.forEach((slot, place) => {
+    const current = first + place === state.ticks;
+    const owner = current && state.lent !== null ? state.lent : state.owners[place];
+    dress(slot, owner);
+    slot.textContent = owner === null ? "" : owner;
+    slot.className = "slot" + (first + place < state.ticks ? " gone" : "") +
+      (current ? " cp" : "") + (about.includes(place) ? " new" : "");
+  });
+  const booked = state.owners.filter((owner, place) => owner !== null && first + place > state.ticks).length;
+  const lent = state.lent === null ? "" : ` It is lent to flow ${state.lent}.`;
+  const where = `Current position CP = ${state.ticks % SLOTS}, slot ${state.ticks}.${lent} Booked and still to come: ${booked} of the window's ${SLOTS} slots.`;
+  byId("where").textContent = where;
+  byId("window").setAttribute("aria-label", `The window's slots and the flows that booked them. ${where}`);
+}
+
+// A step at each slot where the holding changes.
+function areaPath(held, cells) {
+  let path = `M0 ${HIGH}`, before = 0;
+  held.forEach((number, place) => {
+    if (number !== before) {
+      path += `H${place}V${HIGH - (HIGH * number) / cells}`;
+      before = number;
+    }
+  });
+  return `${path}H${SLOTS}V${HIGH}Z`;
+}
+
+function drawCurves(state) {
+  const now = state.ticks % flight.F;
+  curves.forEach((curve, flow) => {
+    const held = state.holdings[flow], cells = flight.flows[flow].cells;
+    const most = Math.max(...held.slice(now));
+    // Whatever slot is booked, it is held in the window's last slot too.
+    const full = held[held.length - 1] >= cells;
+    curve.area.setAttribute("d", areaPath(held, cells));
+    curve.current.setAttribute("d", `M${now + 0.5} 0V${HIGH}`);
+    curve.words.textContent = `Holds ${held[now]} of ${cells} now, at most ${most}${full ? ": none left to book with" : ""}. Granted so far: ${state.granted[flow]}.`;
+    curve.card.classList.toggle("full", full);
+  });
+}
+
+function show(number) {
+  shown = Math.max(0, Math.min(number, flight.calls.length));
+  const state = stateAfter(shown), [asked, answered] = wordsOf(shown);
+  const refused = shown ? refusalsOf(flight.calls[shown - 1]) : [];
+  byId("slider").value = shown;
+  byId("slider").setAttribute("aria-valuetext", `call ${shown} of ${flight.calls.length}`);
+  byId("number").textContent = `${shown} of ${flight.calls.length}`;
+  byId("call").textContent = asked;
+  byId("answer").textContent = answered;
+  byId("advice").textContent = refused.length ? advice(flight, refused[0]) : "";
+  byId("said").classList.toggle("refused", refused.length > 0);
+  drawWindow(shown, state);
+  drawCurves(state);
+}
+
+// ---- the controls
+
+function seek(step) {
+  const sought = Number(byId("sought").value);
+  const found = refusalFrom(flight, shown, step, sought);
+  if (found) {
+    show(found);
+  } else {
+    byId("advice").textContent = `There is no ${step > 0 ? "later" : "earlier"} ${sought ? `refusal ${sought}` : "refusal"}.`;
+  }
+}
+
+function fillSought() {
+  const counts = new Map();
+  flight.calls.forEach((call) => refusalsOf(call).forEach((number) =>
+    counts.set(number, (counts.get(number) || 0) + 1)));
+  const all = Array.from(counts.values()).reduce((sum, count) => sum + count, 0);
+  element("option", byId("sought"), "", `any (${all})`).value = 0;
+  Array.from(counts.keys()).sort((one, other) => one - other).forEach((number) => {
+    element("option", byId("sought"), "", `${number} (${counts.get(number)})`).value = number;
+  });
+}
+
+const KEYS = {
+  ArrowRight: () => show(shown + 1), ArrowLeft: () => show(shown - 1),
+  PageDown: () => show(shown + 10), PageUp: () => show(shown - 10),
+  Home: () => show(0), End: () => show(flight.calls.length),
+  n: () => seek(1), p: () => seek(-1),
+};
+
+function onKey(event) {
+  const own = event.target.tagName === "SELECT";
+  if (own || event.ctrlKey || event.altKey || event.metaKey || !KEYS[event.key]) {
+    return;
+  }
+  event.preventDefault();
+  KEYS[event.key]();
+}
+
+function begin() {
+  const facts = `Frames of F = ${flight.F} slots, a window of W = ${flight.W} frames, a buffer of N = ${flight.N} cells, ${flight.flows.length === 1 ? "one flow" : `${flight.flows.length} flows`}, ${flight.calls.length} calls.`;
+  byId("plan").textContent = facts;
+  byId("slider").max = flight.calls.length;
+  byId("slider").addEventListener("input", () => show(Number(byId("slider").value)));
+  [["first", "Home"], ["back", "ArrowLeft"], ["next", "ArrowRight"], ["last", "End"],
+    ["previous-refusal", "p"], ["next-refusal", "n"]].forEach(([name, key]) =>
+    byId(name).addEventListener("click", KEYS[key]));
+  document.addEventListener("keydown", onKey);
+  const fromAddress = () => show(Number(location.hash.slice(1)) || 0);
+  window.addEventListener("hashchange", fromAddress);
+  fillSought();
+  fromAddress();
+}
+
+begin();

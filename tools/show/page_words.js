@@ -1,0 +1,82 @@
+"use strict";
+// A call and its answer in words: what is asked, and what is answered.
+
+// A slot by its number, position and frame.
+function place(flight, slot) {
+  return `slot ${slot}, position ${slot % (flight.F * flight.W)} of frame ${Math.floor(slot / flight.F)}`;
+}
+
+function refusedWith(flight, number) {
+  const said = flight.refusals[number];
+  return said ? `Refused with ${number}: ${said[0]}.` : `Refused with ${number}.`;
+}
+
+// What to do about a refusal.
+function advice(flight, number) {
+  const said = flight.refusals[number];
+  return said && said[1] ? `What to do: ${said[1]}.` : "";
+}
+
+function requestWords(flight, call, before) {
+  const [, flow, number, departure, , answer] = call;
+  const asked = `Flow ${flow} asks for a slot: quantum ${number}, departure ${departure}.`;
+  if (answer < 0) {
+    return [asked, refusedWith(flight, -answer)];
+  }
+  const slot = slotOf(flight, before, answer), away = slot - before.ticks;
+  const when = away === 1 ? "with the next tick" : `in ${away} ticks`;
+  return [asked, `Granted ${place(flight, slot)}, which comes up ${when}.`];
+}
+
+function creditWords(flight, call, before) {
+  const [, flow, position, answer] = call;
+  return [`Flow ${flow} gives a cell back, dated position ${position}.`,
+    answer < 0 ? refusedWith(flight, -answer) :
+      `Taken: it holds one less from ${place(flight, slotOf(flight, before, position))} on.`];
+}
+
+function tickWords(flight, call, before) {
+  const now = before.ticks + 1, frame = now / flight.F;
+  const change = now % flight.F ? "" :
+    ` A frame change: frame ${frame} is head now, and frame ${frame + flight.W - 1} the newest.`;
+  return [`A tick: ${place(flight, now)} has come up.`,
+    (call[1] < 0 ? "Nobody booked it." : `It is flow ${call[1]}'s.`) + change];
+}
+
+function flowsOf(mask) {
+  const flows = Array.from({ length: 16 }, (_, flow) => flow).filter((flow) => (mask >> flow) & 1);
+  return flows.length ? flows.join(", ") : "none";
+}
+
+function lendWords(flight, call) {
+  return [`The current slot is to be lent; flows that wait: ${flowsOf(call[1])}.`,
+    call[2] < 0 ? refusedWith(flight, -call[2]) : `Lent to flow ${call[2]}.`];
+}
+
+function resetWords(flight, call) {
+  return ["The link is to be reset.",
+    call[1] < 0 ? refusedWith(flight, -call[1]) : "Reset: every flow starts again in the head frame."];
+}
+
+function wordAnswer(answer) {
+  if (answer === null) {
+    return "not looked at";
+  }
+  return answer < 0 ? `refused with ${-answer}` : `position ${answer}`;
+}
+
+function burstWords(flight, call) {
+  const answers = call[1].map((word) => `flow ${word[0]} ${wordAnswer(word[4])}`);
+  return [`A burst of requests: ${call[1].length}.`, answers.length ? `Answers: ${answers.join("; ")}.` : ""];
+}
+
+function noCallWords(flight, call) {
+  return ["A record that is no call.", refusedWith(flight, -call[1])];
+}
+
+const WORDS = [noCallWords, requestWords, creditWords, tickWords, lendWords, resetWords, burstWords];
+
+// What a call asks, and its answer; `before` is the state before it.
+function callWords(flight, call, before) {
+  return WORDS[call[0]](flight, call, before);
+}

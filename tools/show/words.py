@@ -1,0 +1,144 @@
+"""A call and its answer in words.  A sentence has no capital and no full stop
+of its own, so that it can stand in a line."""
+
+from refusals import refusal, rows
+
+
+def plural(count, name, more=None):
+    return "%d %s" % (count, name if count == 1 else more or name + "s")
+
+
+def listed(numbers, last="or"):
+    """1, 2 or 3."""
+    words = [str(number) for number in numbers]
+    if len(words) < 2:
+        return "".join(words)
+    return "%s %s %s" % (", ".join(words[:-1]), last, words[-1])
+
+
+def place(slot, plan):
+    """A slot by its number, position and frame."""
+    return "slot %d (position %d, frame %d)" % (
+        slot, slot % plan.positions, slot // plan.frame_slots)
+
+
+class Words:
+    """The words for the steps of a replay."""
+
+    def __init__(self, replay):
+        self.replay = replay
+        self.plan = replay.plan
+        self.known = rows()
+
+    # ---- the plan
+
+    def of_plan(self):
+        """The lines for the plan: its numbers and its flows, or why it is
+        refused."""
+        if self.replay.refusal:
+            return ["the plan is " + self.refused(self.replay.refusal, "plan")]
+        plan = self.plan
+        return ["the plan is accepted: F = %d slots to a frame, W = %d frames "
+                "in the window, T = %d positions, N = %d places in the buffer"
+                % (plan.frame_slots, plan.window_frames, plan.positions,
+                   plan.buffer)] + [
+            "flow %d: from node %d to node %d, share %d, %s" % (
+                flow.number, flow.source, flow.destination, flow.share,
+                plural(flow.cells, "cell")) for flow in plan.flows]
+
+    # ---- calls
+
+    def of_call(self, call):
+        if call.kind == "request":
+            return self.of_word(call.word)
+        if call.kind == "credit":
+            return "flow %d gives a cell back, dated position %d" % (
+                call.flow, call.position)
+        if call.kind == "tick":
+            return "a tick"
+        if call.kind == "lend":
+            flows = [flow for flow in range(16) if call.mask >> flow & 1]
+            return "the current slot is to be lent to %s" % (
+                "flow " + listed(flows) if flows else "no flow at all")
+        if call.kind == "reset":
+            return "a local reset"
+        if call.kind == "burst":
+            return "a burst of %s" % plural(len(call.words), "request")
+        return "%s that are no call: %s" % (
+            plural(len(call.record), "byte"), call.record.hex(" "))
+
+    def of_word(self, word):
+        flows = self.plan.flows
+        to = ""
+        if (word.flow >= len(flows)
+                or flows[word.flow].destination != word.destination):
+            to = ", to node %d" % word.destination
+        return "flow %d asks for a slot: quantum %d, departure %d%s" % (
+            word.flow, word.quantum, word.departure, to)
+
+    # ---- answers
+
+    def of_answers(self, step):
+        """Each answer of a step; before a burst's stand their words."""
+        if step.call.kind != "burst":
+            return [self.of_answer(step, step.answers[0], step.call.word)]
+        return ["%s: %s" % (self.of_word(word),
+                            self.of_answer(step, answer, word))
+                for word, answer in zip(step.call.words, step.answers)]
+
+    def of_answer(self, step, answer, word=None):
+        if answer.kind == "refused":
+            return self.refused(answer.refusal, step.call.kind,
+                                self.reason(step, answer, word))
+        return getattr(self, answer.kind)(step, answer)
+
+    def granted(self, step, answer):
+        said = "granted %s" % place(answer.booking.slot, self.plan)
+        if step.call.kind == "burst":
+            return said
+        state = self.replay.states[step.number]
+        return "%s; there it holds %d of its %s" % (
+            said, state.holdings[answer.flow][
+                answer.booking.slot - state.slots[0]],
+            plural(self.plan.flows[answer.flow].cells, "cell"))
+
+    def credited(self, step, answer):
+        return "taken: from %s on flow %d holds one less" % (
+            place(answer.slot, self.plan), answer.flow)
+
+    def tick(self, step, answer):
+        whose = ("nobody booked it" if answer.flow is None
+                 else "it is flow %d's" % answer.flow)
+        change = ""
+        if answer.slot % self.plan.frame_slots == 0:
+            change = ", with a frame change"
+        return "%s has come up%s: %s" % (
+            place(answer.slot, self.plan), change, whose)
+
+    def lent(self, step, answer):
+        return "lent to flow %d: %s" % (
+            answer.flow, place(answer.booking.slot, self.plan))
+
+    def reset(self, step, answer):
+        return "done: every flow starts again in frame %d" % (
+            self.replay.states[step.number].head_frame)
+
+    def untouched(self, step, answer):
+        return "not looked at, since a burst makes 16 requests at most"
+
+    def refused(self, number, kind, reason=""):
+        row = refusal(number, kind, self.known)
+        to_do = "; what to do: " + row.what_to_do if row.what_to_do else ""
+        return "refused with %d: %s%s%s" % (number, row.when, reason, to_do)
+
+    def reason(self, step, answer, word):
+        """What the state says of a refused request besides."""
+        if word is None or word.flow >= len(self.plan.flows):
+            return ""
+        state = self.replay.states[step.number]
+        held = state.holdings[word.flow][-1]
+        if answer.refusal == 12 and held == self.plan.flows[word.flow].cells:
+            return " (here all of its %s are held)" % plural(held, "cell")
+        if answer.refusal == 24 and step.call.kind == "request":
+            return " (here %d is)" % (state.granted[word.flow] % 1024)
+        return ""
