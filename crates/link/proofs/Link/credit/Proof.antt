@@ -8,7 +8,7 @@ use Rattle.link.proofs.Link.credit.Tie as tie
 
 -- where the window was made, and the link there
 abbrev window-at : tie.After-take → tie.After-window
-window-at c = c .before .before .before
+window-at c = c .before .before
 
 abbrev link-at : tie.After-window → Link
 link-at c = c .before .args .t1
@@ -20,7 +20,7 @@ window-requires : tie.Need-window-requires
 window-requires c κs = measures _ (c .pre)
 
 take-requires : tie.Need-take-requires
-take-requires c κs = let k = c .before .before in record { link = link-at k; given = credit-on (hand-at k) }
+take-requires c κs = let k = c .before in record { link = link-at k; given = credit-on (hand-at k) }
 
 returns : tie.Need-returns
 returns c =

@@ -21,7 +21,7 @@ use Rattle.link.proofs.credit.take.Tie as tie
 
 -- where the flow and the position passed their tests, and where the function is entered
 abbrev tested-at : tie.After-lower-from → tie.Else2
-tested-at c = c .before .before .before
+tested-at c = c .before .before .before .before
 
 abbrev start : tie.Else2 → tie.Start
 start c = c .before .before .before
@@ -51,7 +51,7 @@ module _ (c : tie.After-lower-from) where
   position-at = start (tested-at c) .args .position
 
   not-passed : passed (windowOf (start (tested-at c) .args .w)) position-at ≡ false
-  not-passed = sym (c .before .before .passed .ensures) ∙ c .before .if3 .left
+  not-passed = let e = c .before .before in sym (e .before .passed .ensures) ∙ e .if3 .left
 
   -- what the test of the holdings says
   abbrev held-in : List ℕ → Bool
@@ -65,12 +65,6 @@ module _ (c : tie.After-lower-from) where
   holds b =
       let s = start (tested-at c) in
       cond b (shifted (windowOf (s .args .w)) 255 (s .args .flow) position-at (s .args .held .now)) (s .args .held .now)
-
-  lowers : c .lower-from .result ≡ true → c .lower-from .held ≡ holds true
-  lowers e = c .lower-from .ensures .1 ∙ ap holds e
-
-  keeps : c .lower-from .result ≡ false → c .lower-from .held ≡ holds false
-  keeps e = c .lower-from .ensures .1 ∙ ap holds e
 
 -- a refusal changes nothing
 unchanged : {n i p number : ℕ} {w : Window} {before after : List ℕ} → after ≡ before → (number ≡ 0 → ⊥) → Credited n w i p number before after
@@ -102,7 +96,7 @@ returns-3 c =
 
 lower-from-requires : tie.Need-lower-from-requires
 lower-from-requires c κs =
-    let t = c .before .before in
+    let t = c .before .before .before in
     record { proper = start t .pre .given .window .proper; flow = flow-few t; position = t .if2 .left }
 
 returns-4 : tie.Need-returns-4
@@ -113,7 +107,7 @@ returns-4 c =
       record {
         refused = λ n. absurd (n refl);
         taken = λ z. record { flow = flow-tested t; position = t .if2 .left; some-held = sym (h .lower-from .ensures .0) ∙ c .if4 .taken };
-        lowered = λ z. lowers h (c .if4 .taken);
+        lowered = λ z. h .lower-from .ensures .1 ∙ ap (holds h) (c .if4 .taken);
       },
     )
 
@@ -122,7 +116,7 @@ returns-5 c =
     let h = c .before in
     let t = tested-at h in (
       λ l o. tests-15 l _ _ (flow-below t l o) (position-below t l o) _ (o .window .window-is) (not-passed h) (held-is h l o ∙ c .if4 .left),
-      unchanged (keeps h (c .if4 .left)) (λ z. omega (arith, z)),
+      unchanged (h .lower-from .ensures .1 ∙ ap (holds h) (c .if4 .left)) (λ z. omega (arith, z)),
     )
 
 pub take-spec : {M : Type 1} → statement M
