@@ -8,7 +8,7 @@ use calls::LONGEST_LINE;
 use calls::RECORD;
 use calls::Record;
 use link::Link;
-use link::credit::refusal;
+use link::credit::take;
 use link::request::ask;
 use link::request::asker;
 use link::tick::leave_head;
@@ -69,11 +69,10 @@ pub fn play(start: Link, records: &[u8], out: &mut [u8]) -> Playback
                 answer = reply.answer;
             }
             Call::Credit(flow, position) => {
-                let number = refusal(plan.count, w, &link.held, flow, position);
+                let number = take(plan.count, w, &mut link.held, flow, position);
                 if number != 0 {
                     answer = Answer::Refused(number);
                 } else {
-                    shift_from(&mut link.held, 255, flow, w, position);
                     answer = Answer::Taken;
                 }
             }

@@ -109,7 +109,7 @@ module _ (w : Window) (v : Proper w) (p : ℕ) (lp : p < sizeOf w) (h : List ℕ
       at q b l =
           let here = row-at h i q b in
           let first = with-row-in h i (shiftedRow (windowOf w) 255 p (row h i)) q b (rw (length-with-row h i _) at l)
-              ∙ replaced-at from _ (row h i) q 0 (omega (arith, length-row h i)) in
+          ∙ replaced-at from _ (row h i) q 0 (omega (arith, length-row h i)) in
           let second = replaced-at from (λ q x. wrapped 1 x) (row lower i) q 0 (omega (arith, length-row lower i)) in
           rw (second, row-at lower i q b, first, here)
           (back q (from q) refl (decLt q (sizeOf w)) _ (λ d. bytes .below (256 * i + q) (omega arith) (omega arith)))

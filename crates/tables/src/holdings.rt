@@ -135,7 +135,15 @@ fn byte(x: u8) -> u8
 
 // The holdings of the range from a to e moved as by `shift`, and whether before that at every place something was held or the pad was
 // above 0; the pad is `outer` where a holding is moved by `inner`, and `inner` where it is moved by `outer`.
-fn lower(held: &mut Holdings, a: usize, e: usize, start: u8, count: u8, inner: u8, outer: u8) -> bool
+fn lower(
+    held: &mut Holdings,
+    a: usize,
+    e: usize,
+    start: u8,
+    count: u8,
+    inner: u8,
+    outer: u8,
+) -> bool
     requires { ⌜ InRow a e start count ⌝ }
     ensures all { λ r. ⌜ All (λ k. ltb 0 (max (getD (now (held .entry)) k 0) (pad start count outer inner (k - a)))) a e r ⌝ }
     ensures shifts { λ r. ⌜ now (held .exit) ≡ replaced (inRange a e) (λ k x. wrapped (pad start count inner outer (k - a)) x) (now (held .entry)) ⌝ }
