@@ -4,6 +4,8 @@ ghost use mathlib.Core.List.{_∷_, []};
 ghost use Prim.Native.Nat.{_+_, _<_, _≤_};
 ghost use lib.ListN.{length};
 ghost use lib.Seq.{sets};
+ghost use Rattle.model.specs.Calls.{accepted};
+ghost use Rattle.model.specs.Listing.{creditLine};
 ghost use Rattle.calls.specs.Lines.{numberLine, outWith, nextAfter};
 ghost use Rattle.lines.specs.Lines.{four, textOf, lineAt, AllLines};
 use calls::has_room;
@@ -121,4 +123,18 @@ pub fn write(line: Line, out: &mut [u8], at: usize) -> usize
     put_four(line.last, out, at + past);
     put_four(line.first, out, at);
     at + past + 4
+}
+
+// Writes the line of a credit that is taken, as `calls::write` does.
+pub fn write_taken(out: &mut [u8], at: usize) -> usize
+    ensures out { λ r. ⌜ now (out .exit) ≡ outWith (creditLine (accepted tt)) (now (out .entry)) at ⌝ }
+    ensures next { λ r. ⌜ r ≡ nextAfter (creditLine (accepted tt)) (now (out .entry)) at ⌝ }
+    ensures most { λ r. ⌜ r ≤ at + 7 ⌝ }
+{
+    if !has_room(out, at) {
+        return at;
+    }
+    out[at] = b'C';
+    out[at + 1] = b'\n';
+    at + 2
 }

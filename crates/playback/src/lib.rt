@@ -2,7 +2,6 @@
 ghost use Rattle.link.specs.Reading.{linkOf};
 ghost use Rattle.link.specs.Sound.{Sound};
 ghost use Rattle.playback.specs.Playback.{PlayedRecords};
-use calls::Answer;
 use calls::Call;
 use calls::LONGEST_LINE;
 use calls::RECORD;
@@ -78,7 +77,7 @@ pub fn play(start: Link, records: &[u8], out: &mut [u8]) -> Playback
                 if number != 0 {
                     end = calls::write_refusal(number, out, end);
                 } else {
-                    end = calls::write(Answer::Taken, out, end);
+                    end = lines::write_taken(out, end);
                 }
             }
             Call::Tick => {

@@ -151,8 +151,8 @@ take-requires c κs =
 write-refusal-requires-2 : tie.Need-write-refusal-requires-2 Inv-loop μ-loop
 write-refusal-requires-2 c κs = search needs
 
-write-requires-3 : tie.Need-write-requires-3 Inv-loop μ-loop
-write-requires-3 c κs = search needs
+write-taken-requires : tie.Need-write-taken-requires Inv-loop μ-loop
+write-taken-requires c κs = search needs
 
 -- ---- a tick
 
@@ -191,8 +191,8 @@ mul-line-2 c = omega (arith, owner-at (c .before))
 array-copy-out-line-2 : tie.Need-array-copy-out-line-2 Inv-loop μ-loop
 array-copy-out-line-2 c = omega (arith, owner-at (c .before))
 
-write-requires-4 : tie.Need-write-requires-4 Inv-loop μ-loop
-write-requires-4 c κs = search needs
+write-requires-3 : tie.Need-write-requires-3 Inv-loop μ-loop
+write-requires-3 c κs = search needs
 
 -- ---- the next record
 
@@ -255,7 +255,7 @@ play-spec =
     enum-known-call-3
     take-requires
     write-refusal-requires-2
-    write-requires-3
+    write-taken-requires
     enum-told-2
     ticked-requires
     empty-head-requires
@@ -267,7 +267,7 @@ play-spec =
     add-line
     mul-line-2
     array-copy-out-line-2
-    write-requires-4
+    write-requires-3
     add-at-2
     loop-less-2
     loop-again-2
