@@ -156,16 +156,24 @@ def shifted(booked, sent, agree):
     return []
 
 
+def agreeing(agree, slots):
+    """How many slots agree."""
+    return "%d of %d %s %s" % (
+        agree, slots, "slot" if slots == 1 else "slots",
+        "agrees" if 1 in (agree, slots) else "agree")
+
+
 def compare(booked, sent, frame_slots):
     """The exit status, and the lines that say what came of it."""
     agree = sum(first == other for first, other in zip(booked, sent))
     if booked == sent:
         idle = booked.count(None)
-        return ALIKE, ["alike: %d of %d slots agree, %d with a stream and %d "
-                       "idle" % (agree, agree, agree - idle, idle)]
+        return ALIKE, ["alike: %s, %d with a stream and %d idle" % (
+            agreeing(agree, agree), agree - idle, idle)]
     return DIFFER, [
-        "differ: %d of %d slots agree; BOOKED has %d and SENT has %d" % (
-            agree, max(len(booked), len(sent)), len(booked), len(sent)),
+        "differ: %s; BOOKED has %d and SENT has %d" % (
+            agreeing(agree, max(len(booked), len(sent))), len(booked),
+            len(sent)),
         first_difference(booked, sent, frame_slots),
         *shifted(booked, sent, agree)]
 
@@ -190,8 +198,9 @@ def two_names(words):
     elif words and len(words[0]) > 1 and words[0].startswith("-"):
         raise Trouble("there is no option '%s'%s" % (shown(words[0]), MORE))
     if len(words) != 2:
-        raise Trouble("two files are compared, BOOKED and SENT, and %d are "
-                      "named%s" % (len(words), MORE))
+        raise Trouble("two files are compared, BOOKED and SENT, and %d %s "
+                      "named%s" % (len(words),
+                                   "is" if len(words) == 1 else "are", MORE))
     if words == ["-", "-"]:
         raise Trouble("only one of the two can be standard input")
     return words

@@ -1,6 +1,7 @@
 # shellcheck shell=sh disable=SC2034,SC2154
-# What ./play, ./plan and ./check-log have in common. Whoever sources it has set script, its own name, crate, that of its program, and here, the tree's root.
+# What ./play, ./plan, ./check-log and tools/calls have in common. Whoever sources it has set script, its own name, crate, that of its program, and here, the tree's root.
 program=$here/target/bin/$crate
+log=$here/target/build.log  # what rt said when it built a program last
 
 # Ends with an exit status and a sentence on standard error.
 stop() {
@@ -12,11 +13,22 @@ stop() {
 
 is_open() { (eval "exec 9>&$1") 2>/dev/null; }
 
-show_version() {
+# Ends where --version is one of several words; how many there are is given.
+check_alone() {
+    [ "$1" -eq 1 ] || stop 2 "--version stands alone, and $1 words are given: leave out the others"
+}
+
+# The version and the commit, on a line.
+show_release() {
     version=$(cat "$here/VERSION" 2>/dev/null) || version=unknown
     commit=$(cd "$here" && git describe --always --dirty 2>/dev/null) || commit=unknown
+    printf 'Nazgolv version %s, commit %s\n' "$version" "$commit"
+}
+
+show_version() {
+    show_release || return
     kit=$(rt version 2>/dev/null) || kit=unknown
-    printf 'Nazgolv version %s, commit %s\nkit %s\nprogram %s\n' "$version" "$commit" "$kit" "$(state)"
+    printf 'kit %s\nprogram %s\n' "$kit" "$(state)"
 }
 
 # A source that is newer than the program.
@@ -35,7 +47,8 @@ state() {
     fi
 }
 
-check_crate() { cd "$here" && rt check "$crate" </dev/null; }
+# Proves and builds the program. What rt says goes to the log.
+check_crate() { cd "$here" && rt check "$crate" </dev/null >"$log" 2>&1; }
 
 # Counts the seconds on one line of standard error, as long as this script runs.
 count_seconds() {
@@ -47,30 +60,32 @@ count_seconds() {
     done
 }
 
-# Leaves the counting line empty.
-clear_line() { printf '\r%40s\r' '' >&2; }
-
-# Passes lines on to standard error, each in the place of the counting line, which goes on below it.
-above_count() {
-    while IFS= read -r line || [ -n "$line" ]; do
-        clear_line
-        printf '%s\n' "$line" >&2
-    done
-}
-
-# Proves and builds the program, with a line that counts where standard error is a terminal. What rt says goes to standard error.
+# Proves and builds the program, with a line that counts where standard error is a terminal, and that is empty at the end.
 prove() {
     if [ ! -t 2 ]; then
-        (check_crate) >&2
+        (check_crate)
         return
     fi
     count_seconds >/dev/null &
     counter=$!
-    ended=$({ { (check_crate) 2>&1 4>&-; echo $? >&4; } | above_count 4>&-; } 4>&1)
+    (check_crate)
+    ended=$?
     kill "$counter" 2>/dev/null
     wait "$counter" 2>/dev/null
-    clear_line
-    return "${ended:-2}"
+    printf '\r%40s\r' '' >&2
+    return "$ended"
+}
+
+# Makes the log empty, with its folder where that is missing.
+begin_log() {
+    [ -d "$here/target" ] || mkdir "$here/target" 2>/dev/null
+    (: >"$log") 2>/dev/null
+}
+
+# Ends where rt failed, with the last lines that it said. The word says what was found before.
+build_failed() {
+    tail -n 20 "$log" >&2
+    stop 2 "$1, and rt check $crate failed: nothing is done; target/build.log has all that rt said"
 }
 
 # Proves and builds the program where that is needed.
@@ -78,9 +93,10 @@ build() {
     found=$(state)
     [ "$found" = "target/bin/$crate is built" ] && return
     command -v rt >/dev/null 2>&1 || stop 2 "$found, and rt, which proves and builds it, is not on the path"
-    printf '%s: %s: it is proved and built first, which takes some minutes\n' "$script" "$found" >&2
-    prove || stop 2 "$found, and rt check $crate failed: nothing is done"
-    [ -x "$program" ] || stop 2 "rt check $crate left no target/bin/$crate"
+    begin_log || stop 2 "$found, and can't be built: target/build.log can't be written"
+    printf '%s: %s: it is proved and built first, which takes some minutes; what rt says goes to target/build.log\n' "$script" "$found" >&2
+    prove || build_failed "$found"
+    [ -x "$program" ] || stop 2 "rt check $crate left no target/bin/$crate; target/build.log has what rt said"
     touch "$program" 2>/dev/null
 }
 
@@ -98,8 +114,18 @@ take_input() {
     exec <"$1"
 }
 
+# A column of a refusal's first row in docs/REFUSALS.md: its number is given, and the cells between.
+cell_of() { sed -n "s/^| $1 | $2\([^|]*\) |.*/\1/p" "$here/docs/REFUSALS.md" 2>/dev/null | head -n 1; }
+
 # When a number is given, in the words of docs/REFUSALS.md.
 why() {
-    when=$(sed -n "s/^| $1 | \([^|]*\) |.*/\1/p" "$here/docs/REFUSALS.md" 2>/dev/null)
+    when=$(cell_of "$1" '')
     echo "${when:-see docs/REFUSALS.md}"
+}
+
+# Says on a line of its own what to do about a refusal, in the words of docs/REFUSALS.md on plans, with what else is to be said.
+say_remedy() {
+    advice=$(cell_of "$1" '[^|]* | ')
+    advice=${advice%%; for the mesh*}$2
+    [ -z "$advice" ] || printf '%s: what to do: %s\n' "$script" "${advice#; }" >&2
 }

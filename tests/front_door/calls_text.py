@@ -69,7 +69,7 @@ WRONG = (
     ("flow share=1 cells=1 from=1", 3, "to= is missing"),
     ("flow share=256 cells=1 from=1 to=2", 3, "share has to be a number"),
     ("burst 2\nask 0\ntick", 5, "lacks 1 of its words"),
-    ("burst 21", 3, "the words has to be a number from 0 to 20"),
+    ("burst 21", 3, "the count has to be a number from 0 to 20"),
     ("lend 16", 3, "from 0 to 15"),
     ("reset 1", 3, "a reset stands alone"),
 )
@@ -173,6 +173,17 @@ def back(tree):
                            b"ask 1\ntick\n"))
 
 
+def back_of_a_text(tree):
+    """It is not taken for bytes, whatever stands in front of the plan."""
+    text = tree.root / "flights/listing.calls"
+    remark = b"# by hand\n\n" + PLAN.encode()
+    return (trouble(tree.start("--back", text), WRONG_TEXT, b"",
+                    "calls: '%s' is a text already" % text)
+            or trouble(tree.start("--allcalls", "--back", "-", input=remark),
+                       WRONG_TEXT, b"",
+                       "calls: standard input is a text already"))
+
+
 def either(tree):
     """--bytes takes a text and a file of bytes."""
     for name in ("flights/listing", "flights/listing.calls"):
@@ -196,6 +207,8 @@ def wrong_words(tree):
             ((), "one file is read, and 0 are named"),
             (("a", "b"), "one file is read, and 2 are named"),
             (("--forth", "a"), "there is no option '--forth'"),
+            (("--back", "--version"), "--version stands alone"),
+            (("--back", "--help"), "--help stands alone"),
             (("nowhere",), "'nowhere' can't be read"),
             ((tree.root,), "can't be read")):
         wrong = trouble(tree.start(*words), NOT_READ, b"", says)
@@ -229,8 +242,8 @@ def help_page(tree):
 
 
 APART = (every_line, wrong_lines, wrong_wholes, there_and_back, short_text)
-TESTS = (the_listing, late_credits, back, either, wrong_text, wrong_words,
-         lost_output, no_python, help_page)
+TESTS = (the_listing, late_credits, back, back_of_a_text, either, wrong_text,
+         wrong_words, lost_output, no_python, help_page)
 
 
 def tests(programs):

@@ -15,9 +15,13 @@ COMPARED = [
     ("0 1 -", "0 1 -", ALIKE,
      ["alike: 3 of 3 slots agree, 2 with a stream and 1 idle"]),
     ("-", "-", ALIKE,
-     ["alike: 1 of 1 slots agree, 0 with a stream and 1 idle"]),
+     ["alike: 1 of 1 slot agrees, 0 with a stream and 1 idle"]),
     ("15", "15", ALIKE,
-     ["alike: 1 of 1 slots agree, 1 with a stream and 0 idle"]),
+     ["alike: 1 of 1 slot agrees, 1 with a stream and 0 idle"]),
+    ("0 1", "0 2", DIFFER,
+     ["differ: 1 of 2 slots agrees; BOOKED has 2 and SENT has 2",
+      "the first that differs is slot 2: it was booked for flow 1, "
+      "and flow 2 left"]),
     # Another stream, nothing, one too many; the first of two is named.
     ("0 1 -", "0 2 -", DIFFER,
      ["differ: 2 of 3 slots agree; BOOKED has 3 and SENT has 3",
@@ -36,11 +40,11 @@ COMPARED = [
       "and flow 2 left"]),
     # 1 is not 10, and 0 is not idle.
     ("1", "10", DIFFER,
-     ["differ: 0 of 1 slots agree; BOOKED has 1 and SENT has 1",
+     ["differ: 0 of 1 slot agrees; BOOKED has 1 and SENT has 1",
       "the first that differs is slot 1: it was booked for flow 1, "
       "and flow 10 left"]),
     ("-", "0", DIFFER,
-     ["differ: 0 of 1 slots agree; BOOKED has 1 and SENT has 1",
+     ["differ: 0 of 1 slot agrees; BOOKED has 1 and SENT has 1",
       "the first that differs is slot 1: nobody booked it, and flow 0 left"]),
     # A list that ends early, also where nothing more was booked.
     ("0 1 -", "0 1", DIFFER,
@@ -128,7 +132,7 @@ NO_LIST = [
 # Words of ./check-log, and words of the sentence.
 WRONG = [
     ([], "two files are compared, BOOKED and SENT, and 0 are named"),
-    (["a"], "and 1 are named"),
+    (["a"], "and 1 is named"),
     (["a", "b", "c"], "and 3 are named"),
     (["-", "-"], "only one of the two can be standard input"),
     (["--fast", "a", "b"], "there is no option '--fast'"),
@@ -136,7 +140,7 @@ WRONG = [
     (["--slots", "0", "a", "b"], "1 to 64, and not '0'"),
     (["--slots", "65", "a", "b"], "1 to 64, and not '65'"),
     (["--slots", "x", "a", "b"], "1 to 64, and not 'x'"),
-    (["--slots", "4", "a"], "and 1 are named"),
+    (["--slots", "4", "a"], "and 1 is named"),
     (["nowhere", "b"], "there is no file 'nowhere'"),
     ([os.sep, "b"], "'/' is a directory, not a listing"),
 ]
@@ -211,7 +215,7 @@ def the_sparse_flight(tree):
 def listing_on_standard_input(tree):
     sent = tree.write("sent", "3\n")
     return trouble(tree.start("-", sent, input=b"P 0\nT 3\n"), output=(
-        b"alike: 1 of 1 slots agree, 1 with a stream and 0 idle\n"))
+        b"alike: 1 of 1 slot agrees, 1 with a stream and 0 idle\n"))
 
 
 def other_ends_of_lines(tree):

@@ -73,17 +73,19 @@ def redirected(redirection, *words):
     return ["sh", "-c", 'exec "$@" ' + redirection, "sh", *words]
 
 
-def trouble(ended, status=0, output=None, says=None):
+def trouble(ended, status=0, output=None, says=None, then=None):
     """What is wrong, or None.  With `says` standard error has to be one line
-    with these words; else it has to be empty."""
+    with these words, and with `then` another one with those; else it has to
+    be empty."""
     if ended.status != status:
         return "status %d for %d: %s" % (ended.status, status,
                                          ended.errors[-300:])
     if output is not None and ended.output != output:
         return "other output: %r" % ended.output[:60]
     lines = ended.errors.splitlines()
-    if says is None and lines:
-        return "wrote on standard error: %s" % ended.errors[:300]
-    if says is not None and (len(lines) != 1 or says not in lines[0]):
-        return "no line with %r: %s" % (says, ended.errors[:300])
+    wanted = [words for words in (says, then) if words is not None]
+    if len(lines) != len(wanted) or not all(
+            words in line for words, line in zip(wanted, lines)):
+        return "on standard error not %s, but: %s" % (
+            wanted or "nothing", ended.errors[:400])
     return None

@@ -1,6 +1,7 @@
 """Pictures that can't be drawn or written: a sentence and a status."""
 
 import shutil
+import tempfile
 
 from front_door.command import redirected, start, trouble
 from front_door.picture_files import COMMAND, LISTING, SHOW, Played, drawn
@@ -92,6 +93,23 @@ def help_fits_a_screen():
         "Exit status" not in ended.output.decode() and "no status")
 
 
+# ---- what is written is said
+
+def says_what_is_written():
+    """A line for each file, and none for standard output."""
+    done = drawn(LISTING, "--svg", "OUT", "--page", "-")
+    wrong = trouble(done.ended, says="out' is written") or (
+        "<svg" not in done.text and "no picture")
+    with tempfile.TemporaryDirectory() as folder:
+        two = drawn(LISTING, "--window", "--svg", folder + "/a", "--timeline",
+                    folder + "/b").ended
+    return wrong or trouble(
+        two, says="play: '%s/a' is written" % folder,
+        then="play: '%s/b' is written" % folder) or (
+        b"after call 7" not in two.output and "no window") or trouble(
+        drawn(LISTING, "--timeline", "-").ended)
+
+
 # ---- through ./play
 
 def with_pictures(tree):
@@ -109,8 +127,22 @@ def window_through_play(tree):
 def page_through_play(tree):
     with_pictures(tree)
     out = tree.root / "out.html"
-    return trouble(tree.start("--page", out, tree.calls), output=b"") or (
+    return trouble(tree.start("--page", out, tree.calls), output=b"",
+                   says="play: '%s' is written" % out) or (
         "<title>calls, call by call" not in out.read_text() and "no title")
+
+
+def svg_through_play(tree):
+    """Alone, with a call number, and with standard error closed."""
+    with_pictures(tree)
+    out = tree.root / "out.svg"
+    wrong = trouble(tree.start("--svg", out, tree.calls, "3"), output=b"",
+                    says="play: '%s' is written" % out) or (
+        "calls after call 3 of 7" not in out.read_text() and "no title")
+    out.unlink()
+    return wrong or trouble(
+        start(redirected("2>&-", tree.command, "--svg", out, tree.calls)),
+        output=b"") or not out.exists() and "nothing is written"
 
 
 def not_over_its_own_file(tree):
@@ -141,9 +173,9 @@ def closed_output(tree):
 
 
 TESTS = (wrong_words, missing_words, bad_files, files_that_cannot_be_written,
-         lost_output, help_fits_a_screen)
-THROUGH_PLAY = (window_through_play, page_through_play, not_over_its_own_file,
-                no_file_to_draw, closed_output)
+         lost_output, help_fits_a_screen, says_what_is_written)
+THROUGH_PLAY = (window_through_play, page_through_play, svg_through_play,
+                not_over_its_own_file, no_file_to_draw, closed_output)
 
 
 def tests(programs):

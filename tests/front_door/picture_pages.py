@@ -43,7 +43,7 @@ class Reader(HTMLParser):
 def page(played, **options):
     """The page of a file, or what is wrong."""
     done = drawn(played, "--page", "OUT", **options)
-    return done.text, trouble(done.ended, output=b"")
+    return done.text, trouble(done.ended, output=b"", says="out' is written")
 
 
 def calls_and_answers():

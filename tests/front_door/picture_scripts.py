@@ -155,7 +155,9 @@ def script_speaks():
 
 
 def tests(programs):
-    if shutil.which("node"):
-        yield ("pictures: script agrees with the simulator",
-               script_agrees_with_simulator)
-        yield "pictures: script speaks", script_speaks
+    if not shutil.which("node"):
+        print("node is not on this machine: no script of a page is run")
+        return
+    yield ("pictures: script agrees with the simulator",
+           script_agrees_with_simulator)
+    yield "pictures: script speaks", script_speaks

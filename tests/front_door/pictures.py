@@ -108,7 +108,7 @@ def dense_window_fits_80_columns():
 def svg(played, *words, **options):
     """What pictures.py wrote as SVG, read, or what is wrong."""
     done = drawn(played, *words, **options)
-    wrong = trouble(done.ended, output=b"")
+    wrong = trouble(done.ended, output=b"", says="play: ")
     return None if wrong else ElementTree.fromstring(done.text), wrong
 
 
@@ -140,7 +140,7 @@ def window_as_svg():
 
 def timeline():
     """Slot 1 has come up for flow 0.  Still to come are 2 and 4 of flow 0, and
-    3 of flow 1.  A slot is 4 wide, and a flow 9 high."""
+    3 of flow 1.  A slot is 24 wide, from 70 on, and a flow 9 high."""
     root, wrong = svg(LISTING, "--timeline", "OUT")
     if wrong:
         return wrong
@@ -152,8 +152,9 @@ def timeline():
                if rect.get("stroke")]
     description = all_of(root, "desc")[0].text
     for found, expected in (
-            (came, [("74", "64")]),
-            (to_come, [("78.5", "64.5"), ("82.5", "73.5"), ("86.5", "64.5")]),
+            (came, [("94", "64")]),
+            (to_come, [("118.5", "64.5"), ("142.5", "73.5"),
+                       ("166.5", "64.5")]),
             (description, "flow 0: 3 booked, 0 lent; flow 1: 1 booked, "
              "0 lent; idle: 0")):
         if found != expected:

@@ -9,6 +9,7 @@ from edges.edge_maker import BASE
 from front_door.command import ROOT, redirected, start, trouble
 from front_door.plan_read import PRINTED, ROOMY, ROOMY_PRINTED
 from front_door.plan_tree import NOT_DONE, REFUSED, in_trees
+from front_door.remedies import what_to_do
 
 CHECKED = PRINTED + b"""
 flow   rate, its share over F
@@ -16,8 +17,8 @@ flow   rate, its share over F
    1    2/4   50.0 %
 left    0/4    0.0 %
 
-passes: the link takes this plan; 0 of 4 slots to a frame are left, \
-and 0 of 4 places in the buffer
+passes: the link takes this plan; slots left in a frame: 0 of 4; \
+places left in the buffer: 0 of 4
 """
 # 9/64 is 14.0625 and 40/64 is 62.5 in a hundred, 1/64 is 1.5625, and what is
 # left, 14/64, is 21.875.
@@ -28,8 +29,8 @@ flow   rate, its share over F
    2   1/64    1.6 %
 left  14/64   21.9 %
 
-passes: the link takes this plan; 14 of 64 slots to a frame are left, \
-and 3827 of 4095 places in the buffer
+passes: the link takes this plan; slots left in a frame: 14 of 64; \
+places left in the buffer: 3827 of 4095
 """
 
 # Plans of one flow: share and F beside the lines of its rate and of the rest.
@@ -65,10 +66,6 @@ STANDING = [
     (3, call_bytes.plan(0, 2, 4, [(1, 1, 1, 9)]),
      ["F 0, slots to a frame", "left     -1      3  of F and of N"]),
 ]
-REMEDIES = {1: "write the plan again", 2: "mend the header",
-            3: "choose a smaller frame or window", 4: "mend that flow",
-            5: "make them one flow", 6: "lower a share",
-            7: "lower a flow's cells"}
 
 
 # ---- plans that pass
@@ -124,10 +121,10 @@ def check_refusals(tree):
             ended = tree.start("--check", "-", input=data)
             wrong = trouble(
                 ended, REFUSED, b"" if number < 3 else None,
-                "plan: standard input is refused with %d: %s; what to do: %s"
-                % (number, when[number], REMEDIES[number])) or (
+                "plan: standard input is refused with %d: %s"
+                % (number, when[number]), "plan: " + what_to_do(number)) or (
                 number > 1 and not ended.errors.endswith(
-                    REMEDIES[number] + "\n") and ended.errors)
+                    what_to_do(number) + "\n") and ended.errors)
             if wrong:
                 return "refusal %d: %s" % (number, wrong)
     return None
@@ -138,7 +135,8 @@ def check_numbers_as_they_stand(tree):
         ended = tree.start("--check", "-", input=data)
         printed = ended.output.decode().splitlines()
         missing = [line for line in lines if line not in printed]
-        wrong = trouble(ended, REFUSED, says="refused with %d: " % number) or (
+        wrong = trouble(ended, REFUSED, None, "refused with %d: " % number,
+                        what_to_do(number)) or (
             (missing or not printed[0].startswith("refused; ")
              or "passes" in ended.output.decode()) and "%s" % printed)
         if wrong:
@@ -150,19 +148,23 @@ def check_a_call_file(tree):
     """A plan with calls after it is no plan file: it is said what plays it."""
     data = BASE + call_bytes.TICK
     return trouble(tree.start("--check", "-", input=data), REFUSED, b"",
+                   "standard input is refused with 1: ",
                    "a file of calls, which begins with a plan, is played by "
                    "./play")
 
 
 def check_a_long_file(tree):
     return trouble(tree.start("--check", ROOT / "README.md"), REFUSED, b"",
-                   "README.md' is no plan: it has more than")
+                   "README.md' is no plan: a plan has at most 76 bytes, and "
+                   "this file has more than can be read as one; a file of "
+                   "calls is played by ./play")
 
 
 def check_without_the_page(tree):
     (tree.root / "docs/REFUSALS.md").unlink()
     return trouble(tree.start("--check", "-", input=b""), REFUSED, b"",
-                   "standard input is refused with 1: see docs/REFUSALS.md")
+                   "standard input is refused with 1: see docs/REFUSALS.md",
+                   "what to do: a file of calls, which begins with a plan")
 
 
 # ---- what can't be looked at

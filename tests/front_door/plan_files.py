@@ -7,6 +7,7 @@ from edges import refusals_page
 from edges.edge_maker import BASE
 from front_door.command import redirected, start, trouble
 from front_door.plan_tree import NUMBERS, REFUSED, in_trees
+from front_door.remedies import what_to_do
 
 SIXTEEN = [(4, 255, place, 63) for place in range(16)]
 # Blanks, a newline, a percent sign, a backslash: bytes that a shell may spoil.
@@ -93,12 +94,12 @@ def no_tools_but_the_usual(tree):
 # ---- plans that are refused
 
 def refused_numbers(tree):
-    """Status 1, no byte, and the words of docs/REFUSALS.md."""
+    """Status 1, no byte, the words of docs/REFUSALS.md, and what to do."""
     when = refusals_page.sentences()
     for numbers, refusal in REFUSALS:
         wrong = trouble(tree.start(*numbers.split()), REFUSED, b"",
                         "plan: the plan is refused with %d: %s"
-                        % (refusal, when[refusal]))
+                        % (refusal, when[refusal]), what_to_do(refusal))
         if wrong:
             return "%s: %s" % (numbers[:40], wrong)
     return None

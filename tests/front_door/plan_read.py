@@ -5,6 +5,7 @@ from edges import refusals_page
 from edges.edge_maker import BASE
 from front_door.command import ROOT, redirected, start, trouble
 from front_door.plan_tree import NOT_DONE, REFUSED, in_trees
+from front_door.remedies import what_to_do
 
 PRINTED = b"""\
 F 4, slots to a frame
@@ -84,13 +85,13 @@ def no_tools_but_the_usual(tree):
 # ---- files that are refused
 
 def refused_files(tree):
-    """Status 1, and the words of docs/REFUSALS.md."""
+    """Status 1, the words of docs/REFUSALS.md, and what to do."""
     when = refusals_page.sentences()
     for number, data, last in refusals_page.examples():
         if last.startswith("P"):
             wrong = trouble(tree.start("--read", "-", input=data), REFUSED,
                             b"", "plan: standard input is refused with %d: %s"
-                            % (number, when[number]))
+                            % (number, when[number]), what_to_do(number))
             if wrong:
                 return "refusal %d: %s" % (number, wrong)
     return None
@@ -99,19 +100,20 @@ def refused_files(tree):
 def empty_file(tree):
     path = tree.write("empty", b"")
     return trouble(tree.start("--read", path), REFUSED, b"",
-                   "empty' is refused with 1: the plan has fewer than")
+                   "empty' is refused with 1: the plan has fewer than",
+                   what_to_do(1))
 
 
 def long_files(tree):
     """A file of 1,997 bytes is the longest that domeplan takes; no plan has
     more than 76."""
     stated = (1997).to_bytes(2, "little")
-    for data, says in (
-            (stated + bytes(1995), "is refused with 2: "),
-            (bytes(1997), "is refused with 1: "),
-            (stated + bytes(1996), "it has more than 1997 bytes")):
+    for data, says, then in (
+            (stated + bytes(1995), "is refused with 2: ", what_to_do(2)),
+            (bytes(1997), "is refused with 1: ", what_to_do(1)),
+            (stated + bytes(1996), "a plan has at most 76 bytes", None)):
         wrong = trouble(tree.start("--read", "-", input=data), REFUSED, b"",
-                        says)
+                        says, then)
         if wrong:
             return "%d bytes: %s" % (len(data), wrong)
     return None
@@ -119,12 +121,12 @@ def long_files(tree):
 
 def text_file(tree):
     return trouble(tree.start("--read", ROOT / "README.md"), REFUSED, b"",
-                   "README.md' is no plan: it has more than")
+                   "README.md' is no plan: a plan has at most 76 bytes")
 
 
 def file_without_end(tree):
     return trouble(tree.start("--read", "/dev/zero"), REFUSED, b"",
-                   "'/dev/zero' is no plan: it has more than")
+                   "'/dev/zero' is no plan: a plan has at most 76 bytes")
 
 
 # ---- what can't be read

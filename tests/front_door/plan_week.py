@@ -3,6 +3,7 @@
 from edges import refusals_page
 from front_door.command import redirected, start, trouble
 from front_door.plan_tree import NOT_DONE, REFUSED, in_trees
+from front_door.remedies import what_to_do
 from generator import asked_programmes
 from generator.dice import Dice
 
@@ -61,13 +62,13 @@ REFUSALS = [
 ]
 
 COUNT = ("the numbers of a programme are a start, an end and a plan for each "
-         "showing, and %d are given")
+         "showing, and %s given")
 
 # Words after --week, and words of the sentence.
 WRONG = [
-    (["1"], COUNT % 1),
-    (["1", "2"], COUNT % 2),
-    (["1", "2", "3", "4"], COUNT % 4),
+    (["1"], COUNT % "1 is"),
+    (["1", "2"], COUNT % "2 are"),
+    (["1", "2", "3", "4"], COUNT % "4 are"),
     ([""], "'' is no number"),
     (["mon", "2", "3"], "'mon' is no number"),
     (["20:00", "21:15", "7"], "'20:00' is no number"),
@@ -173,12 +174,12 @@ def closed_input_not_needed(tree):
 # ---- programmes that are refused, and words that are none
 
 def refused_programmes(tree):
-    """Status 1, no line, and the words of docs/REFUSALS.md."""
+    """Status 1, no line, the words of docs/REFUSALS.md, and what to do."""
     when = refusals_page.sentences()
     for numbers, refusal in REFUSALS:
         wrong = trouble(tree.start(*words_of(numbers)), REFUSED, b"",
                         "plan: the programme is refused with %d: %s"
-                        % (refusal, when[refusal]))
+                        % (refusal, when[refusal]), what_to_do(refusal))
         if wrong:
             return "%s: %s" % (numbers[:40], wrong)
     return None

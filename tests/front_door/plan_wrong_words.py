@@ -4,17 +4,17 @@ nothing is written."""
 from front_door.command import trouble
 from front_door.plan_tree import NOT_DONE, NUMBERS, in_trees
 
-COUNT = "the numbers are F, W, N and then four for each flow, and %d are given"
+COUNT = "the numbers are F, W, N and then four for each flow, and %s given"
 
 # Words of ./plan, and words of the sentence.
 WRONG = [
     ([], "the numbers of a plan are missing"),
     ([""], "the numbers of a plan are missing"),
-    (["4"], COUNT % 1),
-    (["4", "2"], COUNT % 2),
-    (["4", "2", "4", "2"], COUNT % 4),
-    (NUMBERS[:-1], COUNT % 10),
-    (NUMBERS + ["9", "9"], COUNT % 13),
+    (["4"], COUNT % "1 is"),
+    (["4", "2"], COUNT % "2 are"),
+    (["4", "2", "4", "2"], COUNT % "4 are"),
+    (NUMBERS[:-1], COUNT % "10 are"),
+    (NUMBERS + ["9", "9"], COUNT % "13 are"),
     (["show.plan"], "'show.plan' is no number"),
     (["4", "2", "four"], "'four' is no number"),
     (["4", "2", "-4"], "'-4' is no number"),

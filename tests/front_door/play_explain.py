@@ -8,6 +8,7 @@ from edges.edge_maker import BASE
 from front_door.command import into_full_pipe, redirected, start, trouble
 from front_door.play_tree import (
     NOT_PLAYED, NOT_WHOLE, PLAYED, REFUSED, in_trees)
+from front_door.remedies import what_to_do
 from front_door.show_tools import explain
 from simulator.listing import simulate
 from simulator.records import ALLCALLS, DOMELINK
@@ -180,19 +181,21 @@ def number_that_is_expected(tree):
     ended = tree.start("--explain", calls)
     said = plain(ended.output.decode())
     return trouble(ended) or (
-        "modulo 1,024 (here 1 is); what to do: after" not in said and said)
+        "modulo 1,024 (here 1 is); what to do: go on" not in said and said)
 
 
 def refused_plan(tree):
-    """It is said, and the status is 1."""
-    for content, says in (
+    """It is said, with what to do, and the status is 1."""
+    for content, says, last in (
             (b"plan F=65 W=2 N=4\nflow share=1 cells=1 from=1 to=9\n",
-             "P 3 the plan is refused with 3: F is not 1 to 64"),
-            (b"no plan at all", "P 1 the plan is refused with 1: ")):
+             "P 3 the plan is refused with 3: F is not 1 to 64",
+             what_to_do(3)),
+            (b"no plan at all", "P 1 the plan is refused with 1: ",
+             "a text for tools/calls begins with the word plan")):
         ended = tree.start("--explain", tree.write("refused", content))
+        said = plain(ended.output.decode())
         wrong = trouble(ended, REFUSED) or (
-            not plain(ended.output.decode()).startswith(says)
-            and ended.output.decode())
+            not (said.startswith(says) and said.endswith(last)) and said)
         if wrong:
             return wrong
     return None

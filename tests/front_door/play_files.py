@@ -8,6 +8,9 @@ from edges.edge_maker import BASE
 from front_door.command import ROOT, redirected, start, talk, trouble
 from front_door.play_tree import (
     ACCEPTED, LISTING, NOT_PLAYED, REFUSED, in_trees)
+from front_door.remedies import what_to_do
+
+AS_A_PLAN = what_to_do(1) + "; a file of calls begins with the bytes of a plan"
 
 # ---- files that can be played
 
@@ -58,12 +61,14 @@ def streamed(tree):
 # ---- plans that are refused
 
 def refused_plans(tree):
-    """Status 1, and the words of docs/REFUSALS.md."""
+    """Status 1, the words of docs/REFUSALS.md, and what to do."""
+    when = refusals_page.sentences()
     for number, data, last in refusals_page.examples():
         if last.startswith("P"):
             wrong = trouble(tree.start("-", input=data), REFUSED,
                             last.encode() + b"\n",
-                            "standard input is refused with %d: " % number)
+                            "standard input is refused with %d: %s"
+                            % (number, when[number]), what_to_do(number))
             if wrong:
                 return "refusal %d: %s" % (number, wrong)
     return None
@@ -71,19 +76,20 @@ def refused_plans(tree):
 
 def text_file(tree):
     return trouble(tree.start(ROOT / "README.md"), REFUSED, b"P 1\n",
-                   "README.md' is refused with 1: the plan has fewer than")
+                   "README.md' is refused with 1: the plan has fewer than",
+                   AS_A_PLAN)
 
 
 def play_itself(tree):
     """A symlink to play as the file: it is text too."""
     os.symlink(tree.command, tree.root / "itself")
     return trouble(tree.start(tree.root / "itself"), REFUSED, b"P 1\n",
-                   "itself' is refused with 1")
+                   "itself' is refused with 1", AS_A_PLAN)
 
 
 def empty_file(tree):
     return trouble(tree.start("-", input=b""), REFUSED, b"P 1\n",
-                   "standard input is refused with 1")
+                   "standard input is refused with 1", AS_A_PLAN)
 
 
 # ---- what can't be played

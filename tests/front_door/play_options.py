@@ -3,6 +3,7 @@
 from front_door.command import start, trouble
 from front_door.play_tree import (
     ACCEPTED, LISTING, NOT_PLAYED, REFUSED, in_trees)
+from front_door.remedies import what_to_do
 
 # In the place of pictures.py: says its words, a line each, and what it was
 # handed; ends with 3.
@@ -83,7 +84,8 @@ def refused_plan(tree):
     """Nothing is drawn."""
     stand_in(tree)
     return trouble(tree.start("--window", "-", input=b"no plan"), REFUSED, b"",
-                   "standard input is refused with 1: the plan has fewer")
+                   "standard input is refused with 1: the plan has fewer",
+                   what_to_do(1))
 
 
 def pictures_are_missing(tree):

@@ -18,7 +18,16 @@ from front_door.tree import named
 NOTHING_DONE = 2                # exit status of play and plan
 SLOWLY = "sleep 1.5\n"
 BUILDS = "echo 'all proved'\nmv built target/bin/%s\n"
-FAILS = "echo 'not proved'\nexit 1\n"
+FAILS = """\
+line=1
+while [ $line -le 30 ]; do
+    echo "note $line"
+    line=$((line + 1))
+done
+echo 'not proved' >&2
+exit 1
+"""
+SAID = ["note %d" % line for line in range(1, 31)] + ["not proved"]
 
 
 def written(master):
@@ -81,32 +90,66 @@ def environment(tree, script):
 
 def first_line(tree):
     return ("%s: target/bin/%s is missing: it is proved and built first, "
-            "which takes some minutes" % (tree.script, tree.crate))
+            "which takes some minutes; what rt says goes to target/build.log"
+            % (tree.script, tree.crate))
+
+
+def log(tree):
+    return (tree.root / "target/build.log").read_text()
 
 
 def counts_seconds_on_a_terminal(tree):
-    """And what rt says stands on lines of its own."""
+    """And what rt says goes to the log."""
     ended = on_a_terminal([tree.command, *tree.good],
                           env=environment(tree, SLOWLY + BUILDS % tree.crate))
     counts = ["%s: rt check %s: %d s" % (tree.script, tree.crate, seconds)
               for seconds in (0, 1)]
-    return (wrong_lines(ended, counts, [first_line(tree), "all proved", ""])
-            or ended.output != tree.output and "other output")
+    return (wrong_lines(ended, counts, [first_line(tree), ""])
+            or ended.output != tree.output and "other output"
+            or log(tree) != "all proved\n" and log(tree))
+
+
+def wrong_failure(tree, ended, lines):
+    """What is wrong where rt's last 20 lines have to stand between the first
+    line and a sentence that names the log, which has them all; or None."""
+    if ended.status != NOTHING_DONE or ended.output or (
+            lines[:21] != [first_line(tree)] + SAID[-20:]):
+        return "status %d: %r" % (ended.status, lines)
+    if log(tree).splitlines() != SAID:
+        return "in the log: %r" % log(tree)
+    says = "rt check %s failed: nothing is done; target/build.log has all"
+    return (len(lines) != 22 or says % tree.crate not in lines[21]) and (
+        "%r" % lines[21:])
 
 
 def failure_on_a_terminal(tree):
     ended = on_a_terminal([tree.command, *tree.good],
                           env=environment(tree, FAILS))
-    left = seen(ended.errors)
-    if ended.status != NOTHING_DONE or left[1] != "not proved":
-        return "status %d: %r" % (ended.status, left)
-    return "rt check %s failed" % tree.crate not in left[2] and left[2]
+    return wrong_failure(tree, ended, seen(ended.errors)[:-1])
+
+
+def failure_on_a_pipe(tree):
+    ended = start([tree.command, *tree.good], env=environment(tree, FAILS))
+    return wrong_failure(tree, ended, ended.errors.splitlines())
 
 
 def no_count_on_a_pipe(tree):
-    ended = start([tree.command, *tree.good],
-                  env=environment(tree, BUILDS % tree.crate))
-    return ended.errors != first_line(tree) + "\nall proved\n" and ended.errors
+    """One line, and no other until it is done; the folder of the log is made
+    where it is missing."""
+    env = environment(tree, "mkdir target/bin\n" + BUILDS % tree.crate)
+    shutil.rmtree(tree.root / "target")
+    ended = start([tree.command, *tree.good], env=env)
+    return trouble(ended, 0, tree.output, first_line(tree)) or (
+        log(tree) != "all proved\n" and log(tree))
+
+
+def log_that_takes_nothing(tree):
+    """It is said before rt is started."""
+    env = environment(tree, BUILDS % tree.crate)
+    (tree.root / "target/build.log").mkdir()
+    return trouble(start([tree.command, *tree.good], env=env), NOTHING_DONE,
+                   b"", "target/build.log can't be written") or (
+        tree.rt_words() and "rt was started")
 
 
 # ---- tests/run and bench/run
@@ -165,8 +208,10 @@ RUNNING = (tests_run_counts_on_a_terminal, tests_run_fails_on_a_terminal,
 
 def tests(programs):
     yield from named(PlayTree, (counts_seconds_on_a_terminal,
-                                no_count_on_a_pipe), programs)
-    yield from named(PlanTree, (failure_on_a_terminal,), programs)
+                                no_count_on_a_pipe, failure_on_a_pipe),
+                     programs)
+    yield from named(PlanTree, (failure_on_a_terminal,
+                                log_that_takes_nothing), programs)
     for test in RUNNING:
         yield ("progress: " + test.__name__.replace("_", " "),
                lambda test=test: test(programs))

@@ -9,8 +9,8 @@ from pathlib import Path
 from front_door.command import ROOT, start
 
 NEEDED = ("tools/front_door.sh", "docs/REFUSALS.md", "crates.txt")
-TOOLS = ("cat", "dirname", "find", "head", "mv", "od", "readlink", "sed",
-         "sh", "sort", "touch", "tr")
+TOOLS = ("cat", "dirname", "find", "head", "mkdir", "mv", "od", "readlink",
+         "sed", "sh", "sort", "tail", "touch", "tr")
 
 
 class Tree:

@@ -1,10 +1,12 @@
-"""VERSION, ./play and ./plan, the C header, the list of changes and the man
-pages name one version."""
+"""VERSION, the commands, the C header, the list of changes and the man pages
+name one version."""
 
 import re
 import shutil
 
-from front_door.command import ROOT, trouble
+from front_door.calls_text import CallsTree
+from front_door.check_log import LogTree
+from front_door.command import ROOT, redirected, start, trouble
 from front_door.plan_tree import PlanTree
 from front_door.play_tree import PlayTree
 from front_door.tree import named
@@ -75,13 +77,45 @@ def man_pages():
 
 # ---- scripts
 
+def release():
+    """The first line of --version, where there is no git."""
+    return "Nazgolv version %s, commit unknown\n" % version()
+
+
 def version_comes_first(tree):
     shutil.copy(VERSION, tree.root)
     tree.only_tools()
     return trouble(tree.start("--version"), output=(
-        "Nazgolv version %s, commit unknown\nkit unknown\n"
-        "program target/bin/%s is built\n"
-        % (version(), tree.crate)).encode())
+        release() + "kit unknown\nprogram target/bin/%s is built\n"
+        % tree.crate).encode())
+
+
+def version_is_a_line(tree):
+    """Of a command that starts no program; it needs no python3."""
+    shutil.copy(VERSION, tree.root)
+    tree.only_tools()
+    return trouble(tree.start("--version"), output=release().encode()) or (
+        trouble(start(redirected(">&-", tree.command, "--version")), 3, b"",
+                "output was lost: the version is not printed"))
+
+
+def version_stands_alone(tree):
+    """Another word ends it with 2; so does a word in front of it."""
+    script = tree.script.split("/")[-1]
+    for words in (("--version", "extra"), ("--version", "--version")):
+        wrong = trouble(tree.start(*words), 2, b"", "%s: --version stands "
+                        "alone, and 2 words are given" % script)
+        if wrong:
+            return "%s: %s" % (words, wrong)
+    return (tree.start("extra", "--version").status != 2
+            and "a word in front of it is taken")
+
+
+def help_with_a_word(tree):
+    """It is printed all the same."""
+    page = tree.start("--help").output
+    return trouble(tree.start("--help", "extra"), output=page) or (
+        not page and "no page")
 
 
 FILES = (one_line, c_header, changes, landings, man_pages)
@@ -90,5 +124,9 @@ FILES = (one_line, c_header, changes, landings, man_pages)
 def tests(programs):
     for test in FILES:
         yield "version: " + test.__name__.replace("_", " "), test
-    for kind in (PlayTree, PlanTree):
+    for kind in (PlayTree, PlanTree, LogTree):
         yield from named(kind, (version_comes_first,), programs)
+    yield from named(CallsTree, (version_is_a_line,), programs)
+    for kind in (PlayTree, PlanTree, LogTree, CallsTree):
+        yield from named(kind, (version_stands_alone, help_with_a_word),
+                         programs)

@@ -196,7 +196,7 @@ class TextReader:
             number_of(words[1], 65535, "the position"), 0))
 
     def tick(self, words):
-        count = number_of(words[0], MOST_TICKS, "the ticks") if words else 1
+        count = number_of(words[0], MOST_TICKS, "the count") if words else 1
         if len(words) > 1 or not count:
             raise TextError("a tick takes at most how many there are, from 1 "
                             "on, as in tick 5")
@@ -226,7 +226,7 @@ class TextReader:
         if len(words) != 1:
             raise TextError("a burst says how many words follow, as in "
                             "burst 2")
-        self.to_come = number_of(words[0], BURST_WORDS, "the words")
+        self.to_come = number_of(words[0], BURST_WORDS, "the count")
         self.pieces.append(bytes([6, self.to_come, 0, 0, 0]))
 
 

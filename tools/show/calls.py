@@ -10,6 +10,7 @@ HELP = """\
 tools/calls TEXT >FILE         makes a call file of a text
 tools/calls --back FILE >TEXT  makes a text of a call file
 tools/calls --bytes FILE       makes a call file of either
+tools/calls --version          says which version this is
 A file of - is standard input.  --allcalls in front adds the last three calls.
 
 A line is one of these; what follows a # is a comment:
@@ -34,9 +35,11 @@ names another node than the plan's.  word and bytes count for neither.
 The numbers are not tested, so that what a link refuses can be written too.
 
 Exit status: 0 it is written; 1 the text is wrong, and a sentence names the
-line; 2 nothing was read; 3 the output is not whole.
+line, or what --back got is a text already; 2 nothing was read; 3 the output is
+not whole.
 """
 OPTIONS = ("--back", "--bytes", "--allcalls")
+ALONE = ("--help", "--version")
 
 
 def say(status, text):
@@ -54,26 +57,37 @@ def made(options, path):
     """What is written."""
     data = read_file("calls", path)
     all_calls = "--allcalls" in options
+    name = "standard input" if path == "-" else "'%s'" % path
+    if "--back" in options and is_text(data):
+        say(1, "%s is a text already; without --back a call file is made of "
+            "it" % name)
     if "--back" in options:
         return text_of(data, all_calls).encode()
     if "--bytes" in options and not is_text(data):
         return data
-    name = "standard input" if path == "-" else "'%s'" % path
     return make_bytes(data, name, all_calls)
 
 
-def main(words):
-    if words[:1] in (["--help"], ["-h"]):
-        return write_output("calls", HELP.encode())
+def options_of(words):
+    """The options, which are taken off the words."""
     options = []
     while words and words[0].startswith("--") and words[0] != "--":
         options.append(words.pop(0))
     if words[:1] == ["--"]:
         words.pop(0)
     for option in options:
+        if option in ALONE:
+            say(2, "%s stands alone: leave out the other words" % option)
         if option not in OPTIONS:
             say(2, "there is no option '%s'; tools/calls --help says what "
                 "there is" % option)
+    return options
+
+
+def main(words):
+    if words[:1] in (["--help"], ["-h"]):
+        return write_output("calls", HELP.encode())
+    options = options_of(words)
     if len(words) != 1:
         say(2, "one file is read, and %d are named; tools/calls --help says "
             "more" % len(words))

@@ -40,6 +40,13 @@ function touched(number, state) {
     .map((position) => slotOf(flight, state, position) - firstSlot(flight, state));
 }
 
+// The flows that a call is about: that ask or give back, whose slot has come up, or that are lent to.
+function flowsAbout(number) {
+  const call = number ? flight.calls[number - 1] : [5, 0];
+  return call[0] === 6 ? call[1].map((word) => word[0]) : call[0] === 4 ? [call[2]] :
+    call[0] >= 1 && call[0] <= 3 ? [call[1]] : [];
+}
+
 // ---- what is built once
 
 function buildWindow() {
@@ -94,7 +101,8 @@ function drawWindow(number, state) {
   parts.labels.forEach((label, frame) => {
     const from = (first + frame * flight.F) % SLOTS;
     const name = frame === 0 ? "Head frame" : frame === flight.W - 1 ? "Newest frame" : "Frame";
-    label.textContent = `${name} ${first / flight.F + frame}: positions ${from} to ${from + flight.F - 1}`;
+    const places = flight.F === 1 ? `position ${from}` : `positions ${from} to ${from + flight.F - 1}`;
+    label.textContent = `${name} ${first / flight.F + frame}: ${places}`;
   });
   parts.slots.forEach((slot, place) => {
     const current = first + place === state.ticks;
@@ -123,8 +131,8 @@ function areaPath(held, cells) {
   return `${path}H${SLOTS}V${HIGH}Z`;
 }
 
-function drawCurves(state) {
-  const now = state.ticks % flight.F;
+function drawCurves(number, state) {
+  const now = state.ticks % flight.F, about = flowsAbout(number);
   curves.forEach((curve, flow) => {
     const held = state.holdings[flow], cells = flight.flows[flow].cells;
     const most = Math.max(...held.slice(now));
@@ -134,6 +142,7 @@ function drawCurves(state) {
     curve.current.setAttribute("d", `M${now + 0.5} 0V${HIGH}`);
     curve.words.textContent = `Holds ${held[now]} of ${cells} now, at most ${most}${full ? ": none left to book with" : ""}. Granted so far: ${state.granted[flow]}.`;
     curve.card.classList.toggle("full", full);
+    curve.card.classList.toggle("own", about.includes(flow));
   });
 }
 
@@ -149,7 +158,7 @@ function show(number) {
   byId("advice").textContent = refused.length ? advice(flight, refused[0]) : "";
   byId("said").classList.toggle("refused", refused.length > 0);
   drawWindow(shown, state);
-  drawCurves(state);
+  drawCurves(shown, state);
 }
 
 // ---- the controls
@@ -192,8 +201,9 @@ function onKey(event) {
 }
 
 function begin() {
-  const facts = `Frames of F = ${flight.F} slots, a window of W = ${flight.W} frames, a buffer of N = ${flight.N} cells, ${flight.flows.length === 1 ? "one flow" : `${flight.flows.length} flows`}, ${flight.calls.length} calls.`;
-  byId("plan").textContent = facts;
+  const facts = [`Frames of F = ${counted(flight.F, "slot")}`, `a window of W = ${flight.W} frames`,
+    `a buffer of N = ${counted(flight.N, "cell")}`, counted(flight.flows.length, "flow"), counted(flight.calls.length, "call")];
+  byId("plan").textContent = `${facts.join(", ")}.`;
   byId("slider").max = flight.calls.length;
   byId("slider").addEventListener("input", () => show(Number(byId("slider").value)));
   [["first", "Home"], ["back", "ArrowLeft"], ["next", "ArrowRight"], ["last", "End"],

@@ -1,6 +1,11 @@
 "use strict";
 // A call and its answer in words: what is asked, and what is answered.
 
+// How many there are of something.
+function counted(count, name) {
+  return `${count} ${name}${count === 1 ? "" : "s"}`;
+}
+
 // A slot by its number, position and frame.
 function place(flight, slot) {
   return `slot ${slot}, position ${slot % (flight.F * flight.W)} of frame ${Math.floor(slot / flight.F)}`;
@@ -67,7 +72,7 @@ function wordAnswer(answer) {
 
 function burstWords(flight, call) {
   const answers = call[1].map((word) => `flow ${word[0]} ${wordAnswer(word[4])}`);
-  return [`A burst of requests: ${call[1].length}.`, answers.length ? `Answers: ${answers.join("; ")}.` : ""];
+  return [`A burst of ${counted(call[1].length, "request")}.`, answers.length ? `Answers: ${answers.join("; ")}.` : ""];
 }
 
 function noCallWords(flight, call) {

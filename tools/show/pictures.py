@@ -11,7 +11,8 @@ link.  --timeline OUT writes an SVG of the booked, lent and idle slots of the
 whole file by flow.  --page OUT writes one HTML page that needs no network:
 the window and the holdings call by call.  With --name NAME pictures name the
 file so; with --allcalls FILE and LISTING are those of allcalls, which has
-lends, resets and bursts too.  OUT may be -, standard output.
+lends, resets and bursts too.  OUT may be -, standard output; of a file it is
+said on standard error that it is written.
 
 Exit status: 0 the pictures are whole; 2 nothing was drawn; 3 a picture could
 not be written.
@@ -27,6 +28,7 @@ import svg
 import timeline
 import window
 from replay import ListingError, Replay
+from words import plural
 
 NOTHING_DRAWN, NOT_WRITTEN = 2, 3
 FLAGS = ("--window", "--allcalls")
@@ -72,13 +74,13 @@ def call_number(text, last):
     """The call that a picture is drawn after."""
     if text is None:
         return last
+    calls = "the file has %s" % plural(last, "call")
     if not (text.isascii() and text.isdigit()):
-        raise Wrong("'%s' is no call number; calls are numbered 1 to %d, and "
-                    "0 is the link before them" % (text, last))
+        raise Wrong("'%s' is no call number: %s, numbered from 1 on, and 0 is "
+                    "the link before them" % (text, calls))
     digits = text.lstrip("0") or "0"
     if len(digits) > len(str(last)) or int(digits) > last:
-        raise Wrong("there is no call %s: the file has %d calls"
-                    % (text, last))
+        raise Wrong("there is no call %s: %s" % (text, calls))
     return int(digits)
 
 
@@ -145,7 +147,8 @@ def replay_of(path, listing_path, all_calls):
 
 
 def write(path, content):
-    """Writes a picture to a file, or to standard output for -."""
+    """Writes a picture to a file, and says so, or to standard output for
+    -."""
     if path == "-":
         show(content)
         return
@@ -154,6 +157,7 @@ def write(path, content):
             output.write(content)
     except OSError as error:
         raise NotWritten("'%s' can't be written: %s" % (path, error.strerror))
+    say("'%s' is written" % path)
 
 
 def show(text):
@@ -203,13 +207,18 @@ def draw(words):
             state, last, marks())) + "\n")
 
 
-def end(status, sentence):
-    """Ends with a sentence, also where standard output takes no more."""
+def say(sentence):
+    """Says a sentence on standard error, where that takes it."""
     try:
         sys.stderr.write("play: %s\n" % sentence)
         sys.stderr.flush()
     except (OSError, ValueError, AttributeError):
         pass
+
+
+def end(status, sentence):
+    """Ends with a sentence, also where standard output takes no more."""
+    say(sentence)
     os._exit(status)
 
 

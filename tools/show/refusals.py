@@ -5,6 +5,7 @@ from pathlib import Path
 
 PAGE = Path(__file__).resolve().parents[2] / "docs/REFUSALS.md"
 ROW = re.compile(r"^\| (\d+) \| ([^|]*) \| ([^|]*) \|")
+ELSEWHERE = "; for the mesh see below"          # of the page alone
 
 
 class Refusal:
@@ -25,7 +26,8 @@ def rows():
     found = {}
     for row in filter(None, map(ROW.match, lines)):
         number = int(row.group(1))
-        found.setdefault(number, []).append(Refusal(number, *row.groups()[1:]))
+        found.setdefault(number, []).append(Refusal(
+            number, row.group(2), row.group(3).replace(ELSEWHERE, "")))
     return found
 
 

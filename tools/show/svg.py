@@ -3,13 +3,17 @@
 from xml.sax.saxutils import escape
 
 import colours
-from window import current_place, frames_of, holding_words
+from window import current_place, frames_of, holding_words, lent_note
+from words import plural
 
 FONT = "font-family='sans-serif'"
 LABEL, GAP = 112, 6             # the room for labels, and between parts
 NARROW, BROAD = 16, 28          # a slot's width, for long and short frames
 TALL = 22                       # a slot's height
 CURVE = 34                      # a curve's height
+HEADING = 15                    # the size of a heading's letters
+LETTER = 0.62                   # a letter's width at size 1, rather more
+LEAST = 12                      # letters that a name keeps
 
 
 def text(x, y, words, size=12, colour=colours.DARK, more=""):
@@ -20,6 +24,21 @@ def text(x, y, words, size=12, colour=colours.DARK, more=""):
 def rect(x, y, width, height, colour, more=""):
     return "<rect x='%g' y='%g' width='%g' height='%g' fill='%s' %s/>" % (
         x, y, width, height, colour, more)
+
+
+def shortened(name, rest, width):
+    """A name that fits into a heading of this width before the rest: of one
+    that is too long the beginning and the end."""
+    room = max(LEAST, int(width / (HEADING * LETTER)) - len(rest))
+    if len(name) <= room:
+        return name
+    return name[:room - 3 - room // 2] + "..." + name[-(room // 2):]
+
+
+def heading(name, rest, width):
+    """The first line of a picture."""
+    return text(GAP, 20, shortened(name, rest, width - 2 * GAP) + rest,
+                HEADING, more="font-weight='bold'")
 
 
 def document(width, height, title, description, parts):
@@ -58,7 +77,8 @@ def frame_label(state, place):
     size = state.plan.frame_slots
     first = state.positions[place * size]
     name = {0: "head ", state.plan.window_frames - 1: "newest "}.get(place, "")
-    return "%s%d to %d" % (name, first, first + size - 1)
+    last = " to %d" % (first + size - 1) if size > 1 else ""
+    return "%s%d%s" % (name, first, last)
 
 
 def owner_parts(state, top):
@@ -74,11 +94,17 @@ def owner_parts(state, top):
     x = LABEL + current_place(state) * width
     parts.append(rect(x, top, width - 1, TALL, "none",
                       "stroke='#000000' stroke-width='3'"))
-    parts.append(text(x, top - 4, "CP %d" % state.current_position, 11,
-                      more="font-weight='bold'"))
-    if state.lent is not None:
-        parts.append(text(x + 44, top - 4, "lent to flow %d" % state.lent, 11))
-    return parts
+    return parts + [current_label(state, x, x + width - 1, top - 4)]
+
+
+def current_label(state, left, right, y):
+    """The words above CP, towards the middle of the row."""
+    words = "CP %d%s" % (state.current_position, lent_note(state))
+    size = state.plan.frame_slots
+    if size > 16 and current_place(state) >= size / 2:
+        return text(right, y, words, 11,
+                    more="font-weight='bold' text-anchor='end'")
+    return text(left, y, words, 11, more="font-weight='bold'")
 
 
 def steps_path(held, x, y, width, height, cells):
@@ -119,25 +145,38 @@ def curve_parts(state, flow, y, width):
     return parts
 
 
+def window_words(state):
+    """The lines below the heading."""
+    plan = state.plan
+    return ["F = %d, W = %d, T = %d, N = %d; slot %d is current." % (
+        plan.frame_slots, plan.window_frames, plan.positions, plan.buffer,
+        state.ticks),
+        "A number is the flow that booked; in a curve the dashed line is its "
+        "cells, the upright one CP."]
+
+
+def description_of(state):
+    plan = state.plan
+    booked = sum(owner is not None for owner in state.owners)
+    return ("The window's %d positions, %d of them booked, and what %s "
+            "against its cells." % (
+                plan.positions, booked, plural(
+                    len(plan.flows), "flow holds", "flows hold, each")))
+
+
 def window(state, last, name):
     """The SVG of a state; `last` is the number of the last call."""
     plan = state.plan
     width = max(slot_width(plan) * plan.frame_slots, 640)
-    title = "%s after call %d of %d" % (name, state.call, last)
-    booked = sum(owner is not None for owner in state.owners)
-    description = ("The window's %d positions, %d of them booked, and what "
-                   "each of %d flows holds against its cells." % (
-                       plan.positions, booked, len(plan.flows)))
-    top = 74
-    parts = [text(GAP, 20, title, 15, more="font-weight='bold'"),
-             text(GAP, 40, "F = %d, W = %d, T = %d, N = %d; slot %d is "
-                  "current. A number is the flow that booked; in a curve the "
-                  "dashed line is its cells, the upright one CP." % (
-                      plan.frame_slots, plan.window_frames, plan.positions,
-                      plan.buffer, state.ticks))]
+    rest = " after call %d of %d" % (state.call, last)
+    whole = LABEL + width + GAP
+    parts = [heading(name, rest, whole)]
+    parts += [text(GAP, 40 + 16 * line, words)
+              for line, words in enumerate(window_words(state))]
+    top = 90
     parts += owner_parts(state, top)
     y = top + plan.window_frames * (TALL + GAP) + GAP
     for flow in plan.flows:
         parts += curve_parts(state, flow, y, width)
         y += CURVE + 18
-    return document(LABEL + width + GAP, y, title, description, parts)
+    return document(whole, y, name + rest, description_of(state), parts)

@@ -1,10 +1,11 @@
 """Booked, lent and idle slots of a whole call file, by flow, as SVG."""
 
-from svg import GAP, document, rect, text
+from svg import GAP, document, heading, rect, text
+from words import plural
 
-BAND = 256                      # slots in a band
-SLOT, ROW = 4, 9                # a slot's width, a row's height
-LABEL = 70
+BAND, WIDE = 256, 1024          # slots in a band, and the width of a full one
+BROAD, ROW = 24, 9              # the most that a slot is wide, a row's height
+LABEL, LEAST = 70, 560          # the room for labels, and the least width
 BOOKED, LENT, IDLE = "#072e5b", "#f5913b", "#b8b8b8"
 STRIPE = "#f1f1f1"              # behind every second flow
 
@@ -26,54 +27,78 @@ class Ledger:
         return sum(owner == flow for owner in side.values())
 
 
-def slot_place(slot, row, top):
-    """The left upper corner of a slot in its band."""
-    return (LABEL + slot % BAND * SLOT, top + row * ROW)
+class Band:
+    """A row of slots: the first of them, one past the last, where it stands,
+    and how wide a slot is."""
+
+    def __init__(self, first, ledger, top):
+        self.first, self.top = first, top
+        self.last = min(first + BAND, ledger.end + 1)
+        self.slot = slot_width(ledger)
+
+    def place(self, slot, row):
+        """The left upper corner of a slot."""
+        return (LABEL + (slot - self.first) * self.slot, self.top + row * ROW)
+
+    def mark(self, slot, row, colour, to_come=False):
+        x, y = self.place(slot, row)
+        if to_come:
+            return rect(x + 0.5, y + 0.5, self.slot - 1, ROW - 2, "none",
+                        "stroke='%s'" % colour)
+        return rect(x, y, self.slot, ROW - 1, colour)
+
+    def lent_mark(self, slot, row):
+        """Lower than a booked slot's mark, so that it differs without
+        colour."""
+        x, y = self.place(slot, row)
+        return rect(x, y + ROW / 2 - 1, self.slot, ROW / 2, LENT)
+
+    def name(self):
+        if self.last - self.first == 1:
+            return "slot %d" % self.first
+        return "slots %d to %d" % (self.first, self.last - 1)
 
 
-def mark(slot, row, top, colour, to_come=False):
-    x, y = slot_place(slot, row, top)
-    if to_come:
-        return rect(x + 0.5, y + 0.5, SLOT - 1, ROW - 2, "none",
-                    "stroke='%s'" % colour)
-    return rect(x, y, SLOT, ROW - 1, colour)
+def slots_across(ledger):
+    """The slots of the longest band."""
+    return min(BAND, ledger.end + 1)
 
 
-def lent_mark(slot, row, top):
-    """Lower than a booked slot's mark, so that it differs without colour."""
-    x, y = slot_place(slot, row, top)
-    return rect(x, y + ROW / 2 - 1, SLOT, ROW / 2, LENT)
+def slot_width(ledger):
+    """Of a short file slots are wider, so that it fills the picture."""
+    return min(BROAD, WIDE // slots_across(ledger))
 
 
-def band_frame(plan, first, end, top):
+def band_frame(plan, band):
     """Labels of a band's rows, and lines where frames begin."""
     rows = len(plan.flows) + 1
-    last = min(first + BAND, end + 1)
-    parts = [text(LABEL, top - 4, "slots %d to %d" % (first, last - 1), 10)]
+    top = band.top
+    parts = [text(LABEL, top - 4, band.name(), 10)]
     for flow in plan.flows:
         y = top + flow.number * ROW
         if flow.number % 2 == 0:
-            parts.append(rect(LABEL, y, SLOT * (last - first), ROW, STRIPE))
+            parts.append(rect(LABEL, y, band.slot * (band.last - band.first),
+                              ROW, STRIPE))
         parts.append(text(GAP, y + 8, "flow %d" % flow.number, 9))
     parts.append(text(GAP, top + (rows - 1) * ROW + 8, "idle", 9))
-    for slot in range(first, last):
+    for slot in range(band.first, band.last):
         if slot % plan.frame_slots == 0:
             parts.append("<path d='M%g %g v%g' stroke='#888888' "
                          "stroke-width='0.5'/>" % (
-                             *slot_place(slot, 0, top), rows * ROW))
+                             *band.place(slot, 0), rows * ROW))
     return parts
 
 
-def band(ledger, plan, first, top):
+def band_parts(ledger, plan, band):
     """The marks of a band's slots."""
-    parts = band_frame(plan, first, ledger.end, top)
-    slots = range(first, first + BAND)
-    parts += [mark(slot, ledger.booked[slot], top, BOOKED,
-                   slot > ledger.ticks)
+    parts = band_frame(plan, band)
+    slots = range(band.first, band.last)
+    parts += [band.mark(slot, ledger.booked[slot], BOOKED,
+                        slot > ledger.ticks)
               for slot in slots if slot in ledger.booked]
-    parts += [lent_mark(slot, ledger.lent[slot], top)
+    parts += [band.lent_mark(slot, ledger.lent[slot])
               for slot in slots if slot in ledger.lent]
-    parts += [mark(slot, len(plan.flows), top, IDLE)
+    parts += [band.mark(slot, len(plan.flows), IDLE)
               for slot in slots if slot in ledger.idle]
     return parts
 
@@ -99,13 +124,13 @@ def timeline(replay, name):
     """The SVG of a whole file."""
     plan, ledger = replay.plan, Ledger(replay)
     height = (len(plan.flows) + 1) * ROW + 26
-    parts = [text(GAP, 20, "%s: %d slots" % (name, ledger.ticks), 15,
-                  more="font-weight='bold'"), *legend(ledger, 30)]
+    width = max(LEAST, LABEL + slot_width(ledger) * slots_across(ledger) + GAP)
+    rest = ": %s" % plural(ledger.ticks, "slot")
+    parts = [heading(name, rest, width), *legend(ledger, 30)]
     top = 64
     for first in range(0, ledger.end + 1, BAND):
-        parts += band(ledger, plan, first, top)
+        parts += band_parts(ledger, plan, Band(first, ledger, top))
         top += height
-    width = LABEL + SLOT * max(min(BAND, ledger.end + 1), 130) + GAP
     return document(width, top, "Slots of %s by flow" % name, "; ".join(
         "flow %d: %d booked, %d lent" % (
             flow.number, ledger.count(ledger.booked, flow.number),

@@ -2,6 +2,7 @@
 each flow holds against its cells."""
 
 from colours import LETTERS
+from words import plural
 
 WIDTH = 64                      # slots in a row: the longest frame has as many
 LABEL = 13                      # columns before the slots
@@ -72,8 +73,9 @@ def holding_words(state, flow):
     coming = held[current_place(state):]
     # Whatever slot is booked, it is held in the window's last slot too.
     note = ", none left to book with" if coming[-1] >= flow.cells else ""
-    return "flow %d%s: share %d, holds %d of %d cells now, at most %d%s" % (
-        number, letter, flow.share, coming[0], flow.cells, max(coming), note)
+    return "flow %d%s: share %d, holds %d of %s now, at most %d%s" % (
+        number, letter, flow.share, coming[0], plural(flow.cells, "cell"),
+        max(coming), note)
 
 
 def curve(state, flow, marks):

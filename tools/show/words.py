@@ -38,10 +38,10 @@ class Words:
         if self.replay.refusal:
             return ["the plan is " + self.refused(self.replay.refusal, "plan")]
         plan = self.plan
-        return ["the plan is accepted: F = %d slots to a frame, W = %d frames "
-                "in the window, T = %d positions, N = %d places in the buffer"
-                % (plan.frame_slots, plan.window_frames, plan.positions,
-                   plan.buffer)] + [
+        return ["the plan is accepted: F = %s to a frame, W = %d frames in "
+                "the window, T = %d positions, N = %s in the buffer" % (
+                    plural(plan.frame_slots, "slot"), plan.window_frames,
+                    plan.positions, plural(plan.buffer, "place"))] + [
             "flow %d: from node %d to node %d, share %d, %s" % (
                 flow.number, flow.source, flow.destination, flow.share,
                 plural(flow.cells, "cell")) for flow in plan.flows]
@@ -64,8 +64,9 @@ class Words:
             return "a local reset"
         if call.kind == "burst":
             return "a burst of %s" % plural(len(call.words), "request")
-        return "%s that are no call: %s" % (
-            plural(len(call.record), "byte"), call.record.hex(" "))
+        return "%s no call: %s" % (
+            plural(len(call.record), "byte that is", "bytes that are"),
+            call.record.hex(" "))
 
     def of_word(self, word):
         flows = self.plan.flows
@@ -138,7 +139,9 @@ class Words:
         state = self.replay.states[step.number]
         held = state.holdings[word.flow][-1]
         if answer.refusal == 12 and held == self.plan.flows[word.flow].cells:
-            return " (here all of its %s are held)" % plural(held, "cell")
+            return " (here %s held)" % (
+                "its only cell is" if held == 1
+                else "all of its %d cells are" % held)
         if answer.refusal == 24 and step.call.kind == "request":
             return " (here %d is)" % (state.granted[word.flow] % 1024)
         return ""

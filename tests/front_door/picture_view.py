@@ -1,0 +1,213 @@
+"""A page used: keys, buttons, the slider and the address, and what is drawn
+then, on a stand-in for a browser's document, where node is on the machine."""
+
+import json
+import re
+import shutil
+import subprocess
+
+import call_bytes
+from edges.edge_maker import BASE, TICK, lend
+from front_door.command import LIMIT, ROOT
+from front_door.picture_files import LISTING, Played, flight_of
+from front_door.picture_pages import Reader, page
+
+STUB = ROOT / "tests/front_door/page_stub.js"
+
+
+class Broken(Exception):
+    """A page that is not made, or whose scripts break off."""
+
+
+
+# Document 01's seven calls: call 3 is refused with 12, and no other is.
+# A step beside the number that is shown then.
+STEPS = [
+    (["key", "ArrowRight"], 1), (["key", "ArrowRight"], 2),
+    (["key", "ArrowLeft"], 1), (["key", "End"], 7),
+    (["key", "ArrowRight"], 7),                     # there is no call 8
+    (["key", "p"], 3), (["key", "Home"], 0), (["key", "ArrowLeft"], 0),
+    (["key", "n"], 3),
+    (["key", "PageDown"], 7), (["key", "PageUp"], 0),
+    (["click", "next"], 1), (["click", "last"], 7), (["click", "back"], 6),
+    (["click", "previous-refusal"], 3), (["click", "first"], 0),
+    (["click", "next-refusal"], 3),
+    (["slide", 5], 5), (["slide", 0], 0),
+    (["address", "#6"], 6), (["address", "#99"], 7), (["address", "#x"], 0),
+]
+# Keys that are not the page's own, and stay the browser's.
+OTHERS = [["key", "x"], ["key", " "], ["keyWithControl", "ArrowRight"],
+          ["keyInSelect", "ArrowRight"], ["keyInSelect", "n"]]
+
+# What is drawn after a call: the call's number, and some of what is seen.
+# Flow 0 books 1, 2 and 4 and gives a cell back from 4 on, so that it holds
+# both cells in the last slot after calls 2, 3 and 5; flow 1 books 3.
+DRAWN = [
+    (0, {"owners": [""] * 8, "current": [0], "gone": [], "about": [],
+         "own": [], "full": [], "refused": False,
+         "frames": ["Head frame 0: positions 0 to 3",
+                    "Newest frame 1: positions 4 to 7"],
+         "holds": 2 * ["Holds 0 of 2 now, at most 0. Granted so far: 0."]}),
+    (2, {"owners": ["", "0", "0", "", "", "", "", ""], "about": [2],
+         "own": [0], "full": [0]}),
+    (3, {"about": [], "own": [0], "full": [0], "refused": True,
+         "advice": "What to do: wait for credits or the next frame."}),
+    (4, {"about": [4], "own": [0], "full": [], "refused": False,
+         "advice": ""}),
+    (6, {"about": [3], "own": [1], "full": [0], "current": [0]}),
+    (7, {"owners": ["", "0", "0", "1", "0", "", "", ""], "current": [1],
+         "gone": [0], "about": [], "own": [0], "full": [0],
+         "call": "A tick: slot 1, position 1 of frame 0 has come up.",
+         "answer": "It is flow 0's.",
+         "where": "Current position CP = 1, slot 1. Booked and still to come: "
+                  "3 of the window's 8 slots.",
+         "holds": ["Holds 1 of 2 now, at most 2: none left to book with. "
+                   "Granted so far: 3.",
+                   "Holds 0 of 2 now, at most 1. Granted so far: 1."]}),
+]
+
+# Refused with 8, 12, 8: flow 7 is none of the plan's, and flow 0's cells are
+# held by 1 and 2.
+REFUSED = Played(
+    BASE + call_bytes.request(9, 7) + call_bytes.request(9, 0)
+    + call_bytes.request(9, 0, 1) + call_bytes.request(9, 0, 2)
+    + call_bytes.request(9, 7),
+    ["P 0", "R 8", "G 1", "G 2", "R 12", "R 8"])
+CHOSEN = [(["choose", 8], 0), (["key", "n"], 1), (["key", "n"], 5),
+          (["key", "p"], 1), (["choose", 12], 1), (["key", "n"], 4),
+          (["choose", 0], 4), (["key", "n"], 5)]
+
+# Slot 0 is lent to flow 1, and slot 1 is nobody's.
+LENT = Played(BASE + lend(2) + TICK, ["P 0", "L 1", "T -"], ["--allcalls"])
+
+# One of each thing, but for the two frames of the window.
+ONE = Played(call_bytes.plan(1, 2, 1, [(1, 1, 1, 9)]) + TICK, ["P 0", "T -"])
+
+
+def scripts_of(text):
+    return re.findall(r"<script>\n(.*?)</script>", text, re.DOTALL)
+
+
+def used(played, steps, at=""):
+    """What is seen of a file's page at first, and after each step of a user;
+    `at` is the end of its address."""
+    text, wrong = page(played)
+    if wrong:
+        raise Broken(wrong)
+    asked = {"ids": Reader(text).ids, "flight": flight_of(played),
+             "steps": steps, "hash": at}
+    done = subprocess.run(
+        ["node", "-e", "\n".join([STUB.read_text(), *scripts_of(text),
+                                  "lookAtEachStep();"])],
+        input=json.dumps(asked).encode(), stdout=subprocess.PIPE,
+        stderr=subprocess.PIPE, timeout=LIMIT)
+    if done.returncode:
+        raise Broken(done.stderr.decode()[:400])
+    return json.loads(done.stdout)
+
+
+def wrong_numbers(played, steps, last):
+    """What is wrong where each step has to show its number, of so many; or
+    None."""
+    seen = used(played, [step for step, _ in steps])[1:]
+    for (step, number), found in zip(steps, seen):
+        shown = "%d of %d" % (number, last)
+        if found["number"] != shown or found["slider"] != number:
+            return "%s: %s for %s" % (step, found["number"], shown)
+    return None
+
+
+# ---- which call is shown
+
+def every_control():
+    return wrong_numbers(LISTING, STEPS, 7)
+
+
+def keys_are_kept():
+    """Its own keys move the page and nothing else; others move nothing."""
+    own = [step for step, _ in STEPS if step[0] == "key"]
+    seen = used(LISTING, own)[1:]
+    lost = [step for step, found in zip(own, seen) if not found["kept"]]
+    moved = [step for step, found in zip(OTHERS, used(LISTING, OTHERS)[1:])
+             if found["kept"] or found["number"] != "0 of 7"]
+    return (lost or moved) and "lost %s, moved by %s" % (lost, moved)
+
+
+def address_at_first():
+    for at, shown in (("", "0 of 7"), ("#4", "4 of 7"), ("#-1", "0 of 7")):
+        found = used(LISTING, [], at)[0]["number"]
+        if found != shown:
+            return "%s: %s" % (at, found)
+    return None
+
+
+def refusal_that_is_chosen():
+    found = used(REFUSED, [])[0]["sought"]
+    return wrong_numbers(REFUSED, CHOSEN, 5) or (
+        found != ["any (3)", "8 (2)", "12 (1)"] and "choices %s" % found)
+
+
+def no_more_refusals():
+    """It is said, and the page stays where it is."""
+    steps = [["key", "n"], ["key", "n"], ["key", "p"], ["choose", 12],
+             ["key", "n"]]
+    found = [(seen["number"], seen["advice"])
+             for seen in used(LISTING, steps)[2:]]
+    expected = [("3 of 7", "There is no later refusal."),
+                ("3 of 7", "There is no earlier refusal."),
+                ("3 of 7", "There is no earlier refusal."),
+                ("3 of 7", "There is no later refusal 12.")]
+    return found != expected and "%r" % found
+
+
+# ---- what is drawn
+
+def wrong_view(found, expected):
+    wrong = {name: found[name] for name in expected
+             if found[name] != expected[name]}
+    return wrong and "%r" % wrong
+
+
+def after_a_call():
+    steps = [["address", "#%d" % number] for number, _ in DRAWN]
+    for (number, expected), found in zip(DRAWN, used(LISTING, steps)[1:]):
+        wrong = wrong_view(found, expected)
+        if wrong:
+            return "call %d: %s" % (number, wrong)
+    return None
+
+
+def flows_of_a_call():
+    """The thick frame: a flow that is lent to, none for an idle slot, and none
+    for a flow that the plan has not."""
+    found = [seen["own"] for seen in used(LENT, 2 * [["key", "ArrowRight"]])]
+    refused = used(REFUSED, [["key", "ArrowRight"]])[1]["own"]
+    return (found != [[], [1], []] or refused) and "%r %r" % (found, refused)
+
+
+def one_of_each():
+    return wrong_view(used(ONE, [])[0], {
+        "plan": "Frames of F = 1 slot, a window of W = 2 frames, a buffer of "
+                "N = 1 cell, 1 flow, 1 call.",
+        "frames": ["Head frame 0: position 0", "Newest frame 1: position 1"]})
+
+
+TESTS = (every_control, keys_are_kept, address_at_first,
+         refusal_that_is_chosen, no_more_refusals, after_a_call,
+         flows_of_a_call, one_of_each)
+
+
+def tried(test):
+    try:
+        return test()
+    except Broken as broken:
+        return str(broken)
+
+
+def tests(programs):
+    if not shutil.which("node"):
+        print("node is not on this machine: no key of a page is tried")
+        return
+    for test in TESTS:
+        yield ("pictures: page used, " + test.__name__.replace("_", " "),
+               lambda test=test: tried(test))
