@@ -1,17 +1,18 @@
--- The text of a line from its two words. Assumes nothing.
+-- The text of a line from its two parts. Assumes nothing.
 use Prim.Native.Nat.{ℕ, _+_, _-_, _*_, _/_, _%_, _≤_, _<_, min}
 use mathlib.Core.Path.{_≡_, refl, ap, _∙_}
 use mathlib.Core.List.{List, _∷_, [], _++_}
 use native.Mathlib.Nat.{mod-eq-of-lt}
 use native.Mathlib.Omega.{arith}
-use lib.ListN.{length, drop, length-append, length-drop}
+use lib.ListN.{length, drop, length-append, length-drop, take-append-drop}
+use lib.Seq.{drop-drop}
 use Rattle.model.specs.Listing.{digit, decimal}
 use Rattle.model.proofs.Decimal.{decimal-one, decimal-more}
 use Rattle.calls.specs.Lines.{numberLine}
 use Rattle.lines.specs.declared.Line.{Line}
-use Rattle.lines.specs.Lines.{four, textOf}
+use Rattle.lines.specs.Lines.{four, textOf, Kept}
 
--- ---- words
+-- ---- four bytes
 
 module _ (a b c d : ℕ) (ha : a < 256) (hb : b < 256) (hc : c < 256) (hd : d < 256) where
   abbrev packed : ℕ
@@ -41,6 +42,14 @@ length-text l =
     let d = length-four (l .last) in
     omega arith
 
+-- what is kept in a line is its text
+pub kept-text : (text : List ℕ) (l : Line) → Kept text l → textOf l ≡ text
+unfolding textOf
+kept-text text l v =
+    let few : min (l .past) 3 ≡ l .past = omega (arith, v .short) in
+    let left : l .past + (4 - l .past) ≡ 4 = omega (arith, v .short) in
+    rw (few, v .first-four, v .last-four, drop-drop (4 - l .past) (l .past) text, left) (take-append-drop 4 text)
+
 -- ---- digits
 
 decimal-two : (n : ℕ) → 10 ≤ n → n < 100 → decimal n ≡ digit (n / 10 % 10) ∷ digit (n % 10) ∷ []
@@ -59,18 +68,17 @@ decimal-three n h l =
 
 module _ (letter n first : ℕ) where
   pub one-digit : n < 10 → four first ≡ letter ∷ 32 ∷ digit (n % 10) ∷ 10 ∷ []
-      → textOf (record { first = first; last = first; past = 0 }) ≡ numberLine letter n
-  unfolding textOf
-  one-digit h e = rw (e, decimal-one n h, mod-eq-of-lt h)
+      → Kept (numberLine letter n) (record { first = first; last = first; past = 0 })
+  one-digit h e =
+      let is = rw (mod-eq-of-lt h) at e in
+      rw (decimal-one n h) (record { first-four = is; last-four = is; long = refl; short = omega arith })
 
   pub two-digits : (last : ℕ) → 10 ≤ n → n < 100 → four first ≡ letter ∷ 32 ∷ digit (n / 10 % 10) ∷ digit (n % 10) ∷ []
       → four last ≡ 32 ∷ digit (n / 10 % 10) ∷ digit (n % 10) ∷ 10 ∷ []
-      → textOf (record { first = first; last = last; past = 1 }) ≡ numberLine letter n
-  unfolding textOf
-  two-digits last h l e f = rw (e, f, decimal-two n h l)
+      → Kept (numberLine letter n) (record { first = first; last = last; past = 1 })
+  two-digits last h l e f = rw (decimal-two n h l) (record { first-four = e; last-four = f; long = refl; short = omega arith })
 
   pub three-digits : (last : ℕ) → 100 ≤ n → n < 1000 → four first ≡ letter ∷ 32 ∷ digit (n / 100) ∷ digit (n / 10 % 10) ∷ []
       → four last ≡ digit (n / 100) ∷ digit (n / 10 % 10) ∷ digit (n % 10) ∷ 10 ∷ []
-      → textOf (record { first = first; last = last; past = 2 }) ≡ numberLine letter n
-  unfolding textOf
-  three-digits last h l e f = rw (e, f, decimal-three n h l)
+      → Kept (numberLine letter n) (record { first = first; last = last; past = 2 })
+  three-digits last h l e f = rw (decimal-three n h l) (record { first-four = e; last-four = f; long = refl; short = omega arith })

@@ -1,4 +1,5 @@
-// The lines of granted positions and of ticks, made once and then written each in two stores of four bytes, which overlap.
+// The lines of granted positions and of ticks, made for many records at once and kept in two parts of four bytes each, which overlap; and
+// the line of a credit that is taken.
 ghost use mathlib.Core.Path.{_≡_};
 ghost use mathlib.Core.List.{_∷_, []};
 ghost use Prim.Native.Nat.{_+_, _<_, _≤_};
@@ -7,7 +8,7 @@ ghost use lib.Seq.{sets};
 ghost use Rattle.model.specs.Calls.{accepted};
 ghost use Rattle.model.specs.Listing.{creditLine};
 ghost use Rattle.calls.specs.Lines.{numberLine, outWith, nextAfter};
-ghost use Rattle.lines.specs.Lines.{four, textOf, lineAt, AllLines};
+ghost use Rattle.lines.specs.Lines.{four, textOf, Kept, lineAt, AllLines};
 use calls::has_room;
 use window::numbers::smaller;
 
@@ -17,14 +18,14 @@ pub struct Line {
     pub first: u32,
     // its last four
     pub last: u32,
-    // how many bytes it has past the first four
+    // how many bytes it has past the first four; more than three count as three
     pub past: u8,
 }
 
-// 256 lines of granted positions, 16 of the flows at a tick, and that of an idle tick.
-pub const LINES: usize = 273;
-// The place of the first line of a tick.
+// The place of the first line of a tick: those of 256 granted positions stand before it.
 pub const TICKS: usize = 256;
+// The place of an idle tick's line: those of 16 flows stand before it.
+const IDLE: usize = 272;
 
 fn wide(byte: u8) -> u32
     ensures { λ r. ⌜ (r ≡ byte) × (r < 256) ⌝ }
@@ -41,7 +42,7 @@ fn pack(a: u8, b: u8, c: u8, d: u8) -> u32
 
 // The line of a letter and a number.
 fn number_line(letter: u8, n: u8) -> Line
-    ensures { λ r. ⌜ textOf r ≡ numberLine letter n ⌝ }
+    ensures { λ r. ⌜ Kept (numberLine letter n) r ⌝ }
 {
     let ones = b'0' + n % 10;
     if n < 10 {
@@ -70,12 +71,12 @@ fn number_line(letter: u8, n: u8) -> Line
 
 // The line at place k: position k is granted, the slot is flow k - 256's, or nobody's.
 fn line_at(k: usize) -> Line
-    ensures { λ r. ⌜ textOf r ≡ lineAt k ⌝ }
+    ensures { λ r. ⌜ Kept (lineAt k) r ⌝ }
 {
     if k < TICKS {
         return number_line(b'G', k as u8);
     }
-    if k < 272 {
+    if k < IDLE {
         return number_line(b'T', (k - TICKS) as u8);
     }
     let word = pack(b'T', b' ', b'-', b'\n');
@@ -86,12 +87,13 @@ fn line_at(k: usize) -> Line
     }
 }
 
+// The lines of all granted positions and of all ticks, each at its place.
 pub fn lines() -> [Line; 273]
     ensures { λ r. ⌜ AllLines r ⌝ }
 {
-    let mut all = [line_at(272); 273];
+    let mut all = [line_at(IDLE); 273];
     let mut k = 0;
-    while k < LINES {
+    while k <= IDLE {
         all[k] = line_at(k);
         k += 1;
     }

@@ -49,7 +49,8 @@ pub record Creditable (n : ℕ) (w : Window) (held : List ℕ) (i p : ℕ) : Typ
   pub position : p < sizeOf w
   pub some-held : everyFrom (windowOf w) p (someHeld (row held i)) ≡ true
 
--- what the flows hold before and after a credit of flow i at position p that this number refuses, or that is taken where it is 0
+-- what the flows hold before and after a credit of flow i at position p that this number refuses, or that is taken where it is 0: then
+-- flow i's holdings from p on are moved by 255, one fewer modulo 256
 pub record Credited (n : ℕ) (w : Window) (i p number : ℕ) (before after : List ℕ) : Type 0 where
   pub refused : (number ≡ 0 → ⊥) → after ≡ before
   pub taken : number ≡ 0 → Creditable n w before i p

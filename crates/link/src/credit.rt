@@ -16,8 +16,8 @@ use tables::holdings::lower_from;
 use window::Window;
 use window::positions::window;
 
-// Takes a credit: what the flow holds falls by one from the position on. The refusal, with which nothing changes, and 0 where it is taken:
-// n flows, the window, and what each flow holds.
+// Takes a credit of a plan with `count` flows: what the flow holds falls by one from the position on, and 0 is returned; or the refusal is
+// returned, and nothing changes.
 pub fn take(count: usize, w: Window, held: &mut Holdings, flow: usize, position: usize) -> u8
     requires { ⌜ SomeLink (λ l. CreditOn l count w (now held)) ⌝ }
     ensures is { λ r. ⌜ ((l : Link) → CreditOn l count w (now (held .entry)) → r ≡ firstOf (model.creditTests (linkOf l) flow position)) ⌝ }

@@ -2,14 +2,14 @@
 use Prim.Native.Nat.{ℕ, _+_, _<_}
 use mathlib.Core.Path.{_≡_, refl, sym, ap, _∙_}
 use mathlib.Core.List.{List}
-use mathlib.Core.Bool.{true, false, true≢false}
+use mathlib.Core.Bool.{true, true≢false}
 use native.Mathlib.Decide.{ℕ-discrete}
 use native.Mathlib.Omega.{arith}
 use lib.ListN.{getD}
 use borrow.Author.Tests.{eq-eqb, ne-eqb}
 use Rattle.model.specs.Calls.{Grant, accepted, refused}
 use Rattle.model.specs.Link as model
-use Rattle.calls.specs.Lines.{numberLine}
+use Rattle.model.specs.Listing.{decimal, line}
 use Rattle.calls.specs.Reading.{lineFor, answerToTick}
 use Rattle.lines.specs.declared.Line.{Line}
 use Rattle.lines.specs.Lines.{textOf, noLine, AllLines}
@@ -24,13 +24,14 @@ use Rattle.link.specs.Sound.{Sound}
 use Rattle.link.proofs.Readings.{flows-most}
 
 -- the line of a request that is granted a position
-pub granted-text : (i : ℕ) (m : model.Step Grant) {r : Reply} → r ≡ replyOf i m → r .granted ≡ true → lineFor (r .answer) ≡ numberLine 71 (r .position)
+pub granted-text : (i : ℕ) (m : model.Step Grant) {r : Reply} → r ≡ replyOf i m → r .granted ≡ true
+    → lineFor (r .answer) ≡ line "G" (decimal (r .position))
 granted-text i m {r} is granted =
     ap (λ (x : Reply). lineFor (x .answer)) is
     ∙ go _ (m .answer) (ap (λ (x : Reply). x .granted) (sym is) ∙ granted)
-    ∙ ap (λ (x : Reply). numberLine 71 (x .position)) (sym is)
+    ∙ ap (λ (x : Reply). line "G" (decimal (x .position))) (sym is)
   where
-    go : (f : Flow) (a : Grant) → replyWith f a .granted ≡ true → lineFor (replyWith f a .answer) ≡ numberLine 71 (replyWith f a .position)
+    go : (f : Flow) (a : Grant) → replyWith f a .granted ≡ true → lineFor (replyWith f a .answer) ≡ line "G" (decimal (replyWith f a .position))
     go f (accepted word) e = refl
     go f (refused number) e = absurd (true≢false (sym e))
 

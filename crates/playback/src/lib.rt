@@ -93,6 +93,7 @@ pub fn play(start: Link, records: &[u8], out: &mut [u8]) -> Playback
                 w = on;
                 let cp = on.current;
                 let owner = link.owner[cp];
+                // nobody's number, 16, is the place of the idle line
                 let line = made[TICKS + owner as usize];
                 end = lines::write(line, out, end);
             }

@@ -1,9 +1,7 @@
 -- The largest of a range of holdings, found one at a step: it tells whether there is room at each of them. Assumes nothing.
 use Prim.Native.Nat.{ℕ, _+_, _≤_, _<_, max}
-use mathlib.Core.Path.{_≡_, sym, _∙_}
+use mathlib.Core.Path.{_≡_}
 use mathlib.Core.List.{List}
-use mathlib.Core.Bool.{true, false}
-use mathlib.Core.Logic.{⊎-elim}
 use native.Mathlib.Decide.{decLt, ℕ-discrete}
 use native.Mathlib.Omega.{arith}
 use lib.ListN.{getD}
@@ -17,15 +15,15 @@ pub record Largest (held : List ℕ) (a e q most : ℕ) : Type 0 where
   pub from : a ≤ q
   pub to : q ≤ e
   pub below : (k : ℕ) → a ≤ k → k < q → getD held k 0 ≤ most
-  -- some number that isn't larger than one of them and than no other number
-  pub least : (n : ℕ) → 0 < n → n ≤ most → Miss (roomAt held n) a q
+  -- each number from 1 to most is reached by one of them
+  pub reached : (n : ℕ) → 0 < n → n ≤ most → Miss (roomAt held n) a q
 
 pub largest-none : (held : List ℕ) (a e : ℕ) → a ≤ e → Largest held a e a 0
 largest-none held a e h = record {
   from = omega arith;
   to = h;
   below = λ k l m. absurd (omega arith);
-  least = λ n l m. absurd (omega arith);
+  reached = λ n l m. absurd (omega arith);
 }
 
 module _ {held : List ℕ} {a e q most : ℕ} (v : Largest held a e q most) where
@@ -34,7 +32,7 @@ module _ {held : List ℕ} {a e q most : ℕ} (v : Largest held a e q most) wher
     from = omega (arith, v .from);
     to = omega arith;
     below = λ k l m. under k l (ℕ-discrete k q) m;
-    least = λ n l m. missed n l (decLt (getD held q 0) n) m;
+    reached = λ n l m. missed n l (decLt (getD held q 0) n) m;
   }
     where
       under : (k : ℕ) → a ≤ k → Dec (k ≡ q) → k < q + 1 → getD held k 0 ≤ more
@@ -43,11 +41,11 @@ module _ {held : List ℕ} {a e q most : ℕ} (v : Largest held a e q most) wher
 
       missed : (n : ℕ) → 0 < n → Dec (getD held q 0 < n) → n ≤ more → Miss (roomAt held n) a (q + 1)
       missed n l (yes d) m =
-          let x = v .least n l (omega arith) in
+          let x = v .reached n l (omega arith) in
           record { at = x .at; from = x .from; below = omega (arith, x .below); fails = x .fails }
       missed n l (no d) m = record { at = q; from = v .from; below = omega arith; fails = le-ltb _ n (omega arith) }
 
-  -- whether there is room for one more below the cells, at each place of a range that has one
+  -- it tells whether fewer than the cells are held at each place of a range that has one
   pub largest-done : a < e → e ≤ q → (cells : ℕ) → All (roomAt held cells) a e (ltb most cells)
   largest-done some h cells =
       let z : q ≡ e = omega (arith, v .to) in
@@ -57,5 +55,5 @@ module _ {held : List ℕ} {a e q most : ℕ} (v : Largest held a e q most) wher
       }
     where
       missed : Dec (0 < cells) → cells ≤ most → Miss (roomAt held cells) a q
-      missed (yes d) full = v .least cells d full
+      missed (yes d) full = v .reached cells d full
       missed (no d) full = record { at = a; from = omega arith; below = omega arith; fails = le-ltb _ cells (omega arith) }

@@ -91,25 +91,26 @@ module _ (w : Window) (v : Proper w) (p : ℕ) (lp : p < sizeOf w) (h : List ℕ
   abbrev from : ℕ → Bool
   from = fromIn (windowOf w) p
 
-  abbrev lower : List ℕ
-  lower = shifted (windowOf w) 255 i p h
+  abbrev fewer : List ℕ
+  fewer = shifted (windowOf w) 255 i p h
 
-  pub raised-again : Bytes h (256 * i) (256 * i + sizeOf w) → shifted (windowOf w) 1 i p lower ≡ h
+  pub raised-again : Bytes h (256 * i) (256 * i + sizeOf w) → shifted (windowOf w) 1 i p fewer ≡ h
   raised-again bytes =
-      sym (with-row-is lower i (shiftedRow (windowOf w) 1 p (row lower i)) h (sym (length-with-row h i _)) at
+      sym (with-row-is fewer i (shiftedRow (windowOf w) 1 p (row fewer i)) h (sym (length-with-row h i _)) at
       (λ k b. sym (with-row-before h i _ k b)) (λ k b. sym (with-row-past h i _ k b)))
     where
+      -- y at position q, lowered and raised
       back : (q : ℕ) (b : Bool) → from q ≡ b → Dec (q < sizeOf w) → (y : ℕ) → (q < sizeOf w → y < 256)
           → y ≡ cond b (wrapped 1 (cond b (wrapped 255 y) y)) (cond b (wrapped 255 y) y)
       back q true z (yes d) y byte = sym (wrapped-back y (byte d))
       back q true z (no d) y byte = absurd (true≢false (sym z ∙ from-past w v p lp q (omega arith)))
       back q false z d y byte = refl
 
-      at : (q : ℕ) → q < 256 → 256 * i + q < length lower → getD h (256 * i + q) 0 ≡ getD (shiftedRow (windowOf w) 1 p (row lower i)) q 0
+      at : (q : ℕ) → q < 256 → 256 * i + q < length fewer → getD h (256 * i + q) 0 ≡ getD (shiftedRow (windowOf w) 1 p (row fewer i)) q 0
       at q b l =
           let here = row-at h i q b in
           let first = with-row-in h i (shiftedRow (windowOf w) 255 p (row h i)) q b (rw (length-with-row h i _) at l)
           ∙ replaced-at from _ (row h i) q 0 (omega (arith, length-row h i)) in
-          let second = replaced-at from (λ q x. wrapped 1 x) (row lower i) q 0 (omega (arith, length-row lower i)) in
-          rw (second, row-at lower i q b, first, here)
+          let second = replaced-at from (λ q x. wrapped 1 x) (row fewer i) q 0 (omega (arith, length-row fewer i)) in
+          rw (second, row-at fewer i q b, first, here)
           (back q (from q) refl (decLt q (sizeOf w)) _ (λ d. bytes .below (256 * i + q) (omega arith) (omega arith)))

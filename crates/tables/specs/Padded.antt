@@ -1,4 +1,4 @@
--- A value for the inner places of a row, and one for the outer ones. Assumes nothing.
+-- A value for the inner places of a row, and one for the outer ones; and elements that are bytes. Assumes nothing.
 use Prim.Native.Nat.{ℕ, _+_, _≤_, _<_}
 use mathlib.Core.List.{List}
 use mathlib.Core.Bool.{cond}

@@ -1,7 +1,8 @@
 // What each flow holds at each position: what flow i holds at position p stands at 256 * i + p, which no other crate knows.
 // From p on means at p and at every later position. With h the first position of the head frame: where h <= p, these are p to T - 1 and
 // 0 to h - 1; where p < h, they are p to h - 1.
-// A test or a change from p on is one pass over all T places; at the other places it uses a value that leaves the result as it is.
+// A test or a change from p on is one pass over all T places; at the other places it uses a value that leaves the result as it is. One
+// pass lowers and tests, and a second one raises again where the test fails.
 ghost use mathlib.Core.Path.{_≡_};
 ghost use mathlib.Core.Bool.{cond};
 ghost use Prim.Native.Nat.{_+_, _-_, _*_, _≤_, _<_, max};
@@ -39,7 +40,7 @@ fn fill(held: &mut Holdings, value: u8, a: usize, e: usize)
     }
 }
 
-// Whether fewer than the cells are held at every place of the range from a to e.
+// Whether fewer than the cells are held at every place of the range from a to e, which has one.
 fn room_in(held: &Holdings, cells: u8, a: usize, e: usize) -> bool
     requires { ⌜ (a < e) × (e ≤ 4096) ⌝ }
     ensures { λ r. ⌜ All (roomAt (now (held .entry)) cells) a e r ⌝ }
@@ -134,7 +135,8 @@ fn byte(x: u8) -> u8
 }
 
 // The holdings of the range from a to e moved as by `shift`, and whether before that at every place something was held or the pad was
-// above 0; the pad is `outer` where a holding is moved by `inner`, and `inner` where it is moved by `outer`.
+// above 0; the pad is `outer` where a holding is moved by `inner`, and `inner` where it is moved by `outer`. That holdings are bytes
+// follows from their type, and is stated so that callers find it.
 fn lower(
     held: &mut Holdings,
     a: usize,
@@ -182,7 +184,6 @@ fn lowered(held: &mut Holdings, i: usize, w: Window, p: usize) -> bool
 }
 
 // One fewer from p on where flow i holds something at each of these positions, else nothing changes; and which of the two it is.
-// One pass tests and lowers; where the test fails, which is rare, a second one takes it back.
 pub fn lower_from(held: &mut Holdings, i: usize, w: Window, p: usize) -> bool
     requires { ⌜ FlowAt w i p ⌝ }
     ensures was { λ r. ⌜ r ≡ model.everyFrom (windowOf w) p (someHeld (row (now (held .entry)) i)) ⌝ }

@@ -1,9 +1,9 @@
 -- `lines::line_at` meets its contract. Assumes nothing.
-use mathlib.Core.Path.{_∙_}
+use mathlib.Core.Path.{refl}
 use borrow.Author.Needs.{needs}
 use borrow.Author.Tests.{lt-ltb, le-ltb}
 use native.Mathlib.Omega.{arith}
-use Rattle.lines.specs.Lines.{textOf, lineAt}
+use Rattle.lines.specs.Lines.{lineAt}
 use Rattle.lines.proofs.line_at.Statement.{statement}
 use Rattle.lines.proofs.line_at.Tie as tie
 
@@ -15,7 +15,7 @@ number-line-requires c = search needs
 
 returns : tie.Need-returns
 unfolding lineAt
-returns c = c .number-line .ensures ∙ rw (lt-ltb _ 256 (c .before .if1 .taken))
+returns c = rw (lt-ltb _ 256 (c .before .if1 .taken)) (c .number-line .ensures)
 
 cast-number-line-2 : tie.Need-cast-number-line-2
 cast-number-line-2 c = search needs
@@ -27,16 +27,17 @@ returns-2 : tie.Need-returns-2
 unfolding lineAt
 returns-2 c =
     let few = c .before in
-    c .number-line2 .ensures ∙ rw (le-ltb _ 256 (few .before .if1 .left), lt-ltb _ 272 (few .if2 .taken))
+    rw (le-ltb _ 256 (few .before .if1 .left), lt-ltb _ 272 (few .if2 .taken)) (c .number-line2 .ensures)
 
 pack-requires : tie.Need-pack-requires
 pack-requires c = search needs
 
 returns-3 : tie.Need-returns-3
-unfolding lineAt textOf
+unfolding lineAt
 returns-3 c =
     let none = c .before in
-    rw (le-ltb _ 256 (none .before .if1 .left), le-ltb _ 272 (none .if2 .left), c .pack .ensures)
+    rw (le-ltb _ 256 (none .before .if1 .left), le-ltb _ 272 (none .if2 .left))
+    (record { first-four = c .pack .ensures; last-four = c .pack .ensures; long = refl; short = omega arith })
 
 pub line-at-spec : {M : Type 1} → statement M
 line-at-spec =

@@ -1,6 +1,5 @@
 -- `lines::lines` meets its contract: the lines before place k stand there. Assumes nothing.
 use Prim.Native.Nat.{_-_}
-use mathlib.Core.Path.{ap, _∙_}
 use borrow.Author.Needs.{needs}
 use native.Mathlib.Omega.{arith}
 use Rattle.lines.proofs.Made.{Made, made-none, made-more, made-all}
@@ -37,7 +36,7 @@ loop-less c = search needs
 loop-again : tie.Need-loop-again Inv-loop μ-loop
 loop-again c =
     let i = c .before in
-    made-more (i .before .loop .inv) (i .loop-test .taken) (c .line-at2 .result) (c .line-at2 .ensures)
+    made-more (i .before .loop .inv) (omega arith) (c .line-at2 .result) (c .line-at2 .ensures)
 
 returns : tie.Need-returns Inv-loop μ-loop
 returns c = made-all (c .before .loop .inv) (omega arith)

@@ -1,9 +1,6 @@
 -- `lines::pack` meets its contract. Assumes nothing.
-use Prim.Native.Nat.{_+_, _*_}
-use mathlib.Core.Path.{ap, _∙_}
 use borrow.Author.Needs.{needs}
 use native.Mathlib.Omega.{arith}
-use Rattle.lines.specs.Lines.{four}
 use Rattle.lines.proofs.Texts.{four-packed}
 use Rattle.lines.proofs.pack.Statement.{statement}
 use Rattle.lines.proofs.pack.Tie as tie

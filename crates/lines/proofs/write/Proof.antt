@@ -1,17 +1,13 @@
 -- `lines::write` meets its contract: its two stores overlap, and make the line. Assumes nothing.
 use Prim.Native.Nat.{ℕ, _+_, _≤_, min}
-use mathlib.Core.Path.{_≡_, refl, sym, ap, _∙_}
+use mathlib.Core.Path.{_≡_, refl}
 use mathlib.Core.List.{List}
 use borrow.Author.Needs.{needs}
 use native.Mathlib.Omega.{arith}
 use lib.ListN.{length}
 use lib.Seq.{length-sets}
-use Rattle.calls.specs.Lines.{Puts}
 use Rattle.calls.proofs.Stores.{in-room, written, not-written}
-use Rattle.lines.specs.declared.Line.{Line}
-use Rattle.lines.specs.Lines.{four, textOf}
 use Rattle.lines.proofs.Stored.{both-stored}
-use Rattle.lines.proofs.Texts.{length-four, length-text}
 use Rattle.lines.proofs.write.Statement.{statement}
 use Rattle.lines.proofs.write.Tie as tie
 
@@ -34,6 +30,13 @@ module _ (c : tie.After-put-four-arg) where
 
   past-is : c .before .smaller .result ≡ min (start .args .line .past) 3
   past-is = c .before .smaller .ensures
+
+-- where the last four bytes are stored, from where the first four are
+abbrev last-at : tie.After-put-four2 → tie.After-put-four
+last-at c = c .before .before .before .before
+
+abbrev first-at : tie.After-slice-known3 → tie.After-put-four2
+first-at c = c .before .before
 
 has-room-requires : tie.Need-has-room-requires
 has-room-requires c κs = search needs
@@ -63,12 +66,12 @@ put-four-requires-2 c κs =
 
 add-result : tie.Need-add-result
 add-result c =
-    let a = c .before .before .before .before .before .before .before in
+    let a = last-at (first-at c) .before in
     search (needs, room-there a, past-is a)
 
 add-result-2 : tie.Need-add-result-2
 add-result-2 c =
-    let a = c .before .before .before .before .before .before .before in
+    let a = last-at (first-at c) .before in
     search (needs, room-there a, past-is a)
 
 same-length-2 : tie.Need-same-length-2
@@ -76,10 +79,10 @@ same-length-2 c = search needs
 
 returns-2 : tie.Need-returns-2
 returns-2 c =
-    let second = c .before .before in
-    let first = second .before .before .before .before in
-    let a = first .before in
-    let stored = both-stored (start a .args .line) (past-is a) (room-there a) (first .put-four .ensures) (second .put-four2 .ensures) in
+    let first = first-at c in
+    let last = last-at first in
+    let a = last .before in
+    let stored = both-stored (start a .args .line) (past-is a) (room-there a) (last .put-four .ensures) (first .put-four2 .ensures) in
     written _ _ (room-at a .before .has-room .ensures) (room-at a .if1 .left) refl stored (omega (arith, past-is a))
 
 pub write-spec : {M : Type 1} → statement M

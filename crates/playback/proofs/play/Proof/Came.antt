@@ -18,7 +18,7 @@ use Rattle.playback.proofs.Records.{Made}
 use Rattle.playback.proofs.SoFar.{Told, same-told}
 use Rattle.playback.proofs.Texts.{granted-text, tick-text}
 use Rattle.playback.proofs.Arms.{granted-played, refused-played, credit-refused-played, credit-taken-played, tick-played}
-use Rattle.playback.proofs.play.Proof.Places.{Inv-loop, μ-loop, loop-at, link-at, plan-at, window-at, hand-at, made-at, read-at, call-is, advanced-at, owner-at}
+use Rattle.playback.proofs.play.Proof.Places.{Inv-loop, μ-loop, loop-at, link-at, plan-at, hand-at, made-at, read-at, call-is, advanced-at, owner-at}
 use Rattle.playback.proofs.play.Tie as tie
 
 abbrev of-call : Call → Made
