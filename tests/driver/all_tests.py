@@ -20,7 +20,7 @@ from edges import questions, refusals_page
 from edges.all_edges import ALLCALLS_EDGES, EDGES
 from front_door import (
     asking_editor, calls_text, check_log, checklist_page, comparison_page,
-    flights, help_pages, man_pages, old_program, picture_errors,
+    flights, help_pages, lost_listing, man_pages, old_program, picture_errors,
     picture_pages, picture_scripts, picture_sizes, picture_view, pictures,
     plan_check, plan_files, plan_lost_output, plan_read, plan_week,
     plan_wrong_words, play_explain, play_files, play_lost_output,
@@ -34,8 +34,8 @@ FRONT_DOOR = (
     pictures, picture_sizes, picture_pages, picture_scripts, picture_view,
     picture_errors, singular, calls_text, plan_files, plan_read, plan_check,
     plan_week, plan_wrong_words, plan_lost_output, check_log, flights,
-    old_program, slow_reader, asking_editor, wrong_arguments, progress,
-    versions, help_pages, man_pages, readme, rules_page, remedies,
+    old_program, slow_reader, asking_editor, wrong_arguments, lost_listing,
+    progress, versions, help_pages, man_pages, readme, rules_page, remedies,
     checklist_page, comparison_page)
 REFUSALS = range(1, 30)         # those of all programs
 
@@ -230,7 +230,10 @@ def c_suites(library, folder, only, count, seed):
     side = c_side(library, folder)
     if not side:
         return []
-    test_all(side.own, side.tests(count, seed), only)
+    tests = side.tests(count, seed)
+    if only and not side.own.failed:
+        side.own.passed = 0     # that it is built is no test that is asked for
+    test_all(side.own, tests, only)
     return side.suites
 
 

@@ -184,6 +184,13 @@ def back_of_a_text(tree):
                        "calls: standard input is a text already"))
 
 
+def bytes_as_a_text(tree):
+    """A call file is not read as a text."""
+    path = tree.root / "flights/listing"
+    return trouble(tree.start(path), WRONG_TEXT, b"",
+                   "calls: '%s' is a call file already" % path)
+
+
 def either(tree):
     """--bytes takes a text and a file of bytes."""
     for name in ("flights/listing", "flights/listing.calls"):
@@ -242,7 +249,8 @@ def help_page(tree):
 
 
 APART = (every_line, wrong_lines, wrong_wholes, there_and_back, short_text)
-TESTS = (the_listing, late_credits, back, back_of_a_text, either, wrong_text,
+TESTS = (the_listing, late_credits, back, back_of_a_text, bytes_as_a_text,
+         either, wrong_text,
          wrong_words, lost_output, no_python, help_page)
 
 

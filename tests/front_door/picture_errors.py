@@ -23,6 +23,7 @@ WRONG_WORDS = [
     (["--timeline", "OUT"], ["1"], "a call number goes with --window"),
     (["--svg", "OUT"], ["--page"], "--page needs a word after it"),
     (["--svg", "x", "--page", "x"], [], "two pictures can't both go to 'x'"),
+    (["--window", "--svg", "-"], [], "the picture can't go there too"),
 ]
 BAD_FILES = [
     (Played(b"", ["P 1"]), "is no file of calls: "),

@@ -15,6 +15,15 @@ def closed_output(tree):
                    "standard output is closed")
 
 
+def page_needs_no_output(tree):
+    """A page goes to its file, whatever standard output is."""
+    page = os.path.join(os.path.dirname(tree.calls), "page.html")
+    wrong = trouble(start(redirected(">&-", tree.command, "--page", page,
+                                     tree.calls)), 0, b"",
+                    "page.html' is written")
+    return wrong or (None if os.path.exists(page) else "there is no page")
+
+
 def full_disk(tree):
     if not os.path.exists("/dev/full"):
         return None
@@ -60,7 +69,7 @@ def program_says_so(tree):
                    "domelink: output was lost")
 
 
-TESTS = (closed_output, full_disk, reader_leaves, reader_is_slow,
+TESTS = (closed_output, page_needs_no_output, full_disk, reader_leaves, reader_is_slow,
          program_breaks_off, program_says_so)
 
 

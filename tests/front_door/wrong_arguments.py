@@ -15,6 +15,7 @@ MISSING = os.path.join(os.sep, "nowhere", "calls")
 # Arguments of tests/run, and words of the sentence.
 TESTS_RUN = [
     (["-5"], "COUNT"),
+    (["0"], "COUNT: has to be a number from 1 on"),
     (["many"], "COUNT"),
     (["1", "-1"], "SEED"),
     (["1", "2", "3"], "unrecognized"),
@@ -113,5 +114,5 @@ def tests(programs):
     yield "bench/run without rt", lambda: without("rt")
     yield ("tests/run --only with no such test",
            lambda: refused("tests/run", ["--program", programs["domelink"],
-                                         "0", "--only", "no such test"],
+                                         "1", "--only", "no such test"],
                            "no test has"))

@@ -2,6 +2,7 @@
 
 import sys
 
+import call_file
 from call_text import TextError, bytes_of, is_text
 from ends import read_file, stop, write_output
 from text_lines import text_of
@@ -53,6 +54,15 @@ def make_bytes(data, name, all_calls):
         say(1, "%s, %s" % (name, wrong))
 
 
+def is_call_file(data):
+    """Whether a file begins with the bytes of a plan."""
+    try:
+        call_file.read(data, True)
+    except call_file.NoPlan:
+        return False
+    return True
+
+
 def made(options, path):
     """What is written."""
     data = read_file("calls", path)
@@ -65,6 +75,8 @@ def made(options, path):
         return text_of(data, all_calls).encode()
     if "--bytes" in options and not is_text(data):
         return data
+    if is_call_file(data):
+        say(1, "%s is a call file already; --back makes a text of it" % name)
     return make_bytes(data, name, all_calls)
 
 

@@ -118,6 +118,9 @@ def check_outputs(options, inputs):
                         "made from" % output)
         if output in outputs[:place]:
             raise Wrong("two pictures can't both go to '%s'" % output)
+        if output == "-" and "--window" in options:
+            raise Wrong("the window goes to standard output, and the picture "
+                        "can't go there too")
 
 
 # ---- reading and writing
