@@ -2,6 +2,7 @@
 mod lines;
 mod records;
 
+pub use lines::has_room;
 pub use lines::write;
 pub use lines::write_plan;
 pub use lines::write_refusal;

@@ -45,7 +45,7 @@ fn put_number(letter: u8, n: u32, out: &mut [u8], at: usize) -> usize
 }
 
 // Whether the longest line has room at a place.
-fn has_room(out: &[u8], at: usize) -> bool
+pub fn has_room(out: &[u8], at: usize) -> bool
     ensures { λ r. ⌜ r ≡ room (now (out .entry)) at ⌝ }
 {
     if out.len() < LONGEST_LINE {

@@ -18,7 +18,7 @@ use Rattle.link.specs.declared.Link.{Link}
 use Rattle.window.specs.declared.Window.{Window}
 use Rattle.tables.specs.Rows.{row}
 use Rattle.window.specs.Window.{windowOf, sizeOf, Proper}
-use Rattle.tables.specs.Holdings.{someHeld}
+use Rattle.tables.specs.Holdings.{someHeld, shifted}
 use Rattle.link.specs.Layout.{sizeFor, entryAt, flowAt}
 use Rattle.link.specs.Reading.{linkOf}
 use Rattle.link.specs.Sound.{Sound}
@@ -48,6 +48,13 @@ pub record Creditable (n : ℕ) (w : Window) (held : List ℕ) (i p : ℕ) : Typ
   pub flow : i < n
   pub position : p < sizeOf w
   pub some-held : everyFrom (windowOf w) p (someHeld (row held i)) ≡ true
+
+-- what the flows hold before and after a credit of flow i at position p that this number refuses, or that is taken where it is 0: then
+-- flow i's holdings from p on are moved by 255, one fewer modulo 256
+pub record Credited (n : ℕ) (w : Window) (i p number : ℕ) (before after : List ℕ) : Type 0 where
+  pub refused : (number ≡ 0 → ⊥) → after ≡ before
+  pub taken : number ≡ 0 → Creditable n w before i p
+  pub lowered : number ≡ 0 → after ≡ shifted (windowOf w) 255 i p before
 
 -- ---- a request on link l: what the flows hold, the unbooked slots, and of the word's flow its entry, and the flow
 

@@ -19,7 +19,7 @@ use unbooked::frames::recycle_head;
 use window::positions::window;
 
 // The answer at a position with this owner.
-pub fn turn(owner: u8) -> Answer
+pub(crate) fn turn(owner: u8) -> Answer
     ensures { λ r. ⌜ r ≡ answerToTick (ownerOf owner) ⌝ }
 {
     if owner == 16 {

@@ -1,3 +1,4 @@
 mod Records
 mod Arms
 mod SoFar
+mod Texts

@@ -73,8 +73,3 @@ module _ {l : Link} {plan : Plan} {w : Window} {link : Link} {answer : Answer} (
     line-is = ap lineFor (e .answer-is) ∙ line-of-tick (tick (linkOf l) .answer);
     hand = hand;
   }
-
--- the same of what is equal
-pub same-played : {l : Link} {o o′ : Made} {plan : Plan} {w w′ : Window} {link link′ : Link} {answer answer′ : Answer}
-    → o ≡ o′ → link ≡ link′ → w ≡ w′ → answer ≡ answer′ → Played l o′ plan w′ link′ answer′ → Played l o plan w link answer
-same-played d e f g p = rw (d, e, f, g) p

@@ -17,7 +17,7 @@ use Rattle.link.specs.Reading.{linkOf}
 use Rattle.link.specs.Sound.{Sound}
 use Rattle.link.proofs.Given.{AtHand}
 use Rattle.playback.specs.Playback.{playable, PlayedRecords}
-use Rattle.playback.proofs.Records.{playedAt, Played}
+use Rattle.playback.proofs.Records.{playedAt, Made, Played}
 
 -- From link `start` the records up to the place `at` are played, and their lines stand in what was `out₀` up to `end`.
 pub record SoFar (start : Link) (records out₀ : List ℕ) (used : ℕ) (plan : Plan) (at : ℕ) (link : Link) (w : Window)
@@ -29,10 +29,20 @@ pub record SoFar (start : Link) (records out₀ : List ℕ) (used : ℕ) (plan :
   pub played : PlayedTo (linkOf start) records out₀ 0 at (linkOf (playedAt link w)) out end
   pub hand : AtHand (playedAt link w) plan w
 
--- what `calls::write` ensures: the answer's line is written, and the place goes on by at most seven
-abbrev Written : Answer → (out : List ℕ) (end : ℕ) (out′ : List ℕ) (end′ : ℕ) → Type 0
-Written answer out end out′ end′ =
-    (out′ ≡ outWith (lineFor answer) out end) × ((end′ ≡ nextAfter (lineFor answer) out end) × (end′ ≤ end + 7))
+-- what a writer ensures: a line is written, and the place goes on by at most seven
+abbrev pub Written : (line out : List ℕ) (end : ℕ) (out′ : List ℕ) (end′ : ℕ) → Type 0
+Written line out end out′ end′ = (out′ ≡ outWith line out end) × ((end′ ≡ nextAfter line out end) × (end′ ≤ end + 7))
+
+-- a record's call, or none, is played from link l, and the line of its answer is written
+pub record Told (l : Link) (o : Made) (plan : Plan) (w : Window) (link : Link) (out : List ℕ) (end : ℕ) (out′ : List ℕ) (end′ : ℕ) : Type 0 where
+  pub answer : Answer
+  pub played : Played l o plan w link answer
+  pub written : Written (lineFor answer) out end out′ end′
+
+-- the same of what is equal
+pub same-told : {l : Link} {o o′ : Made} {plan : Plan} {w w′ : Window} {link link′ : Link} {out : List ℕ} {end : ℕ} {out₁ out₂ : List ℕ} {end₁ end₂ : ℕ}
+    → o ≡ o′ → out₁ ≡ out₂ → link ≡ link′ → w ≡ w′ → end₁ ≡ end₂ → Told l o′ plan w′ link′ out end out₂ end₂ → Told l o plan w link out end out₁ end₁
+same-told a b c d e t = rw (a, b, c, d, e) t
 
 -- how far the records go
 record Reach (records out : List ℕ) (used : ℕ) : Type 0 where
@@ -65,10 +75,12 @@ module _ {start : Link} {records out₀ : List ℕ} {used : ℕ} {plan : Plan} {
   same-size = ap length (s .played .lines) ∙ length-sets out₀ 0 (listing (linkOf start) (take at records))
 
   -- one record more: it was played, and its line was written
-  pub one-more : at < used → {w′ : Window} {link′ : Link} {answer : Answer} → Played (playedAt link w) (callAt records at) plan w′ link′ answer
-      → {out′ : List ℕ} {end′ : ℕ} → Written answer out end out′ end′
+  pub one-more : at < used → {w′ : Window} {link′ : Link} {out′ : List ℕ} {end′ : ℕ}
+      → Told (playedAt link w) (callAt records at) plan w′ link′ out end out′ end′
       → SoFar start records out₀ used plan (at + 5) link′ w′ out′ end′
-  one-more before p (written, (ends, most)) =
+  one-more before t =
+      let p = t .played in
+      let (written, (ends, most)) = t .written in
       let r = reach records out₀ used (s .used-is) in
       let on : at + 5 ≤ used = omega (arith, s .whole, r .whole) in
       let room : end + 7 ≤ length out = omega (arith, same-size, s .seven-most, r .in-out) in

@@ -2,17 +2,17 @@
 ghost use Rattle.link.specs.Reading.{linkOf};
 ghost use Rattle.link.specs.Sound.{Sound};
 ghost use Rattle.playback.specs.Playback.{PlayedRecords};
-use calls::Answer;
 use calls::Call;
 use calls::LONGEST_LINE;
 use calls::RECORD;
 use calls::Record;
+use lines::TICKS;
+use lines::lines;
 use link::Link;
-use link::credit::refusal;
+use link::credit::take;
 use link::request::ask;
 use link::request::asker;
 use link::tick::leave_head;
-use link::tick::turn;
 use tables::holdings::carry_head;
 use tables::holdings::shift_from;
 use tables::owners::empty_head;
@@ -42,6 +42,7 @@ pub fn play(start: Link, records: &[u8], out: &mut [u8]) -> Playback
     let mut link = start;
     let plan = link.plan;
     let mut w = window(plan.slots, plan.frames, link.cp);
+    let made = lines();
     let mut at = 0;
     let mut end = 0;
     while at < used {
@@ -50,8 +51,7 @@ pub fn play(start: Link, records: &[u8], out: &mut [u8]) -> Playback
             at += RECORD;
             continue;
         };
-        // Each arm stores what the method of its call stores, but for CP, which stays in w until the end.
-        let mut answer = Answer::Idle;
+        // Each arm stores what the method of its call stores, but for CP, which stays in w until the end, and writes its own line.
         match call {
             Call::Request(word) => {
                 let i = asker(plan.count, word);
@@ -65,16 +65,19 @@ pub fn play(start: Link, records: &[u8], out: &mut [u8]) -> Playback
                     link.owner[position] = i as u8;
                     book(&mut link.unbooked, w, flow.frame, position);
                     shift_from(&mut link.held, 1, i, w, position);
+                    let line = made[position];
+                    end = lines::write(line, out, end);
+                } else {
+                    let answer = reply.answer;
+                    end = calls::write(answer, out, end);
                 }
-                answer = reply.answer;
             }
             Call::Credit(flow, position) => {
-                let number = refusal(plan.count, w, &link.held, flow, position);
+                let number = take(plan.count, w, &mut link.held, flow, position);
                 if number != 0 {
-                    answer = Answer::Refused(number);
+                    end = calls::write_refusal(number, out, end);
                 } else {
-                    shift_from(&mut link.held, 255, flow, w, position);
-                    answer = Answer::Taken;
+                    end = lines::write_taken(out, end);
                 }
             }
             Call::Tick => {
@@ -90,10 +93,11 @@ pub fn play(start: Link, records: &[u8], out: &mut [u8]) -> Playback
                 w = on;
                 let cp = on.current;
                 let owner = link.owner[cp];
-                answer = turn(owner);
+                // nobody's number, 16, is the place of the idle line
+                let line = made[TICKS + owner as usize];
+                end = lines::write(line, out, end);
             }
         }
-        end = calls::write(answer, out, end);
         at += RECORD;
     }
     link.cp = w.current;

@@ -11,6 +11,8 @@ mod LaterPositions
 -- one pass over a row
 mod Padded
 mod PaddedFrom
+mod Largest
+mod Lowered
 -- the search
 mod Departures
 mod ValidSlots

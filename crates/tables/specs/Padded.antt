@@ -1,6 +1,8 @@
--- A value for the inner places of a row, and one for the outer ones. Assumes nothing.
-use Prim.Native.Nat.{ℕ, _+_, _≤_}
+-- A value for the inner places of a row, and one for the outer ones; and elements that are bytes. Assumes nothing.
+use Prim.Native.Nat.{ℕ, _+_, _≤_, _<_}
+use mathlib.Core.List.{List}
 use mathlib.Core.Bool.{cond}
+use lib.ListN.{getD}
 use Rattle.window.specs.Ranges.{inRange}
 
 -- `inner` at the `count` places from `start` on, and `outer` at the others
@@ -13,3 +15,7 @@ pub record InRow (a e start count : ℕ) : Type 0 where
   pub table : e ≤ 4096
   pub row : e ≤ a + 256
   pub inner : start + count ≤ 256
+
+-- the elements from a to e are bytes
+pub record Bytes (h : List ℕ) (a e : ℕ) : Type 0 where
+  pub below : (k : ℕ) → a ≤ k → k < e → getD h k 0 < 256

@@ -1,19 +1,21 @@
 // What each flow holds at each position: what flow i holds at position p stands at 256 * i + p, which no other crate knows.
 // From p on means at p and at every later position. With h the first position of the head frame: where h <= p, these are p to T - 1 and
 // 0 to h - 1; where p < h, they are p to h - 1.
-// A test or a change from p on is one pass over all T places; at the other places it uses a value that leaves the result as it is.
+// A test or a change from p on is one pass over all T places; at the other places it uses a value that leaves the result as it is. One
+// pass lowers and tests, and a second one raises again where the test fails.
 ghost use mathlib.Core.Path.{_≡_};
-ghost use Prim.Native.Nat.{_+_, _-_, _≤_, _<_, max};
+ghost use mathlib.Core.Bool.{cond};
+ghost use Prim.Native.Nat.{_+_, _-_, _*_, _≤_, _<_, max};
 ghost use lib.Dec.{ltb};
 ghost use lib.ListN.{getD};
 ghost use Rattle.model.specs.Window as model;
 ghost use Rattle.window.specs.Bytes.{wrapped};
 ghost use Rattle.window.specs.Ranges.{inRange, replaced, All, LastIn};
-ghost use Rattle.window.specs.Window.{windowOf, Proper, FromRank};
+ghost use Rattle.window.specs.Window.{windowOf, sizeOf, Proper, FromRank};
 ghost use Rattle.tables.specs.Asked.{FlowAt, FlowsOf};
 ghost use Rattle.tables.specs.Owners.{everywhere};
 ghost use Rattle.tables.specs.Rows.{row, withRow, carriedRows};
-ghost use Rattle.tables.specs.Padded.{pad, InRow};
+ghost use Rattle.tables.specs.Padded.{pad, InRow, Bytes};
 ghost use Rattle.tables.specs.Holdings.{someHeld, roomAt, shifted, carried, nothingHeld};
 use window::Window;
 use window::numbers::chosen;
@@ -38,20 +40,18 @@ fn fill(held: &mut Holdings, value: u8, a: usize, e: usize)
     }
 }
 
-// Whether fewer than the cells are held at every place of the range from a to e.
+// Whether fewer than the cells are held at every place of the range from a to e, which has one.
 fn room_in(held: &Holdings, cells: u8, a: usize, e: usize) -> bool
-    requires { ⌜ (a ≤ e) × (e ≤ 4096) ⌝ }
+    requires { ⌜ (a < e) × (e ≤ 4096) ⌝ }
     ensures { λ r. ⌜ All (roomAt (now (held .entry)) cells) a e r ⌝ }
 {
-    let mut all = true;
+    let mut most = 0u8;
     let mut q = a;
     while q < e {
-        if cells <= held[q] {
-            all = false;
-        }
+        most = larger_byte(most, held[q]);
         q += 1;
     }
-    all
+    most < cells
 }
 
 // One more than the last place of a range at which no fewer than the cells are held, or the first place.
@@ -95,39 +95,6 @@ pub fn room_from(held: &Holdings, i: usize, cells: u8, w: Window, p: usize) -> b
     room_rank(held, i, cells, w) <= w.rank(p)
 }
 
-// Whether at every place of the range from a to e something is held or the pad is above 0. The pad is `inner` at the `count` places
-// from a + `start` on, and `outer` at the others.
-fn held_in(held: &Holdings, a: usize, e: usize, start: u8, count: u8, inner: u8, outer: u8) -> bool
-    requires { ⌜ InRow a e start count ⌝ }
-    ensures { λ r. ⌜ All (λ k. ltb 0 (max (getD (now (held .entry)) k 0) (pad start count inner outer (k - a)))) a e r ⌝ }
-{
-    let mut least = 255u8;
-    let mut q = a;
-    // how far q lies on from a + start, modulo 256: below `count` at the inner places
-    let mut x = to_zero(start);
-    while q < e {
-        let pad = chosen(x, count, inner, outer);
-        least = smaller_byte(least, larger_byte(held[q], pad));
-        x = on_by_one(x);
-        q += 1;
-    }
-    0 < least
-}
-
-// Whether flow i holds something from p on.
-pub fn held_from(held: &Holdings, i: usize, w: Window, p: usize) -> bool
-    requires { ⌜ FlowAt w i p ⌝ }
-    ensures { λ r. ⌜ r ≡ model.everyFrom (windowOf w) p (someHeld (row (now (held .entry)) i)) ⌝ }
-{
-    let first = 256 * i;
-    let past = first + w.slots * w.frames;
-    let base = w.head * w.slots;
-    if base <= p {
-        return held_in(held, first, past, base as u8, (p - base) as u8, 255, 0);
-    }
-    held_in(held, first, past, p as u8, (base - p) as u8, 0, 255)
-}
-
 // The holdings of the range from a to e moved modulo 256: by `inner` at the `count` places from a + `start` on, and by `outer` at the
 // others.
 fn shift(held: &mut Holdings, a: usize, e: usize, start: u8, count: u8, inner: u8, outer: u8)
@@ -158,6 +125,75 @@ pub fn shift_from(held: &mut Holdings, by: u8, i: usize, w: Window, p: usize)
         return;
     }
     shift(held, first, past, p as u8, (base - p) as u8, by, 0);
+}
+
+// The same byte: a parameter is known to be below 256, which an element of an array is not.
+fn byte(x: u8) -> u8
+    ensures { λ r. ⌜ (r ≡ x) × (r < 256) ⌝ }
+{
+    x
+}
+
+// The holdings of the range from a to e moved as by `shift`, and whether before that at every place something was held or the pad was
+// above 0; the pad is `outer` where a holding is moved by `inner`, and `inner` where it is moved by `outer`. That holdings are bytes
+// follows from their type, and is stated so that callers find it.
+fn lower(
+    held: &mut Holdings,
+    a: usize,
+    e: usize,
+    start: u8,
+    count: u8,
+    inner: u8,
+    outer: u8,
+) -> bool
+    requires { ⌜ InRow a e start count ⌝ }
+    ensures all { λ r. ⌜ All (λ k. ltb 0 (max (getD (now (held .entry)) k 0) (pad start count outer inner (k - a)))) a e r ⌝ }
+    ensures shifts { λ r. ⌜ now (held .exit) ≡ replaced (inRange a e) (λ k x. wrapped (pad start count inner outer (k - a)) x) (now (held .entry)) ⌝ }
+    ensures bytes { λ r. ⌜ Bytes (now (held .entry)) a e ⌝ }
+{
+    let mut least = 255u8;
+    let mut q = a;
+    // how far q lies on from a + start, modulo 256
+    let mut x = to_zero(start);
+    while q < e {
+        let was = byte(held[q]);
+        let pad = chosen(x, count, outer, inner);
+        let by = chosen(x, count, inner, outer);
+        least = smaller_byte(least, larger_byte(was, pad));
+        held[q] = moved(was, by);
+        x = on_by_one(x);
+        q += 1;
+    }
+    0 < least
+}
+
+// Flow i's holdings from p on, each one fewer modulo 256, and whether something was held at each of them.
+fn lowered(held: &mut Holdings, i: usize, w: Window, p: usize) -> bool
+    requires { ⌜ FlowAt w i p ⌝ }
+    ensures was { λ r. ⌜ r ≡ model.everyFrom (windowOf w) p (someHeld (row (now (held .entry)) i)) ⌝ }
+    ensures shifts { λ r. ⌜ now (held .exit) ≡ shifted (windowOf w) 255 i p (now (held .entry)) ⌝ }
+    ensures bytes { λ r. ⌜ Bytes (now (held .entry)) (256 * i) (256 * i + sizeOf w) ⌝ }
+{
+    let first = 256 * i;
+    let past = first + w.slots * w.frames;
+    let base = w.head * w.slots;
+    if base <= p {
+        return lower(held, first, past, base as u8, (p - base) as u8, 0, 255);
+    }
+    lower(held, first, past, p as u8, (base - p) as u8, 255, 0)
+}
+
+// One fewer from p on where flow i holds something at each of these positions, else nothing changes; and which of the two it is.
+pub fn lower_from(held: &mut Holdings, i: usize, w: Window, p: usize) -> bool
+    requires { ⌜ FlowAt w i p ⌝ }
+    ensures was { λ r. ⌜ r ≡ model.everyFrom (windowOf w) p (someHeld (row (now (held .entry)) i)) ⌝ }
+    ensures holds { λ r. ⌜ now (held .exit) ≡ cond r (shifted (windowOf w) 255 i p (now (held .entry))) (now (held .entry)) ⌝ }
+{
+    if lowered(held, i, w, p) {
+        return true;
+    }
+    shift_from(held, 1, i, w, p);
+    false
 }
 
 // The table of a flow that holds nothing at any position.

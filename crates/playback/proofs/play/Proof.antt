@@ -1,7 +1,7 @@
 -- `playback::play` meets its contract: before each record, those up to it are played. Assumes nothing.
 mod Places
 mod Came
-use Prim.Native.Nat.{_*_}
+use Prim.Native.Nat.{_*_, _<_}
 use mathlib.Core.Path.{ap, _∙_}
 use borrow.Author.Needs.{needs}
 use native.Mathlib.Omega.{arith}
@@ -15,8 +15,8 @@ use Rattle.link.proofs.Given.{at-hand, plan-valid, flows-few, credit-on, reques
 use Rattle.playback.proofs.Records.{Played, reads-as, no-call-played}
 use Rattle.playback.proofs.SoFar.{none-yet, same-size, one-more, all-played}
 use Rattle.playback.proofs.play.Proof.Places.{Inv-loop, μ-loop, entered, loop-at, link-at, plan-at, window-at, hand-at, made-at, read-at}
-use Rattle.playback.proofs.play.Proof.Places.{request-at, asker-for, asker-at, asker-few, asked-at, granted-at, granted-in, credit-for, credit-at}
-use Rattle.playback.proofs.play.Proof.Places.{ticked-at, tick-at, emptied-at, left-at}
+use Rattle.playback.proofs.play.Proof.Places.{request-at, asker-for, asker-at, asker-few, asked-at, granted-at, granted-in, credit-for}
+use Rattle.playback.proofs.play.Proof.Places.{ticked-at, tick-at, emptied-at, left-at, owner-at}
 use Rattle.playback.proofs.play.Proof.Came.{came}
 use Rattle.playback.proofs.play.Statement.{statement}
 use Rattle.playback.proofs.play.Tie as tie
@@ -32,12 +32,16 @@ mul-used c = omega arith
 window-requires : tie.Need-window-requires Inv-loop μ-loop
 window-requires c κs = measures _ (entered c .pre)
 
+lines-requires : tie.Need-lines-requires Inv-loop μ-loop
+lines-requires c κs = search needs
+
 loop-holds : tie.Need-loop-holds Inv-loop μ-loop
 loop-holds c =
-    let s = entered (c .before) in
-    let a = at-hand (s .pre) (c .window .ensures .0) (c .window .ensures .1) in
-    let same = ap (λ (x : seen.Window). withCurrent (s .args .start) (x .current)) (c .window .ensures .0) in
-    none-yet (ap (5 *_) (c .before .before .smaller .ensures)) same a
+    let at = c .before in
+    let s = entered (at .before) in
+    let a = at-hand (s .pre) (at .window .ensures .0) (at .window .ensures .1) in
+    let same = ap (λ (x : seen.Window). withCurrent (s .args .start) (x .current)) (at .window .ensures .0) in
+    none-yet (ap (5 *_) (at .before .before .smaller .ensures)) same a
 
 -- ---- a record that makes no call
 
@@ -67,7 +71,8 @@ loop-again c =
     let no-call = reads-as (made-at read) _ (read .read .ensures .0) ∙ ap callIn (told .enum-told .given .1) in
     let played : Played (link-at read) (made-at read) (plan-at read) (window-at read) (loop-at read .loop .link) (Refused 16) =
     rw no-call (no-call-played (hand-at read)) in
-    one-more (loop-at read .loop .inv) (read .before .loop-test .taken) played (written .write-refusal .ensures)
+    one-more (loop-at read .loop .inv) (read .before .loop-test .taken)
+    (record { answer = Refused 16; played = played; written = written .write-refusal .ensures })
 
 -- ---- a request
 
@@ -103,10 +108,14 @@ element-set-from-flow c = asker-few (asker-at c)
 cast-link : tie.Need-cast-link Inv-loop μ-loop
 cast-link c = omega (arith, asker-few (asker-at (c .before)))
 
-element-write-link : tie.Need-element-write-link Inv-loop μ-loop
-element-write-link c =
+-- the position that is granted is one of 256
+position-few : (c : tie.Then1 Inv-loop μ-loop) → c .before .before .ask .result .position < 256
+position-few c =
     let most = hand-at (request-at (asked-at c)) .proper .measures .positions-most in
     omega (arith, in-window (granted-in c), most)
+
+element-write-link : tie.Need-element-write-link Inv-loop μ-loop
+element-write-link c = omega (arith, position-few c)
 
 book-requires : tie.Need-book-requires Inv-loop μ-loop
 book-requires c κs = granted-in (c .before)
@@ -117,22 +126,33 @@ shift-from-requires c κs =
     let i = asked-at granted in
     record { proper = hand-at (request-at i) .proper; flow = asker-few i; position = in-window (granted-in granted) }
 
+mul-line : tie.Need-mul-line Inv-loop μ-loop
+mul-line c = omega (arith, position-few (granted-at (c .before .before)))
+
+array-copy-out-line : tie.Need-array-copy-out-line Inv-loop μ-loop
+array-copy-out-line c = omega (arith, position-few (granted-at (c .before .before)))
+
+write-requires : tie.Need-write-requires Inv-loop μ-loop
+write-requires c κs = search needs
+
+write-requires-2 : tie.Need-write-requires-2 Inv-loop μ-loop
+write-requires-2 c κs = search needs
+
 -- ---- a credit
 
 enum-known-call-3 : tie.Need-enum-known-call-3 Inv-loop μ-loop
 enum-known-call-3 c = search needs
 
-refusal-requires : tie.Need-refusal-requires Inv-loop μ-loop
-refusal-requires c κs =
+take-requires : tie.Need-take-requires Inv-loop μ-loop
+take-requires c κs =
     let r = credit-for c in
     record { link = link-at r; given = credit-on (hand-at r) }
 
-shift-from-requires-2 : tie.Need-shift-from-requires-2 Inv-loop μ-loop
-shift-from-requires-2 c κs =
-    let r = c .before .before in
-    let a = hand-at (credit-at r) in
-    let d = r .refusal .ensures .1 (c .before .if2 .left) in
-    record { proper = a .proper; flow = omega (arith, d .flow, flows-few a); position = d .position }
+write-refusal-requires-2 : tie.Need-write-refusal-requires-2 Inv-loop μ-loop
+write-refusal-requires-2 c κs = search needs
+
+write-taken-requires : tie.Need-write-taken-requires Inv-loop μ-loop
+write-taken-requires c κs = search needs
 
 -- ---- a tick
 
@@ -159,13 +179,22 @@ element-copy-out-owner c =
     let m = ticked-at c .ticked .ensures .proper .measures in
     omega (arith, m .current-below, m .positions-most)
 
-turn-requires : tie.Need-turn-requires Inv-loop μ-loop
-turn-requires c κs = search needs
+cast-line : tie.Need-cast-line Inv-loop μ-loop
+cast-line c = omega (arith, owner-at (c .before))
 
--- ---- the line of a call
+add-line : tie.Need-add-line Inv-loop μ-loop
+add-line c = omega (arith, owner-at (c .before))
 
-write-requires : tie.Need-write-requires Inv-loop μ-loop
-write-requires c κs = search needs
+mul-line-2 : tie.Need-mul-line-2 Inv-loop μ-loop
+mul-line-2 c = omega (arith, owner-at (c .before))
+
+array-copy-out-line-2 : tie.Need-array-copy-out-line-2 Inv-loop μ-loop
+array-copy-out-line-2 c = omega (arith, owner-at (c .before))
+
+write-requires-3 : tie.Need-write-requires-3 Inv-loop μ-loop
+write-requires-3 c κs = search needs
+
+-- ---- the next record
 
 add-at-2 : tie.Need-add-at-2 Inv-loop μ-loop
 add-at-2 c = search needs
@@ -175,10 +204,8 @@ loop-less-2 c = search needs
 
 loop-again-2 : tie.Need-loop-again-2 Inv-loop μ-loop
 loop-again-2 c =
-    let written = c .before .before in
-    let joined = written .before .before in
-    let read = read-at (joined .before) in
-    one-more (loop-at read .loop .inv) (read .before .loop-test .taken) (came joined) (written .write .ensures)
+    let read = read-at (c .before) in
+    one-more (loop-at read .loop .inv) (read .before .loop-test .taken) (came c)
 
 -- ---- after the loop
 
@@ -199,6 +226,7 @@ play-spec =
     smaller-requires
     mul-used
     window-requires
+    lines-requires
     loop-holds
     read-requires
     enum-known-call
@@ -220,9 +248,14 @@ play-spec =
     element-write-link
     book-requires
     shift-from-requires
+    mul-line
+    array-copy-out-line
+    write-requires
+    write-requires-2
     enum-known-call-3
-    refusal-requires
-    shift-from-requires-2
+    take-requires
+    write-refusal-requires-2
+    write-taken-requires
     enum-told-2
     ticked-requires
     empty-head-requires
@@ -230,8 +263,11 @@ play-spec =
     carry-head-requires
     leave-head-requires
     element-copy-out-owner
-    turn-requires
-    write-requires
+    cast-line
+    add-line
+    mul-line-2
+    array-copy-out-line-2
+    write-requires-3
     add-at-2
     loop-less-2
     loop-again-2

@@ -1,15 +1,24 @@
--- What the arms of the match in `play` come to, where they meet: the call is played. Assumes nothing.
-use mathlib.Core.Path.{ap, _∙_}
+-- What the arms of the match in `play` come to, where they meet: the call is played, and its line is written. Assumes nothing.
+use mathlib.Core.Path.{refl, sym, ap, _∙_}
 use mathlib.Core.Logic.{⊎-elim}
+use native.Mathlib.Omega.{arith}
 use Rattle.calls.specs.declared.Call.{Call}
 use Rattle.calls.specs.declared.Record.{Record}
-use Rattle.calls.specs.Reading.{callIn}
-use Rattle.link.specs.declared.Link.{Link}
+use Rattle.calls.specs.declared.Answer.the-variants.{Taken, Refused}
+use Rattle.calls.specs.Reading.{callIn, answerToTick}
+use Rattle.model.specs.Request.{request}
+use Rattle.unbooked.proofs.FrameWords.{in-window}
+use Rattle.lines.proofs.Places.{granted-line}
+use Rattle.tables.specs.Owners.{ownerOf}
+use Rattle.link.specs.Layout.{ownerAt}
+use Rattle.link.specs.Reading.{linkOf}
 use Rattle.link.proofs.Given.{credit-on, request-on}
-use Rattle.link.proofs.Ticks.{head-stays, head-left}
-use Rattle.playback.proofs.Records.{playedAt, Made, Played, same-played}
+use Rattle.link.proofs.Requests.{reply-in-frame}
+use Rattle.playback.proofs.Records.{Made}
+use Rattle.playback.proofs.SoFar.{Told, same-told}
+use Rattle.playback.proofs.Texts.{granted-text, tick-text}
 use Rattle.playback.proofs.Arms.{granted-played, refused-played, credit-refused-played, credit-taken-played, tick-played}
-use Rattle.playback.proofs.play.Proof.Places.{Inv-loop, μ-loop, loop-at, link-at, plan-at, hand-at, made-at, read-at, call-is}
+use Rattle.playback.proofs.play.Proof.Places.{Inv-loop, μ-loop, loop-at, link-at, plan-at, hand-at, made-at, read-at, call-is, advanced-at, owner-at}
 use Rattle.playback.proofs.play.Tie as tie
 
 abbrev of-call : Call → Made
@@ -19,38 +28,64 @@ module _ (c : tie.At-match2-came Inv-loop μ-loop) where
   abbrev at-read : tie.After-read Inv-loop μ-loop
   at-read = read-at (c .before)
 
-  pub came : Played (link-at at-read) (made-at at-read) (plan-at at-read) (c .match2 .w) (c .match2 .link) (c .match2 .answer)
+  abbrev loop : tie.At-loop Inv-loop μ-loop
+  loop = loop-at at-read
+
+  pub came : Told (link-at at-read) (made-at at-read) (plan-at at-read) (c .match2 .w) (c .match2 .link) (loop .loop .out) (loop .loop .end)
+      (c .match2 .out) (c .match2 .end)
   came =
       let a = hand-at at-read in
+      let all = loop .before .lines .ensures in
       ⊎-elim
       -- a request that is granted a position
-      (λ (_, call, _, asker, _, _, _, _, _, ask, _, granted, _, booked, _, shifted, link-is, window-is, answer-is).
-      same-played (call-is (c .before) ∙ ap of-call (call .given .1)) link-is window-is answer-is
-      (granted-played a _ (asker .ensures) (ask .ensures _ (request-on a _ (asker .ensures))) (granted .taken) (booked .ensures) (shifted .ensures)))
+      (λ (_, call, _, asker, _, _, _, _, _, ask, _, granted, _, booked, _, shifted, _, _, written, _, _, out-is, link-is, window-is, end-is).
+      let is = ask .ensures _ (request-on a _ (asker .ensures)) in
+      let inside = in-window (reply-in-frame a _ (asker .ensures) is (granted .taken)) in
+      let said = granted-text (asker .result) (request (linkOf (link-at at-read)) (call .given .0 .0)) is (granted .taken) in
+      let text = granted-line all (ask .result .position) (omega (arith, inside, a .proper .measures .positions-most)) in
+      same-told (call-is (c .before) ∙ ap of-call (call .given .1)) out-is link-is window-is end-is
+      (record {
+        answer = ask .result .answer;
+        played = granted-played a _ (asker .ensures) is (granted .taken) (booked .ensures) (shifted .ensures);
+        written = rw (said ∙ sym text) (written .ensures);
+      }))
       (⊎-elim
       -- a request that is refused
-      (λ (_, call, _, asker, _, _, _, _, _, ask, _, refused, link-is, window-is, answer-is).
-      same-played (call-is (c .before) ∙ ap of-call (call .given .1)) link-is window-is answer-is
-      (refused-played a _ (asker .ensures) (ask .ensures _ (request-on a _ (asker .ensures))) (refused .left)))
+      (λ (_, call, _, asker, _, _, _, _, _, ask, _, refused, _, written, _, _, out-is, link-is, window-is, end-is).
+      same-told (call-is (c .before) ∙ ap of-call (call .given .1)) out-is link-is window-is end-is
+      (record {
+        answer = ask .result .answer;
+        played = refused-played a _ (asker .ensures) (ask .ensures _ (request-on a _ (asker .ensures))) (refused .left);
+        written = written .ensures;
+      }))
       (⊎-elim
       -- a credit that is refused
-      (λ (_, call, _, _, _, refusal, refused, link-is, window-is, answer-is).
-      same-played (call-is (c .before) ∙ ap of-call (call .given .1)) link-is window-is answer-is
-      (credit-refused-played a _ _ (refusal .ensures .0 _ (credit-on a)) (refused .taken)))
+      (λ (_, call, _, _, take, refused, _, written, _, _, out-is, link-is, window-is, end-is).
+      same-told (call-is (c .before) ∙ ap of-call (call .given .1)) out-is link-is window-is end-is
+      (record {
+        answer = Refused (take .result);
+        played =
+            rw (take .ensures .1 .refused (refused .taken))
+            (credit-refused-played a _ _ (take .ensures .0 _ (credit-on a)) (refused .taken));
+        written = written .ensures;
+      }))
       (⊎-elim
       -- a credit that is taken
-      (λ (_, call, _, _, _, refusal, taken, _, shifted, link-is, window-is, answer-is).
-      same-played (call-is (c .before) ∙ ap of-call (call .given .1)) link-is window-is answer-is
-      (credit-taken-played a _ _ (refusal .ensures .0 _ (credit-on a)) (taken .left) (refusal .ensures .1 (taken .left)) (shifted .ensures)))
+      (λ (_, call, _, _, take, taken, _, written, _, _, out-is, link-is, window-is, end-is).
+      let holds = take .ensures .1 in
+      same-told (call-is (c .before) ∙ ap of-call (call .given .1)) out-is link-is window-is end-is
+      (record {
+        answer = Taken;
+        played =
+            credit-taken-played a _ _ (take .ensures .0 _ (credit-on a)) (taken .left) (holds .taken (taken .left)) (holds .lowered (taken .left));
+        written = written .ensures;
+      }))
       -- a tick
-      (λ (_, call, on, _, _, joined, _, turn, link-is, window-is, answer-is).
-      let played : Link → Link = λ x. playedAt x (on .result) in
-      same-played (call-is (c .before) ∙ ap of-call (call .given .1)) link-is window-is answer-is
-      (tick-played (loop-at at-read .loop .link) a (on .ensures)
-      (⊎-elim
-      (λ (leaves, _, emptied, _, recycled, _, carried, _, moved, is).
-      head-left a (on .ensures) (leaves .taken) (emptied .ensures) (recycled .ensures) (carried .ensures) (moved .ensures) (ap played is))
-      (λ (stays, is). head-stays a (on .ensures) (stays .left) (ap played is))
-      (joined .came))
-      (turn .ensures))))))
+      (λ (_, call, on, _, _, joined, _, _, _, written, _, _, out-is, link-is, window-is, end-is).
+      same-told (call-is (c .before) ∙ ap of-call (call .given .1)) out-is link-is window-is end-is
+      (record {
+        answer = answerToTick (ownerOf (ownerAt (joined .link) (on .result .current)));
+        played = tick-played (loop .loop .link) a (on .ensures) (advanced-at (record { before = _; if3 = joined })) refl;
+        written = rw (sym (tick-text all _ (owner-at (record { before = _; if3 = joined })))) (written .ensures);
+      })))))
       (c .match2 .came)

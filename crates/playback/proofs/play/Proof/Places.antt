@@ -1,6 +1,8 @@
 -- The places in the code of `play` that its proof speaks of, and what is known there. Assumes nothing.
 use Prim.Native.Nat.{_-_, _<_}
 use mathlib.Core.Path.{_≡_, ap, _∙_}
+use mathlib.Core.Logic.{⊎-elim}
+use native.Mathlib.Omega.{arith}
 use Rattle.plan.specs.declared.Plan.{Plan}
 use Rattle.calls.specs.declared.Call.{Call}
 use Rattle.calls.specs.declared.Record.{Record}
@@ -11,18 +13,21 @@ use Rattle.unbooked.specs.Words.{InFrame}
 use Rattle.link.specs.declared.Link.{Link}
 use Rattle.link.specs.declared.reply.Reply.{Reply}
 use Rattle.link.proofs.Given.{AtHand, plan-valid, placed-few, request-on}
+use Rattle.link.specs.Layout.{ownerAt}
 use Rattle.link.proofs.Requests.{reply-in-frame}
+use Rattle.link.proofs.Ticks.{Advanced, head-stays, head-left}
 use Rattle.playback.proofs.Records.{playedAt, Made, reads-as}
 use Rattle.playback.proofs.SoFar.{SoFar}
+use Rattle.playback.proofs.Texts.{owner-few}
 use Rattle.playback.proofs.play.Tie as tie
 
 -- ---- the loop
 
 abbrev pub Inv-loop : tie.InvT-loop
-Inv-loop records out₀ used link₀ plan w₀ at₀ end₀ out link w at end = SoFar link₀ records out₀ used plan at link w out end
+Inv-loop records out₀ used link₀ plan w₀ made at₀ end₀ out link w at end = SoFar link₀ records out₀ used plan at link w out end
 
 abbrev pub μ-loop : tie.MeasureT-loop
-μ-loop records out₀ used link₀ plan w₀ at₀ end₀ out link w at end = used - at
+μ-loop records out₀ used link₀ plan w₀ made at₀ end₀ out link w at end = used - at
 
 -- ---- a record is read
 
@@ -34,7 +39,7 @@ abbrev pub entered : tie.After-plan Inv-loop μ-loop → tie.Start Inv-loop μ-l
 entered c = c .before .before .before .before
 
 abbrev pub start : tie.At-loop Inv-loop μ-loop → tie.Start Inv-loop μ-loop
-start c = entered (c .before .before)
+start c = entered (c .before .before .before)
 
 module _ (c : tie.After-read Inv-loop μ-loop) where
   abbrev pub plan-at : Plan
@@ -97,12 +102,9 @@ module _ (c : tie.Then1 Inv-loop μ-loop) where
 
 -- ---- a credit
 
--- where its call was made: from where its tests are made, and from where they gave a number
-abbrev pub credit-for : tie.After-refusal-arg Inv-loop μ-loop → tie.After-read Inv-loop μ-loop
-credit-for c = read-at (c .before .before .before .before .before)
-
-abbrev pub credit-at : tie.After-refusal Inv-loop μ-loop → tie.After-read Inv-loop μ-loop
-credit-at c = credit-for (c .before)
+-- where its call was made
+abbrev pub credit-for : tie.After-take-arg Inv-loop μ-loop → tie.After-read Inv-loop μ-loop
+credit-for c = read-at (c .before .before .before .before)
 
 -- ---- a tick
 
@@ -119,3 +121,22 @@ emptied-at c = tick-at (c .before .before .before)
 
 abbrev pub left-at : tie.After-carry-head-arg Inv-loop μ-loop → tie.After-read Inv-loop μ-loop
 left-at c = emptied-at (c .before .before .before)
+
+-- the link after the tick, but for CP
+pub advanced-at : (c : tie.Joined3 Inv-loop μ-loop)
+    → Advanced (link-at (tick-at (c .before))) (c .if3 .link) (ticked-at c .ticked .result .current)
+advanced-at c =
+    let on = ticked-at c .ticked in
+    let a = hand-at (tick-at (c .before)) in
+    let played : Link → Link = λ x. playedAt x (on .result) in
+    ⊎-elim
+    (λ (leaves, _, emptied, _, recycled, _, carried, _, moved, is).
+    head-left a (on .ensures) (leaves .taken) (emptied .ensures) (recycled .ensures) (carried .ensures) (moved .ensures) (ap played is))
+    (λ (stays, is). head-stays a (on .ensures) (stays .left) (ap played is))
+    (c .if3 .came)
+
+-- the owner at the new current position is one of sixteen flows, or nobody
+pub owner-at : (c : tie.Joined3 Inv-loop μ-loop) → ownerAt (c .if3 .link) (ticked-at c .ticked .result .current) < 17
+owner-at c =
+    let m = ticked-at c .ticked .ensures .proper .measures in
+    owner-few _ (advanced-at c .sound) _ (omega (arith, m .current-below, m .positions-most))

@@ -1,25 +1,25 @@
 -- `tables::holdings::room_in` meets its contract. Assumes nothing.
 use borrow.Author.Needs.{needs}
 use Prim.Native.Nat.{_-_}
-use mathlib.Core.Logic.{⊎-elim}
 use native.Mathlib.Omega.{arith}
-use borrow.Author.Tests.{lt-ltb, le-ltb}
-use Rattle.window.proofs.RangeLoops.{Testing, testing-none, testing-miss, testing-pass, testing-done}
-use Rattle.tables.specs.Holdings.{roomAt}
+use Rattle.tables.proofs.Largest.{Largest, largest-none, largest-more, largest-done}
 use Rattle.tables.proofs.holdings.room_in.Statement.{statement}
 use Rattle.tables.proofs.holdings.room_in.Tie as tie
 
 abbrev Inv-loop : tie.InvT-loop
-Inv-loop held cells a e all₀ q₀ all q = Testing (roomAt held cells) a e q all
+Inv-loop held cells a e most₀ q₀ most q = Largest held a e q most
 
 abbrev μ-loop : tie.MeasureT-loop
-μ-loop held cells a e all₀ q₀ all q = e - q
+μ-loop held cells a e most₀ q₀ most q = e - q
 
 loop-holds : tie.Need-loop-holds Inv-loop μ-loop
-loop-holds c = testing-none (omega arith)
+loop-holds c = largest-none _ _ _ (omega arith)
 
-element-copy-out-if1 : tie.Need-element-copy-out-if1 Inv-loop μ-loop
-element-copy-out-if1 c = search needs
+element-copy-out-larger-byte : tie.Need-element-copy-out-larger-byte Inv-loop μ-loop
+element-copy-out-larger-byte c = search needs
+
+larger-byte-requires : tie.Need-larger-byte-requires Inv-loop μ-loop
+larger-byte-requires c κs = search needs
 
 add-q : tie.Need-add-q Inv-loop μ-loop
 add-q c = search needs
@@ -29,17 +29,13 @@ loop-less c = search needs
 
 loop-again : tie.Need-loop-again Inv-loop μ-loop
 loop-again c =
-    let tested = c .before .before .before .loop .inv in
-    let on = c .before .before .loop-test .taken in
-    ⊎-elim
-    (λ full. testing-miss tested on (le-ltb _ _ (full .0 .taken)) (full .1))
-    (λ room. testing-pass tested on (lt-ltb _ _ (room .0 .left)) (room .1))
-    (c .if1 .came)
+    let i = c .before .before in
+    largest-more (i .before .loop .inv) (i .loop-test .taken) (c .larger-byte .ensures)
 
 returns : tie.Need-returns Inv-loop μ-loop
-returns c = testing-done (c .before .loop .inv) (omega arith)
+returns c = largest-done (c .before .loop .inv) (c .before .before .pre .0) (omega arith) _
 
 pub room-in-spec : {M : Type 1} → statement M
 room-in-spec =
     tie.close
-    (tie.spec Inv-loop μ-loop loop-holds element-copy-out-if1 add-q loop-less loop-again returns)
+    (tie.spec Inv-loop μ-loop loop-holds element-copy-out-larger-byte larger-byte-requires add-q loop-less loop-again returns)

@@ -1,0 +1,5 @@
+mod Overlapping
+mod Texts
+mod Made
+mod Stored
+pub mod Places

@@ -1,0 +1,142 @@
+// The lines of granted positions and of ticks, made for many records at once and kept in two parts of four bytes each, which overlap; and
+// the line of a credit that is taken.
+ghost use mathlib.Core.Path.{_≡_};
+ghost use mathlib.Core.List.{_∷_, []};
+ghost use Prim.Native.Nat.{_+_, _<_, _≤_};
+ghost use lib.ListN.{length};
+ghost use lib.Seq.{sets};
+ghost use Rattle.model.specs.Calls.{accepted};
+ghost use Rattle.model.specs.Listing.{creditLine};
+ghost use Rattle.calls.specs.Lines.{numberLine, outWith, nextAfter};
+ghost use Rattle.lines.specs.Lines.{four, textOf, Kept, lineAt, AllLines};
+use calls::has_room;
+use window::numbers::smaller;
+
+// A line of four to seven bytes.
+pub struct Line {
+    // its first four bytes, low byte first
+    pub first: u32,
+    // its last four
+    pub last: u32,
+    // how many bytes it has past the first four; more than three count as three
+    pub past: u8,
+}
+
+// The place of the first line of a tick: those of 256 granted positions stand before it.
+pub const TICKS: usize = 256;
+// The place of an idle tick's line: those of 16 flows stand before it.
+const IDLE: usize = 272;
+
+fn wide(byte: u8) -> u32
+    ensures { λ r. ⌜ (r ≡ byte) × (r < 256) ⌝ }
+{
+    byte as u32
+}
+
+// Four bytes in one number, low byte first.
+fn pack(a: u8, b: u8, c: u8, d: u8) -> u32
+    ensures { λ r. ⌜ four r ≡ a ∷ b ∷ c ∷ d ∷ [] ⌝ }
+{
+    wide(a) + 256 * wide(b) + 65536 * wide(c) + 16777216 * wide(d)
+}
+
+// The line of a letter and a number.
+fn number_line(letter: u8, n: u8) -> Line
+    ensures { λ r. ⌜ Kept (numberLine letter n) r ⌝ }
+{
+    let ones = b'0' + n % 10;
+    if n < 10 {
+        let word = pack(letter, b' ', ones, b'\n');
+        return Line {
+            first: word,
+            last: word,
+            past: 0,
+        };
+    }
+    let tens = b'0' + n / 10 % 10;
+    if n < 100 {
+        return Line {
+            first: pack(letter, b' ', tens, ones),
+            last: pack(b' ', tens, ones, b'\n'),
+            past: 1,
+        };
+    }
+    let hundreds = b'0' + n / 100;
+    Line {
+        first: pack(letter, b' ', hundreds, tens),
+        last: pack(hundreds, tens, ones, b'\n'),
+        past: 2,
+    }
+}
+
+// The line at place k: position k is granted, the slot is flow k - 256's, or nobody's.
+fn line_at(k: usize) -> Line
+    ensures { λ r. ⌜ Kept (lineAt k) r ⌝ }
+{
+    if k < TICKS {
+        return number_line(b'G', k as u8);
+    }
+    if k < IDLE {
+        return number_line(b'T', (k - TICKS) as u8);
+    }
+    let word = pack(b'T', b' ', b'-', b'\n');
+    Line {
+        first: word,
+        last: word,
+        past: 0,
+    }
+}
+
+// The lines of all granted positions and of all ticks, each at its place.
+pub fn lines() -> [Line; 273]
+    ensures { λ r. ⌜ AllLines r ⌝ }
+{
+    let mut all = [line_at(IDLE); 273];
+    let mut k = 0;
+    while k <= IDLE {
+        all[k] = line_at(k);
+        k += 1;
+    }
+    all
+}
+
+// Stores four bytes.
+fn put_four(word: u32, out: &mut [u8], at: usize)
+    requires { ⌜ at + 3 < length (now out) ⌝ }
+    ensures { λ r. ⌜ now (out .exit) ≡ sets (now (out .entry)) at (four word) ⌝ }
+{
+    out[at] = (word % 256) as u8;
+    out[at + 1] = (word / 256 % 256) as u8;
+    out[at + 2] = (word / 65536 % 256) as u8;
+    out[at + 3] = (word / 16777216) as u8;
+}
+
+// Writes a line and returns the place after it; where the longest line has no room it writes nothing and returns the same place, as
+// `calls::write` does.
+pub fn write(line: Line, out: &mut [u8], at: usize) -> usize
+    ensures out { λ r. ⌜ now (out .exit) ≡ outWith (textOf line) (now (out .entry)) at ⌝ }
+    ensures next { λ r. ⌜ r ≡ nextAfter (textOf line) (now (out .entry)) at ⌝ }
+    ensures most { λ r. ⌜ r ≤ at + 7 ⌝ }
+{
+    if !has_room(out, at) {
+        return at;
+    }
+    let past = smaller(line.past as usize, 3);
+    put_four(line.last, out, at + past);
+    put_four(line.first, out, at);
+    at + past + 4
+}
+
+// Writes the line of a credit that is taken, as `calls::write` does.
+pub fn write_taken(out: &mut [u8], at: usize) -> usize
+    ensures out { λ r. ⌜ now (out .exit) ≡ outWith (creditLine (accepted tt)) (now (out .entry)) at ⌝ }
+    ensures next { λ r. ⌜ r ≡ nextAfter (creditLine (accepted tt)) (now (out .entry)) at ⌝ }
+    ensures most { λ r. ⌜ r ≤ at + 7 ⌝ }
+{
+    if !has_room(out, at) {
+        return at;
+    }
+    out[at] = b'C';
+    out[at + 1] = b'\n';
+    at + 2
+}
