@@ -41,6 +41,9 @@ def proved(name):
 def prove(*names):
     """Proves and compiles proved programs; stops where that fails."""
     words = ["rt", "check", *names]
+    if not progress.line.on and not all(proved(name).exists() for name in names):
+        print("bench/run: %s: what is missing is proved and built first, which "
+              "takes some minutes" % " ".join(words), file=sys.stderr)
     done = progress.run(" ".join(words), words, cwd=ROOT,
                         stdout=subprocess.PIPE, stderr=subprocess.STDOUT)
     if done.returncode != 0:

@@ -22,7 +22,7 @@ from front_door import (
     asking_editor, calls_text, check_log, checklist_page, comparison_page,
     flights, help_pages, lost_listing, man_pages, old_program, picture_errors,
     picture_pages, picture_scripts, picture_sizes, picture_view, pictures,
-    plan_check, plan_files, plan_lost_output, plan_read, plan_week,
+    plan_check, plan_culprits, plan_files, plan_lost_output, plan_read, plan_week,
     plan_wrong_words, play_explain, play_files, play_lost_output,
     play_options, play_states, progress, readme, remedies, rules_page,
     singular, slow_reader, versions, wrong_arguments)
@@ -32,7 +32,8 @@ from pairs import wrong_pairs
 FRONT_DOOR = (
     play_files, play_lost_output, play_explain, play_options, play_states,
     pictures, picture_sizes, picture_pages, picture_scripts, picture_view,
-    picture_errors, singular, calls_text, plan_files, plan_read, plan_check,
+    picture_errors, singular, calls_text, plan_files, plan_culprits, plan_read,
+    plan_check,
     plan_week, plan_wrong_words, plan_lost_output, check_log, flights,
     old_program, slow_reader, asking_editor, wrong_arguments, lost_listing,
     progress, versions, help_pages, man_pages, readme, rules_page, remedies,

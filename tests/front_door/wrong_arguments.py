@@ -15,7 +15,7 @@ MISSING = os.path.join(os.sep, "nowhere", "calls")
 # Arguments of tests/run, and words of the sentence.
 TESTS_RUN = [
     (["-5"], "COUNT"),
-    (["0"], "COUNT: has to be a number from 1 on"),
+    (["0"], "COUNT has to be 1 or more"),
     (["many"], "COUNT"),
     (["1", "-1"], "SEED"),
     (["1", "2", "3"], "unrecognized"),

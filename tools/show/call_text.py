@@ -196,10 +196,13 @@ class TextReader:
             number_of(words[1], 65535, "the position"), 0))
 
     def tick(self, words):
-        count = number_of(words[0], MOST_TICKS, "the count") if words else 1
+        try:
+            count = number_of(words[0], MOST_TICKS, "the count") if words else 1
+        except TextError:
+            count = 0
         if len(words) > 1 or not count:
             raise TextError("a tick takes at most how many there are, from 1 "
-                            "on, as in tick 5")
+                            "to %d, as in tick 5" % MOST_TICKS)
         self.defaults.ticks += count
         self.pieces.append(bytes([3, 0, 0, 0, 0]) * count)
 
