@@ -8,7 +8,7 @@ use lib.Seq.{sets, length-sets}
 use Rattle.plan.specs.declared.Plan.{Plan}
 use Rattle.calls.specs.declared.Answer.{Answer}
 use Rattle.calls.specs.Reading.{lineFor}
-use Rattle.calls.specs.Lines.{outWith, nextAfter}
+use Rattle.calls.proofs.Stores.{Written}
 use Rattle.calls.proofs.PlayedTo.{PlayedTo, played-none, callAt, played-more}
 use Rattle.model.specs.Listing.{listing, linkAfter}
 use Rattle.window.specs.declared.Window.{Window}
@@ -29,15 +29,11 @@ pub record SoFar (start : Link) (records out₀ : List ℕ) (used : ℕ) (plan :
   pub played : PlayedTo (linkOf start) records out₀ 0 at (linkOf (playedAt link w)) out end
   pub hand : AtHand (playedAt link w) plan w
 
--- what a writer ensures: a line is written, and the place goes on by at most seven
-abbrev pub Written : (line out : List ℕ) (end : ℕ) (out′ : List ℕ) (end′ : ℕ) → Type 0
-Written line out end out′ end′ = (out′ ≡ outWith line out end) × ((end′ ≡ nextAfter line out end) × (end′ ≤ end + 7))
-
 -- a record's call, or none, is played from link l, and the line of its answer is written
 pub record Told (l : Link) (o : Made) (plan : Plan) (w : Window) (link : Link) (out : List ℕ) (end : ℕ) (out′ : List ℕ) (end′ : ℕ) : Type 0 where
   pub answer : Answer
   pub played : Played l o plan w link answer
-  pub written : Written (lineFor answer) out end out′ end′
+  pub written : Written (lineFor answer) out out′ end end′
 
 -- the same of what is equal
 pub same-told : {l : Link} {o o′ : Made} {plan : Plan} {w w′ : Window} {link link′ : Link} {out : List ℕ} {end : ℕ} {out₁ out₂ : List ℕ} {end₁ end₂ : ℕ}
