@@ -1,7 +1,7 @@
 -- What the flows hold: nothing, tested at a position, changed from a position on, and carried on at a frame change. Assumes nothing.
 use Prim.Native.Nat.{ℕ, _+_, _-_, _%_}
 use mathlib.Core.List.{List}
-use mathlib.Core.Bool.{Bool}
+use mathlib.Core.Bool.{Bool, cond}
 use lib.ListN.{getD}
 use lib.Dec.{ltb}
 use Rattle.model.specs.Window as model
@@ -30,6 +30,10 @@ roomAt held cells q = ltb (getD held q 0) cells
 -- a flow's holdings from p on, each moved by a number modulo 256
 abbrev pub shiftedRow : model.Window → (by p : ℕ) → List ℕ → List ℕ
 shiftedRow w by p held = replaced (fromIn w p) (λ q x. wrapped by x) held
+
+-- what a flow holds at q then
+abbrev pub shiftedAt : model.Window → (by p : ℕ) → List ℕ → ℕ → ℕ
+shiftedAt w by p held q = cond (fromIn w p q) (wrapped by (getD held q 0)) (getD held q 0)
 
 -- the same of flow i
 abbrev pub shifted : model.Window → (by i p : ℕ) → List ℕ → List ℕ
