@@ -4,6 +4,7 @@ pub mod Rows
 mod RowRanges
 mod CarriedRows
 pub mod HoldingChanges
+pub mod AtMost
 pub mod FreshTables
 pub mod UnbookedSlots
 mod WordsMade

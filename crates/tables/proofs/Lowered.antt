@@ -20,7 +20,7 @@ use Rattle.window.proofs.Ranges.{past-range, replaced-at, replaced-off}
 use Rattle.window.proofs.RangeLoops.{Replacing, replacing-none, replacing-more}
 use Rattle.tables.specs.Rows.{row}
 use Rattle.tables.specs.Padded.{pad, Bytes, Within}
-use Rattle.tables.specs.Holdings.{someHeld, shiftedRow, shiftedAt, shifted}
+use Rattle.tables.specs.Holdings.{someHeld, AtMost, shiftedRow, shifted}
 use Rattle.tables.proofs.Places.{row-at, with-row-in, with-row-before, with-row-past, with-row-is}
 use Rattle.tables.proofs.Rows.{length-row, length-with-row}
 use Rattle.tables.proofs.Padded.{Counting, counting-first, counting-on, counted-pad}
@@ -104,15 +104,17 @@ module _ (w : Window) (v : Proper w) (p : ℕ) (lp : p < sizeOf w) (h : List ℕ
       ∙ rw (row-at h i q b)
 
   -- something was held at each position where none is 255 after it
-  pub some-held : (n : ℕ) → n < 255 → Within (shiftedAt (windowOf w) 255 p (row h i)) n 0 (sizeOf w)
+  pub some-held : (n : ℕ) → n < 255 → AtMost (sizeOf w) n (shiftedRow (windowOf w) 255 p (row h i))
       → everyFrom (windowOf w) p (someHeld (row h i)) ≡ true
-  some-held n low within = every-from w v p lp (someHeld (row h i)) (λ q l r. held q l r (ℕ-discrete (getD (row h i) q 0) 0))
+  some-held n low most = every-from w v p lp (someHeld (row h i)) (λ q l r. held q l r (ℕ-discrete (getD (row h i) q 0) 0))
     where
       held : (q : ℕ) → q < sizeOf w → rankIn w p ≤ rankIn w q → Dec (getD (row h i) q 0 ≡ 0) → someHeld (row h i) q ≡ true
       held q l r (yes z) =
           let is-from : from q ≡ true = from-is w v p lp q l ∙ le-leb _ _ r in
-          let is-255 : shiftedAt (windowOf w) 255 p (row h i) q ≡ 255 = rw (is-from, z) (sym (wrapped-is 255 0 (omega arith) (omega arith))) in
-          let most = within .most q (omega arith) l in
+          let there = replaced-at from (λ _. wrapped 255) (row h i) q 0 (omega (arith, length-row h i, v .measures .positions-most)) in
+          let is-255 : getD (shiftedRow (windowOf w) 255 p (row h i)) q 0 ≡ 255 =
+          there ∙ rw (is-from, z) (sym (wrapped-is 255 0 (omega arith) (omega arith))) in
+          let below = most .most low q l in
           absurd (omega arith)
       held q l r (no z) = lt-ltb 0 (getD (row h i) q 0) (omega arith)
 

@@ -15,12 +15,14 @@ use Rattle.window.specs.Bytes.{wrapped}
 use Rattle.window.specs.Ranges.{inRange, replaced, All}
 use Rattle.window.specs.Window.{windowOf, sizeOf, baseOf, Proper, fromIn}
 use Rattle.window.proofs.Bytes.{wrapped-not}
+use Rattle.window.proofs.Ranges.{replaced-at}
 use Rattle.window.proofs.Ranks.{rankIn, rank-high, rank-low}
 use Rattle.window.proofs.FromOn.{from-is, from-past, all-from}
 use Rattle.tables.specs.Rows.{row}
 use Rattle.tables.specs.Padded.{onFrom, pad, Within}
-use Rattle.tables.specs.Holdings.{someHeld, shiftedAt, shifted}
+use Rattle.tables.specs.Holdings.{someHeld, AtMost, shiftedRow, shifted}
 use Rattle.tables.proofs.Places.{row-at}
+use Rattle.tables.proofs.Rows.{length-row}
 use Rattle.tables.proofs.RowRanges.{all-in-row, replaced-in-row}
 
 module _ (w : Window) (v : Proper w) (p : ℕ) (lp : p < sizeOf w) where
@@ -95,15 +97,18 @@ module _ (w : Window) (v : Proper w) (p : ℕ) (lp : p < sizeOf w) where
     -- what row i holds then
     pub within-padded : (n : ℕ)
         → Within (λ k. wrapped (pad (baseOf w) turn 0 255 (k - 256 * i)) (getD h k 0)) n (256 * i) (256 * i + sizeOf w)
-        → Within (shiftedAt (windowOf w) 255 p (row h i)) n 0 (sizeOf w)
-    within-padded n x = record { most = λ q z l. at q l (fromIn (windowOf w) p q) refl (x .most (256 * i + q) (omega arith) (omega arith)) }
+        → AtMost (sizeOf w) n (shiftedRow (windowOf w) 255 p (row h i))
+    within-padded n x = record { most = λ few q l. at q l (fromIn (windowOf w) p q) refl (x .most (256 * i + q) (omega arith) (omega arith)) }
       where
         at : (q : ℕ) → q < sizeOf w → (b : Bool) → fromIn (windowOf w) p q ≡ b
             → wrapped (pad (baseOf w) turn 0 255 (256 * i + q - 256 * i)) (getD h (256 * i + q) 0) ≤ n
-            → cond b (wrapped 255 (getD (row h i) q 0)) (getD (row h i) q 0) ≤ n
-        at q l true e y =
+            → getD (shiftedRow (windowOf w) 255 p (row h i)) q 0 ≤ n
+        at q l b e y =
+            let most = v .measures .positions-most in
             let place : 256 * i + q - 256 * i ≡ q = omega arith in
-            rw (row-at h i q (omega (arith, v .measures .positions-most))) (rw (place, pad-from q l 0 255, e) at y)
-        at q l false e y =
-            let place : 256 * i + q - 256 * i ≡ q = omega arith in
-            rw (row-at h i q (omega (arith, v .measures .positions-most))) (rw (place, pad-from q l 0 255, e, wrapped-not) at y)
+            let there = replaced-at (fromIn (windowOf w) p) (λ _. wrapped 255) (row h i) q 0 (omega (arith, length-row h i, most)) in
+            rw (there, row-at h i q (omega (arith, most)), e) (rw (place, pad-from q l 0 255, e, padded b) at y)
+          where
+            padded : (b : Bool) → wrapped (cond b 255 0) (getD h (256 * i + q) 0) ≡ cond b (wrapped 255 (getD h (256 * i + q) 0)) (getD h (256 * i + q) 0)
+            padded true = refl
+            padded false = wrapped-not (getD h (256 * i + q) 0)

@@ -1,7 +1,7 @@
 -- What the flows hold: nothing, tested at a position, changed from a position on, and carried on at a frame change. Assumes nothing.
-use Prim.Native.Nat.{ℕ, _+_, _-_, _%_}
+use Prim.Native.Nat.{ℕ, _+_, _-_, _%_, _≤_, _<_}
 use mathlib.Core.List.{List}
-use mathlib.Core.Bool.{Bool, cond}
+use mathlib.Core.Bool.{Bool}
 use lib.ListN.{getD}
 use lib.Dec.{ltb}
 use Rattle.model.specs.Window as model
@@ -25,15 +25,15 @@ someHeld held q = ltb 0 (getD held q 0)
 abbrev pub roomAt : List ℕ → ℕ → ℕ → Bool
 roomAt held cells q = ltb (getD held q 0) cells
 
+-- n is no less than what is held at any of T positions; 255 says nothing
+pub record AtMost (T n : ℕ) (held : List ℕ) : Type 0 where
+  pub most : n < 255 → (q : ℕ) → q < T → getD held q 0 ≤ n
+
 -- ---- from p on
 
 -- a flow's holdings from p on, each moved by a number modulo 256
 abbrev pub shiftedRow : model.Window → (by p : ℕ) → List ℕ → List ℕ
 shiftedRow w by p held = replaced (fromIn w p) (λ q x. wrapped by x) held
-
--- what a flow holds at q then
-abbrev pub shiftedAt : model.Window → (by p : ℕ) → List ℕ → ℕ → ℕ
-shiftedAt w by p held q = cond (fromIn w p q) (wrapped by (getD held q 0)) (getD held q 0)
 
 -- the same of flow i
 abbrev pub shifted : model.Window → (by i p : ℕ) → List ℕ → List ℕ

@@ -16,7 +16,7 @@ ghost use Rattle.tables.specs.Asked.{FlowAt, FlowsOf};
 ghost use Rattle.tables.specs.Owners.{everywhere};
 ghost use Rattle.tables.specs.Rows.{row, withRow, carriedRows};
 ghost use Rattle.tables.specs.Padded.{onFrom, pad, Bytes, Within};
-ghost use Rattle.tables.specs.Holdings.{someHeld, roomAt, shiftedAt, shifted, carried, nothingHeld};
+ghost use Rattle.tables.specs.Holdings.{someHeld, roomAt, AtMost, shiftedRow, shifted, carried, nothingHeld};
 use window::Window;
 use window::numbers::chosen;
 use window::numbers::larger_byte;
@@ -194,7 +194,7 @@ fn lower(held: &mut Holdings, a: usize, e: usize, base: u8, from: u8) -> u8
 // Flow i's holdings from p on, each one fewer modulo 256, and a number that is no less than any of the flow's holdings then.
 fn lowered(held: &mut Holdings, i: usize, w: Window, p: usize) -> u8
     requires { ⌜ FlowAt w i p ⌝ }
-    ensures most { λ r. ⌜ Within (shiftedAt (windowOf w) 255 p (row (now (held .entry)) i)) r 0 (sizeOf w) ⌝ }
+    ensures most { λ r. ⌜ AtMost (sizeOf w) r (shiftedRow (windowOf w) 255 p (row (now (held .entry)) i)) ⌝ }
     ensures shifts { λ r. ⌜ now (held .exit) ≡ shifted (windowOf w) 255 i p (now (held .entry)) ⌝ }
     ensures bytes { λ r. ⌜ Bytes (now (held .entry)) (256 * i) (256 * i + sizeOf w) ⌝ }
 {
@@ -204,23 +204,31 @@ fn lowered(held: &mut Holdings, i: usize, w: Window, p: usize) -> u8
     lower(held, first, past, base as u8, turned(w, p))
 }
 
+// What a credit comes to: whether it is taken, and if so a number that is no less than what the flow holds at any position then, or 255.
+pub struct Fewer {
+    pub taken: bool,
+    pub most: u8,
+}
+
 // One fewer from p on where flow i holds something at each of these positions, else nothing changes; and which of the two it is.
 // One fewer than 0 is 255: where no holding is 255 after it, something was held at each. Where one is, the holdings are raised again, and
 // tested: one of 255 may have been there before.
-pub fn lower_from(held: &mut Holdings, i: usize, w: Window, p: usize) -> bool
+pub fn lower_from(held: &mut Holdings, i: usize, w: Window, p: usize) -> Fewer
     requires { ⌜ FlowAt w i p ⌝ }
-    ensures was { λ r. ⌜ r ≡ model.everyFrom (windowOf w) p (someHeld (row (now (held .entry)) i)) ⌝ }
-    ensures holds { λ r. ⌜ now (held .exit) ≡ cond r (shifted (windowOf w) 255 i p (now (held .entry))) (now (held .entry)) ⌝ }
+    ensures was { λ r. ⌜ r .taken ≡ model.everyFrom (windowOf w) p (someHeld (row (now (held .entry)) i)) ⌝ }
+    ensures holds { λ r. ⌜ now (held .exit) ≡ cond (r .taken) (shifted (windowOf w) 255 i p (now (held .entry))) (now (held .entry)) ⌝ }
+    ensures most { λ r. ⌜ AtMost (sizeOf w) (r .most) (shiftedRow (windowOf w) 255 p (row (now (held .entry)) i)) ⌝ }
 {
-    if lowered(held, i, w, p) < 255 {
-        return true;
+    let most = lowered(held, i, w, p);
+    if most < 255 {
+        return Fewer { taken: true, most };
     }
     shift_from(held, 1, i, w, p);
     if !held_from(held, i, w, p) {
-        return false;
+        return Fewer { taken: false, most };
     }
     shift_from(held, 255, i, w, p);
-    true
+    Fewer { taken: true, most }
 }
 
 // The table of a flow that holds nothing at any position.

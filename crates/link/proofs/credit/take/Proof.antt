@@ -9,6 +9,7 @@ use Rattle.window.specs.declared.Window.{Window}
 use Rattle.window.specs.Window.{windowOf}
 use Rattle.tables.specs.Holdings.{someHeld, shifted}
 use Rattle.tables.specs.Rows.{row}
+use Rattle.tables.proofs.AtMost.{most-unknown}
 use Rattle.link.specs.declared.Link.{Link}
 use Rattle.link.specs.Layout.{sizeOf}
 use Rattle.link.specs.Given.{CreditOn, Credited}
@@ -57,7 +58,7 @@ module _ (c : tie.After-lower-from) where
   abbrev held-in : List ℕ → Bool
   held-in h = everyFrom (windowOf (start (tested-at c) .args .w)) position-at (someHeld (row h (start (tested-at c) .args .flow)))
 
-  held-is : (l : Link) → OnAt (start (tested-at c)) l → held-in (l .held) ≡ c .lower-from .result
+  held-is : (l : Link) → OnAt (start (tested-at c)) l → held-in (l .held) ≡ c .lower-from .result .taken
   held-is l o = ap held-in (sym (o .held-is)) ∙ sym (c .lower-from .ensures .0)
 
   -- what the flows hold after it
@@ -73,7 +74,7 @@ unchanged e n = record { refused = λ _. e; taken = λ z. absurd (n z); lowered 
 -- ---- the needs
 
 returns : tie.Need-returns
-returns c = (λ l o. tests-8 l _ _ (rw (← o .window .count-is) (c .if1 .taken)), unchanged refl (λ z. omega (arith, z)))
+returns c = (λ l o. tests-8 l _ _ (rw (← o .window .count-is) (c .if1 .taken)), (unchanged refl (λ z. omega (arith, z)), most-unknown))
 
 mul-if2 : tie.Need-mul-if2
 mul-if2 c = let m = c .before .before .pre .given .window .proper .measures in omega (arith, m .positions-most)
@@ -81,7 +82,7 @@ mul-if2 c = let m = c .before .before .pre .given .window .proper .measures in o
 returns-2 : tie.Need-returns-2
 returns-2 c = (
   λ l o. tests-13 l _ _ (rw (← o .window .count-is) (c .before .before .if1 .left)) (rw (← read-size l (o .window .window-is)) (c .if2 .taken)),
-  unchanged refl (λ z. omega (arith, z)),
+  (unchanged refl (λ z. omega (arith, z)), most-unknown),
 )
 
 passed-requires : tie.Need-passed-requires
@@ -91,7 +92,7 @@ returns-3 : tie.Need-returns-3
 returns-3 c =
     let t = c .before .before in (
       λ l o. tests-14 l _ _ (flow-below t l o) (position-below t l o) _ (o .window .window-is) (sym (c .before .passed .ensures) ∙ c .if3 .taken),
-      unchanged refl (λ z. omega (arith, z)),
+      (unchanged refl (λ z. omega (arith, z)), most-unknown),
     )
 
 lower-from-requires : tie.Need-lower-from-requires
@@ -104,11 +105,14 @@ returns-4 c =
     let h = c .before in
     let t = tested-at h in (
       λ l o. tests-pass l _ _ (flow-below t l o) (position-below t l o) _ (o .window .window-is) (not-passed h) (held-is h l o ∙ c .if4 .taken),
-      record {
-        refused = λ n. absurd (n refl);
-        taken = λ z. record { flow = flow-tested t; position = t .if2 .left; some-held = sym (h .lower-from .ensures .0) ∙ c .if4 .taken };
-        lowered = λ z. h .lower-from .ensures .1 ∙ ap (holds h) (c .if4 .taken);
-      },
+      (
+        record {
+          refused = λ n. absurd (n refl);
+          taken = λ z. record { flow = flow-tested t; position = t .if2 .left; some-held = sym (h .lower-from .ensures .0) ∙ c .if4 .taken };
+          lowered = λ z. h .lower-from .ensures .1 .0 ∙ ap (holds h) (c .if4 .taken);
+        },
+        h .lower-from .ensures .1 .1,
+      ),
     )
 
 returns-5 : tie.Need-returns-5
@@ -116,7 +120,7 @@ returns-5 c =
     let h = c .before in
     let t = tested-at h in (
       λ l o. tests-15 l _ _ (flow-below t l o) (position-below t l o) _ (o .window .window-is) (not-passed h) (held-is h l o ∙ c .if4 .left),
-      unchanged (h .lower-from .ensures .1 ∙ ap (holds h) (c .if4 .left)) (λ z. omega (arith, z)),
+      (unchanged (h .lower-from .ensures .1 .0 ∙ ap (holds h) (c .if4 .left)) (λ z. omega (arith, z)), most-unknown),
     )
 
 pub take-spec : {M : Type 1} → statement M
