@@ -37,8 +37,8 @@ module _ (w : Window) (v : Proper w) (h : List ℕ) (long : Sixteen h) where
     most-other j other m = rw (row-with-other h i (shiftedRow (windowOf w) by p (row h i)) j other) m
 
   -- one more
-  pub most-more : (i p : ℕ) → i < 16 → (n : ℕ) → AtMost (sizeOf w) n (row h i) → AtMost (sizeOf w) (min (n + 1) 255) (row (shifted (windowOf w) 1 i p h) i)
-  most-more i p few n m = most-shifted 1 i p few (record { most = λ low q l. at low q l (fromIn (windowOf w) p q) refl })
+  pub most-more : (i p : ℕ) → (n : ℕ) → AtMost (sizeOf w) n (row h i) → AtMost (sizeOf w) (min (n + 1) 255) (shiftedRow (windowOf w) 1 p (row h i))
+  most-more i p n m = record { most = λ low q l. at low q l (fromIn (windowOf w) p q) refl }
     where
       at : min (n + 1) 255 < 255 → (q : ℕ) → q < sizeOf w → (b : Bool) → fromIn (windowOf w) p q ≡ b
           → getD (shiftedRow (windowOf w) 1 p (row h i)) q 0 ≤ min (n + 1) 255

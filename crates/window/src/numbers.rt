@@ -83,3 +83,13 @@ pub fn on_by_one(x: u8) -> u8
 {
     wrapping_add_u8(x, 1)
 }
+
+// The next byte, and 255 after 255.
+pub fn one_more(x: u8) -> u8
+    ensures { λ r. ⌜ r ≡ min (x + 1) 255 ⌝ }
+{
+    if x < 255 {
+        return x + 1;
+    }
+    x
+}
