@@ -20,7 +20,7 @@ use Rattle.playback.proofs.Records.{Played, reads-as, no-call-played}
 use Rattle.playback.proofs.SoFar.{none-yet, same-size, one-more, all-played}
 use Rattle.playback.proofs.play.Proof.Places.{Inv-loop2, μ-loop2, Inv-loop, μ-loop, entered, loop-at, link-at, plan-at, window-at, hand-at, mosts-at, made-at, read-at}
 use Rattle.playback.proofs.play.Proof.Places.{request-at, asker-for, asker-at, asker-few, asked-at, granted-at, granted-in, credit-for}
-use Rattle.playback.proofs.play.Proof.Places.{ticked-at, tick-at, emptied-at, left-at, owner-at}
+use Rattle.playback.proofs.play.Proof.Places.{ticked-at, tick-at, emptied-at, left-at, flow-at, owner-at}
 use Rattle.playback.proofs.play.Proof.Came.{came}
 use Rattle.playback.proofs.play.Statement.{statement}
 use Rattle.playback.proofs.play.Tie as tie
@@ -230,7 +230,7 @@ loop2-less c = search needs
 
 loop2-again : tie.Need-loop2-again Inv-loop2 μ-loop2 Inv-loop μ-loop
 loop2-again c =
-    let i = c .before .before .before .before in
+    let i = flow-at c in
     let l = i .before .loop2 in
     let same = l .inv .0 in
     ⊎-elim

@@ -138,6 +138,10 @@ emptied-at c = tick-at (c .before .before .before)
 abbrev pub left-at : tie.After-carry-head-arg Inv-loop2 μ-loop2 Inv-loop μ-loop → tie.After-read Inv-loop2 μ-loop2 Inv-loop μ-loop
 left-at c = emptied-at (c .before .before .before)
 
+-- where a flow is looked at, from where it is moved or stays
+abbrev pub flow-at : tie.Joined4 Inv-loop2 μ-loop2 Inv-loop μ-loop → tie.In-loop2 Inv-loop2 μ-loop2 Inv-loop μ-loop
+flow-at c = c .before .before .before .before
+
 -- the link after the tick, but for CP
 pub advanced-at : (c : tie.Joined3 Inv-loop2 μ-loop2 Inv-loop μ-loop)
     → Advanced (link-at (tick-at (c .before))) (c .if3 .link) (ticked-at c .ticked .result .current)

@@ -4,6 +4,10 @@ use Rattle.tables.proofs.PaddedFrom.{held-padded}
 use Rattle.tables.proofs.holdings.held_from.Statement.{statement}
 use Rattle.tables.proofs.holdings.held_from.Tie as tie
 
+-- where the function is entered
+abbrev start : tie.After-turned → tie.Start
+start c = c .before .before .before
+
 mul-first : tie.Need-mul-first
 mul-first c = search needs
 
@@ -28,7 +32,7 @@ held-in-requires c κs = search needs
 returns : tie.Need-returns
 returns c =
     let t = c .before in
-    let s = t .before .before .before in
+    let s = start t in
     held-padded _ (s .pre .proper) _ (s .pre .position) _ (s .args .i) _ (rw (t .turned .ensures) at (c .held-in .ensures))
 
 pub held-from-spec : {M : Type 1} → statement M

@@ -18,6 +18,10 @@ Inv-loop held a e base from least₀ q₀ x₀ least q x =
 abbrev μ-loop : tie.MeasureT-loop
 μ-loop held a e base from least₀ q₀ x₀ least q x = e - q
 
+-- where a place is looked at
+abbrev at-place : tie.After-chosen Inv-loop μ-loop → tie.In-loop Inv-loop μ-loop
+at-place c = c .before .before
+
 to-zero-requires : tie.Need-to-zero-requires Inv-loop μ-loop
 to-zero-requires c κs = search needs
 
@@ -50,7 +54,7 @@ loop-again c =
     let s = c .before in
     let g = s .before in
     let ch = g .before in
-    let i = ch .before .before in
+    let i = at-place ch in
     let l = i .before in
     let padded = ch .chosen .ensures ∙ counted-pad (l .loop .inv .0) (l .before .before .args .from) 255 0 in
     let seen = g .larger-byte .ensures ∙ ap (max _) padded in

@@ -15,6 +15,10 @@ Inv-loop held₀ a e base from most₀ q₀ x₀ held most q x = Lowering base f
 abbrev μ-loop : tie.MeasureT-loop
 μ-loop held₀ a e base from most₀ q₀ x₀ held most q x = e - q
 
+-- where the move of a place is known
+abbrev chosen-at : tie.After-byte Inv-loop μ-loop → tie.After-chosen Inv-loop μ-loop
+chosen-at c = c .before .before
+
 to-zero-requires : tie.Need-to-zero-requires Inv-loop μ-loop
 to-zero-requires c κs = search needs
 
@@ -53,7 +57,7 @@ loop-again c =
     let g = c .before in
     let m = g .before in
     let b = m .before in
-    let ch = b .before .before in
+    let ch = chosen-at b in
     let i = ch .before in
     let l = i .before in
     let moved = m .moved .ensures ∙ ap (λ by. wrapped by (b .byte .result)) (ch .chosen .ensures) in

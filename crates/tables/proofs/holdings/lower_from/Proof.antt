@@ -11,12 +11,22 @@ use Rattle.tables.proofs.Lowered.{some-held, raised-again}
 use Rattle.tables.proofs.holdings.lower_from.Statement.{statement}
 use Rattle.tables.proofs.holdings.lower_from.Tie as tie
 
+-- where the function is entered, and where the holdings are lowered
+abbrev entered : tie.After-lowered → tie.Start
+entered c = c .before .before
+
+abbrev lowered-at : tie.After-shift-from → tie.After-lowered
+lowered-at f = f .before .before .before
+
+abbrev start : tie.After-shift-from → tie.Start
+start f = entered (lowered-at f)
+
 lowered-requires : tie.Need-lowered-requires
 lowered-requires c κs = search needs
 
 returns : tie.Need-returns
 returns c =
-    let s = c .before .before .before in
+    let s = entered (c .before) in
     let (most, (shifts, bytes)) = c .before .lowered .ensures in
     let some = some-held (s .args .w) (s .pre .proper) (s .args .p) (s .pre .position) _ (s .args .i) _ (omega (arith, c .if1 .taken)) most in
     (sym some, (shifts, most))
@@ -24,23 +34,19 @@ returns c =
 shift-from-requires : tie.Need-shift-from-requires
 shift-from-requires c κs = search needs
 
--- where the function is entered
-abbrev start : tie.After-shift-from → tie.Start
-start f = f .before .before .before .before .before
-
 -- what was lowered is raised again
 raised : (f : tie.After-shift-from) → f .shift-from .last .0 ≡ now (start f .args .held)
 raised f =
     let s = start f in
-    let (most, (shifts, bytes)) = f .before .before .before .lowered .ensures in
+    let (most, (shifts, bytes)) = lowered-at f .lowered .ensures in
     f .shift-from .ensures
     ∙ ap (shifted (windowOf (s .args .w)) 1 (s .args .i) (s .args .p)) shifts
     ∙ raised-again (s .args .w) (s .pre .proper) (s .args .p) (s .pre .position) _ (s .args .i) bytes
 
 most-at : (f : tie.After-shift-from)
     → let s = start f in
-    AtMost (sizeOf (s .args .w)) (f .before .before .before .lowered .result) (shiftedRow (windowOf (s .args .w)) 255 (s .args .p) (row (now (s .args .held)) (s .args .i)))
-most-at f = f .before .before .before .lowered .ensures .0
+    AtMost (sizeOf (s .args .w)) (lowered-at f .lowered .result) (shiftedRow (windowOf (s .args .w)) 255 (s .args .p) (row (now (s .args .held)) (s .args .i)))
+most-at f = lowered-at f .lowered .ensures .0
 
 held-from-requires : tie.Need-held-from-requires
 held-from-requires c κs = search needs

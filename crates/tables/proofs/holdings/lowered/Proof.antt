@@ -4,6 +4,10 @@ use Rattle.tables.proofs.PaddedFrom.{shifted-padded, within-padded}
 use Rattle.tables.proofs.holdings.lowered.Statement.{statement}
 use Rattle.tables.proofs.holdings.lowered.Tie as tie
 
+-- where the function is entered
+abbrev start : tie.After-turned → tie.Start
+start c = c .before .before .before .before
+
 mul-first : tie.Need-mul-first
 mul-first c = search needs
 
@@ -28,7 +32,7 @@ lower-requires c κs = search needs
 returns : tie.Need-returns
 returns c =
     let t = c .before in
-    let s = t .before .before .before .before in
+    let s = start t in
     let (most, (shifts, bytes)) = c .lower .ensures in
     let v = s .pre .proper in
     let lp = s .pre .position in (

@@ -4,6 +4,10 @@ use Rattle.tables.proofs.PaddedFrom.{shifted-padded}
 use Rattle.tables.proofs.holdings.shift_from.Statement.{statement}
 use Rattle.tables.proofs.holdings.shift_from.Tie as tie
 
+-- where the function is entered
+abbrev start : tie.After-turned → tie.Start
+start c = c .before .before .before .before
+
 mul-first : tie.Need-mul-first
 mul-first c = search needs
 
@@ -28,7 +32,7 @@ shift-requires c κs = search needs
 returns : tie.Need-returns
 returns c =
     let t = c .before in
-    let s = t .before .before .before .before in
+    let s = start t in
     rw (c .shift .ensures, t .turned .ensures) (shifted-padded _ (s .pre .proper) _ (s .pre .position) _ (s .args .i) _)
 
 pub shift-from-spec : {M : Type 1} → statement M

@@ -14,6 +14,10 @@ use Rattle.tables.specs.Holdings.{roomAt}
 use Rattle.tables.proofs.search.late_rank.Statement.{statement}
 use Rattle.tables.proofs.search.late_rank.Tie as tie
 
+-- where the function is entered
+abbrev start : tie.After-struct-known2 → tie.Start
+start c = c .before .before
+
 add-after : tie.Need-add-after
 add-after c = search needs
 
@@ -25,7 +29,7 @@ sub-after c = search needs
 
 returns : tie.Need-returns
 returns c =
-    let s = c .before .before .before in
+    let s = start (c .before) in
     let v = s .pre .proper in
     let most = s .pre .most .most (omega (arith, c .if1 .taken)) in
     let room = roomAt (row (s .args .held .now) (s .args .i)) (s .args .cells) in
@@ -46,7 +50,7 @@ larger-requires c κs = search needs
 returns-2 : tie.Need-returns-2
 returns-2 c =
     let k = c .before in
-    let s = k .before .before .before .before in
+    let s = start (k .before .before) in
     rw (c .larger .ensures) (both-from (k .room-rank .ensures) (late-from (s .args .w) (s .pre .proper)))
 
 pub late-rank-spec : {M : Type 1} → statement M
