@@ -86,12 +86,12 @@ pub fn play(start: Link, records: &[u8], out: &mut [u8]) -> Playback
                 }
             }
             Call::Credit(flow, position) => {
-                let receipt = take(plan.count, w, &mut link.held, flow, position);
-                let number = receipt.number;
+                let freed = take(plan.count, w, &mut link.held, flow, position);
+                let number = freed.number;
                 if number != 0 {
                     end = calls::write_refusal(number, out, end);
                 } else {
-                    most[flow] = receipt.most;
+                    most[flow] = freed.most;
                     end = lines::write_taken(out, end);
                 }
             }

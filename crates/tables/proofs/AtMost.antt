@@ -14,9 +14,13 @@ use Rattle.window.specs.Window.{windowOf, sizeOf, baseOf, headRange, Proper, fr
 use Rattle.window.proofs.Bytes.{wrapped-up}
 use Rattle.window.proofs.Ranges.{length-replaced, replaced-at}
 use Rattle.tables.specs.Rows.{row, Sixteen}
-use Rattle.tables.specs.Holdings.{AtMost, shiftedRow, shifted, lastOf, carriedRow, carried}
+use Rattle.tables.specs.Holdings.{mostHeld, AtMost, shiftedRow, shifted, lastOf, carriedRow, carried}
+use Rattle.tables.proofs.Largest.{largest-most}
 use Rattle.tables.proofs.Rows.{length-row, row-with-same, row-with-other}
 use Rattle.tables.proofs.HoldingChanges.{row-carried, row-not-carried}
+
+pub most-known : (T : ℕ) (h : List ℕ) → AtMost T (mostHeld T h) h
+most-known T h = record { most = λ low q l. largest-most T (λ q. getD h q 0) q l }
 
 pub most-unknown : {T : ℕ} {h : List ℕ} → AtMost T 255 h
 most-unknown = record { most = λ low. absurd (omega arith) }

@@ -1,6 +1,6 @@
--- One pass over a range that lowers holdings and finds a number that is no less than any of them then; what that tells of what was held; and
--- what was lowered from p on, raised again. Assumes nothing.
-use Prim.Native.Nat.{ℕ, _+_, _-_, _*_, _%_, _≤_, _<_, max}
+-- One pass over a range that lowers holdings and finds the largest of them then; what that tells of what was held; and what was lowered from
+-- p on, raised again. Assumes nothing.
+use Prim.Native.Nat.{ℕ, suc, _+_, _-_, _*_, _%_, _≤_, _<_, max}
 use mathlib.Core.Path.{_≡_, refl, sym, ap, _∙_}
 use mathlib.Core.List.{List}
 use mathlib.Core.Bool.{Bool, true, false, true≢false, cond}
@@ -19,10 +19,11 @@ use Rattle.window.proofs.FromOn.{from-is, from-past, every-from}
 use Rattle.window.proofs.Ranges.{past-range, replaced-at, replaced-off}
 use Rattle.window.proofs.RangeLoops.{Replacing, replacing-none, replacing-more}
 use Rattle.tables.specs.Rows.{row}
-use Rattle.tables.specs.Padded.{pad, Bytes, Within}
-use Rattle.tables.specs.Holdings.{someHeld, AtMost, shiftedRow, shifted}
+use Rattle.tables.specs.Padded.{pad, Bytes}
+use Rattle.tables.specs.Holdings.{someHeld, largest, mostHeld, shiftedRow, shifted}
 use Rattle.tables.proofs.Places.{row-at, with-row-in, with-row-before, with-row-past, with-row-is}
 use Rattle.tables.proofs.Rows.{length-row, length-with-row}
+use Rattle.tables.proofs.Largest.{largest-none, largest-one-more, largest-most}
 use Rattle.tables.proofs.Padded.{Counting, counting-first, counting-on, counted-pad}
 
 -- ---- the pass
@@ -32,11 +33,15 @@ module _ (base from a e : ℕ) where
   abbrev pub fewerAt : ℕ → ℕ → ℕ
   fewerAt k y = wrapped (pad base from 0 255 (k - a)) y
 
-  -- the places from a up to q are lowered, and none of them is above `most` then
+  -- the same of what stands at a + k in a list
+  abbrev pub fewerIn : List ℕ → ℕ → ℕ
+  fewerIn h k = wrapped (pad base from 0 255 k) (getD h (a + k) 0)
+
+  -- the places from a up to q are lowered, and `most` is the largest of them then
   pub record Lowering (before after : List ℕ) (most q x : ℕ) : Type 0 where
     pub counting : Counting base a q x
     pub replaced : Replacing fewerAt a e before after q
-    pub within : (k : ℕ) → a ≤ k → k < q → fewerAt k (getD before k 0) ≤ most
+    pub most-is : most ≡ largest (q - a) (fewerIn before)
     pub bytes : Bytes before a q
 
   module _ (low : base < 256) where
@@ -44,7 +49,7 @@ module _ (base from a e : ℕ) where
     lowering-none ends z = record {
       counting = counting-first _ _ _ low z;
       replaced = replacing-none 0 ends;
-      within = λ k h l. absurd (omega arith);
+      most-is = let none : a - a ≡ 0 = omega arith in rw none (sym (largest-none _));
       bytes = record { below = λ k h l. absurd (omega arith) };
     }
 
@@ -60,24 +65,28 @@ module _ (base from a e : ℕ) where
       lowering-more {was} is byte {fewer} {most′} m n z = record {
         counting = counting-on (v .counting) low (v .replaced .from) z;
         replaced = replacing-more 0 (v .replaced) more (put ∙ ap (fewerAt q) is);
-        within = λ k h l. under k h l (ℕ-discrete k q);
+        most-is = rw on (n ∙ both ∙ sym (largest-one-more (q - a) (fewerIn before)));
         bytes = record { below = λ k h b. bytes k h b (ℕ-discrete k q) };
       }
         where
           put : fewer ≡ fewerAt q was
           put = m ∙ ap (λ by. wrapped by was) (counted-pad (v .counting) from 0 255)
 
-          under : (k : ℕ) → a ≤ k → k < q + 1 → Dec (k ≡ q) → fewerAt k (getD before k 0) ≤ most′
-          under k h l (yes d) = rw (d, ← as-before, ← is, ← put) (omega arith)
-          under k h l (no d) = let b = v .within k h (omega arith) in omega arith
+          on : q + 1 - a ≡ suc (q - a)
+          on = omega (arith, v .replaced .from)
+
+          place : a + (q - a) ≡ q
+          place = omega (arith, v .replaced .from)
+
+          both : max most fewer ≡ max (largest (q - a) (fewerIn before)) (fewerIn before (q - a))
+          both = rw (place, ← as-before, ← is, ← put, ← v .most-is)
 
           bytes : (k : ℕ) → a ≤ k → k < q + 1 → Dec (k ≡ q) → getD before k 0 < 256
           bytes k h b (yes d) = rw (d, ← as-before, ← is) byte
           bytes k h b (no d) = v .bytes .below k h (omega arith)
 
-    pub lowering-done : {before after : List ℕ} {most q x : ℕ} → Lowering before after most q x → e ≤ q
-        → Within (λ k. fewerAt k (getD before k 0)) most a e
-    lowering-done v ends = record { most = λ k h l. v .within k h (omega arith) }
+    pub lowering-done : {before after : List ℕ} {most q x : ℕ} → Lowering before after most q x → e ≤ q → most ≡ largest (e - a) (fewerIn before)
+    lowering-done {before} {after} {most} {q} v ends = let z : q ≡ e = omega (arith, v .replaced .to) in rw z at (v .most-is)
 
 -- ---- what was lowered from p on
 
@@ -104,9 +113,8 @@ module _ (w : Window) (v : Proper w) (p : ℕ) (lp : p < sizeOf w) (h : List ℕ
       ∙ rw (row-at h i q b)
 
   -- something was held at each position where none is 255 after it
-  pub some-held : (n : ℕ) → n < 255 → AtMost (sizeOf w) n (shiftedRow (windowOf w) 255 p (row h i))
-      → everyFrom (windowOf w) p (someHeld (row h i)) ≡ true
-  some-held n low most = every-from w v p lp (someHeld (row h i)) (λ q l r. held q l r (ℕ-discrete (getD (row h i) q 0) 0))
+  pub some-held : mostHeld (sizeOf w) (shiftedRow (windowOf w) 255 p (row h i)) < 255 → everyFrom (windowOf w) p (someHeld (row h i)) ≡ true
+  some-held low = every-from w v p lp (someHeld (row h i)) (λ q l r. held q l r (ℕ-discrete (getD (row h i) q 0) 0))
     where
       held : (q : ℕ) → q < sizeOf w → rankIn w p ≤ rankIn w q → Dec (getD (row h i) q 0 ≡ 0) → someHeld (row h i) q ≡ true
       held q l r (yes z) =
@@ -114,7 +122,7 @@ module _ (w : Window) (v : Proper w) (p : ℕ) (lp : p < sizeOf w) (h : List ℕ
           let there = replaced-at from (λ _. wrapped 255) (row h i) q 0 (omega (arith, length-row h i, v .measures .positions-most)) in
           let is-255 : getD (shiftedRow (windowOf w) 255 p (row h i)) q 0 ≡ 255 =
           there ∙ rw (is-from, z) (sym (wrapped-is 255 0 (omega arith) (omega arith))) in
-          let below = most .most low q l in
+          let below = largest-most (sizeOf w) (λ q. getD (shiftedRow (windowOf w) 255 p (row h i)) q 0) q l in
           absurd (omega arith)
       held q l r (no z) = lt-ltb 0 (getD (row h i) q 0) (omega arith)
 

@@ -19,10 +19,11 @@ use Rattle.window.proofs.Ranges.{replaced-at}
 use Rattle.window.proofs.Ranks.{rankIn, rank-high, rank-low}
 use Rattle.window.proofs.FromOn.{from-is, from-past, all-from}
 use Rattle.tables.specs.Rows.{row}
-use Rattle.tables.specs.Padded.{onFrom, pad, Within}
-use Rattle.tables.specs.Holdings.{someHeld, AtMost, shiftedRow, shifted}
+use Rattle.tables.specs.Padded.{onFrom, pad}
+use Rattle.tables.specs.Holdings.{someHeld, largest, mostHeld, shiftedRow, shifted}
 use Rattle.tables.proofs.Places.{row-at}
 use Rattle.tables.proofs.Rows.{length-row}
+use Rattle.tables.proofs.Largest.{largest-same}
 use Rattle.tables.proofs.RowRanges.{all-in-row, replaced-in-row}
 
 module _ (w : Window) (v : Proper w) (p : ℕ) (lp : p < sizeOf w) where
@@ -94,20 +95,19 @@ module _ (w : Window) (v : Proper w) (p : ℕ) (lp : p < sizeOf w) where
         padded true x = refl
         padded false x = wrapped-not x
 
-    -- what row i holds then
-    pub within-padded : (n : ℕ)
-        → Within (λ k. wrapped (pad (baseOf w) turn 0 255 (k - 256 * i)) (getD h k 0)) n (256 * i) (256 * i + sizeOf w)
-        → AtMost (sizeOf w) n (shiftedRow (windowOf w) 255 p (row h i))
-    within-padded n x = record { most = λ few q l. at q l (fromIn (windowOf w) p q) refl (x .most (256 * i + q) (omega arith) (omega arith)) }
+    -- the most that row i holds then
+    pub most-padded : largest (256 * i + sizeOf w - 256 * i) (λ k. wrapped (pad (baseOf w) turn 0 255 k) (getD h (256 * i + k) 0))
+        ≡ mostHeld (sizeOf w) (shiftedRow (windowOf w) 255 p (row h i))
+    most-padded =
+        let size : 256 * i + sizeOf w - 256 * i ≡ sizeOf w = omega arith in
+        rw size (largest-same (sizeOf w) _ _ (λ q l. at q l (fromIn (windowOf w) p q) refl))
       where
         at : (q : ℕ) → q < sizeOf w → (b : Bool) → fromIn (windowOf w) p q ≡ b
-            → wrapped (pad (baseOf w) turn 0 255 (256 * i + q - 256 * i)) (getD h (256 * i + q) 0) ≤ n
-            → getD (shiftedRow (windowOf w) 255 p (row h i)) q 0 ≤ n
-        at q l b e y =
+            → wrapped (pad (baseOf w) turn 0 255 q) (getD h (256 * i + q) 0) ≡ getD (shiftedRow (windowOf w) 255 p (row h i)) q 0
+        at q l b e =
             let most = v .measures .positions-most in
-            let place : 256 * i + q - 256 * i ≡ q = omega arith in
             let there = replaced-at (fromIn (windowOf w) p) (λ _. wrapped 255) (row h i) q 0 (omega (arith, length-row h i, most)) in
-            rw (there, row-at h i q (omega (arith, most)), e) (rw (place, pad-from q l 0 255, e, padded b) at y)
+            rw (there, row-at h i q (omega (arith, most)), pad-from q l 0 255, e) (padded b)
           where
             padded : (b : Bool) → wrapped (cond b 255 0) (getD h (256 * i + q) 0) ≡ cond b (wrapped 255 (getD h (256 * i + q) 0)) (getD h (256 * i + q) 0)
             padded true = refl

@@ -1,5 +1,5 @@
--- What the functions on the tables ask of their arguments, beside a proper window: that a flow, a position and a frame are there.
--- Assumes nothing.
+-- What the functions on the tables ask of their arguments, beside a proper window: that a flow, a position and a frame are there, and that a
+-- flow holds no more than a number. Assumes nothing.
 use Prim.Native.Nat.{ℕ, _≤_, _<_}
 use mathlib.Core.List.{List}
 use Rattle.window.specs.declared.Window.{Window}

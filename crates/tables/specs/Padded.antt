@@ -1,5 +1,5 @@
--- Places of a row counted round 256 from one of them on: a value for those that come before a place, and one from it on; elements that are
--- bytes, and values that are at most a number. Assumes nothing.
+-- Places of a row counted round 256 from one of them on: a value for those that come before a place, and one from it on; and elements that
+-- are bytes. Assumes nothing.
 use Prim.Native.Nat.{ℕ, _+_, _-_, _%_, _≤_, _<_}
 use mathlib.Core.List.{List}
 use mathlib.Core.Bool.{cond}
@@ -17,7 +17,3 @@ pad base from early late k = cond (ltb (onFrom base k) from) early late
 -- the elements from a to e are bytes
 pub record Bytes (h : List ℕ) (a e : ℕ) : Type 0 where
   pub below : (k : ℕ) → a ≤ k → k < e → getD h k 0 < 256
-
--- f is at most n at each place from a to e
-pub record Within (f : ℕ → ℕ) (n a e : ℕ) : Type 0 where
-  pub most : (k : ℕ) → a ≤ k → k < e → f k ≤ n

@@ -1,8 +1,9 @@
 // What each flow holds at each position: what flow i holds at position p stands at 256 * i + p, which no other crate knows.
 // From p on means at p and at every later position. With h the first position of the head frame: where h <= p, these are p to T - 1 and
 // 0 to h - 1; where p < h, they are p to h - 1.
-// A test or a change from p on is one pass over all T places; at the other places it uses a value that leaves the result as it is. A byte
-// counts the places from the head frame's first position on, going round 256, and tells by one comparison which of the two a place is.
+// A change from p on, and a test of what is held from p on, is one pass over all T places; at those before p it changes nothing, and the test
+// uses a value that passes. A byte counts the places from the head frame's first position on, going round 256, and tells by one comparison
+// which of the two a place is.
 ghost use mathlib.Core.Path.{_≡_};
 ghost use mathlib.Core.Bool.{cond};
 ghost use Prim.Native.Nat.{_+_, _-_, _*_, _≤_, _<_, max};
@@ -15,8 +16,8 @@ ghost use Rattle.window.specs.Window.{windowOf, sizeOf, baseOf, Proper, InWindo
 ghost use Rattle.tables.specs.Asked.{FlowAt, FlowsOf};
 ghost use Rattle.tables.specs.Owners.{everywhere};
 ghost use Rattle.tables.specs.Rows.{row, withRow, carriedRows};
-ghost use Rattle.tables.specs.Padded.{onFrom, pad, Bytes, Within};
-ghost use Rattle.tables.specs.Holdings.{someHeld, roomAt, AtMost, shiftedRow, shifted, carried, nothingHeld};
+ghost use Rattle.tables.specs.Padded.{onFrom, pad, Bytes};
+ghost use Rattle.tables.specs.Holdings.{someHeld, roomAt, largest, mostHeld, shiftedRow, shifted, carried, nothingHeld};
 use window::Window;
 use window::numbers::chosen;
 use window::numbers::larger_byte;
@@ -118,8 +119,8 @@ fn turned(w: Window, p: usize) -> u8
     requires { ⌜ InWindow w p ⌝ }
     ensures { λ r. ⌜ r ≡ onFrom (baseOf w) p ⌝ }
 {
-    let base = w.head * w.slots;
-    moved(p as u8, to_zero(base as u8))
+    let start = w.head * w.slots;
+    moved(p as u8, to_zero(start as u8))
 }
 
 // Flow i's holdings from p on, each moved by a number modulo 256: 1 is one more, 255 one fewer.
@@ -168,11 +169,11 @@ fn byte(x: u8) -> u8
     x
 }
 
-// The holdings of the range from a to e moved as by `shift` with 255, and a number that is no less than any of them then. That holdings are
-// bytes follows from their type, and is stated so that callers find it.
+// The holdings of the range from a to e moved as by `shift` with 255, and the largest of them then. That holdings are bytes follows from
+// their type, and is stated so that callers find it.
 fn lower(held: &mut Holdings, a: usize, e: usize, base: u8, from: u8) -> u8
     requires { ⌜ (a ≤ e) × (e ≤ 4096) ⌝ }
-    ensures most { λ r. ⌜ Within (λ k. wrapped (pad base from 0 255 (k - a)) (getD (now (held .entry)) k 0)) r a e ⌝ }
+    ensures most { λ r. ⌜ r ≡ largest (e - a) (λ k. wrapped (pad base from 0 255 k) (getD (now (held .entry)) (a + k) 0)) ⌝ }
     ensures shifts { λ r. ⌜ now (held .exit) ≡ replaced (inRange a e) (λ k x. wrapped (pad base from 0 255 (k - a)) x) (now (held .entry)) ⌝ }
     ensures bytes { λ r. ⌜ Bytes (now (held .entry)) a e ⌝ }
 {
@@ -191,10 +192,10 @@ fn lower(held: &mut Holdings, a: usize, e: usize, base: u8, from: u8) -> u8
     most
 }
 
-// Flow i's holdings from p on, each one fewer modulo 256, and a number that is no less than any of the flow's holdings then.
+// Flow i's holdings from p on, each one fewer modulo 256, and the most that the flow holds then.
 fn lowered(held: &mut Holdings, i: usize, w: Window, p: usize) -> u8
     requires { ⌜ FlowAt w i p ⌝ }
-    ensures most { λ r. ⌜ AtMost (sizeOf w) r (shiftedRow (windowOf w) 255 p (row (now (held .entry)) i)) ⌝ }
+    ensures most { λ r. ⌜ r ≡ mostHeld (sizeOf w) (shiftedRow (windowOf w) 255 p (row (now (held .entry)) i)) ⌝ }
     ensures shifts { λ r. ⌜ now (held .exit) ≡ shifted (windowOf w) 255 i p (now (held .entry)) ⌝ }
     ensures bytes { λ r. ⌜ Bytes (now (held .entry)) (256 * i) (256 * i + sizeOf w) ⌝ }
 {
@@ -204,20 +205,20 @@ fn lowered(held: &mut Holdings, i: usize, w: Window, p: usize) -> u8
     lower(held, first, past, base as u8, turned(w, p))
 }
 
-// What a credit comes to: whether it is taken, and if so a number that is no less than what the flow holds at any position then, or 255.
+// Whether a flow's holdings were lowered, and the most that it holds then; 255 where they weren't.
 pub struct Fewer {
     pub taken: bool,
     pub most: u8,
 }
 
 // One fewer from p on where flow i holds something at each of these positions, else nothing changes; and which of the two it is.
-// One fewer than 0 is 255: where no holding is 255 after it, something was held at each. Where one is, the holdings are raised again, and
-// tested: one of 255 may have been there before.
+// One fewer than 0 is 255: where none of the flow's holdings is 255 after it, something was held at each of these positions. Where one is,
+// the holdings are raised again, and tested: 255 may have been held at an earlier position.
 pub fn lower_from(held: &mut Holdings, i: usize, w: Window, p: usize) -> Fewer
     requires { ⌜ FlowAt w i p ⌝ }
     ensures was { λ r. ⌜ r .taken ≡ model.everyFrom (windowOf w) p (someHeld (row (now (held .entry)) i)) ⌝ }
     ensures holds { λ r. ⌜ now (held .exit) ≡ cond (r .taken) (shifted (windowOf w) 255 i p (now (held .entry))) (now (held .entry)) ⌝ }
-    ensures most { λ r. ⌜ AtMost (sizeOf w) (r .most) (shiftedRow (windowOf w) 255 p (row (now (held .entry)) i)) ⌝ }
+    ensures most { λ r. ⌜ r .most ≡ cond (r .taken) (mostHeld (sizeOf w) (shiftedRow (windowOf w) 255 p (row (now (held .entry)) i))) 255 ⌝ }
 {
     let most = lowered(held, i, w, p);
     if most < 255 {
@@ -225,7 +226,10 @@ pub fn lower_from(held: &mut Holdings, i: usize, w: Window, p: usize) -> Fewer
     }
     shift_from(held, 1, i, w, p);
     if !held_from(held, i, w, p) {
-        return Fewer { taken: false, most };
+        return Fewer {
+            taken: false,
+            most: 255,
+        };
     }
     shift_from(held, 255, i, w, p);
     Fewer { taken: true, most }

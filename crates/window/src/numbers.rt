@@ -1,4 +1,4 @@
-// Numbers and bytes: the smaller, the larger, one of two, differences, and sums modulo 256.
+// Numbers and bytes: the smaller, the larger, one of two, differences, sums modulo 256, and one more up to 255.
 ghost use mathlib.Core.Path.{_≡_};
 ghost use mathlib.Core.Bool.{cond};
 ghost use Prim.Native.Nat.{_+_, _-_, _%_, max, min};

@@ -1,8 +1,11 @@
 -- What the arms of the match in `play` come to, where they meet: the call is played, and its line is written. Assumes nothing.
 use Prim.Native.Nat.{ℕ, _≤_, _<_}
-use mathlib.Core.Path.{refl, sym, ap, _∙_}
+use mathlib.Core.List.{List}
+use mathlib.Core.Bool.{cond}
+use mathlib.Core.Path.{_≡_, refl, sym, ap, _∙_}
 use mathlib.Core.Logic.{⊎-elim}
 use native.Mathlib.Omega.{arith}
+use lib.Dec.{eqb}
 use Rattle.calls.specs.declared.Call.{Call}
 use Rattle.calls.specs.declared.Record.{Record}
 use Rattle.calls.specs.declared.Answer.the-variants.{Taken, Refused}
@@ -11,6 +14,8 @@ use Rattle.model.specs.Request.{request}
 use Rattle.unbooked.proofs.FrameWords.{in-window}
 use Rattle.lines.proofs.Places.{granted-line}
 use Rattle.tables.specs.Owners.{ownerOf}
+use Rattle.tables.specs.Holdings.{mostHeld, AtMost}
+use Rattle.tables.proofs.AtMost.{most-known}
 use Rattle.link.specs.Layout.{ownerAt}
 use Rattle.link.specs.Reading.{linkOf}
 use Rattle.link.proofs.Given.{plan-valid, flows-few, placed-few, credit-on, request-on}
@@ -25,6 +30,10 @@ use Rattle.playback.proofs.play.Tie as tie
 
 abbrev of-call : Call → Made
 of-call x = callIn (Record.Call x)
+
+-- the most that a flow holds after a credit that is taken
+told : {number most T : ℕ} {h : List ℕ} → number ≡ 0 → most ≡ cond (eqb number 0) (mostHeld T h) 255 → AtMost T most h
+told {number} {most} {T} {h} z is = rw (is, z) (most-known T h)
 
 few : {i n : ℕ} → i < n → n ≤ 16 → i < 16
 few l m = omega (arith, l, m)
@@ -89,7 +98,7 @@ module _ (c : tie.At-match2-came Inv-loop2 μ-loop2 Inv-loop μ-loop) where
         played =
             credit-taken-played a _ _ (take .ensures .0 _ (credit-on a)) (taken .left) (holds .taken (taken .left)) lowered;
         written = written .ensures;
-        mosts = mosts-told (a .proper) (a .sound .held-long) m 255 _ _ (few (holds .taken (taken .left) .flow) (flows-few a)) (take .ensures .1 .1) lowered;
+        mosts = mosts-told (a .proper) (a .sound .held-long) m 255 _ _ (few (holds .taken (taken .left) .flow) (flows-few a)) (told (taken .left) (take .ensures .1 .1)) lowered;
       }))
       -- a tick
       (λ (_, call, on, _, _, joined, _, _, _, written, _, _, out-is, link-is, window-is, most-is, end-is).

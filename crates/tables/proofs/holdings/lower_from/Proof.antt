@@ -2,11 +2,10 @@
 use borrow.Author.Needs.{needs}
 use borrow.Author.Tests.{not-true, not-false}
 use denote.Ref.{now}
-use mathlib.Core.Path.{_≡_, sym, ap, _∙_}
+use mathlib.Core.Path.{_≡_, refl, sym, ap, _∙_}
 use native.Mathlib.Omega.{arith}
-use Rattle.window.specs.Window.{windowOf, sizeOf}
-use Rattle.tables.specs.Rows.{row}
-use Rattle.tables.specs.Holdings.{AtMost, shiftedRow, shifted}
+use Rattle.window.specs.Window.{windowOf}
+use Rattle.tables.specs.Holdings.{shifted}
 use Rattle.tables.proofs.Lowered.{some-held, raised-again}
 use Rattle.tables.proofs.holdings.lower_from.Statement.{statement}
 use Rattle.tables.proofs.holdings.lower_from.Tie as tie
@@ -28,7 +27,7 @@ returns : tie.Need-returns
 returns c =
     let s = entered (c .before) in
     let (most, (shifts, bytes)) = c .before .lowered .ensures in
-    let some = some-held (s .args .w) (s .pre .proper) (s .args .p) (s .pre .position) _ (s .args .i) _ (omega (arith, c .if1 .taken)) most in
+    let some = some-held (s .args .w) (s .pre .proper) (s .args .p) (s .pre .position) (now (s .args .held)) (s .args .i) (rw (← most) (c .if1 .taken)) in
     (sym some, (shifts, most))
 
 shift-from-requires : tie.Need-shift-from-requires
@@ -43,11 +42,6 @@ raised f =
     ∙ ap (shifted (windowOf (s .args .w)) 1 (s .args .i) (s .args .p)) shifts
     ∙ raised-again (s .args .w) (s .pre .proper) (s .args .p) (s .pre .position) _ (s .args .i) bytes
 
-most-at : (f : tie.After-shift-from)
-    → let s = start f in
-    AtMost (sizeOf (s .args .w)) (lowered-at f .lowered .result) (shiftedRow (windowOf (s .args .w)) 255 (s .args .p) (row (now (s .args .held)) (s .args .i)))
-most-at f = lowered-at f .lowered .ensures .0
-
 held-from-requires : tie.Need-held-from-requires
 held-from-requires c κs = search needs
 
@@ -55,7 +49,7 @@ returns-2 : tie.Need-returns-2
 returns-2 c =
     let h = c .before in
     let again = raised (h .before .before) in
-    (sym (not-true _ (c .if2 .taken)) ∙ rw again at (h .held-from .ensures), (again, most-at (h .before .before)))
+    (sym (not-true _ (c .if2 .taken)) ∙ rw again at (h .held-from .ensures), (again, refl))
 
 shift-from-requires-2 : tie.Need-shift-from-requires-2
 shift-from-requires-2 c κs = search needs
@@ -65,7 +59,7 @@ returns-3 c =
     let e = c .before .before in
     let h = e .before in
     let again = raised (h .before .before) in
-    (sym (not-false _ (e .if2 .left)) ∙ rw again at (h .held-from .ensures), (rw again at (c .shift-from2 .ensures), most-at (h .before .before)))
+    (sym (not-false _ (e .if2 .left)) ∙ rw again at (h .held-from .ensures), (rw again at (c .shift-from2 .ensures), lowered-at (h .before .before) .lowered .ensures .0))
 
 pub lower-from-spec : {M : Type 1} → statement M
 lower-from-spec =

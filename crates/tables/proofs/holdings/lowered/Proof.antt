@@ -1,6 +1,6 @@
 -- `tables::holdings::lowered` meets its contract. Assumes nothing.
 use borrow.Author.Needs.{needs}
-use Rattle.tables.proofs.PaddedFrom.{shifted-padded, within-padded}
+use Rattle.tables.proofs.PaddedFrom.{shifted-padded, most-padded}
 use Rattle.tables.proofs.holdings.lowered.Statement.{statement}
 use Rattle.tables.proofs.holdings.lowered.Tie as tie
 
@@ -36,7 +36,7 @@ returns c =
     let (most, (shifts, bytes)) = c .lower .ensures in
     let v = s .pre .proper in
     let lp = s .pre .position in (
-      within-padded _ v _ lp _ (s .args .i) _ (rw (t .turned .ensures) at most),
+      rw (most, t .turned .ensures) (most-padded _ v _ lp _ (s .args .i)),
       (rw (shifts, t .turned .ensures) (shifted-padded _ v _ lp _ (s .args .i) 255), bytes),
     )
 

@@ -6,8 +6,8 @@ use Rattle.window.proofs.Bytes.{wrapped-is}
 use Rattle.tables.proofs.holdings.turned.Statement.{statement}
 use Rattle.tables.proofs.holdings.turned.Tie as tie
 
-mul-base : tie.Need-mul-base
-mul-base c = search needs
+mul-start : tie.Need-mul-start
+mul-start c = search needs
 
 cast-moved : tie.Need-cast-moved
 cast-moved c = search needs
@@ -27,4 +27,4 @@ returns c =
     c .moved .ensures ∙ sym (wrapped-is _ _ (omega arith) (omega arith)) ∙ omega arith
 
 pub turned-spec : {M : Type 1} → statement M
-turned-spec = tie.close (tie.spec mul-base cast-moved cast-to-zero to-zero-requires moved-requires returns)
+turned-spec = tie.close (tie.spec mul-start cast-moved cast-to-zero to-zero-requires moved-requires returns)
