@@ -1,5 +1,5 @@
 -- A line whose two words are stored, the last one first. Assumes nothing.
-use Prim.Native.Nat.{ℕ, _+_, _-_, _≤_, min}
+use Prim.Native.Nat.{ℕ, _+_, _-_, _%_, _≤_}
 use mathlib.Core.Path.{_≡_, ap, _∙_}
 use mathlib.Core.List.{List, _++_}
 use native.Mathlib.Omega.{arith}
@@ -11,7 +11,7 @@ use Rattle.lines.specs.Lines.{four, textOf}
 use Rattle.lines.proofs.Overlapping.{overlapped}
 use Rattle.lines.proofs.Texts.{length-four, length-text}
 
-pub both-stored : {out middle after : List ℕ} {at past : ℕ} (l : Line) → past ≡ min (l .past) 3 → at + 7 ≤ length out
+pub both-stored : {out middle after : List ℕ} {at past : ℕ} (l : Line) → past ≡ l .past % 4 → at + 7 ≤ length out
     → middle ≡ sets out (at + past) (four (l .last)) → after ≡ sets middle at (four (l .first))
     → Puts (textOf l) out after at (at + past + 4)
 unfolding textOf
@@ -27,7 +27,7 @@ both-stored {out} {middle} {after} {at} {past} l is room e f = record {
     long-last : length (four (l .last)) ≡ 4
     long-last = length-four (l .last)
 
-    rest-is : drop (length (four (l .first)) - past) (four (l .last)) ≡ drop (4 - min (l .past) 3) (four (l .last))
+    rest-is : drop (length (four (l .first)) - past) (four (l .last)) ≡ drop (4 - l .past % 4) (four (l .last))
     rest-is = rw (long, is)
 
     stored : after ≡ sets out at (textOf l)

@@ -1,5 +1,5 @@
 -- The text of a line from its two parts. Assumes nothing.
-use Prim.Native.Nat.{ℕ, _+_, _-_, _*_, _/_, _%_, _≤_, _<_, min}
+use Prim.Native.Nat.{ℕ, _+_, _-_, _*_, _/_, _%_, _≤_, _<_}
 use mathlib.Core.Path.{_≡_, refl, ap, _∙_}
 use mathlib.Core.List.{List, _∷_, [], _++_}
 use native.Mathlib.Nat.{mod-eq-of-lt}
@@ -33,11 +33,11 @@ pub length-four : (x : ℕ) → length (four x) ≡ 4
 unfolding four
 length-four x = refl
 
-pub length-text : (l : Line) → length (textOf l) ≡ 4 + min (l .past) 3
+pub length-text : (l : Line) → length (textOf l) ≡ 4 + l .past % 4
 unfolding textOf
 length-text l =
-    let a = length-append (four (l .first)) (drop (4 - min (l .past) 3) (four (l .last))) in
-    let b = length-drop (4 - min (l .past) 3) (four (l .last)) in
+    let a = length-append (four (l .first)) (drop (4 - l .past % 4) (four (l .last))) in
+    let b = length-drop (4 - l .past % 4) (four (l .last)) in
     let c = length-four (l .first) in
     let d = length-four (l .last) in
     omega arith
@@ -46,7 +46,7 @@ length-text l =
 pub kept-text : (text : List ℕ) (l : Line) → Kept text l → textOf l ≡ text
 unfolding textOf
 kept-text text l v =
-    let few : min (l .past) 3 ≡ l .past = omega (arith, v .short) in
+    let few : l .past % 4 ≡ l .past = omega (arith, v .short) in
     let left : l .past + (4 - l .past) ≡ 4 = omega (arith, v .short) in
     rw (few, v .first-four, v .last-four, drop-drop (4 - l .past) (l .past) text, left) (take-append-drop 4 text)
 

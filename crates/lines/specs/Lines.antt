@@ -1,5 +1,5 @@
 -- Lines in two parts of four bytes each. Assumes nothing.
-use Prim.Native.Nat.{ℕ, _+_, _-_, _/_, _%_, _≤_, _<_, min}
+use Prim.Native.Nat.{ℕ, _+_, _-_, _/_, _%_, _≤_, _<_}
 use mathlib.Core.Path.{_≡_}
 use mathlib.Core.List.{List, _∷_, [], _++_}
 use mathlib.Core.Bool.{cond}
@@ -13,9 +13,9 @@ use Rattle.lines.specs.declared.Line.{Line}
 unfoldable pub four : ℕ → List ℕ
 four x = x % 256 ∷ x / 256 % 256 ∷ x / 65536 % 256 ∷ x / 16777216 ∷ []
 
--- the text of a line: its first four bytes, and those of its last four that lie past them, three at most
+-- the text of a line: its first four bytes, and those of its last four that lie past them, as many as `past` modulo four
 unfoldable pub textOf : Line → List ℕ
-textOf l = four (l .first) ++ drop (4 - min (l .past) 3) (four (l .last))
+textOf l = four (l .first) ++ drop (4 - l .past % 4) (four (l .last))
 
 -- a text of four to seven bytes is kept in a line
 pub record Kept (text : List ℕ) (l : Line) : Type 0 where

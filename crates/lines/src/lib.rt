@@ -10,7 +10,6 @@ ghost use Rattle.model.specs.Listing.{creditLine};
 ghost use Rattle.calls.specs.Lines.{numberLine, outWith, nextAfter};
 ghost use Rattle.lines.specs.Lines.{four, textOf, Kept, lineAt, AllLines};
 use calls::has_room;
-use window::numbers::smaller;
 
 // A line of four to seven bytes.
 pub struct Line {
@@ -18,7 +17,7 @@ pub struct Line {
     pub first: u32,
     // its last four
     pub last: u32,
-    // how many bytes it has past the first four; more than three count as three
+    // how many bytes it has past the first four, modulo four
     pub past: u8,
 }
 
@@ -121,7 +120,7 @@ pub fn write(line: Line, out: &mut [u8], at: usize) -> usize
     if !has_room(out, at) {
         return at;
     }
-    let past = smaller(line.past as usize, 3);
+    let past = (line.past % 4) as usize;
     put_four(line.last, out, at + past);
     put_four(line.first, out, at);
     at + past + 4

@@ -17,6 +17,7 @@ pub mod GrantedPositions
 pub mod Credits
 pub mod Lends
 mod Resets
+pub mod LeavingHeads
 mod FrameChanges
 pub mod Ticks
 pub mod Demand3

@@ -26,7 +26,7 @@ pub struct Flow {
 
 impl Flow {
     // The flow in another frame, with another remainder.
-    pub(crate) fn moved_to(mut self, frame: usize, left: usize) -> Flow
+    pub fn moved_to(mut self, frame: usize, left: usize) -> Flow
         ensures { λ r. ⌜ r ≡ movedTo self frame left ⌝ }
     {
         self.frame = frame;

@@ -7,6 +7,9 @@ ghost use Rattle.model.specs.Refusals.{firstOf};
 ghost use Rattle.model.specs.Word.{flowOf, departureOf};
 ghost use Rattle.model.specs.Request as model;
 ghost use Rattle.calls.specs.Reading.{answerToRequest};
+ghost use Rattle.window.specs.Window.{sizeOf};
+ghost use Rattle.tables.specs.Rows.{row};
+ghost use Rattle.tables.specs.Holdings.{AtMost};
 ghost use Rattle.link.specs.declared.Link.{Link};
 ghost use Rattle.link.specs.Reading.{linkOf};
 ghost use Rattle.link.specs.Sound.{Sound};
@@ -91,18 +94,21 @@ fn departure(word: u32) -> usize
     fields.departure as usize
 }
 
-// What a word that asks for a slot comes to. Its flow is i; i is 0 where the plan does not have it.
+// What a word that asks for a slot comes to. Its flow is i; i is 0 where the plan does not have it. No more than `most` is held by the flow
+// at any position, unless `most` is 255.
 pub fn ask<'a>(
     count: usize,
     e: Entry,
     w: Window,
     unbooked: &'a Unbooked,
     held: &'a Holdings,
+    most: u8,
     i: usize,
     flow: Flow,
     word: u32,
 ) -> Reply
     requires { ⌜ SomeLink (λ l. RequestOn l count e w (now unbooked) (now held) i flow word) ⌝ }
+    requires most { ⌜ AtMost (sizeOf w) most (row (now held) i) ⌝ }
     ensures { λ r. ⌜ ((l : Link) → RequestOn l count e w (now (unbooked .entry)) (now (held .entry)) i flow word
         → r ≡ replyOf i (model.request (linkOf l) word)) ⌝ }
 {
@@ -115,7 +121,7 @@ pub fn ask<'a>(
     if flow.left == 0 && flow.frame == newest {
         return refused(flow, 11);
     }
-    let late = late_rank(held, i, e.cells, w);
+    let late = late_rank(held, most, i, e.cells, w);
     let found = find(
         unbooked,
         w,
@@ -152,7 +158,17 @@ impl Link {
         let e = plan.entries[i];
         let flow = self.flows[i];
         let w = window(plan.slots, plan.frames, self.cp);
-        let reply = ask(plan.count, e, w, &self.unbooked, &self.held, i, flow, word);
+        let reply = ask(
+            plan.count,
+            e,
+            w,
+            &self.unbooked,
+            &self.held,
+            255,
+            i,
+            flow,
+            word,
+        );
         let flow = reply.flow;
         self.flows[i] = flow;
         if reply.granted {

@@ -29,7 +29,7 @@ pub(crate) fn turn(owner: u8) -> Answer
 }
 
 // The flows of a plan, those in the head frame moved to the next one with their share.
-pub fn leave_head(flows: [Flow; 16], plan: Plan, head: usize, on: usize) -> [Flow; 16]
+pub(crate) fn leave_head(flows: [Flow; 16], plan: Plan, head: usize, on: usize) -> [Flow; 16]
     requires { ⌜ Valid plan ⌝ }
     ensures { λ r. ⌜ r ≡ leftHeads plan head on flows ⌝ }
 {

@@ -1,3 +1,4 @@
+mod Mosts
 mod Records
 mod Arms
 mod SoFar

@@ -12,12 +12,12 @@ use link::Link;
 use link::credit::take;
 use link::request::ask;
 use link::request::asker;
-use link::tick::leave_head;
 use tables::holdings::carry_head;
 use tables::holdings::shift_from;
 use tables::owners::empty_head;
 use unbooked::frames::book;
 use unbooked::frames::recycle_head;
+use window::numbers::one_more;
 use window::numbers::smaller;
 use window::positions::window;
 
@@ -43,6 +43,8 @@ pub fn play(start: Link, records: &[u8], out: &mut [u8]) -> Playback
     let plan = link.plan;
     let mut w = window(plan.slots, plan.frames, link.cp);
     let made = lines();
+    // for each flow a number that is no less than what it holds at any position, or 255, which says nothing
+    let mut most = [255u8; 16];
     let mut at = 0;
     let mut end = 0;
     while at < used {
@@ -57,7 +59,17 @@ pub fn play(start: Link, records: &[u8], out: &mut [u8]) -> Playback
                 let i = asker(plan.count, word);
                 let e = plan.entries[i];
                 let flow = link.flows[i];
-                let reply = ask(plan.count, e, w, &link.unbooked, &link.held, i, flow, word);
+                let reply = ask(
+                    plan.count,
+                    e,
+                    w,
+                    &link.unbooked,
+                    &link.held,
+                    most[i],
+                    i,
+                    flow,
+                    word,
+                );
                 let flow = reply.flow;
                 link.flows[i] = flow;
                 if reply.granted {
@@ -65,6 +77,7 @@ pub fn play(start: Link, records: &[u8], out: &mut [u8]) -> Playback
                     link.owner[position] = i as u8;
                     book(&mut link.unbooked, w, flow.frame, position);
                     shift_from(&mut link.held, 1, i, w, position);
+                    most[i] = one_more(most[i]);
                     let line = made[position];
                     end = lines::write(line, out, end);
                 } else {
@@ -73,10 +86,12 @@ pub fn play(start: Link, records: &[u8], out: &mut [u8]) -> Playback
                 }
             }
             Call::Credit(flow, position) => {
-                let number = take(plan.count, w, &mut link.held, flow, position);
+                let freed = take(plan.count, w, &mut link.held, flow, position);
+                let number = freed.number;
                 if number != 0 {
                     end = calls::write_refusal(number, out, end);
                 } else {
+                    most[flow] = freed.most;
                     end = lines::write_taken(out, end);
                 }
             }
@@ -87,8 +102,16 @@ pub fn play(start: Link, records: &[u8], out: &mut [u8]) -> Playback
                     empty_head(&mut link.owner, w);
                     recycle_head(&mut link.unbooked, w);
                     carry_head(&mut link.held, plan.count, w);
-                    let flows = leave_head(link.flows, plan, w.head, on.head);
-                    link.flows = flows;
+                    // the flows in the head frame move to the next one with their share
+                    let mut i = 0;
+                    while i < plan.count {
+                        let f = link.flows[i];
+                        if f.frame == w.head {
+                            let e = plan.entries[i];
+                            link.flows[i] = f.moved_to(on.head, e.share as usize);
+                        }
+                        i += 1;
+                    }
                 }
                 w = on;
                 let cp = on.current;

@@ -4,6 +4,8 @@ pub mod Rows
 mod RowRanges
 mod CarriedRows
 pub mod HoldingChanges
+mod Largest
+pub mod AtMost
 pub mod FreshTables
 pub mod UnbookedSlots
 mod WordsMade
@@ -11,7 +13,6 @@ mod LaterPositions
 -- one pass over a row
 mod Padded
 mod PaddedFrom
-mod Largest
 mod Lowered
 -- the search
 mod Departures

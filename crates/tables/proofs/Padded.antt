@@ -1,42 +1,31 @@
--- The inner and outer places of a row, which a byte tells apart by counting round 256; and the least of bytes, some of them padded.
+-- A byte that counts the places of a row round 256 tells the early ones from the late ones; and the least of bytes, some of them padded.
 -- Assumes nothing.
 use Prim.Native.Nat.{ℕ, _+_, _-_, _%_, _≤_, _<_, min}
-use mathlib.Core.Path.{_≡_, _∙_}
+use mathlib.Core.Path.{_≡_, ap, _∙_}
 use mathlib.Core.Bool.{Bool, cond}
 use native.Mathlib.Decide.{decLt}
 use native.Mathlib.Omega.{arith}
 use lib.Dec.{ltb}
 use borrow.Author.Tests.{lt-ltb, le-ltb}
-use Rattle.window.specs.Ranges.{inRange}
-use Rattle.window.proofs.Ranges.{in-range, before-range, past-range}
 use Rattle.window.proofs.RangeLoops.{Testing, testing-miss, testing-pass}
-use Rattle.tables.specs.Padded.{pad, InRow}
+use Rattle.tables.specs.Padded.{onFrom, pad}
 
 -- ---- a byte that counts
 
--- x is how far place q lies on from a + start, going round 256
-pub record Counting (start a q x : ℕ) : Type 0 where
-  pub is : x ≡ (q - a + 256 - start) % 256
+-- x is how far place q lies on from a + base, going round 256
+pub record Counting (base a q x : ℕ) : Type 0 where
+  pub is : x ≡ onFrom base (q - a)
 
-pub counting-first : (start a x : ℕ) → start < 256 → x ≡ (256 - start) % 256 → Counting start a a x
-counting-first start a x h e = record { is = omega arith }
+pub counting-first : (base a x : ℕ) → base < 256 → x ≡ (256 - base) % 256 → Counting base a a x
+counting-first base a x h e = record { is = omega arith }
 
-module _ {start a q x : ℕ} (v : Counting start a q x) (low : start < 256) (from : a ≤ q) where
-  pub counting-on : {y : ℕ} → y ≡ (x + 1) % 256 → Counting start a (q + 1) y
-  counting-on z = let e = v .is in record { is = omega arith }
+module _ {base a q x : ℕ} (v : Counting base a q x) where
+  pub counting-on : base < 256 → a ≤ q → {y : ℕ} → y ≡ (x + 1) % 256 → Counting base a (q + 1) y
+  counting-on low from z = let e = v .is in record { is = omega arith }
 
-  -- it tells whether the place is an inner one
-  module _ {e count : ℕ} (within : InRow a e start count) (h : q < e) where
-    inner-is : ltb x count ≡ inRange start (start + count) (q - a)
-    inner-is = go (decLt (q - a) start) (decLt (q - a) (start + count))
-      where
-        go : Dec (q - a < start) → Dec (q - a < start + count) → ltb x count ≡ inRange start (start + count) (q - a)
-        go (yes l) k = rw (le-ltb x count (omega (arith, v .is, within)), before-range start (start + count) (q - a) l)
-        go (no l) (yes k) = rw (lt-ltb x count (omega (arith, v .is, within)), in-range start (start + count) (q - a) (omega arith) k)
-        go (no l) (no k) = rw (le-ltb x count (omega (arith, v .is, within)), past-range start (start + count) (q - a) (omega arith))
-
-    pub counted-pad : (inner outer : ℕ) → cond (ltb x count) inner outer ≡ pad start count inner outer (q - a)
-    counted-pad inner outer = rw inner-is
+  -- it tells which of the two the place is
+  pub counted-pad : (from early late : ℕ) → cond (ltb x from) early late ≡ pad base from early late (q - a)
+  counted-pad from early late = ap (λ y. cond (ltb y from) early late) (v .is)
 
 -- ---- the least of bytes: above 0 while each of them is
 

@@ -1,5 +1,5 @@
 -- What the flows hold: nothing, tested at a position, changed from a position on, and carried on at a frame change. Assumes nothing.
-use Prim.Native.Nat.{ℕ, _+_, _-_, _%_}
+use Prim.Native.Nat.{ℕ, zero, suc, _+_, _-_, _%_, _≤_, _<_, max}
 use mathlib.Core.List.{List}
 use mathlib.Core.Bool.{Bool}
 use lib.ListN.{getD}
@@ -24,6 +24,19 @@ someHeld held q = ltb 0 (getD held q 0)
 -- fewer than the cells are held at q
 abbrev pub roomAt : List ℕ → ℕ → ℕ → Bool
 roomAt held cells q = ltb (getD held q 0) cells
+
+-- the largest of f 0 to f (n - 1), or 0
+unfoldable pub largest : ℕ → (ℕ → ℕ) → ℕ
+largest zero f = 0
+largest (suc n) f = max (largest n f) (f n)
+
+-- the most that is held at any of T positions
+abbrev pub mostHeld : ℕ → List ℕ → ℕ
+mostHeld T held = largest T (λ q. getD held q 0)
+
+-- n is no less than what is held at any of T positions; 255 says nothing
+pub record AtMost (T n : ℕ) (held : List ℕ) : Type 0 where
+  pub most : n < 255 → (q : ℕ) → q < T → getD held q 0 ≤ n
 
 -- ---- from p on
 

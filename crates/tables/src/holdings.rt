@@ -1,8 +1,9 @@
 // What each flow holds at each position: what flow i holds at position p stands at 256 * i + p, which no other crate knows.
 // From p on means at p and at every later position. With h the first position of the head frame: where h <= p, these are p to T - 1 and
 // 0 to h - 1; where p < h, they are p to h - 1.
-// A test or a change from p on is one pass over all T places; at the other places it uses a value that leaves the result as it is. One
-// pass lowers and tests, and a second one raises again where the test fails.
+// A change from p on, and a test of what is held from p on, is one pass over all T places; at those before p it changes nothing, and the test
+// uses a value that passes. A byte counts the places from the head frame's first position on, going round 256, and tells by one comparison
+// which of the two a place is.
 ghost use mathlib.Core.Path.{_≡_};
 ghost use mathlib.Core.Bool.{cond};
 ghost use Prim.Native.Nat.{_+_, _-_, _*_, _≤_, _<_, max};
@@ -11,12 +12,12 @@ ghost use lib.ListN.{getD};
 ghost use Rattle.model.specs.Window as model;
 ghost use Rattle.window.specs.Bytes.{wrapped};
 ghost use Rattle.window.specs.Ranges.{inRange, replaced, All, LastIn};
-ghost use Rattle.window.specs.Window.{windowOf, sizeOf, Proper, FromRank};
+ghost use Rattle.window.specs.Window.{windowOf, sizeOf, baseOf, Proper, InWindow, FromRank};
 ghost use Rattle.tables.specs.Asked.{FlowAt, FlowsOf};
 ghost use Rattle.tables.specs.Owners.{everywhere};
 ghost use Rattle.tables.specs.Rows.{row, withRow, carriedRows};
-ghost use Rattle.tables.specs.Padded.{pad, InRow, Bytes};
-ghost use Rattle.tables.specs.Holdings.{someHeld, roomAt, shifted, carried, nothingHeld};
+ghost use Rattle.tables.specs.Padded.{onFrom, pad, Bytes};
+ghost use Rattle.tables.specs.Holdings.{someHeld, roomAt, largest, mostHeld, shiftedRow, shifted, carried, nothingHeld};
 use window::Window;
 use window::numbers::chosen;
 use window::numbers::larger_byte;
@@ -95,21 +96,31 @@ pub fn room_from(held: &Holdings, i: usize, cells: u8, w: Window, p: usize) -> b
     room_rank(held, i, cells, w) <= w.rank(p)
 }
 
-// The holdings of the range from a to e moved modulo 256: by `inner` at the `count` places from a + `start` on, and by `outer` at the
-// others.
-fn shift(held: &mut Holdings, a: usize, e: usize, start: u8, count: u8, inner: u8, outer: u8)
-    requires { ⌜ InRow a e start count ⌝ }
-    ensures { λ r. ⌜ now (held .exit) ≡ replaced (inRange a e) (λ k x. wrapped (pad start count inner outer (k - a)) x) (now (held .entry)) ⌝ }
+// The holdings of the range from a to e moved modulo 256 by `late`, but not at the places that lie on from a + `base` by less than `from`,
+// going round 256.
+fn shift(held: &mut Holdings, a: usize, e: usize, base: u8, from: u8, late: u8)
+    requires { ⌜ (a ≤ e) × (e ≤ 4096) ⌝ }
+    ensures { λ r. ⌜ now (held .exit) ≡ replaced (inRange a e) (λ k x. wrapped (pad base from 0 late (k - a)) x) (now (held .entry)) ⌝ }
 {
     let mut q = a;
-    // how far q lies on from a + start, modulo 256
-    let mut x = to_zero(start);
+    // how far q lies on from a + base, going round 256
+    let mut x = to_zero(base);
     while q < e {
-        let by = chosen(x, count, inner, outer);
+        let by = chosen(x, from, 0, late);
         held[q] = moved(held[q], by);
         x = on_by_one(x);
         q += 1;
     }
+}
+
+// How far position p lies on from the head frame's first one, going round 256 and not T: among the positions of the window the order is
+// that of the ranks.
+fn turned(w: Window, p: usize) -> u8
+    requires { ⌜ InWindow w p ⌝ }
+    ensures { λ r. ⌜ r ≡ onFrom (baseOf w) p ⌝ }
+{
+    let start = w.head * w.slots;
+    moved(p as u8, to_zero(start as u8))
 }
 
 // Flow i's holdings from p on, each moved by a number modulo 256: 1 is one more, 255 one fewer.
@@ -120,11 +131,35 @@ pub fn shift_from(held: &mut Holdings, by: u8, i: usize, w: Window, p: usize)
     let first = 256 * i;
     let past = first + w.slots * w.frames;
     let base = w.head * w.slots;
-    if base <= p {
-        shift(held, first, past, base as u8, (p - base) as u8, 0, by);
-        return;
+    shift(held, first, past, base as u8, turned(w, p), by);
+}
+
+// Whether something is held at every place of the range from a to e but those that lie on from a + `base` by less than `from`.
+fn held_in(held: &Holdings, a: usize, e: usize, base: u8, from: u8) -> bool
+    requires { ⌜ (a ≤ e) × (e ≤ 4096) ⌝ }
+    ensures { λ r. ⌜ All (λ k. ltb 0 (max (getD (now (held .entry)) k 0) (pad base from 255 0 (k - a)))) a e r ⌝ }
+{
+    let mut least = 255u8;
+    let mut q = a;
+    // how far q lies on from a + base, going round 256
+    let mut x = to_zero(base);
+    while q < e {
+        least = smaller_byte(least, larger_byte(held[q], chosen(x, from, 255, 0)));
+        x = on_by_one(x);
+        q += 1;
     }
-    shift(held, first, past, p as u8, (base - p) as u8, by, 0);
+    0 < least
+}
+
+// Whether flow i holds something from p on.
+fn held_from(held: &Holdings, i: usize, w: Window, p: usize) -> bool
+    requires { ⌜ FlowAt w i p ⌝ }
+    ensures { λ r. ⌜ r ≡ model.everyFrom (windowOf w) p (someHeld (row (now (held .entry)) i)) ⌝ }
+{
+    let first = 256 * i;
+    let past = first + w.slots * w.frames;
+    let base = w.head * w.slots;
+    held_in(held, first, past, base as u8, turned(w, p))
 }
 
 // The same byte: a parameter is known to be below 256, which an element of an array is not.
@@ -134,66 +169,70 @@ fn byte(x: u8) -> u8
     x
 }
 
-// The holdings of the range from a to e moved as by `shift`, and whether before that at every place something was held or the pad was
-// above 0; the pad is `outer` where a holding is moved by `inner`, and `inner` where it is moved by `outer`. That holdings are bytes
-// follows from their type, and is stated so that callers find it.
-fn lower(
-    held: &mut Holdings,
-    a: usize,
-    e: usize,
-    start: u8,
-    count: u8,
-    inner: u8,
-    outer: u8,
-) -> bool
-    requires { ⌜ InRow a e start count ⌝ }
-    ensures all { λ r. ⌜ All (λ k. ltb 0 (max (getD (now (held .entry)) k 0) (pad start count outer inner (k - a)))) a e r ⌝ }
-    ensures shifts { λ r. ⌜ now (held .exit) ≡ replaced (inRange a e) (λ k x. wrapped (pad start count inner outer (k - a)) x) (now (held .entry)) ⌝ }
+// The holdings of the range from a to e moved as by `shift` with 255, and the largest of them then. That holdings are bytes follows from
+// their type, and is stated so that callers find it.
+fn lower(held: &mut Holdings, a: usize, e: usize, base: u8, from: u8) -> u8
+    requires { ⌜ (a ≤ e) × (e ≤ 4096) ⌝ }
+    ensures most { λ r. ⌜ r ≡ largest (e - a) (λ k. wrapped (pad base from 0 255 k) (getD (now (held .entry)) (a + k) 0)) ⌝ }
+    ensures shifts { λ r. ⌜ now (held .exit) ≡ replaced (inRange a e) (λ k x. wrapped (pad base from 0 255 (k - a)) x) (now (held .entry)) ⌝ }
     ensures bytes { λ r. ⌜ Bytes (now (held .entry)) a e ⌝ }
 {
-    let mut least = 255u8;
+    let mut most = 0u8;
     let mut q = a;
-    // how far q lies on from a + start, modulo 256
-    let mut x = to_zero(start);
+    // how far q lies on from a + base, going round 256
+    let mut x = to_zero(base);
     while q < e {
-        let was = byte(held[q]);
-        let pad = chosen(x, count, outer, inner);
-        let by = chosen(x, count, inner, outer);
-        least = smaller_byte(least, larger_byte(was, pad));
-        held[q] = moved(was, by);
+        let by = chosen(x, from, 0, 255);
+        let fewer = moved(byte(held[q]), by);
+        most = larger_byte(most, fewer);
+        held[q] = fewer;
         x = on_by_one(x);
         q += 1;
     }
-    0 < least
+    most
 }
 
-// Flow i's holdings from p on, each one fewer modulo 256, and whether something was held at each of them.
-fn lowered(held: &mut Holdings, i: usize, w: Window, p: usize) -> bool
+// Flow i's holdings from p on, each one fewer modulo 256, and the most that the flow holds then.
+fn lowered(held: &mut Holdings, i: usize, w: Window, p: usize) -> u8
     requires { ⌜ FlowAt w i p ⌝ }
-    ensures was { λ r. ⌜ r ≡ model.everyFrom (windowOf w) p (someHeld (row (now (held .entry)) i)) ⌝ }
+    ensures most { λ r. ⌜ r ≡ mostHeld (sizeOf w) (shiftedRow (windowOf w) 255 p (row (now (held .entry)) i)) ⌝ }
     ensures shifts { λ r. ⌜ now (held .exit) ≡ shifted (windowOf w) 255 i p (now (held .entry)) ⌝ }
     ensures bytes { λ r. ⌜ Bytes (now (held .entry)) (256 * i) (256 * i + sizeOf w) ⌝ }
 {
     let first = 256 * i;
     let past = first + w.slots * w.frames;
     let base = w.head * w.slots;
-    if base <= p {
-        return lower(held, first, past, base as u8, (p - base) as u8, 0, 255);
-    }
-    lower(held, first, past, p as u8, (base - p) as u8, 255, 0)
+    lower(held, first, past, base as u8, turned(w, p))
+}
+
+// Whether a flow's holdings were lowered, and the most that it holds then; 255 where they weren't.
+pub struct Fewer {
+    pub taken: bool,
+    pub most: u8,
 }
 
 // One fewer from p on where flow i holds something at each of these positions, else nothing changes; and which of the two it is.
-pub fn lower_from(held: &mut Holdings, i: usize, w: Window, p: usize) -> bool
+// One fewer than 0 is 255: where none of the flow's holdings is 255 after it, something was held at each of these positions. Where one is,
+// the holdings are raised again, and tested: 255 may have been held at an earlier position.
+pub fn lower_from(held: &mut Holdings, i: usize, w: Window, p: usize) -> Fewer
     requires { ⌜ FlowAt w i p ⌝ }
-    ensures was { λ r. ⌜ r ≡ model.everyFrom (windowOf w) p (someHeld (row (now (held .entry)) i)) ⌝ }
-    ensures holds { λ r. ⌜ now (held .exit) ≡ cond r (shifted (windowOf w) 255 i p (now (held .entry))) (now (held .entry)) ⌝ }
+    ensures was { λ r. ⌜ r .taken ≡ model.everyFrom (windowOf w) p (someHeld (row (now (held .entry)) i)) ⌝ }
+    ensures holds { λ r. ⌜ now (held .exit) ≡ cond (r .taken) (shifted (windowOf w) 255 i p (now (held .entry))) (now (held .entry)) ⌝ }
+    ensures most { λ r. ⌜ r .most ≡ cond (r .taken) (mostHeld (sizeOf w) (shiftedRow (windowOf w) 255 p (row (now (held .entry)) i))) 255 ⌝ }
 {
-    if lowered(held, i, w, p) {
-        return true;
+    let most = lowered(held, i, w, p);
+    if most < 255 {
+        return Fewer { taken: true, most };
     }
     shift_from(held, 1, i, w, p);
-    false
+    if !held_from(held, i, w, p) {
+        return Fewer {
+            taken: false,
+            most: 255,
+        };
+    }
+    shift_from(held, 255, i, w, p);
+    Fewer { taken: true, most }
 }
 
 // The table of a flow that holds nothing at any position.

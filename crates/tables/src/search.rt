@@ -5,7 +5,7 @@ ghost use mathlib.Core.Bool.{Bool};
 ghost use mathlib.Core.List.{List};
 ghost use Rattle.model.specs.Request.{canLeave, someInNewest};
 ghost use Rattle.window.specs.Window.{windowOf, Proper, InWindow, FromRank};
-ghost use Rattle.tables.specs.Asked.{SearchFrom};
+ghost use Rattle.tables.specs.Asked.{FlowWithin, SearchFrom};
 ghost use Rattle.tables.specs.Rows.{row};
 ghost use Rattle.tables.specs.Search.{foundOf, lateAt, validAt, lateAfter, searchFrom, Gathering, ValidSlots};
 use crate::Found;
@@ -19,15 +19,17 @@ use window::numbers::larger;
 use window::numbers::over;
 use window::positions::next;
 
-// The rank from which on a position is late enough for a flow: it is not passed, and there is room from it on.
-pub fn late_rank(held: &Holdings, i: usize, cells: u8, w: Window) -> usize
-    requires { ⌜ Proper w × (i < 16) ⌝ }
+// The rank from which on a position is late enough for a flow: it is not passed, and there is room from it on. No more than `most` is held at
+// any position, unless `most` is 255; where it is below the cells, there is room everywhere.
+pub fn late_rank(held: &Holdings, most: u8, i: usize, cells: u8, w: Window) -> usize
+    requires { ⌜ FlowWithin w most i (now held) ⌝ }
     ensures { λ r. ⌜ FromRank w (lateAt (windowOf w) (row (now (held .entry)) i) cells) r ⌝ }
 {
-    larger(
-        room_rank(held, i, cells, w),
-        w.current + 1 - w.head * w.slots,
-    )
+    let after = w.current + 1 - w.head * w.slots;
+    if most < cells {
+        return after;
+    }
+    larger(room_rank(held, i, cells, w), after)
 }
 
 // The rank from which on a tile with a departure can leave: the one after the departure's, where that is later than CP.

@@ -1,4 +1,4 @@
--- From p on, which is p and every later position: as a range, a test of these positions, and elements replaced at them. Assumes nothing.
+-- From p on, which is p and every later position: by rank, a test of these positions, and elements replaced at them. Assumes nothing.
 use Prim.Native.Nat.{ℕ, _+_, _-_, _≤_, _<_}
 use mathlib.Core.Path.{_≡_, refl, sym, _∙_}
 use mathlib.Core.List.{List}
@@ -25,45 +25,16 @@ unfolding everyFrom
 everyFrom-same w p t t′ e = every-same (model.size w) _ _ (λ q l. rw (e q l))
 
 module _ (w : Window) (v : Proper w) (p : ℕ) (lp : p < sizeOf w) where
-  -- ---- as a range
+  -- ---- by rank
 
-  from-is : (q : ℕ) → q < sizeOf w → fromIn (windowOf w) p q ≡ leb (rankIn w p) (rankIn w q)
+  -- a position of no lower rank
+  pub from-is : (q : ℕ) → q < sizeOf w → fromIn (windowOf w) p q ≡ leb (rankIn w p) (rankIn w q)
   unfolding fromIn fromOn
   from-is q l = rw (lt-ltb q (sizeOf w) l)
 
   pub from-past : (q : ℕ) → sizeOf w ≤ q → fromIn (windowOf w) p q ≡ false
   unfolding fromIn
   from-past q l = rw (le-ltb q (sizeOf w) l)
-
-  -- p comes after the head's first position: all but the range from there to p
-  pub from-high : baseOf w ≤ p → (q : ℕ) → q < sizeOf w → inRange (baseOf w) p q ≡ not (fromIn (windowOf w) p q)
-  from-high h q l = rw (from-is q l) (go (decLt q (baseOf w)) (decLt q p))
-    where
-      r : rankIn w p ≡ p - baseOf w
-      r = rank-high w v p lp h
-
-      go : Dec (q < baseOf w) → Dec (q < p) → inRange (baseOf w) p q ≡ not (leb (rankIn w p) (rankIn w q))
-      go (yes a) b =
-          rw (before-range (baseOf w) p q a, le-leb (rankIn w p) (rankIn w q) (omega (arith, r, rank-low w v q a)))
-      go (no a) (yes b) =
-          rw (in-range (baseOf w) p q (omega arith) b, lt-leb (rankIn w p) (rankIn w q) (omega (arith, r, rank-high w v q l (omega arith))))
-      go (no a) (no b) =
-          rw (past-range (baseOf w) p q (omega arith), le-leb (rankIn w p) (rankIn w q) (omega (arith, r, rank-high w v q l (omega arith))))
-
-  -- p comes before it: the range from p to there
-  pub from-low : p < baseOf w → (q : ℕ) → q < sizeOf w → inRange p (baseOf w) q ≡ fromIn (windowOf w) p q
-  from-low h q l = rw (from-is q l) (go (decLt q p) (decLt q (baseOf w)))
-    where
-      r : rankIn w p ≡ p + sizeOf w - baseOf w
-      r = rank-low w v p h
-
-      go : Dec (q < p) → Dec (q < baseOf w) → inRange p (baseOf w) q ≡ leb (rankIn w p) (rankIn w q)
-      go (yes a) b =
-          rw (before-range p (baseOf w) q a, lt-leb (rankIn w p) (rankIn w q) (omega (arith, r, rank-low w v q (omega arith))))
-      go (no a) (yes b) =
-          rw (in-range p (baseOf w) q (omega arith) b, le-leb (rankIn w p) (rankIn w q) (omega (arith, r, rank-low w v q b)))
-      go (no a) (no b) =
-          rw (past-range p (baseOf w) q (omega arith), lt-leb (rankIn w p) (rankIn w q) (omega (arith, r, rank-high w v q l (omega arith))))
 
   -- ---- a test
 

@@ -113,7 +113,7 @@ module _ (w : Window) (v : Proper w) where
         go (yes d) = omega (arith, head-on d)
         go (no d) = omega (arith, head-round d, last-head d, v .measures .two-frames)
 
-    pub ticked-over : Ticked w (record { slots = w .slots; frames = w .frames; current = head * w .slots; head = head })
+    ticked-over : Ticked w (record { slots = w .slots; frames = w .frames; current = head * w .slots; head = head })
     ticked-over = record {
       window-is = ap movedTo first-slot;
       proper = record {
@@ -127,3 +127,12 @@ module _ (w : Window) (v : Proper w) where
       stays = λ e _. another-head e;
       leaves = λ _. (mul-mod-left head (w .slots), is);
     }
+
+  -- the head is the last frame, or the next one comes after it
+  module _ (h : baseOf w + w .slots ≤ w .current + 1) where
+    pub ticked-round : w .head + 1 ≡ w .frames → Ticked w (record { slots = w .slots; frames = w .frames; current = 0; head = 0 })
+    ticked-round e = rw (zero-mul (w .slots)) at (ticked-over h 0 (sym (rw e (mod-self (w .frames)))))
+
+    pub ticked-next : w .head + 1 < w .frames
+        → Ticked w (record { slots = w .slots; frames = w .frames; current = w .current + 1; head = w .head + 1 })
+    ticked-next d = let is = sym (mod-eq-of-lt d) in rw (← next-base h (w .head + 1) is) at (ticked-over h (w .head + 1) is)

@@ -1,4 +1,4 @@
-// Numbers and bytes: the smaller, the larger, one of two, differences, and sums modulo 256.
+// Numbers and bytes: the smaller, the larger, one of two, differences, sums modulo 256, and one more up to 255.
 ghost use mathlib.Core.Path.{_≡_};
 ghost use mathlib.Core.Bool.{cond};
 ghost use Prim.Native.Nat.{_+_, _-_, _%_, max, min};
@@ -82,4 +82,14 @@ pub fn on_by_one(x: u8) -> u8
     ensures { λ r. ⌜ r ≡ (x + 1) % 256 ⌝ }
 {
     wrapping_add_u8(x, 1)
+}
+
+// The next byte, and 255 after 255.
+pub fn one_more(x: u8) -> u8
+    ensures { λ r. ⌜ r ≡ min (x + 1) 255 ⌝ }
+{
+    if x < 255 {
+        return x + 1;
+    }
+    x
 }

@@ -91,12 +91,20 @@ impl Window {
                 head: self.head,
             };
         }
-        let head = next(self.frames, self.head);
+        if self.head + 1 == self.frames {
+            return Window {
+                slots: self.slots,
+                frames: self.frames,
+                current: 0,
+                head: 0,
+            };
+        }
+        // past the last position of a frame is the first one of the next
         Window {
             slots: self.slots,
             frames: self.frames,
-            current: head * self.slots,
-            head,
+            current,
+            head: self.head + 1,
         }
     }
 }

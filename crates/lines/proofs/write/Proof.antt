@@ -1,6 +1,6 @@
 -- `lines::write` meets its contract: its two stores overlap, and make the line. Assumes nothing.
-use Prim.Native.Nat.{ℕ, _+_, _≤_, min}
-use mathlib.Core.Path.{_≡_, refl}
+use Prim.Native.Nat.{ℕ, _+_, _≤_}
+use mathlib.Core.Path.{refl}
 use mathlib.Core.List.{List}
 use borrow.Author.Needs.{needs}
 use native.Mathlib.Omega.{arith}
@@ -14,7 +14,7 @@ use Rattle.lines.proofs.write.Tie as tie
 -- where the room was tested, and the function entered
 module _ (c : tie.After-put-four-arg) where
   abbrev room-at : tie.Else1
-  room-at = c .before .before .before
+  room-at = c .before .before
 
   abbrev start : tie.Start
   start = room-at .before .before .before .before
@@ -27,9 +27,6 @@ module _ (c : tie.After-put-four-arg) where
 
   room-there : at + 7 ≤ length out
   room-there = in-room out at (room-at .before .has-room .ensures) (room-at .if1 .left)
-
-  past-is : c .before .smaller .result ≡ min (start .args .line .past) 3
-  past-is = c .before .smaller .ensures
 
 -- where the last four bytes are stored, from where the first four are
 abbrev last-at : tie.After-put-four2 → tie.After-put-four
@@ -47,17 +44,14 @@ same-length c = search needs
 returns : tie.Need-returns
 returns c = not-written _ _ (c .before .has-room .ensures) _ (c .if1 .taken)
 
-cast-smaller : tie.Need-cast-smaller
-cast-smaller c = search needs
-
-smaller-requires : tie.Need-smaller-requires
-smaller-requires c κs = search needs
+cast-past : tie.Need-cast-past
+cast-past c = search needs
 
 add-put-four : tie.Need-add-put-four
-add-put-four c = search (needs, room-there c, past-is c)
+add-put-four c = search (needs, room-there c)
 
 put-four-requires : tie.Need-put-four-requires
-put-four-requires c κs = omega (arith, room-there c, past-is c)
+put-four-requires c κs = omega (arith, room-there c)
 
 put-four-requires-2 : tie.Need-put-four-requires-2
 put-four-requires-2 c κs =
@@ -67,12 +61,12 @@ put-four-requires-2 c κs =
 add-result : tie.Need-add-result
 add-result c =
     let a = last-at (first-at c) .before in
-    search (needs, room-there a, past-is a)
+    search (needs, room-there a)
 
 add-result-2 : tie.Need-add-result-2
 add-result-2 c =
     let a = last-at (first-at c) .before in
-    search (needs, room-there a, past-is a)
+    search (needs, room-there a)
 
 same-length-2 : tie.Need-same-length-2
 same-length-2 c = search needs
@@ -82,8 +76,8 @@ returns-2 c =
     let first = first-at c in
     let last = last-at first in
     let a = last .before in
-    let stored = both-stored (start a .args .line) (past-is a) (room-there a) (last .put-four .ensures) (first .put-four2 .ensures) in
-    written _ _ (room-at a .before .has-room .ensures) (room-at a .if1 .left) refl stored (omega (arith, past-is a))
+    let stored = both-stored (start a .args .line) refl (room-there a) (last .put-four .ensures) (first .put-four2 .ensures) in
+    written _ _ (room-at a .before .has-room .ensures) (room-at a .if1 .left) refl stored (omega arith)
 
 pub write-spec : {M : Type 1} → statement M
 write-spec =
@@ -92,8 +86,7 @@ write-spec =
     has-room-requires
     same-length
     returns
-    cast-smaller
-    smaller-requires
+    cast-past
     add-put-four
     put-four-requires
     put-four-requires-2

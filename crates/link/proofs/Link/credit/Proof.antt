@@ -26,14 +26,14 @@ returns : tie.Need-returns
 returns c =
     let t = c .before in
     let a = hand-at (window-at t) in
-    rw (t .take .ensures .1 .refused (c .if1 .taken)) (credit-refused a _ _ (t .take .ensures .0 _ (credit-on a)) (c .if1 .taken))
+    rw (t .take .ensures .1 .0 .refused (c .if1 .taken)) (credit-refused a _ _ (t .take .ensures .0 _ (credit-on a)) (c .if1 .taken))
 
 returns-2 : tie.Need-returns-2
 returns-2 c =
     let t = c .before in
     let a = hand-at (window-at t) in
     let tests = t .take .ensures .0 _ (credit-on a) in
-    let holds = t .take .ensures .1 in
+    let holds = t .take .ensures .1 .0 in
     credit-taken a _ _ tests (c .if1 .left) (holds .taken (c .if1 .left)) (holds .lowered (c .if1 .left))
 
 pub credit-spec : {M : Type 1} → statement M

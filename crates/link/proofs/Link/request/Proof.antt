@@ -6,6 +6,7 @@ use native.Mathlib.Omega.{arith}
 use Rattle.model.specs.Request.{request}
 use Rattle.unbooked.specs.Words.{InFrame}
 use Rattle.unbooked.proofs.FrameWords.{in-window}
+use Rattle.tables.proofs.AtMost.{most-unknown}
 use Rattle.link.specs.declared.Link.{Link}
 use Rattle.link.specs.declared.reply.Reply.{Reply}
 use Rattle.link.specs.Reading.{linkOf}
@@ -88,7 +89,7 @@ window-requires c κs = measures _ (start (c .before .before) .pre)
 ask-requires : tie.Need-ask-requires
 ask-requires c κs =
     let w = window-for c in
-    record { link = link-at w; given = request-on (hand-at w) _ (asked-at w .asker .ensures) }
+    (record { link = link-at w; given = request-on (hand-at w) _ (asked-at w .asker .ensures) }, most-unknown)
 
 mul-flow-2 : tie.Need-mul-flow-2
 mul-flow-2 c = omega (arith, asker-few (asked-at (window-at c)))

@@ -6,8 +6,9 @@ use mathlib.Core.Bool.{Bool, false, cond}
 use native.Mathlib.Omega.{arith}
 use Rattle.model.specs.Window.{passed, everyFrom}
 use Rattle.window.specs.declared.Window.{Window}
+use Rattle.window.specs.Window as window
 use Rattle.window.specs.Window.{windowOf}
-use Rattle.tables.specs.Holdings.{someHeld, shifted}
+use Rattle.tables.specs.Holdings.{someHeld, mostHeld, shiftedRow, shifted}
 use Rattle.tables.specs.Rows.{row}
 use Rattle.link.specs.declared.Link.{Link}
 use Rattle.link.specs.Layout.{sizeOf}
@@ -57,7 +58,7 @@ module _ (c : tie.After-lower-from) where
   abbrev held-in : List ℕ → Bool
   held-in h = everyFrom (windowOf (start (tested-at c) .args .w)) position-at (someHeld (row h (start (tested-at c) .args .flow)))
 
-  held-is : (l : Link) → OnAt (start (tested-at c)) l → held-in (l .held) ≡ c .lower-from .result
+  held-is : (l : Link) → OnAt (start (tested-at c)) l → held-in (l .held) ≡ c .lower-from .result .taken
   held-is l o = ap held-in (sym (o .held-is)) ∙ sym (c .lower-from .ensures .0)
 
   -- what the flows hold after it
@@ -66,6 +67,12 @@ module _ (c : tie.After-lower-from) where
       let s = start (tested-at c) in
       cond b (shifted (windowOf (s .args .w)) 255 (s .args .flow) position-at (s .args .held .now)) (s .args .held .now)
 
+  -- the most that the flow holds after it
+  abbrev mostAfter : Bool → ℕ
+  mostAfter b =
+      let s = start (tested-at c) in
+      cond b (mostHeld (window.sizeOf (s .args .w)) (shiftedRow (windowOf (s .args .w)) 255 position-at (row (s .args .held .now) (s .args .flow)))) 255
+
 -- a refusal changes nothing
 unchanged : {n i p number : ℕ} {w : Window} {before after : List ℕ} → after ≡ before → (number ≡ 0 → ⊥) → Credited n w i p number before after
 unchanged e n = record { refused = λ _. e; taken = λ z. absurd (n z); lowered = λ z. absurd (n z) }
@@ -73,7 +80,7 @@ unchanged e n = record { refused = λ _. e; taken = λ z. absurd (n z); lowered 
 -- ---- the needs
 
 returns : tie.Need-returns
-returns c = (λ l o. tests-8 l _ _ (rw (← o .window .count-is) (c .if1 .taken)), unchanged refl (λ z. omega (arith, z)))
+returns c = (λ l o. tests-8 l _ _ (rw (← o .window .count-is) (c .if1 .taken)), (unchanged refl (λ z. omega (arith, z)), refl))
 
 mul-if2 : tie.Need-mul-if2
 mul-if2 c = let m = c .before .before .pre .given .window .proper .measures in omega (arith, m .positions-most)
@@ -81,7 +88,7 @@ mul-if2 c = let m = c .before .before .pre .given .window .proper .measures in o
 returns-2 : tie.Need-returns-2
 returns-2 c = (
   λ l o. tests-13 l _ _ (rw (← o .window .count-is) (c .before .before .if1 .left)) (rw (← read-size l (o .window .window-is)) (c .if2 .taken)),
-  unchanged refl (λ z. omega (arith, z)),
+  (unchanged refl (λ z. omega (arith, z)), refl),
 )
 
 passed-requires : tie.Need-passed-requires
@@ -91,7 +98,7 @@ returns-3 : tie.Need-returns-3
 returns-3 c =
     let t = c .before .before in (
       λ l o. tests-14 l _ _ (flow-below t l o) (position-below t l o) _ (o .window .window-is) (sym (c .before .passed .ensures) ∙ c .if3 .taken),
-      unchanged refl (λ z. omega (arith, z)),
+      (unchanged refl (λ z. omega (arith, z)), refl),
     )
 
 lower-from-requires : tie.Need-lower-from-requires
@@ -104,11 +111,14 @@ returns-4 c =
     let h = c .before in
     let t = tested-at h in (
       λ l o. tests-pass l _ _ (flow-below t l o) (position-below t l o) _ (o .window .window-is) (not-passed h) (held-is h l o ∙ c .if4 .taken),
-      record {
-        refused = λ n. absurd (n refl);
-        taken = λ z. record { flow = flow-tested t; position = t .if2 .left; some-held = sym (h .lower-from .ensures .0) ∙ c .if4 .taken };
-        lowered = λ z. h .lower-from .ensures .1 ∙ ap (holds h) (c .if4 .taken);
-      },
+      (
+        record {
+          refused = λ n. absurd (n refl);
+          taken = λ z. record { flow = flow-tested t; position = t .if2 .left; some-held = sym (h .lower-from .ensures .0) ∙ c .if4 .taken };
+          lowered = λ z. h .lower-from .ensures .1 .0 ∙ ap (holds h) (c .if4 .taken);
+        },
+        h .lower-from .ensures .1 .1 ∙ ap (mostAfter h) (c .if4 .taken),
+      ),
     )
 
 returns-5 : tie.Need-returns-5
@@ -116,7 +126,7 @@ returns-5 c =
     let h = c .before in
     let t = tested-at h in (
       λ l o. tests-15 l _ _ (flow-below t l o) (position-below t l o) _ (o .window .window-is) (not-passed h) (held-is h l o ∙ c .if4 .left),
-      unchanged (h .lower-from .ensures .1 ∙ ap (holds h) (c .if4 .left)) (λ z. omega (arith, z)),
+      (unchanged (h .lower-from .ensures .1 .0 ∙ ap (holds h) (c .if4 .left)) (λ z. omega (arith, z)), refl),
     )
 
 pub take-spec : {M : Type 1} → statement M

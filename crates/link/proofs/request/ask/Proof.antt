@@ -121,7 +121,7 @@ module _ (c : tie.After-found) where
 -- ---- the needs
 
 mul-refusal : tie.Need-mul-refusal
-mul-refusal c = let m = c .before .pre .given .window .proper .measures in omega (arith, m .positions-most)
+mul-refusal c = let m = c .before .pre .0 .given .window .proper .measures in omega (arith, m .positions-most)
 
 refusal-requires : tie.Need-refusal-requires
 refusal-requires c κs = search needs
@@ -138,7 +138,7 @@ returns c =
     ∙ reply-refused l (o .window .sound) _ _ (place-on o) (tests-are tested l o) (c .before .if1 .taken)
 
 newest-requires : tie.Need-newest-requires
-newest-requires c κs = start c .pre .given .window .proper
+newest-requires c κs = start c .pre .0 .given .window .proper
 
 refused-requires-2 : tie.Need-refused-requires-2
 refused-requires-2 c κs = search needs
@@ -160,7 +160,10 @@ returns-2 c =
     ∙ reply-nowhere l s _ _ (place-on o) (tests-are (p .before) l o) (p .if1 .left) 0 (spent-at-newest l s _ is _ (flow-on o) _ in-newest spent)
 
 late-rank-requires : tie.Need-late-rank-requires
-late-rank-requires c κs = let o = start (passed-at (newest-for c)) .pre .given in (o .window .proper, flow-few o)
+late-rank-requires c κs =
+    let given = start (passed-at (newest-for c)) .pre in
+    let o = given .0 .given in
+    record { proper = o .window .proper; flow = flow-few o; most = given .1 }
 
 departure-requires : tie.Need-departure-requires
 departure-requires c κs = search needs
@@ -171,7 +174,7 @@ cast-find c = search needs
 find-requires : tie.Need-find-requires
 find-requires c κs =
     let p = passed-at (newest-for (late-for c .before)) in
-    let some = start p .pre in
+    let some = start p .pre .0 in
     let o = some .given in
     let below = departure-below (some .link) _ (tests-are (p .before) (some .link) o) (p .if1 .left) in
     search-from o (rw (c .before .departure .ensures, read-size (some .link) (o .window .window-is)) below)
@@ -180,12 +183,12 @@ enum-known-found : tie.Need-enum-known-found
 enum-known-found c = search needs
 
 granted-in-requires : tie.Need-granted-in-requires
-granted-in-requires c κs = number-below (start (passed-at (newest-at (at-find (c .before)))) .pre .given)
+granted-in-requires c κs = number-below (start (passed-at (newest-at (at-find (c .before)))) .pre .0 .given)
 
 cast-depart : tie.Need-cast-depart
 cast-depart c =
     let f = c .before .before in
-    let some = start (passed-at (newest-at (at-find f))) .pre in
+    let some = start (passed-at (newest-at (at-find f))) .pre .0 in
     omega (arith, position-small f (some .link) (some .given))
 
 depart-requires : tie.Need-depart-requires
@@ -207,7 +210,7 @@ enum-known-found-2 : tie.Need-enum-known-found-2
 enum-known-found-2 c = search needs
 
 valid-in-newest-requires : tie.Need-valid-in-newest-requires
-valid-in-newest-requires c κs = let n = newest-at (c .before .before .before) in start (passed-at n) .pre .given .window .proper
+valid-in-newest-requires c κs = let n = newest-at (c .before .before .before) in start (passed-at n) .pre .0 .given .window .proper
 
 nowhere-requires : tie.Need-nowhere-requires
 nowhere-requires c κs = search needs

@@ -2,7 +2,7 @@
 use borrow.Author.Needs.{needs}
 use Prim.Native.Nat.{_-_}
 use native.Mathlib.Omega.{arith}
-use Rattle.tables.proofs.Largest.{Largest, largest-none, largest-more, largest-done}
+use Rattle.tables.proofs.Largest.{Largest, range-none, range-more, range-done}
 use Rattle.tables.proofs.holdings.room_in.Statement.{statement}
 use Rattle.tables.proofs.holdings.room_in.Tie as tie
 
@@ -13,7 +13,7 @@ abbrev μ-loop : tie.MeasureT-loop
 μ-loop held cells a e most₀ q₀ most q = e - q
 
 loop-holds : tie.Need-loop-holds Inv-loop μ-loop
-loop-holds c = largest-none _ _ _ (omega arith)
+loop-holds c = range-none _ _ _ (omega arith)
 
 element-copy-out-larger-byte : tie.Need-element-copy-out-larger-byte Inv-loop μ-loop
 element-copy-out-larger-byte c = search needs
@@ -30,10 +30,10 @@ loop-less c = search needs
 loop-again : tie.Need-loop-again Inv-loop μ-loop
 loop-again c =
     let i = c .before .before in
-    largest-more (i .before .loop .inv) (i .loop-test .taken) (c .larger-byte .ensures)
+    range-more (i .before .loop .inv) (i .loop-test .taken) (c .larger-byte .ensures)
 
 returns : tie.Need-returns Inv-loop μ-loop
-returns c = largest-done (c .before .loop .inv) (c .before .before .pre .0) (omega arith) _
+returns c = range-done (c .before .loop .inv) (c .before .before .pre .0) (omega arith) _
 
 pub room-in-spec : {M : Type 1} → statement M
 room-in-spec =

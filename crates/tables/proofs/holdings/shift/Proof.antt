@@ -12,11 +12,11 @@ use Rattle.tables.proofs.holdings.shift.Statement.{statement}
 use Rattle.tables.proofs.holdings.shift.Tie as tie
 
 abbrev Inv-loop : tie.InvT-loop
-Inv-loop held₀ a e start count inner outer q₀ x₀ held q x =
-    Counting start a q x × Replacing (λ k y. wrapped (pad start count inner outer (k - a)) y) a e held₀ held q
+Inv-loop held₀ a e base from late q₀ x₀ held q x =
+    Counting base a q x × Replacing (λ k y. wrapped (pad base from 0 late (k - a)) y) a e held₀ held q
 
 abbrev μ-loop : tie.MeasureT-loop
-μ-loop held₀ a e start count inner outer q₀ x₀ held q x = e - q
+μ-loop held₀ a e base from late q₀ x₀ held q x = e - q
 
 -- where a place is looked at
 abbrev at-place : tie.After-moved Inv-loop μ-loop → tie.In-loop Inv-loop μ-loop
@@ -26,14 +26,12 @@ at-place c = c .before .before .before
 put : (c : tie.After-moved Inv-loop μ-loop)
     → let l = at-place c .before in
     let s = l .before .before .args in
-    c .moved .result ≡ wrapped (pad (s .start) (s .count) (s .inner) (s .outer) (l .loop .q - s .a)) (getD (l .loop .held) (l .loop .q) 0)
+    c .moved .result ≡ wrapped (pad (s .base) (s .from) 0 (s .late) (l .loop .q - s .a)) (getD (l .loop .held) (l .loop .q) 0)
 put c =
     let i = at-place c in
     let l = i .before in
     let s = l .before .before in
-    let counted = l .loop .inv .0 in
-    let from = l .loop .inv .1 .from in
-    let padded = counted-pad counted (omega arith) from (s .pre) (i .loop-test .taken) (s .args .inner) (s .args .outer) in
+    let padded = counted-pad (l .loop .inv .0) (s .args .from) 0 (s .args .late) in
     c .moved .ensures ∙ ap (λ by. wrapped by (getD (l .loop .held) (l .loop .q) 0)) (c .before .before .chosen .ensures ∙ padded)
 
 to-zero-requires : tie.Need-to-zero-requires Inv-loop μ-loop
