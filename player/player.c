@@ -134,7 +134,7 @@ static void play(const uint8_t *record)
         say('R', NO_CALL);
 }
 
-/* Reads the plan, makes the link and writes the plan's line; whether it is accepted. */
+/* Reads the plan, makes the link and writes the plan's line, but for a plan that can't be read; whether it is accepted. */
 static int begin(void)
 {
     uint8_t plan[NAZGOLV_PLAN_MAX];
@@ -145,6 +145,8 @@ static int begin(void)
             && fread(plan + 2, 1, length - 2, stdin) == length - 2)
             refusal = NAZGOLV_REFUSAL(nazgolv_fresh(plan, length, image, sizeof image));
     }
+    if (ferror(stdin))
+        return 0;
     say('P', refusal);
     return refusal == 0;
 }
@@ -161,7 +163,7 @@ int main(int argc, char **argv)
     if (begin()) {
         while ((got = fread(record, 1, RECORD, stdin)) == RECORD)
             play(record);
-        if (got > 0)
+        if (got > 0 && !ferror(stdin))
             say('R', NO_CALL);
     }
     if (ferror(stdin) || fflush(stdout) != 0 || ferror(stdout)) {

@@ -97,14 +97,24 @@ def booked_slots(name):
     return slots
 
 
+def no_stream(number, line, name):
+    return Trouble("line %d of %s is '%s', and has to be a flow's number "
+                   "or -%s" % (number, called(name), shown(line), MORE))
+
+
 def sent_slots(name):
-    """The flow that left in each slot, from slot 1 on."""
+    """The flow that left in each slot, from slot 1 on.  Empty lines at the
+    end are no slots."""
     slots = []
+    empty = None                # the first of the empty lines read last
     for number, line in lines_of(name, "a list of streams"):
+        if not line:
+            empty = empty or number
+            continue
+        if empty is not None:
+            raise no_stream(empty, "", name)
         if line != "-" and not NUMBER.fullmatch(line):
-            raise Trouble("line %d of %s is '%s', and has to be a flow's "
-                          "number or -%s" % (number, called(name), shown(line),
-                                             MORE))
+            raise no_stream(number, line, name)
         slots.append(flow_of(line))
     return slots
 

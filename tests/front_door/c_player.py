@@ -64,8 +64,9 @@ def no_input(player):
 
 
 def unreadable_input(player):
-    return trouble(start(redirected("<" + os.sep, player)), NOT_WHOLE,
-                   says="the listing is not whole")
+    """It is no plan of the wrong length: there is no line."""
+    return trouble(start(redirected("<" + os.sep, player)), NOT_WHOLE, b"",
+                   "the listing is not whole")
 
 
 def full_disk(player):

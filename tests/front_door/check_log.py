@@ -225,6 +225,21 @@ def other_ends_of_lines(tree):
         b"alike: 2 of 2 slots agree, 1 with a stream and 1 idle\n"))
 
 
+def empty_lines_at_the_end(tree):
+    """Of a list of streams they are no slots; before another line they are
+    refused, and so they are in a listing."""
+    booked = tree.write("booked", b"P 0\nT 7\nT -\n")
+    for end in (b"\n", b"\n\n", b" \r\n\t\n", b"\n" * 1000):
+        ended = tree.start(booked, "-", input=b"7\n-\n" + end)
+        wrong = trouble(ended, output=(
+            b"alike: 2 of 2 slots agree, 1 with a stream and 1 idle\n"))
+        if wrong:
+            return "%r: %s" % (end[:9], wrong)
+    return trouble(
+        tree.start(booked, "-", input=b"7\n\n\n-\n\n"), NOT_COMPARED, b"",
+        "line 2 of standard input is '', and has to be a flow's number or -")
+
+
 def odd_names(tree):
     """Blanks, a quote, a minus in front after --, from another folder by a
     symlink."""
@@ -325,9 +340,9 @@ def help_page(tree):
 
 TESTS = (
     slot_by_slot, frames_are_named, the_sparse_flight,
-    listing_on_standard_input, other_ends_of_lines, odd_names, no_listing,
-    no_list_of_streams, wrong_words, streams_are_missing, output_is_lost,
-    python3_is_missing, help_page,
+    listing_on_standard_input, other_ends_of_lines, empty_lines_at_the_end,
+    odd_names, no_listing, no_list_of_streams, wrong_words,
+    streams_are_missing, output_is_lost, python3_is_missing, help_page,
 )
 
 

@@ -56,7 +56,7 @@ def words_stand_within():
 def long_names_keep_both_ends():
     """In the heading; the title has the whole name."""
     for option, rest in (("--svg", " after call 7 of 7"),
-                         ("--timeline", ": 1 slot")):
+                         ("--timeline", ": 1 slot came up")):
         root, wrong = svg(LISTING, option, "OUT", name=LONG)
         heading = wrong or all_of(root, "text")[0].text
         if wrong or not (heading.startswith("a-very-") and "..." in heading

@@ -140,7 +140,7 @@ def window_as_svg():
 
 def timeline():
     """Slot 1 has come up for flow 0.  Still to come are 2 and 4 of flow 0, and
-    3 of flow 1.  A slot is 24 wide, from 70 on, and a flow 9 high."""
+    3 of flow 1.  A slot is 24 wide, from 70 on, and a flow 12 high."""
     root, wrong = svg(LISTING, "--timeline", "OUT")
     if wrong:
         return wrong
@@ -153,7 +153,7 @@ def timeline():
     description = all_of(root, "desc")[0].text
     for found, expected in (
             (came, [("94", "64")]),
-            (to_come, [("118.5", "64.5"), ("142.5", "73.5"),
+            (to_come, [("118.5", "64.5"), ("142.5", "76.5"),
                        ("166.5", "64.5")]),
             (description, "flow 0: 3 booked, 0 lent; flow 1: 1 booked, "
              "0 lent; idle: 0")):

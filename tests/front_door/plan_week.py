@@ -47,18 +47,24 @@ PRINTED = [
                      "tue 01:00 - sun 24:00 dark"]),
 ]
 
-# Numbers beside the refusal that document 02 gives them.
+# Numbers beside the refusal that document 02 gives them, and the entry or the
+# entries that are named.
 REFUSALS = [
-    ("10 10 7", 28),
-    ("20 10 7", 28),
-    ("0 10081 7", 28),
-    ("10000 100 7", 28),
-    ("0 999999999 7", 28),
-    ("0 1 7 " * 65, 28),                    # before 29
-    ("0 10 5  5 20 6  30 30 7", 28),
-    ("0 10 5  5 20 6", 29),
-    ("0 10 5  0 10 5", 29),
-    ("0 100 5  40 50 6", 29),
+    ("10 10 7", 28, "entry 1 is from 10 to 10"),
+    ("20 10 7", 28, "entry 1 is from 20 to 10"),
+    ("0 10081 7", 28, "entry 1 is from 0 to 10081"),
+    ("10000 100 7", 28, "entry 1 is from 10000 to 100"),
+    ("0 999999999 7", 28, "entry 1 is from 0 to 999999999"),
+    ("0 1 7 " * 65, 28, "there are 65"),    # before 29
+    ("0 10 5  5 20 6  30 30 7", 28, "entry 3 is from 30 to 30"),
+    ("0 08 5  010 0009 6", 28, "entry 2 is from 10 to 9"),
+    ("0 10 5  5 20 6", 29, "entries 1 and 2"),
+    ("0 10 5  0 10 5", 29, "entries 1 and 2"),
+    ("0 100 5  40 50 6", 29, "entries 1 and 2"),
+    ("40 50 6  0 100 5", 29, "entries 1 and 2"),
+    ("10 20 1  0 10 2  20 30 3  9 11 4", 29, "entries 1 and 4"),
+    ("10 20 1  0 10 2  20 30 3  9 10 4", 29, "entries 2 and 4"),
+    ("10 20 1  0 9 2  20 30 3  29 40 4", 29, "entries 3 and 4"),
 ]
 
 COUNT = ("the numbers of a programme are a start, an end and a plan for each "
@@ -174,12 +180,13 @@ def closed_input_not_needed(tree):
 # ---- programmes that are refused, and words that are none
 
 def refused_programmes(tree):
-    """Status 1, no line, the words of docs/REFUSALS.md, and what to do."""
+    """Status 1, no line, the words of docs/REFUSALS.md, which entry it is,
+    and what to do."""
     when = refusals_page.sentences()
-    for numbers, refusal in REFUSALS:
+    for numbers, refusal, here in REFUSALS:
         wrong = trouble(tree.start(*words_of(numbers)), REFUSED, b"",
-                        "plan: the programme is refused with %d: %s"
-                        % (refusal, when[refusal]), what_to_do(refusal))
+                        "plan: the programme is refused with %d: %s; here %s"
+                        % (refusal, when[refusal], here), what_to_do(refusal))
         if wrong:
             return "%s: %s" % (numbers[:40], wrong)
     return None

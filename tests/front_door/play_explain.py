@@ -155,6 +155,21 @@ def the_dense_flight(tree):
     return None if said.endswith(last) else said[-200:]
 
 
+def long_lines_of_the_summary():
+    """What doesn't fit a line goes on further in than what comes next."""
+    calls = [call_bytes.request(8, 0), call_bytes.request(9, 0, 0, 8),
+             call_bytes.request(9, 0, 1)]
+    data = BASE + 100 * b"".join(calls)
+    listing = "".join(line + "\n" for line in simulate(data, DOMELINK))
+    said, _ = explain.explained(data, listing, False)
+    wanted = (
+        "        flow 0: 300 requests, 0 granted, 300 refused (100 with 9, "
+        "100 with 10,\n"
+        "            100 with 24)\n"
+        "            0 credits, 0 taken, 0 refused; held at most 0 of ")
+    return None if wanted in said else said[-400:]
+
+
 # ---- refusals
 
 def plain(text):
@@ -253,6 +268,7 @@ TESTS = (
 
 def tests(programs):
     yield "./play: every refusal in words", every_refusal
+    yield "./play: long lines of the summary", long_lines_of_the_summary
     yield from in_trees(TESTS, programs)
 
     def with_all_calls(tree):

@@ -60,9 +60,9 @@ def as_svg():
     texts = [text.text for picture in (root, line)
              for tag in ("text", "title", "desc")
              for text in all_of(picture, tag)]
-    missing = [words for words in ("head 1", "newest 0", "calls: 1 slot")
+    missing = [words for words in ("head 1", "newest 0", "calls: 1 slot came up")
                if words not in texts]
-    return missing or wrong_words(
+    return ", ".join(missing) or wrong_words(
         " | ".join(texts), "what 1 flow holds against its cells")
 
 

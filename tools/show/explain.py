@@ -18,10 +18,11 @@ from words import Words
 WIDTH, INDENT = 80, 8
 
 
-def paragraph(head, text):
-    """Words behind a head, in lines of at most 80 characters."""
+def paragraph(head, text, further=INDENT):
+    """Words behind a head, in lines of at most 80 characters, those after the
+    first further in."""
     return textwrap.fill(text, WIDTH, initial_indent=head.ljust(INDENT),
-                         subsequent_indent=" " * INDENT,
+                         subsequent_indent=" " * further,
                          break_long_words=False, break_on_hyphens=False)
 
 
@@ -47,8 +48,8 @@ def pages(replay):
     yield ""
     yield "Summary"
     for line in Summary(replay).lines():
-        yield paragraph("", line) if line[0] != " " else paragraph(
-            "", "  " + line)
+        deep = INDENT + 4 * line.startswith(" ")
+        yield paragraph(" " * deep, line.lstrip(), deep + 4)
 
 
 def without_plan(listing):

@@ -4,7 +4,7 @@ from svg import GAP, document, heading, rect, text
 from words import plural
 
 BAND, WIDE = 256, 1024          # slots in a band, and the width of a full one
-BROAD, ROW = 24, 9              # the most that a slot is wide, a row's height
+BROAD, ROW = 24, 12             # the most that a slot is wide, a row's height
 LABEL, LEAST = 70, 560          # the room for labels, and the least width
 BOOKED, LENT, IDLE = "#072e5b", "#f5913b", "#b8b8b8"
 STRIPE = "#f1f1f1"              # behind every second flow
@@ -73,14 +73,14 @@ def band_frame(plan, band):
     """Labels of a band's rows, and lines where frames begin."""
     rows = len(plan.flows) + 1
     top = band.top
-    parts = [text(LABEL, top - 4, band.name(), 10)]
+    parts = [text(LABEL, top - 4, band.name(), 11)]
     for flow in plan.flows:
         y = top + flow.number * ROW
         if flow.number % 2 == 0:
             parts.append(rect(LABEL, y, band.slot * (band.last - band.first),
                               ROW, STRIPE))
-        parts.append(text(GAP, y + 8, "flow %d" % flow.number, 9))
-    parts.append(text(GAP, top + (rows - 1) * ROW + 8, "idle", 9))
+        parts.append(text(GAP, y + 10, "flow %d" % flow.number, 11))
+    parts.append(text(GAP, top + (rows - 1) * ROW + 10, "idle", 11))
     for slot in range(band.first, band.last):
         if slot % plan.frame_slots == 0:
             parts.append("<path d='M%g %g v%g' stroke='#888888' "
@@ -125,7 +125,7 @@ def timeline(replay, name):
     plan, ledger = replay.plan, Ledger(replay)
     height = (len(plan.flows) + 1) * ROW + 26
     width = max(LEAST, LABEL + slot_width(ledger) * slots_across(ledger) + GAP)
-    rest = ": %s" % plural(ledger.ticks, "slot")
+    rest = ": %s came up" % plural(ledger.ticks, "slot")
     parts = [heading(name, rest, width), *legend(ledger, 30)]
     top = 64
     for first in range(0, ledger.end + 1, BAND):
