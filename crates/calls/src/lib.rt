@@ -7,6 +7,7 @@ pub use lines::write;
 pub use lines::write_plan;
 pub use lines::write_refusal;
 pub use records::read;
+pub use records::wide;
 
 // The bytes of a call record.
 pub const RECORD: usize = 5;

@@ -9,7 +9,8 @@ use crate::Call;
 use crate::RECORD;
 use crate::Record;
 
-fn wide(byte: u8) -> u32
+// A byte as a number of 32 bits.
+pub fn wide(byte: u8) -> u32
     ensures { λ r. ⌜ (r ≡ byte) × (r < 256) ⌝ }
 {
     byte as u32

@@ -10,6 +10,7 @@ ghost use Rattle.model.specs.Listing.{creditLine};
 ghost use Rattle.calls.specs.Lines.{numberLine, outWith, nextAfter};
 ghost use Rattle.lines.specs.Lines.{four, textOf, Kept, lineAt, AllLines};
 use calls::has_room;
+use calls::wide;
 
 // A line of four to seven bytes.
 pub struct Line {
@@ -25,12 +26,6 @@ pub struct Line {
 pub const TICKS: usize = 256;
 // The place of an idle tick's line: those of 16 flows stand before it.
 const IDLE: usize = 272;
-
-fn wide(byte: u8) -> u32
-    ensures { λ r. ⌜ (r ≡ byte) × (r < 256) ⌝ }
-{
-    byte as u32
-}
 
 // Four bytes in one number, low byte first.
 fn pack(a: u8, b: u8, c: u8, d: u8) -> u32

@@ -1,7 +1,6 @@
--- The largest of some values; and that of a range of holdings, found one at a step: it tells whether there is room at each of them. Assumes
--- nothing.
-use Prim.Native.Nat.{ℕ, zero, suc, _+_, _≤_, _<_, max}
-use mathlib.Core.Path.{_≡_, refl}
+-- The largest of some values, and what it tells of each; that of a range of holdings, found one at a step. Assumes nothing.
+use Prim.Native.Nat.{ℕ, zero, suc, _+_, _-_, _≤_, _<_, max}
+use mathlib.Core.Path.{_≡_, refl, sym, _∙_}
 use mathlib.Core.List.{List}
 use native.Mathlib.Decide.{decLt, ℕ-discrete}
 use native.Mathlib.Omega.{arith}
@@ -35,52 +34,66 @@ unfolding largest
 largest-same zero f g e = refl
 largest-same (suc n) f g e = rw (e n (omega arith), largest-same n f g (λ k h. e k (omega arith)))
 
--- ---- of a range of holdings
+-- it is below c exactly if each of them is
+module _ (f : ℕ → ℕ) (c : ℕ) where
+  largest-reached : (n : ℕ) → 0 < n → c ≤ largest n f → Miss (λ k. ltb (f k) c) 0 n
+  unfolding largest
+  largest-reached zero h l = absurd (omega arith)
+  largest-reached (suc n) h l = go (decLt (f n) c) (decLt 0 n) (largest-reached n)
+    where
+      go : Dec (f n < c) → Dec (0 < n) → (0 < n → c ≤ largest n f → Miss (λ k. ltb (f k) c) 0 n) → Miss (λ k. ltb (f k) c) 0 (suc n)
+      go (no d) some below = record { at = n; from = omega arith; below = omega arith; fails = le-ltb _ c (omega arith) }
+      go (yes d) (yes some) below =
+          let m = below some (omega arith) in
+          record { at = m .at; from = omega arith; below = omega (arith, m .below); fails = m .fails }
+      go (yes d) (no none) below =
+          let z : n ≡ 0 = omega arith in
+          let nothing : largest n f ≡ 0 = rw z (largest-none f) in
+          absurd (omega arith)
+
+  pub largest-below : (n : ℕ) → 0 < n → All (λ k. ltb (f k) c) 0 n (ltb (largest n f) c)
+  largest-below n some = record {
+    pass = λ r k _ l. lt-ltb _ c (let most = largest-most n f k l in let s = ltb-true _ c r in omega arith);
+    miss = λ r. largest-reached n some (ltb-false _ c r);
+  }
+
+-- ---- of a range of holdings, found one at a step
+
+-- what is held at place a + k
+abbrev heldFrom : List ℕ → (a k : ℕ) → ℕ
+heldFrom held a k = getD held (a + k) 0
 
 -- most is the largest from a up to q, or 0 where there is none
-pub record Largest (held : List ℕ) (a e q most : ℕ) : Type 0 where
+pub record LargestTo (held : List ℕ) (a e q most : ℕ) : Type 0 where
   pub from : a ≤ q
   pub to : q ≤ e
-  pub below : (k : ℕ) → a ≤ k → k < q → getD held k 0 ≤ most
-  -- each number from 1 to most is reached by one of them
-  pub reached : (n : ℕ) → 0 < n → n ≤ most → Miss (roomAt held n) a q
+  pub is : most ≡ largest (q - a) (heldFrom held a)
 
-pub range-none : (held : List ℕ) (a e : ℕ) → a ≤ e → Largest held a e a 0
+pub range-none : (held : List ℕ) (a e : ℕ) → a ≤ e → LargestTo held a e a 0
 range-none held a e h = record {
   from = omega arith;
   to = h;
-  below = λ k l m. absurd (omega arith);
-  reached = λ n l m. absurd (omega arith);
+  is = let none : a - a ≡ 0 = omega arith in rw none (sym (largest-none (heldFrom held a)));
 }
 
-module _ {held : List ℕ} {a e q most : ℕ} (v : Largest held a e q most) where
-  pub range-more : q < e → {more : ℕ} → more ≡ max most (getD held q 0) → Largest held a e (q + 1) more
-  range-more h {more} z = record {
-    from = omega (arith, v .from);
-    to = omega arith;
-    below = λ k l m. under k l (ℕ-discrete k q) m;
-    reached = λ n l m. missed n l (decLt (getD held q 0) n) m;
-  }
-    where
-      under : (k : ℕ) → a ≤ k → Dec (k ≡ q) → k < q + 1 → getD held k 0 ≤ more
-      under k l (yes d) m = rw d (omega arith)
-      under k l (no d) m = let b = v .below k l (omega arith) in omega arith
-
-      missed : (n : ℕ) → 0 < n → Dec (getD held q 0 < n) → n ≤ more → Miss (roomAt held n) a (q + 1)
-      missed n l (yes d) m =
-          let x = v .reached n l (omega arith) in
-          record { at = x .at; from = x .from; below = omega (arith, x .below); fails = x .fails }
-      missed n l (no d) m = record { at = q; from = v .from; below = omega arith; fails = le-ltb _ n (omega arith) }
+module _ {held : List ℕ} {a e q most : ℕ} (v : LargestTo held a e q most) where
+  pub range-more : q < e → {more : ℕ} → more ≡ max most (getD held q 0) → LargestTo held a e (q + 1) more
+  range-more h z =
+      let on : q + 1 - a ≡ suc (q - a) = omega (arith, v .from) in
+      let place : a + (q - a) ≡ q = omega (arith, v .from) in
+      record {
+        from = omega (arith, v .from);
+        to = omega arith;
+        is = rw on (z ∙ rw (largest-one-more (q - a) (heldFrom held a), place, ← v .is));
+      }
 
   -- it tells whether fewer than the cells are held at each place of a range that has one
   pub range-done : a < e → e ≤ q → (cells : ℕ) → All (roomAt held cells) a e (ltb most cells)
   range-done some h cells =
       let z : q ≡ e = omega (arith, v .to) in
+      let is = rw z at (v .is) in
+      let all = rw (← is) at (largest-below (heldFrom held a) cells (e - a) (omega arith)) in
       record {
-        pass = λ r k l m. lt-ltb _ cells (let b = v .below k l (omega arith) in let s = ltb-true most cells r in omega arith);
-        miss = λ r. rw z at (missed (decLt 0 cells) (ltb-false most cells r));
+        pass = λ r k l m. let place : a + (k - a) ≡ k = omega arith in rw place at (all .pass r (k - a) (omega arith) (omega arith));
+        miss = λ r. let x = all .miss r in record { at = a + x .at; from = omega arith; below = omega (arith, x .below); fails = x .fails };
       }
-    where
-      missed : Dec (0 < cells) → cells ≤ most → Miss (roomAt held cells) a q
-      missed (yes d) full = v .reached cells d full
-      missed (no d) full = record { at = a; from = omega arith; below = omega arith; fails = le-ltb _ cells (omega arith) }

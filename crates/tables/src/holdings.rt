@@ -115,7 +115,7 @@ fn shift(held: &mut Holdings, a: usize, e: usize, base: u8, from: u8, late: u8)
 
 // How far position p lies on from the head frame's first one, going round 256 and not T: among the positions of the window the order is
 // that of the ranks.
-fn turned(w: Window, p: usize) -> u8
+fn on_from_head(w: Window, p: usize) -> u8
     requires { ⌜ InWindow w p ⌝ }
     ensures { λ r. ⌜ r ≡ onFrom (baseOf w) p ⌝ }
 {
@@ -131,7 +131,7 @@ pub fn shift_from(held: &mut Holdings, by: u8, i: usize, w: Window, p: usize)
     let first = 256 * i;
     let past = first + w.slots * w.frames;
     let base = w.head * w.slots;
-    shift(held, first, past, base as u8, turned(w, p), by);
+    shift(held, first, past, base as u8, on_from_head(w, p), by);
 }
 
 // Whether something is held at every place of the range from a to e but those that lie on from a + `base` by less than `from`.
@@ -159,7 +159,7 @@ fn held_from(held: &Holdings, i: usize, w: Window, p: usize) -> bool
     let first = 256 * i;
     let past = first + w.slots * w.frames;
     let base = w.head * w.slots;
-    held_in(held, first, past, base as u8, turned(w, p))
+    held_in(held, first, past, base as u8, on_from_head(w, p))
 }
 
 // The same byte: a parameter is known to be below 256, which an element of an array is not.
@@ -202,7 +202,7 @@ fn lowered(held: &mut Holdings, i: usize, w: Window, p: usize) -> u8
     let first = 256 * i;
     let past = first + w.slots * w.frames;
     let base = w.head * w.slots;
-    lower(held, first, past, base as u8, turned(w, p))
+    lower(held, first, past, base as u8, on_from_head(w, p))
 }
 
 // Whether a flow's holdings were lowered, and the most that it holds then; 255 where they weren't.

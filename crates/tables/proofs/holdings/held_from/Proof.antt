@@ -5,7 +5,7 @@ use Rattle.tables.proofs.holdings.held_from.Statement.{statement}
 use Rattle.tables.proofs.holdings.held_from.Tie as tie
 
 -- where the function is entered
-abbrev start : tie.After-turned → tie.Start
+abbrev start : tie.After-on-from-head → tie.Start
 start c = c .before .before .before
 
 mul-first : tie.Need-mul-first
@@ -23,8 +23,8 @@ mul-base c = search needs
 cast-held-in : tie.Need-cast-held-in
 cast-held-in c = search needs
 
-turned-requires : tie.Need-turned-requires
-turned-requires c κs = search needs
+on-from-head-requires : tie.Need-on-from-head-requires
+on-from-head-requires c κs = search needs
 
 held-in-requires : tie.Need-held-in-requires
 held-in-requires c κs = search needs
@@ -33,7 +33,7 @@ returns : tie.Need-returns
 returns c =
     let t = c .before in
     let s = start t in
-    held-padded _ (s .pre .proper) _ (s .pre .position) _ (s .args .i) _ (rw (t .turned .ensures) at (c .held-in .ensures))
+    held-padded _ (s .pre .proper) _ (s .pre .position) _ (s .args .i) _ (rw (t .on-from-head .ensures) at (c .held-in .ensures))
 
 pub held-from-spec : {M : Type 1} → statement M
 held-from-spec =
@@ -44,6 +44,6 @@ held-from-spec =
     add-past
     mul-base
     cast-held-in
-    turned-requires
+    on-from-head-requires
     held-in-requires
     returns)

@@ -5,7 +5,7 @@ use Rattle.tables.proofs.holdings.lowered.Statement.{statement}
 use Rattle.tables.proofs.holdings.lowered.Tie as tie
 
 -- where the function is entered
-abbrev start : tie.After-turned → tie.Start
+abbrev start : tie.After-on-from-head → tie.Start
 start c = c .before .before .before .before
 
 mul-first : tie.Need-mul-first
@@ -23,8 +23,8 @@ mul-base c = search needs
 cast-lower : tie.Need-cast-lower
 cast-lower c = search needs
 
-turned-requires : tie.Need-turned-requires
-turned-requires c κs = search needs
+on-from-head-requires : tie.Need-on-from-head-requires
+on-from-head-requires c κs = search needs
 
 lower-requires : tie.Need-lower-requires
 lower-requires c κs = search needs
@@ -36,8 +36,8 @@ returns c =
     let (most, (shifts, bytes)) = c .lower .ensures in
     let v = s .pre .proper in
     let lp = s .pre .position in (
-      rw (most, t .turned .ensures) (most-padded _ v _ lp _ (s .args .i)),
-      (rw (shifts, t .turned .ensures) (shifted-padded _ v _ lp _ (s .args .i) 255), bytes),
+      rw (most, t .on-from-head .ensures) (most-padded _ v _ lp _ (s .args .i)),
+      (rw (shifts, t .on-from-head .ensures) (shifted-padded _ v _ lp _ (s .args .i) 255), bytes),
     )
 
 pub lowered-spec : {M : Type 1} → statement M
@@ -49,6 +49,6 @@ lowered-spec =
     add-past
     mul-base
     cast-lower
-    turned-requires
+    on-from-head-requires
     lower-requires
     returns)

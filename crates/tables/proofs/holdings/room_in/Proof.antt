@@ -2,12 +2,12 @@
 use borrow.Author.Needs.{needs}
 use Prim.Native.Nat.{_-_}
 use native.Mathlib.Omega.{arith}
-use Rattle.tables.proofs.Largest.{Largest, range-none, range-more, range-done}
+use Rattle.tables.proofs.Largest.{LargestTo, range-none, range-more, range-done}
 use Rattle.tables.proofs.holdings.room_in.Statement.{statement}
 use Rattle.tables.proofs.holdings.room_in.Tie as tie
 
 abbrev Inv-loop : tie.InvT-loop
-Inv-loop held cells a e most₀ q₀ most q = Largest held a e q most
+Inv-loop held cells a e most₀ q₀ most q = LargestTo held a e q most
 
 abbrev μ-loop : tie.MeasureT-loop
 μ-loop held cells a e most₀ q₀ most q = e - q

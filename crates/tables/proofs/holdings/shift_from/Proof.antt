@@ -5,7 +5,7 @@ use Rattle.tables.proofs.holdings.shift_from.Statement.{statement}
 use Rattle.tables.proofs.holdings.shift_from.Tie as tie
 
 -- where the function is entered
-abbrev start : tie.After-turned → tie.Start
+abbrev start : tie.After-on-from-head → tie.Start
 start c = c .before .before .before .before
 
 mul-first : tie.Need-mul-first
@@ -23,8 +23,8 @@ mul-base c = search needs
 cast-shift : tie.Need-cast-shift
 cast-shift c = search needs
 
-turned-requires : tie.Need-turned-requires
-turned-requires c κs = search needs
+on-from-head-requires : tie.Need-on-from-head-requires
+on-from-head-requires c κs = search needs
 
 shift-requires : tie.Need-shift-requires
 shift-requires c κs = search needs
@@ -33,7 +33,7 @@ returns : tie.Need-returns
 returns c =
     let t = c .before in
     let s = start t in
-    rw (c .shift .ensures, t .turned .ensures) (shifted-padded _ (s .pre .proper) _ (s .pre .position) _ (s .args .i) _)
+    rw (c .shift .ensures, t .on-from-head .ensures) (shifted-padded _ (s .pre .proper) _ (s .pre .position) _ (s .args .i) _)
 
 pub shift-from-spec : {M : Type 1} → statement M
 shift-from-spec =
@@ -44,6 +44,6 @@ shift-from-spec =
     add-past
     mul-base
     cast-shift
-    turned-requires
+    on-from-head-requires
     shift-requires
     returns)

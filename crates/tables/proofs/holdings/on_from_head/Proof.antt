@@ -1,10 +1,10 @@
--- `tables::holdings::turned` meets its contract. Assumes nothing.
+-- `tables::holdings::on_from_head` meets its contract. Assumes nothing.
 use borrow.Author.Needs.{needs}
 use mathlib.Core.Path.{sym, _∙_}
 use native.Mathlib.Omega.{arith}
 use Rattle.window.proofs.Bytes.{wrapped-is}
-use Rattle.tables.proofs.holdings.turned.Statement.{statement}
-use Rattle.tables.proofs.holdings.turned.Tie as tie
+use Rattle.tables.proofs.holdings.on_from_head.Statement.{statement}
+use Rattle.tables.proofs.holdings.on_from_head.Tie as tie
 
 mul-start : tie.Need-mul-start
 mul-start c = search needs
@@ -26,5 +26,5 @@ returns c =
     let back = c .before .to-zero .ensures in
     c .moved .ensures ∙ sym (wrapped-is _ _ (omega arith) (omega arith)) ∙ omega arith
 
-pub turned-spec : {M : Type 1} → statement M
-turned-spec = tie.close (tie.spec mul-start cast-moved cast-to-zero to-zero-requires moved-requires returns)
+pub on-from-head-spec : {M : Type 1} → statement M
+on-from-head-spec = tie.close (tie.spec mul-start cast-moved cast-to-zero to-zero-requires moved-requires returns)
