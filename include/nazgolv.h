@@ -42,9 +42,10 @@ extern "C" {
  *
  * 16-bit fields, low byte first, without gaps:
  *
- *   header      total length; offset of the plan; offset and count of positions;
- *               offset and count of flows; CP; taken mark, 0 or 1; the flow
- *               that the next lend looks from, below the count of flows
+ *   header      total length; where the plan starts; where the positions start,
+ *               and how many; where the flows start, and how many; CP; the
+ *               taken mark, 0 or 1; the flow that the next lend looks from,
+ *               below the number of flows
  *   plan        its bytes, as they were given to fresh
  *   positions   for each the flow that booked it, or 16
  *   flows       for each IF, C, what it holds at positions 0, 1, 2 and so on, and
@@ -159,9 +160,9 @@ uint64_t nazgolv_tick(uint8_t *image, size_t image_length);
 /*
  * Lends the current slot, which nobody booked, to a flow of the mask that has a
  * cell free; bit i is for flow i. The flow, or 8, 17 or 18. Flows get it in turn:
- * the first one that can take it, from the flow after the last one lent to on and
- * going round; from flow 0 on where no slot was lent since fresh, or since a
- * granted reset. A refused lend is no turn.
+ * they are looked at from the one behind the flow that was lent to last, going
+ * round, and the first that can take it does; from flow 0 on where no slot was
+ * lent since fresh, or since a granted reset. A refused lend is no turn.
  */
 uint64_t nazgolv_lend(uint8_t *image, size_t image_length, uint16_t mask);
 

@@ -114,7 +114,7 @@ def crates():
 # ---- the example, the answers and the picture
 
 def eight_lines():
-    """The example's answers are those that document 01 prints."""
+    """The example's answers are those of rule 13.6."""
     section = page("README.md").partition("## Eight lines")[2]
     shown = [line.partition("  ")[0] for line in
              code_lines(section.partition("\n## ")[0])]

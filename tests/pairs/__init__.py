@@ -1,1 +1,1 @@
-"""Pairs of runs: the neighbours can't move a stream's frames."""
+"""Pairs of runs: what neighbours can't change for a flow (rule 21.11)."""

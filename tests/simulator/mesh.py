@@ -1,4 +1,4 @@
-"""Streams over the mesh of 64 boards.  Each stream is walked hop by hop, and
+"""Streams over the mesh: rules 16.1 to 16.3.  Each stream is walked hop by hop, and
 its share counted on each hop."""
 
 from collections import Counter
