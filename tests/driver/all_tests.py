@@ -39,7 +39,6 @@ FRONT_DOOR = (
     tests_lost_output,
     progress, versions, help_pages, man_pages, readme, rules_page, remedies,
     checklist_page, comparison_page)
-REFUSALS = range(1, 30)         # those of all programs
 
 
 def wanted(names, only):
@@ -73,7 +72,7 @@ def answers():
 
 def tables():
     """The page has each refusal, and each edge a name of its own."""
-    missing = sorted(set(REFUSALS) - refusals_page.numbers())
+    missing = sorted(set(refusals_page.ALL) - refusals_page.numbers())
     yield ("docs: every refusal has an input",
            missing and "none for %s" % missing)
     for kind, edges in (("edge", EDGES + ALLCALLS_EDGES),

@@ -1,4 +1,4 @@
-"""The edges that were agreed on before there was a program."""
+"""The edges that were asked for from the start, by the rules as they are."""
 
 from edges.edge_maker import Edge, TICK, ask, credit, edge, plan
 

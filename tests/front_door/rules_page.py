@@ -11,18 +11,20 @@ from front_door.rule_book import (
     cited, decided, given_by, is_in, named, pair, rules, sections)
 from simulator.listing import simulate
 
-REFUSALS = range(1, 30)
 # Rules are cited in the files below these.
 CITING = ("crates", "docs", "tests", "tools", "include", "player", "bench",
           "flights")
 CITING_FILES = ("README.md", "CONTRIBUTING.md", "play", "plan", "check-log")
-RULES_OF = re.compile(r"\b[Rr]ules?\s+((?:\d+\.\d+(?:,? (?:and|to|or) |, )?)+)")
+RULES_OF = re.compile(
+    r"\b[Rr]ules?\s+((?:\d+\.\d+(?:,?\s(?:and|to|or)\s|,\s)?)+)")
 # The papers behind the rules, by name.
 PAPER = re.compile(r"\b[Dd]oc(?:ument)?s? ?0\d\d?\b|\bN(?:1[0-4]|[1-9])\b")
 # History is told there, or the names are still to go.
 TOLD = ("docs/landings/", "docs/history/", "docs/DECISIONS.md",
         "docs/ARCHITECTURE.md", "docs/COMPARISON.md", "docs/PERFORMANCE.md",
         "crates/")
+BYTES = re.compile(r"(?:[0-9A-F]{2} ?)+")
+LINE = re.compile(r"[PGRCT](?: \S+)?")
 # A line of domeplan has 4,000 bytes at most, too few for so many.
 UNREACHED = "the line has more than 2,000 numbers"
 
@@ -65,8 +67,8 @@ def example_is_right():
     """Rule 13.6: the bytes through the simulator have the page's lines."""
     text = next(text for number, text, _ in rules() if number == "13.6")
     codes = inline_code(text)
-    data = [code for code in codes if re.fullmatch(r"(?:[0-9A-F]{2} ?)+", code)]
-    lines = [code for code in codes if re.fullmatch(r"[PGRCT](?: \S+)?", code)]
+    data = [code for code in codes if BYTES.fullmatch(code)]
+    lines = [code for code in codes if LINE.fullmatch(code)]
     heard = simulate(bytes.fromhex(" ".join(data)))
     return heard != lines and "%s, and not %s" % (heard, lines)
 
@@ -84,13 +86,13 @@ def reasons_are_those_of_the_code():
 # ---- refusals
 
 def every_refusal_has_a_rule():
-    wrong = [str(number) for number in REFUSALS if not given_by(number)]
+    wrong = [str(number) for number in refusals_page.ALL if not given_by(number)]
     return wrong and "in no rule: " + ", ".join(wrong)
 
 
 def every_refusal_is_decided():
     rows = {number for number, *_ in decided()} & refusals_page.numbers()
-    wrong = [str(number) for number in REFUSALS if number not in rows]
+    wrong = [str(number) for number in refusals_page.ALL if number not in rows]
     return wrong and "no row for " + ", ".join(wrong)
 
 
@@ -98,7 +100,7 @@ def refusals_and_rules_agree():
     """The rules whose tests give a number are those that its rows name; a row
     may name others too, but has one of them."""
     wrong = []
-    for number in REFUSALS:
+    for number in refusals_page.ALL:
         rows = [set(cites) for row, cites, _, _ in decided() if row == number]
         gives = given_by(number)
         if gives - set().union(*rows) or not all(row & gives for row in rows):

@@ -1,6 +1,6 @@
-"""Images worked out by hand from rules 12.1 to 12.3: whole ones after some calls; and
-for each condition images that break it and no other, and images at its edge
-that are taken.
+"""Images worked out by hand from rules 12.1 to 12.3: whole ones after some
+calls; and for each condition images that break it and no other, and images at
+its edge that are taken.
 """
 
 from call_bytes import TICK, lend

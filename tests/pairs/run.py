@@ -1,7 +1,8 @@
 """One run of a pair, as its call file and its listing tell of one flow.
 
-Counted by rules 21.3 and 21.4: slots and frames without end, and what the flow holds from its grants, its lent slots and its taken
-credits.  Nothing is known of the link, and of other flows nothing is kept.
+Counted by rules 21.3 and 21.4: slots and frames without end, and what the flow
+holds from its grants, its lent slots and its taken credits.  Nothing is known
+of the link, and of other flows nothing is kept.
 """
 
 import struct
