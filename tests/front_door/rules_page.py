@@ -86,7 +86,8 @@ def reasons_are_those_of_the_code():
 # ---- refusals
 
 def every_refusal_has_a_rule():
-    wrong = [str(number) for number in refusals_page.ALL if not given_by(number)]
+    wrong = [str(number) for number in refusals_page.ALL
+             if not given_by(number)]
     return wrong and "in no rule: " + ", ".join(wrong)
 
 
