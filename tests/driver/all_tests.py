@@ -26,6 +26,7 @@ from front_door import (
     plan_wrong_words, play_explain, play_files, play_lost_output,
     play_options, play_states, progress, readme, remedies, rules_page,
     singular, slow_reader, tests_lost_output, versions, wrong_arguments)
+from front_door import architecture_page, decisions_page, doc_names
 from images import self_tests
 from pairs import wrong_pairs
 
@@ -38,7 +39,8 @@ FRONT_DOOR = (
     old_program, slow_reader, asking_editor, wrong_arguments,
     tests_lost_output,
     progress, versions, help_pages, man_pages, readme, rules_page, remedies,
-    checklist_page, comparison_page)
+    checklist_page, comparison_page, decisions_page, architecture_page,
+    doc_names)
 REFUSALS = range(1, 30)         # those of all programs
 
 
