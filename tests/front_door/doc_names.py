@@ -19,18 +19,21 @@ ENDINGS = ("antt", "rt", "md", "py", "rs", "c", "h", "sh", "js", "css",
 COMMENTS = {".antt": "--", ".rt": "//", ".rs": "//", ".c": "//"}
 CODE = re.compile(r"`([^`\n]+)`")
 NAME = re.compile(r"[^\W\d_][\w'-]*[\w']")      # two letters at least
-INSIDE = re.compile(r"[\w'-]+(?:::[\w'-]+)+")   # a name of a crate or module
+INSIDE = re.compile(r"\w+(?:::\w+)+")           # of a crate, module or type
+DECLARED = re.compile(r"\b(?:fn|struct|enum|const|type|mod) (\w+)"
+                      r"|^ +(\w+)(?:\(.*\))?,$", re.MULTILINE)
 FILE = re.compile(r"(?:[\w.*-]+/)*[\w.*-]+\.(?:%s)" % "|".join(ENDINGS))
 FOLDER = re.compile(r"(?:[\w.*-]+/)+(?:[\w.*-]+)?")
 HASH = re.compile(r"[0-9a-f]{7,}…?|rattle-kit-[\w-]+")
 
-# Words that no source has, and whose they are.
+# Words that no source has, by whose they are.
 ELSEWHERE = {
-    "fmt": "the kit's, as in rt fmt",
+    "the kit": "fmt logic-built libraries-built trusted",
+    "the shell": "ulimit",
 }
 # Names that are gone or never were: each has to be told.
 GONE = ("LendChoice", "each-taker", "FlowFrom", "open_choice.py", "no_such()",
-        "model/proofs/LendChoice.antt", "Link::lends",
+        "model/proofs/LendChoice.antt", "Link::lends", "credit::refusal",
         "link/source/", "crates/links", "TilesToCome.antt", "--no-such-word")
 THERE = ("Link::lend", "credit::take", "firstFrom", "some-taker", "late_rank()",
          "LendTurn.antt", "model/proofs/LendTurn.antt", "tests/", "./play -e",
@@ -89,13 +92,21 @@ def names_by_file():
 
 @lru_cache(maxsize=None)
 def names():
-    return set(ELSEWHERE).union(*names_by_file().values())
+    return set(" ".join(ELSEWHERE.values()).split()).union(
+        *names_by_file().values())
 
 
-def stand_together(parts):
-    """Whether one source of a crate has all parts of a name."""
-    return any(parts <= found for path, found in names_by_file().items()
-               if path.suffix == ".rt")
+def is_inside(word):
+    """Whether a source of a crate uses a name with all its parts, or declares
+    the last part and has the others."""
+    *around, last = word.split("::")
+    for path, found in names_by_file().items():
+        if path.suffix == ".rt" and found.issuperset(around):
+            text = text_of(path)
+            if re.search(word + r"\b", text) or any(
+                    last in each for each in DECLARED.findall(text)):
+                return True
+    return False
 
 
 def missing_in(word):
@@ -107,7 +118,7 @@ def missing_in(word):
             FOLDER.fullmatch(word) and word.split("/")[0] in folders()):
         return [] if is_path(word) else [word]
     if INSIDE.fullmatch(word):
-        return [] if stand_together(set(word.split("::"))) else [word]
+        return [] if is_inside(word) else [word]
     return [name for name in NAME.findall(word) if name not in names()]
 
 
