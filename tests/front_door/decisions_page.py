@@ -5,7 +5,7 @@ import re
 from functools import lru_cache
 
 from front_door.command import ROOT
-from front_door.pages import page
+from front_door.pages import anchors, links, page
 
 PAGE = "docs/DECISIONS.md"
 HISTORY = "docs/history/decisions.md"
@@ -73,6 +73,13 @@ def each_is_short():
     return long and "too long: " + ", ".join(long)
 
 
+def every_subject_is_linked():
+    text = page(PAGE)
+    linked = {link[1:] for link in links(text) if link.startswith("#")}
+    wrong = linked ^ (anchors(text) - {"decisions"})
+    return wrong and "no link or no heading: " + ", ".join(sorted(wrong))
+
+
 def citations_are_found():
     text = "decision 3, as Decisions 4, 5 and 7 to\n9 say it (See 98: ..)"
     found = list(cited_in(text, ALSO_CITED))
@@ -80,7 +87,7 @@ def citations_are_found():
 
 
 TESTS = (cited_are_there, each_stands_once, each_is_short,
-         citations_are_found)
+         every_subject_is_linked, citations_are_found)
 
 
 def tests(programs):

@@ -35,9 +35,10 @@ ELSEWHERE = {
 GONE = ("LendChoice", "each-taker", "FlowFrom", "open_choice.py", "no_such()",
         "model/proofs/LendChoice.antt", "Link::lends", "credit::refusal",
         "link/source/", "crates/links", "TilesToCome.antt", "--no-such-word")
-THERE = ("Link::lend", "credit::take", "firstFrom", "some-taker", "late_rank()",
-         "LendTurn.antt", "model/proofs/LendTurn.antt", "tests/", "./play -e",
-         "link/specs/", "crates/NAME/specs/", "--timeline", "R 16", "1/2")
+THERE = ("Link::lend", "credit::take", "firstFrom", "some-taker",
+         "late_rank()", "LendTurn.antt", "model/proofs/LendTurn.antt",
+         "tests/", "./play -e", "link/specs/", "crates/NAME/specs/",
+         "--timeline", "R 16", "1/2")
 
 
 def pages():
