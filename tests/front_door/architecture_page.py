@@ -29,8 +29,12 @@ def crates():
 
 
 def proofs_of_the_model():
-    return differing([path.stem for path in PROOFS.iterdir()],
-                     first_column("Proof"))
+    """Each file stands there once, in the order of Lib.antt."""
+    shown = first_column("Proof")
+    listed = re.findall(r"^pub mod (\w+)", (PROOFS / "Lib.antt").read_text(),
+                        re.MULTILINE)
+    return differing([path.stem for path in PROOFS.iterdir()], shown) or (
+        shown != ["Lib", *listed] and "in another order than Lib.antt's")
 
 
 def size():
