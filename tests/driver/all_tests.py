@@ -18,6 +18,7 @@ from driver.tally import (
     ResetTally, Tally)
 from edges import questions, refusals_page
 from edges.all_edges import ALLCALLS_EDGES, EDGES
+from front_door import architecture_page, decisions_page, doc_names
 from front_door import (
     asking_editor, calls_text, check_log, checklist_page, comparison_page,
     flights, help_pages, man_pages, old_program, picture_errors,
@@ -30,6 +31,7 @@ from images import self_tests
 from pairs import wrong_pairs
 
 FRONT_DOOR = (
+    decisions_page, architecture_page, doc_names,
     play_files, play_lost_output, play_explain, play_options, play_states,
     pictures, picture_sizes, picture_pages, picture_scripts, picture_view,
     picture_errors, singular, calls_text, plan_files, plan_culprits, plan_read,
