@@ -24,7 +24,8 @@ from front_door import (
     picture_pages, picture_scripts, picture_sizes, picture_view, pictures,
     plan_check, plan_culprits, plan_files, plan_lost_output, plan_read, plan_week,
     plan_wrong_words, play_explain, play_files, play_lost_output,
-    play_options, play_states, progress, readme, remedies, rules_page,
+    play_options, play_states, progress, proved_page, readme, remedies,
+    rules_page,
     singular, slow_reader, tests_lost_output, versions, wrong_arguments)
 from images import self_tests
 from pairs import wrong_pairs
@@ -37,8 +38,8 @@ FRONT_DOOR = (
     plan_week, plan_wrong_words, plan_lost_output, check_log, flights,
     old_program, slow_reader, asking_editor, wrong_arguments,
     tests_lost_output,
-    progress, versions, help_pages, man_pages, readme, rules_page, remedies,
-    checklist_page, comparison_page)
+    progress, versions, help_pages, man_pages, readme, proved_page,
+    rules_page, remedies, checklist_page, comparison_page)
 REFUSALS = range(1, 30)         # those of all programs
 
 
