@@ -24,9 +24,9 @@ from front_door import (
     picture_pages, picture_scripts, picture_sizes, picture_view, pictures,
     plan_check, plan_culprits, plan_files, plan_lost_output, plan_read, plan_week,
     plan_wrong_words, play_explain, play_files, play_lost_output,
-    play_options, play_states, progress, proved_page, readme, remedies,
-    rules_page,
+    play_options, play_states, progress, readme, remedies, rules_page,
     singular, slow_reader, tests_lost_output, versions, wrong_arguments)
+from front_door import desk_page, page_links, proved_page
 from images import self_tests
 from pairs import wrong_pairs
 
@@ -38,8 +38,9 @@ FRONT_DOOR = (
     plan_week, plan_wrong_words, plan_lost_output, check_log, flights,
     old_program, slow_reader, asking_editor, wrong_arguments,
     tests_lost_output,
-    progress, versions, help_pages, man_pages, readme, proved_page,
-    rules_page, remedies, checklist_page, comparison_page)
+    progress, versions, help_pages, man_pages, readme, rules_page, remedies,
+    checklist_page, comparison_page)
+PAGES = (proved_page, desk_page, page_links)
 REFUSALS = range(1, 30)         # those of all programs
 
 
@@ -99,7 +100,7 @@ def front_door(programs, only):
     suite = Suite("front door")
     paths = {program.name: program.command[0] for program in programs}
     test_all(suite, itertools.chain.from_iterable(
-        subject.tests(paths) for subject in FRONT_DOOR), only)
+        subject.tests(paths) for subject in FRONT_DOOR + PAGES), only)
     return suite
 
 
