@@ -1,12 +1,15 @@
 """docs/PROVED.md: each theorem and function stands in the file that is given
 for it, and the page has those that proof_files.py asks for."""
 
+import re
+
 from front_door.command import ROOT
 from front_door.pages import anchors, inline_code, links, page, places, table
 from front_door.proof_files import (
     CRATES, asked_for, declared, functions_in, shown_functions)
 
 PAGE = "docs/PROVED.md"
+SPECS = CRATES / "model/specs"
 # Laws that nothing uses any more, and that say nothing to a reader.
 LEFT_OVER = {
     "link/proofs/Readings.antt": {"read-window"},
@@ -90,6 +93,21 @@ def every_function_that_is_shown():
         len(wanted) < 40 and "only %d" % len(wanted))
 
 
+def spec_lines(modules):
+    """Lines with something else than a comment."""
+    lines = [line.strip() for module in modules for line in
+             (SPECS / (module + ".antt")).read_text().splitlines()]
+    return sum(1 for line in lines if line and not line.startswith("--"))
+
+
+def lines_of_specs():
+    index = (SPECS / "Lib.antt").read_text().partition("-- worked examples")
+    counts = [spec_lines(re.findall(r"^pub mod (\w+)", half, re.MULTILINE))
+              for half in (index[0], index[2])]
+    wanted = "{:,} lines without comments, and {:,} more".format(*counts)
+    return wanted not in page(PAGE) and "it has to say: " + wanted
+
+
 def files_and_links_are_there():
     text = page(PAGE)
     wrong = [name for line in text.splitlines()
@@ -100,9 +118,25 @@ def files_and_links_are_there():
     return wrong and "not there: " + ", ".join(wrong)
 
 
-TESTS = (every_cell_is_filled, each_name_is_in_its_file,
+def names_are_told_apart():
+    """Fields of records and what others use are not asked for, claims are
+    that others use, and a name that isn't there is missed."""
+    path = CRATES / "program/proofs/Demand3.antt"
+    asked = {(str(each.path.relative_to(CRATES)), each.name)
+             for each in asked_for()}
+    told = ["written-meets" in declared(path), "lines-are" in declared(path),
+            ("model/proofs/Demand3.antt", "meets") in asked,
+            ("model/proofs/Demand3.antt", "each-map") in asked,
+            ("link/proofs/Demand3.antt", "code-meets") in asked,
+            missing([(path, "no-such-name"), (path, "written-meets")])]
+    return told != [True, False, True, False, True, [
+        "program/proofs/Demand3.antt: no-such-name"]] and "%s" % told
+
+
+TESTS = (every_cell_is_filled, names_are_told_apart, each_name_is_in_its_file,
          every_theorem_that_is_asked_for, what_is_left_over_is_there,
-         every_function_that_is_shown, files_and_links_are_there)
+         every_function_that_is_shown, lines_of_specs,
+         files_and_links_are_there)
 
 
 def tests(programs):
