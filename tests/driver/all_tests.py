@@ -26,7 +26,7 @@ from front_door import (
     plan_wrong_words, play_explain, play_files, play_lost_output,
     play_options, play_states, progress, readme, remedies, rules_page,
     singular, slow_reader, tests_lost_output, versions, wrong_arguments)
-from front_door import desk_page, page_links, proved_page
+from front_door import desk_page, page_links, program_stacks, proved_page
 from images import self_tests
 from pairs import wrong_pairs
 
@@ -40,7 +40,7 @@ FRONT_DOOR = (
     tests_lost_output,
     progress, versions, help_pages, man_pages, readme, rules_page, remedies,
     checklist_page, comparison_page)
-PAGES = (proved_page, desk_page, page_links)
+PAGES = (proved_page, program_stacks, desk_page, page_links)
 REFUSALS = range(1, 30)         # those of all programs
 
 
