@@ -30,6 +30,7 @@ from front_door import desk_page, page_links, program_stacks, proved_page
 from images import self_tests
 from pairs import wrong_pairs
 
+PAGES = (proved_page, program_stacks, desk_page, page_links)
 FRONT_DOOR = (
     play_files, play_lost_output, play_explain, play_options, play_states,
     pictures, picture_sizes, picture_pages, picture_scripts, picture_view,
@@ -40,7 +41,6 @@ FRONT_DOOR = (
     tests_lost_output,
     progress, versions, help_pages, man_pages, readme, rules_page, remedies,
     checklist_page, comparison_page)
-PAGES = (proved_page, program_stacks, desk_page, page_links)
 REFUSALS = range(1, 30)         # those of all programs
 
 

@@ -82,7 +82,7 @@ def others_are_in_the_help():
 # ---- what it says
 
 def eight_lines():
-    """The example's answers are those of the listing."""
+    """The example's answers are those of the edge that lists them."""
     shown = [line.partition("  ")[0] for line in code_lines(text())
              if SHOWN.match(line)]
     right = from_the_paper.EDGES[0].lines
