@@ -104,7 +104,7 @@ prove() {
     ended=$?
     kill "$counter" 2>/dev/null
     wait "$counter" 2>/dev/null
-    printf '\r%70s\r' '' >&2
+    printf '\r%60s\r' '' >&2
     return "$ended"
 }
 
