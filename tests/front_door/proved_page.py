@@ -93,6 +93,16 @@ def every_function_that_is_shown():
         len(wanted) < 40 and "only %d" % len(wanted))
 
 
+def every_clause_of_demand_3():
+    """The table has those of Claim.antt and no other."""
+    lines = re.findall(r"^  ([a-z -]+) : Clause$",
+                       (SPECS / "Claim.antt").read_text(), re.MULTILINE)
+    right = sorted(name for line in lines for name in line.split())
+    has = sorted(name for row in table(page(PAGE), "Clause")
+                 for name in inline_code(row[0]))
+    return (not right or has != right) and "%s for %s" % (has, right)
+
+
 def spec_lines(modules):
     """Lines with something else than a comment."""
     lines = [line.strip() for module in modules for line in
@@ -135,7 +145,8 @@ def names_are_told_apart():
 
 TESTS = (every_cell_is_filled, names_are_told_apart, each_name_is_in_its_file,
          every_theorem_that_is_asked_for, what_is_left_over_is_there,
-         every_function_that_is_shown, lines_of_specs,
+         every_function_that_is_shown, every_clause_of_demand_3,
+         lines_of_specs,
          files_and_links_are_there)
 
 
