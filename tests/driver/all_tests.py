@@ -27,9 +27,11 @@ from front_door import (
     plan_wrong_words, play_explain, play_files, play_lost_output,
     play_options, play_states, progress, readme, remedies, rules_page,
     singular, slow_reader, tests_lost_output, versions, wrong_arguments)
+from front_door import desk_page, page_links, program_stacks, proved_page
 from images import self_tests
 from pairs import wrong_pairs
 
+PAGES = (proved_page, program_stacks, desk_page, page_links)
 FRONT_DOOR = (
     decisions_page, architecture_page, doc_names,
     play_files, play_lost_output, play_explain, play_options, play_states,
@@ -99,7 +101,7 @@ def front_door(programs, only):
     suite = Suite("front door")
     paths = {program.name: program.command[0] for program in programs}
     test_all(suite, itertools.chain.from_iterable(
-        subject.tests(paths) for subject in FRONT_DOOR), only)
+        subject.tests(paths) for subject in FRONT_DOOR + PAGES), only)
     return suite
 
 
