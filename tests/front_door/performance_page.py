@@ -1,0 +1,164 @@
+"""docs/PERFORMANCE.md: its table of now, the command that makes it, and the
+pages that quote it.
+
+A quote is a number with a decimal point that stands in README.md or
+docs/COMPARISON.md in one of these places:
+
+- a sentence with the words 'plain Rust';
+- a row of a table with these words in it, or in the table's first row.
+
+Versions, as 4.5.2, are none.  Each quote has to stand in a cell of the table
+of now, and each of the two pages has a ratio of it.  So a page that tells
+other figures with a point (calls a second, megabytes) keeps them out of such
+sentences and rows."""
+
+import re
+import sys
+
+from front_door.command import ROOT
+from front_door.pages import page
+
+PAGE = "docs/PERFORMANCE.md"
+QUOTING = ("README.md", "docs/COMPARISON.md")
+BYTES = 5 * 1024
+WORDS = "plain rust"
+RATIO = 3                       # the column
+NUMBER = re.compile(r"(?<![\d.,])\d[\d,]*(?:\.\d+)?(?!\.?\d)")
+QUOTE = re.compile(r"(?<![\d.])\d+\.\d+(?!\.?\d)")
+
+
+def report():
+    """The module of bench/run that makes the table."""
+    folder = str(ROOT / "bench")
+    if folder not in sys.path:
+        sys.path.append(folder)
+    import report as module
+    return module
+
+
+# ---- the page itself
+
+def rows():
+    """The cells of each row of the table of now."""
+    lines = report().inside(page(PAGE)).splitlines()
+    return [[cell.strip() for cell in line.strip("|").split("|")]
+            for line in lines if line.startswith("|")][2:]
+
+
+def number_of(cell):
+    found = NUMBER.search(cell)
+    return float(found.group().replace(",", "")) if found else None
+
+
+def wrong_row(cells):
+    """What is wrong with a row of the table, or None."""
+    if len(cells) != len(report().HEAD):
+        return "%d cells" % len(cells)
+    ours, theirs, ratio, _, mark = map(number_of, cells[1:6])
+    if ours and theirs and abs(ours / theirs - ratio) > 0.01 * ratio + 0.01:
+        return "the ratio is %.2f" % (ours / theirs)
+    measured = ratio if re.fullmatch(r"[\d.]+", cells[5]) else ours
+    if mark and measured and (measured <= mark) != (cells[6] == "yes"):
+        return "%s of %s is %s" % (measured, mark, cells[6])
+    return None
+
+
+def agrees():
+    """Ratios are quotients, and a mark is met where the row says so."""
+    wrong = ["%s: %s" % (cells[0], wrong_row(cells)) for cells in rows()
+             if wrong_row(cells)]
+    return "; ".join(wrong) or (not rows() and "it has no rows")
+
+
+def short():
+    size = len(page(PAGE).encode())
+    return size > BYTES and "%d bytes" % size
+
+
+# ---- the command
+
+def makes_rows():
+    """Figures become cells: ratio, mark and whether it is met."""
+    module = report()
+    figures = {row.key: module.Figure(30.0) for row in module.ROWS}
+    figures["dense"] = module.Figure(30.0, 28.4)
+    figures["small"] = module.Figure(21.0, 20.0)
+    figures["request"] = module.Figure(118.44, 11.0, 50.0)
+    made = module.table(
+        {key: figure if figure.theirs else figure._replace(theirs=30.0)
+         for key, figure in figures.items()}, 1609)
+    right = [
+        "| whole file, dense | 30.0 ms | 28.4 ms | 1.06 | - | 1.05 | no |",
+        "| whole file, small | 21.0 ms | 20.0 ms | 1.05 | - | 1.05 | yes |",
+        "| one request by value | 118.4 ns | 11.0 ns | 10.77 | 50.0 ns | - "
+        "| - |",
+        "| the gate, %s | 1,609 s | - | - | - | 1,200 s | no |"
+        % module.version()]
+    lost = [line for line in right if line not in made]
+    return lost and "not made: %s" % lost
+
+
+def keeps_the_gate():
+    """Without its seconds the gate's row stays as the page has it."""
+    made = report().gate(None)
+    return made not in page(PAGE) and made
+
+
+# ---- quotes
+
+def table_lines(text):
+    """Rows of tables, each after its table's first row."""
+    head = None
+    for line in text.splitlines():
+        if not line.startswith("|"):
+            head = None
+            continue
+        head = head or line
+        yield "%s %s" % (head, line)
+
+
+def sentences(text):
+    """Of all lines that are no table."""
+    prose = "\n".join("" if line.startswith("|") else line
+                      for line in text.splitlines())
+    return [" ".join(sentence.split())
+            for sentence in re.split(r"(?<=[.:;?!])\s|\n\s*\n", prose)]
+
+
+def quotes(name):
+    """The numbers that a page quotes."""
+    places = [*sentences(page(name)), *table_lines(page(name))]
+    return sorted({number for place in places if WORDS in place.lower()
+                   for number in QUOTE.findall(place)})
+
+
+def quoted(name):
+    known = {number for cells in rows()
+             for number in QUOTE.findall(" ".join(cells))}
+    ratios = {cells[RATIO] for cells in rows()}
+    lost = [number for number in quotes(name) if number not in known]
+    if lost:
+        return "not in the table of %s: %s" % (PAGE, ", ".join(lost))
+    return not ratios & set(quotes(name)) and "it quotes no ratio"
+
+
+def finds_quotes():
+    """The rule of the docstring on a page by hand."""
+    text = ("Version 4.5.2 takes 1.06 times plain Rust. It has 8.5 pages.\n\n"
+            "| What | Plain Rust |\n|---|---|\n| dense | 28.4 ms |\n\n"
+            "| What | Size |\n|---|---|\n| page | 2.5 |\n")
+    places = [*sentences(text), *table_lines(text)]
+    found = [number for place in places if WORDS in place.lower()
+             for number in QUOTE.findall(place)]
+    return found != ["1.06", "28.4"] and "%s" % found
+
+
+def tests(_):
+    yield "docs: PERFORMANCE, five kilobytes", short
+    yield "docs: PERFORMANCE, the table of now", agrees
+    yield "bench/run --report: rows", makes_rows
+    yield "bench/run --report: the gate's row", keeps_the_gate
+    yield "docs: PERFORMANCE, what is a quote", finds_quotes
+    for name in QUOTING:
+        yield ("docs: PERFORMANCE, quoted in %s" % name,
+               lambda name=name: quoted(name))
