@@ -1,8 +1,8 @@
 """The table of now in docs/PERFORMANCE.md: what is measured, a row each, with
 its mark.
 
-Another row is a line of ROWS, with its key among the figures that a function of
-SUBJECTS gives."""
+Another row is a line of ROWS, with its key among the figures that a function
+of SUBJECTS gives."""
 
 from datetime import date
 from typing import NamedTuple, Optional

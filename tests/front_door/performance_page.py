@@ -20,7 +20,6 @@ from front_door.pages import page
 
 PAGE = "docs/PERFORMANCE.md"
 QUOTING = ("README.md", "docs/COMPARISON.md")
-BYTES = 5 * 1024
 WORDS = "plain rust"
 RATIO = 3                       # the column
 NUMBER = re.compile(r"(?<![\d.,])\d[\d,]*(?:\.\d+)?(?!\.?\d)")
@@ -68,11 +67,6 @@ def agrees():
     wrong = ["%s: %s" % (cells[0], wrong_row(cells)) for cells in rows()
              if wrong_row(cells)]
     return "; ".join(wrong) or (not rows() and "it has no rows")
-
-
-def short():
-    size = len(page(PAGE).encode())
-    return size > BYTES and "%d bytes" % size
 
 
 # ---- the command
@@ -154,7 +148,6 @@ def finds_quotes():
 
 
 def tests(_):
-    yield "docs: PERFORMANCE, five kilobytes", short
     yield "docs: PERFORMANCE, the table of now", agrees
     yield "bench/run --report: rows", makes_rows
     yield "bench/run --report: the gate's row", keeps_the_gate

@@ -68,7 +68,7 @@ BENCH_RUN = [
     (["--unknown"], "unrecognized"),
     (["--write"], "go with --report"),
     (["--gate", "1200"], "go with --report"),
-    (["--report", "--gate", "0"], "SECONDS"),
+    (["--report", "--gate", "0"], "--gate: has to be"),
     (["--report", "--bursts"], "not allowed with"),
 ]
 
