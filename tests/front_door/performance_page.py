@@ -1,16 +1,16 @@
 """docs/PERFORMANCE.md: its table of now, the command that makes it, and the
 pages that quote it.
 
-A quote is a number with a decimal point that stands in README.md or
-docs/COMPARISON.md in one of these places:
+A quote is a number of README.md or docs/COMPARISON.md:
 
-- a sentence with the words 'plain Rust';
-- a row of a table with these words in it, or in the table's first row.
+- with a decimal point, in a sentence or a row of a table with the words
+  'plain Rust';
+- with a decimal point or a thousands' comma, in any row of a table with these
+  words in its first row.
 
 Versions, as 4.5.2, are none.  Each quote has to stand in a cell of the table
 of now, and each of the two pages has a ratio of it.  So a page that tells
-other figures with a point (calls a second, megabytes) keeps them out of such
-sentences and rows."""
+other figures (calls a second, megabytes) keeps them out of such places."""
 
 import re
 import sys
@@ -24,6 +24,7 @@ WORDS = "plain rust"
 RATIO = 3                       # the column
 NUMBER = re.compile(r"(?<![\d.,])\d[\d,]*(?:\.\d+)?(?!\.?\d)")
 QUOTE = re.compile(r"(?<![\d.])\d+\.\d+(?!\.?\d)")
+LARGE = re.compile(r"(?<![\d.,])\d{1,3}(?:,\d{3})+(?![\d,]*\d)")
 
 
 def report():
@@ -100,15 +101,16 @@ def keeps_the_gate():
 
 # ---- quotes
 
-def table_lines(text):
-    """Rows of tables, each after its table's first row."""
-    head = None
+def tables(text):
+    """Each row of a table, after whether the first row has the words."""
+    of_rust = None
     for line in text.splitlines():
         if not line.startswith("|"):
-            head = None
+            of_rust = None
             continue
-        head = head or line
-        yield "%s %s" % (head, line)
+        if of_rust is None:
+            of_rust = WORDS in line.lower()
+        yield of_rust, line
 
 
 def sentences(text):
@@ -119,32 +121,38 @@ def sentences(text):
             for sentence in re.split(r"(?<=[.:;?!])\s|\n\s*\n", prose)]
 
 
-def quotes(name):
-    """The numbers that a page quotes."""
-    places = [*sentences(page(name)), *table_lines(page(name))]
-    return sorted({number for place in places if WORDS in place.lower()
-                   for number in QUOTE.findall(place)})
+def quotes(text):
+    """The numbers that a page quotes, in the docstring's sense."""
+    rows_of_rust = [line for of_rust, line in tables(text) if of_rust]
+    places = [*sentences(text), *rows_of_rust,
+              *(line for _, line in tables(text))]
+    found = [number for place in places
+             if place in rows_of_rust or WORDS in place.lower()
+             for number in QUOTE.findall(place)]
+    return {*found, *(number for row in rows_of_rust
+                      for number in LARGE.findall(row))}
 
 
 def quoted(name):
-    known = {number for cells in rows()
-             for number in QUOTE.findall(" ".join(cells))}
-    ratios = {cells[RATIO] for cells in rows()}
-    lost = [number for number in quotes(name) if number not in known]
-    if lost:
-        return "not in the table of %s: %s" % (PAGE, ", ".join(lost))
-    return not ratios & set(quotes(name)) and "it quotes no ratio"
+    cells = [cell for row in rows() for cell in row]
+    known = {number for cell in cells
+             for number in QUOTE.findall(cell) + LARGE.findall(cell)}
+    found = quotes(page(name))
+    if found - known:
+        return "not in the table of %s: %s" % (
+            PAGE, ", ".join(sorted(found - known)))
+    return (not found & {row[RATIO] for row in rows()}
+            and "it quotes no ratio")
 
 
 def finds_quotes():
     """The rule of the docstring on a page by hand."""
-    text = ("Version 4.5.2 takes 1.06 times plain Rust. It has 8.5 pages.\n\n"
-            "| What | Plain Rust |\n|---|---|\n| dense | 28.4 ms |\n\n"
-            "| What | Size |\n|---|---|\n| page | 2.5 |\n")
-    places = [*sentences(text), *table_lines(text)]
-    found = [number for place in places if WORDS in place.lower()
-             for number in QUOTE.findall(place)]
-    return found != ["1.06", "28.4"] and "%s" % found
+    found = quotes(
+        "Version 4.5.2 takes 1.06 times plain Rust. It has 8.5 pages.\n\n"
+        "| What | Plain Rust |\n|---|---|\n| gate | 1,609 s, 28.4 ms |\n\n"
+        "| What | Size |\n|---|---|\n| page | 2.5 |\n"
+        "| 7.25 of plain Rust | 8,894 |\n")
+    return found != {"1.06", "28.4", "1,609", "7.25"} and "%s" % found
 
 
 def tests(_):
