@@ -1,4 +1,5 @@
-"""Link images: when one is taken, told from its bytes, and images that try it.
+"""Link images (rules 12.1 to 12.6): when one is taken, told from its bytes,
+and images that try it.
 
 An image is compared with the simulator's byte by byte, and what stands in the
 buffer past it has to stay.  The tests are of four sorts:

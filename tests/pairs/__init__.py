@@ -1,4 +1,4 @@
-"""Pairs of runs: the neighbours can't move a stream's frames.
+"""Pairs of runs: what neighbours can't change for a flow (rule 21.11).
 
 A pair is two call files of one plan, with the same ticks, and the same
 requests of one flow but for their numbers and the same credits of it, in the
