@@ -177,9 +177,14 @@ def inside(page):
     return parts(page)[1]
 
 
+def placed(page, text):
+    """The page with this text between its two lines."""
+    before, _, after = parts(page)
+    return "".join([before, BEGINS, "\n", text, ENDS, "\n", after])
+
+
 def write(text):
-    before, _, after = parts(PAGE.read_text(encoding="utf-8"))
-    PAGE.write_text("".join([before, BEGINS, "\n", text, ENDS, "\n", after]),
+    PAGE.write_text(placed(PAGE.read_text(encoding="utf-8"), text),
                     encoding="utf-8")
 
 

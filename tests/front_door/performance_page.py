@@ -93,6 +93,15 @@ def makes_rows():
     return lost and "not made: %s" % lost
 
 
+def writes_between():
+    """What stands outside the page's two lines stays."""
+    module = report()
+    before, _, after = module.parts(page(PAGE))
+    made = module.placed(page(PAGE), "a table\n")
+    return (module.parts(made) != (before, "a table\n", after)
+            and "something else changed")
+
+
 def keeps_the_gate():
     """Without its seconds the gate's row stays as the page has it."""
     made = report().gate(None)
@@ -158,6 +167,7 @@ def finds_quotes():
 def tests(_):
     yield "docs: PERFORMANCE, the table of now", agrees
     yield "bench/run --report: rows", makes_rows
+    yield "bench/run --report: between two lines", writes_between
     yield "bench/run --report: the gate's row", keeps_the_gate
     yield "docs: PERFORMANCE, what is a quote", finds_quotes
     for name in QUOTING:
