@@ -21,8 +21,7 @@ RULES_OF = re.compile(
 PAPER = re.compile(r"\b[Dd]oc(?:ument)?s? ?0\d\d?\b|\bN(?:1[0-4]|[1-9])\b")
 # History is told there, or the names are still to go.
 TOLD = ("docs/landings/", "docs/history/", "docs/DECISIONS.md",
-        "docs/ARCHITECTURE.md", "docs/COMPARISON.md", "docs/PERFORMANCE.md",
-        "crates/")
+        "docs/COMPARISON.md", "docs/PERFORMANCE.md", "crates/")
 BYTES = re.compile(r"(?:[0-9A-F]{2} ?)+")
 LINE = re.compile(r"[PGRCT](?: \S+)?")
 # A line of domeplan has 4,000 bytes at most, too few for so many.
