@@ -124,10 +124,10 @@ build_failed() {
 build() {
     found=$(state)
     [ "$found" = "target/bin/$crate is built" ] && return
-    command -v rt >/dev/null 2>&1 || stop 2 "$found, and rt, which proves and builds it, is not on the path"
+    command -v rt >/dev/null 2>&1 || stop 2 "$found, and rt, which proves and builds it, is not on the path; README, 'What is needed', names the kit that has it"
     begin_log || stop 2 "$found, and can't be built: target/build.log can't be written"
     count_crates
-    printf '%s: %s: it is proved and built first, %s crates, which takes some minutes; what rt says goes to target/build.log\n' "$script" "$found" "$crates" >&2
+    printf '%s: %s: it is proved and built first, %s crates, which may take some minutes; what rt says goes to target/build.log\n' "$script" "$found" "$crates" >&2
     prove || build_failed "$found"
     [ -x "$program" ] || stop 2 "rt check $crate left no target/bin/$crate; target/build.log has what rt said"
     touch "$program" 2>/dev/null

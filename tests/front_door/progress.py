@@ -111,7 +111,7 @@ def crates_below(crate):
 
 def first_line(tree):
     return ("%s: target/bin/%s is missing: it is proved and built first, "
-            "%d crates, which takes some minutes; what rt says goes to "
+            "%d crates, which may take some minutes; what rt says goes to "
             "target/build.log"
             % (tree.script, tree.crate, len(crates_below(tree.crate))))
 
