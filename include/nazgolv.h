@@ -36,7 +36,7 @@ extern "C" {
 #define NAZGOLV_VERSION "4.5.3"
 #define NAZGOLV_VERSION_MAJOR 4
 #define NAZGOLV_VERSION_MINOR 5
-#define NAZGOLV_VERSION_PATCH 2
+#define NAZGOLV_VERSION_PATCH 3
 
 /* ---- the image
  *
