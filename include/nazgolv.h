@@ -19,7 +19,7 @@
  * What a caller owes: each pointer has the stated number of bytes behind it,
  * which may be 0, and is not NULL; the plan's bytes and the image don't overlap;
  * two calls on one image don't run at once. The archive needs memcpy and memset,
- * and a call up to 22,000 bytes of stack.
+ * and a call up to 22,300 bytes of stack.
  */
 #ifndef NAZGOLV_H
 #define NAZGOLV_H
@@ -33,18 +33,19 @@ extern "C" {
 
 /* ---- the version: the first number goes up where older images are refused */
 
-#define NAZGOLV_VERSION "4.5.2"
+#define NAZGOLV_VERSION "4.5.3"
 #define NAZGOLV_VERSION_MAJOR 4
 #define NAZGOLV_VERSION_MINOR 5
-#define NAZGOLV_VERSION_PATCH 2
+#define NAZGOLV_VERSION_PATCH 3
 
 /* ---- the image
  *
  * 16-bit fields, low byte first, without gaps:
  *
- *   header      total length; offset of the plan; offset and count of positions;
- *               offset and count of flows; CP; taken mark, 0 or 1; the flow
- *               that the next lend looks from, below the count of flows
+ *   header      total length; where the plan starts; where the positions start,
+ *               and how many; where the flows start, and how many; CP; the
+ *               taken mark, 0 or 1; the flow that the next lend looks from,
+ *               below the number of flows
  *   plan        its bytes, as they were given to fresh
  *   positions   for each the flow that booked it, or 16
  *   flows       for each IF, C, what it holds at positions 0, 1, 2 and so on, and
@@ -159,9 +160,9 @@ uint64_t nazgolv_tick(uint8_t *image, size_t image_length);
 /*
  * Lends the current slot, which nobody booked, to a flow of the mask that has a
  * cell free; bit i is for flow i. The flow, or 8, 17 or 18. Flows get it in turn:
- * the first one that can take it, from the flow after the last one lent to on and
- * going round; from flow 0 on where no slot was lent since fresh, or since a
- * granted reset. A refused lend is no turn.
+ * they are looked at from the one behind the flow that was lent to last, going
+ * round, and the first that can take it does; from flow 0 on where no slot was
+ * lent since fresh, or since a granted reset. A refused lend is no turn.
  */
 uint64_t nazgolv_lend(uint8_t *image, size_t image_length, uint16_t mask);
 

@@ -50,11 +50,43 @@ state() {
 # Proves and builds the program. What rt says goes to the log.
 check_crate() { cd "$here" && rt check "$crate" </dev/null >"$log" 2>&1; }
 
-# Counts the seconds on one line of standard error, as long as this script runs.
-count_seconds() {
+# Leaves in $crates how many crates rt proves for the program: itself and all that it stands on, of those that crates.txt lists.
+count_crates() {
+    needed=" $crate "
+    before=
+    while [ "$before" != "$needed" ]; do
+        before=$needed
+        crates=0
+        while IFS=: read -r name uses; do
+            case $needed in
+            *" $name "*) ;;
+            *) continue ;;
+            esac
+            crates=$((crates + 1))
+            for use in $uses; do
+                case $needed in
+                *" $use "*) ;;
+                *) needed="$needed$use " ;;
+                esac
+            done
+        done <"$here/crates.txt"
+    done
+}
+
+# Leaves in $proved how many crates the log says are proved so far.
+count_proved() {
+    proved=0
+    while read -r word _ said _; do
+        [ "$word $said" = 'rt: proved' ] && proved=$((proved + 1))
+    done <"$log"
+}
+
+# Counts the proved crates and the seconds on one line of standard error, as long as this script runs.
+count_up() {
     seconds=0
     while kill -0 $$ 2>/dev/null; do
-        printf '\r%s: rt check %s: %s s ' "$script" "$crate" "$seconds" >&2
+        count_proved
+        printf '\r%s: rt check %s: %s of %s crates proved, %s s ' "$script" "$crate" "$proved" "$crates" "$seconds" >&2
         sleep 1 2>/dev/null || return
         seconds=$((seconds + 1))
     done
@@ -66,13 +98,13 @@ prove() {
         (check_crate)
         return
     fi
-    count_seconds >/dev/null &
+    count_up >/dev/null &
     counter=$!
     (check_crate)
     ended=$?
     kill "$counter" 2>/dev/null
     wait "$counter" 2>/dev/null
-    printf '\r%40s\r' '' >&2
+    printf '\r%60s\r' '' >&2
     return "$ended"
 }
 
@@ -92,9 +124,10 @@ build_failed() {
 build() {
     found=$(state)
     [ "$found" = "target/bin/$crate is built" ] && return
-    command -v rt >/dev/null 2>&1 || stop 2 "$found, and rt, which proves and builds it, is not on the path"
+    command -v rt >/dev/null 2>&1 || stop 2 "$found, and rt, which proves and builds it, is not on the path; README, 'What is needed', names the kit that has it"
     begin_log || stop 2 "$found, and can't be built: target/build.log can't be written"
-    printf '%s: %s: it is proved and built first, which takes some minutes; what rt says goes to target/build.log\n' "$script" "$found" >&2
+    count_crates
+    printf '%s: %s: it is proved and built first, %s crates, which may take some minutes; what rt says goes to target/build.log\n' "$script" "$found" "$crates" >&2
     prove || build_failed "$found"
     [ -x "$program" ] || stop 2 "rt check $crate left no target/bin/$crate; target/build.log has what rt said"
     touch "$program" 2>/dev/null

@@ -477,10 +477,9 @@ impl Link {
     }
 
     /// Asks for a slot, after the word's departure if that is later than the
-    /// current position. The flow's words are numbered 0, 1, 2 and so on modulo
-    /// 1,024, and after a refusal the number is the same again. The answer is
-    /// the word with the booked position as its departure, or the number of the
-    /// refusal.
+    /// current position. The word has to carry the count of the flow's
+    /// grants so far, modulo 1,024. The answer is the word with the booked
+    /// position as its departure, or the number of the refusal.
     #[inline]
     pub fn request(&mut self, word: u32) -> Result<u32, u8> {
         let asked = Word::split(word);

@@ -1,9 +1,8 @@
 """The verdict on a listing: demand 3 checked from it and its call file alone.
 
-The check follows document 01, "What demand 3 counts", and document 02 for its
-calls.  It shares no code with the simulator and keeps no table of the link: it
-writes down which slots the listing grants or lends and which credits it takes,
-and counts them.
+The check follows rules 21.2 to 21.10.  It shares no code with the simulator and
+keeps no table of the link: it writes down which slots the listing grants or
+lends and which credits it takes, and counts them.
 """
 
 import re

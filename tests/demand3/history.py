@@ -161,7 +161,7 @@ class History:
                 < self.cells[flow]]
 
     def check_turn(self, flow, mask):
-        """No flow is lent to again before one that waits.  Document 02, N8."""
+        """No flow is lent to again before one that waits (rule 21.10)."""
         waiting = self.waiting(mask)
         self.verdict.turns.update(self.turns.ways(flow, mask))
         for other in self.turns.lent(flow, waiting):

@@ -1,5 +1,5 @@
-"""Whose turn it was, told from a listing alone, and the fairness of document
-02, N8: between two lends to one flow, another that waits from the first of
+"""Whose turn it was, told from a listing alone, and the fairness of rule
+21.10: between two lends to one flow, another that waits from the first of
 them on is lent to.  A flow waits at a lend if it is in the mask and holds
 fewer than its cells from the current slot on."""
 

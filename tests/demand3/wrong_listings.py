@@ -1,8 +1,9 @@
 """Listings that the check of demand 3 has to send back, and some it must not.
 
 Each is a call file with a listing that no right link gives, and words of the
-fault that the check has to name.  Some follow document 01, "Link cards we
-would send back"; the others break one bullet each.
+fault that the check has to name.  Some are of links that can't be
+meant, as one that refuses everything; the others break one clause each of
+rules 21.5 to 21.8.
 """
 
 from demand3 import (
@@ -54,7 +55,7 @@ WRONG = [
           (ask(0), "G 1"), (ask(0), "G 2"),
           *[(TICK, line) for line in ("T 0", "T 0", "T -", "T -")],
           (ask(0), "G 0")), "flow 0 holds 3 at slot 8"),
-    # Slip 1 of document 01: 1 held at slot 2, but 0 from slot 5 on.
+    # Slip 1 (edges/three_slips.py): 1 held at slot 2, but 0 from slot 5 on.
     (edge("goes below 0", WIDE,
           (ask(0), "G 1"), (credit(0, 5), "C"), (credit(0, 2), "C")),
      "flow 0 holds -1 at slot 5"),

@@ -18,28 +18,32 @@ from driver.tally import (
     ResetTally, Tally)
 from edges import questions, refusals_page
 from edges.all_edges import ALLCALLS_EDGES, EDGES
+from front_door import architecture_page, decisions_page, doc_names
 from front_door import (
     asking_editor, calls_text, check_log, checklist_page, comparison_page,
-    flights, help_pages, man_pages, old_program, picture_errors,
+    flights, help_pages, man_pages, must_fail_edits, old_program, page_sizes,
+    performance_page, picture_errors,
     picture_pages, picture_scripts, picture_sizes, picture_view, pictures,
     plan_check, plan_culprits, plan_files, plan_lost_output, plan_read, plan_week,
     plan_wrong_words, play_explain, play_files, play_lost_output,
     play_options, play_states, progress, readme, remedies, rules_page,
     singular, slow_reader, tests_lost_output, versions, wrong_arguments)
+from front_door import desk_page, page_links, program_stacks, proved_page
 from images import self_tests
 from pairs import wrong_pairs
 
+PAGES = (proved_page, program_stacks, desk_page, page_links)
 FRONT_DOOR = (
+    decisions_page, architecture_page, doc_names,
     play_files, play_lost_output, play_explain, play_options, play_states,
     pictures, picture_sizes, picture_pages, picture_scripts, picture_view,
     picture_errors, singular, calls_text, plan_files, plan_culprits, plan_read,
     plan_check,
     plan_week, plan_wrong_words, plan_lost_output, check_log, flights,
     old_program, slow_reader, asking_editor, wrong_arguments,
-    tests_lost_output,
+    tests_lost_output, performance_page, page_sizes, must_fail_edits,
     progress, versions, help_pages, man_pages, readme, rules_page, remedies,
     checklist_page, comparison_page)
-REFUSALS = range(1, 30)         # those of all programs
 
 
 def wanted(names, only):
@@ -73,7 +77,7 @@ def answers():
 
 def tables():
     """The page has each refusal, and each edge a name of its own."""
-    missing = sorted(set(REFUSALS) - refusals_page.numbers())
+    missing = sorted(set(refusals_page.ALL) - refusals_page.numbers())
     yield ("docs: every refusal has an input",
            missing and "none for %s" % missing)
     for kind, edges in (("edge", EDGES + ALLCALLS_EDGES),
@@ -98,7 +102,7 @@ def front_door(programs, only):
     suite = Suite("front door")
     paths = {program.name: program.command[0] for program in programs}
     test_all(suite, itertools.chain.from_iterable(
-        subject.tests(paths) for subject in FRONT_DOOR), only)
+        subject.tests(paths) for subject in FRONT_DOOR + PAGES), only)
     return suite
 
 

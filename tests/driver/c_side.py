@@ -8,6 +8,7 @@ import subprocess
 from functools import partial
 from itertools import chain
 from pathlib import Path
+from textwrap import dedent
 
 from driver.formats import ALLCALLS
 from driver.image_suite import ImageSuite
@@ -16,7 +17,8 @@ from driver.suite import Suite, first_difference
 from edges import bursts, lends, numbers, resets, turns
 from edges.all_edges import EDGES
 from front_door import c_player
-from images import export_tests
+from front_door.pages import page
+from images import export_tests, stack_use
 
 ROOT = Path(__file__).resolve().parents[2]
 HEADER = ROOT / "include"
@@ -73,21 +75,38 @@ def header_tests(builder):
         yield ("C: the header as " + standard, partial(
             builder.alone, standard, sizes, "-x", "c++", "-std=" + standard,
             "-Wno-long-long", compiler=plus))
-    yield "C: README's lines", partial(readme, builder)
+    yield "C: the example of docs/C.md", partial(example, builder)
+    yield "C: the stack of each call", partial(stack, builder)
 
 
-def readme(builder):
-    """The lines of C that README.md has."""
-    text = (ROOT / "README.md").read_text()
+def example(builder):
+    """The program on the page prints what stands below it."""
+    text = page("docs/C.md").partition("## An example")[2]
+    program, _, rest = text.partition("\nIt prints:\n")
+    source = builder.folder / "example.c"
+    source.write_text(block(program))
+    path, wrong = builder.program("example", source)
+    return wrong or driven([path], block(rest.partition("\n## ")[0]))
+
+
+def block(text):
+    """The indented code of a text, as it stands."""
     lines = [line for line in text.splitlines()
-             if line.startswith("    ") and line.endswith(";")]
-    source = builder.folder / "readme.c"
-    source.write_text(
-        '#include "nazgolv.h"\n'
-        "uint64_t readme(const uint8_t *plan, size_t plan_length);\n"
-        "uint64_t readme(const uint8_t *plan, size_t plan_length)\n"
-        "{\n%s\n    return made + word;\n}\n" % "\n".join(lines))
-    return builder.alone("readme", source, "-std=c99")
+             if not line or line.startswith("    ")]
+    return dedent("\n".join(lines)).strip("\n") + "\n"
+
+
+def stack(builder):
+    """It is what docs/PROVED.md and the header have."""
+    path, wrong = builder.program("stack", stack_use.SOURCE, "-pthread")
+    return wrong or stack_use.wrong_figures(path)
+
+
+def driven(command, right):
+    """What is wrong with what a program writes, or None."""
+    done = subprocess.run(command, capture_output=True)
+    return first_difference(right.encode(), done.stdout) or (
+        (done.returncode or done.stderr) and "status %d" % done.returncode)
 
 
 # ---- under a tool that watches memory

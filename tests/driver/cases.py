@@ -17,7 +17,7 @@ from simulator.image import image_of
 from simulator.listing import steps
 
 PIECES = (1, 2, 3, 4, 7, 64)    # bytes at a time
-IN_PIECES = ("the listing of document 01", "a last record of 3 bytes",
+IN_PIECES = ("the listing of rule 13.6", "a last record of 3 bytes",
              "plan: 19 bytes that say 20")
 OTHERS_IN_PIECES = ("lend: 17 at a lent and at a booked slot",
                     "lend: a last record of 4 bytes",

@@ -1,5 +1,5 @@
-"""Round trips through domeplan, by its own answers alone: what it writes is
-read back to the same line, and what it reads is written to the same bytes."""
+"""Round trips through domeplan, by its own answers alone: the bytes of a line
+are read as that line, and what it reads is written to the same bytes."""
 
 from generator import asked_plans, question_seeds
 

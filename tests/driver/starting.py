@@ -21,7 +21,7 @@ class Played:
 
 
 def trouble_of(status, errors):
-    """Document 01 names no status; an ordinary end is 0 and a quiet one."""
+    """No rule names a status; an ordinary end is 0 and a quiet one."""
     if status < 0:
         return "ended by signal %d" % -status
     if status:

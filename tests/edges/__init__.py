@@ -1,2 +1,2 @@
 """Executed edges: call files with listings that are worked out by hand from
-documents 01 and 02, never taken from a program."""
+the rules of docs/RULES.md, never taken from a program."""

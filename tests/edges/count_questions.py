@@ -1,8 +1,8 @@
-"""Edges of the word `count`, worked out by hand from document 02, N11."""
+"""Edges of the word `count`, worked out by hand from rule 17.1."""
 
 # F, n and the two numbers, or the refusal.
 COUNTS = [
-    ("document 02's example", "count 4 2", "6 10"),
+    ("four slots, two flows", "count 4 2", "6 10"),
     ("one slot for one flow", "count 1 1", "1 0"),
     # Each flow has a share of 1 at least.
     ("two flows in one slot", "count 1 2", "0 1"),

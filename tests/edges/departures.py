@@ -1,5 +1,5 @@
-"""Edges of the word's departure (document 02, N4): a tile can't leave before
-it has come.  Refusal 20 stands between 11 and 12.
+"""Edges of the word's departure (rules 6.3 and 6.4): what has not come is not
+sent on.  Refusal 20 stands between 11 and 12.
 """
 
 from edges.edge_maker import BASE, TICK, ask, credit, edge, plan

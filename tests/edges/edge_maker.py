@@ -1,8 +1,8 @@
-"""How an edge is written: a call file beside the listing that document 01,
-or 02 for its calls, gives it.
+"""How an edge is written: a call file beside the listing that the rules give
+it.
 
 Expected lines are worked out by hand.  In the comments "slot" is the number
-without end, F, W, T, C, IF and HF are document 01's names.  A request has the
+without end, F, W, T, C, IF and HF are those of rule 1.4.  A request has the
 flow's next quantum number, by the grants in the lines above it, where no other
 is named; so has a word of a burst, whose step stands beside the lines of its
 records.

@@ -1,6 +1,6 @@
 """Edges of the word `extras`: a line, and the answer that it has to get.
 
-Answers are worked out by hand from document 02's request.
+Answers are worked out by hand from rules 18.1 to 18.3.
 """
 
 FULL = 12 * " 5 1000"           # twelve layers that fit together in 60 slots

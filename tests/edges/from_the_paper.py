@@ -1,18 +1,17 @@
-"""The edges that document 01 lists itself, with what document 02 changed."""
+"""The edges that were asked for from the start, by the rules as they are."""
 
 from edges.edge_maker import Edge, TICK, ask, credit, edge, plan
 
 EDGES = [
-    # Document 01 prints this input and its output in full.
-    Edge("the listing of document 01",
+    Edge("the listing of rule 13.6",
          bytes.fromhex(
              "14 00 02 00 0C 00 04 00 02 00 04 00 02 02 01 09 02 02 02 09"
              "01 00 00 00 24  01 00 04 00 24  01 00 08 00 24  02 00 04 00 00"
              "01 00 08 00 24  01 00 00 10 24  03 00 00 00 00"),
          ["P 0", "G 1", "G 2", "R 12", "C", "G 4", "G 3", "T 0"]),
 
-    # Document 01 tells these calls where it says why each flow has cells of
-    # its own.
+    # Why each flow has cells of its own: with one count for all flows these
+    # calls overfill the buffer.
     edge("the calls over four frames", plan(4, 4, (2, 2), (2, 2)),
          (ask(0), "G 1"),
          (ask(0), "G 2"),
@@ -26,7 +25,7 @@ EDGES = [
          (ask(1), "R 12")),         # holds both cells from 4 on
 
     # T = 8: departure 8 is not below T, and changes nothing.  7 is below T,
-    # but no position is later: 20, which leaves IF at frame 1 (document 02).
+    # but no position is later: 20, which leaves IF at frame 1 (rule 6.6).
     edge("departure T - 1 and T", plan(4, 2, (2, 4)),
          (ask(0, departure=7), "R 20"),
          (ask(0, departure=8), "R 10"),

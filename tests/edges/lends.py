@@ -106,7 +106,7 @@ WHO_CAN_TAKE = [
          (credit(0, 3), "C"),
          (lend(1), "L 0")),
 
-    # It is refused only if no flow of the mask can take it, and a flow that
+    # It is refused only if the whole mask has no flow for it, and a flow that
     # is not in the mask doesn't get it.
     edge("lend: one flow of the mask can take it",
          plan(4, 2, (1, 1), (1, 2), (1, 1)),

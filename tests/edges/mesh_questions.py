@@ -1,5 +1,5 @@
 """Edges of the words `mesh` and `mesh-over`: a line, and the answer that it has
-to get, worked out by hand from document 02, N10.
+to get, worked out by hand from rules 16.1 to 16.3.
 
     0  1  2  3  4  5  6  7      the boards of the first rows; a stream goes along
     8  9 10 11 12 13 14 15      its source's row, then its destination's column

@@ -1,5 +1,5 @@
-"""Edges of the quantum number (document 02, N9): the link expects 0, 1, 2 and
-so on modulo 1,024 of each flow.  Refusal 24 stands after 10, and changes
+"""Edges of the quantum number (rules 5.2 and 5.3): the link expects 0, 1, 2
+and so on modulo 1,024 of each flow.  Refusal 24 stands after 10, and changes
 nothing.
 """
 

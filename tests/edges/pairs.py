@@ -1,7 +1,7 @@
 """Edges in pairs, for allcalls: runs from one plan with the same ticks, and
 the same requests and credits of flow 0, the main head's.
 
-The two listings of the witness meet document 02's premise (N14); each of the
+The two listings of the witness meet the premises of rule 21.11; each of the
 other pairs breaks one premise, and the conclusion with it.
 """
 

@@ -125,7 +125,7 @@ SUMS = [
      plan(64, 4, 4079, [(1, 255, place, 63) for place in range(16)]), 7),
 ]
 
-# Two faults: the earlier test in the table of document 01 gives the number.
+# Two faults: the earlier test in rule 2.3's table gives the number.
 ORDER = [
     ("2 and 3: n and F", plan(0, 2, 4, TWO, flows=3), 2),
     ("2 and 3: offset and T", plan(64, 5, 4, TWO, offset=13), 2),

@@ -1,6 +1,6 @@
 """Edges of `programme`: a line of domeplan, and the answer that it has to get.
 
-Answers are worked out by hand from document 02, N13.
+Answers are worked out by hand from rules 19.1 to 19.3.
 """
 
 

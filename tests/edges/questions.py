@@ -1,7 +1,7 @@
 """Edges of domeplan: a line, and the answer that it has to get.
 
-Answers are worked out by hand from document 01's plan bytes and table of
-refusals.  What the edges of the plan say of bytes is asked here too, by `read`
+Answers are worked out by hand from the rules of section 20 and those that
+it names.  What the edges of the plan say of bytes is asked here too, by `read`
 of the bytes and by `plan` of their numbers.
 """
 
@@ -14,7 +14,7 @@ from edges.edge_maker import BASE
 
 NO_QUESTION = "?"               # stands for this and any reason
 
-TWO = "2 2 1 9 2 2 2 9"         # the entries of document 01's listing
+TWO = "2 2 1 9 2 2 2 9"         # the entries of rule 13.6's listing
 LISTING = BASE.hex()            # its plan, 20 bytes
 FULL = " ".join("4 255 %d 63" % node for node in range(16))
 FULL_HEX = "4c0010000c0040000400ff0f" + "".join(
@@ -36,7 +36,7 @@ def flows(count):
 # ---- plan: numbers to bytes
 
 PLANS = [
-    ("the plan of document 01's listing", "plan 4 2 4 " + TWO,
+    ("the plan of rule 13.6's listing", "plan 4 2 4 " + TWO,
      "140002000c000400020004000202010902020209"),
     ("the largest plan", "plan 64 4 4095 " + FULL, FULL_HEX),
     ("the smallest plan", "plan 1 2 1 1 1 0 1",
@@ -106,7 +106,7 @@ ROOMS = [
 # ---- read: bytes to the line that makes them
 
 READS = [
-    ("document 01's listing", "read " + LISTING, "plan 4 2 4 " + TWO),
+    ("rule 13.6's listing", "read " + LISTING, "plan 4 2 4 " + TWO),
     ("capitals", "read " + LISTING.upper(), "plan 4 2 4 " + TWO),
     ("digits of both cases", "read 140002000C000400020004000202010902020209",
      "plan 4 2 4 " + TWO),

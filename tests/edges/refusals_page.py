@@ -5,6 +5,7 @@ from pathlib import Path
 
 TEXT = Path(__file__).resolve().parents[2] / "docs/REFUSALS.md"
 PLAN = re.compile(r"^- ([A-Z]) = `([0-9A-F ]+)`")
+ALL = range(1, 30)      # the refusals of all programs
 NAMED = re.compile(r"`([a-z]+)`: ")     # a program that an input is for alone
 
 

@@ -1,4 +1,6 @@
-"""The three slips of document 01: cases that tell each one from the rule."""
+"""Three slips that a sparse flight would not show: a credit tested at its own
+position only, the last frame not gone round, a holding dropped with its frame.
+These cases tell each from rules 7.1, 3.3 and 8.2."""
 
 from edges.edge_maker import TICK, ask, credit, edge, plan
 

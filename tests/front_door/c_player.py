@@ -11,7 +11,7 @@ from edges.from_the_paper import EDGES
 from front_door.command import ROOT, redirected, start, trouble
 
 NOT_WHOLE = 1
-LISTING = EDGES[0]              # document 01's
+LISTING = EDGES[0]              # rule 13.6's
 HANDS_OUT = """\
 [ "$*" = "staticlib image" ] || exit 2
 mkdir -p target/staticlib

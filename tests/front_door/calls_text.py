@@ -151,7 +151,7 @@ def short_text():
 # ---- the command
 
 def the_listing(tree):
-    """The text of document 01's calls, and the file beside it."""
+    """The text of rule 13.6's calls, and the file beside it."""
     text = tree.root / "flights/listing.calls"
     return (trouble(tree.start(text), output=LISTING)
             or trouble(tree.start("-", input=text.read_bytes()),

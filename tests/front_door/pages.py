@@ -1,8 +1,9 @@
 """What stands in a page of Markdown: code, links and tables."""
 
 import re
+from functools import lru_cache
 
-from front_door.command import ROOT
+from front_door.command import ROOT, start, trouble
 
 FILE = re.compile(r"[\w./-]+\.(?:antt|rt|md|py|rs|c|h|svg|txt)"
                   r"|[\w.-]+/[\w./-]*")
@@ -57,3 +58,25 @@ def places(text, folder=None):
         yield name, found[0] if found else None
         if found and "/" in name:
             folder = found[0] if found[0].is_dir() else found[0].parent
+
+
+# ---- commands that a page names
+
+@lru_cache(maxsize=None)
+def help_of(command):
+    """What a command's --help says, and what is wrong with it."""
+    ended = start([ROOT / command, "--help"])
+    return ended.output.decode(), trouble(ended)
+
+
+def help_lacks(words):
+    """What the --help of a command doesn't say of these words, or None."""
+    command = words[0][2:] if words[0].startswith("./") else words[0]
+    if not (ROOT / command).is_file():
+        return "there is no " + command
+    said, wrong = help_of(command)
+    asked = [words[0], *(word for word in words if word.startswith("--"))]
+    missing = [word for word in asked
+               if not re.search(re.escape(word) + r"(?![\w-])", said)]
+    return wrong or (missing and "the help of %s has no %s"
+                     % (command, ", ".join(missing))) or None

@@ -29,7 +29,7 @@ class Played:
         self.options = list(options)
 
 
-# Document 01's listing: flow 0 books 1, 2 and 4, flow 1 books 3, and after the
+# Rule 13.6's listing: flow 0 books 1, 2 and 4, flow 1 books 3, and after the
 # tick position 1 is current.
 LISTING = Played(from_the_paper.EDGES[0].data, from_the_paper.EDGES[0].lines)
 
@@ -37,7 +37,7 @@ LISTING = Played(from_the_paper.EDGES[0].data, from_the_paper.EDGES[0].lines)
 LENT = Played(BASE + lend(1) + TICK + request(9, 1, 0, 1) + TICK,
               ["P 0", "L 0", "T -", "G 2", "T 1"], ["--allcalls"])
 
-# F = 1, W = 2, one flow with share 1 and 4 cells.  It books slot 1, and the
+# F = 1, W = 2 and one flow, share 1 and 4 cells.  It books slot 1, and the
 # tick is a frame change: position 1 is the head frame, position 0 the newest.
 ONE_SLOT = Played(plan(1, 2, 4, [(1, 4, 1, 9)]) + request(9, 0) + TICK,
                   ["P 0", "G 1", "T 0"])

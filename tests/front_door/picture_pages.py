@@ -8,7 +8,7 @@ from front_door.command import ROOT, trouble
 from front_door.picture_files import LISTING, Played, drawn
 from simulator.listing import simulate
 
-# Document 01's seven calls as the page has them; page.py says how.
+# Rule 13.6's seven calls as the page has them; page.py says how.
 ROWS = [[1, 0, 0, 0, 9, 1], [1, 0, 1, 0, 9, 2], [1, 0, 2, 0, 9, -12],
         [2, 0, 4, 0], [1, 0, 2, 0, 9, 4], [1, 1, 0, 0, 9, 3], [3, 0]]
 KEPT = ("sparse", "dense")              # flights whose pages stand in docs

@@ -20,7 +20,7 @@ class Broken(Exception):
 
 
 
-# Document 01's seven calls: call 3 is refused with 12, and no other is.
+# Rule 13.6's seven calls: call 3 is refused with 12, and no other is.
 # A step beside the number that is shown then.
 STEPS = [
     (["key", "ArrowRight"], 1), (["key", "ArrowRight"], 2),

@@ -13,7 +13,7 @@ SIXTEEN = [(4, 255, place, 63) for place in range(16)]
 # Blanks, a newline, a percent sign, a backslash: bytes that a shell may spoil.
 SPOILT = [(10, 37, 32, 10), (37, 92, 37, 0), (13, 255, 39, 34)]
 
-# Numbers beside the refusal that document 01's table gives them.
+# Numbers beside the refusal that rule 2.3 gives them.
 REFUSALS = [
     ("4 2 4", 2),                           # no flow
     ("0 2 4" + " 1 1 1 9" * 17, 2),         # before F

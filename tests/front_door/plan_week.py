@@ -47,7 +47,7 @@ PRINTED = [
                      "tue 01:00 - sun 24:00 dark"]),
 ]
 
-# Numbers beside the refusal that document 02 gives them, and the entry or the
+# Numbers beside the refusal that rule 19.2 gives them, and the entry or the
 # entries that are named.
 REFUSALS = [
     ("10 10 7", 28, "entry 1 is from 10 to 10"),

@@ -1,4 +1,4 @@
-"""./play in words: document 01's listing, --explain, and the summary."""
+"""./play in words: rule 13.6's listing, --explain, and the summary."""
 
 import re
 
@@ -13,7 +13,7 @@ from front_door.show_tools import explain
 from simulator.listing import simulate
 from simulator.records import ALLCALLS, DOMELINK
 
-LISTING = b"P 0\nG 1\nG 2\nR 12\nC\nG 4\nG 3\nT 0\n"    # document 01 prints it
+LISTING = b"P 0\nG 1\nG 2\nR 12\nC\nG 4\nG 3\nT 0\n"    # by rule 13.6
 
 # F = 4 and T = 8: positions 0 to 3 are in frame 0, 4 to 7 in frame 1.
 IN_WORDS = """\
@@ -104,7 +104,7 @@ Summary
 # ---- files in words
 
 def without_a_file(tree):
-    """Document 01's listing in words, from any folder."""
+    """Rule 13.6's listing in words, from any folder."""
     return trouble(tree.start(cwd="/"), output=IN_WORDS.encode())
 
 

@@ -16,7 +16,14 @@ from front_door.play_tree import PlayTree
 from front_door.tree import named
 
 NOTHING_DONE = 2                # exit status of play and plan
-SLOWLY = "sleep 1.5\n"
+CRATE_BY_CRATE = """\
+echo 'logic=proved a line of the prover'
+echo 'rt: model proved (3 s)'
+sleep 1.5
+echo 'rt: word proved (unchanged since it was last proved)'
+echo 'rt: a line on something that is not proved'
+sleep 1.5
+"""
 BUILDS = "echo 'all proved'\nmv built target/bin/%s\n"
 FAILS = """\
 line=1
@@ -88,25 +95,43 @@ def environment(tree, script):
     return dict(os.environ, PATH=tree.path)
 
 
+def crates_below(crate):
+    """The crates that one stands on, itself among them, by crates.txt."""
+    lines = (ROOT / "crates.txt").read_text().splitlines()
+    uses = {name: words.split() for name, colon, words in
+            (line.partition(":") for line in lines) if colon}
+    found, left = set(), [crate]
+    while left:
+        name = left.pop()
+        if name in uses and name not in found:      # the kit has others
+            found.add(name)
+            left += uses[name]
+    return found
+
+
 def first_line(tree):
     return ("%s: target/bin/%s is missing: it is proved and built first, "
-            "which takes some minutes; what rt says goes to target/build.log"
-            % (tree.script, tree.crate))
+            "%d crates, which may take some minutes; what rt says goes to "
+            "target/build.log"
+            % (tree.script, tree.crate, len(crates_below(tree.crate))))
 
 
 def log(tree):
     return (tree.root / "target/build.log").read_text()
 
 
-def counts_seconds_on_a_terminal(tree):
+def counts_crates_on_a_terminal(tree):
     """And what rt says goes to the log."""
-    ended = on_a_terminal([tree.command, *tree.good],
-                          env=environment(tree, SLOWLY + BUILDS % tree.crate))
-    counts = ["%s: rt check %s: %d s" % (tree.script, tree.crate, seconds)
-              for seconds in (0, 1)]
+    ended = on_a_terminal(
+        [tree.command, *tree.good],
+        env=environment(tree, CRATE_BY_CRATE + BUILDS % tree.crate))
+    counts = ["%s: rt check %s: %d of %d crates proved, "
+              % (tree.script, tree.crate, proved,
+                 len(crates_below(tree.crate))) for proved in (1, 2)]
     return (wrong_lines(ended, counts, [first_line(tree), ""])
             or ended.output != tree.output and "other output"
-            or log(tree) != "all proved\n" and log(tree))
+            or " 3 of " in ended.errors and "other lines are counted"
+            or log(tree).splitlines()[-1] != "all proved" and log(tree))
 
 
 def wrong_failure(tree, ended, lines):
@@ -207,10 +232,11 @@ RUNNING = (tests_run_counts_on_a_terminal, tests_run_fails_on_a_terminal,
 
 
 def tests(programs):
-    yield from named(PlayTree, (counts_seconds_on_a_terminal,
+    yield from named(PlayTree, (counts_crates_on_a_terminal,
                                 no_count_on_a_pipe, failure_on_a_pipe),
                      programs)
-    yield from named(PlanTree, (failure_on_a_terminal,
+    yield from named(PlanTree, (counts_crates_on_a_terminal,
+                                failure_on_a_terminal,
                                 log_that_takes_nothing), programs)
     for test in RUNNING:
         yield ("progress: " + test.__name__.replace("_", " "),

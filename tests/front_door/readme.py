@@ -1,143 +1,136 @@
-"""README.md is true: its commands, files, figures, lines and answers."""
+"""README.md is true: its size, commands, lines, names and pictures."""
 
 import re
 import shlex
-from functools import lru_cache
 from xml.etree import ElementTree
 
 from edges import from_the_paper
 from front_door.command import ROOT, start, trouble
-from front_door.pages import (
-    anchors, code_lines, inline_code, links, page, places, table)
+from front_door.pages import code_lines, help_lacks, inline_code, page
+from front_door.play_tree import in_trees
+from front_door.progress import crates_below
 
-WITHOUT_HELP = (".ci/run", "player/build")      # they take no words
-COMMAND = re.compile(r"(\./|tests/run|bench/run|player/build|tools/|bash )")
-SPECS = ROOT / "crates/model/specs"
+MOST_BYTES = 9 * 1024
+MOST_PICTURE = 200 * 1000       # bytes
+GATE = "bash .ci/run"
 SVG = "{http://www.w3.org/2000/svg}"
+PNG = b"\x89PNG\r\n\x1a\n"
+SHOWN = re.compile(r"[A-Z] |C  ")               # a line of the example
+
+
+def text():
+    return page("README.md")
+
+
+def nine_kilobytes():
+    size = len(text().encode())
+    return size > MOST_BYTES and "%d bytes" % size
 
 
 # ---- commands
 
 def commands():
-    """The words of each command that README names."""
-    text = page("README.md")
-    for line in code_lines(text) + inline_code(text):
-        if COMMAND.match(line) and not line.endswith(("/", ".sh", ".md")):
-            words = shlex.split(line, comments=True)
-            yield words[1:] if words[0] == "bash" else words
+    """The three, as they are written."""
+    lines = code_lines(text().partition("## Three commands")[2])
+    return [line.partition("#")[0].strip() for line in lines
+            if not SHOWN.match(line)]
 
 
-@lru_cache(maxsize=None)
-def help_of(command):
-    """What a command's --help says, and what is wrong with it."""
-    ended = start([ROOT / command, "--help"])
-    return ended.output.decode(), trouble(ended)
+def there_are_three():
+    found = commands()
+    return (len(found) != 3 or found[2] != GATE) and "%s" % found
 
 
-def not_shown(words):
-    """What --help doesn't say of a command, or None."""
-    command = words[0][2:] if words[0].startswith("./") else words[0]
-    options = [word for word in words[1:] if word.startswith("--")]
-    if not (ROOT / command).is_file():
-        return "there is no " + command
-    if command in WITHOUT_HELP:
-        return len(words) > 1 and "it takes no words"
-    said, wrong = help_of(command)
-    missing = [word for word in [words[0], *options]
-               if not re.search(re.escape(word) + r"(?![\w-])", said)]
-    return wrong or (missing and "--help has no " + ", ".join(missing))
+def as_written(tree, line):
+    """How a command of the page ends, and the files that it leaves."""
+    known = set(tree.root.rglob("*"))
+    ended = start(["sh", "-c", line], cwd=tree.root)
+    return ended, sorted(path.name for path in
+                         set(tree.root.rglob("*")) - known)
 
 
-def commands_are_there():
-    wrong = ["%s: %s" % (" ".join(words), not_shown(words))
-             for words in commands() if not_shown(words)]
-    return "; ".join(wrong) or None
+def play_says_the_lines(tree):
+    """./play gives the answers of the example, each once, in this order."""
+    ended, left = as_written(tree, commands()[0])
+    said = re.findall(r"^  ([A-Z](?: \d+)?) ", ended.output.decode(),
+                      re.MULTILINE)
+    return trouble(ended) or left and "%s is left" % left or (
+        said != from_the_paper.EDGES[0].lines and "it says %s" % said)
 
 
-# ---- files
-
-def links_lead_somewhere():
-    text = page("README.md")
-    wrong = [link for link in links(text)
-             if not (link[1:] in anchors(text) if link.startswith("#")
-                     else (ROOT / link).exists())]
-    return wrong and "no file or heading: " + ", ".join(wrong)
-
-
-def files_are_there():
-    wrong = [name for line in page("README.md").splitlines()
-             for name, place in places(line, SPECS) if place is None]
-    return wrong and "no file: " + ", ".join(wrong)
+def play_writes_the_page(tree):
+    """And says so in the words of README."""
+    ended, left = as_written(tree, commands()[1])
+    said = ended.errors.strip()
+    return trouble(ended, 0, b"", "is written") or (
+        left != ["dense.html"] and "%s is left" % left) or (
+        said not in inline_code(text()) and said)
 
 
-def theorems_are_there():
-    """Each hyphenated name of the statements is in one of its row's files."""
-    wrong = []
-    for statement, where in table(page("README.md"), "Statement"):
-        files = [path for name, path in places(where) if path]
-        text = " ".join(each.read_text() for path in files for each in
-                        (path.glob("*.antt") if path.is_dir() else [path]))
-        wrong += [name for name in inline_code(statement)
-                  if re.fullmatch(r"[a-z]\w*(-\w+)+", name)
-                  and not re.search(r"(?<![\w-])%s(?![\w-])" % name, text)]
-    return wrong and "not in the files of its row: " + ", ".join(wrong)
+def the_gate_is_there():
+    """It can't be started by a part of it."""
+    return trouble(start(["bash", "-n", ROOT / GATE.split()[1]]))
 
 
-# ---- figures
-
-def spec_lines(modules):
-    """Lines with something else than a comment."""
-    lines = [line.strip() for module in modules for line in
-             (SPECS / (module + ".antt")).read_text().splitlines()]
-    return sum(1 for line in lines if line and not line.startswith("--"))
+def others_are_in_the_help():
+    """Commands in a sentence, with options that their help has."""
+    wrong = [help_lacks(shlex.split(code)) for code in inline_code(text())
+             if code.startswith(("./", "tools/", "player/"))]
+    return "; ".join(filter(None, wrong)) or None
 
 
-def lines_of_specs():
-    index = (SPECS / "Lib.antt").read_text().partition("-- worked examples")
-    counts = [spec_lines(re.findall(r"^pub mod (\w+)", half, re.MULTILINE))
-              for half in (index[0], index[2])]
-    wanted = "{:,} lines without comments, and {:,} more".format(*counts)
-    return wanted not in page("README.md") and "it has to say: " + wanted
-
-
-def crates():
-    names = re.findall(r"^(\w+):", page("crates.txt"), re.MULTILINE)
-    listed = [name for row in table(page("README.md"), "Crate")
-              for name in inline_code(row[0])]
-    if sorted(names) != sorted(listed):
-        return "the table differs from crates.txt: %s" % (
-            sorted(set(names) ^ set(listed)) or "a crate stands twice")
-    wanted = "There are %d crates" % len(names)
-    return wanted not in page("README.md") and "it has to say: " + wanted
-
-
-# ---- the example, the answers and the picture
+# ---- what it says
 
 def eight_lines():
-    """The example's answers are those that document 01 prints."""
-    section = page("README.md").partition("## Eight lines")[2]
-    shown = [line.partition("  ")[0] for line in
-             code_lines(section.partition("\n## ")[0])]
+    """The example's answers are those of the edge that lists them."""
+    shown = [line.partition("  ")[0] for line in code_lines(text())
+             if SHOWN.match(line)]
     right = from_the_paper.EDGES[0].lines
     return shown != right and "%s for %s" % (shown, right)
 
 
 def ten_words():
-    rows = table(page("README.md"), "Word")
-    return len(rows) != 10 and "there are %d" % len(rows)
+    words = re.findall(r"\*\*([a-z -]+)\*\*",
+                       text().partition("Ten words:")[2].partition("\n")[0])
+    return len(set(words)) != 10 and "%s" % words
 
 
-def answers(domeplan):
-    """domeplan answers as the table says."""
-    rows = [inline_code(row[0] + row[1]) for row in
-            table(page("README.md"), "Line")]
-    asked = "".join(line + "\n" for line, answer in rows).encode()
-    right = "".join(answer + "\n" for line, answer in rows).encode()
-    return not rows and "no table" or trouble(
-        start([domeplan], input=asked), output=right)
+def crates_of_play():
+    wanted = "%d crates" % len(crates_below("domelink"))
+    return wanted not in text() and "it has to say: " + wanted
 
 
-def picture():
+def demand_3_is_explained_first():
+    """Its first mention says what it is."""
+    first = re.search(r"[^\n]*[Dd]emand 3[^\n]*", text())
+    return "is the name of the main claim" not in first.group() \
+        and first.group()[:80]
+
+
+def papers_are_not_cited():
+    """By numbers that a reader can't look up."""
+    found = re.findall(r"[Dd]ocuments? 0\d|\bN\d+\b", text())
+    return found and ", ".join(found)
+
+
+def theorems_are_proved():
+    """Each hyphenated name in code stands on docs/PROVED.md."""
+    known = set(inline_code(page("docs/PROVED.md")))
+    wrong = [name for name in inline_code(text())
+             if re.fullmatch(r"[a-z]\w*(-\w+)+", name) and name not in known
+             and not name.startswith("rattle-kit")]
+    return wrong and "not on docs/PROVED.md: " + ", ".join(wrong)
+
+
+# ---- pictures
+
+def picture_of_the_page():
+    data = (ROOT / "docs/page.png").read_bytes()
+    return (not data.startswith(PNG) or len(data) > MOST_PICTURE) and (
+        "%d bytes" % len(data))
+
+
+def picture_of_the_link():
     """A title, a description, and no letters that are too small at 800
     pixels."""
     root = ElementTree.parse(ROOT / "docs/link.svg").getroot()
@@ -150,12 +143,15 @@ def picture():
     return min(sizes) * 800 / wide < 14 and "letters are too small"
 
 
-TESTS = (commands_are_there, links_lead_somewhere, files_are_there,
-         theorems_are_there, lines_of_specs, crates, eight_lines, ten_words,
-         picture)
+TESTS = (nine_kilobytes, there_are_three, the_gate_is_there,
+         others_are_in_the_help, eight_lines, ten_words, crates_of_play,
+         demand_3_is_explained_first, papers_are_not_cited,
+         theorems_are_proved, picture_of_the_page, picture_of_the_link)
 
 
 def tests(programs):
+    for name, test in in_trees((play_says_the_lines, play_writes_the_page),
+                               programs):
+        yield "README: " + name, test
     for test in TESTS:
         yield "README: " + test.__name__.replace("_", " "), test
-    yield "README: answers", lambda: answers(programs["domeplan"])

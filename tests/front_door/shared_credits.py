@@ -1,4 +1,4 @@
-"""One link by document 000's rule: all flows share one count of free places,
+"""One link by the published rule: all flows share one count of free places,
 and condition (1) guards each frame.  As in its appendix, slots and frames are
 numbered on without end, and all places are free before frame 0."""
 

@@ -1,5 +1,4 @@
-"""When an image is taken (document 02, N5, N8 and N9), told from its bytes
-alone.
+"""When an image is taken (rules 12.2 and 12.3), told from its bytes alone.
 
 Each condition has a name, so that an image can be made which breaks it and no
 other.  A condition that speaks of CP or of IF is looked at only where that is

@@ -1,6 +1,6 @@
-"""Images worked out by hand from document 02: whole ones after some calls; and
-for each condition images that break it and no other, and images at its edge
-that are taken.
+"""Images worked out by hand from rules 12.1 to 12.3: whole ones after some
+calls; and for each condition images that break it and no other, and images at
+its edge that are taken.
 """
 
 from call_bytes import TICK, lend
@@ -24,7 +24,7 @@ FRESH = image("0000", "0000", "0000", NOBODY,
               "0000 0200" + NOTHING + "0000",
               "0000 0200" + NOTHING + "0000")
 
-# The listing of document 01: flow 0 booked 1, 2 and 4, flow 1 booked 3; flow
+# The listing of rule 13.6: flow 0 booked 1, 2 and 4, flow 1 booked 3; flow
 # 0's credit is dated 4, and its refusal 12 left IF at frame 1.  Their next
 # numbers are 3 and 1.
 PLAYED = image("0100", "0000", "0000",
@@ -47,7 +47,7 @@ GONE_ROUND = bytes.fromhex(
     "0000 1000 1000 1000 1000 0000 0000 1000"
     "0000 0100  0400 0400 0300 0300 0100 0200 0300 0300  0400")
 
-# F = 1, W = 2, one flow with share 1 and 4 cells, after a tick and refusal 20
+# F = 1, W = 2 and one flow, share 1 and 4 cells, after a tick and refusal 20
 # for departure 0: IF is frame 0, the newest.
 SMALLEST = bytes.fromhex(
     "3000 1200 2200 0200 2600 0100 0100 0000 0000"

@@ -1,5 +1,5 @@
-"""Quantum numbers in images, worked out by hand from document 02: images after
-calls, and single calls on images whose numbers are any.
+"""Quantum numbers in images, worked out by hand from rules 5.2 and 5.3: images
+after calls, and single calls on images whose numbers are any.
 """
 
 from call_bytes import TICK, lend, word

@@ -1,6 +1,6 @@
 """Images that an earlier version of the library wrote.  They are refused:
-before N8 the header ended with the mark, and before N9 a flow's part had no
-number.
+before lends went in turn the header ended with the mark, and before quantum
+numbers were tested a flow's part had none.
 """
 
 from images.by_hand import FRESH, LARGEST_PLAN, NOBODY, NOTHING, PLAN
@@ -13,7 +13,7 @@ LARGEST = (LARGEST_PLAN + bytes([16, 0]) * 256
 TWO_FLOWS = " ".join([PLAN, NOBODY, "0000 0200" + NOTHING,
                       "0000 0200" + NOTHING])
 
-# ---- before N8: fresh ones of 92, 44 and 8,860 bytes
+# ---- before lends went in turn: fresh ones of 92, 44 and 8,860 bytes
 
 EIGHT_FIELDS = bytes.fromhex(
     "5C00 1000 2400 0800 3400 0200 0000 0000" + TWO_FLOWS)
@@ -22,8 +22,8 @@ EIGHT_FIELDS_SMALLEST = bytes.fromhex(
 EIGHT_FIELDS_LARGEST = bytes.fromhex(
     "9C22 1000 5C00 0001 5C02 1000 0000 0000") + LARGEST
 
-# ---- before N9: fresh ones of 94, 46 and 8,862 bytes, and one after the
-# listing of document 01
+# ---- before quantum numbers were tested: fresh ones of 94, 46 and 8,862
+# bytes, and one after the listing of rule 13.6
 
 NO_NUMBERS = bytes.fromhex(
     "5E00 1200 2600 0800 3600 0200 0000 0000 0000" + TWO_FLOWS)

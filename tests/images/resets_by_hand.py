@@ -1,5 +1,6 @@
-"""Resets of images, worked out by hand from document 02: quiet images with what
-a reset leaves of them, and nearly quiet ones, which stay as they are.
+"""Resets of images, worked out by hand from rules 10.1 and 10.2: quiet images
+with what a reset leaves of them, and nearly quiet ones, which stay as they
+are.
 """
 
 from call_bytes import RESET, TICK, lend

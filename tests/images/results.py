@@ -1,12 +1,12 @@
-"""The 64-bit results of the exported calls (document 02, N5)."""
+"""The 64-bit results of the exported calls (rule 12.6)."""
 
 POWER = 1 << 32
 IDLE = 16
 
 
 def number_of(call, letter, number):
-    """The result of a call that the simulator answers so: the refusal times 2
-    to the power 32, else the word, the flow or 16 for idle, or 0."""
+    """The result of a call that the simulator answers so: a refusal is a
+    multiple of 2^32, and below that are words, flows, 16 for idle, and 0."""
     if letter == "R":
         return number * POWER
     if letter == "G":

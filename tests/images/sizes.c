@@ -1,6 +1,6 @@
 /*
  * The header alone, twice, as C and as C++: it compiles without a warning, and
- * its numbers are those of document 02. An array of -1 elements is an error.
+ * its numbers are those of rules 12.1 to 12.6. An array of -1 elements is an error.
  */
 #include "nazgolv.h"
 #include "nazgolv.h"

@@ -1,5 +1,5 @@
-"""The verdict on a pair of runs: document 02, N14, checked from two call files
-and two listings alone.
+"""The verdict on a pair of runs: rule 21.11, checked from two call files and
+two listings alone.
 
 Every beginning of two aligned lists is a pair too, so that a request is judged
 if the premise holds in both runs up to it.

@@ -1,13 +1,13 @@
 """One run of a pair, as its call file and its listing tell of one flow.
 
-Counted as document 01 says, "What demand 3 counts": slots and frames without
-end, and what the flow holds from its grants, its lent slots and its taken
-credits.  Nothing is known of the link, and of other flows nothing is kept.
+Counted by rules 21.3 and 21.4: slots and frames without end, and what the flow
+holds from its grants, its lent slots and its taken credits.  Nothing is known
+of the link, and of other flows nothing is kept.
 """
 
 import struct
 
-# The premises of document 02, N14, on each run by itself.
+# The premises of rule 21.11 on each run by itself.
 NO_11, FULL, TO_COME, NUMBER, RESET = PREMISES = (
     "not refused with 11 in a frame", "holds all of its cells",
     "a tile that has not come", "another number", "a reset")

@@ -1,2 +1,2 @@
-"""The second simulator: a call file to its listing, written from documents 01
-and 02 and sharing no code with the programs."""
+"""The second simulator: a call file to its listing, by the rules of
+docs/RULES.md, and sharing no code with the programs."""

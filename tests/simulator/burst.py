@@ -1,4 +1,4 @@
-"""Burst, as document 02 has it (N7): single requests, one after the other."""
+"""Burst: single requests, one after the other (rules 11.1 and 11.2)."""
 
 from simulator.request import request
 

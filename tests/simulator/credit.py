@@ -1,4 +1,4 @@
-"""Credit, as document 01 has it."""
+"""Credit: rules 7.1 and 7.2."""
 
 
 def refusal_of(link, flow, position):

@@ -1,4 +1,4 @@
-"""Which optional layers to switch on, from document 02's request alone.
+"""Which optional layers to switch on: rules 18.1 to 18.3.
 
 The sets are made by doubling: with each layer every set there is comes once
 without it and once with it, so that they stand in the order of their masks.

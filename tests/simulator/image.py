@@ -1,5 +1,5 @@
-"""Link images, as document 02 has them (N5, N8 and N9): the bytes of a link,
-and the link of an image that is taken.
+"""Link images (rules 12.1 to 12.3): the bytes of a link, and the link of an
+image that is taken.
 
 The window's slots are those from the head frame's first on, and a position is
 a slot's number modulo T: the tables of an image, which go round, are counted

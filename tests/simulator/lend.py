@@ -1,9 +1,9 @@
-"""Lend, as document 02 has it (N1), in turn (N8)."""
+"""Lend, in turn: rules 9.1 to 9.4."""
 
 
 def can_take(link, flow):
-    """It holds fewer than its cells at the current and every later slot of
-    the window."""
+    """It has a cell free at the current slot and at every later one of the
+    window."""
     held = link.from_slot(link.ticks, link.holdings(flow))
     return max(held) < link.plan.cells(flow)
 
@@ -20,7 +20,7 @@ def taken(link):
 
 
 def first_in_turn(link, flows):
-    """Looking from the flow after the last one lent to, and going round."""
+    """The next one behind the flow that was lent to last, going round."""
     later = [flow for flow in flows if flow > link.last_lent]
     return min(later or flows)
 

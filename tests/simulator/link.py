@@ -10,7 +10,7 @@ from itertools import accumulate
 
 
 class Flow:
-    """One flow of a fresh link.  Doc 01, Fresh."""
+    """One flow of a fresh link (rule 4.2)."""
 
     def __init__(self, share):
         self.frame = 0              # IF, a frame number
@@ -60,8 +60,7 @@ class Link:
         return self.head_frame() * self.plan.frame_slots
 
     def slot_of(self, position):
-        """Where the position comes next.  Doc 01, What demand 3 counts, on
-        the slot that a position means."""
+        """Where the position comes next (rule 21.3)."""
         slot = self.ticks - self.ticks % self.plan.slots + position
         return slot if slot > self.ticks else slot + self.plan.slots
 
@@ -74,7 +73,7 @@ class Link:
     def holdings(self, number):
         """What a flow holds at each slot of the window, in their order:
         granted and lent slots up to and including it, less taken credits up
-        to and including it.  Doc 01, Holding; doc 02, N1."""
+        to and including it (rule 4.4)."""
         flow, first = self.flows[number], self.first_slot()
         change = [0] * self.plan.slots
         change[0] = flow.before

@@ -24,7 +24,7 @@ def lines_of(link, call):
 
 
 def split_file(data):
-    """Doc 01, The program: the plan's bytes and the rest, or None."""
+    """The plan's bytes and the rest, or None (rule 13.2)."""
     if len(data) < 2:
         return None
     length = data[0] + 256 * data[1]

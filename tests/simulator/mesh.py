@@ -1,5 +1,5 @@
-"""Streams over the mesh of 64 boards.  Each stream is walked hop by hop, and
-its share counted on each hop."""
+"""Streams over the mesh: rules 16.1 to 16.3.  Each stream is walked hop by hop,
+and its share counted on each hop."""
 
 from collections import Counter
 

@@ -1,8 +1,4 @@
-"""Plan bytes read to a plan, and refusals 1 to 7.
-
-"Doc 01" in the comments is the scope document; the words after it name the
-section that a rule comes from.
-"""
+"""Plan bytes read to a plan, and refusals 1 to 7: rules 2.1 to 2.4."""
 
 HEADER = 12             # bytes before the flow part
 ENTRY = 4               # bytes of one flow entry
@@ -13,7 +9,7 @@ class Plan:
 
     def __init__(self, data):
         self.data = bytes(data)
-        # Doc 01, Plan bytes: six header fields of 16 bits, low byte first.
+        # Six header fields of 16 bits, low byte first (rule 2.2).
         header = [data[i] + 256 * data[i + 1] for i in range(0, HEADER, 2)]
         self.length, self.flows, self.offset = header[:3]
         self.frame_slots, self.window_frames, self.buffer = header[3:]
@@ -70,7 +66,7 @@ def cells_over(plan):
     return sum(entry[1] for entry in plan.entries) > plan.buffer
 
 
-# Doc 01, the refusal table: the first test that applies gives the number.
+# The first test that applies gives the number (rule 2.3).
 PLAN_TESTS = (
     (2, counts_wrong),
     (3, frame_wrong),

@@ -1,8 +1,5 @@
 """Plans that are asked for in numbers, written as bytes, and refusals 2 to 7
-and 19.
-
-"Doc 01" in the comments is the scope document, "doc 02" the change requests.
-"""
+and 19: rules 15.1 and 15.2."""
 
 from simulator.plan import ENTRY, HEADER, PLAN_TESTS
 
@@ -11,7 +8,7 @@ TOO_SHORT = 19
 
 class Asked:
     """The numbers of a plan that is asked for, of any size, under the names
-    that the reader's tests use.  Doc 02, N2: from F, W, N and the entries."""
+    that the reader's tests use."""
 
     def __init__(self, frame_slots, window_frames, buffer, entries):
         self.frame_slots = frame_slots
@@ -30,7 +27,7 @@ def low_byte_first(number):
 
 
 def plan_bytes(asked):
-    """Doc 01, Plan bytes: the header's six fields, then the flow part."""
+    """The header's six fields, then the flow part (rule 2.2)."""
     fields = (asked.length, asked.flows, asked.offset,
               asked.frame_slots, asked.window_frames, asked.buffer)
     data = b"".join(low_byte_first(number) for number in fields)
@@ -41,7 +38,7 @@ def plan_bytes(asked):
 
 def write_plan(asked, room):
     """The refusal (0 for none) and the bytes, in a buffer of `room` bytes."""
-    # Doc 02, N2: the reader's tests 2 to 7 on the same numbers, then 19.
+    # As the reader does, but for 1, and then 19 (rule 15.1).
     for number, wrong in PLAN_TESTS:
         if wrong(asked):
             return number, None

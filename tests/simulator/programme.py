@@ -1,7 +1,7 @@
 """The week's programme: what runs at a minute, and refusals 28 and 29.
 
-"Doc 02" in the comments is the change requests.  The week is a list with a
-place for each of its minutes, and each entry marks its own.
+Rules 19.1 to 19.3.  The week is a list with a place for each of its minutes,
+and each entry marks its own.
 """
 
 WEEK = 7 * 24 * 60              # minutes
@@ -14,7 +14,7 @@ def marked(entries):
     """The plan of each minute, or None where two entries mark one."""
     week = [DARK] * WEEK
     for start, end, plan in entries:
-        # Doc 02, N13: the end is no minute of the showing.
+        # The end is no minute of the showing.
         for minute in range(start, end):
             if week[minute] is not DARK:
                 return None
@@ -23,7 +23,7 @@ def marked(entries):
 
 
 def breaks_limits(start, end, _plan):
-    """Doc 02, N13: it doesn't start before it ends, or lies outside."""
+    """It doesn't start before it ends, or lies outside."""
     return start >= end or start < 0 or end > WEEK
 
 

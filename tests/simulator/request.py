@@ -1,5 +1,5 @@
-"""Request, as document 01 has it, with the departure of document 02 (N4) and
-the quantum number (N9)."""
+"""Request, with its departure and its quantum number: rules 5.2, 5.3 and 6.1
+to 6.6."""
 
 
 def later_than_current(link, slot):
@@ -8,8 +8,8 @@ def later_than_current(link, slot):
 
 
 def valid(link, slot, holdings, cells):
-    """Unbooked, later than CP when in HF, and the flow holds fewer than its
-    cells there and at every later slot of the window."""
+    """Unbooked, later than CP when in HF, and from there to the end of the
+    window the flow has a cell free (rule 6.2)."""
     return (slot not in link.owner
             and later_than_current(link, slot)
             and max(link.from_slot(slot, holdings)) < cells)
@@ -17,8 +17,8 @@ def valid(link, slot, holdings, cells):
 
 def arrival(link, departure):
     """The slot that a word's departure means, if that is still to come; None
-    for a tile that has come: its departure is CP, or lies before CP in the
-    head frame, whatever slot the sender had in mind.  Doc 02, N4."""
+    for a tile that has come: its departure is a position of the head frame up
+    to CP, whatever slot the sender had in mind (rule 6.3)."""
     slot = link.slot_of(departure)
     return slot if link.in_window(slot) else None
 
@@ -65,7 +65,7 @@ def search(link, number, comes):
 
 
 def word_refusal(plan, word):
-    """Doc 01, Look-ahead word, and refusals 8 to 10 in their order, or 0."""
+    """Refusals 8 to 10 in their order, or 0 (rules 5.1 and 5.2)."""
     flow = word >> 20 & 63
     if flow >= plan.flows:
         return 8
@@ -78,7 +78,7 @@ def word_refusal(plan, word):
 
 def expected(link, number):
     """The quantum number of the flow's next word: its grants so far, whatever
-    came in between.  Doc 02, N9."""
+    came in between (rule 5.3)."""
     return link.flows[number].granted % 1024
 
 

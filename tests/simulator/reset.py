@@ -1,4 +1,4 @@
-"""Local reset, as document 02 has it (N6 and N8)."""
+"""Local reset: rules 10.1 and 10.2."""
 
 from simulator.lend import taken
 

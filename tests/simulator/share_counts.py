@@ -1,4 +1,4 @@
-"""How many share lists fit a frame: document 02, N11.
+"""How many share lists fit a frame: rules 17.1 and 17.2.
 
 The lists are written out and summed where there are at most a million of
 them.  Where there are more, a list that fits is told by the slots at which its

@@ -1,4 +1,4 @@
-"""Tick, as document 01 has it."""
+"""Tick: rules 8.1 to 8.3."""
 
 
 def change_frame(link, old_head):

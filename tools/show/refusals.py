@@ -4,7 +4,9 @@ import re
 from pathlib import Path
 
 PAGE = Path(__file__).resolve().parents[2] / "docs/REFUSALS.md"
-ROW = re.compile(r"^\| (\d+) \| ([^|]*) \| ([^|]*) \|")
+# A row of the table that has what to do: five columns, the last two of which
+# are an input and its last line.
+ROW = re.compile(r"^\| (\d+) \| ([^|]*) \| ([^|]*) \|[^|]*\|[^|]*\|$")
 ELSEWHERE = "; for the mesh see below"          # of the page alone
 
 

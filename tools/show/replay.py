@@ -2,8 +2,7 @@
 
 Nothing is scheduled here.  What was granted, lent, taken back and refused is
 read from the listing, and the rest is counted over the calls.  Slots and
-frames are numbered without end: slot 0 is current on the fresh link, slot s
-comes up with tick number s, and frame f has the slots f x F to f x F + F - 1.
+frames are numbered without end, as in rule 21.3.
 """
 
 UNTOUCHED = 255                 # the result of a burst's word past the 16th
