@@ -1,0 +1,72 @@
+-- The parts of a state: a mask read after a mask was stored, and the masks as a list. Assumes nothing.
+use Prim.Native.Nat.{ℕ, _+_, _*_, _≤_, _<_, _/_, _%_}
+use mathlib.Core.Path.{_≡_, refl, sym, ap, _∙_}
+use mathlib.Core.List.{List, _∷_, []}
+use native.Mathlib.Decide.{ℕ-discrete}
+use native.Mathlib.Omega.{arith}
+use native.Mathlib.Nat.{div-div-eq-div-mul}
+use lib.ListN.{length, getD, set, length-set}
+use lib.Seq.{ext-getD, getD-set-same, getD-set-other}
+use Rattle.window.proofs.Tabulated.{getD-table, length-table}
+use Rattle.state.specs.Parts.{part, withPart, Beside, Apart, numberIn, bytesOf}
+use Rattle.state.specs.State.{Whole, ownersOf, maskAt, withMask, masksOf}
+use Rattle.state.proofs.Parts.{part-beside, beside-part, part-of-with, length-bytes, number-of-bytes, stores, stores-are}
+
+pub beside-mask : (s : List ℕ) (j x : ℕ) → Beside (4352 + 8 * j) (4352 + 8 * j + 8) s (withMask s j x)
+unfolding withMask
+beside-mask s j x = beside-part s (4352 + 8 * j) 8 (bytesOf 8 x)
+
+-- a mask that was stored is read again
+pub mask-same : (s : List ℕ) (j x : ℕ) → Whole s → j < 8 → x < 18446744073709551616 → maskAt (withMask s j x) j ≡ x
+unfolding maskAt withMask
+mask-same s j x e h b =
+    ap numberIn (part-of-with s (4352 + 8 * j) 8 (bytesOf 8 x) (length-bytes 8 x) (omega (arith, e))) ∙ number-of-bytes 8 x b
+
+-- a mask beside what changes
+pub mask-beside : {a e : ℕ} {s t : List ℕ} → Beside a e s t → (j : ℕ) → Apart (4352 + 8 * j) 8 a e → maskAt t j ≡ maskAt s j
+unfolding maskAt
+mask-beside v j apart = ap numberIn (part-beside v (4352 + 8 * j) 8 apart)
+
+pub mask-other : (s : List ℕ) (j x k : ℕ) → (k ≡ j → ⊥) → maskAt (withMask s j x) k ≡ maskAt s k
+mask-other s j x k n = mask-beside (beside-mask s j x) k (λ q l₁ h₁ l₂ h₂. n (omega arith))
+
+pub length-masks : (s : List ℕ) → length (masksOf s) ≡ 8
+unfolding masksOf
+length-masks s = length-table 8 (maskAt s)
+
+pub masks-at : (s : List ℕ) (j : ℕ) → j < 8 → getD (masksOf s) j 0 ≡ maskAt s j
+unfolding masksOf
+masks-at s j h = getD-table 8 (maskAt s) j 0 h
+
+-- the masks of a state in which one was stored
+pub masks-set : (s : List ℕ) (j x : ℕ) → Whole s → j < 8 → x < 18446744073709551616 → masksOf (withMask s j x) ≡ set (masksOf s) j x
+masks-set s j x e h b =
+    ext-getD 0 _ _ (length-masks _ ∙ sym (length-set (masksOf s) j x ∙ length-masks s)) λ k l.
+    go k (rw length-masks at l) (ℕ-discrete k j)
+  where
+    go : (k : ℕ) → k < 8 → Dec (k ≡ j) → getD (masksOf (withMask s j x)) k 0 ≡ getD (set (masksOf s) j x) k 0
+    go k l (yes d) =
+        rw d (masks-at _ j h ∙ mask-same s j x e h b ∙ sym (getD-set-same (masksOf s) j x 0 (rw length-masks h)))
+    go k l (no d) = masks-at _ k l ∙ mask-other s j x k d ∙ sym (masks-at s k l) ∙ sym (getD-set-other (masksOf s) j k x 0 d)
+
+-- what the code reads, and what it stores
+pub mask-read : (s : List ℕ) (j : ℕ) → let a = 4352 + 8 * j in
+    getD s a 0 + 256 * getD s (a + 1) 0 + 65536 * getD s (a + 2) 0 + 16777216 * getD s (a + 3) 0 + 4294967296 * getD s (a + 4) 0
+    + 1099511627776 * getD s (a + 5) 0 + 281474976710656 * getD s (a + 6) 0 + 72057594037927936 * getD s (a + 7) 0 ≡ maskAt s j
+unfolding maskAt part numberIn
+mask-read s j = let first : 4352 + 8 * j + 0 ≡ 4352 + 8 * j = omega arith in rw first (omega arith)
+
+-- the eight bytes of a mask, each taken out at once
+abbrev pub maskBytes : ℕ → List ℕ
+maskBytes x =
+    x % 256 ∷ x / 256 % 256 ∷ x / 65536 % 256 ∷ x / 16777216 % 256 ∷ x / 4294967296 % 256
+    ∷ x / 1099511627776 % 256 ∷ x / 281474976710656 % 256 ∷ x / 72057594037927936 % 256 ∷ []
+
+mask-bytes : (x : ℕ) → maskBytes x ≡ bytesOf 8 x
+unfolding bytesOf
+mask-bytes x = simp div-div-eq-div-mul
+
+pub mask-stored : (s : List ℕ) (j x : ℕ) → stores s (4352 + 8 * j) (maskBytes x) ≡ withMask s j x
+unfolding withMask
+mask-stored s j x =
+    stores-are s (4352 + 8 * j) (maskBytes x) ∙ ap (withPart s (4352 + 8 * j) 8) (mask-bytes x)

@@ -1,0 +1,35 @@
+-- The parts of a link's state: where each stands, its reader, and a store to it. Assumes nothing.
+use Prim.Native.Nat.{ℕ, _+_, _*_}
+use mathlib.Core.Path.{_≡_}
+use mathlib.Core.List.{List}
+use lib.ListN.{length, getD}
+use Rattle.model.specs.Tables.{table}
+use Rattle.state.specs.Parts.{part, withPart, numberIn, bytesOf}
+
+-- a state has this many bytes
+abbrev pub Whole : List ℕ → Type 0
+Whole s = length s ≡ 4484
+
+-- ---- where the parts stand
+
+abbrev pub ownersFrom : ℕ
+ownersFrom = 4096
+
+abbrev pub masksFrom : ℕ
+masksFrom = 4352
+
+-- ---- the owners
+
+unfoldable pub ownersOf : List ℕ → List ℕ
+ownersOf s = part s 4096 256
+
+-- ---- the masks
+
+unfoldable pub maskAt : List ℕ → (j : ℕ) → ℕ
+maskAt s j = numberIn (part s (4352 + 8 * j) 8)
+
+unfoldable pub withMask : List ℕ → (j x : ℕ) → List ℕ
+withMask s j x = withPart s (4352 + 8 * j) 8 (bytesOf 8 x)
+
+unfoldable pub masksOf : List ℕ → List ℕ
+masksOf s = table 8 (maskAt s)
