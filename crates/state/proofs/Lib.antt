@@ -1,2 +1,3 @@
 pub mod Parts
+pub mod PartRanges
 pub mod State

@@ -40,6 +40,16 @@ part-beside v b n apart =
 
 -- ---- stores leave what lies beside them
 
+pub beside-wider : {a e b d : ℕ} {s t : List ℕ} → b ≤ a → e ≤ d → Beside a e s t → Beside b d s t
+beside-wider h l v = record { long = v .long; kept = λ k out. v .kept k (λ low high. out (omega arith) (omega arith)) }
+
+pub beside-back : {a e : ℕ} {s t : List ℕ} → Beside a e s t → Beside a e t s
+beside-back v = record { long = sym (v .long); kept = λ k out. sym (v .kept k out) }
+
+-- one change after the other
+pub beside-both : {a e : ℕ} {s t u : List ℕ} → Beside a e s t → Beside a e t u → Beside a e s u
+beside-both x y = record { long = y .long ∙ x .long; kept = λ k out. y .kept k out ∙ x .kept k out }
+
 pub beside-set : (s : List ℕ) (k x a e : ℕ) → a ≤ k → k < e → Beside a e s (set s k x)
 beside-set s k x a e low high = record {
   long = length-set s k x;

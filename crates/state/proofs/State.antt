@@ -1,5 +1,5 @@
 -- The parts of a state: a mask read after a mask was stored, and the masks as a list. Assumes nothing.
-use Prim.Native.Nat.{ℕ, _+_, _*_, _≤_, _<_, _/_, _%_}
+use Prim.Native.Nat.{ℕ, _+_, _-_, _*_, _≤_, _<_, _/_, _%_}
 use mathlib.Core.Path.{_≡_, refl, sym, ap, _∙_}
 use mathlib.Core.List.{List, _∷_, []}
 use native.Mathlib.Decide.{ℕ-discrete}
@@ -7,10 +7,26 @@ use native.Mathlib.Omega.{arith}
 use native.Mathlib.Nat.{div-div-eq-div-mul}
 use lib.ListN.{length, getD, set, length-set}
 use lib.Seq.{ext-getD, getD-set-same, getD-set-other}
+use Rattle.window.specs.Ranges.{inRange, replaced}
 use Rattle.window.proofs.Tabulated.{getD-table, length-table}
 use Rattle.state.specs.Parts.{part, withPart, Beside, Apart, numberIn, bytesOf}
-use Rattle.state.specs.State.{Whole, ownersOf, maskAt, withMask, masksOf}
-use Rattle.state.proofs.Parts.{part-beside, beside-part, part-of-with, length-bytes, number-of-bytes, stores, stores-are}
+use Rattle.state.specs.State.{Whole, ownersOf, withOwners, maskAt, withMask, masksOf}
+use Rattle.state.proofs.PartRanges.{replaced-in}
+use Rattle.state.proofs.Parts.{part-at, part-beside, beside-part, part-of-with, length-bytes, number-of-bytes, stores, stores-are}
+
+-- ---- the owners
+
+pub owners-at : (s : List ℕ) (p : ℕ) → p < 256 → getD (ownersOf s) p 0 ≡ getD s (4096 + p) 0
+unfolding ownersOf
+owners-at s p h = part-at s 4096 256 p h
+
+-- a range of the owners replaced
+pub owners-replaced : (s : List ℕ) (a e : ℕ) (f : ℕ → ℕ → ℕ) → e ≤ 256
+    → replaced (inRange (4096 + a) (4096 + e)) (λ k x. f (k - 4096) x) s ≡ withOwners s (replaced (inRange a e) f (ownersOf s))
+unfolding ownersOf withOwners
+owners-replaced s a e f few = replaced-in s 4096 256 a e f few
+
+-- ---- the masks
 
 pub beside-mask : (s : List ℕ) (j x : ℕ) → Beside (4352 + 8 * j) (4352 + 8 * j + 8) s (withMask s j x)
 unfolding withMask

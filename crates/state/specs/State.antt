@@ -10,18 +10,21 @@ use Rattle.state.specs.Parts.{part, withPart, numberIn, bytesOf}
 abbrev pub Whole : List ℕ → Type 0
 Whole s = length s ≡ 4484
 
--- ---- where the parts stand
+-- ---- what is held
 
-abbrev pub ownersFrom : ℕ
-ownersFrom = 4096
+unfoldable pub heldOf : List ℕ → List ℕ
+heldOf s = part s 0 4096
 
-abbrev pub masksFrom : ℕ
-masksFrom = 4352
+unfoldable pub withHeld : List ℕ → (held : List ℕ) → List ℕ
+withHeld s h = withPart s 0 4096 h
 
 -- ---- the owners
 
 unfoldable pub ownersOf : List ℕ → List ℕ
 ownersOf s = part s 4096 256
+
+unfoldable pub withOwners : List ℕ → (owners : List ℕ) → List ℕ
+withOwners s o = withPart s 4096 256 o
 
 -- ---- the masks
 

@@ -8,10 +8,15 @@ ghost use Rattle.state.specs.State.{maskAt, withMask};
 pub type State = [u8; 4484];
 
 pub const OWNERS: usize = 4096;
+
 pub const MASKS: usize = 4352;
+
 pub const FLOWS: usize = 4416;
+
 pub const CURRENT: usize = 4480;
+
 pub const MARK: usize = 4481;
+
 pub const TURN: usize = 4482;
 
 fn wide(b: u8) -> u64
@@ -36,10 +41,11 @@ pub fn mask_at(s: &State, j: usize) -> u64
         + 72057594037927936 * wide(s[at + 7])
 }
 
-// Stores the mask of frame j.
+// Stores the mask of frame j. That it fits eight bytes follows from its type, and is stated so that callers find it.
 pub fn put_mask(s: &mut State, j: usize, x: u64)
     requires { ⌜ j < 8 ⌝ }
-    ensures { λ r. ⌜ now (s .exit) ≡ withMask (now (s .entry)) j x ⌝ }
+    ensures is { λ r. ⌜ now (s .exit) ≡ withMask (now (s .entry)) j x ⌝ }
+    ensures fits { λ r. ⌜ x < 18446744073709551616 ⌝ }
 {
     let at = MASKS + 8 * j;
     s[at] = (x % 256) as u8;

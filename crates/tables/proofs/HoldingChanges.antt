@@ -43,7 +43,7 @@ module _ (w : Window) (v : Proper w) where
 
   module _ (n : ℕ) (h : List ℕ) (long : Sixteen h) where
     pub carried-long : Sixteen (carried w n h)
-    carried-long = length-carried _ _ _ _ h ∙ long
+    carried-long = omega (arith, length-carried n (lastOf w) (baseOf w) (baseOf w + w .slots) h)
 
     last-below : lastOf w < 256
     last-below =

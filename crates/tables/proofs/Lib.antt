@@ -8,7 +8,7 @@ mod Largest
 pub mod AtMost
 pub mod FreshTables
 pub mod UnbookedSlots
-mod WordsMade
+pub mod Masks
 mod LaterPositions
 -- one pass over a row
 mod Padded

@@ -1,4 +1,5 @@
 pub mod Owners
+pub mod Masks
 pub mod Rows
 pub mod Padded
 pub mod Holdings

@@ -4,14 +4,15 @@ ghost use mathlib.Core.Path.{_≡_};
 ghost use mathlib.Core.Bool.{Bool};
 ghost use mathlib.Core.List.{List};
 ghost use Rattle.model.specs.Request.{canLeave, someInNewest};
+ghost use Rattle.state.specs.State.{masksOf};
 ghost use Rattle.window.specs.Window.{windowOf, Proper, InWindow, FromRank};
 ghost use Rattle.tables.specs.Asked.{FlowWithin, SearchFrom};
 ghost use Rattle.tables.specs.Rows.{row};
 ghost use Rattle.tables.specs.Search.{foundOf, lateAt, validAt, lateAfter, searchFrom, Gathering, ValidSlots};
 use crate::Found;
-use crate::holdings::Holdings;
 use crate::holdings::room_rank;
-use unbooked::Unbooked;
+use state::State;
+use state::mask_at;
 use unbooked::bits::from;
 use unbooked::bits::lowest;
 use window::Window;
@@ -21,7 +22,7 @@ use window::positions::next;
 
 // The rank from which on a position is late enough for a flow: it is not passed, and there is room from it on. No more than `most` is held at
 // any position, unless `most` is 255; where it is below the cells, there is room everywhere.
-pub fn late_rank(held: &Holdings, most: u8, i: usize, cells: u8, w: Window) -> usize
+pub fn late_rank(held: &State, most: u8, i: usize, cells: u8, w: Window) -> usize
     requires { ⌜ FlowWithin w most i (now held) ⌝ }
     ensures { λ r. ⌜ FromRank w (lateAt (windowOf w) (row (now (held .entry)) i) cells) r ⌝ }
 {
@@ -45,18 +46,18 @@ fn leave_rank(w: Window, departure: usize) -> usize
 
 // The valid slots of a frame in one word, where the late positions are those of rank `low` or more: whatever the lower bound is, and
 // whoever owns the positions.
-fn valid_slots(unbooked: &Unbooked, w: Window, low: usize, frame: usize) -> u64
+fn valid_slots(unbooked: &State, w: Window, low: usize, frame: usize) -> u64
     requires { ⌜ Proper w × (frame < w .frames) ⌝ }
-    ensures { λ r. ⌜ ((owners : List ℕ) (late : ℕ → Bool) → Gathering w owners (now (unbooked .entry)) late low
+    ensures { λ r. ⌜ ((owners : List ℕ) (late : ℕ → Bool) → Gathering w owners (masksOf (now (unbooked .entry))) late low
         → ValidSlots (windowOf w) (validAt owners late) frame r) ⌝ }
 {
-    from(unbooked[frame], over(low, w.rank(frame * w.slots)))
+    from(mask_at(unbooked, frame), over(low, w.rank(frame * w.slots)))
 }
 
 // The search from a frame and a remainder up to the newest frame, for a valid position, where the late positions are those of rank
 // `low` or more.
 fn search(
-    unbooked: &Unbooked,
+    unbooked: &State,
     w: Window,
     low: usize,
     share: usize,
@@ -64,7 +65,7 @@ fn search(
     remainder: usize,
 ) -> Found
     requires { ⌜ Proper w × (first < w .frames) ⌝ }
-    ensures { λ r. ⌜ ((owners : List ℕ) (late : ℕ → Bool) → Gathering w owners (now (unbooked .entry)) late low
+    ensures { λ r. ⌜ ((owners : List ℕ) (late : ℕ → Bool) → Gathering w owners (masksOf (now (unbooked .entry))) late low
         → foundOf r ≡ searchFrom (windowOf w) (validAt owners late) share first remainder) ⌝ }
 {
     let mut frame = first;
@@ -92,7 +93,7 @@ fn search(
 // The search from a frame and a remainder up to the newest frame for a word with a departure, where the late positions are those of rank
 // `late` or more.
 pub fn find(
-    unbooked: &Unbooked,
+    unbooked: &State,
     w: Window,
     late: usize,
     departure: usize,
@@ -101,7 +102,7 @@ pub fn find(
     remainder: usize,
 ) -> Found
     requires { ⌜ SearchFrom w departure first ⌝ }
-    ensures { λ r. ⌜ ((owners : List ℕ) (test : ℕ → Bool) → Gathering w owners (now (unbooked .entry)) test late
+    ensures { λ r. ⌜ ((owners : List ℕ) (test : ℕ → Bool) → Gathering w owners (masksOf (now (unbooked .entry))) test late
         → foundOf r ≡ searchFrom (windowOf w) (validAt owners (lateAfter (windowOf w) departure test)) share first remainder) ⌝ }
 {
     let low = larger(leave_rank(w, departure), late);
@@ -109,9 +110,9 @@ pub fn find(
 }
 
 // Whether the newest frame has a valid slot, where the late positions are those of rank `late` or more.
-pub fn valid_in_newest(unbooked: &Unbooked, w: Window, late: usize) -> bool
+pub fn valid_in_newest(unbooked: &State, w: Window, late: usize) -> bool
     requires { ⌜ Proper w ⌝ }
-    ensures { λ r. ⌜ ((owners : List ℕ) (test : ℕ → Bool) → Gathering w owners (now (unbooked .entry)) test late
+    ensures { λ r. ⌜ ((owners : List ℕ) (test : ℕ → Bool) → Gathering w owners (masksOf (now (unbooked .entry))) test late
         → r ≡ someInNewest (windowOf w) (validAt owners test)) ⌝ }
 {
     valid_slots(unbooked, w, late, w.newest()) != 0

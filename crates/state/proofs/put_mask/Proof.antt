@@ -1,5 +1,6 @@
 -- `state::put_mask` meets its contract. Assumes nothing.
 use borrow.Author.Needs.{needs}
+use native.Mathlib.Omega.{arith}
 use Rattle.state.proofs.State.{mask-stored}
 use Rattle.state.proofs.put_mask.Statement.{statement}
 use Rattle.state.proofs.put_mask.Tie as tie
@@ -80,7 +81,7 @@ element-write-s-8 : tie.Need-element-write-s-8
 element-write-s-8 c = search needs
 
 returns : tie.Need-returns
-returns c = mask-stored _ _ _
+returns c = (mask-stored _ _ _, omega arith)
 
 pub put-mask-spec : {M : Type 1} → statement M
 put-mask-spec =

@@ -5,6 +5,7 @@ use mathlib.Core.Path.{refl}
 use native.Mathlib.Omega.{arith}
 use lib.ListN.{getD}
 use Rattle.window.proofs.RangeLoops.{Replacing, replacing-none, replacing-more, replacing-done}
+use Rattle.state.specs.Parts.{withPart}
 use Rattle.tables.specs.Rows.{withRow}
 use Rattle.tables.proofs.holdings.store.Statement.{statement}
 use Rattle.tables.proofs.holdings.store.Tie as tie
@@ -43,7 +44,7 @@ loop-again : tie.Need-loop-again Inv-loop μ-loop
 loop-again c = replacing-more 0 (c .before .loop .inv) (omega arith) refl
 
 returns : tie.Need-returns Inv-loop μ-loop
-unfolding withRow
+unfolding withRow withPart
 returns c = replacing-done 0 (c .before .loop .inv) (omega arith)
 
 pub store-spec : {M : Type 1} → statement M

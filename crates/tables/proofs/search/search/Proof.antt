@@ -11,6 +11,7 @@ use Rattle.model.specs.Window.{newest}
 use Rattle.window.specs.declared.Window.{Window}
 use Rattle.window.specs.Window.{windowOf, sizeOf}
 use Rattle.window.proofs.Windows.{frame-fits}
+use Rattle.state.specs.State.{masksOf}
 use Rattle.tables.specs.Search.{validAt, Gathering}
 use Rattle.tables.proofs.ValidSlots.{no-slot, lowest-slot}
 use Rattle.tables.proofs.FrameWalk.{moreFrames, one-frame-on, NoneIn, Walked, none-spent, none-valid, walked-on, walked-out, walked-hit}
@@ -26,7 +27,7 @@ record AtFrame (w : Window) (words : List ℕ) (low share first remainder frame 
       → Walked (windowOf w) (validAt owners late) share first remainder frame left
 
 abbrev Inv-search : tie.InvT-search
-Inv-search unbooked w low share first remainder frame₀ left₀ newest frame left = AtFrame w unbooked low share first remainder frame left
+Inv-search unbooked w low share first remainder frame₀ left₀ newest frame left = AtFrame w (masksOf unbooked) low share first remainder frame left
 
 abbrev μ-search : tie.MeasureT-search
 μ-search unbooked w low share first remainder frame₀ left₀ newest frame left = moreFrames (windowOf w) frame
@@ -48,7 +49,7 @@ module _ (c : tie.At-search Inv-search μ-search) where
 
   -- what is searched, whoever owns the positions
   abbrev Searched : (owners : List ℕ) (late : ℕ → Bool) → Type 0
-  Searched owners late = Gathering window-at owners (start .args .unbooked .now) late (start .args .low)
+  Searched owners late = Gathering window-at owners (masksOf (start .args .unbooked .now)) late (start .args .low)
 
 -- where a frame's valid slots are gathered, and from there the frame
 abbrev gathered-at : tie.After-lowest Inv-search μ-search → tie.After-valid-slots Inv-search μ-search
