@@ -21,7 +21,7 @@ use Rattle.tables.specs.Owners.{WordsOf}
 use Rattle.tables.specs.Rows.{row}
 use Rattle.tables.specs.Search.{lateAt, lateAfter, validAt, searchFrom}
 use Rattle.link.specs.declared.Flow.{Flow}
-use Rattle.link.specs.declared.Link.{Link}
+use Rattle.link.specs.Parts.{Parts}
 use Rattle.link.specs.Layout.{noFlow}
 use Rattle.link.specs.Reading.{linkOf}
 use Rattle.link.specs.Sound.{Sound}
@@ -30,7 +30,7 @@ use Rattle.link.proofs.Plans.{count-some, count-most}
 use Rattle.link.proofs.Readings.{read-flow, read-size, read-slots, read-frames, some-flow, flows-most}
 use Rattle.link.proofs.Searches.{sought-same, would-same}
 
-pub record AtHand (l : Link) (plan : Plan) (w : Window) : Type 0 where
+pub record AtHand (l : Parts) (plan : Plan) (w : Window) : Type 0 where
   pub sound : Sound l
   pub plan-is : plan ≡ l .plan
   pub window-is : windowOf w ≡ model.window (linkOf l)
@@ -42,11 +42,11 @@ windowFor p current = record { slots = p .slots; frames = p .frames; current = c
 
 -- ---- a link comes to hand, and stays there
 
-pub at-hand : {l : Link} {w : Window} → Sound l → windowOf w ≡ windowFor (l .plan) (l .cp) → Proper w → AtHand l (l .plan) w
+pub at-hand : {l : Parts} {w : Window} → Sound l → windowOf w ≡ windowFor (l .plan) (l .cp) → Proper w → AtHand l (l .plan) w
 unfolding linkOf
 at-hand s is v = record { sound = s; plan-is = refl; window-is = is; proper = v }
 
-module _ {l : Link} {plan : Plan} {w : Window} (a : AtHand l plan w) {l′ : Link} (s : Sound l′) (same : l′ .plan ≡ l .plan) where
+module _ {l : Parts} {plan : Plan} {w : Window} (a : AtHand l plan w) {l′ : Parts} (s : Sound l′) (same : l′ .plan ≡ l .plan) where
   -- after a request or a credit
   pub at-hand-still : l′ .cp ≡ l .cp → AtHand l′ plan w
   unfolding linkOf
@@ -83,7 +83,7 @@ placed-below n x h = go (ltb x n) refl
 pub placed-few : {plan : Plan} → Valid plan → {i : ℕ} (x : ℕ) → i ≡ placed (plan .count) x → i < 16
 placed-few {plan} v x e = omega (arith, e, placed-below (plan .count) x (count-some plan v), count-most plan v)
 
-module _ {l : Link} {plan : Plan} {w : Window} (a : AtHand l plan w) where
+module _ {l : Parts} {plan : Plan} {w : Window} (a : AtHand l plan w) where
   pub plan-valid : Valid plan
   plan-valid = subst Valid (sym (a .plan-is)) (a .sound .plan)
 
@@ -101,11 +101,11 @@ module _ {l : Link} {plan : Plan} {w : Window} (a : AtHand l plan w) where
   pub credit-on : CreditOn l (plan .count) w (l .held)
   credit-on = record { window = window-on; held-is = refl }
 
-  pub request-on : {i : ℕ} (x : ℕ) → i ≡ placed (plan .count) (flowOf x)
-      → RequestOn l (plan .count) (getD (plan .entries) i noEntry) w (l .unbooked) (l .held) i (getD (l .flows) i noFlow) x
-  request-on {i} x e = record {
+  pub request-on : {i : ℕ} (x : ℕ) → i ≡ placed (plan .count) (flowOf x) → {held : List ℕ} → row held i ≡ row (l .held) i
+      → RequestOn l (plan .count) (getD (plan .entries) i noEntry) w (l .unbooked) held i (getD (l .flows) i noFlow) x
+  request-on {i} x e same = record {
     window = window-on;
-    held-is = refl;
+    held-is = same;
     unbooked-is = refl;
     place-is = e;
     entry-is = ap (λ (p : Plan). getD (p .entries) i noEntry) (a .plan-is);
@@ -114,7 +114,7 @@ module _ {l : Link} {plan : Plan} {w : Window} (a : AtHand l plan w) where
 
 -- ---- what a request on link l is given
 
-module _ {l : Link} {n : ℕ} {e : Entry} {w : Window} {unbooked held : List ℕ} {i : ℕ} {f : Flow} {x : ℕ} (o : RequestOn l n e w unbooked held i f x) where
+module _ {l : Parts} {n : ℕ} {e : Entry} {w : Window} {unbooked held : List ℕ} {i : ℕ} {f : Flow} {x : ℕ} (o : RequestOn l n e w unbooked held i f x) where
   -- flow i is the word's, where the plan has it
   own-place : flowOf x < n → i ≡ flowOf x
   own-place below = o .place-is ∙ rw (lt-ltb (flowOf x) n below)
@@ -164,12 +164,12 @@ module _ {l : Link} {n : ℕ} {e : Entry} {w : Window} {unbooked held : List ℕ
       → searchFrom (windowOf w) (validAt (l .owner) (lateAfter (windowOf w) d (lateAt (windowOf w) (row held i) (e .cells)))) (e .share) (f .frame) (f .left)
       ≡ sought (linkOf l) i d
   sought-on d =
-      (λ k. searchFrom (windowOf w) (validAt (l .owner) (lateAfter (windowOf w) d (lateAt (windowOf w) (row (o .held-is k) i) (o .entry-is k .cells))))
+      (λ k. searchFrom (windowOf w) (validAt (l .owner) (lateAfter (windowOf w) d (lateAt (windowOf w) (o .held-is k) (o .entry-is k .cells))))
       (o .entry-is k .share) (o .flow-is k .frame) (o .flow-is k .left))
       ∙ sym (sought-same l (o .window .sound) (windowOf w) (o .window .window-is) i flow-on d)
 
   -- whether the newest frame has a position that would be valid but for the departure
   pub would-on : someInNewest (windowOf w) (validAt (l .owner) (lateAt (windowOf w) (row held i) (e .cells))) ≡ wouldBeValid (linkOf l) i
   would-on =
-      (λ k. someInNewest (windowOf w) (validAt (l .owner) (lateAt (windowOf w) (row (o .held-is k) i) (o .entry-is k .cells))))
+      (λ k. someInNewest (windowOf w) (validAt (l .owner) (lateAt (windowOf w) (o .held-is k) (o .entry-is k .cells))))
       ∙ would-same l (o .window .sound) (windowOf w) (o .window .window-is) i flow-on

@@ -3,21 +3,13 @@ mod Plans
 pub mod Readings
 mod Updated
 pub mod Stored
+mod FlowBytes
+mod StateParts
 -- the calls
-mod StartedFlows
-mod FreshLinks
-mod Masks
-mod Takers
 mod Words
 mod Searches
+mod Lefts
 pub mod Given
 mod Replies
 pub mod Requests
-pub mod GrantedPositions
-pub mod Credits
-pub mod Lends
-mod Resets
-pub mod LeavingHeads
-mod FrameChanges
-pub mod Ticks
-pub mod Demand3
+mod StateRequests

@@ -15,7 +15,7 @@ use Rattle.model.specs.Request.{nextNumber, newestTests, wouldBeValid, found, n
 use Rattle.model.proofs.Word.{departure-depart}
 use Rattle.window.proofs.Tabulated.{getD-table}
 use Rattle.link.specs.declared.Flow.{Flow}
-use Rattle.link.specs.declared.Link.{Link}
+use Rattle.link.specs.Parts.{Parts}
 use Rattle.link.specs.Layout.{flowAt, noFlow}
 use Rattle.link.specs.Updates.{movedTo, withNumber, grantedIn}
 use Rattle.link.specs.Reading.{linkOf, storedFlow}
@@ -26,7 +26,7 @@ use Rattle.link.proofs.Readings.{read-count, read-flow, some-flow}
 use Rattle.link.proofs.Given.{placed-below}
 use Rattle.link.proofs.Words.{word-refused, word-flow, word-passed}
 
-module _ (l : Link) (s : Sound l) (x i : ℕ) (place : i ≡ placed (l .plan .count) (word.flowOf x)) where
+module _ (l : Parts) (s : Sound l) (x i : ℕ) (place : i ≡ placed (l .plan .count) (word.flowOf x)) where
   pub flow-there : i < l .plan .count
   flow-there = rw place (placed-below (l .plan .count) (word.flowOf x) (some-flow l s))
 

@@ -20,7 +20,7 @@ use Rattle.tables.specs.Holdings.{roomAt}
 use Rattle.tables.specs.Search.{lateAt, lateAfter, validAt, searchFrom, ValidSlots}
 use Rattle.tables.proofs.ValidPositions.{search-same}
 use Rattle.tables.proofs.FoundPosition.{search-books, Booking, Books}
-use Rattle.link.specs.declared.Link.{Link}
+use Rattle.link.specs.Parts.{Parts}
 use Rattle.link.specs.Layout.{sizeOf, entryAt, flowAt, ownerAt}
 use Rattle.link.specs.Reading.{linkOf}
 use Rattle.link.specs.Sound.{Sound}
@@ -32,7 +32,7 @@ unfolding any
 any-same zero f g e = refl
 any-same (suc n) f g e = rw (e n (omega arith), any-same n f g (λ k h. e k (omega arith)))
 
-module _ (l : Link) (s : Sound l) (v : Window) (is : v ≡ model.window (linkOf l)) (i : ℕ) (hi : i < l .plan .count) where
+module _ (l : Parts) (s : Sound l) (v : Window) (is : v ≡ model.window (linkOf l)) (i : ℕ) (hi : i < l .plan .count) where
   -- position p is late enough for it
   abbrev pub lateHere : ℕ → Bool
   lateHere = lateAt v (flowAt l i .held) (entryAt l i .cells)

@@ -18,7 +18,7 @@ use Rattle.plan.specs.declared.Entry.{Entry}
 use Rattle.plan.specs.Reading.{noEntry, planFor}
 use Rattle.word.specs.declared.Fields.{Fields}
 use Rattle.word.specs.Reading.{fieldsOf}
-use Rattle.link.specs.declared.Link.{Link}
+use Rattle.link.specs.Parts.{Parts}
 use Rattle.link.specs.Layout.{sizeFor}
 use Rattle.link.specs.Reading.{linkOf}
 use Rattle.link.specs.Given.{placed, WordOn, testsOf}
@@ -89,7 +89,7 @@ module _ (x : ℕ) (f : Fields) (is : fieldsOf f ≡ word.split x) (p : Plan) (k
 
 -- ---- the request of a word on link l, whose tests give n
 
-module _ (l : Link) (x : ℕ) {n : ℕ} (tests : n ≡ testsOf l x) where
+module _ (l : Parts) (x : ℕ) {n : ℕ} (tests : n ≡ testsOf l x) where
   pub word-refused : (n ≡ 0 → ⊥) → request (linkOf l) x ≡ record { link = linkOf l; answer = refused n }
   unfolding request requestAfter linkOf
   word-refused nonzero = rw (← tests) (go n nonzero)

@@ -14,32 +14,32 @@ use Rattle.model.specs.Link as model
 use Rattle.model.specs.Window.{everyFrom}
 use Rattle.model.specs.Request.{requestTests}
 use Rattle.link.specs.declared.Flow.{Flow}
-use Rattle.link.specs.declared.Link.{Link}
+use Rattle.link.specs.Parts.{Parts, partsIn}
 use Rattle.window.specs.declared.Window.{Window}
 use Rattle.tables.specs.Rows.{row}
 use Rattle.window.specs.Window.{windowOf, sizeOf, Proper}
 use Rattle.tables.specs.Holdings.{someHeld, shifted}
 use Rattle.link.specs.Layout.{sizeFor, entryAt, flowAt}
 use Rattle.link.specs.Reading.{linkOf}
-use Rattle.link.specs.Sound.{Sound}
+use Rattle.link.specs.Sound.{Sound, SoundState}
 
 -- ---- of a link
 
 -- link l is sound, has n flows, and w is its window
-pub record WindowOn (l : Link) (n : ℕ) (w : Window) : Type 0 where
+pub record WindowOn (l : Parts) (n : ℕ) (w : Window) : Type 0 where
   pub sound : Sound l
   pub count-is : n ≡ l .plan .count
   pub proper : Proper w
   pub window-is : windowOf w ≡ model.window (linkOf l)
 
 -- what is given is given of some link
-pub record SomeLink (Given : Link → Type 0) : Type 0 where
-  pub link : Link
+pub record SomeLink (Given : Parts → Type 0) : Type 0 where
+  pub link : Parts
   pub given : Given link
 
 -- ---- a credit on link l: what the flows hold
 
-pub record CreditOn (l : Link) (n : ℕ) (w : Window) (held : List ℕ) : Type 0 where
+pub record CreditOn (l : Parts) (n : ℕ) (w : Window) (held : List ℕ) : Type 0 where
   pub window : WindowOn l n w
   pub held-is : held ≡ l .held
 
@@ -62,13 +62,27 @@ pub record Credited (n : ℕ) (w : Window) (i p number : ℕ) (before after : Li
 abbrev pub placed : ℕ → ℕ → ℕ
 placed n i = cond (ltb i n) i 0
 
-pub record RequestOn (l : Link) (n : ℕ) (e : Entry) (w : Window) (unbooked held : List ℕ) (i : ℕ) (f : Flow) (word : ℕ) : Type 0 where
+pub record RequestOn (l : Parts) (n : ℕ) (e : Entry) (w : Window) (unbooked held : List ℕ) (i : ℕ) (f : Flow) (word : ℕ) : Type 0 where
   pub window : WindowOn l n w
-  pub held-is : held ≡ l .held
+  pub held-is : row held i ≡ row (l .held) i
   pub unbooked-is : unbooked ≡ l .unbooked
   pub place-is : i ≡ placed n (flowOf word)
   pub entry-is : e ≡ entryAt l i
   pub flow-is : f ≡ flowAt l i .flow
+
+-- a request on a state of a plan
+pub record RequestIn (p : Plan) (n : ℕ) (e : Entry) (w : Window) (i word : ℕ) (s : List ℕ) : Type 0 where
+  pub sound : SoundState p s
+  pub count-is : n ≡ p .count
+  pub proper : Proper w
+  pub window-is : windowOf w ≡ model.window (linkOf (partsIn p s))
+  pub place-is : i ≡ placed n (flowOf word)
+  pub entry-is : e ≡ getD (p .entries) i noEntry
+
+-- what is given is given of some plan
+pub record SomePlan (Given : Plan → Type 0) : Type 0 where
+  pub plan : Plan
+  pub given : Given plan
 
 -- the tests before the search are given n, T, and of the word's flow its entry and the number k that is expected of it
 pub record WordOn (p : Plan) (k n : ℕ) (e : Entry) (T expected word : ℕ) : Type 0 where
@@ -78,5 +92,5 @@ pub record WordOn (p : Plan) (k n : ℕ) (e : Entry) (T expected word : ℕ) : T
   pub number-is : flowOf word < n → expected ≡ k
 
 -- what these tests come to, of a word on link l
-abbrev pub testsOf : Link → ℕ → ℕ
+abbrev pub testsOf : Parts → ℕ → ℕ
 testsOf l word = firstOf (requestTests (planFor (l .plan)) (model.flow (linkOf l) (flowOf word) .number) word)

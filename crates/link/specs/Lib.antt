@@ -1,3 +1,4 @@
+pub mod Parts
 pub mod Layout
 pub mod Updates
 pub mod Reading
@@ -8,5 +9,3 @@ pub mod Reply
 pub mod Started
 pub mod Lend
 pub mod Reset
-pub mod Bursts
-pub mod Handed

@@ -10,27 +10,31 @@ ghost use Rattle.calls.specs.Reading.{answerToRequest};
 ghost use Rattle.window.specs.Window.{sizeOf};
 ghost use Rattle.tables.specs.Rows.{row};
 ghost use Rattle.tables.specs.Holdings.{AtMost};
-ghost use Rattle.link.specs.declared.Link.{Link};
+ghost use Rattle.state.specs.State.{masksOf};
+ghost use Rattle.link.specs.Parts.{Parts};
 ghost use Rattle.link.specs.Reading.{linkOf};
-ghost use Rattle.link.specs.Sound.{Sound};
-ghost use Rattle.link.specs.Steps.{Stepped};
-ghost use Rattle.link.specs.Given.{SomeLink, placed, RequestOn, WordOn};
+ghost use Rattle.link.specs.Sound.{SoundLink};
+ghost use Rattle.link.specs.Steps.{readIn, readOf, Went, Stepped};
+ghost use Rattle.link.specs.Given.{SomeLink, SomePlan, placed, RequestOn, RequestIn, WordOn};
 ghost use Rattle.link.specs.Reply.{replyOf};
 use crate::Answer;
 use crate::Flow;
 use crate::Link;
 use crate::Step;
+use crate::flows::flow_at;
+use crate::flows::put_flow;
 use crate::reply::Reply;
 use crate::reply::refused;
 use plan::Entry;
+use state::CURRENT;
+use state::OWNERS;
+use state::State;
 use tables::Found;
-use tables::holdings::Holdings;
 use tables::holdings::shift_from;
 use tables::search::find;
 use tables::search::late_rank;
 use tables::search::valid_in_newest;
-use unbooked::Unbooked;
-use unbooked::frames::book;
+use tables::words::book;
 use window::Window;
 use window::positions::window;
 
@@ -96,20 +100,19 @@ fn departure(word: u32) -> usize
 
 // What a word that asks for a slot comes to. Its flow is i; i is 0 where the plan does not have it. No more than `most` is held by the flow
 // at any position, unless `most` is 255.
-pub fn ask<'a>(
+pub fn ask(
     count: usize,
     e: Entry,
     w: Window,
-    unbooked: &'a Unbooked,
-    held: &'a Holdings,
+    s: &State,
     most: u8,
     i: usize,
     flow: Flow,
     word: u32,
 ) -> Reply
-    requires { ⌜ SomeLink (λ l. RequestOn l count e w (now unbooked) (now held) i flow word) ⌝ }
-    requires most { ⌜ AtMost (sizeOf w) most (row (now held) i) ⌝ }
-    ensures { λ r. ⌜ ((l : Link) → RequestOn l count e w (now (unbooked .entry)) (now (held .entry)) i flow word
+    requires { ⌜ SomeLink (λ l. RequestOn l count e w (masksOf (now s)) (now s) i flow word) ⌝ }
+    requires most { ⌜ AtMost (sizeOf w) most (row (now s) i) ⌝ }
+    ensures { λ r. ⌜ ((l : Parts) → RequestOn l count e w (masksOf (now (s .entry))) (now (s .entry)) i flow word
         → r ≡ replyOf i (model.request (linkOf l) word)) ⌝ }
 {
     let number = refusal(count, e, w.slots * w.frames, flow.number, word);
@@ -121,9 +124,9 @@ pub fn ask<'a>(
     if flow.left == 0 && flow.frame == newest {
         return refused(flow, 11);
     }
-    let late = late_rank(held, most, i, e.cells, w);
+    let late = late_rank(s, most, i, e.cells, w);
     let found = find(
-        unbooked,
+        s,
         w,
         late,
         departure(word),
@@ -141,43 +144,52 @@ pub fn ask<'a>(
             };
         }
         Found::Nowhere(left) => {
-            let number = nowhere(left, valid_in_newest(unbooked, w, late));
+            let number = nowhere(left, valid_in_newest(s, w, late));
             return refused(flow.moved_to(newest, left), number);
         }
     }
 }
 
+// A word asks for a slot on a state: the answer, and the state is the next one.
+pub fn request(
+    s: &mut State,
+    count: usize,
+    e: Entry,
+    w: Window,
+    most: u8,
+    i: usize,
+    word: u32,
+) -> Answer
+    requires { ⌜ SomePlan (λ p. RequestIn p count e w i word (now s)) ⌝ }
+    requires most { ⌜ AtMost (sizeOf w) most (row (now s) i) ⌝ }
+    ensures { λ r. ⌜ ((p : Plan) → RequestIn p count e w i word (now (s .entry))
+        → Went answerToRequest (model.request (readIn p (now (s .entry))) word) p (now (s .exit)) r) ⌝ }
+{
+    let flow = flow_at(s, i);
+    let reply = ask(count, e, w, s, most, i, flow, word);
+    let flow = reply.flow;
+    put_flow(s, i, flow);
+    if reply.granted {
+        let position = reply.position;
+        s[OWNERS + position] = i as u8;
+        book(s, w, flow.frame, position);
+        shift_from(s, 1, i, w, position);
+    }
+    reply.answer
+}
+
 impl Link {
     // A word asks for a slot.
     pub fn request(mut self, word: u32) -> Step
-        requires { ⌜ Sound self ⌝ }
-        ensures { λ r. ⌜ Stepped answerToRequest (model.request (linkOf self) word) r ⌝ }
+        requires { ⌜ SoundLink self ⌝ }
+        ensures { λ r. ⌜ Stepped answerToRequest (model.request (readOf self) word) r ⌝ }
     {
         let plan = self.plan;
         let i = asker(plan.count, word);
         let e = plan.entries[i];
-        let flow = self.flows[i];
-        let w = window(plan.slots, plan.frames, self.cp);
-        let reply = ask(
-            plan.count,
-            e,
-            w,
-            &self.unbooked,
-            &self.held,
-            255,
-            i,
-            flow,
-            word,
-        );
-        let flow = reply.flow;
-        self.flows[i] = flow;
-        if reply.granted {
-            let position = reply.position;
-            self.owner[position] = i as u8;
-            book(&mut self.unbooked, w, flow.frame, position);
-            shift_from(&mut self.held, 1, i, w, position);
-        }
-        let answer = reply.answer;
+        let cp = self.state[CURRENT];
+        let w = window(plan.slots, plan.frames, cp as usize);
+        let answer = request(&mut self.state, plan.count, e, w, 255, i, word);
         Step { link: self, answer }
     }
 }

@@ -6,7 +6,7 @@ use mathlib.Core.List.{List, _∷_, []}
 use mathlib.Core.Bool.{false}
 use native.Mathlib.Decide.{decLt, decLe}
 use native.Mathlib.Omega.{arith}
-use lib.ListN.{length, getD, set, length-set}
+use lib.ListN.{length, getD, set, length-set, List·getD-eq-default}
 use lib.Seq.{ext-getD, getD-set-same, getD-set-other}
 use Rattle.model.specs.Tables.{table}
 use Rattle.window.specs.Ranges.{inRange, replaced}
@@ -100,6 +100,31 @@ with-part-is s a n xs t v same =
         rw place (same (k - a) (omega arith) (omega arith) ∙ sym (with-part-in s a n xs (k - a) (omega arith) (omega arith)))
     go k b (yes x) (no y) = v .kept k (λ _ h. y h) ∙ sym (beside-part s a n xs .kept k (λ _ h. y h))
     go k b (no x) y = v .kept k (λ h _. x h) ∙ sym (beside-part s a n xs .kept k (λ h _. x h))
+
+-- a part that has the one that is replaced, n places from b on in it
+pub part-with-inner : (s : List ℕ) (o m b n : ℕ) (xs : List ℕ) → b + n ≤ m → o + m ≤ length s
+    → part (withPart s (o + b) n xs) o m ≡ withPart (part s o m) b n xs
+part-with-inner s o m b n xs fits there =
+    with-part-is (part s o m) b n xs _ (record {
+      long = length-part _ o m ∙ sym (length-part s o m);
+      kept = λ k out. kept k out (decLt k m);
+    }) inside
+  where
+    after : List ℕ
+    after = withPart s (o + b) n xs
+
+    kept : (k : ℕ) → (b ≤ k → k < b + n → ⊥) → Dec (k < m) → getD (part after o m) k 0 ≡ getD (part s o m) k 0
+    kept k out (yes h) =
+        part-at after o m k h
+        ∙ beside-part s (o + b) n xs .kept (o + k) (λ low high. out (omega arith) (omega arith))
+        ∙ sym (part-at s o m k h)
+    kept k out (no h) =
+        List·getD-eq-default (part after o m) 0 (rw length-part (omega arith)) ∙ sym (List·getD-eq-default (part s o m) 0 (rw length-part (omega arith)))
+
+    inside : (k : ℕ) → k < n → b + k < length (part s o m) → getD (part after o m) (b + k) 0 ≡ getD xs k 0
+    inside k h _ =
+        let place : o + (b + k) ≡ o + b + k = omega arith in
+        part-at after o m (b + k) (omega arith) ∙ rw place (with-part-in s (o + b) n xs k h (omega arith))
 
 -- its own part
 pub with-own-part : (s : List ℕ) (a n : ℕ) → withPart s a n (part s a n) ≡ s

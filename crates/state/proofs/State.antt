@@ -8,17 +8,62 @@ use native.Mathlib.Nat.{div-div-eq-div-mul}
 use lib.ListN.{length, getD, set, length-set}
 use lib.Seq.{ext-getD, getD-set-same, getD-set-other}
 use Rattle.window.specs.Ranges.{inRange, replaced}
-use Rattle.window.proofs.Tabulated.{getD-table, length-table}
+use Rattle.window.proofs.Tabulated.{getD-table, length-table, table-same}
 use Rattle.state.specs.Parts.{part, withPart, Beside, Apart, numberIn, bytesOf}
-use Rattle.state.specs.State.{Whole, ownersOf, withOwners, maskAt, withMask, masksOf}
+use Rattle.state.specs.State.{Whole, heldOf, ownersOf, withOwners, maskAt, withMask, masksOf}
 use Rattle.state.proofs.PartRanges.{replaced-in}
-use Rattle.state.proofs.Parts.{part-at, part-beside, beside-part, part-of-with, length-bytes, number-of-bytes, stores, stores-are}
+use Rattle.state.proofs.Parts.{length-part, part-at, part-beside, part-with-inner, beside-part, part-of-with, length-bytes, number-of-bytes, stores, stores-are}
+
+-- ---- what is held
+
+pub length-held : (s : List ℕ) → length (heldOf s) ≡ 4096
+unfolding heldOf
+length-held s = length-part s 0 4096
+
+pub held-at : (s : List ℕ) (k : ℕ) → k < 4096 → getD (heldOf s) k 0 ≡ getD s k 0
+unfolding heldOf
+held-at s k h = let first : 0 + k ≡ k = omega arith in part-at s 0 4096 k h ∙ ap (λ (q : ℕ). getD s q 0) first
+
+pub held-beside : {a e : ℕ} {s t : List ℕ} → Beside a e s t → 4096 ≤ a → heldOf t ≡ heldOf s
+unfolding heldOf
+held-beside v h = part-beside v 0 4096 (λ k l₁ h₁ l₂ h₂. omega arith)
+
+-- a part of it replaced
+pub held-with : (s : List ℕ) (a n : ℕ) (xs : List ℕ) → Whole s → a + n ≤ 4096 → heldOf (withPart s a n xs) ≡ withPart (heldOf s) a n xs
+unfolding heldOf
+held-with s a n xs e h =
+    let first : 0 + a ≡ a = omega arith in
+    rw first at (part-with-inner s 0 4096 a n xs h (omega (arith, e)))
 
 -- ---- the owners
 
 pub owners-at : (s : List ℕ) (p : ℕ) → p < 256 → getD (ownersOf s) p 0 ≡ getD s (4096 + p) 0
 unfolding ownersOf
 owners-at s p h = part-at s 4096 256 p h
+
+pub length-owners : (s : List ℕ) → length (ownersOf s) ≡ 256
+unfolding ownersOf
+length-owners s = length-part s 4096 256
+
+-- beside what changes
+pub owners-beside : {a e : ℕ} {s t : List ℕ} → Beside a e s t → Apart 4096 256 a e → ownersOf t ≡ ownersOf s
+unfolding ownersOf
+owners-beside v apart = part-beside v 4096 256 apart
+
+-- one owner stored
+pub owners-set : (s : List ℕ) (p x : ℕ) → Whole s → p < 256 → ownersOf (set s (4096 + p) x) ≡ set (ownersOf s) p x
+owners-set s p x e h =
+    ext-getD 0 _ _ (length-owners _ ∙ sym (length-set (ownersOf s) p x ∙ length-owners s)) λ k l.
+    go k (rw length-owners at l) (ℕ-discrete k p)
+  where
+    go : (k : ℕ) → k < 256 → Dec (k ≡ p) → getD (ownersOf (set s (4096 + p) x)) k 0 ≡ getD (set (ownersOf s) p x) k 0
+    go k l (yes d) =
+        rw d (owners-at _ p h ∙ getD-set-same s (4096 + p) x 0 (omega (arith, e)) ∙ sym (getD-set-same (ownersOf s) p x 0 (rw length-owners h)))
+    go k l (no d) =
+        owners-at _ k l
+        ∙ getD-set-other s (4096 + p) (4096 + k) x 0 (λ z. d (omega arith))
+        ∙ sym (owners-at s k l)
+        ∙ sym (getD-set-other (ownersOf s) p k x 0 d)
 
 -- a range of the owners replaced
 pub owners-replaced : (s : List ℕ) (a e : ℕ) (f : ℕ → ℕ → ℕ) → e ≤ 256
@@ -53,6 +98,12 @@ length-masks s = length-table 8 (maskAt s)
 pub masks-at : (s : List ℕ) (j : ℕ) → j < 8 → getD (masksOf s) j 0 ≡ maskAt s j
 unfolding masksOf
 masks-at s j h = getD-table 8 (maskAt s) j 0 h
+
+-- beside what changes
+pub masks-beside : {a e : ℕ} {s t : List ℕ} → Beside a e s t → Apart 4352 64 a e → masksOf t ≡ masksOf s
+unfolding masksOf
+masks-beside v apart =
+    table-same 8 _ _ (λ j h. mask-beside v j (λ k l₁ h₁ l₂ h₂. apart k (omega arith) (omega arith) l₂ h₂))
 
 -- the masks of a state in which one was stored
 pub masks-set : (s : List ℕ) (j x : ℕ) → Whole s → j < 8 → x < 18446744073709551616 → masksOf (withMask s j x) ≡ set (masksOf s) j x

@@ -8,7 +8,7 @@ use Rattle.state.specs.Parts.{part, withPart, numberIn, bytesOf}
 
 -- a state has this many bytes
 abbrev pub Whole : List ℕ → Type 0
-Whole s = length s ≡ 4484
+Whole s = length s ≡ 4483
 
 -- ---- what is held
 

@@ -5,7 +5,7 @@ ghost use mathlib.Core.Path.{_≡_};
 ghost use Prim.Native.Nat.{_+_, _*_, _<_};
 ghost use Rattle.state.specs.State.{maskAt, withMask};
 
-pub type State = [u8; 4484];
+pub type State = [u8; 4483];
 
 pub const OWNERS: usize = 4096;
 

@@ -3,6 +3,7 @@ mod Places
 pub mod Rows
 mod RowRanges
 mod CarriedRows
+pub mod HeldRows
 pub mod HoldingChanges
 mod Largest
 pub mod AtMost

@@ -11,10 +11,11 @@ use Rattle.model.specs.Window.{newest}
 use Rattle.model.specs.Link as model
 use Rattle.model.specs.Request.{newestTests, found, nowhere, sought}
 use Rattle.window.specs.Window.{windowOf}
+use Rattle.state.specs.State.{masksOf}
 use Rattle.tables.specs.Rows.{row}
 use Rattle.tables.specs.Search.{foundOf, lateAt, Gathering}
 use Rattle.link.specs.declared.Flow.{Flow}
-use Rattle.link.specs.declared.Link.{Link}
+use Rattle.link.specs.Parts.{Parts}
 use Rattle.link.specs.Updates.{movedTo, grantedIn}
 use Rattle.link.specs.Reading.{linkOf}
 use Rattle.link.specs.Given.{RequestOn, testsOf}
@@ -66,26 +67,26 @@ none-at c = c .before .before .before .before .before
 
 -- ---- what is given there
 
-abbrev OnAt : tie.Start → Link → Type 0
+abbrev OnAt : tie.Start → Parts → Type 0
 OnAt s l =
-    RequestOn l (s .args .count) (s .args .e) (s .args .w) (s .args .unbooked .now) (s .args .held .now)
+    RequestOn l (s .args .count) (s .args .e) (s .args .w) (masksOf (s .args .s .now)) (s .args .s .now)
     (s .args .i) (s .args .flow) (s .args .word)
 
-tests-are : (c : tie.After-refusal) (l : Link) → OnAt (entered c) l
+tests-are : (c : tie.After-refusal) (l : Parts) → OnAt (entered c) l
     → c .refusal .result ≡ testsOf l (entered c .args .word)
 tests-are c l o = c .refusal .ensures (l .plan) _ (word-on o)
 
 -- the newest frame as the link has it
-newest-is : (c : tie.After-newest) (l : Link) → OnAt (start (passed-at c)) l → c .newest .result ≡ newest (model.window (linkOf l))
+newest-is : (c : tie.After-newest) (l : Parts) → OnAt (start (passed-at c)) l → c .newest .result ≡ newest (model.window (linkOf l))
 newest-is c l o = c .newest .ensures ∙ ap newest (o .window .window-is)
 
 -- what the search comes to
-module _ (c : tie.After-find) (l : Link) (o : OnAt (start (passed-at (newest-at c))) l) where
+module _ (c : tie.After-find) (l : Parts) (o : OnAt (start (passed-at (newest-at c))) l) where
   abbrev entry-at : tie.Start
   entry-at = start (passed-at (newest-at c))
 
-  gathering : Gathering (entry-at .args .w) (l .owner) (entry-at .args .unbooked .now)
-      (lateAt (windowOf (entry-at .args .w)) (row (entry-at .args .held .now) (entry-at .args .i)) (entry-at .args .e .cells)) (late-at c .late-rank .result)
+  gathering : Gathering (entry-at .args .w) (l .owner) (masksOf (entry-at .args .s .now))
+      (lateAt (windowOf (entry-at .args .w)) (row (entry-at .args .s .now) (entry-at .args .i)) (entry-at .args .e .cells)) (late-at c .late-rank .result)
   gathering = record { words-are = words-on o; late-from = late-at c .late-rank .ensures }
 
   found-is : foundOf (c .find .result) ≡ sought (linkOf l) (entry-at .args .i) (word.departureOf (entry-at .args .word))
@@ -107,7 +108,7 @@ module _ (c : tie.After-found) where
   abbrev position-at : ℕ
   position-at = c .found .given .0 .1 .1 .0
 
-  module _ (l : Link) (o : OnAt (start (passed-at (newest-at at-find))) l) where
+  module _ (l : Parts) (o : OnAt (start (passed-at (newest-at at-find))) l) where
     position-found : found frame-at left-at position-at
         ≡ sought (linkOf l) (entry-at at-find l o .args .i) (word.departureOf (entry-at at-find l o .args .word))
     position-found = ap foundOf (sym (c .found .given .1)) ∙ found-is at-find l o
