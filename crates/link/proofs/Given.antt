@@ -24,8 +24,8 @@ use Rattle.link.specs.declared.Flow.{Flow}
 use Rattle.link.specs.Parts.{Parts}
 use Rattle.link.specs.Layout.{noFlow}
 use Rattle.link.specs.Reading.{linkOf}
-use Rattle.link.specs.Sound.{Sound}
-use Rattle.link.specs.Given.{WindowOn, CreditOn, placed, RequestOn, WordOn}
+use Rattle.link.specs.Sound.{Sound, SoundState}
+use Rattle.link.specs.Given.{WindowOn, CreditOn, placed, RequestOn, StateIn, WordOn}
 use Rattle.link.proofs.Plans.{count-some, count-most}
 use Rattle.link.proofs.Readings.{read-flow, read-size, read-slots, read-frames, some-flow, flows-most}
 use Rattle.link.proofs.Searches.{sought-same, would-same}
@@ -111,6 +111,10 @@ module _ {l : Parts} {plan : Plan} {w : Window} (a : AtHand l plan w) where
     entry-is = ap (λ (p : Plan). getD (p .entries) i noEntry) (a .plan-is);
     flow-is = refl;
   }
+
+-- the window of a state comes to hand
+pub state-in : {p : Plan} {s : List ℕ} {w : Window} → SoundState p s → windowOf w ≡ windowFor p (getD s 4480 0) → Proper w → StateIn p (p .count) w s
+state-in s is v = record { sound = s; count-is = refl; proper = v; window-is = at-hand (s .parts) is v .window-is }
 
 -- ---- what a request on link l is given
 

@@ -13,3 +13,4 @@ pub mod Given
 mod Replies
 pub mod Requests
 mod StateRequests
+pub mod Credits

@@ -99,6 +99,11 @@ module _ (p : Plan) (s : List ℕ) (whole : Whole s) where
 
 -- ---- a rule that leaves the current position, the mark and the turn
 
+-- nothing is stored
+pub went-same : {p : Plan} {s t : List ℕ} → SoundState p s → t ≡ s
+    → {A : Type 0} {toAnswer : A → Answer} {m : model.Step A} {a : Answer} → SteppedParts toAnswer m (partsIn p s) a → Went toAnswer m p t a
+went-same sound e x = rw e (record { link-is = x .link-is; answer-is = x .answer-is; sound = record { whole = sound .whole; mark = sound .mark; parts = x .sound } })
+
 pub went-by : {p : Plan} {s t : List ℕ} → SoundState p s → Beside 0 4480 s t → {l : Parts} → partsIn p t ≡ l
     → {A : Type 0} {toAnswer : A → Answer} {m : model.Step A} {a : Answer} → SteppedParts toAnswer m l a → Went toAnswer m p t a
 went-by sound v e x = record {

@@ -70,6 +70,13 @@ pub record RequestOn (l : Parts) (n : ℕ) (e : Entry) (w : Window) (unbooked he
   pub entry-is : e ≡ entryAt l i
   pub flow-is : f ≡ flowAt l i .flow
 
+-- a state of plan p, which has n flows, and its window w
+pub record StateIn (p : Plan) (n : ℕ) (w : Window) (s : List ℕ) : Type 0 where
+  pub sound : SoundState p s
+  pub count-is : n ≡ p .count
+  pub proper : Proper w
+  pub window-is : windowOf w ≡ model.window (linkOf (partsIn p s))
+
 -- a request on a state of a plan
 pub record RequestIn (p : Plan) (n : ℕ) (e : Entry) (w : Window) (i word : ℕ) (s : List ℕ) : Type 0 where
   pub sound : SoundState p s

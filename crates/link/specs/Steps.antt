@@ -2,7 +2,10 @@
 use Prim.Native.Nat.{ℕ}
 use mathlib.Core.Path.{_≡_}
 use mathlib.Core.List.{List}
+use mathlib.Core.Bool.{cond}
+use lib.Dec.{eqb}
 use Rattle.calls.specs.declared.Answer.{Answer}
+use Rattle.calls.specs.declared.Answer.the-variants.{Taken, Refused}
 use Rattle.model.specs.Link as model
 use Rattle.plan.specs.declared.Plan.{Plan}
 use Rattle.link.specs.declared.Link.{Link}
@@ -27,6 +30,10 @@ pub record Went {A : Type 0} (toAnswer : A → Answer) (m : model.Step A) (plan 
 -- r has the paper's next link and its answer, and the link is sound again
 abbrev pub Stepped : {A : Type 0} (toAnswer : A → Answer) (m : model.Step A) (r : Step) → Type 0
 Stepped toAnswer m r = Went toAnswer m (r .link .plan) (r .link .state) (r .answer)
+
+-- the answer to a credit, from its number
+abbrev pub creditAnswer : ℕ → Answer
+creditAnswer n = cond (eqb n 0) Taken (Refused n)
 
 -- the same of a link taken apart
 pub record SteppedParts {A : Type 0} (toAnswer : A → Answer) (m : model.Step A) (l : Parts) (answer : Answer) : Type 0 where

@@ -4,6 +4,7 @@ ghost use mathlib.Core.Path.{_≡_};
 ghost use Prim.Native.Nat.{_<_};
 ghost use Rattle.link.specs.Updates.{movedTo, grantedIn};
 
+pub mod credit;
 pub mod flows; // the flows of a state
 pub mod reply; // what a request comes to
 pub mod request;

@@ -1,0 +1,34 @@
+-- `link::Link::credit` meets its contract. Assumes nothing.
+use borrow.Author.Needs.{needs}
+use borrow.Author.Tests.{eq-eqb, ne-eqb}
+use Rattle.link.specs.Given.{StateIn}
+use Rattle.link.proofs.Given.{state-in}
+use Rattle.link.proofs.Link.credit.Statement.{statement}
+use Rattle.link.proofs.Link.credit.Tie as tie
+
+-- what is given of the state
+in-at : (c : tie.After-window) → let l = c .before .before .before .args .t1 in StateIn (l .plan) (l .plan .count) (c .window .result) (l .state)
+in-at c = state-in (c .before .before .before .pre) (c .window .ensures .0) (c .window .ensures .1)
+
+element-copy-out-cp : tie.Need-element-copy-out-cp
+element-copy-out-cp c = search needs
+
+cast-window : tie.Need-cast-window
+cast-window c = search needs
+
+window-requires : tie.Need-window-requires
+window-requires c κs = search needs
+
+credit-requires : tie.Need-credit-requires
+credit-requires c κs = record { plan = _; given = in-at (c .before) }
+
+returns : tie.Need-returns
+returns c = let n = c .before in rw (ne-eqb _ _ (c .if1 .taken)) at (n .credit .ensures .0 _ (in-at (n .before .before)))
+
+returns-2 : tie.Need-returns-2
+returns-2 c = let n = c .before in rw (eq-eqb _ _ (c .if1 .left)) at (n .credit .ensures .0 _ (in-at (n .before .before)))
+
+pub credit-spec : {M : Type 1} → statement M
+credit-spec =
+    tie.close
+    (tie.spec element-copy-out-cp cast-window window-requires credit-requires returns returns-2)
