@@ -5,6 +5,7 @@ mod Updated
 pub mod Stored
 mod FlowBytes
 mod StateParts
+mod FlowLoops
 -- the calls
 mod Words
 mod Searches
@@ -14,3 +15,7 @@ mod Replies
 pub mod Requests
 mod StateRequests
 pub mod Credits
+mod LeavingHeads
+mod FrameChanges
+pub mod Ticks
+mod StateTicks

@@ -1,6 +1,7 @@
 pub mod Parts
 pub mod Layout
 pub mod Updates
+pub mod Changes
 pub mod Reading
 pub mod Sound
 pub mod Steps

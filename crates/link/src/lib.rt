@@ -8,6 +8,7 @@ pub mod credit;
 pub mod flows; // the flows of a state
 pub mod reply; // what a request comes to
 pub mod request;
+pub mod tick;
 
 use calls::Answer;
 use plan::Plan;

@@ -65,6 +65,15 @@ owners-set s p x e h =
         ∙ sym (owners-at s k l)
         ∙ sym (getD-set-other (ownersOf s) p k x 0 d)
 
+-- all owners stored
+pub owners-with : (s o : List ℕ) → Whole s → length o ≡ 256 → ownersOf (withOwners s o) ≡ o
+unfolding ownersOf withOwners
+owners-with s o e long = part-of-with s 4096 256 o long (omega (arith, e))
+
+pub beside-owners : (s o : List ℕ) → Beside 4096 4352 s (withOwners s o)
+unfolding withOwners
+beside-owners s o = beside-part s 4096 256 o
+
 -- a range of the owners replaced
 pub owners-replaced : (s : List ℕ) (a e : ℕ) (f : ℕ → ℕ → ℕ) → e ≤ 256
     → replaced (inRange (4096 + a) (4096 + e)) (λ k x. f (k - 4096) x) s ≡ withOwners s (replaced (inRange a e) f (ownersOf s))

@@ -45,7 +45,7 @@ module _ (w : Window) (v : Proper w) where
     pub carried-long : Sixteen (carried w n h)
     carried-long = omega (arith, length-carried n (lastOf w) (baseOf w) (baseOf w + w .slots) h)
 
-    last-below : lastOf w < 256
+    pub last-below : lastOf w < 256
     last-below =
         let some : 0 < sizeOf w = omega (arith, v .measures .current-below) in
         let below = mod-lt (baseOf w + sizeOf w - 1) some in

@@ -2,7 +2,7 @@
 mod Places
 pub mod Rows
 mod RowRanges
-mod CarriedRows
+pub mod CarriedRows
 pub mod HeldRows
 pub mod HoldingChanges
 mod Largest

@@ -111,10 +111,10 @@ returns-2 : tie.Need-returns-2
 returns-2 c =
     let s = c .before .before .before in (
       λ p o.
-      let l = partsAt s p in
-      refused s p o refl
-      (tests-13 l _ _ (rw (← o .count-is) (c .before .before .if1 .left)) (rw (← read-size l (o .window-is)) (c .if2 .taken)))
-      (λ z. omega (arith, z)),
+          let l = partsAt s p in
+          refused s p o refl
+          (tests-13 l _ _ (rw (← o .count-is) (c .before .before .if1 .left)) (rw (← read-size l (o .window-is)) (c .if2 .taken)))
+          (λ z. omega (arith, z)),
       refl,
     )
 
@@ -125,9 +125,9 @@ returns-3 : tie.Need-returns-3
 returns-3 c =
     let t = c .before .before in (
       λ p o.
-      refused (start t) p o refl
-      (tests-14 (partsAt (start t) p) _ _ (flow-below t p o) (position-below t p o) _ (o .window-is) (sym (c .before .passed .ensures) ∙ c .if3 .taken))
-      (λ z. omega (arith, z)),
+          refused (start t) p o refl
+          (tests-14 (partsAt (start t) p) _ _ (flow-below t p o) (position-below t p o) _ (o .window-is) (sym (c .before .passed .ensures) ∙ c .if3 .taken))
+          (λ z. omega (arith, z)),
       refl,
     )
 
@@ -142,13 +142,13 @@ returns-4 c =
     let t = tested-at h in
     let s = start t in (
       λ p o.
-      let l = partsAt s p in
-      let whole = o .sound .whole in
-      let held = held-is h p ∙ c .if4 .taken in
-      let tests = tests-pass l _ _ (flow-below t p o) (position-below t p o) _ (o .window-is) (not-passed h) held in
-      let lowered = h .lower-from .ensures .1 .0 ∙ ap (holds h) (c .if4 .taken) in
-      went-by (o .sound) (held-rest p _ whole _ 255 _ _ (flow-few t) lowered) (parts-held p _ whole _ 255 _ _ (flow-few t) lowered)
-      (credit-taken (hand s p o) _ _ tests refl (record { flow = flow-below t p o; position = t .if2 .left; some-held = held }) refl),
+          let l = partsAt s p in
+          let whole = o .sound .whole in
+          let held = held-is h p ∙ c .if4 .taken in
+          let tests = tests-pass l _ _ (flow-below t p o) (position-below t p o) _ (o .window-is) (not-passed h) held in
+          let lowered = h .lower-from .ensures .1 .0 ∙ ap (holds h) (c .if4 .taken) in
+          went-by (o .sound) (held-rest p _ whole _ 255 _ _ (flow-few t) lowered) (parts-held p _ whole _ 255 _ _ (flow-few t) lowered)
+          (credit-taken (hand s p o) _ _ tests refl (record { flow = flow-below t p o; position = t .if2 .left; some-held = held }) refl),
       h .lower-from .ensures .1 .1 ∙ ap (mostAfter h) (c .if4 .taken),
     )
 
@@ -158,9 +158,9 @@ returns-5 c =
     let t = tested-at h in
     let s = start t in (
       λ p o.
-      refused s p o (h .lower-from .ensures .1 .0 ∙ ap (holds h) (c .if4 .left))
-      (tests-15 (partsAt s p) _ _ (flow-below t p o) (position-below t p o) _ (o .window-is) (not-passed h) (held-is h p ∙ c .if4 .left))
-      (λ z. omega (arith, z)),
+          refused s p o (h .lower-from .ensures .1 .0 ∙ ap (holds h) (c .if4 .left))
+          (tests-15 (partsAt s p) _ _ (flow-below t p o) (position-below t p o) _ (o .window-is) (not-passed h) (held-is h p ∙ c .if4 .left))
+          (λ z. omega (arith, z)),
       refl,
     )
 

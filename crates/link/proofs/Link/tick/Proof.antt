@@ -1,0 +1,47 @@
+-- `link::Link::tick` meets its contract. Assumes nothing.
+use borrow.Author.Needs.{needs}
+use Rattle.link.specs.Given.{StateIn}
+use Rattle.link.proofs.Given.{state-in}
+use Rattle.link.proofs.Link.tick.Statement.{statement}
+use Rattle.link.proofs.Link.tick.Tie as tie
+
+-- what is given of the state
+in-at : (c : tie.After-window) → let l = c .before .before .before .args .t1 in StateIn (l .plan) (l .plan .count) (c .window .result) (l .state)
+in-at c = state-in (c .before .before .before .pre) (c .window .ensures .0) (c .window .ensures .1)
+
+element-copy-out-cp : tie.Need-element-copy-out-cp
+element-copy-out-cp c = search needs
+
+cast-window : tie.Need-cast-window
+cast-window c = search needs
+
+window-requires : tie.Need-window-requires
+window-requires c κs = search needs
+
+tick-requires : tie.Need-tick-requires
+tick-requires c κs = in-at (c .before)
+
+add-owner : tie.Need-add-owner
+add-owner c = search needs
+
+element-copy-out-owner : tie.Need-element-copy-out-owner
+element-copy-out-owner c = search needs
+
+turn-requires : tie.Need-turn-requires
+turn-requires c κs = search needs
+
+returns : tie.Need-returns
+returns c = rw (c .turn .ensures) (c .before .before .tick .ensures .0)
+
+pub tick-spec : {M : Type 1} → statement M
+tick-spec =
+    tie.close
+    (tie.spec
+    element-copy-out-cp
+    cast-window
+    window-requires
+    tick-requires
+    add-owner
+    element-copy-out-owner
+    turn-requires
+    returns)

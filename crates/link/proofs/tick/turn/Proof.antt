@@ -1,0 +1,13 @@
+-- `link::tick::turn` meets its contract. Assumes nothing.
+use borrow.Author.Tests.{eq-eqb, ne-eqb}
+use Rattle.link.proofs.tick.turn.Statement.{statement}
+use Rattle.link.proofs.tick.turn.Tie as tie
+
+returns : tie.Need-returns
+returns c = rw (eq-eqb _ _ (c .if1 .taken))
+
+returns-2 : tie.Need-returns-2
+returns-2 c = rw (ne-eqb _ _ (c .if1 .left))
+
+pub turn-spec : {M : Type 1} → statement M
+turn-spec = tie.close (tie.spec returns returns-2)
