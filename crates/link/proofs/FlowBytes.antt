@@ -33,7 +33,7 @@ flow-same s i f e h = ap flowFrom (part-of-with s (4416 + 4 * i) 4 (flowBytes f)
 flow-other : (s : List ℕ) (i : ℕ) (f : Flow) (k : ℕ) → (k ≡ i → ⊥) → flowRead (withFlowAt s i f) k ≡ flowRead s k
 flow-other s i f k n = flow-beside (beside-flow s i f) k (λ q l₁ h₁ l₂ h₂. n (omega arith))
 
-length-flows : (s : List ℕ) → length (flowsOf s) ≡ 16
+pub length-flows : (s : List ℕ) → length (flowsOf s) ≡ 16
 unfolding flowsOf
 length-flows s = length-table 16 (flowRead s)
 

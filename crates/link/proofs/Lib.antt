@@ -15,6 +15,9 @@ mod Replies
 pub mod Requests
 mod StateRequests
 pub mod Credits
+mod StartedFlows
+mod FreshLinks
+mod StateFresh
 mod LeavingHeads
 mod FrameChanges
 pub mod Ticks

@@ -5,6 +5,7 @@ ghost use Prim.Native.Nat.{_<_};
 ghost use Rattle.link.specs.Updates.{movedTo, grantedIn};
 
 pub mod credit;
+mod fresh;
 pub mod flows; // the flows of a state
 pub mod reply; // what a request comes to
 pub mod request;

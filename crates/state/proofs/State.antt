@@ -10,9 +10,9 @@ use lib.Seq.{ext-getD, getD-set-same, getD-set-other}
 use Rattle.window.specs.Ranges.{inRange, replaced}
 use Rattle.window.proofs.Tabulated.{getD-table, length-table, table-same}
 use Rattle.state.specs.Parts.{part, withPart, Beside, Apart, numberIn, bytesOf}
-use Rattle.state.specs.State.{Whole, heldOf, ownersOf, withOwners, maskAt, withMask, masksOf}
+use Rattle.state.specs.State.{Whole, heldOf, withHeld, ownersOf, withOwners, maskAt, withMask, masksOf, MasksNow}
 use Rattle.state.proofs.PartRanges.{replaced-in}
-use Rattle.state.proofs.Parts.{length-part, part-at, part-beside, part-with-inner, beside-part, part-of-with, length-bytes, number-of-bytes, stores, stores-are}
+use Rattle.state.proofs.Parts.{length-part, part-at, part-beside, part-with-inner, beside-wider, beside-both, beside-part, part-of-with, length-bytes, number-of-bytes, stores, stores-are}
 
 -- ---- what is held
 
@@ -34,6 +34,15 @@ unfolding heldOf
 held-with s a n xs e h =
     let first : 0 + a ≡ a = omega arith in
     rw first at (part-with-inner s 0 4096 a n xs h (omega (arith, e)))
+
+-- all of it replaced
+pub held-with-all : (s h : List ℕ) → Whole s → length h ≡ 4096 → heldOf (withHeld s h) ≡ h
+unfolding heldOf withHeld
+held-with-all s h e long = part-of-with s 0 4096 h long (omega (arith, e))
+
+pub beside-all-held : (s h : List ℕ) → Beside 0 4096 s (withHeld s h)
+unfolding withHeld
+beside-all-held s h = beside-wider (omega arith) (omega arith) (beside-part s 0 4096 h)
 
 -- ---- the owners
 
@@ -124,6 +133,42 @@ masks-set s j x e h b =
     go k l (yes d) =
         rw d (masks-at _ j h ∙ mask-same s j x e h b ∙ sym (getD-set-same (masksOf s) j x 0 (rw length-masks h)))
     go k l (no d) = masks-at _ k l ∙ mask-other s j x k d ∙ sym (masks-at s k l) ∙ sym (getD-set-other (masksOf s) j k x 0 d)
+
+-- ---- a loop that has stored the first j masks
+
+pub record Masking (masks before s : List ℕ) (j : ℕ) : Type 0 where
+  pub to : j ≤ 8
+  pub whole : Whole s
+  pub beside : Beside 4352 4416 before s
+  pub stored : (k : ℕ) → k < j → maskAt s k ≡ getD masks k 0
+
+module _ {masks before : List ℕ} where
+  pub masking-none : Whole before → Masking masks before before 0
+  masking-none whole = record {
+    to = omega arith;
+    whole = whole;
+    beside = record { long = refl; kept = λ k _. refl };
+    stored = λ k h. absurd (omega arith);
+  }
+
+  module _ {s : List ℕ} {j : ℕ} (v : Masking masks before s j) where
+    pub masking-more : j < 8 → {x : ℕ} → x ≡ getD masks j 0 → x < 18446744073709551616 → {t : List ℕ} → t ≡ withMask s j x → Masking masks before t (j + 1)
+    masking-more h {x} is fits e = rw e (record {
+      to = omega arith;
+      whole = beside-mask s j x .long ∙ v .whole;
+      beside = beside-both (v .beside) (beside-wider (omega arith) (omega arith) (beside-mask s j x));
+      stored = λ k l. go k l (ℕ-discrete k j);
+    })
+      where
+        go : (k : ℕ) → k < j + 1 → Dec (k ≡ j) → maskAt (withMask s j x) k ≡ getD masks k 0
+        go k l (yes d) = rw d (mask-same s j x (v .whole) h fits ∙ is)
+        go k l (no d) = mask-other s j x k d ∙ v .stored k (omega arith)
+
+    pub masking-done : length masks ≡ 8 → 8 ≤ j → MasksNow before s masks
+    masking-done long end = record {
+      masks-are = ext-getD 0 _ _ (length-masks s ∙ sym long) (λ k l. let b : k < 8 = rw length-masks at l in masks-at s k b ∙ v .stored k (omega arith));
+      beside = v .beside;
+    }
 
 -- what the code reads, and what it stores
 pub mask-read : (s : List ℕ) (j : ℕ) → let a = 4352 + 8 * j in

@@ -4,7 +4,7 @@ use mathlib.Core.Path.{_≡_}
 use mathlib.Core.List.{List}
 use lib.ListN.{length, getD}
 use Rattle.model.specs.Tables.{table}
-use Rattle.state.specs.Parts.{part, withPart, numberIn, bytesOf}
+use Rattle.state.specs.Parts.{part, withPart, Beside, numberIn, bytesOf}
 
 -- a state has this many bytes
 abbrev pub Whole : List ℕ → Type 0
@@ -36,3 +36,8 @@ withMask s j x = withPart s (4352 + 8 * j) 8 (bytesOf 8 x)
 
 unfoldable pub masksOf : List ℕ → List ℕ
 masksOf s = table 8 (maskAt s)
+
+-- the masks are these, and nothing else changed
+pub record MasksNow (before after : List ℕ) (masks : List ℕ) : Type 0 where
+  pub masks-are : masksOf after ≡ masks
+  pub beside : Beside 4352 4416 before after

@@ -2,8 +2,10 @@
 // crate alone: what each flow holds (flow i at position p: 256 * i + p), the owner of each position, the mask of each frame's unbooked slots (eight
 // bytes, low first), the flows (four bytes each), the current position, the mark and the turn.
 ghost use mathlib.Core.Path.{_≡_};
-ghost use Prim.Native.Nat.{_+_, _*_, _<_};
-ghost use Rattle.state.specs.State.{maskAt, withMask};
+ghost use Prim.Native.Nat.{_+_, _*_, _≤_, _<_};
+ghost use lib.ListN.{length};
+ghost use Rattle.state.specs.Parts.{withPart};
+ghost use Rattle.state.specs.State.{Whole, maskAt, withMask, MasksNow};
 
 pub type State = [u8; 4483];
 
@@ -56,4 +58,29 @@ pub fn put_mask(s: &mut State, j: usize, x: u64)
     s[at + 5] = (x / 1099511627776 % 256) as u8;
     s[at + 6] = (x / 281474976710656 % 256) as u8;
     s[at + 7] = (x / 72057594037927936 % 256) as u8;
+}
+
+// Stores the masks of all frames.
+pub fn put_masks(s: &mut State, masks: [u64; 8])
+    requires { ⌜ Whole (now s) × (length masks ≡ 8) ⌝ }
+    ensures { λ r. ⌜ MasksNow (now (s .entry)) (now (s .exit)) masks ⌝ }
+{
+    let mut j = 0;
+    while j < 8 {
+        put_mask(s, j, masks[j]);
+        j += 1;
+    }
+}
+
+// Stores a table of 256 bytes at a place and from it on.
+pub fn put_table(s: &mut State, first: usize, table: [u8; 256])
+    requires { ⌜ first + 256 ≤ 4483 ⌝ }
+    ensures { λ r. ⌜ now (s .exit) ≡ withPart (now (s .entry)) first 256 table ⌝ }
+{
+    let end = first + 256;
+    let mut q = first;
+    while q < end {
+        s[q] = table[q - first];
+        q += 1;
+    }
 }

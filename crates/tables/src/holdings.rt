@@ -20,6 +20,7 @@ ghost use Rattle.tables.specs.Rows.{row, Sixteen, withRow, carriedRows};
 ghost use Rattle.tables.specs.Padded.{onFrom, pad, Bytes};
 ghost use Rattle.tables.specs.Holdings.{someHeld, roomAt, largest, mostHeld, shiftedRow, shifted, carried, nothingHeld};
 use state::State;
+use state::put_table;
 use window::Window;
 use window::numbers::chosen;
 use window::numbers::larger_byte;
@@ -247,13 +248,7 @@ pub fn store(held: &mut State, i: usize, table: [u8; 256])
     requires { ⌜ i < 16 ⌝ }
     ensures { λ r. ⌜ now (held .exit) ≡ withRow (now (held .entry)) i table ⌝ }
 {
-    let first = 256 * i;
-    let end = first + 256;
-    let mut q = first;
-    while q < end {
-        held[q] = table[q - first];
-        q += 1;
-    }
+    put_table(held, 256 * i, table);
 }
 
 // The table of flow i: its row.

@@ -7,12 +7,20 @@ ghost use Rattle.window.specs.Window.{windowOf, Proper};
 ghost use Rattle.tables.specs.Owners.{nobody, unbookedAt, noneLater, everywhere, emptied};
 use state::OWNERS;
 use state::State;
+use state::put_table;
 use window::Window;
 
 pub fn unbooked() -> [u8; 256]
     ensures { λ r. ⌜ r ≡ everywhere nobody ⌝ }
 {
     [16u8; 256]
+}
+
+// Nobody owns a position.
+pub fn disown(owner: &mut State)
+    ensures { λ r. ⌜ now (owner .exit) ≡ withOwners (now (owner .entry)) (everywhere nobody) ⌝ }
+{
+    put_table(owner, OWNERS, unbooked());
 }
 
 // Takes the owner from every position of the range from a to e.
