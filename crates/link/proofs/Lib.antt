@@ -15,6 +15,7 @@ mod Replies
 pub mod Requests
 mod StateRequests
 pub mod Credits
+pub mod Stays
 mod StartedFlows
 mod FreshLinks
 mod StateFresh

@@ -27,10 +27,11 @@ use Rattle.link.specs.Given.{StateIn}
 use Rattle.link.specs.Parts.{Parts, partsIn, flowsOf}
 use Rattle.link.specs.Changes.{FlowsNow, FrameLeft, ChangeIn}
 use Rattle.link.specs.Reading.{linkOf}
+use Rattle.link.specs.Sound.{SoundState}
 use Rattle.link.specs.Steps.{readIn, Went}
 use Rattle.link.specs.Updates.{leftHeads, withCurrent, withTaken}
 use Rattle.link.proofs.Plans.{count-most}
-use Rattle.link.proofs.Given.{AtHand}
+use Rattle.link.proofs.Given.{AtHand, at-hand-ticked}
 use Rattle.link.proofs.FlowBytes.{flows-beside}
 use Rattle.link.proofs.Ticks.{Advanced, head-stays, head-left, ticked}
 
@@ -120,7 +121,8 @@ module _ {plan : Plan} {w on : Window} {s : List ℕ} (o : StateIn plan (plan .c
 
   -- what a tick that ends in this state comes to
   abbrev pub TickedTo : List ℕ → Type 0
-  TickedTo v = Went answerToTick (tick.tick (readIn plan s)) plan v (answerToTick (ownerOf (getD v (4096 + on .current) 0)))
+  TickedTo v =
+      Went answerToTick (tick.tick (readIn plan s)) plan v (answerToTick (ownerOf (getD v (4096 + on .current) 0))) × StateIn plan (plan .count) on v
 
   went : (u : List ℕ) → Whole u → Advanced (partsIn plan s) (withTaken (partsIn plan u) false) (on .current) → TickedTo (set (set u 4481 0) 4480 (on .current))
   went u whole a =
@@ -128,15 +130,16 @@ module _ {plan : Plan} {w on : Window} {s : List ℕ} (o : StateIn plan (plan .c
       let is = parts-ticked plan u whole (on .current) in
       let owner = after plan u whole (on .current) .kept (4096 + on .current) (λ low _. omega arith) ∙ sym (owners-at u (on .current) few) in
       let x = ticked hand t a (ap (λ (y : ℕ). answerToTick (ownerOf y)) owner) in
-      record {
-        link-is = ap linkOf is ∙ x .link-is;
-        answer-is = x .answer-is;
-        sound = record {
-          whole = after plan u whole (on .current) .long ∙ whole;
-          mark = rw (mark-is plan u whole (on .current)) (omega arith);
-          parts = rw is (x .sound);
-        };
-      }
+      let sound : SoundState plan (set (set u 4481 0) 4480 (on .current)) = record {
+        whole = after plan u whole (on .current) .long ∙ whole;
+        mark = rw (mark-is plan u whole (on .current)) (omega arith);
+        parts = rw is (x .sound);
+      } in
+      let there = at-hand-ticked hand (sound .parts) refl t (current-is plan u whole (on .current)) in
+      (
+        record { link-is = ap linkOf is ∙ x .link-is; answer-is = x .answer-is; sound = sound },
+        record { sound = sound; count-is = refl; proper = there .proper; window-is = there .window-is },
+      )
 
   pub went-stays : on .head ≡ w .head → TickedTo (set (set s 4481 0) 4480 (on .current))
   went-stays e = went s (o .sound .whole) (head-stays hand t e refl)

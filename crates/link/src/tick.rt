@@ -6,7 +6,6 @@ ghost use Rattle.model.specs.Tick as model;
 ghost use Rattle.plan.specs.Reading.{Valid};
 ghost use Rattle.calls.specs.Reading.{answerToTick};
 ghost use Rattle.state.specs.State.{Whole};
-ghost use Rattle.window.specs.Window.{Ticked};
 ghost use Rattle.tables.specs.Owners.{ownerOf};
 ghost use Rattle.link.specs.Given.{StateIn};
 ghost use Rattle.link.specs.Parts.{flowsOf};
@@ -31,7 +30,7 @@ use window::Window;
 use window::positions::window;
 
 // The answer at a position with this owner.
-pub(crate) fn turn(owner: u8) -> Answer
+pub fn turn(owner: u8) -> Answer
     ensures { λ r. ⌜ r ≡ answerToTick (ownerOf owner) ⌝ }
 {
     if owner == 16 {
@@ -72,7 +71,7 @@ pub fn tick(s: &mut State, plan: Plan, w: Window) -> Window
     requires { ⌜ StateIn plan (plan .count) w (now s) ⌝ }
     ensures is { λ r. ⌜ Went answerToTick (model.tick (readIn plan (now (s .entry)))) plan (now (s .exit))
         (answerToTick (ownerOf (getD (now (s .exit)) (4096 + r .current) 0))) ⌝ }
-    ensures on { λ r. ⌜ Ticked w r ⌝ }
+    ensures there { λ r. ⌜ StateIn plan (plan .count) r (now (s .exit)) ⌝ }
 {
     let on = w.ticked();
     if on.head != w.head {

@@ -24,13 +24,11 @@ returns : tie.Need-returns
 returns c =
     let j = c .before in
     let t = j .before .before .before in
-    let o = t .before .pre in (
-      ⊎-elim
-          (λ (leaves, _, left, is). rw is (went-leaves o (t .ticked .ensures) (leaves .taken) (left .ensures)))
-          (λ (stays, is). rw is (went-stays o (t .ticked .ensures) (stays .left)))
-          (j .if1 .came),
-      t .ticked .ensures,
-    )
+    let o = t .before .pre in
+    ⊎-elim
+    (λ (leaves, _, left, is). rw is (went-leaves o (t .ticked .ensures) (leaves .taken) (left .ensures)))
+    (λ (stays, is). rw is (went-stays o (t .ticked .ensures) (stays .left)))
+    (j .if1 .came)
 
 pub tick-spec : {M : Type 1} → statement M
 tick-spec =
