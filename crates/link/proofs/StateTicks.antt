@@ -135,8 +135,7 @@ module _ {plan : Plan} {w on : Window} {s : List ℕ} (o : StateIn plan (plan .c
         mark = rw (mark-is plan u whole (on .current)) (omega arith);
         parts = rw is (x .sound);
       } in
-      let there = at-hand-ticked hand (sound .parts) refl t (current-is plan u whole (on .current)) in
-      (
+      let there = at-hand-ticked hand (sound .parts) refl t (current-is plan u whole (on .current)) in (
         record { link-is = ap linkOf is ∙ x .link-is; answer-is = x .answer-is; sound = sound },
         record { sound = sound; count-is = refl; proper = there .proper; window-is = there .window-is },
       )
