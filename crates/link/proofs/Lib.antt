@@ -19,6 +19,11 @@ pub mod Stays
 mod StartedFlows
 mod FreshLinks
 mod StateFresh
+mod Masks
+mod Takers
+pub mod Lends
+mod Resets
+mod StateLends
 mod LeavingHeads
 mod FrameChanges
 pub mod Ticks

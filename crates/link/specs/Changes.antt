@@ -8,11 +8,13 @@ use Rattle.window.specs.declared.Window.{Window}
 use Rattle.window.specs.Window.{Proper}
 use Rattle.state.specs.Parts.{Beside}
 use Rattle.state.specs.State.{Whole, heldOf, ownersOf, masksOf}
-use Rattle.unbooked.specs.Words.{Recycled}
-use Rattle.tables.specs.Owners.{emptied}
+use mathlib.Core.Bool.{true}
+use Rattle.unbooked.specs.Words.{Words, Recycled}
+use Rattle.tables.specs.Owners.{nobody, everywhere, emptied}
 use Rattle.tables.specs.Holdings.{carried}
 use Rattle.link.specs.declared.Flow.{Flow}
 use Rattle.link.specs.Parts.{flowsOf}
+use Rattle.link.specs.Started.{startedFlows}
 use Rattle.link.specs.Updates.{leftHeads}
 
 -- the flows are these, and nothing else changed
@@ -26,6 +28,13 @@ pub record ChangeIn (plan : Plan) (w : Window) (on : ℕ) (s : List ℕ) : Type 
   pub proper : Proper w
   pub whole : Whole s
   pub frame : on < 256
+
+-- nobody owns a position, and the plan's flows start in a frame
+pub record Renewed (plan : Plan) (frame : ℕ) (before after : List ℕ) : Type 0 where
+  pub owners-are : ownersOf after ≡ everywhere nobody
+  pub masks-are : Words (plan .slots) (plan .frames) (λ p. true) (masksOf after)
+  pub flows-are : flowsOf after ≡ startedFlows frame (plan .entries) (plan .count) (flowsOf before)
+  pub beside : Beside 4096 4480 before after
 
 -- the head frame of window w is left, and `on` is the next one
 pub record FrameLeft (plan : Plan) (w : Window) (on : ℕ) (before after : List ℕ) : Type 0 where

@@ -1,12 +1,12 @@
 pub mod Parts
 pub mod Layout
 pub mod Updates
-pub mod Changes
 pub mod Reading
 pub mod Sound
 pub mod Steps
 pub mod Given
 pub mod Reply
 pub mod Started
+pub mod Changes
 pub mod Lend
 pub mod Reset

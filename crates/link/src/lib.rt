@@ -7,8 +7,10 @@ ghost use Rattle.link.specs.Updates.{movedTo, grantedIn};
 pub mod credit;
 mod fresh;
 pub mod flows; // the flows of a state
+pub mod lend;
 pub mod reply; // what a request comes to
 pub mod request;
+pub mod reset;
 pub mod tick;
 
 use calls::Answer;

@@ -1,0 +1,29 @@
+-- `link::Link::lend` meets its contract. Assumes nothing.
+use Rattle.link.specs.Given.{StateIn}
+use Rattle.link.proofs.Given.{state-in}
+use borrow.Author.Needs.{needs}
+use Rattle.link.proofs.Link.lend.Statement.{statement}
+use Rattle.link.proofs.Link.lend.Tie as tie
+
+-- what is given of the state
+in-at : (c : tie.After-window) → let l = c .before .before .before .args .t1 in StateIn (l .plan) (l .plan .count) (c .window .result) (l .state)
+in-at c = state-in (c .before .before .before .pre) (c .window .ensures .0) (c .window .ensures .1)
+
+element-copy-out-cp : tie.Need-element-copy-out-cp
+element-copy-out-cp c = search needs
+
+cast-window : tie.Need-cast-window
+cast-window c = search needs
+
+window-requires : tie.Need-window-requires
+window-requires c κs = search needs
+
+lend-requires : tie.Need-lend-requires
+lend-requires c κs = in-at (c .before)
+
+returns : tie.Need-returns
+returns c = search needs
+
+pub lend-spec : {M : Type 1} → statement M
+lend-spec =
+    tie.close (tie.spec element-copy-out-cp cast-window window-requires lend-requires returns)
