@@ -28,3 +28,5 @@ mod LeavingHeads
 mod FrameChanges
 pub mod Ticks
 mod StateTicks
+pub mod GrantedPositions
+pub mod Demand3

@@ -10,3 +10,5 @@ pub mod Started
 pub mod Changes
 pub mod Lend
 pub mod Reset
+pub mod Bursts
+pub mod Handed
