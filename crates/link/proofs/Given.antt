@@ -55,16 +55,6 @@ unfolding linkOf
 at-hand s is v = record { sound = s; plan-is = refl; window-is = is; proper = v }
 
 module _ {l : Parts} {plan : Plan} {w : Window} (a : AtHand l plan w) {l′ : Parts} (s : Sound l′) (same : l′ .plan ≡ l .plan) where
-  -- after a request or a credit
-  pub at-hand-still : l′ .cp ≡ l .cp → AtHand l′ plan w
-  unfolding linkOf
-  at-hand-still e = record {
-    sound = s;
-    plan-is = a .plan-is ∙ sym same;
-    window-is = a .window-is ∙ (λ k. windowFor (sym same k) (sym e k));
-    proper = a .proper;
-  }
-
   -- after a tick
   pub at-hand-ticked : {on : Window} → Ticked w on → l′ .cp ≡ on .current → AtHand l′ plan on
   unfolding linkOf
