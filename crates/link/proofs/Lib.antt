@@ -3,21 +3,30 @@ mod Plans
 pub mod Readings
 mod Updated
 pub mod Stored
+mod FlowBytes
+mod StateParts
+mod FlowLoops
 -- the calls
-mod StartedFlows
-mod FreshLinks
-mod Masks
-mod Takers
 mod Words
 mod Searches
+mod Lefts
 pub mod Given
 mod Replies
 pub mod Requests
-pub mod GrantedPositions
+mod StateRequests
 pub mod Credits
+pub mod Stays
+mod StartedFlows
+mod FreshLinks
+mod StateFresh
+mod Masks
+mod Takers
 pub mod Lends
 mod Resets
-pub mod LeavingHeads
+mod StateLends
+mod LeavingHeads
 mod FrameChanges
 pub mod Ticks
+mod StateTicks
+pub mod Told
 pub mod Demand3
