@@ -24,8 +24,8 @@ use Rattle.model.specs.Request.{request}
 use Rattle.model.specs.Burst as paper
 use Rattle.model.specs.Burst.{filled, inFront, inOrder, burst}
 use Rattle.link.specs.declared.Link.{Link}
-use Rattle.link.specs.Reading.{linkOf}
-use Rattle.link.specs.Sound.{Sound}
+use Rattle.link.specs.Steps.{readOf}
+use Rattle.link.specs.Sound.{SoundLink}
 use Rattle.link.specs.Bursts.{Bursted}
 use Rattle.link.proofs.Link as L
 use Rattle.link.proofs.Link.Laws as L′
@@ -101,10 +101,10 @@ pub record Turn (l : Link) (xs : List Ask) (n : ℕ) : Type 0 where
   pub last : Link
   pub cur : List Ask
   pub ok : Is L.the-row last (link-vals last)
-  pub sound : Sound last
+  pub sound : SoundLink last
   pub within : i ≤ n
   pub long : length cur ≡ length xs
-  pub comes : onward i (n - i) (linkOf last) (asksOf cur) ≡ upTo n (linkOf l) (asksOf xs)
+  pub comes : onward i (n - i) (readOf last) (asksOf cur) ≡ upTo n (readOf l) (asksOf xs)
 
 one-more : (i : ℕ) → i + 1 ≡ suc i
 one-more i = omega arith
@@ -128,7 +128,7 @@ module _ {l : Link} {xs : List Ask} {n : ℕ} where
   asked t = getD (t .cur) (t .i) none
 
   abbrev pub FilledBy : Turn l xs n → Filled → Type 0
-  FilledBy t u = Fills (request (linkOf (t .last)) (asked t .word)) u
+  FilledBy t u = Fills (request (readOf (t .last)) (asked t .word)) u
 
   abbrev pub put : Turn l xs n → Filled → Ask
   put t u = record { word = asked t .word; result = u .result; position = u .position }
@@ -138,12 +138,12 @@ module _ {l : Link} {xs : List Ask} {n : ℕ} where
   here t more fits = subst (λ (m : ℕ). t .i < m) (sym (t .long)) (omega (arith, more, fits))
 
   pub turned : (t : Turn l xs n) (u : Filled) → FilledBy t u → t .i < n → n ≤ length xs
-      → onward (t .i + 1) (n - (t .i + 1)) (linkOf (u .link)) (asksOf (set (t .cur) (t .i) (put t u))) ≡ upTo n (linkOf l) (asksOf xs)
+      → onward (t .i + 1) (n - (t .i + 1)) (readOf (u .link)) (asksOf (set (t .cur) (t .i) (put t u))) ≡ upTo n (readOf l) (asksOf xs)
   turned t u is more fits =
-      ap (λ (j : ℕ). onward j left (linkOf (u .link)) (asksOf after)) (one-more (t .i))
+      ap (λ (j : ℕ). onward j left (readOf (u .link)) (asksOf after)) (one-more (t .i))
       ∙ ap (λ (m : model.Link). onward (suc (t .i)) left m (asksOf after)) (is .link-is)
-      ∙ onward-turns (t .i) left (linkOf (t .last)) (t .cur) none (put t u) (here t more fits) shown
-      ∙ ap (λ (k : ℕ). onward (t .i) k (linkOf (t .last)) (asksOf (t .cur))) (one-less n (t .i) more)
+      ∙ onward-turns (t .i) left (readOf (t .last)) (t .cur) none (put t u) (here t more fits) shown
+      ∙ ap (λ (k : ℕ). onward (t .i) k (readOf (t .last)) (asksOf (t .cur))) (one-less n (t .i) more)
       ∙ t .comes
     where
       left : ℕ
@@ -152,7 +152,7 @@ module _ {l : Link} {xs : List Ask} {n : ℕ} where
       after : List Ask
       after = set (t .cur) (t .i) (put t u)
 
-      shown : askOf (put t u) ≡ filled (askOf (asked t)) (request (linkOf (t .last)) (asked t .word) .answer)
+      shown : askOf (put t u) ≡ filled (askOf (asked t)) (request (readOf (t .last)) (asked t .word) .answer)
       shown = λ k. record { word = asked t .word; result = is .result-is k; position = is .position-is k }
 
   abbrev pub next : (t : Turn l xs n) (u : Filled) → FilledBy t u → t .i < n → n ≤ length xs → Is L.the-row (u .link) (link-vals (u .link)) → Turn l xs n
@@ -168,15 +168,15 @@ module _ {l : Link} {xs : List Ask} {n : ℕ} where
   }
 
   -- where the loop is left, the link and the records are those of the burst
-  pub done : (t : Turn l xs n) → n ≤ t .i → Counts (length xs) n → Bursted (burst (linkOf l) (asksOf xs)) (t .last) (asksOf (t .cur))
+  pub done : (t : Turn l xs n) → n ≤ t .i → Counts (length xs) n → Bursted (burst (readOf l) (asksOf xs)) (t .last) (asksOf (t .cur))
   done t over counts = record { link-is = ap (λ (b : paper.Burst). b .link) whole; records-are = ap (λ (b : paper.Burst). b .records) whole; sound = t .sound }
     where
-      whole : record { link = linkOf (t .last); records = asksOf (t .cur) } ≡ burst (linkOf l) (asksOf xs)
+      whole : record { link = readOf (t .last); records = asksOf (t .cur) } ≡ burst (readOf l) (asksOf xs)
       whole =
-          sym (onward-ends (t .i) (linkOf (t .last)) (asksOf (t .cur)))
-          ∙ ap (λ (k : ℕ). onward (t .i) k (linkOf (t .last)) (asksOf (t .cur))) (none-left n (t .i) over)
+          sym (onward-ends (t .i) (readOf (t .last)) (asksOf (t .cur)))
+          ∙ ap (λ (k : ℕ). onward (t .i) k (readOf (t .last)) (asksOf (t .cur))) (none-left n (t .i) over)
           ∙ t .comes
-          ∙ enough n (linkOf l) (asksOf xs) (subst (λ (m : ℕ). Counts m n) (sym (length-map xs askOf)) counts)
+          ∙ enough n (readOf l) (asksOf xs) (subst (λ (m : ℕ). Counts m n) (sym (length-map xs askOf)) counts)
 
   abbrev pub Nearer : Turn l xs n → Turn l xs n → Type 0
   Nearer u t = n - u .i < n - t .i
@@ -188,7 +188,7 @@ module _ {l : Link} {xs : List Ask} {n : ℕ} where
   nearer t more = omega (arith, more)
 
 -- the loop begins
-abbrev pub start : (l : Link) (xs : List Ask) (n : ℕ) → Is L.the-row l (link-vals l) → Sound l → Turn l xs n
+abbrev pub start : (l : Link) (xs : List Ask) (n : ℕ) → Is L.the-row l (link-vals l) → SoundLink l → Turn l xs n
 start l xs n ok sound = record {
   i = 0;
   last = l;
@@ -197,7 +197,7 @@ start l xs n ok sound = record {
   sound = sound;
   within = omega arith;
   long = refl;
-  comes = ap (λ (k : ℕ). upTo k (linkOf l) (asksOf xs)) (all-left n);
+  comes = ap (λ (k : ℕ). upTo k (readOf l) (asksOf xs)) (all-left n);
 }
 
 -- ---- the first records of an array
@@ -217,10 +217,10 @@ asks-both [] ys = refl
 asks-both (x ∷ xs) ys = ap (λ (zs : List paper.Ask). askOf x ∷ zs) (asks-both xs ys)
 
 -- a burst of the first k, and the others behind them
-pub front-handled : (k : ℕ) (l r : Link) (xs ys : List Ask) → Bursted (burst (linkOf l) (asksOf (take k xs))) r (asksOf ys)
-    → Bursted (burstOfFirst k (linkOf l) (asksOf xs)) r (asksOf (ys ++ drop k xs))
+pub front-handled : (k : ℕ) (l r : Link) (xs ys : List Ask) → Bursted (burst (readOf l) (asksOf (take k xs))) r (asksOf ys)
+    → Bursted (burstOfFirst k (readOf l) (asksOf xs)) r (asksOf (ys ++ drop k xs))
 front-handled k l r xs ys b = record {
-  link-is = b .link-is ∙ ap (λ (zs : List paper.Ask). burst (linkOf l) zs .link) (asks-front k xs);
-  records-are = asks-both ys (drop k xs) ∙ (λ i. (b .records-are ∙ ap (λ (zs : List paper.Ask). burst (linkOf l) zs .records) (asks-front k xs)) i ++ asks-rest k xs i);
+  link-is = b .link-is ∙ ap (λ (zs : List paper.Ask). burst (readOf l) zs .link) (asks-front k xs);
+  records-are = asks-both ys (drop k xs) ∙ (λ i. (b .records-are ∙ ap (λ (zs : List paper.Ask). burst (readOf l) zs .records) (asks-front k xs)) i ++ asks-rest k xs i);
   sound = b .sound;
 }

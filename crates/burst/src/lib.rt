@@ -3,8 +3,8 @@ ghost use mathlib.Core.Path.{_≡_};
 ghost use Prim.Native.Nat.{_≤_, min};
 ghost use Rattle.model.specs.Burst as model;
 ghost use Rattle.model.specs.Request as request;
-ghost use Rattle.link.specs.Reading.{linkOf};
-ghost use Rattle.link.specs.Sound.{Sound};
+ghost use Rattle.link.specs.Steps.{readOf};
+ghost use Rattle.link.specs.Sound.{SoundLink};
 ghost use Rattle.link.specs.Bursts.{Bursted};
 ghost use Rattle.burst.specs.Reading.{asksOf, resultIn, positionIn};
 ghost use Rattle.burst.specs.Fills.{Fills};
@@ -49,8 +49,8 @@ fn position(answer: Answer) -> u8
 
 // A word's request, on a link.
 fn fill(link: Link, word: u32) -> Filled
-    requires { ⌜ Sound link ⌝ }
-    ensures { λ r. ⌜ Fills (request.request (linkOf link) word) r ⌝ }
+    requires { ⌜ SoundLink link ⌝ }
+    ensures { λ r. ⌜ Fills (request.request (readOf link) word) r ⌝ }
 {
     let step = link.request(word);
     let answer = step.answer;
@@ -71,8 +71,8 @@ fn handled(n: usize) -> usize
 
 // The requests of the first 16 records, in order: their answers are filled in, and all else of the slice stays.
 pub fn burst(link: Link, records: &mut [Ask]) -> Link
-    requires { ⌜ Sound link ⌝ }
-    ensures { λ r. ⌜ Bursted (model.burst (linkOf link) (asksOf (now (records .entry)))) r (asksOf (now (records .exit))) ⌝ }
+    requires { ⌜ SoundLink link ⌝ }
+    ensures { λ r. ⌜ Bursted (model.burst (readOf link) (asksOf (now (records .entry)))) r (asksOf (now (records .exit))) ⌝ }
 {
     let mut last = link;
     let n = handled(records.len());
@@ -95,8 +95,8 @@ pub struct HandedBack {
 }
 
 fn lend_first(link: Link, records: [Ask; 20], count: usize) -> HandedBack
-    requires { ⌜ Sound link × (count ≤ 20) ⌝ }
-    ensures { λ r. ⌜ Bursted (burstOfFirst count (linkOf link) (asksOf records)) (r .link) (asksOf (r .records)) ⌝ }
+    requires { ⌜ SoundLink link × (count ≤ 20) ⌝ }
+    ensures { λ r. ⌜ Bursted (burstOfFirst count (readOf link) (asksOf records)) (r .link) (asksOf (r .records)) ⌝ }
 {
     let mut rs = records;
     let last = burst(link, &mut rs[..count]);
@@ -108,8 +108,8 @@ fn lend_first(link: Link, records: [Ask; 20], count: usize) -> HandedBack
 
 // A burst of the first records of an array, at most 20. No reference stands in the signature.
 pub fn burst_first(link: Link, records: [Ask; 20], count: usize) -> HandedBack
-    requires { ⌜ Sound link ⌝ }
-    ensures { λ r. ⌜ Bursted (burstOfFirst (min count 20) (linkOf link) (asksOf records)) (r .link) (asksOf (r .records)) ⌝ }
+    requires { ⌜ SoundLink link ⌝ }
+    ensures { λ r. ⌜ Bursted (burstOfFirst (min count 20) (readOf link) (asksOf records)) (r .link) (asksOf (r .records)) ⌝ }
 {
     lend_first(link, records, smaller(count, 20))
 }

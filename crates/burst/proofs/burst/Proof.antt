@@ -56,8 +56,8 @@ use denote.Signature.{plain}
 use Rattle.model.specs.Request.{request}
 use Rattle.model.specs.Burst as model
 use Rattle.link.specs.declared.Link.{Link}
-use Rattle.link.specs.Reading.{linkOf}
-use Rattle.link.specs.Sound.{Sound}
+use Rattle.link.specs.Steps.{readOf}
+use Rattle.link.specs.Sound.{SoundLink}
 use Rattle.link.specs.Bursts.{Bursted}
 use Rattle.burst.specs.declared.Ask.{Ask}
 use Rattle.burst.specs.declared.Filled.{Filled}
@@ -108,8 +108,8 @@ module _ {M : Type 1} (𝓤 : URA M) (H : Heap 𝓤) (A : Atoms 𝓤) (mem : Mem
   handled-of : (m n : ℕ) → ent 𝓤 (ensured 𝓤 H A handled.ended (handled.clauses 𝓤 H A mem run) tt (m, tt) tt n) (fact 𝓤 (n ≡ min m 16))
   handled-of m n = exE 𝓤 _ (λ ws. snd∗ 𝓤 (sem 𝓤 H A (lasts handled.ended tt (m, tt) ws)) (fact 𝓤 (n ≡ min m 16)))
 
-  fill-of : (s : Link) (w : ℕ) (r : Filled) → ent 𝓤 (ensured 𝓤 H A fill.ended (fill.clauses 𝓤 H A mem run) tt (s, (w, tt)) tt r) (fact 𝓤 (Fills (request (linkOf s) w) r))
-  fill-of s w r = exE 𝓤 _ (λ ws. snd∗ 𝓤 (sem 𝓤 H A (lasts fill.ended tt (s, (w, tt)) ws)) (fact 𝓤 (Fills (request (linkOf s) w) r)))
+  fill-of : (s : Link) (w : ℕ) (r : Filled) → ent 𝓤 (ensured 𝓤 H A fill.ended (fill.clauses 𝓤 H A mem run) tt (s, (w, tt)) tt r) (fact 𝓤 (Fills (request (readOf s) w) r))
+  fill-of s w r = exE 𝓤 _ (λ ws. snd∗ 𝓤 (sem 𝓤 H A (lasts fill.ended tt (s, (w, tt)) ws)) (fact 𝓤 (Fills (request (readOf s) w) r)))
 
   -- what each callee's triple binds outside, and that what it asks is had for nothing
   abbrev to-handled : ℕ → Handled .Ghost
@@ -122,14 +122,14 @@ module _ {M : Type 1} (𝓤 : URA M) (H : Heap 𝓤) (A : Atoms 𝓤) (mem : Mem
     goes-handled : (m : ℕ) → m < 2 ^ 64 → ent 𝓤 (emp 𝓤) (Handled .pre (to-handled m))
     goes-handled m fits = qed W [] ∵ nothing ! $ owned ! usize (Is usize) (uint-makes 𝓤 H A W w64) m _ (refl, fits) $ fjoin ! $ nothing ! $ join ! $ nothing ! $ move ! (1 ∷ 0 ∷ []) $ join ! $ done !
 
-    goes-fill : (s : Link) (w : ℕ) → Is L.the-row s (link-vals s) → Sound s → w < 2 ^ 32 → ent 𝓤 (emp 𝓤) (Fill .pre (to-fill s w))
+    goes-fill : (s : Link) (w : ℕ) → Is L.the-row s (link-vals s) → SoundLink s → w < 2 ^ 32 → ent 𝓤 (emp 𝓤) (Fill .pre (to-fill s w))
     goes-fill s w ok sound fits =
         qed W [] ∵ says ! sound $ nothing ! $ owned ! u32 (Is u32) (uint-makes 𝓤 H A W w32) w _ (refl, fits) $ fjoin ! $ owned ! L.the-row (Is L.the-row) (LL.makes L.the-type L′.the-plain 𝓤 H A) s _ ok $ fjoin ! $
         nothing ! $ join ! $ done !
 
 -- ---- the walk, at a state s and a slice of the records xs that lies at (b, o)
 module _ {M : Type 1} (𝓤 : URA M) (H : Heap 𝓤) (A : Atoms 𝓤) (W : Given 𝓤 H A) (mem : Memory → SProp 𝓤) (run : Routine → Fun 𝓤) (κ : Lft) (q : Share) (s : Link) (b o : ℕ) (γ : GName) (xs : List Ask)
-    (ok : Is L.the-row s (link-vals s)) (sound : Sound s) (room : Room Q.the-row (length xs)) where
+    (ok : Is L.the-row s (link-vals s)) (sound : SoundLink s) (room : Room Q.the-row (length xs)) where
   -- the borrow at the list ys, and its machine value
   abbrev x : List Ask → RefT (List Ask)
   x ys = record { ptr = (b, o); name = γ; now = ys }
@@ -157,7 +157,7 @@ module _ {M : Type 1} (𝓤 : URA M) (H : Heap 𝓤) (A : Atoms 𝓤) (W : Given
   typed : (st : Link) → Is L.the-row st (link-vals st) → Holds (hasTy L′.mir (link-val st)) × WT (link-val st)
   typed st good = LL.lawful L.the-type L′.the-laws 𝓤 H A W .typed st _ good .0
 
-  exits : (st : Link) (ys : List Ask) → Is L.the-row st (link-vals st) → length ys ≡ length xs → Bursted (model.burst (linkOf s) (asksOf xs)) st (asksOf ys) → ent 𝓤 (⋆ 𝓤 H A (‵ (obs ys) ∷ ‵ (fbor κ (Held Q.the-row (length ys) b o γ)) ∷ ‵ (flft κ q) ∷ [])) (Post (link-val st))
+  exits : (st : Link) (ys : List Ask) → Is L.the-row st (link-vals st) → length ys ≡ length xs → Bursted (model.burst (readOf s) (asksOf xs)) st (asksOf ys) → ent 𝓤 (⋆ 𝓤 H A (‵ (obs ys) ∷ ‵ (fbor κ (Held Q.the-row (length ys) b o γ)) ∷ ‵ (flft κ q) ∷ [])) (Post (link-val st))
   exits st ys good long e =
       qed W (‵ (obs ys) ∷ ‵ (fbor κ (Held Q.the-row (length ys) b o γ)) ∷ ‵ (flft κ q) ∷ []) ∵
       suffices ! _ (ends-at 𝓤 H A burst.ended stayed (burst.clauses 𝓤 H A mem run) W (((κ, tt), (q, tt), tt, a, vals), tt) (link-val st) st (tt, (ys, tt)) (tt, (long, tt))) $
@@ -301,7 +301,7 @@ module _ {M : Type 1} (𝓤 : URA M) (H : Heap 𝓤) (A : Atoms 𝓤) (W : Given
   burst-walks : Walks 𝓤 H A burst.ended stayed (WpFn 𝓤 H (𝓣 .C) (𝓣 .Λ) code.function) (burst.clauses 𝓤 H A mem run)
   burst-walks = walked 𝓤 H A burst.ended stayed (burst.clauses 𝓤 H A mem run) (WpFn 𝓤 H (𝓣 .C) (𝓣 .Λ) code.function)
       (λ κs. (link-vals, (slice-vals, tt))) (λ κs. (LL.tells L.the-type L′.the-laws, (mut-slice-tells (named 0) (κs .0) Q.the-row, tt)))
-      (λ κs qs bounds a g are. needs 𝓤 (Sound (a .0)) _ (λ sound.
+      (λ κs qs bounds a g are. needs 𝓤 (SoundLink (a .0)) _ (λ sound.
       walk 𝓤 H A W mem run (κs .0) (qs .0) (a .0) (a .1 .0 .ptr .0) (a .1 .0 .ptr .1) (a .1 .0 .name) (a .1 .0 .now) (are .0) sound (are .1 .0 .0 .1) 𝓣 known-handled known-fill))
 
   burst-meets : Meets 𝓤 H A burst.signature (WpFn 𝓤 H (𝓣 .C) (𝓣 .Λ) code.function) (burst.spec 𝓤 H A mem run)

@@ -7,7 +7,8 @@ use Rattle.calls.specs.Reading.{answerToRequest}
 use Rattle.model.specs.Calls.{Grant, accepted, refused}
 use Rattle.model.specs.Request.{request}
 use Rattle.model.specs.Burst.{resultOf, positionOf}
-use Rattle.link.specs.Reading.{linkOf}
+use Rattle.link.specs.Parts.{partsOf}
+use Rattle.link.specs.Steps.{readOf}
 use Rattle.link.proofs.GrantedPositions.{position-small}
 use Rattle.burst.specs.Reading.{resultIn, positionIn}
 use Rattle.burst.proofs.fill.Statement.{statement}
@@ -37,8 +38,8 @@ returns c =
     let asked = filled .before .before in
     let entered = asked .before in
     let stepped = asked .request .ensures in
-    let a = request (linkOf (entered .args .link)) (entered .args .word) .answer in
-    let small = position-small (entered .args .link) (entered .pre) (entered .args .word) in
+    let a = request (readOf (entered .args .link)) (entered .args .word) .answer in
+    let small = position-small (partsOf (entered .args .link)) (entered .pre .parts) (entered .args .word) in
     record {
       link-is = stepped .link-is;
       result-is = filled .result .ensures ∙ ap resultIn (stepped .answer-is) ∙ result-read a;
