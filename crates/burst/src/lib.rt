@@ -2,8 +2,9 @@
 ghost use mathlib.Core.Path.{_≡_};
 ghost use Prim.Native.Nat.{_≤_, min};
 ghost use Rattle.model.specs.Burst as model;
-ghost use Rattle.model.specs.Request as request;
-ghost use Rattle.link.specs.Steps.{readOf};
+ghost use Rattle.model.specs.Request as paper;
+ghost use Rattle.link.specs.Steps.{readIn, readOf};
+ghost use Rattle.link.specs.Given.{StateIn};
 ghost use Rattle.link.specs.Sound.{SoundLink};
 ghost use Rattle.link.specs.Bursts.{Bursted};
 ghost use Rattle.burst.specs.Reading.{asksOf, resultIn, positionIn};
@@ -11,7 +12,14 @@ ghost use Rattle.burst.specs.Fills.{Fills};
 ghost use Rattle.burst.specs.First.{burstOfFirst};
 use calls::Answer;
 use link::Link;
+use link::request::asker;
+use link::request::request;
+use plan::Plan;
+use state::CURRENT;
+use state::State;
+use window::Window;
 use window::numbers::smaller;
+use window::positions::window;
 
 // A word, and what its request comes to: 0 and the position granted, or the refusal and 0.
 pub struct Ask {
@@ -20,9 +28,8 @@ pub struct Ask {
     pub position: u8,
 }
 
-// A link after a request, and what stands in its record then.
+// What a request puts in its record.
 struct Filled {
-    link: Link,
     result: u8,
     position: u8,
 }
@@ -47,16 +54,25 @@ fn position(answer: Answer) -> u8
     }
 }
 
-// A word's request, on a link.
-fn fill(link: Link, word: u32) -> Filled
+// The window of a link.
+fn window_of(link: Link) -> Window
     requires { ⌜ SoundLink link ⌝ }
-    ensures { λ r. ⌜ Fills (request.request (readOf link) word) r ⌝ }
+    ensures { λ r. ⌜ StateIn (link .plan) (link .plan .count) r (link .state) ⌝ }
 {
-    let step = link.request(word);
-    let answer = step.answer;
-    let link = step.link;
+    let plan = link.plan;
+    let cp = link.state[CURRENT];
+    window(plan.slots, plan.frames, cp as usize)
+}
+
+// A word's request, on a state of a plan in its window.
+fn fill(s: &mut State, plan: Plan, w: Window, word: u32) -> Filled
+    requires { ⌜ StateIn plan (plan .count) w (now s) ⌝ }
+    ensures { λ r. ⌜ Fills (paper.request (readIn plan (now (s .entry))) word) plan w (now (s .exit)) r ⌝ }
+{
+    let i = asker(plan.count, word);
+    let e = plan.entries[i];
+    let answer = request(s, plan.count, e, w, 255, i, word);
     Filled {
-        link,
         result: result(answer),
         position: position(answer),
     }
@@ -74,15 +90,16 @@ pub fn burst(link: Link, records: &mut [Ask]) -> Link
     requires { ⌜ SoundLink link ⌝ }
     ensures { λ r. ⌜ Bursted (model.burst (readOf link) (asksOf (now (records .entry)))) r (asksOf (now (records .exit))) ⌝ }
 {
+    let plan = link.plan;
+    let w = window_of(link);
     let mut last = link;
     let n = handled(records.len());
     let mut i = 0;
     while i < n {
         let r = &mut records[i];
-        let filled = fill(last, r.word);
+        let filled = fill(&mut last.state, plan, w, r.word);
         r.result = filled.result;
         r.position = filled.position;
-        last = filled.link;
         i = i + 1;
     }
     last

@@ -54,7 +54,8 @@ use Rattle.burst.specs.declared.Ask.{Ask}
 use Rattle.burst.specs.Reading.{asksOf}
 use Rattle.burst.specs.First.{burstOfFirst}
 use Rattle.burst.proofs.Locals.{into, value}
-use Rattle.burst.proofs.Turns.{link-vals, front-handled}
+use Rattle.burst.proofs.Turns.{front-handled}
+use Rattle.burst.proofs.Values.{link-vals}
 use Rattle.burst.proofs.Front.{front, Kept, lends-front, comes-front}
 use Rattle.burst.proofs.Ask as Q
 use Rattle.burst.proofs.Ask.Laws as Q′
