@@ -1,8 +1,8 @@
 -- `burst::burst` meets its contract: a walk of its MIR, by hand. All that it knows of `window_of`, `handled` and `fill` is that each meets its contract.
---     WindowOf, Handled, Fill    the contracts that it cites; `goes-…`, that what each asks is had; `…-of`, what each ensures
+--     WindowOf, Handled, Fill    the contracts that it cites; `goes-…`, that what each asks is had; `…-of`, what it ensures
 --     exits            from what is had at exit to the `post` of `walkOf`
 --     At t             the loop's invariant, at the variables t (`Turns.antt`'s `Turn`): the slice's elements, the open borrow, and the locals
---     leaves, more     the turn that leaves the loop, with the rest of the body; and a turn that handles a record.        turns-from      the loop
+--     leaves, more     the turn that leaves the loop, with the rest of the body; and a turn that handles a record.        turns, plays      the loop
 --     walk             the MIR up to the loop
 -- The borrow is opened once, before the loop, and closed once, after it. `&mut records[i]` is a pointer to the walk: no lifetime is made for it. In each turn the link's state is lent to `fill`, for a lifetime that is made for the call (`Lent.antt`). What is pure, lists and numbers, is in `Turns.antt` and `Values.antt`.
 -- Assumes nothing.
@@ -135,17 +135,6 @@ module _ {M : Type 1} (𝓤 : URA M) (H : Heap 𝓤) (A : Atoms 𝓤) (mem : Mem
   abbrev to-handled : ℕ → Handled .Ghost
   to-handled m = ((tt, tt, tt, (m, tt), (vint w64 m ∷ [], tt)), tt)
 
-  -- the state st is lent for the lifetime ν under the name δ, and lies in the link at l
-  module _ (l : ℕ) (p : Plan) (st : List ℕ) (w : Window) (x ν : ℕ) (δ : GName) where
-    abbrev given-fill : RefT (List ℕ) × (Plan × (Window × (ℕ × Unit {0})))
-    given-fill = (lent (ν ∷ []) l p st δ, (p, (w, (x, tt))))
-
-    abbrev to-fill : Fill .Ghost
-    to-fill = (((ν ∷ [], tt), (fullShare, tt), tt, given-fill, (vptr l place ∷ [], (plan-vals p, (window-vals w, (vint w32 x ∷ [], tt))))), tt)
-
-    abbrev own-lent : Fml
-    own-lent = MutRef (named 0) (ν ∷ []) Bytes .own (lent (ν ∷ []) l p st δ) (vptr l place ∷ [])
-
   module _ (W : Given 𝓤 H A) where
     goes-window-of : (s : Link) → Is L.the-row s (link-vals s) → SoundLink s → ent 𝓤 (emp 𝓤) (WindowOf .pre (to-window-of s))
     goes-window-of s ok sound =
@@ -153,13 +142,6 @@ module _ {M : Type 1} (𝓤 : URA M) (H : Heap 𝓤) (A : Atoms 𝓤) (mem : Mem
 
     goes-handled : (m : ℕ) → m < 2 ^ 64 → ent 𝓤 (emp 𝓤) (Handled .pre (to-handled m))
     goes-handled m fits = qed W [] ∵ nothing ! $ owned ! usize (Is usize) (uint-makes 𝓤 H A W w64) m _ (refl, fits) $ fjoin ! $ nothing ! $ join ! $ nothing ! $ move ! (1 ∷ 0 ∷ []) $ join ! $ done !
-
-    goes-fill : (l : ℕ) (p : Plan) (st : List ℕ) (w : Window) (x ν : ℕ) (δ : GName) → Is G.the-row p (plan-vals p) → Is N.the-row w (window-vals w) → StateIn p (p .count) w st → x < 2 ^ 32
-        → ent 𝓤 (sep 𝓤 (A .lft (ν ∷ []) fullShare) (sem 𝓤 H A (own-lent l p st w x ν δ))) (Fill .pre (to-fill l p st w x ν δ))
-    goes-fill l p st w x ν δ plan-ok window-ok hand fits =
-        qed W (‵ (flft (ν ∷ []) fullShare) ∷ ‵ (own-lent l p st w x ν δ) ∷ []) ∵ says ! hand $ nothing ! $ move ! (1 ∷ 0 ∷ []) $ join ! $
-        nothing ! $ owned ! u32 (Is u32) (uint-makes 𝓤 H A W w32) x _ (refl, fits) $ fjoin ! $ owned ! N.the-row (Is N.the-row) (LL.makes N.the-type N′.the-plain 𝓤 H A) w _ window-ok $ fjoin ! $
-        owned ! G.the-row (Is G.the-row) (LL.makes G.the-type G′.the-plain 𝓤 H A) p _ plan-ok $ fjoin ! $ move ! (2 ∷ 0 ∷ []) $ fjoin ! $ move ! (1 ∷ 0 ∷ []) $ join ! $ done !
 
 -- ---- the walk, at a state s and a slice of the records xs that lies at (b, o)
 module _ {M : Type 1} (𝓤 : URA M) (H : Heap 𝓤) (A : Atoms 𝓤) (W : Given 𝓤 H A) (mem : Memory → SProp 𝓤) (run : Routine → Fun 𝓤) (κ : Lft) (q : Share) (s : Link) (b o : ℕ) (γ : GName) (xs : List Ask)
@@ -264,12 +246,23 @@ module _ {M : Type 1} (𝓤 : URA M) (H : Heap 𝓤) (A : Atoms 𝓤) (W : Given
         free1 ! $ free1 ! $ free1 ! $ free1 ! $ free1 ! $ free1 ! $ free1 ! $ free1 ! $ free1 ! $ free1 ! $ free1 ! $ free1 ! $ free1 ! $ free1 ! $ free1 ! $ free1 ! $ free0 ! $
         by ! (exits (last t) (t .cur) (last-ok t) (t .long) (P.done t over counts))
 
-    -- what `fill` is given in a turn, with the state lent for ν under δ
-    abbrev with-fill : (t : Turn s w xs n) (ν : ℕ) (δ : GName) → RefT (List ℕ) × (Plan × (Window × (ℕ × Unit {0})))
-    with-fill t ν δ = given-fill 𝓤 H A mem run l₅ (s .plan) (t .state) w (asked t .word) ν δ
+    -- a turn's call of `fill`, with the state lent for the lifetime ν under the name δ: what it is given, what its triple binds outside, and that what it asks is had
+    module _ (t : Turn s w xs n) (ν : ℕ) (δ : GName) where
+      abbrev given-fill : RefT (List ℕ) × (Plan × (Window × (ℕ × Unit {0})))
+      given-fill = (lent (ν ∷ []) l₅ (s .plan) (t .state) δ, (s .plan, (w, (asked t .word, tt))))
 
-    abbrev to : (t : Turn s w xs n) (ν : ℕ) (δ : GName) → Fill 𝓤 H A mem run .Ghost
-    to t ν δ = to-fill 𝓤 H A mem run l₅ (s .plan) (t .state) w (asked t .word) ν δ
+      abbrev to-fill : Fill 𝓤 H A mem run .Ghost
+      to-fill = (((ν ∷ [], tt), (fullShare, tt), tt, given-fill, (vptr l₅ place ∷ [], (plan-vals (s .plan), (window-vals w, (vint w32 (asked t .word) ∷ [], tt))))), tt)
+
+      abbrev own-lent : Fml
+      own-lent = MutRef (named 0) (ν ∷ []) Bytes .own (given-fill .0) (vptr l₅ place ∷ [])
+
+      goes-fill : asked t .word < 2 ^ 32 → ent 𝓤 (sep 𝓤 (A .lft (ν ∷ []) fullShare) (sem 𝓤 H A own-lent)) (Fill 𝓤 H A mem run .pre to-fill)
+      goes-fill fits =
+          qed W (‵ (flft (ν ∷ []) fullShare) ∷ ‵ own-lent ∷ []) ∵ says ! (t .hand) $ nothing ! $ move ! (1 ∷ 0 ∷ []) $ join ! $ nothing ! $
+          owned ! u32 (Is u32) (uint-makes 𝓤 H A W w32) (asked t .word) _ (refl, fits) $ fjoin ! $
+          owned ! N.the-row (Is N.the-row) (LL.makes N.the-type N′.the-plain 𝓤 H A) w _ w-ok $ fjoin ! $
+          owned ! G.the-row (Is G.the-row) (LL.makes G.the-type G′.the-plain 𝓤 H A) (s .plan) _ (plan-of s ok) $ fjoin ! $ move ! (2 ∷ 0 ∷ []) $ fjoin ! $ move ! (1 ∷ 0 ∷ []) $ join ! $ done !
 
     -- a turn that handles one record
     more : (t : Turn s w xs n) → t .i < n → Sq W (At t) (runs C Λ En mir′.turn-1 (anyQ (Turned t)))
@@ -288,13 +281,13 @@ module _ {M : Type 1} (𝓤 : URA M) (H : Heap 𝓤) (A : Atoms 𝓤) (W : Given
         assigns ! (of-opd ! (load ! (from ! (hop ! (look ! 20 refl) (fld ! refl (stop !)))) (look-in ! 0 (sub ! 0 refl (whole !))))) (into !) (init ! 6 refl (tt, record { fits = word-fits is })) $
         -- the state is lent, for a lifetime ν of the call
         move ! (5 ∷ []) $ lft-new ! tt (λ ν. move ! (1 ∷ []) $
-        use1 W (later (some (λ (δ : GName). ‵ (own-lent 𝓤 H A mem run l₅ (s .plan) (t .state) w (asked t .word) ν δ) ⊛ raw (Kept (ν ∷ []) l₅ (s .plan) 𝓤 H A δ))))
+        use1 W (later (some (λ (δ : GName). ‵ (own-lent t ν δ) ⊛ raw (Kept (ν ∷ []) l₅ (s .plan) 𝓤 H A δ))))
         (lends-state (ν ∷ []) l₅ (s .plan) 𝓤 H A W (t .state) (t .ok)) $ await ! tt $ pick ! (λ δ. split ! $ move ! (2 ∷ 0 ∷ []) $
-        use2 W (raw (Fill 𝓤 H A mem run .pre (to t ν δ))) (goes-fill 𝓤 H A mem run W l₅ (s .plan) (t .state) w (asked t .word) ν δ (plan-of s ok) w-ok (t .hand) (word-fits is)) $
+        use2 W (raw (Fill 𝓤 H A mem run .pre (to-fill t ν δ))) (goes-fill t ν δ (word-fits is)) $
         -- let filled = fill(&mut last.state, plan, w, r.word): [what it asks; what is kept of the link; records[i]; the others; the open borrow; obs; auth; _15; …; _6; …; … of _5; _4; …]
-        calls-at ! (fmOf 𝓤 H (W .laws) 𝓣) (Fill 𝓤 H A mem run) known (to t ν δ) (and-then ! (value ! 9 refl) (and-then ! (value ! 30 refl) (and-then ! (value ! 28 refl) (and-then ! (value ! 7 refl) (no-more !))))) (λ v.
-        use1 W (later (some (λ (u : Filled). ((‵ (flft (ν ∷ []) fullShare) ⊛ ‵ ftrue) ⊛ ‵ (F.the-row .own u (v ∷ []))) ⊛ raw (ensured 𝓤 H A fill.ended (fill.clauses 𝓤 H A mem run) (ν ∷ [], tt) (with-fill t ν δ) tt u)))) (id⊢ 𝓤 _) $ await ! tt $ pick ! (λ u.
-        split ! $ move ! (1 ∷ []) $ use1 W (some (λ (zs : List ℕ × (Unit {0} × (Unit {0} × (Unit {0} × Unit {0})))). ‵ (lasts fill.ended (ν ∷ [], tt) (with-fill t ν δ) zs) ⊛ raw (fact 𝓤 (FilledBy t (zs .0) u)))) (id⊢ 𝓤 _) $ pick ! (λ zs.
+        calls-at ! (fmOf 𝓤 H (W .laws) 𝓣) (Fill 𝓤 H A mem run) known (to-fill t ν δ) (and-then ! (value ! 9 refl) (and-then ! (value ! 30 refl) (and-then ! (value ! 28 refl) (and-then ! (value ! 7 refl) (no-more !))))) (λ v.
+        use1 W (later (some (λ (u : Filled). ((‵ (flft (ν ∷ []) fullShare) ⊛ ‵ ftrue) ⊛ ‵ (F.the-row .own u (v ∷ []))) ⊛ raw (ensured 𝓤 H A fill.ended (fill.clauses 𝓤 H A mem run) (ν ∷ [], tt) (given-fill t ν δ) tt u)))) (id⊢ 𝓤 _) $ await ! tt $ pick ! (λ u.
+        split ! $ move ! (1 ∷ []) $ use1 W (some (λ (zs : List ℕ × (Unit {0} × (Unit {0} × (Unit {0} × Unit {0})))). ‵ (lasts fill.ended (ν ∷ [], tt) (given-fill t ν δ) zs) ⊛ raw (fact 𝓤 (FilledBy t (zs .0) u)))) (id⊢ 𝓤 _) $ pick ! (λ zs.
         split ! $ move ! (1 ∷ []) $ heard ! (FilledBy t (zs .0) u) (λ by. fsplit ! $ move ! (2 ∷ []) $ split ! $ move ! (1 ∷ []) $ facts ! F.the-row (Is F.the-row) (shows 𝓤 H A F.the-row) u (v ∷ []) (λ out.
         -- [the token; the last state; true; what is kept; records[i]; …]
         land ! (into !) (init ! 21 refl (LL.lawful F.the-type F′.the-laws 𝓤 H A W .typed u _ out .0)) $
