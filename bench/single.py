@@ -7,8 +7,7 @@ import re
 import programs
 
 CALLS = 4096            # the proved program plays no more
-LINE = re.compile(r"^(request|burst|credit|tick|copies) +([0-9.]+) ns",
-                  re.MULTILINE)
+LINE = re.compile(r"^(request|burst|credit|tick) +([0-9.]+) ns", re.MULTILINE)
 ANSWERS = re.compile(r"^(?:answers|in bursts) ([0-9]+)$", re.MULTILINE)
 
 # Files of bursts: the words, the state of the table, and the most slots that
@@ -41,16 +40,14 @@ def measure(folder, rounds, path):
 
 
 def show_bursts(folder, rounds):
-    """Nanoseconds a word, 16 words to a burst, and singly beside it; the floor
-    is what two copies of the link take, a 16th of it for each word."""
+    """Nanoseconds a word, 16 words to a burst, and singly beside it."""
     for words, table, stride in BURSTS:
         path = programs.make(folder, words, CALLS, "--stride", stride)
         ours, theirs = measure(folder, rounds, path)
         print("16 words, %-7s %-11s burst %6.1f ns   plain Rust %6.1f ns"
-              "   ratio %6.2f   floor %6.1f ns   single requests %6.1f ns"
+              "   ratio %6.2f   single requests %6.1f ns"
               % (words, table, ours["burst"], theirs["burst"],
-                 ours["burst"] / theirs["burst"], theirs["copies"],
-                 ours["request"]))
+                 ours["burst"] / theirs["burst"], ours["request"]))
 
 
 def show(folder, rounds):

@@ -1,8 +1,7 @@
 //! Measures single calls, and requests in bursts of 16. It reads a call file
 //! from standard input, plays it from memory many times over and times each
 //! stretch of calls of one kind. The lowest time of each stretch counts, less
-//! the clock's own. Last it times two copies of a link of the proved code: a
-//! burst by value makes no fewer.
+//! the clock's own.
 
 #[allow(dead_code)]
 mod scheduler;
@@ -16,9 +15,6 @@ use std::time::{Duration, Instant};
 const REPEATS: usize = 200;
 /// Shorter stretches are played but not counted: the clock would take too much of the time.
 const SHORTEST: usize = 8;
-
-/// Bytes of a link of the proved code: its plan and its state.
-const PROVED_LINK: usize = 4584;
 
 #[derive(Clone, Copy, PartialEq, Eq)]
 enum Kind {
@@ -168,22 +164,6 @@ fn time_clock() -> Duration {
         .unwrap_or_default()
 }
 
-/// What it costs to copy a link of the proved code there and back.
-fn time_copies() -> Duration {
-    const COPIES: u32 = 64;
-    let (mut link, mut other) = ([0u8; PROVED_LINK], [1u8; PROVED_LINK]);
-    let mut lowest = Duration::MAX;
-    for _ in 0..2_000 {
-        let begin = Instant::now();
-        for _ in 0..COPIES {
-            other.copy_from_slice(black_box(&link));
-            link.copy_from_slice(black_box(&other));
-        }
-        lowest = lowest.min(begin.elapsed());
-    }
-    lowest / COPIES
-}
-
 /// Prints the nanoseconds of one call of a kind.
 fn report(
     name: &str,
@@ -249,11 +229,6 @@ fn main() -> io::Result<()> {
     println!(
         "{:8} {each:6.1} ns  ({calls} calls without the clock)",
         "any"
-    );
-    let each = time_copies().as_nanos() as f64 / MOST_ASKED as f64;
-    println!(
-        "{:8} {each:6.1} ns  (of {MOST_ASKED} words: two copies of {PROVED_LINK} bytes)",
-        "copies"
     );
     println!("answers {sum}");
     println!("in bursts {in_bursts}");
