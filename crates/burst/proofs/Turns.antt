@@ -17,20 +17,21 @@ use mathlib.Core.WellFounded.{WellFounded, InvImage·wf}
 use lib.ListN.{length, getD, set, length-set, length-map, take, drop}
 use lib.WfN.{Nat·lt-wfRel}
 use denote.Laws.{Is}
+use Rattle.model.specs.Calls.{Grant, accepted, refused}
 use Rattle.model.specs.Link as model
 use Rattle.model.specs.Request.{request}
 use Rattle.model.specs.Burst as paper
 use Rattle.model.specs.Burst.{filled, inFront, inOrder, burst}
 use Rattle.link.specs.declared.Link.{Link}
-use Rattle.link.specs.Steps.{readIn, readOf}
+use Rattle.link.specs.Steps.{readIn, readOf, Went, replyOf}
+use Rattle.link.specs.declared.request.Reply.{Reply}
 use Rattle.plan.specs.declared.Plan.{Plan}
 use Rattle.window.specs.declared.Window.{Window}
 use Rattle.link.specs.Given.{StateIn}
 use Rattle.link.specs.Bursts.{Bursted}
+use Rattle.link.proofs.Stays.{request-current, still-in}
 use Rattle.burst.specs.declared.Ask.{Ask}
-use Rattle.burst.specs.declared.Filled.{Filled}
 use Rattle.burst.specs.Reading.{askOf, asksOf}
-use Rattle.burst.specs.Fills.{Fills}
 use Rattle.burst.specs.First.{burstOfFirst}
 use Rattle.burst.proofs.Values.{Bytes, bytes-vals, linkWith}
 
@@ -96,7 +97,7 @@ pub record Turn (l : Link) (w : Window) (xs : List Ask) (n : ℕ) : Type 0 where
   pub state : List ℕ
   pub cur : List Ask
   pub ok : Is Bytes state (bytes-vals state)
-  pub hand : StateIn (l .plan) (l .plan .count) w state
+  pub hand : StateIn (l .plan) w state
   pub within : i ≤ n
   pub long : length cur ≡ length xs
   pub comes : onward i (n - i) (readIn (l .plan) state) (asksOf cur) ≡ upTo n (readOf l) (asksOf xs)
@@ -112,6 +113,11 @@ none-left n i l = omega (arith, l)
 
 pub all-left : (n : ℕ) → n - 0 ≡ n
 all-left n = omega arith
+
+-- what a request comes to is what the paper writes
+reply-fills : (x : paper.Ask) (a : Grant) → record { word = x .word; result = replyOf a .number; position = replyOf a .position } ≡ filled x a
+reply-fills x (accepted word) = refl
+reply-fills x (refused number) = refl
 
 -- a record past the end, which `getD` asks for
 abbrev pub none : Ask
@@ -129,17 +135,17 @@ module _ {l : Link} {w : Window} {xs : List Ask} {n : ℕ} where
   abbrev pub asked : Turn l w xs n → Ask
   asked t = getD (t .cur) (t .i) none
 
-  abbrev pub FilledBy : Turn l w xs n → List ℕ → Filled → Type 0
-  FilledBy t after u = Fills (request (read t) (asked t .word)) (l .plan) w after u
+  abbrev pub Replied : Turn l w xs n → List ℕ → Reply → Type 0
+  Replied t after u = Went replyOf (request (read t) (asked t .word)) (l .plan) after u
 
-  abbrev pub put : Turn l w xs n → Filled → Ask
-  put t u = record { word = asked t .word; result = u .result; position = u .position }
+  abbrev pub put : Turn l w xs n → Reply → Ask
+  put t u = record { word = asked t .word; result = u .number; position = u .position }
 
   -- the record is there
   pub here : (t : Turn l w xs n) → t .i < n → n ≤ length xs → t .i < length (t .cur)
   here t more fits = subst (λ (m : ℕ). t .i < m) (sym (t .long)) (omega (arith, more, fits))
 
-  pub turned : (t : Turn l w xs n) (after : List ℕ) (u : Filled) → FilledBy t after u → t .i < n → n ≤ length xs
+  pub turned : (t : Turn l w xs n) (after : List ℕ) (u : Reply) → Replied t after u → t .i < n → n ≤ length xs
       → onward (t .i + 1) (n - (t .i + 1)) (readIn (l .plan) after) (asksOf (set (t .cur) (t .i) (put t u))) ≡ upTo n (readOf l) (asksOf xs)
   turned t after u is more fits =
       ap (λ (j : ℕ). onward j left (readIn (l .plan) after) (asksOf cur)) (one-more (t .i))
@@ -155,15 +161,15 @@ module _ {l : Link} {w : Window} {xs : List Ask} {n : ℕ} where
       cur = set (t .cur) (t .i) (put t u)
 
       shown : askOf (put t u) ≡ filled (askOf (asked t)) (request (read t) (asked t .word) .answer)
-      shown = λ k. record { word = asked t .word; result = is .result-is k; position = is .position-is k }
+      shown = (λ k. askOf (put t (is .answer-is k))) ∙ reply-fills (askOf (asked t)) (request (read t) (asked t .word) .answer)
 
-  abbrev pub next : (t : Turn l w xs n) (after : List ℕ) (u : Filled) → FilledBy t after u → t .i < n → n ≤ length xs → Is Bytes after (bytes-vals after) → Turn l w xs n
+  abbrev pub next : (t : Turn l w xs n) (after : List ℕ) (u : Reply) → Replied t after u → t .i < n → n ≤ length xs → Is Bytes after (bytes-vals after) → Turn l w xs n
   next t after u is more fits ok = record {
     i = t .i + 1;
     state = after;
     cur = set (t .cur) (t .i) (put t u);
     ok = ok;
-    hand = is .hand;
+    hand = still-in (t .hand) is (request-current (read t) (asked t .word));
     within = omega (arith, more);
     long = length-set (t .cur) (t .i) (put t u) ∙ t .long;
     comes = turned t after u is more fits;
@@ -190,7 +196,7 @@ module _ {l : Link} {w : Window} {xs : List Ask} {n : ℕ} where
   nearer t more = omega (arith, more)
 
 -- the loop begins
-abbrev pub start : (l : Link) (w : Window) (xs : List Ask) (n : ℕ) → Is Bytes (l .state) (bytes-vals (l .state)) → StateIn (l .plan) (l .plan .count) w (l .state) → Turn l w xs n
+abbrev pub start : (l : Link) (w : Window) (xs : List Ask) (n : ℕ) → Is Bytes (l .state) (bytes-vals (l .state)) → StateIn (l .plan) w (l .state) → Turn l w xs n
 start l w xs n ok hand = record {
   i = 0;
   state = l .state;

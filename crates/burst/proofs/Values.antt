@@ -33,7 +33,7 @@ use Rattle.link.proofs.Link.Laws as L′
 -- ---- a state
 
 abbrev size : ℕ
-size = 4483
+size = 4499
 
 abbrev pub Bytes : RattleType
 Bytes = Array u8 size

@@ -3,16 +3,15 @@ ghost use mathlib.Core.Path.{_≡_};
 ghost use Prim.Native.Nat.{_≤_, min};
 ghost use Rattle.model.specs.Burst as model;
 ghost use Rattle.model.specs.Request as paper;
-ghost use Rattle.link.specs.Steps.{readIn, readOf};
+ghost use Rattle.link.specs.Steps.{readIn, readOf, Went, replyOf};
 ghost use Rattle.link.specs.Given.{StateIn};
 ghost use Rattle.link.specs.Sound.{SoundLink};
 ghost use Rattle.link.specs.Bursts.{Bursted};
-ghost use Rattle.burst.specs.Reading.{asksOf, resultIn, positionIn};
-ghost use Rattle.burst.specs.Fills.{Fills};
+ghost use Rattle.burst.specs.Reading.{asksOf};
 ghost use Rattle.burst.specs.First.{burstOfFirst};
-use calls::Answer;
 use link::Link;
-use link::request::asker;
+use link::request::Reply;
+use link::request::placed;
 use link::request::request;
 use plan::Plan;
 use state::CURRENT;
@@ -28,54 +27,25 @@ pub struct Ask {
     pub position: u8,
 }
 
-// What a request puts in its record.
-struct Filled {
-    result: u8,
-    position: u8,
-}
-
-// The result number of an answer to a request.
-fn result(answer: Answer) -> u8
-    ensures { λ r. ⌜ r ≡ resultIn answer ⌝ }
-{
-    match answer {
-        Answer::Refused(number) => number,
-        _ => 0,
-    }
-}
-
-// The position of an answer to a request.
-fn position(answer: Answer) -> u8
-    ensures { λ r. ⌜ r ≡ positionIn answer ⌝ }
-{
-    match answer {
-        Answer::Granted(word) => (word % 256) as u8,
-        _ => 0,
-    }
-}
-
 // The window of a link.
 fn window_of(link: Link) -> Window
     requires { ⌜ SoundLink link ⌝ }
-    ensures { λ r. ⌜ StateIn (link .plan) (link .plan .count) r (link .state) ⌝ }
+    ensures { λ r. ⌜ StateIn (link .plan) r (link .state) ⌝ }
 {
     let plan = link.plan;
     let cp = link.state[CURRENT];
     window(plan.slots, plan.frames, cp as usize)
 }
 
-// A word's request, on a state of a plan in its window.
-fn fill(s: &mut State, plan: Plan, w: Window, word: u32) -> Filled
-    requires { ⌜ StateIn plan (plan .count) w (now s) ⌝ }
-    ensures { λ r. ⌜ Fills (paper.request (readIn plan (now (s .entry))) word) plan w (now (s .exit)) r ⌝ }
+// What a word's request comes to, on a state of a plan in its window.
+fn reply_to(s: &mut State, plan: Plan, w: Window, word: u32) -> Reply
+    requires { ⌜ StateIn plan w (now s) ⌝ }
+    ensures { λ r. ⌜ Went replyOf (paper.request (readIn plan (now (s .entry))) word) plan (now (s .exit)) r ⌝ }
 {
-    let i = asker(plan.count, word);
+    let fields = word::split(word);
+    let i = placed(plan.count, fields.flow as usize);
     let e = plan.entries[i];
-    let answer = request(s, plan.count, e, w, 255, i, word);
-    Filled {
-        result: result(answer),
-        position: position(answer),
-    }
+    request(s, plan.count, e, w, i, fields)
 }
 
 // How many of n records a burst handles: all of them, or the first 16.
@@ -97,9 +67,9 @@ pub fn burst(link: Link, records: &mut [Ask]) -> Link
     let mut i = 0;
     while i < n {
         let r = &mut records[i];
-        let filled = fill(&mut last.state, plan, w, r.word);
-        r.result = filled.result;
-        r.position = filled.position;
+        let reply = reply_to(&mut last.state, plan, w, r.word);
+        r.result = reply.number;
+        r.position = reply.position;
         i = i + 1;
     }
     last

@@ -1,10 +1,10 @@
--- `burst::burst` meets its contract: a walk of its MIR, by hand. All that it knows of `window_of`, `handled` and `fill` is that each meets its contract.
---     WindowOf, Handled, Fill    the contracts that it cites; `goes-…`, that what each asks is had; `…-of`, what it ensures
+-- `burst::burst` meets its contract: a walk of its MIR, by hand. All that it knows of `window_of`, `handled` and `reply_to` is that each meets its contract.
+--     WindowOf, Handled, ReplyTo    the contracts that it cites; `goes-…`, that what each asks is had; `…-of`, what it ensures
 --     exits            from what is had at exit to the `post` of `walkOf`
 --     At t             the loop's invariant, at the variables t (`Turns.antt`'s `Turn`): the slice's elements, the open borrow, and the locals
 --     leaves, more     the turn that leaves the loop, with the rest of the body; and a turn that handles a record.        turns, plays      the loop
 --     walk             the MIR up to the loop
--- The borrow is opened once, before the loop, and closed once, after it. `&mut records[i]` is a pointer to the walk: no lifetime is made for it. In each turn the link's state is lent to `fill`, for a lifetime that is made for the call (`Lent.antt`). What is pure, lists and numbers, is in `Turns.antt` and `Values.antt`.
+-- The borrow is opened once, before the loop, and closed once, after it. `&mut records[i]` is a pointer to the walk: no lifetime is made for it. In each turn the link's state is lent to `reply_to`, for a lifetime that is made for the call (`Lent.antt`). What is pure, lists and numbers, is in `Turns.antt` and `Values.antt`.
 -- Assumes nothing.
 use mathlib.Core.Path.{_≡_, refl, sym, ap, subst}
 use Prim.Native.Nat.{ℕ, _+_, _*_, _≤_, _<_, _^_, min}
@@ -64,13 +64,12 @@ use Rattle.link.specs.Steps.{readIn, readOf}
 use Rattle.link.specs.Sound.{SoundLink}
 use Rattle.link.specs.Bursts.{Bursted}
 use Rattle.burst.specs.declared.Ask.{Ask}
-use Rattle.burst.specs.declared.Filled.{Filled}
+use Rattle.link.specs.declared.request.Reply.{Reply}
 use Rattle.burst.specs.Reading.{asksOf}
-use Rattle.burst.specs.Fills.{Fills}
 use Rattle.burst.proofs.Locals.{into, value}
 use Rattle.burst.proofs.Values.{Bytes, bytes, bytes-vals, plan-vals, window-vals, link-vals, held-val, held-is, plan-of, state-of, link-of}
 use Rattle.burst.proofs.Lent.{place, lent, Kept, lends-state, comes-state}
-use Rattle.burst.proofs.Turns.{counted, Turn, none, last, asked, FilledBy, put, here, next, Nearer, Nearer-wf, nearer, start}
+use Rattle.burst.proofs.Turns.{counted, Turn, none, last, asked, Replied, put, here, next, Nearer, Nearer-wf, nearer, start}
 use Rattle.burst.proofs.Turns as P
 use Rattle.burst.proofs.Ask as Q
 use Rattle.burst.proofs.Ask.Laws as Q′
@@ -80,8 +79,8 @@ use Rattle.window.proofs.Window as N
 use Rattle.window.proofs.Window.Laws as N′
 use Rattle.link.proofs.Link as L
 use Rattle.link.proofs.Link.Laws as L′
-use Rattle.burst.proofs.Filled as F
-use Rattle.burst.proofs.Filled.Laws as F′
+use Rattle.link.proofs.request.Reply as R
+use Rattle.link.proofs.request.Reply.Laws as R′
 use Rattle.burst.proofs.window_of as window-of
 use Rattle.burst.proofs.window_of.Symbol as window-of-def
 use Rattle.burst.proofs.window_of.Symbol.{name as #burst·window-of}
@@ -90,10 +89,10 @@ use Rattle.burst.proofs.handled as handled
 use Rattle.burst.proofs.handled.Symbol as handled-def
 use Rattle.burst.proofs.handled.Symbol.{name as #burst·handled}
 use Rattle.burst.proofs.handled.Met as handled-thm
-use Rattle.burst.proofs.fill as fill
-use Rattle.burst.proofs.fill.Symbol as fill-def
-use Rattle.burst.proofs.fill.Symbol.{name as #burst·fill}
-use Rattle.burst.proofs.fill.Met as fill-thm
+use Rattle.burst.proofs.reply_to as reply-to
+use Rattle.burst.proofs.reply_to.Symbol as reply-to-def
+use Rattle.burst.proofs.reply_to.Symbol.{name as #burst·reply-to}
+use Rattle.burst.proofs.reply_to.Met as reply-to-thm
 use Rattle.burst.proofs.burst.Key.{name as #burst·burst}
 use Rattle.burst.proofs.burst as burst
 use Rattle.burst.proofs.burst.Statement as stated
@@ -118,12 +117,12 @@ module _ {M : Type 1} (𝓤 : URA M) (H : Heap 𝓤) (A : Atoms 𝓤) (mem : Mem
   abbrev Handled : Contract 𝓤
   Handled = tripleOf 𝓤 H A handled.signature (handled.spec 𝓤 H A mem run)
 
-  abbrev Fill : Contract 𝓤
-  Fill = tripleOf 𝓤 H A fill.signature (fill.spec 𝓤 H A mem run)
+  abbrev ReplyTo : Contract 𝓤
+  ReplyTo = tripleOf 𝓤 H A reply-to.signature (reply-to.spec 𝓤 H A mem run)
 
   -- of a callee's `ensured`, the clause alone
-  window-of-of : (s : Link) (w : Window) → ent 𝓤 (ensured 𝓤 H A window-of.ended (window-of.clauses 𝓤 H A mem run) tt (s, tt) tt w) (fact 𝓤 (StateIn (s .plan) (s .plan .count) w (s .state)))
-  window-of-of s w = exE 𝓤 _ (λ ws. snd∗ 𝓤 (sem 𝓤 H A (lasts window-of.ended tt (s, tt) ws)) (fact 𝓤 (StateIn (s .plan) (s .plan .count) w (s .state))))
+  window-of-of : (s : Link) (w : Window) → ent 𝓤 (ensured 𝓤 H A window-of.ended (window-of.clauses 𝓤 H A mem run) tt (s, tt) tt w) (fact 𝓤 (StateIn (s .plan) w (s .state)))
+  window-of-of s w = exE 𝓤 _ (λ ws. snd∗ 𝓤 (sem 𝓤 H A (lasts window-of.ended tt (s, tt) ws)) (fact 𝓤 (StateIn (s .plan) w (s .state))))
 
   handled-of : (m n : ℕ) → ent 𝓤 (ensured 𝓤 H A handled.ended (handled.clauses 𝓤 H A mem run) tt (m, tt) tt n) (fact 𝓤 (n ≡ min m 16))
   handled-of m n = exE 𝓤 _ (λ ws. snd∗ 𝓤 (sem 𝓤 H A (lasts handled.ended tt (m, tt) ws)) (fact 𝓤 (n ≡ min m 16)))
@@ -182,8 +181,8 @@ module _ {M : Type 1} (𝓤 : URA M) (H : Heap 𝓤) (A : Atoms 𝓤) (W : Given
       fjoin ! $ pureI ! (at-slice Q.the-row (x ys) (slice-val ∷ [])) (tt, (tt, tt)) (ap (λ (m : ℕ). sliceVal (b, o) m ∷ []) (sym long), subst (Room Q.the-row) (sym long) room) $ fjoin ! $ nothing ! $ move ! (1 ∷ 0 ∷ []) $ fjoin ! $
       nothing ! $ fjoin ! $ owned ! L.the-row (Is L.the-row) (LL.makes L.the-type L′.the-plain 𝓤 H A) st _ good $ move ! (1 ∷ 0 ∷ []) $ done !
 
-  -- ---- the loop, over n records. Local i of the MIR stands at lᵢ: _1 link, _2 records, _3 plan, _4 w, _5 last, _6 n, _7 i, _8 r, _9 filled, _10 the slice's count, _11 the test, _12 i * 8, _13 where records[i] lies, _14 the state that is lent, _15 the record's word
-  module _ (𝓣 : Tables 𝓤 H) (known : Triple 𝓤 (𝓣 .C #burst·fill) (Fill 𝓤 H A mem run)) (w : Window) (w-ok : Is N.the-row w (window-vals w)) (hand : StateIn (s .plan) (s .plan .count) w (s .state))
+  -- ---- the loop, over n records. Local i of the MIR stands at lᵢ: _1 link, _2 records, _3 plan, _4 w, _5 last, _6 n, _7 i, _8 r, _9 reply, _10 the slice's count, _11 the test, _12 i * 8, _13 where records[i] lies, _14 the state that is lent, _15 the record's word
+  module _ (𝓣 : Tables 𝓤 H) (known : Triple 𝓤 (𝓣 .C #burst·reply-to) (ReplyTo 𝓤 H A mem run)) (w : Window) (w-ok : Is N.the-row w (window-vals w)) (hand : StateIn (s .plan) w (s .state))
       (n : ℕ) (counts : P.Counts (length xs) n) (n-fits : n < 2 ^ 64) (l₀ l₁ l₂ l₃ l₄ l₅ l₆ l₇ l₈ l₉ l₁₀ l₁₁ l₁₂ l₁₃ l₁₄ l₁₅ : ℕ) where
     abbrev C : Calls 𝓤 H
     C = 𝓣 .C
@@ -205,7 +204,7 @@ module _ {M : Type 1} (𝓤 : URA M) (H : Heap 𝓤) (A : Atoms 𝓤) (W : Given
     word = tyInt w64
 
     abbrev En : Env 𝓤 H
-    En = (L′.mir, l₀) ∷ (L′.mir, l₁) ∷ (slice, l₂) ∷ (G′.mir, l₃) ∷ (N′.mir, l₄) ∷ (L′.mir, l₅) ∷ (word, l₆) ∷ (word, l₇) ∷ (ref, l₈) ∷ (F′.mir, l₉) ∷ (word, l₁₀) ∷ (tyBool, l₁₁) ∷ (word, l₁₂) ∷ (tyPtr, l₁₃) ∷ (bytes-ref, l₁₄) ∷ (tyInt w32, l₁₅) ∷ []
+    En = (L′.mir, l₀) ∷ (L′.mir, l₁) ∷ (slice, l₂) ∷ (G′.mir, l₃) ∷ (N′.mir, l₄) ∷ (L′.mir, l₅) ∷ (word, l₆) ∷ (word, l₇) ∷ (ref, l₈) ∷ (R′.mir, l₉) ∷ (word, l₁₀) ∷ (tyBool, l₁₁) ∷ (word, l₁₂) ∷ (tyPtr, l₁₃) ∷ (bytes-ref, l₁₄) ∷ (tyInt w32, l₁₅) ∷ []
 
     abbrev plan-val : Val
     plan-val = only (plan-vals (s .plan))
@@ -219,7 +218,7 @@ module _ {M : Type 1} (𝓤 : URA M) (H : Heap 𝓤) (A : Atoms 𝓤) (W : Given
         ‵ (row Q.the-row fullShare (t .cur) b o) ∷ ‵ (fobor κ q (Held Q.the-row (length xs) b o γ)) ∷ ‵ (obs xs) ∷ ‵ (fauth γ (codedHoleys Q.the-row .code (heres Q.the-row xs)))
         ∷ ‵ (fat fullShare L′.mir l₅ 0 (held-val (s .plan) (t .state)))
         ∷ ‵ (froom (tyInt w32) l₁₅ 0) ∷ ‵ (fdies (tyInt w32) l₁₅) ∷ ‵ (froom bytes-ref l₁₄ 0) ∷ ‵ (fdies bytes-ref l₁₄) ∷ ‵ (froom tyPtr l₁₃ 0) ∷ ‵ (fdies tyPtr l₁₃) ∷ ‵ (froom word l₁₂ 0) ∷ ‵ (fdies word l₁₂)
-        ∷ ‵ (froom tyBool l₁₁ 0) ∷ ‵ (fdies tyBool l₁₁) ∷ ‵ (fat fullShare word l₁₀ 0 (vint w64 (length xs))) ∷ ‵ (fdies word l₁₀) ∷ ‵ (froom F′.mir l₉ 0) ∷ ‵ (fdies F′.mir l₉) ∷ ‵ (froom ref l₈ 0) ∷ ‵ (fdies ref l₈)
+        ∷ ‵ (froom tyBool l₁₁ 0) ∷ ‵ (fdies tyBool l₁₁) ∷ ‵ (fat fullShare word l₁₀ 0 (vint w64 (length xs))) ∷ ‵ (fdies word l₁₀) ∷ ‵ (froom R′.mir l₉ 0) ∷ ‵ (fdies R′.mir l₉) ∷ ‵ (froom ref l₈ 0) ∷ ‵ (fdies ref l₈)
         ∷ ‵ (fat fullShare word l₇ 0 (vint w64 (t .i))) ∷ ‵ (fdies word l₇) ∷ ‵ (fat fullShare word l₆ 0 (vint w64 n)) ∷ ‵ (fdies word l₆) ∷ ‵ (fdies L′.mir l₅)
         ∷ ‵ (fat fullShare N′.mir l₄ 0 window-val) ∷ ‵ (fdies N′.mir l₄) ∷ ‵ (fat fullShare G′.mir l₃ 0 plan-val) ∷ ‵ (fdies G′.mir l₃)
         ∷ ‵ (fat fullShare slice l₂ 0 slice-val) ∷ ‵ (fdies slice l₂) ∷ ‵ (fat fullShare L′.mir l₁ 0 (link-val s)) ∷ ‵ (fdies L′.mir l₁) ∷ ‵ (froom L′.mir l₀ 0) ∷ ‵ (fdies L′.mir l₀) ∷ []
@@ -246,19 +245,19 @@ module _ {M : Type 1} (𝓤 : URA M) (H : Heap 𝓤) (A : Atoms 𝓤) (W : Given
         free1 ! $ free1 ! $ free1 ! $ free1 ! $ free1 ! $ free1 ! $ free1 ! $ free1 ! $ free1 ! $ free1 ! $ free1 ! $ free1 ! $ free1 ! $ free1 ! $ free1 ! $ free1 ! $ free0 ! $
         by ! (exits (last t) (t .cur) (last-ok t) (t .long) (P.done t over counts))
 
-    -- a turn's call of `fill`, with the state lent for the lifetime ν under the name δ: what it is given, what its triple binds outside, and that what it asks is had
+    -- a turn's call of `reply_to`, with the state lent for the lifetime ν under the name δ: what it is passed, what its triple binds outside, and that what it asks is had
     module _ (t : Turn s w xs n) (ν : ℕ) (δ : GName) where
-      abbrev given-fill : RefT (List ℕ) × (Plan × (Window × (ℕ × Unit {0})))
-      given-fill = (lent (ν ∷ []) l₅ (s .plan) (t .state) δ, (s .plan, (w, (asked t .word, tt))))
+      abbrev passed : RefT (List ℕ) × (Plan × (Window × (ℕ × Unit {0})))
+      passed = (lent (ν ∷ []) l₅ (s .plan) (t .state) δ, (s .plan, (w, (asked t .word, tt))))
 
-      abbrev to-fill : Fill 𝓤 H A mem run .Ghost
-      to-fill = (((ν ∷ [], tt), (fullShare, tt), tt, given-fill, (vptr l₅ place ∷ [], (plan-vals (s .plan), (window-vals w, (vint w32 (asked t .word) ∷ [], tt))))), tt)
+      abbrev bound : ReplyTo 𝓤 H A mem run .Ghost
+      bound = (((ν ∷ [], tt), (fullShare, tt), tt, passed, (vptr l₅ place ∷ [], (plan-vals (s .plan), (window-vals w, (vint w32 (asked t .word) ∷ [], tt))))), tt)
 
       abbrev own-lent : Fml
-      own-lent = MutRef (named 0) (ν ∷ []) Bytes .own (given-fill .0) (vptr l₅ place ∷ [])
+      own-lent = MutRef (named 0) (ν ∷ []) Bytes .own (passed .0) (vptr l₅ place ∷ [])
 
-      goes-fill : asked t .word < 2 ^ 32 → ent 𝓤 (sep 𝓤 (A .lft (ν ∷ []) fullShare) (sem 𝓤 H A own-lent)) (Fill 𝓤 H A mem run .pre to-fill)
-      goes-fill fits =
+      goes-reply-to : asked t .word < 2 ^ 32 → ent 𝓤 (sep 𝓤 (A .lft (ν ∷ []) fullShare) (sem 𝓤 H A own-lent)) (ReplyTo 𝓤 H A mem run .pre bound)
+      goes-reply-to fits =
           qed W (‵ (flft (ν ∷ []) fullShare) ∷ ‵ own-lent ∷ []) ∵ says ! (t .hand) $ nothing ! $ move ! (1 ∷ 0 ∷ []) $ join ! $ nothing ! $
           owned ! u32 (Is u32) (uint-makes 𝓤 H A W w32) (asked t .word) _ (refl, fits) $ fjoin ! $
           owned ! N.the-row (Is N.the-row) (LL.makes N.the-type N′.the-plain 𝓤 H A) w _ w-ok $ fjoin ! $
@@ -283,21 +282,21 @@ module _ {M : Type 1} (𝓤 : URA M) (H : Heap 𝓤) (A : Atoms 𝓤) (W : Given
         move ! (5 ∷ []) $ lft-new ! tt (λ ν. move ! (1 ∷ []) $
         use1 W (later (some (λ (δ : GName). ‵ (own-lent t ν δ) ⊛ raw (Kept (ν ∷ []) l₅ (s .plan) 𝓤 H A δ))))
         (lends-state (ν ∷ []) l₅ (s .plan) 𝓤 H A W (t .state) (t .ok)) $ await ! tt $ pick ! (λ δ. split ! $ move ! (2 ∷ 0 ∷ []) $
-        use2 W (raw (Fill 𝓤 H A mem run .pre (to-fill t ν δ))) (goes-fill t ν δ (word-fits is)) $
-        -- let filled = fill(&mut last.state, plan, w, r.word): [what it asks; what is kept of the link; records[i]; the others; the open borrow; obs; auth; _15; …; _6; …; … of _5; _4; …]
-        calls-at ! (fmOf 𝓤 H (W .laws) 𝓣) (Fill 𝓤 H A mem run) known (to-fill t ν δ) (and-then ! (value ! 9 refl) (and-then ! (value ! 30 refl) (and-then ! (value ! 28 refl) (and-then ! (value ! 7 refl) (no-more !))))) (λ v.
-        use1 W (later (some (λ (u : Filled). ((‵ (flft (ν ∷ []) fullShare) ⊛ ‵ ftrue) ⊛ ‵ (F.the-row .own u (v ∷ []))) ⊛ raw (ensured 𝓤 H A fill.ended (fill.clauses 𝓤 H A mem run) (ν ∷ [], tt) (given-fill t ν δ) tt u)))) (id⊢ 𝓤 _) $ await ! tt $ pick ! (λ u.
-        split ! $ move ! (1 ∷ []) $ use1 W (some (λ (zs : List ℕ × (Unit {0} × (Unit {0} × (Unit {0} × Unit {0})))). ‵ (lasts fill.ended (ν ∷ [], tt) (given-fill t ν δ) zs) ⊛ raw (fact 𝓤 (FilledBy t (zs .0) u)))) (id⊢ 𝓤 _) $ pick ! (λ zs.
-        split ! $ move ! (1 ∷ []) $ heard ! (FilledBy t (zs .0) u) (λ by. fsplit ! $ move ! (2 ∷ []) $ split ! $ move ! (1 ∷ []) $ facts ! F.the-row (Is F.the-row) (shows 𝓤 H A F.the-row) u (v ∷ []) (λ out.
+        use2 W (raw (ReplyTo 𝓤 H A mem run .pre (bound t ν δ))) (goes-reply-to t ν δ (word-fits is)) $
+        -- let reply = reply_to(&mut last.state, plan, w, r.word): [what it asks; what is kept of the link; records[i]; the others; the open borrow; obs; auth; _15; …; _6; …; … of _5; _4; …]
+        calls-at ! (fmOf 𝓤 H (W .laws) 𝓣) (ReplyTo 𝓤 H A mem run) known (bound t ν δ) (and-then ! (value ! 9 refl) (and-then ! (value ! 30 refl) (and-then ! (value ! 28 refl) (and-then ! (value ! 7 refl) (no-more !))))) (λ v.
+        use1 W (later (some (λ (u : Reply). ((‵ (flft (ν ∷ []) fullShare) ⊛ ‵ ftrue) ⊛ ‵ (R.the-row .own u (v ∷ []))) ⊛ raw (ensured 𝓤 H A reply-to.ended (reply-to.clauses 𝓤 H A mem run) (ν ∷ [], tt) (passed t ν δ) tt u)))) (id⊢ 𝓤 _) $ await ! tt $ pick ! (λ u.
+        split ! $ move ! (1 ∷ []) $ use1 W (some (λ (zs : List ℕ × (Unit {0} × (Unit {0} × (Unit {0} × Unit {0})))). ‵ (lasts reply-to.ended (ν ∷ [], tt) (passed t ν δ) zs) ⊛ raw (fact 𝓤 (Replied t (zs .0) u)))) (id⊢ 𝓤 _) $ pick ! (λ zs.
+        split ! $ move ! (1 ∷ []) $ heard ! (Replied t (zs .0) u) (λ by. fsplit ! $ move ! (2 ∷ []) $ split ! $ move ! (1 ∷ []) $ facts ! R.the-row (Is R.the-row) (shows 𝓤 H A R.the-row) u (v ∷ []) (λ out.
         -- [the token; the last state; true; what is kept; records[i]; …]
-        land ! (into !) (init ! 21 refl (LL.lawful F.the-type F′.the-laws 𝓤 H A W .typed u _ out .0)) $
-        rewrite ! 21 (λ (p : Val). ‵ (fat fullShare F′.mir l₉ 0 p)) (ap only (LL.tells F.the-type F′.the-laws u _ out)) refl $
+        land ! (into !) (init ! 21 refl (LL.lawful R.the-type R′.the-laws 𝓤 H A W .typed u _ out .0)) $
+        rewrite ! 21 (λ (p : Val). ‵ (fat fullShare R′.mir l₉ 0 p)) (ap only (LL.tells R.the-type R′.the-laws u _ out)) refl $
         -- the lifetime is ended, and the link is whole again
         split ! $ lft-end ! tt $ move ! (0 ∷ 4 ∷ 2 ∷ []) $
         use3 W (later (given (Is Bytes (zs .0) (bytes-vals (zs .0))) (‵ (fat fullShare L′.mir l₅ 0 (held-val (s .plan) (zs .0)))))) (comes-state (ν ∷ []) l₅ (s .plan) 𝓤 H A W δ (zs .0)) $ await ! tt $ learn ! (λ state-ok.
         move ! (3 ∷ 4 ∷ 5 ∷ 6 ∷ 7 ∷ 0 ∷ []) $ move ! (6 ∷ []) $ drop ! $ move ! (6 ∷ []) $ drop ! $
-        -- [records[i]; the others; the open borrow; obs; auth; last; _15; …]: r.result = filled.result; r.position = filled.position
-        assigns ! (of-opd ! (load ! (from ! (fld ! refl (stop !))) (look-in ! 18 (sub ! 0 refl (whole !))))) (from ! (hop ! (look ! 20 refl) (fld ! refl (stop !)))) (store-in ! 0 (sub ! 1 refl (whole !)) (tt, record { fits = result-fits u out })) $
+        -- [records[i]; the others; the open borrow; obs; auth; last; _15; …]: r.result = reply.number; r.position = reply.position
+        assigns ! (of-opd ! (load ! (from ! (fld ! refl (stop !))) (look-in ! 18 (sub ! 0 refl (whole !))))) (from ! (hop ! (look ! 20 refl) (fld ! refl (stop !)))) (store-in ! 0 (sub ! 1 refl (whole !)) (tt, record { fits = number-fits u out })) $
         assigns ! (of-opd ! (load ! (from ! (fld ! refl (stop !))) (look-in ! 18 (sub ! 1 refl (whole !))))) (from ! (hop ! (look ! 20 refl) (fld ! refl (stop !)))) (store-in ! 0 (sub ! 2 refl (whole !)) (tt, record { fits = position-fits u out })) $
         -- the record goes back, and i = i + 1
         owned ! Q.the-row (Is Q.the-row) (LL.makes Q.the-type Q′.the-plain 𝓤 H A) (put t u) (ask-vals (put t u)) (put-ok u is out) $ move ! (1 ∷ 0 ∷ []) $ elem-put ! Q.the-row fullShare (t .cur) (t .i) (put t u) (ask-vals (put t u)) b o (here t less (counts .there)) $
@@ -310,18 +309,18 @@ module _ {M : Type 1} (𝓤 : URA M) (H : Heap 𝓤) (A : Atoms 𝓤) (W : Given
         next-fits : t .i + 1 < 2 ^ 64
         next-fits = omega (arith, less, n-fits)
 
-        -- what is known of the record, of what `fill` gives, and so of the record that goes back
+        -- what is known of the record, of what `reply_to` gives, and so of the record that goes back
         word-fits : Is Q.the-row (asked t) (ask-vals (asked t)) → asked t .word < 2 ^ 32
         word-fits is = LL.owed Q.the-type Q′.the-laws (asked t) _ is .0 .1
 
-        result-fits : (u : Filled) {v : Val} → Is F.the-row u (v ∷ []) → u .result < 2 ^ 8
-        result-fits u out = LL.owed F.the-type F′.the-laws u _ out .0 .1
+        number-fits : (u : Reply) {v : Val} → Is R.the-row u (v ∷ []) → u .number < 2 ^ 8
+        number-fits u out = LL.owed R.the-type R′.the-laws u _ out .0 .1
 
-        position-fits : (u : Filled) {v : Val} → Is F.the-row u (v ∷ []) → u .position < 2 ^ 8
-        position-fits u out = LL.owed F.the-type F′.the-laws u _ out .1 .0 .1
+        position-fits : (u : Reply) {v : Val} → Is R.the-row u (v ∷ []) → u .position < 2 ^ 8
+        position-fits u out = LL.owed R.the-type R′.the-laws u _ out .1 .0 .1
 
-        put-ok : (u : Filled) {v : Val} → Is Q.the-row (asked t) (ask-vals (asked t)) → Is F.the-row u (v ∷ []) → Is Q.the-row (put t u) (ask-vals (put t u))
-        put-ok u is out = LL.owes Q.the-type Q′.the-laws (put t u) ((refl, word-fits is), ((refl, result-fits u out), ((refl, position-fits u out), tt)))
+        put-ok : (u : Reply) {v : Val} → Is Q.the-row (asked t) (ask-vals (asked t)) → Is R.the-row u (v ∷ []) → Is Q.the-row (put t u) (ask-vals (put t u))
+        put-ok u is out = LL.owes Q.the-type Q′.the-laws (put t u) ((refl, word-fits is), ((refl, number-fits u out), ((refl, position-fits u out), tt)))
 
     turns : (t : Turn s w xs n) → Sq W (At t) (runs C Λ En mir′.turn-1 (anyQ (Turned t)))
     turns t = elim (eq-or-lt-of-le (t .within)) [ inl e ↦ leaves t (omega (arith, e)) | inr less ↦ more t less ]
@@ -331,9 +330,9 @@ module _ {M : Type 1} (𝓤 : URA M) (H : Heap 𝓤) (A : Atoms 𝓤) (W : Given
     plays = first ! $ blocks ! $ loops ! 𝓣 Nearer Nearer-wf At turns (start s w xs n (state-of s ok) hand)
 
   -- the MIR up to the loop: `window_of` says the link's window, `handled` how many records are handled, and the borrow is opened
-  walk : (𝓣 : Tables 𝓤 H) → Triple 𝓤 (𝓣 .C #burst·window-of) (WindowOf 𝓤 H A mem run) → Triple 𝓤 (𝓣 .C #burst·handled) (Handled 𝓤 H A mem run) → Triple 𝓤 (𝓣 .C #burst·fill) (Fill 𝓤 H A mem run)
+  walk : (𝓣 : Tables 𝓤 H) → Triple 𝓤 (𝓣 .C #burst·window-of) (WindowOf 𝓤 H A mem run) → Triple 𝓤 (𝓣 .C #burst·handled) (Handled 𝓤 H A mem run) → Triple 𝓤 (𝓣 .C #burst·reply-to) (ReplyTo 𝓤 H A mem run)
       → ent 𝓤 (onEntry 𝓤 H A burst.signature (κ, tt) (q, tt) a vals) (WpFn 𝓤 H (𝓣 .C) (𝓣 .Λ) code.function (link-val s ∷ slice-val ∷ []) Post)
-  walk 𝓣 known-window-of known-handled known-fill =
+  walk 𝓣 known-window-of known-handled known-reply-to =
       qed W ((‵ (flft κ q) ⊛ ‵ ftrue) ∷ ‵ (owns (L.the-row ∷ MutSlice (named 0) κ Q.the-row ∷ []) a vals) ∷ []) ∵ enter ! (𝓣 .C) (𝓣 .Λ) code.function (link-val s ∷ slice-val ∷ []) _ $
       alloc1 ! (λ l₀. alloc1 ! (λ l₁. alloc1 ! (λ l₂. alloc1 ! (λ l₃. alloc1 ! (λ l₄. alloc1 ! (λ l₅. alloc1 ! (λ l₆. alloc1 ! (λ l₇. alloc1 ! (λ l₈. alloc1 ! (λ l₉. alloc1 ! (λ l₁₀. alloc1 ! (λ l₁₁. alloc1 ! (λ l₁₂. alloc1 ! (λ l₁₃. alloc1 ! (λ l₁₄. alloc1 ! (λ l₁₅. alloc0 ! $ params1 ! $
       pass1 ! (init ! 28 refl (typed s ok)) $ pass1 ! (init ! 26 refl (tt, (tt, (record { fits = room .0 }, tt)))) $ pass0 ! $
@@ -343,7 +342,7 @@ module _ {M : Type 1} (𝓤 : URA M) (H : Heap 𝓤) (A : Atoms 𝓤) (W : Given
       use0 W (raw (WindowOf 𝓤 H A mem run .pre (to-window-of 𝓤 H A mem run s))) (goes-window-of 𝓤 H A mem run W s ok sound) $
       calls-at ! (fmOf 𝓤 H (W .laws) 𝓣) (WindowOf 𝓤 H A mem run) known-window-of (to-window-of 𝓤 H A mem run s) (and-then ! (value ! 29 refl) (no-more !)) (λ v.
       use1 W (later (some (λ (w : Window). (‵ ftrue ⊛ ‵ (N.the-row .own w (v ∷ []))) ⊛ raw (ensured 𝓤 H A window-of.ended (window-of.clauses 𝓤 H A mem run) tt (s, tt) tt w)))) (id⊢ 𝓤 _) $ await ! tt $ pick ! (λ w.
-      split ! $ move ! (1 ∷ []) $ use1 W (raw (fact 𝓤 (StateIn (s .plan) (s .plan .count) w (s .state)))) (window-of-of 𝓤 H A mem run s w) $ heard ! (StateIn (s .plan) (s .plan .count) w (s .state)) (λ hand. split ! $ drop ! $
+      split ! $ move ! (1 ∷ []) $ use1 W (raw (fact 𝓤 (StateIn (s .plan) w (s .state)))) (window-of-of 𝓤 H A mem run s w) $ heard ! (StateIn (s .plan) w (s .state)) (λ hand. split ! $ drop ! $
       facts ! N.the-row (Is N.the-row) (shows 𝓤 H A N.the-row) w (v ∷ []) (λ w-is.
       land ! (into !) (init ! 22 refl (LL.lawful N.the-type N′.the-laws 𝓤 H A W .typed w _ w-is .0)) $ rewrite ! 22 (λ (u : Val). ‵ (fat fullShare N′.mir l₄ 0 u)) (ap only (LL.tells N.the-type N′.the-laws w _ w-is)) refl $
       -- let mut last = link
@@ -359,16 +358,16 @@ module _ {M : Type 1} (𝓤 : URA M) (H : Heap 𝓤) (A : Atoms 𝓤) (W : Given
       assigns ! (of-opd ! (lit ! tt)) (into !) (init ! 16 refl (tt, record { fits = lit< tt })) $
       move ! (33 ∷ []) $ fsplit ! $ drop ! $ fsplit ! $ fsplit ! $ drop ! $ fsplit ! $ move ! (35 ∷ []) $ split ! $ move ! (2 ∷ 3 ∷ 0 ∷ []) $ opens-slice ! tt Q.the-row xs b o $
       move ! (4 ∷ []) $ drop ! $ move ! (4 ∷ []) $ drop ! $ move ! (0 ∷ 1 ∷ 2 ∷ 3 ∷ 24 ∷ []) $
-      plays 𝓣 known-fill w (subst (Is N.the-row w) (LL.tells N.the-type N′.the-laws w _ w-is) w-is) hand n (counted e) (is .1) l₀ l₁ l₂ l₃ l₄ l₅ l₆ l₇ l₈ l₉ l₁₀ l₁₁ l₁₂ l₁₃ l₁₄ l₁₅))))))))))))))))))))))))
+      plays 𝓣 known-reply-to w (subst (Is N.the-row w) (LL.tells N.the-type N′.the-laws w _ w-is) w-is) hand n (counted e) (is .1) l₀ l₁ l₂ l₃ l₄ l₅ l₆ l₇ l₈ l₉ l₁₀ l₁₁ l₁₂ l₁₃ l₁₄ l₁₅))))))))))))))))))))))))
 
 -- ---- the walk is taken to the contract, and from the MIR to the function's own routine
 module _ {M : Type 1} (𝓤 : URA M) (H : Heap 𝓤) (A : Atoms 𝓤) (W : Given 𝓤 H A) (mem : Memory → SProp 𝓤) (run : Routine → Fun 𝓤) (𝓣 : Tables 𝓤 H)
-    (known-window-of : Triple 𝓤 (𝓣 .C #burst·window-of) (WindowOf 𝓤 H A mem run)) (known-handled : Triple 𝓤 (𝓣 .C #burst·handled) (Handled 𝓤 H A mem run)) (known-fill : Triple 𝓤 (𝓣 .C #burst·fill) (Fill 𝓤 H A mem run)) where
+    (known-window-of : Triple 𝓤 (𝓣 .C #burst·window-of) (WindowOf 𝓤 H A mem run)) (known-handled : Triple 𝓤 (𝓣 .C #burst·handled) (Handled 𝓤 H A mem run)) (known-reply-to : Triple 𝓤 (𝓣 .C #burst·reply-to) (ReplyTo 𝓤 H A mem run)) where
   burst-walks : Walks 𝓤 H A burst.ended stayed (WpFn 𝓤 H (𝓣 .C) (𝓣 .Λ) code.function) (burst.clauses 𝓤 H A mem run)
   burst-walks = walked 𝓤 H A burst.ended stayed (burst.clauses 𝓤 H A mem run) (WpFn 𝓤 H (𝓣 .C) (𝓣 .Λ) code.function)
       (λ κs. (link-vals, (slice-vals, tt))) (λ κs. (LL.tells L.the-type L′.the-laws, (mut-slice-tells (named 0) (κs .0) Q.the-row, tt)))
       (λ κs qs bounds a g are. needs 𝓤 (SoundLink (a .0)) _ (λ sound.
-      walk 𝓤 H A W mem run (κs .0) (qs .0) (a .0) (a .1 .0 .ptr .0) (a .1 .0 .ptr .1) (a .1 .0 .name) (a .1 .0 .now) (are .0) sound (are .1 .0 .0 .1) 𝓣 known-window-of known-handled known-fill))
+      walk 𝓤 H A W mem run (κs .0) (qs .0) (a .0) (a .1 .0 .ptr .0) (a .1 .0 .ptr .1) (a .1 .0 .name) (a .1 .0 .now) (are .0) sound (are .1 .0 .0 .1) 𝓣 known-window-of known-handled known-reply-to))
 
   burst-meets : Meets 𝓤 H A burst.signature (WpFn 𝓤 H (𝓣 .C) (𝓣 .Λ) code.function) (burst.spec 𝓤 H A mem run)
   burst-meets = walk-meets 𝓤 H A burst.ended stayed W (goes-dropped 𝓤 H A W 1 (plain (λ _. L.the-row)) yes (λ κs x f. refl), (goes-slice 𝓤 H A W 1 0 tt (plain (λ _. Q.the-row)), tt)) (burst.clauses 𝓤 H A mem run)
@@ -382,4 +381,4 @@ burst-spec 𝓤 H 𝓜 𝓖 𝓡 =
     (burst-meets 𝓤 H (𝓖 .A) (givenOf 𝓤 H 𝓜 𝓖) (𝓜 .mem) (𝓡 .run) (tablesOf 𝓤 H 𝓜 (tables 𝓤 H 𝓜 𝓡 code.env))
     (cited 𝓤 H (WindowOf 𝓤 H (𝓖 .A) (𝓜 .mem) (𝓡 .run)) 𝓜 𝓡 code.env #burst·window-of window-of-def.routine code.calls-burst·window-of (window-of-thm.met 𝓤 H 𝓜 𝓖 𝓡))
     (cited 𝓤 H (Handled 𝓤 H (𝓖 .A) (𝓜 .mem) (𝓡 .run)) 𝓜 𝓡 code.env #burst·handled handled-def.routine code.calls-burst·handled (handled-thm.met 𝓤 H 𝓜 𝓖 𝓡))
-    (cited 𝓤 H (Fill 𝓤 H (𝓖 .A) (𝓜 .mem) (𝓡 .run)) 𝓜 𝓡 code.env #burst·fill fill-def.routine code.calls-burst·fill (fill-thm.met 𝓤 H 𝓜 𝓖 𝓡)))
+    (cited 𝓤 H (ReplyTo 𝓤 H (𝓖 .A) (𝓜 .mem) (𝓡 .run)) 𝓜 𝓡 code.env #burst·reply-to reply-to-def.routine code.calls-burst·reply-to (reply-to-thm.met 𝓤 H 𝓜 𝓖 𝓡)))
