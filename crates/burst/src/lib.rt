@@ -70,7 +70,7 @@ pub fn burst(link: Link, records: &mut [Ask]) -> Link
         let reply = reply_to(&mut last.state, plan, w, r.word);
         r.result = reply.number;
         r.position = reply.position;
-        i = i + 1;
+        i += 1;
     }
     last
 }
