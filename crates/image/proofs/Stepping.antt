@@ -16,9 +16,8 @@ use Rattle.calls.specs.Reading.{answerToRequest, answerToCredit, answerToTick, 
 use Rattle.calls.specs.declared.Answer.{Answer}
 use Rattle.link.specs.declared.Link.{Link}
 use Rattle.link.specs.declared.Step.{Step}
-use Rattle.link.specs.Reading.{linkOf}
-use Rattle.link.specs.Sound.{Sound}
-use Rattle.link.specs.Steps.{Stepped}
+use Rattle.link.specs.Sound.{SoundLink}
+use Rattle.link.specs.Steps.{readOf, Stepped}
 use Rattle.images.specs.Image.{imageLength, planIn, linkIn}
 use Rattle.images.specs.Consistent.{Keepable}
 use Rattle.images.specs.Taken.{refusalOf, Taken}
@@ -55,14 +54,14 @@ renewal-number (refused n) = refl
 -- ---- a step of the code is the call c on the link in b
 
 pub record Steps (b : List ℕ) (c : Call) (s : Step) : Type 0 where
-  pub link-is : linkOf (s .link) ≡ onLink (linkIn b) c .link
+  pub link-is : readOf (s .link) ≡ onLink (linkIn b) c .link
   pub number-is : numberFor (s .answer) ≡ onLink (linkIn b) c .number
-  pub sound : Sound (s .link)
+  pub sound : SoundLink (s .link)
 
-module _ {b : List ℕ} (l : Link) (e : linkOf l ≡ linkIn b) where
+module _ {b : List ℕ} (l : Link) (e : readOf l ≡ linkIn b) where
   stepped : {A : Type 0} {toAnswer : A → Answer} (number : A → ℕ) → ((a : A) → numberFor (toAnswer a) ≡ number a) → (call : model.Link → model.Step A)
       → (c : Call) → onLink (linkIn b) c ≡ record { link = call (linkIn b) .link; number = number (call (linkIn b) .answer) }
-      → {s : Step} → Stepped toAnswer (call (linkOf l)) s → Steps b c s
+      → {s : Step} → Stepped toAnswer (call (readOf l)) s → Steps b c s
   stepped {toAnswer = toAnswer} number same call c is {s} v = record {
     link-is = v .link-is ∙ ap (λ x. call x .link) e ∙ ap (λ x. x .link) (sym is);
     number-is =
@@ -70,28 +69,28 @@ module _ {b : List ℕ} (l : Link) (e : linkOf l ≡ linkIn b) where
     sound = v .sound;
   }
 
-  pub steps-request : (w : ℕ) {s : Step} → Stepped answerToRequest (request.request (linkOf l) w) s → Steps b (Call.request w) s
+  pub steps-request : (w : ℕ) {s : Step} → Stepped answerToRequest (request.request (readOf l) w) s → Steps b (Call.request w) s
   steps-request w = stepped grantNumber grant-number (λ x. request.request x w) (Call.request w) refl
 
-  pub steps-credit : (i p : ℕ) {s : Step} → Stepped answerToCredit (credit.credit (linkOf l) i p) s → Steps b (Call.credit i p) s
+  pub steps-credit : (i p : ℕ) {s : Step} → Stepped answerToCredit (credit.credit (readOf l) i p) s → Steps b (Call.credit i p) s
   steps-credit i p = stepped receiptNumber receipt-number (λ x. credit.credit x i p) (Call.credit i p) refl
 
-  pub steps-tick : {s : Step} → Stepped answerToTick (tick.tick (linkOf l)) s → Steps b Call.tick s
+  pub steps-tick : {s : Step} → Stepped answerToTick (tick.tick (readOf l)) s → Steps b Call.tick s
   steps-tick = stepped turnNumber turn-number tick.tick Call.tick refl
 
-  pub steps-lend : (mask : ℕ) {s : Step} → Stepped answerToLend (lend.lend (linkOf l) mask) s → Steps b (Call.lend mask) s
+  pub steps-lend : (mask : ℕ) {s : Step} → Stepped answerToLend (lend.lend (readOf l) mask) s → Steps b (Call.lend mask) s
   steps-lend mask = stepped loanNumber loan-number (λ x. lend.lend x mask) (Call.lend mask) refl
 
-  pub steps-reset : {s : Step} → Stepped answerToReset (reset.reset (linkOf l)) s → Steps b Call.reset s
+  pub steps-reset : {s : Step} → Stepped answerToReset (reset.reset (readOf l)) s → Steps b Call.reset s
   steps-reset = stepped renewalNumber renewal-number reset.reset Call.reset refl
 
 -- ---- on an image that is taken
 
 module _ {b : List ℕ} (t : Taken b) {c : Call} {s : Step} (v : Steps b c s) where
-  kept : KeptAfter (linkIn b) (linkOf (s .link))
+  kept : KeptAfter (linkIn b) (readOf (s .link))
   kept = subst (KeptAfter (linkIn b)) (sym (v .link-is)) (done-kept (read-kept b t) c)
 
-  pub writable : Writable (s .link) b
+  pub writable : Writable (s .link .plan) (s .link .state) b
   unfolding linkIn
   writable = record {
     sound = v .sound;
@@ -103,7 +102,7 @@ module _ {b : List ℕ} (t : Taken b) {c : Call} {s : Step} (v : Steps b c s) wh
   unfolding calledOn handedBack
   called = ap (λ q. handedBack q b (onLink (linkIn b) c)) (taken b .1 t)
 
-  pub comes-to : {r : ℕ} {after : List ℕ} → r ≡ numberFor (s .answer) → after ≡ writtenTo b (linkOf (s .link)) → HandsBack (calledOn b c) r after
+  pub comes-to : {r : ℕ} {after : List ℕ} → r ≡ numberFor (s .answer) → after ≡ writtenTo b (readOf (s .link)) → HandsBack (calledOn b c) r after
   comes-to number written =
       let x = sym called in (
         number ∙ v .number-is ∙ ap (λ (y : Called). y .result) x,

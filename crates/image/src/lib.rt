@@ -1,7 +1,7 @@
 // The calls for a host in C, which keeps the link as an image in its own bytes. A number below 2 to the power 32 is what a call is
 // answered; else it is a refusal times that power.
 ghost use mathlib.Core.Path.{_≡_};
-ghost use Rattle.link.specs.Reading.{linkOf};
+ghost use Rattle.link.specs.Steps.{readOf};
 ghost use Rattle.images.specs.Exports.{HandsBack, refusalNumber, writtenTo, freshOn, requestOn, creditOn, tickOn, lendOn, resetOn};
 ghost use Rattle.imagebytes.specs.Asked.{Writable};
 ghost use Rattle.image.specs.Numbers.{numberFor};
@@ -58,13 +58,13 @@ fn number_of(answer: Answer) -> u64
 
 // Writes the link that a call handed back, and answers the number of its answer.
 fn hand_back(step: Step, image: &mut [u8]) -> u64
-    requires { ⌜ Writable (step .link) (now image) ⌝ }
+    requires { ⌜ Writable (step .link .plan) (step .link .state) (now image) ⌝ }
     ensures result { λ r. ⌜ r ≡ numberFor (step .answer) ⌝ }
-    ensures buffer { λ r. ⌜ now (image .exit) ≡ writtenTo (now (image .entry)) (linkOf (step .link)) ⌝ }
+    ensures buffer { λ r. ⌜ now (image .exit) ≡ writtenTo (now (image .entry)) (readOf (step .link)) ⌝ }
 {
-    let link = step.link;
+    let plan = step.link.plan;
+    write(plan, &step.link.state, image);
     let answer = step.answer;
-    write(link, image);
     number_of(answer)
 }
 
@@ -85,7 +85,9 @@ pub extern "C" fn nazgolv_fresh(plan: &[u8], image: &mut [u8]) -> u64
             if image.len() < l.total {
                 return refused(21);
             }
-            write(Link::fresh(plan), image);
+            let link = Link::fresh(plan);
+            let kept = link.plan;
+            write(kept, &link.state, image);
             return 0;
         }
     }

@@ -20,7 +20,7 @@ taken-at : (c : tie.Else1) → Taken (entered (c .before) .args .image .now)
 taken-at c = is-taken (c .before .refusal .ensures) (c .if1 .left)
 
 steps-at : (c : tie.After-credit) → let s = entered (tested-at c .before) in Steps (s .args .image .now) (Call.credit (s .args .flow) (s .args .position)) (c .credit .result)
-steps-at c = steps-credit _ (c .before .read .ensures .0) _ _ (c .credit .ensures)
+steps-at c = steps-credit (c .before .read .result) (c .before .read .ensures .0) _ _ (c .credit .ensures)
 
 -- ---- the needs
 

@@ -20,7 +20,7 @@ taken-at : (c : tie.Else1) → Taken (entered (c .before) .args .image .now)
 taken-at c = is-taken (c .before .refusal .ensures) (c .if1 .left)
 
 steps-at : (c : tie.After-lend) → let s = entered (tested-at c .before) in Steps (s .args .image .now) (Call.lend (s .args .mask)) (c .lend .result)
-steps-at c = steps-lend _ (c .before .read .ensures .0) _ (c .lend .ensures)
+steps-at c = steps-lend (c .before .read .result) (c .before .read .ensures .0) _ (c .lend .ensures)
 
 -- ---- the needs
 

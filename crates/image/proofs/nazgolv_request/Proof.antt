@@ -20,7 +20,7 @@ taken-at : (c : tie.Else1) → Taken (entered (c .before) .args .image .now)
 taken-at c = is-taken (c .before .refusal .ensures) (c .if1 .left)
 
 steps-at : (c : tie.After-request) → let s = entered (tested-at c .before) in Steps (s .args .image .now) (Call.request (s .args .word)) (c .request .result)
-steps-at c = steps-request _ (c .before .read .ensures .0) _ (c .request .ensures)
+steps-at c = steps-request (c .before .read .result) (c .before .read .ensures .0) _ (c .request .ensures)
 
 -- ---- the needs
 

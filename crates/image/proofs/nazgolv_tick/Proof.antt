@@ -20,7 +20,7 @@ taken-at : (c : tie.Else1) → Taken (entered (c .before) .args .image .now)
 taken-at c = is-taken (c .before .refusal .ensures) (c .if1 .left)
 
 steps-at : (c : tie.After-tick) → let s = entered (tested-at c .before) in Steps (s .args .image .now) Call.tick (c .tick .result)
-steps-at c = steps-tick _ (c .before .read .ensures .0) (c .tick .ensures)
+steps-at c = steps-tick (c .before .read .result) (c .before .read .ensures .0) (c .tick .ensures)
 
 -- ---- the needs
 
