@@ -24,13 +24,14 @@ pub fn read(image: &[u8]) -> Link
     let outcome = plan_in(image);
     let plan = outcome.plan;
     let l = layout_of(plan);
-    let mut state = empty();
-    read_flows(&mut state, image, l);
-    read_held(&mut state, image, l);
+    let state = empty();
+    let mut link = Link { plan, state };
+    read_flows(&mut link.state, image, l);
+    read_held(&mut link.state, image, l);
     let owner = read_table(image, l.positions, l.size, 16);
     let w = window(plan.slots, plan.frames, field(image, 12));
     let mark = field(image, 14);
     let turn = field(image, 16);
-    resume(&mut state, w, owner, mark as u8, turn as u8);
-    Link { plan, state }
+    resume(&mut link.state, w, owner, mark as u8, turn as u8);
+    link
 }
