@@ -74,7 +74,7 @@ pub fn read_table(bytes: &[u8], at: usize, count: usize, spare: u8) -> [u8; 256]
 
 // Writes bytes of a state as fields, so many from its place `first` on, and returns the place after them.
 pub fn put_part(s: &State, first: usize, count: usize, out: &mut [u8], at: usize) -> usize
-    requires { ⌜ (first + count ≤ 4483) × (at + 2 * count ≤ length (now out)) ⌝ }
+    requires { ⌜ (first + count ≤ 4499) × (at + 2 * count ≤ length (now out)) ⌝ }
     ensures { λ r. ⌜ Puts (fields (part (now (s .entry)) first count)) (now (out .entry)) (now (out .exit)) at r ⌝ }
 {
     let mut next = at;

@@ -25,6 +25,7 @@ use Rattle.unbooked.specs.Words.{Words}
 use Rattle.tables.specs.Owners.{nobody, ownerOf, unbookedAt, WordsOf}
 use Rattle.tables.specs.Rows.{row}
 use Rattle.tables.specs.Holdings.{nothingHeld}
+use Rattle.tables.proofs.Bounds.{bounds-unknown}
 use Rattle.link.specs.declared.Flow.{Flow}
 use Rattle.link.specs.Layout.{noFlow, flowRow}
 use Rattle.link.specs.Parts.{Parts, FitsBytes, flowsOf, partsIn}
@@ -298,5 +299,6 @@ module _ {b : List ℕ} (t : Taken b) (p : Plan) (v : Valid p) (is : planFor p �
         made-sound = record {
           whole = r .whole;
           mark = omega (arith, r .mark-is, mark-is, mark-most);
+          bounds = bounds-unknown (r .bounds-unknown);
           parts = subst Sound (sym parts-are) (sound-read (words-read w window-is (subst (λ x. Words (w .slots) (w .frames) (unbookedAt x) (masksOf s)) owned (r .masks-are))));
         }

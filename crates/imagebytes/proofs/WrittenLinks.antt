@@ -82,16 +82,16 @@ module _ {p : Plan} {s b : List ℕ} (v : Writable p s b) where
 
   -- the header's fields
   abbrev pub header : List ℕ
-  header = headerOf (planFor p) (getD s 4480 0) (getD s 4481 0) (getD s 4482 0)
+  header = headerOf (planFor p) (getD s 4496 0) (getD s 4497 0) (getD s 4498 0)
 
   pub image-is : fields header ++ bytesOf (planFor p) ++ fields (part s 4096 T) ++ partsOf T s (p .count) ≡ imageOf (readIn p s)
   unfolding imageOf linkOf
   image-is =
-      λ k. fields (headerOf (planFor p) (getD s 4480 0) (mark-again (getD s 4481 0) (v .sound .mark) k) (getD s 4482 0)) ++ bytesOf (planFor p)
+      λ k. fields (headerOf (planFor p) (getD s 4496 0) (mark-again (getD s 4497 0) (v .sound .mark) k) (getD s 4498 0)) ++ bytesOf (planFor p)
       ++ fields (owners-are k) ++ fields (flatMap flowPart (flows-are k))
 
   -- the numbers that are written there
-  pub header-put : {cp mark turn : ℕ} → cp ≡ getD s 4480 0 → mark ≡ getD s 4481 0 → turn ≡ getD s 4482 0 → {c after : List ℕ} {next : ℕ}
+  pub header-put : {cp mark turn : ℕ} → cp ≡ getD s 4496 0 → mark ≡ getD s 4497 0 → turn ≡ getD s 4498 0 → {c after : List ℕ} {next : ℕ}
       → Puts (fields (headerOf (planFor p) cp mark turn)) c after 0 next → Puts (fields header) c after 0 next
   header-put x y z = puts-same (λ k. fields (headerOf (planFor p) (x k) (y k) (z k)))
 

@@ -29,7 +29,7 @@ mod LeavingHeads
 mod FrameChanges
 pub mod Ticks
 mod StateTicks
-pub mod GrantedPositions
+pub mod Told
 pub mod Demand3
 -- a state taken up again
 mod OwnerMasks

@@ -1,4 +1,4 @@
--- Two states of bytes with the same parts are one, and so are two sound links with one reading. Assumes nothing.
+-- Two states of bytes with the same parts are one but for the bounds of what flows hold, and so are two sound links with one reading. Assumes nothing.
 use Prim.Native.Nat.{ℕ, zero, suc, _+_, _-_, _*_, _/_, _%_, _≤_, _<_}
 use mathlib.Core.Path.{_≡_, refl, sym, ap, ap₂, _∙_}
 use mathlib.Core.List.{List, _∷_, []}
@@ -6,11 +6,10 @@ use mathlib.Core.Bool.{true, false, not, true≢false}
 use native.Mathlib.Decide.{decLt, ℕ-discrete}
 use native.Mathlib.Omega.{arith}
 use lib.ListN.{length, getD, List·getD-eq-default}
-use lib.Seq.{ext-getD}
 use lib.Dec.{eqb}
 use borrow.Author.Tests.{eq-eqb, ne-eqb}
 use Rattle.plan.specs.declared.Plan.{Plan}
-use Rattle.state.specs.Parts.{part, numberIn}
+use Rattle.state.specs.Parts.{part, numberIn, Beside}
 use Rattle.state.specs.State.{Whole, heldOf, ownersOf, maskAt, masksOf}
 use Rattle.state.proofs.Parts.{length-part, part-at}
 use Rattle.state.proofs.State.{held-at, owners-at, masks-at}
@@ -83,7 +82,7 @@ flow-bytes s t f g i =
 
 -- ---- the parts tell the state
 
-module _ (p : Plan) (s t : List ℕ) (f : Bytes s) (g : Bytes t) (mark-s : getD s 4481 0 ≤ 1) (mark-t : getD t 4481 0 ≤ 1)
+module _ (p : Plan) (s t : List ℕ) (f : Bytes s) (g : Bytes t) (mark-s : getD s 4497 0 ≤ 1) (mark-t : getD t 4497 0 ≤ 1)
     (same : partsIn p s ≡ partsIn p t) where
   held-tells : (k : ℕ) → k < 4096 → getD s k 0 ≡ getD t k 0
   held-tells k h = sym (held-at s k h) ∙ ap (λ (l : Parts). getD (l .held) k 0) same ∙ held-at t k h
@@ -109,30 +108,49 @@ module _ (p : Plan) (s t : List ℕ) (f : Bytes s) (g : Bytes t) (mark-s : getD 
       flow : flowRead s i ≡ flowRead t i
       flow = sym (flows-at s i h) ∙ ap (λ (x : Parts). getD (x .flows) i noFlow) same ∙ flows-at t i h
 
-  -- at every place
-  place-tells : (k : ℕ) → k < 4483 → getD s k 0 ≡ getD t k 0
-  place-tells k b = go (decLt k 4096) (decLt k 4352) (decLt k 4416) (decLt k 4480) (decLt k 4481) (decLt k 4482)
+  -- at every place but a bound's
+  place-tells : (k : ℕ) → k < 4499 → (4480 ≤ k → k < 4496 → ⊥) → getD s k 0 ≡ getD t k 0
+  place-tells k b out = go (decLt k 4096) (decLt k 4352) (decLt k 4416) (decLt k 4480) (decLt k 4497) (decLt k 4498)
     where
       at : {a : ℕ} → k ≡ a → getD s a 0 ≡ getD t a 0 → getD s k 0 ≡ getD t k 0
       at e x = rw e x
 
-      go : Dec (k < 4096) → Dec (k < 4352) → Dec (k < 4416) → Dec (k < 4480) → Dec (k < 4481) → Dec (k < 4482) → getD s k 0 ≡ getD t k 0
+      last : (4480 ≤ k) → 4496 ≤ k
+      last h = not-below h (decLt k 4496)
+        where
+          not-below : 4480 ≤ k → Dec (k < 4496) → 4496 ≤ k
+          not-below low (yes high) = absurd (out low high)
+          not-below low (no high) = omega arith
+
+      go : Dec (k < 4096) → Dec (k < 4352) → Dec (k < 4416) → Dec (k < 4480) → Dec (k < 4497) → Dec (k < 4498) → getD s k 0 ≡ getD t k 0
       go (yes h) _ _ _ _ _ = held-tells k h
       go (no a) (yes h) _ _ _ _ = at (omega arith) (owner-tells (k - 4096) (omega arith))
       go (no a) (no c) (yes h) _ _ _ = at (omega arith) (mask-tells ((k - 4352) / 8) ((k - 4352) % 8) (omega arith) (omega arith))
       go (no a) (no c) (no d) (yes h) _ _ = at (omega arith) (flow-tells ((k - 4416) / 4) ((k - 4416) % 4) (omega arith) (omega arith))
-      go (no a) (no c) (no d) (no e) (yes h) _ = at {a = 4480} (omega arith) (ap (λ (l : Parts). l .cp) same)
+      go (no a) (no c) (no d) (no e) (yes h) _ = let low = last (omega arith) in at {a = 4496} (omega arith) (ap (λ (l : Parts). l .cp) same)
       go (no a) (no c) (no d) (no e) (no x) (yes h) =
-          at {a = 4481} (omega arith) (mark-tells (getD s 4481 0) (getD t 4481 0) mark-s mark-t (ap (λ (l : Parts). l .taken) same))
-      go (no a) (no c) (no d) (no e) (no x) (no y) = at {a = 4482} (omega arith) (ap (λ (l : Parts). l .first) same)
+          at {a = 4497} (omega arith) (mark-tells (getD s 4497 0) (getD t 4497 0) mark-s mark-t (ap (λ (l : Parts). l .taken) same))
+      go (no a) (no c) (no d) (no e) (no x) (no y) = at {a = 4498} (omega arith) (ap (λ (l : Parts). l .first) same)
 
-  pub one-state : Whole s → Whole t → s ≡ t
-  one-state v w = ext-getD 0 s t (v ∙ sym w) (λ k b. place-tells k (omega (arith, v)))
+  -- they are one but for the bounds
+  pub one-state : Whole s → Whole t → Beside 4480 4496 s t
+  one-state v w = record { long = w ∙ sym v; kept = λ k out. go k out (decLt k 4499) }
+    where
+      go : (k : ℕ) → (4480 ≤ k → k < 4496 → ⊥) → Dec (k < 4499) → getD t k 0 ≡ getD s k 0
+      go k out (yes h) = sym (place-tells k h out)
+      go k out (no h) =
+          List·getD-eq-default t 0 {n = k} (omega (arith, w)) ∙ sym (List·getD-eq-default s 0 {n = k} (omega (arith, v)))
 
--- two sound links with one reading are one link
-pub one-link : (l k : Link) → SoundLink l → SoundLink k → Bytes (l .state) → Bytes (k .state) → readOf l ≡ readOf k → l ≡ k
+-- Two sound links with one reading are one link but for the bounds, which no reading has.
+pub record OneLink (l k : Link) : Type 0 where
+  pub plan : l .plan ≡ k .plan
+  pub state : Beside 4480 4496 (l .state) (k .state)
+
+pub one-link : (l k : Link) → SoundLink l → SoundLink k → Bytes (l .state) → Bytes (k .state) → readOf l ≡ readOf k → OneLink l k
 one-link l k x y f g e =
     let same : partsOf l ≡ partsOf k = one-reading (partsOf l) (partsOf k) (x .parts) (y .parts) e in
     let plan : l .plan ≡ k .plan = ap (λ (q : Parts). q .plan) same in
-    let state = one-state (k .plan) (l .state) (k .state) f g (x .mark) (y .mark) (ap (λ (q : Plan). partsIn q (l .state)) (sym plan) ∙ same) (x .whole) (y .whole) in
-    λ i. record { plan = plan i; state = state i }
+    record {
+      plan = plan;
+      state = one-state (k .plan) (l .state) (k .state) f g (x .mark) (y .mark) (ap (λ (q : Plan). partsIn q (l .state)) (sym plan) ∙ same) (x .whole) (y .whole);
+    }

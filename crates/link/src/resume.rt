@@ -2,7 +2,8 @@
 ghost use mathlib.Core.Path.{_≡_};
 ghost use Rattle.state.specs.State.{Whole};
 ghost use Rattle.window.specs.Window.{Proper};
-ghost use Rattle.link.specs.Resumed.{empty, OwnersMasked, Resumed};
+ghost use Rattle.link.specs.Resumed.{empty, OwnersMasked, Unbounded, Resumed};
+use state::BOUNDS;
 use state::CURRENT;
 use state::MARK;
 use state::OWNERS;
@@ -18,7 +19,7 @@ use window::Window;
 pub fn empty() -> State
     ensures { λ r. ⌜ r ≡ empty ⌝ }
 {
-    [0u8; 4483]
+    [0u8; 4499]
 }
 
 // The masks of a state by its owners: all slots of the frames, less the positions that somebody booked.
@@ -37,13 +38,26 @@ fn mask_owners(s: &mut State, w: Window)
     }
 }
 
-// The owners of a state with their masks, its current position, its mark and its turn; the flows stay, and what they hold.
+// Nothing is said of what a flow holds at most.
+fn unbound(s: &mut State)
+    ensures { λ r. ⌜ Unbounded (now (s .entry)) (now (s .exit)) ⌝ }
+{
+    let end = BOUNDS + 16;
+    let mut q = BOUNDS;
+    while q < end {
+        s[q] = 255;
+        q += 1;
+    }
+}
+
+// The owners of a state with their masks, its current position, its mark and its turn; the flows stay, and what they hold, of which no bound is known.
 pub fn resume(s: &mut State, w: Window, owner: [u8; 256], mark: u8, turn: u8)
     requires { ⌜ Proper w × Whole (now s) ⌝ }
     ensures { λ r. ⌜ Resumed w owner mark turn (now (s .entry)) (now (s .exit)) ⌝ }
 {
     put_table(s, OWNERS, owner);
     mask_owners(s, w);
+    unbound(s);
     s[CURRENT] = w.current as u8;
     s[MARK] = mark;
     s[TURN] = turn;

@@ -10,7 +10,7 @@ use lines::TICKS;
 use lines::lines;
 use link::Link;
 use link::credit::credit;
-use link::request::asker;
+use link::request::placed;
 use link::request::request;
 use link::tick::tick;
 use state::CURRENT;
@@ -51,14 +51,20 @@ pub fn play(start: Link, records: &[u8], out: &mut [u8]) -> Playback
         };
         match call {
             Call::Request(word) => {
-                let i = asker(plan.count, word);
+                let fields = word::split(word);
+                let i = placed(plan.count, fields.flow as usize);
                 let e = plan.entries[i];
-                let answer = request(&mut link.state, plan.count, e, w, 255, i, word);
-                end = calls::write(answer, out, end);
+                let reply = request(&mut link.state, plan.count, e, w, i, fields);
+                let number = reply.number;
+                if number != 0 {
+                    end = calls::write_refusal(number, out, end);
+                } else {
+                    let line = made[reply.position as usize];
+                    end = lines::write(line, out, end);
+                }
             }
             Call::Credit(flow, position) => {
-                let freed = credit(&mut link.state, plan.count, w, flow, position);
-                let number = freed.number;
+                let number = credit(&mut link.state, plan, w, flow, position);
                 if number != 0 {
                     end = calls::write_refusal(number, out, end);
                 } else {
