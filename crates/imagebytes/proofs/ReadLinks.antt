@@ -17,7 +17,7 @@ use Rattle.plan.specs.declared.Plan.{Plan}
 use Rattle.plan.specs.Reading.{planFor, Valid}
 use Rattle.window.proofs.Tabulated.{getD-table, table-same}
 use Rattle.window.specs.declared.Window.{Window}
-use Rattle.window.specs.Window.{windowOf, Measures}
+use Rattle.window.specs.Window.{windowOf, Measures, Proper}
 use Rattle.model.specs.Window as seen
 use Rattle.state.specs.State.{Whole, heldOf, masksOf}
 use Rattle.state.proofs.State.{held-beside}
@@ -33,7 +33,9 @@ use Rattle.link.specs.Changes.{FlowsNow}
 use Rattle.link.specs.Resumed.{empty, Resumed}
 use Rattle.link.specs.Reading.{flowOf, linkOf}
 use Rattle.link.specs.Sound.{Sound, SoundState}
+use Rattle.link.specs.Given.{StateIn}
 use Rattle.link.specs.Steps.{readIn}
+use Rattle.link.proofs.Given.{windowFor, state-in}
 use Rattle.link.proofs.FlowBytes.{flows-beside}
 use Rattle.link.proofs.Resumed.{whole-empty, held-empty, flows-empty}
 use Rattle.fields.specs.Fields.{ByteFields}
@@ -273,6 +275,9 @@ module _ {b : List ℕ} (t : Taken b) (p : Plan) (v : Valid p) (is : planFor p �
     nothing-yet = held-beside (flows .beside) (omega arith) ∙ ap heldOf blank ∙ held-empty
 
     module _ {s₂ : List ℕ} (held : HeldRead b y s₁ s₂) where
+      pub whole-held : Whole s₂
+      whole-held = held .beside .long ∙ whole-flows
+
       flows-made : flowsOf s₂ ≡ flowsFrom b y
       flows-made = flows-beside (held .beside) (λ k l₁ h₁ l₂ h₂. omega arith) ∙ flows .flows-are
           ∙ ap (flowsOver b y) (ap flowsOf blank ∙ flows-empty)
@@ -295,10 +300,16 @@ module _ {b : List ℕ} (t : Taken b) (p : Plan) (v : Valid p) (is : planFor p �
         pub made-link : readIn p s ≡ linkIn b
         made-link = ap linkOf parts-are ∙ read-link (masksOf s)
 
-        pub made-sound : SoundState p s
+        made-sound : SoundState p s
         made-sound = record {
           whole = r .whole;
           mark = omega (arith, r .mark-is, mark-is, mark-most);
           bounds = bounds-unknown (r .bounds-unknown);
           parts = subst Sound (sym parts-are) (sound-read (words-read w window-is (subst (λ x. Words (w .slots) (w .frames) (unbookedAt x) (masksOf s)) owned (r .masks-are))));
         }
+
+        -- and w is its window
+        pub made-in : Proper w → StateIn p w s
+        made-in proper =
+            let current = r .current-is ∙ ap (λ (x : seen.Window). x .current) window-is in
+            state-in made-sound (window-is ∙ ap (windowFor p) (sym current)) proper

@@ -1,16 +1,18 @@
 -- `imagebytes::reading::read` meets its contract. Assumes nothing.
 use borrow.Author.Needs.{needs}
-use mathlib.Core.Path.{_≡_}
+use mathlib.Core.Path.{_≡_, ap, _∙_}
 use native.Mathlib.Omega.{arith}
+use lib.ListN.{length}
 use Rattle.plan.specs.declared.Plan.{Plan}
 use Rattle.plan.specs.Reading.{planFor, Valid}
 use Rattle.images.specs.Image.{planIn}
+use Rattle.link.proofs.Resumed.{whole-empty}
 use Rattle.taken.proofs.Refusals.{is-accepted, plan-is}
-use Rattle.imagebytes.proofs.ReadLinks.{owners-on, flows-on, holdings-on, measures-read, mark-most, turn-most, whole-flows, nothing-yet, made-link, made-sound}
+use Rattle.imagebytes.proofs.ReadLinks.{owners-on, flows-on, holdings-on, measures-read, mark-most, turn-most, whole-flows, nothing-yet, whole-held, made-link, made-in}
 use Rattle.imagebytes.proofs.reading.read.Statement.{statement}
 use Rattle.imagebytes.proofs.reading.read.Tie as tie
 
--- ---- where the plan is read, where the function is entered, and where the state and its parts are made
+-- ---- where the plan is read, where the function is entered, and where the parts are read
 
 abbrev read-at : tie.After-layout-of → tie.After-plan-in
 read-at c = c .before .before
@@ -18,8 +20,8 @@ read-at c = c .before .before
 abbrev entered : tie.After-plan-in → tie.Start
 entered c = c .before .before
 
-abbrev made-at : tie.After-read-flows → tie.After-empty
-made-at c = c .before .before
+abbrev laid-at : tie.After-read-flows → tie.After-layout-of
+laid-at c = c .before .before
 
 abbrev flows-at : tie.After-read-held → tie.After-read-flows
 flows-at c = c .before .before
@@ -35,10 +37,10 @@ module _ (c : tie.After-plan-in) where
   plan-at = c .plan-in .result .plan
 
   valid-at : Valid plan-at
-  valid-at = c .plan-in .ensures .1 (is-accepted (entered c .args .image .now) (c .plan-in .ensures .0) (entered c .pre .plan-passes))
+  valid-at = c .plan-in .ensures .1 (is-accepted (entered c .args .image .now) (c .plan-in .ensures .0) (entered c .pre .0 .plan-passes))
 
   plan-here : planFor plan-at ≡ planIn (entered c .args .image .now)
-  plan-here = plan-is (entered c .args .image .now) (c .plan-in .ensures .0) (entered c .pre .plan-passes)
+  plan-here = plan-is (entered c .args .image .now) (c .plan-in .ensures .0) (entered c .pre .0 .plan-passes)
 
 plan-in-requires : tie.Need-plan-in-requires
 plan-in-requires c κs = search needs
@@ -46,40 +48,36 @@ plan-in-requires c κs = search needs
 layout-of-requires : tie.Need-layout-of-requires
 layout-of-requires c κs = valid-at (c .before)
 
-empty-requires : tie.Need-empty-requires
-empty-requires c κs = search needs
-
 read-flows-requires : tie.Need-read-flows-requires
 read-flows-requires c κs =
-    let y = c .before .before in
+    let y = c .before in
     let r = read-at y in
-    (flows-on (entered r .pre) (plan-at r) (valid-at r) (plan-here r) _ (y .layout-of .ensures), omega arith)
+    (flows-on (entered r .pre .0) (plan-at r) (valid-at r) (plan-here r) _ (y .layout-of .ensures), ap length (entered r .pre .1) ∙ whole-empty)
 
 read-held-requires : tie.Need-read-held-requires
 read-held-requires c κs =
     let f = c .before in
-    let e = made-at f in
-    let y = e .before in
+    let y = laid-at f in
     let r = read-at y in (
-      holdings-on (entered r .pre) (plan-at r) (valid-at r) (plan-here r) _ (y .layout-of .ensures),
-      whole-flows (entered r .pre) (plan-at r) (valid-at r) (plan-here r) _ (y .layout-of .ensures) (e .empty .ensures) (f .read-flows .ensures),
-      nothing-yet (entered r .pre) (plan-at r) (valid-at r) (plan-here r) _ (y .layout-of .ensures) (e .empty .ensures) (f .read-flows .ensures),
+      holdings-on (entered r .pre .0) (plan-at r) (valid-at r) (plan-here r) _ (y .layout-of .ensures),
+      whole-flows (entered r .pre .0) (plan-at r) (valid-at r) (plan-here r) _ (y .layout-of .ensures) (entered r .pre .1) (f .read-flows .ensures),
+      nothing-yet (entered r .pre .0) (plan-at r) (valid-at r) (plan-here r) _ (y .layout-of .ensures) (entered r .pre .1) (f .read-flows .ensures),
     )
 
 read-table-requires : tie.Need-read-table-requires
 read-table-requires c κs =
-    let y = made-at (flows-at c) .before in
+    let y = laid-at (flows-at c) in
     let r = read-at y in
-    owners-on (entered r .pre) (plan-at r) (valid-at r) (plan-here r) _ (y .layout-of .ensures)
+    owners-on (entered r .pre .0) (plan-at r) (valid-at r) (plan-here r) _ (y .layout-of .ensures)
 
 field-requires : tie.Need-field-requires
 field-requires c κs = search needs
 
 window-requires : tie.Need-window-requires
 window-requires c κs =
-    let y = made-at (flows-at (held-at c)) .before in
+    let y = laid-at (flows-at (held-at c)) in
     let r = read-at y in
-    rw (c .field .ensures .0) (measures-read (entered r .pre) (plan-at r) (valid-at r) (plan-here r) _ (y .layout-of .ensures))
+    rw (c .field .ensures .0) (measures-read (entered r .pre .0) (plan-at r) (valid-at r) (plan-here r) _ (y .layout-of .ensures))
 
 field-requires-2 : tie.Need-field-requires-2
 field-requires-2 c κs = search needs
@@ -90,19 +88,27 @@ field-requires-3 c κs = search needs
 cast-resume : tie.Need-cast-resume
 cast-resume c =
     let t = c .before in
-    let y = made-at (flows-at (held-at (current-at t))) .before in
+    let y = laid-at (flows-at (held-at (current-at t))) in
     let r = read-at y in
-    omega (arith, t .before .field2 .ensures .0, mark-most (entered r .pre) (plan-at r) (valid-at r) (plan-here r) _ (y .layout-of .ensures))
+    omega (arith, t .before .field2 .ensures .0, mark-most (entered r .pre .0) (plan-at r) (valid-at r) (plan-here r) _ (y .layout-of .ensures))
 
 cast-resume-2 : tie.Need-cast-resume-2
 cast-resume-2 c =
     let t = c .before in
-    let y = made-at (flows-at (held-at (current-at t))) .before in
+    let y = laid-at (flows-at (held-at (current-at t))) in
     let r = read-at y in
-    omega (arith, t .field3 .ensures .0, turn-most (entered r .pre) (plan-at r) (valid-at r) (plan-here r) _ (y .layout-of .ensures))
+    omega (arith, t .field3 .ensures .0, turn-most (entered r .pre .0) (plan-at r) (valid-at r) (plan-here r) _ (y .layout-of .ensures))
 
 resume-requires : tie.Need-resume-requires
-resume-requires c κs = search needs
+resume-requires c κs =
+    let t = c .before in
+    let h = held-at (current-at t) in
+    let f = flows-at h in
+    let y = laid-at f in
+    let r = read-at y in (
+      t .before .before .window .ensures .1,
+      whole-held (entered r .pre .0) (plan-at r) (valid-at r) (plan-here r) _ (y .layout-of .ensures) (entered r .pre .1) (f .read-flows .ensures) (h .read-held .ensures),
+    )
 
 returns : tie.Need-returns
 returns c =
@@ -110,14 +116,13 @@ returns c =
     let k = current-at t in
     let h = held-at k in
     let f = flows-at h in
-    let e = made-at f in
-    let y = e .before in
+    let y = laid-at f in
     let r = read-at y in
     let w = t .before .before in (
-      made-link (entered r .pre) (plan-at r) (valid-at r) (plan-here r) _ (y .layout-of .ensures) (e .empty .ensures) (f .read-flows .ensures) (h .read-held .ensures)
+      made-link (entered r .pre .0) (plan-at r) (valid-at r) (plan-here r) _ (y .layout-of .ensures) (entered r .pre .1) (f .read-flows .ensures) (h .read-held .ensures)
           (k .field .ensures .0) (w .window .ensures .0) (k .before .read-table .ensures) (t .before .field2 .ensures .0) (t .field3 .ensures .0) (c .resume .ensures),
-      made-sound (entered r .pre) (plan-at r) (valid-at r) (plan-here r) _ (y .layout-of .ensures) (e .empty .ensures) (f .read-flows .ensures) (h .read-held .ensures)
-          (k .field .ensures .0) (w .window .ensures .0) (k .before .read-table .ensures) (t .before .field2 .ensures .0) (t .field3 .ensures .0) (c .resume .ensures),
+      made-in (entered r .pre .0) (plan-at r) (valid-at r) (plan-here r) _ (y .layout-of .ensures) (entered r .pre .1) (f .read-flows .ensures) (h .read-held .ensures)
+          (k .field .ensures .0) (w .window .ensures .0) (k .before .read-table .ensures) (t .before .field2 .ensures .0) (t .field3 .ensures .0) (c .resume .ensures) (w .window .ensures .1),
     )
 
 pub read-spec : {M : Type 1} → statement M
@@ -126,7 +131,6 @@ read-spec =
     (tie.spec
     plan-in-requires
     layout-of-requires
-    empty-requires
     read-flows-requires
     read-held-requires
     read-table-requires
