@@ -115,7 +115,7 @@ pub extern "C" fn nazgolv_request(image: &mut [u8], word: u32) -> u64
     let fields = word::split(word);
     let i = placed(plan.count, fields.flow as usize);
     let e = plan.entries[i];
-    let reply = request(&mut state, plan.count, e, kept.window, i, fields);
+    let reply = request(&mut state, plan.count, e, kept.window, fields);
     write(plan, &state, image);
     number_of_reply(word, reply)
 }

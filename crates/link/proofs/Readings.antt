@@ -37,11 +37,6 @@ module _ (l : Parts) where
   unfolding linkOf
   read-owner p b = getD-table (sizeOf l) _ p _ b
 
-  -- the window that a call works with
-  pub read-window : {v : Window} → v ≡ record { slots = l .plan .slots; frames = l .plan .frames; current = l .cp } → v ≡ model.window (linkOf l)
-  unfolding linkOf
-  read-window e = e
-
   module _ {v : Window} (is : v ≡ model.window (linkOf l)) where
     pub read-size : size v ≡ sizeOf l
     unfolding linkOf

@@ -1,4 +1,4 @@
--- The reading determines a sound link: it is what its reading is stored as. Assumes nothing.
+-- The reading determines the parts of a sound link: they are what it is stored as. It says nothing of the bounds, which no reading sees. Assumes nothing.
 use Prim.Native.Nat.{ℕ, _<_}
 use mathlib.Core.Path.{_≡_, refl, sym, ap, _∙_}
 use mathlib.Core.Bool.{Bool, true, false}

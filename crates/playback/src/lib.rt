@@ -54,7 +54,7 @@ pub fn play(start: Link, records: &[u8], out: &mut [u8]) -> Playback
                 let fields = word::split(word);
                 let i = placed(plan.count, fields.flow as usize);
                 let e = plan.entries[i];
-                let reply = request(&mut link.state, plan.count, e, w, i, fields);
+                let reply = request(&mut link.state, plan.count, e, w, fields);
                 let number = reply.number;
                 if number != 0 {
                     end = calls::write_refusal(number, out, end);

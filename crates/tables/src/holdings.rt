@@ -232,13 +232,13 @@ pub fn lower_from(held: &mut State, i: usize, w: Window, p: usize) -> bool
     true
 }
 
-// One more from p on for flow i, whose bound goes up with it.
-pub fn raise_from(held: &mut State, i: usize, w: Window, p: usize)
-    requires { ⌜ FlowAt w i p ⌝ }
-    ensures { λ r. ⌜ now (held .exit) ≡ raised w i p (now (held .entry)) ⌝ }
+// One more from a position on for flow i, whose bound goes up with it.
+pub fn raise_from(held: &mut State, i: usize, w: Window, position: usize)
+    requires { ⌜ FlowAt w i position ⌝ }
+    ensures { λ r. ⌜ now (held .exit) ≡ raised w i position (now (held .entry)) ⌝ }
 {
     let bound = held[BOUNDS + i];
-    shift_from(held, 1, i, w, p);
+    shift_from(held, 1, i, w, position);
     held[BOUNDS + i] = one_more(bound);
 }
 
