@@ -3,9 +3,10 @@ mod Plans
 pub mod Readings
 mod Updated
 pub mod Stored
-mod FlowBytes
+pub mod FlowBytes
 mod StateParts
-mod FlowLoops
+pub mod FlowLoops
+pub mod OneState
 -- the calls
 mod Words
 mod Searches
@@ -30,3 +31,6 @@ pub mod Ticks
 mod StateTicks
 pub mod Told
 pub mod Demand3
+-- a state taken up again
+mod OwnerMasks
+pub mod Resumed

@@ -8,6 +8,7 @@ pub mod Given
 pub mod Sought
 pub mod Started
 pub mod Changes
+pub mod Resumed
 pub mod Lend
 pub mod Reset
 pub mod Bursts

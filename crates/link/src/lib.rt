@@ -9,6 +9,7 @@ mod fresh;
 pub mod flows; // the flows of a state
 pub mod lend;
 pub mod request;
+pub mod resume; // a state taken up again
 pub mod reset;
 pub mod tick;
 

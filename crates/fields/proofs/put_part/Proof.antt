@@ -1,20 +1,24 @@
--- `fields::put_table` meets its contract: the fields so far are written. Assumes nothing.
+-- `fields::put_part` meets its contract: the fields so far are written. Assumes nothing.
 use borrow.Author.Needs.{needs}
-use Prim.Native.Nat.{_-_}
+use Prim.Native.Nat.{_+_, _-_}
 use native.Mathlib.Omega.{arith}
 use lib.ListN.{getD}
+use Rattle.state.specs.Parts.{part}
 use Rattle.fields.proofs.FieldLists.{Putting, putting-none, putting-more, putting-done}
-use Rattle.fields.proofs.put_table.Statement.{statement}
-use Rattle.fields.proofs.put_table.Tie as tie
+use Rattle.fields.proofs.put_part.Statement.{statement}
+use Rattle.fields.proofs.put_part.Tie as tie
 
 abbrev Inv-loop : tie.InvT-loop
-Inv-loop table count out₀ at next₀ p₀ out next p = Putting (λ k. getD table k 0) count out₀ out at next p
+Inv-loop s first count out₀ at next₀ p₀ out next p = Putting (λ k. getD s (first + k) 0) count out₀ out at next p
 
 abbrev μ-loop : tie.MeasureT-loop
-μ-loop table count out₀ at next₀ p₀ out next p = count - p
+μ-loop s first count out₀ at next₀ p₀ out next p = count - p
 
 loop-holds : tie.Need-loop-holds Inv-loop μ-loop
 loop-holds c = putting-none
+
+add-wide : tie.Need-add-wide Inv-loop μ-loop
+add-wide c = search needs
 
 element-copy-out-wide : tie.Need-element-copy-out-wide Inv-loop μ-loop
 element-copy-out-wide c = search needs
@@ -41,15 +45,17 @@ same-length : tie.Need-same-length Inv-loop μ-loop
 same-length c = search needs
 
 returns : tie.Need-returns Inv-loop μ-loop
+unfolding part
 returns c = putting-done (c .before .loop .inv) (omega arith)
 
-pub put-table-spec : {M : Type 1} → statement M
-put-table-spec =
+pub put-part-spec : {M : Type 1} → statement M
+put-part-spec =
     tie.close
     (tie.spec
     Inv-loop
     μ-loop
     loop-holds
+    add-wide
     element-copy-out-wide
     wide-requires
     put-requires
