@@ -1,6 +1,6 @@
 // Calls of one kind, by value, one after the other, and the time that they take.
 ghost use Prim.Native.Nat.{_≤_};
-ghost use Rattle.link.specs.Sound.{Sound};
+ghost use Rattle.link.specs.Sound.{SoundLink};
 use crate::several;
 use burst::burst_first;
 use calls::Answer;
@@ -35,8 +35,8 @@ fn add(sum: u64, answer: Answer) -> u64 {
 }
 
 fn requests(first: Step, words: &[u32; MOST], from: usize, to: usize) -> Timed
-    requires { ⌜ Sound (first .link) × (to ≤ 4096) ⌝ }
-    ensures { λ r. ⌜ Sound (r .step .link) ⌝ }
+    requires { ⌜ SoundLink (first .link) × (to ≤ 4096) ⌝ }
+    ensures { λ r. ⌜ SoundLink (r .step .link) ⌝ }
 {
     let mut step = first;
     let mut sum = 0;
@@ -61,8 +61,8 @@ fn position(word: u32) -> usize {
 }
 
 fn credits(first: Step, words: &[u32; MOST], from: usize, to: usize) -> Timed
-    requires { ⌜ Sound (first .link) × (to ≤ 4096) ⌝ }
-    ensures { λ r. ⌜ Sound (r .step .link) ⌝ }
+    requires { ⌜ SoundLink (first .link) × (to ≤ 4096) ⌝ }
+    ensures { λ r. ⌜ SoundLink (r .step .link) ⌝ }
 {
     let mut step = first;
     let mut sum = 0;
@@ -78,8 +78,8 @@ fn credits(first: Step, words: &[u32; MOST], from: usize, to: usize) -> Timed
 }
 
 fn ticks(first: Step, from: usize, to: usize) -> Timed
-    requires { ⌜ Sound (first .link) ⌝ }
-    ensures { λ r. ⌜ Sound (r .step .link) ⌝ }
+    requires { ⌜ SoundLink (first .link) ⌝ }
+    ensures { λ r. ⌜ SoundLink (r .step .link) ⌝ }
 {
     let mut step = first;
     let mut sum = 0;
@@ -95,8 +95,8 @@ fn ticks(first: Step, from: usize, to: usize) -> Timed
 
 // The requests of a streak as bursts of 16; the last may have fewer.
 fn bursts(first: Step, words: &[u32; MOST], from: usize, to: usize) -> Timed
-    requires { ⌜ Sound (first .link) × (to ≤ 4096) ⌝ }
-    ensures { λ r. ⌜ Sound (r .step .link) ⌝ }
+    requires { ⌜ SoundLink (first .link) × (to ≤ 4096) ⌝ }
+    ensures { λ r. ⌜ SoundLink (r .step .link) ⌝ }
 {
     let mut back = several::none(first.link);
     let mut sum = 0;
@@ -127,8 +127,8 @@ pub(crate) fn streak(
     to: usize,
     in_bursts: bool,
 ) -> Timed
-    requires { ⌜ Sound (step .link) × (to ≤ 4096) ⌝ }
-    ensures { λ r. ⌜ Sound (r .step .link) ⌝ }
+    requires { ⌜ SoundLink (step .link) × (to ≤ 4096) ⌝ }
+    ensures { λ r. ⌜ SoundLink (r .step .link) ⌝ }
 {
     if kind == 1 && in_bursts {
         return bursts(step, words, from, to);

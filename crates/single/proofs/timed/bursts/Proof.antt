@@ -1,12 +1,12 @@
 -- `single::timed::bursts` is safe and ends. Assumes nothing.
 use Prim.Native.Nat.{_-_, _≤_}
-use Rattle.link.specs.Sound.{Sound}
+use Rattle.link.specs.Sound.{SoundLink}
 use borrow.Author.Needs.{needs}
 use Rattle.single.proofs.timed.bursts.Statement.{statement}
 use Rattle.single.proofs.timed.bursts.Tie as tie
 
 abbrev Inv-loop : tie.InvT-loop
-Inv-loop words from to back₀ sum₀ at₀ begin back sum at = (to ≤ 4096) × Sound (back .link)
+Inv-loop words from to back₀ sum₀ at₀ begin back sum at = (to ≤ 4096) × SoundLink (back .link)
 
 abbrev μ-loop : tie.MeasureT-loop
 μ-loop words from to back₀ sum₀ at₀ begin back sum at = to - at
