@@ -7,9 +7,8 @@ ghost use lib.ListN.{length};
 ghost use lib.Seq.{sets};
 ghost use Rattle.model.specs.Calls.{accepted};
 ghost use Rattle.model.specs.Listing.{creditLine};
-ghost use Rattle.calls.specs.Lines.{numberLine, outWith, nextAfter};
+ghost use Rattle.calls.specs.Lines.{numberLine, Puts};
 ghost use Rattle.lines.specs.Lines.{four, textOf, Kept, lineAt, AllLines};
-use calls::has_room;
 use calls::wide;
 
 // A line of four to seven bytes.
@@ -105,31 +104,24 @@ fn put_four(word: u32, out: &mut [u8], at: usize)
     out[at + 3] = (word / 16777216) as u8;
 }
 
-// Writes a line and returns the place after it; where the longest line has no room it writes nothing and returns the same place, as
-// `calls::write` does.
+// Writes a line where the longest has room, and returns the place after it.
 pub fn write(line: Line, out: &mut [u8], at: usize) -> usize
-    ensures out { λ r. ⌜ now (out .exit) ≡ outWith (textOf line) (now (out .entry)) at ⌝ }
-    ensures next { λ r. ⌜ r ≡ nextAfter (textOf line) (now (out .entry)) at ⌝ }
+    requires { ⌜ at + 7 ≤ length (now out) ⌝ }
+    ensures put { λ r. ⌜ Puts (textOf line) (now (out .entry)) (now (out .exit)) at r ⌝ }
     ensures most { λ r. ⌜ r ≤ at + 7 ⌝ }
 {
-    if !has_room(out, at) {
-        return at;
-    }
     let past = (line.past % 4) as usize;
     put_four(line.last, out, at + past);
     put_four(line.first, out, at);
     at + past + 4
 }
 
-// Writes the line of a credit that is taken, as `calls::write` does.
+// Writes the line of a credit that is taken where the longest has room, and returns the place after it.
 pub fn write_taken(out: &mut [u8], at: usize) -> usize
-    ensures out { λ r. ⌜ now (out .exit) ≡ outWith (creditLine (accepted tt)) (now (out .entry)) at ⌝ }
-    ensures next { λ r. ⌜ r ≡ nextAfter (creditLine (accepted tt)) (now (out .entry)) at ⌝ }
+    requires { ⌜ at + 7 ≤ length (now out) ⌝ }
+    ensures put { λ r. ⌜ Puts (creditLine (accepted tt)) (now (out .entry)) (now (out .exit)) at r ⌝ }
     ensures most { λ r. ⌜ r ≤ at + 7 ⌝ }
 {
-    if !has_room(out, at) {
-        return at;
-    }
     out[at] = b'C';
     out[at + 1] = b'\n';
     at + 2
