@@ -1,12 +1,14 @@
 // The lines of granted positions and of ticks, made for many records at once and kept in two parts of four bytes each, which overlap; and
-// the line of a credit that is taken.
+// the lines of what requests and credits come to.
 ghost use mathlib.Core.Path.{_≡_};
+ghost use mathlib.Core.Bool.{cond};
 ghost use mathlib.Core.List.{_∷_, []};
 ghost use Prim.Native.Nat.{_+_, _<_, _≤_};
+ghost use lib.Dec.{eqb};
 ghost use lib.ListN.{length};
 ghost use lib.Seq.{sets};
 ghost use Rattle.model.specs.Calls.{accepted};
-ghost use Rattle.model.specs.Listing.{creditLine};
+ghost use Rattle.model.specs.Listing.{creditLine, refusalLine};
 ghost use Rattle.calls.specs.Lines.{numberLine, Puts};
 ghost use Rattle.lines.specs.Lines.{four, textOf, Kept, lineAt, AllLines};
 use calls::wide;
@@ -116,8 +118,21 @@ pub fn write(line: Line, out: &mut [u8], at: usize) -> usize
     at + past + 4
 }
 
-// Writes the line of a credit that is taken where the longest has room, and returns the place after it.
-pub fn write_taken(out: &mut [u8], at: usize) -> usize
+// Writes what a request comes to, where the longest line has room, and returns the place after it: the refusal that a number is, or a line where
+// the number is 0.
+pub fn write_reply(number: u8, line: Line, out: &mut [u8], at: usize) -> usize
+    requires { ⌜ at + 7 ≤ length (now out) ⌝ }
+    ensures put { λ r. ⌜ Puts (cond (eqb number 0) (textOf line) (refusalLine number)) (now (out .entry)) (now (out .exit)) at r ⌝ }
+    ensures most { λ r. ⌜ r ≤ at + 7 ⌝ }
+{
+    if number != 0 {
+        return calls::write_refusal(number, out, at);
+    }
+    write(line, out, at)
+}
+
+// The line of a credit that is taken.
+fn write_taken(out: &mut [u8], at: usize) -> usize
     requires { ⌜ at + 7 ≤ length (now out) ⌝ }
     ensures put { λ r. ⌜ Puts (creditLine (accepted tt)) (now (out .entry)) (now (out .exit)) at r ⌝ }
     ensures most { λ r. ⌜ r ≤ at + 7 ⌝ }
@@ -125,4 +140,16 @@ pub fn write_taken(out: &mut [u8], at: usize) -> usize
     out[at] = b'C';
     out[at + 1] = b'\n';
     at + 2
+}
+
+// Writes what a credit comes to, where the longest line has room, and returns the place after it: 0, or a refusal.
+pub fn write_credit(number: u8, out: &mut [u8], at: usize) -> usize
+    requires { ⌜ at + 7 ≤ length (now out) ⌝ }
+    ensures put { λ r. ⌜ Puts (cond (eqb number 0) (creditLine (accepted tt)) (refusalLine number)) (now (out .entry)) (now (out .exit)) at r ⌝ }
+    ensures most { λ r. ⌜ r ≤ at + 7 ⌝ }
+{
+    if number != 0 {
+        return calls::write_refusal(number, out, at);
+    }
+    write_taken(out, at)
 }
