@@ -7,7 +7,8 @@ import re
 import programs
 
 CALLS = 4096            # the proved program plays no more
-LINE = re.compile(r"^(request|burst|credit|tick) +([0-9.]+) ns", re.MULTILINE)
+LINE = re.compile(r"^(request|burst|floor|credit|tick) +([0-9.]+) ns",
+                  re.MULTILINE)
 ANSWERS = re.compile(r"^(?:answers|in bursts) ([0-9]+)$", re.MULTILINE)
 
 # Files of bursts: the words, the state of the table, and the most slots that
@@ -40,20 +41,23 @@ def measure(folder, rounds, path):
 
 
 def show_bursts(folder, rounds):
-    """Nanoseconds a word, 16 words to a burst, and singly beside it."""
+    """Nanoseconds a word, 16 words to a burst; beside it the floor, which is
+    what it takes to hand a link over and back for each 16 words, and the same
+    words singly."""
     for words, table, stride in BURSTS:
         path = programs.make(folder, words, CALLS, "--stride", stride)
         ours, theirs = measure(folder, rounds, path)
         print("16 words, %-7s %-11s burst %6.1f ns   plain Rust %6.1f ns"
-              "   ratio %6.2f   single requests %6.1f ns"
+              "   ratio %6.2f   floor %6.1f ns   single requests %6.1f ns"
               % (words, table, ours["burst"], theirs["burst"],
-                 ours["burst"] / theirs["burst"], ours["request"]))
+                 ours["burst"] / theirs["burst"], ours["floor"],
+                 ours["request"]))
 
 
 def show(folder, rounds):
     path = programs.make(folder, "dense", CALLS)
     by_value, by_reference = measure(folder, rounds, path)
-    for kind, ours in by_value.items():
-        theirs = by_reference[kind]
+    for kind, theirs in by_reference.items():
+        ours = by_value[kind]
         print("%-8s by value %6.1f ns   by &mut %6.1f ns   ratio %6.2f"
               % (kind, ours, theirs, ours / theirs))

@@ -8,9 +8,11 @@ use calls::RECORD;
 use calls::Record;
 use lines::TICKS;
 use lines::lines;
+use lines::write_credit;
+use lines::write_reply;
 use link::Link;
 use link::credit::credit;
-use link::request::asker;
+use link::request::placed;
 use link::request::request;
 use link::tick::tick;
 use state::CURRENT;
@@ -18,13 +20,13 @@ use state::OWNERS;
 use window::numbers::smaller;
 use window::positions::window;
 
-// A link after some records, and how many bytes the records and their lines have.
+// A link after some records, and how far they and their lines go.
 pub struct Playback {
     pub link: Link,
     // bytes of the records that were played
     pub used: usize,
-    // bytes of their lines
-    pub written: usize,
+    // where their lines end in `out`
+    pub end: usize,
 }
 
 // Plays the records of a slice and writes their lines from the start of `out` on: every whole record, or as many as `out` has room for,
@@ -32,7 +34,7 @@ pub struct Playback {
 pub fn play(start: Link, records: &[u8], out: &mut [u8]) -> Playback
     requires { ⌜ SoundLink start ⌝ }
     ensures { λ r. ⌜ PlayedRecords (readOf start) (now (records .entry)) (now (out .entry))
-        (readOf (r .link)) (r .used) (r .written) (now (out .exit)) ⌝ }
+        (readOf (r .link)) (r .used) (r .end) (now (out .exit)) ⌝ }
     ensures sound { λ r. ⌜ SoundLink (r .link) ⌝ }
 {
     let used = RECORD * smaller(records.len() / RECORD, out.len() / LONGEST_LINE);
@@ -51,24 +53,20 @@ pub fn play(start: Link, records: &[u8], out: &mut [u8]) -> Playback
         };
         match call {
             Call::Request(word) => {
-                let i = asker(plan.count, word);
+                let fields = word::split(word);
+                let i = placed(plan.count, fields.flow as usize);
                 let e = plan.entries[i];
-                let answer = request(&mut link.state, plan.count, e, w, 255, i, word);
-                end = calls::write(answer, out, end);
+                let reply = request(&mut link.state, plan.count, e, w, i, fields);
+                let line = made[reply.position as usize];
+                end = write_reply(reply.number, line, out, end);
             }
             Call::Credit(flow, position) => {
-                let freed = credit(&mut link.state, plan.count, w, flow, position);
-                let number = freed.number;
-                if number != 0 {
-                    end = calls::write_refusal(number, out, end);
-                } else {
-                    end = lines::write_taken(out, end);
-                }
+                let number = credit(&mut link.state, plan, w, flow, position);
+                end = write_credit(number, out, end);
             }
             Call::Tick => {
-                let on = tick(&mut link.state, plan, w);
-                w = on;
-                let next = on.current;
+                w = tick(&mut link.state, plan, w);
+                let next = w.current;
                 let owner = link.state[OWNERS + next];
                 // nobody's number, 16, is the place of the idle line
                 let line = made[TICKS + owner as usize];
@@ -77,9 +75,5 @@ pub fn play(start: Link, records: &[u8], out: &mut [u8]) -> Playback
         }
         at += RECORD;
     }
-    Playback {
-        link,
-        used,
-        written: end,
-    }
+    Playback { link, used, end }
 }

@@ -28,7 +28,7 @@ pub(crate) fn play_on(link: Link, bytes: &[u8], out: &mut [u8], at: usize) -> Pr
     let link = played.link;
     Progress {
         state: playing(link, kept),
-        written: at + played.written,
+        written: at + played.end,
     }
 }
 
@@ -51,7 +51,7 @@ pub(crate) fn go_on(link: Link, kept: Kept, piece: &[u8], out: &mut [u8]) -> Pro
     let bytes = whole.bytes;
     let played = playback::play(link, &bytes[..RECORD], out);
     let link = played.link;
-    play_on(link, &piece[whole.count - count..], out, played.written)
+    play_on(link, &piece[whole.count - count..], out, played.end)
 }
 
 // The line of a record that is cut off where the input ends, which the call reader refuses; nothing where no byte is kept.

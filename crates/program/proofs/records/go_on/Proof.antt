@@ -44,7 +44,7 @@ module _ (c : tie.After-play) where
   some-taken = omega (arith, long, five at-filled .kept .count-is, before-play .pre .0 .not-whole, before-play .pre .1 .kept-well .count-is)
 
   one : PlayedOne (readOf (before-play .args .link)) (bytesIn (at-filled .filled .result)) (before-play .args .out .now)
-      (readOf (c .play .result .link)) (c .play .result .written) (c .play .last .1 .1 .0)
+      (readOf (c .play .result .link)) (c .play .result .end) (c .play .last .1 .1 .0)
   one = played-one five-is long (omega (arith, five at-filled .in-piece, some-taken, before-play .pre .1 .room)) (c .play .ensures .0)
 
 play-on-requires : tie.Need-play-on-requires

@@ -19,7 +19,7 @@ module _ (c : tie.After-play) where
   start = c .before .before .before .before
 
   played : PlayedOn (readOf (start .args .link)) (start .args .bytes .now) (start .args .out .now) (start .args .at) (readOf (c .play .result .link))
-      (c .play .result .used) (c .play .result .written) (putBack (start .args .out .now) (start .args .at) (c .play .last .1 .1 .0))
+      (c .play .result .used) (c .play .result .end) (putBack (start .args .out .now) (start .args .at) (c .play .last .1 .1 .0))
   played = played-on (start .pre .1) (c .play .ensures .0)
 
 -- where the bytes after the records are kept
