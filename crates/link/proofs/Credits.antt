@@ -11,8 +11,6 @@ use Rattle.model.specs.Calls.{accepted}
 use Rattle.model.specs.Window.{Window, passed, everyFrom}
 use Rattle.model.specs.Link as model
 use Rattle.model.specs.Credit.{creditTests, credit, creditAfter, lowered}
-use Rattle.calls.specs.declared.Answer.the-variants.{Taken, Refused}
-use Rattle.calls.specs.Reading.{answerToCredit}
 use Rattle.plan.specs.declared.Plan.{Plan}
 use Rattle.window.specs.declared.Window as code
 use Rattle.window.specs.Ranges.{replaced}
@@ -28,7 +26,7 @@ use Rattle.link.specs.Updates.{withHeld, withFlows, withHoldings, withFl
 use Rattle.link.specs.Reading.{linkOf}
 use Rattle.link.specs.Sound.{Sound}
 use Rattle.link.specs.Given.{Creditable}
-use Rattle.link.specs.Steps.{SteppedParts}
+use Rattle.link.specs.Steps.{SteppedParts, numberOf}
 use Rattle.link.proofs.Given.{AtHand}
 use Rattle.link.proofs.Readings.{read-count, read-flow, read-holding}
 use Rattle.link.proofs.Updated.{read-from, sound-from}
@@ -77,11 +75,11 @@ pub same-flow : (l : Parts) (i : ℕ) (h : List ℕ) → withHoldings l (withRow
 same-flow l i h = ap (λ (x : List Flow). withHoldings (withFlows l x) (withRow (l .held) i h)) (sym (set-getD (l .flows) i noFlow))
 
 module _ {l : Parts} {plan : Plan} {w : code.Window} (a : AtHand l plan w) (i p : ℕ) {n : ℕ} (tests : n ≡ firstOf (creditTests (linkOf l) i p)) where
-  pub credit-refused : (n ≡ 0 → ⊥) → SteppedParts answerToCredit (credit (linkOf l) i p) l (Refused n)
+  pub credit-refused : (n ≡ 0 → ⊥) → SteppedParts numberOf (credit (linkOf l) i p) l n
   unfolding credit creditAfter
   credit-refused nonzero = rw (← tests) (go n nonzero)
     where
-      go : (k : ℕ) → (k ≡ 0 → ⊥) → SteppedParts answerToCredit (creditAfter k (linkOf l) i p) l (Refused k)
+      go : (k : ℕ) → (k ≡ 0 → ⊥) → SteppedParts numberOf (creditAfter k (linkOf l) i p) l k
       go zero none = absurd (none refl)
       go (suc r) none = record { link-is = refl; answer-is = refl; sound = a .sound }
 
@@ -112,5 +110,5 @@ module _ {l : Parts} {plan : Plan} {w : code.Window} (a : AtHand l plan w) (i p 
         (a .sound .flows i flow-below .frame) (a .sound .flows i flow-below .number)
 
     pub credit-taken : {h : List ℕ} → h ≡ shifted (windowOf w) 255 i p (l .held)
-        → SteppedParts answerToCredit (credit (linkOf l) i p) (withHoldings l h) Taken
+        → SteppedParts numberOf (credit (linkOf l) i p) (withHoldings l h) 0
     credit-taken e = rw (taken z, e, same-flow l i lower) (record { link-is = lower-link; answer-is = refl; sound = sound-lower })

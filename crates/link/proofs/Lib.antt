@@ -28,5 +28,5 @@ mod LeavingHeads
 mod FrameChanges
 pub mod Ticks
 mod StateTicks
-pub mod GrantedPositions
+pub mod Told
 pub mod Demand3

@@ -18,10 +18,11 @@ use Rattle.state.proofs.State.{held-beside, held-with-all, beside-all-held, own
 use Rattle.unbooked.specs.Words.{Words}
 use Rattle.tables.specs.Owners.{nobody, everywhere}
 use Rattle.tables.specs.Holdings.{nothingHeld}
+use Rattle.tables.proofs.Bounds.{bounds-nothing}
 use Rattle.tables.proofs.FreshTables.{length-everywhere, length-nothing}
 use Rattle.link.specs.declared.Flow.{Flow}
 use Rattle.link.specs.Layout.{noFlow}
-use Rattle.link.specs.Parts.{partsIn, flowsOf}
+use Rattle.link.specs.Parts.{Parts, partsIn, flowsOf}
 use Rattle.link.specs.Changes.{FlowsNow}
 use Rattle.link.specs.Sound.{SoundState}
 use Rattle.link.specs.Started.{noFlows, startedFlows}
@@ -65,26 +66,26 @@ module _ {plan : Plan} (v : Valid plan) (s : List ℕ) (whole : Whole s)
         whole₅ = flows .beside .long ∙ whole-spare
 
         abbrev last : List ℕ
-        last = set (set (set t₅ 4480 0) 4481 0) 4482 0
+        last = set (set (set t₅ 4496 0) 4497 0) 4498 0
 
-        ends : Beside 4480 4483 t₅ last
+        ends : Beside 4496 4499 t₅ last
         ends =
-            beside-both (beside-both (beside-set t₅ 4480 0 4480 4483 (omega arith) (omega arith)) (beside-set _ 4481 0 4480 4483 (omega arith) (omega arith)))
-            (beside-set _ 4482 0 4480 4483 (omega arith) (omega arith))
+            beside-both (beside-both (beside-set t₅ 4496 0 4496 4499 (omega arith) (omega arith)) (beside-set _ 4497 0 4496 4499 (omega arith) (omega arith)))
+            (beside-set _ 4498 0 4496 4499 (omega arith) (omega arith))
 
-        current-is : getD last 4480 0 ≡ 0
+        current-is : getD last 4496 0 ≡ 0
         current-is =
-            getD-set-other (set (set t₅ 4480 0) 4481 0) 4482 4480 0 0 (λ z. omega arith)
-            ∙ getD-set-other (set t₅ 4480 0) 4481 4480 0 0 (λ z. omega arith)
-            ∙ getD-set-same t₅ 4480 0 0 (omega (arith, whole₅))
+            getD-set-other (set (set t₅ 4496 0) 4497 0) 4498 4496 0 0 (λ z. omega arith)
+            ∙ getD-set-other (set t₅ 4496 0) 4497 4496 0 0 (λ z. omega arith)
+            ∙ getD-set-same t₅ 4496 0 0 (omega (arith, whole₅))
 
-        mark-is : getD last 4481 0 ≡ 0
+        mark-is : getD last 4497 0 ≡ 0
         mark-is =
-            getD-set-other (set (set t₅ 4480 0) 4481 0) 4482 4481 0 0 (λ z. omega arith)
-            ∙ getD-set-same (set t₅ 4480 0) 4481 0 0 (rw length-set (omega (arith, whole₅)))
+            getD-set-other (set (set t₅ 4496 0) 4497 0) 4498 4497 0 0 (λ z. omega arith)
+            ∙ getD-set-same (set t₅ 4496 0) 4497 0 0 (rw length-set (omega (arith, whole₅)))
 
-        turn-is : getD last 4482 0 ≡ 0
-        turn-is = getD-set-same (set (set t₅ 4480 0) 4481 0) 4482 0 0 (rw (length-set, length-set) (omega (arith, whole₅)))
+        turn-is : getD last 4498 0 ≡ 0
+        turn-is = getD-set-same (set (set t₅ 4496 0) 4497 0) 4498 0 0 (rw (length-set, length-set) (omega (arith, whole₅)))
 
         parts-fresh : partsIn plan last ≡ freshLink plan u
         parts-fresh =
@@ -109,5 +110,6 @@ module _ {plan : Plan} (v : Valid plan) (s : List ℕ) (whole : Whole s)
         fresh-sound = record {
           whole = ends .long ∙ whole₅;
           mark = rw mark-is (omega arith);
+          bounds = bounds-nothing (ap (λ (l : Parts). l .held) parts-fresh);
           parts = rw parts-fresh (sound-fresh plan v u words);
         }

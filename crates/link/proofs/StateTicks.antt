@@ -19,11 +19,14 @@ use Rattle.state.proofs.State.{length-owners, owners-at, owners-with, beside-ow
 use Rattle.window.proofs.Ranges.{length-replaced}
 use Rattle.tables.specs.Owners.{ownerOf, emptied}
 use Rattle.tables.specs.Holdings.{lastOf, carried}
+use Rattle.tables.specs.Bounds.{Bounds}
 use Rattle.tables.specs.Masks.{Recycled}
+use Rattle.tables.proofs.Bounds.{bounds-beside, bounds-carried}
 use Rattle.tables.proofs.Masks.{mask-as-word}
 use Rattle.tables.proofs.HeldRows.{beside-carried, held-carried}
 use Rattle.tables.proofs.HoldingChanges.{last-below}
 use Rattle.link.specs.Given.{StateIn}
+use Rattle.link.specs.Layout.{sizeFor}
 use Rattle.link.specs.Parts.{Parts, partsIn, flowsOf}
 use Rattle.link.specs.Changes.{FlowsNow, FrameLeft, ChangeIn}
 use Rattle.link.specs.Reading.{linkOf}
@@ -31,7 +34,7 @@ use Rattle.link.specs.Sound.{SoundState}
 use Rattle.link.specs.Steps.{readIn, Went}
 use Rattle.link.specs.Updates.{leftHeads, withCurrent, withTaken}
 use Rattle.link.proofs.Plans.{count-most}
-use Rattle.link.proofs.Given.{AtHand, at-hand-ticked}
+use Rattle.link.proofs.Given.{AtHand, at-hand-ticked, in-hand, bounds-in, bounds-out}
 use Rattle.link.proofs.FlowBytes.{flows-beside}
 use Rattle.link.proofs.Ticks.{Advanced, head-stays, head-left, ticked}
 
@@ -95,16 +98,16 @@ module _ {plan : Plan} {w : Window} {on : ℕ} {s : List ℕ} (o : ChangeIn plan
 
 module _ (plan : Plan) (s : List ℕ) (whole : Whole s) (c : ℕ) where
   abbrev pub tickedState : List ℕ
-  tickedState = set (set s 4481 0) 4480 c
+  tickedState = set (set s 4497 0) 4496 c
 
-  after : Beside 4480 4482 s tickedState
-  after = beside-both (beside-set s 4481 0 4480 4482 (omega arith) (omega arith)) (beside-set (set s 4481 0) 4480 c 4480 4482 (omega arith) (omega arith))
+  after : Beside 4496 4498 s tickedState
+  after = beside-both (beside-set s 4497 0 4496 4498 (omega arith) (omega arith)) (beside-set (set s 4497 0) 4496 c 4496 4498 (omega arith) (omega arith))
 
-  current-is : getD tickedState 4480 0 ≡ c
-  current-is = getD-set-same (set s 4481 0) 4480 c 0 (rw length-set (omega (arith, whole)))
+  current-is : getD tickedState 4496 0 ≡ c
+  current-is = getD-set-same (set s 4497 0) 4496 c 0 (rw length-set (omega (arith, whole)))
 
-  mark-is : getD tickedState 4481 0 ≡ 0
-  mark-is = getD-set-other (set s 4481 0) 4480 4481 c 0 (λ z. omega arith) ∙ getD-set-same s 4481 0 0 (omega (arith, whole))
+  mark-is : getD tickedState 4497 0 ≡ 0
+  mark-is = getD-set-other (set s 4497 0) 4496 4497 c 0 (λ z. omega arith) ∙ getD-set-same s 4497 0 0 (omega (arith, whole))
 
   parts-ticked : partsIn plan tickedState ≡ withCurrent (withTaken (partsIn plan s) false) c
   parts-ticked =
@@ -112,39 +115,41 @@ module _ (plan : Plan) (s : List ℕ) (whole : Whole s) (c : ℕ) where
       let masks = masks-beside after (λ k l₁ h₁ l₂ h₂. omega arith) in
       let flows = flows-beside after (λ k l₁ h₁ l₂ h₂. omega arith) in
       let held = held-beside after (omega arith) in
-      let first : getD tickedState 4482 0 ≡ getD s 4482 0 = after .kept 4482 (λ _ high. omega arith) in
+      let first : getD tickedState 4498 0 ≡ getD s 4498 0 = after .kept 4498 (λ _ high. omega arith) in
       rw (mark-is, current-is, owners, masks, flows, held, first)
 
-module _ {plan : Plan} {w on : Window} {s : List ℕ} (o : StateIn plan (plan .count) w s) (t : Ticked w on) where
-  hand : AtHand (partsIn plan s) plan w
-  hand = record { sound = o .sound .parts; plan-is = refl; window-is = o .window-is; proper = o .proper }
+module _ {plan : Plan} {w on : Window} {s : List ℕ} (o : StateIn plan w s) (t : Ticked w on) where
+  abbrev hand : AtHand (partsIn plan s) plan w
+  hand = in-hand o
 
   -- what a tick that ends in this state comes to
   abbrev pub TickedTo : List ℕ → Type 0
   TickedTo v =
-      Went answerToTick (tick.tick (readIn plan s)) plan v (answerToTick (ownerOf (getD v (4096 + on .current) 0))) × StateIn plan (plan .count) on v
+      Went answerToTick (tick.tick (readIn plan s)) plan v (answerToTick (ownerOf (getD v (4096 + on .current) 0))) × StateIn plan on v
 
-  went : (u : List ℕ) → Whole u → Advanced (partsIn plan s) (withTaken (partsIn plan u) false) (on .current) → TickedTo (set (set u 4481 0) 4480 (on .current))
-  went u whole a =
+  went : (u : List ℕ) → Whole u → Bounds (sizeFor plan) u → Advanced (partsIn plan s) (withTaken (partsIn plan u) false) (on .current) → TickedTo (set (set u 4497 0) 4496 (on .current))
+  went u whole bounds a =
       let few : on .current < 256 = omega (arith, t .proper .measures .current-below, t .proper .measures .positions-most) in
       let is = parts-ticked plan u whole (on .current) in
       let owner = after plan u whole (on .current) .kept (4096 + on .current) (λ low _. omega arith) ∙ sym (owners-at u (on .current) few) in
       let x = ticked hand t a (ap (λ (y : ℕ). answerToTick (ownerOf y)) owner) in
-      let sound : SoundState plan (set (set u 4481 0) 4480 (on .current)) = record {
+      let sound : SoundState plan (set (set u 4497 0) 4496 (on .current)) = record {
         whole = after plan u whole (on .current) .long ∙ whole;
         mark = rw (mark-is plan u whole (on .current)) (omega arith);
+        bounds = bounds-beside (after plan u whole (on .current)) (omega arith) (λ k l₁ h₁ l₂ h₂. omega arith) bounds;
         parts = rw is (x .sound);
       } in
       let there = at-hand-ticked hand (sound .parts) refl t (current-is plan u whole (on .current)) in (
         record { link-is = ap linkOf is ∙ x .link-is; answer-is = x .answer-is; sound = sound },
-        record { sound = sound; count-is = refl; proper = there .proper; window-is = there .window-is },
+        record { sound = sound; proper = there .proper; window-is = there .window-is },
       )
 
-  pub went-stays : on .head ≡ w .head → TickedTo (set (set s 4481 0) 4480 (on .current))
-  went-stays e = went s (o .sound .whole) (head-stays hand t e refl)
+  pub went-stays : on .head ≡ w .head → TickedTo (set (set s 4497 0) 4496 (on .current))
+  went-stays e = went s (o .sound .whole) (o .sound .bounds) (head-stays hand t e refl)
 
-  pub went-leaves : {u : List ℕ} → (on .head ≡ w .head → ⊥) → FrameLeft plan w (on .head) s u → TickedTo (set (set u 4481 0) 4480 (on .current))
+  pub went-leaves : {u : List ℕ} → (on .head ≡ w .head → ⊥) → FrameLeft plan w (on .head) s u → TickedTo (set (set u 4497 0) 4496 (on .current))
   went-leaves {u} n f =
-      let first : getD u 4482 0 ≡ getD s 4482 0 = f .beside .kept 4482 (λ _ high. omega arith) in
+      let first : getD u 4498 0 ≡ getD s 4498 0 = f .beside .kept 4498 (λ _ high. omega arith) in
       went u (f .beside .long ∙ o .sound .whole)
+      (bounds-out o (bounds-carried (o .proper) (o .sound .whole) (bounds-in o) (plan .count) (f .held-is) (f .beside)))
       (head-left hand t n (f .owners-are) (f .masks-are) (f .held-is) (f .flows-are) (rw first))

@@ -9,7 +9,6 @@ use Rattle.model.specs.Refusals.{firstOf}
 use Rattle.model.specs.Word.{flowOf, departureOf}
 use Rattle.model.specs.Request.{Found, found, nowhere, requestTests, sought, booked, refusedAtNewest, answered, requestAfter, request}
 use Rattle.model.specs.Credit.{creditTests, lowered, creditAfter, credit}
-use Rattle.calls.specs.declared.Answer.{Answer}
 use Rattle.plan.specs.declared.Plan.{Plan}
 use Rattle.window.specs.declared.Window.{Window}
 use Rattle.window.specs.Window.{windowOf}
@@ -38,14 +37,13 @@ credit-current l i p = go (firstOf (creditTests l i p))
     go (suc n) = refl
 
 -- the window is that of the next state too
-pub still-in : {p : Plan} {n : ℕ} {w : Window} {s t : List ℕ} → StateIn p n w s → {A : Type 0} {toAnswer : A → Answer} {m : model.Step A} {a : Answer}
-    → Went toAnswer m p t a → m .link .current ≡ readIn p s .current → StateIn p n w t
+pub still-in : {p : Plan} {w : Window} {s t : List ℕ} → StateIn p w s → {A B : Type 0} {toAnswer : A → B} {m : model.Step A} {a : B}
+    → Went toAnswer m p t a → m .link .current ≡ readIn p s .current → StateIn p w t
 unfolding linkOf
 still-in {p} o v e =
     let same = sym (ap (λ (l : model.Link). l .current) (v .link-is) ∙ e) in
     record {
       sound = v .sound;
-      count-is = o .count-is;
       proper = o .proper;
       window-is = o .window-is ∙ (λ k. record { slots = p .slots; frames = p .frames; current = same k });
     }

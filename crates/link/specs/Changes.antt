@@ -1,7 +1,8 @@
 -- How a state changes by a loop over its flows, and by a frame change. Assumes nothing.
-use Prim.Native.Nat.{ℕ, _≤_, _<_}
+use Prim.Native.Nat.{ℕ, _+_, _<_}
 use mathlib.Core.Path.{_≡_}
 use mathlib.Core.List.{List}
+use lib.ListN.{set}
 use Rattle.plan.specs.declared.Plan.{Plan}
 use Rattle.plan.specs.Reading.{Valid}
 use Rattle.window.specs.declared.Window.{Window}
@@ -11,7 +12,9 @@ use Rattle.state.specs.State.{Whole, heldOf, ownersOf, masksOf}
 use mathlib.Core.Bool.{true}
 use Rattle.unbooked.specs.Words.{Words, Recycled}
 use Rattle.tables.specs.Owners.{nobody, everywhere, emptied}
+use Rattle.tables.specs.Masks.{Booked}
 use Rattle.tables.specs.Holdings.{carried}
+use Rattle.tables.specs.Bounds.{raised}
 use Rattle.link.specs.declared.Flow.{Flow}
 use Rattle.link.specs.Parts.{flowsOf}
 use Rattle.link.specs.Started.{startedFlows}
@@ -28,6 +31,12 @@ pub record ChangeIn (plan : Plan) (w : Window) (on : ℕ) (s : List ℕ) : Type 
   pub proper : Proper w
   pub whole : Whole s
   pub frame : on < 256
+
+-- flow i books position p of frame j: the owner, the mask, and what the flow holds with its bound
+pub record BookedIn (w : Window) (i j p : ℕ) (before after : List ℕ) : Type 0 where
+  pub masked : List ℕ
+  pub booked : Booked (w .slots) j p (set before (4096 + p) i) masked
+  pub is : after ≡ raised w i p masked
 
 -- nobody owns a position, and the plan's flows start in a frame
 pub record Renewed (plan : Plan) (frame : ℕ) (before after : List ℕ) : Type 0 where

@@ -5,7 +5,7 @@ pub mod Reading
 pub mod Sound
 pub mod Steps
 pub mod Given
-pub mod Reply
+pub mod Sought
 pub mod Started
 pub mod Changes
 pub mod Lend

@@ -49,13 +49,13 @@ flowsOf s = table 16 (flowRead s)
 abbrev pub partsIn : Plan → List ℕ → Parts
 partsIn p s = record {
   plan = p;
-  cp = getD s 4480 0;
+  cp = getD s 4496 0;
   owner = ownersOf s;
   unbooked = masksOf s;
   flows = flowsOf s;
   held = heldOf s;
-  taken = not (eqb (getD s 4481 0) 0);
-  first = getD s 4482 0;
+  taken = not (eqb (getD s 4497 0) 0);
+  first = getD s 4498 0;
 }
 
 abbrev pub partsOf : Link → Parts

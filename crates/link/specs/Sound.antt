@@ -8,6 +8,7 @@ use Rattle.link.specs.declared.Link.{Link}
 use Rattle.link.specs.Parts.{Parts, partsIn}
 use Rattle.link.specs.Layout.{FlowRow, sizeFor, sizeOf, flowAt, ownerAt}
 use Rattle.tables.specs.Owners.{nobody, WordsOf}
+use Rattle.tables.specs.Bounds.{Bounds}
 use Rattle.link.specs.Reading.{spareFlow}
 use Rattle.plan.specs.declared.Plan.{Plan}
 use Rattle.plan.specs.Reading.{Valid}
@@ -34,10 +35,11 @@ pub record Sound (l : Parts) : Type 0 where
   -- the next lend looks at one of the plan's flows first
   pub first : l .first < l .plan .count
 
--- a state of a link with this plan: its parts are sound, it has no other bytes, and the mark is 0 or 1
+-- a state of a link with this plan: its parts are sound, it has no other bytes, the mark is 0 or 1, and no flow holds more than its bound
 pub record SoundState (plan : Plan) (s : List ℕ) : Type 0 where
   pub whole : Whole s
-  pub mark : getD s 4481 0 ≤ 1
+  pub mark : getD s 4497 0 ≤ 1
+  pub bounds : Bounds (sizeFor plan) s
   pub parts : Sound (partsIn plan s)
 
 abbrev pub SoundLink : Link → Type 0

@@ -76,7 +76,7 @@ impl Link {
         ensures link { λ r. ⌜ readOf r ≡ model.fresh (planFor plan) ⌝ }
         ensures sound { λ r. ⌜ SoundLink r ⌝ }
     {
-        let mut state = [255u8; 4483];
+        let mut state = [0u8; 4499];
         begin(&mut state, plan);
         Link { plan, state }
     }

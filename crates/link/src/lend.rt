@@ -23,8 +23,8 @@ use state::MARK;
 use state::OWNERS;
 use state::State;
 use state::TURN;
+use tables::holdings::raise_from;
 use tables::holdings::room_from;
-use tables::holdings::shift_from;
 use window::Window;
 use window::positions::next;
 use window::positions::window;
@@ -88,7 +88,7 @@ fn taker(held: &State, plan: Plan, w: Window, mask: u16, from: usize) -> usize
 
 // The current slot of a state, when nobody booked it, goes to a flow of a mask that has a quantum ready: in turn, to the first that can take it.
 pub fn lend(s: &mut State, plan: Plan, w: Window, mask: u16) -> Answer
-    requires { ⌜ StateIn plan (plan .count) w (now s) ⌝ }
+    requires { ⌜ StateIn plan w (now s) ⌝ }
     ensures { λ r. ⌜ Went answerToLend (model.lend (readIn plan (now (s .entry))) mask) plan (now (s .exit)) r ⌝ }
 {
     let cp = w.current;
@@ -103,7 +103,7 @@ pub fn lend(s: &mut State, plan: Plan, w: Window, mask: u16) -> Answer
     if i == plan.count {
         return Answer::Refused(18);
     }
-    shift_from(s, 1, i, w, cp);
+    raise_from(s, i, w, cp);
     s[MARK] = 1;
     s[TURN] = next(plan.count, i) as u8;
     Answer::Lent(i as u8)

@@ -8,7 +8,6 @@ pub mod credit;
 mod fresh;
 pub mod flows; // the flows of a state
 pub mod lend;
-pub mod reply; // what a request comes to
 pub mod request;
 pub mod reset;
 pub mod tick;

@@ -70,7 +70,7 @@ fn renew(s: &mut State, plan: Plan, frame: usize)
 // Every frame of a state is recycled, when the link is quiet: the flows start again in the head frame. The clock goes on, and what is held stays, as
 // do the expected numbers.
 pub fn reset(s: &mut State, plan: Plan, w: Window) -> Answer
-    requires { ⌜ StateIn plan (plan .count) w (now s) ⌝ }
+    requires { ⌜ StateIn plan w (now s) ⌝ }
     ensures { λ r. ⌜ Went answerToReset (model.reset (readIn plan (now (s .entry)))) plan (now (s .exit)) r ⌝ }
 {
     if !quiet(s, plan.count, w) {

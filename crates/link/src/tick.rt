@@ -68,10 +68,10 @@ fn leave(s: &mut State, plan: Plan, w: Window, on: usize)
 
 // The current position goes on by one: the window there.
 pub fn tick(s: &mut State, plan: Plan, w: Window) -> Window
-    requires { ⌜ StateIn plan (plan .count) w (now s) ⌝ }
+    requires { ⌜ StateIn plan w (now s) ⌝ }
     ensures is { λ r. ⌜ Went answerToTick (model.tick (readIn plan (now (s .entry)))) plan (now (s .exit))
         (answerToTick (ownerOf (getD (now (s .exit)) (4096 + r .current) 0))) ⌝ }
-    ensures there { λ r. ⌜ StateIn plan (plan .count) r (now (s .exit)) ⌝ }
+    ensures there { λ r. ⌜ StateIn plan r (now (s .exit)) ⌝ }
 {
     let on = w.ticked();
     if on.head != w.head {

@@ -46,7 +46,7 @@ stageOf s = stageIn (s .phase) (s .link) (bytesIn (s .kept))
 unfoldable pub noLink : Link
 noLink = record {
   plan = record { slots = 0; frames = 0; buffer = 0; count = 0; entries = replicate 16 noEntry };
-  state = replicate 4483 0;
+  state = replicate 4499 0;
 }
 
 -- bytes of the plan are still to come

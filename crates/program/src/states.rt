@@ -29,7 +29,7 @@ pub(crate) fn no_link() -> Link
         count: 0,
         entries,
     };
-    let state = [0u8; 4483];
+    let state = [0u8; 4499];
     Link { plan, state }
 }
 

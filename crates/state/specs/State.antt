@@ -2,13 +2,13 @@
 use Prim.Native.Nat.{ℕ, _+_, _*_}
 use mathlib.Core.Path.{_≡_}
 use mathlib.Core.List.{List}
-use lib.ListN.{length, getD}
+use lib.ListN.{length, getD, set}
 use Rattle.model.specs.Tables.{table}
 use Rattle.state.specs.Parts.{part, withPart, Beside, numberIn, bytesOf}
 
 -- a state has this many bytes
 abbrev pub Whole : List ℕ → Type 0
-Whole s = length s ≡ 4483
+Whole s = length s ≡ 4499
 
 -- ---- what is held
 
@@ -41,3 +41,11 @@ masksOf s = table 8 (maskAt s)
 pub record MasksNow (before after : List ℕ) (masks : List ℕ) : Type 0 where
   pub masks-are : masksOf after ≡ masks
   pub beside : Beside 4352 4416 before after
+
+-- ---- for each flow a bound of what it holds
+
+abbrev pub boundAt : List ℕ → (i : ℕ) → ℕ
+boundAt s i = getD s (4480 + i) 0
+
+abbrev pub withBound : List ℕ → (i x : ℕ) → List ℕ
+withBound s i x = set s (4480 + i) x

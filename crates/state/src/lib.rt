@@ -1,13 +1,13 @@
 // The state of a link but for its plan: one array of bytes in parts, one after the other. Each part has an offset, a length and a reader, in this
 // crate alone: what each flow holds (flow i at position p: 256 * i + p), the owner of each position, the mask of each frame's unbooked slots (eight
-// bytes, low first), the flows (four bytes each), the current position, the mark and the turn.
+// bytes, low first), the flows (four bytes each), for each flow a bound of what it holds, the current position, the mark and the turn.
 ghost use mathlib.Core.Path.{_≡_};
 ghost use Prim.Native.Nat.{_+_, _*_, _≤_, _<_};
 ghost use lib.ListN.{length};
 ghost use Rattle.state.specs.Parts.{withPart};
 ghost use Rattle.state.specs.State.{Whole, maskAt, withMask, MasksNow};
 
-pub type State = [u8; 4483];
+pub type State = [u8; 4499];
 
 pub const OWNERS: usize = 4096;
 
@@ -15,11 +15,13 @@ pub const MASKS: usize = 4352;
 
 pub const FLOWS: usize = 4416;
 
-pub const CURRENT: usize = 4480;
+pub const BOUNDS: usize = 4480;
 
-pub const MARK: usize = 4481;
+pub const CURRENT: usize = 4496;
 
-pub const TURN: usize = 4482;
+pub const MARK: usize = 4497;
+
+pub const TURN: usize = 4498;
 
 fn wide(b: u8) -> u64
     ensures { λ r. ⌜ (r ≡ b) × (r < 256) ⌝ }
@@ -74,7 +76,7 @@ pub fn put_masks(s: &mut State, masks: [u64; 8])
 
 // Stores a table of 256 bytes at a place and from it on.
 pub fn put_table(s: &mut State, first: usize, table: [u8; 256])
-    requires { ⌜ first + 256 ≤ 4483 ⌝ }
+    requires { ⌜ first + 256 ≤ 4499 ⌝ }
     ensures { λ r. ⌜ now (s .exit) ≡ withPart (now (s .entry)) first 256 table ⌝ }
 {
     let end = first + 256;

@@ -6,7 +6,7 @@ pub mod CarriedRows
 pub mod HeldRows
 pub mod HoldingChanges
 mod Largest
-pub mod AtMost
+pub mod Bounds
 pub mod FreshTables
 pub mod UnbookedSlots
 pub mod Masks

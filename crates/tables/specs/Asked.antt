@@ -4,8 +4,7 @@ use Prim.Native.Nat.{ℕ, _≤_, _<_}
 use mathlib.Core.List.{List}
 use Rattle.window.specs.declared.Window.{Window}
 use Rattle.window.specs.Window.{sizeOf, Proper}
-use Rattle.tables.specs.Rows.{row}
-use Rattle.tables.specs.Holdings.{AtMost}
+use Rattle.tables.specs.Bounds.{Bounds}
 
 -- flow i is one of sixteen, and p a position of the window
 pub record FlowAt (w : Window) (i p : ℕ) : Type 0 where
@@ -13,11 +12,11 @@ pub record FlowAt (w : Window) (i p : ℕ) : Type 0 where
   pub flow : i < 16
   pub position : p < sizeOf w
 
--- flow i is one of sixteen, and holds no more than n at any position of the window, unless n is 255
-pub record FlowWithin (w : Window) (n i : ℕ) (held : List ℕ) : Type 0 where
+-- flow i is one of sixteen, and each flow holds no more than its bound
+pub record FlowWithin (w : Window) (i : ℕ) (s : List ℕ) : Type 0 where
   pub proper : Proper w
   pub flow : i < 16
-  pub most : AtMost (sizeOf w) n (row held i)
+  pub bounds : Bounds (sizeOf w) s
 
 -- d is a position of the window, and j a frame of it
 pub record SearchFrom (w : Window) (d j : ℕ) : Type 0 where

@@ -19,6 +19,8 @@ ghost use Rattle.tables.specs.Owners.{everywhere};
 ghost use Rattle.tables.specs.Rows.{row, Sixteen, withRow, carriedRows};
 ghost use Rattle.tables.specs.Padded.{onFrom, pad, Bytes};
 ghost use Rattle.tables.specs.Holdings.{someHeld, roomAt, largest, mostHeld, shiftedRow, shifted, carried, nothingHeld};
+ghost use Rattle.tables.specs.Bounds.{raised, lowered};
+use state::BOUNDS;
 use state::State;
 use state::put_table;
 use window::Window;
@@ -26,6 +28,7 @@ use window::numbers::chosen;
 use window::numbers::larger_byte;
 use window::numbers::moved;
 use window::numbers::on_by_one;
+use window::numbers::one_more;
 use window::numbers::smaller_byte;
 use window::numbers::to_zero;
 use window::positions::before;
@@ -125,7 +128,7 @@ fn on_from_head(w: Window, p: usize) -> u8
 }
 
 // Flow i's holdings from p on, each moved by a number modulo 256: 1 is one more, 255 one fewer.
-pub fn shift_from(held: &mut State, by: u8, i: usize, w: Window, p: usize)
+fn shift_from(held: &mut State, by: u8, i: usize, w: Window, p: usize)
     requires { ⌜ FlowAt w i p ⌝ }
     ensures { λ r. ⌜ now (held .exit) ≡ shifted (windowOf w) by i p (now (held .entry)) ⌝ }
 {
@@ -194,7 +197,7 @@ fn lower(held: &mut State, a: usize, e: usize, base: u8, from: u8) -> u8
 }
 
 // Flow i's holdings from p on, each one fewer modulo 256, and the most that the flow holds then.
-fn lowered(held: &mut State, i: usize, w: Window, p: usize) -> u8
+fn lower_all(held: &mut State, i: usize, w: Window, p: usize) -> u8
     requires { ⌜ FlowAt w i p ⌝ }
     ensures most { λ r. ⌜ r ≡ mostHeld (sizeOf w) (shiftedRow (windowOf w) 255 p (row (now (held .entry)) i)) ⌝ }
     ensures shifts { λ r. ⌜ now (held .exit) ≡ shifted (windowOf w) 255 i p (now (held .entry)) ⌝ }
@@ -206,34 +209,37 @@ fn lowered(held: &mut State, i: usize, w: Window, p: usize) -> u8
     lower(held, first, past, base as u8, on_from_head(w, p))
 }
 
-// Whether a flow's holdings were lowered, and the most that it holds then; 255 where they weren't.
-pub struct Fewer {
-    pub taken: bool,
-    pub most: u8,
-}
-
-// One fewer from p on where flow i holds something at each of these positions, else nothing changes; and which of the two it is.
+// One fewer from p on where flow i holds something at each of these positions, and the flow's bound is the most that it holds then; else
+// nothing changes; and which of the two it is.
 // One fewer than 0 is 255: where none of the flow's holdings is 255 after it, something was held at each of these positions. Where one is,
 // the holdings are raised again, and tested: 255 may have been held at an earlier position.
-pub fn lower_from(held: &mut State, i: usize, w: Window, p: usize) -> Fewer
+pub fn lower_from(held: &mut State, i: usize, w: Window, p: usize) -> bool
     requires { ⌜ FlowAt w i p ⌝ }
-    ensures was { λ r. ⌜ r .taken ≡ model.everyFrom (windowOf w) p (someHeld (row (now (held .entry)) i)) ⌝ }
-    ensures holds { λ r. ⌜ now (held .exit) ≡ cond (r .taken) (shifted (windowOf w) 255 i p (now (held .entry))) (now (held .entry)) ⌝ }
-    ensures most { λ r. ⌜ r .most ≡ cond (r .taken) (mostHeld (sizeOf w) (shiftedRow (windowOf w) 255 p (row (now (held .entry)) i))) 255 ⌝ }
+    ensures was { λ r. ⌜ r ≡ model.everyFrom (windowOf w) p (someHeld (row (now (held .entry)) i)) ⌝ }
+    ensures holds { λ r. ⌜ now (held .exit) ≡ cond r (lowered w i p (now (held .entry))) (now (held .entry)) ⌝ }
 {
-    let most = lowered(held, i, w, p);
+    let most = lower_all(held, i, w, p);
     if most < 255 {
-        return Fewer { taken: true, most };
+        held[BOUNDS + i] = most;
+        return true;
     }
     shift_from(held, 1, i, w, p);
     if !held_from(held, i, w, p) {
-        return Fewer {
-            taken: false,
-            most: 255,
-        };
+        return false;
     }
     shift_from(held, 255, i, w, p);
-    Fewer { taken: true, most }
+    held[BOUNDS + i] = most;
+    true
+}
+
+// One more from p on for flow i, whose bound goes up with it.
+pub fn raise_from(held: &mut State, i: usize, w: Window, p: usize)
+    requires { ⌜ FlowAt w i p ⌝ }
+    ensures { λ r. ⌜ now (held .exit) ≡ raised w i p (now (held .entry)) ⌝ }
+{
+    let bound = held[BOUNDS + i];
+    shift_from(held, 1, i, w, p);
+    held[BOUNDS + i] = one_more(bound);
 }
 
 // The table of a flow that holds nothing at any position.

@@ -11,6 +11,7 @@ ghost use Rattle.tables.specs.Rows.{row};
 ghost use Rattle.tables.specs.Search.{foundOf, lateAt, validAt, lateAfter, searchFrom, Gathering, ValidSlots};
 use crate::Found;
 use crate::holdings::room_rank;
+use state::BOUNDS;
 use state::State;
 use state::mask_at;
 use unbooked::bits::from;
@@ -20,14 +21,14 @@ use window::numbers::larger;
 use window::numbers::over;
 use window::positions::next;
 
-// The rank from which on a position is late enough for a flow: it is not passed, and there is room from it on. No more than `most` is held at
-// any position, unless `most` is 255; where it is below the cells, there is room everywhere.
-pub fn late_rank(held: &State, most: u8, i: usize, cells: u8, w: Window) -> usize
-    requires { ⌜ FlowWithin w most i (now held) ⌝ }
+// The rank from which on a position is late enough for a flow: it is not passed, and there is room from it on. Where the flow's bound is below
+// the cells, there is room everywhere.
+pub fn late_rank(held: &State, i: usize, cells: u8, w: Window) -> usize
+    requires { ⌜ FlowWithin w i (now held) ⌝ }
     ensures { λ r. ⌜ FromRank w (lateAt (windowOf w) (row (now (held .entry)) i) cells) r ⌝ }
 {
     let after = w.current + 1 - w.head * w.slots;
-    if most < cells {
+    if held[BOUNDS + i] < cells {
         return after;
     }
     larger(room_rank(held, i, cells, w), after)

@@ -3,11 +3,12 @@ use borrow.Author.Needs.{needs}
 use borrow.Author.Tests.{eq-eqb, ne-eqb}
 use Rattle.link.specs.Given.{StateIn}
 use Rattle.link.proofs.Given.{state-in}
+use Rattle.link.proofs.Told.{credit-told}
 use Rattle.link.proofs.Link.credit.Statement.{statement}
 use Rattle.link.proofs.Link.credit.Tie as tie
 
 -- what is given of the state
-in-at : (c : tie.After-window) → let l = c .before .before .before .args .t1 in StateIn (l .plan) (l .plan .count) (c .window .result) (l .state)
+in-at : (c : tie.After-window) → let l = c .before .before .before .args .t1 in StateIn (l .plan) (c .window .result) (l .state)
 in-at c = state-in (c .before .before .before .pre) (c .window .ensures .0) (c .window .ensures .1)
 
 element-copy-out-cp : tie.Need-element-copy-out-cp
@@ -20,13 +21,13 @@ window-requires : tie.Need-window-requires
 window-requires c κs = search needs
 
 credit-requires : tie.Need-credit-requires
-credit-requires c κs = record { plan = _; given = in-at (c .before) }
+credit-requires c κs = in-at (c .before)
 
 returns : tie.Need-returns
-returns c = let n = c .before in rw (ne-eqb _ _ (c .if1 .taken)) at (n .credit .ensures .0 _ (in-at (n .before .before)))
+returns c = rw (ne-eqb _ _ (c .if1 .taken)) at (credit-told _ _ _ (c .before .credit .ensures))
 
 returns-2 : tie.Need-returns-2
-returns-2 c = let n = c .before in rw (eq-eqb _ _ (c .if1 .left)) at (n .credit .ensures .0 _ (in-at (n .before .before)))
+returns-2 c = rw (eq-eqb _ _ (c .if1 .left)) at (credit-told _ _ _ (c .before .credit .ensures))
 
 pub credit-spec : {M : Type 1} → statement M
 credit-spec =

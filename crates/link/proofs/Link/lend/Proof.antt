@@ -6,7 +6,7 @@ use Rattle.link.proofs.Link.lend.Statement.{statement}
 use Rattle.link.proofs.Link.lend.Tie as tie
 
 -- what is given of the state
-in-at : (c : tie.After-window) → let l = c .before .before .before .args .t1 in StateIn (l .plan) (l .plan .count) (c .window .result) (l .state)
+in-at : (c : tie.After-window) → let l = c .before .before .before .args .t1 in StateIn (l .plan) (c .window .result) (l .state)
 in-at c = state-in (c .before .before .before .pre) (c .window .ensures .0) (c .window .ensures .1)
 
 element-copy-out-cp : tie.Need-element-copy-out-cp

@@ -1,49 +1,48 @@
 -- `link::Link::request` meets its contract. Assumes nothing.
 use borrow.Author.Needs.{needs}
 use Prim.Native.Nat.{_<_}
-use mathlib.Core.Path.{refl}
 use native.Mathlib.Omega.{arith}
 use lib.ListN.{getD}
+use borrow.Author.Tests.{eq-eqb, ne-eqb}
 use Rattle.plan.specs.Reading.{noEntry}
-use Rattle.tables.proofs.AtMost.{most-unknown}
 use Rattle.link.specs.Given.{RequestIn}
-use Rattle.link.proofs.Given.{at-hand, placed-few}
+use Rattle.link.proofs.Given.{state-in, placed-few, request-in}
+use Rattle.link.proofs.Told.{request-told}
 use Rattle.link.proofs.Link.request.Statement.{statement}
 use Rattle.link.proofs.Link.request.Tie as tie
 
 -- where the function is entered, and where the word's flow is known
-abbrev start : tie.After-asker → tie.Start
-start c = c .before .before
+abbrev start : tie.After-placed → tie.Start
+start c = c .before .before .before .before
 
-abbrev asked-at : tie.After-window → tie.After-asker
-asked-at c = c .before .before .before
+abbrev placed-at : tie.After-window → tie.After-placed
+placed-at c = c .before .before .before
 
-asker-few : (c : tie.After-asker) → c .asker .result < 16
-asker-few c = placed-few (start c .pre .parts .plan) _ (c .asker .ensures)
+flow-few : (c : tie.After-placed) → c .placed .result < 16
+flow-few c = placed-few (start c .pre .parts .plan) _ (c .placed .ensures)
 
--- what is given of the state
-request-in : (c : tie.After-window) → let a = asked-at c in let l = start a .args .t1 in
-    RequestIn (l .plan) (l .plan .count) (getD (l .plan .entries) (a .asker .result) noEntry) (c .window .result) (a .asker .result) (start a .args .word) (l .state)
-request-in c =
-    let a = asked-at c in
-    let s = start a .pre in
-    record {
-      sound = s;
-      count-is = refl;
-      proper = c .window .ensures .1;
-      window-is = at-hand (s .parts) (c .window .ensures .0) (c .window .ensures .1) .window-is;
-      place-is = a .asker .ensures;
-      entry-is = refl;
-    }
+-- what is given of the state and the word
+in-at : (c : tie.After-window) → let a = placed-at c in let l = start a .args .t1 in
+    RequestIn (l .plan) (l .plan .count) (getD (l .plan .entries) (a .placed .result) noEntry) (c .window .result) (a .placed .result)
+    (a .before .before .split .result) (start a .args .word) (l .state)
+in-at c =
+    let a = placed-at c in
+    request-in (state-in (start a .pre) (c .window .ensures .0) (c .window .ensures .1)) _ (a .before .before .split .ensures) (a .placed .ensures)
 
-asker-requires : tie.Need-asker-requires
-asker-requires c κs = search needs
+split-requires : tie.Need-split-requires
+split-requires c κs = search needs
+
+cast-placed : tie.Need-cast-placed
+cast-placed c = search needs
+
+placed-requires : tie.Need-placed-requires
+placed-requires c κs = search needs
 
 mul-e : tie.Need-mul-e
-mul-e c = omega (arith, asker-few c)
+mul-e c = omega (arith, flow-few c)
 
 element-copy-out-e : tie.Need-element-copy-out-e
-element-copy-out-e c = asker-few c
+element-copy-out-e c = flow-few c
 
 element-copy-out-cp : tie.Need-element-copy-out-cp
 element-copy-out-cp c = search needs
@@ -55,20 +54,35 @@ window-requires : tie.Need-window-requires
 window-requires c κs = search needs
 
 request-requires : tie.Need-request-requires
-request-requires c κs = (record { plan = _; given = request-in (c .before) }, most-unknown)
+request-requires c κs = record { plan = _; word = _; given = in-at (c .before) }
 
 returns : tie.Need-returns
-returns c = c .request .ensures _ (request-in (c .before .before))
+returns c =
+    let w = c .before .before .before in
+    rw (ne-eqb _ _ (c .if1 .taken)) at (request-told (start (placed-at w) .pre) _ (c .before .request .ensures _ _ (in-at w)))
+
+depart-requires : tie.Need-depart-requires
+depart-requires c κs = search needs
+
+returns-2 : tie.Need-returns-2
+returns-2 c =
+    let e = c .before in
+    let w = e .before .before .before in
+    rw (c .depart .ensures) (rw (eq-eqb _ _ (e .if1 .left)) at (request-told (start (placed-at w) .pre) _ (e .before .request .ensures _ _ (in-at w))))
 
 pub request-spec : {M : Type 1} → statement M
 request-spec =
     tie.close
     (tie.spec
-    asker-requires
+    split-requires
+    cast-placed
+    placed-requires
     mul-e
     element-copy-out-e
     element-copy-out-cp
     cast-window
     window-requires
     request-requires
-    returns)
+    returns
+    depart-requires
+    returns-2)

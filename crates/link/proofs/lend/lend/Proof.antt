@@ -8,7 +8,8 @@ use Rattle.link.specs.Parts.{partsIn}
 use Rattle.link.proofs.Plans.{count-some, count-most}
 use Rattle.link.proofs.Lends.{lend-refused, lend-to-nobody, lend-to-taker, taker-below}
 use Rattle.link.proofs.StateParts.{went-same}
-use Rattle.link.proofs.StateLends.{in-hand, taker-same, tests-of, went-lent}
+use Rattle.link.proofs.Given.{in-hand}
+use Rattle.link.proofs.StateLends.{taker-same, tests-of, went-lent}
 use borrow.Author.Needs.{needs}
 use Rattle.link.proofs.lend.lend.Statement.{statement}
 use Rattle.link.proofs.lend.lend.Tie as tie
@@ -78,8 +79,8 @@ returns-2 c =
     let o = start r .pre in
     went-same (o .sound) refl (lend-to-nobody (in-hand o) _ (tests-of o _ _ (r .refusal .ensures)) (free-at t .if1 .left) (first-is t) (c .if2 .taken))
 
-shift-from-requires : tie.Need-shift-from-requires
-shift-from-requires c κs =
+raise-from-requires : tie.Need-raise-from-requires
+raise-from-requires c κs =
     let o = entry (taker-at (c .before)) .pre in
     record { proper = o .proper; flow = flow-there (c .before) .1; position = o .proper .measures .current-below }
 
@@ -108,7 +109,7 @@ returns-3 c =
     let t = taker-at e in
     let r = free-at t .before in
     let o = start r .pre in
-    went-lent o (t .taker .result) (c .next .result) (flow-there e .1) (shifted .shift-from .ensures)
+    went-lent o (t .taker .result) (c .next .result) (flow-there e .1) (shifted .raise-from .ensures)
     (lend-to-taker (in-hand o) _ (tests-of o _ _ (r .refusal .ensures)) (free-at t .if1 .left) (first-is t) (e .if2 .left) (c .next .ensures) refl)
 
 pub lend-spec : {M : Type 1} → statement M
@@ -124,7 +125,7 @@ lend-spec =
     cast-taker
     taker-requires
     returns-2
-    shift-from-requires
+    raise-from-requires
     element-write-s
     next-requires
     cast-s

@@ -9,8 +9,9 @@ use Rattle.link.specs.Reset.{quietIn}
 use Rattle.link.specs.Started.{startedFlows}
 use Rattle.link.proofs.Plans.{count-most}
 use Rattle.link.proofs.Resets.{reset-refused, reset-granted}
+use Rattle.link.proofs.Given.{in-hand}
 use Rattle.link.proofs.StateParts.{went-same}
-use Rattle.link.proofs.StateLends.{in-hand, quiet-same, Marked, marked-booked, marked-kept, flows-renewed, went-reset}
+use Rattle.link.proofs.StateLends.{quiet-same, Marked, marked-booked, marked-kept, flows-renewed, went-reset}
 use borrow.Author.Needs.{needs}
 use Rattle.link.proofs.reset.reset.Statement.{statement}
 use Rattle.link.proofs.reset.reset.Tie as tie

@@ -1,8 +1,8 @@
--- `tables::holdings::lowered` meets its contract. Assumes nothing.
+-- `tables::holdings::lower_all` meets its contract. Assumes nothing.
 use borrow.Author.Needs.{needs}
 use Rattle.tables.proofs.PaddedFrom.{shifted-padded, most-padded}
-use Rattle.tables.proofs.holdings.lowered.Statement.{statement}
-use Rattle.tables.proofs.holdings.lowered.Tie as tie
+use Rattle.tables.proofs.holdings.lower_all.Statement.{statement}
+use Rattle.tables.proofs.holdings.lower_all.Tie as tie
 
 -- where the function is entered
 abbrev start : tie.After-on-from-head → tie.Start
@@ -40,8 +40,8 @@ returns c =
       (rw (shifts, t .on-from-head .ensures) (shifted-padded _ v _ lp _ (s .args .i) 255), bytes),
     )
 
-pub lowered-spec : {M : Type 1} → statement M
-lowered-spec =
+pub lower-all-spec : {M : Type 1} → statement M
+lower-all-spec =
     tie.close
     (tie.spec
     mul-first
