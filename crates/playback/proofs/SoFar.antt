@@ -79,7 +79,8 @@ module _ {start : Link} {records out₀ : List ℕ} {used : ℕ} {plan : Plan} {
   pub room : at < used → end + 7 ≤ length out
   room before =
       let r = reach records out₀ used (s .used-is) in
-      omega (arith, same-size, s .whole, r .whole, s .seven-most, r .in-out)
+      let on : at + 5 ≤ used = omega (arith, s .whole, r .whole) in
+      omega (arith, same-size, s .seven-most, r .in-out)
 
   -- one record more: it was played, and its line was written
   pub one-more : at < used → {w′ : Window} {link′ : Link} {out′ : List ℕ} {end′ : ℕ}

@@ -21,7 +21,9 @@ use Rattle.lines.specs.declared.Line.{Line}
 use Rattle.lines.specs.Lines.{textOf, noLine, AllLines}
 use Rattle.lines.proofs.Places.{granted-line, turn-line, idle-line}
 use Rattle.tables.specs.Owners.{nobody, ownerOf}
+use Rattle.window.specs.declared.Window.{Window}
 use Rattle.link.specs.declared.request.Reply.{Reply}
+use Rattle.link.specs.Given.{StateIn}
 use Rattle.link.specs.Sound.{SoundState}
 use Rattle.link.specs.Steps.{creditAnswer, requestAnswer}
 use Rattle.link.proofs.Readings.{flows-most}
@@ -53,9 +55,13 @@ tick-text {all} v x h = go (ℕ-discrete x nobody)
     go (no d) = rw (ne-eqb x nobody d) (turn-line v x (omega arith))
 
 -- an owner is one of sixteen flows, or nobody
-pub owner-few : {plan : Plan} {s : List ℕ} → SoundState plan s → (p : ℕ) → p < 256 → getD s (4096 + p) 0 < 17
+owner-few : {plan : Plan} {s : List ℕ} → SoundState plan s → (p : ℕ) → p < 256 → getD s (4096 + p) 0 < 17
 owner-few {plan} {s} v p h = rw (← owners-at s p h) (go (ℕ-discrete (getD (ownersOf s) p 0) nobody))
   where
     go : Dec (getD (ownersOf s) p 0 ≡ nobody) → getD (ownersOf s) p 0 < 17
     go (yes d) = omega arith
     go (no d) = omega (arith, v .parts .owners p h d, flows-most _ (v .parts))
+
+-- the one at the current position
+pub owner-at : {plan : Plan} {w : Window} {s : List ℕ} → StateIn plan w s → getD s (4096 + w .current) 0 < 17
+owner-at o = owner-few (o .sound) _ (omega (arith, o .proper .measures .current-below, o .proper .measures .positions-most))
