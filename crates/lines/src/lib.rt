@@ -1,5 +1,5 @@
 // The lines of granted positions and of ticks, made for many records at once and kept in two parts of four bytes each, which overlap; and
-// the lines of what requests and credits come to.
+// the lines of what requests come to and of a credit that is taken.
 ghost use mathlib.Core.Path.{_≡_};
 ghost use mathlib.Core.Bool.{cond};
 ghost use mathlib.Core.List.{_∷_, []};
@@ -25,7 +25,7 @@ pub struct Line {
 
 // The place of the first line of a tick: those of 256 granted positions stand before it.
 pub const TICKS: usize = 256;
-// The place of an idle tick's line: those of 16 flows stand before it.
+// The place of an idle tick's line, that of nobody's number, 16: those of 16 flows stand before it.
 const IDLE: usize = 272;
 
 // Four bytes in one number, low byte first.
@@ -131,8 +131,8 @@ pub fn write_reply(number: u8, line: Line, out: &mut [u8], at: usize) -> usize
     write(line, out, at)
 }
 
-// The line of a credit that is taken.
-fn write_taken(out: &mut [u8], at: usize) -> usize
+// Writes the line of a credit that is taken where the longest has room, and returns the place after it.
+pub fn write_taken(out: &mut [u8], at: usize) -> usize
     requires { ⌜ at + 7 ≤ length (now out) ⌝ }
     ensures put { λ r. ⌜ Puts (creditLine (accepted tt)) (now (out .entry)) (now (out .exit)) at r ⌝ }
     ensures most { λ r. ⌜ r ≤ at + 7 ⌝ }
@@ -140,16 +140,4 @@ fn write_taken(out: &mut [u8], at: usize) -> usize
     out[at] = b'C';
     out[at + 1] = b'\n';
     at + 2
-}
-
-// Writes what a credit comes to, where the longest line has room, and returns the place after it: 0, or a refusal.
-pub fn write_credit(number: u8, out: &mut [u8], at: usize) -> usize
-    requires { ⌜ at + 7 ≤ length (now out) ⌝ }
-    ensures put { λ r. ⌜ Puts (cond (eqb number 0) (creditLine (accepted tt)) (refusalLine number)) (now (out .entry)) (now (out .exit)) at r ⌝ }
-    ensures most { λ r. ⌜ r ≤ at + 7 ⌝ }
-{
-    if number != 0 {
-        return calls::write_refusal(number, out, at);
-    }
-    write_taken(out, at)
 }

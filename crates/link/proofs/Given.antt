@@ -18,23 +18,24 @@ use Rattle.model.specs.Request.{nowhere, sought, someInNewest, wouldBeValid}
 use Rattle.word.specs.declared.Fields.{Fields}
 use Rattle.word.specs.Reading.{fieldsOf}
 use Rattle.window.specs.declared.Window.{Window}
-use Rattle.window.specs.Window.{windowOf, sizeOf, Proper, Ticked}
-use Rattle.state.specs.State.{heldOf, ownersOf, masksOf}
-use Rattle.tables.specs.Asked.{SearchFrom}
+use Rattle.window.specs.Window.{windowOf, sizeOf, Proper, Ticked, ranksFrom, FromRank}
+use Rattle.state.specs.State.{heldOf, ownersOf}
+use Rattle.tables.specs.Asked.{MasksIn, SearchFrom}
 use Rattle.tables.specs.Bounds.{Bounds}
-use Rattle.tables.specs.Owners.{WordsOf}
 use Rattle.tables.specs.Rows.{row}
 use Rattle.tables.specs.Search.{lateAt, lateAfter, validAt, searchFrom}
 use Rattle.tables.proofs.HeldRows.{row-held}
+use Rattle.tables.proofs.ValidPositions.{search-by-rank, newest-by-rank}
 use Rattle.link.specs.declared.Flow.{Flow}
 use Rattle.link.specs.Parts.{Parts, partsIn}
 use Rattle.link.specs.Layout.{sizeFor, flowAt}
 use Rattle.link.specs.Reading.{linkOf}
 use Rattle.link.specs.Sound.{Sound, SoundState}
 use Rattle.link.specs.Given.{StateIn, placed, RequestIn, SeekIn}
-use Rattle.link.proofs.Plans.{count-some, count-most}
-use Rattle.link.proofs.Readings.{read-size, read-slots, read-frames, some-flow, flows-most}
+use Rattle.link.proofs.Plans.{plan-count, count-some, count-most}
+use Rattle.link.proofs.Readings.{read-flow, read-size, read-slots, read-frames, some-flow, flows-most}
 use Rattle.link.proofs.FlowBytes.{flows-at}
+use Rattle.link.proofs.Lefts.{sought-spent}
 use Rattle.link.proofs.Searches.{sought-same, would-same, spent-at-newest}
 
 pub record AtHand (l : Parts) (plan : Plan) (w : Window) : Type 0 where
@@ -108,14 +109,14 @@ pub placed-few : {plan : Plan} → Valid plan → {i : ℕ} (x : ℕ) → i ≡ 
 placed-few {plan} v x e = omega (arith, e, placed-below (plan .count) x (count-some plan v), count-most plan v)
 
 pub request-in : {p : Plan} {w : Window} {s : List ℕ} → StateIn p w s → {f : Fields} (x : ℕ) → fieldsOf f ≡ split x → {i : ℕ} → i ≡ placed (p .count) (f .flow)
-    → RequestIn p (p .count) (getD (p .entries) i noEntry) w i f x s
-request-in o x fields place = record { state = o; count-is = refl; fields-are = fields; place-is = place; entry-is = refl }
+    → RequestIn p (p .count) (getD (p .entries) i noEntry) w f x s
+request-in {p} o x fields place = record { state = o; count-is = refl; fields-are = fields; entry-is = ap (λ (k : ℕ). getD (p .entries) k noEntry) place }
 
-module _ {p : Plan} {n : ℕ} {e : Entry} {w : Window} {i : ℕ} {f : Fields} {x : ℕ} {s : List ℕ} (o : RequestIn p n e w i f x s) where
-  pub flow-below : i < p .count
-  flow-below = rw (o .place-is, o .count-is) (placed-below (p .count) (f .flow) (some-flow (partsIn p s) (o .state .sound .parts)))
+module _ {p : Plan} {n : ℕ} {e : Entry} {w : Window} {f : Fields} {x : ℕ} {s : List ℕ} (o : RequestIn p n e w f x s) (h : f .flow < n) where
+  pub flow-below : f .flow < p .count
+  flow-below = rw (← o .count-is) h
 
-  pub flow-few : i < 16
+  pub flow-few : f .flow < 16
   flow-few = omega (arith, flow-below, flows-most (partsIn p s) (o .state .sound .parts))
 
 -- ---- what a search is given
@@ -130,11 +131,11 @@ module _ {p : Plan} {e : Entry} {w : Window} {i : ℕ} {f : Flow} {d : ℕ} {s :
   pub seeker-few : i < 16
   seeker-few = omega (arith, o .flow, flows-most here sound-here)
 
-  -- the words are those of the link's owners
-  pub words-on : WordsOf (w .slots) (w .frames) (ownersOf s) (masksOf s)
-  words-on =
+  -- the masks are those of the owners
+  pub masks-in : MasksIn w s
+  masks-in =
       let is = o .state .window-is in
-      rw (read-slots here is, read-frames here is) (sound-here .unbooked)
+      record { proper = o .state .proper; agree = rw (read-slots here is, read-frames here is) (sound-here .unbooked) }
 
   -- the flow and what it holds, as the link has them
   stored-is : f ≡ flowAt here i .flow
@@ -143,29 +144,47 @@ module _ {p : Plan} {e : Entry} {w : Window} {i : ℕ} {f : Flow} {d : ℕ} {s :
   held-is : row s i ≡ row (heldOf s) i
   held-is = sym (row-held s i seeker-few)
 
-  pub search-from : SearchFrom w d (f .frame)
-  search-from = record {
-    proper = o .state .proper;
-    departure = o .departure;
-    frame = rw (read-frames here (o .state .window-is), stored-is) (sound-here .flows i (o .flow) .frame);
-  }
+  frame-below : f .frame < w .frames
+  frame-below = rw (read-frames here (o .state .window-is), stored-is) (sound-here .flows i (o .flow) .frame)
 
-  -- what is sought of it
-  pub sought-on : searchFrom (windowOf w) (validAt (ownersOf s) (lateAfter (windowOf w) d (lateAt (windowOf w) (row s i) (e .cells)))) (e .share) (f .frame) (f .left)
-      ≡ sought (linkOf here) i d
-  sought-on =
-      (λ k. searchFrom (windowOf w) (validAt (ownersOf s) (lateAfter (windowOf w) d (lateAt (windowOf w) (held-is k) (o .entry-is k .cells))))
-      (o .entry-is k .share) (stored-is k .frame) (stored-is k .left))
-      ∙ sym (sought-same here sound-here (windowOf w) (o .state .window-is) i (o .flow) d)
+  pub search-from : SearchFrom w d (f .frame) s
+  search-from = record { masks = masks-in; departure = o .departure; frame = frame-below }
 
-  -- whether the newest frame has a position that would be valid but for the departure
-  pub would-on : someInNewest (windowOf w) (validAt (ownersOf s) (lateAt (windowOf w) (row s i) (e .cells))) ≡ wouldBeValid (linkOf here) i
-  would-on =
-      (λ k. someInNewest (windowOf w) (validAt (ownersOf s) (lateAt (windowOf w) (held-is k) (o .entry-is k .cells))))
-      ∙ would-same here sound-here (windowOf w) (o .state .window-is) i (o .flow)
+  -- which positions are late enough
+  abbrev pub lateHere : ℕ → Bool
+  lateHere = lateAt (windowOf w) (row s i) (e .cells)
+
+  module _ {late : ℕ} (x : FromRank w lateHere late) where
+    -- what is sought of it
+    pub sought-on : searchFrom (windowOf w) (validAt (ownersOf s) (lateAfter (windowOf w) d (ranksFrom w late))) (e .share) (f .frame) (f .left) ≡ sought (linkOf here) i d
+    sought-on =
+        search-by-rank (o .state .proper) (ownersOf s) x d (e .share) (f .frame) (f .left) frame-below
+        ∙ (λ k. searchFrom (windowOf w) (validAt (ownersOf s) (lateAfter (windowOf w) d (lateAt (windowOf w) (held-is k) (o .entry-is k .cells))))
+        (o .entry-is k .share) (stored-is k .frame) (stored-is k .left))
+        ∙ sym (sought-same here sound-here (windowOf w) (o .state .window-is) i (o .flow) d)
+
+    -- whether the newest frame has a position that would be valid but for the departure
+    pub would-on : someInNewest (windowOf w) (validAt (ownersOf s) (ranksFrom w late)) ≡ wouldBeValid (linkOf here) i
+    would-on =
+        newest-by-rank (o .state .proper) (ownersOf s) x
+        ∙ (λ k. someInNewest (windowOf w) (validAt (ownersOf s) (lateAt (windowOf w) (held-is k) (o .entry-is k .cells))))
+        ∙ would-same here sound-here (windowOf w) (o .state .window-is) i (o .flow)
 
   -- the share is spent up to the newest frame
   pub spent-on : f .frame ≡ newest (windowOf w) → f .left ≡ 0 → nowhere 0 ≡ sought (linkOf here) i d
   spent-on e z =
       spent-at-newest here sound-here (windowOf w) (o .state .window-is) i (o .flow) d
       (sym (ap (λ (x : Flow). x .frame) stored-is) ∙ e) (sym (ap (λ (x : Flow). x .left) stored-is) ∙ z)
+
+  -- and only then nothing is left
+  pub unspent : (f .frame ≡ newest (windowOf w) → f .left ≡ 0 → ⊥) → nowhere 0 ≡ sought (linkOf here) i d → ⊥
+  unfolding linkOf
+  unspent not-spent is =
+      let hi = o .flow in
+      let read = read-flow here i hi in
+      let j = ap (λ (y : model.Flow). y .injection) read ∙ sym (ap (λ (y : Flow). y .frame) stored-is) in
+      let c = ap (λ (y : model.Flow). y .remainder) read ∙ sym (ap (λ (y : Flow). y .left) stored-is) in
+      let fits = sound-here .plan .accepted .entries-fit i (rw (plan-count p) hi) in
+      let below : model.flow (linkOf here) i .injection < linkOf here .plan .frames = rw j (rw (ap (λ (y : seen.Window). y .frames) (o .state .window-is)) at frame-below) in
+      let (last, spent) = sought-spent (linkOf here) i d (omega (arith, fits .some-share)) below is in
+      not-spent (sym j ∙ last ∙ ap newest (sym (o .state .window-is))) (sym c ∙ spent)

@@ -7,11 +7,12 @@ use native.Mathlib.Decide.{decLt}
 use native.Mathlib.Omega.{arith}
 use lib.Dec.{ltb}
 use borrow.Author.Tests.{le-ltb}
-use Rattle.model.specs.Tables.{any, ahead}
+use Rattle.model.specs.Tables.{ahead}
 use Rattle.model.specs.Plan as paper
 use Rattle.model.specs.Window.{Window, start, passed, everyFrom, newest}
 use Rattle.model.specs.Link as model
 use Rattle.model.specs.Request.{unbooked, valid, canLeave, validFor, someInNewest, wouldBeValid, Found, found, nowhere, search, sought}
+use Rattle.model.proofs.Tests.{any-same}
 use Rattle.window.proofs.GoingRound.{ahead-on}
 use Rattle.window.proofs.Windows.{frame-fits}
 use Rattle.window.proofs.FromOn.{everyFrom-same}
@@ -25,12 +26,6 @@ use Rattle.link.specs.Layout.{sizeOf, entryAt, flowAt, ownerAt}
 use Rattle.link.specs.Reading.{linkOf}
 use Rattle.link.specs.Sound.{Sound}
 use Rattle.link.proofs.Readings.{read-entry, read-flow, read-holding, read-owner, read-size, read-frames}
-
--- two tests that agree below n
-any-same : (n : ℕ) (f g : ℕ → Bool) → ((k : ℕ) → k < n → f k ≡ g k) → any n f ≡ any n g
-unfolding any
-any-same zero f g e = refl
-any-same (suc n) f g e = rw (e n (omega arith), any-same n f g (λ k h. e k (omega arith)))
 
 module _ (l : Parts) (s : Sound l) (v : Window) (is : v ≡ model.window (linkOf l)) (i : ℕ) (hi : i < l .plan .count) where
   -- position p is late enough for it

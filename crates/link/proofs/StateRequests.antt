@@ -2,7 +2,7 @@
 use Prim.Native.Nat.{ℕ, _+_, _≤_, _<_}
 use mathlib.Core.Path.{_≡_, refl, sym, ap, _∙_}
 use mathlib.Core.List.{List}
-use mathlib.Core.Bool.{Bool}
+use mathlib.Core.Bool.{Bool, cond}
 use native.Mathlib.Omega.{arith}
 use lib.ListN.{getD, set}
 use borrow.Author.Tests.{lt-ltb}
@@ -68,7 +68,11 @@ nowhere-from would (nowhere c′) {c} {number} e =
 pub same-reply : {m : model.Step Grant} {p : Plan} {t : List ℕ} {r r′ : Reply} → r ≡ r′ → Went replyOf m p t r′ → Went replyOf m p t r
 same-reply e v = rw e v
 
-module _ {p : Plan} {n : ℕ} {e : Entry} {w : Window} {i : ℕ} {f : Fields} {x : ℕ} {s : List ℕ} (o : RequestIn p n e w i f x s) where
+module _ {p : Plan} {n : ℕ} {e : Entry} {w : Window} {f : Fields} {x : ℕ} {s : List ℕ} (o : RequestIn p n e w f x s) where
+  -- the word's flow
+  abbrev i : ℕ
+  i = f .flow
+
   abbrev hand : AtHand (partsIn p s) p w
   hand = in-hand (o .state)
 
@@ -83,17 +87,17 @@ module _ {p : Plan} {n : ℕ} {e : Entry} {w : Window} {i : ℕ} {f : Fields} {x
 
   module _ (h : f .flow < n) where
     below : f .flow < p .count
-    below = rw (← o .count-is) h
+    below = flow-below o h
 
-    own-place : i ≡ f .flow
-    own-place = o .place-is ∙ rw (lt-ltb (f .flow) n h)
+    pub entry-there : e ≡ getD (p .entries) (f .flow) noEntry
+    entry-there = o .entry-is ∙ ap (λ (b : Bool). getD (p .entries) (cond b (f .flow) 0) noEntry) (lt-ltb (f .flow) n h)
 
     destination-is : e .destination ≡ getD (p .entries) (f .flow) noEntry .destination
-    destination-is = ap (λ (y : Entry). y .destination) (o .entry-is ∙ ap (λ (k : ℕ). getD (p .entries) k noEntry) own-place)
+    destination-is = ap (λ (y : Entry). y .destination) entry-there
 
     number-is : {g : Flow} → g ≡ flowRead s i → g .number ≡ expected
     number-is read =
-        ap (λ (y : Flow). y .number) (read ∙ sym (flows-at s i (flow-few o)) ∙ ap (λ (k : ℕ). getD (flowsOf s) k noFlow) (own-place ∙ sym (flow-is x f (o .fields-are))))
+        ap (λ (y : Flow). y .number) (read ∙ sym (flows-at s i (flow-few o h)) ∙ ap (λ (k : ℕ). getD (flowsOf s) k noFlow) (sym (flow-is x f (o .fields-are))))
         ∙ sym (ap (λ (y : model.Flow). y .number) (read-flow (partsIn p s) (flowOf x) (rw (flow-is x f (o .fields-are)) below)))
 
     pub tests-9 : (f .destination ≡ e .destination → ⊥) → 9 ≡ testsOf (partsIn p s) x
@@ -124,22 +128,21 @@ module _ {p : Plan} {n : ℕ} {e : Entry} {w : Window} {i : ℕ} {f : Fields} {x
     went-refused nonzero same = went-same (o .state .sound) same (request-refused hand x tests nonzero)
 
     module _ (z : r ≡ 0) where
-      -- flow i is the word's
-      same : flowOf x ≡ i
-      same =
-          let there = words.flow-below (partsIn p s) x tests z in
-          let low : f .flow < n = rw (o .count-is, ← flow-is x f (o .fields-are)) there in
-          flow-is x f (o .fields-are) ∙ sym (own-place low)
+      abbrev same : flowOf x ≡ i
+      same = flow-is x f (o .fields-are)
 
-      abbrev few : i < 16
-      few = flow-few o
+      there : f .flow < n
+      there = rw (o .count-is, ← flow-is x f (o .fields-are)) (words.flow-below (partsIn p s) x tests z)
+
+      pub few : i < 16
+      few = flow-few o there
 
       -- what is sought
       pub seek-in : {g : Flow} → g ≡ flowRead s i → SeekIn p e w i g (f .departure) s
       seek-in read = record {
         state = o .state;
-        flow = flow-below o;
-        entry-is = o .entry-is;
+        flow = flow-below o there;
+        entry-is = entry-there there;
         flow-is = read;
         departure = rw (← departure-is x f (o .fields-are), read-size (partsIn p s) (o .state .window-is)) (departure-below (partsIn p s) x tests z);
       }
@@ -153,7 +156,7 @@ module _ {p : Plan} {n : ℕ} {e : Entry} {w : Window} {i : ℕ} {f : Fields} {x
         stored-is = read ∙ sym (flows-at s i few)
 
         pub number-below : g .number < 1024
-        number-below = rw stored-is (o .state .sound .parts .flows i (flow-below o) .number)
+        number-below = rw stored-is (o .state .sound .parts .flows i (flow-below o there) .number)
 
         -- the flow in the newest frame is stored
         module _ (c : ℕ) (is : nowhere c ≡ sought (readIn p s) i (departureOf x)) (last : ℕ) (newest-is : last ≡ newest (windowOf w)) where

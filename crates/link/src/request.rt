@@ -55,11 +55,12 @@ fn refused(number: u8) -> Reply
 }
 
 // The refusal of a word with these fields by the tests before the search, and 0 where it passes them.
-fn refusal(s: &State, count: usize, e: Entry, w: Window, i: usize, fields: Fields) -> u8
-    requires { ⌜ SomeRequest (λ p x. RequestIn p count e w i fields x (now s)) ⌝ }
-    ensures { λ r. ⌜ ((p : Plan) (x : ℕ) → RequestIn p count e w i fields x (now (s .entry)) → r ≡ testsOf (partsIn p (now (s .entry))) x) ⌝ }
+fn refusal(s: &State, count: usize, e: Entry, w: Window, fields: Fields) -> u8
+    requires { ⌜ SomeRequest (λ p x. RequestIn p count e w fields x (now s)) ⌝ }
+    ensures { λ r. ⌜ ((p : Plan) (x : ℕ) → RequestIn p count e w fields x (now (s .entry)) → r ≡ testsOf (partsIn p (now (s .entry))) x) ⌝ }
 {
-    if count <= fields.flow as usize {
+    let i = fields.flow as usize;
+    if count <= i {
         return 8;
     }
     if fields.destination != e.destination {
@@ -75,14 +76,11 @@ fn refusal(s: &State, count: usize, e: Entry, w: Window, i: usize, fields: Field
     0
 }
 
-// The refusal where the search ends with no position, at the newest frame, with a remainder; `would` says whether that frame has a position
+// The refusal where the search ends with no position and some of the share is left; `would` says whether the newest frame has a position
 // that would be valid but for the departure.
-fn nowhere(left: usize, would: bool) -> u8
-    ensures { λ r. ⌜ r ≡ firstOf (model.newestTests would left) ⌝ }
+fn nowhere(would: bool) -> u8
+    ensures { λ r. ⌜ ((left : ℕ) → (left ≡ 0 → ⊥) → r ≡ firstOf (model.newestTests would left)) ⌝ }
 {
-    if left == 0 {
-        return 11;
-    }
     if would {
         return 20;
     }
@@ -104,7 +102,7 @@ fn seek(s: &State, e: Entry, w: Window, i: usize, flow: Flow, departure: usize) 
     requires { ⌜ SomePlan (λ p. SeekIn p e w i flow departure (now s)) ⌝ }
     ensures { λ r. ⌜ ((p : Plan) → SeekIn p e w i flow departure (now (s .entry)) → r ≡ soughtIn (readIn p (now (s .entry))) i departure) ⌝ }
 {
-    // the share is spent up to the newest frame: there is nothing to search
+    // the share is spent up to the newest frame: there is nothing to search, and no other word is refused as 11
     if flow.left == 0 && flow.frame == w.newest() {
         return Sought::Nowhere(0, 11);
     }
@@ -123,7 +121,7 @@ fn seek(s: &State, e: Entry, w: Window, i: usize, flow: Flow, departure: usize) 
             return Sought::At(frame, left, position);
         }
         Found::Nowhere(left) => {
-            return Sought::Nowhere(left, nowhere(left, valid_in_newest(s, w, late)));
+            return Sought::Nowhere(left, nowhere(valid_in_newest(s, w, late)));
         }
     }
 }
@@ -138,17 +136,18 @@ fn book(s: &mut State, w: Window, i: usize, frame: usize, position: usize)
     raise_from(s, i, w, position);
 }
 
-// A word with these fields asks for a slot on a state of a plan with n flows; its flow is i and has this entry, or they are those of flow 0 where
-// the plan does not have it. What it comes to; and the state is the next one.
-pub fn request(s: &mut State, count: usize, e: Entry, w: Window, i: usize, fields: Fields) -> Reply
-    requires { ⌜ SomeRequest (λ p x. RequestIn p count e w i fields x (now s)) ⌝ }
-    ensures { λ r. ⌜ ((p : Plan) (x : ℕ) → RequestIn p count e w i fields x (now (s .entry))
+// A word with these fields asks for a slot on a state of a plan with n flows; e is the entry of its flow, or of flow 0 where the plan does not have
+// it. What it comes to; and the state is the next one.
+pub fn request(s: &mut State, count: usize, e: Entry, w: Window, fields: Fields) -> Reply
+    requires { ⌜ SomeRequest (λ p x. RequestIn p count e w fields x (now s)) ⌝ }
+    ensures { λ r. ⌜ ((p : Plan) (x : ℕ) → RequestIn p count e w fields x (now (s .entry))
         → Went replyOf (model.request (readIn p (now (s .entry))) x) p (now (s .exit)) r) ⌝ }
 {
-    let number = refusal(s, count, e, w, i, fields);
+    let number = refusal(s, count, e, w, fields);
     if number != 0 {
         return refused(number);
     }
+    let i = fields.flow as usize;
     let flow = flow_at(s, i);
     let sought = seek(s, e, w, i, flow, fields.departure as usize);
     match sought {
@@ -179,7 +178,7 @@ impl Link {
         let e = plan.entries[i];
         let cp = self.state[CURRENT];
         let w = window(plan.slots, plan.frames, cp as usize);
-        let reply = request(&mut self.state, plan.count, e, w, i, fields);
+        let reply = request(&mut self.state, plan.count, e, w, fields);
         let number = reply.number;
         if number != 0 {
             return Step {

@@ -7,10 +7,8 @@ use mathlib.Core.Bool.{Bool, not, _&&_}
 use lib.Dec.{ltb}
 use Rattle.tables.specs.declared.Found.{Found}
 use Rattle.tables.specs.declared.Found.the-variants.{At, Nowhere}
-use Rattle.tables.specs.Owners.{unbookedAt, WordsOf}
+use Rattle.tables.specs.Owners.{unbookedAt}
 use Rattle.tables.specs.Holdings.{roomAt}
-use Rattle.window.specs.declared.Window as code
-use Rattle.window.specs.Window.{FromRank}
 use Rattle.unbooked.specs.Bits.{bitAt}
 use Rattle.model.specs.Tables.{ahead}
 use Rattle.model.specs.Window.{Window, start, newest, passed, everyFrom}
@@ -38,11 +36,6 @@ abbrev pub searchFrom : Window → (ok : ℕ → Bool) (share j c : ℕ) → mod
 searchFrom w ok share j c = model.search w ok share (ahead (w .frames) j (newest w)) j c
 
 -- ---- a frame's valid slots in one word
-
--- the words are those of these owners, and the late positions are those of rank `low` or more
-pub record Gathering (w : code.Window) (owners words : List ℕ) (late : ℕ → Bool) (low : ℕ) : Type 0 where
-  pub words-are : WordsOf (w .slots) (w .frames) owners words
-  pub late-from : FromRank w late low
 
 -- document 02, N3: "Bit i of the word is 1 exactly when i is below F and slot i of the frame is valid", where a position is valid if
 -- it passes `ok`

@@ -23,7 +23,7 @@ flow-few c = placed-few (start c .pre .parts .plan) _ (c .placed .ensures)
 
 -- what is given of the state and the word
 in-at : (c : tie.After-window) → let a = placed-at c in let l = start a .args .t1 in
-    RequestIn (l .plan) (l .plan .count) (getD (l .plan .entries) (a .placed .result) noEntry) (c .window .result) (a .placed .result)
+    RequestIn (l .plan) (l .plan .count) (getD (l .plan .entries) (a .placed .result) noEntry) (c .window .result)
     (a .before .before .split .result) (start a .args .word) (l .state)
 in-at c =
     let a = placed-at c in

@@ -19,8 +19,8 @@ destination-at c = c .before .before .before
 
 -- ---- the needs
 
-cast-if1 : tie.Need-cast-if1
-cast-if1 c = search needs
+cast-i : tie.Need-cast-i
+cast-i c = search needs
 
 returns : tie.Need-returns
 returns c = λ p x o. tests-8 o (c .if1 .taken)
@@ -43,7 +43,7 @@ returns-3 c =
     λ p x o. tests-10 o (f .if1 .left) (d .if2 .left) (c .if3 .taken)
 
 flow-at-requires : tie.Need-flow-at-requires
-flow-at-requires c κs = flow-few (start (flow-at (destination-at c)) .pre .given)
+flow-at-requires c κs = let f = flow-at (destination-at c) in flow-few (start f .pre .given) (f .if1 .left)
 
 cast-if4 : tie.Need-cast-if4
 cast-if4 c = search needs
@@ -68,7 +68,7 @@ pub refusal-spec : {M : Type 1} → statement M
 refusal-spec =
     tie.close
     (tie.spec
-    cast-if1
+    cast-i
     returns
     returns-2
     mul-if3

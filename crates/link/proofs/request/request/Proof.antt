@@ -10,8 +10,7 @@ use Rattle.link.specs.Given.{RequestIn, testsOf}
 use Rattle.link.specs.Parts.{partsIn, withFlowAt}
 use Rattle.link.specs.Sought.{soughtWith, soughtIn}
 use Rattle.link.specs.Steps.{readIn}
-use Rattle.link.proofs.Given.{flow-few}
-use Rattle.link.proofs.StateRequests.{went-refused, seek-in, sought-of, number-below, stopped-few, went-stopped, granted-few, in-frame, byte-position, went-granted}
+use Rattle.link.proofs.StateRequests.{went-refused, few, seek-in, sought-of, number-below, stopped-few, went-stopped, granted-few, in-frame, byte-position, went-granted}
 use Rattle.link.proofs.StateRequests.{found-from, nowhere-from, Stopped, same-reply}
 use Rattle.link.proofs.request.request.Statement.{statement}
 use Rattle.link.proofs.request.request.Tie as tie
@@ -24,7 +23,7 @@ start c = c .before .before
 
 -- where the word passed its tests, and where the flow is read
 abbrev passed-at : tie.After-flow-at → tie.Else1
-passed-at c = c .before .before
+passed-at c = c .before .before .before
 
 abbrev read-at : tie.After-seek → tie.After-flow-at
 read-at c = c .before .before .before
@@ -42,7 +41,7 @@ seek-at-2 c = c .before .before
 -- ---- what is given and known there
 
 abbrev InAt : tie.Start → Plan → ℕ → Type 0
-InAt s p x = RequestIn p (s .args .count) (s .args .e) (s .args .w) (s .args .i) (s .args .fields) x (s .args .s .now)
+InAt s p x = RequestIn p (s .args .count) (s .args .e) (s .args .w) (s .args .fields) x (s .args .s .now)
 
 module _ (c : tie.After-seek) (p : Plan) (x : ℕ) (o : InAt (entered c) p x) where
   tests : passed-at (read-at c) .before .refusal .result ≡ testsOf (partsIn p (entered c .args .s .now)) x
@@ -51,10 +50,10 @@ module _ (c : tie.After-seek) (p : Plan) (x : ℕ) (o : InAt (entered c) p x) wh
   zero : passed-at (read-at c) .before .refusal .result ≡ 0
   zero = passed-at (read-at c) .if1 .left
 
-  sought-is : c .seek .result ≡ soughtIn (readIn p (entered c .args .s .now)) (entered c .args .i) (departureOf x)
+  sought-is : c .seek .result ≡ soughtIn (readIn p (entered c .args .s .now)) (entered c .args .fields .flow) (departureOf x)
   sought-is =
       c .seek .ensures p (seek-in o tests zero (read-at c .flow-at .ensures .0))
-      ∙ ap (soughtWith (wouldBeValid (readIn p (entered c .args .s .now)) (entered c .args .i))) (sought-of o tests zero)
+      ∙ ap (soughtWith (wouldBeValid (readIn p (entered c .args .s .now)) (entered c .args .fields .flow))) (sought-of o tests zero)
 
 module _ (c : tie.After-sought) where
   abbrev frame-at : ℕ
@@ -67,19 +66,19 @@ module _ (c : tie.After-sought) where
   position-at = c .sought .given .0 .1 .1 .0
 
   found-is : (p : Plan) (x : ℕ) → InAt (entered (seek-at c)) p x
-      → found frame-at left-at position-at ≡ sought (readIn p (entered (seek-at c) .args .s .now)) (entered (seek-at c) .args .i) (departureOf x)
+      → found frame-at left-at position-at ≡ sought (readIn p (entered (seek-at c) .args .s .now)) (entered (seek-at c) .args .fields .flow) (departureOf x)
   found-is p x o =
       let l = readIn p (entered (seek-at c) .args .s .now) in
-      let i = entered (seek-at c) .args .i in
+      let i = entered (seek-at c) .args .fields .flow in
       found-from (wouldBeValid l i) (sought l i (departureOf x)) (sym (c .sought .given .1) ∙ sought-is (seek-at c) p x o)
 
 none-is : (c : tie.After-sought2) (p : Plan) (x : ℕ) → InAt (entered (seek-at-2 c)) p x
     → let l = readIn p (entered (seek-at-2 c) .args .s .now) in
-    let i = entered (seek-at-2 c) .args .i in
+    let i = entered (seek-at-2 c) .args .fields .flow in
     Stopped (wouldBeValid l i) (sought l i (departureOf x)) (c .sought2 .given .0 .0) (c .sought2 .given .0 .1 .0)
 none-is c p x o =
     let l = readIn p (entered (seek-at-2 c) .args .s .now) in
-    let i = entered (seek-at-2 c) .args .i in
+    let i = entered (seek-at-2 c) .args .fields .flow in
     nowhere-from (wouldBeValid l i) (sought l i (departureOf x)) (sym (c .sought2 .given .1) ∙ sought-is (seek-at-2 c) p x o)
 
 -- ---- the needs
@@ -95,8 +94,14 @@ returns c =
     let t = c .before in
     λ p x o. same-reply (c .refused .ensures) (went-refused o (t .before .refusal .ensures p x o) (t .if1 .taken) refl)
 
+cast-i : tie.Need-cast-i
+cast-i c = search needs
+
 flow-at-requires : tie.Need-flow-at-requires
-flow-at-requires c κs = flow-few (start (c .before .before) .pre .given)
+flow-at-requires c κs =
+    let e = c .before .before in
+    let o = start (e .before) .pre .given in
+    few o (e .before .refusal .ensures _ _ o) (e .if1 .left)
 
 cast-seek : tie.Need-cast-seek
 cast-seek c = search needs
@@ -124,7 +129,7 @@ put-flow-requires c κs =
     let k = seek-at f in
     let o = entered k .pre .given in
     let read = read-at k .flow-at .ensures in
-    rw (c .granted-in .ensures) (flow-few o, granted-few o (tests k _ _ o) (zero k _ _ o) (read .0) (read .1) _ _ _ (found-is f _ _ o))
+    rw (c .granted-in .ensures) (few o (tests k _ _ o) (zero k _ _ o), granted-few o (tests k _ _ o) (zero k _ _ o) (read .0) (read .1) _ _ _ (found-is f _ _ o))
 
 book-requires : tie.Need-book-requires
 book-requires c κs =
@@ -132,7 +137,7 @@ book-requires c κs =
     let k = seek-at f in
     let o = entered k .pre .given in
     let read = read-at k .flow-at .ensures in
-    (in-frame o (tests k _ _ o) (zero k _ _ o) (read .0) (read .1) _ _ _ (found-is f _ _ o), flow-few o)
+    (in-frame o (tests k _ _ o) (zero k _ _ o) (read .0) (read .1) _ _ _ (found-is f _ _ o), few o (tests k _ _ o) (zero k _ _ o))
 
 cast-t24 : tie.Need-cast-t24
 cast-t24 c =
@@ -152,7 +157,7 @@ returns-2 c =
     let read = read-at k .flow-at .ensures in
     λ p x o.
     went-granted o (tests k p x o) (zero k p x o) (read .0) (read .1) _ _ _ (found-is f p x o)
-    (stored .put-flow .ensures ∙ ap (withFlowAt (s .args .s .now) (s .args .i)) (g .granted-in .ensures)) (c .book .ensures)
+    (stored .put-flow .ensures ∙ ap (withFlowAt (s .args .s .now) (s .args .fields .flow)) (g .granted-in .ensures)) (c .book .ensures)
 
 enum-known-sought-2 : tie.Need-enum-known-sought-2
 enum-known-sought-2 c = search needs
@@ -171,7 +176,7 @@ put-flow-requires-2 c κs =
     let o = entered k .pre .given in
     let read = read-at k .flow-at .ensures in
     let none = none-is f _ _ o in
-    rw (c .moved-to .ensures) (flow-few o, stopped-few o (tests k _ _ o) (zero k _ _ o) (read .0) (read .1) _ (none .found-none) _ (n .newest .ensures))
+    rw (c .moved-to .ensures) (few o (tests k _ _ o) (zero k _ _ o), stopped-few o (tests k _ _ o) (zero k _ _ o) (read .0) (read .1) _ (none .found-none) _ (n .newest .ensures))
 
 refused-requires-2 : tie.Need-refused-requires-2
 refused-requires-2 c κs = search needs
@@ -189,7 +194,7 @@ returns-3 c =
     let none = none-is f p x o in
     same-reply (c .refused2 .ensures ∙ (λ j. record { number = none .number-is j; position = 0 }))
     (went-stopped o (tests k p x o) (zero k p x o) (read .0) (read .1) _ (none .found-none) _ (n .newest .ensures)
-    (stored .put-flow2 .ensures ∙ ap (withFlowAt (s .args .s .now) (s .args .i)) (m .moved-to .ensures)))
+    (stored .put-flow2 .ensures ∙ ap (withFlowAt (s .args .s .now) (s .args .fields .flow)) (m .moved-to .ensures)))
 
 pub request-spec : {M : Type 1} → statement M
 request-spec =
@@ -198,6 +203,7 @@ request-spec =
     refusal-requires
     refused-requires
     returns
+    cast-i
     flow-at-requires
     cast-seek
     seek-requires

@@ -1,20 +1,20 @@
 -- `link::request::seek` meets its contract: nothing to search, what the search found, or the refusal at the newest frame. Assumes nothing.
 use borrow.Author.Needs.{needs}
 use mathlib.Core.Path.{_≡_, sym, ap, _∙_}
-use native.Mathlib.Omega.{arith}
-use borrow.Author.Tests.{eqb-true}
+use mathlib.Core.Logic.{⊎-elim}
+use mathlib.Core.Bool.{true≢false}
+use borrow.Author.Tests.{eqb-true, eq-eqb}
 use Rattle.plan.specs.declared.Plan.{Plan}
 use Rattle.model.specs.Refusals.{firstOf}
-use Rattle.model.specs.Request.{newestTests, wouldBeValid, sought}
+use Rattle.model.specs.Window.{newest}
+use Rattle.model.specs.Request.{nowhere, newestTests, wouldBeValid, sought}
 use Rattle.window.specs.Window.{windowOf}
-use Rattle.state.specs.State.{ownersOf, masksOf}
-use Rattle.tables.specs.Rows.{row}
-use Rattle.tables.specs.Search.{foundOf, lateAt, Gathering}
+use Rattle.tables.specs.Search.{foundOf}
 use Rattle.link.specs.declared.request.Sought.the-variants.{Nowhere}
 use Rattle.link.specs.Given.{SeekIn}
 use Rattle.link.specs.Sought.{soughtWith}
 use Rattle.link.specs.Steps.{readIn}
-use Rattle.link.proofs.Given.{bounds-in, seeker-few, words-on, search-from, sought-on, would-on, spent-on}
+use Rattle.link.proofs.Given.{bounds-in, seeker-few, masks-in, search-from, sought-on, would-on, spent-on, unspent}
 use Rattle.link.proofs.request.seek.Statement.{statement}
 use Rattle.link.proofs.request.seek.Tie as tie
 
@@ -33,14 +33,20 @@ start c = entered (late-at c .before)
 
 -- ---- what the search comes to
 
-module _ (c : tie.After-find) (p : Plan) (o : let s = start c in SeekIn p (s .args .e) (s .args .w) (s .args .i) (s .args .flow) (s .args .departure) (s .args .s .now)) where
-  gathering : let s = start c in
-      Gathering (s .args .w) (ownersOf (s .args .s .now)) (masksOf (s .args .s .now))
-      (lateAt (windowOf (s .args .w)) (row (s .args .s .now) (s .args .i)) (s .args .e .cells)) (late-at c .late-rank .result)
-  gathering = record { words-are = words-on o; late-from = late-at c .late-rank .ensures }
+abbrev InAt : tie.Start → Plan → Type 0
+InAt s p = SeekIn p (s .args .e) (s .args .w) (s .args .i) (s .args .flow) (s .args .departure) (s .args .s .now)
 
-  found-is : foundOf (c .find .result) ≡ sought (readIn p (start c .args .s .now)) (start c .args .i) (start c .args .departure)
-  found-is = c .find .ensures _ _ gathering ∙ sought-on o
+found-is : (c : tie.After-find) (p : Plan) → InAt (start c) p
+    → foundOf (c .find .result) ≡ sought (readIn p (start c .args .s .now)) (start c .args .i) (start c .args .departure)
+found-is c p o = c .find .ensures ∙ sought-on o (late-at c .late-rank .ensures)
+
+-- the share is not spent up to the newest frame
+not-spent : (c : tie.Joined1) → let s = entered c in s .args .flow .frame ≡ newest (windowOf (s .args .w)) → s .args .flow .left ≡ 0 → ⊥
+not-spent c frame left =
+    ⊎-elim
+    (λ (_, n, _, elsewhere). true≢false (sym (eq-eqb _ _ (frame ∙ sym (n .ensures))) ∙ elsewhere .left))
+    (λ some. some .left left)
+    (c .if1 .came)
 
 -- ---- the needs
 
@@ -82,7 +88,7 @@ enum-known-found-2 : tie.Need-enum-known-found-2
 enum-known-found-2 c = search needs
 
 valid-in-newest-requires : tie.Need-valid-in-newest-requires
-valid-in-newest-requires c κs = start (c .before .before .before) .pre .given .state .proper
+valid-in-newest-requires c κs = masks-in (start (c .before .before .before) .pre .given)
 
 nowhere-requires : tie.Need-nowhere-requires
 nowhere-requires c κs = search needs
@@ -95,9 +101,11 @@ returns-3 c =
     let s = start d in
     let left = f .found2 .given .0 .0 in
     λ p o.
-    let would = v .valid-in-newest .ensures _ _ (gathering d p o) ∙ would-on o in
-    ap (Nowhere left) (c .nowhere .ensures ∙ ap (λ b. firstOf (newestTests b left)) would)
-    ∙ ap (soughtWith (wouldBeValid (readIn p (s .args .s .now)) (s .args .i))) (ap foundOf (sym (f .found2 .given .1)) ∙ found-is d p o)
+    let none = ap foundOf (sym (f .found2 .given .1)) ∙ found-is d p o in
+    let some-left : left ≡ 0 → ⊥ = λ z. unspent o (not-spent (late-at d .before)) (ap nowhere (sym z) ∙ none) in
+    let would = v .valid-in-newest .ensures ∙ would-on o (late-at d .late-rank .ensures) in
+    ap (Nowhere left) (c .nowhere .ensures left some-left ∙ ap (λ b. firstOf (newestTests b left)) would)
+    ∙ ap (soughtWith (wouldBeValid (readIn p (s .args .s .now)) (s .args .i))) none
 
 pub seek-spec : {M : Type 1} → statement M
 seek-spec =

@@ -34,7 +34,7 @@ returns c =
     let s = c .before .before .before .before in
     let v = s .pre .proper in
     let most = s .pre .bounds .bound (s .args .i) (s .pre .flow) .most (omega (arith, c .if1 .taken)) in
-    let room = roomAt (row (s .args .held .now) (s .args .i)) (s .args .cells) in
+    let room = roomAt (row (s .args .s .now) (s .args .i)) (s .args .cells) in
     let everywhere : All room 0 (sizeOf (s .args .w)) true = record {
       pass = λ _ q _ l. lt-ltb _ (s .args .cells) (let below = most q l in omega (arith, c .if1 .taken));
       miss = λ z. absurd (true≢false z);

@@ -13,13 +13,13 @@ mask-at-requires : tie.Need-mask-at-requires
 mask-at-requires c κs = search needs
 
 mul-rank : tie.Need-mul-rank
-mul-rank c = let s = c .before .before in omega (arith, frame-fits (s .args .w .slots) _ _ (s .pre .1))
+mul-rank c = let s = c .before .before in omega (arith, frame-fits (s .args .w .slots) _ _ (s .pre .frame))
 
 rank-requires : tie.Need-rank-requires
 rank-requires c κs =
     let s = c .before .before in
-    let m = s .pre .0 .measures in
-    record { proper = s .pre .0; below = omega (arith, frame-fits (s .args .w .slots) _ _ (s .pre .1), m .some-slot) }
+    let m = s .pre .masks .proper .measures in
+    record { proper = s .pre .masks .proper; below = omega (arith, frame-fits (s .args .w .slots) _ _ (s .pre .frame), m .some-slot) }
 
 over-requires : tie.Need-over-requires
 over-requires c κs = search needs
@@ -33,10 +33,10 @@ returns c =
     let r = o .before in
     let m = r .before .before in
     let s = m .before in
-    let few = s .pre .0 .measures .frames-most in
+    let few = s .pre .masks .proper .measures .frames-most in
     let early = o .over .ensures ∙ ap (λ (x : ℕ). s .args .low - x) (r .rank .ensures) in
-    let mask = m .mask-at .ensures ∙ sym (masks-at (s .args .unbooked .now) (s .args .frame) (omega (arith, s .pre .1))) in
-    λ owners late g. gathered (s .args .w) (s .pre .0) g (s .args .frame) (s .pre .1) (rw (early, mask) at (c .from .ensures))
+    let mask = m .mask-at .ensures ∙ sym (masks-at (s .args .s .now) (s .args .frame) (omega (arith, s .pre .frame))) in
+    gathered (s .pre .masks) (s .args .low) (s .args .frame) (s .pre .frame) (rw (early, mask) at (c .from .ensures))
 
 pub valid-slots-spec : {M : Type 1} → statement M
 valid-slots-spec =
