@@ -76,10 +76,9 @@ def single_calls(folder, _, rounds):
 
 
 def bursts(folder, _, rounds):
-    least = single.floor(folder, rounds) / single.WORDS
     for words, table, (ours, theirs) in single.measure_bursts(folder, rounds):
         yield ("%s, %s" % (words, table),
-               Figure(ours["burst"], theirs["burst"], least))
+               Figure(ours["burst"], theirs["burst"], ours["floor"]))
 
 
 def mesh_checks(folder, _, rounds):

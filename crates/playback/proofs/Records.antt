@@ -37,13 +37,13 @@ reads-as o r e = sym (call-in o) ∙ ap callIn (sym e)
 pub record Played (plan : Plan) (s : List ℕ) (o : Made) (w : Window) (t : List ℕ) (answer : Answer) : Type 0 where
   pub link-is : readIn plan t ≡ made (readIn plan s) o .link
   pub line-is : lineFor answer ≡ lineOf (made (readIn plan s) o .answer)
-  pub hand : StateIn plan (plan .count) w t
+  pub hand : StateIn plan w t
 
 -- no call: 16, and the link stays
-pub no-call-played : {plan : Plan} {w : Window} {s : List ℕ} → StateIn plan (plan .count) w s → Played plan s (callIn NoCall) w s (Refused 16)
+pub no-call-played : {plan : Plan} {w : Window} {s : List ℕ} → StateIn plan w s → Played plan s (callIn NoCall) w s (Refused 16)
 no-call-played hand = record { link-is = refl; line-is = refl; hand = hand }
 
-module _ {plan : Plan} {w : Window} {s : List ℕ} (o : StateIn plan (plan .count) w s) {t : List ℕ} {answer : Answer} where
+module _ {plan : Plan} {w : Window} {s : List ℕ} (o : StateIn plan w s) {t : List ℕ} {answer : Answer} where
   pub played-request : (x : ℕ) → Went answerToRequest (request (readIn plan s) x) plan t answer
       → Played plan s (callIn (Record.Call (Request x))) w t answer
   played-request x e = record {
@@ -60,7 +60,7 @@ module _ {plan : Plan} {w : Window} {s : List ℕ} (o : StateIn plan (plan .coun
     hand = still-in o e (credit-current (readIn plan s) i p);
   }
 
-  pub played-tick : {on : Window} → Went answerToTick (tick (readIn plan s)) plan t answer → StateIn plan (plan .count) on t
+  pub played-tick : {on : Window} → Went answerToTick (tick (readIn plan s)) plan t answer → StateIn plan on t
       → Played plan s (callIn (Record.Call Tick)) on t answer
   played-tick e there = record {
     link-is = e .link-is;

@@ -8,7 +8,7 @@ use lib.Seq.{sets, length-sets}
 use Rattle.plan.specs.declared.Plan.{Plan}
 use Rattle.calls.specs.declared.Answer.{Answer}
 use Rattle.calls.specs.Reading.{lineFor}
-use Rattle.calls.proofs.Stores.{Written}
+use Rattle.calls.specs.Lines.{Puts}
 use Rattle.calls.proofs.PlayedTo.{PlayedTo, played-none, callAt, played-more}
 use Rattle.model.specs.Listing.{listing, linkAfter}
 use Rattle.window.specs.declared.Window.{Window}
@@ -28,14 +28,15 @@ pub record SoFar (start : Link) (records out₀ : List ℕ) (used : ℕ) (plan :
   pub seven-most : 5 * end ≤ 7 * at
   pub played : PlayedTo (readOf start) records out₀ 0 at (readIn plan (link .state)) out end
   pub plan-is : link .plan ≡ plan
-  pub hand : StateIn plan (plan .count) w (link .state)
+  pub hand : StateIn plan w (link .state)
 
 -- a record's call, or none, is played from state s, and the line of its answer is written
 pub record Told (plan : Plan) (s : List ℕ) (o : Made) (w : Window) (link : Link) (out : List ℕ) (end : ℕ) (out′ : List ℕ) (end′ : ℕ) : Type 0 where
   pub answer : Answer
   pub played : Played plan s o w (link .state) answer
   pub plan-is : link .plan ≡ plan
-  pub written : Written (lineFor answer) out out′ end end′
+  pub put : Puts (lineFor answer) out out′ end end′
+  pub most : end′ ≤ end + 7
 
 -- the same of what is equal
 pub same-told : {plan : Plan} {s : List ℕ} {o o′ : Made} {w w′ : Window} {link link′ : Link} {out : List ℕ} {end : ℕ}
@@ -58,7 +59,7 @@ reach records out used e =
 
 -- nothing is played yet
 pub none-yet : {start : Link} {records out : List ℕ} {used : ℕ} {w : Window} → used ≡ 5 * playable records out
-    → StateIn (start .plan) (start .plan .count) w (start .state) → SoFar start records out used (start .plan) 0 start w out 0
+    → StateIn (start .plan) w (start .state) → SoFar start records out used (start .plan) 0 start w out 0
 none-yet {start} {records} {out} e hand = record {
   at-most = omega arith;
   used-is = e;
@@ -74,22 +75,27 @@ module _ {start : Link} {records out₀ : List ℕ} {used : ℕ} {plan : Plan} {
   pub same-size : length out ≡ length out₀
   same-size = ap length (s .played .lines) ∙ length-sets out₀ 0 (listing (readOf start) (take at records))
 
+  -- the line of a record has room
+  pub room : at < used → end + 7 ≤ length out
+  room before =
+      let r = reach records out₀ used (s .used-is) in
+      let on : at + 5 ≤ used = omega (arith, s .whole, r .whole) in
+      omega (arith, same-size, s .seven-most, r .in-out)
+
   -- one record more: it was played, and its line was written
   pub one-more : at < used → {w′ : Window} {link′ : Link} {out′ : List ℕ} {end′ : ℕ}
       → Told plan (link .state) (callAt records at) w′ link′ out end out′ end′
       → SoFar start records out₀ used plan (at + 5) link′ w′ out′ end′
   one-more before t =
       let p = t .played in
-      let (written, (ends, most)) = t .written in
       let r = reach records out₀ used (s .used-is) in
       let on : at + 5 ≤ used = omega (arith, s .whole, r .whole) in
-      let room : end + 7 ≤ length out = omega (arith, same-size, s .seven-most, r .in-out) in
       record {
         at-most = on;
         used-is = s .used-is;
         whole = omega (arith, s .whole);
-        seven-most = omega (arith, s .seven-most);
-        played = played-more (s .played) (s .whole) (omega (arith, r .in-records)) room (p .link-is) (p .line-is) written ends;
+        seven-most = omega (arith, s .seven-most, t .most);
+        played = played-more (s .played) (s .whole) (omega (arith, r .in-records)) (p .link-is) (p .line-is) (t .put);
         plan-is = t .plan-is;
         hand = p .hand;
       }

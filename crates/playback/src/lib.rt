@@ -8,6 +8,8 @@ use calls::RECORD;
 use calls::Record;
 use lines::TICKS;
 use lines::lines;
+use lines::write_reply;
+use lines::write_taken;
 use link::Link;
 use link::credit::credit;
 use link::request::placed;
@@ -18,25 +20,24 @@ use state::OWNERS;
 use window::numbers::smaller;
 use window::positions::window;
 
-// A link after some records, and how many bytes the records and their lines have.
+// A link after some records, and how far they and their lines go.
 pub struct Playback {
     pub link: Link,
     // bytes of the records that were played
     pub used: usize,
-    // bytes of their lines
-    pub written: usize,
+    // where their lines end in `out`
+    pub end: usize,
 }
 
 // Plays the records of a slice and writes their lines from the start of `out` on: every whole record, or as many as `out` has room for,
 // seven bytes each.
-pub fn play(start: Link, records: &[u8], out: &mut [u8]) -> Playback
-    requires { ⌜ SoundLink start ⌝ }
-    ensures { λ r. ⌜ PlayedRecords (readOf start) (now (records .entry)) (now (out .entry))
-        (readOf (r .link)) (r .used) (r .written) (now (out .exit)) ⌝ }
+pub fn play(mut link: Link, records: &[u8], out: &mut [u8]) -> Playback
+    requires { ⌜ SoundLink link ⌝ }
+    ensures { λ r. ⌜ PlayedRecords (readOf link) (now (records .entry)) (now (out .entry))
+        (readOf (r .link)) (r .used) (r .end) (now (out .exit)) ⌝ }
     ensures sound { λ r. ⌜ SoundLink (r .link) ⌝ }
 {
     let used = RECORD * smaller(records.len() / RECORD, out.len() / LONGEST_LINE);
-    let mut link = start;
     let plan = link.plan;
     let cp = link.state[CURRENT];
     let mut w = window(plan.slots, plan.frames, cp as usize);
@@ -44,9 +45,9 @@ pub fn play(start: Link, records: &[u8], out: &mut [u8]) -> Playback
     let mut at = 0;
     let mut end = 0;
     while at < used {
-        let Record::Call(call) = calls::read(records, at) else {
+        at += RECORD;
+        let Record::Call(call) = calls::read(records, at - RECORD) else {
             end = calls::write_refusal(16, out, end);
-            at += RECORD;
             continue;
         };
         match call {
@@ -55,37 +56,24 @@ pub fn play(start: Link, records: &[u8], out: &mut [u8]) -> Playback
                 let i = placed(plan.count, fields.flow as usize);
                 let e = plan.entries[i];
                 let reply = request(&mut link.state, plan.count, e, w, fields);
-                let number = reply.number;
-                if number != 0 {
-                    end = calls::write_refusal(number, out, end);
-                } else {
-                    let line = made[reply.position as usize];
-                    end = lines::write(line, out, end);
-                }
+                let line = made[reply.position as usize];
+                end = write_reply(reply.number, line, out, end);
             }
             Call::Credit(flow, position) => {
                 let number = credit(&mut link.state, plan, w, flow, position);
                 if number != 0 {
                     end = calls::write_refusal(number, out, end);
                 } else {
-                    end = lines::write_taken(out, end);
+                    end = write_taken(out, end);
                 }
             }
             Call::Tick => {
-                let on = tick(&mut link.state, plan, w);
-                w = on;
-                let next = on.current;
-                let owner = link.state[OWNERS + next];
-                // nobody's number, 16, is the place of the idle line
+                w = tick(&mut link.state, plan, w);
+                let owner = link.state[OWNERS + w.current];
                 let line = made[TICKS + owner as usize];
                 end = lines::write(line, out, end);
             }
         }
-        at += RECORD;
     }
-    Playback {
-        link,
-        used,
-        written: end,
-    }
+    Playback { link, used, end }
 }

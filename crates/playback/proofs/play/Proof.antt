@@ -1,25 +1,25 @@
 -- `playback::play` meets its contract: before each record, those up to it are played. Assumes nothing.
 use borrow.Author.Needs.{needs}
-use Prim.Native.Nat.{_+_, _*_, _-_, _<_}
-use mathlib.Core.Path.{_≡_, refl, sym, ap, _∙_}
+use Prim.Native.Nat.{_+_, _*_, _-_, _≤_, _<_}
+use mathlib.Core.Path.{_≡_, ap, _∙_}
 use mathlib.Core.Logic.{⊎-elim}
 use native.Mathlib.Omega.{arith}
-use lib.ListN.{getD}
-use borrow.Author.Tests.{eq-eqb, ne-eqb}
+use lib.ListN.{length, getD}
 use Rattle.plan.specs.declared.Plan.{Plan}
-use Rattle.plan.specs.Reading.{noEntry}
-use Rattle.calls.specs.declared.Answer.the-variants.{Taken, Refused}
+use Rattle.calls.specs.declared.Answer.the-variants.{Refused}
 use Rattle.calls.specs.declared.Call.{Call}
 use Rattle.calls.specs.declared.Record.{Record}
 use Rattle.calls.specs.Reading.{callIn, answerToTick}
 use Rattle.calls.proofs.PlayedTo.{callAt}
+use Rattle.calls.proofs.Stores.{put-in-room, puts-same}
 use Rattle.tables.specs.Owners.{ownerOf}
-use Rattle.tables.proofs.AtMost.{most-unknown}
-use Rattle.link.specs.Given.{StateIn, RequestIn}
-use Rattle.link.proofs.Given.{state-in, placed-few}
+use Rattle.link.specs.Given.{StateIn}
+use Rattle.link.specs.Steps.{creditAnswer, requestAnswer}
+use Rattle.link.proofs.Given.{state-in, placed-few, request-in}
+use Rattle.link.proofs.Told.{request-told, credit-told}
 use Rattle.playback.proofs.Records.{Made, reads-as, no-call-played, played-request, played-credit, played-tick}
-use Rattle.playback.proofs.Texts.{tick-text, owner-few}
-use Rattle.playback.proofs.SoFar.{SoFar, Told, same-told, none-yet, same-size, one-more, all-played, sound-played}
+use Rattle.playback.proofs.Texts.{reply-text, credit-text, tick-text, owner-at}
+use Rattle.playback.proofs.SoFar.{SoFar, Told, same-told, none-yet, same-size, room, one-more, all-played, sound-played}
 use Rattle.playback.proofs.play.Statement.{statement}
 use Rattle.playback.proofs.play.Tie as tie
 
@@ -46,44 +46,26 @@ module _ (c : tie.After-read Inv-loop μ-loop) where
   abbrev plan-at : Plan
   plan-at = start (loop-at c) .args .start .plan
 
-  abbrev hand-at : StateIn plan-at (plan-at .count) (loop-at c .loop .w) (loop-at c .loop .link .state)
+  abbrev hand-at : StateIn plan-at (loop-at c .loop .w) (loop-at c .loop .link .state)
   hand-at = loop-at c .loop .inv .hand
 
   -- the call that the record makes
   abbrev made-at : Made
   made-at = callAt (start (loop-at c) .args .records .now) (loop-at c .loop .at)
 
+  -- its line has room
+  room-at : loop-at c .loop .end + 7 ≤ length (loop-at c .loop .out)
+  room-at = room (loop-at c .loop .inv) (c .before .loop-test .taken)
+
 call-is : (c : tie.After-known-told Inv-loop μ-loop) → made-at (read-at c) ≡ callIn (Record.Call (c .before .call .given .0 .0))
 call-is c = reads-as (made-at (read-at c)) _ (read-at c .read .ensures .0) ∙ ap callIn (c .before .call .given .1)
 
--- ---- a request
+-- where a request's flow is known
+abbrev request-at : tie.After-placed Inv-loop μ-loop → tie.After-read Inv-loop μ-loop
+request-at c = read-at (c .before .before .before .before .before .before)
 
-abbrev request-at : tie.After-asker Inv-loop μ-loop → tie.After-read Inv-loop μ-loop
-request-at c = read-at (c .before .before .before .before)
-
-asker-few : (c : tie.After-asker Inv-loop μ-loop) → c .asker .result < 16
-asker-few c = placed-few (hand-at (request-at c) .sound .parts .plan) _ (c .asker .ensures)
-
-request-in : (c : tie.After-asker Inv-loop μ-loop) → let r = request-at c in
-    RequestIn (plan-at r) (plan-at r .count) (getD (plan-at r .entries) (c .asker .result) noEntry) (loop-at r .loop .w) (c .asker .result)
-    (c .before .before .call2 .given .0 .0) (loop-at r .loop .link .state)
-request-in c =
-    let o = hand-at (request-at c) in
-    record {
-      sound = o .sound;
-      count-is = refl;
-      proper = o .proper;
-      window-is = o .window-is;
-      place-is = c .asker .ensures;
-      entry-is = refl;
-    }
-
--- ---- a tick: the owner at the new current position is one of sixteen flows, or nobody
-
-owner-at : (c : tie.After-tick Inv-loop μ-loop) → getD (c .tick .last .0) (4096 + c .tick .result .current) 0 < 17
-owner-at c =
-    let o = c .tick .ensures .1 in
-    owner-few (o .sound) _ (omega (arith, o .proper .measures .current-below, o .proper .measures .positions-most))
+asker-few : (c : tie.After-placed Inv-loop μ-loop) → c .placed .result < 16
+asker-few c = placed-few (hand-at (request-at c) .sound .parts .plan) _ (c .placed .ensures)
 
 -- ---- where the arms meet
 
@@ -102,46 +84,41 @@ module _ (c : tie.At-match2-came Inv-loop μ-loop) where
   came =
       let o = hand-at at-read in
       let same = loop .loop .inv .plan-is in
+      let all = loop .before .lines .ensures in
       ⊎-elim
       -- a request
-      (λ (keys, call, known, asker, e, _, request, _, written, _, _, out-is, link-is, window-is, end-is).
+      (λ (_, call, _, split, _, placed, _, _, request, known, _, _, written, _, _, out-is, link-is, window-is, end-is).
+      let asked = request-in o (call .given .0 .0) (split .ensures) (placed .ensures) in
       same-told (call-is (c .before) ∙ ap of-call (call .given .1)) out-is link-is window-is end-is
       (record {
-        answer = request .result;
-        played = played-request o _ (request .ensures _ (request-in (record { before = record { before = record { before = record { before = _; match2 = keys }; call2 = call }; known-told2 = known }; asker = asker })));
+        answer = requestAnswer (call .given .0 .0) (request .result);
+        played = played-request o _ (request-told (o .sound) _ (request .ensures _ _ asked));
         plan-is = same;
-        written = written .ensures;
+        put = puts-same (reply-text all _ (request .result) (omega (arith, known .given))) (written .ensures .0);
+        most = written .ensures .1;
       }))
       (⊎-elim
-      -- a credit that is refused
-      (λ (_, call, _, _, credit, refused, _, written, _, _, out-is, link-is, window-is, end-is).
+      -- a credit
+      (λ (_, call, _, _, credit, _, written, _, _, out-is, link-is, window-is, end-is).
       same-told (call-is (c .before) ∙ ap of-call (call .given .1)) out-is link-is window-is end-is
       (record {
-        answer = Refused (credit .result .number);
-        played = played-credit o _ _ (rw (ne-eqb _ _ (refused .taken)) at (credit .ensures .0 _ o));
+        answer = creditAnswer (credit .result);
+        played = played-credit o _ _ (credit-told _ _ _ (credit .ensures));
         plan-is = same;
-        written = written .ensures;
-      }))
-      (⊎-elim
-      -- a credit that is taken
-      (λ (_, call, _, _, credit, taken, _, written, _, _, out-is, link-is, window-is, end-is).
-      same-told (call-is (c .before) ∙ ap of-call (call .given .1)) out-is link-is window-is end-is
-      (record {
-        answer = Taken;
-        played = played-credit o _ _ (rw (eq-eqb _ _ (taken .left)) at (credit .ensures .0 _ o));
-        plan-is = same;
-        written = written .ensures;
+        put = puts-same (credit-text (credit .result)) (written .ensures .0);
+        most = written .ensures .1;
       }))
       -- a tick
-      (λ (keys, call, arg, tick, _, _, _, written, _, _, out-is, link-is, window-is, end-is).
-      let all = loop .before .lines .ensures in
+      (λ (_, call, _, tick, _, _, _, written, _, _, out-is, link-is, window-is, end-is).
+      let there = tick .ensures .1 in
       same-told (call-is (c .before) ∙ ap of-call (call .given .1)) out-is link-is window-is end-is
       (record {
         answer = answerToTick (ownerOf (getD (tick .last .0) (4096 + tick .result .current) 0));
-        played = played-tick o (tick .ensures .0) (tick .ensures .1);
+        played = played-tick o (tick .ensures .0) there;
         plan-is = same;
-        written = rw (sym (tick-text all _ (owner-at (record { before = record { before = record { before = record { before = _; match2 = keys }; enum-told2 = call }; tick-arg = arg }; tick = tick })))) (written .ensures);
-      }))))
+        put = puts-same (tick-text all _ (owner-at there)) (written .ensures .0);
+        most = written .ensures .1;
+      })))
       (c .match2 .came)
 
 -- ---- the needs
@@ -199,14 +176,21 @@ loop-again c =
       answer = Refused 16;
       played = rw no-call (no-call-played (hand-at read));
       plan-is = loop-at read .loop .inv .plan-is;
-      written = written .write-refusal .ensures;
+      put = put-in-room _ _ _ (room-at read) (written .write-refusal .ensures);
+      most = written .write-refusal .ensures .1 .1;
     })
 
 enum-known-call-2 : tie.Need-enum-known-call-2 Inv-loop μ-loop
 enum-known-call-2 c = search needs
 
-asker-requires : tie.Need-asker-requires Inv-loop μ-loop
-asker-requires c κs = search needs
+split-requires : tie.Need-split-requires Inv-loop μ-loop
+split-requires c κs = search needs
+
+cast-placed : tie.Need-cast-placed Inv-loop μ-loop
+cast-placed c = search needs
+
+placed-requires : tie.Need-placed-requires Inv-loop μ-loop
+placed-requires c κs = search needs
 
 mul-e : tie.Need-mul-e Inv-loop μ-loop
 mul-e c = omega (arith, asker-few c)
@@ -215,10 +199,21 @@ element-copy-out-e : tie.Need-element-copy-out-e Inv-loop μ-loop
 element-copy-out-e c = asker-few c
 
 request-requires : tie.Need-request-requires Inv-loop μ-loop
-request-requires c κs = (record { plan = _; given = request-in (c .before .before) }, most-unknown)
+request-requires c κs =
+    let p = c .before .before in
+    record { plan = _; word = _; given = request-in (hand-at (request-at p)) _ (p .before .before .split .ensures) (p .placed .ensures) }
 
-write-requires : tie.Need-write-requires Inv-loop μ-loop
-write-requires c κs = search needs
+cast-line : tie.Need-cast-line Inv-loop μ-loop
+cast-line c = search needs
+
+mul-line : tie.Need-mul-line Inv-loop μ-loop
+mul-line c = search needs
+
+array-copy-out-line : tie.Need-array-copy-out-line Inv-loop μ-loop
+array-copy-out-line c = search needs
+
+write-reply-requires : tie.Need-write-reply-requires Inv-loop μ-loop
+write-reply-requires c κs = room-at (request-at (c .before .before .before .before .before .before))
 
 enum-known-call-3 : tie.Need-enum-known-call-3 Inv-loop μ-loop
 enum-known-call-3 c = search needs
@@ -226,11 +221,8 @@ enum-known-call-3 c = search needs
 credit-requires : tie.Need-credit-requires Inv-loop μ-loop
 credit-requires c κs = search needs
 
-write-refusal-requires-2 : tie.Need-write-refusal-requires-2 Inv-loop μ-loop
-write-refusal-requires-2 c κs = search needs
-
-write-taken-requires : tie.Need-write-taken-requires Inv-loop μ-loop
-write-taken-requires c κs = search needs
+write-credit-requires : tie.Need-write-credit-requires Inv-loop μ-loop
+write-credit-requires c κs = room-at (read-at (c .before .before .before .before .before .before))
 
 enum-told-2 : tie.Need-enum-told-2 Inv-loop μ-loop
 enum-told-2 c = search needs
@@ -244,20 +236,20 @@ add-owner c = search needs
 element-copy-out-owner : tie.Need-element-copy-out-owner Inv-loop μ-loop
 element-copy-out-owner c = search needs
 
-cast-line : tie.Need-cast-line Inv-loop μ-loop
-cast-line c = omega (arith, owner-at (c .before))
+cast-line-2 : tie.Need-cast-line-2 Inv-loop μ-loop
+cast-line-2 c = omega (arith, owner-at (c .before .tick .ensures .1))
 
 add-line : tie.Need-add-line Inv-loop μ-loop
-add-line c = omega (arith, owner-at (c .before))
+add-line c = omega (arith, owner-at (c .before .tick .ensures .1))
 
-mul-line : tie.Need-mul-line Inv-loop μ-loop
-mul-line c = omega (arith, owner-at (c .before))
+mul-line-2 : tie.Need-mul-line-2 Inv-loop μ-loop
+mul-line-2 c = omega (arith, owner-at (c .before .tick .ensures .1))
 
-array-copy-out-line : tie.Need-array-copy-out-line Inv-loop μ-loop
-array-copy-out-line c = omega (arith, owner-at (c .before))
+array-copy-out-line-2 : tie.Need-array-copy-out-line-2 Inv-loop μ-loop
+array-copy-out-line-2 c = omega (arith, owner-at (c .before .tick .ensures .1))
 
-write-requires-2 : tie.Need-write-requires-2 Inv-loop μ-loop
-write-requires-2 c κs = search needs
+write-requires : tie.Need-write-requires Inv-loop μ-loop
+write-requires c κs = room-at (read-at (c .before .before .before .before .before .before .before))
 
 add-at-2 : tie.Need-add-at-2 Inv-loop μ-loop
 add-at-2 c = search needs
@@ -299,24 +291,28 @@ play-spec =
     loop-less
     loop-again
     enum-known-call-2
-    asker-requires
+    split-requires
+    cast-placed
+    placed-requires
     mul-e
     element-copy-out-e
     request-requires
-    write-requires
+    cast-line
+    mul-line
+    array-copy-out-line
+    write-reply-requires
     enum-known-call-3
     credit-requires
-    write-refusal-requires-2
-    write-taken-requires
+    write-credit-requires
     enum-told-2
     tick-requires
     add-owner
     element-copy-out-owner
-    cast-line
+    cast-line-2
     add-line
-    mul-line
-    array-copy-out-line
-    write-requires-2
+    mul-line-2
+    array-copy-out-line-2
+    write-requires
     add-at-2
     loop-less-2
     loop-again-2
