@@ -38,12 +38,6 @@ pub record Told (plan : Plan) (s : List ℕ) (o : Made) (w : Window) (link : Lin
   pub put : Puts (lineFor answer) out out′ end end′
   pub most : end′ ≤ end + 7
 
--- the same of what is equal
-pub same-told : {plan : Plan} {s : List ℕ} {o o′ : Made} {w w′ : Window} {link link′ : Link} {out : List ℕ} {end : ℕ}
-    {out₁ out₂ : List ℕ} {end₁ end₂ : ℕ} → o ≡ o′ → out₁ ≡ out₂ → link ≡ link′ → w ≡ w′ → end₁ ≡ end₂
-    → Told plan s o′ w′ link′ out end out₂ end₂ → Told plan s o w link out end out₁ end₁
-same-told a b c d e t = rw (a, b, c, d, e) t
-
 -- how far the records go
 record Reach (records out : List ℕ) (used : ℕ) : Type 0 where
   pub whole : used % 5 ≡ 0

@@ -1,4 +1,4 @@
--- The lines of answers, from the numbers that the calls on a state hand back: a request, a credit, and the owner at a tick. Assumes nothing.
+-- The lines of answers, from what the calls on a state hand back: a request, and the owner at a tick. Assumes nothing.
 use Prim.Native.Nat.{ℕ, _+_, _<_}
 use mathlib.Core.Path.{_≡_, refl, sym, ap, _∙_}
 use mathlib.Core.List.{List}
@@ -11,11 +11,10 @@ use borrow.Author.Tests.{eq-eqb, ne-eqb}
 use Rattle.plan.specs.declared.Plan.{Plan}
 use Rattle.state.specs.State.{ownersOf}
 use Rattle.state.proofs.State.{owners-at}
-use Rattle.model.specs.Calls.{accepted}
-use Rattle.model.specs.Listing.{decimal, line, creditLine, refusalLine}
+use Rattle.model.specs.Listing.{decimal, line, refusalLine}
 use Rattle.model.specs.Word.{depart}
 use Rattle.model.proofs.Word.{departure-depart}
-use Rattle.calls.specs.declared.Answer.the-variants.{Granted, Taken, Refused}
+use Rattle.calls.specs.declared.Answer.the-variants.{Granted, Refused}
 use Rattle.calls.specs.Reading.{lineFor, answerToTick}
 use Rattle.lines.specs.declared.Line.{Line}
 use Rattle.lines.specs.Lines.{textOf, noLine, AllLines}
@@ -25,7 +24,7 @@ use Rattle.window.specs.declared.Window.{Window}
 use Rattle.link.specs.declared.request.Reply.{Reply}
 use Rattle.link.specs.Given.{StateIn}
 use Rattle.link.specs.Sound.{SoundState}
-use Rattle.link.specs.Steps.{creditAnswer, requestAnswer}
+use Rattle.link.specs.Steps.{requestAnswer}
 use Rattle.link.proofs.Readings.{flows-most}
 
 -- the line of a request for word x, from what it comes to
@@ -36,14 +35,6 @@ reply-text {all} v x r h = go (eqb (r .number) 0)
     go : (b : Bool) → cond b (textOf (getD all (r .position) noLine)) (refusalLine (r .number))
         ≡ lineFor (cond b (Granted (depart x (r .position))) (Refused (r .number)))
     go true = granted-line v (r .position) h ∙ ap (λ n. line "G" (decimal n)) (sym (departure-depart x (r .position) (omega arith)))
-    go false = refl
-
--- the line of a credit, from its number
-pub credit-text : (n : ℕ) → cond (eqb n 0) (creditLine (accepted tt)) (refusalLine n) ≡ lineFor (creditAnswer n)
-credit-text n = go (eqb n 0)
-  where
-    go : (b : Bool) → cond b (creditLine (accepted tt)) (refusalLine n) ≡ lineFor (cond b Taken (Refused n))
-    go true = refl
     go false = refl
 
 -- the line of a tick to a position with owner x

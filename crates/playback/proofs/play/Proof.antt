@@ -1,12 +1,12 @@
 -- `playback::play` meets its contract: before each record, those up to it are played. Assumes nothing.
 use borrow.Author.Needs.{needs}
-use Prim.Native.Nat.{_+_, _*_, _-_, _≤_, _<_}
+use Prim.Native.Nat.{ℕ, _+_, _*_, _-_, _≤_, _<_}
 use mathlib.Core.Path.{_≡_, ap, _∙_}
-use mathlib.Core.Logic.{⊎-elim}
 use native.Mathlib.Omega.{arith}
 use lib.ListN.{length, getD}
+use borrow.Author.Tests.{eq-eqb, ne-eqb}
 use Rattle.plan.specs.declared.Plan.{Plan}
-use Rattle.calls.specs.declared.Answer.the-variants.{Refused}
+use Rattle.calls.specs.declared.Answer.the-variants.{Taken, Refused}
 use Rattle.calls.specs.declared.Call.{Call}
 use Rattle.calls.specs.declared.Record.{Record}
 use Rattle.calls.specs.Reading.{callIn, answerToTick}
@@ -14,20 +14,20 @@ use Rattle.calls.proofs.PlayedTo.{callAt}
 use Rattle.calls.proofs.Stores.{put-in-room, puts-same}
 use Rattle.tables.specs.Owners.{ownerOf}
 use Rattle.link.specs.Given.{StateIn}
-use Rattle.link.specs.Steps.{creditAnswer, requestAnswer}
+use Rattle.link.specs.Steps.{requestAnswer}
 use Rattle.link.proofs.Given.{state-in, placed-few, request-in}
 use Rattle.link.proofs.Told.{request-told, credit-told}
 use Rattle.playback.proofs.Records.{Made, reads-as, no-call-played, played-request, played-credit, played-tick}
-use Rattle.playback.proofs.Texts.{reply-text, credit-text, tick-text, owner-at}
-use Rattle.playback.proofs.SoFar.{SoFar, Told, same-told, none-yet, same-size, room, one-more, all-played, sound-played}
+use Rattle.playback.proofs.Texts.{reply-text, tick-text, owner-at}
+use Rattle.playback.proofs.SoFar.{SoFar, none-yet, same-size, room, one-more, all-played, sound-played}
 use Rattle.playback.proofs.play.Statement.{statement}
 use Rattle.playback.proofs.play.Tie as tie
 
 abbrev Inv-loop : tie.InvT-loop
-Inv-loop records out₀ used link₀ plan cp w₀ made at₀ end₀ out link w at end = SoFar link₀ records out₀ used plan at link w out end
+Inv-loop records out₀ link₀ used plan cp w₀ made at₀ end₀ out link w at end = SoFar link₀ records out₀ used plan at link w out end
 
 abbrev μ-loop : tie.MeasureT-loop
-μ-loop records out₀ used link₀ plan cp w₀ made at₀ end₀ out link w at end = used - at
+μ-loop records out₀ link₀ used plan cp w₀ made at₀ end₀ out link w at end = used - at
 
 -- ---- the places of its code
 
@@ -38,13 +38,9 @@ loop-at c = c .before .before
 abbrev start : tie.At-loop Inv-loop μ-loop → tie.Start Inv-loop μ-loop
 start c = c .before .before .before .before .before .before .before .before
 
--- where a call's record was read
-abbrev read-at : tie.After-known-told Inv-loop μ-loop → tie.After-read Inv-loop μ-loop
-read-at c = c .before .before .before
-
 module _ (c : tie.After-read Inv-loop μ-loop) where
   abbrev plan-at : Plan
-  plan-at = start (loop-at c) .args .start .plan
+  plan-at = start (loop-at c) .args .t1 .plan
 
   abbrev hand-at : StateIn plan-at (loop-at c .loop .w) (loop-at c .loop .link .state)
   hand-at = loop-at c .loop .inv .hand
@@ -53,73 +49,36 @@ module _ (c : tie.After-read Inv-loop μ-loop) where
   abbrev made-at : Made
   made-at = callAt (start (loop-at c) .args .records .now) (loop-at c .loop .at)
 
+  read-is : made-at ≡ callIn (c .read .result)
+  read-is =
+      let at = loop-at c .loop .at in
+      let back : at ≡ at + 5 - 5 = omega arith in
+      ap (callAt (start (loop-at c) .args .records .now)) back ∙ reads-as _ _ (c .read .ensures .0)
+
   -- its line has room
   room-at : loop-at c .loop .end + 7 ≤ length (loop-at c .loop .out)
   room-at = room (loop-at c .loop .inv) (c .before .loop-test .taken)
 
-call-is : (c : tie.After-known-told Inv-loop μ-loop) → made-at (read-at c) ≡ callIn (Record.Call (c .before .call .given .0 .0))
-call-is c = reads-as (made-at (read-at c)) _ (read-at c .read .ensures .0) ∙ ap callIn (c .before .call .given .1)
+-- where a call's record was read
+abbrev read-at : tie.After-known-told Inv-loop μ-loop → tie.After-read Inv-loop μ-loop
+read-at c = c .before .before .before
 
--- where a request's flow is known
-abbrev request-at : tie.After-placed Inv-loop μ-loop → tie.After-read Inv-loop μ-loop
-request-at c = read-at (c .before .before .before .before .before .before)
+-- the call that it makes, as an arm knows it
+call-is : (c : tie.After-known-told Inv-loop μ-loop) {x : Call} → c .before .call .given .0 .0 ≡ x → made-at (read-at c) ≡ callIn (Record.Call x)
+call-is c e = read-is (read-at c) ∙ ap callIn (c .before .call .given .1) ∙ ap (λ (x : Call). callIn (Record.Call x)) e
+
+-- where a request's flow is placed, a credit's number known, and a tick made, from where its call was told
+abbrev request-at : tie.After-placed Inv-loop μ-loop → tie.After-known-told Inv-loop μ-loop
+request-at c = c .before .before .before .before .before .before
+
+abbrev credit-at : tie.After-credit Inv-loop μ-loop → tie.After-known-told Inv-loop μ-loop
+credit-at c = c .before .before .before .before .before
+
+abbrev tick-at : tie.After-tick Inv-loop μ-loop → tie.After-known-told Inv-loop μ-loop
+tick-at c = c .before .before .before .before
 
 asker-few : (c : tie.After-placed Inv-loop μ-loop) → c .placed .result < 16
-asker-few c = placed-few (hand-at (request-at c) .sound .parts .plan) _ (c .placed .ensures)
-
--- ---- where the arms meet
-
-abbrev of-call : Call → Made
-of-call x = callIn (Record.Call x)
-
-module _ (c : tie.At-match2-came Inv-loop μ-loop) where
-  abbrev at-read : tie.After-read Inv-loop μ-loop
-  at-read = read-at (c .before)
-
-  abbrev loop : tie.At-loop Inv-loop μ-loop
-  loop = loop-at at-read
-
-  came : Told (plan-at at-read) (loop .loop .link .state) (made-at at-read) (c .match2 .w) (c .match2 .link) (loop .loop .out) (loop .loop .end)
-      (c .match2 .out) (c .match2 .end)
-  came =
-      let o = hand-at at-read in
-      let same = loop .loop .inv .plan-is in
-      let all = loop .before .lines .ensures in
-      ⊎-elim
-      -- a request
-      (λ (_, call, _, split, _, placed, _, _, request, known, _, _, written, _, _, out-is, link-is, window-is, end-is).
-      let asked = request-in o (call .given .0 .0) (split .ensures) (placed .ensures) in
-      same-told (call-is (c .before) ∙ ap of-call (call .given .1)) out-is link-is window-is end-is
-      (record {
-        answer = requestAnswer (call .given .0 .0) (request .result);
-        played = played-request o _ (request-told (o .sound) _ (request .ensures _ _ asked));
-        plan-is = same;
-        put = puts-same (reply-text all _ (request .result) (omega (arith, known .given))) (written .ensures .0);
-        most = written .ensures .1;
-      }))
-      (⊎-elim
-      -- a credit
-      (λ (_, call, _, _, credit, _, written, _, _, out-is, link-is, window-is, end-is).
-      same-told (call-is (c .before) ∙ ap of-call (call .given .1)) out-is link-is window-is end-is
-      (record {
-        answer = creditAnswer (credit .result);
-        played = played-credit o _ _ (credit-told _ _ _ (credit .ensures));
-        plan-is = same;
-        put = puts-same (credit-text (credit .result)) (written .ensures .0);
-        most = written .ensures .1;
-      }))
-      -- a tick
-      (λ (_, call, _, tick, _, _, _, written, _, _, out-is, link-is, window-is, end-is).
-      let there = tick .ensures .1 in
-      same-told (call-is (c .before) ∙ ap of-call (call .given .1)) out-is link-is window-is end-is
-      (record {
-        answer = answerToTick (ownerOf (getD (tick .last .0) (4096 + tick .result .current) 0));
-        played = played-tick o (tick .ensures .0) there;
-        plan-is = same;
-        put = puts-same (tick-text all _ (owner-at there)) (written .ensures .0);
-        most = written .ensures .1;
-      })))
-      (c .match2 .came)
+asker-few c = placed-few (hand-at (read-at (request-at c)) .sound .parts .plan) _ (c .placed .ensures)
 
 -- ---- the needs
 
@@ -147,6 +106,12 @@ loop-holds c =
     let s = at .before .before .before .before .before .before in
     none-yet (ap (5 *_) (at .before .before .before .smaller .ensures)) (state-in (s .pre) (at .window .ensures .0) (at .window .ensures .1))
 
+add-at : tie.Need-add-at Inv-loop μ-loop
+add-at c = search needs
+
+sub-read : tie.Need-sub-read Inv-loop μ-loop
+sub-read c = search needs
+
 read-requires : tie.Need-read-requires Inv-loop μ-loop
 read-requires c κs = search needs
 
@@ -159,9 +124,6 @@ enum-told c = search needs
 write-refusal-requires : tie.Need-write-refusal-requires Inv-loop μ-loop
 write-refusal-requires c κs = search needs
 
-add-at : tie.Need-add-at Inv-loop μ-loop
-add-at c = search needs
-
 loop-less : tie.Need-loop-less Inv-loop μ-loop
 loop-less c = search needs
 
@@ -170,11 +132,10 @@ loop-again c =
     let written = c .before .before in
     let told = written .before .before in
     let read = told .before .before in
-    let no-call = reads-as (made-at read) _ (read .read .ensures .0) ∙ ap callIn (told .enum-told .given .1) in
     one-more (loop-at read .loop .inv) (read .before .loop-test .taken)
     (record {
       answer = Refused 16;
-      played = rw no-call (no-call-played (hand-at read));
+      played = rw (read-is read ∙ ap callIn (told .enum-told .given .1)) (no-call-played (hand-at read));
       plan-is = loop-at read .loop .inv .plan-is;
       put = put-in-room _ _ _ (room-at read) (written .write-refusal .ensures);
       most = written .write-refusal .ensures .1 .1;
@@ -201,7 +162,7 @@ element-copy-out-e c = asker-few c
 request-requires : tie.Need-request-requires Inv-loop μ-loop
 request-requires c κs =
     let p = c .before .before in
-    record { plan = _; word = _; given = request-in (hand-at (request-at p)) _ (p .before .before .split .ensures) (p .placed .ensures) }
+    record { plan = _; word = _; given = request-in (hand-at (read-at (request-at p))) _ (p .before .before .split .ensures) (p .placed .ensures) }
 
 cast-line : tie.Need-cast-line Inv-loop μ-loop
 cast-line c = search needs
@@ -213,7 +174,31 @@ array-copy-out-line : tie.Need-array-copy-out-line Inv-loop μ-loop
 array-copy-out-line c = search needs
 
 write-reply-requires : tie.Need-write-reply-requires Inv-loop μ-loop
-write-reply-requires c κs = room-at (request-at (c .before .before .before .before .before .before))
+write-reply-requires c κs = room-at (read-at (request-at (c .before .before .before .before .before .before)))
+
+loop-less-2 : tie.Need-loop-less-2 Inv-loop μ-loop
+loop-less-2 c = search needs
+
+loop-again-2 : tie.Need-loop-again-2 Inv-loop μ-loop
+loop-again-2 c =
+    let written = c .before .before in
+    let known = written .before .before .before in
+    let request = known .before in
+    let p = request .before .before .before in
+    let split = p .before .before in
+    let call = split .before .before .call2 .given in
+    let told = request-at p in
+    let read = read-at told in
+    let o = hand-at read in
+    let went = request .request .ensures _ _ (request-in o (call .0 .0) (split .split .ensures) (p .placed .ensures)) in
+    one-more (loop-at read .loop .inv) (read .before .loop-test .taken)
+    (record {
+      answer = requestAnswer (call .0 .0) (request .request .result);
+      played = rw (call-is told (call .1)) (played-request o _ (request-told (o .sound) _ went));
+      plan-is = loop-at read .loop .inv .plan-is;
+      put = puts-same (reply-text (loop-at read .before .lines .ensures) (call .0 .0) (request .request .result) (omega (arith, known .struct-known2 .given))) (written .write-reply .ensures .0);
+      most = written .write-reply .ensures .1;
+    })
 
 enum-known-call-3 : tie.Need-enum-known-call-3 Inv-loop μ-loop
 enum-known-call-3 c = search needs
@@ -221,8 +206,53 @@ enum-known-call-3 c = search needs
 credit-requires : tie.Need-credit-requires Inv-loop μ-loop
 credit-requires c κs = search needs
 
-write-credit-requires : tie.Need-write-credit-requires Inv-loop μ-loop
-write-credit-requires c κs = room-at (read-at (c .before .before .before .before .before .before))
+write-refusal-requires-2 : tie.Need-write-refusal-requires-2 Inv-loop μ-loop
+write-refusal-requires-2 c κs = search needs
+
+loop-less-3 : tie.Need-loop-less-3 Inv-loop μ-loop
+loop-less-3 c = search needs
+
+loop-again-3 : tie.Need-loop-again-3 Inv-loop μ-loop
+loop-again-3 c =
+    let written = c .before .before in
+    let refused = written .before .before in
+    let credit = refused .before in
+    let told = credit-at credit in
+    let read = read-at told in
+    one-more (loop-at read .loop .inv) (read .before .loop-test .taken)
+    (record {
+      answer = Refused (credit .credit .result);
+      played =
+          rw (call-is told (credit .before .before .before .call3 .given .1))
+          (played-credit (hand-at read) _ _ (rw (ne-eqb _ _ (refused .if1 .taken)) at (credit-told _ _ _ (credit .credit .ensures))));
+      plan-is = loop-at read .loop .inv .plan-is;
+      put = put-in-room _ _ _ (room-at read) (written .write-refusal2 .ensures);
+      most = written .write-refusal2 .ensures .1 .1;
+    })
+
+write-taken-requires : tie.Need-write-taken-requires Inv-loop μ-loop
+write-taken-requires c κs = room-at (read-at (credit-at (c .before .before)))
+
+loop-less-4 : tie.Need-loop-less-4 Inv-loop μ-loop
+loop-less-4 c = search needs
+
+loop-again-4 : tie.Need-loop-again-4 Inv-loop μ-loop
+loop-again-4 c =
+    let written = c .before .before in
+    let taken = written .before .before in
+    let credit = taken .before in
+    let told = credit-at credit in
+    let read = read-at told in
+    one-more (loop-at read .loop .inv) (read .before .loop-test .taken)
+    (record {
+      answer = Taken;
+      played =
+          rw (call-is told (credit .before .before .before .call3 .given .1))
+          (played-credit (hand-at read) _ _ (rw (eq-eqb _ _ (taken .if1 .left)) at (credit-told _ _ _ (credit .credit .ensures))));
+      plan-is = loop-at read .loop .inv .plan-is;
+      put = written .write-taken .ensures .0;
+      most = written .write-taken .ensures .1;
+    })
 
 enum-told-2 : tie.Need-enum-told-2 Inv-loop μ-loop
 enum-told-2 c = search needs
@@ -237,30 +267,38 @@ element-copy-out-owner : tie.Need-element-copy-out-owner Inv-loop μ-loop
 element-copy-out-owner c = search needs
 
 cast-line-2 : tie.Need-cast-line-2 Inv-loop μ-loop
-cast-line-2 c = omega (arith, owner-at (c .before .tick .ensures .1))
+cast-line-2 c = omega (arith, owner-at (c .before .before .tick .ensures .1))
 
 add-line : tie.Need-add-line Inv-loop μ-loop
-add-line c = omega (arith, owner-at (c .before .tick .ensures .1))
+add-line c = omega (arith, owner-at (c .before .before .tick .ensures .1))
 
 mul-line-2 : tie.Need-mul-line-2 Inv-loop μ-loop
-mul-line-2 c = omega (arith, owner-at (c .before .tick .ensures .1))
+mul-line-2 c = omega (arith, owner-at (c .before .before .tick .ensures .1))
 
 array-copy-out-line-2 : tie.Need-array-copy-out-line-2 Inv-loop μ-loop
-array-copy-out-line-2 c = omega (arith, owner-at (c .before .tick .ensures .1))
+array-copy-out-line-2 c = omega (arith, owner-at (c .before .before .tick .ensures .1))
 
 write-requires : tie.Need-write-requires Inv-loop μ-loop
-write-requires c κs = room-at (read-at (c .before .before .before .before .before .before .before))
+write-requires c κs = room-at (read-at (tick-at (c .before .before .before .before)))
 
-add-at-2 : tie.Need-add-at-2 Inv-loop μ-loop
-add-at-2 c = search needs
+loop-less-5 : tie.Need-loop-less-5 Inv-loop μ-loop
+loop-less-5 c = search needs
 
-loop-less-2 : tie.Need-loop-less-2 Inv-loop μ-loop
-loop-less-2 c = search needs
-
-loop-again-2 : tie.Need-loop-again-2 Inv-loop μ-loop
-loop-again-2 c =
-    let read = read-at (c .before) in
-    one-more (loop-at read .loop .inv) (read .before .loop-test .taken) (came c)
+loop-again-5 : tie.Need-loop-again-5 Inv-loop μ-loop
+loop-again-5 c =
+    let written = c .before .before in
+    let tick = written .before .before .before .before .before in
+    let told = tick-at tick in
+    let read = read-at told in
+    let there = tick .tick .ensures .1 in
+    one-more (loop-at read .loop .inv) (read .before .loop-test .taken)
+    (record {
+      answer = answerToTick (ownerOf (getD (tick .tick .last .0) (4096 + tick .tick .result .current) 0));
+      played = rw (call-is told (tick .before .before .enum-told2 .given .1)) (played-tick (hand-at read) (tick .tick .ensures .0) there);
+      plan-is = loop-at read .loop .inv .plan-is;
+      put = puts-same (tick-text (loop-at read .before .lines .ensures) _ (owner-at there)) (written .write .ensures .0);
+      most = written .write .ensures .1;
+    })
 
 same-length : tie.Need-same-length Inv-loop μ-loop
 same-length c = same-size (c .before .loop .inv)
@@ -283,11 +321,12 @@ play-spec =
     window-requires
     lines-requires
     loop-holds
+    add-at
+    sub-read
     read-requires
     enum-known-call
     enum-told
     write-refusal-requires
-    add-at
     loop-less
     loop-again
     enum-known-call-2
@@ -301,9 +340,16 @@ play-spec =
     mul-line
     array-copy-out-line
     write-reply-requires
+    loop-less-2
+    loop-again-2
     enum-known-call-3
     credit-requires
-    write-credit-requires
+    write-refusal-requires-2
+    loop-less-3
+    loop-again-3
+    write-taken-requires
+    loop-less-4
+    loop-again-4
     enum-told-2
     tick-requires
     add-owner
@@ -313,8 +359,7 @@ play-spec =
     mul-line-2
     array-copy-out-line-2
     write-requires
-    add-at-2
-    loop-less-2
-    loop-again-2
+    loop-less-5
+    loop-again-5
     same-length
     returns)
