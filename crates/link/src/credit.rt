@@ -1,8 +1,9 @@
 // The credit.
+ghost use mathlib.Core.Path.{_≡_};
 ghost use Rattle.model.specs.Credit as model;
 ghost use Rattle.calls.specs.Reading.{answerToCredit};
 ghost use Rattle.link.specs.Sound.{SoundLink};
-ghost use Rattle.link.specs.Steps.{readIn, readOf, Went, Stepped, numberOf};
+ghost use Rattle.link.specs.Steps.{readIn, readOf, Went, Stepped, numberOf, creditAnswer};
 ghost use Rattle.link.specs.Given.{StateIn};
 use crate::Answer;
 use crate::Link;
@@ -35,6 +36,16 @@ pub fn credit(s: &mut State, plan: Plan, w: Window, flow: usize, position: usize
     0
 }
 
+// The answer to a credit, from its number.
+fn told(number: u8) -> Answer
+    ensures { λ r. ⌜ r ≡ creditAnswer number ⌝ }
+{
+    if number != 0 {
+        return Answer::Refused(number);
+    }
+    Answer::Taken
+}
+
 impl Link {
     // A flow's cell falls free from a position on.
     pub fn credit(mut self, flow: usize, position: usize) -> Step
@@ -45,15 +56,9 @@ impl Link {
         let cp = self.state[CURRENT];
         let w = window(plan.slots, plan.frames, cp as usize);
         let number = credit(&mut self.state, plan, w, flow, position);
-        if number != 0 {
-            return Step {
-                link: self,
-                answer: Answer::Refused(number),
-            };
-        }
         Step {
             link: self,
-            answer: Answer::Taken,
+            answer: told(number),
         }
     }
 }

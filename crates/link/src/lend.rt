@@ -66,9 +66,9 @@ fn refusal(count: usize, owner: u8, taken: bool, mask: u16) -> u8
 }
 
 // The first flow of a mask that can take the current slot, looking from a flow on and going round, or n where there is none.
-fn taker(held: &State, plan: Plan, w: Window, mask: u16, from: usize) -> usize
+fn taker(s: &State, plan: Plan, w: Window, mask: u16, from: usize) -> usize
     requires { ⌜ Valid plan × Proper w × from < plan .count ⌝ }
-    ensures { λ r. ⌜ r ≡ firstTaker (takesIn plan w (now (held .entry)) mask) (plan .count) from ⌝ }
+    ensures { λ r. ⌜ r ≡ firstTaker (takesIn plan w (now (s .entry)) mask) (plan .count) from ⌝ }
 {
     let current = w.current;
     let mut i = from;
@@ -76,7 +76,7 @@ fn taker(held: &State, plan: Plan, w: Window, mask: u16, from: usize) -> usize
     while 0 < left {
         let e = plan.entries[i];
         if (mask >> i) % 2 == 1 {
-            if room_from(held, i, e.cells, w, current) {
+            if room_from(s, i, e.cells, w, current) {
                 return i;
             }
         }

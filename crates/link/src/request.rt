@@ -9,7 +9,7 @@ ghost use Rattle.unbooked.specs.Words.{InFrame};
 ghost use Rattle.link.specs.Parts.{partsIn};
 ghost use Rattle.link.specs.Changes.{BookedIn};
 ghost use Rattle.link.specs.Sound.{SoundLink};
-ghost use Rattle.link.specs.Steps.{readIn, readOf, Went, Stepped, replyOf};
+ghost use Rattle.link.specs.Steps.{readIn, readOf, Went, Stepped, replyOf, requestAnswer};
 ghost use Rattle.link.specs.Given.{SomePlan, SomeRequest, RequestIn, SeekIn, placed, testsOf};
 ghost use Rattle.link.specs.Sought.{soughtIn};
 use crate::Answer;
@@ -166,6 +166,17 @@ pub fn request(s: &mut State, count: usize, e: Entry, w: Window, fields: Fields)
     }
 }
 
+// The answer to a word, from what its request comes to.
+fn told(word: u32, reply: Reply) -> Answer
+    ensures { λ r. ⌜ r ≡ requestAnswer word reply ⌝ }
+{
+    let number = reply.number;
+    if number != 0 {
+        return Answer::Refused(number);
+    }
+    Answer::Granted(word::depart(word, reply.position))
+}
+
 impl Link {
     // A word asks for a slot.
     pub fn request(mut self, word: u32) -> Step
@@ -179,16 +190,9 @@ impl Link {
         let cp = self.state[CURRENT];
         let w = window(plan.slots, plan.frames, cp as usize);
         let reply = request(&mut self.state, plan.count, e, w, fields);
-        let number = reply.number;
-        if number != 0 {
-            return Step {
-                link: self,
-                answer: Answer::Refused(number),
-            };
-        }
         Step {
             link: self,
-            answer: Answer::Granted(word::depart(word, reply.position)),
+            answer: told(word, reply),
         }
     }
 }

@@ -31,14 +31,14 @@ use window::Window;
 use window::positions::window;
 
 // Whether each of n flows holds nothing at the current position and at each later one: with one cell it would have room there.
-fn none_held(held: &State, count: usize, w: Window) -> bool
+fn none_held(s: &State, count: usize, w: Window) -> bool
     requires { ⌜ FlowsOf w count ⌝ }
-    ensures { λ r. ⌜ r ≡ noneHeldIn (windowOf w) count (now (held .entry)) ⌝ }
+    ensures { λ r. ⌜ r ≡ noneHeldIn (windowOf w) count (now (s .entry)) ⌝ }
 {
     let current = w.current;
     let mut i = 0;
     while i < count {
-        if !room_from(held, i, 1, w, current) {
+        if !room_from(s, i, 1, w, current) {
             return false;
         }
         i += 1;

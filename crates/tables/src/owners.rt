@@ -17,43 +17,43 @@ pub fn unbooked() -> [u8; 256]
 }
 
 // Nobody owns a position.
-pub fn disown(owner: &mut State)
-    ensures { λ r. ⌜ now (owner .exit) ≡ withOwners (now (owner .entry)) (everywhere nobody) ⌝ }
+pub fn disown(s: &mut State)
+    ensures { λ r. ⌜ now (s .exit) ≡ withOwners (now (s .entry)) (everywhere nobody) ⌝ }
 {
-    put_table(owner, OWNERS, unbooked());
+    put_table(s, OWNERS, unbooked());
 }
 
 // Takes the owner from every position of the range from a to e.
-fn empty(owner: &mut State, a: usize, e: usize)
+fn empty(s: &mut State, a: usize, e: usize)
     requires { ⌜ (a ≤ e) × (e ≤ 256) ⌝ }
-    ensures { λ r. ⌜ now (owner .exit) ≡ withOwners (now (owner .entry)) (replaced (inRange a e) (λ q x. nobody) (ownersOf (now (owner .entry)))) ⌝ }
+    ensures { λ r. ⌜ now (s .exit) ≡ withOwners (now (s .entry)) (replaced (inRange a e) (λ q x. nobody) (ownersOf (now (s .entry)))) ⌝ }
 {
     let end = OWNERS + e;
     let mut q = OWNERS + a;
     while q < end {
-        owner[q] = 16;
+        s[q] = 16;
         q += 1;
     }
 }
 
 // Takes the owner from every position of the head frame.
-pub fn empty_head(owner: &mut State, w: Window)
+pub fn empty_head(s: &mut State, w: Window)
     requires { ⌜ Proper w ⌝ }
-    ensures { λ r. ⌜ now (owner .exit) ≡ withOwners (now (owner .entry)) (emptied w (ownersOf (now (owner .entry)))) ⌝ }
+    ensures { λ r. ⌜ now (s .exit) ≡ withOwners (now (s .entry)) (emptied w (ownersOf (now (s .entry)))) ⌝ }
 {
     let base = w.head * w.slots;
-    empty(owner, base, base + w.slots);
+    empty(s, base, base + w.slots);
 }
 
 // Whether nobody owns a position of the range from a to e.
-fn unbooked_in(owner: &State, a: usize, e: usize) -> bool
+fn unbooked_in(s: &State, a: usize, e: usize) -> bool
     requires { ⌜ (a ≤ e) × (e ≤ 256) ⌝ }
-    ensures { λ r. ⌜ All (unbookedAt (ownersOf (now (owner .entry)))) a e r ⌝ }
+    ensures { λ r. ⌜ All (unbookedAt (ownersOf (now (s .entry)))) a e r ⌝ }
 {
     let mut all = true;
     let mut q = a;
     while q < e {
-        if owner[OWNERS + q] != 16 {
+        if s[OWNERS + q] != 16 {
             all = false;
         }
         q += 1;
@@ -62,12 +62,12 @@ fn unbooked_in(owner: &State, a: usize, e: usize) -> bool
 }
 
 // Whether nobody owns a position later than the current one: these are the ones after it up to T - 1, and those before the head frame.
-pub fn unbooked_later(owner: &State, w: Window) -> bool
+pub fn unbooked_later(s: &State, w: Window) -> bool
     requires { ⌜ Proper w ⌝ }
-    ensures { λ r. ⌜ r ≡ noneLater (windowOf w) (ownersOf (now (owner .entry))) ⌝ }
+    ensures { λ r. ⌜ r ≡ noneLater (windowOf w) (ownersOf (now (s .entry))) ⌝ }
 {
-    if unbooked_in(owner, w.current + 1, w.slots * w.frames) {
-        return unbooked_in(owner, 0, w.head * w.slots);
+    if unbooked_in(s, w.current + 1, w.slots * w.frames) {
+        return unbooked_in(s, 0, w.head * w.slots);
     }
     false
 }

@@ -10,21 +10,21 @@ use unbooked::bits::without;
 use window::Window;
 
 // A position of a frame is booked.
-pub fn book(unbooked: &mut State, w: Window, frame: usize, position: usize)
+pub fn book(s: &mut State, w: Window, frame: usize, position: usize)
     requires { ⌜ InFrame w frame position ⌝ }
-    ensures { λ r. ⌜ Booked (w .slots) frame position (now (unbooked .entry)) (now (unbooked .exit)) ⌝ }
+    ensures { λ r. ⌜ Booked (w .slots) frame position (now (s .entry)) (now (s .exit)) ⌝ }
 {
     put_mask(
-        unbooked,
+        s,
         frame,
-        without(mask_at(unbooked, frame), position - frame * w.slots),
+        without(mask_at(s, frame), position - frame * w.slots),
     );
 }
 
 // Nobody owns a slot of the head frame.
-pub fn recycle_head(unbooked: &mut State, w: Window)
+pub fn recycle_head(s: &mut State, w: Window)
     requires { ⌜ Proper w ⌝ }
-    ensures { λ r. ⌜ Recycled (w .slots) (w .head) (now (unbooked .entry)) (now (unbooked .exit)) ⌝ }
+    ensures { λ r. ⌜ Recycled (w .slots) (w .head) (now (s .entry)) (now (s .exit)) ⌝ }
 {
-    put_mask(unbooked, w.head, below(w.slots));
+    put_mask(s, w.head, below(w.slots));
 }

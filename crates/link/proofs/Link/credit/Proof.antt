@@ -1,6 +1,5 @@
 -- `link::Link::credit` meets its contract. Assumes nothing.
 use borrow.Author.Needs.{needs}
-use borrow.Author.Tests.{eq-eqb, ne-eqb}
 use Rattle.link.specs.Given.{StateIn}
 use Rattle.link.proofs.Given.{state-in}
 use Rattle.link.proofs.Told.{credit-told}
@@ -23,13 +22,13 @@ window-requires c κs = search needs
 credit-requires : tie.Need-credit-requires
 credit-requires c κs = in-at (c .before)
 
-returns : tie.Need-returns
-returns c = rw (ne-eqb _ _ (c .if1 .taken)) at (credit-told _ _ _ (c .before .credit .ensures))
+told-requires : tie.Need-told-requires
+told-requires c κs = search needs
 
-returns-2 : tie.Need-returns-2
-returns-2 c = rw (eq-eqb _ _ (c .if1 .left)) at (credit-told _ _ _ (c .before .credit .ensures))
+returns : tie.Need-returns
+returns c = rw (c .told .ensures) (credit-told _ _ _ (c .before .credit .ensures))
 
 pub credit-spec : {M : Type 1} → statement M
 credit-spec =
     tie.close
-    (tie.spec element-copy-out-cp cast-window window-requires credit-requires returns returns-2)
+    (tie.spec element-copy-out-cp cast-window window-requires credit-requires told-requires returns)

@@ -3,7 +3,6 @@ use borrow.Author.Needs.{needs}
 use Prim.Native.Nat.{_<_}
 use native.Mathlib.Omega.{arith}
 use lib.ListN.{getD}
-use borrow.Author.Tests.{eq-eqb, ne-eqb}
 use Rattle.plan.specs.Reading.{noEntry}
 use Rattle.link.specs.Given.{RequestIn}
 use Rattle.link.proofs.Given.{state-in, placed-few, request-in}
@@ -56,19 +55,13 @@ window-requires c κs = search needs
 request-requires : tie.Need-request-requires
 request-requires c κs = record { plan = _; word = _; given = in-at (c .before) }
 
+told-requires : tie.Need-told-requires
+told-requires c κs = search needs
+
 returns : tie.Need-returns
 returns c =
     let w = c .before .before .before in
-    rw (ne-eqb _ _ (c .if1 .taken)) at (request-told (start (placed-at w) .pre) _ (c .before .request .ensures _ _ (in-at w)))
-
-depart-requires : tie.Need-depart-requires
-depart-requires c κs = search needs
-
-returns-2 : tie.Need-returns-2
-returns-2 c =
-    let e = c .before in
-    let w = e .before .before .before in
-    rw (c .depart .ensures) (rw (eq-eqb _ _ (e .if1 .left)) at (request-told (start (placed-at w) .pre) _ (e .before .request .ensures _ _ (in-at w))))
+    rw (c .told .ensures) (request-told (start (placed-at w) .pre) _ (c .before .request .ensures _ _ (in-at w)))
 
 pub request-spec : {M : Type 1} → statement M
 request-spec =
@@ -83,6 +76,5 @@ request-spec =
     cast-window
     window-requires
     request-requires
-    returns
-    depart-requires
-    returns-2)
+    told-requires
+    returns)

@@ -37,7 +37,7 @@ loop-again c =
     let u = c .before in
     let s = u .before .before .before in
     let l = s .loop in
-    let table = ap (λ (x : List ℕ). withRow (l .held) (l .i) x) (u .unheld .ensures) in
+    let table = ap (λ (x : List ℕ). withRow (l .s) (l .i) x) (u .unheld .ensures) in
     storing-more (s .before .pre) (l .inv) (length-everywhere 0) (omega arith) (c .store .ensures ∙ table)
 
 returns : tie.Need-returns Inv-loop μ-loop

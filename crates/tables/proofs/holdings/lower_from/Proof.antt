@@ -25,25 +25,25 @@ start f = entered (lowered-at f)
 lower-all-requires : tie.Need-lower-all-requires
 lower-all-requires c κs = search needs
 
-add-held : tie.Need-add-held
-add-held c = search needs
+add-s : tie.Need-add-s
+add-s c = search needs
 
-element-write-held : tie.Need-element-write-held
-element-write-held c = search needs
+element-write-s : tie.Need-element-write-s
+element-write-s c = search needs
 
 returns : tie.Need-returns
 unfolding lowered
 returns c =
     let s = entered (c .before) in
     let (most, (shifts, bytes)) = c .before .lower-all .ensures in
-    let some = some-held (s .args .w) (s .pre .proper) (s .args .p) (s .pre .position) (now (s .args .held)) (s .args .i) (rw (← most) (c .if1 .taken)) in
+    let some = some-held (s .args .w) (s .pre .proper) (s .args .p) (s .pre .position) (now (s .args .s)) (s .args .i) (rw (← most) (c .if1 .taken)) in
     (sym some, λ k. withBound (shifts k) (s .args .i) (most k))
 
 shift-from-requires : tie.Need-shift-from-requires
 shift-from-requires c κs = search needs
 
 -- what was lowered is raised again
-raised : (f : tie.After-shift-from) → f .shift-from .last .0 ≡ now (start f .args .held)
+raised : (f : tie.After-shift-from) → f .shift-from .last .0 ≡ now (start f .args .s)
 raised f =
     let s = start f in
     let (most, (shifts, bytes)) = lowered-at f .lower-all .ensures in
@@ -63,11 +63,11 @@ returns-2 c =
 shift-from-requires-2 : tie.Need-shift-from-requires-2
 shift-from-requires-2 c κs = search needs
 
-add-held-2 : tie.Need-add-held-2
-add-held-2 c = search needs
+add-s-2 : tie.Need-add-s-2
+add-s-2 c = search needs
 
-element-write-held-2 : tie.Need-element-write-held-2
-element-write-held-2 c = search needs
+element-write-s-2 : tie.Need-element-write-s-2
+element-write-s-2 c = search needs
 
 returns-3 : tie.Need-returns-3
 unfolding lowered
@@ -84,13 +84,13 @@ lower-from-spec =
     tie.close
     (tie.spec
     lower-all-requires
-    add-held
-    element-write-held
+    add-s
+    element-write-s
     returns
     shift-from-requires
     held-from-requires
     returns-2
     shift-from-requires-2
-    add-held-2
-    element-write-held-2
+    add-s-2
+    element-write-s-2
     returns-3)

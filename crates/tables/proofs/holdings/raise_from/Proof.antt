@@ -18,11 +18,11 @@ shift-from-requires c κs = search needs
 one-more-requires : tie.Need-one-more-requires
 one-more-requires c κs = search needs
 
-add-held : tie.Need-add-held
-add-held c = search needs
+add-s : tie.Need-add-s
+add-s c = search needs
 
-element-write-held : tie.Need-element-write-held
-element-write-held c = search needs
+element-write-s : tie.Need-element-write-s
+element-write-s c = search needs
 
 returns : tie.Need-returns
 unfolding raised
@@ -39,6 +39,6 @@ raise-from-spec =
     element-copy-out-bound
     shift-from-requires
     one-more-requires
-    add-held
-    element-write-held
+    add-s
+    element-write-s
     returns)

@@ -24,8 +24,8 @@ add-q c = search needs
 loop-holds : tie.Need-loop-holds Inv-loop μ-loop
 loop-holds c = replacing-none 0 (omega arith)
 
-element-write-owner : tie.Need-element-write-owner Inv-loop μ-loop
-element-write-owner c = search needs
+element-write-s : tie.Need-element-write-s Inv-loop μ-loop
+element-write-s c = search needs
 
 add-q-2 : tie.Need-add-q-2 Inv-loop μ-loop
 add-q-2 c = search needs
@@ -44,4 +44,4 @@ returns c =
 pub empty-spec : {M : Type 1} → statement M
 empty-spec =
     tie.close
-    (tie.spec Inv-loop μ-loop add-end add-q loop-holds element-write-owner add-q-2 loop-less loop-again returns)
+    (tie.spec Inv-loop μ-loop add-end add-q loop-holds element-write-s add-q-2 loop-less loop-again returns)

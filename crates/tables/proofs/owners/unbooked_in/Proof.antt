@@ -37,7 +37,7 @@ loop-again c =
     let tested = c .before .before .before .loop .inv in
     let on = c .before .before .loop-test .taken in
     let l = c .before .before .before in
-    let owner = owners-at (l .before .args .owner .now) (l .loop .q) (omega arith) in
+    let owner = owners-at (l .before .args .s .now) (l .loop .q) (omega arith) in
     ⊎-elim
     (λ booked. testing-miss tested on (rw (owner, ne-eqb _ _ (booked .0 .taken))) (booked .1))
     (λ free. testing-pass tested on (rw (owner, eq-eqb _ _ (free .0 .left))) (free .1))
