@@ -12,7 +12,7 @@ use Prim.Native.Nat.{ℕ, zero, suc, _+_, _-_, _≤_, _<_, min}
 use native.Mathlib.Nat.{not-suc-le-zero, le-of-suc-le-suc}
 use native.Mathlib.Decide.{decLt}
 use native.Mathlib.Omega.{arith}
-use mathlib.Core.List.{List, [], _∷_, _++_, map}
+use mathlib.Core.List.{List, [], _∷_, _++_}
 use mathlib.Core.WellFounded.{WellFounded, InvImage·wf}
 use lib.ListN.{length, getD, set, length-set, length-map, take, drop}
 use lib.WfN.{Nat·lt-wfRel}
@@ -22,12 +22,11 @@ use Rattle.model.specs.Link as model
 use Rattle.model.specs.Request.{request}
 use Rattle.model.specs.Burst as paper
 use Rattle.model.specs.Burst.{filled, inFront, inOrder, burst}
-use Rattle.link.specs.declared.Link.{Link}
-use Rattle.link.specs.Steps.{readIn, readOf, Went, replyOf}
-use Rattle.link.specs.declared.request.Reply.{Reply}
-use Rattle.plan.specs.declared.Plan.{Plan}
 use Rattle.window.specs.declared.Window.{Window}
+use Rattle.link.specs.declared.Link.{Link}
+use Rattle.link.specs.declared.request.Reply.{Reply}
 use Rattle.link.specs.Given.{StateIn}
+use Rattle.link.specs.Steps.{readIn, readOf, Went, replyOf}
 use Rattle.link.specs.Bursts.{Bursted}
 use Rattle.link.proofs.Stays.{request-current, still-in}
 use Rattle.burst.specs.declared.Ask.{Ask}
@@ -114,7 +113,7 @@ none-left n i l = omega (arith, l)
 pub all-left : (n : ℕ) → n - 0 ≡ n
 all-left n = omega arith
 
--- what a request comes to is what the paper writes
+-- what a request comes to is what the paper writes in the record
 reply-fills : (x : paper.Ask) (a : Grant) → record { word = x .word; result = replyOf a .number; position = replyOf a .position } ≡ filled x a
 reply-fills x (accepted word) = refl
 reply-fills x (refused number) = refl

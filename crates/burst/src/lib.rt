@@ -45,7 +45,7 @@ fn reply_to(s: &mut State, plan: Plan, w: Window, word: u32) -> Reply
     let fields = word::split(word);
     let i = placed(plan.count, fields.flow as usize);
     let e = plan.entries[i];
-    request(s, plan.count, e, w, i, fields)
+    request(s, plan.count, e, w, fields)
 }
 
 // How many of n records a burst handles: all of them, or the first 16.
@@ -70,7 +70,7 @@ pub fn burst(link: Link, records: &mut [Ask]) -> Link
         let reply = reply_to(&mut last.state, plan, w, r.word);
         r.result = reply.number;
         r.position = reply.position;
-        i = i + 1;
+        i += 1;
     }
     last
 }

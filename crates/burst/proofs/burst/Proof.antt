@@ -54,13 +54,12 @@ use denote.Triple.Table.{entered, cited}
 use denote.Triple.Walked.{says, needs, Stays, stay-dropped, stay-slice, walkOf, goes-dropped, goes-slice, Walks, ends-at, walked, walk-meets}
 use denote.Exit.{yes}
 use denote.Signature.{plain}
-use Rattle.model.specs.Request.{request}
 use Rattle.model.specs.Burst as model
 use Rattle.plan.specs.declared.Plan.{Plan}
 use Rattle.window.specs.declared.Window.{Window}
 use Rattle.link.specs.declared.Link.{Link}
 use Rattle.link.specs.Given.{StateIn}
-use Rattle.link.specs.Steps.{readIn, readOf}
+use Rattle.link.specs.Steps.{readOf}
 use Rattle.link.specs.Sound.{SoundLink}
 use Rattle.link.specs.Bursts.{Bursted}
 use Rattle.burst.specs.declared.Ask.{Ask}
@@ -102,7 +101,7 @@ use Rattle.burst.proofs.burst.Code.Mir as mir′
 abbrev stayed : Stays (burst.ended .signature .params) (burst.ended .kept)
 stayed = (stay-dropped (plain (λ _. L.the-row)) yes, (stay-slice (0 ∷ []) tt (plain (λ _. Q.the-row)), tt))
 
--- ---- the machine values of a state and of a record
+-- ---- the machine values of a link and of a record
 abbrev link-val : Link → Val
 link-val = LL.val L.the-type L′.the-laws
 
@@ -142,7 +141,7 @@ module _ {M : Type 1} (𝓤 : URA M) (H : Heap 𝓤) (A : Atoms 𝓤) (mem : Mem
     goes-handled : (m : ℕ) → m < 2 ^ 64 → ent 𝓤 (emp 𝓤) (Handled .pre (to-handled m))
     goes-handled m fits = qed W [] ∵ nothing ! $ owned ! usize (Is usize) (uint-makes 𝓤 H A W w64) m _ (refl, fits) $ fjoin ! $ nothing ! $ join ! $ nothing ! $ move ! (1 ∷ 0 ∷ []) $ join ! $ done !
 
--- ---- the walk, at a state s and a slice of the records xs that lies at (b, o)
+-- ---- the walk, at a link s and a slice of the records xs that lies at (b, o)
 module _ {M : Type 1} (𝓤 : URA M) (H : Heap 𝓤) (A : Atoms 𝓤) (W : Given 𝓤 H A) (mem : Memory → SProp 𝓤) (run : Routine → Fun 𝓤) (κ : Lft) (q : Share) (s : Link) (b o : ℕ) (γ : GName) (xs : List Ask)
     (ok : Is L.the-row s (link-vals s)) (sound : SoundLink s) (room : Room Q.the-row (length xs)) where
   -- the borrow at the list ys, and its machine value
@@ -168,7 +167,7 @@ module _ {M : Type 1} (𝓤 : URA M) (H : Heap 𝓤) (A : Atoms 𝓤) (W : Given
   abbrev obs : List Ask → Fml
   obs ys = fobs γ (codedHoleys Q.the-row .code (heres Q.the-row ys))
 
-  -- a state's machine value has the struct's MIR type
+  -- a link's machine value has the struct's MIR type
   typed : (st : Link) → Is L.the-row st (link-vals st) → Holds (hasTy L′.mir (link-val st)) × WT (link-val st)
   typed st good = LL.lawful L.the-type L′.the-laws 𝓤 H A W .typed st _ good .0
 

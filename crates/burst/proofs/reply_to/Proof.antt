@@ -17,7 +17,7 @@ placed-below : (c : tie.After-placed) → c .placed .result < 16
 placed-below c = placed-few (start c .pre .sound .parts .plan) _ (c .placed .ensures)
 
 asked : (c : tie.After-placed) → let a = start c .args in
-    RequestIn (a .t2) (a .t2 .count) (getD (a .t2 .entries) (c .placed .result) noEntry) (a .w) (c .placed .result) (c .before .before .split .result) (a .word) (a .s .now)
+    RequestIn (a .t2) (a .t2 .count) (getD (a .t2 .entries) (c .placed .result) noEntry) (a .w) (c .before .before .split .result) (a .word) (a .s .now)
 asked c = request-in (start c .pre) _ (c .before .before .split .ensures) (c .placed .ensures)
 
 split-requires : tie.Need-split-requires
