@@ -7,9 +7,9 @@ import re
 import programs
 
 CALLS = 4096            # the proved program plays no more
-WORDS = 16              # to a burst
-LINK = 4913             # bytes of a link's fields, copied twice by each call
-LINE = re.compile(r"^(request|burst|credit|tick) +([0-9.]+) ns", re.MULTILINE)
+LINK = 4595             # bytes of a plan and a state, copied twice by each call
+LINE = re.compile(r"^(request|burst|floor|credit|tick) +([0-9.]+) ns",
+                  re.MULTILINE)
 ANSWERS = re.compile(r"^(?:answers|in bursts) ([0-9]+)$", re.MULTILINE)
 
 # Files of bursts: the words, the state of the table, and the most slots that
@@ -55,13 +55,15 @@ def measure_bursts(folder, rounds):
 
 
 def show_bursts(folder, rounds):
-    """Nanoseconds a word, 16 words to a burst, and singly beside it."""
-    least = floor(folder, rounds) / WORDS
+    """Nanoseconds a word, 16 words to a burst; beside it the floor, which is
+    what it takes to hand a link over and back for each 16 words, and the same
+    words singly."""
     for words, table, (ours, theirs) in measure_bursts(folder, rounds):
         print("16 words, %-7s %-11s burst %6.1f ns   plain Rust %6.1f ns"
               "   ratio %6.2f   floor %4.1f ns   single requests %6.1f ns"
               % (words, table, ours["burst"], theirs["burst"],
-                 ours["burst"] / theirs["burst"], least, ours["request"]))
+                 ours["burst"] / theirs["burst"], ours["floor"],
+                 ours["request"]))
 
 
 def measure_calls(folder, rounds):
@@ -71,8 +73,8 @@ def measure_calls(folder, rounds):
 
 def show(folder, rounds):
     by_value, by_reference = measure_calls(folder, rounds)
-    for kind, ours in by_value.items():
-        theirs = by_reference[kind]
+    for kind, theirs in by_reference.items():
+        ours = by_value[kind]
         print("%-8s by value %6.1f ns   by &mut %6.1f ns   ratio %6.2f"
               % (kind, ours, theirs, ours / theirs))
     print("two copies of a link %6.1f ns" % floor(folder, rounds))

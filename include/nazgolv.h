@@ -19,7 +19,7 @@
  * What a caller owes: each pointer has the stated number of bytes behind it,
  * which may be 0, and is not NULL; the plan's bytes and the image don't overlap;
  * two calls on one image don't run at once. The archive needs memcpy and memset,
- * and a call up to 22,300 bytes of stack.
+ * and a call up to 12,500 bytes of stack.
  */
 #ifndef NAZGOLV_H
 #define NAZGOLV_H
@@ -33,10 +33,10 @@ extern "C" {
 
 /* ---- the version: the first number goes up where older images are refused */
 
-#define NAZGOLV_VERSION "4.5.3"
+#define NAZGOLV_VERSION "4.5.4"
 #define NAZGOLV_VERSION_MAJOR 4
 #define NAZGOLV_VERSION_MINOR 5
-#define NAZGOLV_VERSION_PATCH 3
+#define NAZGOLV_VERSION_PATCH 4
 
 /* ---- the image
  *

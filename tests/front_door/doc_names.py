@@ -34,8 +34,9 @@ ELSEWHERE = {
 # Names that are gone or never were: each has to be told.
 GONE = ("LendChoice", "each-taker", "FlowFrom", "open_choice.py", "no_such()",
         "model/proofs/LendChoice.antt", "Link::lends", "credit::refusal",
-        "link/source/", "crates/links", "TilesToCome.antt", "--no-such-word")
-THERE = ("Link::lend", "credit::take", "firstFrom", "some-taker",
+        "link/source/", "crates/links", "TilesToCome.antt", "--no-such-word",
+        "credit::take")
+THERE = ("Link::lend", "credit::credit", "firstFrom", "some-taker",
          "late_rank()", "LendTurn.antt", "model/proofs/LendTurn.antt",
          "tests/", "./play -e", "link/specs/", "crates/NAME/specs/",
          "--timeline", "R 16", "1/2")

@@ -12,10 +12,8 @@ PAGE = "docs/PROVED.md"
 SPECS = CRATES / "model/specs"
 # Laws that nothing uses any more, and that say nothing to a reader.
 LEFT_OVER = {
-    "link/proofs/Readings.antt": {"read-window"},
     "model/proofs/NewestFrame.antt": {"sought-if-come"},
     "planwords/proofs/DraftsAsked.antt": {"draft-flows"},
-    "playback/proofs/SoFar.antt": {"sound-played"},
     "shares/proofs/EachOnce.antt": {"same-true", "same-self"},
 }
 

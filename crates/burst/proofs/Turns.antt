@@ -2,7 +2,7 @@
 --     upTo k l xs          the first k records are handled, from the link l.        onward i k l xs      the same from record i on, and those before it are as they are
 --     onward-turns         one record is handled, and put in its place: what is left comes to the same.        onward-ends      nothing is left
 --     enough               as many as there are, or 16, are as good as 16
---     Turn l xs n          the loop's variables between two turns, with what is known of them.        asked, put    the record that a turn handles, and what the turn leaves
+--     Turn l w xs n        the loop's variables between two turns, with what is known of them.        asked, put    the record that a turn handles, and what the turn leaves
 --     start, next, done    the variables where the loop begins, and after one more turn; and where the loop is left, they are what is to be shown
 --     Nearer, nearer       fewer records are left
 --     front-handled        a prefix that is handled, and the rest
@@ -12,32 +12,27 @@ use Prim.Native.Nat.{ℕ, zero, suc, _+_, _-_, _≤_, _<_, min}
 use native.Mathlib.Nat.{not-suc-le-zero, le-of-suc-le-suc}
 use native.Mathlib.Decide.{decLt}
 use native.Mathlib.Omega.{arith}
-use mathlib.Core.List.{List, [], _∷_, _++_, map}
+use mathlib.Core.List.{List, [], _∷_, _++_}
 use mathlib.Core.WellFounded.{WellFounded, InvImage·wf}
 use lib.ListN.{length, getD, set, length-set, length-map, take, drop}
 use lib.WfN.{Nat·lt-wfRel}
-use mir.Val.{Val}
 use denote.Laws.{Is}
-use denote.Struct.Laws as LL
+use Rattle.model.specs.Calls.{Grant, accepted, refused}
 use Rattle.model.specs.Link as model
 use Rattle.model.specs.Request.{request}
 use Rattle.model.specs.Burst as paper
 use Rattle.model.specs.Burst.{filled, inFront, inOrder, burst}
+use Rattle.window.specs.declared.Window.{Window}
 use Rattle.link.specs.declared.Link.{Link}
-use Rattle.link.specs.Reading.{linkOf}
-use Rattle.link.specs.Sound.{Sound}
+use Rattle.link.specs.declared.request.Reply.{Reply}
+use Rattle.link.specs.Given.{StateIn}
+use Rattle.link.specs.Steps.{readIn, readOf, Went, replyOf}
 use Rattle.link.specs.Bursts.{Bursted}
-use Rattle.link.proofs.Link as L
-use Rattle.link.proofs.Link.Laws as L′
+use Rattle.link.proofs.Stays.{request-current, still-in}
 use Rattle.burst.specs.declared.Ask.{Ask}
-use Rattle.burst.specs.declared.Filled.{Filled}
 use Rattle.burst.specs.Reading.{askOf, asksOf}
-use Rattle.burst.specs.Fills.{Fills}
 use Rattle.burst.specs.First.{burstOfFirst}
-
--- a link's machine values
-abbrev pub link-vals : Link → List Val
-link-vals = LL.vals L.the-type L′.the-laws
+use Rattle.burst.proofs.Values.{Bytes, bytes-vals, linkWith}
 
 -- ---- on from the i-th record, by the paper
 
@@ -94,17 +89,17 @@ enough n l xs c = go (decLt n 16)
     go (yes less) = let e = c .all less in reaches n 16 l xs (omega (arith, e)) (omega (arith, e, less))
     go (no full) = let e : n ≡ 16 = omega (arith, c .most) in ap (λ (k : ℕ). upTo k l xs) e
 
--- ---- the loop's variables between two turns: i, the link in hand and what the slice holds, where n records of xs are handled from l
+-- ---- the loop's variables between two turns: i, the state in hand and what the slice holds, where n records of xs are handled from l, whose window is w
 
-pub record Turn (l : Link) (xs : List Ask) (n : ℕ) : Type 0 where
+pub record Turn (l : Link) (w : Window) (xs : List Ask) (n : ℕ) : Type 0 where
   pub i : ℕ
-  pub last : Link
+  pub state : List ℕ
   pub cur : List Ask
-  pub ok : Is L.the-row last (link-vals last)
-  pub sound : Sound last
+  pub ok : Is Bytes state (bytes-vals state)
+  pub hand : StateIn (l .plan) w state
   pub within : i ≤ n
   pub long : length cur ≡ length xs
-  pub comes : onward i (n - i) (linkOf last) (asksOf cur) ≡ upTo n (linkOf l) (asksOf xs)
+  pub comes : onward i (n - i) (readIn (l .plan) state) (asksOf cur) ≡ upTo n (readOf l) (asksOf xs)
 
 one-more : (i : ℕ) → i + 1 ≡ suc i
 one-more i = omega arith
@@ -118,86 +113,98 @@ none-left n i l = omega (arith, l)
 pub all-left : (n : ℕ) → n - 0 ≡ n
 all-left n = omega arith
 
+-- what a request comes to is what the paper writes in the record
+reply-fills : (x : paper.Ask) (a : Grant) → record { word = x .word; result = replyOf a .number; position = replyOf a .position } ≡ filled x a
+reply-fills x (accepted word) = refl
+reply-fills x (refused number) = refl
+
 -- a record past the end, which `getD` asks for
 abbrev pub none : Ask
 none = record { word = 0; result = 0; position = 0 }
 
-module _ {l : Link} {xs : List Ask} {n : ℕ} where
+module _ {l : Link} {w : Window} {xs : List Ask} {n : ℕ} where
+  -- the paper's link in hand, and the code's
+  abbrev pub read : Turn l w xs n → model.Link
+  read t = readIn (l .plan) (t .state)
+
+  abbrev pub last : Turn l w xs n → Link
+  last t = linkWith (l .plan) (t .state)
+
   -- the record that a turn handles, its request by the paper, and what the turn leaves in the record's place
-  abbrev pub asked : Turn l xs n → Ask
+  abbrev pub asked : Turn l w xs n → Ask
   asked t = getD (t .cur) (t .i) none
 
-  abbrev pub FilledBy : Turn l xs n → Filled → Type 0
-  FilledBy t u = Fills (request (linkOf (t .last)) (asked t .word)) u
+  abbrev pub Replied : Turn l w xs n → List ℕ → Reply → Type 0
+  Replied t after u = Went replyOf (request (read t) (asked t .word)) (l .plan) after u
 
-  abbrev pub put : Turn l xs n → Filled → Ask
-  put t u = record { word = asked t .word; result = u .result; position = u .position }
+  abbrev pub put : Turn l w xs n → Reply → Ask
+  put t u = record { word = asked t .word; result = u .number; position = u .position }
 
   -- the record is there
-  pub here : (t : Turn l xs n) → t .i < n → n ≤ length xs → t .i < length (t .cur)
+  pub here : (t : Turn l w xs n) → t .i < n → n ≤ length xs → t .i < length (t .cur)
   here t more fits = subst (λ (m : ℕ). t .i < m) (sym (t .long)) (omega (arith, more, fits))
 
-  pub turned : (t : Turn l xs n) (u : Filled) → FilledBy t u → t .i < n → n ≤ length xs
-      → onward (t .i + 1) (n - (t .i + 1)) (linkOf (u .link)) (asksOf (set (t .cur) (t .i) (put t u))) ≡ upTo n (linkOf l) (asksOf xs)
-  turned t u is more fits =
-      ap (λ (j : ℕ). onward j left (linkOf (u .link)) (asksOf after)) (one-more (t .i))
-      ∙ ap (λ (m : model.Link). onward (suc (t .i)) left m (asksOf after)) (is .link-is)
-      ∙ onward-turns (t .i) left (linkOf (t .last)) (t .cur) none (put t u) (here t more fits) shown
-      ∙ ap (λ (k : ℕ). onward (t .i) k (linkOf (t .last)) (asksOf (t .cur))) (one-less n (t .i) more)
+  pub turned : (t : Turn l w xs n) (after : List ℕ) (u : Reply) → Replied t after u → t .i < n → n ≤ length xs
+      → onward (t .i + 1) (n - (t .i + 1)) (readIn (l .plan) after) (asksOf (set (t .cur) (t .i) (put t u))) ≡ upTo n (readOf l) (asksOf xs)
+  turned t after u is more fits =
+      ap (λ (j : ℕ). onward j left (readIn (l .plan) after) (asksOf cur)) (one-more (t .i))
+      ∙ ap (λ (m : model.Link). onward (suc (t .i)) left m (asksOf cur)) (is .link-is)
+      ∙ onward-turns (t .i) left (read t) (t .cur) none (put t u) (here t more fits) shown
+      ∙ ap (λ (k : ℕ). onward (t .i) k (read t) (asksOf (t .cur))) (one-less n (t .i) more)
       ∙ t .comes
     where
       left : ℕ
       left = n - (t .i + 1)
 
-      after : List Ask
-      after = set (t .cur) (t .i) (put t u)
+      cur : List Ask
+      cur = set (t .cur) (t .i) (put t u)
 
-      shown : askOf (put t u) ≡ filled (askOf (asked t)) (request (linkOf (t .last)) (asked t .word) .answer)
-      shown = λ k. record { word = asked t .word; result = is .result-is k; position = is .position-is k }
+      shown : askOf (put t u) ≡ filled (askOf (asked t)) (request (read t) (asked t .word) .answer)
+      shown = (λ k. askOf (put t (is .answer-is k))) ∙ reply-fills (askOf (asked t)) (request (read t) (asked t .word) .answer)
 
-  abbrev pub next : (t : Turn l xs n) (u : Filled) → FilledBy t u → t .i < n → n ≤ length xs → Is L.the-row (u .link) (link-vals (u .link)) → Turn l xs n
-  next t u is more fits ok = record {
+  abbrev pub next : (t : Turn l w xs n) (after : List ℕ) (u : Reply) → Replied t after u → t .i < n → n ≤ length xs → Is Bytes after (bytes-vals after) → Turn l w xs n
+  next t after u is more fits ok = record {
     i = t .i + 1;
-    last = u .link;
+    state = after;
     cur = set (t .cur) (t .i) (put t u);
     ok = ok;
-    sound = is .sound;
+    hand = still-in (t .hand) is (request-current (read t) (asked t .word));
     within = omega (arith, more);
     long = length-set (t .cur) (t .i) (put t u) ∙ t .long;
-    comes = turned t u is more fits;
+    comes = turned t after u is more fits;
   }
 
   -- where the loop is left, the link and the records are those of the burst
-  pub done : (t : Turn l xs n) → n ≤ t .i → Counts (length xs) n → Bursted (burst (linkOf l) (asksOf xs)) (t .last) (asksOf (t .cur))
-  done t over counts = record { link-is = ap (λ (b : paper.Burst). b .link) whole; records-are = ap (λ (b : paper.Burst). b .records) whole; sound = t .sound }
+  pub done : (t : Turn l w xs n) → n ≤ t .i → Counts (length xs) n → Bursted (burst (readOf l) (asksOf xs)) (last t) (asksOf (t .cur))
+  done t over counts = record { link-is = ap (λ (b : paper.Burst). b .link) whole; records-are = ap (λ (b : paper.Burst). b .records) whole; sound = t .hand .sound }
     where
-      whole : record { link = linkOf (t .last); records = asksOf (t .cur) } ≡ burst (linkOf l) (asksOf xs)
+      whole : record { link = read t; records = asksOf (t .cur) } ≡ burst (readOf l) (asksOf xs)
       whole =
-          sym (onward-ends (t .i) (linkOf (t .last)) (asksOf (t .cur)))
-          ∙ ap (λ (k : ℕ). onward (t .i) k (linkOf (t .last)) (asksOf (t .cur))) (none-left n (t .i) over)
+          sym (onward-ends (t .i) (read t) (asksOf (t .cur)))
+          ∙ ap (λ (k : ℕ). onward (t .i) k (read t) (asksOf (t .cur))) (none-left n (t .i) over)
           ∙ t .comes
-          ∙ enough n (linkOf l) (asksOf xs) (subst (λ (m : ℕ). Counts m n) (sym (length-map xs askOf)) counts)
+          ∙ enough n (readOf l) (asksOf xs) (subst (λ (m : ℕ). Counts m n) (sym (length-map xs askOf)) counts)
 
-  abbrev pub Nearer : Turn l xs n → Turn l xs n → Type 0
+  abbrev pub Nearer : Turn l w xs n → Turn l w xs n → Type 0
   Nearer u t = n - u .i < n - t .i
 
   pub Nearer-wf : WellFounded Nearer
-  Nearer-wf = InvImage·wf (λ (t : Turn l xs n). n - t .i) (Nat·lt-wfRel .wf)
+  Nearer-wf = InvImage·wf (λ (t : Turn l w xs n). n - t .i) (Nat·lt-wfRel .wf)
 
-  pub nearer : (t : Turn l xs n) → t .i < n → n - (t .i + 1) < n - t .i
+  pub nearer : (t : Turn l w xs n) → t .i < n → n - (t .i + 1) < n - t .i
   nearer t more = omega (arith, more)
 
 -- the loop begins
-abbrev pub start : (l : Link) (xs : List Ask) (n : ℕ) → Is L.the-row l (link-vals l) → Sound l → Turn l xs n
-start l xs n ok sound = record {
+abbrev pub start : (l : Link) (w : Window) (xs : List Ask) (n : ℕ) → Is Bytes (l .state) (bytes-vals (l .state)) → StateIn (l .plan) w (l .state) → Turn l w xs n
+start l w xs n ok hand = record {
   i = 0;
-  last = l;
+  state = l .state;
   cur = xs;
   ok = ok;
-  sound = sound;
+  hand = hand;
   within = omega arith;
   long = refl;
-  comes = ap (λ (k : ℕ). upTo k (linkOf l) (asksOf xs)) (all-left n);
+  comes = ap (λ (k : ℕ). upTo k (readOf l) (asksOf xs)) (all-left n);
 }
 
 -- ---- the first records of an array
@@ -217,10 +224,10 @@ asks-both [] ys = refl
 asks-both (x ∷ xs) ys = ap (λ (zs : List paper.Ask). askOf x ∷ zs) (asks-both xs ys)
 
 -- a burst of the first k, and the others behind them
-pub front-handled : (k : ℕ) (l r : Link) (xs ys : List Ask) → Bursted (burst (linkOf l) (asksOf (take k xs))) r (asksOf ys)
-    → Bursted (burstOfFirst k (linkOf l) (asksOf xs)) r (asksOf (ys ++ drop k xs))
+pub front-handled : (k : ℕ) (l r : Link) (xs ys : List Ask) → Bursted (burst (readOf l) (asksOf (take k xs))) r (asksOf ys)
+    → Bursted (burstOfFirst k (readOf l) (asksOf xs)) r (asksOf (ys ++ drop k xs))
 front-handled k l r xs ys b = record {
-  link-is = b .link-is ∙ ap (λ (zs : List paper.Ask). burst (linkOf l) zs .link) (asks-front k xs);
-  records-are = asks-both ys (drop k xs) ∙ (λ i. (b .records-are ∙ ap (λ (zs : List paper.Ask). burst (linkOf l) zs .records) (asks-front k xs)) i ++ asks-rest k xs i);
+  link-is = b .link-is ∙ ap (λ (zs : List paper.Ask). burst (readOf l) zs .link) (asks-front k xs);
+  records-are = asks-both ys (drop k xs) ∙ (λ i. (b .records-are ∙ ap (λ (zs : List paper.Ask). burst (readOf l) zs .records) (asks-front k xs)) i ++ asks-rest k xs i);
   sound = b .sound;
 }

@@ -2,16 +2,23 @@
 ghost use mathlib.Core.Path.{_≡_};
 ghost use Prim.Native.Nat.{_≤_, min};
 ghost use Rattle.model.specs.Burst as model;
-ghost use Rattle.model.specs.Request as request;
-ghost use Rattle.link.specs.Reading.{linkOf};
-ghost use Rattle.link.specs.Sound.{Sound};
+ghost use Rattle.model.specs.Request as paper;
+ghost use Rattle.link.specs.Steps.{readIn, readOf, Went, replyOf};
+ghost use Rattle.link.specs.Given.{StateIn};
+ghost use Rattle.link.specs.Sound.{SoundLink};
 ghost use Rattle.link.specs.Bursts.{Bursted};
-ghost use Rattle.burst.specs.Reading.{asksOf, resultIn, positionIn};
-ghost use Rattle.burst.specs.Fills.{Fills};
+ghost use Rattle.burst.specs.Reading.{asksOf};
 ghost use Rattle.burst.specs.First.{burstOfFirst};
-use calls::Answer;
 use link::Link;
+use link::request::Reply;
+use link::request::placed;
+use link::request::request;
+use plan::Plan;
+use state::CURRENT;
+use state::State;
+use window::Window;
 use window::numbers::smaller;
+use window::positions::window;
 
 // A word, and what its request comes to: 0 and the position granted, or the refusal and 0.
 pub struct Ask {
@@ -20,46 +27,25 @@ pub struct Ask {
     pub position: u8,
 }
 
-// A link after a request, and what stands in its record then.
-struct Filled {
-    link: Link,
-    result: u8,
-    position: u8,
+// The window of a link.
+fn window_of(link: Link) -> Window
+    requires { ⌜ SoundLink link ⌝ }
+    ensures { λ r. ⌜ StateIn (link .plan) r (link .state) ⌝ }
+{
+    let plan = link.plan;
+    let cp = link.state[CURRENT];
+    window(plan.slots, plan.frames, cp as usize)
 }
 
-// The result number of an answer to a request.
-fn result(answer: Answer) -> u8
-    ensures { λ r. ⌜ r ≡ resultIn answer ⌝ }
+// What a word's request comes to, on a state of a plan in its window.
+fn reply_to(s: &mut State, plan: Plan, w: Window, word: u32) -> Reply
+    requires { ⌜ StateIn plan w (now s) ⌝ }
+    ensures { λ r. ⌜ Went replyOf (paper.request (readIn plan (now (s .entry))) word) plan (now (s .exit)) r ⌝ }
 {
-    match answer {
-        Answer::Refused(number) => number,
-        _ => 0,
-    }
-}
-
-// The position of an answer to a request.
-fn position(answer: Answer) -> u8
-    ensures { λ r. ⌜ r ≡ positionIn answer ⌝ }
-{
-    match answer {
-        Answer::Granted(word) => (word % 256) as u8,
-        _ => 0,
-    }
-}
-
-// A word's request, on a link.
-fn fill(link: Link, word: u32) -> Filled
-    requires { ⌜ Sound link ⌝ }
-    ensures { λ r. ⌜ Fills (request.request (linkOf link) word) r ⌝ }
-{
-    let step = link.request(word);
-    let answer = step.answer;
-    let link = step.link;
-    Filled {
-        link,
-        result: result(answer),
-        position: position(answer),
-    }
+    let fields = word::split(word);
+    let i = placed(plan.count, fields.flow as usize);
+    let e = plan.entries[i];
+    request(s, plan.count, e, w, fields)
 }
 
 // How many of n records a burst handles: all of them, or the first 16.
@@ -71,19 +57,20 @@ fn handled(n: usize) -> usize
 
 // The requests of the first 16 records, in order: their answers are filled in, and all else of the slice stays.
 pub fn burst(link: Link, records: &mut [Ask]) -> Link
-    requires { ⌜ Sound link ⌝ }
-    ensures { λ r. ⌜ Bursted (model.burst (linkOf link) (asksOf (now (records .entry)))) r (asksOf (now (records .exit))) ⌝ }
+    requires { ⌜ SoundLink link ⌝ }
+    ensures { λ r. ⌜ Bursted (model.burst (readOf link) (asksOf (now (records .entry)))) r (asksOf (now (records .exit))) ⌝ }
 {
+    let plan = link.plan;
+    let w = window_of(link);
     let mut last = link;
     let n = handled(records.len());
     let mut i = 0;
     while i < n {
         let r = &mut records[i];
-        let filled = fill(last, r.word);
-        r.result = filled.result;
-        r.position = filled.position;
-        last = filled.link;
-        i = i + 1;
+        let reply = reply_to(&mut last.state, plan, w, r.word);
+        r.result = reply.number;
+        r.position = reply.position;
+        i += 1;
     }
     last
 }
@@ -95,8 +82,8 @@ pub struct HandedBack {
 }
 
 fn lend_first(link: Link, records: [Ask; 20], count: usize) -> HandedBack
-    requires { ⌜ Sound link × (count ≤ 20) ⌝ }
-    ensures { λ r. ⌜ Bursted (burstOfFirst count (linkOf link) (asksOf records)) (r .link) (asksOf (r .records)) ⌝ }
+    requires { ⌜ SoundLink link × (count ≤ 20) ⌝ }
+    ensures { λ r. ⌜ Bursted (burstOfFirst count (readOf link) (asksOf records)) (r .link) (asksOf (r .records)) ⌝ }
 {
     let mut rs = records;
     let last = burst(link, &mut rs[..count]);
@@ -108,8 +95,8 @@ fn lend_first(link: Link, records: [Ask; 20], count: usize) -> HandedBack
 
 // A burst of the first records of an array, at most 20. No reference stands in the signature.
 pub fn burst_first(link: Link, records: [Ask; 20], count: usize) -> HandedBack
-    requires { ⌜ Sound link ⌝ }
-    ensures { λ r. ⌜ Bursted (burstOfFirst (min count 20) (linkOf link) (asksOf records)) (r .link) (asksOf (r .records)) ⌝ }
+    requires { ⌜ SoundLink link ⌝ }
+    ensures { λ r. ⌜ Bursted (burstOfFirst (min count 20) (readOf link) (asksOf records)) (r .link) (asksOf (r .records)) ⌝ }
 {
     lend_first(link, records, smaller(count, 20))
 }

@@ -73,6 +73,10 @@ module _ (line out : List ℕ) (at : ℕ) (h : at + 7 ≤ length out) where
   unfolding nextAfter
   next-in-room = rw there
 
+  -- what it wrote stands there
+  pub put-in-room : {out′ : List ℕ} {next : ℕ} → Written line out out′ at next → Puts line out out′ at next
+  put-in-room (stored, (up-to, most)) = puts line out _ at _ (stored ∙ out-in-room) (up-to ∙ next-in-room)
+
 -- where the test r of the room came out
 module _ {r : Bool} (out : List ℕ) (at : ℕ) (test : r ≡ room out at) where
   pub in-room : not r ≡ false → at + 7 ≤ length out

@@ -32,7 +32,7 @@ fn four_bytes(bytes: &[u8], at: usize) -> u32
     two_bytes(bytes, at) + 65536 * two_bytes(bytes, at + 2)
 }
 
-// Reads the record that starts at a place. The tests of refusal 16 come before the call.
+// Reads the record that starts at a place: its kind, and its other bytes as a word. The tests of refusal 16 come before the call.
 pub fn read(records: &[u8], at: usize) -> Record
     ensures is { λ r. ⌜ r ≡ recordFor (callOf (take 5 (drop at (now (records .entry))))) ⌝ }
     ensures number { λ r. ⌜ numberOf r ≡ numberFor (callOf (take 5 (drop at (now (records .entry))))) ⌝ }
@@ -44,21 +44,21 @@ pub fn read(records: &[u8], at: usize) -> Record
         return Record::NoCall;
     }
     let kind = records[at];
+    let word = four_bytes(records, at + 1);
     if kind == 1 {
-        return Record::Call(Call::Request(four_bytes(records, at + 1)));
+        return Record::Call(Call::Request(word));
     }
     if kind == 2 {
-        if records[at + 4] != 0 {
+        // the last byte is the filler
+        if 16777216 <= word {
             return Record::NoCall;
         }
-        let flow = wide(records[at + 1]);
-        let position = two_bytes(records, at + 2);
-        return Record::Call(Call::Credit(flow as usize, position as usize));
+        return Record::Call(Call::Credit((word % 256) as usize, (word / 256) as usize));
     }
     if kind != 3 {
         return Record::NoCall;
     }
-    if four_bytes(records, at + 1) != 0 {
+    if word != 0 {
         return Record::NoCall;
     }
     Record::Call(Call::Tick)

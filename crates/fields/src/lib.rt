@@ -2,14 +2,15 @@
 ghost use mathlib.Core.Path.{_≡_};
 ghost use mathlib.Core.List.{_∷_, []};
 ghost use Prim.Native.Nat.{_+_, _*_, _≤_, _<_};
-ghost use lib.ListN.{length, getD};
-ghost use Rattle.model.specs.Tables as model;
+ghost use lib.ListN.{length};
 ghost use Rattle.model.specs.Plan.{field16};
 ghost use Rattle.calls.specs.Lines.{Puts};
 ghost use Rattle.window.specs.Ranges.{inRange, replaced};
+ghost use Rattle.state.specs.Parts.{part};
 ghost use Rattle.tables.specs.Owners.{everywhere};
 ghost use Rattle.images.specs.Image.{fields, fieldAt};
 ghost use Rattle.fields.specs.Fields.{AllFit, ByteFields};
+use state::State;
 
 fn wide(byte: u8) -> usize
     ensures { λ r. ⌜ (r ≡ byte) × (r < 256) ⌝ }
@@ -71,15 +72,15 @@ pub fn read_table(bytes: &[u8], at: usize, count: usize, spare: u8) -> [u8; 256]
     table
 }
 
-// Writes the first of a table as fields from a place on and returns the place after them.
-pub fn put_table(table: &[u8; 256], count: usize, out: &mut [u8], at: usize) -> usize
-    requires { ⌜ (count ≤ 256) × (at + 2 * count ≤ length (now out)) ⌝ }
-    ensures { λ r. ⌜ Puts (fields (model.table count (λ p. getD (now (table .entry)) p 0))) (now (out .entry)) (now (out .exit)) at r ⌝ }
+// Writes bytes of a state as fields, so many from its place `first` on, and returns the place after them.
+pub fn put_part(s: &State, first: usize, count: usize, out: &mut [u8], at: usize) -> usize
+    requires { ⌜ (first + count ≤ 4499) × (at + 2 * count ≤ length (now out)) ⌝ }
+    ensures { λ r. ⌜ Puts (fields (part (now (s .entry)) first count)) (now (out .entry)) (now (out .exit)) at r ⌝ }
 {
     let mut next = at;
     let mut p = 0;
     while p < count {
-        next = put(wide(table[p]), out, next);
+        next = put(wide(s[first + p]), out, next);
         p += 1;
     }
     next

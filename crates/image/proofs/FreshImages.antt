@@ -14,8 +14,8 @@ use Rattle.plan.specs.declared.Verdict.the-variants.{Accepted, Refused}
 use Rattle.plan.specs.Reading.{planFor, verdictFor, readOf}
 use Rattle.plan.proofs.Laws.{is-plan}
 use Rattle.link.specs.declared.Link.{Link}
-use Rattle.link.specs.Reading.{linkOf}
-use Rattle.link.specs.Sound.{Sound}
+use Rattle.link.specs.Sound.{SoundLink}
+use Rattle.link.specs.Steps.{readIn}
 use Rattle.images.specs.Image.{imageLength}
 use Rattle.images.specs.Consistent.{Keepable}
 use Rattle.images.specs.Exports.{Called, HandsBack, refusalNumber, writtenTo, handedBack, freshOn}
@@ -61,11 +61,11 @@ module _ (plan b : List ℕ) {o : Outcome} (e : o ≡ readOf plan) where
       no-room h number =
           rw (eq-eqb (model.refusal plan) 0 passes, lt-ltb (length b) (imageLength (model.planOf plan)) (omega (arith, long-is))) (number, refl)
 
-      module _ (h : y .total ≤ length b) {l : Link} (is : linkOf l ≡ fresh (planFor (o .plan))) (sound : Sound l) where
-        reads : linkOf l ≡ fresh (model.planOf plan)
+      module _ (h : y .total ≤ length b) {l : Link} (is : readIn (l .plan) (l .state) ≡ fresh (planFor (o .plan))) (sound : SoundLink l) where
+        reads : readIn (l .plan) (l .state) ≡ fresh (model.planOf plan)
         reads = is ∙ ap fresh plan-is
 
-        pub fresh-writable : Writable l b
+        pub fresh-writable : Writable (l .plan) (l .state) b
         unfolding fresh
         fresh-writable = record {
           sound = sound;
@@ -73,7 +73,7 @@ module _ (plan b : List ℕ) {o : Outcome} (e : o ≡ readOf plan) where
           there = omega (arith, long-is, ap (λ x. imageLength (x .plan)) reads);
         }
 
-        pub fresh-written : {r : ℕ} {after : List ℕ} → r ≡ 0 → after ≡ writtenTo b (linkOf l) → HandsBack (freshOn plan b) r after
+        pub fresh-written : {r : ℕ} {after : List ℕ} → r ≡ 0 → after ≡ writtenTo b (readIn (l .plan) (l .state)) → HandsBack (freshOn plan b) r after
         unfolding freshOn handedBack firstOf
         fresh-written number written =
             rw (eq-eqb (model.refusal plan) 0 passes, le-ltb (length b) (imageLength (model.planOf plan)) (omega (arith, long-is)))

@@ -3,8 +3,11 @@ use Prim.Native.Nat.{ℕ, _≤_}
 use mathlib.Core.Path.{_≡_, refl, sym, ap, _∙_, subst}
 use mathlib.Core.List.{List}
 use mathlib.Core.Option.{some, none}
+use mathlib.Core.Bool.{Bool, true, false, cond}
 use native.Mathlib.Omega.{arith}
 use lib.ListN.{length}
+use lib.Dec.{eqb}
+use borrow.Author.Tests.{eqb-true}
 use Rattle.model.specs.Calls.{Call, Grant, Receipt, Turn, Loan, Renewal, accepted, refused}
 use Rattle.model.specs.Link as model
 use Rattle.model.specs.Request as request
@@ -14,15 +17,18 @@ use Rattle.model.specs.Lend as lend
 use Rattle.model.specs.Reset as reset
 use Rattle.calls.specs.Reading.{answerToRequest, answerToCredit, answerToTick, answerToLend, answerToReset}
 use Rattle.calls.specs.declared.Answer.{Answer}
-use Rattle.link.specs.declared.Link.{Link}
-use Rattle.link.specs.declared.Step.{Step}
-use Rattle.link.specs.Reading.{linkOf}
-use Rattle.link.specs.Sound.{Sound}
-use Rattle.link.specs.Steps.{Stepped}
+use Rattle.calls.specs.declared.Answer.the-variants.{Taken as TakenCell, Refused}
+use Rattle.plan.specs.declared.Plan.{Plan}
+use Rattle.link.specs.declared.request.Reply.{Reply}
+use Rattle.window.specs.declared.Window.{Window}
+use Rattle.link.specs.Given.{StateIn}
+use Rattle.link.specs.Sound.{SoundState}
+use Rattle.link.specs.Steps.{readIn, Went, numberOf, replyOf, creditAnswer, requestAnswer}
+use Rattle.link.proofs.Told.{request-told, credit-told}
 use Rattle.images.specs.Image.{imageLength, planIn, linkIn}
 use Rattle.images.specs.Consistent.{Keepable}
 use Rattle.images.specs.Taken.{refusalOf, Taken}
-use Rattle.images.specs.Exports.{Called, HandsBack, grantNumber, receiptNumber, turnNumber, loanNumber, renewalNumber, onLink, writtenTo, handedBack, calledOn}
+use Rattle.images.specs.Exports.{Called, HandsBack, refusalNumber, grantNumber, receiptNumber, turnNumber, loanNumber, renewalNumber, onLink, writtenTo, handedBack, calledOn}
 use Rattle.images.proofs.Taken.{taken}
 use Rattle.images.proofs.ImageTaken.{read-kept}
 use Rattle.images.proofs.Closed.{KeptAfter}
@@ -52,46 +58,55 @@ renewal-number : (a : Renewal) → numberFor (answerToReset a) ≡ renewalNumber
 renewal-number (accepted x) = refl
 renewal-number (refused n) = refl
 
--- ---- a step of the code is the call c on the link in b
+-- a credit's number
+pub credit-number : (k : ℕ) → refusalNumber k ≡ numberFor (creditAnswer k)
+credit-number k = go (eqb k 0) refl
+  where
+    go : (b : Bool) → eqb k 0 ≡ b → refusalNumber k ≡ numberFor (cond b TakenCell (Refused k))
+    go true e = rw (eqb-true k 0 e)
+    go false e = refl
 
-pub record Steps (b : List ℕ) (c : Call) (s : Step) : Type 0 where
-  pub link-is : linkOf (s .link) ≡ onLink (linkIn b) c .link
-  pub number-is : numberFor (s .answer) ≡ onLink (linkIn b) c .number
-  pub sound : Sound (s .link)
+-- ---- a rule on the state of the link in b is the call c: the state that it leaves, and its answer
 
-module _ {b : List ℕ} (l : Link) (e : linkOf l ≡ linkIn b) where
+pub record Steps (b : List ℕ) (c : Call) (p : Plan) (s : List ℕ) (a : Answer) : Type 0 where
+  pub link-is : readIn p s ≡ onLink (linkIn b) c .link
+  pub number-is : numberFor a ≡ onLink (linkIn b) c .number
+  pub sound : SoundState p s
+
+module _ {b : List ℕ} {p : Plan} {w : Window} {s₀ : List ℕ} (o : StateIn p w s₀) (e : readIn p s₀ ≡ linkIn b) where
   stepped : {A : Type 0} {toAnswer : A → Answer} (number : A → ℕ) → ((a : A) → numberFor (toAnswer a) ≡ number a) → (call : model.Link → model.Step A)
       → (c : Call) → onLink (linkIn b) c ≡ record { link = call (linkIn b) .link; number = number (call (linkIn b) .answer) }
-      → {s : Step} → Stepped toAnswer (call (linkOf l)) s → Steps b c s
-  stepped {toAnswer = toAnswer} number same call c is {s} v = record {
+      → {s : List ℕ} {a : Answer} → Went toAnswer (call (readIn p s₀)) p s a → Steps b c p s a
+  stepped {toAnswer = toAnswer} number same call c is v = record {
     link-is = v .link-is ∙ ap (λ x. call x .link) e ∙ ap (λ x. x .link) (sym is);
     number-is =
         ap numberFor (v .answer-is ∙ ap (λ x. toAnswer (call x .answer)) e) ∙ same (call (linkIn b) .answer) ∙ ap (λ x. x .number) (sym is);
     sound = v .sound;
   }
 
-  pub steps-request : (w : ℕ) {s : Step} → Stepped answerToRequest (request.request (linkOf l) w) s → Steps b (Call.request w) s
-  steps-request w = stepped grantNumber grant-number (λ x. request.request x w) (Call.request w) refl
+  pub steps-request : (x : ℕ) {s : List ℕ} {r : Reply} → Went replyOf (request.request (readIn p s₀) x) p s r
+      → Steps b (Call.request x) p s (requestAnswer x r)
+  steps-request x v = stepped grantNumber grant-number (λ l. request.request l x) (Call.request x) refl (request-told (o .sound) x v)
 
-  pub steps-credit : (i p : ℕ) {s : Step} → Stepped answerToCredit (credit.credit (linkOf l) i p) s → Steps b (Call.credit i p) s
-  steps-credit i p = stepped receiptNumber receipt-number (λ x. credit.credit x i p) (Call.credit i p) refl
+  pub steps-credit : (i q : ℕ) {s : List ℕ} {k : ℕ} → Went numberOf (credit.credit (readIn p s₀) i q) p s k → Steps b (Call.credit i q) p s (creditAnswer k)
+  steps-credit i q v = stepped receiptNumber receipt-number (λ x. credit.credit x i q) (Call.credit i q) refl (credit-told (readIn p s₀) i q v)
 
-  pub steps-tick : {s : Step} → Stepped answerToTick (tick.tick (linkOf l)) s → Steps b Call.tick s
+  pub steps-tick : {s : List ℕ} {a : Answer} → Went answerToTick (tick.tick (readIn p s₀)) p s a → Steps b Call.tick p s a
   steps-tick = stepped turnNumber turn-number tick.tick Call.tick refl
 
-  pub steps-lend : (mask : ℕ) {s : Step} → Stepped answerToLend (lend.lend (linkOf l) mask) s → Steps b (Call.lend mask) s
+  pub steps-lend : (mask : ℕ) {s : List ℕ} {a : Answer} → Went answerToLend (lend.lend (readIn p s₀) mask) p s a → Steps b (Call.lend mask) p s a
   steps-lend mask = stepped loanNumber loan-number (λ x. lend.lend x mask) (Call.lend mask) refl
 
-  pub steps-reset : {s : Step} → Stepped answerToReset (reset.reset (linkOf l)) s → Steps b Call.reset s
+  pub steps-reset : {s : List ℕ} {a : Answer} → Went answerToReset (reset.reset (readIn p s₀)) p s a → Steps b Call.reset p s a
   steps-reset = stepped renewalNumber renewal-number reset.reset Call.reset refl
 
 -- ---- on an image that is taken
 
-module _ {b : List ℕ} (t : Taken b) {c : Call} {s : Step} (v : Steps b c s) where
-  kept : KeptAfter (linkIn b) (linkOf (s .link))
+module _ {b : List ℕ} (t : Taken b) {c : Call} {p : Plan} {s : List ℕ} {a : Answer} (v : Steps b c p s a) where
+  kept : KeptAfter (linkIn b) (readIn p s)
   kept = subst (KeptAfter (linkIn b)) (sym (v .link-is)) (done-kept (read-kept b t) c)
 
-  pub writable : Writable (s .link) b
+  pub writable : Writable p s b
   unfolding linkIn
   writable = record {
     sound = v .sound;
@@ -103,7 +118,7 @@ module _ {b : List ℕ} (t : Taken b) {c : Call} {s : Step} (v : Steps b c s) wh
   unfolding calledOn handedBack
   called = ap (λ q. handedBack q b (onLink (linkIn b) c)) (taken b .1 t)
 
-  pub comes-to : {r : ℕ} {after : List ℕ} → r ≡ numberFor (s .answer) → after ≡ writtenTo b (linkOf (s .link)) → HandsBack (calledOn b c) r after
+  pub comes-to : {r : ℕ} {after : List ℕ} → r ≡ numberFor a → after ≡ writtenTo b (readIn p s) → HandsBack (calledOn b c) r after
   comes-to number written =
       let x = sym called in (
         number ∙ v .number-is ∙ ap (λ (y : Called). y .result) x,

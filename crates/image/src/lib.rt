@@ -1,16 +1,24 @@
 // The calls for a host in C, which keeps the link as an image in its own bytes. A number below 2 to the power 32 is what a call is
 // answered; else it is a refusal times that power.
 ghost use mathlib.Core.Path.{_≡_};
-ghost use Rattle.link.specs.Reading.{linkOf};
-ghost use Rattle.images.specs.Exports.{HandsBack, refusalNumber, writtenTo, freshOn, requestOn, creditOn, tickOn, lendOn, resetOn};
-ghost use Rattle.imagebytes.specs.Asked.{Writable};
+ghost use Rattle.link.specs.Steps.{requestAnswer};
+ghost use Rattle.images.specs.Exports.{HandsBack, refusalNumber, freshOn, requestOn, creditOn, tickOn, lendOn, resetOn};
 ghost use Rattle.image.specs.Numbers.{numberFor};
 use calls::Answer;
 use imagebytes::read;
 use imagebytes::write;
 use link::Link;
-use link::Step;
+use link::credit::credit;
+use link::lend::lend;
+use link::request::Reply;
+use link::request::placed;
+use link::request::request;
+use link::reset::reset;
+use link::resume::empty;
+use link::tick::tick;
+use link::tick::turn;
 use plan::Verdict;
+use state::OWNERS;
 use taken::layout::layout_of;
 use taken::refusal;
 
@@ -56,16 +64,15 @@ fn number_of(answer: Answer) -> u64
     }
 }
 
-// Writes the link that a call handed back, and answers the number of its answer.
-fn hand_back(step: Step, image: &mut [u8]) -> u64
-    requires { ⌜ Writable (step .link) (now image) ⌝ }
-    ensures result { λ r. ⌜ r ≡ numberFor (step .answer) ⌝ }
-    ensures buffer { λ r. ⌜ now (image .exit) ≡ writtenTo (now (image .entry)) (linkOf (step .link)) ⌝ }
+// The number of what a request of a word comes to.
+fn number_of_reply(word: u32, reply: Reply) -> u64
+    ensures { λ r. ⌜ r ≡ numberFor (requestAnswer word reply) ⌝ }
 {
-    let link = step.link;
-    let answer = step.answer;
-    write(link, image);
-    number_of(answer)
+    let number = reply.number;
+    if number != 0 {
+        return refused(number);
+    }
+    word::depart(word, reply.position) as u64
 }
 
 // The image of a plan's fresh link.
@@ -85,7 +92,9 @@ pub extern "C" fn nazgolv_fresh(plan: &[u8], image: &mut [u8]) -> u64
             if image.len() < l.total {
                 return refused(21);
             }
-            write(Link::fresh(plan), image);
+            let link = Link::fresh(plan);
+            let kept = link.plan;
+            write(kept, &link.state, image);
             return 0;
         }
     }
@@ -100,8 +109,15 @@ pub extern "C" fn nazgolv_request(image: &mut [u8], word: u32) -> u64
     if number != 0 {
         return refused(number);
     }
-    let link = read(image);
-    hand_back(link.request(word), image)
+    let mut state = empty();
+    let kept = read(&mut state, image);
+    let plan = kept.plan;
+    let fields = word::split(word);
+    let i = placed(plan.count, fields.flow as usize);
+    let e = plan.entries[i];
+    let reply = request(&mut state, plan.count, e, kept.window, fields);
+    write(plan, &state, image);
+    number_of_reply(word, reply)
 }
 
 // A flow's cell falls free from a position on.
@@ -113,8 +129,12 @@ pub extern "C" fn nazgolv_credit(image: &mut [u8], flow: usize, position: usize)
     if number != 0 {
         return refused(number);
     }
-    let link = read(image);
-    hand_back(link.credit(flow, position), image)
+    let mut state = empty();
+    let kept = read(&mut state, image);
+    let plan = kept.plan;
+    let number = credit(&mut state, plan, kept.window, flow, position);
+    write(plan, &state, image);
+    refused(number)
 }
 
 // The current position goes on by one.
@@ -126,8 +146,14 @@ pub extern "C" fn nazgolv_tick(image: &mut [u8]) -> u64
     if number != 0 {
         return refused(number);
     }
-    let link = read(image);
-    hand_back(link.tick(), image)
+    let mut state = empty();
+    let kept = read(&mut state, image);
+    let plan = kept.plan;
+    let on = tick(&mut state, plan, kept.window);
+    let next = on.current;
+    let owner = state[OWNERS + next];
+    write(plan, &state, image);
+    number_of(turn(owner))
 }
 
 // The current slot, when nobody booked it, goes in turn to a flow of a mask that has a quantum ready.
@@ -139,8 +165,12 @@ pub extern "C" fn nazgolv_lend(image: &mut [u8], mask: u16) -> u64
     if number != 0 {
         return refused(number);
     }
-    let link = read(image);
-    hand_back(link.lend(mask), image)
+    let mut state = empty();
+    let kept = read(&mut state, image);
+    let plan = kept.plan;
+    let answer = lend(&mut state, plan, kept.window, mask);
+    write(plan, &state, image);
+    number_of(answer)
 }
 
 // Every frame is recycled, when the link is quiet.
@@ -152,6 +182,10 @@ pub extern "C" fn nazgolv_reset(image: &mut [u8]) -> u64
     if number != 0 {
         return refused(number);
     }
-    let link = read(image);
-    hand_back(link.reset(), image)
+    let mut state = empty();
+    let kept = read(&mut state, image);
+    let plan = kept.plan;
+    let answer = reset(&mut state, plan, kept.window);
+    write(plan, &state, image);
+    number_of(answer)
 }

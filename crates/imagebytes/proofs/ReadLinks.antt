@@ -3,7 +3,7 @@ use Prim.Native.Nat.{ℕ, _+_, _*_, _≤_, _<_}
 use mathlib.Core.Path.{_≡_, sym, ap, ap₂, _∙_, subst}
 use mathlib.Core.List.{List}
 use mathlib.Core.Option.{none}
-use mathlib.Core.Bool.{Bool, true}
+use mathlib.Core.Bool.{Bool, true, not}
 use native.Mathlib.Decide.{decLt, ℕ-discrete}
 use native.Mathlib.Omega.{arith}
 use lib.ListN.{length, getD}
@@ -17,15 +17,27 @@ use Rattle.plan.specs.declared.Plan.{Plan}
 use Rattle.plan.specs.Reading.{planFor, Valid}
 use Rattle.window.proofs.Tabulated.{getD-table, table-same}
 use Rattle.window.specs.declared.Window.{Window}
-use Rattle.window.specs.Window.{windowOf, Measures}
+use Rattle.window.specs.Window.{windowOf, Measures, Proper}
+use Rattle.model.specs.Window as seen
+use Rattle.state.specs.State.{Whole, heldOf, masksOf}
+use Rattle.state.proofs.State.{held-beside}
 use Rattle.unbooked.specs.Words.{Words}
-use Rattle.tables.specs.Owners.{nobody, ownerOf, WordsOf}
+use Rattle.tables.specs.Owners.{nobody, ownerOf, unbookedAt, WordsOf}
 use Rattle.tables.specs.Rows.{row}
+use Rattle.tables.specs.Holdings.{nothingHeld}
+use Rattle.tables.proofs.Bounds.{bounds-unknown}
 use Rattle.link.specs.declared.Flow.{Flow}
-use Rattle.link.specs.declared.Link.{Link}
 use Rattle.link.specs.Layout.{noFlow, flowRow}
+use Rattle.link.specs.Parts.{Parts, FitsBytes, flowsOf, partsIn}
+use Rattle.link.specs.Changes.{FlowsNow}
+use Rattle.link.specs.Resumed.{empty, Resumed}
 use Rattle.link.specs.Reading.{flowOf, linkOf}
-use Rattle.link.specs.Sound.{Sound}
+use Rattle.link.specs.Sound.{Sound, SoundState}
+use Rattle.link.specs.Given.{StateIn}
+use Rattle.link.specs.Steps.{readIn}
+use Rattle.link.proofs.Given.{windowFor, state-in}
+use Rattle.link.proofs.FlowBytes.{flows-beside}
+use Rattle.link.proofs.Resumed.{whole-empty, held-empty, flows-empty}
 use Rattle.fields.specs.Fields.{ByteFields}
 use Rattle.images.specs.Image.{fieldAt, positionsAt, flowsAt, imageLength, flowFields, planIn, ownerIn, flowField, flowIn, linkFrom, linkIn}
 use Rattle.images.specs.Consistent.{known, ConsistentFlow, Consistent}
@@ -37,7 +49,7 @@ use Rattle.taken.proofs.Owners.{flow-known}
 use Rattle.taken.proofs.Layouts.{count-is, count-few, total-is, positions-at, size-is, flows-at, flows-are, sized}
 use Rattle.taken.proofs.LinkFields.{owners-there}
 use Rattle.taken.proofs.FlowFields.{part, field-is, owner-is, held-is}
-use Rattle.imagebytes.specs.Reading.{ownersFrom, partAt, flowsFrom, rowFrom, heldFrom}
+use Rattle.imagebytes.specs.Reading.{ownersFrom, partAt, flowFrom, flowsOver, flowsFrom, rowFrom, heldFrom, HeldRead}
 use Rattle.imagebytes.specs.Asked.{FlowsOn, HoldingsOn}
 use Rattle.imagebytes.proofs.ReadTables.{length-from, from-in, from-past, nothing-past, flows-in, flows-past, length-flows, length-held, rows-in, rows-past}
 
@@ -49,8 +61,8 @@ known-most n x e few = go (ℕ-discrete x 16)
     go (yes d) = omega arith
     go (no d) = omega (arith, ltb-true x n (sym (flow-known n x d) ∙ e))
 
--- the link as it is made
-abbrev linkRead : List ℕ → Plan → Layout → (unbooked : List ℕ) → Link
+-- the parts of the link as it is made
+abbrev linkRead : List ℕ → Plan → Layout → (unbooked : List ℕ) → Parts
 linkRead b p y u = record {
   plan = p;
   cp = field16 b 12;
@@ -63,20 +75,17 @@ linkRead b p y u = record {
 }
 
 -- the words of a window are those of its plan
-pub words-read : (w : Window) {F W current : ℕ} {t : ℕ → Bool} {words : List ℕ} → windowOf w ≡ record { slots = F; frames = W; current = current }
+words-read : (w : Window) {F W current : ℕ} {t : ℕ → Bool} {words : List ℕ} → windowOf w ≡ record { slots = F; frames = W; current = current }
     → Words (w .slots) (w .frames) t words → Words F W t words
 words-read w {t = t} {words = words} is = subst (λ x. Words (x .slots) (x .frames) t words) is
 
--- what of an image is stored
-pub record Stored (b : List ℕ) (p : Plan) (y : Layout) (l : Link) : Type 0 where
-  pub plan-is : l .plan ≡ p
-  pub cp-is : l .cp ≡ field16 b 12
-  pub owner-is : l .owner ≡ ownersFrom b y
-  pub flows-are : l .flows ≡ flowsFrom b y
-  pub held-is : l .held ≡ heldFrom b y
-  pub taken-is : l .taken ≡ eqb (field16 b 14) 1
-  pub first-is : l .first ≡ field16 b 16
-  pub words : WordsOf (p .slots) (p .frames) (l .owner) (l .unbooked)
+-- a mark of at most 1
+mark-read : (m : ℕ) → m ≤ 1 → not (eqb m 0) ≡ eqb m 1
+mark-read m h = go (ℕ-discrete m 0)
+  where
+    go : Dec (m ≡ 0) → not (eqb m 0) ≡ eqb m 1
+    go (yes d) = rw d
+    go (no d) = let one : m ≡ 1 = omega arith in rw one
 
 module _ {b : List ℕ} (t : Taken b) (p : Plan) (v : Valid p) (is : planFor p ≡ planIn b) (y : Layout) (laid : LaidOut (planFor p) y) where
   abbrev P : model.Plan
@@ -146,6 +155,18 @@ module _ {b : List ℕ} (t : Taken b) (p : Plan) (v : Valid p) (is : planFor p �
         let held = getD-table T (λ q. flowField b P i (2 + q)) q 0 l in
         omega (arith, holding-is q, held, flow-met .within-cells q l, v .accepted .entries-fit i below .cells-most)
 
+    -- what is read of it fits its bytes
+    flow-fits : FitsBytes (flowFrom b (y .size) (partAt y i))
+    flow-fits =
+        let injection = part-field 0 (partAt y i) (omega arith) in
+        let remainder = part-field 1 (partAt y i + 2) (omega arith) in
+        let a = v .accepted in
+        record {
+          frame = omega (arith, injection, flow-met .injection-below, a .frames-most);
+          left = omega (arith, remainder, flow-met .spent, a .entries-fit i below .share-most, a .slots-most);
+          number = omega (arith, number, flow-met .number-below);
+        }
+
   -- ---- what reading asks
 
   pub owners-on : ByteFields b (y .positions) (y .size)
@@ -161,6 +182,7 @@ module _ {b : List ℕ} (t : Taken b) (p : Plan) (v : Valid p) (is : planFor p �
     few = few;
     fields-are = omega (arith, laid .fields-are, size-is laid);
     there = omega (arith, total-is laid, image-there);
+    fits = λ i h. flow-fits i (omega (arith, count));
   }
 
   pub holdings-on : HoldingsOn b y
@@ -179,6 +201,13 @@ module _ {b : List ℕ} (t : Taken b) (p : Plan) (v : Valid p) (is : planFor p �
     positions-most = a .positions-most;
     current-below = met .current-below;
   }
+
+  -- the mark and the flow to look from are bytes
+  pub mark-most : field16 b 14 ≤ 1
+  mark-most = t .mark-is-bit
+
+  pub turn-most : field16 b 16 < 256
+  turn-most = omega (arith, met .look-from-below, count-is p, count-few p v)
 
   -- ---- how it is read
 
@@ -236,21 +265,51 @@ module _ {b : List ℕ} (t : Taken b) (p : Plan) (v : Valid p) (is : planFor p �
           rw here (ltb-true x (p .count) (sym (flow-known (p .count) x (λ z. some (here ∙ z))) ∙ owner-known q h))
       owner q l some (no h) = absurd (some (from-past b (y .positions) (y .size) nobody q (omega (arith, size-is laid)) l))
 
-  -- the link that is made
-  pub made-of : {l : Link} → Stored b p y l → (linkOf l ≡ linkIn b) × Sound l
-  made-of {l} e = subst (λ x. (linkOf x ≡ linkIn b) × Sound x) made (read-link (l .unbooked), sound-read words)
-    where
-      words : WordsOf (p .slots) (p .frames) (ownersFrom b y) (l .unbooked)
-      words = rw (e .owner-is) at (e .words)
+  -- ---- the state that is made
 
-      made : linkRead b p y (l .unbooked) ≡ l
-      made k = record {
-        plan = sym (e .plan-is) k;
-        cp = sym (e .cp-is) k;
-        owner = sym (e .owner-is) k;
-        unbooked = l .unbooked;
-        flows = sym (e .flows-are) k;
-        held = sym (e .held-is) k;
-        taken = sym (e .taken-is) k;
-        first = sym (e .first-is) k;
-      }
+  module _ {s₀ s₁ : List ℕ} (blank : s₀ ≡ empty) (flows : FlowsNow s₀ s₁ (flowsOver b y (flowsOf s₀))) where
+    pub whole-flows : Whole s₁
+    whole-flows = flows .beside .long ∙ ap length blank ∙ whole-empty
+
+    pub nothing-yet : heldOf s₁ ≡ nothingHeld
+    nothing-yet = held-beside (flows .beside) (omega arith) ∙ ap heldOf blank ∙ held-empty
+
+    module _ {s₂ : List ℕ} (held : HeldRead b y s₁ s₂) where
+      pub whole-held : Whole s₂
+      whole-held = held .beside .long ∙ whole-flows
+
+      flows-made : flowsOf s₂ ≡ flowsFrom b y
+      flows-made = flows-beside (held .beside) (λ k l₁ h₁ l₂ h₂. omega arith) ∙ flows .flows-are
+          ∙ ap (flowsOver b y) (ap flowsOf blank ∙ flows-empty)
+
+      module _ {cp : ℕ} (cp-is : cp ≡ field16 b 12) {w : Window} (window-is : windowOf w ≡ record { slots = p .slots; frames = p .frames; current = cp })
+          {owners : List ℕ} (owned : owners ≡ ownersFrom b y) {mark turn : ℕ} (mark-is : mark ≡ field16 b 14) (turn-is : turn ≡ field16 b 16)
+          {s : List ℕ} (r : Resumed w owners mark turn s₂ s) where
+        parts-are : partsIn p s ≡ linkRead b p y (masksOf s)
+        parts-are = λ k. record {
+          plan = p;
+          cp = (r .current-is ∙ ap (λ (x : seen.Window). x .current) window-is ∙ cp-is) k;
+          owner = (r .owners-are ∙ owned) k;
+          unbooked = masksOf s;
+          flows = (r .flows-stay ∙ flows-made) k;
+          held = (r .held-stays ∙ held .held-is) k;
+          taken = (ap (λ x. not (eqb x 0)) (r .mark-is ∙ mark-is) ∙ mark-read (field16 b 14) mark-most) k;
+          first = (r .turn-is ∙ turn-is) k;
+        }
+
+        pub made-link : readIn p s ≡ linkIn b
+        made-link = ap linkOf parts-are ∙ read-link (masksOf s)
+
+        made-sound : SoundState p s
+        made-sound = record {
+          whole = r .whole;
+          mark = omega (arith, r .mark-is, mark-is, mark-most);
+          bounds = bounds-unknown (r .bounds-unknown);
+          parts = subst Sound (sym parts-are) (sound-read (words-read w window-is (subst (λ x. Words (w .slots) (w .frames) (unbookedAt x) (masksOf s)) owned (r .masks-are))));
+        }
+
+        -- and w is its window
+        pub made-in : Proper w → StateIn p w s
+        made-in proper =
+            let current = r .current-is ∙ ap (λ (x : seen.Window). x .current) window-is in
+            state-in made-sound (window-is ∙ ap (windowFor p) (sym current)) proper

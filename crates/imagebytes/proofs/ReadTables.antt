@@ -10,7 +10,7 @@ use Rattle.window.specs.Ranges.{inRange, replaced}
 use Rattle.window.proofs.Tabulated.{table-same, table-of, replicate-table}
 use Rattle.window.proofs.Ranges.{in-range, past-range, length-replaced, replaced-at, replaced-off}
 use Rattle.tables.specs.Owners.{everywhere}
-use Rattle.tables.specs.Rows.{row, Sixteen}
+use Rattle.tables.specs.Rows.{row}
 use Rattle.tables.proofs.Rows.{length-rows-of, row-of-rows}
 use Rattle.tables.proofs.FreshTables.{length-everywhere, everywhere-at}
 use Rattle.link.specs.Layout.{noFlow}
@@ -57,7 +57,7 @@ module _ (b : List ℕ) (y : Layout) (few : y .count ≤ 16) where
 
   -- ---- sixteen rows
 
-  pub length-held : Sixteen (heldFrom b y)
+  pub length-held : length (heldFrom b y) ≡ 4096
   unfolding heldFrom
   length-held = length-rows-of _
 

@@ -1,11 +1,14 @@
 -- The tables of a link as they are read from an image with a layout. Assumes nothing.
 use Prim.Native.Nat.{ℕ, _+_, _*_}
+use mathlib.Core.Path.{_≡_}
 use mathlib.Core.List.{List}
 use mathlib.Core.Bool.{cond}
 use lib.ListN.{getD, replicate}
 use lib.Dec.{ltb}
 use Rattle.model.specs.Plan.{field16}
 use Rattle.window.specs.Ranges.{inRange, replaced}
+use Rattle.state.specs.Parts.{Beside}
+use Rattle.state.specs.State.{heldOf}
 use Rattle.tables.specs.Owners.{nobody, everywhere}
 use Rattle.tables.specs.Rows.{rowsOf}
 use Rattle.link.specs.declared.Flow.{Flow}
@@ -28,9 +31,13 @@ partAt y i = y .flows + 2 * (i * y .fields)
 abbrev pub flowFrom : List ℕ → (T at : ℕ) → Flow
 flowFrom b T at = record { frame = field16 b at; left = field16 b (at + 2); number = field16 b (at + 4 + 2 * T) }
 
+-- the first n of these flows
+abbrev pub flowsOver : List ℕ → Layout → List Flow → List Flow
+flowsOver b y = replaced (inRange 0 (y .count)) (λ i f. flowFrom b (y .size) (partAt y i))
+
 -- the first n of sixteen
 abbrev pub flowsFrom : List ℕ → Layout → List Flow
-flowsFrom b y = replaced (inRange 0 (y .count)) (λ i f. flowFrom b (y .size) (partAt y i)) (replicate 16 noFlow)
+flowsFrom b y = flowsOver b y (replicate 16 noFlow)
 
 -- what flow i holds
 abbrev pub rowFrom : List ℕ → Layout → ℕ → List ℕ
@@ -42,3 +49,8 @@ holdingFrom b y i p = cond (ltb i (y .count)) (getD (rowFrom b y i) p 0) 0
 
 unfoldable pub heldFrom : List ℕ → Layout → List ℕ
 heldFrom b y = rowsOf (holdingFrom b y)
+
+-- what the flows hold is that, and nothing else changed
+pub record HeldRead (b : List ℕ) (y : Layout) (before after : List ℕ) : Type 0 where
+  pub held-is : heldOf after ≡ heldFrom b y
+  pub beside : Beside 0 4096 before after

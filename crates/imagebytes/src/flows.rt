@@ -1,14 +1,18 @@
-// The flows of an image: their frames, remainders, expected numbers and holdings.
+// The flows of an image, stored to a state: their frames, remainders and expected numbers, and what they hold.
 ghost use mathlib.Core.Path.{_≡_};
 ghost use Prim.Native.Nat.{_+_, _*_, _≤_};
 ghost use lib.ListN.{length};
-ghost use Rattle.imagebytes.specs.Reading.{flowFrom, flowsFrom, heldFrom};
+ghost use Rattle.state.specs.State.{Whole, heldOf};
+ghost use Rattle.tables.specs.Holdings.{nothingHeld};
+ghost use Rattle.link.specs.Parts.{flowsOf};
+ghost use Rattle.link.specs.Changes.{FlowsNow};
+ghost use Rattle.imagebytes.specs.Reading.{flowFrom, flowsOver, HeldRead};
 ghost use Rattle.imagebytes.specs.Asked.{FlowsOn, HoldingsOn};
 use fields::field;
 use fields::read_table;
 use link::Flow;
-use tables::holdings::Holdings;
-use tables::holdings::nothing_held;
+use link::flows::put_flow;
+use state::State;
 use tables::holdings::store;
 use taken::layout::Layout;
 
@@ -25,37 +29,27 @@ fn read_flow(image: &[u8], at: usize, size: usize) -> Flow
 }
 
 // Those of each flow.
-pub(crate) fn read_flows(image: &[u8], l: Layout) -> [Flow; 16]
-    requires { ⌜ FlowsOn (now image) l ⌝ }
-    ensures { λ r. ⌜ r ≡ flowsFrom (now (image .entry)) l ⌝ }
+pub(crate) fn read_flows(s: &mut State, image: &[u8], l: Layout)
+    requires { ⌜ FlowsOn (now image) l × Whole (now s) ⌝ }
+    ensures { λ r. ⌜ FlowsNow (now (s .entry)) (now (s .exit)) (flowsOver (now (image .entry)) l (flowsOf (now (s .entry)))) ⌝ }
 {
-    let spare = Flow {
-        frame: 0,
-        left: 0,
-        number: 0,
-    };
-    let mut all = [spare; 16];
     let count = l.count;
     let mut i = 0;
     while i < count {
-        all[i] = read_flow(image, l.flow(i), l.size);
+        put_flow(s, i, read_flow(image, l.flow(i), l.size));
         i += 1;
     }
-    all
 }
 
-// What each flow holds.
-pub(crate) fn read_held(image: &[u8], l: Layout) -> Holdings
-    requires { ⌜ HoldingsOn (now image) l ⌝ }
-    ensures { λ r. ⌜ r ≡ heldFrom (now (image .entry)) l ⌝ }
+// What each flow holds, where nothing is held.
+pub(crate) fn read_held(s: &mut State, image: &[u8], l: Layout)
+    requires { ⌜ HoldingsOn (now image) l × Whole (now s) × (heldOf (now s) ≡ nothingHeld) ⌝ }
+    ensures { λ r. ⌜ HeldRead (now (image .entry)) l (now (s .entry)) (now (s .exit)) ⌝ }
 {
-    let mut held = nothing_held();
     let count = l.count;
     let mut i = 0;
     while i < count {
-        let row = read_table(image, l.flow(i) + 4, l.size, 0);
-        store(&mut held, i, row);
+        store(s, i, read_table(image, l.flow(i) + 4, l.size, 0));
         i += 1;
     }
-    held
 }

@@ -3,5 +3,6 @@ mod flows; // the flows of an image
 mod reading;
 mod writing;
 
+pub use reading::Kept;
 pub use reading::read;
 pub use writing::write;

@@ -1,44 +1,43 @@
 // A taken image read as a link.
 ghost use mathlib.Core.Path.{_≡_};
-ghost use Rattle.link.specs.Reading.{linkOf};
-ghost use Rattle.link.specs.Sound.{Sound};
+ghost use Rattle.link.specs.Given.{StateIn};
+ghost use Rattle.link.specs.Resumed.{empty};
+ghost use Rattle.link.specs.Steps.{readIn};
 ghost use Rattle.images.specs.Image.{linkIn};
 ghost use Rattle.images.specs.Taken.{Taken};
 use crate::flows::read_flows;
 use crate::flows::read_held;
 use fields::field;
 use fields::read_table;
-use link::Link;
-use tables::words::words_of;
+use link::resume::resume;
+use plan::Plan;
+use state::State;
 use taken::layout::layout_of;
 use taken::plans::plan_in;
+use window::Window;
 use window::positions::window;
 
-// The link of a taken image.
-pub fn read(image: &[u8]) -> Link
-    requires { ⌜ Taken (now image) ⌝ }
-    ensures link { λ r. ⌜ linkOf r ≡ linkIn (now (image .entry)) ⌝ }
-    ensures sound { λ r. ⌜ Sound r ⌝ }
+// What of a link doesn't stand in its state: the plan, and the window there.
+pub struct Kept {
+    pub plan: Plan,
+    pub window: Window,
+}
+
+// The link of a taken image, stored to an empty state.
+pub fn read(s: &mut State, image: &[u8]) -> Kept
+    requires { ⌜ Taken (now image) × (now s ≡ empty) ⌝ }
+    ensures link { λ r. ⌜ readIn (r .plan) (now (s .exit)) ≡ linkIn (now (image .entry)) ⌝ }
+    ensures there { λ r. ⌜ StateIn (r .plan) (r .window) (now (s .exit)) ⌝ }
 {
     let outcome = plan_in(image);
     let plan = outcome.plan;
     let l = layout_of(plan);
+    read_flows(s, image, l);
+    read_held(s, image, l);
     let owner = read_table(image, l.positions, l.size, 16);
-    let flows = read_flows(image, l);
-    let held = read_held(image, l);
-    let cp = field(image, 12);
+    let w = window(plan.slots, plan.frames, field(image, 12));
     let mark = field(image, 14);
-    let first = field(image, 16);
-    let w = window(plan.slots, plan.frames, cp);
-    let words = words_of(&owner, w);
-    Link {
-        plan,
-        cp,
-        owner,
-        unbooked: words,
-        flows,
-        held,
-        taken: mark == 1,
-        first,
-    }
+    let turn = field(image, 16);
+    resume(s, w, owner, mark as u8, turn as u8);
+    Kept { plan, window: w }
 }

@@ -21,7 +21,7 @@ use Rattle.images.specs.Taken.{Taken}
 use Rattle.images.proofs.ReadBack.{image-length, header-stands, plan-stands, plan-again, read-link}
 
 -- the reader accepts the bytes of an accepted plan
-plan-passes : (P : Plan) → Accepted P → refusal (bytesOf P) ≡ 0
+pub plan-passes : (P : Plan) → Accepted P → refusal (bytesOf P) ≡ 0
 unfolding firstOf
 plan-passes P ok =
     same-tests P

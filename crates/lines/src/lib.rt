@@ -1,15 +1,16 @@
 // The lines of granted positions and of ticks, made for many records at once and kept in two parts of four bytes each, which overlap; and
-// the line of a credit that is taken.
+// the lines of what requests come to and of a credit that is taken.
 ghost use mathlib.Core.Path.{_≡_};
+ghost use mathlib.Core.Bool.{cond};
 ghost use mathlib.Core.List.{_∷_, []};
 ghost use Prim.Native.Nat.{_+_, _<_, _≤_};
+ghost use lib.Dec.{eqb};
 ghost use lib.ListN.{length};
 ghost use lib.Seq.{sets};
 ghost use Rattle.model.specs.Calls.{accepted};
-ghost use Rattle.model.specs.Listing.{creditLine};
-ghost use Rattle.calls.specs.Lines.{numberLine, outWith, nextAfter};
+ghost use Rattle.model.specs.Listing.{creditLine, refusalLine};
+ghost use Rattle.calls.specs.Lines.{numberLine, Puts};
 ghost use Rattle.lines.specs.Lines.{four, textOf, Kept, lineAt, AllLines};
-use calls::has_room;
 use calls::wide;
 
 // A line of four to seven bytes.
@@ -24,7 +25,7 @@ pub struct Line {
 
 // The place of the first line of a tick: those of 256 granted positions stand before it.
 pub const TICKS: usize = 256;
-// The place of an idle tick's line: those of 16 flows stand before it.
+// The place of an idle tick's line, that of nobody's number, 16: those of 16 flows stand before it.
 const IDLE: usize = 272;
 
 // Four bytes in one number, low byte first.
@@ -105,31 +106,37 @@ fn put_four(word: u32, out: &mut [u8], at: usize)
     out[at + 3] = (word / 16777216) as u8;
 }
 
-// Writes a line and returns the place after it; where the longest line has no room it writes nothing and returns the same place, as
-// `calls::write` does.
+// Writes a line where the longest has room, and returns the place after it.
 pub fn write(line: Line, out: &mut [u8], at: usize) -> usize
-    ensures out { λ r. ⌜ now (out .exit) ≡ outWith (textOf line) (now (out .entry)) at ⌝ }
-    ensures next { λ r. ⌜ r ≡ nextAfter (textOf line) (now (out .entry)) at ⌝ }
+    requires { ⌜ at + 7 ≤ length (now out) ⌝ }
+    ensures put { λ r. ⌜ Puts (textOf line) (now (out .entry)) (now (out .exit)) at r ⌝ }
     ensures most { λ r. ⌜ r ≤ at + 7 ⌝ }
 {
-    if !has_room(out, at) {
-        return at;
-    }
     let past = (line.past % 4) as usize;
     put_four(line.last, out, at + past);
     put_four(line.first, out, at);
     at + past + 4
 }
 
-// Writes the line of a credit that is taken, as `calls::write` does.
-pub fn write_taken(out: &mut [u8], at: usize) -> usize
-    ensures out { λ r. ⌜ now (out .exit) ≡ outWith (creditLine (accepted tt)) (now (out .entry)) at ⌝ }
-    ensures next { λ r. ⌜ r ≡ nextAfter (creditLine (accepted tt)) (now (out .entry)) at ⌝ }
+// Writes what a request comes to, where the longest line has room, and returns the place after it: the refusal that a number is, or a line where
+// the number is 0.
+pub fn write_reply(number: u8, line: Line, out: &mut [u8], at: usize) -> usize
+    requires { ⌜ at + 7 ≤ length (now out) ⌝ }
+    ensures put { λ r. ⌜ Puts (cond (eqb number 0) (textOf line) (refusalLine number)) (now (out .entry)) (now (out .exit)) at r ⌝ }
     ensures most { λ r. ⌜ r ≤ at + 7 ⌝ }
 {
-    if !has_room(out, at) {
-        return at;
+    if number != 0 {
+        return calls::write_refusal(number, out, at);
     }
+    write(line, out, at)
+}
+
+// Writes the line of a credit that is taken where the longest has room, and returns the place after it.
+pub fn write_taken(out: &mut [u8], at: usize) -> usize
+    requires { ⌜ at + 7 ≤ length (now out) ⌝ }
+    ensures put { λ r. ⌜ Puts (creditLine (accepted tt)) (now (out .entry)) (now (out .exit)) at r ⌝ }
+    ensures most { λ r. ⌜ r ≤ at + 7 ⌝ }
+{
     out[at] = b'C';
     out[at + 1] = b'\n';
     at + 2

@@ -11,8 +11,6 @@ use Rattle.model.specs.Calls.{accepted}
 use Rattle.model.specs.Window.{Window, passed, everyFrom}
 use Rattle.model.specs.Link as model
 use Rattle.model.specs.Credit.{creditTests, credit, creditAfter, lowered}
-use Rattle.calls.specs.declared.Answer.the-variants.{Taken, Refused}
-use Rattle.calls.specs.Reading.{answerToCredit}
 use Rattle.plan.specs.declared.Plan.{Plan}
 use Rattle.window.specs.declared.Window as code
 use Rattle.window.specs.Ranges.{replaced}
@@ -22,20 +20,20 @@ use Rattle.tables.specs.Rows.{row, withRow}
 use Rattle.tables.specs.Holdings.{someHeld, shiftedRow, shifted}
 use Rattle.tables.proofs.HoldingChanges.{one-fewer}
 use Rattle.link.specs.declared.Flow.{Flow}
-use Rattle.link.specs.declared.Link.{Link}
+use Rattle.link.specs.Parts.{Parts}
 use Rattle.link.specs.Layout.{sizeOf, flowAt, noFlow}
 use Rattle.link.specs.Updates.{withHeld, withFlows, withHoldings, withFlow}
 use Rattle.link.specs.Reading.{linkOf}
 use Rattle.link.specs.Sound.{Sound}
 use Rattle.link.specs.Given.{Creditable}
-use Rattle.link.specs.Steps.{Stepped}
+use Rattle.link.specs.Steps.{SteppedParts, numberOf}
 use Rattle.link.proofs.Given.{AtHand}
 use Rattle.link.proofs.Readings.{read-count, read-flow, read-holding}
 use Rattle.link.proofs.Updated.{read-from, sound-from}
 
 -- ---- the tests
 
-module _ (l : Link) (i p : ℕ) where
+module _ (l : Parts) (i p : ℕ) where
   pub tests-8 : l .plan .count ≤ i → 8 ≡ firstOf (creditTests (linkOf l) i p)
   unfolding firstOf
   tests-8 h = rw (read-count l, le-ltb i (l .plan .count) h)
@@ -73,15 +71,15 @@ module _ (l : Link) (i p : ℕ) where
 -- ---- what a credit comes to
 
 -- other holdings of flow i alone: the flow itself is stored again
-pub same-flow : (l : Link) (i : ℕ) (h : List ℕ) → withHoldings l (withRow (l .held) i h) ≡ withFlow l i (withHeld (flowAt l i) h)
+pub same-flow : (l : Parts) (i : ℕ) (h : List ℕ) → withHoldings l (withRow (l .held) i h) ≡ withFlow l i (withHeld (flowAt l i) h)
 same-flow l i h = ap (λ (x : List Flow). withHoldings (withFlows l x) (withRow (l .held) i h)) (sym (set-getD (l .flows) i noFlow))
 
-module _ {l : Link} {plan : Plan} {w : code.Window} (a : AtHand l plan w) (i p : ℕ) {n : ℕ} (tests : n ≡ firstOf (creditTests (linkOf l) i p)) where
-  pub credit-refused : (n ≡ 0 → ⊥) → Stepped answerToCredit (credit (linkOf l) i p) (record { link = l; answer = Refused n })
+module _ {l : Parts} {plan : Plan} {w : code.Window} (a : AtHand l plan w) (i p : ℕ) {n : ℕ} (tests : n ≡ firstOf (creditTests (linkOf l) i p)) where
+  pub credit-refused : (n ≡ 0 → ⊥) → SteppedParts numberOf (credit (linkOf l) i p) l n
   unfolding credit creditAfter
   credit-refused nonzero = rw (← tests) (go n nonzero)
     where
-      go : (k : ℕ) → (k ≡ 0 → ⊥) → Stepped answerToCredit (creditAfter k (linkOf l) i p) (record { link = l; answer = Refused k })
+      go : (k : ℕ) → (k ≡ 0 → ⊥) → SteppedParts numberOf (creditAfter k (linkOf l) i p) l k
       go zero none = absurd (none refl)
       go (suc r) none = record { link-is = refl; answer-is = refl; sound = a .sound }
 
@@ -112,5 +110,5 @@ module _ {l : Link} {plan : Plan} {w : code.Window} (a : AtHand l plan w) (i p :
         (a .sound .flows i flow-below .frame) (a .sound .flows i flow-below .number)
 
     pub credit-taken : {h : List ℕ} → h ≡ shifted (windowOf w) 255 i p (l .held)
-        → Stepped answerToCredit (credit (linkOf l) i p) (record { link = withHoldings l h; answer = Taken })
+        → SteppedParts numberOf (credit (linkOf l) i p) (withHoldings l h) 0
     credit-taken e = rw (taken z, e, same-flow l i lower) (record { link-is = lower-link; answer-is = refl; sound = sound-lower })

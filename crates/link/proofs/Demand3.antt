@@ -24,7 +24,7 @@ use Rattle.model.proofs.Demand3.{meets-accepted}
 use Rattle.model.proofs.Fairness.{fair-accepted}
 use Rattle.model.proofs.QuantumNumbers.{numbers-accepted}
 use Rattle.link.specs.declared.Link.{Link}
-use Rattle.link.specs.Reading.{linkOf}
+use Rattle.link.specs.Steps.{readOf as linkRead}
 use Rattle.link.specs.Handed.{Handed}
 
 -- ---- an answer of the code is made from one answer of the paper
@@ -70,11 +70,11 @@ play-more r (x ∷ calls) c = play-more (step paper r x) calls c
 -- the calls that were made, played on the paper's card, come to this link with these events
 record RunOf (P : model.Plan) (h : History) (l : Link) : Type 0 where
   calls : List Call
-  played : run paper P calls ≡ record { state = linkOf l; history = h }
+  played : run paper P calls ≡ record { state = linkRead l; history = h }
 
 module _ {P : model.Plan} {h : History} {l : Link} (made : RunOf P h l) where
   -- one call more, with the event and the link that the card comes to
-  one-more : (c : Call) (next : History) (k : Link) → step paper (record { state = linkOf l; history = h }) c ≡ record { state = linkOf k; history = next }
+  one-more : (c : Call) (next : History) (k : Link) → step paper (record { state = linkRead l; history = h }) c ≡ record { state = linkRead k; history = next }
       → RunOf P next k
   one-more c next k e = record {
     calls = made .calls ++ c ∷ [];
@@ -83,13 +83,13 @@ module _ {P : model.Plan} {h : History} {l : Link} (made : RunOf P h l) where
 
   -- several more
   several-more : (cs : List Call) (next : History) (k : Link)
-      → play paper (record { state = linkOf l; history = h }) cs ≡ record { state = linkOf k; history = next } → RunOf P next k
+      → play paper (record { state = linkRead l; history = h }) cs ≡ record { state = linkRead k; history = next } → RunOf P next k
   several-more cs next k e = record {
     calls = made .calls ++ cs;
     played = play-both (started paper P) (made .calls) cs ∙ ap (λ r. play paper r cs) (made .played) ∙ e;
   }
 
-  known-of : model.Accepted P → Known P (record { state = linkOf l; history = h })
+  known-of : model.Accepted P → Known P (record { state = linkRead l; history = h })
   known-of ok = subst (Known P) (made .played) (after-calls (started paper P) (made .calls) (after-fresh ok))
 
 run-of : {p : Plan} → model.Accepted (planFor p) → {h : History} {l : Link} → Handed p h l → RunOf (planFor p) h l
@@ -113,7 +113,7 @@ run-of ok (Handed.by-reset {h} {l} g r a s e) =
 run-of ok (Handed.by-burst {h} {l} g xs ys r b) =
     let made = run-of ok g in
     several-more made (countsAs (several xs)) _ r
-    (sym (burst-played (record { state = linkOf l; history = h }) (known-of made ok) xs)
+    (sym (burst-played (record { state = linkRead l; history = h }) (known-of made ok) xs)
     ∙ λ k. record { state = sym (b .link-is) k; history = eventsIn (sym (b .records-are) k) ++ h })
 
 -- ---- what holds of every run of the paper's card holds of the code
@@ -151,7 +151,7 @@ pub code-fair : (bytes : List ℕ) (o : Outcome) → o ≡ readOf bytes → (o .
     → {h : History} {l : Link} → Handed (o .plan) h l → FairOn (model.planOf bytes) h
 code-fair = code-has FairOn fair-accepted
 
--- and N9: the words that a flow is granted by these calls are numbered 0, 1, 2 and so on modulo 1,024, in the order of their grants
+-- and N9: what a flow is granted by these calls counts up from 0 modulo 1,024, grant after grant
 pub code-numbers : (bytes : List ℕ) (o : Outcome) → o ≡ readOf bytes → (o .verdict ≡ Accepted → Valid (o .plan)) → o .verdict ≡ Accepted
     → {h : History} {l : Link} → Handed (o .plan) h l → (i : ℕ) → i < model.flowCount (model.planOf bytes) → InOrder (model.planOf bytes) i h
 code-numbers = code-has (λ P h. (i : ℕ) → i < model.flowCount P → InOrder P i h) numbers-accepted

@@ -21,13 +21,14 @@ use Rattle.window.proofs.Ranges.{in-range, before-range, past-range, length-rep
 use Rattle.window.proofs.Windows.{proper}
 use Rattle.unbooked.specs.Words.{Recycled}
 use Rattle.tables.specs.Owners.{nobody, ownerOf, emptied}
-use Rattle.tables.specs.Rows.{row}
+use Rattle.tables.specs.Rows.{row, Sixteen}
 use Rattle.tables.specs.Holdings.{lastOf, carriedRow, carried}
 use Rattle.tables.proofs.Rows.{length-row}
 use Rattle.tables.proofs.UnbookedSlots.{words-emptied}
-use Rattle.tables.proofs.HoldingChanges.{carried-long, row-carried, row-not-carried}
+use Rattle.tables.proofs.HoldingChanges.{row-carried, row-not-carried}
+use Rattle.tables.proofs.CarriedRows.{length-carried}
 use Rattle.link.specs.declared.Flow.{Flow}
-use Rattle.link.specs.declared.Link.{Link}
+use Rattle.link.specs.Parts.{Parts}
 use Rattle.link.specs.Layout.{FlowRow, sizeOf, entryAt, flowRow, flowAt, ownerAt, noFlow}
 use Rattle.link.specs.Updates.{movedTo, leftHead, leftHeads, linkWith}
 use Rattle.link.specs.Reading.{flowOf, linkOf}
@@ -38,17 +39,17 @@ use Rattle.link.proofs.Updated.{sound-with}
 -- ---- the link after a frame change
 
 -- the window of a call on it
-abbrev pub windowAt : Link → Window
+abbrev pub windowAt : Parts → Window
 windowAt l = record { slots = l .plan .slots; frames = l .plan .frames; current = l .cp; head = l .cp / l .plan .slots }
 
 -- the position that comes next, and the frame that comes after the head
-abbrev pub nextAt : Link → ℕ
+abbrev pub nextAt : Parts → ℕ
 nextAt l = (l .cp + 1) % sizeOf l
 
-abbrev pub onAt : Link → ℕ
+abbrev pub onAt : Parts → ℕ
 onAt l = (windowAt l .head + 1) % l .plan .frames
 
-abbrev pub recycled : Link → (unbooked : List ℕ) → Link
+abbrev pub recycled : Parts → (unbooked : List ℕ) → Parts
 recycled l u =
     linkWith l (nextAt l)
     (emptied (windowAt l) (l .owner))
@@ -58,13 +59,16 @@ recycled l u =
     false
 
 -- a flow after it: it left the head frame with its share, and what it holds at the last position goes on
-abbrev flowAfter : Link → ℕ → FlowRow
+abbrev flowAfter : Parts → ℕ → FlowRow
 flowAfter l i =
     flowRow (leftHead (windowAt l .head) (onAt l) (entryAt l i .share) (flowAt l i .flow)) (carriedRow (windowAt l) (row (l .held) i))
 
-module _ (l : Link) (s : Sound l) where
+module _ (l : Parts) (s : Sound l) where
   window-proper : Proper (windowAt l)
   window-proper = proper _ _ _ (measures l s)
+
+  sixteen : Sixteen (l .held)
+  sixteen = omega (arith, s .held-long)
 
   some-position : 0 < sizeOf l
   some-position = omega (arith, s .current)
@@ -108,7 +112,7 @@ module _ (l : Link) (s : Sound l) where
       let b = flows-most l s in
       let e : flowAt (recycled l u) i .flow ≡ flowAfter l i .flow =
       replaced-at _ _ (l .flows) i noFlow (omega (arith, s .flows-long)) ∙ rw (in-range 0 (l .plan .count) i (omega arith) h) in
-      (λ k. flowRow (e k) (row-carried (windowAt l) window-proper (l .plan .count) (l .held) (s .held-long) i h (omega arith) k))
+      (λ k. flowRow (e k) (row-carried (windowAt l) window-proper (l .plan .count) (l .held) sixteen i h (omega arith) k))
 
   spare-stays : (u : List ℕ) (i : ℕ) → l .plan .count ≤ i → flowAt (recycled l u) i ≡ flowAt l i
   spare-stays u i h =
@@ -192,7 +196,7 @@ module _ (l : Link) (s : Sound l) where
       })
       (record {
         long = length-replaced _ _ (l .flows) ∙ s .flows-long;
-        rows = carried-long (windowAt l) window-proper (l .plan .count) (l .held) (s .held-long);
+        rows = length-carried (l .plan .count) (lastOf (windowAt l)) _ _ (l .held) ∙ s .held-long;
         each = λ i h. rw (flow-after u i h) (sound-after i h);
         spare = λ i h b. spare-stays u i h ∙ s .spare-flows i h b;
       })

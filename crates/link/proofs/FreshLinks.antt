@@ -12,7 +12,7 @@ use Rattle.model.specs.Link as model
 use Rattle.model.specs.Fresh.{fresh}
 use Rattle.plan.specs.declared.Plan.{Plan}
 use Rattle.plan.specs.Reading as plan
-use Rattle.link.specs.declared.Link.{Link}
+use Rattle.link.specs.Parts.{Parts}
 use Rattle.unbooked.specs.Words.{Words}
 use Rattle.tables.specs.Holdings.{nothingHeld}
 use Rattle.link.specs.Layout.{flowRow, flowAt, noFlow}
@@ -28,7 +28,7 @@ use Rattle.link.proofs.StartedFlows.{no-flow-at, length-no-flows}
 
 -- ---- the link
 
-abbrev pub freshLink : Plan → (unbooked : List ℕ) → Link
+abbrev pub freshLink : Plan → (unbooked : List ℕ) → Parts
 freshLink p u = record {
   plan = p;
   cp = 0;

@@ -1,36 +1,44 @@
 -- A sound link with its plan and its window at hand, which a call and the loop over records work with, and what they give of it. Assumes nothing.
 use Prim.Native.Nat.{ℕ, _≤_, _<_}
-use mathlib.Core.Path.{_≡_, refl, sym, ap, _∙_, subst}
+use mathlib.Core.Path.{_≡_, refl, sym, ap, _∙_}
 use mathlib.Core.List.{List}
 use mathlib.Core.Bool.{Bool, true, false, cond}
 use native.Mathlib.Omega.{arith}
 use lib.Dec.{ltb}
 use lib.ListN.{getD}
-use borrow.Author.Tests.{lt-ltb, ltb-true}
+use borrow.Author.Tests.{ltb-true}
 use Rattle.plan.specs.declared.Entry.{Entry}
 use Rattle.plan.specs.declared.Plan.{Plan}
 use Rattle.plan.specs.Reading.{Valid, noEntry}
-use Rattle.model.specs.Word.{flowOf}
+use Rattle.model.specs.Word.{split}
 use Rattle.model.specs.Window as seen
+use Rattle.model.specs.Window.{newest}
 use Rattle.model.specs.Link as model
-use Rattle.model.specs.Request.{sought, someInNewest, wouldBeValid}
+use Rattle.model.specs.Request.{nowhere, sought, someInNewest, wouldBeValid}
+use Rattle.word.specs.declared.Fields.{Fields}
+use Rattle.word.specs.Reading.{fieldsOf}
 use Rattle.window.specs.declared.Window.{Window}
-use Rattle.window.specs.Window.{windowOf, sizeOf, Proper, Ticked}
-use Rattle.tables.specs.Asked.{SearchFrom}
-use Rattle.tables.specs.Owners.{WordsOf}
+use Rattle.window.specs.Window.{windowOf, sizeOf, Proper, Ticked, ranksFrom, FromRank}
+use Rattle.state.specs.State.{heldOf, ownersOf}
+use Rattle.tables.specs.Asked.{MasksIn, SearchFrom}
+use Rattle.tables.specs.Bounds.{Bounds}
 use Rattle.tables.specs.Rows.{row}
 use Rattle.tables.specs.Search.{lateAt, lateAfter, validAt, searchFrom}
+use Rattle.tables.proofs.HeldRows.{row-held}
+use Rattle.tables.proofs.ValidPositions.{search-by-rank, newest-by-rank}
 use Rattle.link.specs.declared.Flow.{Flow}
-use Rattle.link.specs.declared.Link.{Link}
-use Rattle.link.specs.Layout.{noFlow}
+use Rattle.link.specs.Parts.{Parts, partsIn}
+use Rattle.link.specs.Layout.{sizeFor, flowAt}
 use Rattle.link.specs.Reading.{linkOf}
-use Rattle.link.specs.Sound.{Sound}
-use Rattle.link.specs.Given.{WindowOn, CreditOn, placed, RequestOn, WordOn}
-use Rattle.link.proofs.Plans.{count-some, count-most}
+use Rattle.link.specs.Sound.{Sound, SoundState}
+use Rattle.link.specs.Given.{StateIn, placed, RequestIn, SeekIn}
+use Rattle.link.proofs.Plans.{plan-count, count-some, count-most}
 use Rattle.link.proofs.Readings.{read-flow, read-size, read-slots, read-frames, some-flow, flows-most}
-use Rattle.link.proofs.Searches.{sought-same, would-same}
+use Rattle.link.proofs.FlowBytes.{flows-at}
+use Rattle.link.proofs.Lefts.{sought-spent}
+use Rattle.link.proofs.Searches.{sought-same, would-same, spent-at-newest}
 
-pub record AtHand (l : Link) (plan : Plan) (w : Window) : Type 0 where
+pub record AtHand (l : Parts) (plan : Plan) (w : Window) : Type 0 where
   pub sound : Sound l
   pub plan-is : plan ≡ l .plan
   pub window-is : windowOf w ≡ model.window (linkOf l)
@@ -42,21 +50,11 @@ windowFor p current = record { slots = p .slots; frames = p .frames; current = c
 
 -- ---- a link comes to hand, and stays there
 
-pub at-hand : {l : Link} {w : Window} → Sound l → windowOf w ≡ windowFor (l .plan) (l .cp) → Proper w → AtHand l (l .plan) w
+pub at-hand : {l : Parts} {w : Window} → Sound l → windowOf w ≡ windowFor (l .plan) (l .cp) → Proper w → AtHand l (l .plan) w
 unfolding linkOf
 at-hand s is v = record { sound = s; plan-is = refl; window-is = is; proper = v }
 
-module _ {l : Link} {plan : Plan} {w : Window} (a : AtHand l plan w) {l′ : Link} (s : Sound l′) (same : l′ .plan ≡ l .plan) where
-  -- after a request or a credit
-  pub at-hand-still : l′ .cp ≡ l .cp → AtHand l′ plan w
-  unfolding linkOf
-  at-hand-still e = record {
-    sound = s;
-    plan-is = a .plan-is ∙ sym same;
-    window-is = a .window-is ∙ (λ k. windowFor (sym same k) (sym e k));
-    proper = a .proper;
-  }
-
+module _ {l : Parts} {plan : Plan} {w : Window} (a : AtHand l plan w) {l′ : Parts} (s : Sound l′) (same : l′ .plan ≡ l .plan) where
   -- after a tick
   pub at-hand-ticked : {on : Window} → Ticked w on → l′ .cp ≡ on .current → AtHand l′ plan on
   unfolding linkOf
@@ -70,7 +68,24 @@ module _ {l : Link} {plan : Plan} {w : Window} (a : AtHand l plan w) {l′ : Lin
         proper = t .proper;
       }
 
--- ---- what is given of it to the functions below a call
+-- ---- a state
+
+-- the window of a state comes to hand
+pub state-in : {p : Plan} {s : List ℕ} {w : Window} → SoundState p s → windowOf w ≡ windowFor p (getD s 4496 0) → Proper w → StateIn p w s
+state-in s is v = record { sound = s; proper = v; window-is = at-hand (s .parts) is v .window-is }
+
+module _ {p : Plan} {w : Window} {s : List ℕ} (o : StateIn p w s) where
+  pub in-hand : AtHand (partsIn p s) p w
+  in-hand = record { sound = o .sound .parts; plan-is = refl; window-is = o .window-is; proper = o .proper }
+
+  -- the bounds, of the window's positions and of the plan's
+  pub bounds-in : Bounds (sizeOf w) s
+  bounds-in = rw (read-size (partsIn p s) (o .window-is)) (o .sound .bounds)
+
+  pub bounds-out : {t : List ℕ} → Bounds (sizeOf w) t → Bounds (sizeFor p) t
+  bounds-out b = rw (← read-size (partsIn p s) (o .window-is)) b
+
+-- ---- what a request is given
 
 -- the place of a flow is one of the plan's flows
 pub placed-below : (n x : ℕ) → 1 ≤ n → placed n x < n
@@ -83,93 +98,83 @@ placed-below n x h = go (ltb x n) refl
 pub placed-few : {plan : Plan} → Valid plan → {i : ℕ} (x : ℕ) → i ≡ placed (plan .count) x → i < 16
 placed-few {plan} v x e = omega (arith, e, placed-below (plan .count) x (count-some plan v), count-most plan v)
 
-module _ {l : Link} {plan : Plan} {w : Window} (a : AtHand l plan w) where
-  pub plan-valid : Valid plan
-  plan-valid = subst Valid (sym (a .plan-is)) (a .sound .plan)
+pub request-in : {p : Plan} {w : Window} {s : List ℕ} → StateIn p w s → {f : Fields} (x : ℕ) → fieldsOf f ≡ split x → {i : ℕ} → i ≡ placed (p .count) (f .flow)
+    → RequestIn p (p .count) (getD (p .entries) i noEntry) w f x s
+request-in {p} o x fields place = record { state = o; count-is = refl; fields-are = fields; entry-is = ap (λ (k : ℕ). getD (p .entries) k noEntry) place }
 
-  pub flows-few : plan .count ≤ 16
-  flows-few = count-most plan plan-valid
+module _ {p : Plan} {n : ℕ} {e : Entry} {w : Window} {f : Fields} {x : ℕ} {s : List ℕ} (o : RequestIn p n e w f x s) (h : f .flow < n) where
+  pub flow-below : f .flow < p .count
+  flow-below = rw (← o .count-is) h
 
-  window-on : WindowOn l (plan .count) w
-  window-on = record {
-    sound = a .sound;
-    count-is = ap (λ (p : Plan). p .count) (a .plan-is);
-    proper = a .proper;
-    window-is = a .window-is;
-  }
+  pub flow-few : f .flow < 16
+  flow-few = omega (arith, flow-below, flows-most (partsIn p s) (o .state .sound .parts))
 
-  pub credit-on : CreditOn l (plan .count) w (l .held)
-  credit-on = record { window = window-on; held-is = refl }
+-- ---- what a search is given
 
-  pub request-on : {i : ℕ} (x : ℕ) → i ≡ placed (plan .count) (flowOf x)
-      → RequestOn l (plan .count) (getD (plan .entries) i noEntry) w (l .unbooked) (l .held) i (getD (l .flows) i noFlow) x
-  request-on {i} x e = record {
-    window = window-on;
-    held-is = refl;
-    unbooked-is = refl;
-    place-is = e;
-    entry-is = ap (λ (p : Plan). getD (p .entries) i noEntry) (a .plan-is);
-    flow-is = refl;
-  }
+module _ {p : Plan} {e : Entry} {w : Window} {i : ℕ} {f : Flow} {d : ℕ} {s : List ℕ} (o : SeekIn p e w i f d s) where
+  abbrev here : Parts
+  here = partsIn p s
 
--- ---- what a request on link l is given
+  sound-here : Sound here
+  sound-here = o .state .sound .parts
 
-module _ {l : Link} {n : ℕ} {e : Entry} {w : Window} {unbooked held : List ℕ} {i : ℕ} {f : Flow} {x : ℕ} (o : RequestOn l n e w unbooked held i f x) where
-  -- flow i is the word's, where the plan has it
-  own-place : flowOf x < n → i ≡ flowOf x
-  own-place below = o .place-is ∙ rw (lt-ltb (flowOf x) n below)
+  pub seeker-few : i < 16
+  seeker-few = omega (arith, o .flow, flows-most here sound-here)
 
-  -- the number that is expected of it
-  number-on : flowOf x < n → f .number ≡ model.flow (linkOf l) (flowOf x) .number
-  number-on below =
-      let there : flowOf x < l .plan .count = rw (← o .window .count-is) below in
-      ap (λ (g : Flow). g .number) (o .flow-is ∙ ap (λ (j : ℕ). getD (l .flows) j noFlow) (own-place below))
-      ∙ sym (ap (λ (g : model.Flow). g .number) (read-flow l (flowOf x) there))
+  -- the masks are those of the owners
+  pub masks-in : MasksIn w s
+  masks-in =
+      let is = o .state .window-is in
+      record { proper = o .state .proper; agree = rw (read-slots here is, read-frames here is) (sound-here .unbooked) }
 
-  pub word-on : WordOn (l .plan) (model.flow (linkOf l) (flowOf x) .number) n e (sizeOf w) (f .number) x
-  word-on = record {
-    count-is = o .window .count-is;
-    entry-is = o .entry-is ∙ ap (λ (k : ℕ). getD (l .plan .entries) k noEntry) (o .place-is);
-    size-is = read-size l (o .window .window-is);
-    number-is = number-on;
-  }
+  -- the flow and what it holds, as the link has them
+  stored-is : f ≡ flowAt here i .flow
+  stored-is = o .flow-is ∙ sym (flows-at s i seeker-few)
 
-  pub place-on : i ≡ placed (l .plan .count) (flowOf x)
-  place-on = o .place-is ∙ ap (λ (m : ℕ). placed m (flowOf x)) (o .window .count-is)
+  held-is : row s i ≡ row (heldOf s) i
+  held-is = sym (row-held s i seeker-few)
 
-  pub flow-on : i < l .plan .count
-  flow-on = rw place-on (placed-below (l .plan .count) (flowOf x) (some-flow l (o .window .sound)))
+  frame-below : f .frame < w .frames
+  frame-below = rw (read-frames here (o .state .window-is), stored-is) (sound-here .flows i (o .flow) .frame)
 
-  -- the words are those of the link's owners
-  pub words-on : WordsOf (w .slots) (w .frames) (l .owner) unbooked
-  words-on =
-      let is = o .window .window-is in
-      rw (read-slots l is, read-frames l is, o .unbooked-is) (o .window .sound .unbooked)
+  pub search-from : SearchFrom w d (f .frame) s
+  search-from = record { masks = masks-in; departure = o .departure; frame = frame-below }
 
-  pub number-below : f .number < 1024
-  number-below = rw (o .flow-is) (o .window .sound .flows i flow-on .number)
+  -- which positions are late enough
+  abbrev pub lateHere : ℕ → Bool
+  lateHere = lateAt (windowOf w) (row s i) (e .cells)
 
-  pub flow-few : i < 16
-  flow-few = omega (arith, flow-on, flows-most l (o .window .sound))
+  module _ {late : ℕ} (x : FromRank w lateHere late) where
+    -- what is sought of it
+    pub sought-on : searchFrom (windowOf w) (validAt (ownersOf s) (lateAfter (windowOf w) d (ranksFrom w late))) (e .share) (f .frame) (f .left) ≡ sought (linkOf here) i d
+    sought-on =
+        search-by-rank (o .state .proper) (ownersOf s) x d (e .share) (f .frame) (f .left) frame-below
+        ∙ (λ k. searchFrom (windowOf w) (validAt (ownersOf s) (lateAfter (windowOf w) d (lateAt (windowOf w) (held-is k) (o .entry-is k .cells))))
+        (o .entry-is k .share) (stored-is k .frame) (stored-is k .left))
+        ∙ sym (sought-same here sound-here (windowOf w) (o .state .window-is) i (o .flow) d)
 
-  pub search-from : {d : ℕ} → d < sizeOf w → SearchFrom w d (f .frame)
-  search-from below = record {
-    proper = o .window .proper;
-    departure = below;
-    frame = rw (read-frames l (o .window .window-is), o .flow-is) (o .window .sound .flows i flow-on .frame);
-  }
+    -- whether the newest frame has a position that only the departure rules out
+    pub would-on : someInNewest (windowOf w) (validAt (ownersOf s) (ranksFrom w late)) ≡ wouldBeValid (linkOf here) i
+    would-on =
+        newest-by-rank (o .state .proper) (ownersOf s) x
+        ∙ (λ k. someInNewest (windowOf w) (validAt (ownersOf s) (lateAt (windowOf w) (held-is k) (o .entry-is k .cells))))
+        ∙ would-same here sound-here (windowOf w) (o .state .window-is) i (o .flow)
 
-  -- what is sought of it
-  pub sought-on : (d : ℕ)
-      → searchFrom (windowOf w) (validAt (l .owner) (lateAfter (windowOf w) d (lateAt (windowOf w) (row held i) (e .cells)))) (e .share) (f .frame) (f .left)
-      ≡ sought (linkOf l) i d
-  sought-on d =
-      (λ k. searchFrom (windowOf w) (validAt (l .owner) (lateAfter (windowOf w) d (lateAt (windowOf w) (row (o .held-is k) i) (o .entry-is k .cells))))
-      (o .entry-is k .share) (o .flow-is k .frame) (o .flow-is k .left))
-      ∙ sym (sought-same l (o .window .sound) (windowOf w) (o .window .window-is) i flow-on d)
+  -- the share is spent up to the newest frame
+  pub spent-on : f .frame ≡ newest (windowOf w) → f .left ≡ 0 → nowhere 0 ≡ sought (linkOf here) i d
+  spent-on e z =
+      spent-at-newest here sound-here (windowOf w) (o .state .window-is) i (o .flow) d
+      (sym (ap (λ (x : Flow). x .frame) stored-is) ∙ e) (sym (ap (λ (x : Flow). x .left) stored-is) ∙ z)
 
-  -- whether the newest frame has a position that would be valid but for the departure
-  pub would-on : someInNewest (windowOf w) (validAt (l .owner) (lateAt (windowOf w) (row held i) (e .cells))) ≡ wouldBeValid (linkOf l) i
-  would-on =
-      (λ k. someInNewest (windowOf w) (validAt (l .owner) (lateAt (windowOf w) (row (o .held-is k) i) (o .entry-is k .cells))))
-      ∙ would-same l (o .window .sound) (windowOf w) (o .window .window-is) i flow-on
+  -- and only then nothing is left
+  pub unspent : (f .frame ≡ newest (windowOf w) → f .left ≡ 0 → ⊥) → nowhere 0 ≡ sought (linkOf here) i d → ⊥
+  unfolding linkOf
+  unspent not-spent is =
+      let hi = o .flow in
+      let read = read-flow here i hi in
+      let j = ap (λ (y : model.Flow). y .injection) read ∙ sym (ap (λ (y : Flow). y .frame) stored-is) in
+      let c = ap (λ (y : model.Flow). y .remainder) read ∙ sym (ap (λ (y : Flow). y .left) stored-is) in
+      let fits = sound-here .plan .accepted .entries-fit i (rw (plan-count p) hi) in
+      let below : model.flow (linkOf here) i .injection < linkOf here .plan .frames = rw j (rw (ap (λ (y : seen.Window). y .frames) (o .state .window-is)) at frame-below) in
+      let (last, spent) = sought-spent (linkOf here) i d (omega (arith, fits .some-share)) below is in
+      not-spent (sym j ∙ last ∙ ap newest (sym (o .state .window-is))) (sym c ∙ spent)

@@ -32,14 +32,14 @@ use Rattle.tables.specs.Rows.{row, withRow}
 use Rattle.tables.specs.Holdings.{roomAt, shiftedRow, shifted}
 use Rattle.tables.proofs.HoldingChanges.{one-more}
 use Rattle.link.specs.declared.Flow.{Flow}
-use Rattle.link.specs.declared.Link.{Link}
+use Rattle.link.specs.Parts.{Parts}
 use Rattle.link.specs.Layout.{sizeFor, entryAt, flowAt, ownerAt}
 use Rattle.link.specs.Updates.{withHeld, withHoldings, withTaken, withFirst, withFlow}
 use Rattle.link.specs.Reading.{linkOf}
 use Rattle.link.specs.Sound.{Sound}
 use Rattle.link.specs.Lend.{takesIn, flowFound, firstTaker}
 use Rattle.link.proofs.Plans.{plan-count, plan-entry}
-use Rattle.link.specs.Steps.{Stepped}
+use Rattle.link.specs.Steps.{SteppedParts}
 use Rattle.link.proofs.Given.{AtHand}
 use Rattle.link.proofs.Takers.{givenBy}
 use Rattle.link.proofs.Credits.{same-flow}
@@ -58,23 +58,23 @@ unbooked-is x = go (eqb x nobody)
     go false = refl
 
 -- a mark alone changes nothing else of what is read, and a link with any mark is sound
-sound-marked : (l : Link) → Sound l → (t : Bool) → Sound (withTaken l t)
+sound-marked : (l : Parts) → Sound l → (t : Bool) → Sound (withTaken l t)
 sound-marked l s t = sound-with l s (s .current) (sound-owners l s) (sound-flows l s)
 
-marked-link : (l : Link) (t : Bool) → linkOf (withTaken l t) ≡ model.withTaken (linkOf l) t
+marked-link : (l : Parts) (t : Bool) → linkOf (withTaken l t) ≡ model.withTaken (linkOf l) t
 unfolding linkOf
 marked-link l t = refl
 
 -- and so it is with another flow to lend from
-turned-link : (l : Link) (i : ℕ) → linkOf (withFirst l i) ≡ model.withLookFrom (linkOf l) i
+turned-link : (l : Parts) (i : ℕ) → linkOf (withFirst l i) ≡ model.withLookFrom (linkOf l) i
 unfolding linkOf
 turned-link l i = refl
 
-current-read : (l : Link) → linkOf l .current ≡ l .cp
+current-read : (l : Parts) → linkOf l .current ≡ l .cp
 unfolding linkOf
 current-read l = refl
 
-module _ {l : Link} {plan : Plan} {w : code.Window} (a : AtHand l plan w) (mask : ℕ) where
+module _ {l : Parts} {plan : Plan} {w : code.Window} (a : AtHand l plan w) (mask : ℕ) where
   count-is : plan .count ≡ l .plan .count
   count-is = ap (λ (p : Plan). p .count) (a .plan-is)
 
@@ -124,7 +124,7 @@ module _ {l : Link} {plan : Plan} {w : code.Window} (a : AtHand l plan w) (mask 
           one-more w (a .proper) (l .cp) current-below (row (l .held) i) (entryAt l i .cells) cells-most
           ((λ k. everyFrom (windowOf w) (sym current-is k) (roomAt (row (l .held) i) (cells-are k))) ∙ and-true (inMask mask i) _ can .1)
 
-      abbrev lentLink : Link
+      abbrev lentLink : Parts
       lentLink = withTaken (withFlow l i (withHeld (flowAt l i) raised)) true
 
       lent-link : linkOf lentLink ≡ takenBy (linkOf l) i
@@ -156,11 +156,11 @@ module _ {l : Link} {plan : Plan} {w : code.Window} (a : AtHand l plan w) (mask 
       ∙ firstFrom-same (plan .count) (l .first) _ _ (λ k low high. takes-same (k % plan .count) (omega (arith, count-is, mod-lt k some-here)))
 
   module _ {n : ℕ} (tests : n ≡ firstOf (slotTests (plan .count) (ownerAt l (l .cp)) (l .taken) mask)) where
-    pub lend-refused : (n ≡ 0 → ⊥) → Stepped answerToLend (lend (linkOf l) mask) (record { link = l; answer = Refused n })
+    pub lend-refused : (n ≡ 0 → ⊥) → SteppedParts answerToLend (lend (linkOf l) mask) l (Refused n)
     unfolding lend lendAfter
     lend-refused nonzero = rw (← (tests ∙ tests-are)) (go n nonzero)
       where
-        go : (k : ℕ) → (k ≡ 0 → ⊥) → Stepped answerToLend (lendAfter k (linkOf l) mask) (record { link = l; answer = Refused k })
+        go : (k : ℕ) → (k ≡ 0 → ⊥) → SteppedParts answerToLend (lendAfter k (linkOf l) mask) l (Refused k)
         go zero some = absurd (some refl)
         go (suc r) some = record { link-is = refl; answer-is = refl; sound = a .sound }
 
@@ -172,11 +172,11 @@ module _ {l : Link} {plan : Plan} {w : code.Window} (a : AtHand l plan w) (mask 
       unfolding firstTaker
       first-is = first
 
-      pub lend-to-nobody : i ≡ plan .count → Stepped answerToLend (lend (linkOf l) mask) (record { link = l; answer = Refused 18 })
+      pub lend-to-nobody : i ≡ plan .count → SteppedParts answerToLend (lend (linkOf l) mask) l (Refused 18)
       unfolding lentAfter
       lend-to-nobody end = rw comes-to (go inTurn first-is)
         where
-          go : (o : option.Option ℕ) → i ≡ flowFound (plan .count) o → Stepped answerToLend (lentAfter (linkOf l) o) (record { link = l; answer = Refused 18 })
+          go : (o : option.Option ℕ) → i ≡ flowFound (plan .count) o → SteppedParts answerToLend (lentAfter (linkOf l) o) l (Refused 18)
           go option.none e = record { link-is = refl; answer-is = refl; sound = a .sound }
           go (option.some k) e = absurd (omega (arith, mod-lt k some-here))
 
@@ -221,7 +221,7 @@ module _ {l : Link} {plan : Plan} {w : code.Window} (a : AtHand l plan w) (mask 
               turned-link (lentLink i taker-below can-take) on ∙ (λ k. model.withLookFrom (lent-link i taker-below can-take k) (next-read k))
 
           pub lend-to-taker : {h : List ℕ} → h ≡ shifted (windowOf w) 1 i (l .cp) (l .held)
-              → Stepped answerToLend (lend (linkOf l) mask) (record { link = withFirst (withTaken (withHoldings l h) true) on; answer = Lent i })
+              → SteppedParts answerToLend (lend (linkOf l) mask) (withFirst (withTaken (withHoldings l h) true) on) (Lent i)
           lend-to-taker e = rw (lent-is, e, same-flow l i (raised i taker-below can-take)) (record {
             link-is = turned;
             answer-is = refl;

@@ -3,21 +3,34 @@ mod Plans
 pub mod Readings
 mod Updated
 pub mod Stored
+pub mod FlowBytes
+mod StateParts
+pub mod FlowLoops
+pub mod OneState
 -- the calls
-mod StartedFlows
-mod FreshLinks
-mod Masks
-mod Takers
 mod Words
 mod Searches
+mod Lefts
 pub mod Given
 mod Replies
 pub mod Requests
-pub mod GrantedPositions
+mod StateRequests
 pub mod Credits
+pub mod Stays
+mod StartedFlows
+mod FreshLinks
+mod StateFresh
+mod Masks
+mod Takers
 pub mod Lends
 mod Resets
-pub mod LeavingHeads
+mod StateLends
+mod LeavingHeads
 mod FrameChanges
 pub mod Ticks
+mod StateTicks
+pub mod Told
 pub mod Demand3
+-- a state taken up again
+mod OwnerMasks
+pub mod Resumed

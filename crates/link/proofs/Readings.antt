@@ -9,7 +9,7 @@ use Rattle.plan.specs.Reading.{entryFor}
 use Rattle.window.specs.Window.{Measures}
 use Rattle.window.proofs.Tabulated.{getD-table}
 use Rattle.tables.specs.Owners.{ownerOf}
-use Rattle.link.specs.declared.Link.{Link}
+use Rattle.link.specs.Parts.{Parts}
 use Rattle.link.specs.Layout.{sizeOf, entryAt, flowAt, ownerAt}
 use Rattle.link.specs.Reading.{flowOf, linkOf}
 use Rattle.link.specs.Sound.{Sound}
@@ -17,7 +17,7 @@ use Rattle.link.proofs.Plans.{plan-count, plan-entry, count-some, count
 
 -- ---- what is read of a link
 
-module _ (l : Link) where
+module _ (l : Parts) where
   pub read-count : paper.flowCount (linkOf l .plan) ≡ l .plan .count
   unfolding linkOf
   read-count = plan-count (l .plan)
@@ -37,11 +37,6 @@ module _ (l : Link) where
   unfolding linkOf
   read-owner p b = getD-table (sizeOf l) _ p _ b
 
-  -- the window that a call works with
-  pub read-window : {v : Window} → v ≡ record { slots = l .plan .slots; frames = l .plan .frames; current = l .cp } → v ≡ model.window (linkOf l)
-  unfolding linkOf
-  read-window e = e
-
   module _ {v : Window} (is : v ≡ model.window (linkOf l)) where
     pub read-size : size v ≡ sizeOf l
     unfolding linkOf
@@ -57,7 +52,7 @@ module _ (l : Link) where
 
 -- ---- a sound link
 
-module _ (l : Link) (s : Sound l) where
+module _ (l : Parts) (s : Sound l) where
   pub some-flow : 1 ≤ l .plan .count
   some-flow = count-some (l .plan) (s .plan)
 

@@ -1,19 +1,18 @@
--- A request on a link, as it is read: the reply is stored. Assumes nothing.
-use Prim.Native.Nat.{ℕ, zero, suc, _≤_, _<_}
-use mathlib.Core.Path.{_≡_, refl, sym, ap, _∙_, subst}
+-- A request on a link, as it is read: what the search found is stored. Assumes nothing.
+use Prim.Native.Nat.{ℕ, suc, _+_, _%_, _≤_, _<_}
+use mathlib.Core.Path.{_≡_, refl, sym, ap, _∙_}
 use mathlib.Core.List.{List}
-use mathlib.Core.Bool.{true, false, true≢false}
 use native.Mathlib.Nat.{mod-lt}
 use native.Mathlib.Omega.{arith}
 use lib.ListN.{set}
-use lib.Seq.{set-getD}
 use Rattle.model.specs.Word.{flowOf, departureOf}
 use Rattle.model.specs.Window.{newest}
 use Rattle.model.specs.Plan as paper
 use Rattle.model.specs.Link as model
-use Rattle.model.specs.Request.{Found, found, nowhere, sought, nextNumber, bookedFlow, booked, refusedAtNewest, request}
+use Rattle.model.specs.Refusals.{firstOf}
+use Rattle.model.specs.Request.{found, nowhere, sought, nextNumber, bookedFlow, booked, newestTests, wouldBeValid, refusedAtNewest, request}
+use Rattle.model.proofs.Word.{departure-depart}
 use Rattle.plan.specs.declared.Plan.{Plan}
-use Rattle.calls.specs.Reading.{answerToRequest}
 use Rattle.window.specs.declared.Window.{Window}
 use Rattle.window.specs.Ranges.{replaced}
 use Rattle.window.specs.Window as window
@@ -25,42 +24,37 @@ use Rattle.tables.proofs.Rows.{length-row, with-own-row}
 use Rattle.tables.proofs.HoldingChanges.{one-more}
 use Rattle.tables.proofs.ValidPositions.{valid-room}
 use Rattle.tables.proofs.FoundPosition.{Booking}
-use Rattle.link.specs.declared.reply.Reply.{Reply}
 use Rattle.link.specs.declared.Flow.{Flow}
-use Rattle.link.specs.declared.Link.{Link}
-use Rattle.link.specs.Layout.{sizeOf, entryAt, flowRow, flowAt, noFlow}
+use Rattle.link.specs.Parts.{Parts, FitsBytes}
+use Rattle.link.specs.Layout.{sizeOf, entryAt, flowRow, flowAt}
 use Rattle.link.specs.Updates.{movedTo, grantedIn, withOwners, withFlows, withHoldings, withFlow}
 use Rattle.link.specs.Reading.{linkOf}
 use Rattle.link.specs.Sound.{Sound}
-use Rattle.link.specs.Given.{placed, testsOf}
-use Rattle.link.specs.Reply.{replyOf}
+use Rattle.link.specs.Given.{testsOf}
 use Rattle.link.proofs.Plans.{plan-count, plan-entry}
-use Rattle.link.specs.Steps.{Stepped}
+use Rattle.link.specs.Steps.{SteppedParts, replyOf}
 use Rattle.link.proofs.Readings.{read-flow, read-size, read-slots, read-frames}
 use Rattle.link.proofs.Updated.{read-with-flow, sound-with-flow, read-with-owner, sound-with-owner, read-from, sound-from}
 use Rattle.link.proofs.Given.{AtHand}
-use Rattle.link.proofs.Words.{word-refused}
+use Rattle.link.proofs.Words.{word-refused, flow-below}
 use Rattle.link.proofs.Searches.{validAfter, found-at}
-use Rattle.link.proofs.Replies.{flow-there, reply-refused, request-found, reply-found, request-nowhere, reply-nowhere}
+use Rattle.link.proofs.Lefts.{leftOf, sought-left}
+use Rattle.link.proofs.Replies.{request-found, request-nowhere}
 
--- ---- the link in which a reply is stored
+-- ---- the link in which what is found is stored
 
--- the link with this window where flow i was granted a position: the flow is stored, and the position is booked
-abbrev bookedBy : Link → Window → ℕ → Reply → (unbooked : List ℕ) → Link
-bookedBy l w i r u =
+-- flow i books position p of frame j, with c left of its share
+abbrev pub bookedBy : Parts → Window → (i j c p : ℕ) → (unbooked : List ℕ) → Parts
+bookedBy l w i j c p u =
     withHoldings
-    (withFlows (withOwners l (set (l .owner) (r .position) i) u) (set (l .flows) i (r .flow)))
-    (shifted (windowOf w) 1 i (r .position) (l .held))
-
--- where it was granted none
-abbrev movedBy : Link → ℕ → Reply → Link
-movedBy l i r = withFlows l (set (l .flows) i (r .flow))
+    (withFlows (withOwners l (set (l .owner) p i) u) (set (l .flows) i (grantedIn (flowAt l i .flow) j c)))
+    (shifted (windowOf w) 1 i p (l .held))
 
 -- the flow alone is stored
-flow-alone : (l : Link) (i : ℕ) (f : Flow) → withFlow l i (flowRow f (row (l .held) i)) ≡ withFlows l (set (l .flows) i f)
+flow-alone : (l : Parts) (i : ℕ) (f : Flow) → withFlow l i (flowRow f (row (l .held) i)) ≡ withFlows l (set (l .flows) i f)
 flow-alone l i f = ap (λ (h : List ℕ). withHoldings (withFlows l (set (l .flows) i f)) h) (with-own-row (l .held) i)
 
-module _ {l : Link} {plan : Plan} {w : Window} (a : AtHand l plan w) (i : ℕ) (hi : i < l .plan .count) where
+module _ {l : Parts} {plan : Plan} {w : Window} (a : AtHand l plan w) (i : ℕ) (hi : i < l .plan .count) where
   -- a position that the search found: flow i books it
   module _ (d j c p : ℕ) (e : found j c p ≡ sought (linkOf l) i d) where
     booking : Booking (windowOf w) (validAfter l (a .sound) (windowOf w) (a .window-is) i hi d) j p
@@ -75,7 +69,7 @@ module _ {l : Link} {plan : Plan} {w : Window} (a : AtHand l plan w) (i : ℕ) (
     position-there : p < sizeOf l
     position-there = rw (read-size l (a .window-is)) at position-below
 
-    abbrev owned : List ℕ → Link
+    abbrev owned : List ℕ → Parts
     owned u = withOwners l (set (l .owner) p i) u
 
     sound-owned : {u : List ℕ} → Booked (w .slots) j p (l .unbooked) u → Sound (owned u)
@@ -99,7 +93,7 @@ module _ {l : Link} {plan : Plan} {w : Window} (a : AtHand l plan w) (i : ℕ) (
         (valid-room (windowOf w) d (l .owner) (row (l .held) i) _ _ (booking .passes))
 
     module _ {u : List ℕ} (x : Booked (w .slots) j p (l .unbooked) u) where
-      abbrev bookedLink : Link
+      abbrev bookedLink : Parts
       bookedLink = withFlow (owned u) i (flowRow (grantedIn (flowAt l i .flow) j c) raised)
 
       booked-link : linkOf bookedLink ≡ booked (linkOf l) i j c p
@@ -118,7 +112,7 @@ module _ {l : Link} {plan : Plan} {w : Window} (a : AtHand l plan w) (i : ℕ) (
 
   -- no position: flow i is in the newest frame
   module _ (c : ℕ) where
-    abbrev stopped : Flow
+    abbrev pub stopped : Flow
     stopped = movedTo (flowAt l i .flow) (newest (model.window (linkOf l))) c
 
     stopped-link : linkOf (withFlow l i (flowRow stopped (row (l .held) i))) ≡ refusedAtNewest (linkOf l) i c
@@ -127,84 +121,79 @@ module _ {l : Link} {plan : Plan} {w : Window} (a : AtHand l plan w) (i : ℕ) (
         read-with-flow l (a .sound) i hi _ (length-row (l .held) i)
         ∙ (λ k. model.withFlow (linkOf l) i (model.movedTo (sym (read-flow l i hi) k) (newest (model.window (linkOf l))) c))
 
+    newest-there : stopped .frame < l .plan .frames
+    unfolding linkOf
+    newest-there = mod-lt _ (omega (arith, a .sound .plan .accepted .two-frames))
+
     sound-stopped : Sound (withFlow l i (flowRow stopped (row (l .held) i)))
     unfolding linkOf
     sound-stopped =
         sound-with-flow l (a .sound) i hi _ (length-row (l .held) i)
         (record {
-          frame = mod-lt _ (omega (arith, a .sound .plan .accepted .two-frames));
+          frame = newest-there;
           spare = a .sound .flows i hi .spare;
           number = a .sound .flows i hi .number;
         })
 
--- ---- what a reply comes to
+-- ---- what a request comes to
 
-module _ {l : Link} {plan : Plan} {w : Window} (a : AtHand l plan w) (x : ℕ) {i : ℕ} (asker : i ≡ placed (plan .count) (flowOf x)) where
-  abbrev SteppedTo : Link → Reply → Type 0
-  SteppedTo next r = Stepped answerToRequest (request (linkOf l) x) (record { link = next; answer = r .answer })
+module _ {l : Parts} {plan : Plan} {w : Window} (a : AtHand l plan w) (x : ℕ) {n : ℕ} (tests : n ≡ testsOf l x) where
+  -- refused by the tests before the search
+  pub request-refused : (n ≡ 0 → ⊥) → SteppedParts replyOf (request (linkOf l) x) l (record { number = n; position = 0 })
+  request-refused nonzero = rw (word-refused l x tests nonzero) (record { link-is = refl; answer-is = refl; sound = a .sound })
 
-  record Replied (r : Reply) : Type 0 where
-    pub in-frame : r .granted ≡ true → InFrame w (r .flow .frame) (r .position)
-    pub granted : r .granted ≡ true → {u : List ℕ} → Booked (w .slots) (r .flow .frame) (r .position) (l .unbooked) u
-        → SteppedTo (bookedBy l w i r u) r
-    pub refused : r .granted ≡ false → SteppedTo (movedBy l i r) r
+  module _ (z : n ≡ 0) {i : ℕ} (same : flowOf x ≡ i) where
+    pub there : i < l .plan .count
+    there = rw same at (flow-below l x tests z)
 
-  -- a reply that grants nothing
-  replied-none : {r : Reply} → r .granted ≡ false → SteppedTo (movedBy l i r) r → Replied r
-  replied-none none stepped = record {
-    in-frame = λ z. absurd (true≢false (sym z ∙ none));
-    granted = λ z. absurd (true≢false (sym z ∙ none));
-    refused = λ _. stepped;
-  }
+    frames-few : l .plan .frames ≤ 8
+    frames-few = a .sound .plan .accepted .frames-most
 
-  place : i ≡ placed (l .plan .count) (flowOf x)
-  place = asker ∙ ap (λ (p : Plan). placed (p .count) (flowOf x)) (a .plan-is)
+    -- what is left of the share fits a byte
+    left-few : (d : ℕ) → flowAt l i .flow .left < 256 → leftOf (sought (linkOf l) i d) ≤ 255
+    unfolding linkOf
+    left-few d h =
+        let fits = a .sound .plan .accepted .entries-fit i (rw (plan-count (l .plan)) there) in
+        let slots = a .sound .plan .accepted .slots-most in
+        let left = ap (λ (f : model.Flow). f .remainder) (read-flow l i there) in
+        sought-left (linkOf l) i d 255 (omega (arith, fits .share-most)) (omega arith)
 
-  there : i < l .plan .count
-  there = flow-there l (a .sound) x i place
+    -- the search found a position
+    module _ (j c p : ℕ) (e : found j c p ≡ sought (linkOf l) i (departureOf x)) where
+      pub granted-in-frame : InFrame w j p
+      granted-in-frame = found-in-frame a i there (departureOf x) j c p e
 
-  replied : Replied (replyOf i (request (linkOf l) x))
-  replied = go (testsOf l x) refl
-    where
-      searched : 0 ≡ testsOf l x → (r : Found) → r ≡ sought (linkOf l) i (departureOf x) → Replied (replyOf i (request (linkOf l) x))
-      searched tests (found j c p) e =
-          let small : p < 1024 = omega (arith, position-below a i there (departureOf x) j c p e, a .proper .measures .positions-most) in
-          subst Replied (reply-found l (a .sound) x i place tests refl j c p e small) (record {
-            in-frame = λ _. found-in-frame a i there (departureOf x) j c p e;
-            granted = λ _ b.
-                rw (request-found l (a .sound) x i place tests refl j c p e)
-                (record { link-is = booked-link a i there (departureOf x) j c p e b; answer-is = refl; sound = sound-booked a i there (departureOf x) j c p e b });
-            refused = λ z. absurd (true≢false z);
+      pub position-few : p < 256
+      position-few = omega (arith, position-below a i there (departureOf x) j c p e, a .proper .measures .positions-most)
+
+      pub granted-fits : flowAt l i .flow .left < 256 → FitsBytes (grantedIn (flowAt l i .flow) j c)
+      granted-fits h = record {
+        frame = omega (arith, granted-in-frame .frame, a .proper .measures .frames-most);
+        left = let most = left-few (departureOf x) h in omega (arith, rw (← e) at most);
+        number = let small : (flowAt l i .flow .number + 1) % 1024 < 1024 = mod-lt _ (omega arith) in omega (arith, small);
+      }
+
+      pub request-granted : {u : List ℕ} → Booked (w .slots) j p (l .unbooked) u
+          → SteppedParts replyOf (request (linkOf l) x) (bookedBy l w i j c p u) (record { number = 0; position = p })
+      request-granted b =
+          rw (request-found l x tests z same j c p e)
+          (record {
+            link-is = booked-link a i there (departureOf x) j c p e b;
+            answer-is = (λ k. record { number = 0; position = sym (departure-depart x p (omega (arith, position-few))) k });
+            sound = sound-booked a i there (departureOf x) j c p e b;
           })
-      searched tests (nowhere c) e =
-          subst Replied (reply-nowhere l (a .sound) x i place tests refl c e)
-          (replied-none refl
-          (rw (request-nowhere l (a .sound) x i place tests refl c e, ← flow-alone l i (stopped a i there c))
-          (record { link-is = stopped-link a i there c; answer-is = refl; sound = sound-stopped a i there c })))
 
-      go : (n : ℕ) → n ≡ testsOf l x → Replied (replyOf i (request (linkOf l) x))
-      go zero tests = searched tests (sought (linkOf l) i (departureOf x)) refl
-      go (suc n) tests =
-          subst Replied (reply-refused l (a .sound) x i place tests (λ z. omega arith))
-          (replied-none refl
-          (rw (word-refused l x tests (λ z. omega arith), set-getD (l .flows) i noFlow)
-          (record { link-is = refl; answer-is = refl; sound = a .sound })))
+    -- it found none
+    module _ (c : ℕ) (e : nowhere c ≡ sought (linkOf l) i (departureOf x)) where
+      pub stopped-fits : flowAt l i .flow .left < 256 → FitsBytes (stopped a i there c)
+      stopped-fits h = record {
+        frame = omega (arith, newest-there a i there c, frames-few);
+        left = let most = left-few (departureOf x) h in omega (arith, rw (← e) at most);
+        number = omega (arith, a .sound .flows i there .number);
+      }
 
-  module _ {r : Reply} (is : r ≡ replyOf i (request (linkOf l) x)) where
-    replied-is : Replied r
-    replied-is = rw is replied
-
-    pub reply-in-frame : r .granted ≡ true → InFrame w (r .flow .frame) (r .position)
-    reply-in-frame = replied-is .in-frame
-
-    pub request-granted : r .granted ≡ true → {u : List ℕ} → Booked (w .slots) (r .flow .frame) (r .position) (l .unbooked) u
-        → {h : List ℕ} → h ≡ shifted (windowOf w) 1 i (r .position) (l .held)
-        → Stepped answerToRequest (request (linkOf l) x) (record {
-          link = withHoldings (withFlows (withOwners l (set (l .owner) (r .position) i) u) (set (l .flows) i (r .flow))) h;
-          answer = r .answer;
-        })
-    request-granted z b e = rw e (replied-is .granted z b)
-
-    pub request-refused : r .granted ≡ false
-        → Stepped answerToRequest (request (linkOf l) x) (record { link = withFlows l (set (l .flows) i (r .flow)); answer = r .answer })
-    request-refused = replied-is .refused
+      pub request-stopped : SteppedParts replyOf (request (linkOf l) x) (withFlows l (set (l .flows) i (stopped a i there c)))
+          (record { number = firstOf (newestTests (wouldBeValid (linkOf l) i) c); position = 0 })
+      request-stopped =
+          rw (request-nowhere l x tests z same c e, ← flow-alone l i (stopped a i there c))
+          (record { link-is = stopped-link a i there c; answer-is = refl; sound = sound-stopped a i there c })

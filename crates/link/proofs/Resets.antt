@@ -25,14 +25,14 @@ use Rattle.tables.specs.Owners.{nobody, everywhere, noneLater}
 use Rattle.tables.specs.Rows.{row}
 use Rattle.tables.specs.Holdings.{roomAt}
 use Rattle.link.specs.declared.Flow.{Flow}
-use Rattle.link.specs.declared.Link.{Link}
+use Rattle.link.specs.Parts.{Parts}
 use Rattle.link.specs.Layout.{FlowRow, sizeOf, entryAt, flowRow, flowIn, ownerAt, noFlow}
 use Rattle.link.specs.Updates.{linkWith, withFirst}
 use Rattle.link.specs.Reading.{flowOf, linkOf}
 use Rattle.link.specs.Sound.{Sound}
 use Rattle.link.specs.Started.{startedFlow, startedFlows}
 use Rattle.link.specs.Reset.{noneHeldIn, quietIn}
-use Rattle.link.specs.Steps.{Stepped}
+use Rattle.link.specs.Steps.{SteppedParts}
 use Rattle.link.proofs.Given.{AtHand}
 use Rattle.link.proofs.Lends.{unbooked-is}
 use Rattle.link.proofs.Readings.{read-count, read-entry, read-flow, read-holding, read-owner, read-frames, flows-most, size-most, some-flow}
@@ -41,7 +41,7 @@ use Rattle.link.proofs.Updated.{sound-with, sound-first}
 
 -- ---- the tests
 
-module _ (l : Link) where
+module _ (l : Parts) where
   none-booked-same : noneBooked (linkOf l) ≡ noneLater (model.window (linkOf l)) (l .owner)
   unfolding noneBooked noneLater linkOf
   none-booked-same = every-same (sizeOf l) _ _ (λ q b. rw (read-owner l q b))
@@ -62,14 +62,14 @@ module _ (l : Link) where
 -- ---- the link after a granted reset
 
 -- nobody owns a position, the flows start in the head frame with their numbers, and the mark is t
-abbrev recycledLink : Link → (head : ℕ) → (unbooked : List ℕ) → (t : Bool) → Link
+abbrev recycledLink : Parts → (head : ℕ) → (unbooked : List ℕ) → (t : Bool) → Parts
 recycledLink l head u t = linkWith l (l .cp) (everywhere nobody) u (startedFlows head (l .plan .entries) (l .plan .count) (l .flows)) (l .held) t
 
 -- and the next lend looks at flow 0 first
-abbrev renewedLink : Link → (head : ℕ) → (unbooked : List ℕ) → (t : Bool) → Link
+abbrev renewedLink : Parts → (head : ℕ) → (unbooked : List ℕ) → (t : Bool) → Parts
 renewedLink l head u t = withFirst (recycledLink l head u t) 0
 
-module _ {l : Link} {w : Window} (a : AtHand l (l .plan) w) where
+module _ {l : Parts} {w : Window} (a : AtHand l (l .plan) w) where
   head-is : w .head ≡ seen.head (model.window (linkOf l))
   head-is = a .proper .head-is ∙ ap seen.head (a .window-is)
 
@@ -91,7 +91,7 @@ module _ {l : Link} {w : Window} (a : AtHand l (l .plan) w) where
       ap (flowOf (sizeOf l)) (flow-then i h) ∙ (λ k. model.movedTo (sym (read-flow l i h) k) (head-is k) (sym share k))
 
   module _ (u : List ℕ) (t : Bool) where
-    -- a current slot that was booked or already marked is marked
+    -- a current slot with an owner or a mark is marked then
     read-renewed : t ≡ not (eqb (ownerAt l (l .cp)) nobody) || l .taken → linkOf (renewedLink l (w .head) u t) ≡ renewed (linkOf l)
     unfolding linkOf renewed
     read-renewed mark = cc (read-unowned (sizeOf l) (size-most l (a .sound)), flows, taken)
@@ -130,7 +130,7 @@ module _ {l : Link} {w : Window} (a : AtHand l (l .plan) w) where
     comes-to : (b : Bool) → r ≡ b → reset (linkOf l) ≡ cond b (granted (linkOf l)) (notGranted (linkOf l))
     comes-to b e = reset-is (linkOf l) ∙ ap (λ (x : Bool). cond x (granted (linkOf l)) (notGranted (linkOf l))) (quiet-same ∙ e)
 
-    pub reset-refused : not r ≡ true → Stepped answerToReset (reset (linkOf l)) (record { link = l; answer = Refused 23 })
+    pub reset-refused : not r ≡ true → SteppedParts answerToReset (reset (linkOf l)) l (Refused 23)
     reset-refused busy = rw (comes-to false (not-true r busy)) (record { link-is = refl; answer-is = refl; sound = a .sound })
 
     pub reset-granted : {o u : List ℕ} {fs : List Flow} {t : Bool} → not r ≡ false
@@ -138,7 +138,7 @@ module _ {l : Link} {w : Window} (a : AtHand l (l .plan) w) where
         → o ≡ everywhere nobody
         → Words (l .plan .slots) (l .plan .frames) (λ q. true) u
         → fs ≡ startedFlows (w .head) (l .plan .entries) (l .plan .count) (l .flows)
-        → Stepped answerToReset (reset (linkOf l)) (record { link = withFirst (linkWith l (l .cp) o u fs (l .held) t) 0; answer = Reset })
+        → SteppedParts answerToReset (reset (linkOf l)) (withFirst (linkWith l (l .cp) o u fs (l .held) t) 0) Reset
     reset-granted {u = u} {t = t} still mark owners words flows =
         rw (comes-to true (not-false r still), owners, flows)
         (record { link-is = read-renewed u t mark; answer-is = refl; sound = sound-renewed u t words })

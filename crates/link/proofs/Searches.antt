@@ -7,11 +7,12 @@ use native.Mathlib.Decide.{decLt}
 use native.Mathlib.Omega.{arith}
 use lib.Dec.{ltb}
 use borrow.Author.Tests.{le-ltb}
-use Rattle.model.specs.Tables.{any, ahead}
+use Rattle.model.specs.Tables.{ahead}
 use Rattle.model.specs.Plan as paper
 use Rattle.model.specs.Window.{Window, start, passed, everyFrom, newest}
 use Rattle.model.specs.Link as model
 use Rattle.model.specs.Request.{unbooked, valid, canLeave, validFor, someInNewest, wouldBeValid, Found, found, nowhere, search, sought}
+use Rattle.model.proofs.Tests.{any-same}
 use Rattle.window.proofs.GoingRound.{ahead-on}
 use Rattle.window.proofs.Windows.{frame-fits}
 use Rattle.window.proofs.FromOn.{everyFrom-same}
@@ -20,19 +21,13 @@ use Rattle.tables.specs.Holdings.{roomAt}
 use Rattle.tables.specs.Search.{lateAt, lateAfter, validAt, searchFrom, ValidSlots}
 use Rattle.tables.proofs.ValidPositions.{search-same}
 use Rattle.tables.proofs.FoundPosition.{search-books, Booking, Books}
-use Rattle.link.specs.declared.Link.{Link}
+use Rattle.link.specs.Parts.{Parts}
 use Rattle.link.specs.Layout.{sizeOf, entryAt, flowAt, ownerAt}
 use Rattle.link.specs.Reading.{linkOf}
 use Rattle.link.specs.Sound.{Sound}
 use Rattle.link.proofs.Readings.{read-entry, read-flow, read-holding, read-owner, read-size, read-frames}
 
--- two tests that agree below n
-any-same : (n : ℕ) (f g : ℕ → Bool) → ((k : ℕ) → k < n → f k ≡ g k) → any n f ≡ any n g
-unfolding any
-any-same zero f g e = refl
-any-same (suc n) f g e = rw (e n (omega arith), any-same n f g (λ k h. e k (omega arith)))
-
-module _ (l : Link) (s : Sound l) (v : Window) (is : v ≡ model.window (linkOf l)) (i : ℕ) (hi : i < l .plan .count) where
+module _ (l : Parts) (s : Sound l) (v : Window) (is : v ≡ model.window (linkOf l)) (i : ℕ) (hi : i < l .plan .count) where
   -- position p is late enough for it
   abbrev pub lateHere : ℕ → Bool
   lateHere = lateAt v (flowAt l i .held) (entryAt l i .cells)
@@ -115,7 +110,7 @@ module _ (l : Link) (s : Sound l) (v : Window) (is : v ≡ model.window (linkOf 
       let none : ahead frames last last ≡ 0 = ahead-on _ _ _ (omega arith) below ∙ omega arith in
       rw (j, c, none)
 
-  -- the newest frame has a position that would be valid but for the departure
+  -- the newest frame has a position that only the departure rules out
   pub would-same : someInNewest v validHere ≡ wouldBeValid (linkOf l) i
   unfolding wouldBeValid
   would-same =

@@ -1,4 +1,4 @@
--- The reading determines a sound link: it is what its reading is stored as. Assumes nothing.
+-- The reading determines the parts of a sound link: they are what it is stored as. It says nothing of the bounds, which no reading sees. Assumes nothing.
 use Prim.Native.Nat.{ℕ, _<_}
 use mathlib.Core.Path.{_≡_, refl, sym, ap, _∙_}
 use mathlib.Core.Bool.{Bool, true, false}
@@ -10,7 +10,7 @@ use borrow.Author.Tests.{eqb-true}
 use Rattle.model.specs.Tables.{table}
 use Rattle.model.specs.Link as model
 use Rattle.plan.specs.declared.Plan.{Plan}
-use Rattle.link.specs.declared.Link.{Link}
+use Rattle.link.specs.Parts.{Parts}
 use Rattle.link.specs.Layout.{FlowRow, sizeFor, sizeOf, flowAt, ownerAt, noFlow}
 use Rattle.tables.specs.Owners.{nobody, ownerOf, everywhere}
 use Rattle.link.specs.Reading.{flowOf, linkOf, storedOwner, storedFlow, stored}
@@ -39,7 +39,7 @@ held-back plan f v p = go (decLt p (sizeFor plan))
     go (no b) = table-past (sizeFor plan) _ p 0 (omega arith) ∙ sym (v .spare p (omega arith))
 
 -- "the reading determines the link"
-pub stored-reading : (l : Link) → Sound l → stored (linkOf l) ≡ l
+pub stored-reading : (l : Parts) → Sound l → stored (linkOf l) ≡ l
 unfolding stored linkOf everywhere
 stored-reading l s = λ k. record {
   plan = stored-plan (l .plan) (s .plan) k;
@@ -88,9 +88,9 @@ stored-reading l s = λ k. record {
     held = rows-of (l .held) _ (s .held-long) (λ i p b c. holding i p b c (decLt i (l .plan .count)))
 
 -- two sound links with one reading are one link
-pub one-reading : (l k : Link) → Sound l → Sound k → linkOf l ≡ linkOf k → l ≡ k
+pub one-reading : (l k : Parts) → Sound l → Sound k → linkOf l ≡ linkOf k → l ≡ k
 one-reading l k s t e = sym (stored-reading l s) ∙ ap stored e ∙ stored-reading k t
 
 -- so a call's contract gives the whole link that it hands back
-pub whole-link : (l : Link) (m : model.Link) → Sound l → linkOf l ≡ m → l ≡ stored m
+pub whole-link : (l : Parts) (m : model.Link) → Sound l → linkOf l ≡ m → l ≡ stored m
 whole-link l m s e = sym (stored-reading l s) ∙ ap stored e

@@ -16,24 +16,24 @@ use Rattle.tables.specs.Owners.{ownerOf, emptied}
 use Rattle.unbooked.specs.Words.{Recycled}
 use Rattle.tables.specs.Holdings.{carried}
 use Rattle.link.specs.declared.Flow.{Flow}
-use Rattle.link.specs.declared.Link.{Link}
+use Rattle.link.specs.Parts.{Parts}
 use Rattle.link.specs.Layout.{ownerAt}
 use Rattle.link.specs.Updates.{leftHeads, linkWith, withCurrent, withTaken}
 use Rattle.link.specs.Reading.{linkOf}
 use Rattle.link.specs.Sound.{Sound}
-use Rattle.link.specs.Steps.{Stepped}
+use Rattle.link.specs.Steps.{SteppedParts}
 use Rattle.link.proofs.Given.{AtHand}
 use Rattle.link.proofs.Readings.{read-owner}
 use Rattle.link.proofs.Updated.{sound-with, sound-owners, sound-flows}
 use Rattle.link.proofs.FrameChanges.{windowAt, nextAt, recycled, next-below, read-recycled, sound-recycled}
 
 -- x, with the current position p, is link l after its tick; its mark is off
-pub record Advanced (l x : Link) (p : ℕ) : Type 0 where
+pub record Advanced (l x : Parts) (p : ℕ) : Type 0 where
   pub plan-is : x .plan ≡ l .plan
   pub link-is : linkOf (withCurrent x p) ≡ tick.advanced (linkOf l)
   pub sound : Sound (withCurrent x p)
 
-module _ (l : Link) (s : Sound l) where
+module _ (l : Parts) (s : Sound l) where
   stayed : (nextAt l % l .plan .slots ≡ 0 → ⊥) → Advanced l (withTaken l false) (nextAt l)
   unfolding tick.advanced linkOf
   stayed n = record {
@@ -47,7 +47,7 @@ module _ (l : Link) (s : Sound l) where
   unfolding tick.advanced linkOf
   changed {u} z x = record { plan-is = refl; link-is = rw (eq-eqb _ _ z) (read-recycled l s u); sound = sound-recycled l s x }
 
-module _ {l : Link} {plan : Plan} {w : Window} (a : AtHand l plan w) {on : Window} (t : window.Ticked w on) where
+module _ {l : Parts} {plan : Plan} {w : Window} (a : AtHand l plan w) {on : Window} (t : window.Ticked w on) where
   window-is : w ≡ windowAt l
   unfolding linkOf
   window-is =
@@ -61,15 +61,15 @@ module _ {l : Link} {plan : Plan} {w : Window} (a : AtHand l plan w) {on : Windo
   slots-are = ap (λ (x : Window). x .slots) window-is
 
   -- the head frame stays
-  pub head-stays : {x : Link} → on .head ≡ w .head → withCurrent x (on .current) ≡ withCurrent (withTaken l false) (on .current)
+  pub head-stays : {x : Parts} → on .head ≡ w .head → withCurrent x (on .current) ≡ withCurrent (withTaken l false) (on .current)
       → Advanced l x (on .current)
   head-stays e same =
       let r = stayed l (a .sound) (λ z. t .stays e (rw (next-is, slots-are) z)) in
       let there = same ∙ ap (withCurrent (withTaken l false)) next-is in
-      record { plan-is = ap (λ (y : Link). y .plan) there; link-is = ap linkOf there ∙ r .link-is; sound = rw there (r .sound) }
+      record { plan-is = ap (λ (y : Parts). y .plan) there; link-is = ap linkOf there ∙ r .link-is; sound = rw there (r .sound) }
 
   -- the head frame is left: its owners with their words, its holdings and its flows were changed
-  pub head-left : {x : Link} {o u h : List ℕ} {fs : List Flow} → (on .head ≡ w .head → ⊥)
+  pub head-left : {x : Parts} {o u h : List ℕ} {fs : List Flow} → (on .head ≡ w .head → ⊥)
       → o ≡ emptied w (l .owner)
       → Recycled (w .slots) (w .head) (l .unbooked) u
       → h ≡ carried w (plan .count) (l .held)
@@ -80,7 +80,7 @@ module _ {l : Link} {plan : Plan} {w : Window} (a : AtHand l plan w) {on : Windo
       let words-are = rw (slots-are, ap (λ (x : Window). x .head) window-is) at words in
       let r = changed l (a .sound) (rw (← next-is, ← slots-are) (t .leaves n .0)) words-are in
       let there = same ∙ (λ k. linkWith l (next-is k) (owners-are k) u (flows-are k) (held-is k) false) in
-      record { plan-is = ap (λ (y : Link). y .plan) there; link-is = ap linkOf there ∙ r .link-is; sound = rw there (r .sound) }
+      record { plan-is = ap (λ (y : Parts). y .plan) there; link-is = ap linkOf there ∙ r .link-is; sound = rw there (r .sound) }
     where
       owners-are : o ≡ recycled l u .owner
       owners-are = owners ∙ ap (λ (x : Window). emptied x (l .owner)) window-is
@@ -95,8 +95,8 @@ module _ {l : Link} {plan : Plan} {w : Window} (a : AtHand l plan w) {on : Windo
           ∙ (λ k. leftHeads (a .plan-is k) (window-is k .head) ((window-is k .head + 1) % window-is k .frames) (l .flows))
 
   -- the answer is the owner of the new current position
-  pub ticked : {x : Link} {answer : Answer} → Advanced l x (on .current) → answer ≡ answerToTick (ownerOf (ownerAt x (on .current)))
-      → Stepped answerToTick (tick.tick (linkOf l)) (record { link = withCurrent x (on .current); answer = answer })
+  pub ticked : {x : Parts} {answer : Answer} → Advanced l x (on .current) → answer ≡ answerToTick (ownerOf (ownerAt x (on .current)))
+      → SteppedParts answerToTick (tick.tick (linkOf l)) (withCurrent x (on .current)) answer
   unfolding tick.tick linkOf
   ticked {x} r e = record {
     link-is = r .link-is;

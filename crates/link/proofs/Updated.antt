@@ -24,7 +24,7 @@ use Rattle.tables.specs.Rows.{Sixteen}
 use Rattle.tables.proofs.UnbookedSlots.{words-owned}
 use Rattle.tables.proofs.Rows.{length-row, length-with-row, row-with-same, row-with-other}
 use Rattle.link.specs.declared.Flow.{Flow}
-use Rattle.link.specs.declared.Link.{Link}
+use Rattle.link.specs.Parts.{Parts}
 use Rattle.link.specs.Layout.{FlowRow, sizeFor, sizeOf, flowRow, flowIn, flowAt, noFlow}
 use Rattle.link.specs.Updates.{linkWith, withOwners, withFirst, withFlow}
 use Rattle.link.specs.Reading.{spareFlow, flowOf, linkOf}
@@ -43,13 +43,13 @@ pub record SoundOwners (plan : Plan) (owner unbooked : List ℕ) : Type 0 where
 -- of its flows and holdings
 pub record SoundFlows (plan : Plan) (flows : List Flow) (held : List ℕ) : Type 0 where
   pub long : length flows ≡ 16
-  pub rows : Sixteen held
+  pub rows : length held ≡ 4096
   pub each : (i : ℕ) → i < plan .count → SoundFlow plan (flowIn flows held i)
   pub spare : (i : ℕ) → plan .count ≤ i → i < 16 → flowIn flows held i ≡ spareFlow
 
 -- ---- a link changed
 
-module _ (l : Link) (s : Sound l) where
+module _ (l : Parts) (s : Sound l) where
   -- another current position, other owners, flows and holdings, each sound, and any mark
   pub sound-with : {p : ℕ} {o u : List ℕ} {fs : List Flow} {h : List ℕ} {t : Bool} → p < sizeOf l → SoundOwners (l .plan) o u → SoundFlows (l .plan) fs h
       → Sound (linkWith l p o u fs h t)
@@ -95,10 +95,13 @@ module _ (l : Link) (s : Sound l) where
     below : i < 16
     below = omega (arith, flows-most l s)
 
+    sixteen : Sixteen (l .held)
+    sixteen = omega (arith, s .held-long)
+
     same-flow-at : flowAt (withFlow l i f) i ≡ f
     same-flow-at =
         let e = getD-set-same (l .flows) i (f .flow) noFlow (omega (arith, s .flows-long, below)) in
-        rw (e, row-with-same (l .held) i (f .held) (s .held-long) below long)
+        rw (e, row-with-same (l .held) i (f .held) sixteen below long)
 
     other-flow-at : (j : ℕ) → (j ≡ i → ⊥) → flowAt (withFlow l i f) j ≡ flowAt l j
     other-flow-at j d = rw (getD-set-other (l .flows) i j (f .flow) noFlow d, row-with-other (l .held) i (f .held) j d)

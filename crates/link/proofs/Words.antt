@@ -18,10 +18,10 @@ use Rattle.plan.specs.declared.Entry.{Entry}
 use Rattle.plan.specs.Reading.{noEntry, planFor}
 use Rattle.word.specs.declared.Fields.{Fields}
 use Rattle.word.specs.Reading.{fieldsOf}
-use Rattle.link.specs.declared.Link.{Link}
+use Rattle.link.specs.Parts.{Parts}
 use Rattle.link.specs.Layout.{sizeFor}
 use Rattle.link.specs.Reading.{linkOf}
-use Rattle.link.specs.Given.{placed, WordOn, testsOf}
+use Rattle.link.specs.Given.{testsOf}
 use Rattle.link.proofs.Plans.{plan-count, plan-entry}
 
 -- ---- the fields of a word that was split
@@ -36,60 +36,53 @@ module _ (x : ℕ) (f : Fields) (is : fieldsOf f ≡ word.split x) where
   quantum-is : word.quantumOf x ≡ f .quantum
   quantum-is = ap (λ (y : word.Fields). y .quantum) (sym is)
 
-  departure-is : word.departureOf x ≡ f .departure
+  pub departure-is : word.departureOf x ≡ f .departure
   departure-is = ap (λ (y : word.Fields). y .departure) (sym is)
 
--- ---- the tests, of plan p with n flows and T positions, and for the flow of the word the entry e and the number k that is expected of it
+-- ---- the tests, of plan p where the number k is expected of the word's flow
 
-module _ (x : ℕ) (f : Fields) (is : fieldsOf f ≡ word.split x) (p : Plan) (k : ℕ) {n : ℕ} {e : Entry} {T expected : ℕ} (on : WordOn p k n e T expected x) where
-  pub word-8 : n ≤ f .flow → 8 ≡ firstOf (requestTests (planFor p) k x)
+module _ (x : ℕ) (f : Fields) (is : fieldsOf f ≡ word.split x) (p : Plan) (k : ℕ) where
+  pub word-8 : p .count ≤ f .flow → 8 ≡ firstOf (requestTests (planFor p) k x)
   unfolding firstOf
-  word-8 h = rw (plan-count p, flow-is x f is, le-ltb (f .flow) (p .count) (rw (← on .count-is) h))
+  word-8 h = rw (plan-count p, flow-is x f is, le-ltb (f .flow) (p .count) h)
 
-  module _ (h : f .flow < n) where
-    flow-there : f .flow < p .count
-    flow-there = rw (← on .count-is) h
+  -- the entry of the word's flow
+  abbrev entryThere : Entry
+  entryThere = getD (p .entries) (f .flow) noEntry
 
-    -- the entry is that of the word's flow
-    destination-there : paper.entry (planFor p) (f .flow) .destination ≡ e .destination
-    destination-there =
-        let there : placed n (word.flowOf x) ≡ f .flow = rw (flow-is x f is, lt-ltb (f .flow) n h) in
-        ap (λ (y : paper.Entry). y .destination) (plan-entry p (f .flow) flow-there)
-        ∙ sym (ap (λ (y : Entry). y .destination) (on .entry-is ∙ ap (λ (k : ℕ). getD (p .entries) k noEntry) there))
+  module _ (h : f .flow < p .count) where
+    destination-there : paper.entry (planFor p) (f .flow) .destination ≡ entryThere .destination
+    destination-there = ap (λ (y : paper.Entry). y .destination) (plan-entry p (f .flow) h)
 
-    pub word-9 : (f .destination ≡ e .destination → ⊥) → 9 ≡ firstOf (requestTests (planFor p) k x)
+    pub word-9 : (f .destination ≡ entryThere .destination → ⊥) → 9 ≡ firstOf (requestTests (planFor p) k x)
     unfolding firstOf
     word-9 n =
-        rw (plan-count p, flow-is x f is, lt-ltb (f .flow) (p .count) flow-there, destination-is x f is, destination-there, ne-eqb _ _ n)
+        rw (plan-count p, flow-is x f is, lt-ltb (f .flow) (p .count) h, destination-is x f is, destination-there, ne-eqb _ _ n)
 
-    module _ (d : f .destination ≡ e .destination) where
-      pub word-10 : T ≤ f .departure → 10 ≡ firstOf (requestTests (planFor p) k x)
+    module _ (d : f .destination ≡ entryThere .destination) where
+      pub word-10 : sizeFor p ≤ f .departure → 10 ≡ firstOf (requestTests (planFor p) k x)
       unfolding firstOf
       word-10 b =
-          rw (plan-count p, flow-is x f is, lt-ltb (f .flow) (p .count) flow-there, destination-is x f is, destination-there, eq-eqb _ _ d)
-          (rw (departure-is x f is, le-ltb (f .departure) (sizeFor p) (rw (← on .size-is) b)))
+          rw (plan-count p, flow-is x f is, lt-ltb (f .flow) (p .count) h, destination-is x f is, destination-there, eq-eqb _ _ d)
+          (rw (departure-is x f is, le-ltb (f .departure) (sizeFor p) b))
 
-      module _ (b : f .departure < T) where
-        -- the expected number is that of the word's flow
-        expected-is : expected ≡ k
-        expected-is = on .number-is (rw (flow-is x f is) h)
-
+      module _ (b : f .departure < sizeFor p) where
         -- what is left is the test of the number
         last-test : firstOf (requestTests (planFor p) k x) ≡ cond (not (eqb (f .quantum) k)) 24 0
         unfolding firstOf
         last-test =
-            rw (plan-count p, flow-is x f is, lt-ltb (f .flow) (p .count) flow-there, destination-is x f is, destination-there, eq-eqb _ _ d)
-            (rw (departure-is x f is, lt-ltb (f .departure) (sizeFor p) (rw (← on .size-is) b), quantum-is x f is))
+            rw (plan-count p, flow-is x f is, lt-ltb (f .flow) (p .count) h, destination-is x f is, destination-there, eq-eqb _ _ d)
+            (rw (departure-is x f is, lt-ltb (f .departure) (sizeFor p) b, quantum-is x f is))
 
-        pub word-24 : (f .quantum ≡ expected → ⊥) → 24 ≡ firstOf (requestTests (planFor p) k x)
-        word-24 differs = sym (last-test ∙ rw (ne-eqb (f .quantum) k (λ z. differs (z ∙ sym expected-is))))
+        pub word-24 : (f .quantum ≡ k → ⊥) → 24 ≡ firstOf (requestTests (planFor p) k x)
+        word-24 differs = sym (last-test ∙ rw (ne-eqb (f .quantum) k differs))
 
-        pub word-passes : f .quantum ≡ expected → 0 ≡ firstOf (requestTests (planFor p) k x)
-        word-passes same = sym (last-test ∙ rw (eq-eqb (f .quantum) k (same ∙ expected-is)))
+        pub word-passes : f .quantum ≡ k → 0 ≡ firstOf (requestTests (planFor p) k x)
+        word-passes same = sym (last-test ∙ rw (eq-eqb (f .quantum) k same))
 
 -- ---- the request of a word on link l, whose tests give n
 
-module _ (l : Link) (x : ℕ) {n : ℕ} (tests : n ≡ testsOf l x) where
+module _ (l : Parts) (x : ℕ) {n : ℕ} (tests : n ≡ testsOf l x) where
   pub word-refused : (n ≡ 0 → ⊥) → request (linkOf l) x ≡ record { link = linkOf l; answer = refused n }
   unfolding request requestAfter linkOf
   word-refused nonzero = rw (← tests) (go n nonzero)
@@ -99,7 +92,7 @@ module _ (l : Link) (x : ℕ) {n : ℕ} (tests : n ≡ testsOf l x) where
       go (suc r) none = refl
 
   module _ (z : n ≡ 0) where
-    flow-below : word.flowOf x < l .plan .count
+    pub flow-below : word.flowOf x < l .plan .count
     unfolding firstOf
     flow-below = go (ltb (word.flowOf x) (l .plan .count)) _ refl (rw (plan-count (l .plan)) at (sym tests ∙ z))
       where
@@ -121,11 +114,6 @@ module _ (l : Link) (x : ℕ) {n : ℕ} (tests : n ≡ testsOf l x) where
         passes-third true false c rest e = absurd (omega arith)
         passes-third false b c rest e = absurd (omega arith)
 
-    -- flow i is the word's
-    module _ (i : ℕ) (e : i ≡ placed (l .plan .count) (word.flowOf x)) where
-      pub word-flow : word.flowOf x ≡ i
-      word-flow = sym (e ∙ ap (λ (b : Bool). cond b (word.flowOf x) 0) (lt-ltb (word.flowOf x) (l .plan .count) flow-below))
-
-      pub word-passed : request (linkOf l) x ≡ answered (linkOf l) x (sought (linkOf l) i (word.departureOf x))
-      unfolding request requestAfter linkOf
-      word-passed = rw (← tests, z) (ap (λ (k : ℕ). answered (linkOf l) x (sought (linkOf l) k (word.departureOf x))) word-flow)
+    pub word-passed : {i : ℕ} → word.flowOf x ≡ i → request (linkOf l) x ≡ answered (linkOf l) x (sought (linkOf l) i (word.departureOf x))
+    unfolding request requestAfter linkOf
+    word-passed same = rw (← tests, z) (ap (λ (k : ℕ). answered (linkOf l) x (sought (linkOf l) k (word.departureOf x))) same)

@@ -3,11 +3,11 @@ use mathlib.Core.Path.{_≡_}
 use mathlib.Core.List.{List}
 use Rattle.model.specs.Burst as model
 use Rattle.link.specs.declared.Link.{Link}
-use Rattle.link.specs.Reading.{linkOf}
-use Rattle.link.specs.Sound.{Sound}
+use Rattle.link.specs.Steps.{readOf}
+use Rattle.link.specs.Sound.{SoundLink}
 
 -- l is the paper's next link and sound again, and the lent records are the paper's
 pub record Bursted (b : model.Burst) (l : Link) (records : List model.Ask) : Type 0 where
-  pub link-is : linkOf l ≡ b .link
+  pub link-is : readOf l ≡ b .link
   pub records-are : records ≡ b .records
-  pub sound : Sound l
+  pub sound : SoundLink l

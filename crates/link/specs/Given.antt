@@ -2,81 +2,72 @@
 use Prim.Native.Nat.{ℕ, _<_}
 use mathlib.Core.Path.{_≡_}
 use mathlib.Core.List.{List}
-use mathlib.Core.Bool.{cond, true}
+use mathlib.Core.Bool.{true, cond}
 use lib.ListN.{getD}
 use lib.Dec.{ltb}
 use Rattle.plan.specs.declared.Entry.{Entry}
 use Rattle.plan.specs.declared.Plan.{Plan}
 use Rattle.plan.specs.Reading.{noEntry, planFor}
 use Rattle.model.specs.Refusals.{firstOf}
-use Rattle.model.specs.Word.{flowOf}
+use Rattle.model.specs.Word.{flowOf, split}
 use Rattle.model.specs.Link as model
 use Rattle.model.specs.Window.{everyFrom}
 use Rattle.model.specs.Request.{requestTests}
-use Rattle.link.specs.declared.Flow.{Flow}
-use Rattle.link.specs.declared.Link.{Link}
+use Rattle.word.specs.declared.Fields.{Fields}
+use Rattle.word.specs.Reading.{fieldsOf}
 use Rattle.window.specs.declared.Window.{Window}
-use Rattle.tables.specs.Rows.{row}
 use Rattle.window.specs.Window.{windowOf, sizeOf, Proper}
-use Rattle.tables.specs.Holdings.{someHeld, shifted}
-use Rattle.link.specs.Layout.{sizeFor, entryAt, flowAt}
+use Rattle.tables.specs.Rows.{row}
+use Rattle.tables.specs.Holdings.{someHeld}
+use Rattle.link.specs.declared.Flow.{Flow}
+use Rattle.link.specs.Parts.{Parts, partsIn, flowRead}
 use Rattle.link.specs.Reading.{linkOf}
-use Rattle.link.specs.Sound.{Sound}
+use Rattle.link.specs.Sound.{SoundState}
 
--- ---- of a link
-
--- link l is sound, has n flows, and w is its window
-pub record WindowOn (l : Link) (n : ℕ) (w : Window) : Type 0 where
-  pub sound : Sound l
-  pub count-is : n ≡ l .plan .count
+-- a state of plan p, and its window w
+pub record StateIn (p : Plan) (w : Window) (s : List ℕ) : Type 0 where
+  pub sound : SoundState p s
   pub proper : Proper w
-  pub window-is : windowOf w ≡ model.window (linkOf l)
+  pub window-is : windowOf w ≡ model.window (linkOf (partsIn p s))
 
--- what is given is given of some link
-pub record SomeLink (Given : Link → Type 0) : Type 0 where
-  pub link : Link
-  pub given : Given link
-
--- ---- a credit on link l: what the flows hold
-
-pub record CreditOn (l : Link) (n : ℕ) (w : Window) (held : List ℕ) : Type 0 where
-  pub window : WindowOn l n w
-  pub held-is : held ≡ l .held
-
--- flow i is one of n, p is a position, and the flow holds something there and at every later position
+-- ---- a credit: flow i is one of n, p is a position, and the flow holds something there and at every later position
 pub record Creditable (n : ℕ) (w : Window) (held : List ℕ) (i p : ℕ) : Type 0 where
   pub flow : i < n
   pub position : p < sizeOf w
   pub some-held : everyFrom (windowOf w) p (someHeld (row held i)) ≡ true
 
--- what the flows hold before and after a credit of flow i at position p that this number refuses, or that is taken where it is 0: then
--- flow i's holdings from p on are moved by 255, one fewer modulo 256
-pub record Credited (n : ℕ) (w : Window) (i p number : ℕ) (before after : List ℕ) : Type 0 where
-  pub refused : (number ≡ 0 → ⊥) → after ≡ before
-  pub taken : number ≡ 0 → Creditable n w before i p
-  pub lowered : number ≡ 0 → after ≡ shifted (windowOf w) 255 i p before
-
--- ---- a request on link l: what the flows hold, the unbooked slots, and of the word's flow its entry, and the flow
+-- ---- a request
 
 -- flow i of a plan of n flows, and 0 where there is none
-abbrev pub placed : ℕ → ℕ → ℕ
+abbrev pub placed : (n i : ℕ) → ℕ
 placed n i = cond (ltb i n) i 0
 
-pub record RequestOn (l : Link) (n : ℕ) (e : Entry) (w : Window) (unbooked held : List ℕ) (i : ℕ) (f : Flow) (word : ℕ) : Type 0 where
-  pub window : WindowOn l n w
-  pub held-is : held ≡ l .held
-  pub unbooked-is : unbooked ≡ l .unbooked
-  pub place-is : i ≡ placed n (flowOf word)
-  pub entry-is : e ≡ entryAt l i
-  pub flow-is : f ≡ flowAt l i .flow
-
--- the tests before the search are given n, T, and of the word's flow its entry and the number k that is expected of it
-pub record WordOn (p : Plan) (k n : ℕ) (e : Entry) (T expected word : ℕ) : Type 0 where
+-- word x, whose fields are f, on a state of plan p, which has n flows: e is the entry of its flow, and of flow 0 where there is none
+pub record RequestIn (p : Plan) (n : ℕ) (e : Entry) (w : Window) (f : Fields) (x : ℕ) (s : List ℕ) : Type 0 where
+  pub state : StateIn p w s
   pub count-is : n ≡ p .count
-  pub entry-is : e ≡ getD (p .entries) (placed n (flowOf word)) noEntry
-  pub size-is : T ≡ sizeFor p
-  pub number-is : flowOf word < n → expected ≡ k
+  pub fields-are : fieldsOf f ≡ split x
+  pub entry-is : e ≡ getD (p .entries) (placed n (f .flow)) noEntry
 
--- what these tests come to, of a word on link l
-abbrev pub testsOf : Link → ℕ → ℕ
-testsOf l word = firstOf (requestTests (planFor (l .plan)) (model.flow (linkOf l) (flowOf word) .number) word)
+-- what is given is given of some plan and some word
+pub record SomeRequest (Given : Plan → ℕ → Type 0) : Type 0 where
+  pub plan : Plan
+  pub word : ℕ
+  pub given : Given plan word
+
+-- what the tests of a word before the search come to on link l
+abbrev pub testsOf : Parts → ℕ → ℕ
+testsOf l x = firstOf (requestTests (planFor (l .plan)) (model.flow (linkOf l) (flowOf x) .number) x)
+
+-- the search for flow i, which is f and has the entry e, and a departure d
+pub record SeekIn (p : Plan) (e : Entry) (w : Window) (i : ℕ) (f : Flow) (d : ℕ) (s : List ℕ) : Type 0 where
+  pub state : StateIn p w s
+  pub flow : i < p .count
+  pub entry-is : e ≡ getD (p .entries) i noEntry
+  pub flow-is : f ≡ flowRead s i
+  pub departure : d < sizeOf w
+
+-- what is given is given of some plan
+pub record SomePlan (Given : Plan → Type 0) : Type 0 where
+  pub plan : Plan
+  pub given : Given plan

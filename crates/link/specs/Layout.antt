@@ -3,7 +3,7 @@ use Prim.Native.Nat.{ℕ, _*_}
 use mathlib.Core.List.{List}
 use lib.ListN.{getD}
 use Rattle.link.specs.declared.Flow.{Flow}
-use Rattle.link.specs.declared.Link.{Link}
+use Rattle.link.specs.Parts.{Parts}
 use Rattle.tables.specs.Rows.{row}
 use Rattle.plan.specs.declared.Entry.{Entry}
 use Rattle.plan.specs.declared.Plan.{Plan}
@@ -13,13 +13,13 @@ use Rattle.plan.specs.Reading.{noEntry}
 abbrev pub sizeFor : Plan → ℕ
 sizeFor p = p .slots * p .frames
 
-abbrev pub sizeOf : Link → ℕ
+abbrev pub sizeOf : Parts → ℕ
 sizeOf l = sizeFor (l .plan)
 
-abbrev pub entryAt : Link → ℕ → Entry
+abbrev pub entryAt : Parts → ℕ → Entry
 entryAt l i = getD (l .plan .entries) i noEntry
 
-abbrev pub ownerAt : Link → ℕ → ℕ
+abbrev pub ownerAt : Parts → ℕ → ℕ
 ownerAt l p = getD (l .owner) p 0
 
 -- past the end of the flows
@@ -38,5 +38,5 @@ flowRow f h = record { flow = f; held = h }
 abbrev pub flowIn : List Flow → List ℕ → ℕ → FlowRow
 flowIn flows held i = flowRow (getD flows i noFlow) (row held i)
 
-abbrev pub flowAt : Link → ℕ → FlowRow
+abbrev pub flowAt : Parts → ℕ → FlowRow
 flowAt l = flowIn (l .flows) (l .held)

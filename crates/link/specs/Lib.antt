@@ -1,11 +1,14 @@
+pub mod Parts
 pub mod Layout
 pub mod Updates
 pub mod Reading
 pub mod Sound
 pub mod Steps
 pub mod Given
-pub mod Reply
+pub mod Sought
 pub mod Started
+pub mod Changes
+pub mod Resumed
 pub mod Lend
 pub mod Reset
 pub mod Bursts

@@ -6,7 +6,7 @@ use Rattle.unbooked.specs.Words.{wordsOf}
 use Rattle.tables.specs.Rows.{rowsOf}
 use Rattle.tables.specs.Owners.{nobody, ownerOf, everywhere}
 use Rattle.link.specs.declared.Flow.{Flow}
-use Rattle.link.specs.declared.Link.{Link}
+use Rattle.link.specs.Parts.{Parts}
 use Rattle.link.specs.Layout.{FlowRow, sizeOf, noFlow, flowRow, flowAt, ownerAt}
 use Rattle.link.specs.Updates.{movedTo, withNumber}
 use Rattle.plan.specs.Reading as plan
@@ -25,7 +25,7 @@ flowOf T x = record {
   number = x .flow .number;
 }
 
-unfoldable pub linkOf : Link → model.Link
+unfoldable pub linkOf : Parts → model.Link
 linkOf l = record {
   plan = plan.planFor (l .plan);
   current = l .cp;
@@ -48,7 +48,7 @@ storedOwner (some i) = i
 abbrev pub storedFlow : model.Flow → Flow
 storedFlow f = withNumber (movedTo noFlow (f .injection) (f .remainder)) (f .number)
 
-unfoldable pub stored : model.Link → Link
+unfoldable pub stored : model.Link → Parts
 stored m = record {
   plan = plan.stored (m .plan);
   cp = m .current;

@@ -5,7 +5,7 @@ use mathlib.Core.Bool.{Bool, cond}
 use lib.ListN.{getD, set}
 use lib.Dec.{eqb}
 use Rattle.link.specs.declared.Flow.{Flow}
-use Rattle.link.specs.declared.Link.{Link}
+use Rattle.link.specs.Parts.{Parts}
 use Rattle.plan.specs.declared.Plan.{Plan}
 use Rattle.plan.specs.Reading.{noEntry}
 use Rattle.window.specs.Ranges.{inRange, replaced}
@@ -42,28 +42,28 @@ withHeld x h = flowRow (x .flow) h
 -- ---- a link
 
 -- another current position, other owners with their words, other flows and holdings, and another mark; the flow to lend from stays
-abbrev pub linkWith : Link → (cp : ℕ) (owner unbooked : List ℕ) (flows : List Flow) (held : List ℕ) (taken : Bool) → Link
+abbrev pub linkWith : Parts → (cp : ℕ) (owner unbooked : List ℕ) (flows : List Flow) (held : List ℕ) (taken : Bool) → Parts
 linkWith l p o u fs h t = record { plan = l .plan; cp = p; owner = o; unbooked = u; flows = fs; held = h; taken = t; first = l .first }
 
-abbrev pub withCurrent : Link → ℕ → Link
+abbrev pub withCurrent : Parts → ℕ → Parts
 withCurrent l p = linkWith l p (l .owner) (l .unbooked) (l .flows) (l .held) (l .taken)
 
-abbrev pub withOwners : Link → (owner unbooked : List ℕ) → Link
+abbrev pub withOwners : Parts → (owner unbooked : List ℕ) → Parts
 withOwners l o u = linkWith l (l .cp) o u (l .flows) (l .held) (l .taken)
 
-abbrev pub withFlows : Link → List Flow → Link
+abbrev pub withFlows : Parts → List Flow → Parts
 withFlows l fs = linkWith l (l .cp) (l .owner) (l .unbooked) fs (l .held) (l .taken)
 
-abbrev pub withHoldings : Link → List ℕ → Link
+abbrev pub withHoldings : Parts → List ℕ → Parts
 withHoldings l h = linkWith l (l .cp) (l .owner) (l .unbooked) (l .flows) h (l .taken)
 
-abbrev pub withTaken : Link → Bool → Link
+abbrev pub withTaken : Parts → Bool → Parts
 withTaken l t = linkWith l (l .cp) (l .owner) (l .unbooked) (l .flows) (l .held) t
 
 -- another flow to lend from
-abbrev pub withFirst : Link → ℕ → Link
+abbrev pub withFirst : Parts → ℕ → Parts
 withFirst l i = record { plan = l .plan; cp = l .cp; owner = l .owner; unbooked = l .unbooked; flows = l .flows; held = l .held; taken = l .taken; first = i }
 
 -- another flow i, with its row
-abbrev pub withFlow : Link → ℕ → FlowRow → Link
+abbrev pub withFlow : Parts → ℕ → FlowRow → Parts
 withFlow l i x = withHoldings (withFlows l (set (l .flows) i (x .flow))) (withRow (l .held) i (x .held))

@@ -1,72 +1,83 @@
 // The fresh link.
 ghost use mathlib.Core.Path.{_≡_};
-ghost use Prim.Native.Nat.{_≤_};
+ghost use Prim.Native.Nat.{_<_};
 ghost use Rattle.plan.specs.Reading.{Valid, planFor};
 ghost use Rattle.model.specs.Fresh as model;
+ghost use Rattle.state.specs.State.{Whole};
+ghost use Rattle.link.specs.Parts.{flowsOf};
+ghost use Rattle.link.specs.Changes.{FlowsNow};
+ghost use Rattle.link.specs.Sound.{SoundState, SoundLink};
 ghost use Rattle.link.specs.Started.{noFlows, startedFlows};
-ghost use Rattle.link.specs.Reading.{linkOf};
-ghost use Rattle.link.specs.Sound.{Sound};
+ghost use Rattle.link.specs.Steps.{readIn, readOf};
 use crate::Flow;
 use crate::Link;
-use plan::Entry;
+use crate::flows::flow_at;
+use crate::flows::put_flow;
 use plan::Plan;
-use tables::holdings::nothing_held;
-use tables::owners::unbooked;
+use state::CURRENT;
+use state::MARK;
+use state::State;
+use state::TURN;
+use state::put_masks;
+use tables::holdings::hold_nothing;
+use tables::owners::disown;
 use unbooked::frames::every_slot;
 
 // Sixteen flows that a plan does not have: in frame 0, with nothing left and number 0.
-fn no_flows() -> [Flow; 16]
-    ensures { λ r. ⌜ r ≡ noFlows ⌝ }
+fn no_flows(s: &mut State)
+    requires { ⌜ Whole (now s) ⌝ }
+    ensures { λ r. ⌜ FlowsNow (now (s .entry)) (now (s .exit)) noFlows ⌝ }
 {
     let spare = Flow {
         frame: 0,
         left: 0,
         number: 0,
     };
-    [spare; 16]
-}
-
-// The first n flows all in one frame and each with its share; their numbers stay.
-pub(crate) fn flows_in(
-    flows: [Flow; 16],
-    frame: usize,
-    entries: [Entry; 16],
-    count: usize,
-) -> [Flow; 16]
-    requires { ⌜ count ≤ 16 ⌝ }
-    ensures { λ r. ⌜ r ≡ startedFlows frame entries count flows ⌝ }
-{
-    let mut all = flows;
     let mut i = 0;
-    while i < count {
-        let e = entries[i];
-        let f = all[i];
-        all[i] = f.moved_to(frame, e.share as usize);
+    while i < 16 {
+        put_flow(s, i, spare);
         i += 1;
     }
-    all
+}
+
+// The flows of a plan all in one frame and each with its share; their numbers stay.
+pub(crate) fn start_flows(s: &mut State, plan: Plan, frame: usize)
+    requires { ⌜ Valid plan × Whole (now s) × (frame < 256) ⌝ }
+    ensures { λ r. ⌜ FlowsNow (now (s .entry)) (now (s .exit)) (startedFlows frame (plan .entries) (plan .count) (flowsOf (now (s .entry)))) ⌝ }
+{
+    let mut i = 0;
+    while i < plan.count {
+        let e = plan.entries[i];
+        let f = flow_at(s, i);
+        put_flow(s, i, f.moved_to(frame, e.share as usize));
+        i += 1;
+    }
+}
+
+// The state of a fresh link; nothing of what it was is left but the bounds, and where nothing is held every bound holds.
+fn begin(s: &mut State, plan: Plan)
+    requires { ⌜ Valid plan × Whole (now s) ⌝ }
+    ensures link { λ r. ⌜ readIn plan (now (s .exit)) ≡ model.fresh (planFor plan) ⌝ }
+    ensures sound { λ r. ⌜ SoundState plan (now (s .exit)) ⌝ }
+{
+    hold_nothing(s);
+    disown(s);
+    put_masks(s, every_slot(plan.slots, plan.frames));
+    no_flows(s);
+    start_flows(s, plan, 0);
+    s[CURRENT] = 0;
+    s[MARK] = 0;
+    s[TURN] = 0;
 }
 
 impl Link {
     pub fn fresh(plan: Plan) -> Link
         requires { ⌜ Valid plan ⌝ }
-        ensures link { λ r. ⌜ linkOf r ≡ model.fresh (planFor plan) ⌝ }
-        ensures sound { λ r. ⌜ Sound r ⌝ }
+        ensures link { λ r. ⌜ readOf r ≡ model.fresh (planFor plan) ⌝ }
+        ensures sound { λ r. ⌜ SoundLink r ⌝ }
     {
-        let entries = plan.entries;
-        let flows = flows_in(no_flows(), 0, entries, plan.count);
-        let owner = unbooked();
-        let words = every_slot(plan.slots, plan.frames);
-        let held = nothing_held();
-        Link {
-            plan,
-            cp: 0,
-            owner,
-            unbooked: words,
-            flows,
-            held,
-            taken: false,
-            first: 0,
-        }
+        let mut state = [0u8; 4499];
+        begin(&mut state, plan);
+        Link { plan, state }
     }
 }

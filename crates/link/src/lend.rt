@@ -10,17 +10,21 @@ ghost use Rattle.calls.specs.Reading.{answerToLend};
 ghost use Rattle.plan.specs.Reading.{Valid};
 ghost use Rattle.window.specs.Window.{Proper};
 ghost use Rattle.tables.specs.Owners.{nobody};
-ghost use Rattle.link.specs.Reading.{linkOf};
-ghost use Rattle.link.specs.Sound.{Sound};
-ghost use Rattle.link.specs.Steps.{Stepped};
+ghost use Rattle.link.specs.Given.{StateIn};
+ghost use Rattle.link.specs.Sound.{SoundLink};
+ghost use Rattle.link.specs.Steps.{readIn, readOf, Went, Stepped};
 ghost use Rattle.link.specs.Lend.{takesIn, firstTaker};
 use crate::Answer;
 use crate::Link;
 use crate::Step;
 use plan::Plan;
-use tables::holdings::Holdings;
+use state::CURRENT;
+use state::MARK;
+use state::OWNERS;
+use state::State;
+use state::TURN;
+use tables::holdings::raise_from;
 use tables::holdings::room_from;
-use tables::holdings::shift_from;
 use window::Window;
 use window::positions::next;
 use window::positions::window;
@@ -62,9 +66,9 @@ fn refusal(count: usize, owner: u8, taken: bool, mask: u16) -> u8
 }
 
 // The first flow of a mask that can take the current slot, looking from a flow on and going round, or n where there is none.
-fn taker(held: &Holdings, plan: Plan, w: Window, mask: u16, from: usize) -> usize
+fn taker(s: &State, plan: Plan, w: Window, mask: u16, from: usize) -> usize
     requires { ⌜ Valid plan × Proper w × from < plan .count ⌝ }
-    ensures { λ r. ⌜ r ≡ firstTaker (takesIn plan w (now (held .entry)) mask) (plan .count) from ⌝ }
+    ensures { λ r. ⌜ r ≡ firstTaker (takesIn plan w (now (s .entry)) mask) (plan .count) from ⌝ }
 {
     let current = w.current;
     let mut i = from;
@@ -72,7 +76,7 @@ fn taker(held: &Holdings, plan: Plan, w: Window, mask: u16, from: usize) -> usiz
     while 0 < left {
         let e = plan.entries[i];
         if (mask >> i) % 2 == 1 {
-            if room_from(held, i, e.cells, w, current) {
+            if room_from(s, i, e.cells, w, current) {
                 return i;
             }
         }
@@ -82,36 +86,39 @@ fn taker(held: &Holdings, plan: Plan, w: Window, mask: u16, from: usize) -> usiz
     plan.count
 }
 
+// The current slot of a state, when nobody booked it, goes to a flow of a mask that has a quantum ready: in turn, to the first that can take it.
+pub fn lend(s: &mut State, plan: Plan, w: Window, mask: u16) -> Answer
+    requires { ⌜ StateIn plan w (now s) ⌝ }
+    ensures { λ r. ⌜ Went answerToLend (model.lend (readIn plan (now (s .entry))) mask) plan (now (s .exit)) r ⌝ }
+{
+    let cp = w.current;
+    let owner = s[OWNERS + cp];
+    let mark = s[MARK];
+    let number = refusal(plan.count, owner, mark != 0, mask);
+    if number != 0 {
+        return Answer::Refused(number);
+    }
+    let from = s[TURN];
+    let i = taker(s, plan, w, mask, from as usize);
+    if i == plan.count {
+        return Answer::Refused(18);
+    }
+    raise_from(s, i, w, cp);
+    s[MARK] = 1;
+    s[TURN] = next(plan.count, i) as u8;
+    Answer::Lent(i as u8)
+}
+
 impl Link {
-    // The current slot, when nobody booked it, goes to a flow of a mask that has a quantum ready: in turn, to the first that can take it.
+    // The current slot, when nobody booked it, goes to a flow of a mask that has a quantum ready.
     pub fn lend(mut self, mask: u16) -> Step
-        requires { ⌜ Sound self ⌝ }
-        ensures { λ r. ⌜ Stepped answerToLend (model.lend (linkOf self) mask) r ⌝ }
+        requires { ⌜ SoundLink self ⌝ }
+        ensures { λ r. ⌜ Stepped answerToLend (model.lend (readOf self) mask) r ⌝ }
     {
         let plan = self.plan;
-        let cp = self.cp;
-        let w = window(plan.slots, plan.frames, cp);
-        let owner = self.owner[cp];
-        let number = refusal(plan.count, owner, self.taken, mask);
-        if number != 0 {
-            return Step {
-                link: self,
-                answer: Answer::Refused(number),
-            };
-        }
-        let i = taker(&self.held, plan, w, mask, self.first);
-        if i == plan.count {
-            return Step {
-                link: self,
-                answer: Answer::Refused(18),
-            };
-        }
-        shift_from(&mut self.held, 1, i, w, cp);
-        self.taken = true;
-        self.first = next(plan.count, i);
-        Step {
-            link: self,
-            answer: Answer::Lent(i as u8),
-        }
+        let cp = self.state[CURRENT];
+        let w = window(plan.slots, plan.frames, cp as usize);
+        let answer = lend(&mut self.state, plan, w, mask);
+        Step { link: self, answer }
     }
 }

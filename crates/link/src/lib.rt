@@ -6,16 +6,16 @@ ghost use Rattle.link.specs.Updates.{movedTo, grantedIn};
 
 pub mod credit;
 mod fresh;
+pub mod flows; // the flows of a state
 pub mod lend;
-pub mod reply; // what a request comes to
 pub mod request;
+pub mod resume; // a state taken up again
 pub mod reset;
 pub mod tick;
 
 use calls::Answer;
 use plan::Plan;
-use tables::holdings::Holdings;
-use unbooked::Unbooked;
+use state::State;
 
 // A flow's injection frame, its remainder, and the quantum number that is expected of its next word.
 pub struct Flow {
@@ -46,18 +46,10 @@ impl Flow {
     }
 }
 
-// A link; 16 is the owner of a position that nobody booked.
+// A link: its plan, and the rest of it in one array of bytes.
 pub struct Link {
     pub plan: Plan,
-    pub cp: usize,
-    pub owner: [u8; 256],
-    pub unbooked: Unbooked,
-    pub flows: [Flow; 16],
-    pub held: Holdings,
-    // the current slot is marked taken
-    pub taken: bool,
-    // the flow that the next lend looks at first
-    pub first: usize,
+    pub state: State,
 }
 
 // What a call hands back.

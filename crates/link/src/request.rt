@@ -1,68 +1,86 @@
 // The request.
-ghost use Prim.Native.Nat.{ℕ};
+ghost use Prim.Native.Nat.{ℕ, _<_};
 ghost use mathlib.Core.Path.{_≡_};
-ghost use Rattle.plan.specs.Reading.{planFor};
 ghost use Rattle.plan.specs.declared.Plan.{Plan};
 ghost use Rattle.model.specs.Refusals.{firstOf};
-ghost use Rattle.model.specs.Word.{flowOf, departureOf};
 ghost use Rattle.model.specs.Request as model;
 ghost use Rattle.calls.specs.Reading.{answerToRequest};
-ghost use Rattle.window.specs.Window.{sizeOf};
-ghost use Rattle.tables.specs.Rows.{row};
-ghost use Rattle.tables.specs.Holdings.{AtMost};
-ghost use Rattle.link.specs.declared.Link.{Link};
-ghost use Rattle.link.specs.Reading.{linkOf};
-ghost use Rattle.link.specs.Sound.{Sound};
-ghost use Rattle.link.specs.Steps.{Stepped};
-ghost use Rattle.link.specs.Given.{SomeLink, placed, RequestOn, WordOn};
-ghost use Rattle.link.specs.Reply.{replyOf};
+ghost use Rattle.unbooked.specs.Words.{InFrame};
+ghost use Rattle.link.specs.Parts.{partsIn};
+ghost use Rattle.link.specs.Changes.{BookedIn};
+ghost use Rattle.link.specs.Sound.{SoundLink};
+ghost use Rattle.link.specs.Steps.{readIn, readOf, Went, Stepped, replyOf, requestAnswer};
+ghost use Rattle.link.specs.Given.{SomePlan, SomeRequest, RequestIn, SeekIn, placed, testsOf};
+ghost use Rattle.link.specs.Sought.{soughtIn};
 use crate::Answer;
 use crate::Flow;
 use crate::Link;
 use crate::Step;
-use crate::reply::Reply;
-use crate::reply::refused;
+use crate::flows::flow_at;
+use crate::flows::put_flow;
 use plan::Entry;
+use state::CURRENT;
+use state::OWNERS;
+use state::State;
 use tables::Found;
-use tables::holdings::Holdings;
-use tables::holdings::shift_from;
+use tables::holdings::raise_from;
 use tables::search::find;
 use tables::search::late_rank;
 use tables::search::valid_in_newest;
-use unbooked::Unbooked;
-use unbooked::frames::book;
 use window::Window;
 use window::positions::window;
+use word::Fields;
 
-// The refusal of a word by the tests before the search, and 0 where it passes them: n flows, the entry and the expected number of the word's flow
-// (of flow 0 where there is none), and T.
-fn refusal(count: usize, e: Entry, size: usize, expected: usize, word: u32) -> u8
-    ensures { λ r. ⌜ ((p : Plan) (k : ℕ) → WordOn p k count e size expected word → r ≡ firstOf (model.requestTests (planFor p) k word)) ⌝ }
+// What a request comes to: 0 and the position granted, or the refusal and 0.
+pub struct Reply {
+    pub number: u8,
+    pub position: u8,
+}
+
+// What the search for a word's position comes to: the frame, what is left of the share, and the position; or no position: what is left, and
+// the refusal.
+pub enum Sought {
+    At(usize, usize, usize),
+    Nowhere(usize, u8),
+}
+
+// A request that books nothing.
+fn refused(number: u8) -> Reply
+    ensures { λ r. ⌜ r ≡ record { number = number; position = 0 } ⌝ }
 {
-    let fields = word::split(word);
-    if count <= fields.flow as usize {
+    Reply {
+        number,
+        position: 0,
+    }
+}
+
+// The refusal of a word with these fields by the tests before the search, and 0 where it passes them.
+fn refusal(s: &State, count: usize, e: Entry, w: Window, fields: Fields) -> u8
+    requires { ⌜ SomeRequest (λ p x. RequestIn p count e w fields x (now s)) ⌝ }
+    ensures { λ r. ⌜ ((p : Plan) (x : ℕ) → RequestIn p count e w fields x (now (s .entry)) → r ≡ testsOf (partsIn p (now (s .entry))) x) ⌝ }
+{
+    let i = fields.flow as usize;
+    if count <= i {
         return 8;
     }
     if fields.destination != e.destination {
         return 9;
     }
-    if size <= fields.departure as usize {
+    if w.slots * w.frames <= fields.departure as usize {
         return 10;
     }
-    if fields.quantum as usize != expected {
+    let flow = flow_at(s, i);
+    if fields.quantum as usize != flow.number {
         return 24;
     }
     0
 }
 
-// The refusal where the search ends with no position, at the newest frame, with a remainder; `would` says whether that frame has a position
-// that would be valid but for the departure. A spent share is refused before the search, so that 11 doesn't come from here.
-fn nowhere(left: usize, would: bool) -> u8
-    ensures { λ r. ⌜ r ≡ firstOf (model.newestTests would left) ⌝ }
+// The refusal where the search ends with no position and some of the share is left; `would` says whether the newest frame has a position
+// that only the departure rules out.
+fn nowhere(would: bool) -> u8
+    ensures { λ r. ⌜ ((left : ℕ) → (left ≡ 0 → ⊥) → r ≡ firstOf (model.newestTests would left)) ⌝ }
 {
-    if left == 0 {
-        return 11;
-    }
     if would {
         return 20;
     }
@@ -70,7 +88,7 @@ fn nowhere(left: usize, would: bool) -> u8
 }
 
 // Flow i of a plan of n flows, and 0 where there is none.
-fn placed(count: usize, i: usize) -> usize
+pub fn placed(count: usize, i: usize) -> usize
     ensures { λ r. ⌜ r ≡ placed count i ⌝ }
 {
     if i < count {
@@ -79,105 +97,102 @@ fn placed(count: usize, i: usize) -> usize
     0
 }
 
-// The flow of a word, or 0 where the plan does not have it.
-pub fn asker(count: usize, word: u32) -> usize
-    ensures { λ r. ⌜ r ≡ placed count (flowOf word) ⌝ }
+// The search for flow i and a departure.
+fn seek(s: &State, e: Entry, w: Window, i: usize, flow: Flow, departure: usize) -> Sought
+    requires { ⌜ SomePlan (λ p. SeekIn p e w i flow departure (now s)) ⌝ }
+    ensures { λ r. ⌜ ((p : Plan) → SeekIn p e w i flow departure (now (s .entry)) → r ≡ soughtIn (readIn p (now (s .entry))) i departure) ⌝ }
 {
-    let fields = word::split(word);
-    placed(count, fields.flow as usize)
-}
-
-fn departure(word: u32) -> usize
-    ensures { λ r. ⌜ r ≡ departureOf word ⌝ }
-{
-    let fields = word::split(word);
-    fields.departure as usize
-}
-
-// What a word that asks for a slot comes to. Its flow is i; i is 0 where the plan does not have it. No more than `most` is held by the flow
-// at any position, unless `most` is 255.
-pub fn ask<'a>(
-    count: usize,
-    e: Entry,
-    w: Window,
-    unbooked: &'a Unbooked,
-    held: &'a Holdings,
-    most: u8,
-    i: usize,
-    flow: Flow,
-    word: u32,
-) -> Reply
-    requires { ⌜ SomeLink (λ l. RequestOn l count e w (now unbooked) (now held) i flow word) ⌝ }
-    requires most { ⌜ AtMost (sizeOf w) most (row (now held) i) ⌝ }
-    ensures { λ r. ⌜ ((l : Link) → RequestOn l count e w (now (unbooked .entry)) (now (held .entry)) i flow word
-        → r ≡ replyOf i (model.request (linkOf l) word)) ⌝ }
-{
-    let number = refusal(count, e, w.slots * w.frames, flow.number, word);
-    if number != 0 {
-        return refused(flow, number);
+    // the share is spent up to the newest frame: there is nothing to search, and no other word is refused as 11
+    if flow.left == 0 && flow.frame == w.newest() {
+        return Sought::Nowhere(0, 11);
     }
-    let newest = w.newest();
-    // the share is spent up to the newest frame: there is nothing to search
-    if flow.left == 0 && flow.frame == newest {
-        return refused(flow, 11);
-    }
-    let late = late_rank(held, most, i, e.cells, w);
+    let late = late_rank(s, i, e.cells, w);
     let found = find(
-        unbooked,
+        s,
         w,
         late,
-        departure(word),
+        departure,
         e.share as usize,
         flow.frame,
         flow.left,
     );
     match found {
         Found::At(frame, left, position) => {
-            return Reply {
-                flow: flow.granted_in(frame, left),
-                position,
-                granted: true,
-                answer: Answer::Granted(word::depart(word, position as u8)),
-            };
+            return Sought::At(frame, left, position);
         }
         Found::Nowhere(left) => {
-            let number = nowhere(left, valid_in_newest(unbooked, w, late));
-            return refused(flow.moved_to(newest, left), number);
+            return Sought::Nowhere(left, nowhere(valid_in_newest(s, w, late)));
         }
     }
+}
+
+// Flow i books a position of a frame.
+fn book(s: &mut State, w: Window, i: usize, frame: usize, position: usize)
+    requires { ⌜ InFrame w frame position × (i < 16) ⌝ }
+    ensures { λ r. ⌜ BookedIn w i frame position (now (s .entry)) (now (s .exit)) ⌝ }
+{
+    s[OWNERS + position] = i as u8;
+    tables::words::book(s, w, frame, position);
+    raise_from(s, i, w, position);
+}
+
+// A word with these fields asks for a slot on a state of a plan with n flows; e is the entry of its flow, or of flow 0 where the plan does not have
+// it. What it comes to; and the state is the next one.
+pub fn request(s: &mut State, count: usize, e: Entry, w: Window, fields: Fields) -> Reply
+    requires { ⌜ SomeRequest (λ p x. RequestIn p count e w fields x (now s)) ⌝ }
+    ensures { λ r. ⌜ ((p : Plan) (x : ℕ) → RequestIn p count e w fields x (now (s .entry))
+        → Went replyOf (model.request (readIn p (now (s .entry))) x) p (now (s .exit)) r) ⌝ }
+{
+    let number = refusal(s, count, e, w, fields);
+    if number != 0 {
+        return refused(number);
+    }
+    let i = fields.flow as usize;
+    let flow = flow_at(s, i);
+    let sought = seek(s, e, w, i, flow, fields.departure as usize);
+    match sought {
+        Sought::At(frame, left, position) => {
+            put_flow(s, i, flow.granted_in(frame, left));
+            book(s, w, i, frame, position);
+            return Reply {
+                number: 0,
+                position: position as u8,
+            };
+        }
+        Sought::Nowhere(left, number) => {
+            put_flow(s, i, flow.moved_to(w.newest(), left));
+            return refused(number);
+        }
+    }
+}
+
+// The answer to a word, from what its request comes to.
+fn told(word: u32, reply: Reply) -> Answer
+    ensures { λ r. ⌜ r ≡ requestAnswer word reply ⌝ }
+{
+    let number = reply.number;
+    if number != 0 {
+        return Answer::Refused(number);
+    }
+    Answer::Granted(word::depart(word, reply.position))
 }
 
 impl Link {
     // A word asks for a slot.
     pub fn request(mut self, word: u32) -> Step
-        requires { ⌜ Sound self ⌝ }
-        ensures { λ r. ⌜ Stepped answerToRequest (model.request (linkOf self) word) r ⌝ }
+        requires { ⌜ SoundLink self ⌝ }
+        ensures { λ r. ⌜ Stepped answerToRequest (model.request (readOf self) word) r ⌝ }
     {
         let plan = self.plan;
-        let i = asker(plan.count, word);
+        let fields = word::split(word);
+        let i = placed(plan.count, fields.flow as usize);
         let e = plan.entries[i];
-        let flow = self.flows[i];
-        let w = window(plan.slots, plan.frames, self.cp);
-        let reply = ask(
-            plan.count,
-            e,
-            w,
-            &self.unbooked,
-            &self.held,
-            255,
-            i,
-            flow,
-            word,
-        );
-        let flow = reply.flow;
-        self.flows[i] = flow;
-        if reply.granted {
-            let position = reply.position;
-            self.owner[position] = i as u8;
-            book(&mut self.unbooked, w, flow.frame, position);
-            shift_from(&mut self.held, 1, i, w, position);
+        let cp = self.state[CURRENT];
+        let w = window(plan.slots, plan.frames, cp as usize);
+        let reply = request(&mut self.state, plan.count, e, w, fields);
+        Step {
+            link: self,
+            answer: told(word, reply),
         }
-        let answer = reply.answer;
-        Step { link: self, answer }
     }
 }

@@ -4,32 +4,41 @@ ghost use Rattle.model.specs.Reset as model;
 ghost use Rattle.calls.specs.Reading.{answerToReset};
 ghost use Rattle.window.specs.Window.{windowOf};
 ghost use Rattle.tables.specs.Asked.{FlowsOf};
-ghost use Rattle.link.specs.Reading.{linkOf};
-ghost use Rattle.link.specs.Sound.{Sound};
-ghost use Rattle.link.specs.Steps.{Stepped};
+ghost use Prim.Native.Nat.{_<_};
+ghost use Rattle.plan.specs.Reading.{Valid};
+ghost use Rattle.state.specs.State.{Whole, ownersOf};
+ghost use Rattle.link.specs.Changes.{Renewed};
+ghost use Rattle.link.specs.Given.{StateIn};
+ghost use Rattle.link.specs.Sound.{SoundLink};
+ghost use Rattle.link.specs.Steps.{readIn, readOf, Went, Stepped};
 ghost use Rattle.link.specs.Reset.{noneHeldIn, quietIn};
 use crate::Answer;
 use crate::Link;
 use crate::Step;
-use crate::fresh::flows_in;
-use crate::lend::booked_or_marked;
-use tables::holdings::Holdings;
+use crate::fresh::start_flows;
+use plan::Plan;
+use state::CURRENT;
+use state::MARK;
+use state::OWNERS;
+use state::State;
+use state::TURN;
+use state::put_masks;
 use tables::holdings::room_from;
-use tables::owners::unbooked;
+use tables::owners::disown;
 use tables::owners::unbooked_later;
 use unbooked::frames::every_slot;
 use window::Window;
 use window::positions::window;
 
 // Whether each of n flows holds nothing at the current position and at each later one: with one cell it would have room there.
-fn none_held(held: &Holdings, count: usize, w: Window) -> bool
+fn none_held(s: &State, count: usize, w: Window) -> bool
     requires { ⌜ FlowsOf w count ⌝ }
-    ensures { λ r. ⌜ r ≡ noneHeldIn (windowOf w) count (now (held .entry)) ⌝ }
+    ensures { λ r. ⌜ r ≡ noneHeldIn (windowOf w) count (now (s .entry)) ⌝ }
 {
     let current = w.current;
     let mut i = 0;
     while i < count {
-        if !room_from(held, i, 1, w, current) {
+        if !room_from(s, i, 1, w, current) {
             return false;
         }
         i += 1;
@@ -38,46 +47,54 @@ fn none_held(held: &Holdings, count: usize, w: Window) -> bool
 }
 
 // Whether a link is quiet: no later position is booked, and nothing is held from the current one on.
-fn quiet<'a>(owner: &'a [u8; 256], held: &'a Holdings, count: usize, w: Window) -> bool
+fn quiet(s: &State, count: usize, w: Window) -> bool
     requires { ⌜ FlowsOf w count ⌝ }
-    ensures { λ r. ⌜ r ≡ quietIn (windowOf w) count (now (owner .entry)) (now (held .entry)) ⌝ }
+    ensures { λ r. ⌜ r ≡ quietIn (windowOf w) count (ownersOf (now (s .entry))) (now (s .entry)) ⌝ }
 {
-    if unbooked_later(owner, w) {
-        return none_held(held, count, w);
+    if unbooked_later(s, w) {
+        return none_held(s, count, w);
     }
     false
 }
 
+// Nobody owns a position of a state, and its flows start again in a frame.
+fn renew(s: &mut State, plan: Plan, frame: usize)
+    requires { ⌜ Valid plan × Whole (now s) × (frame < 256) ⌝ }
+    ensures { λ r. ⌜ Renewed plan frame (now (s .entry)) (now (s .exit)) ⌝ }
+{
+    disown(s);
+    put_masks(s, every_slot(plan.slots, plan.frames));
+    start_flows(s, plan, frame);
+}
+
+// Every frame of a state is recycled, when the link is quiet: the flows start again in the head frame. The clock goes on, and what is held stays, as
+// do the expected numbers.
+pub fn reset(s: &mut State, plan: Plan, w: Window) -> Answer
+    requires { ⌜ StateIn plan w (now s) ⌝ }
+    ensures { λ r. ⌜ Went answerToReset (model.reset (readIn plan (now (s .entry)))) plan (now (s .exit)) r ⌝ }
+{
+    if !quiet(s, plan.count, w) {
+        return Answer::Refused(23);
+    }
+    let cp = w.current;
+    if s[OWNERS + cp] != 16 {
+        s[MARK] = 1;
+    }
+    renew(s, plan, w.head);
+    s[TURN] = 0;
+    Answer::Reset
+}
+
 impl Link {
-    // Every frame is recycled, when the link is quiet: the flows start again in the head frame. The clock goes on, and what is held stays, as do
-    // the expected numbers.
+    // Every frame is recycled, when the link is quiet.
     pub fn reset(mut self) -> Step
-        requires { ⌜ Sound self ⌝ }
-        ensures { λ r. ⌜ Stepped answerToReset (model.reset (linkOf self)) r ⌝ }
+        requires { ⌜ SoundLink self ⌝ }
+        ensures { λ r. ⌜ Stepped answerToReset (model.reset (readOf self)) r ⌝ }
     {
         let plan = self.plan;
-        let cp = self.cp;
-        let w = window(plan.slots, plan.frames, cp);
-        if !quiet(&self.owner, &self.held, plan.count, w) {
-            return Step {
-                link: self,
-                answer: Answer::Refused(23),
-            };
-        }
-        let owner = self.owner[cp];
-        let taken = booked_or_marked(owner, self.taken);
-        let owners = unbooked();
-        let words = every_slot(plan.slots, plan.frames);
-        let entries = plan.entries;
-        let flows = flows_in(self.flows, w.head, entries, plan.count);
-        self.taken = taken;
-        self.owner = owners;
-        self.unbooked = words;
-        self.flows = flows;
-        self.first = 0;
-        Step {
-            link: self,
-            answer: Answer::Reset,
-        }
+        let cp = self.state[CURRENT];
+        let w = window(plan.slots, plan.frames, cp as usize);
+        let answer = reset(&mut self.state, plan, w);
+        Step { link: self, answer }
     }
 }

@@ -1,25 +1,36 @@
 // The tick.
 ghost use mathlib.Core.Path.{_≡_};
+ghost use Prim.Native.Nat.{_+_, _<_};
+ghost use lib.ListN.{getD};
 ghost use Rattle.model.specs.Tick as model;
 ghost use Rattle.plan.specs.Reading.{Valid};
 ghost use Rattle.calls.specs.Reading.{answerToTick};
-ghost use Rattle.link.specs.Updates.{leftHeads};
+ghost use Rattle.state.specs.State.{Whole};
 ghost use Rattle.tables.specs.Owners.{ownerOf};
-ghost use Rattle.link.specs.Reading.{linkOf};
-ghost use Rattle.link.specs.Sound.{Sound};
-ghost use Rattle.link.specs.Steps.{Stepped};
+ghost use Rattle.link.specs.Given.{StateIn};
+ghost use Rattle.link.specs.Parts.{flowsOf};
+ghost use Rattle.link.specs.Changes.{FlowsNow, FrameLeft, ChangeIn};
+ghost use Rattle.link.specs.Sound.{SoundLink};
+ghost use Rattle.link.specs.Steps.{readIn, readOf, Went, Stepped};
+ghost use Rattle.link.specs.Updates.{leftHeads};
 use crate::Answer;
-use crate::Flow;
 use crate::Link;
 use crate::Step;
+use crate::flows::flow_at;
+use crate::flows::put_flow;
 use plan::Plan;
+use state::CURRENT;
+use state::MARK;
+use state::OWNERS;
+use state::State;
 use tables::holdings::carry_head;
 use tables::owners::empty_head;
-use unbooked::frames::recycle_head;
+use tables::words::recycle_head;
+use window::Window;
 use window::positions::window;
 
 // The answer at a position with this owner.
-pub(crate) fn turn(owner: u8) -> Answer
+pub fn turn(owner: u8) -> Answer
     ensures { λ r. ⌜ r ≡ answerToTick (ownerOf owner) ⌝ }
 {
     if owner == 16 {
@@ -29,43 +40,60 @@ pub(crate) fn turn(owner: u8) -> Answer
 }
 
 // The flows of a plan, those in the head frame moved to the next one with their share.
-pub(crate) fn leave_head(flows: [Flow; 16], plan: Plan, head: usize, on: usize) -> [Flow; 16]
-    requires { ⌜ Valid plan ⌝ }
-    ensures { λ r. ⌜ r ≡ leftHeads plan head on flows ⌝ }
+fn leave_head(s: &mut State, plan: Plan, head: usize, on: usize)
+    requires { ⌜ Valid plan × Whole (now s) × (on < 256) ⌝ }
+    ensures { λ r. ⌜ FlowsNow (now (s .entry)) (now (s .exit)) (leftHeads plan head on (flowsOf (now (s .entry)))) ⌝ }
 {
-    let mut all = flows;
     let mut i = 0;
     while i < plan.count {
         let e = plan.entries[i];
-        let f = all[i];
+        let f = flow_at(s, i);
         if f.frame == head {
-            all[i] = f.moved_to(on, e.share as usize);
+            put_flow(s, i, f.moved_to(on, e.share as usize));
         }
         i += 1;
     }
-    all
+}
+
+// The head frame is left, and `on` is the next one.
+fn leave(s: &mut State, plan: Plan, w: Window, on: usize)
+    requires { ⌜ ChangeIn plan w on (now s) ⌝ }
+    ensures { λ r. ⌜ FrameLeft plan w on (now (s .entry)) (now (s .exit)) ⌝ }
+{
+    empty_head(s, w);
+    recycle_head(s, w);
+    carry_head(s, plan.count, w);
+    leave_head(s, plan, w.head, on);
+}
+
+// The current position goes on by one: the window there.
+pub fn tick(s: &mut State, plan: Plan, w: Window) -> Window
+    requires { ⌜ StateIn plan w (now s) ⌝ }
+    ensures is { λ r. ⌜ Went answerToTick (model.tick (readIn plan (now (s .entry)))) plan (now (s .exit))
+        (answerToTick (ownerOf (getD (now (s .exit)) (4096 + r .current) 0))) ⌝ }
+    ensures there { λ r. ⌜ StateIn plan r (now (s .exit)) ⌝ }
+{
+    let on = w.ticked();
+    if on.head != w.head {
+        leave(s, plan, w, on.head);
+    }
+    s[MARK] = 0;
+    s[CURRENT] = on.current as u8;
+    on
 }
 
 impl Link {
     // The current position goes on by one.
     pub fn tick(mut self) -> Step
-        requires { ⌜ Sound self ⌝ }
-        ensures { λ r. ⌜ Stepped answerToTick (model.tick (linkOf self)) r ⌝ }
+        requires { ⌜ SoundLink self ⌝ }
+        ensures { λ r. ⌜ Stepped answerToTick (model.tick (readOf self)) r ⌝ }
     {
         let plan = self.plan;
-        let w = window(plan.slots, plan.frames, self.cp);
-        let on = w.ticked();
-        self.taken = false;
-        if on.head != w.head {
-            empty_head(&mut self.owner, w);
-            recycle_head(&mut self.unbooked, w);
-            carry_head(&mut self.held, plan.count, w);
-            let flows = leave_head(self.flows, plan, w.head, on.head);
-            self.flows = flows;
-        }
-        let cp = on.current;
-        self.cp = cp;
-        let owner = self.owner[cp];
+        let cp = self.state[CURRENT];
+        let w = window(plan.slots, plan.frames, cp as usize);
+        let on = tick(&mut self.state, plan, w);
+        let next = on.current;
+        let owner = self.state[OWNERS + next];
         Step {
             link: self,
             answer: turn(owner),

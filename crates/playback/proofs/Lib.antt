@@ -1,5 +1,3 @@
-mod Mosts
 mod Records
-mod Arms
 mod SoFar
 mod Texts

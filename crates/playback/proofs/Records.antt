@@ -1,6 +1,7 @@
 -- What a record that is played comes to: the paper's link after its call, and the paper's line. Assumes nothing.
 use Prim.Native.Nat.{ℕ}
 use mathlib.Core.Path.{_≡_, refl, sym, ap, _∙_}
+use mathlib.Core.List.{List}
 use mathlib.Core.Option.{Option}
 use Rattle.plan.specs.declared.Plan.{Plan}
 use Rattle.calls.specs.declared.Answer.{Answer}
@@ -16,15 +17,9 @@ use Rattle.model.specs.Credit.{credit}
 use Rattle.model.specs.Tick.{tick}
 use Rattle.model.specs.Listing.{lineOf, made}
 use Rattle.window.specs.declared.Window.{Window}
-use Rattle.link.specs.declared.Link.{Link}
-use Rattle.link.specs.Reading.{linkOf}
-use Rattle.link.specs.Updates.{withCurrent}
-use Rattle.link.proofs.Given.{AtHand}
-use Rattle.link.specs.Steps.{Stepped}
-
--- While records are played the current position is kept in the window: this is the link.
-abbrev pub playedAt : Link → Window → Link
-playedAt link w = withCurrent link (w .current)
+use Rattle.link.specs.Given.{StateIn}
+use Rattle.link.specs.Steps.{readIn, Went}
+use Rattle.link.proofs.Stays.{request-current, credit-current, still-in}
 
 -- ---- what a record reads as
 
@@ -38,38 +33,37 @@ reads-as o r e = sym (call-in o) ∙ ap callIn (sym e)
 
 -- ---- what it comes to
 
--- from link l the call o, or none, comes to this link with this window at hand, and to an answer with the paper's line
-pub record Played (l : Link) (o : Made) (plan : Plan) (w : Window) (link : Link) (answer : Answer) : Type 0 where
-  pub link-is : linkOf (playedAt link w) ≡ made (linkOf l) o .link
-  pub line-is : lineFor answer ≡ lineOf (made (linkOf l) o .answer)
-  pub hand : AtHand (playedAt link w) plan w
+-- from state s of a plan the call o, or none, comes to this state with this window at hand, and to an answer with the paper's line
+pub record Played (plan : Plan) (s : List ℕ) (o : Made) (w : Window) (t : List ℕ) (answer : Answer) : Type 0 where
+  pub link-is : readIn plan t ≡ made (readIn plan s) o .link
+  pub line-is : lineFor answer ≡ lineOf (made (readIn plan s) o .answer)
+  pub hand : StateIn plan w t
 
 -- no call: 16, and the link stays
-pub no-call-played : {plan : Plan} {w : Window} {link : Link} → AtHand (playedAt link w) plan w
-    → Played (playedAt link w) (callIn NoCall) plan w link (Refused 16)
+pub no-call-played : {plan : Plan} {w : Window} {s : List ℕ} → StateIn plan w s → Played plan s (callIn NoCall) w s (Refused 16)
 no-call-played hand = record { link-is = refl; line-is = refl; hand = hand }
 
-module _ {l : Link} {plan : Plan} {w : Window} {link : Link} {answer : Answer} (hand : AtHand (playedAt link w) plan w) where
-  pub played-request : (x : ℕ) → Stepped answerToRequest (request (linkOf l) x) (record { link = playedAt link w; answer = answer })
-      → Played l (callIn (Record.Call (Request x))) plan w link answer
+module _ {plan : Plan} {w : Window} {s : List ℕ} (o : StateIn plan w s) {t : List ℕ} {answer : Answer} where
+  pub played-request : (x : ℕ) → Went answerToRequest (request (readIn plan s) x) plan t answer
+      → Played plan s (callIn (Record.Call (Request x))) w t answer
   played-request x e = record {
     link-is = e .link-is;
-    line-is = ap lineFor (e .answer-is) ∙ line-of-request (request (linkOf l) x .answer);
-    hand = hand;
+    line-is = ap lineFor (e .answer-is) ∙ line-of-request (request (readIn plan s) x .answer);
+    hand = still-in o e (request-current (readIn plan s) x);
   }
 
-  pub played-credit : (i p : ℕ) → Stepped answerToCredit (credit (linkOf l) i p) (record { link = playedAt link w; answer = answer })
-      → Played l (callIn (Record.Call (Credit i p))) plan w link answer
+  pub played-credit : (i p : ℕ) → Went answerToCredit (credit (readIn plan s) i p) plan t answer
+      → Played plan s (callIn (Record.Call (Credit i p))) w t answer
   played-credit i p e = record {
     link-is = e .link-is;
-    line-is = ap lineFor (e .answer-is) ∙ line-of-credit (credit (linkOf l) i p .answer);
-    hand = hand;
+    line-is = ap lineFor (e .answer-is) ∙ line-of-credit (credit (readIn plan s) i p .answer);
+    hand = still-in o e (credit-current (readIn plan s) i p);
   }
 
-  pub played-tick : Stepped answerToTick (tick (linkOf l)) (record { link = playedAt link w; answer = answer })
-      → Played l (callIn (Record.Call Tick)) plan w link answer
-  played-tick e = record {
+  pub played-tick : {on : Window} → Went answerToTick (tick (readIn plan s)) plan t answer → StateIn plan on t
+      → Played plan s (callIn (Record.Call Tick)) on t answer
+  played-tick e there = record {
     link-is = e .link-is;
-    line-is = ap lineFor (e .answer-is) ∙ line-of-tick (tick (linkOf l) .answer);
-    hand = hand;
+    line-is = ap lineFor (e .answer-is) ∙ line-of-tick (tick (readIn plan s) .answer);
+    hand = there;
   }

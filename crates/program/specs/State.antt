@@ -2,14 +2,13 @@
 use Prim.Native.Nat.{ℕ, _≤_, _<_}
 use mathlib.Core.Path.{_≡_}
 use mathlib.Core.List.{List, []}
-use mathlib.Core.Bool.{true, false}
+use mathlib.Core.Bool.{true}
 use lib.ListN.{length, take, replicate}
 use lib.Seq.{sets}
 use Rattle.plan.specs.Reading.{noEntry}
 use Rattle.link.specs.declared.Link.{Link}
-use Rattle.link.specs.Layout.{noFlow}
-use Rattle.link.specs.Reading.{linkOf}
-use Rattle.link.specs.Sound.{Sound}
+use Rattle.link.specs.Steps.{readOf}
+use Rattle.link.specs.Sound.{SoundLink}
 use Rattle.program.specs.declared.Phase.{Phase}
 use Rattle.program.specs.declared.Phase.the-variants.{Reading, Playing, Ended}
 use Rattle.program.specs.declared.Kept.{Kept}
@@ -35,7 +34,7 @@ pub record Keeps (k : Kept) (bytes : List ℕ) : Type 0 where
 
 abbrev pub stageIn : Phase → Link → List ℕ → Stage
 stageIn Reading link bytes = reading bytes
-stageIn Playing link bytes = playing (linkOf link) bytes
+stageIn Playing link bytes = playing (readOf link) bytes
 stageIn Ended link bytes = ended
 
 abbrev pub stageOf : State → Stage
@@ -47,13 +46,7 @@ stageOf s = stageIn (s .phase) (s .link) (bytesIn (s .kept))
 unfoldable pub noLink : Link
 noLink = record {
   plan = record { slots = 0; frames = 0; buffer = 0; count = 0; entries = replicate 16 noEntry };
-  cp = 0;
-  owner = replicate 256 0;
-  unbooked = replicate 8 0;
-  flows = replicate 16 noFlow;
-  held = replicate 4096 0;
-  taken = false;
-  first = 0;
+  state = replicate 4499 0;
 }
 
 -- bytes of the plan are still to come
@@ -63,7 +56,7 @@ pub record Awaits (link : Link) (bytes : List ℕ) : Type 0 where
 
 -- records are played
 pub record Plays (link : Link) (bytes : List ℕ) : Type 0 where
-  pub sound : Sound link
+  pub sound : SoundLink link
   pub not-whole : length bytes < 5
 
 -- the plan was refused

@@ -1,13 +1,12 @@
 // A state for each phase.
 ghost use mathlib.Core.Path.{_≡_};
-ghost use Rattle.link.specs.Reading.{linkOf};
+ghost use Rattle.link.specs.Steps.{readOf};
 ghost use Rattle.program.specs.Stage as stage;
 ghost use Rattle.program.specs.State.{bytesIn, noLink, Keeps, Awaits, Plays, Stands};
 use crate::Kept;
 use crate::Phase;
 use crate::State;
 use crate::keeping::none;
-use link::Flow;
 use link::Link;
 use plan::Entry;
 use plan::Plan;
@@ -30,25 +29,8 @@ pub(crate) fn no_link() -> Link
         count: 0,
         entries,
     };
-    let flow = Flow {
-        frame: 0,
-        left: 0,
-        number: 0,
-    };
-    let owner = [0u8; 256];
-    let unbooked = [0u64; 8];
-    let flows = [flow; 16];
-    let held = [0u8; 4096];
-    Link {
-        plan,
-        cp: 0,
-        owner,
-        unbooked,
-        flows,
-        held,
-        taken: false,
-        first: 0,
-    }
+    let state = [0u8; 4499];
+    Link { plan, state }
 }
 
 // Bytes of the plan are still to come.
@@ -66,7 +48,7 @@ pub(crate) fn reading(link: Link, kept: Kept) -> State
 // Records are played.
 pub(crate) fn playing(link: Link, kept: Kept) -> State
     requires { ⌜ Plays link (bytesIn kept) × Keeps kept (bytesIn kept) ⌝ }
-    ensures { λ r. ⌜ Stands r (stage.playing (linkOf link) (bytesIn kept)) ⌝ }
+    ensures { λ r. ⌜ Stands r (stage.playing (readOf link) (bytesIn kept)) ⌝ }
 {
     State {
         phase: Phase::Playing,

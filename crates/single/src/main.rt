@@ -1,4 +1,4 @@
-// Measures single calls by value, and requests in bursts of 16. It reads a call file of at most 4096 calls from standard input, plays it many times and times each streak, the calls of one kind in a row. The lowest time of each streak counts, less the clock's own.
+// Measures single calls by value, and requests in bursts of 16 and of none. It reads a call file of at most 4096 calls from standard input, plays it many times and times each streak, the calls of one kind in a row. The lowest time of each streak counts, less the clock's own.
 mod several;
 mod timed;
 
@@ -27,7 +27,7 @@ fn play(
     words: &[u32; MOST],
     lowest: &mut [u64; MOST],
     count: usize,
-    in_bursts: bool,
+    most: usize,
 ) -> u64
     requires { ⌜ Valid plan × (count ≤ 4096) ⌝ }
 {
@@ -40,7 +40,7 @@ fn play(
     let mut from = 0;
     while from < count {
         let to = file::streak_end(kinds, from, count);
-        let t = timed::streak(step, kinds[from], words, from, to, in_bursts);
+        let t = timed::streak(step, kinds[from], words, from, to, most);
         step = t.step;
         lowest[from] = clock::least(lowest[from], t.spent);
         sum = std::num::wrapping_add_u64(sum, t.sum);
@@ -56,23 +56,31 @@ fn repeat(
     words: &[u32; MOST],
     lowest: &mut [u64; MOST],
     count: usize,
-    in_bursts: bool,
+    most: usize,
 ) -> u64
     requires { ⌜ Valid plan × (count ≤ 4096) ⌝ }
 {
     let mut sum = 0;
     for _ in 0..REPEATS {
-        sum = play(plan, kinds, words, lowest, count, in_bursts);
+        sum = play(plan, kinds, words, lowest, count, most);
     }
     sum
 }
 
-// Prints a line for each kind of call, and one for requests in bursts.
-fn tell(kinds: &[u8; MOST], lowest: &[u64; MOST], in_bursts: &[u64; MOST], count: usize, cost: u64)
+// Prints a line for each kind of call, and one for requests in bursts and for bursts of no words.
+fn tell(
+    kinds: &[u8; MOST],
+    lowest: &[u64; MOST],
+    in_bursts: &[u64; MOST],
+    floor: &[u64; MOST],
+    count: usize,
+    cost: u64,
+)
     requires { ⌜ count ≤ 4096 ⌝ }
 {
     report::line(b"request", 1, kinds, lowest, count, cost);
     report::line(b"burst", 1, kinds, in_bursts, count, cost);
+    report::line(b"floor", 1, kinds, floor, count, cost);
     report::line(b"credit", 2, kinds, lowest, count, cost);
     report::line(b"tick", 3, kinds, lowest, count, cost);
 }
@@ -86,10 +94,12 @@ fn measure(plan: Plan, records: &[u8])
     let mut lowest = [u64::MAX; MOST];
     let count = file::split(records, &mut kinds, &mut words);
     let cost = clock::cost();
-    let sum = repeat(plan, &kinds, &words, &mut lowest, count, false);
+    let sum = repeat(plan, &kinds, &words, &mut lowest, count, 1);
     let mut in_bursts = [u64::MAX; MOST];
-    let same = repeat(plan, &kinds, &words, &mut in_bursts, count, true);
-    tell(&kinds, &lowest, &in_bursts, count, cost);
+    let same = repeat(plan, &kinds, &words, &mut in_bursts, count, 16);
+    let mut floor = [u64::MAX; MOST];
+    repeat(plan, &kinds, &words, &mut floor, count, 0);
+    tell(&kinds, &lowest, &in_bursts, &floor, count, cost);
     report::print(b"answers ");
     report::print_number(sum);
     report::print(b"\nin bursts ");

@@ -1,6 +1,6 @@
 // The records of a burst.
 ghost use Prim.Native.Nat.{_+_, _≤_};
-ghost use Rattle.link.specs.Sound.{Sound};
+ghost use Rattle.link.specs.Sound.{SoundLink};
 use burst::Ask;
 use burst::HandedBack;
 use link::Link;
@@ -17,8 +17,8 @@ fn unfilled(word: u32) -> Ask {
 
 // A link before any burst.
 pub(crate) fn none(link: Link) -> HandedBack
-    requires { ⌜ Sound link ⌝ }
-    ensures { λ r. ⌜ Sound (r .link) ⌝ }
+    requires { ⌜ SoundLink link ⌝ }
+    ensures { λ r. ⌜ SoundLink (r .link) ⌝ }
 {
     HandedBack {
         link,

@@ -1,6 +1,6 @@
 // Calls of one kind, by value, one after the other, and the time that they take.
 ghost use Prim.Native.Nat.{_≤_};
-ghost use Rattle.link.specs.Sound.{Sound};
+ghost use Rattle.link.specs.Sound.{SoundLink};
 use crate::several;
 use burst::burst_first;
 use calls::Answer;
@@ -35,8 +35,8 @@ fn add(sum: u64, answer: Answer) -> u64 {
 }
 
 fn requests(first: Step, words: &[u32; MOST], from: usize, to: usize) -> Timed
-    requires { ⌜ Sound (first .link) × (to ≤ 4096) ⌝ }
-    ensures { λ r. ⌜ Sound (r .step .link) ⌝ }
+    requires { ⌜ SoundLink (first .link) × (to ≤ 4096) ⌝ }
+    ensures { λ r. ⌜ SoundLink (r .step .link) ⌝ }
 {
     let mut step = first;
     let mut sum = 0;
@@ -61,8 +61,8 @@ fn position(word: u32) -> usize {
 }
 
 fn credits(first: Step, words: &[u32; MOST], from: usize, to: usize) -> Timed
-    requires { ⌜ Sound (first .link) × (to ≤ 4096) ⌝ }
-    ensures { λ r. ⌜ Sound (r .step .link) ⌝ }
+    requires { ⌜ SoundLink (first .link) × (to ≤ 4096) ⌝ }
+    ensures { λ r. ⌜ SoundLink (r .step .link) ⌝ }
 {
     let mut step = first;
     let mut sum = 0;
@@ -78,8 +78,8 @@ fn credits(first: Step, words: &[u32; MOST], from: usize, to: usize) -> Timed
 }
 
 fn ticks(first: Step, from: usize, to: usize) -> Timed
-    requires { ⌜ Sound (first .link) ⌝ }
-    ensures { λ r. ⌜ Sound (r .step .link) ⌝ }
+    requires { ⌜ SoundLink (first .link) ⌝ }
+    ensures { λ r. ⌜ SoundLink (r .step .link) ⌝ }
 {
     let mut step = first;
     let mut sum = 0;
@@ -93,10 +93,11 @@ fn ticks(first: Step, from: usize, to: usize) -> Timed
     Timed { step, sum, spent }
 }
 
-// The requests of a streak as bursts of 16; the last may have fewer.
-fn bursts(first: Step, words: &[u32; MOST], from: usize, to: usize) -> Timed
-    requires { ⌜ Sound (first .link) × (to ≤ 4096) ⌝ }
-    ensures { λ r. ⌜ Sound (r .step .link) ⌝ }
+// The requests of a streak as bursts of 16; the last may have fewer. No more than `most` words of each are asked: where that is 0, a burst is what it
+// takes to hand the link over and back.
+fn bursts(first: Step, words: &[u32; MOST], from: usize, to: usize, most: usize) -> Timed
+    requires { ⌜ SoundLink (first .link) × (to ≤ 4096) ⌝ }
+    ensures { λ r. ⌜ SoundLink (r .step .link) ⌝ }
 {
     let mut back = several::none(first.link);
     let mut sum = 0;
@@ -104,9 +105,10 @@ fn bursts(first: Step, words: &[u32; MOST], from: usize, to: usize) -> Timed
     let begin = clock::nanoseconds();
     while at < to {
         let count = smaller(to - at, 16);
-        back = burst_first(back.link, several::asks(words, at, count), count);
+        let asked = smaller(count, most);
+        back = burst_first(back.link, several::asks(words, at, asked), asked);
         let records = back.records;
-        sum = std::num::wrapping_add_u64(sum, several::answers(records, count));
+        sum = std::num::wrapping_add_u64(sum, several::answers(records, asked));
         at += count;
     }
     let spent = clock::since(begin);
@@ -118,23 +120,23 @@ fn bursts(first: Step, words: &[u32; MOST], from: usize, to: usize) -> Timed
     Timed { step, sum, spent }
 }
 
-// Plays a streak: the calls of a kind from one place to another, requests one by one or in bursts.
+// Plays a streak: the calls of a kind from one place to another, requests in bursts of at most so many words, and one by one where that is 1.
 pub(crate) fn streak(
     step: Step,
     kind: u8,
     words: &[u32; MOST],
     from: usize,
     to: usize,
-    in_bursts: bool,
+    most: usize,
 ) -> Timed
-    requires { ⌜ Sound (step .link) × (to ≤ 4096) ⌝ }
-    ensures { λ r. ⌜ Sound (r .step .link) ⌝ }
+    requires { ⌜ SoundLink (step .link) × (to ≤ 4096) ⌝ }
+    ensures { λ r. ⌜ SoundLink (r .step .link) ⌝ }
 {
-    if kind == 1 && in_bursts {
-        return bursts(step, words, from, to);
+    if kind == 1 && most == 1 {
+        return requests(step, words, from, to);
     }
     if kind == 1 {
-        return requests(step, words, from, to);
+        return bursts(step, words, from, to, most);
     }
     if kind == 2 {
         return credits(step, words, from, to);

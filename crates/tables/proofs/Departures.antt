@@ -27,7 +27,7 @@ module _ (w : Window) (v : Proper w) (d : ℕ) (there : d < sizeOf w) where
   -- the tile has come: anywhere
   pub leaves-anywhere : passed (windowOf w) d ≡ true → FromRank w (canLeave (windowOf w) d) 0
   unfolding canLeave
-  leaves-anywhere come = record { is = λ p l. rw (le-ltb (rankIn w (w .current)) (rankIn w d) low) (le-leb 0 (rankIn w p) (omega arith)) }
+  leaves-anywhere come = record { is = λ p l. rw (le-ltb (rankIn w (w .current)) (rankIn w d) low) (le-leb 0 (rankIn w p) (omega arith)); most = omega arith }
     where
       low : rankIn w d ≤ rankIn w (w .current)
       low = go (decLe (rankIn w d) (w .current - baseOf w))
@@ -39,7 +39,10 @@ module _ (w : Window) (v : Proper w) (d : ℕ) (there : d < sizeOf w) where
   -- it has not: after the departure
   pub leaves-after : passed (windowOf w) d ≡ false → FromRank w (canLeave (windowOf w) d) (rankIn w d + 1)
   unfolding canLeave
-  leaves-after late = record { is = λ p l. rw (lt-ltb (rankIn w (w .current)) (rankIn w d) high) (after p (decLt (rankIn w d) (rankIn w p))) }
+  leaves-after late = record {
+    is = λ p l. rw (lt-ltb (rankIn w (w .current)) (rankIn w d) high) (after p (decLt (rankIn w d) (rankIn w p)));
+    most = omega (arith, rank-below w v d);
+  }
     where
       high : rankIn w (w .current) < rankIn w d
       high = go (decLe (rankIn w d) (w .current - baseOf w))

@@ -9,7 +9,7 @@ use Rattle.window.proofs.Tabulated.{replicate-table}
 use Rattle.window.specs.Ranges.{inRange, replaced}
 use Rattle.window.proofs.Ranges.{in-range, length-replaced, replaced-at}
 use Rattle.tables.specs.Owners.{everywhere}
-use Rattle.tables.specs.Rows.{row, Sixteen}
+use Rattle.tables.specs.Rows.{row}
 use Rattle.tables.specs.Holdings.{nothingHeld}
 use Rattle.tables.proofs.Places.{row-is}
 use Rattle.tables.proofs.Rows.{length-rows-of, row-of-rows}
@@ -31,7 +31,7 @@ nothing-at q = go (decLt q 256)
     go (yes h) = everywhere-at 0 q h
     go (no h) = List·getD-eq-default (everywhere 0) 0 (omega (arith, length-everywhere 0))
 
-pub length-nothing : Sixteen nothingHeld
+pub length-nothing : length nothingHeld ≡ 4096
 length-nothing = length-rows-of _
 
 pub row-of-nothing : (i : ℕ) → i < 16 → row nothingHeld i ≡ everywhere 0

@@ -17,7 +17,7 @@ use Rattle.window.proofs.Bytes.{wrapped-up, wrapped-down}
 use Rattle.window.proofs.FromOn.{replaced-from}
 use Rattle.tables.specs.Rows.{row, Sixteen}
 use Rattle.tables.specs.Holdings.{someHeld, roomAt, shiftedRow, lastOf, carriedRow, carried}
-use Rattle.tables.proofs.CarriedRows.{length-carried, row-of-carried, row-past-carried}
+use Rattle.tables.proofs.CarriedRows.{row-of-carried, row-past-carried}
 
 -- past the flows that it is carried on for
 pub row-not-carried : (w : Window) (n : ℕ) (h : List ℕ) (i : ℕ) → n ≤ i → row (carried w n h) i ≡ row h i
@@ -42,10 +42,7 @@ module _ (w : Window) (v : Proper w) where
   -- ---- at a frame change of n flows
 
   module _ (n : ℕ) (h : List ℕ) (long : Sixteen h) where
-    pub carried-long : Sixteen (carried w n h)
-    carried-long = length-carried _ _ _ _ h ∙ long
-
-    last-below : lastOf w < 256
+    pub last-below : lastOf w < 256
     last-below =
         let some : 0 < sizeOf w = omega (arith, v .measures .current-below) in
         let below = mod-lt (baseOf w + sizeOf w - 1) some in

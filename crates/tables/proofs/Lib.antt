@@ -2,13 +2,14 @@
 mod Places
 pub mod Rows
 mod RowRanges
-mod CarriedRows
+pub mod CarriedRows
+pub mod HeldRows
 pub mod HoldingChanges
 mod Largest
-pub mod AtMost
+pub mod Bounds
 pub mod FreshTables
 pub mod UnbookedSlots
-mod WordsMade
+pub mod Masks
 mod LaterPositions
 -- one pass over a row
 mod Padded

@@ -21,7 +21,8 @@ use Rattle.window.proofs.RangeLoops.{Replacing, replacing-none, replacing-more}
 use Rattle.tables.specs.Rows.{row}
 use Rattle.tables.specs.Padded.{pad, Bytes}
 use Rattle.tables.specs.Holdings.{someHeld, largest, mostHeld, shiftedRow, shifted}
-use Rattle.tables.proofs.Places.{row-at, with-row-in, with-row-before, with-row-past, with-row-is}
+use Rattle.state.proofs.Parts.{beside-back}
+use Rattle.tables.proofs.Places.{row-at, with-row-in, with-row-is, beside-row}
 use Rattle.tables.proofs.Rows.{length-row, length-with-row}
 use Rattle.tables.proofs.Largest.{largest-none, largest-one-more, largest-most}
 use Rattle.tables.proofs.Padded.{Counting, counting-first, counting-on, counted-pad}
@@ -128,8 +129,7 @@ module _ (w : Window) (v : Proper w) (p : ℕ) (lp : p < sizeOf w) (h : List ℕ
 
   pub raised-again : Bytes h (256 * i) (256 * i + sizeOf w) → shifted (windowOf w) 1 i p fewer ≡ h
   raised-again bytes =
-      sym (with-row-is fewer i (shiftedRow (windowOf w) 1 p (row fewer i)) h (sym (length-with-row h i _)) at
-      (λ k b. sym (with-row-before h i _ k b)) (λ k b. sym (with-row-past h i _ k b)))
+      sym (with-row-is fewer i (shiftedRow (windowOf w) 1 p (row fewer i)) h (beside-back (beside-row h i _)) at)
     where
       -- y at position q, lowered and raised
       back : (q : ℕ) (b : Bool) → from q ≡ b → Dec (q < sizeOf w) → (y : ℕ) → (q < sizeOf w → y < 256)

@@ -24,7 +24,8 @@ use Rattle.tables.specs.Holdings.{someHeld, largest, mostHeld, shiftedRo
 use Rattle.tables.proofs.Places.{row-at}
 use Rattle.tables.proofs.Rows.{length-row}
 use Rattle.tables.proofs.Largest.{largest-same}
-use Rattle.tables.proofs.RowRanges.{all-in-row, replaced-in-row}
+use Rattle.state.proofs.PartRanges.{all-in-part}
+use Rattle.tables.proofs.RowRanges.{replaced-in-row}
 
 module _ (w : Window) (v : Proper w) (p : ℕ) (lp : p < sizeOf w) where
   -- ---- the pad
@@ -70,7 +71,7 @@ module _ (w : Window) (v : Proper w) (p : ℕ) (lp : p < sizeOf w) where
     pub held-padded : (r : Bool)
         → All (λ k. ltb 0 (max (getD h k 0) (pad (baseOf w) turn 255 0 (k - 256 * i)))) (256 * i) (256 * i + sizeOf w) r
         → r ≡ everyFrom (windowOf w) p (someHeld (row h i))
-    held-padded r x = all-from w v p lp _ _ r (λ q l. refl) (all-in-row _ _ (256 * i) 0 (sizeOf w) at (omega arith) refl x)
+    held-padded r x = all-from w v p lp _ _ r (λ q l. refl) (all-in-part _ _ (256 * i) 0 (sizeOf w) at (omega arith) refl x)
       where
         padded : (b : Bool) (y : ℕ) → ltb 0 (max y (cond b 0 255)) ≡ not b || ltb 0 y
         padded true y = rw max-zero

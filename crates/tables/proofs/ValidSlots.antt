@@ -13,13 +13,14 @@ use Rattle.model.specs.Tables.{any, firstFrom}
 use Rattle.model.specs.Window as model
 use Rattle.model.proofs.Tests.{any-none, any-of-none}
 use Rattle.window.specs.declared.Window.{Window}
-use Rattle.window.specs.Window.{windowOf, Proper}
-use Rattle.window.proofs.Windows.{frame-fits}
+use Rattle.window.specs.Window.{windowOf, ranksFrom}
+use Rattle.state.specs.State.{ownersOf, masksOf}
 use Rattle.window.proofs.Ranks.{rankIn, rank-slot}
 use Rattle.unbooked.specs.Bits.{bitAt, Bits, Lowest}
 use Rattle.unbooked.proofs.WordBits.{no-bit, one-word}
 use Rattle.tables.specs.Owners.{unbookedAt}
-use Rattle.tables.specs.Search.{validAt, Gathering, ValidSlots}
+use Rattle.tables.specs.Asked.{MasksIn}
+use Rattle.tables.specs.Search.{validAt, ValidSlots}
 
 -- ---- gathered: the unbooked slots of frame j without those of a rank below `low`
 
@@ -30,18 +31,20 @@ leb-over low r i = go (decLe low (r + i))
     go (yes h) = le-leb (low - r) i (omega arith) ∙ sym (le-leb low (r + i) h)
     go (no h) = lt-leb (low - r) i (omega arith) ∙ sym (lt-leb low (r + i) (omega arith))
 
-module _ (w : Window) (v : Proper w) {owners words : List ℕ} {late : ℕ → Bool} {low : ℕ} (g : Gathering w owners words late low)
-    (j : ℕ) (hj : j < w .frames) where
-  pub gathered : {word : ℕ} → Bits (λ i. leb (low - rankIn w (j * w .slots)) i && bitAt (getD words j 0) i) word
+module _ {w : Window} {s : List ℕ} (m : MasksIn w s) (low j : ℕ) (hj : j < w .frames) where
+  abbrev owners : List ℕ
+  owners = ownersOf s
+
+  abbrev late : ℕ → Bool
+  late = ranksFrom w low
+
+  pub gathered : {word : ℕ} → Bits (λ i. leb (low - rankIn w (j * w .slots)) i && bitAt (getD (masksOf s) j 0) i) word
       → ValidSlots (windowOf w) (validAt owners late) j word
   unfolding validAt
-  gathered b = record { is = λ i. b .is i ∙ rw (g .words-are .word j .is i, lt-ltb j (w .frames) hj) (go i (decLt i (w .slots))) }
+  gathered b = record { is = λ i. b .is i ∙ rw (m .agree .word j .is i, lt-ltb j (w .frames) hj) (go i (decLt i (w .slots))) }
     where
       late-slot : (i : ℕ) → i < w .slots → leb (low - rankIn w (j * w .slots)) i ≡ late (j * w .slots + i)
-      late-slot i h =
-          leb-over low (rankIn w (j * w .slots)) i
-          ∙ ap (leb low) (sym (rank-slot w v j i hj h))
-          ∙ g .late-from .is (j * w .slots + i) (omega (arith, frame-fits (w .slots) (w .frames) j hj))
+      late-slot i h = leb-over low (rankIn w (j * w .slots)) i ∙ ap (leb low) (sym (rank-slot w (m .proper) j i hj h))
 
       go : (i : ℕ) → Dec (i < w .slots)
           → leb (low - rankIn w (j * w .slots)) i && (ltb i (w .slots) && unbookedAt owners (j * w .slots + i))

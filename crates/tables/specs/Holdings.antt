@@ -34,10 +34,6 @@ largest (suc n) f = max (largest n f) (f n)
 abbrev pub mostHeld : ℕ → List ℕ → ℕ
 mostHeld T held = largest T (λ q. getD held q 0)
 
--- n is no less than what is held at any of T positions; 255 says nothing
-pub record AtMost (T n : ℕ) (held : List ℕ) : Type 0 where
-  pub most : n < 255 → (q : ℕ) → q < T → getD held q 0 ≤ n
-
 -- ---- from p on
 
 -- a flow's holdings from p on, each moved by a number modulo 256

@@ -1,21 +1,21 @@
 -- What the flows hold as it is stored: sixteen rows, one for each flow, of 256 positions. Where a row's positions stand is known to this crate
 -- alone; others read a row, replace one, and know that there are sixteen. Assumes nothing.
-use Prim.Native.Nat.{ℕ, _+_, _-_, _*_, _/_, _%_}
-use mathlib.Core.Path.{_≡_}
+use Prim.Native.Nat.{ℕ, _+_, _*_, _/_, _%_, _≤_}
 use mathlib.Core.List.{List}
 use mathlib.Core.Bool.{_&&_}
 use lib.ListN.{length, getD}
 use lib.Dec.{ltb}
 use Rattle.model.specs.Tables.{table}
+use Rattle.state.specs.Parts.{part, withPart}
 use Rattle.window.specs.Ranges.{inRange, replaced}
 
 -- what flow i holds at each position
 unfoldable pub row : List ℕ → ℕ → List ℕ
-row h i = table 256 (λ p. getD h (256 * i + p) 0)
+row h i = part h (256 * i) 256
 
--- there are sixteen rows
+-- there are sixteen rows, and what else there is stands after them
 abbrev pub Sixteen : List ℕ → Type 0
-Sixteen h = length h ≡ 4096
+Sixteen h = 4096 ≤ length h
 
 -- the rows in which flow i holds f i p at position p
 unfoldable pub rowsOf : (ℕ → ℕ → ℕ) → List ℕ
@@ -23,7 +23,7 @@ rowsOf f = table 4096 (λ k. f (k / 256) (k % 256))
 
 -- row i replaced
 unfoldable pub withRow : List ℕ → ℕ → List ℕ → List ℕ
-withRow h i r = replaced (inRange (256 * i) (256 * i + 256)) (λ k x. getD r (k - 256 * i) 0) h
+withRow h i r = withPart h (256 * i) 256 r
 
 -- in each of the first n rows the range from a to e replaced by what stands at `last` in that row
 unfoldable pub carriedRows : (n last a e : ℕ) → List ℕ → List ℕ

@@ -7,10 +7,8 @@ use mathlib.Core.Bool.{Bool, not, _&&_}
 use lib.Dec.{ltb}
 use Rattle.tables.specs.declared.Found.{Found}
 use Rattle.tables.specs.declared.Found.the-variants.{At, Nowhere}
-use Rattle.tables.specs.Owners.{unbookedAt, WordsOf}
+use Rattle.tables.specs.Owners.{unbookedAt}
 use Rattle.tables.specs.Holdings.{roomAt}
-use Rattle.window.specs.declared.Window as code
-use Rattle.window.specs.Window.{FromRank}
 use Rattle.unbooked.specs.Bits.{bitAt}
 use Rattle.model.specs.Tables.{ahead}
 use Rattle.model.specs.Window.{Window, start, newest, passed, everyFrom}
@@ -20,12 +18,12 @@ abbrev pub foundOf : Found → model.Found
 foundOf (At frame left position) = model.found frame left position
 foundOf (Nowhere left) = model.nowhere left
 
--- position p is late enough for a flow with these cells and these holdings: "later than CP when in HF, and the flow holds fewer
--- than its cells there and at every later position of the window"
+-- position p is late enough for a flow with these cells and these holdings: it is not passed, and from it on the flow has room (document 01, the
+-- request)
 abbrev pub lateAt : Window → (held : List ℕ) (cells p : ℕ) → Bool
 lateAt w held cells p = not (passed w p) && everyFrom w p (roomAt held cells)
 
--- position p is valid: "unbooked", and late enough
+-- position p is valid: nobody booked it, and it is late enough
 unfoldable pub validAt : (owners : List ℕ) (late : ℕ → Bool) (p : ℕ) → Bool
 validAt owners late p = unbookedAt owners p && late p
 
@@ -39,12 +37,6 @@ searchFrom w ok share j c = model.search w ok share (ahead (w .frames) j (newest
 
 -- ---- a frame's valid slots in one word
 
--- the words are those of these owners, and the late positions are those of rank `low` or more
-pub record Gathering (w : code.Window) (owners words : List ℕ) (late : ℕ → Bool) (low : ℕ) : Type 0 where
-  pub words-are : WordsOf (w .slots) (w .frames) owners words
-  pub late-from : FromRank w late low
-
--- document 02, N3: "Bit i of the word is 1 exactly when i is below F and slot i of the frame is valid", where a position is valid if
--- it passes `ok`
+-- document 02, N3: the word of frame j has a 1 for each of its F slots that is valid, and no other, where a position is valid if it passes `ok`
 pub record ValidSlots (w : Window) (ok : ℕ → Bool) (j word : ℕ) : Type 0 where
   pub is : (i : ℕ) → bitAt word i ≡ ltb i (w .slots) && ok (start w j + i)

@@ -1,9 +1,13 @@
 // The owner of each position.
 ghost use mathlib.Core.Path.{_≡_};
-ghost use Prim.Native.Nat.{_≤_};
+ghost use Prim.Native.Nat.{_+_, _≤_};
+ghost use Rattle.state.specs.State.{ownersOf, withOwners};
 ghost use Rattle.window.specs.Ranges.{inRange, replaced, All};
 ghost use Rattle.window.specs.Window.{windowOf, Proper};
 ghost use Rattle.tables.specs.Owners.{nobody, unbookedAt, noneLater, everywhere, emptied};
+use state::OWNERS;
+use state::State;
+use state::put_table;
 use window::Window;
 
 pub fn unbooked() -> [u8; 256]
@@ -12,36 +16,44 @@ pub fn unbooked() -> [u8; 256]
     [16u8; 256]
 }
 
-// Takes the owner from every position of the range from a to e.
-fn empty(owner: &mut [u8; 256], a: usize, e: usize)
-    requires { ⌜ (a ≤ e) × (e ≤ 256) ⌝ }
-    ensures { λ r. ⌜ now (owner .exit) ≡ replaced (inRange a e) (λ q x. nobody) (now (owner .entry)) ⌝ }
+// Nobody owns a position.
+pub fn disown(s: &mut State)
+    ensures { λ r. ⌜ now (s .exit) ≡ withOwners (now (s .entry)) (everywhere nobody) ⌝ }
 {
-    let mut q = a;
-    while q < e {
-        owner[q] = 16;
+    put_table(s, OWNERS, unbooked());
+}
+
+// Takes the owner from every position of the range from a to e.
+fn empty(s: &mut State, a: usize, e: usize)
+    requires { ⌜ (a ≤ e) × (e ≤ 256) ⌝ }
+    ensures { λ r. ⌜ now (s .exit) ≡ withOwners (now (s .entry)) (replaced (inRange a e) (λ q x. nobody) (ownersOf (now (s .entry)))) ⌝ }
+{
+    let end = OWNERS + e;
+    let mut q = OWNERS + a;
+    while q < end {
+        s[q] = 16;
         q += 1;
     }
 }
 
 // Takes the owner from every position of the head frame.
-pub fn empty_head(owner: &mut [u8; 256], w: Window)
+pub fn empty_head(s: &mut State, w: Window)
     requires { ⌜ Proper w ⌝ }
-    ensures { λ r. ⌜ now (owner .exit) ≡ emptied w (now (owner .entry)) ⌝ }
+    ensures { λ r. ⌜ now (s .exit) ≡ withOwners (now (s .entry)) (emptied w (ownersOf (now (s .entry)))) ⌝ }
 {
     let base = w.head * w.slots;
-    empty(owner, base, base + w.slots);
+    empty(s, base, base + w.slots);
 }
 
 // Whether nobody owns a position of the range from a to e.
-fn unbooked_in(owner: &[u8; 256], a: usize, e: usize) -> bool
+fn unbooked_in(s: &State, a: usize, e: usize) -> bool
     requires { ⌜ (a ≤ e) × (e ≤ 256) ⌝ }
-    ensures { λ r. ⌜ All (unbookedAt (now (owner .entry))) a e r ⌝ }
+    ensures { λ r. ⌜ All (unbookedAt (ownersOf (now (s .entry)))) a e r ⌝ }
 {
     let mut all = true;
     let mut q = a;
     while q < e {
-        if owner[q] != 16 {
+        if s[OWNERS + q] != 16 {
             all = false;
         }
         q += 1;
@@ -50,12 +62,12 @@ fn unbooked_in(owner: &[u8; 256], a: usize, e: usize) -> bool
 }
 
 // Whether nobody owns a position later than the current one: these are the ones after it up to T - 1, and those before the head frame.
-pub fn unbooked_later(owner: &[u8; 256], w: Window) -> bool
+pub fn unbooked_later(s: &State, w: Window) -> bool
     requires { ⌜ Proper w ⌝ }
-    ensures { λ r. ⌜ r ≡ noneLater (windowOf w) (now (owner .entry)) ⌝ }
+    ensures { λ r. ⌜ r ≡ noneLater (windowOf w) (ownersOf (now (s .entry))) ⌝ }
 {
-    if unbooked_in(owner, w.current + 1, w.slots * w.frames) {
-        return unbooked_in(owner, 0, w.head * w.slots);
+    if unbooked_in(s, w.current + 1, w.slots * w.frames) {
+        return unbooked_in(s, 0, w.head * w.slots);
     }
     false
 }

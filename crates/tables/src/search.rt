@@ -1,17 +1,16 @@
 // The search for a position to book.
-ghost use Prim.Native.Nat.{ℕ, _<_};
 ghost use mathlib.Core.Path.{_≡_};
-ghost use mathlib.Core.Bool.{Bool};
-ghost use mathlib.Core.List.{List};
 ghost use Rattle.model.specs.Request.{canLeave, someInNewest};
-ghost use Rattle.window.specs.Window.{windowOf, Proper, InWindow, FromRank};
-ghost use Rattle.tables.specs.Asked.{FlowWithin, SearchFrom};
+ghost use Rattle.state.specs.State.{ownersOf};
+ghost use Rattle.window.specs.Window.{windowOf, InWindow, ranksFrom, FromRank};
+ghost use Rattle.tables.specs.Asked.{FlowWithin, MasksIn, FrameIn, SearchFrom};
 ghost use Rattle.tables.specs.Rows.{row};
-ghost use Rattle.tables.specs.Search.{foundOf, lateAt, validAt, lateAfter, searchFrom, Gathering, ValidSlots};
+ghost use Rattle.tables.specs.Search.{foundOf, lateAt, validAt, lateAfter, searchFrom, ValidSlots};
 use crate::Found;
-use crate::holdings::Holdings;
 use crate::holdings::room_rank;
-use unbooked::Unbooked;
+use state::BOUNDS;
+use state::State;
+use state::mask_at;
 use unbooked::bits::from;
 use unbooked::bits::lowest;
 use window::Window;
@@ -19,17 +18,17 @@ use window::numbers::larger;
 use window::numbers::over;
 use window::positions::next;
 
-// The rank from which on a position is late enough for a flow: it is not passed, and there is room from it on. No more than `most` is held at
-// any position, unless `most` is 255; where it is below the cells, there is room everywhere.
-pub fn late_rank(held: &Holdings, most: u8, i: usize, cells: u8, w: Window) -> usize
-    requires { ⌜ FlowWithin w most i (now held) ⌝ }
-    ensures { λ r. ⌜ FromRank w (lateAt (windowOf w) (row (now (held .entry)) i) cells) r ⌝ }
+// The rank from which on a position is late enough for a flow: it is not passed, and there is room from it on. Where the flow's bound is below
+// the cells, there is room everywhere.
+pub fn late_rank(s: &State, i: usize, cells: u8, w: Window) -> usize
+    requires { ⌜ FlowWithin w i (now s) ⌝ }
+    ensures { λ r. ⌜ FromRank w (lateAt (windowOf w) (row (now (s .entry)) i) cells) r ⌝ }
 {
     let after = w.current + 1 - w.head * w.slots;
-    if most < cells {
+    if s[BOUNDS + i] < cells {
         return after;
     }
-    larger(room_rank(held, i, cells, w), after)
+    larger(room_rank(s, i, cells, w), after)
 }
 
 // The rank from which on a tile with a departure can leave: the one after the departure's, where that is later than CP.
@@ -43,29 +42,19 @@ fn leave_rank(w: Window, departure: usize) -> usize
     w.rank(departure) + 1
 }
 
-// The valid slots of a frame in one word, where the late positions are those of rank `low` or more: whatever the lower bound is, and
-// whoever owns the positions.
-fn valid_slots(unbooked: &Unbooked, w: Window, low: usize, frame: usize) -> u64
-    requires { ⌜ Proper w × (frame < w .frames) ⌝ }
-    ensures { λ r. ⌜ ((owners : List ℕ) (late : ℕ → Bool) → Gathering w owners (now (unbooked .entry)) late low
-        → ValidSlots (windowOf w) (validAt owners late) frame r) ⌝ }
+// The valid slots of a frame in one word, where the late positions are those of rank `low` or more.
+fn valid_slots(s: &State, w: Window, low: usize, frame: usize) -> u64
+    requires { ⌜ FrameIn w frame (now s) ⌝ }
+    ensures { λ r. ⌜ ValidSlots (windowOf w) (validAt (ownersOf (now (s .entry))) (ranksFrom w low)) frame r ⌝ }
 {
-    from(unbooked[frame], over(low, w.rank(frame * w.slots)))
+    from(mask_at(s, frame), over(low, w.rank(frame * w.slots)))
 }
 
 // The search from a frame and a remainder up to the newest frame, for a valid position, where the late positions are those of rank
 // `low` or more.
-fn search(
-    unbooked: &Unbooked,
-    w: Window,
-    low: usize,
-    share: usize,
-    first: usize,
-    remainder: usize,
-) -> Found
-    requires { ⌜ Proper w × (first < w .frames) ⌝ }
-    ensures { λ r. ⌜ ((owners : List ℕ) (late : ℕ → Bool) → Gathering w owners (now (unbooked .entry)) late low
-        → foundOf r ≡ searchFrom (windowOf w) (validAt owners late) share first remainder) ⌝ }
+fn search(s: &State, w: Window, low: usize, share: usize, first: usize, remainder: usize) -> Found
+    requires { ⌜ FrameIn w first (now s) ⌝ }
+    ensures { λ r. ⌜ foundOf r ≡ searchFrom (windowOf w) (validAt (ownersOf (now (s .entry))) (ranksFrom w low)) share first remainder ⌝ }
 {
     let mut frame = first;
     let mut left = remainder;
@@ -73,7 +62,7 @@ fn search(
     let mut found = Found::Nowhere(remainder);
     'search: loop {
         if 0 < left {
-            let valid = valid_slots(unbooked, w, low, frame);
+            let valid = valid_slots(s, w, low, frame);
             if valid != 0 {
                 found = Found::At(frame, left - 1, frame * w.slots + lowest(valid));
                 break 'search;
@@ -92,7 +81,7 @@ fn search(
 // The search from a frame and a remainder up to the newest frame for a word with a departure, where the late positions are those of rank
 // `late` or more.
 pub fn find(
-    unbooked: &Unbooked,
+    s: &State,
     w: Window,
     late: usize,
     departure: usize,
@@ -100,19 +89,18 @@ pub fn find(
     first: usize,
     remainder: usize,
 ) -> Found
-    requires { ⌜ SearchFrom w departure first ⌝ }
-    ensures { λ r. ⌜ ((owners : List ℕ) (test : ℕ → Bool) → Gathering w owners (now (unbooked .entry)) test late
-        → foundOf r ≡ searchFrom (windowOf w) (validAt owners (lateAfter (windowOf w) departure test)) share first remainder) ⌝ }
+    requires { ⌜ SearchFrom w departure first (now s) ⌝ }
+    ensures { λ r. ⌜ foundOf r
+        ≡ searchFrom (windowOf w) (validAt (ownersOf (now (s .entry))) (lateAfter (windowOf w) departure (ranksFrom w late))) share first remainder ⌝ }
 {
     let low = larger(leave_rank(w, departure), late);
-    search(unbooked, w, low, share, first, remainder)
+    search(s, w, low, share, first, remainder)
 }
 
 // Whether the newest frame has a valid slot, where the late positions are those of rank `late` or more.
-pub fn valid_in_newest(unbooked: &Unbooked, w: Window, late: usize) -> bool
-    requires { ⌜ Proper w ⌝ }
-    ensures { λ r. ⌜ ((owners : List ℕ) (test : ℕ → Bool) → Gathering w owners (now (unbooked .entry)) test late
-        → r ≡ someInNewest (windowOf w) (validAt owners test)) ⌝ }
+pub fn valid_in_newest(s: &State, w: Window, late: usize) -> bool
+    requires { ⌜ MasksIn w (now s) ⌝ }
+    ensures { λ r. ⌜ r ≡ someInNewest (windowOf w) (validAt (ownersOf (now (s .entry))) (ranksFrom w late)) ⌝ }
 {
-    valid_slots(unbooked, w, late, w.newest()) != 0
+    valid_slots(s, w, late, w.newest()) != 0
 }

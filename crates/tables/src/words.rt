@@ -1,24 +1,30 @@
-// The words of unbooked slots, made from the owners.
+// The masks of unbooked slots: one slot booked, and a frame's slots all free again.
 ghost use Rattle.window.specs.Window.{Proper};
-ghost use Rattle.tables.specs.Owners.{WordsOf};
-use unbooked::Unbooked;
-use unbooked::frames::book;
-use unbooked::frames::every_slot;
+ghost use Rattle.unbooked.specs.Words.{InFrame};
+ghost use Rattle.tables.specs.Masks.{Booked, Recycled};
+use state::State;
+use state::mask_at;
+use state::put_mask;
+use unbooked::bits::below;
+use unbooked::bits::without;
 use window::Window;
 
-// The words by these owners: all slots, less the positions that somebody booked.
-pub fn words_of(owner: &[u8; 256], w: Window) -> Unbooked
-    requires { ⌜ Proper w ⌝ }
-    ensures { λ r. ⌜ WordsOf (w .slots) (w .frames) (now (owner .entry)) r ⌝ }
+// A position of a frame is booked.
+pub fn book(s: &mut State, w: Window, frame: usize, position: usize)
+    requires { ⌜ InFrame w frame position ⌝ }
+    ensures { λ r. ⌜ Booked (w .slots) frame position (now (s .entry)) (now (s .exit)) ⌝ }
 {
-    let size = w.slots * w.frames;
-    let mut words = every_slot(w.slots, w.frames);
-    let mut p = 0;
-    while p < size {
-        if owner[p] != 16 {
-            book(&mut words, w, p / w.slots, p);
-        }
-        p += 1;
-    }
-    words
+    put_mask(
+        s,
+        frame,
+        without(mask_at(s, frame), position - frame * w.slots),
+    );
+}
+
+// Nobody owns a slot of the head frame.
+pub fn recycle_head(s: &mut State, w: Window)
+    requires { ⌜ Proper w ⌝ }
+    ensures { λ r. ⌜ Recycled (w .slots) (w .head) (now (s .entry)) (now (s .exit)) ⌝ }
+{
+    put_mask(s, w.head, below(w.slots));
 }

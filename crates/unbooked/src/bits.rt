@@ -5,7 +5,7 @@ ghost use lib.Dec.{leb, ltb, eqb};
 ghost use Rattle.unbooked.specs.Bits.{bitAt, Bits, Lowest};
 
 // The word whose bits below n are 1, and no others.
-pub(crate) fn below(n: usize) -> u64
+pub fn below(n: usize) -> u64
     requires { ⌜ (1 ≤ n) × (n ≤ 64) ⌝ }
     ensures { λ r. ⌜ Bits (λ i. ltb i n) r ⌝ }
 {
@@ -23,7 +23,7 @@ pub fn from(word: u64, n: usize) -> u64
 }
 
 // A word without bit i.
-pub(crate) fn without(word: u64, i: usize) -> u64
+pub fn without(word: u64, i: usize) -> u64
     requires { ⌜ i < 64 ⌝ }
     ensures { λ r. ⌜ Bits (λ k. not (eqb k i) && bitAt word k) r ⌝ }
 {

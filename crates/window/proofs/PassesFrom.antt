@@ -17,10 +17,11 @@ use Rattle.window.proofs.FromOn.{every-from, miss-from}
 pub record PassesFrom (w : Window) (t : ℕ → Bool) (r : ℕ) : Type 0 where
   pub pass : (q : ℕ) → q < sizeOf w → r ≤ rankIn w q → t q ≡ true
   pub miss : (p : ℕ) → p < sizeOf w → rankIn w p < r → everyFrom (windowOf w) p t ≡ false
+  pub most : r ≤ sizeOf w
 
 module _ (w : Window) (v : Proper w) (t : ℕ → Bool) where
   pub passes-from : {r : ℕ} → PassesFrom w t r → FromRank w (λ p. everyFrom (windowOf w) p t) r
-  passes-from {r} x = record { is = λ p l. go p l (decLe r (rankIn w p)) }
+  passes-from {r} x = record { is = λ p l. go p l (decLe r (rankIn w p)); most = x .most }
     where
       go : (p : ℕ) → p < sizeOf w → Dec (r ≤ rankIn w p) → leb r (rankIn w p) ≡ everyFrom (windowOf w) p t
       go p l (yes d) = rw (le-leb r (rankIn w p) d) (sym (every-from w v p l t (λ q lq h. x .pass q lq (omega arith))))
@@ -28,11 +29,11 @@ module _ (w : Window) (v : Proper w) (t : ℕ → Bool) where
 
   -- all positions pass
   pub passes-all : All t 0 (sizeOf w) true → PassesFrom w t 0
-  passes-all x = record { pass = λ q l _. x .pass refl q (omega arith) l; miss = λ p l h. absurd (omega arith) }
+  passes-all x = record { pass = λ q l _. x .pass refl q (omega arith) l; miss = λ p l h. absurd (omega arith); most = omega arith }
 
   -- some position before the head fails: the last that does is k - 1
   pub passes-low : (k : ℕ) → LastIn t 0 (baseOf w) k → 0 < k → PassesFrom w t (k + sizeOf w - baseOf w)
-  passes-low k x h = record { pass = λ q l r. pass q l r (decLt q (baseOf w)); miss = miss }
+  passes-low k x h = record { pass = λ q l r. pass q l r (decLt q (baseOf w)); miss = miss; most = omega (arith, x .high) }
     where
       last-rank : rankIn w (k - 1) ≡ k - 1 + sizeOf w - baseOf w
       last-rank = rank-low w v (k - 1) (omega (arith, x .high))
@@ -47,7 +48,7 @@ module _ (w : Window) (v : Proper w) (t : ℕ → Bool) where
 
   -- none before the head fails; of the others the last that does is k - 1, or none does and k is the head's first position
   pub passes-high : (k : ℕ) → LastIn t 0 (baseOf w) 0 → LastIn t (baseOf w) (sizeOf w) k → PassesFrom w t (k - baseOf w)
-  passes-high k y x = record { pass = λ q l r. pass q l r (decLt q (baseOf w)); miss = miss }
+  passes-high k y x = record { pass = λ q l r. pass q l r (decLt q (baseOf w)); miss = miss; most = omega (arith, x .high) }
     where
       pass : (q : ℕ) → q < sizeOf w → k - baseOf w ≤ rankIn w q → Dec (q < baseOf w) → t q ≡ true
       pass q l r (yes d) = y .pass q (omega arith) d

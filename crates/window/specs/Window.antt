@@ -45,9 +45,14 @@ pub record InWindow (w : Window) (p : ℕ) : Type 0 where
   pub proper : Proper w
   pub below : p < sizeOf w
 
--- t passes the positions of rank r or more, and no others
+-- position p has the rank r or a higher one
+abbrev pub ranksFrom : Window → (r p : ℕ) → Bool
+ranksFrom w r p = leb r (model.rank (windowOf w) p)
+
+-- t passes the positions of rank r or more, and no others, and r is T at most: one r for each t (`one-rank`)
 pub record FromRank (w : Window) (t : ℕ → Bool) (r : ℕ) : Type 0 where
-  pub is : (p : ℕ) → p < sizeOf w → leb r (model.rank (windowOf w) p) ≡ t p
+  pub is : (p : ℕ) → p < sizeOf w → ranksFrom w r p ≡ t p
+  pub most : r ≤ sizeOf w
 
 -- on is the window one position on from w; its head is another one exactly at the first position of a frame
 pub record Ticked (w on : Window) : Type 0 where

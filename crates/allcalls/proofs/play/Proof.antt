@@ -2,12 +2,12 @@
 use borrow.Author.Needs.{needs}
 use borrow.Author.Tests.{ltb-true}
 use native.Mathlib.Omega.{arith}
-use Rattle.link.specs.Sound.{Sound}
+use Rattle.link.specs.Sound.{SoundLink}
 use Rattle.allcalls.proofs.play.Statement.{statement}
 use Rattle.allcalls.proofs.play.Tie as tie
 
 abbrev Inv-loop : tie.InvT-loop
-Inv-loop now₀ left₀ now left = Sound (now .link)
+Inv-loop now₀ left₀ now left = SoundLink (now .link)
 
 abbrev μ-loop : tie.MeasureT-loop
 μ-loop now₀ left₀ now left = left

@@ -2,7 +2,7 @@
 use borrow.Author.Needs.{needs}
 use Prim.Native.Nat.{ℕ}
 use mathlib.Core.Path.{subst}
-use Rattle.link.specs.Reading.{linkOf}
+use Rattle.link.specs.Steps.{readOf}
 use Rattle.link.specs.Bursts.{Bursted}
 use Rattle.burst.specs.Reading.{asksOf}
 use Rattle.burst.specs.First.{burstOfFirst}
@@ -19,7 +19,7 @@ returns : tie.Need-returns
 returns c =
     let args = c .before .before .args in
     let r = c .lend-first .result in
-    subst (λ (k : ℕ). Bursted (burstOfFirst k (linkOf (args .link)) (asksOf (args .records))) (r .link) (asksOf (r .records)))
+    subst (λ (k : ℕ). Bursted (burstOfFirst k (readOf (args .link)) (asksOf (args .records))) (r .link) (asksOf (r .records)))
     (c .before .smaller .ensures) (c .lend-first .ensures)
 
 pub burst-first-spec : {M : Type 1} → statement M

@@ -47,14 +47,15 @@ use denote.Exit.{yes}
 use denote.Signature.{plain}
 use Rattle.model.specs.Burst as model
 use Rattle.link.specs.declared.Link.{Link}
-use Rattle.link.specs.Reading.{linkOf}
-use Rattle.link.specs.Sound.{Sound}
+use Rattle.link.specs.Steps.{readOf}
+use Rattle.link.specs.Sound.{SoundLink}
 use Rattle.link.specs.Bursts.{Bursted}
 use Rattle.burst.specs.declared.Ask.{Ask}
 use Rattle.burst.specs.Reading.{asksOf}
 use Rattle.burst.specs.First.{burstOfFirst}
 use Rattle.burst.proofs.Locals.{into, value}
-use Rattle.burst.proofs.Turns.{link-vals, front-handled}
+use Rattle.burst.proofs.Turns.{front-handled}
+use Rattle.burst.proofs.Values.{link-vals}
 use Rattle.burst.proofs.Front.{front, Kept, lends-front, comes-front}
 use Rattle.burst.proofs.Ask as Q
 use Rattle.burst.proofs.Ask.Laws as Q′
@@ -90,7 +91,7 @@ module _ {M : Type 1} (𝓤 : URA M) (H : Heap 𝓤) (A : Atoms 𝓤) (mem : Mem
   Burst = tripleOf 𝓤 H A burst.signature (burst.spec 𝓤 H A mem run)
 
 module _ {M : Type 1} (𝓤 : URA M) (H : Heap 𝓤) (A : Atoms 𝓤) (W : Given 𝓤 H A) (mem : Memory → SProp 𝓤) (run : Routine → Fun 𝓤) (s : Link) (xs : List Ask) (k : ℕ)
-    (s-ok : Is L.the-row s (link-vals s)) (xs-ok : Is Row xs (row-vals xs)) (k-fits : k < 2 ^ 64) (sound : Sound s) (most : k ≤ 20) where
+    (s-ok : Is L.the-row s (link-vals s)) (xs-ok : Is Row xs (row-vals xs)) (k-fits : k < 2 ^ 64) (sound : SoundLink s) (most : k ≤ 20) where
   abbrev link-val : Val
   link-val = only (link-vals s)
 
@@ -133,7 +134,7 @@ module _ {M : Type 1} (𝓤 : URA M) (H : Heap 𝓤) (A : Atoms 𝓤) (W : Given
   result-typed : (r : Link) (ys : List Ask) (v w : Val) → Is L.the-row r (v ∷ []) → Is Row ys (w ∷ []) → Holds (hasTy B′.mir (vstruct (vcons v (vcons w vnil)))) × WT (vstruct (vcons v (vcons w vnil)))
   result-typed r ys v w link-is row-is = LL.lawful B.the-type B′.the-laws 𝓤 H A W .typed (record { link = r; records = ys }) _ (result-is r ys v w link-is row-is) .0
 
-  exits : (r : Link) (ys : List Ask) (v w : Val) → Is L.the-row r (v ∷ []) → Is Row ys (w ∷ []) → Bursted (burstOfFirst k (linkOf s) (asksOf xs)) r (asksOf ys) → ent 𝓤 (emp 𝓤) (Post (vstruct (vcons v (vcons w vnil))))
+  exits : (r : Link) (ys : List Ask) (v w : Val) → Is L.the-row r (v ∷ []) → Is Row ys (w ∷ []) → Bursted (burstOfFirst k (readOf s) (asksOf xs)) r (asksOf ys) → ent 𝓤 (emp 𝓤) (Post (vstruct (vcons v (vcons w vnil))))
   exits r ys v w link-is row-is e =
       qed W [] ∵ suffices ! _ (ends-at 𝓤 H A lend-first.ended stayed (lend-first.clauses 𝓤 H A mem run) W ((tt, tt, tt, a, vals), tt) (vstruct (vcons v (vcons w vnil))) (record { link = r; records = ys }) (tt, (tt, (tt, tt))) (tt, (tt, (tt, tt)))) $
       says ! e $
@@ -169,8 +170,8 @@ module _ {M : Type 1} (𝓤 : URA M) (H : Heap 𝓤) (A : Atoms 𝓤) (W : Given
         -- `burst`: [what it asks; what is kept of the array; _8; …; _7; …; _6; …; _5; …; … of _4; _3; …; _2; …; _1; …; _0; …]
         calls-at ! fm (Burst 𝓤 H A mem run) known (to-burst l₄ ν γ) (and-then ! (value ! 15 refl) (and-then ! (value ! 4 refl) (no-more !))) (λ v.
         use1 W (later (some (λ (r : Link). ((‵ (flft (ν ∷ []) fullShare) ⊛ ‵ ftrue) ⊛ ‵ (L.the-row .own r (v ∷ []))) ⊛ raw (ensured 𝓤 H A burst.ended (burst.clauses 𝓤 H A mem run) (ν ∷ [], tt) (s, (front Q.the-row (ν ∷ []) l₄ k xs γ, tt)) tt r)))) (id⊢ 𝓤 _) $ await ! tt $ pick ! (λ r.
-        split ! $ move ! (1 ∷ []) $ use1 W (some (λ (zs : Unit {0} × (List Ask × Unit {0})). ‵ (lasts burst.ended (ν ∷ [], tt) (s, (front Q.the-row (ν ∷ []) l₄ k xs γ, tt)) zs) ⊛ raw (fact 𝓤 (Bursted (model.burst (linkOf s) (asksOf (take k xs))) r (asksOf (zs .1 .0)))))) (id⊢ 𝓤 _) $ pick ! (λ zs.
-        split ! $ move ! (1 ∷ []) $ heard ! (Bursted (model.burst (linkOf s) (asksOf (take k xs))) r (asksOf (zs .1 .0))) (λ e. fsplit ! $ drop ! $ fsplit ! $ fsplit ! $ move ! (1 ∷ []) $ feqL ! (λ same.
+        split ! $ move ! (1 ∷ []) $ use1 W (some (λ (zs : Unit {0} × (List Ask × Unit {0})). ‵ (lasts burst.ended (ν ∷ [], tt) (s, (front Q.the-row (ν ∷ []) l₄ k xs γ, tt)) zs) ⊛ raw (fact 𝓤 (Bursted (model.burst (readOf s) (asksOf (take k xs))) r (asksOf (zs .1 .0)))))) (id⊢ 𝓤 _) $ pick ! (λ zs.
+        split ! $ move ! (1 ∷ []) $ heard ! (Bursted (model.burst (readOf s) (asksOf (take k xs))) r (asksOf (zs .1 .0))) (λ e. fsplit ! $ drop ! $ fsplit ! $ fsplit ! $ move ! (1 ∷ []) $ feqL ! (λ same.
         -- [the last list; true; the token and the result; what is kept of the array; _8; …]
         move ! (2 ∷ []) $ split ! $ move ! (1 ∷ []) $ facts ! L.the-row (Is L.the-row) (shows 𝓤 H A L.the-row) r (v ∷ []) (λ link-is.
         land ! (into !) (init ! 10 refl (LL.lawful L.the-type L′.the-laws 𝓤 H A W .typed r _ link-is .0)) $
@@ -190,7 +191,7 @@ module _ {M : Type 1} (𝓤 : URA M) (H : Heap 𝓤) (A : Atoms 𝓤) (W : Given
   lend-first-walks : Walks 𝓤 H A lend-first.ended stayed (WpFn 𝓤 H (𝓣 .C) (𝓣 .Λ) code.function) (lend-first.clauses 𝓤 H A mem run)
   lend-first-walks = walked 𝓤 H A lend-first.ended stayed (lend-first.clauses 𝓤 H A mem run) (WpFn 𝓤 H (𝓣 .C) (𝓣 .Λ) code.function)
       (λ κs. (link-vals, (row-vals, (uint-vals w64, tt)))) (λ κs. (LL.tells L.the-type L′.the-laws, (array-tells Q.the-row (LL.vals Q.the-type Q′.the-laws) (LL.tells Q.the-type Q′.the-laws) 20, (uint-tells w64, tt))))
-      (λ κs qs bounds a g are. needs 𝓤 (Sound (a .0) × (a .1 .1 .0 ≤ 20)) _ (λ given.
+      (λ κs qs bounds a g are. needs 𝓤 (SoundLink (a .0) × (a .1 .1 .0 ≤ 20)) _ (λ given.
       walk 𝓤 H A W mem run (a .0) (a .1 .0) (a .1 .1 .0) (are .0) (are .1 .0) (are .1 .1 .0 .1) (given .0) (given .1) (𝓣 .C) (𝓣 .Λ) (fmOf 𝓤 H (W .laws) 𝓣) known))
 
   lend-first-meets : Meets 𝓤 H A lend-first.signature (WpFn 𝓤 H (𝓣 .C) (𝓣 .Λ) code.function) (lend-first.spec 𝓤 H A mem run)

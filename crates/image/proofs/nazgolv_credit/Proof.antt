@@ -1,26 +1,27 @@
 -- `image::nazgolv_credit` meets its contract. Assumes nothing.
 use borrow.Author.Needs.{needs}
+use mathlib.Core.Path.{_∙_}
 use Rattle.model.specs.Calls.{Call}
 use Rattle.images.specs.Taken.{Taken}
 use Rattle.image.proofs.TurnedBack.{turned, is-taken}
-use Rattle.image.proofs.Stepping.{Steps, steps-credit, writable, comes-to}
+use Rattle.image.proofs.Stepping.{credit-number, steps-credit, writable, comes-to}
 use Rattle.image.proofs.nazgolv_credit.Statement.{statement}
 use Rattle.image.proofs.nazgolv_credit.Tie as tie
 
 -- ---- the places of its code
 
--- where the buffer was tested, and where the function is entered
-abbrev tested-at : tie.After-credit → tie.Else1
-tested-at c = c .before .before .before
-
+-- where the function is entered, where the buffer was tested, and where the image was read
 abbrev entered : tie.After-refusal → tie.Start
 entered c = c .before .before .before
 
+abbrev tested-at : tie.After-read → tie.Else1
+tested-at c = c .before .before .before .before
+
+abbrev read-at : tie.After-credit → tie.After-read
+read-at c = c .before .before .before
+
 taken-at : (c : tie.Else1) → Taken (entered (c .before) .args .image .now)
 taken-at c = is-taken (c .before .refusal .ensures) (c .if1 .left)
-
-steps-at : (c : tie.After-credit) → let s = entered (tested-at c .before) in Steps (s .args .image .now) (Call.credit (s .args .flow) (s .args .position)) (c .credit .result)
-steps-at c = steps-credit _ (c .before .read .ensures .0) _ _ (c .credit .ensures)
 
 -- ---- the needs
 
@@ -36,27 +37,38 @@ same-length c = search needs
 returns : tie.Need-returns
 returns c =
     let t = c .before in
-    turned (t .before .refusal .ensures) (Call.credit ((entered (t .before)) .args .flow) ((entered (t .before)) .args .position)) (t .if1 .taken) (c .refused .ensures)
+    let s = entered (t .before) .args in
+    turned (t .before .refusal .ensures) (Call.credit (s .flow) (s .position)) (t .if1 .taken) (c .refused .ensures)
+
+empty-requires : tie.Need-empty-requires
+empty-requires c κs = search needs
 
 read-requires : tie.Need-read-requires
-read-requires c κs = taken-at (c .before)
+read-requires c κs = let e = c .before .before in (taken-at (e .before), e .empty .ensures)
 
 credit-requires : tie.Need-credit-requires
-credit-requires c κs = search needs
+credit-requires c κs = c .before .before .read .ensures .1
 
-hand-back-requires : tie.Need-hand-back-requires
-hand-back-requires c κs =
-    let s = c .before in
-    writable (taken-at (tested-at s)) (steps-at s)
+write-requires : tie.Need-write-requires
+write-requires c κs =
+    let x = c .before .before in
+    let r = read-at x in
+    let s = entered (tested-at r .before) .args in
+    writable (taken-at (tested-at r)) (steps-credit (r .read .ensures .1) (r .read .ensures .0) (s .flow) (s .position) (x .credit .ensures))
+
+refused-requires-2 : tie.Need-refused-requires-2
+refused-requires-2 c κs = search needs
 
 same-length-2 : tie.Need-same-length-2
 same-length-2 c = search needs
 
 returns-2 : tie.Need-returns-2
 returns-2 c =
-    let h = c .before .before in
-    let s = h .before .before in
-    comes-to (taken-at (tested-at s)) (steps-at s) (h .hand-back .ensures .0) (h .hand-back .ensures .1)
+    let w = c .before .before .before in
+    let x = w .before .before .before in
+    let r = read-at x in
+    let s = entered (tested-at r .before) .args in
+    comes-to (taken-at (tested-at r)) (steps-credit (r .read .ensures .1) (r .read .ensures .0) (s .flow) (s .position) (x .credit .ensures)) (c .refused2 .ensures ∙ credit-number (x .credit .result)) (w .write .ensures)
 
 pub nazgolv-credit-spec : {M : Type 1} → statement M
 nazgolv-credit-spec =
@@ -66,8 +78,10 @@ nazgolv-credit-spec =
     refused-requires
     same-length
     returns
+    empty-requires
     read-requires
     credit-requires
-    hand-back-requires
+    write-requires
+    refused-requires-2
     same-length-2
     returns-2)

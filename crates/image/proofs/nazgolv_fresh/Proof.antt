@@ -13,6 +13,10 @@ told-at c = c .before .before
 abbrev read-at : tie.After-layout-of → tie.After-read
 read-at c = told-at c .before .before
 
+-- where the link was made
+abbrev made-at : tie.After-write-arg2 → tie.After-fresh
+made-at c = c .before .before .before .before
+
 accepted : (c : tie.After-enum-told) → c .before .before .read .result .verdict ≡ Accepted
 accepted c = c .enum-told .given .1
 
@@ -51,7 +55,7 @@ fresh-requires c κs = let y = c .before .before in read-at y .read .ensures .1 
 
 write-requires : tie.Need-write-requires
 write-requires c κs =
-    let f = c .before in
+    let f = made-at c in
     let e = f .before in
     let y = e .before .before in
     fresh-writable _ _ (read-at y .read .ensures .0) (accepted (told-at y)) (y .layout-of .ensures) (e .if1 .left) (f .fresh .ensures .0) (f .fresh .ensures .1)
@@ -62,7 +66,7 @@ same-length c = search needs
 returns-3 : tie.Need-returns-3
 returns-3 c =
     let w = c .before .before in
-    let f = w .before .before in
+    let f = made-at (w .before) in
     let e = f .before in
     let y = e .before .before in
     fresh-written _ _ (read-at y .read .ensures .0) (accepted (told-at y)) (y .layout-of .ensures) (e .if1 .left) (f .fresh .ensures .0) (f .fresh .ensures .1)

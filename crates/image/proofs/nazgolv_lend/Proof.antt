@@ -3,24 +3,24 @@ use borrow.Author.Needs.{needs}
 use Rattle.model.specs.Calls.{Call}
 use Rattle.images.specs.Taken.{Taken}
 use Rattle.image.proofs.TurnedBack.{turned, is-taken}
-use Rattle.image.proofs.Stepping.{Steps, steps-lend, writable, comes-to}
+use Rattle.image.proofs.Stepping.{steps-lend, writable, comes-to}
 use Rattle.image.proofs.nazgolv_lend.Statement.{statement}
 use Rattle.image.proofs.nazgolv_lend.Tie as tie
 
 -- ---- the places of its code
 
--- where the buffer was tested, and where the function is entered
-abbrev tested-at : tie.After-lend → tie.Else1
-tested-at c = c .before .before .before
-
+-- where the function is entered, where the buffer was tested, and where the image was read
 abbrev entered : tie.After-refusal → tie.Start
 entered c = c .before .before .before
 
+abbrev tested-at : tie.After-read → tie.Else1
+tested-at c = c .before .before .before .before
+
+abbrev read-at : tie.After-lend → tie.After-read
+read-at c = c .before .before .before
+
 taken-at : (c : tie.Else1) → Taken (entered (c .before) .args .image .now)
 taken-at c = is-taken (c .before .refusal .ensures) (c .if1 .left)
-
-steps-at : (c : tie.After-lend) → let s = entered (tested-at c .before) in Steps (s .args .image .now) (Call.lend (s .args .mask)) (c .lend .result)
-steps-at c = steps-lend _ (c .before .read .ensures .0) _ (c .lend .ensures)
 
 -- ---- the needs
 
@@ -36,27 +36,38 @@ same-length c = search needs
 returns : tie.Need-returns
 returns c =
     let t = c .before in
-    turned (t .before .refusal .ensures) (Call.lend ((entered (t .before)) .args .mask)) (t .if1 .taken) (c .refused .ensures)
+    let s = entered (t .before) .args in
+    turned (t .before .refusal .ensures) (Call.lend (s .mask)) (t .if1 .taken) (c .refused .ensures)
+
+empty-requires : tie.Need-empty-requires
+empty-requires c κs = search needs
 
 read-requires : tie.Need-read-requires
-read-requires c κs = taken-at (c .before)
+read-requires c κs = let e = c .before .before in (taken-at (e .before), e .empty .ensures)
 
 lend-requires : tie.Need-lend-requires
-lend-requires c κs = search needs
+lend-requires c κs = c .before .before .read .ensures .1
 
-hand-back-requires : tie.Need-hand-back-requires
-hand-back-requires c κs =
-    let s = c .before in
-    writable (taken-at (tested-at s)) (steps-at s)
+write-requires : tie.Need-write-requires
+write-requires c κs =
+    let x = c .before .before in
+    let r = read-at x in
+    let s = entered (tested-at r .before) .args in
+    writable (taken-at (tested-at r)) (steps-lend (r .read .ensures .1) (r .read .ensures .0) (s .mask) (x .lend .ensures))
+
+number-of-requires : tie.Need-number-of-requires
+number-of-requires c κs = search needs
 
 same-length-2 : tie.Need-same-length-2
 same-length-2 c = search needs
 
 returns-2 : tie.Need-returns-2
 returns-2 c =
-    let h = c .before .before in
-    let s = h .before .before in
-    comes-to (taken-at (tested-at s)) (steps-at s) (h .hand-back .ensures .0) (h .hand-back .ensures .1)
+    let w = c .before .before .before in
+    let x = w .before .before .before in
+    let r = read-at x in
+    let s = entered (tested-at r .before) .args in
+    comes-to (taken-at (tested-at r)) (steps-lend (r .read .ensures .1) (r .read .ensures .0) (s .mask) (x .lend .ensures)) (c .number-of .ensures) (w .write .ensures)
 
 pub nazgolv-lend-spec : {M : Type 1} → statement M
 nazgolv-lend-spec =
@@ -66,8 +77,10 @@ nazgolv-lend-spec =
     refused-requires
     same-length
     returns
+    empty-requires
     read-requires
     lend-requires
-    hand-back-requires
+    write-requires
+    number-of-requires
     same-length-2
     returns-2)

@@ -3,24 +3,24 @@ use borrow.Author.Needs.{needs}
 use Rattle.model.specs.Calls.{Call}
 use Rattle.images.specs.Taken.{Taken}
 use Rattle.image.proofs.TurnedBack.{turned, is-taken}
-use Rattle.image.proofs.Stepping.{Steps, steps-reset, writable, comes-to}
+use Rattle.image.proofs.Stepping.{steps-reset, writable, comes-to}
 use Rattle.image.proofs.nazgolv_reset.Statement.{statement}
 use Rattle.image.proofs.nazgolv_reset.Tie as tie
 
 -- ---- the places of its code
 
--- where the buffer was tested, and where the function is entered
-abbrev tested-at : tie.After-reset → tie.Else1
-tested-at c = c .before .before .before
-
+-- where the function is entered, where the buffer was tested, and where the image was read
 abbrev entered : tie.After-refusal → tie.Start
 entered c = c .before .before .before
 
+abbrev tested-at : tie.After-read → tie.Else1
+tested-at c = c .before .before .before .before
+
+abbrev read-at : tie.After-reset → tie.After-read
+read-at c = c .before .before .before
+
 taken-at : (c : tie.Else1) → Taken (entered (c .before) .args .image .now)
 taken-at c = is-taken (c .before .refusal .ensures) (c .if1 .left)
-
-steps-at : (c : tie.After-reset) → let s = entered (tested-at c .before) in Steps (s .args .image .now) Call.reset (c .reset .result)
-steps-at c = steps-reset _ (c .before .read .ensures .0) (c .reset .ensures)
 
 -- ---- the needs
 
@@ -38,25 +38,33 @@ returns c =
     let t = c .before in
     turned (t .before .refusal .ensures) Call.reset (t .if1 .taken) (c .refused .ensures)
 
+empty-requires : tie.Need-empty-requires
+empty-requires c κs = search needs
+
 read-requires : tie.Need-read-requires
-read-requires c κs = taken-at (c .before)
+read-requires c κs = let e = c .before .before in (taken-at (e .before), e .empty .ensures)
 
 reset-requires : tie.Need-reset-requires
-reset-requires c κs = search needs
+reset-requires c κs = c .before .before .read .ensures .1
 
-hand-back-requires : tie.Need-hand-back-requires
-hand-back-requires c κs =
-    let s = c .before in
-    writable (taken-at (tested-at s)) (steps-at s)
+write-requires : tie.Need-write-requires
+write-requires c κs =
+    let x = c .before .before in
+    let r = read-at x in
+    writable (taken-at (tested-at r)) (steps-reset (r .read .ensures .1) (r .read .ensures .0) (x .reset .ensures))
+
+number-of-requires : tie.Need-number-of-requires
+number-of-requires c κs = search needs
 
 same-length-2 : tie.Need-same-length-2
 same-length-2 c = search needs
 
 returns-2 : tie.Need-returns-2
 returns-2 c =
-    let h = c .before .before in
-    let s = h .before .before in
-    comes-to (taken-at (tested-at s)) (steps-at s) (h .hand-back .ensures .0) (h .hand-back .ensures .1)
+    let w = c .before .before .before in
+    let x = w .before .before .before in
+    let r = read-at x in
+    comes-to (taken-at (tested-at r)) (steps-reset (r .read .ensures .1) (r .read .ensures .0) (x .reset .ensures)) (c .number-of .ensures) (w .write .ensures)
 
 pub nazgolv-reset-spec : {M : Type 1} → statement M
 nazgolv-reset-spec =
@@ -66,8 +74,10 @@ nazgolv-reset-spec =
     refused-requires
     same-length
     returns
+    empty-requires
     read-requires
     reset-requires
-    hand-back-requires
+    write-requires
+    number-of-requires
     same-length-2
     returns-2)

@@ -1,358 +1,365 @@
 -- `playback::play` meets its contract: before each record, those up to it are played. Assumes nothing.
-mod Places
-mod Came
-use Prim.Native.Nat.{_*_, _<_}
-use mathlib.Core.Path.{refl, ap, _∙_}
-use mathlib.Core.Logic.{⊎-elim}
 use borrow.Author.Needs.{needs}
+use Prim.Native.Nat.{ℕ, _+_, _*_, _-_, _≤_, _<_}
+use mathlib.Core.Path.{_≡_, ap, _∙_}
 use native.Mathlib.Omega.{arith}
-use lib.ListN.{set}
-use Rattle.calls.specs.declared.Answer.the-variants.{Refused}
-use Rattle.calls.specs.Reading.{callIn}
-use Rattle.model.specs.Window as seen
-use Rattle.unbooked.proofs.FrameWords.{in-window}
-use Rattle.link.specs.declared.Link.{Link}
-use Rattle.link.specs.Updates.{withCurrent, withFlows}
-use Rattle.link.proofs.Readings.{measures}
-use Rattle.link.proofs.LeavingHeads.{leaving-none, leaving-moved, leaving-kept}
-use Rattle.link.proofs.Given.{at-hand, plan-valid, flows-few, credit-on, request-on}
-use Rattle.playback.proofs.Records.{Played, reads-as, no-call-played}
-use Rattle.playback.proofs.SoFar.{none-yet, same-size, one-more, all-played}
-use Rattle.playback.proofs.play.Proof.Places.{Inv-loop2, μ-loop2, Inv-loop, μ-loop, entered, loop-at, link-at, plan-at, window-at, hand-at, mosts-at, made-at, read-at}
-use Rattle.playback.proofs.play.Proof.Places.{request-at, asker-for, asker-at, asker-few, asked-at, granted-at, granted-in, credit-for}
-use Rattle.playback.proofs.play.Proof.Places.{ticked-at, tick-at, emptied-at, left-at, flow-at, owner-at}
-use Rattle.playback.proofs.play.Proof.Came.{came}
+use lib.ListN.{length, getD}
+use borrow.Author.Tests.{eq-eqb, ne-eqb}
+use Rattle.plan.specs.declared.Plan.{Plan}
+use Rattle.calls.specs.declared.Answer.the-variants.{Taken, Refused}
+use Rattle.calls.specs.declared.Call.{Call}
+use Rattle.calls.specs.declared.Record.{Record}
+use Rattle.calls.specs.Reading.{callIn, answerToTick}
+use Rattle.calls.proofs.PlayedTo.{callAt}
+use Rattle.calls.proofs.Stores.{put-in-room, puts-same}
+use Rattle.tables.specs.Owners.{ownerOf}
+use Rattle.link.specs.Given.{StateIn}
+use Rattle.link.specs.Steps.{requestAnswer}
+use Rattle.link.proofs.Given.{state-in, placed-few, request-in}
+use Rattle.link.proofs.Told.{request-told, credit-told}
+use Rattle.playback.proofs.Records.{Made, reads-as, no-call-played, played-request, played-credit, played-tick}
+use Rattle.playback.proofs.Texts.{reply-text, tick-text, owner-at}
+use Rattle.playback.proofs.SoFar.{SoFar, none-yet, same-size, room, one-more, all-played, sound-played}
 use Rattle.playback.proofs.play.Statement.{statement}
 use Rattle.playback.proofs.play.Tie as tie
 
--- ---- before the loop
+abbrev Inv-loop : tie.InvT-loop
+Inv-loop records out₀ link₀ used plan cp w₀ made at₀ end₀ out link w at end = SoFar link₀ records out₀ used plan at link w out end
 
-smaller-requires : tie.Need-smaller-requires Inv-loop2 μ-loop2 Inv-loop μ-loop
+abbrev μ-loop : tie.MeasureT-loop
+μ-loop records out₀ link₀ used plan cp w₀ made at₀ end₀ out link w at end = used - at
+
+-- ---- the places of its code
+
+-- where the loop comes round, and where the function is entered
+abbrev loop-at : tie.After-read Inv-loop μ-loop → tie.At-loop Inv-loop μ-loop
+loop-at c = c .before .before
+
+abbrev start : tie.At-loop Inv-loop μ-loop → tie.Start Inv-loop μ-loop
+start c = c .before .before .before .before .before .before .before .before
+
+module _ (c : tie.After-read Inv-loop μ-loop) where
+  abbrev plan-at : Plan
+  plan-at = start (loop-at c) .args .t1 .plan
+
+  abbrev hand-at : StateIn plan-at (loop-at c .loop .w) (loop-at c .loop .link .state)
+  hand-at = loop-at c .loop .inv .hand
+
+  -- the call that the record makes
+  abbrev made-at : Made
+  made-at = callAt (start (loop-at c) .args .records .now) (loop-at c .loop .at)
+
+  read-is : made-at ≡ callIn (c .read .result)
+  read-is =
+      let at = loop-at c .loop .at in
+      let back : at ≡ at + 5 - 5 = omega arith in
+      ap (callAt (start (loop-at c) .args .records .now)) back ∙ reads-as _ _ (c .read .ensures .0)
+
+  -- its line has room
+  room-at : loop-at c .loop .end + 7 ≤ length (loop-at c .loop .out)
+  room-at = room (loop-at c .loop .inv) (c .before .loop-test .taken)
+
+-- where a call's record was read
+abbrev read-at : tie.After-known-told Inv-loop μ-loop → tie.After-read Inv-loop μ-loop
+read-at c = c .before .before .before
+
+-- the call that it makes, as an arm knows it
+call-is : (c : tie.After-known-told Inv-loop μ-loop) {x : Call} → c .before .call .given .0 .0 ≡ x → made-at (read-at c) ≡ callIn (Record.Call x)
+call-is c e = read-is (read-at c) ∙ ap callIn (c .before .call .given .1) ∙ ap (λ (x : Call). callIn (Record.Call x)) e
+
+-- where a request's flow is placed, a credit's number known, and a tick made, from where its call was told
+abbrev request-at : tie.After-placed Inv-loop μ-loop → tie.After-known-told Inv-loop μ-loop
+request-at c = c .before .before .before .before .before .before
+
+abbrev credit-at : tie.After-credit Inv-loop μ-loop → tie.After-known-told Inv-loop μ-loop
+credit-at c = c .before .before .before .before .before
+
+abbrev tick-at : tie.After-tick Inv-loop μ-loop → tie.After-known-told Inv-loop μ-loop
+tick-at c = c .before .before .before .before
+
+asker-few : (c : tie.After-placed Inv-loop μ-loop) → c .placed .result < 16
+asker-few c = placed-few (hand-at (read-at (request-at c)) .sound .parts .plan) _ (c .placed .ensures)
+
+-- ---- the needs
+
+smaller-requires : tie.Need-smaller-requires Inv-loop μ-loop
 smaller-requires c κs = search needs
 
-mul-used : tie.Need-mul-used Inv-loop2 μ-loop2 Inv-loop μ-loop
-mul-used c = omega arith
+mul-used : tie.Need-mul-used Inv-loop μ-loop
+mul-used c = search needs
 
-window-requires : tie.Need-window-requires Inv-loop2 μ-loop2 Inv-loop μ-loop
-window-requires c κs = measures _ (entered c .pre)
+element-copy-out-cp : tie.Need-element-copy-out-cp Inv-loop μ-loop
+element-copy-out-cp c = search needs
 
-lines-requires : tie.Need-lines-requires Inv-loop2 μ-loop2 Inv-loop μ-loop
+cast-window : tie.Need-cast-window Inv-loop μ-loop
+cast-window c = search needs
+
+window-requires : tie.Need-window-requires Inv-loop μ-loop
+window-requires c κs = search needs
+
+lines-requires : tie.Need-lines-requires Inv-loop μ-loop
 lines-requires c κs = search needs
 
-loop-holds : tie.Need-loop-holds Inv-loop2 μ-loop2 Inv-loop μ-loop
+loop-holds : tie.Need-loop-holds Inv-loop μ-loop
 loop-holds c =
     let at = c .before in
-    let s = entered (at .before) in
-    let a = at-hand (s .pre) (at .window .ensures .0) (at .window .ensures .1) in
-    let same = ap (λ (x : seen.Window). withCurrent (s .args .start) (x .current)) (at .window .ensures .0) in
-    none-yet (ap (5 *_) (at .before .before .smaller .ensures)) same a
+    let s = at .before .before .before .before .before .before in
+    none-yet (ap (5 *_) (at .before .before .before .smaller .ensures)) (state-in (s .pre) (at .window .ensures .0) (at .window .ensures .1))
 
--- ---- a record that makes no call
-
-read-requires : tie.Need-read-requires Inv-loop2 μ-loop2 Inv-loop μ-loop
-read-requires c κs = search needs
-
-enum-known-call : tie.Need-enum-known-call Inv-loop2 μ-loop2 Inv-loop μ-loop
-enum-known-call c = search needs
-
-enum-told : tie.Need-enum-told Inv-loop2 μ-loop2 Inv-loop μ-loop
-enum-told c = search needs
-
-write-refusal-requires : tie.Need-write-refusal-requires Inv-loop2 μ-loop2 Inv-loop μ-loop
-write-refusal-requires c κs = search needs
-
-add-at : tie.Need-add-at Inv-loop2 μ-loop2 Inv-loop μ-loop
+add-at : tie.Need-add-at Inv-loop μ-loop
 add-at c = search needs
 
-loop-less : tie.Need-loop-less Inv-loop2 μ-loop2 Inv-loop μ-loop
+sub-read : tie.Need-sub-read Inv-loop μ-loop
+sub-read c = search needs
+
+read-requires : tie.Need-read-requires Inv-loop μ-loop
+read-requires c κs = search needs
+
+enum-known-call : tie.Need-enum-known-call Inv-loop μ-loop
+enum-known-call c = search needs
+
+enum-told : tie.Need-enum-told Inv-loop μ-loop
+enum-told c = search needs
+
+write-refusal-requires : tie.Need-write-refusal-requires Inv-loop μ-loop
+write-refusal-requires c κs = search needs
+
+loop-less : tie.Need-loop-less Inv-loop μ-loop
 loop-less c = search needs
 
-loop-again : tie.Need-loop-again Inv-loop2 μ-loop2 Inv-loop μ-loop
+loop-again : tie.Need-loop-again Inv-loop μ-loop
 loop-again c =
     let written = c .before .before in
     let told = written .before .before in
     let read = told .before .before in
-    let no-call = reads-as (made-at read) _ (read .read .ensures .0) ∙ ap callIn (told .enum-told .given .1) in
-    let played : Played (link-at read) (made-at read) (plan-at read) (window-at read) (loop-at read .loop .link) (Refused 16) =
-    rw no-call (no-call-played (hand-at read)) in
     one-more (loop-at read .loop .inv) (read .before .loop-test .taken)
-    (record { answer = Refused 16; played = played; written = written .write-refusal .ensures; mosts = mosts-at read })
+    (record {
+      answer = Refused 16;
+      played = rw (read-is read ∙ ap callIn (told .enum-told .given .1)) (no-call-played (hand-at read));
+      plan-is = loop-at read .loop .inv .plan-is;
+      put = put-in-room _ _ _ (room-at read) (written .write-refusal .ensures);
+      most = written .write-refusal .ensures .1 .1;
+    })
 
--- ---- a request
-
-enum-known-call-2 : tie.Need-enum-known-call-2 Inv-loop2 μ-loop2 Inv-loop μ-loop
+enum-known-call-2 : tie.Need-enum-known-call-2 Inv-loop μ-loop
 enum-known-call-2 c = search needs
 
-asker-requires : tie.Need-asker-requires Inv-loop2 μ-loop2 Inv-loop μ-loop
-asker-requires c κs = search needs
+split-requires : tie.Need-split-requires Inv-loop μ-loop
+split-requires c κs = search needs
 
-mul-e : tie.Need-mul-e Inv-loop2 μ-loop2 Inv-loop μ-loop
+cast-placed : tie.Need-cast-placed Inv-loop μ-loop
+cast-placed c = search needs
+
+placed-requires : tie.Need-placed-requires Inv-loop μ-loop
+placed-requires c κs = search needs
+
+mul-e : tie.Need-mul-e Inv-loop μ-loop
 mul-e c = omega (arith, asker-few c)
 
-element-copy-out-e : tie.Need-element-copy-out-e Inv-loop2 μ-loop2 Inv-loop μ-loop
+element-copy-out-e : tie.Need-element-copy-out-e Inv-loop μ-loop
 element-copy-out-e c = asker-few c
 
-mul-flow : tie.Need-mul-flow Inv-loop2 μ-loop2 Inv-loop μ-loop
-mul-flow c = omega (arith, asker-few (c .before))
+request-requires : tie.Need-request-requires Inv-loop μ-loop
+request-requires c κs =
+    let p = c .before .before in
+    record { plan = _; word = _; given = request-in (hand-at (read-at (request-at p))) _ (p .before .before .split .ensures) (p .placed .ensures) }
 
-element-copy-out-flow : tie.Need-element-copy-out-flow Inv-loop2 μ-loop2 Inv-loop μ-loop
-element-copy-out-flow c = asker-few (c .before)
+cast-line : tie.Need-cast-line Inv-loop μ-loop
+cast-line c = search needs
 
-array-read-ask : tie.Need-array-read-ask Inv-loop2 μ-loop2 Inv-loop μ-loop
-array-read-ask c = asker-few (asker-for c)
+mul-line : tie.Need-mul-line Inv-loop μ-loop
+mul-line c = search needs
 
-ask-requires : tie.Need-ask-requires Inv-loop2 μ-loop2 Inv-loop μ-loop
-ask-requires c κs =
-    let i = asker-for c in
-    let r = request-at i in
-    (record { link = link-at r; given = request-on (hand-at r) _ (i .asker .ensures) }, mosts-at r .each _ (asker-few i))
+array-copy-out-line : tie.Need-array-copy-out-line Inv-loop μ-loop
+array-copy-out-line c = search needs
 
-mul-flow-2 : tie.Need-mul-flow-2 Inv-loop2 μ-loop2 Inv-loop μ-loop
-mul-flow-2 c = omega (arith, asker-few (asker-at c))
+write-reply-requires : tie.Need-write-reply-requires Inv-loop μ-loop
+write-reply-requires c κs = room-at (read-at (request-at (c .before .before .before .before .before .before)))
 
-element-set-from-flow : tie.Need-element-set-from-flow Inv-loop2 μ-loop2 Inv-loop μ-loop
-element-set-from-flow c = asker-few (asker-at c)
-
-cast-link : tie.Need-cast-link Inv-loop2 μ-loop2 Inv-loop μ-loop
-cast-link c = omega (arith, asker-few (asker-at (c .before)))
-
--- the position that is granted is one of 256
-position-few : (c : tie.Then1 Inv-loop2 μ-loop2 Inv-loop μ-loop) → c .before .before .ask .result .position < 256
-position-few c =
-    let most = hand-at (request-at (asked-at c)) .proper .measures .positions-most in
-    omega (arith, in-window (granted-in c), most)
-
-element-write-link : tie.Need-element-write-link Inv-loop2 μ-loop2 Inv-loop μ-loop
-element-write-link c = omega (arith, position-few c)
-
-book-requires : tie.Need-book-requires Inv-loop2 μ-loop2 Inv-loop μ-loop
-book-requires c κs = granted-in (c .before)
-
-shift-from-requires : tie.Need-shift-from-requires Inv-loop2 μ-loop2 Inv-loop μ-loop
-shift-from-requires c κs =
-    let granted = granted-at (c .before) in
-    let i = asked-at granted in
-    record { proper = hand-at (request-at i) .proper; flow = asker-few i; position = in-window (granted-in granted) }
-
-array-read-one-more : tie.Need-array-read-one-more Inv-loop2 μ-loop2 Inv-loop μ-loop
-array-read-one-more c = asker-few (asked-at (granted-at (c .before .before)))
-
-one-more-requires : tie.Need-one-more-requires Inv-loop2 μ-loop2 Inv-loop μ-loop
-one-more-requires c κs = search needs
-
-array-write-most : tie.Need-array-write-most Inv-loop2 μ-loop2 Inv-loop μ-loop
-array-write-most c = asker-few (asked-at (granted-at (c .before .before .before)))
-
-mul-line : tie.Need-mul-line Inv-loop2 μ-loop2 Inv-loop μ-loop
-mul-line c = omega (arith, position-few (granted-at (c .before .before .before)))
-
-array-copy-out-line : tie.Need-array-copy-out-line Inv-loop2 μ-loop2 Inv-loop μ-loop
-array-copy-out-line c = omega (arith, position-few (granted-at (c .before .before .before)))
-
-write-requires : tie.Need-write-requires Inv-loop2 μ-loop2 Inv-loop μ-loop
-write-requires c κs = search needs
-
-write-requires-2 : tie.Need-write-requires-2 Inv-loop2 μ-loop2 Inv-loop μ-loop
-write-requires-2 c κs = search needs
-
--- ---- a credit
-
-enum-known-call-3 : tie.Need-enum-known-call-3 Inv-loop2 μ-loop2 Inv-loop μ-loop
-enum-known-call-3 c = search needs
-
-take-requires : tie.Need-take-requires Inv-loop2 μ-loop2 Inv-loop μ-loop
-take-requires c κs =
-    let r = credit-for c in
-    record { link = link-at r; given = credit-on (hand-at r) }
-
-write-refusal-requires-2 : tie.Need-write-refusal-requires-2 Inv-loop2 μ-loop2 Inv-loop μ-loop
-write-refusal-requires-2 c κs = search needs
-
-array-write-most-2 : tie.Need-array-write-most-2 Inv-loop2 μ-loop2 Inv-loop μ-loop
-array-write-most-2 c =
-    let t = c .before in
-    omega (arith, t .take .ensures .1 .0 .taken (c .if2 .left) .flow, flows-few (hand-at (credit-for (t .before))))
-
-write-taken-requires : tie.Need-write-taken-requires Inv-loop2 μ-loop2 Inv-loop μ-loop
-write-taken-requires c κs = search needs
-
--- ---- a tick
-
-enum-told-2 : tie.Need-enum-told-2 Inv-loop2 μ-loop2 Inv-loop μ-loop
-enum-told-2 c = search needs
-
-ticked-requires : tie.Need-ticked-requires Inv-loop2 μ-loop2 Inv-loop μ-loop
-ticked-requires c κs = hand-at (read-at (c .before .before)) .proper
-
-empty-head-requires : tie.Need-empty-head-requires Inv-loop2 μ-loop2 Inv-loop μ-loop
-empty-head-requires c κs = hand-at (tick-at (c .before .before)) .proper
-
-recycle-head-requires : tie.Need-recycle-head-requires Inv-loop2 μ-loop2 Inv-loop μ-loop
-recycle-head-requires c κs = hand-at (emptied-at (c .before)) .proper
-
-carry-head-requires : tie.Need-carry-head-requires Inv-loop2 μ-loop2 Inv-loop μ-loop
-carry-head-requires c κs = let a = hand-at (left-at c) in record { proper = a .proper; few = flows-few a }
-
--- the loop over the flows
-
-loop2-holds : tie.Need-loop2-holds Inv-loop2 μ-loop2 Inv-loop μ-loop
-loop2-holds c = (refl, leaving-none _ _ _ (plan-valid (hand-at (left-at (c .before)))))
-
-mul-f : tie.Need-mul-f Inv-loop2 μ-loop2 Inv-loop μ-loop
-mul-f c = search needs
-
-element-copy-out-f : tie.Need-element-copy-out-f Inv-loop2 μ-loop2 Inv-loop μ-loop
-element-copy-out-f c = search needs
-
-mul-e-2 : tie.Need-mul-e-2 Inv-loop2 μ-loop2 Inv-loop μ-loop
-mul-e-2 c = search needs
-
-element-copy-out-e-2 : tie.Need-element-copy-out-e-2 Inv-loop2 μ-loop2 Inv-loop μ-loop
-element-copy-out-e-2 c = search needs
-
-cast-moved-to : tie.Need-cast-moved-to Inv-loop2 μ-loop2 Inv-loop μ-loop
-cast-moved-to c = search needs
-
-moved-to-requires : tie.Need-moved-to-requires Inv-loop2 μ-loop2 Inv-loop μ-loop
-moved-to-requires c κs = search needs
-
-mul-t103 : tie.Need-mul-t103 Inv-loop2 μ-loop2 Inv-loop μ-loop
-mul-t103 c = search needs
-
-element-set-from-link : tie.Need-element-set-from-link Inv-loop2 μ-loop2 Inv-loop μ-loop
-element-set-from-link c = search needs
-
-add-i : tie.Need-add-i Inv-loop2 μ-loop2 Inv-loop μ-loop
-add-i c = search needs
-
-loop2-less : tie.Need-loop2-less Inv-loop2 μ-loop2 Inv-loop μ-loop
-loop2-less c = search needs
-
-loop2-again : tie.Need-loop2-again Inv-loop2 μ-loop2 Inv-loop μ-loop
-loop2-again c =
-    let i = flow-at c in
-    let l = i .before .loop2 in
-    let same = l .inv .0 in
-    ⊎-elim
-    (λ (in-head, _, _, moved, link-is).
-    rw link-is (ap (λ (x : Link). withFlows x (set (l .link .flows) (l .i) (moved .result))) same, leaving-moved (l .inv .1) (i .loop2-test .taken) (in-head .taken) (moved .ensures)))
-    (λ (elsewhere, link-is). rw link-is (same, leaving-kept (l .inv .1) (i .loop2-test .taken) (elsewhere .left)))
-    (c .if4 .came)
-
-element-copy-out-owner : tie.Need-element-copy-out-owner Inv-loop2 μ-loop2 Inv-loop μ-loop
-element-copy-out-owner c =
-    let m = ticked-at c .ticked .ensures .proper .measures in
-    omega (arith, m .current-below, m .positions-most)
-
-cast-line : tie.Need-cast-line Inv-loop2 μ-loop2 Inv-loop μ-loop
-cast-line c = omega (arith, owner-at (c .before))
-
-add-line : tie.Need-add-line Inv-loop2 μ-loop2 Inv-loop μ-loop
-add-line c = omega (arith, owner-at (c .before))
-
-mul-line-2 : tie.Need-mul-line-2 Inv-loop2 μ-loop2 Inv-loop μ-loop
-mul-line-2 c = omega (arith, owner-at (c .before))
-
-array-copy-out-line-2 : tie.Need-array-copy-out-line-2 Inv-loop2 μ-loop2 Inv-loop μ-loop
-array-copy-out-line-2 c = omega (arith, owner-at (c .before))
-
-write-requires-3 : tie.Need-write-requires-3 Inv-loop2 μ-loop2 Inv-loop μ-loop
-write-requires-3 c κs = search needs
-
--- ---- the next record
-
-add-at-2 : tie.Need-add-at-2 Inv-loop2 μ-loop2 Inv-loop μ-loop
-add-at-2 c = search needs
-
-loop-less-2 : tie.Need-loop-less-2 Inv-loop2 μ-loop2 Inv-loop μ-loop
+loop-less-2 : tie.Need-loop-less-2 Inv-loop μ-loop
 loop-less-2 c = search needs
 
-loop-again-2 : tie.Need-loop-again-2 Inv-loop2 μ-loop2 Inv-loop μ-loop
+loop-again-2 : tie.Need-loop-again-2 Inv-loop μ-loop
 loop-again-2 c =
-    let read = read-at (c .before) in
-    one-more (loop-at read .loop .inv) (read .before .loop-test .taken) (came c)
+    let written = c .before .before in
+    let known = written .before .before .before in
+    let request = known .before in
+    let p = request .before .before .before in
+    let split = p .before .before in
+    let call = split .before .before .call2 .given in
+    let told = request-at p in
+    let read = read-at told in
+    let o = hand-at read in
+    let went = request .request .ensures _ _ (request-in o (call .0 .0) (split .split .ensures) (p .placed .ensures)) in
+    one-more (loop-at read .loop .inv) (read .before .loop-test .taken)
+    (record {
+      answer = requestAnswer (call .0 .0) (request .request .result);
+      played = rw (call-is told (call .1)) (played-request o _ (request-told (o .sound) _ went));
+      plan-is = loop-at read .loop .inv .plan-is;
+      put = puts-same (reply-text (loop-at read .before .lines .ensures) (call .0 .0) (request .request .result) (omega (arith, known .struct-known2 .given))) (written .write-reply .ensures .0);
+      most = written .write-reply .ensures .1;
+    })
 
--- ---- after the loop
+enum-known-call-3 : tie.Need-enum-known-call-3 Inv-loop μ-loop
+enum-known-call-3 c = search needs
 
-same-length : tie.Need-same-length Inv-loop2 μ-loop2 Inv-loop μ-loop
+credit-requires : tie.Need-credit-requires Inv-loop μ-loop
+credit-requires c κs = search needs
+
+write-refusal-requires-2 : tie.Need-write-refusal-requires-2 Inv-loop μ-loop
+write-refusal-requires-2 c κs = search needs
+
+loop-less-3 : tie.Need-loop-less-3 Inv-loop μ-loop
+loop-less-3 c = search needs
+
+loop-again-3 : tie.Need-loop-again-3 Inv-loop μ-loop
+loop-again-3 c =
+    let written = c .before .before in
+    let refused = written .before .before in
+    let credit = refused .before in
+    let told = credit-at credit in
+    let read = read-at told in
+    one-more (loop-at read .loop .inv) (read .before .loop-test .taken)
+    (record {
+      answer = Refused (credit .credit .result);
+      played =
+          rw (call-is told (credit .before .before .before .call3 .given .1))
+          (played-credit (hand-at read) _ _ (rw (ne-eqb _ _ (refused .if1 .taken)) at (credit-told _ _ _ (credit .credit .ensures))));
+      plan-is = loop-at read .loop .inv .plan-is;
+      put = put-in-room _ _ _ (room-at read) (written .write-refusal2 .ensures);
+      most = written .write-refusal2 .ensures .1 .1;
+    })
+
+write-taken-requires : tie.Need-write-taken-requires Inv-loop μ-loop
+write-taken-requires c κs = room-at (read-at (credit-at (c .before .before)))
+
+loop-less-4 : tie.Need-loop-less-4 Inv-loop μ-loop
+loop-less-4 c = search needs
+
+loop-again-4 : tie.Need-loop-again-4 Inv-loop μ-loop
+loop-again-4 c =
+    let written = c .before .before in
+    let taken = written .before .before in
+    let credit = taken .before in
+    let told = credit-at credit in
+    let read = read-at told in
+    one-more (loop-at read .loop .inv) (read .before .loop-test .taken)
+    (record {
+      answer = Taken;
+      played =
+          rw (call-is told (credit .before .before .before .call3 .given .1))
+          (played-credit (hand-at read) _ _ (rw (eq-eqb _ _ (taken .if1 .left)) at (credit-told _ _ _ (credit .credit .ensures))));
+      plan-is = loop-at read .loop .inv .plan-is;
+      put = written .write-taken .ensures .0;
+      most = written .write-taken .ensures .1;
+    })
+
+enum-told-2 : tie.Need-enum-told-2 Inv-loop μ-loop
+enum-told-2 c = search needs
+
+tick-requires : tie.Need-tick-requires Inv-loop μ-loop
+tick-requires c κs = search needs
+
+add-owner : tie.Need-add-owner Inv-loop μ-loop
+add-owner c = search needs
+
+element-copy-out-owner : tie.Need-element-copy-out-owner Inv-loop μ-loop
+element-copy-out-owner c = search needs
+
+cast-line-2 : tie.Need-cast-line-2 Inv-loop μ-loop
+cast-line-2 c = omega (arith, owner-at (c .before .before .tick .ensures .1))
+
+add-line : tie.Need-add-line Inv-loop μ-loop
+add-line c = omega (arith, owner-at (c .before .before .tick .ensures .1))
+
+mul-line-2 : tie.Need-mul-line-2 Inv-loop μ-loop
+mul-line-2 c = omega (arith, owner-at (c .before .before .tick .ensures .1))
+
+array-copy-out-line-2 : tie.Need-array-copy-out-line-2 Inv-loop μ-loop
+array-copy-out-line-2 c = omega (arith, owner-at (c .before .before .tick .ensures .1))
+
+write-requires : tie.Need-write-requires Inv-loop μ-loop
+write-requires c κs = room-at (read-at (tick-at (c .before .before .before .before)))
+
+loop-less-5 : tie.Need-loop-less-5 Inv-loop μ-loop
+loop-less-5 c = search needs
+
+loop-again-5 : tie.Need-loop-again-5 Inv-loop μ-loop
+loop-again-5 c =
+    let written = c .before .before in
+    let tick = written .before .before .before .before .before in
+    let told = tick-at tick in
+    let read = read-at told in
+    let there = tick .tick .ensures .1 in
+    one-more (loop-at read .loop .inv) (read .before .loop-test .taken)
+    (record {
+      answer = answerToTick (ownerOf (getD (tick .tick .last .0) (4096 + tick .tick .result .current) 0));
+      played = rw (call-is told (tick .before .before .enum-told2 .given .1)) (played-tick (hand-at read) (tick .tick .ensures .0) there);
+      plan-is = loop-at read .loop .inv .plan-is;
+      put = puts-same (tick-text (loop-at read .before .lines .ensures) _ (owner-at there)) (written .write .ensures .0);
+      most = written .write .ensures .1;
+    })
+
+same-length : tie.Need-same-length Inv-loop μ-loop
 same-length c = same-size (c .before .loop .inv)
 
-returns : tie.Need-returns Inv-loop2 μ-loop2 Inv-loop μ-loop
+returns : tie.Need-returns Inv-loop μ-loop
 returns c =
     let s = c .before .loop .inv in
-    (all-played s (omega arith), s .hand .sound)
+    (all-played s (omega arith), sound-played s)
 
 pub play-spec : {M : Type 1} → statement M
 play-spec =
     tie.close
     (tie.spec
-    Inv-loop2
-    μ-loop2
     Inv-loop
     μ-loop
     smaller-requires
     mul-used
+    element-copy-out-cp
+    cast-window
     window-requires
     lines-requires
     loop-holds
+    add-at
+    sub-read
     read-requires
     enum-known-call
     enum-told
     write-refusal-requires
-    add-at
     loop-less
     loop-again
     enum-known-call-2
-    asker-requires
+    split-requires
+    cast-placed
+    placed-requires
     mul-e
     element-copy-out-e
-    mul-flow
-    element-copy-out-flow
-    array-read-ask
-    ask-requires
-    mul-flow-2
-    element-set-from-flow
-    cast-link
-    element-write-link
-    book-requires
-    shift-from-requires
-    array-read-one-more
-    one-more-requires
-    array-write-most
+    request-requires
+    cast-line
     mul-line
     array-copy-out-line
-    write-requires
-    write-requires-2
+    write-reply-requires
+    loop-less-2
+    loop-again-2
     enum-known-call-3
-    take-requires
+    credit-requires
     write-refusal-requires-2
-    array-write-most-2
+    loop-less-3
+    loop-again-3
     write-taken-requires
+    loop-less-4
+    loop-again-4
     enum-told-2
-    ticked-requires
-    empty-head-requires
-    recycle-head-requires
-    carry-head-requires
-    loop2-holds
-    mul-f
-    element-copy-out-f
-    mul-e-2
-    element-copy-out-e-2
-    cast-moved-to
-    moved-to-requires
-    mul-t103
-    element-set-from-link
-    add-i
-    loop2-less
-    loop2-again
+    tick-requires
+    add-owner
     element-copy-out-owner
-    cast-line
+    cast-line-2
     add-line
     mul-line-2
     array-copy-out-line-2
-    write-requires-3
-    add-at-2
-    loop-less-2
-    loop-again-2
+    write-requires
+    loop-less-5
+    loop-again-5
     same-length
     returns)

@@ -5,7 +5,7 @@ use native.Mathlib.Omega.{arith}
 use lib.ListN.{length, take}
 use lib.Seq.{length-take-le}
 use borrow.Author.Needs.{needs}
-use Rattle.link.specs.Reading.{linkOf}
+use Rattle.link.specs.Steps.{readOf}
 use Rattle.program.specs.declared.Phase.{Phase}
 use Rattle.program.specs.Stage.{reading, playing, ended, stageFed, writtenFed}
 use Rattle.program.specs.State.{bytesIn, stageIn}
@@ -81,7 +81,7 @@ returns-2 c =
     let s = start t in
     let left = c .before .before .before .go-on2 .ensures in
     fed-in (s .args .state) (told .enum-told2 .given .1)
-    (fed-piece (playing (linkOf (s .args .state .link)) (bytesIn (s .args .state .kept))) (s .args .piece .now) (t .smaller .ensures) left)
+    (fed-piece (playing (readOf (s .args .state .link)) (bytesIn (s .args .state .kept))) (s .args .piece .now) (t .smaller .ensures) left)
 
 returns-3 : tie.Need-returns-3
 unfolding stageFed writtenFed

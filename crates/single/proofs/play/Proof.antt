@@ -1,15 +1,15 @@
 -- `single::play` is safe and ends. Assumes nothing.
 use Prim.Native.Nat.{_≤_, _-_}
-use Rattle.link.specs.Sound.{Sound}
+use Rattle.link.specs.Sound.{SoundLink}
 use borrow.Author.Needs.{needs}
 use Rattle.single.proofs.play.Statement.{statement}
 use Rattle.single.proofs.play.Tie as tie
 
 abbrev Inv-loop : tie.InvT-loop
-Inv-loop kinds words lowest₀ count in-bursts step₀ sum₀ from₀ lowest step sum from = (from ≤ count) × Sound (step .link)
+Inv-loop kinds words lowest₀ count most step₀ sum₀ from₀ lowest step sum from = (from ≤ count) × SoundLink (step .link)
 
 abbrev μ-loop : tie.MeasureT-loop
-μ-loop kinds words lowest₀ count in-bursts step₀ sum₀ from₀ lowest step sum from = count - from
+μ-loop kinds words lowest₀ count most step₀ sum₀ from₀ lowest step sum from = count - from
 
 fresh-requires : tie.Need-fresh-requires Inv-loop μ-loop
 fresh-requires c κs = search needs

@@ -5,10 +5,10 @@ use Rattle.single.proofs.repeat.Statement.{statement}
 use Rattle.single.proofs.repeat.Tie as tie
 
 abbrev Inv-loop : tie.InvT-loop
-Inv-loop plan kinds words lowest₀ count in-bursts sum₀ counter₀ lowest sum counter = counter ≤ 200
+Inv-loop plan kinds words lowest₀ count most sum₀ counter₀ lowest sum counter = counter ≤ 200
 
 abbrev μ-loop : tie.MeasureT-loop
-μ-loop plan kinds words lowest₀ count in-bursts sum₀ counter₀ lowest sum counter = 200 - counter
+μ-loop plan kinds words lowest₀ count most sum₀ counter₀ lowest sum counter = 200 - counter
 
 loop-holds : tie.Need-loop-holds Inv-loop μ-loop
 loop-holds c = search needs

@@ -1,16 +1,63 @@
 -- `calls::records::read` meets its contract: each return goes by the tests on the way. Assumes nothing.
-use Prim.Native.Nat.{_+_, _≤_}
-use mathlib.Core.Path.{refl, sym, _∙_}
+use Prim.Native.Nat.{ℕ, _+_, _*_, _/_, _%_, _≤_, _<_}
+use mathlib.Core.Path.{_≡_, refl, sym, _∙_}
+use mathlib.Core.List.{List}
 use native.Mathlib.Omega.{arith}
-use lib.ListN.{length}
-use borrow.Author.Tests.{ne-eqb}
+use lib.ListN.{length, getD}
+use borrow.Author.Tests.{eq-eqb, ne-eqb}
 use borrow.Author.Needs.{needs}
+use Rattle.model.specs.Plan.{field16}
+use Rattle.model.specs.Record.{field32}
 use Rattle.model.proofs.Records.{call-at, no-call-at}
 use Rattle.calls.proofs.records.read.Statement.{statement}
 use Rattle.calls.proofs.records.read.Tie as tie
 
-five : (c : tie.Else2) → c .before .before .before .args .at + 5 ≤ length (c .before .before .before .args .records .now)
-five c = omega arith
+-- ---- the word of a record, by what a credit has in its bytes
+
+word-is : (b : List ℕ) (at : ℕ) → field32 b (at + 1) ≡ getD b (at + 1) 0 + 256 * field16 b (at + 2) + 16777216 * getD b (at + 4) 0
+word-is b at =
+    let second : at + 1 + 1 ≡ at + 2 = omega arith in
+    let third : at + 1 + 2 ≡ at + 3 = omega arith in
+    let after : at + 2 + 1 ≡ at + 3 = omega arith in
+    let last : at + 3 + 1 ≡ at + 4 = omega arith in
+    rw (second, third, after, last) (omega arith)
+
+module _ (c : tie.After-four-bytes) where
+  abbrev start : tie.Start
+  start = c .before .before .before .before .before
+
+  abbrev bytes : List ℕ
+  bytes = start .args .records .now
+
+  abbrev at : ℕ
+  at = start .args .at
+
+  abbrev word : ℕ
+  word = c .four-bytes .result
+
+  byte : (k : ℕ) → getD bytes k 0 < 256
+  byte k = omega (arith, c .before .shared-slice-known2 .given k)
+
+  five : at + 5 ≤ length bytes
+  five = omega arith
+
+  parts : word ≡ getD bytes (at + 1) 0 + 256 * field16 bytes (at + 2) + 16777216 * getD bytes (at + 4) 0
+  parts = c .four-bytes .ensures ∙ word-is bytes at
+
+  filled : 16777216 ≤ word → getD bytes (at + 4) 0 ≡ 0 → ⊥
+  filled h z = omega (arith, parts, byte (at + 1), byte (at + 2), byte (at + 2 + 1))
+
+  module _ (h : word < 16777216) where
+    not-filled : getD bytes (at + 4) 0 ≡ 0
+    not-filled = omega (arith, parts)
+
+    flow-is : word % 256 ≡ getD bytes (at + 1) 0
+    flow-is = omega (arith, parts, byte (at + 1), not-filled)
+
+    position-is : word / 256 ≡ field16 bytes (at + 2)
+    position-is = omega (arith, parts, byte (at + 1), not-filled)
+
+-- ---- the needs
 
 returns : tie.Need-returns
 returns c = let s = c .before .before in rw (no-call-at (s .args .records .now) (s .args .at) (omega arith)) (refl, refl)
@@ -31,62 +78,39 @@ four-bytes-requires : tie.Need-four-bytes-requires
 four-bytes-requires c κs = search needs
 
 returns-3 : tie.Need-returns-3
-returns-3 c = rw (call-at _ _ (five (c .before .before .before)), c .before .if3 .taken, c .four-bytes .ensures) (refl, refl)
-
-add-if5 : tie.Need-add-if5
-add-if5 c = search needs
-
-shared-slice-read-if5 : tie.Need-shared-slice-read-if5
-shared-slice-read-if5 c = search needs
+returns-3 c = let r = c .before in rw (call-at (bytes r) (at r) (five r), c .if3 .taken, ← r .four-bytes .ensures) (refl, refl)
 
 returns-4 : tie.Need-returns-4
-returns-4 c = let t = c .before .before in rw (call-at _ _ (five (t .before .before .before)), t .if4 .taken, ne-eqb _ _ (c .if5 .taken)) (refl, refl)
+returns-4 c =
+    let r = c .before .before .before in
+    rw (call-at (bytes r) (at r) (five r), c .before .if4 .taken, ne-eqb _ _ (filled r (c .if5 .taken))) (refl, refl)
 
-add-wide : tie.Need-add-wide
-add-wide c = search needs
+cast-t13 : tie.Need-cast-t13
+cast-t13 c = search needs
 
-shared-slice-read-wide : tie.Need-shared-slice-read-wide
-shared-slice-read-wide c = search needs
-
-wide-requires : tie.Need-wide-requires
-wide-requires c κs = search needs
-
-add-two-bytes : tie.Need-add-two-bytes
-add-two-bytes c = search needs
-
-two-bytes-requires : tie.Need-two-bytes-requires
-two-bytes-requires c κs = search needs
-
-cast-t14 : tie.Need-cast-t14
-cast-t14 c = search needs
-
-cast-t19 : tie.Need-cast-t19
-cast-t19 c = search needs
+cast-t15 : tie.Need-cast-t15
+cast-t15 c = search needs
 
 returns-5 : tie.Need-returns-5
 returns-5 c =
-    let t = c .before .before .before .before .before in
-    rw (call-at _ _ (five (t .before .before .before)), t .if4 .taken, c .before .before .before .if5 .left, c .before .wide .ensures .0, c .two-bytes .ensures .0) (refl, refl)
+    let r = c .before .before .before in
+    let few : word r < 16777216 = omega arith in
+    rw (call-at (bytes r) (at r) (five r), c .before .if4 .taken, eq-eqb _ _ (not-filled r few), flow-is r few, position-is r few) (refl, refl)
 
 returns-6 : tie.Need-returns-6
 returns-6 c =
-    rw (call-at _ _ (five (c .before .before .before .before)), ne-eqb _ _ (c .before .before .if3 .left), ne-eqb _ _ (c .before .if4 .left), ne-eqb _ _ (c .if6 .taken)) (refl, refl)
-
-add-four-bytes-2 : tie.Need-add-four-bytes-2
-add-four-bytes-2 c = search needs
-
-four-bytes-requires-2 : tie.Need-four-bytes-requires-2
-four-bytes-requires-2 c κs = search needs
+    let r = c .before .before .before in
+    rw (call-at (bytes r) (at r) (five r), ne-eqb _ _ (c .before .before .if3 .left), ne-eqb _ _ (c .before .if4 .left), ne-eqb _ _ (c .if6 .taken)) (refl, refl)
 
 returns-7 : tie.Need-returns-7
 returns-7 c =
-    let e = c .before .before in
-    rw (call-at _ _ (five (e .before .before .before .before)), e .if6 .left, ne-eqb _ _ (λ z. c .if7 .taken (c .before .four-bytes2 .ensures ∙ z))) (refl, refl)
+    let r = c .before .before .before .before in
+    rw (call-at (bytes r) (at r) (five r), c .before .if6 .left, ne-eqb _ _ (λ z. c .if7 .taken (r .four-bytes .ensures ∙ z))) (refl, refl)
 
 returns-8 : tie.Need-returns-8
 returns-8 c =
-    let e = c .before .before in
-    rw (call-at _ _ (five (e .before .before .before .before)), e .if6 .left, sym (c .before .four-bytes2 .ensures) ∙ c .if7 .left) (refl, refl)
+    let r = c .before .before .before .before in
+    rw (call-at (bytes r) (at r) (five r), c .before .if6 .left, sym (r .four-bytes .ensures) ∙ c .if7 .left) (refl, refl)
 
 pub read-spec : {M : Type 1} → statement M
 read-spec =
@@ -99,19 +123,10 @@ read-spec =
     add-four-bytes
     four-bytes-requires
     returns-3
-    add-if5
-    shared-slice-read-if5
     returns-4
-    add-wide
-    shared-slice-read-wide
-    wide-requires
-    add-two-bytes
-    two-bytes-requires
-    cast-t14
-    cast-t19
+    cast-t13
+    cast-t15
     returns-5
     returns-6
-    add-four-bytes-2
-    four-bytes-requires-2
     returns-7
     returns-8)

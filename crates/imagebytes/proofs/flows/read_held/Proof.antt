@@ -10,34 +10,38 @@ use Rattle.imagebytes.proofs.flows.read_held.Statement.{statement}
 use Rattle.imagebytes.proofs.flows.read_held.Tie as tie
 
 abbrev Inv-loop : tie.InvT-loop
-Inv-loop image l held₀ count i₀ held i = ReadingRows image l held i
+Inv-loop s₀ image l count i₀ s i = ReadingRows image l s₀ s i
 
 abbrev μ-loop : tie.MeasureT-loop
-μ-loop image l held₀ count i₀ held i = count - i
+μ-loop s₀ image l count i₀ s i = count - i
 
-nothing-held-requires : tie.Need-nothing-held-requires Inv-loop μ-loop
-nothing-held-requires c κs = search needs
+-- ---- where the function is entered, and where the loop is
+
+abbrev entered : tie.At-loop Inv-loop μ-loop → tie.Start Inv-loop μ-loop
+entered c = c .before .before
+
+abbrev looped : tie.After-flow Inv-loop μ-loop → tie.In-loop Inv-loop μ-loop
+looped c = c .before .before
 
 loop-holds : tie.Need-loop-holds Inv-loop μ-loop
-loop-holds c = no-rows (c .nothing-held .ensures)
+loop-holds c = no-rows (c .before .pre .2)
 
 flow-requires : tie.Need-flow-requires Inv-loop μ-loop
-flow-requires c κs =
-    let s = c .before .before .before .before in
-    (s .pre .on .sized, c .loop-test .taken)
+flow-requires c κs = let i = c .before in (entered (i .before) .pre .0 .on .sized, i .loop-test .taken)
 
 add-read-table : tie.Need-add-read-table Inv-loop μ-loop
 add-read-table c = omega arith
 
 read-table-requires : tie.Need-read-table-requires Inv-loop μ-loop
 read-table-requires c κs =
-    let i = c .before in
-    let s = i .before .before .before .before in
+    let i = looped c in
+    let s = entered (i .before) in
+    let v = s .pre .0 in
     record {
-      few = s .pre .size-most;
+      few = v .size-most;
       there = omega arith;
       bytes = λ q h.
-          subst (λ (at : ℕ). fieldAt (s .args .image .now) (at + 4) q < 256) (sym (c .flow .ensures .0)) (s .pre .bytes (i .before .loop .i) q (i .loop-test .taken) h);
+          subst (λ (at : ℕ). fieldAt (s .args .image .now) (at + 4) q < 256) (sym (c .flow .ensures .0)) (v .bytes (i .before .loop .i) q (i .loop-test .taken) h);
     }
 
 store-requires : tie.Need-store-requires Inv-loop μ-loop
@@ -51,17 +55,15 @@ loop-less c = search needs
 
 loop-again : tie.Need-loop-again Inv-loop μ-loop
 loop-again c =
-    let r = c .before .before in
+    let r = c .before in
     let f = r .before in
-    let i = f .before in
-    let s = i .before .before .before .before in
+    let i = looped f in
+    let s = entered (i .before) in
     let same = ap (λ (at : ℕ). tableFrom (s .args .image .now) (at + 4) (s .args .l .size) 0) (f .flow .ensures .0) in
-    one-row-more (s .pre .on .few) (i .before .loop .inv) (i .loop-test .taken) (r .read-table .ensures ∙ same) (c .store .ensures)
+    one-row-more (s .pre .0 .on .few) (i .before .loop .inv) (s .pre .1) (i .loop-test .taken) (r .read-table .ensures ∙ same) (c .store .ensures)
 
 returns : tie.Need-returns Inv-loop μ-loop
-returns c =
-    let s = c .before .before .before .before in
-    all-rows (s .pre .on .few) (c .before .loop .inv) (omega arith)
+returns c = all-rows (entered (c .before) .pre .0 .on .few) (c .before .loop .inv) (omega arith)
 
 pub read-held-spec : {M : Type 1} → statement M
 read-held-spec =
@@ -69,7 +71,6 @@ read-held-spec =
     (tie.spec
     Inv-loop
     μ-loop
-    nothing-held-requires
     loop-holds
     flow-requires
     add-read-table

@@ -1,49 +1,83 @@
 -- `imagebytes::reading::read` meets its contract. Assumes nothing.
 use borrow.Author.Needs.{needs}
-use mathlib.Core.Path.{_≡_, refl, ap}
-use lib.Dec.{eqb}
+use mathlib.Core.Path.{_≡_, ap, _∙_}
+use native.Mathlib.Omega.{arith}
+use lib.ListN.{length}
 use Rattle.plan.specs.declared.Plan.{Plan}
 use Rattle.plan.specs.Reading.{planFor, Valid}
 use Rattle.images.specs.Image.{planIn}
+use Rattle.link.proofs.Resumed.{whole-empty}
 use Rattle.taken.proofs.Refusals.{is-accepted, plan-is}
-use Rattle.imagebytes.proofs.ReadLinks.{owners-on, flows-on, holdings-on, measures-read, words-read, made-of}
+use Rattle.imagebytes.proofs.ReadLinks.{owners-on, flows-on, holdings-on, measures-read, mark-most, turn-most, whole-flows, nothing-yet, whole-held, made-link, made-in}
 use Rattle.imagebytes.proofs.reading.read.Statement.{statement}
 use Rattle.imagebytes.proofs.reading.read.Tie as tie
 
--- where the plan is read, and where the function is entered
+-- ---- where the plan is read, where the function is entered, and where the parts are read
+
 abbrev read-at : tie.After-layout-of → tie.After-plan-in
 read-at c = c .before .before
 
 abbrev entered : tie.After-plan-in → tie.Start
 entered c = c .before .before
 
+abbrev laid-at : tie.After-read-flows → tie.After-layout-of
+laid-at c = c .before .before
+
+abbrev flows-at : tie.After-read-held → tie.After-read-flows
+flows-at c = c .before .before
+
+abbrev held-at : tie.After-field → tie.After-read-held
+held-at c = c .before .before
+
+abbrev current-at : tie.After-field3 → tie.After-field
+current-at c = c .before .before .before
+
 module _ (c : tie.After-plan-in) where
   abbrev plan-at : Plan
   plan-at = c .plan-in .result .plan
 
   valid-at : Valid plan-at
-  valid-at = c .plan-in .ensures .1 (is-accepted (entered c .args .image .now) (c .plan-in .ensures .0) (entered c .pre .plan-passes))
+  valid-at = c .plan-in .ensures .1 (is-accepted (entered c .args .image .now) (c .plan-in .ensures .0) (entered c .pre .0 .plan-passes))
 
   plan-here : planFor plan-at ≡ planIn (entered c .args .image .now)
-  plan-here = plan-is (entered c .args .image .now) (c .plan-in .ensures .0) (entered c .pre .plan-passes)
+  plan-here = plan-is (entered c .args .image .now) (c .plan-in .ensures .0) (entered c .pre .0 .plan-passes)
 
 plan-in-requires : tie.Need-plan-in-requires
-plan-in-requires c κs = c .before .pre .header-there
+plan-in-requires c κs = search needs
 
 layout-of-requires : tie.Need-layout-of-requires
 layout-of-requires c κs = valid-at (c .before)
 
-read-table-requires : tie.Need-read-table-requires
-read-table-requires c κs = let r = read-at c in owners-on (entered r .pre) (plan-at r) (valid-at r) (plan-here r) _ (c .layout-of .ensures)
-
 read-flows-requires : tie.Need-read-flows-requires
-read-flows-requires c κs = let y = c .before in let r = read-at y in flows-on (entered r .pre) (plan-at r) (valid-at r) (plan-here r) _ (y .layout-of .ensures)
+read-flows-requires c κs =
+    let y = c .before in
+    let r = read-at y in
+    (flows-on (entered r .pre .0) (plan-at r) (valid-at r) (plan-here r) _ (y .layout-of .ensures), ap length (entered r .pre .1) ∙ whole-empty)
 
 read-held-requires : tie.Need-read-held-requires
-read-held-requires c κs = let y = c .before .before in let r = read-at y in holdings-on (entered r .pre) (plan-at r) (valid-at r) (plan-here r) _ (y .layout-of .ensures)
+read-held-requires c κs =
+    let f = c .before in
+    let y = laid-at f in
+    let r = read-at y in (
+      holdings-on (entered r .pre .0) (plan-at r) (valid-at r) (plan-here r) _ (y .layout-of .ensures),
+      whole-flows (entered r .pre .0) (plan-at r) (valid-at r) (plan-here r) _ (y .layout-of .ensures) (entered r .pre .1) (f .read-flows .ensures),
+      nothing-yet (entered r .pre .0) (plan-at r) (valid-at r) (plan-here r) _ (y .layout-of .ensures) (entered r .pre .1) (f .read-flows .ensures),
+    )
+
+read-table-requires : tie.Need-read-table-requires
+read-table-requires c κs =
+    let y = laid-at (flows-at c) in
+    let r = read-at y in
+    owners-on (entered r .pre .0) (plan-at r) (valid-at r) (plan-here r) _ (y .layout-of .ensures)
 
 field-requires : tie.Need-field-requires
 field-requires c κs = search needs
+
+window-requires : tie.Need-window-requires
+window-requires c κs =
+    let y = laid-at (flows-at (held-at c)) in
+    let r = read-at y in
+    rw (c .field .ensures .0) (measures-read (entered r .pre .0) (plan-at r) (valid-at r) (plan-here r) _ (y .layout-of .ensures))
 
 field-requires-2 : tie.Need-field-requires-2
 field-requires-2 c κs = search needs
@@ -51,47 +85,45 @@ field-requires-2 c κs = search needs
 field-requires-3 : tie.Need-field-requires-3
 field-requires-3 c κs = search needs
 
--- where the marks of the header are read, and from there the tables
-abbrev tables-at : tie.After-field3 → tie.After-read-held
-tables-at c = c .before .before .before
-
-module _ (c : tie.After-read-held) where
-  abbrev flows-at : tie.After-read-flows
-  flows-at = c .before
-
-  abbrev owners-at : tie.After-read-table
-  owners-at = c .before .before
-
-  abbrev layout-at : tie.After-layout-of
-  layout-at = owners-at .before
-
-window-requires : tie.Need-window-requires
-window-requires c κs =
-    let y = layout-at (tables-at c) in
+cast-resume : tie.Need-cast-resume
+cast-resume c =
+    let t = c .before in
+    let y = laid-at (flows-at (held-at (current-at t))) in
     let r = read-at y in
-    rw (c .before .before .field .ensures .0) (measures-read (entered r .pre) (plan-at r) (valid-at r) (plan-here r) _ (y .layout-of .ensures))
+    omega (arith, t .before .field2 .ensures .0, mark-most (entered r .pre .0) (plan-at r) (valid-at r) (plan-here r) _ (y .layout-of .ensures))
 
-words-of-requires : tie.Need-words-of-requires
-words-of-requires c κs = c .before .window .ensures .1
+cast-resume-2 : tie.Need-cast-resume-2
+cast-resume-2 c =
+    let t = c .before in
+    let y = laid-at (flows-at (held-at (current-at t))) in
+    let r = read-at y in
+    omega (arith, t .field3 .ensures .0, turn-most (entered r .pre .0) (plan-at r) (valid-at r) (plan-here r) _ (y .layout-of .ensures))
+
+resume-requires : tie.Need-resume-requires
+resume-requires c κs =
+    let t = c .before in
+    let h = held-at (current-at t) in
+    let f = flows-at h in
+    let y = laid-at f in
+    let r = read-at y in (
+      t .before .before .window .ensures .1,
+      whole-held (entered r .pre .0) (plan-at r) (valid-at r) (plan-here r) _ (y .layout-of .ensures) (entered r .pre .1) (f .read-flows .ensures) (h .read-held .ensures),
+    )
 
 returns : tie.Need-returns
 returns c =
-    let w = c .before .before in
-    let marks = w .before in
-    let h = tables-at marks in
-    let y = layout-at h in
+    let t = c .before .before in
+    let k = current-at t in
+    let h = held-at k in
+    let f = flows-at h in
+    let y = laid-at f in
     let r = read-at y in
-    made-of (entered r .pre) (plan-at r) (valid-at r) (plan-here r) _ (y .layout-of .ensures)
-    (record {
-      plan-is = refl;
-      cp-is = marks .before .before .field .ensures .0;
-      owner-is = owners-at h .read-table .ensures;
-      flows-are = flows-at h .read-flows .ensures;
-      held-is = h .read-held .ensures;
-      taken-is = ap (λ x. eqb x 1) (marks .before .field2 .ensures .0);
-      first-is = marks .field3 .ensures .0;
-      words = words-read (w .window .result) (w .window .ensures .0) (c .words-of .ensures);
-    })
+    let w = t .before .before in (
+      made-link (entered r .pre .0) (plan-at r) (valid-at r) (plan-here r) _ (y .layout-of .ensures) (entered r .pre .1) (f .read-flows .ensures) (h .read-held .ensures)
+          (k .field .ensures .0) (w .window .ensures .0) (k .before .read-table .ensures) (t .before .field2 .ensures .0) (t .field3 .ensures .0) (c .resume .ensures),
+      made-in (entered r .pre .0) (plan-at r) (valid-at r) (plan-here r) _ (y .layout-of .ensures) (entered r .pre .1) (f .read-flows .ensures) (h .read-held .ensures)
+          (k .field .ensures .0) (w .window .ensures .0) (k .before .read-table .ensures) (t .before .field2 .ensures .0) (t .field3 .ensures .0) (c .resume .ensures) (w .window .ensures .1),
+    )
 
 pub read-spec : {M : Type 1} → statement M
 read-spec =
@@ -99,12 +131,14 @@ read-spec =
     (tie.spec
     plan-in-requires
     layout-of-requires
-    read-table-requires
     read-flows-requires
     read-held-requires
+    read-table-requires
     field-requires
+    window-requires
     field-requires-2
     field-requires-3
-    window-requires
-    words-of-requires
+    cast-resume
+    cast-resume-2
+    resume-requires
     returns)

@@ -11,28 +11,21 @@ use Rattle.imagebytes.proofs.writing.put_flows.Statement.{statement}
 use Rattle.imagebytes.proofs.writing.put_flows.Tie as tie
 
 abbrev Inv-loop : tie.InvT-loop
-Inv-loop held count size image₀ at flows next₀ i₀ image next i = PuttingParts (partsOf size flows held) (2 * (3 + size)) count image₀ image at next i
+Inv-loop s count size image₀ at next₀ i₀ image next i = PuttingParts (partsOf size s) (2 * (3 + size)) count image₀ image at next i
 
 abbrev μ-loop : tie.MeasureT-loop
-μ-loop held count size image₀ at flows next₀ i₀ image next i = count - i
+μ-loop s count size image₀ at next₀ i₀ image next i = count - i
 
 loop-holds : tie.Need-loop-holds Inv-loop μ-loop
 unfolding fields flatMap
 loop-holds c = no-parts refl
 
-mul-flow : tie.Need-mul-flow Inv-loop μ-loop
-mul-flow c = search needs
-
-array-copy-out-flow : tie.Need-array-copy-out-flow Inv-loop μ-loop
-array-copy-out-flow c = search needs
-
 put-flow-requires : tie.Need-put-flow-requires Inv-loop μ-loop
 put-flow-requires c κs =
-    let i = c .before .before in
+    let i = c .before in
     let l = i .before in
     let s = l .before .before in
     record {
-      fits = s .pre .each-fits (l .loop .i) (i .loop-test .taken);
       flow = omega arith;
       size-most = s .pre .size-most;
       there = omega (arith, part-fits (l .loop .i) (s .args .count) (3 + s .args .size) (i .loop-test .taken));
@@ -46,12 +39,11 @@ loop-less c = search needs
 
 loop-again : tie.Need-loop-again Inv-loop μ-loop
 loop-again c =
-    let i = c .before .before .before .before .before in
+    let i = c .before .before .before .before in
     let l = i .before in
-    let s = l .before .before in
-    let held = s .args .held .now in
-    one-part-more (l .loop .inv) (i .loop-test .taken) (parts-more (s .args .size) (s .args .t1) held (l .loop .i))
-    (length-part (s .args .size) _ held (l .loop .i)) (c .before .before .put-flow .ensures)
+    let s = l .before .before .args in
+    one-part-more (l .loop .inv) (i .loop-test .taken) (parts-more (s .size) (s .s .now) (l .loop .i))
+    (length-part (s .size) (s .s .now) (l .loop .i)) (c .before .before .put-flow .ensures)
 
 same-length : tie.Need-same-length Inv-loop μ-loop
 same-length c = omega arith
@@ -66,8 +58,6 @@ put-flows-spec =
     Inv-loop
     μ-loop
     loop-holds
-    mul-flow
-    array-copy-out-flow
     put-flow-requires
     add-i
     loop-less

@@ -9,9 +9,6 @@ use Rattle.imagebytes.proofs.writing.put_header.Tie as tie
 layout-of-requires : tie.Need-layout-of-requires
 layout-of-requires c κs = search needs
 
-cast-t8 : tie.Need-cast-t8
-cast-t8 c = search needs
-
 slice-aggregate-put-all : tie.Need-slice-aggregate-put-all
 slice-aggregate-put-all c = search needs
 
@@ -19,7 +16,7 @@ put-all-requires : tie.Need-put-all-requires
 put-all-requires c κs =
     let y = c .before .before in
     let s = y .before .before in
-    (header-fits (s .args .plan) (y .layout-of .ensures) (s .args .cp) (s .args .taken) (s .args .first) (s .pre), s .pre .there)
+    (header-fits (s .args .plan) (y .layout-of .ensures) (s .pre), s .pre .there)
 
 same-length : tie.Need-same-length
 same-length c = search needs
@@ -29,14 +26,13 @@ returns c =
     let a = c .before .before in
     let y = a .before .before .before in
     let s = y .before .before in
-    puts-same (header-is (s .args .plan) (y .layout-of .ensures) (s .args .cp) (s .args .taken) (s .args .first)) (a .put-all .ensures)
+    puts-same (header-is (s .args .plan) (y .layout-of .ensures) (s .args .cp) (s .args .mark) (s .args .turn)) (a .put-all .ensures)
 
 pub put-header-spec : {M : Type 1} → statement M
 put-header-spec =
     tie.close
     (tie.spec
     layout-of-requires
-    cast-t8
     slice-aggregate-put-all
     put-all-requires
     same-length

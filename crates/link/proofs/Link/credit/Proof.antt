@@ -1,41 +1,34 @@
 -- `link::Link::credit` meets its contract. Assumes nothing.
-use Rattle.link.specs.declared.Link.{Link}
-use Rattle.link.proofs.Readings.{measures}
-use Rattle.link.proofs.Given.{AtHand, at-hand, credit-on}
-use Rattle.link.proofs.Credits.{credit-refused, credit-taken}
+use borrow.Author.Needs.{needs}
+use Rattle.link.specs.Given.{StateIn}
+use Rattle.link.proofs.Given.{state-in}
+use Rattle.link.proofs.Told.{credit-told}
 use Rattle.link.proofs.Link.credit.Statement.{statement}
 use Rattle.link.proofs.Link.credit.Tie as tie
 
--- where the window was made, and the link there
-abbrev window-at : tie.After-take → tie.After-window
-window-at c = c .before .before
+-- what is given of the state
+in-at : (c : tie.After-window) → let l = c .before .before .before .args .t1 in StateIn (l .plan) (c .window .result) (l .state)
+in-at c = state-in (c .before .before .before .pre) (c .window .ensures .0) (c .window .ensures .1)
 
-abbrev link-at : tie.After-window → Link
-link-at c = c .before .args .t1
+element-copy-out-cp : tie.Need-element-copy-out-cp
+element-copy-out-cp c = search needs
 
-hand-at : (c : tie.After-window) → AtHand (link-at c) (link-at c .plan) (c .window .result)
-hand-at c = at-hand (c .before .pre) (c .window .ensures .0) (c .window .ensures .1)
+cast-window : tie.Need-cast-window
+cast-window c = search needs
 
 window-requires : tie.Need-window-requires
-window-requires c κs = measures _ (c .pre)
+window-requires c κs = search needs
 
-take-requires : tie.Need-take-requires
-take-requires c κs = let k = c .before in record { link = link-at k; given = credit-on (hand-at k) }
+credit-requires : tie.Need-credit-requires
+credit-requires c κs = in-at (c .before)
+
+told-requires : tie.Need-told-requires
+told-requires c κs = search needs
 
 returns : tie.Need-returns
-returns c =
-    let t = c .before in
-    let a = hand-at (window-at t) in
-    rw (t .take .ensures .1 .0 .refused (c .if1 .taken)) (credit-refused a _ _ (t .take .ensures .0 _ (credit-on a)) (c .if1 .taken))
-
-returns-2 : tie.Need-returns-2
-returns-2 c =
-    let t = c .before in
-    let a = hand-at (window-at t) in
-    let tests = t .take .ensures .0 _ (credit-on a) in
-    let holds = t .take .ensures .1 .0 in
-    credit-taken a _ _ tests (c .if1 .left) (holds .taken (c .if1 .left)) (holds .lowered (c .if1 .left))
+returns c = rw (c .told .ensures) (credit-told _ _ _ (c .before .credit .ensures))
 
 pub credit-spec : {M : Type 1} → statement M
 credit-spec =
-    tie.close (tie.spec window-requires take-requires returns returns-2)
+    tie.close
+    (tie.spec element-copy-out-cp cast-window window-requires credit-requires told-requires returns)

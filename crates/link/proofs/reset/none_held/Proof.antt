@@ -58,7 +58,7 @@ returns-2 c =
     let all = c .before .loop in
     let start = c .before .before in
     let end : all .i ≡ start .args .count = omega (arith, all .inv .at-most) in
-    sym (sym (ap (λ (n : ℕ). noneHeldIn (windowOf (start .args .w)) n (start .args .held .now)) end) ∙ all .inv .none)
+    sym (sym (ap (λ (n : ℕ). noneHeldIn (windowOf (start .args .w)) n (start .args .s .now)) end) ∙ all .inv .none)
 
 pub none-held-spec : {M : Type 1} → statement M
 none-held-spec =

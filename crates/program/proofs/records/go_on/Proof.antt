@@ -6,7 +6,7 @@ use native.Mathlib.Omega.{arith}
 use lib.ListN.{length, take}
 use lib.Seq.{length-take-le}
 use borrow.Author.Needs.{needs}
-use Rattle.link.specs.Reading.{linkOf}
+use Rattle.link.specs.Steps.{readOf}
 use Rattle.program.specs.Stage.{playing}
 use Rattle.program.specs.State.{bytesIn, Stands}
 use Rattle.program.proofs.KeptBytes.{array-long, behind, Taken, taken}
@@ -43,8 +43,8 @@ module _ (c : tie.After-play) where
   some-taken : before-play .args .kept .count < at-filled .filled .result .count
   some-taken = omega (arith, long, five at-filled .kept .count-is, before-play .pre .0 .not-whole, before-play .pre .1 .kept-well .count-is)
 
-  one : PlayedOne (linkOf (before-play .args .link)) (bytesIn (at-filled .filled .result)) (before-play .args .out .now)
-      (linkOf (c .play .result .link)) (c .play .result .written) (c .play .last .1 .1 .0)
+  one : PlayedOne (readOf (before-play .args .link)) (bytesIn (at-filled .filled .result)) (before-play .args .out .now)
+      (readOf (c .play .result .link)) (c .play .result .end) (c .play .last .1 .1 .0)
   one = played-one five-is long (omega (arith, five at-filled .in-piece, some-taken, before-play .pre .1 .room)) (c .play .ensures .0)
 
 play-on-requires : tie.Need-play-on-requires
@@ -57,7 +57,7 @@ returns : tie.Need-returns
 returns c =
     let s = c .before .before .before .before .before .before .before in
     let none : bytesIn (s .args .kept) ≡ [] = ap (λ n. take n (s .args .kept .bytes)) (c .before .before .before .before .if1 .taken) in
-    none-cut-off (linkOf (s .args .link)) (bytesIn (s .args .kept)) (s .args .piece .now) none (c .before .before .play-on .ensures)
+    none-cut-off (readOf (s .args .link)) (bytesIn (s .args .kept)) (s .args .piece .now) none (c .before .before .play-on .ensures)
 
 filled-requires : tie.Need-filled-requires
 filled-requires c κs = (c .before .before .before .pre .1 .kept-well, omega arith)
@@ -73,8 +73,8 @@ returns-2 c =
     let f = c .before .before .before in
     let s = start f in
     let all = five f .piece-ended (c .before .if2 .taken) in
-    still-cut-off (linkOf (s .args .link)) (bytesIn (s .args .kept)) (s .args .piece .now) (omega (arith, five f .kept .count-is, ap length all))
-    (subst (λ (b : List ℕ). Stands (c .playing .result) (playing (linkOf (s .args .link)) b)) all (c .playing .ensures))
+    still-cut-off (readOf (s .args .link)) (bytesIn (s .args .kept)) (s .args .piece .now) (omega (arith, five f .kept .count-is, ap length all))
+    (subst (λ (b : List ℕ). Stands (c .playing .result) (playing (readOf (s .args .link)) b)) all (c .playing .ensures))
 
 array-share-prefix-bytes : tie.Need-array-share-prefix-bytes
 array-share-prefix-bytes c = omega (arith, array-long (c .before .before .before .filled .ensures))
@@ -116,7 +116,7 @@ returns-3 c =
     let s = before-play p in
     let f = at-filled p in
     let rest = behind (s .args .kept) (f .filled .result) (s .args .piece .now) in
-    made-whole (linkOf (s .args .link)) (bytesIn (s .args .kept)) (s .args .piece .now) rest (omega (arith, long p)) (five f .seam) (one p)
+    made-whole (readOf (s .args .link)) (bytesIn (s .args .kept)) (s .args .piece .now) rest (omega (arith, long p)) (five f .seam) (one p)
     (c .before .before .play-on2 .ensures)
 
 pub go-on-spec : {M : Type 1} → statement M

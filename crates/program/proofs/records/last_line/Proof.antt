@@ -5,7 +5,7 @@ use native.Mathlib.Omega.{arith}
 use lib.ListN.{length}
 use borrow.Author.Needs.{needs}
 use Rattle.calls.specs.Reading.{recordFor}
-use Rattle.link.specs.Reading.{linkOf}
+use Rattle.link.specs.Steps.{readOf}
 use Rattle.model.proofs.Records.{no-call-at}
 use Rattle.program.specs.State.{bytesIn}
 use Rattle.program.proofs.Ends.{no-line, cut-off-line, finished-by, finished-silent}
@@ -16,7 +16,7 @@ use Rattle.program.proofs.records.last_line.Tie as tie
 returns : tie.Need-returns
 returns c =
     let s = c .before .before in
-    finished-silent (no-line (linkOf (s .args .link)) (bytesIn (s .args .kept)) (omega (arith, s .pre .1 .count-is))) _
+    finished-silent (no-line (readOf (s .args .link)) (bytesIn (s .args .kept)) (omega (arith, s .pre .1 .count-is))) _
 
 array-share-prefix-bytes : tie.Need-array-share-prefix-bytes
 array-share-prefix-bytes c = let s = c .before .before .before in omega (arith, array-long (s .pre .1))
@@ -44,7 +44,7 @@ returns-2 c =
     let w = c .before .before .write-refusal .ensures in
     let s = c .before .before .before .before .before .before .before .before .before .before .before in
     let some : 0 < length (bytesIn (s .args .kept)) = omega (arith, s .pre .1 .count-is) in
-    finished-by (cut-off-line (linkOf (s .args .link)) (bytesIn (s .args .kept)) some) w
+    finished-by (cut-off-line (readOf (s .args .link)) (bytesIn (s .args .kept)) some) w
 
 returns-3 : tie.Need-returns-3
 returns-3 c =

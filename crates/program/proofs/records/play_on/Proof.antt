@@ -4,7 +4,7 @@ use native.Mathlib.Omega.{arith}
 use lib.ListN.{length}
 use lib.Seq.{length-sets}
 use borrow.Author.Needs.{needs}
-use Rattle.link.specs.Reading.{linkOf}
+use Rattle.link.specs.Steps.{readOf}
 use Rattle.program.specs.Stage.{cutOff}
 use Rattle.program.specs.State.{Keeps}
 use Rattle.program.proofs.KeptBytes.{bytes-back, kept-itself}
@@ -18,8 +18,8 @@ module _ (c : tie.After-play) where
   abbrev start : tie.Start
   start = c .before .before .before .before
 
-  played : PlayedOn (linkOf (start .args .link)) (start .args .bytes .now) (start .args .out .now) (start .args .at) (linkOf (c .play .result .link))
-      (c .play .result .used) (c .play .result .written) (putBack (start .args .out .now) (start .args .at) (c .play .last .1 .1 .0))
+  played : PlayedOn (readOf (start .args .link)) (start .args .bytes .now) (start .args .out .now) (start .args .at) (readOf (c .play .result .link))
+      (c .play .result .used) (c .play .result .end) (putBack (start .args .out .now) (start .args .at) (c .play .last .1 .1 .0))
   played = played-on (start .pre .1) (c .play .ensures .0)
 
 -- where the bytes after the records are kept

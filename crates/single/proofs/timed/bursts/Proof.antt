@@ -1,15 +1,15 @@
 -- `single::timed::bursts` is safe and ends. Assumes nothing.
 use Prim.Native.Nat.{_-_, _≤_}
-use Rattle.link.specs.Sound.{Sound}
+use Rattle.link.specs.Sound.{SoundLink}
 use borrow.Author.Needs.{needs}
 use Rattle.single.proofs.timed.bursts.Statement.{statement}
 use Rattle.single.proofs.timed.bursts.Tie as tie
 
 abbrev Inv-loop : tie.InvT-loop
-Inv-loop words from to back₀ sum₀ at₀ begin back sum at = (to ≤ 4096) × Sound (back .link)
+Inv-loop words from to most back₀ sum₀ at₀ begin back sum at = (to ≤ 4096) × SoundLink (back .link)
 
 abbrev μ-loop : tie.MeasureT-loop
-μ-loop words from to back₀ sum₀ at₀ begin back sum at = to - at
+μ-loop words from to most back₀ sum₀ at₀ begin back sum at = to - at
 
 none-requires : tie.Need-none-requires Inv-loop μ-loop
 none-requires c κs = search needs
@@ -25,6 +25,9 @@ sub-smaller c = search needs
 
 smaller-requires : tie.Need-smaller-requires Inv-loop μ-loop
 smaller-requires c κs = search needs
+
+smaller-requires-2 : tie.Need-smaller-requires-2 Inv-loop μ-loop
+smaller-requires-2 c κs = search needs
 
 asks-requires : tie.Need-asks-requires Inv-loop μ-loop
 asks-requires c κs = search needs
@@ -64,6 +67,7 @@ bursts-spec =
     loop-holds
     sub-smaller
     smaller-requires
+    smaller-requires-2
     asks-requires
     burst-first-requires
     answers-requires

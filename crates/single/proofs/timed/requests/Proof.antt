@@ -1,12 +1,12 @@
 -- `single::timed::requests` is safe and ends. Assumes nothing.
 use Prim.Native.Nat.{_-_}
-use Rattle.link.specs.Sound.{Sound}
+use Rattle.link.specs.Sound.{SoundLink}
 use borrow.Author.Needs.{needs}
 use Rattle.single.proofs.timed.requests.Statement.{statement}
 use Rattle.single.proofs.timed.requests.Tie as tie
 
 abbrev Inv-loop : tie.InvT-loop
-Inv-loop words from to step₀ sum₀ begin i₀ step sum i = Sound (step .link)
+Inv-loop words from to step₀ sum₀ begin i₀ step sum i = SoundLink (step .link)
 
 abbrev μ-loop : tie.MeasureT-loop
 μ-loop words from to step₀ sum₀ begin i₀ step sum i = to - i

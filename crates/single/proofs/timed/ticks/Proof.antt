@@ -1,12 +1,12 @@
 -- `single::timed::ticks` is safe and ends. Assumes nothing.
 use Prim.Native.Nat.{_-_}
-use Rattle.link.specs.Sound.{Sound}
+use Rattle.link.specs.Sound.{SoundLink}
 use borrow.Author.Needs.{needs}
 use Rattle.single.proofs.timed.ticks.Statement.{statement}
 use Rattle.single.proofs.timed.ticks.Tie as tie
 
 abbrev Inv-loop : tie.InvT-loop
-Inv-loop from to step₀ sum₀ begin counter₀ step sum counter = Sound (step .link)
+Inv-loop from to step₀ sum₀ begin counter₀ step sum counter = SoundLink (step .link)
 
 abbrev μ-loop : tie.MeasureT-loop
 μ-loop from to step₀ sum₀ begin counter₀ step sum counter = to - counter

@@ -16,8 +16,8 @@ abbrev μ-loop : tie.MeasureT-loop
 loop-holds : tie.Need-loop-holds Inv-loop μ-loop
 loop-holds c = replacing-none 0 (omega arith)
 
-element-write-held : tie.Need-element-write-held Inv-loop μ-loop
-element-write-held c = search needs
+element-write-s : tie.Need-element-write-s Inv-loop μ-loop
+element-write-s c = search needs
 
 add-q : tie.Need-add-q Inv-loop μ-loop
 add-q c = search needs
@@ -34,4 +34,4 @@ returns c = replacing-done 0 (c .before .loop .inv) (omega arith)
 pub fill-spec : {M : Type 1} → statement M
 fill-spec =
     tie.close
-    (tie.spec Inv-loop μ-loop loop-holds element-write-held add-q loop-less loop-again returns)
+    (tie.spec Inv-loop μ-loop loop-holds element-write-s add-q loop-less loop-again returns)

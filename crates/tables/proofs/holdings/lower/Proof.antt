@@ -40,8 +40,8 @@ moved-requires c κs = search needs
 larger-byte-requires : tie.Need-larger-byte-requires Inv-loop μ-loop
 larger-byte-requires c κs = search needs
 
-element-write-held : tie.Need-element-write-held Inv-loop μ-loop
-element-write-held c = search needs
+element-write-s : tie.Need-element-write-s Inv-loop μ-loop
+element-write-s c = search needs
 
 on-by-one-requires : tie.Need-on-by-one-requires Inv-loop μ-loop
 on-by-one-requires c κs = search needs
@@ -83,7 +83,7 @@ lower-spec =
     byte-requires
     moved-requires
     larger-byte-requires
-    element-write-held
+    element-write-s
     on-by-one-requires
     add-q
     loop-less

@@ -31,7 +31,7 @@ module _ (c : tie.After-room-in) where
   first-at = 256 * start c .args .i
 
   abbrev held-at : List ℕ
-  held-at = start c .args .held .now
+  held-at = start c .args .s .now
 
   -- whether there is room at a position
   abbrev test-at : ℕ → Bool

@@ -26,13 +26,13 @@ at-place c = c .before .before .before
 put : (c : tie.After-moved Inv-loop μ-loop)
     → let l = at-place c .before in
     let s = l .before .before .args in
-    c .moved .result ≡ wrapped (pad (s .base) (s .from) 0 (s .late) (l .loop .q - s .a)) (getD (l .loop .held) (l .loop .q) 0)
+    c .moved .result ≡ wrapped (pad (s .base) (s .from) 0 (s .late) (l .loop .q - s .a)) (getD (l .loop .s) (l .loop .q) 0)
 put c =
     let i = at-place c in
     let l = i .before in
     let s = l .before .before in
     let padded = counted-pad (l .loop .inv .0) (s .args .from) 0 (s .args .late) in
-    c .moved .ensures ∙ ap (λ by. wrapped by (getD (l .loop .held) (l .loop .q) 0)) (c .before .before .chosen .ensures ∙ padded)
+    c .moved .ensures ∙ ap (λ by. wrapped by (getD (l .loop .s) (l .loop .q) 0)) (c .before .before .chosen .ensures ∙ padded)
 
 to-zero-requires : tie.Need-to-zero-requires Inv-loop μ-loop
 to-zero-requires c κs = search needs
@@ -49,8 +49,8 @@ element-copy-out-moved c = search needs
 moved-requires : tie.Need-moved-requires Inv-loop μ-loop
 moved-requires c κs = search needs
 
-element-write-held : tie.Need-element-write-held Inv-loop μ-loop
-element-write-held c = search needs
+element-write-s : tie.Need-element-write-s Inv-loop μ-loop
+element-write-s c = search needs
 
 on-by-one-requires : tie.Need-on-by-one-requires Inv-loop μ-loop
 on-by-one-requires c κs = search needs
@@ -84,7 +84,7 @@ shift-spec =
     chosen-requires
     element-copy-out-moved
     moved-requires
-    element-write-held
+    element-write-s
     on-by-one-requires
     add-q
     loop-less

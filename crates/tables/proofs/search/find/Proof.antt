@@ -1,6 +1,7 @@
 -- `tables::search::find` meets its contract: the departure is one more lower bound on ranks. Assumes nothing.
 use borrow.Author.Needs.{needs}
-use Rattle.window.proofs.Ranks.{both-from}
+use mathlib.Core.Path.{_∙_}
+use Rattle.tables.proofs.ValidPositions.{search-after}
 use Rattle.tables.proofs.search.find.Statement.{statement}
 use Rattle.tables.proofs.search.find.Tie as tie
 
@@ -16,9 +17,9 @@ search-requires c κs = search needs
 returns : tie.Need-returns
 returns c =
     let l = c .before in
-    λ owners test g.
-    c .search .ensures owners _
-    (record { words-are = g .words-are; late-from = rw (l .larger .ensures) (both-from (l .before .leave-rank .ensures) (g .late-from)) })
+    let d = l .before in
+    let s = d .before in
+    c .search .ensures ∙ search-after (s .pre .masks .proper) _ _ _ (d .leave-rank .ensures) (l .larger .ensures) _ _ _ (s .pre .frame)
 
 pub find-spec : {M : Type 1} → statement M
 find-spec = tie.close (tie.spec leave-rank-requires larger-requires search-requires returns)

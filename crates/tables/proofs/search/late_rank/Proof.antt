@@ -14,10 +14,6 @@ use Rattle.tables.specs.Holdings.{roomAt}
 use Rattle.tables.proofs.search.late_rank.Statement.{statement}
 use Rattle.tables.proofs.search.late_rank.Tie as tie
 
--- where the function is entered
-abbrev start : tie.After-struct-known2 → tie.Start
-start c = c .before .before
-
 add-after : tie.Need-add-after
 add-after c = search needs
 
@@ -27,12 +23,18 @@ mul-after c = search needs
 sub-after : tie.Need-sub-after
 sub-after c = search needs
 
+add-if1 : tie.Need-add-if1
+add-if1 c = search needs
+
+element-copy-out-if1 : tie.Need-element-copy-out-if1
+element-copy-out-if1 c = search needs
+
 returns : tie.Need-returns
 returns c =
-    let s = start (c .before) in
+    let s = c .before .before .before .before in
     let v = s .pre .proper in
-    let most = s .pre .most .most (omega (arith, c .if1 .taken)) in
-    let room = roomAt (row (s .args .held .now) (s .args .i)) (s .args .cells) in
+    let most = s .pre .bounds .bound (s .args .i) (s .pre .flow) .most (omega (arith, c .if1 .taken)) in
+    let room = roomAt (row (s .args .s .now) (s .args .i)) (s .args .cells) in
     let everywhere : All room 0 (sizeOf (s .args .w)) true = record {
       pass = λ _ q _ l. lt-ltb _ (s .args .cells) (let below = most q l in omega (arith, c .if1 .taken));
       miss = λ z. absurd (true≢false z);
@@ -50,8 +52,8 @@ larger-requires c κs = search needs
 returns-2 : tie.Need-returns-2
 returns-2 c =
     let k = c .before in
-    let s = start (k .before .before) in
+    let s = k .before .before .before .before .before in
     rw (c .larger .ensures) (both-from (k .room-rank .ensures) (late-from (s .args .w) (s .pre .proper)))
 
 pub late-rank-spec : {M : Type 1} → statement M
-late-rank-spec = tie.close (tie.spec add-after mul-after sub-after returns room-rank-requires larger-requires returns-2)
+late-rank-spec = tie.close (tie.spec add-after mul-after sub-after add-if1 element-copy-out-if1 returns room-rank-requires larger-requires returns-2)

@@ -9,9 +9,10 @@ use native.Mathlib.Nat.{mod-lt}
 use native.Mathlib.Omega.{arith}
 use Rattle.model.specs.Window.{newest}
 use Rattle.window.specs.declared.Window.{Window}
-use Rattle.window.specs.Window.{windowOf, sizeOf}
+use Rattle.window.specs.Window.{windowOf, sizeOf, ranksFrom}
 use Rattle.window.proofs.Windows.{frame-fits}
-use Rattle.tables.specs.Search.{validAt, Gathering}
+use Rattle.state.specs.State.{ownersOf}
+use Rattle.tables.specs.Search.{validAt}
 use Rattle.tables.proofs.ValidSlots.{no-slot, lowest-slot}
 use Rattle.tables.proofs.FrameWalk.{moreFrames, one-frame-on, NoneIn, Walked, none-spent, none-valid, walked-on, walked-out, walked-hit}
 use Rattle.tables.proofs.search.search.Statement.{statement}
@@ -20,16 +21,15 @@ use Rattle.tables.proofs.search.search.Tie as tie
 -- ---- the loop
 
 -- what is left from a frame on comes to the whole search
-record AtFrame (w : Window) (words : List ℕ) (low share first remainder frame left : ℕ) : Type 0 where
+record AtFrame (w : Window) (s : List ℕ) (low share first remainder frame left : ℕ) : Type 0 where
   there : frame < w .frames
-  walked : (owners : List ℕ) (late : ℕ → Bool) → Gathering w owners words late low
-      → Walked (windowOf w) (validAt owners late) share first remainder frame left
+  walked : Walked (windowOf w) (validAt (ownersOf s) (ranksFrom w low)) share first remainder frame left
 
 abbrev Inv-search : tie.InvT-search
-Inv-search unbooked w low share first remainder frame₀ left₀ newest frame left = AtFrame w unbooked low share first remainder frame left
+Inv-search s w low share first remainder frame₀ left₀ newest frame left = AtFrame w s low share first remainder frame left
 
 abbrev μ-search : tie.MeasureT-search
-μ-search unbooked w low share first remainder frame₀ left₀ newest frame left = moreFrames (windowOf w) frame
+μ-search s w low share first remainder frame₀ left₀ newest frame left = moreFrames (windowOf w) frame
 
 -- ---- at a frame
 
@@ -46,9 +46,9 @@ module _ (c : tie.At-search Inv-search μ-search) where
   frame-there : frame-at * window-at .slots + window-at .slots ≤ sizeOf window-at
   frame-there = frame-fits (window-at .slots) (window-at .frames) frame-at (c .search .inv .there)
 
-  -- what is searched, whoever owns the positions
-  abbrev Searched : (owners : List ℕ) (late : ℕ → Bool) → Type 0
-  Searched owners late = Gathering window-at owners (start .args .unbooked .now) late (start .args .low)
+  -- which positions are valid
+  abbrev ok-at : ℕ → Bool
+  ok-at = validAt (ownersOf (start .args .s .now)) (ranksFrom window-at (start .args .low))
 
 -- where a frame's valid slots are gathered, and from there the frame
 abbrev gathered-at : tie.After-lowest Inv-search μ-search → tie.After-valid-slots Inv-search μ-search
@@ -58,10 +58,10 @@ abbrev frame-of : tie.After-valid-slots Inv-search μ-search → tie.At-search I
 frame-of c = c .before .before
 
 -- the frame has no valid slot, or nothing is left of the share
-nothing-here : (c : tie.Joined1 Inv-search μ-search) → let f = c .before in (owners : List ℕ) (late : ℕ → Bool) → Searched f owners late
-    → NoneIn (windowOf (window-at f)) (validAt owners late) (start f .args .share) (frame-at f) (f .search .left)
-nothing-here c owners late g =
-    ⊎-elim (λ (_, valid, empty). none-valid (no-slot (valid .ensures owners late g) (empty .left))) (λ spent. none-spent (spent .left)) (c .if1 .came)
+nothing-here : (c : tie.Joined1 Inv-search μ-search) → let f = c .before in
+    NoneIn (windowOf (window-at f)) (ok-at f) (start f .args .share) (frame-at f) (f .search .left)
+nothing-here c =
+    ⊎-elim (λ (_, valid, empty). none-valid (no-slot (valid .ensures) (empty .left))) (λ spent. none-spent (spent .left)) (c .if1 .came)
 
 -- ---- the needs
 
@@ -69,16 +69,16 @@ newest-requires : tie.Need-newest-requires Inv-search μ-search
 newest-requires c κs = search needs
 
 search-holds : tie.Need-search-holds Inv-search μ-search
-search-holds c = record { there = search needs; walked = λ owners late g. record { same = refl } }
+search-holds c = record { there = search needs; walked = record { same = refl } }
 
 valid-slots-requires : tie.Need-valid-slots-requires Inv-search μ-search
-valid-slots-requires c κs = let f = c .before in (start f .pre .0, f .search .inv .there)
+valid-slots-requires c κs = let f = c .before in record { masks = start f .pre .masks; frame = f .search .inv .there }
 
 sub-t14 : tie.Need-sub-t14 Inv-search μ-search
 sub-t14 c = search needs
 
 mul-t15 : tie.Need-mul-t15 Inv-search μ-search
-mul-t15 c = let f = frame-of (c .before .before) in omega (arith, frame-there f, start f .pre .0 .measures .positions-most)
+mul-t15 c = let f = frame-of (c .before .before) in omega (arith, frame-there f, start f .pre .masks .proper .measures .positions-most)
 
 lowest-requires : tie.Need-lowest-requires Inv-search μ-search
 lowest-requires c κs = search needs
@@ -86,7 +86,7 @@ lowest-requires c κs = search needs
 add-t17 : tie.Need-add-t17 Inv-search μ-search
 add-t17 c =
     let f = frame-of (gathered-at c) in
-    omega (arith, frame-there f, start f .pre .0 .measures .positions-most, c .lowest .ensures .at-most)
+    omega (arith, frame-there f, start f .pre .masks .proper .measures .positions-most, c .lowest .ensures .at-most)
 
 next-requires : tie.Need-next-requires Inv-search μ-search
 next-requires c κs = search needs
@@ -111,22 +111,21 @@ search-again c =
     rw (c .next .ensures)
     (record {
       there = mod-lt _ (omega arith);
-      walked = λ owners late g. walked-on (v .walked owners late g) (nothing-here j owners late g) (v .there) (not-newest (c .before));
+      walked = walked-on (v .walked) (nothing-here j) (v .there) (not-newest (c .before));
     })
 
 returns : tie.Need-returns Inv-search μ-search
 returns c =
     let valid = gathered-at c in
-    λ owners late g.
-    walked-hit (frame-of valid .search .inv .walked owners late g) (valid .before .if1 .taken)
-    (lowest-slot (valid .valid-slots .ensures owners late g) (c .lowest .ensures) (c .before .before .if2 .taken))
+    walked-hit (frame-of valid .search .inv .walked) (valid .before .if1 .taken)
+    (lowest-slot (valid .valid-slots .ensures) (c .lowest .ensures) (c .before .before .if2 .taken))
 
 returns-2 : tie.Need-returns-2 Inv-search μ-search
 returns-2 c =
     let j = c .before in
     let v = j .before .search .inv in
     let is-newest = c .if3 .taken ∙ j .before .before .newest .ensures in
-    λ owners late g. walked-out (v .walked owners late g) (nothing-here j owners late g) (v .there) is-newest
+    walked-out (v .walked) (nothing-here j) (v .there) is-newest
 
 pub search-spec : {M : Type 1} → statement M
 search-spec =
