@@ -69,6 +69,10 @@ pub mod AskingUntil11
 pub mod NewestGrants
 pub mod AlignedRuns
 pub mod SameFrames
+pub mod AnsweredRequests
+pub mod GrantsInNewest
+pub mod TimelyRequests
+pub mod Prompt
 pub mod Outlines
 -- edges, cards that demand 3 sends back, streams that meet the premise of the least count, and what its premises on words are for
 pub mod Unfoldings

@@ -1,7 +1,7 @@
 -- The search of a flow's request with departure d: what holds of each frame that it comes to. Assumes nothing.
 use Prim.Native.Nat.{ℕ, zero, suc, _+_, _-_, _*_, _%_, _≤_, _<_}
 use mathlib.Core.Path.{_≡_, refl, sym, ap, _∙_, subst}
-use mathlib.Core.Bool.{false}
+use mathlib.Core.Bool.{true, false}
 use native.Mathlib.Nat.{mul-le-mul-right}
 use native.Mathlib.Decide.{decLt, decLe}
 use native.Mathlib.Omega.{arith}
@@ -9,7 +9,7 @@ use Rattle.model.specs.Tables.{ahead, tally}
 use Rattle.model.specs.Plan.{Plan, positions, flowCount, entry}
 use Rattle.model.specs.Window.{newest, later}
 use Rattle.model.specs.Link.{Link, window, flow, share}
-use Rattle.model.specs.Request.{Found, validFor, sought}
+use Rattle.model.specs.Request.{Found, canLeave, validFor, sought}
 use Rattle.model.specs.History.{frameOf, atSlot}
 use Rattle.model.specs.Holding.{InWindow}
 use Rattle.model.proofs.Round.{ahead-mod}
@@ -17,7 +17,7 @@ use Rattle.model.proofs.Tables.{firstFrom-none}
 use Rattle.model.proofs.Tallies.{all-map}
 use Rattle.model.proofs.Slots.{some-frame, frame-ends, frame-slot-in-window, position-of}
 use Rattle.model.proofs.Window.{Current, newest-is}
-use Rattle.model.proofs.Departures.{valid-if-come}
+use Rattle.model.proofs.Departures.{valid-for-both, leaves-if-come}
 use Rattle.model.proofs.Marks.{marksIn}
 use Rattle.model.proofs.Invariant.{Ledger, Spent, Injects, Room, Invariant}
 use Rattle.model.proofs.BookingKeeps.{open-valid}
@@ -38,24 +38,29 @@ module _ {l : Link} {L : Ledger} (v : Invariant l L) {i : ℕ} (known : i < flow
   abbrev pub FailsIn : ℕ → ℕ → Type 0
   FailsIn a c = Fails (window l) (validFor l i d) (share l i) (a % W) c
 
-  -- ---- where the tile has come and the flow has room, a frame to come in which the search fails is full
+  -- the tile can leave in every slot of frame a
+  abbrev pub LeavesIn : ℕ → Type 0
+  LeavesIn a = (x : ℕ) → x < F → canLeave (window l) d ((a * F + x) % T) ≡ true
 
-  module _ (come : later (window l) d (l .current) ≡ false) (room : Room P (L .raises) (L .credits) i t) where
-    not-valid : (s : ℕ) → InWindow P t s → t < s → validFor l i d (s % T) ≡ false → 0 < tally (atSlot s) (L .grants)
-    not-valid s w h e = go (tally (atSlot s) (L .grants)) refl
+  -- ---- where the flow has room, a frame to come of which the tile can leave in every slot is full if the search fails in it
+
+  module _ (room : Room P (L .raises) (L .credits) i t) where
+    not-valid : (s : ℕ) → InWindow P t s → t < s → canLeave (window l) d (s % T) ≡ true → validFor l i d (s % T) ≡ false
+        → 0 < tally (atSlot s) (L .grants)
+    not-valid s w h leaves e = go (tally (atSlot s) (L .grants)) refl
       where
         go : (x : ℕ) → tally (atSlot s) (L .grants) ≡ x → 0 < x
         go (suc x) q = omega arith
         go zero q =
             let free = open-valid v known s w (record { not-granted = q; to-come = h; room = λ r le. room r (omega arith) }) in
-            let both = sym e ∙ valid-if-come l i d (s % T) come ∙ free in
+            let both = sym e ∙ valid-for-both l i d (s % T) free leaves in
             let no : _≡_ {A = ℕ} 0 1 = cc in
             omega arith
 
-    full-if-fails : (a c : ℕ) → frameOf P t < a → a < frameOf P t + W → Spent P (L .grants) i a c → FailsIn a c
+    pub full-if-fails : (a c : ℕ) → frameOf P t < a → a < frameOf P t + W → LeavesIn a → Spent P (L .grants) i a c → FailsIn a c
         → marksIn P i a (L .grants) ≡ entry P i .share
-    full-if-fails a zero low high sp fails = omega (arith, sp .spent)
-    full-if-fails a (suc c) low high sp fails =
+    full-if-fails a zero low high leaves sp fails = omega (arith, sp .spent)
+    full-if-fails a (suc c) low high leaves sp fails =
         absurd (not-all-booked ok (L .grants) (all-map _ _ (λ m g. g .known) (L .grants) (v .marks .grants-in)) a i c known
         (λ j h. v .injects j h .in-frames a) (sp .spent) booked)
       where
@@ -64,7 +69,7 @@ module _ {l : Link} {L : Ledger} (v : Invariant l L) {i : ℕ} (known : i < flow
             let not-ok = firstFrom-none F (a % W * F) (validFor l i d) fails (a % W * F + x) (omega arith) (omega arith) in
             let after : suc (frameOf P t) * F ≤ a * F = mul-le-mul-right F low in
             not-valid (a * F + x) (frame-slot-in-window ok t a x (omega arith) high h)
-            (omega (arith, frame-ends ok t)) (ap (validFor l i d) (position-of ok a x h) ∙ not-ok)
+            (omega (arith, frame-ends ok t)) (leaves x h) (ap (validFor l i d) (position-of ok a x h) ∙ not-ok)
 
   -- ---- the search, where R f counts the flow's refusals in frame f
 
@@ -91,7 +96,7 @@ module _ {l : Link} {L : Ledger} (v : Invariant l L) {i : ℕ} (known : i < flow
       where
         here : Dec (a ≤ frameOf P t) → L .origin < a → marksIn P i a (L .grants) ≡ entry P i .share
         here (yes h) since = p .least .after-a-change (omega (arith, q .low)) a since (omega (arith, q .low, ok .two-frames))
-        here (no h) since = full-if-fails (p .come) (p .room) a c (omega arith) high (q .spends) fails
+        here (no h) since = full-if-fails (p .room) a c (omega arith) high (λ x below. leaves-if-come (window l) d _ (p .come)) (q .spends) fails
 
         go : Dec (f < a) → marksIn P i f (L .grants) ≡ entry P i .share
         go (yes h) = q .full p f since h
@@ -99,7 +104,7 @@ module _ {l : Link} {L : Ledger} (v : Invariant l L) {i : ℕ} (known : i < flow
             let z : a ≡ f = omega arith in
             subst (λ x. marksIn P i x (L .grants) ≡ entry P i .share) z (here (decLe a (frameOf P t)) (omega arith))
 
-    goes-on : (a c : ℕ) → a < newestFrame → Reached a c → FailsIn a c → Reached (suc a) (share l i)
+    pub goes-on : (a c : ℕ) → a < newestFrame → Reached a c → FailsIn a c → Reached (suc a) (share l i)
     goes-on a c h q fails = record {
       low = omega (arith, q .low);
       spends = record {

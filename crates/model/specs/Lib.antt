@@ -33,6 +33,7 @@ pub mod Fairness
 pub mod TwoRuns
 pub mod Outlines
 pub mod LessAsked
+pub mod Delay
 -- worked examples, and cards that are sent back
 pub mod PlanBytes
 pub mod EdgeCases

@@ -1,0 +1,107 @@
+-- When a flow that asks for no more than its share in a frame is granted a slot, and which one, whatever its neighbours do. It names no link, only calls
+-- and answers. Assumes nothing.
+--
+-- Two promises, of every list of calls:
+-- - prompt: a flow with fewer than its share of grants made in this frame is granted its next request, if that has room and its number, and names a tile
+--   that comes before the newest frame. Nothing is asked of its past. A tile that has come is one of these (`ready-timely`).
+-- - soon: the grants of a flow that is modest fall in the frame in which the tile is due or in the next one, fewer than 2 × F slots after it, however
+--   many frames the window has.
+-- Both count since the last granted reset, as the most and the least do.
+--
+-- Their limits:
+-- - A flow with a request that is not timely is modest only after the next granted reset: such a request may move its frame on to the newest.
+-- - Which slot of the frame is granted is not said, nor that slots come in the order of the requests.
+-- - Room is a premise. Nothing here says when credits come.
+use Prim.Native.Nat.{ℕ, _+_, _-_, _*_, _≤_, _<_}
+use mathlib.Core.Path.{_≡_}
+use mathlib.Core.List.{List, _∷_, []}
+use mathlib.Core.Bool.{true, cond}
+use Rattle.model.specs.Tables.{tally}
+use Rattle.model.specs.Word.{flowOf, quantumOf, departureOf}
+use Rattle.model.specs.Plan.{Plan, flowCount, entry, planOf, refusal}
+use Rattle.model.specs.Calls.{Call, Grant, Event, History, requested, credited, ticked, lent, accepted, refused}
+use Rattle.model.specs.History.{ticks, slotAfter, frameOf, wellFormed, hasCome, Mark, marksSince, inFrame, expectedNumber}
+use Rattle.model.specs.Claim.{Each, EachSince, AtRequest, Room, ReadyAt}
+use Rattle.model.specs.Card.{Card, run}
+
+-- ---- when a tile is due
+
+-- the frame of the current slot, and the newest of the window
+abbrev pub currentFrame : Plan → History → ℕ
+currentFrame P h = frameOf P (ticks h)
+
+abbrev pub newestFrame : Plan → History → ℕ
+newestFrame P h = currentFrame P h + P .frames - 1
+
+-- The slot in which the tile of word w is due, after h: the current one where the tile has come, else that of its departure.
+unfoldable pub dueSlot : Plan → (w : ℕ) → History → ℕ
+dueSlot P w h = cond (hasCome P (ticks h) (departureOf w)) (ticks h) (slotAfter P (ticks h) (departureOf w))
+
+abbrev pub dueFrame : Plan → (w : ℕ) → History → ℕ
+dueFrame P w h = frameOf P (dueSlot P w h)
+
+-- ---- grants, by the slot in which they were made and by that in which their tiles are due
+
+-- the mark of a grant, with a slot that goes by the asked word and what was before it
+abbrev pub grantBy : (slot : (w : ℕ) → History → ℕ) → Event → History → List Mark
+grantBy slot (requested w (accepted v)) h = record { flow = flowOf w; slot = slot w h } ∷ []
+grantBy slot (requested w (refused r)) h = []
+grantBy slot (credited i p a) h = []
+grantBy slot (ticked x) h = []
+grantBy slot (lent m a) h = []
+grantBy slot (Event.reset a) h = []
+
+-- since the last granted reset
+unfoldable pub madeSince : History → List Mark
+unfolding marksSince
+madeSince h = marksSince (grantBy (λ w h. ticks h)) h
+
+unfoldable pub dueSince : Plan → History → List Mark
+unfolding marksSince
+dueSince P h = marksSince (grantBy (dueSlot P)) h
+
+-- flow i's grants that were made in frame f, and those whose tiles are due in it
+abbrev pub madeIn : Plan → History → (i f : ℕ) → ℕ
+madeIn P h i f = tally (inFrame P i f) (madeSince h)
+
+abbrev pub dueIn : Plan → History → (i f : ℕ) → ℕ
+dueIn P h i f = tally (inFrame P i f) (dueSince P h)
+
+-- ---- a request that can be served
+
+-- Flow i has a cell free in every slot from the current one on; its word carries the expected number; and the tile is due before the newest frame.
+pub record Timely (P : Plan) (i w : ℕ) (h : History) : Type 0 where
+  pub room : Room P i h
+  pub number : quantumOf w ≡ expectedNumber P h i
+  pub in-time : dueFrame P w h < newestFrame P h
+
+-- Q holds of the asked word and its answer, where the event is a request.
+abbrev pub AtAnswer : (ℕ → Grant → History → Type 0) → Event → History → Type 0
+AtAnswer Q (requested w a) h = Q w a h
+AtAnswer Q (credited j p a) h = Unit {0}
+AtAnswer Q (ticked x) h = Unit {0}
+AtAnswer Q (lent m a) h = Unit {0}
+AtAnswer Q (Event.reset a) h = Unit {0}
+
+-- ---- prompt
+
+abbrev pub IsGranted : Grant → Type 0
+IsGranted (accepted v) = Unit {0}
+IsGranted (refused r) = ⊥
+
+-- A well-formed request that is as Q says is granted, if fewer than the flow's share, and `more`, of its grants were made in this frame.
+abbrev pub PromptAt : (Q : Plan → (i w : ℕ) → History → Type 0) (more : ℕ) → Plan → Event → History → Type 0
+PromptAt Q more P =
+    AtAnswer (λ w a h. wellFormed P w ≡ true → Q P (flowOf w) w h → madeIn P h (flowOf w) (currentFrame P h) < entry P (flowOf w) .share + more → IsGranted a)
+
+-- so of each request of a list of calls
+abbrev pub PromptOn : (Q : Plan → (i w : ℕ) → History → Type 0) (more : ℕ) → Plan → History → Type 0
+PromptOn Q more P = Each (PromptAt Q more P)
+
+-- of a card, for the bytes of every accepted plan
+abbrev pub PromptBy : (Q : Plan → (i w : ℕ) → History → Type 0) (more : ℕ) → Card → Type 0
+PromptBy Q more c = (bytes : List ℕ) → refusal bytes ≡ 0 → (calls : List Call) → PromptOn Q more (planOf bytes) (run c (planOf bytes) calls .history)
+
+-- That the paper's card is prompt is `prompt`, in proofs/Prompt.antt.
+abbrev pub Prompt : Card → Type 0
+Prompt = PromptBy Timely 0
