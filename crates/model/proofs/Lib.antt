@@ -73,6 +73,10 @@ pub mod AnsweredRequests
 pub mod GrantsInNewest
 pub mod TimelyRequests
 pub mod Prompt
+pub mod Fronts
+pub mod FrontsKept
+pub mod RequestsInTime
+pub mod Soon
 pub mod Outlines
 -- edges, cards that demand 3 sends back, streams that meet the premise of the least count, and what its premises on words are for
 pub mod Unfoldings

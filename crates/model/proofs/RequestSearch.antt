@@ -114,28 +114,35 @@ module _ {l : Link} {L : Ledger} (v : Invariant l L) {i : ℕ} (known : i < flow
       full = full-behind a c (omega arith) q fails;
     }
 
+    -- where the search comes from frame to frame as Q says
+    module _ (Q : ℕ → ℕ → Type 0) (goes : (a c : ℕ) → a < newestFrame → Q a c → FailsIn a c → Q (suc a) (share l i)) where
+      pub searched-by : Q (v .injects i known .frame) (flow l i .remainder) → Ends (window l) (validFor l i d) (share l i) newestFrame Q (sought l i d)
+      unfolding sought
+      searched-by first =
+          rw (more, f .injection-is)
+          (search-ends (window l) (validFor l i d) (share l i) newestFrame Q goes (newestFrame - f .frame) (f .frame) (flow l i .remainder)
+          (omega (arith, f .high)) first)
+        where
+          f : Injects P (frameOf P t) (L .grants) i (flow l i)
+          f = v .injects i known
+
+          more : ahead W (flow l i .injection) (newest (window l)) ≡ newestFrame - f .frame
+          more =
+              let some = some-frame ok in
+              ap (λ x. ahead W x (newest (window l))) (f .injection-is) ∙ ap (ahead W (f .frame % W)) (newest-is (v .current))
+              ∙ ahead-mod some {b = f .frame} {x = newestFrame} (omega (arith, f .high)) (omega (arith, f .low))
+
     abbrev pub Searched : Found → Type 0
     Searched = Ends (window l) (validFor l i d) (share l i) newestFrame Reached
 
-    pub request-searched : Searched (sought l i d)
-    unfolding sought
-    request-searched =
-        rw (more, f .injection-is)
-        (search-ends (window l) (validFor l i d) (share l i) newestFrame Reached goes-on (newestFrame - f .frame) (f .frame) (flow l i .remainder)
-        (omega (arith, f .high)) first)
-      where
-        f : Injects P (frameOf P t) (L .grants) i (flow l i)
-        f = v .injects i known
-
-        more : ahead W (flow l i .injection) (newest (window l)) ≡ newestFrame - f .frame
-        more =
-            let some = some-frame ok in
-            ap (λ x. ahead W x (newest (window l))) (f .injection-is) ∙ ap (ahead W (f .frame % W)) (newest-is (v .current))
-            ∙ ahead-mod some {b = f .frame} {x = newestFrame} (omega (arith, f .high)) (omega (arith, f .low))
-
-        first : Reached (f .frame) (flow l i .remainder)
-        first = record {
+    pub reached-first : Reached (v .injects i known .frame) (flow l i .remainder)
+    reached-first =
+        let f = v .injects i known in
+        record {
           low = f .low;
           spends = f .spends;
           full = λ p. p .least .before-injection (f .frame) (f .low) (f .high) (f .injection-is);
         }
+
+    pub request-searched : Searched (sought l i d)
+    request-searched = searched-by Reached goes-on reached-first

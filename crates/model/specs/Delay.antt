@@ -105,3 +105,47 @@ PromptBy Q more c = (bytes : List ℕ) → refusal bytes ≡ 0 → (calls : List
 -- That the paper's card is prompt is `prompt`, in proofs/Prompt.antt.
 abbrev pub Prompt : Card → Type 0
 Prompt = PromptBy Timely 0
+
+-- ---- soon
+
+-- Since the last granted reset no grant of flow i is due in a later frame than the tile of word w is: due frames don't go back.
+abbrev pub InOrder : Plan → (i w : ℕ) → History → Type 0
+InOrder P i w h = (f : ℕ) → dueFrame P w h < f → dueIn P h i f ≡ 0
+
+-- what is asked of each well-formed request of flow i
+abbrev pub AsksAt : (Q : Plan → (i w : ℕ) → History → Type 0) → Plan → ℕ → Event → History → Type 0
+AsksAt Q P i = AtRequest (λ w h. wellFormed P w ≡ true → flowOf w ≡ i → Q P i w h × InOrder P i w h)
+
+-- Since the last granted reset each request of flow i was as Q says, in the order in which its tiles are due; and no more than its share, and `more`, of
+-- its grants are due in any one frame.
+pub record Modest (Q : Plan → (i w : ℕ) → History → Type 0) (more : ℕ) (P : Plan) (i : ℕ) (h : History) : Type 0 where
+  pub asks : EachSince (AsksAt Q P i) h
+  pub within-share : (f : ℕ) → dueIn P h i f ≤ entry P i .share + more
+
+-- The slot s that is granted to word w after h lies in the frame in which the tile is due or in the next one.
+pub record InTime (P : Plan) (w s : ℕ) (h : History) : Type 0 where
+  pub not-before : dueSlot P w h < s
+  pub due-or-next : frameOf P s ≤ dueFrame P w h + 1
+  -- so it comes fewer than two frames after the tile is due
+  pub within-two-frames : s < dueSlot P w h + 2 * P .slots
+
+-- A request is granted in time, unless flow i's whole share is due already in the frame in which its tile is.
+abbrev pub ServedInTime : Plan → ℕ → (w : ℕ) → Grant → History → Type 0
+ServedInTime P i w (accepted v) h = InTime P w (slotAfter P (ticks h) (departureOf v)) h
+ServedInTime P i w (refused r) h = entry P i .share ≤ dueIn P h i (dueFrame P w h)
+
+abbrev pub ServedAt : Plan → ℕ → Event → History → Type 0
+ServedAt P i = AtAnswer (λ w a h. wellFormed P w ≡ true → flowOf w ≡ i → ServedInTime P i w a h)
+
+abbrev pub SoonOn : (Q : Plan → (i w : ℕ) → History → Type 0) (more : ℕ) → Plan → ℕ → History → Type 0
+SoonOn Q more P i h = Modest Q more P i h → EachSince (ServedAt P i) h
+
+-- of a card, for the bytes of every accepted plan
+abbrev pub SoonBy : (Q : Plan → (i w : ℕ) → History → Type 0) (more : ℕ) → Card → Type 0
+SoonBy Q more c =
+    (bytes : List ℕ) → refusal bytes ≡ 0 → (calls : List Call) (i : ℕ) → i < flowCount (planOf bytes)
+    → SoonOn Q more (planOf bytes) i (run c (planOf bytes) calls .history)
+
+-- A word may run ahead of its tile. That the paper's card keeps it is `soon-ahead`, in proofs/Soon.antt.
+abbrev pub SoonAhead : Card → Type 0
+SoonAhead = SoonBy Timely 0
