@@ -77,6 +77,7 @@ pub mod Fronts
 pub mod FrontsKept
 pub mod RequestsInTime
 pub mod Soon
+pub mod SoonOnArrival
 pub mod Outlines
 -- edges, cards that demand 3 sends back, streams that meet the premise of the least count, and what its premises on words are for
 pub mod Unfoldings

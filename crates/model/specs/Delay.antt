@@ -21,7 +21,7 @@ use Rattle.model.specs.Word.{flowOf, quantumOf, departureOf}
 use Rattle.model.specs.Plan.{Plan, flowCount, entry, planOf, refusal}
 use Rattle.model.specs.Calls.{Call, Grant, Event, History, requested, credited, ticked, lent, accepted, refused}
 use Rattle.model.specs.History.{ticks, slotAfter, frameOf, wellFormed, hasCome, Mark, marksSince, inFrame, expectedNumber}
-use Rattle.model.specs.Claim.{Each, EachSince, AtRequest, Room, ReadyAt}
+use Rattle.model.specs.Claim.{Each, EachSince, AtRequest, AtGrant, Room, ReadyAt}
 use Rattle.model.specs.Card.{Card, run}
 
 -- ---- when a tile is due
@@ -149,3 +149,28 @@ SoonBy Q more c =
 -- A word may run ahead of its tile. That the paper's card keeps it is `soon-ahead`, in proofs/Soon.antt.
 abbrev pub SoonAhead : Card → Type 0
 SoonAhead = SoonBy Timely 0
+
+-- ---- soon, where the flow asks on arrival
+
+-- Since the last granted reset each request of flow i was ready, and no more than its share of its grants were made in any one frame.
+pub record ModestOnArrival (P : Plan) (i : ℕ) (h : History) : Type 0 where
+  pub ready-at-each-request : EachSince (ReadyAt P i) h
+  pub within-share : (f : ℕ) → madeIn P h i f ≤ entry P i .share
+
+-- The slot s that is granted after h lies in the current frame or in the next one.
+pub record GrantedSoon (P : Plan) (s : ℕ) (h : History) : Type 0 where
+  pub this-or-next : frameOf P s ≤ currentFrame P h + 1
+  pub within-two-frames : s < ticks h + 2 * P .slots
+
+abbrev pub GrantedSoonAt : Plan → ℕ → Event → History → Type 0
+GrantedSoonAt P i = AtGrant (λ w v h. flowOf w ≡ i → GrantedSoon P (slotAfter P (ticks h) (departureOf v)) h)
+
+abbrev pub SoonOnArrivalOn : Plan → ℕ → History → Type 0
+SoonOnArrivalOn P i h = ModestOnArrival P i h → EachSince (GrantedSoonAt P i) h
+
+-- That the paper's card keeps it is `soon`, in proofs/SoonOnArrival.antt. Its requests that are refused are those made after its share in their frame,
+-- since it is prompt.
+abbrev pub Soon : Card → Type 0
+Soon c =
+    (bytes : List ℕ) → refusal bytes ≡ 0 → (calls : List Call) (i : ℕ) → i < flowCount (planOf bytes)
+    → SoonOnArrivalOn (planOf bytes) i (run c (planOf bytes) calls .history)

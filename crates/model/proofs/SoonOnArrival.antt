@@ -1,0 +1,104 @@
+-- The paper's card serves a flow soon that asks on arrival: its grants fall in the frame in which they are made, or in the next one. Assumes nothing.
+use Prim.Native.Nat.{ℕ, suc, _+_, _<_}
+use mathlib.Core.Path.{_≡_, refl, sym, ap, _∙_}
+use mathlib.Core.List.{List, [], _∷_}
+use native.Mathlib.Decide.{ℕ-discrete}
+use native.Mathlib.Omega.{arith}
+use Rattle.model.specs.Tables.{tally}
+use Rattle.model.specs.Word.{flowOf}
+use Rattle.model.specs.Plan.{Plan, flowCount, planOf, Accepted}
+use Rattle.model.specs.Calls.{Call, Event, History, requested, credited, ticked, lent, accepted, refused}
+use Rattle.model.specs.History.{ticks, frameOf, inFrame}
+use Rattle.model.specs.Claim.{Each, EachSince, ReadyAt, GrantedWordAt}
+use Rattle.model.specs.Card.{paper, run}
+use Rattle.model.specs.Delay.{currentFrame, dueSlot, madeSince, madeIn, dueSince, dueIn, Timely, AsksAt, ServedAt, Modest, GrantedSoonAt, ModestOnArrival}
+use Rattle.model.specs.Delay.{SoonOnArrivalOn, Soon}
+use Rattle.model.proofs.Plan as plan
+use Rattle.model.proofs.Slots.{frames-go-on}
+use Rattle.model.proofs.Marks.{mark, in-frame-skip, in-frame-other}
+use Rattle.model.proofs.Demand3.{each-map}
+use Rattle.model.proofs.EventsOfRuns.{each-happened}
+use Rattle.model.proofs.TimelyRequests.{due-if-come, ready-timely}
+use Rattle.model.proofs.Soon.{soon-accepted}
+
+module _ {P : Plan} (ok : Accepted P) (i : ℕ) where
+  -- no grant was made in a frame to come
+  made-later : (f : ℕ) (h : History) → currentFrame P h < f → madeIn P h i f ≡ 0
+  unfolding ticks madeSince tally
+  made-later f [] lt = refl
+  made-later f (requested w (accepted v) ∷ h) lt =
+      in-frame-skip P i f (mark (flowOf w) (ticks h)) (madeSince h) (λ e. omega arith) ∙ made-later f h lt
+  made-later f (requested w (refused r) ∷ h) lt = made-later f h lt
+  made-later f (credited j p a ∷ h) lt = made-later f h lt
+  made-later f (ticked x ∷ h) lt = made-later f h (omega (arith, frames-go-on ok (ticks h)))
+  made-later f (lent m a ∷ h) lt = made-later f h lt
+  made-later f (Event.reset (accepted u) ∷ h) lt = refl
+  made-later f (Event.reset (refused r) ∷ h) lt = made-later f h lt
+
+  -- where each request is ready, a grant is due in the slot in which it is made
+  due-when-made : (f : ℕ) (h : History) → Each (GrantedWordAt P) h → EachSince (ReadyAt P i) h → dueIn P h i f ≡ madeIn P h i f
+  unfolding madeSince dueSince tally
+  due-when-made f [] words ready = refl
+  due-when-made f (requested w (accepted v) ∷ h) words ready = go (due-when-made f h (words .1) (ready .1)) (ℕ-discrete (flowOf w) i)
+    where
+      go : dueIn P h i f ≡ madeIn P h i f → Dec (flowOf w ≡ i)
+          → tally (inFrame P i f) (mark (flowOf w) (dueSlot P w h) ∷ dueSince P h) ≡ tally (inFrame P i f) (mark (flowOf w) (ticks h) ∷ madeSince h)
+      go rest (yes own) =
+          rw (due-if-come P w h (ready .0 (words .0 .asked-well-formed) own .come)) (omega (arith, rest))
+      go rest (no other) =
+          in-frame-other P i f (mark (flowOf w) (dueSlot P w h)) (dueSince P h) other ∙ rest
+          ∙ sym (in-frame-other P i f (mark (flowOf w) (ticks h)) (madeSince h) other)
+  due-when-made f (requested w (refused r) ∷ h) words ready = due-when-made f h (words .1) (ready .1)
+  due-when-made f (credited j p a ∷ h) words ready = due-when-made f h (words .1) (ready .1)
+  due-when-made f (ticked x ∷ h) words ready = due-when-made f h (words .1) (ready .1)
+  due-when-made f (lent m a ∷ h) words ready = due-when-made f h (words .1) (ready .1)
+  due-when-made f (Event.reset (accepted u) ∷ h) words ready = refl
+  due-when-made f (Event.reset (refused r) ∷ h) words ready = due-when-made f h (words .1) (ready .1)
+
+  -- its requests are timely, and in order
+  asks-on-arrival : (h : History) → Each (GrantedWordAt P) h → EachSince (ReadyAt P i) h → EachSince (AsksAt Timely P i) h
+  asks-on-arrival [] words ready = tt
+  asks-on-arrival (requested w a ∷ h) words ready = (
+    λ well own.
+        let x = ready .0 well own in (
+          ready-timely ok i w h x,
+          λ f lt. due-when-made f h (words .1) (ready .1) ∙ made-later f h (omega (arith, ap (frameOf P) (due-if-come P w h (x .come)))),
+        ),
+    asks-on-arrival h (words .1) (ready .1),
+  )
+  asks-on-arrival (credited j p a ∷ h) words ready = (tt, asks-on-arrival h (words .1) (ready .1))
+  asks-on-arrival (ticked x ∷ h) words ready = (tt, asks-on-arrival h (words .1) (ready .1))
+  asks-on-arrival (lent m a ∷ h) words ready = (tt, asks-on-arrival h (words .1) (ready .1))
+  asks-on-arrival (Event.reset (accepted u) ∷ h) words ready = tt
+  asks-on-arrival (Event.reset (refused r) ∷ h) words ready = (tt, asks-on-arrival h (words .1) (ready .1))
+
+  served-on-arrival : (h : History) → Each (GrantedWordAt P) h → EachSince (ReadyAt P i) h → EachSince (ServedAt P i) h → EachSince (GrantedSoonAt P i) h
+  served-on-arrival [] words ready served = tt
+  served-on-arrival (requested w (accepted v) ∷ h) words ready served = (
+    λ own.
+        let well = words .0 .asked-well-formed in
+        let x = served .0 well own in
+        let now = due-if-come P w h (ready .0 well own .come) in
+        record { this-or-next = omega (arith, x .due-or-next, ap (frameOf P) now); within-two-frames = omega (arith, x .within-two-frames, now) },
+    served-on-arrival h (words .1) (ready .1) (served .1),
+  )
+  served-on-arrival (requested w (refused r) ∷ h) words ready served = (tt, served-on-arrival h (words .1) (ready .1) (served .1))
+  served-on-arrival (credited j p a ∷ h) words ready served = (tt, served-on-arrival h (words .1) (ready .1) (served .1))
+  served-on-arrival (ticked x ∷ h) words ready served = (tt, served-on-arrival h (words .1) (ready .1) (served .1))
+  served-on-arrival (lent m a ∷ h) words ready served = (tt, served-on-arrival h (words .1) (ready .1) (served .1))
+  served-on-arrival (Event.reset (accepted u) ∷ h) words ready served = tt
+  served-on-arrival (Event.reset (refused r) ∷ h) words ready served = (tt, served-on-arrival h (words .1) (ready .1) (served .1))
+
+-- on any plan that keeps the limits, and so on the plan of any bytes that are accepted
+pub soon-on-arrival : (P : Plan) → Accepted P → (calls : List Call) (i : ℕ) → i < flowCount P → SoonOnArrivalOn P i (run paper P calls .history)
+soon-on-arrival P ok calls i known m =
+    let h = run paper P calls .history in
+    let words = each-map _ (GrantedWordAt P) (λ e h x. x .word) h (each-happened P ok calls) in
+    let ready = m .ready-at-each-request in
+    served-on-arrival ok i h words ready (soon-accepted P ok calls i known (record {
+      asks = asks-on-arrival ok i h words ready;
+      within-share = λ f. omega (arith, due-when-made ok i f h words ready, m .within-share f);
+    }))
+
+pub soon : Soon paper
+soon bytes passes = soon-on-arrival (planOf bytes) (plan.accepted bytes passes)
