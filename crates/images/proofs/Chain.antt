@@ -15,12 +15,16 @@ use Rattle.model.specs.Fresh.{fresh}
 use Rattle.model.specs.Claim.{Demand3}
 use Rattle.model.specs.Fairness.{FairOn}
 use Rattle.model.specs.QuantumNumbers.{InOrder}
+use Rattle.model.specs.Delay.{Timely, PromptOn, TimelyInOrder, SoonOn, SoonOnArrivalOn}
 use Rattle.model.specs.Card.{Played, paper, step, play, started, run}
 use Rattle.model.proofs.Tests.{line-passed}
 use Rattle.model.proofs.Plan.{accepted}
 use Rattle.model.proofs.Demand3.{meets}
 use Rattle.model.proofs.Fairness.{fair}
 use Rattle.model.proofs.QuantumNumbers.{numbers-in-order}
+use Rattle.model.proofs.Prompt.{prompt}
+use Rattle.model.proofs.Soon.{soon-ahead}
+use Rattle.model.proofs.SoonOnArrival.{soon}
 use Rattle.images.specs.Image.{imageLength, imageOf, headerField}
 use Rattle.images.specs.Consistent.{Keepable}
 use Rattle.images.specs.Taken.{refusalOf}
@@ -163,3 +167,15 @@ module _ (plan : List ℕ) where
   pub chain-numbers : {calls : List Call} {h : History} {b : List ℕ} → Chain plan calls h b → (i : ℕ) → i < flowCount (planOf plan)
       → InOrder (planOf plan) i h
   chain-numbers ch i known = chain-has (InOrder (planOf plan) i) (λ passes calls. numbers-in-order plan passes calls i known) ch
+
+  -- it is prompt, and soon to a modest flow
+  pub chain-prompt : {calls : List Call} {h : History} {b : List ℕ} → Chain plan calls h b → PromptOn Timely 0 (planOf plan) h
+  chain-prompt ch = chain-has (PromptOn Timely 0 (planOf plan)) (prompt plan) ch
+
+  pub chain-soon-ahead : {calls : List Call} {h : History} {b : List ℕ} → Chain plan calls h b → (i : ℕ) → i < flowCount (planOf plan)
+      → SoonOn TimelyInOrder 0 (planOf plan) i h
+  chain-soon-ahead ch i known = chain-has (SoonOn TimelyInOrder 0 (planOf plan) i) (λ passes calls. soon-ahead plan passes calls i known) ch
+
+  pub chain-soon : {calls : List Call} {h : History} {b : List ℕ} → Chain plan calls h b → (i : ℕ) → i < flowCount (planOf plan)
+      → SoonOnArrivalOn (planOf plan) i h
+  chain-soon ch i known = chain-has (SoonOnArrivalOn (planOf plan) i) (λ passes calls. soon plan passes calls i known) ch

@@ -1,4 +1,4 @@
--- Demand 3 of the code, that it lends in turn, and the numbers of the words that it grants: any list of calls on the link that fresh hands back for a
+-- Demand 3 of the code, that it lends in turn, the numbers of the words that it grants, and its delay: any list of calls on the link that fresh hands back for a
 -- plan that the reader accepts. Assumes nothing.
 use Prim.Native.Nat.{ℕ, zero, suc, _<_}
 use mathlib.Core.Path.{_≡_, refl, sym, ap, _∙_, subst}
@@ -17,12 +17,16 @@ use Rattle.model.specs.Claim.{Demand3}
 use Rattle.model.specs.Card.{Played, paper, step, play, started, run}
 use Rattle.model.specs.Fairness.{FairOn}
 use Rattle.model.specs.QuantumNumbers.{InOrder}
+use Rattle.model.specs.Delay.{Timely, PromptOn, TimelyInOrder, SoonOn, SoonOnArrivalOn}
 use Rattle.model.specs.CountedBursts.{several, countsAs, eventsIn}
 use Rattle.model.proofs.AfterCalls.{Known, after-calls, after-fresh}
 use Rattle.model.proofs.CountedBursts.{play-both, burst-played}
 use Rattle.model.proofs.Demand3.{meets-accepted}
 use Rattle.model.proofs.Fairness.{fair-accepted}
 use Rattle.model.proofs.QuantumNumbers.{numbers-accepted}
+use Rattle.model.proofs.Prompt.{prompt-accepted}
+use Rattle.model.proofs.Soon.{soon-accepted}
+use Rattle.model.proofs.SoonOnArrival.{soon-on-arrival}
 use Rattle.link.specs.declared.Link.{Link}
 use Rattle.link.specs.Reading.{linkOf}
 use Rattle.link.specs.Handed.{Handed}
@@ -155,3 +159,16 @@ code-fair = code-has FairOn fair-accepted
 pub code-numbers : (bytes : List ℕ) (o : Outcome) → o ≡ readOf bytes → (o .verdict ≡ Accepted → Valid (o .plan)) → o .verdict ≡ Accepted
     → {h : History} {l : Link} → Handed (o .plan) h l → (i : ℕ) → i < model.flowCount (model.planOf bytes) → InOrder (model.planOf bytes) i h
 code-numbers = code-has (λ P h. (i : ℕ) → i < model.flowCount P → InOrder P i h) numbers-accepted
+
+-- and its delay: it is prompt, and soon to a modest flow, whether that asks ahead of its tiles or on their arrival
+pub code-prompt : (bytes : List ℕ) (o : Outcome) → o ≡ readOf bytes → (o .verdict ≡ Accepted → Valid (o .plan)) → o .verdict ≡ Accepted
+    → {h : History} {l : Link} → Handed (o .plan) h l → PromptOn Timely 0 (model.planOf bytes) h
+code-prompt = code-has (PromptOn Timely 0) prompt-accepted
+
+pub code-soon-ahead : (bytes : List ℕ) (o : Outcome) → o ≡ readOf bytes → (o .verdict ≡ Accepted → Valid (o .plan)) → o .verdict ≡ Accepted
+    → {h : History} {l : Link} → Handed (o .plan) h l → (i : ℕ) → i < model.flowCount (model.planOf bytes) → SoonOn TimelyInOrder 0 (model.planOf bytes) i h
+code-soon-ahead = code-has (λ P h. (i : ℕ) → i < model.flowCount P → SoonOn TimelyInOrder 0 P i h) soon-accepted
+
+pub code-soon : (bytes : List ℕ) (o : Outcome) → o ≡ readOf bytes → (o .verdict ≡ Accepted → Valid (o .plan)) → o .verdict ≡ Accepted
+    → {h : History} {l : Link} → Handed (o .plan) h l → (i : ℕ) → i < model.flowCount (model.planOf bytes) → SoonOnArrivalOn (model.planOf bytes) i h
+code-soon = code-has (λ P h. (i : ℕ) → i < model.flowCount P → SoonOnArrivalOn P i h) soon-on-arrival

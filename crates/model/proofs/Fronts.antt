@@ -10,7 +10,7 @@ use Rattle.model.specs.Plan.{Plan}
 use Rattle.model.specs.Calls.{Event, History, requested, accepted}
 use Rattle.model.specs.History.{ticks, slotAfter, grantsSince, grantedIn, inFrame}
 use Rattle.model.specs.Claim.{EachSince}
-use Rattle.model.specs.Delay.{currentFrame, dueSlot, grantBy, dueSince, dueIn, Timely, Modest, ServedAt}
+use Rattle.model.specs.Delay.{currentFrame, dueSlot, grantBy, dueSince, dueIn, TimelyInOrder, Modest, ServedAt}
 use Rattle.model.proofs.Tallies.{tally-append}
 use Rattle.model.proofs.Marks.{mark, in-frame-other}
 use Rattle.model.proofs.Invariant.{Injecting}
@@ -55,11 +55,11 @@ front-same P i {j} {k} {h} {next} same-slot same-grants same-dues same-injection
 
 -- what is kept: a modest flow has a front, and its requests were answered in time
 abbrev pub Kept : Plan → History → (i j : ℕ) → Type 0
-Kept P h i j = Modest Timely 0 P i h → Front P i j h × EachSince (ServedAt P i) h
+Kept P h i j = Modest TimelyInOrder 0 P i h → Front P i j h × EachSince (ServedAt P i) h
 
 module _ (P : Plan) (w v : ℕ) (h : History) (i : ℕ) where
   -- a grant leaves a flow modest only if it was
-  pub modest-before-grant : Modest Timely 0 P i (requested w (accepted v) ∷ h) → Modest Timely 0 P i h
+  pub modest-before-grant : Modest TimelyInOrder 0 P i (requested w (accepted v) ∷ h) → Modest TimelyInOrder 0 P i h
   unfolding dueSince
   modest-before-grant m = record {
     asks = m .asks .1;

@@ -22,7 +22,7 @@ use Rattle.model.specs.Tick.{leftHead, advanced, tick}
 use Rattle.model.specs.Lend.{lendTests, lentTo, firstInTurn, lentAfter, lendAfter, lend}
 use Rattle.model.specs.Reset.{quiet, fromHead, renewed, reset}
 use Rattle.model.specs.History.{ticks, frameOf, grantsSince}
-use Rattle.model.specs.Delay.{currentFrame, dueSince, Timely, Modest}
+use Rattle.model.specs.Delay.{currentFrame, dueSince, TimelyInOrder, Modest}
 use Rattle.model.proofs.Round.{mod-unique}
 use Rattle.model.proofs.Slots.{some-frame, frame-stays, frame-changes}
 use Rattle.model.proofs.Window.{Current, head-is}

@@ -100,3 +100,5 @@ pub mod OtherPremises
 pub mod TwoRunsDecided
 pub mod DifferingRuns
 pub mod LessAsked
+pub mod DelayDecided
+pub mod LessTimely

@@ -13,7 +13,7 @@ use Rattle.model.specs.Window.{newest}
 use Rattle.model.specs.Link.{Link, Step, window, flow, share, movedTo}
 use Rattle.model.specs.Request.{Found, found, nowhere, validFor, sought, bookedFlow, booked, refusedAtNewest, answered, request}
 use Rattle.model.specs.History.{ticks, slotAfter, frameOf, hasCome, wellFormed, grantsSince, grantedIn, expectedNumber}
-use Rattle.model.specs.Delay.{currentFrame, newestFrame, dueSlot, dueFrame, dueSince, dueIn, Timely, InOrder, Modest, InTime}
+use Rattle.model.specs.Delay.{currentFrame, newestFrame, dueSlot, dueFrame, dueSince, dueIn, Timely, DueInOrder, Modest, InTime}
 use Rattle.model.proofs.Round.{mod-unique}
 use Rattle.model.proofs.Slots.{some-frame, frame-begins, frame-ends}
 use Rattle.model.proofs.Window.{Current, newest-is}
@@ -56,7 +56,7 @@ module _ {l : Link} {h : History} (g : After (l .plan) l h) (w : ℕ) (well : we
   abbrev none : ℕ → ℕ
   none f = 0
 
-  module _ (x : Front P i (flow l i .injection) h) (timely : Timely P i w h) (in-order : InOrder P i w h) where
+  module _ (x : Front P i (flow l i .injection) h) (timely : Timely P i w h) (in-order : DueInOrder P i w h) where
     near : Near P i (v .injects i known-flow .frame) due h
     near = front-near x (v .injects i known-flow) due (x .last-due due (due-frame-from-now ok w h) in-order)
 

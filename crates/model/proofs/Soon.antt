@@ -14,7 +14,7 @@ use Rattle.model.specs.Request.{Found, found, nowhere, validFor, sought,
 use Rattle.model.specs.History.{ticks, slotAfter, wellFormed, expectedNumber, grantsSince}
 use Rattle.model.specs.Claim.{Each}
 use Rattle.model.specs.Card.{Played, paper, step, run}
-use Rattle.model.specs.Delay.{newestFrame, dueSlot, dueFrame, dueSince, dueIn, Timely, Modest, InTime, SoonOn, SoonAhead}
+use Rattle.model.specs.Delay.{newestFrame, dueSlot, dueFrame, dueSince, dueIn, Timely, TimelyInOrder, Modest, InTime, SoonOn, SoonAhead}
 use Rattle.model.proofs.Plan as plan
 use Rattle.model.proofs.LinkUpdates.{each-flow}
 use Rattle.model.proofs.Marks.{mark, in-frame-hit}
@@ -45,7 +45,7 @@ module _ {l : Link} {h : History} (g : After (l .plan) l h) (w : ℕ)
   unfolding ticks grantsSince dueSince
   back-kept r not-passed q below m =
       let so-far = kept q below (record { asks = m .asks .1; within-share = m .within-share }) in
-      (front-same P q refl refl refl refl (so-far .0), (λ well own. absurd (asked well own (m .asks .0 well own .0)), so-far .1))
+      (front-same P q refl refl refl refl (so-far .0), (λ well own. absurd (asked well own (m .asks .0 well own .timely)), so-far .1))
     where
       asked : wellFormed P w ≡ true → flowOf w ≡ q → Timely P q w h → ⊥
       asked well own x =
@@ -63,10 +63,10 @@ module _ {l : Link} {h : History} (g : After (l .plan) l h) (w : ℕ)
         own m =
             let so-far = kept i (known g w well) (record { asks = m .asks .1; within-share = m .within-share }) in
             let asked = m .asks .0 well refl in
-            let ends = subst (Ends (window l) (validFor l i d) (share l i) (newestFrame P h) (Comes g w well (so-far .0) (asked .0) (asked .1))) e
-            (comes-to g w well (so-far .0) (asked .0) (asked .1)) in (
-              front-refused g w well (so-far .0) (asked .0) (asked .1) c ends n,
-              (λ well′ same. share-due g w well (so-far .0) (asked .0) (asked .1) c ends, so-far .1),
+            let ends = subst (Ends (window l) (validFor l i d) (share l i) (newestFrame P h) (Comes g w well (so-far .0) (asked .timely) (asked .in-order))) e
+            (comes-to g w well (so-far .0) (asked .timely) (asked .in-order)) in (
+              front-refused g w well (so-far .0) (asked .timely) (asked .in-order) c ends n,
+              (λ well′ same. share-due g w well (so-far .0) (asked .timely) (asked .in-order) c ends, so-far .1),
             )
 
         others : (q : ℕ) → q < flowCount P → (q ≡ i → ⊥) → Kept P (requested w (refused n) ∷ h) q (flow l q .injection)
@@ -85,14 +85,14 @@ module _ {l : Link} {h : History} (g : After (l .plan) l h) (w : ℕ)
         own m =
             let so-far = kept i (known g w well) (modest-before-grant P w (depart w p) h i m) in
             let asked = m .asks .0 well refl in
-            let ends = subst (Ends (window l) (validFor l i d) (share l i) (newestFrame P h) (Comes g w well (so-far .0) (asked .0) (asked .1))) e
-            (comes-to g w well (so-far .0) (asked .0) (asked .1)) in
+            let ends = subst (Ends (window l) (validFor l i d) (share l i) (newestFrame P h) (Comes g w well (so-far .0) (asked .timely) (asked .in-order))) e
+            (comes-to g w well (so-far .0) (asked .timely) (asked .in-order)) in
             let few : dueIn P h i (dueFrame P w h) < entry P i .share =
             omega (arith, m .within-share (dueFrame P w h), in-frame-hit P i (dueFrame P w h) (mark i (dueSlot P w h)) (dueSince P h) refl refl) in
-            let is = departs g w well (so-far .0) (asked .0) (asked .1) j c p ends in (
-              front-granted g w well (so-far .0) (asked .0) (asked .1) j c p ends few (depart w p) is,
+            let is = departs g w well (so-far .0) (asked .timely) (asked .in-order) j c p ends in (
+              front-granted g w well (so-far .0) (asked .timely) (asked .in-order) j c p ends few (depart w p) is,
               (
-                λ well′ same. subst (λ u. InTime P w (slotAfter P (ticks h) u) h) (sym is) (in-time g w well (so-far .0) (asked .0) (asked .1) j c p ends few),
+                λ well′ same. subst (λ u. InTime P w (slotAfter P (ticks h) u) h) (sym is) (in-time g w well (so-far .0) (asked .timely) (asked .in-order) j c p ends few),
                 so-far .1,
               ),
             )
@@ -128,7 +128,7 @@ call-kept r (Call.lend mask) g kept = λ q below. lend-kept g below mask (kept q
 call-kept r Call.reset g kept = λ q below. reset-kept g below (kept q below)
 
 -- on any plan that keeps the limits, and so on the plan of any bytes that are accepted
-pub soon-accepted : (P : Plan) → Accepted P → (calls : List Call) (i : ℕ) → i < flowCount P → SoonOn Timely 0 P i (run paper P calls .history)
+pub soon-accepted : (P : Plan) → Accepted P → (calls : List Call) (i : ℕ) → i < flowCount P → SoonOn TimelyInOrder 0 P i (run paper P calls .history)
 soon-accepted P ok calls i known m = by-calls ok (KeptAfter P) more (fresh-kept ok) calls i known m .1
   where
     more : (r : Played paper) (c : Call) → Known P r → Each (Happened P) (r .history) → KeptAfter P r → KeptAfter P (step paper r c)

@@ -11,7 +11,7 @@ use Rattle.model.specs.Calls.{Call, Event, History, requested, credited,
 use Rattle.model.specs.History.{ticks, frameOf, inFrame}
 use Rattle.model.specs.Claim.{Each, EachSince, ReadyAt, GrantedWordAt}
 use Rattle.model.specs.Card.{paper, run}
-use Rattle.model.specs.Delay.{currentFrame, dueSlot, madeSince, madeIn, dueSince, dueIn, Timely, AsksAt, ServedAt, Modest, GrantedSoonAt, ModestOnArrival}
+use Rattle.model.specs.Delay.{currentFrame, dueSlot, madeSince, madeIn, dueSince, dueIn, TimelyInOrder, AsksAt, ServedAt, Modest, GrantedSoonAt, ModestOnArrival}
 use Rattle.model.specs.Delay.{SoonOnArrivalOn, Soon}
 use Rattle.model.proofs.Plan as plan
 use Rattle.model.proofs.Slots.{frames-go-on}
@@ -56,16 +56,18 @@ module _ {P : Plan} (ok : Accepted P) (i : ℕ) where
   due-when-made f (Event.reset (refused r) ∷ h) words ready = due-when-made f h (words .1) (ready .1)
 
   -- its requests are timely, and in order
-  asks-on-arrival : (h : History) → Each (GrantedWordAt P) h → EachSince (ReadyAt P i) h → EachSince (AsksAt Timely P i) h
+  asks-on-arrival : (h : History) → Each (GrantedWordAt P) h → EachSince (ReadyAt P i) h → EachSince (AsksAt TimelyInOrder P i) h
   asks-on-arrival [] words ready = tt
-  asks-on-arrival (requested w a ∷ h) words ready = (
-    λ well own.
-        let x = ready .0 well own in (
-          ready-timely ok i w h x,
-          λ f lt. due-when-made f h (words .1) (ready .1) ∙ made-later f h (omega (arith, ap (frameOf P) (due-if-come P w h (x .come)))),
-        ),
-    asks-on-arrival h (words .1) (ready .1),
-  )
+  asks-on-arrival (requested w a ∷ h) words ready = (in-order, asks-on-arrival h (words .1) (ready .1))
+    where
+      in-order : AsksAt TimelyInOrder P i (requested w a) h
+      in-order well own =
+          let x = ready .0 well own in
+          let now = ap (frameOf P) (due-if-come P w h (x .come)) in
+          record {
+            timely = ready-timely ok i w h x;
+            in-order = λ f lt. due-when-made f h (words .1) (ready .1) ∙ made-later f h (omega arith);
+          }
   asks-on-arrival (credited j p a ∷ h) words ready = (tt, asks-on-arrival h (words .1) (ready .1))
   asks-on-arrival (ticked x ∷ h) words ready = (tt, asks-on-arrival h (words .1) (ready .1))
   asks-on-arrival (lent m a ∷ h) words ready = (tt, asks-on-arrival h (words .1) (ready .1))

@@ -109,15 +109,18 @@ Prompt = PromptBy Timely 0
 -- ---- soon
 
 -- Since the last granted reset no grant of flow i is due in a later frame than the tile of word w is: due frames don't go back.
-abbrev pub InOrder : Plan → (i w : ℕ) → History → Type 0
-InOrder P i w h = (f : ℕ) → dueFrame P w h < f → dueIn P h i f ≡ 0
+abbrev pub DueInOrder : Plan → (i w : ℕ) → History → Type 0
+DueInOrder P i w h = (f : ℕ) → dueFrame P w h < f → dueIn P h i f ≡ 0
 
--- what is asked of each well-formed request of flow i
+pub record TimelyInOrder (P : Plan) (i w : ℕ) (h : History) : Type 0 where
+  pub timely : Timely P i w h
+  pub in-order : DueInOrder P i w h
+
+-- Q holds of flow i's well-formed request
 abbrev pub AsksAt : (Q : Plan → (i w : ℕ) → History → Type 0) → Plan → ℕ → Event → History → Type 0
-AsksAt Q P i = AtRequest (λ w h. wellFormed P w ≡ true → flowOf w ≡ i → Q P i w h × InOrder P i w h)
+AsksAt Q P i = AtRequest (λ w h. wellFormed P w ≡ true → flowOf w ≡ i → Q P i w h)
 
--- Since the last granted reset each request of flow i was as Q says, in the order in which its tiles are due; and no more than its share, and `more`, of
--- its grants are due in any one frame.
+-- Since the last granted reset each request of flow i was as Q says, and no more than its share, and `more`, of its grants are due in any one frame.
 pub record Modest (Q : Plan → (i w : ℕ) → History → Type 0) (more : ℕ) (P : Plan) (i : ℕ) (h : History) : Type 0 where
   pub asks : EachSince (AsksAt Q P i) h
   pub within-share : (f : ℕ) → dueIn P h i f ≤ entry P i .share + more
@@ -148,7 +151,7 @@ SoonBy Q more c =
 
 -- A word may run ahead of its tile. That the paper's card keeps it is `soon-ahead`, in proofs/Soon.antt.
 abbrev pub SoonAhead : Card → Type 0
-SoonAhead = SoonBy Timely 0
+SoonAhead = SoonBy TimelyInOrder 0
 
 -- ---- soon, where the flow asks on arrival
 

@@ -34,6 +34,7 @@ pub mod TwoRuns
 pub mod Outlines
 pub mod LessAsked
 pub mod Delay
+pub mod LessTimely
 -- worked examples, and cards that are sent back
 pub mod PlanBytes
 pub mod EdgeCases
