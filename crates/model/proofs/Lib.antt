@@ -78,6 +78,10 @@ pub mod FrontsKept
 pub mod RequestsInTime
 pub mod Soon
 pub mod SoonOnArrival
+pub mod TileSlots
+pub mod GrantsInOrder
+pub mod NextLink
+pub mod SeveralLinks
 pub mod Outlines
 -- edges, cards that demand 3 sends back, streams that meet the premise of the least count, and what its premises on words are for
 pub mod Unfoldings

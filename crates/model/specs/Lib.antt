@@ -35,6 +35,7 @@ pub mod Outlines
 pub mod LessAsked
 pub mod Delay
 pub mod LessTimely
+pub mod SeveralLinks
 -- worked examples, and cards that are sent back
 pub mod PlanBytes
 pub mod EdgeCases

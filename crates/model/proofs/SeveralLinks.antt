@@ -1,0 +1,169 @@
+-- The paper's card over several links: a tile comes up on link m in the m-th frame after the one in which it is due on the first, at the latest. Assumes
+-- nothing.
+use Prim.Native.Nat.{ℕ, suc, _+_, _*_, _/_, _≤_, _<_}
+use mathlib.Core.Path.{_≡_, refl, sym, ap, _∙_, subst}
+use mathlib.Core.List.{List, [], _∷_}
+use mathlib.Core.Bool.{Bool, true, false}
+use native.Mathlib.Nat.{mul-le-mul-right}
+use native.Mathlib.Decide.{decLt, ℕ-discrete}
+use native.Mathlib.Omega.{arith}
+use lib.ListN.{length}
+use Rattle.model.specs.Tables.{bit, tally}
+use Rattle.model.specs.Word.{flowOf, departureOf}
+use Rattle.model.specs.Plan.{Plan, entry, planOf, Accepted}
+use Rattle.model.specs.Calls.{Event, History, requested, credited, ticked, lent, accepted, refused}
+use Rattle.model.specs.History.{ticks, slotAfter, frameOf, wellFormed, renews, grants}
+use Rattle.model.specs.Claim.{Each, GrantedWordAt}
+use Rattle.model.specs.Card.{paper, run}
+use Rattle.model.specs.Delay.{dueSlot, dueFrame, dueIn, AtAnswer, IsGranted, TimelyInOrder, AsksAt, Modest, ServedAt}
+use Rattle.model.specs.SeveralLinks.{slotsOf, sentSlots, dues, dueSlots, tile, Board, planOn, historyOn, sentOn, dueOn, Joined, Way, Within, AllGranted}
+use Rattle.model.specs.SeveralLinks.{EachWithin, OverLinks}
+use Rattle.model.proofs.Plan as plan
+use Rattle.model.proofs.Tallies.{tally-hit}
+use Rattle.model.proofs.Slots.{frame-begins, frame-ends}
+use Rattle.model.proofs.HistoryCounts.{NoneGranted}
+use Rattle.model.proofs.Demand3.{each-map}
+use Rattle.model.proofs.EventsOfRuns.{Happened, each-happened}
+use Rattle.model.proofs.Soon.{soon-accepted}
+use Rattle.model.proofs.TileSlots.{tile-newest, tile-older, tile-of-oldest, oldest-length}
+use Rattle.model.proofs.GrantsInOrder.{FrameInOrderAt, frames-in-order}
+use Rattle.model.proofs.NextLink.{sent-own, sent-other, due-own, due-other, as-many, since-all, Shared, shared, modest-on-next}
+
+-- ---- one link: each tile comes up in the frame in which it is due, or in the next
+
+module _ (P : Plan) (i : ℕ) where
+  abbrev NextFrame : History → ℕ → Type 0
+  NextFrame h n = frameOf P (tile n (sentSlots P h i)) ≤ frameOf P (tile n (dueSlots P h i)) + 1
+
+  -- a grant more
+  grant-tile : (w v : ℕ) (h : History) → GrantedWordAt P (requested w (accepted v)) h → ServedAt P i (requested w (accepted v)) h
+      → ((n : ℕ) → n < length (sentSlots P h i) → NextFrame h n)
+      → (n : ℕ) → n < length (sentSlots P (requested w (accepted v) ∷ h) i) → NextFrame (requested w (accepted v) ∷ h) n
+  grant-tile w v h word served rest n lt = go (ℕ-discrete (flowOf w) i)
+    where
+      own-tile : (own : flowOf w ≡ i) → Dec (n ≡ length (sentSlots P h i))
+          → frameOf P (tile n (slotAfter P (ticks h) (departureOf v) ∷ sentSlots P h i)) ≤ frameOf P (tile n (dueSlot P w h ∷ dueSlots P h i)) + 1
+      own-tile own (yes e) =
+          let x = served (word .asked-well-formed) own in
+          let sent = ap (λ k. tile k (slotAfter P (ticks h) (departureOf v) ∷ sentSlots P h i)) e ∙ tile-newest (slotAfter P (ticks h) (departureOf v)) (sentSlots P h i) in
+          let due = ap (λ k. tile k (dueSlot P w h ∷ dueSlots P h i)) (e ∙ sym (as-many P i h)) ∙ tile-newest (dueSlot P w h) (dueSlots P h i) in
+          omega (arith, x .due-or-next, ap (frameOf P) sent, ap (frameOf P) due)
+      own-tile own (no d) =
+          let below : n < length (sentSlots P h i) = omega (arith, ap length (sent-own P w v h i own)) in
+          let sent = tile-older (slotAfter P (ticks h) (departureOf v)) (sentSlots P h i) n below in
+          let due = tile-older (dueSlot P w h) (dueSlots P h i) n (omega (arith, as-many P i h)) in
+          omega (arith, rest n below, ap (frameOf P) sent, ap (frameOf P) due)
+
+      go : Dec (flowOf w ≡ i) → NextFrame (requested w (accepted v) ∷ h) n
+      go (yes own) = rw (sent-own P w v h i own, due-own P w v h i own) (own-tile own (ℕ-discrete n (length (sentSlots P h i))))
+      go (no other) = rw (sent-other P w v h i other, due-other P w v h i other) (rest n (omega (arith, ap length (sent-other P w v h i other))))
+
+  next-frame : (h : History) → Each (GrantedWordAt P) h → Each (ServedAt P i) h → (n : ℕ) → n < length (sentSlots P h i) → NextFrame h n
+  unfolding grants dues slotsOf
+  next-frame [] words served = λ n lt. absurd (omega arith)
+  next-frame (requested w (accepted v) ∷ h) words served = grant-tile w v h (words .0) (served .0) (next-frame h (words .1) (served .1))
+  next-frame (requested w (refused r) ∷ h) words served = next-frame h (words .1) (served .1)
+  next-frame (credited j p a ∷ h) words served = next-frame h (words .1) (served .1)
+  next-frame (ticked x ∷ h) words served = next-frame h (words .1) (served .1)
+  next-frame (lent m a ∷ h) words served = next-frame h (words .1) (served .1)
+  next-frame (Event.reset a ∷ h) words served = next-frame h (words .1) (served .1)
+
+-- ---- a board
+
+none-granted : (h : History) → tally renews h ≡ 0 → NoneGranted h
+unfolding tally
+none-granted [] e = tt
+none-granted (x ∷ h) e = go (renews x) refl (none-granted h (omega arith))
+  where
+    go : (b : Bool) → renews x ≡ b → NoneGranted h → (renews x ≡ false) × NoneGranted h
+    go true r rest = absurd (omega (arith, ap bit r))
+    go false r rest = (r, rest)
+
+module _ (b : Board paper) where
+  ok : Accepted (planOn b)
+  ok = plan.accepted (b .bytes) (b .passes)
+
+  none : NoneGranted (historyOn b)
+  none = none-granted (historyOn b) (b .no-reset)
+
+  happened : Each (Happened (planOn b)) (historyOn b)
+  happened = each-happened (planOn b) ok (b .calls)
+
+  words : Each (GrantedWordAt (planOn b)) (historyOn b)
+  words = each-map _ (GrantedWordAt (planOn b)) (λ e h x. x .word) (historyOn b) happened
+
+  served : Modest TimelyInOrder 0 (planOn b) (b .stream) (historyOn b) → Each (ServedAt (planOn b) (b .stream)) (historyOn b)
+  served m = since-all _ (historyOn b) none (soon-accepted (planOn b) ok (b .calls) (b .stream) (b .known) m)
+
+  one-frame : Modest TimelyInOrder 0 (planOn b) (b .stream) (historyOn b) → (n : ℕ) → n < length (sentOn b)
+      → frameOf (planOn b) (tile n (sentOn b)) ≤ frameOf (planOn b) (tile n (dueOn b)) + 1
+  one-frame m = next-frame (planOn b) (b .stream) (historyOn b) words (served m)
+
+-- ---- two boards
+
+module _ (a b : Board paper) (joined : Joined a b) where
+  both : Shared (ok a) (ok b) (joined .in-step) (a .stream) (b .stream) (a .known) (joined .share-kept) (historyOn a) (historyOn b)
+  both =
+      shared (ok a) (ok b) (joined .in-step) (a .stream) (b .stream) (a .known) (joined .share-kept) (joined .together) (happened a)
+      (frames-in-order (planOn a) (ok a) (a .calls)) (none a) (none b) (words b)
+
+  next-modest : Modest TimelyInOrder 0 (planOn b) (b .stream) (historyOn b)
+  next-modest =
+      modest-on-next (ok a) (ok b) (joined .in-step) (a .stream) (b .stream) (a .known) (joined .share-kept) (historyOn a) (historyOn b) both (happened a)
+      (none a) (none b)
+
+  -- a refusal would need the whole share due already
+  all-granted : AllGranted b
+  all-granted = each-granted (historyOn b) (both .few) (served b next-modest)
+    where
+      each-granted : (h : History)
+          → Each (AsksAt (λ P i w h. dueIn P h i (dueFrame P w h) < entry P i .share) (planOn b) (b .stream)) h → Each (ServedAt (planOn b) (b .stream)) h
+          → Each (AtAnswer (λ w x h. wellFormed (planOn b) w ≡ true → flowOf w ≡ b .stream → IsGranted x)) h
+      each-granted [] few served = tt
+      each-granted (requested w (accepted v) ∷ h) few served = (λ well own. tt, each-granted h (few .1) (served .1))
+      each-granted (requested w (refused r) ∷ h) few served =
+          (λ well own. omega (arith, few .0 well own, served .0 well own), each-granted h (few .1) (served .1))
+      each-granted (credited k p x ∷ h) few served = (tt, each-granted h (few .1) (served .1))
+      each-granted (ticked x ∷ h) few served = (tt, each-granted h (few .1) (served .1))
+      each-granted (lent m x ∷ h) few served = (tt, each-granted h (few .1) (served .1))
+      each-granted (Event.reset x ∷ h) few served = (tt, each-granted h (few .1) (served .1))
+
+-- ---- the way
+
+abbrev FramesLater : ℕ → (a b : Board paper) → Type 0
+FramesLater k a b = (n : ℕ) → n < length (sentOn b) → frameOf (planOn b) (tile n (sentOn b)) ≤ frameOf (planOn a) (tile n (dueOn a)) + k
+
+-- frames and slots; the plans have the same F
+within : (k : ℕ) (a b : Board paper) → planOn a .slots ≡ planOn b .slots → FramesLater k a b → Within k a b
+within k a b same later = record {
+  frames-later = later;
+  slots-later = λ n lt.
+      let F = planOn b .slots in
+      let s = tile n (sentOn b) in
+      let d = tile n (dueOn a) in
+      let ends : frameOf (planOn b) s * F ≤ (frameOf (planOn a) d + k) * F = mul-le-mul-right F (later n lt) in
+      let begins : frameOf (planOn a) d * F ≤ d = subst (λ x. frameOf (planOn a) d * x ≤ d) same (frame-begins (ok a) d) in
+      omega (arith, frame-ends (ok b) s);
+}
+
+each-within : (k : ℕ) (a b : Board paper) (rest : List (Board paper)) → planOn a .slots ≡ planOn b .slots → FramesLater k a b
+    → Modest TimelyInOrder 0 (planOn b) (b .stream) (historyOn b) → Way b rest → EachWithin k a b rest
+each-within k a b [] same later m way = within k a b same later
+each-within k a b (next ∷ rest) same later m way = (
+  within k a b same later,
+  all-granted b next (way .0),
+  each-within (k + 1) a next rest (same ∙ way .0 .in-step .slots) later-still (next-modest b next (way .0)) (way .1),
+)
+  where
+    later-still : FramesLater (k + 1) a next
+    later-still n lt =
+        let x = both b next (way .0) in
+        let due-below : n < length (dueOn next) = omega (arith, as-many (planOn next) (next .stream) (historyOn next)) in
+        let same-tile : tile n (sentOn b) ≡ tile n (dueOn next) = tile-of-oldest (x .oldest) n due-below in
+        let sent-before = later n (omega (arith, oldest-length (x .oldest))) in
+        let same-frame : frameOf (planOn b) (tile n (sentOn b)) ≡ frameOf (planOn next) (tile n (dueOn next)) =
+        ap (frameOf (planOn b)) same-tile ∙ ap (λ F. tile n (dueOn next) / F) (way .0 .in-step .slots) in
+        omega (arith, one-frame next (next-modest b next (way .0)) n lt)
+
+pub over-links : OverLinks paper
+over-links a rest way m = each-within 1 a a rest refl (one-frame a m) m way

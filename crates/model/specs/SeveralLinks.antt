@@ -1,0 +1,140 @@
+-- When a tile comes up on the last of several links, one after the other. It names no link's state, only calls and answers. Assumes nothing.
+--
+-- A stream is a flow of each board on its way, with no smaller share on the next board than on the one before. Its tiles are numbered by its grants, from
+-- 0, on each board. The boards tick in step on equal F and W, and no reset is granted. On each board after the first the stream asks for its tiles in
+-- order, each with the slot in which it comes up on the board before as its departure, at any time from that grant on until it comes up there, and not
+-- while that slot is in the newest frame. Where each request has room and its number, and the stream is modest on the first board:
+-- - every request on the later boards is granted;
+-- - a tile that is due on the first board in frame a comes up on board m in frame a + m at the latest, so fewer than (m + 1) × F slots after it is due.
+-- A link adds a frame, and not two: two shares of a stream are never due in one frame of the next link.
+use Prim.Native.Nat.{ℕ, _+_, _*_, _%_, _≤_, _<_}
+use mathlib.Core.Path.{_≡_}
+use mathlib.Core.List.{List, _∷_, []}
+use mathlib.Core.Bool.{true, cond}
+use lib.Dec.{eqb}
+use lib.ListN.{length}
+use Rattle.model.specs.Tables.{tally}
+use Rattle.model.specs.Word.{flowOf, quantumOf, departureOf}
+use Rattle.model.specs.Plan.{Plan, positions, flowCount, entry, planOf, refusal}
+use Rattle.model.specs.Calls.{Call, Turn, Event, History, requested, credited, ticked, lent}
+use Rattle.model.specs.History.{ticks, frameOf, wellFormed, renews, Mark, marksOf, grants, ofFlow, grantedInAll, expectedNumber}
+use Rattle.model.specs.Claim.{Each, AtRequest, Room}
+use Rattle.model.specs.Card.{Card, run}
+use Rattle.model.specs.TwoHops.{InStep}
+use Rattle.model.specs.Delay.{newestFrame, dueSlot, grantBy, AtAnswer, IsGranted, TimelyInOrder, Modest}
+
+-- ---- a stream's tiles on one board
+
+-- the slots of flow i's marks
+unfoldable pub slotsOf : ℕ → List Mark → List ℕ
+slotsOf i [] = []
+slotsOf i (m ∷ ms) = cond (ofFlow i m) (m .slot ∷ slotsOf i ms) (slotsOf i ms)
+
+-- the slots in which flow i's tiles come up, and those in which they are due: the newest grant first
+abbrev pub sentSlots : Plan → History → ℕ → List ℕ
+sentSlots P h i = slotsOf i (grants P h)
+
+unfoldable pub dues : Plan → History → List Mark
+unfolding marksOf
+dues P h = marksOf (grantBy (dueSlot P)) h
+
+abbrev pub dueSlots : Plan → History → ℕ → List ℕ
+dueSlots P h i = slotsOf i (dues P h)
+
+-- the slot of tile n, counted from the oldest
+unfoldable pub tile : ℕ → List ℕ → ℕ
+tile n [] = 0
+tile n (s ∷ older) = cond (eqb n (length older)) s (tile n older)
+
+-- ---- a stream from one board to the next
+
+-- an event of one board alone
+abbrev pub Alone : Event → Type 0
+Alone (requested w a) = Unit {0}
+Alone (credited k p a) = Unit {0}
+Alone (ticked x) = ⊥
+Alone (lent m a) = Unit {0}
+Alone (Event.reset a) = Unit {0}
+
+-- flow i on a board with plan P, flow j on the next one with plan Q
+module _ (P Q : Plan) (i j : ℕ) where
+  -- the number of the tile that flow j asks for next on the second board, and the slot in which it comes up on the first
+  abbrev pub nextTile : History → ℕ
+  nextTile h₂ = grantedInAll Q h₂ j
+
+  abbrev pub nextSlot : (h₁ h₂ : History) → ℕ
+  nextSlot h₁ h₂ = tile (nextTile h₂) (sentSlots P h₁ i)
+
+  -- After h₁ and h₂ word w asks for it on the second board.
+  pub record AsksForNext (h₁ : History) (w : ℕ) (h₂ : History) : Type 0 where
+    pub sent : nextTile h₂ < length (sentSlots P h₁ i)
+    pub departs : departureOf w ≡ nextSlot h₁ h₂ % positions Q
+    pub not-late : ticks h₂ ≤ nextSlot h₁ h₂
+    pub in-time : frameOf Q (nextSlot h₁ h₂) < newestFrame Q h₂
+    pub room : Room Q j h₂
+    pub number : quantumOf w ≡ expectedNumber Q h₂ j
+
+  -- so of flow j's well-formed requests
+  abbrev pub AsksForNextAt : (h₁ : History) → Event → History → Type 0
+  AsksForNextAt h₁ = AtRequest (λ w h₂. wellFormed Q w ≡ true → flowOf w ≡ j → AsksForNext h₁ w h₂)
+
+  -- The two boards tick in step, and flow j asks on the second for the tiles of flow i on the first. As in a history, the newest event is first.
+  pub data Together : (h₁ h₂ : History) → Type 0 where
+    start : Together [] []
+    both-tick : {h₁ h₂ : History} {x₁ x₂ : Turn} → Together h₁ h₂ → Together (ticked x₁ ∷ h₁) (ticked x₂ ∷ h₂)
+    first-alone : {h₁ h₂ : History} (e : Event) → Alone e → Together h₁ h₂ → Together (e ∷ h₁) h₂
+    second-alone : {h₁ h₂ : History} (e : Event) → Alone e → AsksForNextAt h₁ e h₂ → Together h₁ h₂ → Together h₁ (e ∷ h₂)
+
+-- ---- a stream's way over several boards
+
+-- a list of calls on card c from an accepted plan, with no reset granted; and the flow of it that is the stream
+pub record Board (c : Card) : Type 0 where
+  pub bytes : List ℕ
+  pub passes : refusal bytes ≡ 0
+  pub calls : List Call
+  pub no-reset : tally renews (run c (planOf bytes) calls .history) ≡ 0
+  pub stream : ℕ
+  pub known : stream < flowCount (planOf bytes)
+
+abbrev pub planOn : {c : Card} → Board c → Plan
+planOn b = planOf (b .bytes)
+
+abbrev pub historyOn : {c : Card} → Board c → History
+historyOn {c} b = run c (planOf (b .bytes)) (b .calls) .history
+
+abbrev pub sentOn : {c : Card} → Board c → List ℕ
+sentOn b = sentSlots (planOn b) (historyOn b) (b .stream)
+
+abbrev pub dueOn : {c : Card} → Board c → List ℕ
+dueOn b = dueSlots (planOn b) (historyOn b) (b .stream)
+
+-- b is the next board after a
+pub record Joined {c : Card} (a b : Board c) : Type 0 where
+  pub in-step : InStep (planOn a) (planOn b)
+  pub share-kept : entry (planOn a) (a .stream) .share ≤ entry (planOn b) (b .stream) .share
+  pub together : Together (planOn a) (planOn b) (a .stream) (b .stream) (historyOn a) (historyOn b)
+
+abbrev pub Way : {c : Card} → Board c → List (Board c) → Type 0
+Way a [] = Unit {0}
+Way a (b ∷ rest) = Joined a b × Way b rest
+
+-- ---- what follows
+
+-- The stream's tiles come up on board b in the k-th frame after the one in which they are due on board a, at the latest.
+pub record Within {c : Card} (k : ℕ) (a b : Board c) : Type 0 where
+  pub frames-later : (n : ℕ) → n < length (sentOn b) → frameOf (planOn b) (tile n (sentOn b)) ≤ frameOf (planOn a) (tile n (dueOn a)) + k
+  pub slots-later : (n : ℕ) → n < length (sentOn b) → tile n (sentOn b) < tile n (dueOn a) + (k + 1) * planOn b .slots
+
+-- every request of the stream on board b is granted
+abbrev pub AllGranted : {c : Card} → Board c → Type 0
+AllGranted b = Each (AtAnswer (λ w x h. wellFormed (planOn b) w ≡ true → flowOf w ≡ b .stream → IsGranted x)) (historyOn b)
+
+-- b is board number k of the way from a, and `rest` are those after it
+abbrev pub EachWithin : {c : Card} → (k : ℕ) → (a b : Board c) → (rest : List (Board c)) → Type 0
+EachWithin k a b [] = Within k a b
+EachWithin k a b (next ∷ rest) = Within k a b × AllGranted next × EachWithin (k + 1) a next rest
+
+-- That the paper's card keeps it is `over-links`, in proofs/SeveralLinks.antt.
+abbrev pub OverLinks : Card → Type 0
+OverLinks c =
+    (a : Board c) (rest : List (Board c)) → Way a rest → Modest TimelyInOrder 0 (planOn a) (a .stream) (historyOn a) → EachWithin 1 a a rest
