@@ -1,7 +1,6 @@
 -- A request is turned back by its word's tests, or answered by the search. Assumes nothing.
 use Prim.Native.Nat.{ℕ, zero, suc}
-use mathlib.Core.Path.{_≡_, refl, sym, ap, _∙_, subst}
-use mathlib.Core.List.{_∷_, []}
+use mathlib.Core.Path.{_≡_, refl, sym, ap, _∙_}
 use mathlib.Core.Bool.{Bool, true, false, not, cond}
 use native.Mathlib.Omega.{arith}
 use lib.Dec.{eqb}
@@ -10,7 +9,7 @@ use Rattle.model.specs.Refusals.{firstOf}
 use Rattle.model.specs.Word.{flowOf, quantumOf, departureOf}
 use Rattle.model.specs.Calls.{Grant, refused}
 use Rattle.model.specs.Link.{Link, Step, flow}
-use Rattle.model.specs.Request.{wordTests, numberTests, sought, answered, requestAfter, request}
+use Rattle.model.specs.Request.{wordTests, sought, answered, requestAfter, request}
 use Rattle.model.specs.History.{wellFormed}
 use Rattle.model.proofs.HistoryCounts.{well-formed-is, request-number}
 

@@ -1,22 +1,22 @@
 -- Whether a flow is modest in a history, and whether its requests are timely, is decided by computation. Assumes nothing.
-use Prim.Native.Nat.{ℕ, _+_, _≤_, _<_}
+use Prim.Native.Nat.{ℕ, _≤_}
 use mathlib.Core.Path.{_≡_}
 use mathlib.Core.Logic.{Dec·and}
-use mathlib.Core.List.{List, _∷_, []}
-use mathlib.Core.Bool.{false, and-false}
+use mathlib.Core.List.{List}
+use mathlib.Core.Bool.{and-false}
 use native.Mathlib.Omega.{arith}
 use native.Mathlib.Decide.{decLe, decLt, ℕ-discrete}
 use borrow.Author.Tests.{ne-eqb}
 use Rattle.model.specs.Tables.{tally}
 use Rattle.model.specs.Word.{flowOf, quantumOf}
-use Rattle.model.specs.Plan.{Plan, entry}
+use Rattle.model.specs.Plan.{Plan}
 use Rattle.model.specs.Calls.{Grant, Event, History, requested, credited, ticked, lent, accepted, refused}
-use Rattle.model.specs.History.{Mark, frameOf, wellFormed, marksSince, inFrame, ofFlow, expectedNumber}
+use Rattle.model.specs.History.{Mark, frameOf, wellFormed, inFrame, ofFlow, expectedNumber}
 use Rattle.model.specs.OtherPremises.{Premise}
 use Rattle.model.specs.LessAsked.{HasRoom}
-use Rattle.model.specs.Delay.{currentFrame, dueSlot, dueFrame, madeSince, madeIn, dueSince, dueIn, Timely, IsGranted, AtAnswer, PromptAt, PromptOn}
+use Rattle.model.specs.Delay.{dueSlot, madeSince, dueSince, Timely, IsGranted, AtAnswer, PromptOn}
 use Rattle.model.specs.Delay.{Modest, ModestOnArrival}
-use Rattle.model.specs.LessTimely.{DueInTime, Ordered, AllTimely}
+use Rattle.model.specs.LessTimely.{DueInTime, Ordered}
 use Rattle.model.proofs.Unfoldings.{plans-compute, calls-compute, counts-compute}
 use Rattle.model.proofs.Decidable.{same, implies, is-true, everywhere}
 use Rattle.model.proofs.PastMarks.{above, none-past}

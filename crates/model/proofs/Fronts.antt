@@ -1,13 +1,12 @@
 -- What is known of a modest flow after a history: how far its injection frame has got, and how much it has booked there. Assumes nothing.
 use Prim.Native.Nat.{ℕ, suc, _+_, _%_, _≤_, _<_}
-use mathlib.Core.Path.{_≡_, refl, sym, _∙_}
+use mathlib.Core.Path.{_≡_, sym, _∙_}
 use mathlib.Core.List.{_∷_}
-use mathlib.Core.Bool.{false}
 use native.Mathlib.Decide.{ℕ-discrete}
 use native.Mathlib.Omega.{arith}
 use Rattle.model.specs.Word.{flowOf, departureOf}
 use Rattle.model.specs.Plan.{Plan}
-use Rattle.model.specs.Calls.{Event, History, requested, accepted}
+use Rattle.model.specs.Calls.{History, requested, accepted}
 use Rattle.model.specs.History.{ticks, slotAfter, grantsSince, grantedIn, inFrame}
 use Rattle.model.specs.Claim.{EachSince}
 use Rattle.model.specs.Delay.{currentFrame, dueSlot, grantBy, dueSince, dueIn, TimelyInOrder, Modest, ServedAt}

@@ -1,6 +1,6 @@
 -- A credit, a tick, a lend and a reset keep what is known of a modest flow. Assumes nothing.
 use Prim.Native.Nat.{ℕ, zero, suc, _+_, _-_, _%_, _≤_, _<_}
-use mathlib.Core.Path.{_≡_, refl, sym, ap, _∙_, subst}
+use mathlib.Core.Path.{_≡_, refl, sym, ap, _∙_}
 use mathlib.Core.List.{[], _∷_}
 use mathlib.Core.Option.{Option, some, none}
 use mathlib.Core.Bool.{Bool, true, false, cond}
@@ -9,27 +9,27 @@ use native.Mathlib.Decide.{decLe, ℕ-discrete}
 use native.Mathlib.Numerals.{add-one}
 use native.Mathlib.Omega.{arith}
 use lib.Dec.{eqb}
-use borrow.Author.Tests.{eqb-true, eqb-false}
+use borrow.Author.Tests.{eqb-false}
 use Rattle.model.specs.Tables.{tally}
 use Rattle.model.specs.Refusals.{firstOf}
 use Rattle.model.specs.Plan.{Plan, flowCount, Accepted}
-use Rattle.model.specs.Calls.{Turn, Event, History, Renewal, credited, ticked, lent, accepted, refused}
+use Rattle.model.specs.Calls.{Turn, Event, History, Renewal, credited, ticked, lent, accepted}
 use Rattle.model.specs.Window.{head, next}
-use Rattle.model.specs.Link.{Link, Flow, Step, window, flow, share, movedTo, withHeld, heldFrom}
+use Rattle.model.specs.Link.{Link, Step, window, flow, share, movedTo, withHeld, heldFrom}
 use Rattle.model.specs.Fresh.{fresh}
 use Rattle.model.specs.Credit.{creditTests, lowered, creditAfter, credit}
-use Rattle.model.specs.Tick.{leftHead, advanced, tick}
+use Rattle.model.specs.Tick.{advanced, tick}
 use Rattle.model.specs.Lend.{lendTests, lentTo, firstInTurn, lentAfter, lendAfter, lend}
 use Rattle.model.specs.Reset.{quiet, fromHead, renewed, reset}
 use Rattle.model.specs.History.{ticks, frameOf, grantsSince}
-use Rattle.model.specs.Delay.{currentFrame, dueSince, TimelyInOrder, Modest}
+use Rattle.model.specs.Delay.{currentFrame, dueSince}
 use Rattle.model.proofs.Round.{mod-unique}
 use Rattle.model.proofs.Slots.{some-frame, frame-stays, frame-changes}
 use Rattle.model.proofs.Window.{Current, head-is}
 use Rattle.model.proofs.LinkUpdates.{flow-withFlows, each-flow}
 use Rattle.model.proofs.Invariant.{Ledger, Injects, Invariant}
 use Rattle.model.proofs.FreshKeeps.{fresh-flow}
-use Rattle.model.proofs.TickKeeps.{Advances, advances}
+use Rattle.model.proofs.TickKeeps.{advances}
 use Rattle.model.proofs.ResetTests.{granted, notGranted, reset-is}
 use Rattle.model.proofs.AfterHistory.{After}
 use Rattle.model.proofs.Fronts.{Front, Near, front-near, front-same, Kept}

@@ -1,16 +1,14 @@
 -- The newest frame has no more of a flow's grants than were made in the current frame, because it came into the window with it. Assumes nothing.
-use Prim.Native.Nat.{ℕ, suc, _+_, _-_, _%_, _≤_, _<_}
-use mathlib.Core.Path.{_≡_, refl, ap, _∙_}
+use Prim.Native.Nat.{ℕ, suc, _+_, _-_, _%_, _≤_}
+use mathlib.Core.Path.{_≡_, refl}
 use mathlib.Core.List.{[], _∷_}
-use mathlib.Core.Bool.{false}
 use native.Mathlib.Decide.{ℕ-discrete}
 use native.Mathlib.Omega.{arith}
-use borrow.Author.Tests.{ne-eqb}
 use Rattle.model.specs.Tables.{tally}
 use Rattle.model.specs.Word.{flowOf, departureOf}
 use Rattle.model.specs.Plan.{Plan, Accepted}
 use Rattle.model.specs.Calls.{Event, History, requested, credited, ticked, lent, accepted, refused}
-use Rattle.model.specs.History.{Mark, ticks, slotAfter, frameOf, grantsSince, grantedIn, ofFlow, inFrame}
+use Rattle.model.specs.History.{ticks, slotAfter, frameOf, grantsSince, grantedIn, inFrame}
 use Rattle.model.specs.Claim.{Each}
 use Rattle.model.specs.Delay.{currentFrame, newestFrame, madeSince, madeIn}
 use Rattle.model.proofs.Slots.{frame-stays, frame-changes}

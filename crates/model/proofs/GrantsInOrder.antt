@@ -1,12 +1,12 @@
 -- A flow's grants go from frame to frame in the order in which they are made: none is in an earlier frame than one before it. Assumes nothing.
-use Prim.Native.Nat.{ℕ, suc, _+_, _-_, _<_}
-use mathlib.Core.Path.{_≡_, refl, sym, ap, _∙_, subst}
-use mathlib.Core.List.{List, [], _∷_}
+use Prim.Native.Nat.{ℕ, _<_}
+use mathlib.Core.Path.{_≡_, ap, subst}
+use mathlib.Core.List.{List}
 use mathlib.Core.Bool.{true}
 use native.Mathlib.Omega.{arith}
 use Rattle.model.specs.Word.{flowOf, departureOf, depart}
 use Rattle.model.specs.Plan.{Plan, Accepted}
-use Rattle.model.specs.Calls.{Call, Grant, Event, History, requested, accepted, refused}
+use Rattle.model.specs.Calls.{Call, Grant, Event, History, requested, accepted}
 use Rattle.model.specs.Link.{Link, Step}
 use Rattle.model.specs.Request.{Found, found, nowhere, sought, answered, request}
 use Rattle.model.specs.History.{ticks, slotAfter, frameOf, wellFormed, grantedIn}

@@ -1,19 +1,17 @@
 -- What each premise of `Prompt` and of `SoonAhead` is for: without it, or with one grant more than the share, the paper's card does not keep them. And
 -- their bound is attained. Each by a short list of calls. Assumes nothing.
-use Prim.Native.Nat.{ℕ, _+_, _*_}
 use mathlib.Core.Path.{_≡_, refl}
-use mathlib.Core.List.{List, _∷_, [], reverse}
+use mathlib.Core.List.{_∷_, [], reverse}
 use native.Mathlib.Omega.{arith}
 use lib.Dec.{lit<}
-use Rattle.model.specs.Plan.{Plan, planOf, refusal}
-use Rattle.model.specs.Calls.{Call, Event, History, requested, accepted}
-use Rattle.model.specs.History.{ticks}
+use Rattle.model.specs.Plan.{planOf}
+use Rattle.model.specs.Calls.{Call, History, requested, accepted}
 use Rattle.model.specs.OtherPremises.{Both, Come, Numbered}
 use Rattle.model.specs.LessAsked.{HasRoom}
 use Rattle.model.specs.Card.{run, paper}
 use Rattle.model.specs.PlanBytes.{plan1, plan2, listing, single, oneCell}
 use Rattle.model.specs.Delay.{Timely, PromptBy, SoonBy, ModestOnArrival}
-use Rattle.model.specs.LessTimely.{DueInTime, AllTimely, TimelyButRoom, TimelyButNumber, TimelyButTime, TimelyButOrder}
+use Rattle.model.specs.LessTimely.{AllTimely, TimelyButRoom, TimelyButNumber, TimelyButTime, TimelyButOrder}
 use Rattle.model.proofs.Decidable.{proved, refuted}
 use Rattle.model.proofs.OtherPremises.{come, numbered, both}
 use Rattle.model.proofs.DelayDecided.{prompt-on, room, in-time, ordered, timely, modest, modest-on-arrival, delays-compute}

@@ -106,3 +106,4 @@ pub mod DifferingRuns
 pub mod LessAsked
 pub mod DelayDecided
 pub mod LessTimely
+pub mod TwoLinksExample

@@ -1,26 +1,25 @@
 -- A stream on two links in step: on the second it is modest, and no request of it is refused. Assumes nothing.
-use Prim.Native.Nat.{ℕ, suc, _+_, _-_, _*_, _/_, _%_, _≤_, _<_}
+use Prim.Native.Nat.{ℕ, suc, _+_, _*_, _/_, _≤_, _<_}
 use mathlib.Core.Path.{_≡_, refl, sym, ap, ap₂, _∙_, subst}
 use mathlib.Core.List.{List, [], _∷_, _++_}
 use mathlib.Core.Bool.{Bool, true, false, cond}
-use native.Mathlib.Nat.{mul-le-mul-right}
 use native.Mathlib.Decide.{decLt, ℕ-discrete}
 use native.Mathlib.Omega.{arith}
 use lib.Dec.{leb, eqb}
 use lib.ListN.{length}
 use borrow.Author.Tests.{le-leb, lt-leb, eq-eqb}
-use Rattle.model.specs.Tables.{bit, tally}
+use Rattle.model.specs.Tables.{tally}
 use Rattle.model.specs.Word.{flowOf, departureOf}
 use Rattle.model.specs.Plan.{Plan, positions, flowCount, entry, Accepted}
 use Rattle.model.specs.Calls.{Event, History, requested, credited, ticked, lent, accepted, refused}
-use Rattle.model.specs.History.{Mark, ticks, slotAfter, frameOf, wellFormed, hasCome, renews, grants, grantsSince, grantedIn, inFrame}
+use Rattle.model.specs.History.{ticks, slotAfter, frameOf, hasCome, renews, grants, grantsSince, grantedIn, inFrame}
 use Rattle.model.specs.Holding.{frameStart, InWindow}
 use Rattle.model.specs.Claim.{Each, EachSince, GrantedWordAt}
 use Rattle.model.specs.TwoHops.{InStep}
-use Rattle.model.specs.Delay.{dueSlot, dueFrame, grantBy, dueSince, dueIn, TimelyInOrder, AsksAt, Modest}
+use Rattle.model.specs.Delay.{dueSlot, dueFrame, dueSince, dueIn, TimelyInOrder, AsksAt, Modest}
 use Rattle.model.specs.SeveralLinks.{slotsOf, sentSlots, dues, dueSlots, tile, nextTile, nextSlot, Alone, AsksForNext, AsksForNextAt}
 use Rattle.model.specs.SeveralLinks.{Together, start, both-tick, first-alone, second-alone}
-use Rattle.model.proofs.Tallies.{All, all-map, tally-append, tally-hit}
+use Rattle.model.proofs.Tallies.{All, tally-append, tally-hit}
 use Rattle.model.proofs.Slots.{frame-begins, slotAfter-is}
 use Rattle.model.proofs.Departures.{come-at}
 use Rattle.model.proofs.Marks.{mark}

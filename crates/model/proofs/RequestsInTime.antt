@@ -1,6 +1,6 @@
 -- A modest flow's request: the search ends in the frame in which its tile is due, or in the next one. Assumes nothing.
-use Prim.Native.Nat.{ℕ, suc, _+_, _-_, _*_, _%_, _≤_, _<_}
-use mathlib.Core.Path.{_≡_, refl, sym, ap, _∙_, subst}
+use Prim.Native.Nat.{ℕ, suc, _+_, _*_, _≤_, _<_}
+use mathlib.Core.Path.{_≡_, refl, sym, ap, _∙_}
 use mathlib.Core.List.{_∷_}
 use mathlib.Core.Bool.{Bool, true, false}
 use native.Mathlib.Nat.{mul-le-mul-right}
@@ -8,17 +8,16 @@ use native.Mathlib.Decide.{decLe, ℕ-discrete}
 use native.Mathlib.Omega.{arith}
 use Rattle.model.specs.Word.{flowOf, departureOf, depart}
 use Rattle.model.specs.Plan.{Plan, flowCount, entry}
-use Rattle.model.specs.Calls.{Grant, Event, History, requested, accepted, refused}
+use Rattle.model.specs.Calls.{History, requested, accepted, refused}
 use Rattle.model.specs.Window.{newest}
-use Rattle.model.specs.Link.{Link, Step, window, flow, share, movedTo}
-use Rattle.model.specs.Request.{Found, found, nowhere, validFor, sought, bookedFlow, booked, refusedAtNewest, answered, request}
-use Rattle.model.specs.History.{ticks, slotAfter, frameOf, hasCome, wellFormed, grantsSince, grantedIn, expectedNumber}
-use Rattle.model.specs.Delay.{currentFrame, newestFrame, dueSlot, dueFrame, dueSince, dueIn, Timely, DueInOrder, Modest, InTime}
+use Rattle.model.specs.Link.{Link, window, flow, share}
+use Rattle.model.specs.Request.{found, validFor, sought}
+use Rattle.model.specs.History.{ticks, slotAfter, frameOf, hasCome, wellFormed, grantsSince, grantedIn}
+use Rattle.model.specs.Delay.{currentFrame, newestFrame, dueSlot, dueFrame, dueSince, dueIn, Timely, DueInOrder, InTime}
 use Rattle.model.proofs.Round.{mod-unique}
 use Rattle.model.proofs.Slots.{some-frame, frame-begins, frame-ends}
 use Rattle.model.proofs.Window.{Current, newest-is}
 use Rattle.model.proofs.Word.{departure-depart}
-use Rattle.model.proofs.LinkUpdates.{each-flow}
 use Rattle.model.proofs.Marks.{mark, marksIn, in-frame-hit, in-frame-skip}
 use Rattle.model.proofs.SearchedFrames.{FoundIn, FoundNowhere, Ends}
 use Rattle.model.proofs.RequestSearch.{FailsIn, Reached, Searched, goes-on, searched-by, reached-first}
@@ -26,9 +25,8 @@ use Rattle.model.proofs.RequestKeeps.{found-in-frame, after-grant}
 use Rattle.model.proofs.HistoryCounts.{departure-below}
 use Rattle.model.proofs.AfterHistory.{After}
 use Rattle.model.proofs.NewestGrants.{slot-to-come}
-use Rattle.model.proofs.AnsweredRequests.{Passes, Requested, turned-back, searched, request-is}
 use Rattle.model.proofs.TimelyRequests.{due-if-come, due-if-not, due-frame-from-now, known, full-if-fails-later}
-use Rattle.model.proofs.Fronts.{Front, Near, front-near, front-same, front-other, modest-before-grant, Kept}
+use Rattle.model.proofs.Fronts.{Front, Near, front-near}
 
 module _ {l : Link} {h : History} (g : After (l .plan) l h) (w : ℕ) (well : wellFormed (l .plan) w ≡ true) where
   open Link l using (plan as P)

@@ -1,32 +1,31 @@
 -- The paper's card over several links: a tile comes up on link m in the m-th frame after the one in which it is due on the first, at the latest. Assumes
 -- nothing.
-use Prim.Native.Nat.{ℕ, suc, _+_, _*_, _/_, _≤_, _<_}
+use Prim.Native.Nat.{ℕ, _+_, _*_, _/_, _≤_, _<_}
 use mathlib.Core.Path.{_≡_, refl, sym, ap, _∙_, subst}
 use mathlib.Core.List.{List, [], _∷_}
 use mathlib.Core.Bool.{Bool, true, false}
 use native.Mathlib.Nat.{mul-le-mul-right}
-use native.Mathlib.Decide.{decLt, ℕ-discrete}
+use native.Mathlib.Decide.{ℕ-discrete}
 use native.Mathlib.Omega.{arith}
 use lib.ListN.{length}
 use Rattle.model.specs.Tables.{bit, tally}
 use Rattle.model.specs.Word.{flowOf, departureOf}
-use Rattle.model.specs.Plan.{Plan, entry, planOf, Accepted}
+use Rattle.model.specs.Plan.{Plan, entry, Accepted}
 use Rattle.model.specs.Calls.{Event, History, requested, credited, ticked, lent, accepted, refused}
 use Rattle.model.specs.History.{ticks, slotAfter, frameOf, wellFormed, renews, grants}
 use Rattle.model.specs.Claim.{Each, GrantedWordAt}
-use Rattle.model.specs.Card.{paper, run}
+use Rattle.model.specs.Card.{paper}
 use Rattle.model.specs.Delay.{dueSlot, dueFrame, dueIn, AtAnswer, IsGranted, TimelyInOrder, AsksAt, Modest, ServedAt}
 use Rattle.model.specs.SeveralLinks.{slotsOf, sentSlots, dues, dueSlots, tile, Board, planOn, historyOn, sentOn, dueOn, Joined, Way, Within, AllGranted}
 use Rattle.model.specs.SeveralLinks.{EachWithin, OverLinks}
 use Rattle.model.proofs.Plan as plan
-use Rattle.model.proofs.Tallies.{tally-hit}
 use Rattle.model.proofs.Slots.{frame-begins, frame-ends}
 use Rattle.model.proofs.HistoryCounts.{NoneGranted}
 use Rattle.model.proofs.Demand3.{each-map}
 use Rattle.model.proofs.EventsOfRuns.{Happened, each-happened}
 use Rattle.model.proofs.Soon.{soon-accepted}
 use Rattle.model.proofs.TileSlots.{tile-newest, tile-older, tile-of-oldest, oldest-length}
-use Rattle.model.proofs.GrantsInOrder.{FrameInOrderAt, frames-in-order}
+use Rattle.model.proofs.GrantsInOrder.{frames-in-order}
 use Rattle.model.proofs.NextLink.{sent-own, sent-other, due-own, due-other, as-many, since-all, Shared, shared, modest-on-next}
 
 -- ---- one link: each tile comes up in the frame in which it is due, or in the next

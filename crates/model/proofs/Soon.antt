@@ -1,5 +1,5 @@
 -- The paper's card serves a modest flow soon: its grants fall in the frame in which the tile is due, or in the next one. Assumes nothing.
-use Prim.Native.Nat.{ℕ, suc, _+_, _<_}
+use Prim.Native.Nat.{ℕ, _<_}
 use mathlib.Core.Path.{_≡_, refl, sym, ap, _∙_, subst}
 use mathlib.Core.List.{List, _∷_}
 use mathlib.Core.Bool.{true}
@@ -14,7 +14,7 @@ use Rattle.model.specs.Request.{Found, found, nowhere, validFor, sought,
 use Rattle.model.specs.History.{ticks, slotAfter, wellFormed, expectedNumber, grantsSince}
 use Rattle.model.specs.Claim.{Each}
 use Rattle.model.specs.Card.{Played, paper, step, run}
-use Rattle.model.specs.Delay.{newestFrame, dueSlot, dueFrame, dueSince, dueIn, Timely, TimelyInOrder, Modest, InTime, SoonOn, SoonAhead}
+use Rattle.model.specs.Delay.{newestFrame, dueSlot, dueFrame, dueSince, dueIn, Timely, TimelyInOrder, InTime, SoonOn, SoonAhead}
 use Rattle.model.proofs.Plan as plan
 use Rattle.model.proofs.LinkUpdates.{each-flow}
 use Rattle.model.proofs.Marks.{mark, in-frame-hit}
@@ -24,7 +24,7 @@ use Rattle.model.proofs.AfterCalls.{Known}
 use Rattle.model.proofs.EventsOfRuns.{Happened, by-calls}
 use Rattle.model.proofs.AnsweredRequests.{Passes, Requested, turned-back, searched, request-is}
 use Rattle.model.proofs.TimelyRequests.{known}
-use Rattle.model.proofs.Fronts.{Front, front-same, front-other, modest-before-grant, Kept}
+use Rattle.model.proofs.Fronts.{front-same, front-other, modest-before-grant, Kept}
 use Rattle.model.proofs.FrontsKept.{tick-kept, credit-kept, lend-kept, reset-kept, fresh-kept}
 use Rattle.model.proofs.RequestsInTime.{Comes, comes-to, departs, in-time, front-granted, share-due, front-refused}
 

@@ -1,5 +1,5 @@
 -- The paper's card serves a flow soon that asks on arrival: its grants fall in the frame in which they are made, or in the next one. Assumes nothing.
-use Prim.Native.Nat.{ℕ, suc, _+_, _<_}
+use Prim.Native.Nat.{ℕ, _<_}
 use mathlib.Core.Path.{_≡_, refl, sym, ap, _∙_}
 use mathlib.Core.List.{List, [], _∷_}
 use native.Mathlib.Decide.{ℕ-discrete}
@@ -11,7 +11,7 @@ use Rattle.model.specs.Calls.{Call, Event, History, requested, credited,
 use Rattle.model.specs.History.{ticks, frameOf, inFrame}
 use Rattle.model.specs.Claim.{Each, EachSince, ReadyAt, GrantedWordAt}
 use Rattle.model.specs.Card.{paper, run}
-use Rattle.model.specs.Delay.{currentFrame, dueSlot, madeSince, madeIn, dueSince, dueIn, TimelyInOrder, AsksAt, ServedAt, Modest, GrantedSoonAt, ModestOnArrival}
+use Rattle.model.specs.Delay.{currentFrame, dueSlot, madeSince, madeIn, dueSince, dueIn, TimelyInOrder, AsksAt, ServedAt, GrantedSoonAt}
 use Rattle.model.specs.Delay.{SoonOnArrivalOn, Soon}
 use Rattle.model.proofs.Plan as plan
 use Rattle.model.proofs.Slots.{frames-go-on}

@@ -1,18 +1,18 @@
 -- The slots of a flow's tiles: how many there are, how many in a frame, and the slot of tile n. Assumes nothing.
-use Prim.Native.Nat.{ℕ, suc, _+_, _≤_, _<_}
-use mathlib.Core.Path.{_≡_, refl, sym, ap, _∙_}
+use Prim.Native.Nat.{ℕ, _+_, _≤_, _<_}
+use mathlib.Core.Path.{_≡_, refl, ap, _∙_}
 use mathlib.Core.List.{List, [], _∷_, _++_}
 use mathlib.Core.Bool.{Bool, true, false, _&&_, cond}
 use native.Mathlib.Decide.{decLt}
 use native.Mathlib.Omega.{arith}
 use lib.Dec.{eqb}
 use lib.ListN.{length, length-append}
-use borrow.Author.Tests.{eqb-true, eqb-false, eq-eqb, ne-eqb}
+use borrow.Author.Tests.{eqb-false, eq-eqb, ne-eqb}
 use Rattle.model.specs.Tables.{bit, tally}
 use Rattle.model.specs.Plan.{Plan}
 use Rattle.model.specs.History.{Mark, frameOf, ofFlow, inFrame}
 use Rattle.model.specs.SeveralLinks.{slotsOf, tile}
-use Rattle.model.proofs.Tallies.{All, tally-skip, tally-hit}
+use Rattle.model.proofs.Tallies.{All}
 
 -- ---- the slots of flow i's marks
 

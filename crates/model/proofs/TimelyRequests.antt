@@ -1,6 +1,6 @@
 -- A request that is timely: when its tile is due, and that a later frame in which the search fails has the flow's whole share. Assumes nothing.
-use Prim.Native.Nat.{ℕ, suc, _+_, _-_, _*_, _%_, _≤_, _<_}
-use mathlib.Core.Path.{_≡_, refl, ap, _∙_}
+use Prim.Native.Nat.{ℕ, suc, _+_, _*_, _≤_, _<_}
+use mathlib.Core.Path.{_≡_, refl, ap}
 use mathlib.Core.Bool.{Bool, true, false}
 use native.Mathlib.Nat.{mul-le-mul-right}
 use native.Mathlib.Omega.{arith}
@@ -12,11 +12,11 @@ use Rattle.model.specs.History.{ticks, slotAfter, frameOf, wellFormed, h
 use Rattle.model.specs.Claim.{Ready}
 use Rattle.model.specs.Claim as claim
 use Rattle.model.specs.Delay.{currentFrame, dueSlot, dueFrame, Timely}
-use Rattle.model.proofs.Slots.{frame-begins, frame-ends, frame-low, frame-high, frame-slot-in-window}
+use Rattle.model.proofs.Slots.{frame-begins, frame-ends, frame-low, frame-slot-in-window}
 use Rattle.model.proofs.Window.{Current}
 use Rattle.model.proofs.Departures.{leaves-in}
 use Rattle.model.proofs.Marks.{marksIn}
-use Rattle.model.proofs.Invariant.{Spent, Invariant}
+use Rattle.model.proofs.Invariant.{Spent}
 use Rattle.model.proofs.RequestSearch.{FailsIn, LeavesIn, full-if-fails}
 use Rattle.model.proofs.HistoryCounts.{flow-below, departure-below, raises-are}
 use Rattle.model.proofs.AfterHistory.{After}

@@ -1,10 +1,6 @@
 -- What is asked of a request in order to be served soon, with one part of it left out: for short lists of calls that show what each part is for. Assumes
 -- nothing.
-use Prim.Native.Nat.{ℕ, _<_}
-use mathlib.Core.Path.{_≡_}
-use Rattle.model.specs.Word.{quantumOf}
-use Rattle.model.specs.History.{expectedNumber}
-use Rattle.model.specs.Claim.{Room}
+use Prim.Native.Nat.{_<_}
 use Rattle.model.specs.OtherPremises.{Premise, Both, Come, Numbered}
 use Rattle.model.specs.LessAsked.{HasRoom}
 use Rattle.model.specs.Delay.{newestFrame, dueFrame, DueInOrder}

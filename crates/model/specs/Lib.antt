@@ -57,3 +57,4 @@ pub mod BadDepartures
 pub mod BadResets
 pub mod BadTurns
 pub mod BadNumbers
+pub mod BadDelays
