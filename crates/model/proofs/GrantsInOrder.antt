@@ -52,7 +52,7 @@ module _ {l : Link} {h : History} (g : After (l .plan) l h) (w : ℕ) where
   request-in-order = go (request-is l w)
     where
       go : {s : Step Grant} → Requested l w s → FrameInOrderAt P (requested w (s .answer)) h
-      go (turned-back r not-passed) = tt
+      go (turned-back r not-12 not-passed) = tt
       go (searched passes) =
           searched-in-order (passes .well) (sought l (flowOf w) (departureOf w)) (request-searched v (known g w (passes .well)) (departureOf w) none)
 

@@ -107,3 +107,5 @@ pub mod LessAsked
 pub mod DelayDecided
 pub mod LessTimely
 pub mod TwoLinksExample
+pub mod BadDelays
+pub mod SlowCards

@@ -48,7 +48,7 @@ module _ {l : Link} {h : History} (g : After (l .plan) l h) (happened : Each (Ha
   prompt-at well x few = go (request-is l w)
     where
       go : {s : Step Grant} → Requested l w s → IsGranted (s .answer)
-      go (turned-back r not-passed) = not-passed (record { well = well; number = x .number ∙ sym (g .numbers i (known g w well)) })
+      go (turned-back r not-12 not-passed) = not-passed (record { well = well; number = x .number ∙ sym (g .numbers i (known g w well)) })
       go (searched passes) =
           found-if-few well x (omega arith) (sought l i (departureOf w)) (request-searched v (known g w well) (departureOf w) (λ f. 0))
 

@@ -112,7 +112,7 @@ module _ {l : Link} {h : History} (g : After (l .plan) l h) (w : ℕ)
   request-kept = go (request-is l w)
     where
       go : {s : Step Grant} → Requested l w s → (q : ℕ) → q < flowCount P → Kept P (requested w (s .answer) ∷ h) q (flow (s .link) q .injection)
-      go (turned-back r not-passed) = back-kept r not-passed
+      go (turned-back r not-12 not-passed) = back-kept r not-passed
       go (searched passes) = searched-kept (passes .well) (sought l i d) refl
 
 -- ---- a list of calls

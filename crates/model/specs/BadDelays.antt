@@ -1,77 +1,86 @@
--- Cards that make a flow wait. Each is the paper's card but for one fault. Assumes nothing.
-use Prim.Native.Nat.{ℕ, _%_}
-use mathlib.Core.List.{List, _∷_, []}
-use mathlib.Core.Bool.{Bool, false, _||_, cond}
-use lib.Dec.{eqb}
+-- Cards that make a flow wait. Each is the paper's card but for its requests, and it may look at all calls and answers so far. Demand 3 takes the first
+-- two: it promises nothing to a flow that was not ready at each request, or was not refused in each frame. `Prompt` and `Soon` send them back. Assumes
+-- nothing.
+use Prim.Native.Nat.{ℕ, _-_, _%_}
+use mathlib.Core.List.{_∷_, []}
+use mathlib.Core.Bool.{Bool, false, _&&_, _||_, cond}
+use lib.Dec.{ltb, eqb}
 use Rattle.model.specs.Word.{flowOf}
-use Rattle.model.specs.Calls.{Grant, Renewal, accepted, refused}
+use Rattle.model.specs.Plan.{flowCount}
+use Rattle.model.specs.Calls.{Grant, Event, History, requested, credited, ticked, lent, accepted, refused}
 use Rattle.model.specs.Window.{newest}
-use Rattle.model.specs.Link.{Link, window, flow, share, withFlows, movedTo}
-use Rattle.model.specs.Card.{Card, paper}
-use Rattle.model.specs.BadCards.{withRequest, withTick}
+use Rattle.model.specs.Link.{Link, window, flow, share, withFlow, movedTo}
+use Rattle.model.specs.History.{ticks, frameOf, renews, origin, refusedIn}
+use Rattle.model.specs.Card.{Card, Played, paper, started}
+use Rattle.model.specs.BadCards.{withRequest}
 
--- ---- 12 for ever
+-- ---- a card that remembers its events
 
--- some entry of the list is i
-abbrev pub among : ℕ → List ℕ → Bool
-among i [] = false
-among i (x ∷ xs) = eqb x i || among i xs
+abbrev recorded : {A : Type 0} → (A → Event) → Played paper → Link × A → Played paper × A
+recorded event r handed = (record { state = handed .0; history = event (handed .1) ∷ r .history }, handed .1)
 
--- a link, and the flows that it has refused with 12
-pub record Marked : Type 0 where
-  pub link : Link
-  pub stuck : List ℕ
+-- its requests are answered by the link and the events so far
+abbrev pub remembers : (Played paper → ℕ → Link × Grant) → Card
+remembers request = record {
+  State = Played paper;
+  fresh = started paper;
+  request = λ r w. recorded (requested w) r (request r w);
+  credit = λ r i p. recorded (credited i p) r (paper .credit (r .state) i p);
+  tick = λ r. recorded ticked r (paper .tick (r .state));
+  lend = λ r m. recorded (lent m) r (paper .lend (r .state) m);
+  reset = λ r. recorded Event.reset r (paper .reset (r .state));
+}
 
--- what the paper's request hands back for flow i; a refusal with 12 marks the flow
-abbrev pub marking : List ℕ → ℕ → Link × Grant → Marked × Grant
-marking stuck i (l, accepted v) = (record { link = l; stuck = stuck }, accepted v)
-marking stuck i (l, refused r) = (record { link = l; stuck = cond (eqb r 12) (i ∷ stuck) stuck }, refused r)
+-- ---- 12 after the first 12
 
--- a granted reset forgets the marks
-abbrev pub forgetting : List ℕ → Link × Renewal → Marked × Renewal
-forgetting stuck (l, accepted u) = (record { link = l; stuck = [] }, accepted u)
-forgetting stuck (l, refused r) = (record { link = l; stuck = stuck }, refused r)
+-- the event is a refusal of flow i with 12
+abbrev pub is12 : ℕ → Event → Bool
+is12 i (requested w (accepted v)) = false
+is12 i (requested w (refused r)) = eqb (flowOf w) i && eqb r 12
+is12 i (credited j p a) = false
+is12 i (ticked x) = false
+is12 i (lent m a) = false
+is12 i (Event.reset a) = false
 
-abbrev pub keeping : {A : Type 0} → List ℕ → Link × A → Marked × A
-keeping stuck handed = (record { link = handed .0; stuck = stuck }, handed .1)
+-- flow i was refused with 12 since the last granted reset
+unfoldable pub had12 : ℕ → History → Bool
+had12 i [] = false
+had12 i (e ∷ h) = cond (renews e) false (is12 i e || had12 i h)
 
--- After a flow's first 12 it gives it 12 at each request, until a reset is granted. (Demand 3 takes this card, and `Prompt` does not: BadDelays.antt in
--- proofs/.)
+-- after its first 12 a flow gets 12 at each request, until a reset is granted
 abbrev pub staysRefused : Card
-staysRefused = record {
-  State = Marked;
-  fresh = λ P. record { link = paper .fresh P; stuck = [] };
-  request = λ s w. cond (among (flowOf w) (s .stuck)) (s, refused 12) (marking (s .stuck) (flowOf w) (paper .request (s .link) w));
-  credit = λ s i p. keeping (s .stuck) (paper .credit (s .link) i p);
-  tick = λ s. keeping (s .stuck) (paper .tick (s .link));
-  lend = λ s m. keeping (s .stuck) (paper .lend (s .link) m);
-  reset = λ s. forgetting (s .stuck) (paper .reset (s .link));
-}
+staysRefused = remembers (λ r w. cond (had12 (flowOf w) (r .history)) (r .state, refused 12) (paper .request (r .state) w))
 
--- the same, and a reset forgets nothing
+-- the same, where a reset changes nothing
+unfoldable pub ever12 : ℕ → History → Bool
+ever12 i [] = false
+ever12 i (e ∷ h) = is12 i e || ever12 i h
+
 abbrev pub neverForgets : Card
-neverForgets = record {
-  State = Marked;
-  fresh = staysRefused .fresh;
-  request = staysRefused .request;
-  credit = staysRefused .credit;
-  tick = staysRefused .tick;
-  lend = staysRefused .lend;
-  reset = λ s. keeping (s .stuck) (paper .reset (s .link));
-}
+neverForgets = remembers (λ r w. cond (ever12 (flowOf w) (r .history)) (r .state, refused 12) (paper .request (r .state) w))
 
--- ---- others
+-- ---- the newest frame after a frame in which the flow was not refused
+
+-- flow i is one of the plan's, and it was not refused in the frame before the current one, where the counts had begun
+abbrev pub lapsed : Link → History → ℕ → Bool
+lapsed l h i =
+    ltb i (flowCount (l .plan)) && ltb (origin (l .plan) h) (frameOf (l .plan) (ticks h))
+    && eqb (refusedIn (l .plan) h i (frameOf (l .plan) (ticks h) - 1)) 0
+
+-- flow i injects in the newest frame
+abbrev pub atNewest : Link → ℕ → Link
+atNewest l i =
+    cond (eqb (flow l i .injection) (newest (window l))) l (withFlow l i (movedTo (flow l i) (newest (window l)) (share l i)))
+
+abbrev pub sendsToNewest : Card
+sendsToNewest = remembers (λ r w. paper .request (cond (lapsed (r .state) (r .history) (flowOf w)) (atNewest (r .state) (flowOf w)) (r .state)) w)
+
+-- ---- two that demand 3 sends back too
 
 -- refuses every request in a frame's first slot
 abbrev pub restsAtFirst : Card
 restsAtFirst = withRequest (λ l w. cond (eqb (l .current % l .plan .slots) 0) (l, refused 12) (paper .request l w))
 
--- looks in the newest frame first
-abbrev pub newestFirst : Card
-newestFirst = withRequest (λ l w. paper .request (withFlows l (λ i. movedTo (flow l i) (newest (window l)) (flow l i .remainder))) w)
-
--- a tick moves the injection frame of every flow to the newest
-abbrev pub tickMovesOn : Card
-tickMovesOn = withTick (λ l.
-    let handed = paper .tick l in
-    (withFlows (handed .0) (λ i. movedTo (flow (handed .0) i) (newest (window (handed .0))) (share l i)), handed .1))
+-- looks in no other frame than the newest
+abbrev pub newestOnly : Card
+newestOnly = withRequest (λ l w. paper .request (atNewest l (flowOf w)) w)
