@@ -15,6 +15,9 @@ use Rattle.model.specs.Fresh.{fresh}
 use Rattle.model.specs.Claim.{Demand3}
 use Rattle.model.specs.Fairness.{FairOn}
 use Rattle.model.specs.QuantumNumbers.{InOrder}
+use Rattle.model.specs.Tables.{tally}
+use Rattle.model.specs.History.{renews}
+use Rattle.model.specs.SeveralLinks.{Board}
 use Rattle.model.specs.Delay.{Timely, PromptOn, TimelyInOrder, SoonOn, SoonOnArrivalOn}
 use Rattle.model.specs.Card.{Played, paper, step, play, started, run}
 use Rattle.model.proofs.Tests.{line-passed}
@@ -179,3 +182,18 @@ module _ (plan : List ℕ) where
   pub chain-soon : {calls : List Call} {h : History} {b : List ℕ} → Chain plan calls h b → (i : ℕ) → i < flowCount (planOf plan)
       → SoonOnArrivalOn (planOf plan) i h
   chain-soon ch i known = chain-has (SoonOnArrivalOn (planOf plan) i) (λ passes calls. soon plan passes calls i known) ch
+
+  -- and over several links a board of the host is one of those that `over-links` speaks of
+  pub chain-board : {calls : List Call} {h : History} {b : List ℕ} → Chain plan calls h b → tally renews h ≡ 0 → (i : ℕ) → i < flowCount (planOf plan)
+      → Board paper
+  chain-board {calls} {h} ch unreset i known =
+      let f = chain-follows ch in
+      record {
+        bytes = plan;
+        passes = f .plan-passes;
+        events = h;
+        ran = record { calls = calls; is = sym (f .history-is) };
+        no-reset = unreset;
+        stream = i;
+        known = known;
+      }

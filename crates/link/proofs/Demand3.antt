@@ -17,6 +17,9 @@ use Rattle.model.specs.Claim.{Demand3}
 use Rattle.model.specs.Card.{Played, paper, step, play, started, run}
 use Rattle.model.specs.Fairness.{FairOn}
 use Rattle.model.specs.QuantumNumbers.{InOrder}
+use Rattle.model.specs.Tables.{tally}
+use Rattle.model.specs.History.{renews}
+use Rattle.model.specs.SeveralLinks.{Ran, Board}
 use Rattle.model.specs.Delay.{Timely, PromptOn, TimelyInOrder, SoonOn, SoonOnArrivalOn}
 use Rattle.model.specs.CountedBursts.{several, countsAs, eventsIn}
 use Rattle.model.proofs.AfterCalls.{Known, after-calls, after-fresh}
@@ -131,6 +134,9 @@ unfolding verdictFor
 accepted-passes zero e = refl
 accepted-passes (suc r) e = cc
 
+passes-of : (bytes : List ℕ) (o : Outcome) → o ≡ readOf bytes → o .verdict ≡ Accepted → model.refusal bytes ≡ 0
+passes-of bytes o is accepts = accepted-passes (model.refusal bytes) (sym (ap (λ (x : Outcome). x .verdict) is ∙ verdict-of bytes) ∙ accepts)
+
 module _ (Q : model.Plan → History → Type 0) (runs : (P : model.Plan) → model.Accepted P → (calls : List Call) → Q P (run paper P calls .history)) where
   handed-has : (p : Plan) → Valid p → {h : History} {l : Link} → Handed p h l → Q (planFor p) h
   handed-has p valid g =
@@ -140,7 +146,7 @@ module _ (Q : model.Plan → History → Type 0) (runs : (P : model.Plan) → mo
   code-has : (bytes : List ℕ) (o : Outcome) → o ≡ readOf bytes → (o .verdict ≡ Accepted → Valid (o .plan)) → o .verdict ≡ Accepted
       → {h : History} {l : Link} → Handed (o .plan) h l → Q (model.planOf bytes) h
   code-has bytes o is valid accepts {h} {l} g =
-      let passes = accepted-passes (model.refusal bytes) (sym (ap (λ (x : Outcome). x .verdict) is ∙ verdict-of bytes) ∙ accepts) in
+      let passes = passes-of bytes o is accepts in
       let plan-is = ap (λ (x : Outcome). planFor (x .plan)) is ∙ is-plan bytes passes in
       subst (λ P. Q P h) plan-is (handed-has (o .plan) (valid accepts) g)
 
@@ -172,3 +178,16 @@ code-soon-ahead = code-has (λ P h. (i : ℕ) → i < model.flowCount P → Soon
 pub code-soon : (bytes : List ℕ) (o : Outcome) → o ≡ readOf bytes → (o .verdict ≡ Accepted → Valid (o .plan)) → o .verdict ≡ Accepted
     → {h : History} {l : Link} → Handed (o .plan) h l → (i : ℕ) → i < model.flowCount (model.planOf bytes) → SoonOnArrivalOn (model.planOf bytes) i h
 code-soon = code-has (λ P h. (i : ℕ) → i < model.flowCount P → SoonOnArrivalOn P i h) soon-on-arrival
+
+-- and over several links: the calls of the code on one board are such a board, so that `over-links` speaks of any way over boards of the code
+pub code-board : (bytes : List ℕ) (o : Outcome) → o ≡ readOf bytes → (o .verdict ≡ Accepted → Valid (o .plan)) → o .verdict ≡ Accepted
+    → {h : History} {l : Link} → Handed (o .plan) h l → tally renews h ≡ 0 → (i : ℕ) → i < model.flowCount (model.planOf bytes) → Board paper
+code-board bytes o is valid accepts {h} g unreset i known = record {
+  bytes = bytes;
+  passes = passes-of bytes o is accepts;
+  events = h;
+  ran = code-has (Ran paper) (λ P ok calls. record { calls = calls; is = refl }) bytes o is valid accepts g;
+  no-reset = unreset;
+  stream = i;
+  known = known;
+}

@@ -82,6 +82,7 @@ pub mod TileSlots
 pub mod GrantsInOrder
 pub mod NextLink
 pub mod SeveralLinks
+pub mod EnoughCells
 pub mod Outlines
 -- edges, cards that demand 3 sends back, streams that meet the premise of the least count, and what its premises on words are for
 pub mod Unfoldings

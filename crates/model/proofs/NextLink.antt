@@ -34,7 +34,7 @@ use Rattle.model.proofs.TileSlots.{slots-hit, slots-skip, count-slots, 
 -- ---- without a granted reset, counts since the last one are over the whole list
 
 module _ (P : Plan) (h : History) (none : NoneGranted h) where
-  grants-are : grantsSince P h ≡ grants P h
+  pub grants-are : grantsSince P h ≡ grants P h
   unfolding grantsSince grants
   grants-are = since-the-start _ h none
 
@@ -49,7 +49,7 @@ module _ (P : Plan) (h : History) (none : NoneGranted h) where
   due-in-is i f = ap (tally (inFrame P i f)) dues-are ∙ count-in-frame P i f (dues P h)
 
 -- what holds of each event holds of each since the last granted reset; and the other way round, where there is none
-each-since : (R : Event → History → Type 0) (h : History) → Each R h → EachSince R h
+pub each-since : (R : Event → History → Type 0) (h : History) → Each R h → EachSince R h
 each-since R [] a = tt
 each-since R (e ∷ h) a = go (renews e) (each-since R h (a .1))
   where
@@ -122,6 +122,10 @@ descending P i (ticked x ∷ h) none ordered = descending P i h (none .1) (order
 descending P i (lent m a ∷ h) none ordered = descending P i h (none .1) (ordered .1)
 descending P i (Event.reset a ∷ h) none ordered = descending P i h (none .1) (ordered .1)
 
+pub counts-at : {P : Plan} → Accepted P → (h : History) → Each (Happened P) h → Counts P h
+counts-at ok [] happened = counts (after-fresh ok)
+counts-at ok (e ∷ h) happened = happened .0 .counts-after
+
 -- ---- the two links
 
 module _ {P Q : Plan} (ok₁ : Accepted P) (ok₂ : Accepted Q) (step : InStep P Q) (i j : ℕ) (known : i < flowCount P)
@@ -131,10 +135,6 @@ module _ {P Q : Plan} (ok₁ : Accepted P) (ok₂ : Accepted Q) (step : InStep P
 
   same-in-frame : (f : ℕ) (xs : List ℕ) → tally (ofFrame P f) xs ≡ tally (ofFrame Q f) xs
   same-in-frame f xs = ap (λ F. tally (λ s. eqb (s / F) f) xs) (step .slots)
-
-  counts-at : (h : History) → Each (Happened P) h → Counts P h
-  counts-at [] happened = counts (after-fresh ok₁)
-  counts-at (e ∷ h) happened = happened .0 .counts-after
 
   -- ---- a request for the next tile
 
@@ -273,7 +273,7 @@ module _ {P Q : Plan} (ok₁ : Accepted P) (ok₂ : Accepted Q) (step : InStep P
   shared (first-alone {h₁ = h₁} {h₂ = h₂} e alone x) happened ordered none₁ none₂ words =
       first-more h₁ h₂ e alone (shared x (happened .1) (ordered .1) (none₁ .1) none₂ words)
   shared (second-alone {h₁ = h₁} {h₂ = h₂} e alone next x) happened ordered none₁ none₂ words =
-      second-more h₁ h₂ e alone next (counts-at h₁ happened) none₁ (none₂ .1) ordered (words .0) (shared x happened ordered none₁ (none₂ .1) (words .1))
+      second-more h₁ h₂ e alone next (counts-at ok₁ h₁ happened) none₁ (none₂ .1) ordered (words .0) (shared x happened ordered none₁ (none₂ .1) (words .1))
 
   -- on the second link the stream is modest
   pub modest-on-next : (h₁ h₂ : History) → Shared h₁ h₂ → Each (Happened P) h₁ → NoneGranted h₁ → NoneGranted h₂ → Modest TimelyInOrder 0 Q j h₂
@@ -288,5 +288,5 @@ module _ {P Q : Plan} (ok₁ : Accepted P) (ok₂ : Accepted Q) (step : InStep P
             tally-append (ofFrame P f) (s .oldest .later) (dueSlots Q h₂ j),
             ap (tally (ofFrame P f)) (s .oldest .whole-is),
             granted-in-is P h₁ none₁ i f,
-            counts-at h₁ happened .in-frames i known f,
+            counts-at ok₁ h₁ happened .in-frames i known f,
           )

@@ -11,12 +11,12 @@ use lib.ListN.{length}
 use Rattle.model.specs.Tables.{bit, tally}
 use Rattle.model.specs.Word.{flowOf, departureOf}
 use Rattle.model.specs.Plan.{Plan, entry, Accepted}
-use Rattle.model.specs.Calls.{Event, History, requested, credited, ticked, lent, accepted, refused}
+use Rattle.model.specs.Calls.{Call, Event, History, requested, credited, ticked, lent, accepted, refused}
 use Rattle.model.specs.History.{ticks, slotAfter, frameOf, wellFormed, renews, grants}
 use Rattle.model.specs.Claim.{Each, GrantedWordAt}
-use Rattle.model.specs.Card.{paper}
-use Rattle.model.specs.Delay.{dueSlot, dueFrame, dueIn, AtAnswer, IsGranted, TimelyInOrder, AsksAt, Modest, ServedAt}
-use Rattle.model.specs.SeveralLinks.{slotsOf, sentSlots, dues, dueSlots, tile, Board, planOn, historyOn, sentOn, dueOn, Joined, Way, Within, AllGranted}
+use Rattle.model.specs.Card.{paper, run}
+use Rattle.model.specs.Delay.{dueSlot, dueFrame, dueIn, AtAnswer, IsGranted, TimelyInOrder, AsksAt, Modest, ServedAt, SoonOn}
+use Rattle.model.specs.SeveralLinks.{slotsOf, sentSlots, dues, dueSlots, tile, Board, planOn, sentOn, dueOn, Joined, Way, Within, AllGranted}
 use Rattle.model.specs.SeveralLinks.{EachWithin, OverLinks}
 use Rattle.model.proofs.Plan as plan
 use Rattle.model.proofs.Slots.{frame-begins, frame-ends}
@@ -25,7 +25,7 @@ use Rattle.model.proofs.Demand3.{each-map}
 use Rattle.model.proofs.EventsOfRuns.{Happened, each-happened}
 use Rattle.model.proofs.Soon.{soon-accepted}
 use Rattle.model.proofs.TileSlots.{tile-newest, tile-older, tile-of-oldest, oldest-length}
-use Rattle.model.proofs.GrantsInOrder.{frames-in-order}
+use Rattle.model.proofs.GrantsInOrder.{FrameInOrderAt, frames-in-order}
 use Rattle.model.proofs.NextLink.{sent-own, sent-other, due-own, due-other, as-many, since-all, Shared, shared, modest-on-next}
 
 -- ---- one link: each tile comes up in the frame in which it is due, or in the next
@@ -69,7 +69,7 @@ module _ (P : Plan) (i : ℕ) where
 
 -- ---- a board
 
-none-granted : (h : History) → tally renews h ≡ 0 → NoneGranted h
+pub none-granted : (h : History) → tally renews h ≡ 0 → NoneGranted h
 unfolding tally
 none-granted [] e = tt
 none-granted (x ∷ h) e = go (renews x) refl (none-granted h (omega arith))
@@ -82,38 +82,45 @@ module _ (b : Board paper) where
   ok : Accepted (planOn b)
   ok = plan.accepted (b .bytes) (b .passes)
 
-  none : NoneGranted (historyOn b)
-  none = none-granted (historyOn b) (b .no-reset)
+  none : NoneGranted (b .events)
+  none = none-granted (b .events) (b .no-reset)
 
-  happened : Each (Happened (planOn b)) (historyOn b)
-  happened = each-happened (planOn b) ok (b .calls)
+  -- what holds of every run
+  runs-have : (R : History → Type 0) → ((calls : List Call) → R (run paper (planOn b) calls .history)) → R (b .events)
+  runs-have R all = subst R (b .ran .is) (all (b .ran .calls))
 
-  words : Each (GrantedWordAt (planOn b)) (historyOn b)
-  words = each-map _ (GrantedWordAt (planOn b)) (λ e h x. x .word) (historyOn b) happened
+  happened : Each (Happened (planOn b)) (b .events)
+  happened = runs-have (Each (Happened (planOn b))) (each-happened (planOn b) ok)
 
-  served : Modest TimelyInOrder 0 (planOn b) (b .stream) (historyOn b) → Each (ServedAt (planOn b) (b .stream)) (historyOn b)
-  served m = since-all _ (historyOn b) none (soon-accepted (planOn b) ok (b .calls) (b .stream) (b .known) m)
+  ordered : Each (FrameInOrderAt (planOn b)) (b .events)
+  ordered = runs-have (Each (FrameInOrderAt (planOn b))) (frames-in-order (planOn b) ok)
 
-  one-frame : Modest TimelyInOrder 0 (planOn b) (b .stream) (historyOn b) → (n : ℕ) → n < length (sentOn b)
+  words : Each (GrantedWordAt (planOn b)) (b .events)
+  words = each-map _ (GrantedWordAt (planOn b)) (λ e h x. x .word) (b .events) happened
+
+  served : Modest TimelyInOrder 0 (planOn b) (b .stream) (b .events) → Each (ServedAt (planOn b) (b .stream)) (b .events)
+  served m = since-all _ (b .events) none (runs-have (SoonOn TimelyInOrder 0 (planOn b) (b .stream)) (λ calls. soon-accepted (planOn b) ok calls (b .stream) (b .known)) m)
+
+  one-frame : Modest TimelyInOrder 0 (planOn b) (b .stream) (b .events) → (n : ℕ) → n < length (sentOn b)
       → frameOf (planOn b) (tile n (sentOn b)) ≤ frameOf (planOn b) (tile n (dueOn b)) + 1
-  one-frame m = next-frame (planOn b) (b .stream) (historyOn b) words (served m)
+  one-frame m = next-frame (planOn b) (b .stream) (b .events) words (served m)
 
 -- ---- two boards
 
 module _ (a b : Board paper) (joined : Joined a b) where
-  both : Shared (ok a) (ok b) (joined .in-step) (a .stream) (b .stream) (a .known) (joined .share-kept) (historyOn a) (historyOn b)
+  both : Shared (ok a) (ok b) (joined .in-step) (a .stream) (b .stream) (a .known) (joined .share-kept) (a .events) (b .events)
   both =
       shared (ok a) (ok b) (joined .in-step) (a .stream) (b .stream) (a .known) (joined .share-kept) (joined .together) (happened a)
-      (frames-in-order (planOn a) (ok a) (a .calls)) (none a) (none b) (words b)
+      (ordered a) (none a) (none b) (words b)
 
-  next-modest : Modest TimelyInOrder 0 (planOn b) (b .stream) (historyOn b)
+  next-modest : Modest TimelyInOrder 0 (planOn b) (b .stream) (b .events)
   next-modest =
-      modest-on-next (ok a) (ok b) (joined .in-step) (a .stream) (b .stream) (a .known) (joined .share-kept) (historyOn a) (historyOn b) both (happened a)
+      modest-on-next (ok a) (ok b) (joined .in-step) (a .stream) (b .stream) (a .known) (joined .share-kept) (a .events) (b .events) both (happened a)
       (none a) (none b)
 
   -- a refusal would need the whole share due already
   all-granted : AllGranted b
-  all-granted = each-granted (historyOn b) (both .few) (served b next-modest)
+  all-granted = each-granted (b .events) (both .few) (served b next-modest)
     where
       each-granted : (h : History)
           → Each (AsksAt (λ P i w h. dueIn P h i (dueFrame P w h) < entry P i .share) (planOn b) (b .stream)) h → Each (ServedAt (planOn b) (b .stream)) h
@@ -146,7 +153,7 @@ within k a b same later = record {
 }
 
 each-within : (k : ℕ) (a b : Board paper) (rest : List (Board paper)) → planOn a .slots ≡ planOn b .slots → FramesLater k a b
-    → Modest TimelyInOrder 0 (planOn b) (b .stream) (historyOn b) → Way b rest → EachWithin k a b rest
+    → Modest TimelyInOrder 0 (planOn b) (b .stream) (b .events) → Way b rest → EachWithin k a b rest
 each-within k a b [] same later m way = within k a b same later
 each-within k a b (next ∷ rest) same later m way = (
   within k a b same later,
@@ -157,7 +164,7 @@ each-within k a b (next ∷ rest) same later m way = (
     later-still : FramesLater (k + 1) a next
     later-still n lt =
         let x = both b next (way .0) in
-        let due-below : n < length (dueOn next) = omega (arith, as-many (planOn next) (next .stream) (historyOn next)) in
+        let due-below : n < length (dueOn next) = omega (arith, as-many (planOn next) (next .stream) (next .events)) in
         let same-tile : tile n (sentOn b) ≡ tile n (dueOn next) = tile-of-oldest (x .oldest) n due-below in
         let sent-before = later n (omega (arith, oldest-length (x .oldest))) in
         let same-frame : frameOf (planOn b) (tile n (sentOn b)) ≡ frameOf (planOn next) (tile n (dueOn next)) =

@@ -1,68 +1,72 @@
 -- Two boards in step on which all that is asked of a stream's way holds, and the latest slot that `over-links` allows is granted. Assumes nothing.
-use Prim.Native.Nat.{ℕ, _+_, _*_}
+use Prim.Native.Nat.{ℕ, _+_, _*_, _<_}
 use mathlib.Core.Path.{_≡_, refl}
-use mathlib.Core.List.{List, _∷_, [], reverse}
+use mathlib.Core.List.{List, _∷_, []}
 use native.Mathlib.Omega.{arith}
 use lib.Dec.{lit<, lit≤}
-use Rattle.model.specs.Plan.{planOf}
+use Rattle.model.specs.Tables.{tally}
+use Rattle.model.specs.Plan.{flowCount, planOf, refusal}
 use Rattle.model.specs.Calls.{Call, History, requested, accepted}
+use Rattle.model.specs.History.{renews}
 use Rattle.model.specs.Card.{paper}
 use Rattle.model.specs.PlanBytes.{plan2}
 use Rattle.model.specs.Delay.{TimelyInOrder, Modest}
-use Rattle.model.specs.SeveralLinks.{slotsOf, dues, tile, start, first-alone, second-alone, Board, planOn, historyOn, sentOn, dueOn, Way}
-use Rattle.model.specs.SeveralLinks.{EachWithin}
+use Rattle.model.specs.SeveralLinks.{slotsOf, dues, tile, start, first-alone, second-alone, Ran, Board, planOn, sentOn, dueOn, Way, EachWithin}
 use Rattle.model.proofs.Decidable.{proved}
 use Rattle.model.proofs.ClaimDecided.{has-room}
 use Rattle.model.proofs.OtherPremises.{both}
-use Rattle.model.proofs.DelayDecided.{room, in-time, ordered, timely, modest, delays-compute}
+use Rattle.model.proofs.DelayDecided.{ordered, timely, modest, delays-compute}
 use Rattle.model.proofs.SeveralLinks.{over-links}
 
 -- F = 2, W = 3, two flows with share 1 and 4 cells, of which flow 0 is the stream
 abbrev pub bytes : List ℕ
 bytes = plan2 2 3 8 1 4 1 4
 
--- On the first board flow 1 takes slots 1 and 2, and the stream's tile, which has come, is granted slot 3.
+pub passes : refusal bytes ≡ 0
+unfolding delays-compute
+passes = refl
+
+pub known : 0 < flowCount (planOf bytes)
+known = lit< tt
+
+-- ---- the first board: flow 1 takes slots 1 and 2, and the stream's tile, which has come, is granted slot 3
+
+abbrev pub events₁ : History
+events₁ = requested 0x24000000 (accepted 0x24000003) ∷ requested 0x24100400 (accepted 0x24100402) ∷ requested 0x24100000 (accepted 0x24100001) ∷ []
+
+pub ran₁ : Ran paper (planOf bytes) events₁
+unfolding delays-compute
+ran₁ = record { calls = Call.request 0x24100000 ∷ Call.request 0x24100400 ∷ Call.request 0x24000000 ∷ []; is = refl }
+
+pub none₁ : tally renews events₁ ≡ 0
+unfolding tally
+none₁ = refl
+
 abbrev pub first : Board paper
-unfolding delays-compute
-first = record {
-  bytes = bytes;
-  passes = refl;
-  calls = Call.request 0x24100000 ∷ Call.request 0x24100400 ∷ Call.request 0x24000000 ∷ [];
-  no-reset = refl;
-  stream = 0;
-  known = lit< tt;
-}
+first = record { bytes = bytes; passes = passes; events = events₁; ran = ran₁; no-reset = none₁; stream = 0; known = known }
 
--- On the second flow 1 takes slots 1, 2 and 4, and the tile, which departs in slot 3, is granted slot 5.
-abbrev pub second : Board paper
-unfolding delays-compute
-second = record {
-  bytes = bytes;
-  passes = refl;
-  calls = Call.request 0x24100000 ∷ Call.request 0x24100400 ∷ Call.request 0x24100800 ∷ Call.request 0x24000003 ∷ [];
-  no-reset = refl;
-  stream = 0;
-  known = lit< tt;
-}
+-- ---- the second: flow 1 takes slots 1, 2 and 4, and the tile, which departs in slot 3, is granted slot 5
 
-pub come-to₁ :
-    reverse (historyOn first)
-    ≡ requested 0x24100000 (accepted 0x24100001) ∷ requested 0x24100400 (accepted 0x24100402) ∷ requested 0x24000000 (accepted 0x24000003) ∷ []
-unfolding delays-compute
-come-to₁ = refl
-
-pub come-to₂ :
-    reverse (historyOn second)
-    ≡ requested 0x24100000 (accepted 0x24100001) ∷ requested 0x24100400 (accepted 0x24100402) ∷ requested 0x24100800 (accepted 0x24100804)
-    ∷ requested 0x24000003 (accepted 0x24000005) ∷ []
-unfolding delays-compute
-come-to₂ = refl
-
--- the second board's events before its request of the stream
-abbrev before : History
+abbrev pub before : History
 before = requested 0x24100800 (accepted 0x24100804) ∷ requested 0x24100400 (accepted 0x24100402) ∷ requested 0x24100000 (accepted 0x24100001) ∷ []
 
-way-there : Way first (second ∷ [])
+abbrev pub events₂ : History
+events₂ = requested 0x24000003 (accepted 0x24000005) ∷ before
+
+pub ran₂ : Ran paper (planOf bytes) events₂
+unfolding delays-compute
+ran₂ = record { calls = Call.request 0x24100000 ∷ Call.request 0x24100400 ∷ Call.request 0x24100800 ∷ Call.request 0x24000003 ∷ []; is = refl }
+
+pub none₂ : tally renews events₂ ≡ 0
+unfolding tally
+none₂ = refl
+
+abbrev pub second : Board paper
+second = record { bytes = bytes; passes = passes; events = events₂; ran = ran₂; no-reset = none₂; stream = 0; known = known }
+
+-- ---- the premises
+
+pub way-there : Way first (second ∷ [])
 unfolding delays-compute slotsOf dues tile
 way-there = (
   record {
@@ -88,19 +92,24 @@ way-there = (
   tt,
 )
 
--- the stream is modest on the first board
-modest-there : Modest TimelyInOrder 0 (planOn first) (first .stream) (historyOn first)
+pub modest-there : Modest TimelyInOrder 0 (planOf bytes) 0 events₁
 unfolding delays-compute
-modest-there = let m = proved (modest (λ P i w h. both timely ordered P i w h) 0 (planOn first) 0 (historyOn first)) tt in record {
-  asks = (λ well own. let x = m .asks .0 well own in record { timely = x .0; in-order = x .1 }, (λ well own. absurd (omega (arith, own)), (λ well own. absurd (omega (arith, own)), tt)));
-  within-share = m .within-share;
-}
+modest-there =
+    let m = proved (modest (both timely ordered) 0 (planOf bytes) 0 events₁) tt in
+    record {
+      asks = (
+        λ well own. let x = m .asks .0 well own in record { timely = x .0; in-order = x .1 },
+        (λ well own. absurd (omega (arith, own)), (λ well own. absurd (omega (arith, own)), tt)),
+      );
+      within-share = m .within-share;
+    }
 
--- so what `over-links` says holds of them
+-- ---- what follows, and that the bound is attained
+
 pub both-within : EachWithin 1 first first (second ∷ [])
 both-within = over-links first (second ∷ []) way-there modest-there
 
--- and its bound is attained: slot 5 is the last that comes fewer than 3 × F slots after slot 0
+-- the tile is due in slot 0 on the first board, and comes up on the second in slot 5: the last that comes fewer than 3 × F slots later
 pub due-there : tile 0 (dueOn first) ≡ 0
 unfolding delays-compute slotsOf dues tile
 due-there = refl

@@ -36,6 +36,7 @@ pub mod LessAsked
 pub mod Delay
 pub mod LessTimely
 pub mod SeveralLinks
+pub mod EnoughCells
 -- worked examples, and cards that are sent back
 pub mod PlanBytes
 pub mod EdgeCases

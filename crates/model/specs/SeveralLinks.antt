@@ -87,32 +87,35 @@ module _ (P Q : Plan) (i j : ℕ) where
 
 -- ---- a stream's way over several boards
 
--- a list of calls on card c from an accepted plan, with no reset granted; and the flow of it that is the stream
+-- some calls on card c from plan P come to the events h
+pub record Ran (c : Card) (P : Plan) (h : History) : Type 0 where
+  pub calls : List Call
+  pub is : run c P calls .history ≡ h
+
+-- the events of a list of calls on card c from an accepted plan, with no reset granted; and the flow that is the stream
 pub record Board (c : Card) : Type 0 where
   pub bytes : List ℕ
   pub passes : refusal bytes ≡ 0
-  pub calls : List Call
-  pub no-reset : tally renews (run c (planOf bytes) calls .history) ≡ 0
+  pub events : History
+  pub ran : Ran c (planOf bytes) events
+  pub no-reset : tally renews events ≡ 0
   pub stream : ℕ
   pub known : stream < flowCount (planOf bytes)
 
 abbrev pub planOn : {c : Card} → Board c → Plan
 planOn b = planOf (b .bytes)
 
-abbrev pub historyOn : {c : Card} → Board c → History
-historyOn {c} b = run c (planOf (b .bytes)) (b .calls) .history
-
 abbrev pub sentOn : {c : Card} → Board c → List ℕ
-sentOn b = sentSlots (planOn b) (historyOn b) (b .stream)
+sentOn b = sentSlots (planOn b) (b .events) (b .stream)
 
 abbrev pub dueOn : {c : Card} → Board c → List ℕ
-dueOn b = dueSlots (planOn b) (historyOn b) (b .stream)
+dueOn b = dueSlots (planOn b) (b .events) (b .stream)
 
 -- b is the next board after a
 pub record Joined {c : Card} (a b : Board c) : Type 0 where
   pub in-step : InStep (planOn a) (planOn b)
   pub share-kept : entry (planOn a) (a .stream) .share ≤ entry (planOn b) (b .stream) .share
-  pub together : Together (planOn a) (planOn b) (a .stream) (b .stream) (historyOn a) (historyOn b)
+  pub together : Together (planOn a) (planOn b) (a .stream) (b .stream) (a .events) (b .events)
 
 abbrev pub Way : {c : Card} → Board c → List (Board c) → Type 0
 Way a [] = Unit {0}
@@ -127,7 +130,7 @@ pub record Within {c : Card} (k : ℕ) (a b : Board c) : Type 0 where
 
 -- every request of the stream on board b is granted
 abbrev pub AllGranted : {c : Card} → Board c → Type 0
-AllGranted b = Each (AtAnswer (λ w x h. wellFormed (planOn b) w ≡ true → flowOf w ≡ b .stream → IsGranted x)) (historyOn b)
+AllGranted b = Each (AtAnswer (λ w x h. wellFormed (planOn b) w ≡ true → flowOf w ≡ b .stream → IsGranted x)) (b .events)
 
 -- b is board number k of the way from a, and `rest` are those after it
 abbrev pub EachWithin : {c : Card} → (k : ℕ) → (a b : Board c) → (rest : List (Board c)) → Type 0
@@ -137,4 +140,4 @@ EachWithin k a b (next ∷ rest) = Within k a b × AllGranted next × EachWithin
 -- That the paper's card keeps it is `over-links`, in proofs/SeveralLinks.antt.
 abbrev pub OverLinks : Card → Type 0
 OverLinks c =
-    (a : Board c) (rest : List (Board c)) → Way a rest → Modest TimelyInOrder 0 (planOn a) (a .stream) (historyOn a) → EachWithin 1 a a rest
+    (a : Board c) (rest : List (Board c)) → Way a rest → Modest TimelyInOrder 0 (planOn a) (a .stream) (a .events) → EachWithin 1 a a rest
