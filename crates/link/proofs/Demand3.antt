@@ -13,13 +13,14 @@ use Rattle.calls.specs.declared.Answer.{Answer}
 use Rattle.calls.specs.Reading.{answerToRequest, answerToCredit, answerToTick, answerToLend, answerToReset}
 use Rattle.model.specs.Plan as model
 use Rattle.model.specs.Calls.{Call, Grant, Receipt, Turn, Loan, Renewal, Event, History, accepted, refused, requested, credited, ticked, lent}
-use Rattle.model.specs.Claim.{Demand3}
+use Rattle.model.specs.Claim.{Each, ReadyAt, Demand3}
 use Rattle.model.specs.Card.{Played, paper, step, play, started, run}
 use Rattle.model.specs.Fairness.{FairOn}
 use Rattle.model.specs.QuantumNumbers.{InOrder}
 use Rattle.model.specs.Tables.{tally}
 use Rattle.model.specs.History.{renews}
 use Rattle.model.specs.SeveralLinks.{Ran, Board}
+use Rattle.model.specs.EnoughCells.{GivesBack}
 use Rattle.model.specs.Delay.{Timely, PromptOn, TimelyInOrder, SoonOn, SoonOnArrivalOn}
 use Rattle.model.specs.CountedBursts.{several, countsAs, eventsIn}
 use Rattle.model.proofs.AfterCalls.{Known, after-calls, after-fresh}
@@ -30,6 +31,7 @@ use Rattle.model.proofs.QuantumNumbers.{numbers-accepted}
 use Rattle.model.proofs.Prompt.{prompt-accepted}
 use Rattle.model.proofs.Soon.{soon-accepted}
 use Rattle.model.proofs.SoonOnArrival.{soon-on-arrival}
+use Rattle.model.proofs.EnoughCells.{enough-cells-accepted}
 use Rattle.link.specs.declared.Link.{Link}
 use Rattle.link.specs.Reading.{linkOf}
 use Rattle.link.specs.Handed.{Handed}
@@ -178,6 +180,12 @@ code-soon-ahead = code-has (λ P h. (i : ℕ) → i < model.flowCount P → Soon
 pub code-soon : (bytes : List ℕ) (o : Outcome) → o ≡ readOf bytes → (o .verdict ≡ Accepted → Valid (o .plan)) → o .verdict ≡ Accepted
     → {h : History} {l : Link} → Handed (o .plan) h l → (i : ℕ) → i < model.flowCount (model.planOf bytes) → SoonOnArrivalOn (model.planOf bytes) i h
 code-soon = code-has (λ P h. (i : ℕ) → i < model.flowCount P → SoonOnArrivalOn P i h) soon-on-arrival
+
+-- and its cells: a stream that gives them back in time is ready at each request
+pub code-enough-cells : (bytes : List ℕ) (o : Outcome) → o ≡ readOf bytes → (o .verdict ≡ Accepted → Valid (o .plan)) → o .verdict ≡ Accepted
+    → {h : History} {l : Link} → Handed (o .plan) h l → (i : ℕ) → i < model.flowCount (model.planOf bytes)
+    → GivesBack 0 (model.planOf bytes) i h → Each (ReadyAt (model.planOf bytes) i) h
+code-enough-cells = code-has (λ P h. (i : ℕ) → i < model.flowCount P → GivesBack 0 P i h → Each (ReadyAt P i) h) enough-cells-accepted
 
 -- and over several links: the calls of the code on one board are such a board, so that `over-links` speaks of any way over boards of the code
 pub code-board : (bytes : List ℕ) (o : Outcome) → o ≡ readOf bytes → (o .verdict ≡ Accepted → Valid (o .plan)) → o .verdict ≡ Accepted

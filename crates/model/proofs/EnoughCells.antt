@@ -104,7 +104,7 @@ module _ {P : Plan} (ok : Accepted P) (i : ℕ) (known : i < flowCount P) where
   soon-marks (Event.reset (refused r) ∷ h) none soon = soon-marks h (none .1) (soon .1)
 
   module _ (h : History) (none : NoneGranted h) (c : Counts P h) (soon : EachSince (GrantedSoonAt P i) h) (credited : CreditedInTime P i h)
-      (not-lent : tally (ofFlow i) (lends h) ≡ 0) (enough : 2 * entry P i .share < entry P i .cells) where
+      (not-lent : tally (ofFlow i) (lends h) ≡ 0) (enough : 2 * entry P i .share < entry P i .cells + 0) where
     abbrev t : ℕ
     t = ticks h
 
@@ -209,7 +209,7 @@ beginnings-ran P ok calls = by-calls ok (RanTo P) (λ r c g happened x. ran-more
 
 module _ {P : Plan} (ok : Accepted P) (i : ℕ) (known : i < flowCount P) where
   -- a beginning gives its cells back too
-  before : (e : Event) (h : History) → GivesBack P i (e ∷ h) → GivesBack P i h
+  before : (e : Event) (h : History) → GivesBack 0 P i (e ∷ h) → GivesBack 0 P i h
   unfolding tally lends madeSince
   before e h x = record {
     asks = x .asks .1;
@@ -227,10 +227,10 @@ module _ {P : Plan} (ok : Accepted P) (i : ℕ) (known : i < flowCount P) where
           go false r = rw r (omega (arith, tally-append (inFrame P i f) (grantBy (λ w h. ticks h) e h) (madeSince h)))
 
   -- it is ready at a request, if it was at those before it
-  ready-next : (e : Event) (h : History) → Ran paper P h → Each (Happened P) h → GivesBack P i (e ∷ h) → Each (ReadyAt P i) h → ReadyAt P i e h
+  ready-next : (e : Event) (h : History) → Ran paper P h → Each (Happened P) h → GivesBack 0 P i (e ∷ h) → Each (ReadyAt P i) h → ReadyAt P i e h
   ready-next e h ran happened x rest = one e (x .asks .0)
     where
-      so-far : GivesBack P i h
+      so-far : GivesBack 0 P i h
       so-far = before e h x
 
       soon : EachSince (GrantedSoonAt P i) h
@@ -251,14 +251,14 @@ module _ {P : Plan} (ok : Accepted P) (i : ℕ) (known : i < flowCount P) where
       one (lent m a) asks = tt
       one (Event.reset a) asks = tt
 
-  ready-at-each : (h : History) → BeginningsRan P h → Each (Happened P) h → GivesBack P i h → Each (ReadyAt P i) h
+  ready-at-each : (h : History) → BeginningsRan P h → Each (Happened P) h → GivesBack 0 P i h → Each (ReadyAt P i) h
   ready-at-each [] ran happened x = tt
   ready-at-each (e ∷ h) ran happened x =
       let rest = ready-at-each h (ran .1) (happened .1) (before e h x) in
       (ready-next e h (ran .0) (happened .1) x rest, rest)
 
 -- on any plan that keeps the limits, and so on the plan of any bytes that are accepted
-pub enough-cells-accepted : (P : Plan) → Accepted P → (calls : List Call) (i : ℕ) → i < flowCount P → GivesBack P i (run paper P calls .history)
+pub enough-cells-accepted : (P : Plan) → Accepted P → (calls : List Call) (i : ℕ) → i < flowCount P → GivesBack 0 P i (run paper P calls .history)
     → Each (ReadyAt P i) (run paper P calls .history)
 enough-cells-accepted P ok calls i known =
     ready-at-each ok i known (run paper P calls .history) (beginnings-ran P ok calls) (each-happened P ok calls)

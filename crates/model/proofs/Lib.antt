@@ -110,3 +110,4 @@ pub mod LessTimely
 pub mod TwoLinksExample
 pub mod BadDelays
 pub mod SlowCards
+pub mod CellsNeeded

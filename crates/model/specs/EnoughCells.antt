@@ -31,16 +31,20 @@ pub record AsksInTurn (P : Plan) (i w : ℕ) (h : History) : Type 0 where
   pub number : quantumOf w ≡ expectedNumber P h i
   pub credited : CreditedInTime P i h
 
-pub record GivesBack (P : Plan) (i : ℕ) (h : History) : Type 0 where
+-- The stream asks so, for no more than its share in a frame; and two shares are fewer than its cells, and `short`.
+pub record GivesBack (short : ℕ) (P : Plan) (i : ℕ) (h : History) : Type 0 where
   pub asks : Each (AtRequest (λ w h. wellFormed P w ≡ true → flowOf w ≡ i → AsksInTurn P i w h)) h
   pub within-share : (f : ℕ) → madeIn P h i f ≤ entry P i .share
-  pub enough-cells : 2 * entry P i .share < entry P i .cells
+  pub enough-cells : 2 * entry P i .share < entry P i .cells + short
   pub not-lent : tally (ofFlow i) (lends h) ≡ 0
   pub no-reset : tally renews h ≡ 0
 
--- Then it is ready at each request: it is granted promptly and soon, and room need not be asked. That the paper's card keeps it is `enough-cells`, in
--- proofs/EnoughCells.antt.
-abbrev pub EnoughCells : Card → Type 0
-EnoughCells c =
+-- Then it is ready at each request: room need not be asked, and it is served promptly and soon.
+abbrev pub EnoughCellsBy : (short : ℕ) → Card → Type 0
+EnoughCellsBy short c =
     (bytes : List ℕ) → refusal bytes ≡ 0 → (calls : List Call) (i : ℕ) → i < flowCount (planOf bytes)
-    → GivesBack (planOf bytes) i (run c (planOf bytes) calls .history) → Each (ReadyAt (planOf bytes) i) (run c (planOf bytes) calls .history)
+    → GivesBack short (planOf bytes) i (run c (planOf bytes) calls .history) → Each (ReadyAt (planOf bytes) i) (run c (planOf bytes) calls .history)
+
+-- That the paper's card keeps it is `enough-cells`, in proofs/EnoughCells.antt.
+abbrev pub EnoughCells : Card → Type 0
+EnoughCells = EnoughCellsBy 0
