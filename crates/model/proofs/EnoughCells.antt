@@ -135,7 +135,7 @@ module _ {P : Plan} (ok : Accepted P) (i : ℕ) (known : i < flowCount P) where
           tally-le (upTo i s) (ofFlow i) (λ m e. and-true (ofFlow i m) (leb (m .slot) s) e .0) (lends h),
         )
 
-    has-room : Room P i h
+    pub has-room : Room P i h
     has-room s le = go (decLe (frameOf P s) (currentFrame P h + 1))
       where
         G : ℕ
@@ -177,7 +177,7 @@ module _ {P : Plan} (ok : Accepted P) (i : ℕ) (known : i < flowCount P) where
 -- ---- a list of calls
 
 -- what is before each event of a run is a run
-abbrev BeginningsRan : Plan → History → Type 0
+abbrev pub BeginningsRan : Plan → History → Type 0
 BeginningsRan P = Each (λ e h. Ran paper P h)
 
 record RanTo (P : Plan) (r : Played paper) : Type 0 where
@@ -203,7 +203,7 @@ ran-more {P} r c x = record {
     behind (Call.lend m) = (before, x .beginnings)
     behind Call.reset = (before, x .beginnings)
 
-beginnings-ran : (P : Plan) → Accepted P → (calls : List Call) → BeginningsRan P (run paper P calls .history)
+pub beginnings-ran : (P : Plan) → Accepted P → (calls : List Call) → BeginningsRan P (run paper P calls .history)
 unfolding play
 beginnings-ran P ok calls = by-calls ok (RanTo P) (λ r c g happened x. ran-more r c x) (record { calls = []; is = refl; beginnings = tt }) calls .beginnings
 
@@ -251,7 +251,7 @@ module _ {P : Plan} (ok : Accepted P) (i : ℕ) (known : i < flowCount P) where
       one (lent m a) asks = tt
       one (Event.reset a) asks = tt
 
-  ready-at-each : (h : History) → BeginningsRan P h → Each (Happened P) h → GivesBack 0 P i h → Each (ReadyAt P i) h
+  pub ready-at-each : (h : History) → BeginningsRan P h → Each (Happened P) h → GivesBack 0 P i h → Each (ReadyAt P i) h
   ready-at-each [] ran happened x = tt
   ready-at-each (e ∷ h) ran happened x =
       let rest = ready-at-each h (ran .1) (happened .1) (before e h x) in

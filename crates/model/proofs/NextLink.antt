@@ -17,7 +17,7 @@ use Rattle.model.specs.Holding.{frameStart, InWindow}
 use Rattle.model.specs.Claim.{Each, EachSince, GrantedWordAt}
 use Rattle.model.specs.TwoHops.{InStep}
 use Rattle.model.specs.Delay.{dueSlot, dueFrame, dueSince, dueIn, TimelyInOrder, AsksAt, Modest}
-use Rattle.model.specs.SeveralLinks.{slotsOf, sentSlots, dues, dueSlots, tile, nextTile, nextSlot, Alone, AsksForNext, AsksForNextAt}
+use Rattle.model.specs.SeveralLinks.{slotsOf, sentSlots, dues, dueSlots, tile, nextTile, nextSlot, Alone, AsksForNext, AskedAt}
 use Rattle.model.specs.SeveralLinks.{Together, start, both-tick, first-alone, second-alone}
 use Rattle.model.proofs.Tallies.{All, tally-append, tally-hit}
 use Rattle.model.proofs.Slots.{frame-begins, slotAfter-is}
@@ -233,7 +233,7 @@ module _ {P Q : Plan} (ok₁ : Accepted P) (ok₂ : Accepted Q) (step : InStep P
   first-more h₁ h₂ (lent m a) alone s = record { same-slot = s .same-slot; oldest = s .oldest; asks = s .asks; few = s .few }
   first-more h₁ h₂ (Event.reset a) alone s = record { same-slot = s .same-slot; oldest = s .oldest; asks = s .asks; few = s .few }
 
-  second-more : (h₁ h₂ : History) (e : Event) → Alone e → AsksForNextAt P Q i j h₁ e h₂ → Counts P h₁ → NoneGranted h₁ → NoneGranted h₂
+  second-more : (h₁ h₂ : History) (e : Event) → Alone e → AskedAt P Q i j (AsksForNext P Q i j) h₁ e h₂ → Counts P h₁ → NoneGranted h₁ → NoneGranted h₂
       → Each (FrameInOrderAt P) h₁ → GrantedWordAt Q e h₂ → Shared h₁ h₂ → Shared h₁ (e ∷ h₂)
   unfolding ticks dues
   second-more h₁ h₂ (requested w (accepted v)) alone next c none₁ none₂ ordered word s = record {
@@ -263,7 +263,7 @@ module _ {P Q : Plan} (ok₁ : Accepted P) (ok₂ : Accepted Q) (step : InStep P
   second-more h₁ h₂ (Event.reset a) alone next c none₁ none₂ ordered word s =
       record { same-slot = s .same-slot; oldest = s .oldest; asks = (tt, s .asks); few = (tt, s .few) }
 
-  pub shared : {h₁ h₂ : History} → Together P Q i j h₁ h₂ → Each (Happened P) h₁ → Each (FrameInOrderAt P) h₁ → NoneGranted h₁ → NoneGranted h₂
+  pub shared : {h₁ h₂ : History} → Together P Q i j (AsksForNext P Q i j) h₁ h₂ → Each (Happened P) h₁ → Each (FrameInOrderAt P) h₁ → NoneGranted h₁ → NoneGranted h₂
       → Each (GrantedWordAt Q) h₂ → Shared h₁ h₂
   unfolding ticks grants dues slotsOf
   shared start happened ordered none₁ none₂ words = record { same-slot = refl; oldest = record { later = []; whole-is = refl }; asks = tt; few = tt }

@@ -79,23 +79,23 @@ none-granted (x ∷ h) e = go (renews x) refl (none-granted h (omega arith))
     go false r rest = (r, rest)
 
 module _ (b : Board paper) where
-  ok : Accepted (planOn b)
+  pub ok : Accepted (planOn b)
   ok = plan.accepted (b .bytes) (b .passes)
 
-  none : NoneGranted (b .events)
+  pub none : NoneGranted (b .events)
   none = none-granted (b .events) (b .no-reset)
 
   -- what holds of every run
-  runs-have : (R : History → Type 0) → ((calls : List Call) → R (run paper (planOn b) calls .history)) → R (b .events)
+  pub runs-have : (R : History → Type 0) → ((calls : List Call) → R (run paper (planOn b) calls .history)) → R (b .events)
   runs-have R all = subst R (b .ran .is) (all (b .ran .calls))
 
-  happened : Each (Happened (planOn b)) (b .events)
+  pub happened : Each (Happened (planOn b)) (b .events)
   happened = runs-have (Each (Happened (planOn b))) (each-happened (planOn b) ok)
 
-  ordered : Each (FrameInOrderAt (planOn b)) (b .events)
+  pub ordered : Each (FrameInOrderAt (planOn b)) (b .events)
   ordered = runs-have (Each (FrameInOrderAt (planOn b))) (frames-in-order (planOn b) ok)
 
-  words : Each (GrantedWordAt (planOn b)) (b .events)
+  pub words : Each (GrantedWordAt (planOn b)) (b .events)
   words = each-map _ (GrantedWordAt (planOn b)) (λ e h x. x .word) (b .events) happened
 
   served : Modest TimelyInOrder 0 (planOn b) (b .stream) (b .events) → Each (ServedAt (planOn b) (b .stream)) (b .events)

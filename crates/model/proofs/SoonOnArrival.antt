@@ -36,7 +36,7 @@ module _ {P : Plan} (ok : Accepted P) (i : ℕ) where
   made-later f (Event.reset (refused r) ∷ h) lt = made-later f h lt
 
   -- where each request is ready, a grant is due in the slot in which it is made
-  due-when-made : (f : ℕ) (h : History) → Each (GrantedWordAt P) h → EachSince (ReadyAt P i) h → dueIn P h i f ≡ madeIn P h i f
+  pub due-when-made : (f : ℕ) (h : History) → Each (GrantedWordAt P) h → EachSince (ReadyAt P i) h → dueIn P h i f ≡ madeIn P h i f
   unfolding madeSince dueSince tally
   due-when-made f [] words ready = refl
   due-when-made f (requested w (accepted v) ∷ h) words ready = go (due-when-made f h (words .1) (ready .1)) (ℕ-discrete (flowOf w) i)
@@ -56,7 +56,7 @@ module _ {P : Plan} (ok : Accepted P) (i : ℕ) where
   due-when-made f (Event.reset (refused r) ∷ h) words ready = due-when-made f h (words .1) (ready .1)
 
   -- its requests are timely, and in order
-  asks-on-arrival : (h : History) → Each (GrantedWordAt P) h → EachSince (ReadyAt P i) h → EachSince (AsksAt TimelyInOrder P i) h
+  pub asks-on-arrival : (h : History) → Each (GrantedWordAt P) h → EachSince (ReadyAt P i) h → EachSince (AsksAt TimelyInOrder P i) h
   asks-on-arrival [] words ready = tt
   asks-on-arrival (requested w a ∷ h) words ready = (in-order, asks-on-arrival h (words .1) (ready .1))
     where

@@ -74,16 +74,19 @@ module _ (P Q : Plan) (i j : ℕ) where
     pub room : Room Q j h₂
     pub number : quantumOf w ≡ expectedNumber Q h₂ j
 
-  -- so of flow j's well-formed requests
-  abbrev pub AsksForNextAt : (h₁ : History) → Event → History → Type 0
-  AsksForNextAt h₁ = AtRequest (λ w h₂. wellFormed Q w ≡ true → flowOf w ≡ j → AsksForNext h₁ w h₂)
+  -- what is asked of flow j's request with word w after h₂, where the first board's events are h₁; so of its well-formed requests
+  abbrev pub Asking : Type 1
+  Asking = (h₁ : History) (w : ℕ) (h₂ : History) → Type 0
 
-  -- The two boards tick in step, and flow j asks on the second for the tiles of flow i on the first. As in a history, the newest event is first.
-  pub data Together : (h₁ h₂ : History) → Type 0 where
-    start : Together [] []
-    both-tick : {h₁ h₂ : History} {x₁ x₂ : Turn} → Together h₁ h₂ → Together (ticked x₁ ∷ h₁) (ticked x₂ ∷ h₂)
-    first-alone : {h₁ h₂ : History} (e : Event) → Alone e → Together h₁ h₂ → Together (e ∷ h₁) h₂
-    second-alone : {h₁ h₂ : History} (e : Event) → Alone e → AsksForNextAt h₁ e h₂ → Together h₁ h₂ → Together h₁ (e ∷ h₂)
+  abbrev pub AskedAt : Asking → (h₁ : History) → Event → History → Type 0
+  AskedAt A h₁ = AtRequest (λ w h₂. wellFormed Q w ≡ true → flowOf w ≡ j → A h₁ w h₂)
+
+  -- The two boards tick in step, and on the second flow j asks as A says. As in a history, the newest event is first.
+  pub data Together (A : Asking) : (h₁ h₂ : History) → Type 0 where
+    start : Together A [] []
+    both-tick : {h₁ h₂ : History} {x₁ x₂ : Turn} → Together A h₁ h₂ → Together A (ticked x₁ ∷ h₁) (ticked x₂ ∷ h₂)
+    first-alone : {h₁ h₂ : History} (e : Event) → Alone e → Together A h₁ h₂ → Together A (e ∷ h₁) h₂
+    second-alone : {h₁ h₂ : History} (e : Event) → Alone e → AskedAt A h₁ e h₂ → Together A h₁ h₂ → Together A h₁ (e ∷ h₂)
 
 -- ---- a stream's way over several boards
 
@@ -115,7 +118,8 @@ dueOn b = dueSlots (planOn b) (b .events) (b .stream)
 pub record Joined {c : Card} (a b : Board c) : Type 0 where
   pub in-step : InStep (planOn a) (planOn b)
   pub share-kept : entry (planOn a) (a .stream) .share ≤ entry (planOn b) (b .stream) .share
-  pub together : Together (planOn a) (planOn b) (a .stream) (b .stream) (a .events) (b .events)
+  pub together :
+      Together (planOn a) (planOn b) (a .stream) (b .stream) (AsksForNext (planOn a) (planOn b) (a .stream) (b .stream)) (a .events) (b .events)
 
 abbrev pub Way : {c : Card} → Board c → List (Board c) → Type 0
 Way a [] = Unit {0}
