@@ -10,7 +10,7 @@ use Rattle.model.specs.Claim.{Clause}
 use Rattle.model.specs.Card.{Meets, run}
 use Rattle.model.specs.PlanBytes.{plan1, oneCell}
 use Rattle.model.specs.Delay.{Prompt, Soon}
-use Rattle.model.specs.BadDelays.{had12, staysRefused, ever12, neverForgets, sendsToNewest, restsAtFirst, newestOnly}
+use Rattle.model.specs.BadDelays.{had12, staysRefused, ever12, neverForgets, sendsToNewest, restsAtFirst, newestOnly, tickMovesOn}
 use Rattle.model.proofs.Decidable.{proved, refuted}
 use Rattle.model.proofs.BadCards.{two-flows, one-cell, sent-back, events-compute}
 use Rattle.model.proofs.DelayDecided.{prompt-on, timely, modest-on-arrival, delays-compute}
@@ -62,3 +62,11 @@ unfolding events-compute
 newest-only =
     sent-back newestOnly (record { bytes = oneSlot; accepted-plan = refl; some-flow = lit< tt })
     (Call.request 0x24000000 ∷ Call.request 0x24000400 ∷ []) Clause.least tt
+
+-- F = 2, W = 3: the flow asks first in slot 1, still in frame 0, and is granted slot 4, and then 11, where the least count is 2. (Moved at frame changes
+-- alone it would lose nothing that demand 3 counts.)
+pub tick-moves-on : Meets tickMovesOn → ⊥
+unfolding events-compute
+tick-moves-on =
+    sent-back tickMovesOn (record { bytes = plan1 2 3 8 1 8; accepted-plan = refl; some-flow = lit< tt })
+    (Call.tick ∷ Call.request 0x24000001 ∷ Call.request 0x24000401 ∷ []) Clause.least tt

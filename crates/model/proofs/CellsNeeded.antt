@@ -22,14 +22,14 @@ use Rattle.model.proofs.DelayDecided.{none-in, delays-compute}
 
 -- ---- whether a stream gives its cells back in time is decided
 
-unfoldable in-turn : (P : Plan) (i w : ℕ) (h : History) → Dec (AsksInTurn P i w h)
+unfoldable pub in-turn : (P : Plan) (i w : ℕ) (h : History) → Dec (AsksInTurn P i w h)
 in-turn P i w h =
     same (λ r. record { come = r .0; number = r .1 .0; credited = r .1 .1 }) (λ x. (x .come, (x .number, x .credited)))
     (Dec·and (is-true (hasCome P (ticks h) (departureOf w)))
     (Dec·and (ℕ-discrete (quantumOf w) (expectedNumber P h i))
     (all-below {Q = λ s. grantedUpTo P h i s ≤ creditedUpTo P h i (lastOf P (frameOf P s + 1))} (ticks h) (λ s. decLe _ _))))
 
-unfoldable gives-back : (short : ℕ) (P : Plan) (i : ℕ) (h : History) → Dec (GivesBack short P i h)
+unfoldable pub gives-back : (short : ℕ) (P : Plan) (i : ℕ) (h : History) → Dec (GivesBack short P i h)
 gives-back short P i h =
     same (λ r. record { asks = r .0; within-share = r .1 .0; enough-cells = r .1 .1 .0; not-lent = r .1 .1 .1 .0; no-reset = r .1 .1 .1 .1 })
     (λ x. (x .asks, (x .within-share, (x .enough-cells, (x .not-lent, x .no-reset)))))

@@ -2,10 +2,11 @@
 -- their bound is attained. Each by a short list of calls. Assumes nothing.
 use mathlib.Core.Path.{_≡_, refl}
 use mathlib.Core.List.{_∷_, [], reverse}
+use mathlib.Core.Option.{some, none}
 use native.Mathlib.Omega.{arith}
 use lib.Dec.{lit<}
 use Rattle.model.specs.Plan.{planOf}
-use Rattle.model.specs.Calls.{Call, History, requested, accepted}
+use Rattle.model.specs.Calls.{Call, History, requested, ticked, accepted, refused}
 use Rattle.model.specs.OtherPremises.{Both, Come, Numbered}
 use Rattle.model.specs.LessAsked.{HasRoom}
 use Rattle.model.specs.Card.{run, paper}
@@ -100,6 +101,16 @@ soon-not-for-more soon =
     let h = run paper (planOf bytes) calls .history in
     let x = soon bytes refl calls 0 (lit< tt) (proved (modest (both room (both numbered (both in-time ordered))) 1 (planOf bytes) 0 h) tt) in
     omega (arith, x .0 refl refl .due-or-next)
+
+-- F = 1, W = 4, share 1: after one request for a tile that is due in the newest frame the flow is granted W - 1 slots late in each slot to come, as long as
+-- it asks in each. Only a pause or a granted reset brings it back.
+pub stays-late :
+    reverse (run paper (planOf (plan1 1 4 8 1 8)) (Call.request 0x24000003 ∷ Call.request 0x24000000 ∷ Call.tick ∷ Call.request 0x24000401 ∷ Call.tick
+    ∷ Call.request 0x24000802 ∷ Call.tick ∷ Call.request 0x24000C03 ∷ []) .history)
+    ≡ requested 0x24000003 (refused 20) ∷ requested 0x24000000 (accepted 0x24000003) ∷ ticked none ∷ requested 0x24000401 (accepted 0x24000400)
+    ∷ ticked none ∷ requested 0x24000802 (accepted 0x24000801) ∷ ticked (some 0) ∷ requested 0x24000C03 (accepted 0x24000C02) ∷ []
+unfolding delays-compute
+stays-late = refl
 
 -- ---- the bound is attained
 

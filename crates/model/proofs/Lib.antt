@@ -112,3 +112,4 @@ pub mod TwoLinksExample
 pub mod BadDelays
 pub mod SlowCards
 pub mod CellsNeeded
+pub mod OnArrivalExample

@@ -9,10 +9,10 @@ use Rattle.model.specs.Word.{flowOf}
 use Rattle.model.specs.Plan.{flowCount}
 use Rattle.model.specs.Calls.{Grant, Event, History, requested, credited, ticked, lent, accepted, refused}
 use Rattle.model.specs.Window.{newest}
-use Rattle.model.specs.Link.{Link, window, flow, share, withFlow, movedTo}
+use Rattle.model.specs.Link.{Link, window, flow, share, withFlows, withFlow, movedTo}
 use Rattle.model.specs.History.{ticks, frameOf, renews, origin, refusedIn}
 use Rattle.model.specs.Card.{Card, Played, paper, started}
-use Rattle.model.specs.BadCards.{withRequest}
+use Rattle.model.specs.BadCards.{withRequest, withTick}
 
 -- ---- a card that remembers its events
 
@@ -75,7 +75,7 @@ atNewest l i =
 abbrev pub sendsToNewest : Card
 sendsToNewest = remembers (λ r w. paper .request (cond (lapsed (r .state) (r .history) (flowOf w)) (atNewest (r .state) (flowOf w)) (r .state)) w)
 
--- ---- two that demand 3 sends back too
+-- ---- three that demand 3 sends back too
 
 -- refuses every request in a frame's first slot
 abbrev pub restsAtFirst : Card
@@ -84,3 +84,10 @@ restsAtFirst = withRequest (λ l w. cond (eqb (l .current % l .plan .slots) 0) (
 -- looks in no other frame than the newest
 abbrev pub newestOnly : Card
 newestOnly = withRequest (λ l w. paper .request (atNewest l (flowOf w)) w)
+
+-- a tick moves every flow on to the newest frame
+abbrev allAtNewest : {A : Type 0} → Link × A → Link × A
+allAtNewest handed = (withFlows (handed .0) (λ i. flow (atNewest (handed .0) i) i), handed .1)
+
+abbrev pub tickMovesOn : Card
+tickMovesOn = withTick (λ l. allAtNewest (paper .tick l))
