@@ -37,7 +37,7 @@ use Rattle.model.proofs.SeveralLinks.{none-granted}
 abbrev below : ℕ → ℕ → Mark → Bool
 below i b m = ofFlow i m && ltb (m .slot) b
 
-all-of : {A : Type 0} (R : A → Type 0) → ((x : A) → R x) → (xs : List A) → All R xs
+pub all-of : {A : Type 0} (R : A → Type 0) → ((x : A) → R x) → (xs : List A) → All R xs
 all-of R r [] = tt
 all-of R r (x ∷ xs) = (r x, all-of R r xs)
 

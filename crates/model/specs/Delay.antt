@@ -9,9 +9,10 @@
 -- Both count since the last granted reset, as the most and the least do.
 --
 -- Their limits:
--- - A flow with a request that is not timely is modest only after the next granted reset: such a request may move its frame on to the newest.
+-- - A flow with a request that is not timely is modest only after the next granted reset: such a request may move its frame on to the newest, where it
+--   stays as long as the flow asks for its share in each frame (`stays-late`).
 -- - Which slot of the frame is granted is not said, nor that slots come in the order of the requests.
--- - Room is a premise. Nothing here says when credits come.
+-- - Room is a premise. EnoughCells.antt says how many cells give it.
 use Prim.Native.Nat.{ℕ, _+_, _-_, _*_, _≤_, _<_}
 use mathlib.Core.Path.{_≡_}
 use mathlib.Core.List.{List, _∷_, []}
