@@ -56,23 +56,28 @@ module _ {P : Plan} (ok : Accepted P) (i : ℕ) (h : History) where
           record { class = m .slot; below = omega (arith, leb-true (m .slot) s (both .1)); belongs = rw (both .0) (eq-eqb (m .slot) (m .slot) refl) }
 
   -- the credits of each slot up to s are dated by the end of the frame after s's
-  parts : (r : Return) (t : ℕ) → inSlot P i t r ≡ true → (eqb (r .flow) i ≡ true) × ((r .made ≡ t) × (r .dated ≤ lastOf P (frameOf P t + 1)))
+  record Parts (r : Return) (t : ℕ) : Type 0 where
+    own : eqb (r .flow) i ≡ true
+    made-then : r .made ≡ t
+    dated-by : r .dated ≤ lastOf P (frameOf P t + 1)
+
+  parts : (r : Return) (t : ℕ) → inSlot P i t r ≡ true → Parts r t
   parts r t e =
       let all = and-true (eqb (r .flow) i && eqb (r .made) t) (leb (r .dated) (lastOf P (frameOf P t + 1))) e in
       let first = and-true (eqb (r .flow) i) (eqb (r .made) t) (all .0) in
-      (first .0, (eqb-true (r .made) t (first .1), leb-true (r .dated) (lastOf P (frameOf P t + 1)) (all .1)))
+      record { own = first .0; made-then = eqb-true (r .made) t (first .1); dated-by = leb-true (r .dated) (lastOf P (frameOf P t + 1)) (all .1) }
 
   together : (s : ℕ) → sum (suc s) (λ t. tally (inSlot P i t) (returns P h)) ≤ tally (datedUpTo i (lastOf P (frameOf P s + 1))) (returns P h)
   together s =
       tally-join (suc s) (datedUpTo i (lastOf P (frameOf P s + 1))) (inSlot P i)
-      (λ r j k p q. sym (parts r j p .1 .0) ∙ parts r k q .1 .0) inside (returns P h)
+      (λ r j k p q. sym (parts r j p .made-then) ∙ parts r k q .made-then) inside (returns P h)
     where
       inside : (r : Return) (t : ℕ) → t < suc s → inSlot P i t r ≡ true → datedUpTo i (lastOf P (frameOf P s + 1)) r ≡ true
       inside r t lt e =
           let x = parts r t e in
           let later : (frameOf P t + 1 + 1) * P .slots ≤ (frameOf P s + 1 + 1) * P .slots =
           mul-le-mul-right (P .slots) (omega (arith, frame-order ok t s (omega arith))) in
-          rw (x .0) (le-leb (r .dated) (lastOf P (frameOf P s + 1)) (omega (arith, x .1 .1)))
+          rw (x .own) (le-leb (r .dated) (lastOf P (frameOf P s + 1)) (omega (arith, x .dated-by)))
 
   pub credited-each-tile : CreditsEachTile P i h → CreditedInTime P i h
   credited-each-tile each s gone =

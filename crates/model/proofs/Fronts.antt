@@ -52,9 +52,14 @@ front-same P i {j} {k} {h} {next} same-slot same-grants same-dues same-injection
   booked-next = rw (← same-grants, ← same-dues) (x .booked-next);
 }
 
--- what is kept: a modest flow has a front, and its requests were answered in time
+-- a modest flow has a front, and its requests were answered in time
+pub record InFront (P : Plan) (h : History) (i j : ℕ) : Type 0 where
+  pub front : Front P i j h
+  pub served : EachSince (ServedAt P i) h
+
+-- what is kept
 abbrev pub Kept : Plan → History → (i j : ℕ) → Type 0
-Kept P h i j = Modest TimelyInOrder 0 P i h → Front P i j h × EachSince (ServedAt P i) h
+Kept P h i j = Modest TimelyInOrder 0 P i h → InFront P h i j
 
 module _ (P : Plan) (w v : ℕ) (h : History) (i : ℕ) where
   -- a grant leaves a flow modest only if it was

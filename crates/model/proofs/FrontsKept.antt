@@ -149,7 +149,7 @@ module _ {l : Link} {h : History} (g : After (l .plan) l h) {q : ℕ} (known : q
   unfolding tick dueSince
   tick-kept kept m =
       let so-far = kept (record { asks = m .asks .1; within-share = m .within-share }) in
-      (front-ticked (tick l .answer) (so-far .0), (tt, so-far .1))
+      record { front = front-ticked (tick l .answer) (so-far .front); served = (tt, so-far .served) }
 
   -- ---- the credit and the lend
 
@@ -157,13 +157,13 @@ module _ {l : Link} {h : History} (g : After (l .plan) l h) {q : ℕ} (known : q
   unfolding ticks grantsSince dueSince
   credit-kept i p kept m =
       let so-far = kept (record { asks = m .asks .1; within-share = m .within-share }) in
-      (front-same P q refl refl refl (sym (credit-leaves l i p q known)) (so-far .0), (tt, so-far .1))
+      record { front = front-same P q refl refl refl (sym (credit-leaves l i p q known)) (so-far .front); served = (tt, so-far .served) }
 
   pub lend-kept : (mask : ℕ) → Kept P h q (flow l q .injection) → Kept P (lent mask (lend l mask .answer) ∷ h) q (flow (lend l mask .link) q .injection)
   unfolding ticks grantsSince dueSince
   lend-kept mask kept m =
       let so-far = kept (record { asks = m .asks .1; within-share = m .within-share }) in
-      (front-same P q refl refl refl (sym (lend-leaves l mask q known)) (so-far .0), (tt, so-far .1))
+      record { front = front-same P q refl refl refl (sym (lend-leaves l mask q known)) (so-far .front); served = (tt, so-far .served) }
 
   -- ---- the reset
 
@@ -189,17 +189,17 @@ module _ {l : Link} {h : History} (g : After (l .plan) l h) {q : ℕ} (known : q
       handed b = cond b (granted l) (notGranted l)
 
       go : (b : Bool) → Kept P (Event.reset (handed b .answer) ∷ h) q (flow (handed b .link) q .injection)
-      go true m = (front-renewed, tt)
+      go true m = record { front = front-renewed; served = tt }
       go false m =
           let so-far = kept (record { asks = m .asks .1; within-share = m .within-share }) in
-          (front-same P q refl refl refl refl (so-far .0), (tt, so-far .1))
+          record { front = front-same P q refl refl refl refl (so-far .front); served = (tt, so-far .served) }
 
 -- ---- the fresh link
 
 pub fresh-kept : {P : Plan} → Accepted P → (q : ℕ) → q < flowCount P → Kept P [] q (flow (fresh P) q .injection)
 unfolding ticks grantsSince dueSince tally
-fresh-kept {P} ok q known m = (
-  record {
+fresh-kept {P} ok q known m = record {
+  front = record {
     front = frameOf P 0;
     from-now = omega arith;
     last-due = λ f low none. low;
@@ -209,6 +209,6 @@ fresh-kept {P} ok q known m = (
         let z : 0 ≡ a = mod-unique (some-frame ok) {b = 0} (omega arith) (omega (arith, some-frame ok)) (omega arith) (omega arith) (zero-mod (P .frames) ∙ at-0) in
         omega arith;
     booked-next = omega arith;
-  },
-  tt,
-)
+  };
+  served = tt;
+}

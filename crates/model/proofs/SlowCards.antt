@@ -180,14 +180,22 @@ module _ {l : Link} {h : History} (g : After (l .plan) l h) where
 
 -- ---- the newest frame after a frame in which the flow was not refused
 
-lapsed-asked : (l : Link) (h : History) (i : ℕ) → lapsed l h i ≡ true → (i < flowCount (l .plan)) × (AskedOn (l .plan) h i → ⊥)
+-- such a flow is one of the plan's, and did not ask until it was refused in each frame
+record Lapsed (l : Link) (h : History) (i : ℕ) : Type 0 where
+  known-flow : i < flowCount (l .plan)
+  not-asked-on : AskedOn (l .plan) h i → ⊥
+
+lapsed-asked : (l : Link) (h : History) (i : ℕ) → lapsed l h i ≡ true → Lapsed l h i
 lapsed-asked l h i e =
     let P = l .plan in
     let all = and-true (ltb i (flowCount P) && ltb (origin P h) (frameOf P (ticks h))) (eqb (refusedIn P h i (frameOf P (ticks h) - 1)) 0) e in
     let first = and-true (ltb i (flowCount P)) (ltb (origin P h) (frameOf P (ticks h))) (all .0) in
     let since = ltb-true (origin P h) (frameOf P (ticks h)) (first .1) in
     let none = eqb-true (refusedIn P h i (frameOf P (ticks h) - 1)) 0 (all .1) in
-    (ltb-true i (flowCount P) (first .0), λ asked. omega (arith, asked .refused-before (frameOf P (ticks h) - 1) (omega arith) (omega arith)))
+    record {
+      known-flow = ltb-true i (flowCount P) (first .0);
+      not-asked-on = λ asked. omega (arith, asked .refused-before (frameOf P (ticks h) - 1) (omega arith) (omega arith));
+    }
 
 pub sends-to-newest-meets : Meets sendsToNewest
 sends-to-newest-meets = remembering-meets (λ P h. Unit {0}) _ (λ P. tt) (λ P e h none r. tt) answers
@@ -209,7 +217,8 @@ sends-to-newest-meets = remembering-meets (λ P h. Unit {0}) _ (λ P. tt) (λ P 
             → After (l .plan) (request (cond b (atNewest l (flowOf w)) l) w .link) (requested w (request (cond b (atNewest l (flowOf w)) l) w .answer) ∷ r .history)
         go true e =
             let x = lapsed-asked l (r .history) (flowOf w) e in
-            asked-on (atNewest l (flowOf w)) (at-newest-stands (s .after) (flowOf w) (x .0) (x .1) .plan-is) (at-newest-stands (s .after) (flowOf w) (x .0) (x .1))
+            let moved = at-newest-stands (s .after) (flowOf w) (x .known-flow) (x .not-asked-on) in
+            asked-on (atNewest l (flowOf w)) (moved .plan-is) moved
         go false e = after-request (s .after) w
 
 -- ---- 12 after the first 12

@@ -45,7 +45,10 @@ module _ {l : Link} {h : History} (g : After (l .plan) l h) (w : ℕ)
   unfolding ticks grantsSince dueSince
   back-kept r not-passed q below m =
       let so-far = kept q below (record { asks = m .asks .1; within-share = m .within-share }) in
-      (front-same P q refl refl refl refl (so-far .0), (λ well own. absurd (asked well own (m .asks .0 well own .timely)), so-far .1))
+      record {
+        front = front-same P q refl refl refl refl (so-far .front);
+        served = (λ well own. absurd (asked well own (m .asks .0 well own .timely)), so-far .served);
+      }
     where
       asked : wellFormed P w ≡ true → flowOf w ≡ q → Timely P q w h → ⊥
       asked well own x =
@@ -63,16 +66,20 @@ module _ {l : Link} {h : History} (g : After (l .plan) l h) (w : ℕ)
         own m =
             let so-far = kept i (known g w well) (record { asks = m .asks .1; within-share = m .within-share }) in
             let asked = m .asks .0 well refl in
-            let ends = subst (Ends (window l) (validFor l i d) (share l i) (newestFrame P h) (Comes g w well (so-far .0) (asked .timely) (asked .in-order))) e
-            (comes-to g w well (so-far .0) (asked .timely) (asked .in-order)) in (
-              front-refused g w well (so-far .0) (asked .timely) (asked .in-order) c ends n,
-              (λ well′ same. share-due g w well (so-far .0) (asked .timely) (asked .in-order) c ends, so-far .1),
-            )
+            let ends = subst (Ends (window l) (validFor l i d) (share l i) (newestFrame P h) (Comes g w well (so-far .front) (asked .timely) (asked .in-order))) e
+            (comes-to g w well (so-far .front) (asked .timely) (asked .in-order)) in
+            record {
+              front = front-refused g w well (so-far .front) (asked .timely) (asked .in-order) c ends n;
+              served = (λ well′ same. share-due g w well (so-far .front) (asked .timely) (asked .in-order) c ends, so-far .served);
+            }
 
         others : (q : ℕ) → q < flowCount P → (q ≡ i → ⊥) → Kept P (requested w (refused n) ∷ h) q (flow l q .injection)
         others q below other m =
             let so-far = kept q below (record { asks = m .asks .1; within-share = m .within-share }) in
-            (front-same P q refl refl refl refl (so-far .0), (λ well′ same. absurd (other (sym same)), so-far .1))
+            record {
+              front = front-same P q refl refl refl refl (so-far .front);
+              served = (λ well′ same. absurd (other (sym same)), so-far .served);
+            }
 
     -- a grant
     granted-kept : (j c p : ℕ) → sought l i d ≡ found j c p → (q : ℕ) → q < flowCount P
@@ -85,22 +92,24 @@ module _ {l : Link} {h : History} (g : After (l .plan) l h) (w : ℕ)
         own m =
             let so-far = kept i (known g w well) (modest-before-grant P w (depart w p) h i m) in
             let asked = m .asks .0 well refl in
-            let ends = subst (Ends (window l) (validFor l i d) (share l i) (newestFrame P h) (Comes g w well (so-far .0) (asked .timely) (asked .in-order))) e
-            (comes-to g w well (so-far .0) (asked .timely) (asked .in-order)) in
+            let ends = subst (Ends (window l) (validFor l i d) (share l i) (newestFrame P h) (Comes g w well (so-far .front) (asked .timely) (asked .in-order))) e
+            (comes-to g w well (so-far .front) (asked .timely) (asked .in-order)) in
             let few : dueIn P h i (dueFrame P w h) < entry P i .share =
             omega (arith, m .within-share (dueFrame P w h), in-frame-hit P i (dueFrame P w h) (mark i (dueSlot P w h)) (dueSince P h) refl refl) in
-            let is = departs g w well (so-far .0) (asked .timely) (asked .in-order) j c p ends in (
-              front-granted g w well (so-far .0) (asked .timely) (asked .in-order) j c p ends few (depart w p) is,
-              (
-                λ well′ same. subst (λ u. InTime P w (slotAfter P (ticks h) u) h) (sym is) (in-time g w well (so-far .0) (asked .timely) (asked .in-order) j c p ends few),
-                so-far .1,
-              ),
-            )
+            let is = departs g w well (so-far .front) (asked .timely) (asked .in-order) j c p ends in
+            let served = in-time g w well (so-far .front) (asked .timely) (asked .in-order) j c p ends few in
+            record {
+              front = front-granted g w well (so-far .front) (asked .timely) (asked .in-order) j c p ends few (depart w p) is;
+              served = (λ well′ same. subst (λ u. InTime P w (slotAfter P (ticks h) u) h) (sym is) served, so-far .served);
+            }
 
         others : (q : ℕ) → q < flowCount P → (q ≡ i → ⊥) → Kept P (requested w (accepted (depart w p)) ∷ h) q (flow l q .injection)
         others q below other m =
             let so-far = kept q below (modest-before-grant P w (depart w p) h q m) in
-            (front-other P w (depart w p) h q (λ same. other (sym same)) (so-far .0), (λ well′ same. absurd (other (sym same)), so-far .1))
+            record {
+              front = front-other P w (depart w p) h q (λ same. other (sym same)) (so-far .front);
+              served = (λ well′ same. absurd (other (sym same)), so-far .served);
+            }
 
     searched-kept : (f : Found) → sought l i d ≡ f → (q : ℕ) → q < flowCount P
         → Kept P (requested w (answered l w f .answer) ∷ h) q (flow (answered l w f .link) q .injection)
@@ -129,7 +138,7 @@ call-kept r Call.reset g kept = λ q below. reset-kept g below (kept q below)
 
 -- on any plan that keeps the limits, and so on the plan of any bytes that are accepted
 pub soon-accepted : (P : Plan) → Accepted P → (calls : List Call) (i : ℕ) → i < flowCount P → SoonOn TimelyInOrder 0 P i (run paper P calls .history)
-soon-accepted P ok calls i known m = by-calls ok (KeptAfter P) more (fresh-kept ok) calls i known m .1
+soon-accepted P ok calls i known m = by-calls ok (KeptAfter P) more (fresh-kept ok) calls i known m .served
   where
     more : (r : Played paper) (c : Call) → Known P r → Each (Happened P) (r .history) → KeptAfter P r → KeptAfter P (step paper r c)
     more r c g happened = subst (λ Q. Known Q r → KeptAfter Q r → KeptAfter Q (step paper r c)) (g .plan-is) (call-kept r c) g
