@@ -12,9 +12,10 @@ use Rattle.model.specs.Calls.{Event, History, requested, credited, ticke
 use Rattle.model.specs.History.{ticks, frameOf, hasCome, lendAt, lends, ofFlow}
 use Rattle.model.specs.Claim.{Each, EachSince, Ready, ReadyAt, GrantedWordAt}
 use Rattle.model.specs.Card.{paper}
-use Rattle.model.specs.Delay.{GrantedSoonAt, ModestOnArrival}
+use Rattle.model.specs.Delay.{GrantedSoonAt, ModestOnArrival, TimelyInOrder, Modest}
 use Rattle.model.specs.SeveralLinks.{AsksForNext, Alone, AskedAt, Together, start, both-tick, first-alone, second-alone}
 use Rattle.model.specs.SeveralLinks.{Ran, Board, planOn, Joined, Way}
+use Rattle.model.specs.EnoughCells.{GivesBack}
 use Rattle.model.specs.LinksOnArrival.{AsksOnArrival, JoinedOnArrival, WayOnArrival, OverLinksOnArrival}
 use Rattle.model.proofs.Tallies.{tally-append}
 use Rattle.model.proofs.Slots.{current-in-window}
@@ -167,11 +168,17 @@ way-with-room : (a : Board paper) (rest : List (Board paper)) → WayOnArrival a
 way-with-room a [] way = tt
 way-with-room a (b ∷ rest) way = (joined-with-room a b (way .0), way-with-room b rest (way .1))
 
-pub over-links-on-arrival : OverLinksOnArrival paper
-over-links-on-arrival a rest way gives-back =
-    let since = each-since (ReadyAt (planOn a) (a .stream)) (a .events)
-    (ready-at-each (ok a) (a .stream) (a .known) (a .events) (runs-have a (BeginningsRan (planOn a)) (beginnings-ran (planOn a) (ok a))) (happened a) gives-back) in
-    over-links a rest (way-with-room a rest way) (record {
+-- on the first board it is modest
+modest-first : (a : Board paper) → GivesBack 0 (planOn a) (a .stream) (a .events) → Modest TimelyInOrder 0 (planOn a) (a .stream) (a .events)
+modest-first a gives-back =
+    let ran = runs-have a (BeginningsRan (planOn a)) (beginnings-ran (planOn a) (ok a)) in
+    let since = each-since (ReadyAt (planOn a) (a .stream)) (a .events) (ready-at-each (ok a) (a .stream) (a .known) (a .events) ran (happened a) gives-back) in
+    record {
       asks = asks-on-arrival (ok a) (a .stream) (a .events) (words a) since;
       within-share = λ f. omega (arith, gives-back .within-share f, due-when-made (ok a) (a .stream) f (a .events) (words a) since);
-    })
+    }
+
+pub over-links-on-arrival : OverLinksOnArrival paper
+over-links-on-arrival a rest way =
+    let x = over-links a rest (way-with-room a rest way) in
+    record { granted = x .granted; from-first = x .from-first; from-due = λ gives-back. x .from-due (modest-first a gives-back) }

@@ -10,7 +10,7 @@ use Rattle.model.specs.Calls.{Call, History, requested, credited, ticked
 use Rattle.model.specs.History.{renews}
 use Rattle.model.specs.Card.{paper}
 use Rattle.model.specs.PlanBytes.{plan1}
-use Rattle.model.specs.SeveralLinks.{slotsOf, dues, tile, start, both-tick, first-alone, second-alone, Ran, Board, EachWithin}
+use Rattle.model.specs.SeveralLinks.{slotsOf, dues, tile, start, both-tick, first-alone, second-alone, Ran, Board, planOn, dueOn, EachWithin}
 use Rattle.model.specs.EnoughCells.{GivesBack}
 use Rattle.model.specs.LinksOnArrival.{WayOnArrival}
 use Rattle.model.proofs.Decidable.{proved}
@@ -85,5 +85,5 @@ pub gives-back-there : GivesBack 0 (planOf bytes) 0 events₁
 unfolding delays-compute in-turn gives-back
 gives-back-there = proved (gives-back 0 (planOf bytes) 0 events₁) tt
 
-pub both-within : EachWithin 1 first first (second ∷ [])
-both-within = over-links-on-arrival first (second ∷ []) way-there gives-back-there
+pub both-within : EachWithin 1 (planOn first) (dueOn first) (first ∷ second ∷ [])
+both-within = over-links-on-arrival first (second ∷ []) way-there .from-due gives-back-there

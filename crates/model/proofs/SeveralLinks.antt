@@ -16,7 +16,7 @@ use Rattle.model.specs.History.{ticks, slotAfter, frameOf, wellFormed, r
 use Rattle.model.specs.Claim.{Each, GrantedWordAt}
 use Rattle.model.specs.Card.{paper, run}
 use Rattle.model.specs.Delay.{dueSlot, dueFrame, dueIn, AtAnswer, IsGranted, TimelyInOrder, AsksAt, Modest, ServedAt, SoonOn}
-use Rattle.model.specs.SeveralLinks.{slotsOf, sentSlots, dues, dueSlots, tile, Board, planOn, sentOn, dueOn, Joined, Way, Within, AllGranted}
+use Rattle.model.specs.SeveralLinks.{slotsOf, sentSlots, dues, dueSlots, tile, Board, planOn, sentOn, dueOn, Joined, Way, Within, AllGranted, EachGranted}
 use Rattle.model.specs.SeveralLinks.{EachWithin, OverLinks}
 use Rattle.model.proofs.Plan as plan
 use Rattle.model.proofs.Slots.{frame-begins, frame-ends}
@@ -136,40 +136,49 @@ module _ (a b : Board paper) (joined : Joined a b) where
 
 -- ---- the way
 
-abbrev FramesLater : ℕ → (a b : Board paper) → Type 0
-FramesLater k a b = (n : ℕ) → n < length (sentOn b) → frameOf (planOn b) (tile n (sentOn b)) ≤ frameOf (planOn a) (tile n (dueOn a)) + k
+abbrev FramesLater : (k : ℕ) (P : Plan) (from : List ℕ) → Board paper → Type 0
+FramesLater k P from b = (n : ℕ) → n < length (sentOn b) → frameOf (planOn b) (tile n (sentOn b)) ≤ frameOf P (tile n from) + k
 
--- frames and slots; the plans have the same F
-within : (k : ℕ) (a b : Board paper) → planOn a .slots ≡ planOn b .slots → FramesLater k a b → Within k a b
-within k a b same later = record {
-  frames-later = later;
-  slots-later = λ n lt.
-      let F = planOn b .slots in
-      let s = tile n (sentOn b) in
-      let d = tile n (dueOn a) in
-      let ends : frameOf (planOn b) s * F ≤ (frameOf (planOn a) d + k) * F = mul-le-mul-right F (later n lt) in
-      let begins : frameOf (planOn a) d * F ≤ d = subst (λ x. frameOf (planOn a) d * x ≤ d) same (frame-begins (ok a) d) in
-      omega (arith, frame-ends (ok b) s);
-}
+module _ {P : Plan} (accepted-plan : Accepted P) (from : List ℕ) where
+  -- frames and slots; the plans have the same F
+  within : (k : ℕ) (b : Board paper) → P .slots ≡ planOn b .slots → FramesLater k P from b → Within k P from b
+  within k b same later = record {
+    frames-later = later;
+    slots-later = λ n lt.
+        let F = planOn b .slots in
+        let s = tile n (sentOn b) in
+        let d = tile n from in
+        let ends : frameOf (planOn b) s * F ≤ (frameOf P d + k) * F = mul-le-mul-right F (later n lt) in
+        let begins : frameOf P d * F ≤ d = subst (λ x. frameOf P d * x ≤ d) same (frame-begins accepted-plan d) in
+        omega (arith, frame-ends (ok b) s);
+  }
 
-each-within : (k : ℕ) (a b : Board paper) (rest : List (Board paper)) → planOn a .slots ≡ planOn b .slots → FramesLater k a b
-    → Modest TimelyInOrder 0 (planOn b) (b .stream) (b .events) → Way b rest → EachWithin k a b rest
-each-within k a b [] same later m way = within k a b same later
-each-within k a b (next ∷ rest) same later m way = (
-  within k a b same later,
-  all-granted b next (way .0),
-  each-within (k + 1) a next rest (same ∙ way .0 .in-step .slots) later-still (next-modest b next (way .0)) (way .1),
-)
-  where
-    later-still : FramesLater (k + 1) a next
-    later-still n lt =
-        let x = both b next (way .0) in
-        let due-below : n < length (dueOn next) = omega (arith, as-many (planOn next) (next .stream) (next .events)) in
-        let same-tile : tile n (sentOn b) ≡ tile n (dueOn next) = tile-of-oldest (x .oldest) n due-below in
-        let sent-before = later n (omega (arith, oldest-length (x .oldest))) in
-        let same-frame : frameOf (planOn b) (tile n (sentOn b)) ≡ frameOf (planOn next) (tile n (dueOn next)) =
-        ap (frameOf (planOn b)) same-tile ∙ ap (λ F. tile n (dueOn next) / F) (way .0 .in-step .slots) in
-        omega (arith, one-frame next (next-modest b next (way .0)) n lt)
+  -- the next board adds a frame
+  later-still : (k : ℕ) (b next : Board paper) → Joined b next → FramesLater k P from b → FramesLater (k + 1) P from next
+  later-still k b next joined later n lt =
+      let x = both b next joined in
+      let due-below : n < length (dueOn next) = omega (arith, as-many (planOn next) (next .stream) (next .events)) in
+      let same-tile : tile n (sentOn b) ≡ tile n (dueOn next) = tile-of-oldest (x .oldest) n due-below in
+      let sent-before = later n (omega (arith, oldest-length (x .oldest))) in
+      let same-frame : frameOf (planOn b) (tile n (sentOn b)) ≡ frameOf (planOn next) (tile n (dueOn next)) =
+      ap (frameOf (planOn b)) same-tile ∙ ap (λ F. tile n (dueOn next) / F) (joined .in-step .slots) in
+      omega (arith, one-frame next (next-modest b next joined) n lt)
+
+  each-within : (k : ℕ) (b : Board paper) (rest : List (Board paper)) → P .slots ≡ planOn b .slots → FramesLater k P from b → Way b rest
+      → EachWithin (k + 1) P from rest
+  each-within k b [] same later way = tt
+  each-within k b (next ∷ rest) same later way =
+      let same-too = same ∙ way .0 .in-step .slots in
+      let more = later-still k b next (way .0) later in
+      (within (k + 1) next same-too more, each-within (k + 1) next rest same-too more (way .1))
+
+each-granted : (b : Board paper) (rest : List (Board paper)) → Way b rest → EachGranted rest
+each-granted b [] way = tt
+each-granted b (next ∷ rest) way = (all-granted b next (way .0), each-granted next rest (way .1))
 
 pub over-links : OverLinks paper
-over-links a rest way m = each-within 1 a a rest refl (one-frame a m) m way
+over-links a rest way = record {
+  granted = each-granted a rest way;
+  from-first = each-within (ok a) (sentOn a) 0 a rest refl (λ n lt. omega arith) way;
+  from-due = λ m. (within (ok a) (dueOn a) 1 a refl (one-frame a m), each-within (ok a) (dueOn a) 1 a rest refl (one-frame a m) way);
+}

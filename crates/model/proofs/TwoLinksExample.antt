@@ -106,8 +106,8 @@ modest-there =
 
 -- ---- what follows, and that the bound is attained
 
-pub both-within : EachWithin 1 first first (second ∷ [])
-both-within = over-links first (second ∷ []) way-there modest-there
+pub both-within : EachWithin 1 (planOn first) (dueOn first) (first ∷ second ∷ [])
+both-within = over-links first (second ∷ []) way-there .from-due modest-there
 
 -- the tile is due in slot 0 on the first board, and comes up on the second in slot 5: the last that comes fewer than 3 × F slots later
 pub due-there : tile 0 (dueOn first) ≡ 0

@@ -11,7 +11,7 @@ use Rattle.model.specs.Calls.{History}
 use Rattle.model.specs.History.{ticks, lends, ofFlow, expectedNumber}
 use Rattle.model.specs.Card.{Card}
 use Rattle.model.specs.TwoHops.{InStep}
-use Rattle.model.specs.SeveralLinks.{sentSlots, nextTile, nextSlot, Together, Board, planOn, EachWithin}
+use Rattle.model.specs.SeveralLinks.{sentSlots, nextTile, nextSlot, Together, Board, planOn, OnTime}
 use Rattle.model.specs.EnoughCells.{CreditedInTime, GivesBack}
 
 -- After h₁ and h₂ word w asks on the second board for flow j's next tile, in the slot in which it comes up on the first.
@@ -35,7 +35,7 @@ abbrev pub WayOnArrival : {c : Card} → Board c → List (Board c) → Type 0
 WayOnArrival a [] = Unit {0}
 WayOnArrival a (b ∷ rest) = JoinedOnArrival a b × WayOnArrival b rest
 
--- That the paper's card keeps it is `over-links-on-arrival`, in proofs/LinksOnArrival.antt.
+-- Where the stream gives its cells back on the first board too, it is modest there. That the paper's card keeps it is `over-links-on-arrival`, in
+-- proofs/LinksOnArrival.antt.
 abbrev pub OverLinksOnArrival : Card → Type 0
-OverLinksOnArrival c =
-    (a : Board c) (rest : List (Board c)) → WayOnArrival a rest → GivesBack 0 (planOn a) (a .stream) (a .events) → EachWithin 1 a a rest
+OverLinksOnArrival c = (a : Board c) (rest : List (Board c)) → WayOnArrival a rest → OnTime (GivesBack 0 (planOn a) (a .stream) (a .events)) a rest

@@ -3,10 +3,12 @@
 -- A stream is a flow of each board on its way, with no smaller share on the next board than on the one before. Its tiles are numbered by its grants, from
 -- 0, on each board. The boards tick in step on equal F and W, and no reset is granted. On each board after the first the stream asks for its tiles in
 -- order, each with the slot in which it comes up on the board before as its departure, at any time from that grant on until it comes up there, and not
--- while that slot is in the newest frame. Where each request has room and its number, and the stream is modest on the first board:
+-- while that slot is in the newest frame. Where each request has room and its number:
 -- - every request on the later boards is granted;
--- - a tile that is due on the first board in frame a comes up on board m in frame a + m at the latest, so fewer than (m + 1) × F slots after it is due.
--- A link adds a frame, and not two: two shares of a stream are never due in one frame of the next link.
+-- - a tile that comes up on the first board in frame f comes up on board m in frame f + m - 1 at the latest;
+-- - if the stream is modest on the first board, a tile that is due there in frame a comes up on board m in frame a + m at the latest, so fewer than
+--   (m + 1) × F slots after it is due.
+-- A link adds a frame, and not two, because no more than the share of a stream is due in a frame of the next link.
 use Prim.Native.Nat.{ℕ, _+_, _*_, _%_, _≤_, _<_}
 use mathlib.Core.Path.{_≡_}
 use mathlib.Core.List.{List, _∷_, []}
@@ -127,21 +129,32 @@ Way a (b ∷ rest) = Joined a b × Way b rest
 
 -- ---- what follows
 
--- The stream's tiles come up on board b in the k-th frame after the one in which they are due on board a, at the latest.
-pub record Within {c : Card} (k : ℕ) (a b : Board c) : Type 0 where
-  pub frames-later : (n : ℕ) → n < length (sentOn b) → frameOf (planOn b) (tile n (sentOn b)) ≤ frameOf (planOn a) (tile n (dueOn a)) + k
-  pub slots-later : (n : ℕ) → n < length (sentOn b) → tile n (sentOn b) < tile n (dueOn a) + (k + 1) * planOn b .slots
+-- Each of the stream's tiles comes up on board b at the latest k frames after the frame of its slot in `from`, a slot of a board with plan P for each tile.
+pub record Within {c : Card} (k : ℕ) (P : Plan) (from : List ℕ) (b : Board c) : Type 0 where
+  pub frames-later : (n : ℕ) → n < length (sentOn b) → frameOf (planOn b) (tile n (sentOn b)) ≤ frameOf P (tile n from) + k
+  pub slots-later : (n : ℕ) → n < length (sentOn b) → tile n (sentOn b) < tile n from + (k + 1) * planOn b .slots
 
--- every request of the stream on board b is granted
+-- so of boards one after the other, with a frame more on each
+abbrev pub EachWithin : {c : Card} → (k : ℕ) (P : Plan) (from : List ℕ) → List (Board c) → Type 0
+EachWithin k P from [] = Unit {0}
+EachWithin k P from (b ∷ rest) = Within k P from b × EachWithin (k + 1) P from rest
+
+-- every request of the stream on board b is granted; and so on each of several boards
 abbrev pub AllGranted : {c : Card} → Board c → Type 0
 AllGranted b = Each (AtAnswer (λ w x h. wellFormed (planOn b) w ≡ true → flowOf w ≡ b .stream → IsGranted x)) (b .events)
 
--- b is board number k of the way from a, and `rest` are those after it
-abbrev pub EachWithin : {c : Card} → (k : ℕ) → (a b : Board c) → (rest : List (Board c)) → Type 0
-EachWithin k a b [] = Within k a b
-EachWithin k a b (next ∷ rest) = Within k a b × AllGranted next × EachWithin (k + 1) a next rest
+abbrev pub EachGranted : {c : Card} → List (Board c) → Type 0
+EachGranted [] = Unit {0}
+EachGranted (b ∷ rest) = AllGranted b × EachGranted rest
+
+-- The stream is on time on its way from board a; M says that it is modest there.
+pub record OnTime {c : Card} (M : Type 0) (a : Board c) (rest : List (Board c)) : Type 0 where
+  pub granted : EachGranted rest
+  -- a link adds a frame to the one in which a tile comes up on the first, whatever the stream does there
+  pub from-first : EachWithin 1 (planOn a) (sentOn a) rest
+  -- and to the one in which it is due on the first
+  pub from-due : M → EachWithin 1 (planOn a) (dueOn a) (a ∷ rest)
 
 -- That the paper's card keeps it is `over-links`, in proofs/SeveralLinks.antt.
 abbrev pub OverLinks : Card → Type 0
-OverLinks c =
-    (a : Board c) (rest : List (Board c)) → Way a rest → Modest TimelyInOrder 0 (planOn a) (a .stream) (a .events) → EachWithin 1 a a rest
+OverLinks c = (a : Board c) (rest : List (Board c)) → Way a rest → OnTime (Modest TimelyInOrder 0 (planOn a) (a .stream) (a .events)) a rest
