@@ -1,5 +1,5 @@
 -- Whether a flow is modest in a history, and whether its requests are timely, is decided by computation. Assumes nothing.
-use Prim.Native.Nat.{ℕ, _≤_}
+use Prim.Native.Nat.{ℕ, suc, _+_, _≤_, _<_, max}
 use mathlib.Core.Path.{_≡_}
 use mathlib.Core.Logic.{Dec·and}
 use mathlib.Core.List.{List}
@@ -9,17 +9,17 @@ use native.Mathlib.Decide.{decLe, decLt, ℕ-discrete}
 use borrow.Author.Tests.{ne-eqb}
 use Rattle.model.specs.Tables.{tally}
 use Rattle.model.specs.Word.{flowOf, quantumOf}
-use Rattle.model.specs.Plan.{Plan}
+use Rattle.model.specs.Plan.{Plan, entry}
 use Rattle.model.specs.Calls.{Grant, Event, History, requested, credited, ticked, lent, accepted, refused}
-use Rattle.model.specs.History.{Mark, frameOf, wellFormed, inFrame, ofFlow, expectedNumber}
+use Rattle.model.specs.History.{Mark, frameOf, wellFormed, inFrame, ofFlow, grantedUpTo, lentUpTo, creditedUpTo, expectedNumber}
 use Rattle.model.specs.OtherPremises.{Premise}
 use Rattle.model.specs.LessAsked.{HasRoom}
-use Rattle.model.specs.Delay.{dueSlot, madeSince, dueSince, Timely, IsGranted, AtAnswer, PromptOn}
+use Rattle.model.specs.Delay.{dueSlot, RoomFrom, madeSince, dueSince, Timely, IsGranted, AtAnswer, PromptOn}
 use Rattle.model.specs.Delay.{Modest, ModestOnArrival}
 use Rattle.model.specs.LessTimely.{DueInTime, Ordered}
 use Rattle.model.proofs.Unfoldings.{plans-compute, calls-compute, counts-compute}
 use Rattle.model.proofs.Decidable.{same, implies, is-true, everywhere}
-use Rattle.model.proofs.PastMarks.{above, none-past}
+use Rattle.model.proofs.PastMarks.{above, none-past, end, same-granted, same-lent, same-credited}
 use Rattle.model.proofs.ClaimDecided.{at-request, has-room, ready-at, each, each-since, persistent}
 use Rattle.model.proofs.OtherPremises.{Decides, come, numbered, both}
 
@@ -60,10 +60,26 @@ ordered P i w h =
     everywhere (above (λ m. frameOf P (m .slot)) (dueSince P h)) (λ f. implies (decLt _ _) (ℕ-discrete _ _))
     (λ below f past lt. none-in P i f (dueSince P h) past)
 
+-- room from slot s on
+unfoldable pub room-from : (P : Plan) (i s : ℕ) (h : History) → Dec (RoomFrom P i s h)
+room-from P i s h = everywhere (suc (max s (end P h))) (λ r. implies (decLe _ _) (decLt _ _)) later
+  where
+    Fits : ℕ → Type 0
+    Fits r = s ≤ r → grantedUpTo P h i r + lentUpTo h i r < creditedUpTo P h i r + entry P i .cells
+
+    later : ((r : ℕ) → r < suc (max s (end P h)) → Fits r) → (r : ℕ) → suc (max s (end P h)) ≤ r → Fits r
+    later below r past le =
+        let u = max s (end P h) in
+        let x = below u (omega arith) (omega arith) in
+        let g = same-granted P h i r u (omega arith) (omega arith) in
+        let l = same-lent P h i r u (omega arith) (omega arith) in
+        let c = same-credited P h i r u (omega arith) (omega arith) in
+        omega arith
+
 unfoldable pub timely : (P : Plan) (i w : ℕ) (h : History) → Dec (Timely P i w h)
 timely P i w h =
     same (λ r. record { room = r .0; number = r .1 .0; in-time = r .1 .1 }) (λ x. (x .room, (x .number, x .in-time)))
-    (Dec·and (has-room P i h) (Dec·and (ℕ-discrete (quantumOf w) (expectedNumber P h i)) (decLt _ _)))
+    (Dec·and (room-from P i _ h) (Dec·and (ℕ-discrete (quantumOf w) (expectedNumber P h i)) (decLt _ _)))
 
 -- ---- a modest flow
 
@@ -84,5 +100,5 @@ modest-on-arrival P i h =
 
 unfoldable pub delays-compute : Unit {0}
 unfolding plans-compute calls-compute counts-compute persistent come numbered both dueSlot madeSince dueSince at-answer is-granted prompt-on room in-time
-    ordered timely modest modest-on-arrival
+    ordered room-from timely modest modest-on-arrival
 delays-compute = tt

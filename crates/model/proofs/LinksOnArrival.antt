@@ -13,12 +13,12 @@ use Rattle.model.specs.History.{ticks, frameOf, hasCome, lendAt, lends, 
 use Rattle.model.specs.Claim.{Each, EachSince, Ready, ReadyAt, GrantedWordAt}
 use Rattle.model.specs.Card.{paper}
 use Rattle.model.specs.Delay.{GrantedSoonAt, ModestOnArrival, TimelyInOrder, Modest}
-use Rattle.model.specs.SeveralLinks.{AsksForNext, Alone, AskedAt, Together, start, both-tick, first-alone, second-alone}
+use Rattle.model.specs.SeveralLinks.{nextSlot, AsksForNext, Alone, AskedAt, Together, start, both-tick, first-alone, second-alone}
 use Rattle.model.specs.SeveralLinks.{Ran, Board, planOn, Joined, Way}
 use Rattle.model.specs.EnoughCells.{GivesBack}
 use Rattle.model.specs.LinksOnArrival.{AsksOnArrival, JoinedOnArrival, WayOnArrival, OverLinksOnArrival}
 use Rattle.model.proofs.Tallies.{tally-append}
-use Rattle.model.proofs.Slots.{current-in-window}
+use Rattle.model.proofs.Slots.{frame-ends, current-in-window}
 use Rattle.model.proofs.Departures.{come-at}
 use Rattle.model.proofs.HistoryCounts.{NoneGranted}
 use Rattle.model.proofs.EventsOfRuns.{Happened}
@@ -116,7 +116,7 @@ module _ (a b : Board paper) (joined : JoinedOnArrival a b) where
       departs = x .departs;
       not-late = omega (arith, x .comes-now);
       in-time = omega (arith, ap (frameOf Q) (x .comes-now), ok b .two-frames);
-      room = ready-now .room;
+      room = λ r le. ready-now .room r (omega (arith, frame-ends (ok b) (nextSlot P Q i j h₁ h₂), x .comes-now));
       number = x .number;
     }
 

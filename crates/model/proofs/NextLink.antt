@@ -182,7 +182,7 @@ module _ {P Q : Plan} (ok₁ : Accepted P) (ok₂ : Accepted Q) (step : InStep P
 
     next-in-order : TimelyInOrder Q j w h₂
     next-in-order = record {
-      timely = record { room = x .room; number = x .number; in-time = rw due-is (x .in-time) };
+      timely = record { room = rw due-is (x .room); number = x .number; in-time = rw due-is (x .in-time) };
       in-order = λ f lt. due-count f ∙ descends .0 f (omega (arith, same-frame-of slot, ap (frameOf Q) due-is));
     }
       where

@@ -42,34 +42,33 @@ module _ {l : Link} {L : Ledger} (v : Invariant l L) {i : ℕ} (known : i < flow
   abbrev pub LeavesIn : ℕ → Type 0
   LeavesIn a = (x : ℕ) → x < F → canLeave (window l) d ((a * F + x) % T) ≡ true
 
-  -- ---- where the flow has room, a frame to come of which the tile can leave in every slot is full if the search fails in it
+  -- ---- a frame to come from which on the flow has room, and in every slot of which the tile can leave, is full if the search fails in it
 
-  module _ (room : Room P (L .raises) (L .credits) i t) where
-    not-valid : (s : ℕ) → InWindow P t s → t < s → canLeave (window l) d (s % T) ≡ true → validFor l i d (s % T) ≡ false
-        → 0 < tally (atSlot s) (L .grants)
-    not-valid s w h leaves e = go (tally (atSlot s) (L .grants)) refl
-      where
-        go : (x : ℕ) → tally (atSlot s) (L .grants) ≡ x → 0 < x
-        go (suc x) q = omega arith
-        go zero q =
-            let free = open-valid v known s w (record { not-granted = q; to-come = h; room = λ r le. room r (omega arith) }) in
-            let both = sym e ∙ valid-for-both l i d (s % T) free leaves in
-            let no : _≡_ {A = ℕ} 0 1 = cc in
-            omega arith
+  not-valid : (s : ℕ) → InWindow P t s → t < s → Room P (L .raises) (L .credits) i s → canLeave (window l) d (s % T) ≡ true → validFor l i d (s % T) ≡ false
+      → 0 < tally (atSlot s) (L .grants)
+  not-valid s w h room leaves e = go (tally (atSlot s) (L .grants)) refl
+    where
+      go : (x : ℕ) → tally (atSlot s) (L .grants) ≡ x → 0 < x
+      go (suc x) q = omega arith
+      go zero q =
+          let free = open-valid v known s w (record { not-granted = q; to-come = h; room = room }) in
+          let both = sym e ∙ valid-for-both l i d (s % T) free leaves in
+          let no : _≡_ {A = ℕ} 0 1 = cc in
+          omega arith
 
-    pub full-if-fails : (a c : ℕ) → frameOf P t < a → a < frameOf P t + W → LeavesIn a → Spent P (L .grants) i a c → FailsIn a c
-        → marksIn P i a (L .grants) ≡ entry P i .share
-    full-if-fails a zero low high leaves sp fails = omega (arith, sp .spent)
-    full-if-fails a (suc c) low high leaves sp fails =
-        absurd (not-all-booked ok (L .grants) (all-map _ _ (λ m g. g .known) (L .grants) (v .marks .grants-in)) a i c known
-        (λ j h. v .injects j h .in-frames a) (sp .spent) booked)
-      where
-        booked : (x : ℕ) → x < F → 0 < tally (atSlot (a * F + x)) (L .grants)
-        booked x h =
-            let not-ok = firstFrom-none F (a % W * F) (validFor l i d) fails (a % W * F + x) (omega arith) (omega arith) in
-            let after : suc (frameOf P t) * F ≤ a * F = mul-le-mul-right F low in
-            not-valid (a * F + x) (frame-slot-in-window ok t a x (omega arith) high h)
-            (omega (arith, frame-ends ok t)) (leaves x h) (ap (validFor l i d) (position-of ok a x h) ∙ not-ok)
+  pub full-if-fails : (a c : ℕ) → frameOf P t < a → a < frameOf P t + W → Room P (L .raises) (L .credits) i (a * F) → LeavesIn a
+      → Spent P (L .grants) i a c → FailsIn a c → marksIn P i a (L .grants) ≡ entry P i .share
+  full-if-fails a zero low high room leaves sp fails = omega (arith, sp .spent)
+  full-if-fails a (suc c) low high room leaves sp fails =
+      absurd (not-all-booked ok (L .grants) (all-map _ _ (λ m g. g .known) (L .grants) (v .marks .grants-in)) a i c known
+      (λ j h. v .injects j h .in-frames a) (sp .spent) booked)
+    where
+      booked : (x : ℕ) → x < F → 0 < tally (atSlot (a * F + x)) (L .grants)
+      booked x h =
+          let not-ok = firstFrom-none F (a % W * F) (validFor l i d) fails (a % W * F + x) (omega arith) (omega arith) in
+          let after : suc (frameOf P t) * F ≤ a * F = mul-le-mul-right F low in
+          not-valid (a * F + x) (frame-slot-in-window ok t a x (omega arith) high h)
+          (omega (arith, frame-ends ok t)) (λ r le. room r (omega arith)) (leaves x h) (ap (validFor l i d) (position-of ok a x h) ∙ not-ok)
 
   -- ---- the search, where R f counts the flow's refusals in frame f
 
@@ -96,7 +95,10 @@ module _ {l : Link} {L : Ledger} (v : Invariant l L) {i : ℕ} (known : i < flow
       where
         here : Dec (a ≤ frameOf P t) → L .origin < a → marksIn P i a (L .grants) ≡ entry P i .share
         here (yes h) since = p .least .after-a-change (omega (arith, q .low)) a since (omega (arith, q .low, ok .two-frames))
-        here (no h) since = full-if-fails (p .room) a c (omega arith) high (λ x below. leaves-if-come (window l) d _ (p .come)) (q .spends) fails
+        here (no h) since =
+            let after : suc (frameOf P t) * F ≤ a * F = mul-le-mul-right F (omega arith) in
+            full-if-fails a c (omega arith) high (λ r le. p .room r (omega (arith, frame-ends ok t))) (λ x below. leaves-if-come (window l) d _ (p .come))
+            (q .spends) fails
 
         go : Dec (f < a) → marksIn P i f (L .grants) ≡ entry P i .share
         go (yes h) = q .full p f since h

@@ -66,7 +66,7 @@ module _ {l : Link} {h : History} (g : After (l .plan) l h) (w : ℕ) (well : we
 
     full : (a c : ℕ) → suc due ≤ a → a < currentFrame P h + W → Reached v known-flow d none a c → FailsIn v known-flow d a c
         → grantedIn P h i a ≡ entry P i .share
-    full a c low high q fails = full-if-fails-later g w well (timely .room) a c low high (q .spends) fails
+    full a c low high q fails = full-if-fails-later g w well timely a c low high (q .spends) fails
 
     some-share : 1 ≤ entry P i .share
     some-share = ok .entries-fit i known-flow .some-share

@@ -238,7 +238,7 @@ module _ {l : Link} {h : History} (g : After (l .plan) l h) (w : ℕ) where
       omega arith
   searched-not-12 well x (nowhere (suc c)) s e =
       let t = ready-timely ok (flowOf w) w h x in
-      let full = full-if-fails-later g w well (t .room) (newestFrame P h) (suc c) (t .in-time) (omega (arith, some-frame ok)) (s .reached .spends) (s .fails) in
+      let full = full-if-fails-later g w well t (newestFrame P h) (suc c) (t .in-time) (omega (arith, some-frame ok)) (s .reached .spends) (s .fails) in
       omega (arith, s .reached .spends .spent)
 
   ready-not-12 : (wellFormed P w ≡ true → Ready P (flowOf w) w h) → request l w .answer ≡ refused 12 → ⊥

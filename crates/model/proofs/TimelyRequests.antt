@@ -8,17 +8,16 @@ use Rattle.model.specs.Word.{flowOf, departureOf}
 use Rattle.model.specs.Plan.{Plan, flowCount, entry, Accepted}
 use Rattle.model.specs.Calls.{History}
 use Rattle.model.specs.Link.{Link}
-use Rattle.model.specs.History.{ticks, slotAfter, frameOf, wellFormed, hasCome, grantsSince, upTo}
+use Rattle.model.specs.History.{ticks, slotAfter, frameOf, wellFormed, hasCome, grantsSince, credits, upTo}
 use Rattle.model.specs.Claim.{Ready}
-use Rattle.model.specs.Claim as claim
 use Rattle.model.specs.Delay.{currentFrame, dueSlot, dueFrame, Timely}
 use Rattle.model.proofs.Slots.{frame-begins, frame-ends, frame-low, frame-slot-in-window}
 use Rattle.model.proofs.Window.{Current}
 use Rattle.model.proofs.Departures.{leaves-in}
 use Rattle.model.proofs.Marks.{marksIn}
-use Rattle.model.proofs.Invariant.{Spent}
+use Rattle.model.proofs.Invariant.{Spent, Room}
 use Rattle.model.proofs.RequestSearch.{FailsIn, LeavesIn, full-if-fails}
-use Rattle.model.proofs.HistoryCounts.{flow-below, departure-below, raises-are}
+use Rattle.model.proofs.HistoryCounts.{flow-below, departure-below, raises, raises-are}
 use Rattle.model.proofs.AfterHistory.{After}
 use Rattle.model.proofs.NewestGrants.{slot-to-come}
 
@@ -52,7 +51,7 @@ module _ {P : Plan} (ok : Accepted P) where
   -- a tile that has come is due before the newest frame
   pub ready-timely : (i w : ℕ) (h : History) → Ready P i w h → Timely P i w h
   ready-timely i w h x = record {
-    room = x .room;
+    room = λ s le. x .room s (omega (arith, frame-ends ok (dueSlot P w h), due-from-now P w h));
     number = x .number;
     in-time = omega (arith, ap (frameOf P) (due-if-come P w h (x .come)), ok .two-frames);
   }
@@ -89,8 +88,12 @@ module _ {l : Link} {h : History} (g : After (l .plan) l h) (w : ℕ) (well : we
           omega (arith, due-if-not P w h yet, frame-ends ok (dueSlot P w h))
 
   -- where the search fails in such a frame, the flow has its whole share there
-  pub full-if-fails-later : claim.Room P i h → (a c : ℕ) → dueFrame P w h < a → a < frameOf P t + W → Spent P (grantsSince P h) i a c → FailsIn v known d a c
+  pub full-if-fails-later : Timely P i w h → (a c : ℕ) → dueFrame P w h < a → a < frameOf P t + W → Spent P (grantsSince P h) i a c → FailsIn v known d a c
       → marksIn P i a (grantsSince P h) ≡ entry P i .share
-  full-if-fails-later room a c low high =
-      full-if-fails v known d (λ s le. omega (arith, room s le, raises-are P (upTo i s) h)) a c (omega (arith, due-frame-from-now ok w h)) high
-      (leaves-later a low high)
+  full-if-fails-later timely a c low high =
+      full-if-fails v known d a c (omega (arith, due-frame-from-now ok w h)) high room (leaves-later a low high)
+    where
+      room : Room P (raises P h) (credits P h) i (a * F)
+      room s le =
+          let begins : (dueFrame P w h + 1) * F ≤ a * F = mul-le-mul-right F (omega arith) in
+          omega (arith, timely .room s (omega arith), raises-are P (upTo i s) h)

@@ -13,9 +13,8 @@ use Rattle.model.specs.PlanBytes.{plan2}
 use Rattle.model.specs.Delay.{TimelyInOrder, Modest}
 use Rattle.model.specs.SeveralLinks.{slotsOf, dues, tile, start, first-alone, second-alone, Ran, Board, planOn, sentOn, dueOn, Way, EachWithin}
 use Rattle.model.proofs.Decidable.{proved}
-use Rattle.model.proofs.ClaimDecided.{has-room}
 use Rattle.model.proofs.OtherPremises.{both}
-use Rattle.model.proofs.DelayDecided.{ordered, timely, modest, delays-compute}
+use Rattle.model.proofs.DelayDecided.{ordered, room-from, timely, modest, delays-compute}
 use Rattle.model.proofs.SeveralLinks.{over-links}
 
 -- F = 2, W = 3, two flows with share 1 and 4 cells, of which flow 0 is the stream
@@ -79,7 +78,7 @@ way-there = (
           departs = refl;
           not-late = lit≤ tt;
           in-time = lit< tt;
-          room = proved (has-room (planOf bytes) 0 before) tt;
+          room = proved (room-from (planOf bytes) 0 4 before) tt;
           number = refl;
         })
         (second-alone (requested 0x24100800 (accepted 0x24100804)) tt (λ well own. absurd (omega (arith, own)))

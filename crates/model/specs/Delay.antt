@@ -21,8 +21,9 @@ use Rattle.model.specs.Tables.{tally}
 use Rattle.model.specs.Word.{flowOf, quantumOf, departureOf}
 use Rattle.model.specs.Plan.{Plan, flowCount, entry, planOf, refusal}
 use Rattle.model.specs.Calls.{Call, Grant, Event, History, requested, credited, ticked, lent, accepted, refused}
-use Rattle.model.specs.History.{ticks, slotAfter, frameOf, wellFormed, hasCome, Mark, marksSince, inFrame, expectedNumber}
-use Rattle.model.specs.Claim.{Each, EachSince, AtRequest, AtGrant, Room, ReadyAt}
+use Rattle.model.specs.History.{ticks, slotAfter, frameOf, wellFormed, hasCome, Mark, marksSince, inFrame, grantedUpTo, lentUpTo, creditedUpTo}
+use Rattle.model.specs.History.{expectedNumber}
+use Rattle.model.specs.Claim.{Each, EachSince, AtRequest, AtGrant, ReadyAt}
 use Rattle.model.specs.Card.{Card, run}
 
 -- ---- when a tile is due
@@ -70,9 +71,18 @@ dueIn P h i f = tally (inFrame P i f) (dueSince P h)
 
 -- ---- a request that can be served
 
--- Flow i has a cell free in every slot from the current one on; its word carries the expected number; and the tile is due before the newest frame.
+-- after h, flow i holds fewer than its cells in every slot from slot s on
+abbrev pub RoomFrom : Plan → (i s : ℕ) → History → Type 0
+RoomFrom P i s h = (r : ℕ) → s ≤ r → grantedUpTo P h i r + lentUpTo h i r < creditedUpTo P h i r + entry P i .cells
+
+-- the first slot of the frame after that of slot s
+abbrev pub nextFrameOf : Plan → ℕ → ℕ
+nextFrameOf P s = (frameOf P s + 1) * P .slots
+
+-- Flow i has a cell free in every slot from the frame after the due one on; its word carries the expected number; and the tile is due before the newest
+-- frame.
 pub record Timely (P : Plan) (i w : ℕ) (h : History) : Type 0 where
-  pub room : Room P i h
+  pub room : RoomFrom P i (nextFrameOf P (dueSlot P w h)) h
   pub number : quantumOf w ≡ expectedNumber P h i
   pub in-time : dueFrame P w h < newestFrame P h
 

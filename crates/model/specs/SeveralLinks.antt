@@ -3,7 +3,7 @@
 -- A stream is a flow of each board on its way, with no smaller share on the next board than on the one before. Its tiles are numbered by its grants, from
 -- 0, on each board. The boards tick in step on equal F and W, and no reset is granted. On each board after the first the stream asks for its tiles in
 -- order, each with the slot in which it comes up on the board before as its departure, at any time from that grant on until it comes up there, and not
--- while that slot is in the newest frame. Where each request has room and its number:
+-- while that slot is in the newest frame. Where each request has its number, and room from the frame after that slot's on:
 -- - every request on the later boards is granted;
 -- - a tile that comes up on the first board in frame f comes up on board m in frame f + m - 1 at the latest;
 -- - if the stream is modest on the first board, a tile that is due there in frame a comes up on board m in frame a + m at the latest, so fewer than
@@ -20,10 +20,10 @@ use Rattle.model.specs.Word.{flowOf, quantumOf, departureOf}
 use Rattle.model.specs.Plan.{Plan, positions, flowCount, entry, planOf, refusal}
 use Rattle.model.specs.Calls.{Call, Turn, Event, History, requested, credited, ticked, lent}
 use Rattle.model.specs.History.{ticks, frameOf, wellFormed, renews, Mark, marksOf, grants, ofFlow, grantedInAll, expectedNumber}
-use Rattle.model.specs.Claim.{Each, AtRequest, Room}
+use Rattle.model.specs.Claim.{Each, AtRequest}
 use Rattle.model.specs.Card.{Card, run}
 use Rattle.model.specs.TwoHops.{InStep}
-use Rattle.model.specs.Delay.{newestFrame, dueSlot, grantBy, AtAnswer, IsGranted, TimelyInOrder, Modest}
+use Rattle.model.specs.Delay.{newestFrame, dueSlot, grantBy, RoomFrom, nextFrameOf, AtAnswer, IsGranted, TimelyInOrder, Modest}
 
 -- ---- a stream's tiles on one board
 
@@ -73,7 +73,7 @@ module _ (P Q : Plan) (i j : ℕ) where
     pub departs : departureOf w ≡ nextSlot h₁ h₂ % positions Q
     pub not-late : ticks h₂ ≤ nextSlot h₁ h₂
     pub in-time : frameOf Q (nextSlot h₁ h₂) < newestFrame Q h₂
-    pub room : Room Q j h₂
+    pub room : RoomFrom Q j (nextFrameOf Q (nextSlot h₁ h₂)) h₂
     pub number : quantumOf w ≡ expectedNumber Q h₂ j
 
   -- what is asked of flow j's request with word w after h₂, where the first board's events are h₁; so of its well-formed requests
