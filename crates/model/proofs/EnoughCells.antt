@@ -103,10 +103,21 @@ module _ {P : Plan} (ok : Accepted P) (i : ℕ) (known : i < flowCount P) where
   soon-marks (Event.reset (accepted u) ∷ h) none soon = absurd (let z : _≡_ {A = ℕ} 1 0 = ap bit (none .0) in omega arith)
   soon-marks (Event.reset (refused r) ∷ h) none soon = soon-marks h (none .1) (soon .1)
 
-  module _ (h : History) (none : NoneGranted h) (c : Counts P h) (soon : EachSince (GrantedSoonAt P i) h) (credited : CreditedInTime P i h)
-      (not-lent : tally (ofFlow i) (lends h) ≡ 0) (enough : 2 * entry P i .share < entry P i .cells + 0) where
+  module _ (h : History) (none : NoneGranted h) (soon : EachSince (GrantedSoonAt P i) h) (credited : CreditedInTime P i h)
+      (not-lent : tally (ofFlow i) (lends h) ≡ 0) where
     abbrev t : ℕ
     t = ticks h
+
+    abbrev f : ℕ
+    f = currentFrame P h
+
+    -- flow i's grants in frame a
+    abbrev inOf : ℕ → ℕ
+    inOf a = tally (inFrame P i a) (grants P h)
+
+    -- at slot s it holds no more than its grants in frame a and the next
+    abbrev pub HeldIn : (s a : ℕ) → Type 0
+    HeldIn s a = grantedUpTo P h i s + lentUpTo h i s ≤ creditedUpTo P h i s + (inOf a + inOf (suc a))
 
     -- what is below b has been given back by slot s
     given-back : (b s : ℕ) → b ≤ t → ((r : ℕ) → b ≡ suc r → lastOf P (frameOf P r + 1) ≤ s) → tally (below i b) (grants P h) ≤ creditedUpTo P h i s
@@ -119,60 +130,59 @@ module _ {P : Plan} (ok : Accepted P) (i : ℕ) (known : i < flowCount P) where
           up-to-more i (lastOf P (frameOf P r + 1)) s (by r refl) (credits P h),
         )
 
-    in-frame : (f : ℕ) → tally (inFrame P i f) (grants P h) ≤ entry P i .share
-    in-frame f = omega (arith, c .in-frames i known f, ap (tally (inFrame P i f)) (grants-are P h none))
-
-    -- with those of two frames it holds no more than two shares
-    two-shares : (s b a : ℕ) → All (InTwo P i s b a) (grants P h) → b ≤ t → ((r : ℕ) → b ≡ suc r → lastOf P (frameOf P r + 1) ≤ s)
-        → grantedUpTo P h i s + lentUpTo h i s < creditedUpTo P h i s + entry P i .cells
-    two-shares s b a two le by =
+    held-two : (s b a : ℕ) → All (InTwo P i s b a) (grants P h) → b ≤ t → ((r : ℕ) → b ≡ suc r → lastOf P (frameOf P r + 1) ≤ s) → HeldIn s a
+    held-two s b a two le by =
         omega (
           arith,
           two-frames P i s b a (grants P h) two,
-          in-frame a,
-          in-frame (suc a),
           given-back b s le by,
           tally-le (upTo i s) (ofFlow i) (λ m e. and-true (ofFlow i m) (leb (m .slot) s) e .0) (lends h),
         )
 
-    pub has-room : Room P i h
-    has-room s le = go (decLe (frameOf P s) (currentFrame P h + 1))
-      where
-        G : ℕ
-        G = frameOf P s
+    module _ (s : ℕ) (le : t ≤ s) where
+      abbrev G : ℕ
+      G = frameOf P s
 
-        f : ℕ
-        f = currentFrame P h
+      -- the last slot of the frame after r's
+      last-le : (r g : ℕ) → frameOf P r ≤ g → (g + 2) * F ≤ suc s → lastOf P (frameOf P r + 1) ≤ s
+      last-le r g le h = let z : (frameOf P r + 1 + 1) * F ≤ (g + 2) * F = mul-le-mul-right F (omega arith) in omega arith
 
-        -- the last slot of the frame after r's
-        last-le : (r g : ℕ) → frameOf P r ≤ g → (g + 2) * F ≤ suc s → lastOf P (frameOf P r + 1) ≤ s
-        last-le r g le h = let z : (frameOf P r + 1 + 1) * F ≤ (g + 2) * F = mul-le-mul-right F (omega arith) in omega arith
+      -- in this frame and the next: what lies in a frame before the last is given back
+      pub held-near : G ≤ f + 1 → HeldIn s (G - 1)
+      held-near near = held-two s ((G - 1) * F) (G - 1) (all-of _ two (grants P h)) first by
+        where
+          two : (m : Mark) → InTwo P i s ((G - 1) * F) (G - 1) m
+          two m own up from = (frame-low ok (G - 1) (m .slot) from, omega (arith, frame-order ok (m .slot) s up))
 
-        go : Dec (G ≤ f + 1) → grantedUpTo P h i s + lentUpTo h i s < creditedUpTo P h i s + entry P i .cells
-        -- in this frame and the next: what lies in a frame before the last is given back
-        go (yes near) = two-shares s ((G - 1) * F) (G - 1) (all-of _ two (grants P h)) first by
-          where
-            two : (m : Mark) → InTwo P i s ((G - 1) * F) (G - 1) m
-            two m own up from = (frame-low ok (G - 1) (m .slot) from, omega (arith, frame-order ok (m .slot) s up))
+          first : (G - 1) * F ≤ t
+          first = let z : (G - 1) * F ≤ f * F = mul-le-mul-right F (omega arith) in omega (arith, frame-begins ok t)
 
-            first : (G - 1) * F ≤ t
-            first =
-                let z : (G - 1) * F ≤ f * F = mul-le-mul-right F (omega arith) in
-                omega (arith, frame-begins ok t)
+          by : (r : ℕ) → (G - 1) * F ≡ suc r → lastOf P (frameOf P r + 1) ≤ s
+          by r e =
+              let before : frameOf P r < G - 1 = frame-high ok (G - 1) r (omega arith) in
+              last-le r (G - 2) (omega arith) (let z : (G - 2 + 2) * F ≤ G * F = mul-le-mul-right F (omega arith) in omega (arith, frame-begins ok s))
 
-            by : (r : ℕ) → (G - 1) * F ≡ suc r → lastOf P (frameOf P r + 1) ≤ s
-            by r e =
-                let before : frameOf P r < G - 1 = frame-high ok (G - 1) r (omega arith) in
-                last-le r (G - 2) (omega arith) (let z : (G - 2 + 2) * F ≤ G * F = mul-le-mul-right F (omega arith) in omega (arith, frame-begins ok s))
-        -- later: what is gone is given back, and the rest is in this frame and the next
-        go (no far) = two-shares s t f (all-map _ _ two (grants P h) (soon-marks h none soon)) (omega arith) by
-          where
-            two : (m : Mark) → (m .flow ≡ i → frameOf P (m .slot) ≤ f + 1) → InTwo P i s t f m
-            two m near own up from = (frame-order ok t (m .slot) from, omega (arith, near own))
+      -- later: what is gone is given back, and the rest is in this frame and the next
+      pub held-far : f + 1 < G → HeldIn s f
+      held-far far = held-two s t f (all-map _ _ two (grants P h) (soon-marks h none soon)) (omega arith) by
+        where
+          two : (m : Mark) → (m .flow ≡ i → frameOf P (m .slot) ≤ f + 1) → InTwo P i s t f m
+          two m near own up from = (frame-order ok t (m .slot) from, omega (arith, near own))
 
-            by : (r : ℕ) → t ≡ suc r → lastOf P (frameOf P r + 1) ≤ s
-            by r e =
-                last-le r f (frame-order ok r t (omega arith)) (let z : (f + 2) * F ≤ G * F = mul-le-mul-right F (omega arith) in omega (arith, frame-begins ok s))
+          by : (r : ℕ) → t ≡ suc r → lastOf P (frameOf P r + 1) ≤ s
+          by r e =
+              last-le r f (frame-order ok r t (omega arith)) (let z : (f + 2) * F ≤ G * F = mul-le-mul-right F (omega arith) in omega (arith, frame-begins ok s))
+
+    module _ (c : Counts P h) where
+      pub most-in-frame : (a : ℕ) → inOf a ≤ entry P i .share
+      most-in-frame a = omega (arith, c .in-frames i known a, ap (tally (inFrame P i a)) (grants-are P h none))
+
+      pub has-room : 2 * entry P i .share < entry P i .cells + 0 → Room P i h
+      has-room enough s le = go (decLe (frameOf P s) (f + 1))
+        where
+          go : Dec (frameOf P s ≤ f + 1) → grantedUpTo P h i s + lentUpTo h i s < creditedUpTo P h i s + entry P i .cells
+          go (yes near) = omega (arith, held-near s le near, most-in-frame (frameOf P s - 1), most-in-frame (suc (frameOf P s - 1)))
+          go (no far) = omega (arith, held-far s le (omega arith), most-in-frame f, most-in-frame (suc f))
 
 -- ---- a list of calls
 
@@ -242,7 +252,7 @@ module _ {P : Plan} (ok : Accepted P) (i : ℕ) (known : i < flowCount P) where
       one (requested w a) asks = λ well own.
           let y = asks well own in
           record {
-            room = has-room ok i known h (none-granted h (so-far .no-reset)) (counts-at ok h happened) soon (y .credited) (so-far .not-lent) (x .enough-cells);
+            room = has-room ok i known h (none-granted h (so-far .no-reset)) soon (y .credited) (so-far .not-lent) (counts-at ok h happened) (x .enough-cells);
             come = y .come;
             number = y .number;
           }

@@ -21,8 +21,9 @@ use Rattle.model.proofs.Tallies.{tally-append}
 use Rattle.model.proofs.Slots.{frame-ends, current-in-window}
 use Rattle.model.proofs.Departures.{come-at}
 use Rattle.model.proofs.HistoryCounts.{NoneGranted}
+use Rattle.model.proofs.Demand3.{each-since-map}
 use Rattle.model.proofs.EventsOfRuns.{Happened}
-use Rattle.model.proofs.SoonOnArrival.{due-when-made, asks-on-arrival, soon-on-arrival}
+use Rattle.model.proofs.SoonOnArrival.{ready-come, due-when-made, asks-on-arrival, soon-on-arrival}
 use Rattle.model.proofs.GrantsInOrder.{FrameInOrderAt}
 use Rattle.model.proofs.NextLink.{each-since, counts-at, shared, modest-on-next}
 use Rattle.model.proofs.SeveralLinks.{ok, none, runs-have, happened, ordered, words, over-links}
@@ -91,7 +92,7 @@ module _ (a b : Board paper) (joined : JoinedOnArrival a b) where
         (k .words₂) in
         let m = modest-on-next (ok a) (ok b) (joined .in-step) i j (a .known) (joined .share-kept) h₁ h₂ both (k .happened₁) (k .none₁) (k .none₂) in
         let since = each-since (ReadyAt Q j) h₂ (s .ready) in
-        record { ready-at-each-request = since; within-share = λ f. omega (arith, m .within-share f, due-when-made (ok b) j f h₂ (k .words₂) since) }
+        record { ready-at-each-request = since; within-share = λ f. omega (arith, m .within-share f, due-when-made (ok b) j f h₂ (k .words₂) (each-since-map _ _ (ready-come Q j) h₂ since)) }
 
     soon : EachSince (GrantedSoonAt Q j) h₂
     soon = subst (λ h. ModestOnArrival Q j h → EachSince (GrantedSoonAt Q j) h) (ran .is) (soon-on-arrival Q (ok b) (ran .calls) j (b .known)) modest
@@ -104,7 +105,7 @@ module _ (a b : Board paper) (joined : JoinedOnArrival a b) where
     ready-now : Ready Q j w h₂
     ready-now = record {
       room =
-          has-room (ok b) j (b .known) h₂ (k .none₂) (counts-at (ok b) h₂ (k .happened₂)) soon (x .credited) (k .not-lent₂)
+          has-room (ok b) j (b .known) h₂ (k .none₂) soon (x .credited) (k .not-lent₂) (counts-at (ok b) h₂ (k .happened₂))
           (omega (arith, joined .enough-cells));
       come = come;
       number = x .number;
@@ -175,7 +176,7 @@ modest-first a gives-back =
     let since = each-since (ReadyAt (planOn a) (a .stream)) (a .events) (ready-at-each (ok a) (a .stream) (a .known) (a .events) ran (happened a) gives-back) in
     record {
       asks = asks-on-arrival (ok a) (a .stream) (a .events) (words a) since;
-      within-share = λ f. omega (arith, gives-back .within-share f, due-when-made (ok a) (a .stream) f (a .events) (words a) since);
+      within-share = λ f. omega (arith, gives-back .within-share f, due-when-made (ok a) (a .stream) f (a .events) (words a) (each-since-map _ _ (ready-come (planOn a) (a .stream)) (a .events) since));
     }
 
 pub over-links-on-arrival : OverLinksOnArrival paper
