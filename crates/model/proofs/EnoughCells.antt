@@ -90,7 +90,7 @@ module _ {P : Plan} (ok : Accepted P) (i : ℕ) (known : i < flowCount P) where
   open Plan P using (slots as F)
 
   -- where each grant is soon, none lies after the next frame
-  soon-marks : (h : History) → NoneGranted h → EachSince (GrantedSoonAt P i) h
+  pub soon-marks : (h : History) → NoneGranted h → EachSince (GrantedSoonAt P i) h
       → All (λ m. m .flow ≡ i → frameOf P (m .slot) ≤ currentFrame P h + 1) (grants P h)
   unfolding ticks grants
   soon-marks [] none soon = tt
