@@ -1,5 +1,6 @@
--- With two shares of cells and no more a stream that gives them back in time may lack room; with one more it has it in the same calls. Assumes nothing.
-use Prim.Native.Nat.{ℕ, _+_, _≤_}
+-- With two shares of cells and no more a stream that gives them back in time may lack room; with one more it has it in the same calls. With one fewer a
+-- request of it may be refused. Assumes nothing.
+use Prim.Native.Nat.{_<_, ℕ, _+_, _≤_}
 use mathlib.Core.Path.{_≡_, refl}
 use mathlib.Core.Logic.{Dec·and}
 use mathlib.Core.List.{List, _∷_, [], reverse}
@@ -8,13 +9,13 @@ use native.Mathlib.Omega.{arith}
 use native.Mathlib.Decide.{decLe, decLt, ℕ-discrete}
 use lib.Dec.{lit<, lit≤}
 use Rattle.model.specs.Word.{flowOf, quantumOf, departureOf}
-use Rattle.model.specs.Plan.{Plan, planOf}
+use Rattle.model.specs.Plan.{Plan, entry, planOf}
 use Rattle.model.specs.Calls.{Call, History, requested, credited, ticked, accepted}
 use Rattle.model.specs.History.{ticks, frameOf, wellFormed, hasCome, expectedNumber, grantedUpTo, creditedUpTo}
 use Rattle.model.specs.Card.{run, paper}
 use Rattle.model.specs.PlanBytes.{plan2}
-use Rattle.model.specs.Delay.{madeSince}
-use Rattle.model.specs.EnoughCells.{lastOf, AsksInTurn, GivesBack, EnoughCellsBy}
+use Rattle.model.specs.Delay.{currentFrame, madeSince, madeIn}
+use Rattle.model.specs.EnoughCells.{lastOf, AsksInTurn, GivesBack, EnoughCellsBy, KeepsTwoShares, TwoSharesBy}
 use Rattle.model.proofs.Decidable.{same, implies, is-true, all-below, everywhere, proved}
 use Rattle.model.proofs.PastMarks.{above}
 use Rattle.model.proofs.ClaimDecided.{at-request, each}
@@ -72,3 +73,28 @@ not-two-shares enough =
 pub three-are-enough : GivesBack 0 (planOf (bytes 3)) 0 (events 3)
 unfolding delays-compute in-turn gives-back
 three-are-enough = proved (gives-back 0 (planOf (bytes 3)) 0 (events 3)) tt
+
+-- ---- two shares, and one cell fewer
+
+unfoldable pub keeps-two-shares : (short : ℕ) (P : Plan) (i : ℕ) (h : History) → Dec (KeepsTwoShares short P i h)
+keeps-two-shares short P i h =
+    same (λ r. record { asks = r .0; two-shares = r .1 .0; not-lent = r .1 .1 .0; no-reset = r .1 .1 .1 })
+    (λ x. (x .asks, (x .two-shares, (x .not-lent, x .no-reset))))
+    (Dec·and
+    (each (at-request λ w h. implies (is-true (wellFormed P w)) (implies (ℕ-discrete (flowOf w) i)
+    (same {A = AsksInTurn P i w h × (madeIn P h i (currentFrame P h) < entry P i .share)} (λ r. record { in-turn = r .0; few = r .1 })
+    (λ x. (x .in-turn, x .few)) (Dec·and (in-turn P i w h) (decLt _ _))))) h)
+    (Dec·and (decLe _ _) (Dec·and (ℕ-discrete _ _) (ℕ-discrete _ _))))
+
+-- with two cells each request of the calls above is granted
+pub two-are-kept : KeepsTwoShares 0 (planOf (bytes 2)) 0 (events 2)
+unfolding delays-compute in-turn keeps-two-shares
+two-are-kept = proved (keeps-two-shares 0 (planOf (bytes 2)) 0 (events 2)) tt
+
+-- with one cell, which is held from slot 3 on, the tile that is asked for in slot 2 is refused
+pub not-fewer : TwoSharesBy 1 paper → ⊥
+unfolding delays-compute in-turn keeps-two-shares
+not-fewer two =
+    let calls = Call.request 0x24100000 ∷ Call.request 0x24100400 ∷ Call.request 0x24000000 ∷ Call.tick ∷ Call.tick ∷ Call.request 0x24000402 ∷ [] in
+    let h = run paper (planOf (bytes 1)) calls .history in
+    two (bytes 1) refl calls 0 (lit< tt) (proved (keeps-two-shares 1 (planOf (bytes 1)) 0 h) tt) .0 refl refl

@@ -99,13 +99,16 @@ abbrev pub GrantedNow : Plan → Grant → History → Type 0
 GrantedNow P (accepted v) h = GrantedSoon P (slotAfter P (ticks h) (departureOf v)) h
 GrantedNow P (refused r) h = ⊥
 
+abbrev pub EachGrantedNow : Plan → ℕ → History → Type 0
+EachGrantedNow P i = Each (AtAnswer (λ w a h. wellFormed P w ≡ true → flowOf w ≡ i → GrantedNow P a h))
+
 -- Room may be missing in slots of the current frame, and still each request is granted so. That the paper's card keeps it is `two-shares`, in
 -- proofs/TwoShares.antt.
 abbrev pub TwoSharesBy : (short : ℕ) → Card → Type 0
 TwoSharesBy short c =
     (bytes : List ℕ) → refusal bytes ≡ 0 → (calls : List Call) (i : ℕ) → i < flowCount (planOf bytes)
     → KeepsTwoShares short (planOf bytes) i (run c (planOf bytes) calls .history)
-    → Each (AtAnswer (λ w a h. wellFormed (planOf bytes) w ≡ true → flowOf w ≡ i → GrantedNow (planOf bytes) a h)) (run c (planOf bytes) calls .history)
+    → EachGrantedNow (planOf bytes) i (run c (planOf bytes) calls .history)
 
 abbrev pub TwoShares : Card → Type 0
 TwoShares = TwoSharesBy 0
