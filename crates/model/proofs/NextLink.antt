@@ -17,7 +17,7 @@ use Rattle.model.specs.Holding.{frameStart, InWindow}
 use Rattle.model.specs.Claim.{Each, EachSince, GrantedWordAt}
 use Rattle.model.specs.TwoHops.{InStep}
 use Rattle.model.specs.Delay.{dueSlot, dueFrame, dueSince, dueIn, TimelyInOrder, AsksAt, Modest}
-use Rattle.model.specs.SeveralLinks.{slotsOf, sentSlots, dues, dueSlots, tile, nextTile, nextSlot, Alone, AsksForNext, AskedAt}
+use Rattle.model.specs.SeveralLinks.{slotsOf, sentSlots, dues, dueSlots, tile, nextTile, nextSlot, Alone, ForNext, AsksForNext, AskedAt}
 use Rattle.model.specs.SeveralLinks.{Together, start, both-tick, first-alone, second-alone}
 use Rattle.model.proofs.Tallies.{All, tally-append, tally-hit}
 use Rattle.model.proofs.Slots.{frame-begins, slotAfter-is}
@@ -139,7 +139,7 @@ module _ {P Q : Plan} (ok₁ : Accepted P) (ok₂ : Accepted Q) (step : InStep P
   -- ---- a request for the next tile
 
   module _ (h₁ h₂ : History) (same : ticks h₁ ≡ ticks h₂) (c : Counts P h₁) (none₁ : NoneGranted h₁) (none₂ : NoneGranted h₂)
-      (ordered : Each (FrameInOrderAt P) h₁) (oldest : Oldest (dueSlots Q h₂ j) (sentSlots P h₁ i)) (w : ℕ) (x : AsksForNext P Q i j h₁ w h₂) where
+      (ordered : Each (FrameInOrderAt P) h₁) (oldest : Oldest (dueSlots Q h₂ j) (sentSlots P h₁ i)) (w : ℕ) (x : ForNext P Q i j h₁ w h₂) where
     abbrev slot : ℕ
     slot = nextSlot P Q i j h₁ h₂
 
@@ -180,9 +180,9 @@ module _ {P Q : Plan} (ok₁ : Accepted P) (ok₂ : Accepted Q) (step : InStep P
     due-count : (f : ℕ) → dueIn Q h₂ j f ≡ tally (ofFrame P f) (dueSlots Q h₂ j)
     due-count f = due-in-is Q h₂ none₂ j f ∙ sym (same-in-frame f (dueSlots Q h₂ j))
 
-    next-in-order : TimelyInOrder Q j w h₂
-    next-in-order = record {
-      timely = record { room = rw due-is (x .room); number = x .number; in-time = rw due-is (x .in-time) };
+    next-in-order : AsksForNext P Q i j h₁ w h₂ → TimelyInOrder Q j w h₂
+    next-in-order y = record {
+      timely = record { room = rw due-is (y .room); number = y .number; in-time = rw due-is (y .in-time) };
       in-order = λ f lt. due-count f ∙ descends .0 f (omega (arith, same-frame-of slot, ap (frameOf Q) due-is));
     }
       where
@@ -192,7 +192,7 @@ module _ {P Q : Plan} (ok₁ : Accepted P) (ok₂ : Accepted Q) (step : InStep P
             (subst (Descending P) (next-oldest .whole-is) (descending P i h₁ none₁ ordered))
 
     -- with this tile no more are due than come up in its frame on the first link
-    few-due : dueIn Q h₂ j (dueFrame Q w h₂) < entry Q j .share
+    pub few-due : dueIn Q h₂ j (dueFrame Q w h₂) < entry Q j .share
     few-due = rw due-is (
         omega (
           arith,
@@ -239,21 +239,21 @@ module _ {P Q : Plan} (ok₁ : Accepted P) (ok₂ : Accepted Q) (step : InStep P
   second-more h₁ h₂ (requested w (accepted v)) alone next c none₁ none₂ ordered word s = record {
     same-slot = s .same-slot;
     oldest = go (ℕ-discrete (flowOf w) j);
-    asks = (λ well own. next-in-order h₁ h₂ (s .same-slot) c none₁ none₂ ordered (s .oldest) w (next well own), s .asks);
-    few = (λ well own. few-due h₁ h₂ (s .same-slot) c none₁ none₂ ordered (s .oldest) w (next well own), s .few);
+    asks = (λ well own. next-in-order h₁ h₂ (s .same-slot) c none₁ none₂ ordered (s .oldest) w (next well own .for-next) (next well own), s .asks);
+    few = (λ well own. few-due h₁ h₂ (s .same-slot) c none₁ none₂ ordered (s .oldest) w (next well own .for-next), s .few);
   }
     where
       go : Dec (flowOf w ≡ j) → Oldest (dueSlots Q (requested w (accepted v) ∷ h₂) j) (sentSlots P h₁ i)
       go (yes own) =
-          let x = next (word .asked-well-formed) own in
+          let x = next (word .asked-well-formed) own .for-next in
           rw (due-own Q w v h₂ j own, due-is h₁ h₂ (s .same-slot) c none₁ none₂ ordered (s .oldest) w x)
           (next-oldest h₁ h₂ (s .same-slot) c none₁ none₂ ordered (s .oldest) w x)
       go (no other) = rw (due-other Q w v h₂ j other) (s .oldest)
   second-more h₁ h₂ (requested w (refused r)) alone next c none₁ none₂ ordered word s = record {
     same-slot = s .same-slot;
     oldest = s .oldest;
-    asks = (λ well own. next-in-order h₁ h₂ (s .same-slot) c none₁ none₂ ordered (s .oldest) w (next well own), s .asks);
-    few = (λ well own. few-due h₁ h₂ (s .same-slot) c none₁ none₂ ordered (s .oldest) w (next well own), s .few);
+    asks = (λ well own. next-in-order h₁ h₂ (s .same-slot) c none₁ none₂ ordered (s .oldest) w (next well own .for-next) (next well own), s .asks);
+    few = (λ well own. few-due h₁ h₂ (s .same-slot) c none₁ none₂ ordered (s .oldest) w (next well own .for-next), s .few);
   }
   second-more h₁ h₂ (credited k p a) alone next c none₁ none₂ ordered word s =
       record { same-slot = s .same-slot; oldest = s .oldest; asks = (tt, s .asks); few = (tt, s .few) }

@@ -11,16 +11,16 @@ use Rattle.model.specs.History.{renews}
 use Rattle.model.specs.Card.{paper}
 use Rattle.model.specs.PlanBytes.{plan1}
 use Rattle.model.specs.SeveralLinks.{slotsOf, dues, tile, start, both-tick, first-alone, second-alone, Ran, Board, planOn, dueOn, EachWithin}
-use Rattle.model.specs.EnoughCells.{GivesBack}
+use Rattle.model.specs.EnoughCells.{KeepsTwoShares}
 use Rattle.model.specs.LinksOnArrival.{WayOnArrival}
 use Rattle.model.proofs.Decidable.{proved}
 use Rattle.model.proofs.DelayDecided.{delays-compute}
-use Rattle.model.proofs.CellsNeeded.{in-turn, gives-back}
+use Rattle.model.proofs.CellsNeeded.{in-turn, keeps-two-shares}
 use Rattle.model.proofs.LinksOnArrival.{over-links-on-arrival}
 
--- F = 2, W = 2, one flow with share 1 and 3 cells
+-- F = 2, W = 2, one flow with share 1 and 2 cells
 abbrev pub bytes : List ℕ
-bytes = plan1 2 2 8 1 3
+bytes = plan1 2 2 8 1 2
 
 pub passes : refusal bytes ≡ 0
 unfolding delays-compute
@@ -75,15 +75,15 @@ way-there = (
           credited = proved (in-turn (planOf bytes) 0 0x24000001 (ticked none ∷ [])) tt .credited;
         })
         (first-alone (credited 0 2 (accepted tt)) tt (both-tick (first-alone (requested 0x24000000 (accepted 0x24000001)) tt start)));
-    enough-cells = lit< tt;
+    two-shares = lit≤ tt;
     not-lent = refl;
   },
   tt,
 )
 
-pub gives-back-there : GivesBack 0 (planOf bytes) 0 events₁
-unfolding delays-compute in-turn gives-back
-gives-back-there = proved (gives-back 0 (planOf bytes) 0 events₁) tt
+pub two-shares-there : KeepsTwoShares 0 (planOf bytes) 0 events₁
+unfolding delays-compute in-turn keeps-two-shares
+two-shares-there = proved (keeps-two-shares 0 (planOf bytes) 0 events₁) tt
 
 pub both-within : EachWithin 1 (planOn first) (dueOn first) (first ∷ second ∷ [])
-both-within = over-links-on-arrival first (second ∷ []) way-there .from-due gives-back-there
+both-within = over-links-on-arrival first (second ∷ []) way-there .from-due two-shares-there

@@ -74,9 +74,7 @@ way-there = (
     together =
         second-alone (requested 0x24000003 (accepted 0x24000005)) tt
         (λ well own. record {
-          sent = lit< tt;
-          departs = refl;
-          not-late = lit≤ tt;
+          for-next = record { sent = lit< tt; departs = refl; not-late = lit≤ tt };
           in-time = lit< tt;
           room = proved (room-from (planOf bytes) 0 4 before) tt;
           number = refl;

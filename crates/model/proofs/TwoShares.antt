@@ -17,7 +17,7 @@ use Rattle.model.specs.Card.{paper, run}
 use Rattle.model.specs.Delay.{currentFrame, dueFrame, madeSince, madeIn, dueIn, RoomFrom, TimelyInOrder, AsksAt, Modest}
 use Rattle.model.specs.Delay.{ServedAt, AtAnswer, GrantedSoonAt}
 use Rattle.model.specs.SeveralLinks.{Ran}
-use Rattle.model.specs.EnoughCells.{AsksWithinShare, KeepsTwoShares, GrantedNow, TwoShares}
+use Rattle.model.specs.EnoughCells.{CreditedInTime, AsksWithinShare, KeepsTwoShares, GrantedNow, TwoShares}
 use Rattle.model.proofs.Plan as plan
 use Rattle.model.proofs.Tests.{and-false}
 use Rattle.model.proofs.Tallies.{all-map, tally-append, tally-none}
@@ -25,7 +25,7 @@ use Rattle.model.proofs.Slots.{frame-ends, frame-low, frame-stays, fram
 use Rattle.model.proofs.Marks.{mark, in-frame-hit, in-frame-skip, in-frame-other}
 use Rattle.model.proofs.HistoryCounts.{NoneGranted}
 use Rattle.model.proofs.Demand3.{each-map}
-use Rattle.model.proofs.EventsOfRuns.{Happened, each-happened}
+use Rattle.model.proofs.EventsOfRuns.{Counts, Happened, each-happened}
 use Rattle.model.proofs.TimelyRequests.{due-if-come}
 use Rattle.model.proofs.Soon.{soon-accepted}
 use Rattle.model.proofs.SoonOnArrival.{ComeAt, made-later, due-when-made, served-on-arrival}
@@ -98,6 +98,31 @@ module _ {P : Plan} (ok : Accepted P) (i : ℕ) (known : i < flowCount P) where
               own (yes e) = rw (ne-eqb (frameOf P (m .slot)) (suc now) (λ z. omega (arith, near e, frame-changes ok (ticks h) change))) (and-false (ofFlow i m))
               own (no d) = rw (ne-eqb (m .flow) i d)
 
+  -- ---- room from the next frame on, where it holds less than two shares
+
+  module _ (h : History) (none : NoneGranted h) (soon : EachSince (GrantedSoonAt P i) h) (in-time : CreditedInTime P i h)
+      (not-lent : tally (ofFlow i) (lends h) ≡ 0) (c : Counts P h) where
+    pub room-next : 2 * entry P i .share ≤ entry P i .cells + 0 → madeIn P h i (currentFrame P h) < entry P i .share
+        → RoomFrom P i ((currentFrame P h + 1) * P .slots) h
+    room-next two few s le = go (decLe (frameOf P s) (currentFrame P h + 1))
+      where
+        later : currentFrame P h + 1 ≤ frameOf P s
+        later = frame-low ok (currentFrame P h + 1) s le
+
+        after : ticks h ≤ s
+        after = omega (arith, frame-ends ok (ticks h))
+
+        most : tally (inFrame P i (currentFrame P h)) (grants P h) ≤ entry P i .share
+        most = most-in-frame ok i known h none soon in-time not-lent c (currentFrame P h)
+
+        go : Dec (frameOf P s ≤ currentFrame P h + 1) → grantedUpTo P h i s + lentUpTo h i s < creditedUpTo P h i s + entry P i .cells
+        go (yes near) =
+            let z : frameOf P s - 1 ≡ currentFrame P h = omega (arith, later) in
+            let in-frames = ap (λ a. tally (inFrame P i a) (grants P h)) z in
+            let in-next = ap (λ a. tally (inFrame P i (suc a)) (grants P h)) z in
+            omega (arith, held-near ok i known h none soon in-time not-lent s after near, most, next-made h none soon)
+        go (no far) = omega (arith, held-far ok i known h none soon in-time not-lent s after (omega arith), most, next-made h none soon)
+
   -- ---- no more than the share is made in a frame
 
   abbrev Asked : Event → History → Type 0
@@ -135,7 +160,7 @@ module _ {P : Plan} (ok : Accepted P) (i : ℕ) (known : i < flowCount P) where
       one (Event.reset a) h x = tt
 
   module _ (h : History) (words : Each (GrantedWordAt P) h) (none : NoneGranted h) (asks : Each Asked h) (so-far : Each (AsksAt TimelyInOrder P i) h) where
-    modest-of : Modest TimelyInOrder 0 P i h
+    pub modest-of : Modest TimelyInOrder 0 P i h
     modest-of = record {
       asks = each-since (AsksAt TimelyInOrder P i) h so-far;
       within-share = λ f. omega (arith, due-when-made ok i f h words (come-of h asks), made-within h words asks f);
@@ -150,46 +175,12 @@ module _ {P : Plan} (ok : Accepted P) (i : ℕ) (known : i < flowCount P) where
 
       module _ (happened : Each (Happened P) h) (not-lent : tally (ofFlow i) (lends h) ≡ 0) (two : 2 * entry P i .share ≤ entry P i .cells + 0) (w : ℕ)
           (x : AsksWithinShare P i w h) where
-        -- from the next frame on it holds less than two shares
-        room : RoomFrom P i ((currentFrame P h + 1) * P .slots) h
-        room s le = go (decLe (frameOf P s) (currentFrame P h + 1))
-          where
-            later : currentFrame P h + 1 ≤ frameOf P s
-            later = frame-low ok (currentFrame P h + 1) s le
-
-            after : ticks h ≤ s
-            after = omega (arith, frame-ends ok (ticks h))
-
-            most : tally (inFrame P i (currentFrame P h)) (grants P h) ≤ entry P i .share
-            most = most-in-frame ok i known h none soon-of (x .in-turn .credited) not-lent (counts-at ok h happened) (currentFrame P h)
-
-            go : Dec (frameOf P s ≤ currentFrame P h + 1) → grantedUpTo P h i s + lentUpTo h i s < creditedUpTo P h i s + entry P i .cells
-            go (yes near) =
-                let z : frameOf P s - 1 ≡ currentFrame P h = omega (arith, later) in
-                let in-frames = ap (λ a. tally (inFrame P i a) (grants P h)) z in
-                let in-next = ap (λ a. tally (inFrame P i (suc a)) (grants P h)) z in
-                omega (
-                  arith,
-                  held-near ok i known h none soon-of (x .in-turn .credited) not-lent s after near,
-                  most,
-                  next-made h none soon-of,
-                  x .few,
-                )
-            go (no far) =
-                omega (
-                  arith,
-                  held-far ok i known h none soon-of (x .in-turn .credited) not-lent s after (omega arith),
-                  most,
-                  next-made h none soon-of,
-                  x .few,
-                )
-
         timely-next : TimelyInOrder P i w h
         timely-next =
             let now = due-if-come P w h (x .in-turn .come) in
             record {
               timely = record {
-                room = rw now room;
+                room = rw now (room-next h none soon-of (x .in-turn .credited) not-lent (counts-at ok h happened) two (x .few));
                 number = x .in-turn .number;
                 in-time = omega (arith, ap (frameOf P) now, ok .two-frames);
               };
@@ -207,7 +198,7 @@ module _ {P : Plan} (ok : Accepted P) (i : ℕ) (known : i < flowCount P) where
   timely-at (lent m a) h words none asks so-far ran happened not-lent two x = tt
   timely-at (Event.reset a) h words none asks so-far ran happened not-lent two x = tt
 
-  timely-at-each : (h : History) → Each (GrantedWordAt P) h → NoneGranted h → Each Asked h → BeginningsRan P h → Each (Happened P) h
+  pub timely-at-each : (h : History) → Each (GrantedWordAt P) h → NoneGranted h → Each Asked h → BeginningsRan P h → Each (Happened P) h
       → tally (ofFlow i) (lends h) ≡ 0 → 2 * entry P i .share ≤ entry P i .cells + 0 → Each (AsksAt TimelyInOrder P i) h
   unfolding lends
   timely-at-each [] words none asks ran happened not-lent two = tt

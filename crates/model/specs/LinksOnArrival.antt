@@ -1,5 +1,5 @@
--- Several links, where the stream asks on each for a tile in the slot in which it comes: with more than two shares of cells that are given back in time,
--- room is no premise. It names no link's state, only calls and answers. Assumes nothing.
+-- Several links, where the stream asks on each for a tile in the slot in which it comes: with two shares of cells that are given back in time, room is
+-- no premise. It names no link's state, only calls and answers. Assumes nothing.
 use Prim.Native.Nat.{ℕ, _*_, _%_, _≤_, _<_}
 use mathlib.Core.Path.{_≡_}
 use mathlib.Core.List.{List, _∷_, []}
@@ -12,7 +12,7 @@ use Rattle.model.specs.History.{ticks, lends, ofFlow, expectedNumber}
 use Rattle.model.specs.Card.{Card}
 use Rattle.model.specs.TwoHops.{InStep}
 use Rattle.model.specs.SeveralLinks.{sentSlots, nextTile, nextSlot, Together, Board, planOn, OnTime}
-use Rattle.model.specs.EnoughCells.{CreditedInTime, GivesBack}
+use Rattle.model.specs.EnoughCells.{CreditedInTime, KeepsTwoShares}
 
 -- After h₁ and h₂ word w asks on the second board for flow j's next tile, in the slot in which it comes up on the first.
 pub record AsksOnArrival (P Q : Plan) (i j : ℕ) (h₁ : History) (w : ℕ) (h₂ : History) : Type 0 where
@@ -28,14 +28,14 @@ pub record JoinedOnArrival {c : Card} (a b : Board c) : Type 0 where
   pub share-kept : entry (planOn a) (a .stream) .share ≤ entry (planOn b) (b .stream) .share
   pub together :
       Together (planOn a) (planOn b) (a .stream) (b .stream) (AsksOnArrival (planOn a) (planOn b) (a .stream) (b .stream)) (a .events) (b .events)
-  pub enough-cells : 2 * entry (planOn b) (b .stream) .share < entry (planOn b) (b .stream) .cells
+  pub two-shares : 2 * entry (planOn b) (b .stream) .share ≤ entry (planOn b) (b .stream) .cells
   pub not-lent : tally (ofFlow (b .stream)) (lends (b .events)) ≡ 0
 
 abbrev pub WayOnArrival : {c : Card} → Board c → List (Board c) → Type 0
 WayOnArrival a [] = Unit {0}
 WayOnArrival a (b ∷ rest) = JoinedOnArrival a b × WayOnArrival b rest
 
--- Where the stream gives its cells back on the first board too, it is modest there. That the paper's card keeps it is `over-links-on-arrival`, in
+-- Where the stream keeps two shares of cells on the first board too, it is modest there. That the paper's card keeps it is `over-links-on-arrival`, in
 -- proofs/LinksOnArrival.antt.
 abbrev pub OverLinksOnArrival : Card → Type 0
-OverLinksOnArrival c = (a : Board c) (rest : List (Board c)) → WayOnArrival a rest → OnTime (GivesBack 0 (planOn a) (a .stream) (a .events)) a rest
+OverLinksOnArrival c = (a : Board c) (rest : List (Board c)) → WayOnArrival a rest → OnTime (KeepsTwoShares 0 (planOn a) (a .stream) (a .events)) a rest

@@ -67,11 +67,15 @@ module _ (P Q : Plan) (i j : ℕ) where
   abbrev pub nextSlot : (h₁ h₂ : History) → ℕ
   nextSlot h₁ h₂ = tile (nextTile h₂) (sentSlots P h₁ i)
 
-  -- After h₁ and h₂ word w asks for it on the second board.
-  pub record AsksForNext (h₁ : History) (w : ℕ) (h₂ : History) : Type 0 where
+  -- After h₁ and h₂ word w names it, and its slot has not gone by.
+  pub record ForNext (h₁ : History) (w : ℕ) (h₂ : History) : Type 0 where
     pub sent : nextTile h₂ < length (sentSlots P h₁ i)
     pub departs : departureOf w ≡ nextSlot h₁ h₂ % positions Q
     pub not-late : ticks h₂ ≤ nextSlot h₁ h₂
+
+  -- it asks for it on the second board
+  pub record AsksForNext (h₁ : History) (w : ℕ) (h₂ : History) : Type 0 where
+    pub for-next : ForNext h₁ w h₂
     pub in-time : frameOf Q (nextSlot h₁ h₂) < newestFrame Q h₂
     pub room : RoomFrom Q j (nextFrameOf Q (nextSlot h₁ h₂)) h₂
     pub number : quantumOf w ≡ expectedNumber Q h₂ j
