@@ -2,8 +2,9 @@
 -- and answers. Assumes nothing.
 --
 -- Two promises, of every list of calls:
--- - prompt: a flow with fewer than its share of grants made in this frame is granted its next request, if that has room and its number, and names a tile
---   that comes before the newest frame. Nothing is asked of its past. A tile that has come is one of these (`ready-timely`).
+-- - prompt: a flow with fewer than its share of grants made in this frame is granted its next request, if that carries its number, names a tile that is
+--   due before the newest frame, and has room from the frame after the due one on. Nothing is asked of its past. A request that is `Ready`, as the least
+--   count asks, is one of these (`ready-timely`).
 -- - soon: the grants of a flow that is modest fall in the frame in which the tile is due or in the next one, fewer than 2 × F slots after it, however
 --   many frames the window has.
 -- Both count since the last granted reset, as the most and the least do.
@@ -12,7 +13,7 @@
 -- - A flow with a request that is not timely is modest only after the next granted reset: such a request may move its frame on to the newest, where it
 --   stays as long as the flow asks for its share in each frame (`stays-late`).
 -- - Which slot of the frame is granted is not said, nor that slots come in the order of the requests.
--- - Room is a premise. EnoughCells.antt says how many cells give it.
+-- - Room is a premise. EnoughCells.antt says how many cells give it, and SeveralLinks.antt what follows over several links.
 use Prim.Native.Nat.{ℕ, _+_, _-_, _*_, _≤_, _<_}
 use mathlib.Core.Path.{_≡_}
 use mathlib.Core.List.{List, _∷_, []}

@@ -1,5 +1,5 @@
--- How many cells a stream needs that asks on arrival: with more than two shares of them it has room at every request. It names no link, only calls and
--- answers. Assumes nothing.
+-- How many cells a stream needs that asks on arrival: with two shares of them each request is granted in its frame or the next, and with more it has room
+-- in every slot at every request. It names no link, only calls and answers. Assumes nothing.
 --
 -- Its cells are given back in time if, whenever it asks, the credits that are dated up to the end of the next frame after a slot that is gone are at
 -- least its grants up to that slot. So it is where the cell of each tile is credited in the slot in which the tile comes up, dated a slot of that frame
