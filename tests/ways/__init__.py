@@ -1,0 +1,1 @@
+"""A stream's way over several links, judged by their listings."""
