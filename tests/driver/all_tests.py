@@ -25,8 +25,8 @@ from front_door import (
     asking_editor, calls_text, check_log, checklist_page, comparison_page,
     flights, help_pages, man_pages, old_program, picture_errors,
     picture_pages, picture_scripts, picture_sizes, picture_view, pictures,
-    plan_check, plan_culprits, plan_files, plan_lost_output, plan_read, plan_week,
-    plan_wrong_words, play_explain, play_files, play_lost_output,
+    plan_check, plan_culprits, plan_delays, plan_files, plan_lost_output,
+    plan_read, plan_week, plan_wrong_words, play_explain, play_files, play_lost_output,
     play_options, play_states, progress, readme, remedies, rules_page,
     singular, slow_reader, tests_lost_output, versions, wrong_arguments)
 from front_door import desk_page, page_links, program_stacks, proved_page
@@ -40,7 +40,7 @@ FRONT_DOOR = (
     play_files, play_lost_output, play_explain, play_options, play_states,
     pictures, picture_sizes, picture_pages, picture_scripts, picture_view,
     picture_errors, singular, calls_text, plan_files, plan_culprits, plan_read,
-    plan_check,
+    plan_check, plan_delays,
     plan_week, plan_wrong_words, plan_lost_output, check_log, flights,
     old_program, slow_reader, asking_editor, wrong_arguments,
     tests_lost_output,
