@@ -84,7 +84,8 @@ pub mod NextLink
 pub mod SeveralLinks
 pub mod EnoughCells
 pub mod CreditsInTime
-pub mod TwoShares
+pub mod HeldByFrames
+pub mod SharesOfCells
 pub mod LinksOnArrival
 pub mod Outlines
 -- edges, cards that demand 3 sends back, streams that meet the premise of the least count, and what its premises on words are for

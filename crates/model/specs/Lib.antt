@@ -37,6 +37,7 @@ pub mod Delay
 pub mod LessTimely
 pub mod SeveralLinks
 pub mod EnoughCells
+pub mod SharesOfCells
 pub mod LinksOnArrival
 -- worked examples, and cards that are sent back
 pub mod PlanBytes
