@@ -171,12 +171,12 @@ module _ (a b : Board paper) (joined : JoinedOnArrival a b) where
         }) .together;
   }
 
-way-with-room : (a : Board paper) (rest : List (Board paper)) → WayOnArrival a rest → Way a rest
+pub way-with-room : (a : Board paper) (rest : List (Board paper)) → WayOnArrival a rest → Way a rest
 way-with-room a [] way = tt
 way-with-room a (b ∷ rest) way = (joined-with-room a b (way .0), way-with-room b rest (way .1))
 
 -- on the first board it is modest
-modest-first : (late : ℕ) (a : Board paper) → KeepsShares late 0 (planOn a) (a .stream) (a .events) → Modest TimelyInOrder 0 (planOn a) (a .stream) (a .events)
+pub modest-first : (late : ℕ) (a : Board paper) → KeepsShares late 0 (planOn a) (a .stream) (a .events) → Modest TimelyInOrder 0 (planOn a) (a .stream) (a .events)
 modest-first late a x =
     let ran = runs-have a (BeginningsRan (planOn a)) (beginnings-ran (planOn a) (ok a)) in
     modest-of (ok a) (a .stream) (a .known) late (a .events) (words a) (none a) (x .asks)
