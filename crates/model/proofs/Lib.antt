@@ -84,8 +84,11 @@ pub mod NextLink
 pub mod SeveralLinks
 pub mod EnoughCells
 pub mod CreditsInTime
-pub mod TwoShares
+pub mod HeldByFrames
+pub mod SharesOfCells
 pub mod LinksOnArrival
+pub mod Source
+pub mod FromSource
 pub mod Outlines
 -- edges, cards that demand 3 sends back, streams that meet the premise of the least count, and what its premises on words are for
 pub mod Unfoldings
@@ -115,3 +118,4 @@ pub mod BadDelays
 pub mod SlowCards
 pub mod CellsNeeded
 pub mod OnArrivalExample
+pub mod SourceExample

@@ -37,7 +37,9 @@ pub mod Delay
 pub mod LessTimely
 pub mod SeveralLinks
 pub mod EnoughCells
+pub mod SharesOfCells
 pub mod LinksOnArrival
+pub mod Source
 -- worked examples, and cards that are sent back
 pub mod PlanBytes
 pub mod EdgeCases
