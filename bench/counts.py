@@ -17,10 +17,8 @@ def write(folder, pair):
     return path
 
 
-def show(rounds):
-    programs.prove("domeplan")
-    print(programs.commit(), programs.build_of("domeplan"),
-          programs.processors(), sep="\n", flush=True)
+def measure(rounds):
+    """Microseconds of a question, for each F and n."""
     with tempfile.TemporaryDirectory() as folder:
         paths = {pair: write(folder, pair) for pair in (LEAST, *ASKED)}
         best = dict.fromkeys(paths, float("inf"))
@@ -28,6 +26,10 @@ def show(rounds):
             for pair, path in paths.items():
                 best[pair] = min(best[pair], programs.seconds(
                     programs.proved("domeplan"), path))
-    for pair in ASKED:
-        print("count %2d %d  %8.1f microseconds" % (
-            *pair, (best[pair] - best[LEAST]) / QUESTIONS * 1e6))
+    return {pair: (best[pair] - best[LEAST]) / QUESTIONS * 1e6
+            for pair in ASKED}
+
+
+def show(rounds):
+    for pair, each in measure(rounds).items():
+        print("count %2d %d  %8.1f microseconds" % (*pair, each))

@@ -41,15 +41,17 @@ def microseconds(path):
     return 1e6 * (usage.ru_utime + usage.ru_stime) / QUESTIONS
 
 
-def show(rounds):
-    programs.prove("domeplan")
-    print(programs.commit(), programs.build_of("domeplan"),
-          programs.processors(), sep="\n", flush=True)
+def measure(rounds):
+    """Microseconds of a question with all sets, and of one with one set."""
     with tempfile.TemporaryDirectory() as folder:
         paths = [make(folder, budget) for budget in (SETS, 1)]
         best = [float("inf")] * len(paths)
         for _ in programs.in_rounds("extras", rounds):
             best = [min(least, microseconds(path))
                     for least, path in zip(best, paths)]
+    return best
+
+
+def show(rounds):
     print("12 layers, all %d sets %6.1f microseconds a question, "
-          "one set %.1f" % (SETS, *best))
+          "one set %.1f" % (SETS, *measure(rounds)))

@@ -28,17 +28,18 @@ def figures(program, slots):
     return tuple(map(int, FIGURES.fullmatch(text).groups()))
 
 
-def show(folder, rounds):
-    for kind, slots in SLOTS.items():
-        show_kind(kind, slots, folder, rounds)
-
-
-def show_kind(kind, slots, folder, rounds):
+def measure(kind, folder, rounds):
+    """Nanoseconds of a check of this kind by the two programs."""
     pair = (programs.proved("meshtime"), folder / "mesh")
-    found = [[figures(program, slots) for program in pair]
+    found = [[figures(program, SLOTS[kind]) for program in pair]
              for _ in programs.in_rounds("mesh " + kind, rounds)]
     if len({answers for row in found for _, answers in row}) != 1:
         programs.stop("the answers to checks of the mesh differ")
-    ours, theirs = (min(column)[0] for column in zip(*found))
-    print("mesh %-9s proved %6d ns   plain Rust %6d ns   ratio %6.2f"
-          % (kind, ours, theirs, ours / theirs), flush=True)
+    return [min(column)[0] for column in zip(*found)]
+
+
+def show(folder, rounds):
+    for kind in SLOTS:
+        ours, theirs = measure(kind, folder, rounds)
+        print("mesh %-9s proved %6d ns   plain Rust %6d ns   ratio %6.2f"
+              % (kind, ours, theirs, ours / theirs), flush=True)

@@ -14,7 +14,7 @@ from driver import progress
 
 ROOT = Path(__file__).resolve().parent.parent
 PROVED = ("domelink", "single", "meshtime")
-PLAIN = ("play", "calls", "single", "mesh")
+PLAIN = ("play", "calls", "single", "mesh", "copies")
 RUSTC = ["rustc", "--edition", "2021", "-C", "opt-level=3",
          "-C", "codegen-units=1"]
 LAST = 20               # lines shown of a check that failed

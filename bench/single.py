@@ -7,6 +7,8 @@ import re
 import programs
 
 CALLS = 4096            # the proved program plays no more
+WORDS = 16              # to a burst
+LINK = 4913             # bytes of a link's fields, copied twice by each call
 LINE = re.compile(r"^(request|burst|credit|tick) +([0-9.]+) ns", re.MULTILINE)
 ANSWERS = re.compile(r"^(?:answers|in bursts) ([0-9]+)$", re.MULTILINE)
 
@@ -39,21 +41,38 @@ def measure(folder, rounds, path):
             for column in zip(*texts)]
 
 
-def show_bursts(folder, rounds):
-    """Nanoseconds a word, 16 words to a burst, and singly beside it."""
+def floor(folder, rounds):
+    """Nanoseconds of two copies of a link."""
+    return min(float(programs.said(str(folder / "copies"), str(LINK)))
+               for _ in programs.in_rounds("copies", rounds))
+
+
+def measure_bursts(folder, rounds):
+    """For each file of bursts its names and the two programs' figures."""
     for words, table, stride in BURSTS:
         path = programs.make(folder, words, CALLS, "--stride", stride)
-        ours, theirs = measure(folder, rounds, path)
+        yield words, table, measure(folder, rounds, path)
+
+
+def show_bursts(folder, rounds):
+    """Nanoseconds a word, 16 words to a burst, and singly beside it."""
+    least = floor(folder, rounds) / WORDS
+    for words, table, (ours, theirs) in measure_bursts(folder, rounds):
         print("16 words, %-7s %-11s burst %6.1f ns   plain Rust %6.1f ns"
-              "   ratio %6.2f   single requests %6.1f ns"
+              "   ratio %6.2f   floor %4.1f ns   single requests %6.1f ns"
               % (words, table, ours["burst"], theirs["burst"],
-                 ours["burst"] / theirs["burst"], ours["request"]))
+                 ours["burst"] / theirs["burst"], least, ours["request"]))
+
+
+def measure_calls(folder, rounds):
+    """The two programs' figures of each kind of call on a dense file."""
+    return measure(folder, rounds, programs.make(folder, "dense", CALLS))
 
 
 def show(folder, rounds):
-    path = programs.make(folder, "dense", CALLS)
-    by_value, by_reference = measure(folder, rounds, path)
+    by_value, by_reference = measure_calls(folder, rounds)
     for kind, ours in by_value.items():
         theirs = by_reference[kind]
         print("%-8s by value %6.1f ns   by &mut %6.1f ns   ratio %6.2f"
               % (kind, ours, theirs, ours / theirs))
+    print("two copies of a link %6.1f ns" % floor(folder, rounds))

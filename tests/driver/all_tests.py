@@ -23,7 +23,8 @@ from edges.all_edges import ALLCALLS_EDGES, EDGES
 from front_door import architecture_page, decisions_page, doc_names
 from front_door import (
     asking_editor, calls_text, check_log, checklist_page, comparison_page,
-    flights, help_pages, man_pages, old_program, picture_errors,
+    flights, help_pages, man_pages, must_fail_edits, old_program, page_sizes,
+    performance_page, picture_errors,
     picture_pages, picture_scripts, picture_sizes, picture_view, pictures,
     plan_check, plan_culprits, plan_delays, plan_files, plan_lost_output,
     plan_read, plan_week, plan_wrong_words, play_explain, play_files, play_lost_output,
@@ -43,7 +44,7 @@ FRONT_DOOR = (
     plan_check, plan_delays,
     plan_week, plan_wrong_words, plan_lost_output, check_log, flights,
     old_program, slow_reader, asking_editor, wrong_arguments,
-    tests_lost_output,
+    tests_lost_output, performance_page, page_sizes, must_fail_edits,
     progress, versions, help_pages, man_pages, readme, rules_page, remedies,
     checklist_page, comparison_page)
 

@@ -1,5 +1,18 @@
 """How programs read call records: domelink's three kinds, and allcalls' three
-more."""
+more.
+
+allcalls has two kinds of five bytes more: 4, a mask of two bytes, low first,
+0, 0 is a lend, answered `L` and the flow, or `R` and the refusal; 5 and four
+zeros is a reset, answered `Z`, or `R` and the refusal.  The third, 6, a count
+c from 0 to 20, 0, 0, 0 and then c words of four bytes, low first, is a burst.
+Its records have result 255 and position 255 before the call, and each is
+answered `B`, its result and its position, `B 255 255` from the 17th on.  A
+count above 20 or a nonzero filler gives `R 16`, and five bytes are used up;
+where fewer than 4c bytes follow, one `R 16` stands for all the rest.
+
+On a file with none of the three both programs have to give the same bytes.  A
+generated file for domelink that has such a record by chance is one of them
+for allcalls."""
 
 from demand3 import check
 from simulator import records

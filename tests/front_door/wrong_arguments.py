@@ -69,6 +69,10 @@ BENCH_RUN = [
     (["1", "0"], "COUNT"),
     (["1", "2", "3"], "unrecognized"),
     (["--unknown"], "unrecognized"),
+    (["--write"], "go with --report"),
+    (["--gate", "1200"], "go with --report"),
+    (["--report", "--gate", "0"], "--gate: has to be"),
+    (["--report", "--bursts"], "not allowed with"),
 ]
 
 

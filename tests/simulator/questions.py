@@ -1,4 +1,14 @@
-"""The lines of domeplan: a question in, the answer out."""
+"""The lines of domeplan: a question in, the answer out.
+
+A line is a word and numbers or digits: `plan`, F, W, N and four numbers for
+each flow ask for a plan's bytes; `room` has the buffer's length in front of
+them; `read` and hexadecimal digits ask for the line that would make these
+bytes; `mesh`, F and three numbers for each stream whether they are admitted,
+`mesh-over` which links are over; `count`, F and n how many share lists fit;
+`extras`, slots left, a budget, and share and worth of each layer which to
+switch on; `programme`, a minute and three numbers for each entry what runs
+then.  A line that is no question is answered `?` alone: the reason behind it
+is the program's."""
 
 import re
 
