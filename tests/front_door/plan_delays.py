@@ -12,7 +12,8 @@ from simulator.plan import read_plan
 HEAD = "flow  slots  frames  cells  come up         shown           burst  costs"
 WORDS = """\
 slots, frames: what a tile takes on this link at most, if it is asked for on
-  arrival, and in a frame no more tiles of its flow than its share (two-shares)
+  arrival and its flow asks for no more than its share in a frame, has the
+  cells for it, takes no lent slot, and no reset is granted (two-shares)
 come up: cells for that, each credited as its tile comes up at the next board
   (two-shares)
 shown: the same, each credited when its tile was shown, by the end of the next
