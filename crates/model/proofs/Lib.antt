@@ -114,6 +114,8 @@ pub mod LessAsked
 pub mod DelayDecided
 pub mod LessTimely
 pub mod TwoLinksExample
+pub mod JoinedDecided
+pub mod LessJoined
 pub mod BadDelays
 pub mod SlowCards
 pub mod CellsNeeded

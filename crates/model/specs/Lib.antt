@@ -36,6 +36,7 @@ pub mod LessAsked
 pub mod Delay
 pub mod LessTimely
 pub mod SeveralLinks
+pub mod LessJoined
 pub mod EnoughCells
 pub mod SharesOfCells
 pub mod LinksOnArrival
