@@ -41,6 +41,7 @@ pub mod EnoughCells
 pub mod SharesOfCells
 pub mod LinksOnArrival
 pub mod Source
+pub mod CreditedByNext
 -- worked examples, and cards that are sent back
 pub mod PlanBytes
 pub mod EdgeCases
