@@ -89,6 +89,7 @@ pub mod SharesOfCells
 pub mod LinksOnArrival
 pub mod Source
 pub mod FromSource
+pub mod CreditedByNext
 pub mod Outlines
 -- edges, cards that demand 3 sends back, streams that meet the premise of the least count, and what its premises on words are for
 pub mod Unfoldings
@@ -114,8 +115,11 @@ pub mod LessAsked
 pub mod DelayDecided
 pub mod LessTimely
 pub mod TwoLinksExample
+pub mod JoinedDecided
+pub mod LessJoined
 pub mod BadDelays
 pub mod SlowCards
 pub mod CellsNeeded
 pub mod OnArrivalExample
 pub mod SourceExample
+pub mod ByCreditsExample

@@ -36,10 +36,12 @@ pub mod LessAsked
 pub mod Delay
 pub mod LessTimely
 pub mod SeveralLinks
+pub mod LessJoined
 pub mod EnoughCells
 pub mod SharesOfCells
 pub mod LinksOnArrival
 pub mod Source
+pub mod CreditedByNext
 -- worked examples, and cards that are sent back
 pub mod PlanBytes
 pub mod EdgeCases
