@@ -39,6 +39,7 @@ pub mod SeveralLinks
 pub mod LessJoined
 pub mod EnoughCells
 pub mod SharesOfCells
+pub mod SharesAhead
 pub mod LinksOnArrival
 pub mod Source
 pub mod CreditedByNext
