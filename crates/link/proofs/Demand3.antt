@@ -165,7 +165,7 @@ pub code-fair : (bytes : List ℕ) (o : Outcome) → o ≡ readOf bytes → (o .
     → {h : History} {l : Link} → Handed (o .plan) h l → FairOn (model.planOf bytes) h
 code-fair = code-has FairOn fair-accepted
 
--- and N9: the words that a flow is granted by these calls are numbered 0, 1, 2 and so on modulo 1,024, in the order of their grants
+-- and N9: what a flow is granted by these calls counts up from 0 modulo 1,024, grant after grant
 pub code-numbers : (bytes : List ℕ) (o : Outcome) → o ≡ readOf bytes → (o .verdict ≡ Accepted → Valid (o .plan)) → o .verdict ≡ Accepted
     → {h : History} {l : Link} → Handed (o .plan) h l → (i : ℕ) → i < model.flowCount (model.planOf bytes) → InOrder (model.planOf bytes) i h
 code-numbers = code-has (λ P h. (i : ℕ) → i < model.flowCount P → InOrder P i h) numbers-accepted

@@ -153,7 +153,7 @@ module _ {p : Plan} {e : Entry} {w : Window} {i : ℕ} {f : Flow} {d : ℕ} {s :
         (o .entry-is k .share) (stored-is k .frame) (stored-is k .left))
         ∙ sym (sought-same here sound-here (windowOf w) (o .state .window-is) i (o .flow) d)
 
-    -- whether the newest frame has a position that would be valid but for the departure
+    -- whether the newest frame has a position that only the departure rules out
     pub would-on : someInNewest (windowOf w) (validAt (ownersOf s) (ranksFrom w late)) ≡ wouldBeValid (linkOf here) i
     would-on =
         newest-by-rank (o .state .proper) (ownersOf s) x

@@ -91,7 +91,7 @@ module _ {l : Parts} {w : Window} (a : AtHand l (l .plan) w) where
       ap (flowOf (sizeOf l)) (flow-then i h) ∙ (λ k. model.movedTo (sym (read-flow l i h) k) (head-is k) (sym share k))
 
   module _ (u : List ℕ) (t : Bool) where
-    -- a current slot that was booked or already marked is marked
+    -- a current slot with an owner or a mark is marked then
     read-renewed : t ≡ not (eqb (ownerAt l (l .cp)) nobody) || l .taken → linkOf (renewedLink l (w .head) u t) ≡ renewed (linkOf l)
     unfolding linkOf renewed
     read-renewed mark = cc (read-unowned (sizeOf l) (size-most l (a .sound)), flows, taken)

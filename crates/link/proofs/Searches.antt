@@ -110,7 +110,7 @@ module _ (l : Parts) (s : Sound l) (v : Window) (is : v ≡ model.window (linkOf
       let none : ahead frames last last ≡ 0 = ahead-on _ _ _ (omega arith) below ∙ omega arith in
       rw (j, c, none)
 
-  -- the newest frame has a position that would be valid but for the departure
+  -- the newest frame has a position that only the departure rules out
   pub would-same : someInNewest v validHere ≡ wouldBeValid (linkOf l) i
   unfolding wouldBeValid
   would-same =

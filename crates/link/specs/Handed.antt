@@ -25,9 +25,9 @@ use Rattle.link.specs.Bursts.{Bursted}
 abbrev pub Freshly : Plan → Link → Type 0
 Freshly p l = (readOf l ≡ fresh.fresh (planFor p)) × SoundLink l
 
--- Link l is in hand after calls of the code with the events h, of which the newest is first: "The first call gets the link that fresh made from an
--- accepted plan, each later one the link exactly as the call before handed it back. Nothing else touches the link meanwhile." Each case has what the
--- contract of that call ensures of what it hands back, r; the event has the answer a that r's is made from.
+-- Link l is in hand after calls of the code with the events h, of which the newest is first: it was made fresh of the plan, and each call was made
+-- on the link of the call before, which nobody else changed. Each case has what the contract of that call ensures of what it hands back, r; the
+-- event has the answer a that r's is made from.
 pub data Handed (p : Plan) : History → Link → Type 0 where
   by-fresh : {l : Link} → Freshly p l → Handed p [] l
   by-request : {h : History} {l : Link} → Handed p h l → (w : ℕ) (r : Step) (a : Grant)

@@ -7,7 +7,7 @@ use Rattle.model.specs.Request.{Found, found, nowhere, newestTests, wouldBeVali
 use Rattle.link.specs.declared.request.Sought.{Sought}
 use Rattle.link.specs.declared.request.Sought.the-variants.{At, Nowhere}
 
--- `would` says whether the newest frame has a position that would be valid but for the departure
+-- `would` says whether the newest frame has a position that only the departure rules out
 abbrev pub soughtWith : (would : Bool) → Found → Sought
 soughtWith would (found j c p) = At j c p
 soughtWith would (nowhere c) = Nowhere c (firstOf (newestTests would c))

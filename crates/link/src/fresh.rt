@@ -54,7 +54,7 @@ pub(crate) fn start_flows(s: &mut State, plan: Plan, frame: usize)
     }
 }
 
-// The state of a fresh link; nothing of what it was is left.
+// The state of a fresh link; nothing of what it was is left but the bounds, and where nothing is held every bound holds.
 fn begin(s: &mut State, plan: Plan)
     requires { ⌜ Valid plan × Whole (now s) ⌝ }
     ensures link { λ r. ⌜ readIn plan (now (s .exit)) ≡ model.fresh (planFor plan) ⌝ }

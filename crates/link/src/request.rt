@@ -77,7 +77,7 @@ fn refusal(s: &State, count: usize, e: Entry, w: Window, fields: Fields) -> u8
 }
 
 // The refusal where the search ends with no position and some of the share is left; `would` says whether the newest frame has a position
-// that would be valid but for the departure.
+// that only the departure rules out.
 fn nowhere(would: bool) -> u8
     ensures { λ r. ⌜ ((left : ℕ) → (left ≡ 0 → ⊥) → r ≡ firstOf (model.newestTests would left)) ⌝ }
 {

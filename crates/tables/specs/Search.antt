@@ -18,12 +18,12 @@ abbrev pub foundOf : Found → model.Found
 foundOf (At frame left position) = model.found frame left position
 foundOf (Nowhere left) = model.nowhere left
 
--- position p is late enough for a flow with these cells and these holdings: "later than CP when in HF, and the flow holds fewer
--- than its cells there and at every later position of the window"
+-- position p is late enough for a flow with these cells and these holdings: it is not passed, and from it on the flow has room (document 01, the
+-- request)
 abbrev pub lateAt : Window → (held : List ℕ) (cells p : ℕ) → Bool
 lateAt w held cells p = not (passed w p) && everyFrom w p (roomAt held cells)
 
--- position p is valid: "unbooked", and late enough
+-- position p is valid: nobody booked it, and it is late enough
 unfoldable pub validAt : (owners : List ℕ) (late : ℕ → Bool) (p : ℕ) → Bool
 validAt owners late p = unbookedAt owners p && late p
 
@@ -37,7 +37,6 @@ searchFrom w ok share j c = model.search w ok share (ahead (w .frames) j (newest
 
 -- ---- a frame's valid slots in one word
 
--- document 02, N3: "Bit i of the word is 1 exactly when i is below F and slot i of the frame is valid", where a position is valid if
--- it passes `ok`
+-- document 02, N3: the word of frame j has a 1 for each of its F slots that is valid, and no other, where a position is valid if it passes `ok`
 pub record ValidSlots (w : Window) (ok : ℕ → Bool) (j word : ℕ) : Type 0 where
   pub is : (i : ℕ) → bitAt word i ≡ ltb i (w .slots) && ok (start w j + i)
