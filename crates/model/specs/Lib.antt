@@ -33,6 +33,16 @@ pub mod Fairness
 pub mod TwoRuns
 pub mod Outlines
 pub mod LessAsked
+pub mod Delay
+pub mod LessTimely
+pub mod SeveralLinks
+pub mod LessJoined
+pub mod EnoughCells
+pub mod SharesOfCells
+pub mod SharesAhead
+pub mod LinksOnArrival
+pub mod Source
+pub mod CreditedByNext
 -- worked examples, and cards that are sent back
 pub mod PlanBytes
 pub mod EdgeCases
@@ -54,3 +64,4 @@ pub mod BadDepartures
 pub mod BadResets
 pub mod BadTurns
 pub mod BadNumbers
+pub mod BadDelays
