@@ -1,8 +1,8 @@
 """A seed to the lines of its file for domeplan, and to their kind."""
 
 from generator import (
-    asked_extras, asked_plans, asked_programmes, counted_frames,
-    mesh_streams, odd_lines, plan_hex)
+    asked_delays, asked_extras, asked_plans, asked_programmes,
+    counted_frames, mesh_streams, odd_lines, plan_hex)
 from generator.dice import Dice
 
 FEWEST, MOST = 10, 50           # lines of a file
@@ -59,7 +59,11 @@ def programme(dice):
     return question(dice, b"programme", asked_programmes.numbers(dice))
 
 
-QUESTIONS = [plan, room, read, mesh, count, extras, programme]
+def delay(dice):
+    return question(dice, b"delay", asked_delays.numbers(dice))
+
+
+QUESTIONS = [plan, room, read, mesh, count, extras, programme, delay]
 
 
 def odd(dice):
@@ -72,7 +76,7 @@ def mixed(dice):
 
 KINDS = {"plans": plan, "too wide": wide_plan, "rooms": room, "reads": read,
          "meshes": mesh, "counts": count, "extras": extras,
-         "programmes": programme, "odd lines": odd, "mixed": mixed}
+         "programmes": programme, "delays": delay, "odd lines": odd, "mixed": mixed}
 ORDER = tuple(KINDS)            # the kinds of seeds 0, 1, 2 and so on
 
 

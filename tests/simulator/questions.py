@@ -12,7 +12,7 @@ is the program's."""
 
 import re
 
-from simulator import mesh, share_counts
+from simulator import delay, mesh, share_counts
 from simulator.extras import Extras, Layer, choose
 from simulator.plan import read_plan
 from simulator.plan_writer import Asked, write_plan
@@ -133,9 +133,21 @@ def to_programme(fields):
     return "dark" if plan is DARK else "plan %d" % plan
 
 
+def to_delay(fields):
+    """F, links, share and burst, and nothing else."""
+    numbers = numbers_of(fields)
+    if numbers is None or len(numbers) != 4:
+        return NO_QUESTION
+    if not delay.is_question(numbers[1], numbers[3]):
+        return NO_QUESTION
+    refusal, bounds = delay.bounds(*numbers)
+    return refused(refusal) if refusal else "%d %d %d" % bounds
+
+
 WORDS = {b"plan": to_plan, b"room": to_room, b"read": to_read,
          b"mesh": to_mesh, b"mesh-over": to_mesh_over, b"count": to_count,
-         b"extras": to_extras, b"programme": to_programme}
+         b"extras": to_extras, b"programme": to_programme,
+         b"delay": to_delay}
 
 
 def answer(line):

@@ -45,6 +45,9 @@ fn numbered(line: &[u8]) -> u8 {
     if asks(line, b"programme") {
         return 7;
     }
+    if asks(line, b"delay") {
+        return 8;
+    }
     0
 }
 
@@ -70,6 +73,9 @@ fn answer_numbers(word: u8, numbers: &[usize], out: &mut [u8]) -> usize
     }
     if word == 7 {
         return programmewords::programme(numbers, out);
+    }
+    if word == 8 {
+        return delaywords::delay(numbers, out);
     }
     planwords::room(numbers, out)
 }
@@ -109,7 +115,7 @@ pub(crate) fn answer(line: &[u8], out: &mut [u8]) -> usize
     let word = numbered(line);
     if word == 0 {
         return replies::say(
-            b"? the first word is none of plan, room, read, mesh, mesh-over, count, extras and programme\n",
+            b"? the first word is none of plan, room, read, mesh, mesh-over, count, extras, programme and delay\n",
             out,
         );
     }

@@ -1,14 +1,14 @@
 -- The word `extras`: which optional layers to switch on. Assumes nothing.
 use Prim.Native.Nat.{ℕ, _+_, _-_, _*_, _/_, _%_}
-use mathlib.Core.List.{List, _++_}
+use mathlib.Core.List.{List}
 use mathlib.Core.Bool.{not, cond}
 use lib.ListN.{length, getD}
 use lib.Dec.{ltb, eqb}
 use Rattle.model.specs.Tables.{table}
-use Rattle.model.specs.Listing.{text, decimal, refusalLine}
+use Rattle.model.specs.Listing.{refusalLine}
 use Rattle.model.specs.Calls.{Answer, accepted, refused}
 use Rattle.extras.specs.Extras.{Layer, Extras, Chosen, choose}
-use Rattle.replies.specs.Lines.{cannot, spaced}
+use Rattle.replies.specs.Lines.{cannot, threeLine}
 
 -- how many layers are given
 abbrev pub layersAsked : List ℕ → ℕ
@@ -24,7 +24,7 @@ extrasAsked numbers = record { slots = getD numbers 0 0; budget = getD numbers 1
 
 -- mask, worth and ceiling as three numbers, or `R` and the refusal
 abbrev pub chosenLine : Answer Chosen → List ℕ
-chosenLine (accepted c) = decimal (c .mask) ++ spaced (c .worth) ++ spaced (c .ceiling) ++ text "\n"
+chosenLine (accepted c) = threeLine (c .mask) (c .worth) (c .ceiling)
 chosenLine (refused number) = refusalLine number
 
 unfoldable pub answerToExtras : (numbers : List ℕ) → List ℕ

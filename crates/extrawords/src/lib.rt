@@ -3,9 +3,7 @@ ghost use Prim.Native.Nat.{_+_, _*_, _≤_, _<_};
 ghost use mathlib.Core.Path.{_≡_};
 ghost use lib.ListN.{length, getD};
 ghost use Rattle.model.specs.Tables.{table};
-ghost use Rattle.model.specs.Listing.{decimal};
 ghost use Rattle.extras.specs.Reading.{answerFor};
-ghost use Rattle.calls.specs.Lines.{Puts};
 ghost use Rattle.replies.specs.Lines as said;
 ghost use Rattle.extrawords.specs.ExtrasWord as answers;
 ghost use Rattle.extrawords.specs.Asked.{structAsked};
@@ -54,24 +52,12 @@ fn asked(numbers: &[usize]) -> Extras
     }
 }
 
-// Stores a number at the start of a line, for which 20 bytes suffice.
-fn put_first(n: usize, out: &mut [u8]) -> usize
-    requires { ⌜ 20 ≤ length (now out) ⌝ }
-    ensures put { λ r. ⌜ Puts (decimal n) (now (out .entry)) (now (out .exit)) 0 r ⌝ }
-    ensures most { λ r. ⌜ r ≤ 20 ⌝ }
-{
-    replies::put_decimal(n, out, 0)
-}
-
 // Says mask, worth and ceiling.
 fn say_best(c: Chosen, out: &mut [u8]) -> usize
     requires { ⌜ said.room ≤ length (now out) ⌝ }
     ensures { λ r. ⌜ said.Says (answers.chosenLine (answerFor (Choice.Best c))) (now (out .entry)) (now (out .exit)) r ⌝ }
 {
-    let mask = put_first(c.mask, out);
-    let worth = replies::put_number(c.worth, out, mask);
-    let ceiling = replies::put_number(c.ceiling, out, worth);
-    replies::put(b"\n", out, ceiling)
+    replies::say_three(c.mask, c.worth, c.ceiling, out)
 }
 
 // Says an answer.

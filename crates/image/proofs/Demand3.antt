@@ -4,13 +4,19 @@ use mathlib.Core.Path.{_≡_, sym, ap₂, subst}
 use mathlib.Core.List.{List, _∷_, [], _++_}
 use Rattle.model.specs.Plan.{flowCount, planOf}
 use Rattle.model.specs.Calls.{Call, History}
-use Rattle.model.specs.Claim.{Demand3}
+use Rattle.model.specs.Claim.{Each, ReadyAt, Demand3}
 use Rattle.model.specs.Fairness.{FairOn}
 use Rattle.model.specs.QuantumNumbers.{InOrder}
+use Rattle.model.specs.Tables.{tally}
+use Rattle.model.specs.History.{renews}
+use Rattle.model.specs.Card.{paper}
+use Rattle.model.specs.SeveralLinks.{Board}
+use Rattle.model.specs.EnoughCells.{GivesBack, KeepsTwoShares, EachGrantedNow}
+use Rattle.model.specs.Delay.{Timely, PromptOn, TimelyInOrder, SoonOn, SoonOnArrivalOn}
 use Rattle.images.specs.Taken.{refusalOf}
 use Rattle.images.specs.Exports.{Called, HandsBack, calledOn}
 use Rattle.images.specs.Chain.{eventOf, imageIn, Chain, starts, goes-on}
-use Rattle.images.proofs.Chain.{chain-taken, chain-meets, chain-fair, chain-numbers}
+use Rattle.images.proofs.Chain.{chain-taken, chain-meets, chain-fair, chain-numbers, chain-prompt, chain-soon-ahead, chain-soon, chain-enough-cells, chain-two-shares, chain-board}
 use Rattle.image.specs.Hosted.{Hosted, by-fresh, by-request, by-credit, by-tick, by-lend, by-reset}
 
 module _ (plan : List ℕ) where
@@ -49,3 +55,25 @@ module _ (plan : List ℕ) where
   -- document 02, N9
   pub host-numbers : {h : History} {b : List ℕ} → Hosted plan h b → (i : ℕ) → i < flowCount (planOf plan) → InOrder (planOf plan) i h
   host-numbers x = chain-numbers plan (chained x .chain)
+
+  -- its delay
+  pub host-prompt : {h : History} {b : List ℕ} → Hosted plan h b → PromptOn Timely 0 (planOf plan) h
+  host-prompt x = chain-prompt plan (chained x .chain)
+
+  pub host-soon-ahead : {h : History} {b : List ℕ} → Hosted plan h b → (i : ℕ) → i < flowCount (planOf plan) → SoonOn TimelyInOrder 0 (planOf plan) i h
+  host-soon-ahead x = chain-soon-ahead plan (chained x .chain)
+
+  pub host-soon : {h : History} {b : List ℕ} → Hosted plan h b → (i : ℕ) → i < flowCount (planOf plan) → SoonOnArrivalOn (planOf plan) i h
+  host-soon x = chain-soon plan (chained x .chain)
+
+  pub host-enough-cells : {h : History} {b : List ℕ} → Hosted plan h b → (i : ℕ) → i < flowCount (planOf plan)
+      → GivesBack 0 (planOf plan) i h → Each (ReadyAt (planOf plan) i) h
+  host-enough-cells x = chain-enough-cells plan (chained x .chain)
+
+  pub host-two-shares : {h : History} {b : List ℕ} → Hosted plan h b → (i : ℕ) → i < flowCount (planOf plan)
+      → KeepsTwoShares 0 (planOf plan) i h → EachGrantedNow (planOf plan) i h
+  host-two-shares x = chain-two-shares plan (chained x .chain)
+
+  -- a board, for what is said of several links
+  pub host-board : {h : History} {b : List ℕ} → Hosted plan h b → tally renews h ≡ 0 → (i : ℕ) → i < flowCount (planOf plan) → Board paper
+  host-board x = chain-board plan (chained x .chain)

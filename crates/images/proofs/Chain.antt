@@ -12,15 +12,25 @@ use Rattle.model.specs.Refusals.{Line, _when_, firstOf}
 use Rattle.model.specs.Plan.{flowCount, planOf, refusal}
 use Rattle.model.specs.Calls.{Call, History}
 use Rattle.model.specs.Fresh.{fresh}
-use Rattle.model.specs.Claim.{Demand3}
+use Rattle.model.specs.Claim.{Each, ReadyAt, Demand3}
 use Rattle.model.specs.Fairness.{FairOn}
 use Rattle.model.specs.QuantumNumbers.{InOrder}
+use Rattle.model.specs.Tables.{tally}
+use Rattle.model.specs.History.{renews}
+use Rattle.model.specs.SeveralLinks.{Board}
+use Rattle.model.specs.EnoughCells.{GivesBack, KeepsTwoShares, EachGrantedNow}
+use Rattle.model.specs.Delay.{Timely, PromptOn, TimelyInOrder, SoonOn, SoonOnArrivalOn}
 use Rattle.model.specs.Card.{Played, paper, step, play, started, run}
 use Rattle.model.proofs.Tests.{line-passed}
 use Rattle.model.proofs.Plan.{accepted}
 use Rattle.model.proofs.Demand3.{meets}
 use Rattle.model.proofs.Fairness.{fair}
 use Rattle.model.proofs.QuantumNumbers.{numbers-in-order}
+use Rattle.model.proofs.Prompt.{prompt}
+use Rattle.model.proofs.Soon.{soon-ahead}
+use Rattle.model.proofs.SoonOnArrival.{soon}
+use Rattle.model.proofs.EnoughCells.{enough-cells}
+use Rattle.model.proofs.TwoShares.{two-shares}
 use Rattle.images.specs.Image.{imageLength, imageOf, headerField}
 use Rattle.images.specs.Consistent.{Keepable}
 use Rattle.images.specs.Taken.{refusalOf}
@@ -163,3 +173,41 @@ module _ (plan : List ℕ) where
   pub chain-numbers : {calls : List Call} {h : History} {b : List ℕ} → Chain plan calls h b → (i : ℕ) → i < flowCount (planOf plan)
       → InOrder (planOf plan) i h
   chain-numbers ch i known = chain-has (InOrder (planOf plan) i) (λ passes calls. numbers-in-order plan passes calls i known) ch
+
+  -- it is prompt, and soon to a modest flow
+  pub chain-prompt : {calls : List Call} {h : History} {b : List ℕ} → Chain plan calls h b → PromptOn Timely 0 (planOf plan) h
+  chain-prompt ch = chain-has (PromptOn Timely 0 (planOf plan)) (prompt plan) ch
+
+  pub chain-soon-ahead : {calls : List Call} {h : History} {b : List ℕ} → Chain plan calls h b → (i : ℕ) → i < flowCount (planOf plan)
+      → SoonOn TimelyInOrder 0 (planOf plan) i h
+  chain-soon-ahead ch i known = chain-has (SoonOn TimelyInOrder 0 (planOf plan) i) (λ passes calls. soon-ahead plan passes calls i known) ch
+
+  pub chain-soon : {calls : List Call} {h : History} {b : List ℕ} → Chain plan calls h b → (i : ℕ) → i < flowCount (planOf plan)
+      → SoonOnArrivalOn (planOf plan) i h
+  chain-soon ch i known = chain-has (SoonOnArrivalOn (planOf plan) i) (λ passes calls. soon plan passes calls i known) ch
+
+  -- a stream that gives its cells back in time is ready at each request
+  pub chain-enough-cells : {calls : List Call} {h : History} {b : List ℕ} → Chain plan calls h b → (i : ℕ) → i < flowCount (planOf plan)
+      → GivesBack 0 (planOf plan) i h → Each (ReadyAt (planOf plan) i) h
+  chain-enough-cells ch i known =
+      chain-has (λ h. GivesBack 0 (planOf plan) i h → Each (ReadyAt (planOf plan) i) h) (λ passes calls. enough-cells plan passes calls i known) ch
+
+  pub chain-two-shares : {calls : List Call} {h : History} {b : List ℕ} → Chain plan calls h b → (i : ℕ) → i < flowCount (planOf plan)
+      → KeepsTwoShares 0 (planOf plan) i h → EachGrantedNow (planOf plan) i h
+  chain-two-shares ch i known =
+      chain-has (λ h. KeepsTwoShares 0 (planOf plan) i h → EachGrantedNow (planOf plan) i h) (λ passes calls. two-shares plan passes calls i known) ch
+
+  -- and over several links a board of the host is one of those that `over-links` speaks of
+  pub chain-board : {calls : List Call} {h : History} {b : List ℕ} → Chain plan calls h b → tally renews h ≡ 0 → (i : ℕ) → i < flowCount (planOf plan)
+      → Board paper
+  chain-board {calls} {h} ch unreset i known =
+      let f = chain-follows ch in
+      record {
+        bytes = plan;
+        passes = f .plan-passes;
+        events = h;
+        ran = record { calls = calls; is = sym (f .history-is) };
+        no-reset = unreset;
+        stream = i;
+        known = known;
+      }

@@ -1,4 +1,4 @@
--- Demand 3 of the code, that it lends in turn, and the numbers of the words that it grants: any list of calls on the link that fresh hands back for a
+-- Demand 3 of the code, that it lends in turn, the numbers of the words that it grants, and its delay: any list of calls on the link that fresh hands back for a
 -- plan that the reader accepts. Assumes nothing.
 use Prim.Native.Nat.{ℕ, zero, suc, _<_}
 use mathlib.Core.Path.{_≡_, refl, sym, ap, _∙_, subst}
@@ -13,16 +13,26 @@ use Rattle.calls.specs.declared.Answer.{Answer}
 use Rattle.calls.specs.Reading.{answerToRequest, answerToCredit, answerToTick, answerToLend, answerToReset}
 use Rattle.model.specs.Plan as model
 use Rattle.model.specs.Calls.{Call, Grant, Receipt, Turn, Loan, Renewal, Event, History, accepted, refused, requested, credited, ticked, lent}
-use Rattle.model.specs.Claim.{Demand3}
+use Rattle.model.specs.Claim.{Each, ReadyAt, Demand3}
 use Rattle.model.specs.Card.{Played, paper, step, play, started, run}
 use Rattle.model.specs.Fairness.{FairOn}
 use Rattle.model.specs.QuantumNumbers.{InOrder}
+use Rattle.model.specs.Tables.{tally}
+use Rattle.model.specs.History.{renews}
+use Rattle.model.specs.SeveralLinks.{Ran, Board}
+use Rattle.model.specs.EnoughCells.{GivesBack, KeepsTwoShares, EachGrantedNow}
+use Rattle.model.specs.Delay.{Timely, PromptOn, TimelyInOrder, SoonOn, SoonOnArrivalOn}
 use Rattle.model.specs.CountedBursts.{several, countsAs, eventsIn}
 use Rattle.model.proofs.AfterCalls.{Known, after-calls, after-fresh}
 use Rattle.model.proofs.CountedBursts.{play-both, burst-played}
 use Rattle.model.proofs.Demand3.{meets-accepted}
 use Rattle.model.proofs.Fairness.{fair-accepted}
 use Rattle.model.proofs.QuantumNumbers.{numbers-accepted}
+use Rattle.model.proofs.Prompt.{prompt-accepted}
+use Rattle.model.proofs.Soon.{soon-accepted}
+use Rattle.model.proofs.SoonOnArrival.{soon-on-arrival}
+use Rattle.model.proofs.EnoughCells.{enough-cells-accepted}
+use Rattle.model.proofs.TwoShares.{two-shares-accepted}
 use Rattle.link.specs.declared.Link.{Link}
 use Rattle.link.specs.Reading.{linkOf}
 use Rattle.link.specs.Handed.{Handed}
@@ -127,6 +137,9 @@ unfolding verdictFor
 accepted-passes zero e = refl
 accepted-passes (suc r) e = cc
 
+passes-of : (bytes : List ℕ) (o : Outcome) → o ≡ readOf bytes → o .verdict ≡ Accepted → model.refusal bytes ≡ 0
+passes-of bytes o is accepts = accepted-passes (model.refusal bytes) (sym (ap (λ (x : Outcome). x .verdict) is ∙ verdict-of bytes) ∙ accepts)
+
 module _ (Q : model.Plan → History → Type 0) (runs : (P : model.Plan) → model.Accepted P → (calls : List Call) → Q P (run paper P calls .history)) where
   handed-has : (p : Plan) → Valid p → {h : History} {l : Link} → Handed p h l → Q (planFor p) h
   handed-has p valid g =
@@ -136,7 +149,7 @@ module _ (Q : model.Plan → History → Type 0) (runs : (P : model.Plan) → mo
   code-has : (bytes : List ℕ) (o : Outcome) → o ≡ readOf bytes → (o .verdict ≡ Accepted → Valid (o .plan)) → o .verdict ≡ Accepted
       → {h : History} {l : Link} → Handed (o .plan) h l → Q (model.planOf bytes) h
   code-has bytes o is valid accepts {h} {l} g =
-      let passes = accepted-passes (model.refusal bytes) (sym (ap (λ (x : Outcome). x .verdict) is ∙ verdict-of bytes) ∙ accepts) in
+      let passes = passes-of bytes o is accepts in
       let plan-is = ap (λ (x : Outcome). planFor (x .plan)) is ∙ is-plan bytes passes in
       subst (λ P. Q P h) plan-is (handed-has (o .plan) (valid accepts) g)
 
@@ -155,3 +168,40 @@ code-fair = code-has FairOn fair-accepted
 pub code-numbers : (bytes : List ℕ) (o : Outcome) → o ≡ readOf bytes → (o .verdict ≡ Accepted → Valid (o .plan)) → o .verdict ≡ Accepted
     → {h : History} {l : Link} → Handed (o .plan) h l → (i : ℕ) → i < model.flowCount (model.planOf bytes) → InOrder (model.planOf bytes) i h
 code-numbers = code-has (λ P h. (i : ℕ) → i < model.flowCount P → InOrder P i h) numbers-accepted
+
+-- and its delay: it is prompt, and soon to a modest flow, whether that asks ahead of its tiles or on their arrival
+pub code-prompt : (bytes : List ℕ) (o : Outcome) → o ≡ readOf bytes → (o .verdict ≡ Accepted → Valid (o .plan)) → o .verdict ≡ Accepted
+    → {h : History} {l : Link} → Handed (o .plan) h l → PromptOn Timely 0 (model.planOf bytes) h
+code-prompt = code-has (PromptOn Timely 0) prompt-accepted
+
+pub code-soon-ahead : (bytes : List ℕ) (o : Outcome) → o ≡ readOf bytes → (o .verdict ≡ Accepted → Valid (o .plan)) → o .verdict ≡ Accepted
+    → {h : History} {l : Link} → Handed (o .plan) h l → (i : ℕ) → i < model.flowCount (model.planOf bytes) → SoonOn TimelyInOrder 0 (model.planOf bytes) i h
+code-soon-ahead = code-has (λ P h. (i : ℕ) → i < model.flowCount P → SoonOn TimelyInOrder 0 P i h) soon-accepted
+
+pub code-soon : (bytes : List ℕ) (o : Outcome) → o ≡ readOf bytes → (o .verdict ≡ Accepted → Valid (o .plan)) → o .verdict ≡ Accepted
+    → {h : History} {l : Link} → Handed (o .plan) h l → (i : ℕ) → i < model.flowCount (model.planOf bytes) → SoonOnArrivalOn (model.planOf bytes) i h
+code-soon = code-has (λ P h. (i : ℕ) → i < model.flowCount P → SoonOnArrivalOn P i h) soon-on-arrival
+
+-- and its cells: a stream that gives them back in time is ready at each request
+pub code-enough-cells : (bytes : List ℕ) (o : Outcome) → o ≡ readOf bytes → (o .verdict ≡ Accepted → Valid (o .plan)) → o .verdict ≡ Accepted
+    → {h : History} {l : Link} → Handed (o .plan) h l → (i : ℕ) → i < model.flowCount (model.planOf bytes)
+    → GivesBack 0 (model.planOf bytes) i h → Each (ReadyAt (model.planOf bytes) i) h
+code-enough-cells = code-has (λ P h. (i : ℕ) → i < model.flowCount P → GivesBack 0 P i h → Each (ReadyAt P i) h) enough-cells-accepted
+
+pub code-two-shares : (bytes : List ℕ) (o : Outcome) → o ≡ readOf bytes → (o .verdict ≡ Accepted → Valid (o .plan)) → o .verdict ≡ Accepted
+    → {h : History} {l : Link} → Handed (o .plan) h l → (i : ℕ) → i < model.flowCount (model.planOf bytes)
+    → KeepsTwoShares 0 (model.planOf bytes) i h → EachGrantedNow (model.planOf bytes) i h
+code-two-shares = code-has (λ P h. (i : ℕ) → i < model.flowCount P → KeepsTwoShares 0 P i h → EachGrantedNow P i h) two-shares-accepted
+
+-- and over several links: the calls of the code on one board are such a board, so that `over-links` speaks of any way over boards of the code
+pub code-board : (bytes : List ℕ) (o : Outcome) → o ≡ readOf bytes → (o .verdict ≡ Accepted → Valid (o .plan)) → o .verdict ≡ Accepted
+    → {h : History} {l : Link} → Handed (o .plan) h l → tally renews h ≡ 0 → (i : ℕ) → i < model.flowCount (model.planOf bytes) → Board paper
+code-board bytes o is valid accepts {h} g unreset i known = record {
+  bytes = bytes;
+  passes = passes-of bytes o is accepts;
+  events = h;
+  ran = code-has (Ran paper) (λ P ok calls. record { calls = calls; is = refl }) bytes o is valid accepts g;
+  no-reset = unreset;
+  stream = i;
+  known = known;
+}

@@ -104,7 +104,7 @@ module _ (l : Link) (h : History) (g : After (l .plan) l h) (i : ℕ) (known : i
       let together : sum (suc n) inEach ≤ granted P h i = subst (λ m. sum m inEach ≤ granted P h i) one-more frames-exclude in
       omega arith
 
-  demand3 : Demand3 P i h
+  pub demand3 : Demand3 P i h
   demand3 Clause.most = most
   demand3 Clause.most-in-a-frame = in-frame
   demand3 Clause.least = least

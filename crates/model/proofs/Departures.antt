@@ -49,6 +49,10 @@ module _ (l : Link) (i d p : ℕ) where
   unfolding validFor
   valid-for-parts e = and-true (valid l i p) (canLeave (window l) d p) e
 
+  pub valid-for-both : valid l i p ≡ true → canLeave (window l) d p ≡ true → validFor l i d p ≡ true
+  unfolding validFor
+  valid-for-both free leaves = rw (free, leaves)
+
   -- "the tile has come and nothing changes"
   pub valid-if-come : later (window l) d (l .current) ≡ false → validFor l i d p ≡ valid l i p
   unfolding validFor
@@ -132,3 +136,17 @@ module _ {P : Plan} {t c : ℕ} (now : Current P t c) where
         (sym (later-is now s slot w-s w-d) ∙ ap (later w (s % T)) at-slot ∙ sym (leaves-if-later w d (s % T) to-come) ∙ leaves) in
         let slot-is : slotAfter P t d ≡ slot = ap (slotAfter P t) (sym at-slot) ∙ slotAfter-is ok t slot w-d after-now in
         omega arith
+
+    -- and any slot after the departure's will do, as will any slot where the tile has come
+    pub leaves-in : (s : ℕ) → InWindow P t s → (hasCome P t d ≡ false → slotAfter P t d < s) → canLeave w d (s % T) ≡ true
+    leaves-in s w-s after = go (later w d c) refl
+      where
+        go : (b : Bool) → later w d c ≡ b → canLeave w d (s % T) ≡ true
+        go false e = leaves-if-come w d (s % T) e
+        go true e =
+            let w-d = slotAt-in-window ok t d in
+            let after-now : t < slot = ltb-true t slot (sym (later-than-current now slot w-d) ∙ ap (λ q. later w q c) at-slot ∙ e) in
+            let slot-is : slotAfter P t d ≡ slot = ap (slotAfter P t) (sym at-slot) ∙ slotAfter-is ok t slot w-d after-now in
+            let yet : hasCome P t d ≡ false = come-is ∙ ap not e in
+            leaves-if-later w d (s % T) e ∙ ap (later w (s % T)) (sym at-slot) ∙ later-is now s slot w-s w-d
+            ∙ lt-ltb slot s (omega (arith, after yet))

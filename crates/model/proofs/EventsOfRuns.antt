@@ -119,3 +119,14 @@ module _ {P : Plan} where
 
 pub each-happened : (P : Plan) → Accepted P → (calls : List Call) → Each (Happened P) (run paper P calls .history)
 each-happened P ok calls = go-on (started paper P) calls (after-fresh ok) tt
+
+-- What holds at the start and is kept by each call, with what is known of the calls so far, holds after every list of calls.
+pub by-calls : {P : Plan} → Accepted P → (Q : Played paper → Type 0)
+    → ((r : Played paper) (c : Call) → Known P r → Each (Happened P) (r .history) → Q r → Q (step paper r c))
+    → Q (started paper P) → (calls : List Call) → Q (run paper P calls)
+unfolding play
+by-calls {P} ok Q kept first calls = all (started paper P) calls (after-fresh ok) tt first
+  where
+    all : (r : Played paper) (calls : List Call) → Known P r → Each (Happened P) (r .history) → Q r → Q (play paper r calls)
+    all r [] g each q = q
+    all r (c ∷ calls) g each q = all (step paper r c) calls (after-step r c g) (one-more r c g each) (kept r c g each q)

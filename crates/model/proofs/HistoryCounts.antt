@@ -49,6 +49,13 @@ pub request-number : (P : Plan) (k w : ℕ)
     → firstOf (requestTests P k w) ≡ cond (eqb (firstOf (wordTests P w)) 0) (firstOf (numberTests k w)) (firstOf (wordTests P w))
 request-number P k w = tested-last _ _ _ _
 
+pub flow-below : (P : Plan) (w : ℕ) → wellFormed P w ≡ true → flowOf w < flowCount P
+unfolding wellFormed
+flow-below P w e =
+    let flow-known = ltb (flowOf w) (flowCount P) in
+    let destination-is = eqb (destinationOf w) (entry P (flowOf w) .destination) in
+    ltb-true (flowOf w) (flowCount P) (and-true flow-known destination-is (and-true (flow-known && destination-is) (ltb (departureOf w) (positions P)) e .0) .0)
+
 pub departure-below : (P : Plan) (w : ℕ) → wellFormed P w ≡ true → departureOf w < positions P
 unfolding wellFormed
 departure-below P w e =

@@ -69,6 +69,23 @@ pub mod AskingUntil11
 pub mod NewestGrants
 pub mod AlignedRuns
 pub mod SameFrames
+pub mod AnsweredRequests
+pub mod GrantsInNewest
+pub mod TimelyRequests
+pub mod Prompt
+pub mod Fronts
+pub mod FrontsKept
+pub mod RequestsInTime
+pub mod Soon
+pub mod SoonOnArrival
+pub mod TileSlots
+pub mod GrantsInOrder
+pub mod NextLink
+pub mod SeveralLinks
+pub mod EnoughCells
+pub mod CreditsInTime
+pub mod TwoShares
+pub mod LinksOnArrival
 pub mod Outlines
 -- edges, cards that demand 3 sends back, streams that meet the premise of the least count, and what its premises on words are for
 pub mod Unfoldings
@@ -91,3 +108,10 @@ pub mod OtherPremises
 pub mod TwoRunsDecided
 pub mod DifferingRuns
 pub mod LessAsked
+pub mod DelayDecided
+pub mod LessTimely
+pub mod TwoLinksExample
+pub mod BadDelays
+pub mod SlowCards
+pub mod CellsNeeded
+pub mod OnArrivalExample

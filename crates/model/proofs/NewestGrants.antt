@@ -51,7 +51,7 @@ module _ (P : Plan) (i : ℕ) where
   DecidedAt (lent m a) h = Unit {0}
   DecidedAt (Event.reset a) h = Unit {0}
 
-slot-to-come : (P : Plan) (t p : ℕ) → t < slotAfter P t p
+pub slot-to-come : (P : Plan) (t p : ℕ) → t < slotAfter P t p
 unfolding slotAfter
 slot-to-come P t p = omega arith
 
@@ -154,7 +154,7 @@ module _ {P : Plan} (ok : Accepted P) {i : ℕ} (known : i < flowCount P) {h : H
 
 module _ {P : Plan} (ok : Accepted P) (i : ℕ) (h : History) (before : Counts P h) where
   -- nothing is granted yet in a frame past the newest
-  none-past-newest : (f : ℕ) → now P h + P .frames ≤ f → grantedIn P h i f ≡ 0
+  pub none-past-newest : (f : ℕ) → now P h + P .frames ≤ f → grantedIn P h i f ≡ 0
   none-past-newest f past = tally-none (inFrame P i f) (grantsSince P h) (all-map _ _ below (grantsSince P h) (before .begun))
     where
       below : (m : Mark) → Begun P (ticks h) m → inFrame P i f m ≡ false

@@ -1,5 +1,5 @@
 -- A request with departure d that passes its word's tests keeps the invariant, and what the least count needs. Assumes nothing.
-use Prim.Native.Nat.{ℕ, _+_, _-_, _*_, _%_, _<_}
+use Prim.Native.Nat.{ℕ, _+_, _-_, _*_, _%_, _≤_, _<_}
 use mathlib.Core.Path.{_≡_, sym, ap, _∙_, subst, subst₂}
 use mathlib.Core.List.{_∷_}
 use mathlib.Core.Bool.{true, false}
@@ -13,6 +13,7 @@ use Rattle.model.specs.Request.{found, nowhere, valid, canLeave, validFo
 use Rattle.model.specs.History.{slotAfter, frameOf, hasCome}
 use Rattle.model.specs.Holding.{InWindow}
 use Rattle.model.proofs.Round.{mod-unique}
+use Rattle.model.proofs.Tables.{Hit}
 use Rattle.model.proofs.Slots.{some-frame, some-position, frame-slot-in-window, window-below, position-of, slotAfter-is}
 use Rattle.model.proofs.Window.{Current, newest-is}
 use Rattle.model.proofs.Departures.{valid-for-parts, leaves-after}
@@ -21,6 +22,42 @@ use Rattle.model.proofs.Invariant.{Ledger, withGrant, Invariant}
 use Rattle.model.proofs.BookingKeeps.{Open, valid-open, moved-keeps, booked-keeps}
 use Rattle.model.proofs.LeastCount.{Full, Least, least-granted}
 use Rattle.model.proofs.RequestSearch.{Persists, Searched, newestFrame, full-behind}
+
+-- ---- the slot of a position that is found in frame a
+
+module _ {l : Link} {L : Ledger} (v : Invariant l L) {i : ℕ} (known : i < flowCount (l .plan)) (d a p : ℕ) (low : frameOf (l .plan) (L .now) ≤ a)
+    (high : a < frameOf (l .plan) (L .now) + l .plan .frames) (hit : Hit (l .plan .slots) (a % l .plan .frames * l .plan .slots) p (validFor l i d)) where
+  open Link l using (plan as P)
+  open Plan P using (slots as F, frames as W)
+  open Ledger L using (now as t)
+  open Current (v .current) using (accepted as ok)
+
+  abbrev foundSlot : ℕ
+  foundSlot = a * F + (p - a % W * F)
+
+  place-below : p - a % W * F < F
+  place-below = omega (arith, hit .low, hit .high)
+
+  in-frame : frameOf P foundSlot ≡ a
+  in-frame = digits-div a place-below
+
+  at-position : foundSlot % positions P ≡ p
+  at-position = position-of ok a (p - a % W * F) place-below ∙ (let z : a % W * F + (p - a % W * F) ≡ p = omega (arith, hit .low) in z)
+
+  in-window : InWindow P t foundSlot
+  in-window = frame-slot-in-window ok t a (p - a % W * F) low high place-below
+
+  passes : (valid l i (foundSlot % positions P) ≡ true) × (canLeave (window l) d (foundSlot % positions P) ≡ true)
+  passes = valid-for-parts l i d (foundSlot % positions P) (ap (validFor l i d) at-position ∙ hit .passes)
+
+  free : Open v known foundSlot
+  free = valid-open v known foundSlot in-window (passes .0)
+
+  slot-is : slotAfter P t p ≡ foundSlot
+  slot-is = ap (slotAfter P t) (sym at-position) ∙ slotAfter-is ok t foundSlot in-window (free .to-come)
+
+  pub found-in-frame : frameOf P (slotAfter P t p) ≡ a
+  found-in-frame = ap (frameOf P) slot-is ∙ in-frame
 
 module _ {l : Link} {L : Ledger} (v : Invariant l L) {i : ℕ} (known : i < flowCount (l .plan)) (d : ℕ) (R : ℕ → ℕ) where
   open Link l using (plan as P)
@@ -43,12 +80,12 @@ module _ {l : Link} {L : Ledger} (v : Invariant l L) {i : ℕ} (known : i < flow
   pub after-grant : (j c p : ℕ) → Searched v known d R (found j c p) → AfterGrant j c p
   after-grant j c p r = record {
     position = subst (_< T) at-p (mod-lt s (some-position ok));
-    soon = rw slot-is (window-below ok t s w);
-    after-departure = λ below yet. rw slot-is (leaves-after (v .current) d below yet s w (passes .1));
+    soon = rw slot (window-below ok t s w);
+    after-departure = λ below yet. rw slot (leaves-after (v .current) d below yet s w leaves);
     keeps =
-        rw slot-is (subst₂ (λ b q. Invariant (booked l i b c q) (withGrant L (mark i s))) (sym (r .frame-is)) at-p
-        (booked-keeps v known a s c w in-a (r .reached .spends) free (r .reached .low) high));
-    least = λ p. rw slot-is (least-granted (at-frame-a p) (mark i s) kept);
+        rw slot (subst₂ (λ b q. Invariant (booked l i b c q) (withGrant L (mark i s))) (sym (r .frame-is)) at-p
+        (booked-keeps v known a s c w in-a (r .reached .spends) open-slot (r .reached .low) high));
+    least = λ p. rw slot (least-granted (at-frame-a p) (mark i s) kept);
   }
     where
       a : ℕ
@@ -57,32 +94,26 @@ module _ {l : Link} {L : Ledger} (v : Invariant l L) {i : ℕ} (known : i < flow
       high : a < frameOf P t + W
       high = omega (arith, r .frame-le, some-frame ok)
 
-      x : ℕ
-      x = p - a % W * F
-
-      x-below : x < F
-      x-below = omega (arith, r .hit .low, r .hit .high)
-
       s : ℕ
-      s = a * F + x
+      s = foundSlot v known d a p (r .reached .low) high (r .hit)
 
       in-a : frameOf P s ≡ a
-      in-a = digits-div a x-below
+      in-a = in-frame v known d a p (r .reached .low) high (r .hit)
 
       at-p : s % T ≡ p
-      at-p = position-of ok a x x-below ∙ (let z : a % W * F + x ≡ p = omega (arith, r .hit .low) in z)
+      at-p = at-position v known d a p (r .reached .low) high (r .hit)
 
       w : InWindow P t s
-      w = frame-slot-in-window ok t a x (r .reached .low) high x-below
+      w = in-window v known d a p (r .reached .low) high (r .hit)
 
-      passes : (valid l i (s % T) ≡ true) × (canLeave (window l) d (s % T) ≡ true)
-      passes = valid-for-parts l i d (s % T) (ap (validFor l i d) at-p ∙ r .hit .passes)
+      leaves : canLeave (window l) d (s % T) ≡ true
+      leaves = passes v known d a p (r .reached .low) high (r .hit) .1
 
-      free : Open v known s
-      free = valid-open v known s w (passes .0)
+      open-slot : Open v known s
+      open-slot = free v known d a p (r .reached .low) high (r .hit)
 
-      slot-is : slotAfter P t p ≡ s
-      slot-is = ap (slotAfter P t) (sym at-p) ∙ slotAfter-is ok t s w (free .to-come)
+      slot : slotAfter P t p ≡ s
+      slot = slot-is v known d a p (r .reached .low) high (r .hit)
 
       -- before the booking, but with frame a as the injection frame
       at-frame-a : Persists v known d R → Least P (frameOf P t) (L .origin) (L .grants) R i j

@@ -58,6 +58,7 @@ module _ {l : Link} {L : Ledger} (v : Invariant l L) where
     pub keeps : Invariant k (atNextSlot L)
     pub answer-is : owner k (nextPosition l) ≡ ownerIn (L .grants) (suc t)
     pub flows-in-frame : (suc t % F ≡ 0 → ⊥) → (i : ℕ) → flow k i ≡ flow l i
+    pub injections-at-change : suc t % F ≡ 0 → (i : ℕ) → i < flowCount P → flow k i .injection ≡ leftHead l i .injection
     pub numbers-stay : (i : ℕ) → i < flowCount P → flow k i .number ≡ flow l i .number
 
   pub advances : Advances (advanced l)
@@ -76,6 +77,7 @@ module _ {l : Link} {L : Ledger} (v : Invariant l L) where
             keeps = keeps;
             answer-is = ap (owner (recycled l)) (next-position v) ∙ keeps .bookings .owners-are (suc t) (current-in-window ok (suc t));
             flows-in-frame = λ d. absurd (d change);
+            injections-at-change = λ e i known. ap (λ x. x .injection) (flow-withFlows l _ i known);
             numbers-stay = λ i known. ap (λ x. x .number) (flow-withFlows l _ i known) ∙ left-number l i;
           }
       go false e =
@@ -85,5 +87,6 @@ module _ {l : Link} {L : Ledger} (v : Invariant l L) where
             keeps = in-frame d;
             answer-is = ap (owner l) (next-position v) ∙ in-frame d .bookings .owners-are (suc t) (current-in-window ok (suc t));
             flows-in-frame = λ d i. refl;
+            injections-at-change = λ e. absurd (d e);
             numbers-stay = λ i known. refl;
           }

@@ -13,8 +13,9 @@
 --   modulo T);
 -- - requests refused to a stream that lapsed once: in some frame it was not refused, so that a stream that asks for less than its share has no least
 --   count from the next frame on; or once it asked with all of its cells held in a slot from the current one on, as flow 0 does in the listing's
---   third call; or once it asked for a tile that had not come, or with another number than the expected one. A card that gives a flow 12 for ever after
---   its first 12 meets demand 3, and so does one that refuses whenever the tile has not come;
+--   third call; or once it asked for a tile that had not come, or with another number than the expected one. A card that gives a flow 12
+--   after its first 12 until a reset is granted meets demand 3, and so does one that refuses whenever the tile has not come. What such a stream can count
+--   on is said in Delay.antt;
 -- - words granted with another number than the expected one (`QuantumNumbers.antt` says which numbers granted words carry);
 -- - whose turn it is to be lent to: fairness says that (Fairness.antt);
 -- - lends refused that should be answered, and with which number; a mark that stands past the tick, or that a refused lend sets; a lent slot booked in

@@ -33,6 +33,11 @@ pub mod Fairness
 pub mod TwoRuns
 pub mod Outlines
 pub mod LessAsked
+pub mod Delay
+pub mod LessTimely
+pub mod SeveralLinks
+pub mod EnoughCells
+pub mod LinksOnArrival
 -- worked examples, and cards that are sent back
 pub mod PlanBytes
 pub mod EdgeCases
@@ -54,3 +59,4 @@ pub mod BadDepartures
 pub mod BadResets
 pub mod BadTurns
 pub mod BadNumbers
+pub mod BadDelays

@@ -28,6 +28,10 @@ hex bytes = flatMap (λ b. hexGlyph (b / 16) ∷ hexGlyph (b % 16) ∷ []) bytes
 abbrev pub spaced : ℕ → List ℕ
 spaced n = text " " ++ decimal n
 
+-- three numbers
+abbrev pub threeLine : (first second third : ℕ) → List ℕ
+threeLine first second third = decimal first ++ spaced second ++ spaced third ++ text "\n"
+
 -- what is wrong with a field, in words
 unfoldable pub faultLine : Fault → List ℕ
 faultLine Missing = cannot "a number is missing: words and numbers are set apart by single spaces"

@@ -8,3 +8,4 @@ pub use lines::put_number;
 pub use lines::say;
 pub use lines::say_fault;
 pub use lines::say_refusal;
+pub use lines::say_three;

@@ -4,7 +4,7 @@ ghost use mathlib.Core.Path.{_≡_};
 ghost use lib.ListN.{length};
 ghost use Rattle.model.specs.Listing.{decimal, refusalLine};
 ghost use Rattle.calls.specs.Lines.{Puts};
-ghost use Rattle.replies.specs.Lines.{hex, hexGlyph, spaced, faultLine, Says};
+ghost use Rattle.replies.specs.Lines.{hex, hexGlyph, spaced, threeLine, faultLine, room, Says};
 use tokens::Fault;
 
 // Stores bytes from a place on; the place after them.
@@ -44,6 +44,15 @@ pub fn put_number(n: usize, out: &mut [u8], at: usize) -> usize
     put_decimal(n, out, at + 1)
 }
 
+// Stores a number at the start of a line, for which 20 bytes suffice.
+fn put_first(n: usize, out: &mut [u8]) -> usize
+    requires { ⌜ 20 ≤ length (now out) ⌝ }
+    ensures put { λ r. ⌜ Puts (decimal n) (now (out .entry)) (now (out .exit)) 0 r ⌝ }
+    ensures most { λ r. ⌜ r ≤ 20 ⌝ }
+{
+    put_decimal(n, out, 0)
+}
+
 fn hex_glyph(n: u8) -> u8
     requires { ⌜ n < 16 ⌝ }
     ensures { λ r. ⌜ r ≡ hexGlyph n ⌝ }
@@ -75,6 +84,17 @@ pub fn say(answer: &[u8], out: &mut [u8]) -> usize
     ensures { λ r. ⌜ Says (now (answer .entry)) (now (out .entry)) (now (out .exit)) r ⌝ }
 {
     put(answer, out, 0)
+}
+
+// Says three numbers.
+pub fn say_three(first: usize, second: usize, third: usize, out: &mut [u8]) -> usize
+    requires { ⌜ room ≤ length (now out) ⌝ }
+    ensures { λ r. ⌜ Says (threeLine first second third) (now (out .entry)) (now (out .exit)) r ⌝ }
+{
+    let one = put_first(first, out);
+    let two = put_number(second, out, one);
+    let three = put_number(third, out, two);
+    put(b"\n", out, three)
 }
 
 // Says a refusal.

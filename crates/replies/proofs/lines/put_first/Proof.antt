@@ -1,9 +1,9 @@
--- `extrawords::put_first` meets its contract: a number has at most twenty digits. Assumes nothing.
+-- `replies::lines::put_first` meets its contract: a number has at most twenty digits. Assumes nothing.
 use native.Mathlib.Omega.{arith}
 use borrow.Author.Needs.{needs}
 use Rattle.replies.proofs.DecimalLength.{twenty}
-use Rattle.extrawords.proofs.put_first.Statement.{statement}
-use Rattle.extrawords.proofs.put_first.Tie as tie
+use Rattle.replies.proofs.lines.put_first.Statement.{statement}
+use Rattle.replies.proofs.lines.put_first.Tie as tie
 
 put-decimal-requires : tie.Need-put-decimal-requires
 put-decimal-requires c κs = omega (arith, twenty _ (c .before .before .fits .n .fits))

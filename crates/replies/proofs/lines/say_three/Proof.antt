@@ -1,10 +1,10 @@
--- `extrawords::say_best` meets its contract. Assumes nothing.
+-- `replies::lines::say_three` meets its contract. Assumes nothing.
 use native.Mathlib.Omega.{arith}
 use borrow.Author.Needs.{needs}
 use Rattle.calls.proofs.Stores.{puts-then}
 use Rattle.replies.proofs.PutOn.{says}
-use Rattle.extrawords.proofs.say_best.Statement.{statement}
-use Rattle.extrawords.proofs.say_best.Tie as tie
+use Rattle.replies.proofs.lines.say_three.Statement.{statement}
+use Rattle.replies.proofs.lines.say_three.Tie as tie
 
 put-first-requires : tie.Need-put-first-requires
 put-first-requires c κs = search needs
@@ -27,14 +27,14 @@ same-length c = search needs
 returns : tie.Need-returns
 returns c =
     let end = c .before .before in
-    let ceiling = end .before .before .before .before .before in
-    let worth = ceiling .before .before .before .before in
-    let mask = worth .before .before .before .before in
-    let numbers = puts-then (puts-then (mask .put-first .ensures .0) (worth .put-number .ensures .0)) (ceiling .put-number2 .ensures .0) in
-    says (puts-then numbers (end .put .ensures)) (omega (arith, end .put .ensures .up-to, ceiling .put-number2 .ensures .1))
+    let third = end .before .before .before .before .before in
+    let second = third .before .before .before .before in
+    let first = second .before .before .before .before in
+    let numbers = puts-then (puts-then (first .put-first .ensures .0) (second .put-number .ensures .0)) (third .put-number2 .ensures .0) in
+    says (puts-then numbers (end .put .ensures)) (omega (arith, end .put .ensures .up-to, third .put-number2 .ensures .1))
 
-pub say-best-spec : {M : Type 1} → statement M
-say-best-spec =
+pub say-three-spec : {M : Type 1} → statement M
+say-three-spec =
     tie.close
     (tie.spec
     put-first-requires

@@ -1,0 +1,3 @@
+pub mod Bounds
+pub mod Limits
+pub mod Edges

@@ -1,0 +1,2 @@
+pub mod DelayLines
+pub mod DelayLineEdges

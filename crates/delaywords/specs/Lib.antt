@@ -1,0 +1,2 @@
+pub mod DelayWord
+pub mod DelayLineEdges

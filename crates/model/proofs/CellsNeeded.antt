@@ -1,0 +1,100 @@
+-- With two shares of cells and no more a stream that gives them back in time may lack room; with one more it has it in the same calls. With one fewer a
+-- request of it may be refused. Assumes nothing.
+use Prim.Native.Nat.{_<_, ℕ, _+_, _≤_}
+use mathlib.Core.Path.{_≡_, refl}
+use mathlib.Core.Logic.{Dec·and}
+use mathlib.Core.List.{List, _∷_, [], reverse}
+use mathlib.Core.Option.{some}
+use native.Mathlib.Omega.{arith}
+use native.Mathlib.Decide.{decLe, decLt, ℕ-discrete}
+use lib.Dec.{lit<, lit≤}
+use Rattle.model.specs.Word.{flowOf, quantumOf, departureOf}
+use Rattle.model.specs.Plan.{Plan, entry, planOf}
+use Rattle.model.specs.Calls.{Call, History, requested, credited, ticked, accepted}
+use Rattle.model.specs.History.{ticks, frameOf, wellFormed, hasCome, expectedNumber, grantedUpTo, creditedUpTo}
+use Rattle.model.specs.Card.{run, paper}
+use Rattle.model.specs.PlanBytes.{plan2}
+use Rattle.model.specs.Delay.{currentFrame, madeSince, madeIn}
+use Rattle.model.specs.EnoughCells.{lastOf, AsksInTurn, GivesBack, EnoughCellsBy, KeepsTwoShares, TwoSharesBy}
+use Rattle.model.proofs.Decidable.{same, implies, is-true, all-below, everywhere, proved}
+use Rattle.model.proofs.PastMarks.{above}
+use Rattle.model.proofs.ClaimDecided.{at-request, each}
+use Rattle.model.proofs.DelayDecided.{none-in, delays-compute}
+
+-- ---- whether a stream gives its cells back in time is decided
+
+unfoldable pub in-turn : (P : Plan) (i w : ℕ) (h : History) → Dec (AsksInTurn P i w h)
+in-turn P i w h =
+    same (λ r. record { come = r .0; number = r .1 .0; credited = r .1 .1 }) (λ x. (x .come, (x .number, x .credited)))
+    (Dec·and (is-true (hasCome P (ticks h) (departureOf w)))
+    (Dec·and (ℕ-discrete (quantumOf w) (expectedNumber P h i))
+    (all-below {Q = λ s. grantedUpTo P h i s ≤ creditedUpTo P h i (lastOf P (frameOf P s + 1))} (ticks h) (λ s. decLe _ _))))
+
+unfoldable pub gives-back : (short : ℕ) (P : Plan) (i : ℕ) (h : History) → Dec (GivesBack short P i h)
+gives-back short P i h =
+    same (λ r. record { asks = r .0; within-share = r .1 .0; enough-cells = r .1 .1 .0; not-lent = r .1 .1 .1 .0; no-reset = r .1 .1 .1 .1 })
+    (λ x. (x .asks, (x .within-share, (x .enough-cells, (x .not-lent, x .no-reset)))))
+    (Dec·and (each (at-request λ w h. implies (is-true (wellFormed P w)) (implies (ℕ-discrete (flowOf w) i) (in-turn P i w h))) h)
+    (Dec·and
+    (everywhere (above (λ m. frameOf P (m .slot)) (madeSince h)) (λ f. decLe _ _) (λ below f past. omega (arith, none-in P i f (madeSince h) past)))
+    (Dec·and (decLt _ _) (Dec·and (ℕ-discrete _ _) (ℕ-discrete _ _)))))
+
+-- ---- F = 2, W = 3, two flows with share 1, of which flow 0 is the stream, with the given number of cells
+
+abbrev bytes : (cells : ℕ) → List ℕ
+bytes cells = plan2 2 3 8 1 cells 1 4
+
+-- Flow 1 takes slots 1 and 2. The stream's tiles are granted slots 3, 4 and 6, the last of them asked for in slot 4; the first cell is given back in slot
+-- 3, from slot 5 on.
+abbrev calls : List Call
+calls =
+    Call.request 0x24100000 ∷ Call.request 0x24100400 ∷ Call.request 0x24000000 ∷ Call.tick ∷ Call.tick ∷ Call.request 0x24000402 ∷ Call.tick
+    ∷ Call.credit 0 5 ∷ Call.tick ∷ Call.request 0x24000804 ∷ []
+
+abbrev events : (cells : ℕ) → History
+events cells = run paper (planOf (bytes cells)) calls .history
+
+pub come-to :
+    reverse (events 2)
+    ≡ requested 0x24100000 (accepted 0x24100001) ∷ requested 0x24100400 (accepted 0x24100402) ∷ requested 0x24000000 (accepted 0x24000003)
+    ∷ ticked (some 1) ∷ ticked (some 1) ∷ requested 0x24000402 (accepted 0x24000404) ∷ ticked (some 0)
+    ∷ credited 0 5 (accepted tt) ∷ ticked (some 0) ∷ requested 0x24000804 (accepted 0x24000800) ∷ []
+unfolding delays-compute
+come-to = refl
+
+-- with two cells it holds both in slot 4 when it asks in slot 4
+pub not-two-shares : EnoughCellsBy 1 paper → ⊥
+unfolding delays-compute in-turn gives-back
+not-two-shares enough =
+    let ready = enough (bytes 2) refl calls 0 (lit< tt) (proved (gives-back 1 (planOf (bytes 2)) 0 (events 2)) tt) in
+    omega (arith, ready .0 refl refl .room 4 (lit≤ tt))
+
+-- with three it gives them back in time, and is ready at each request
+pub three-are-enough : GivesBack 0 (planOf (bytes 3)) 0 (events 3)
+unfolding delays-compute in-turn gives-back
+three-are-enough = proved (gives-back 0 (planOf (bytes 3)) 0 (events 3)) tt
+
+-- ---- two shares, and one cell fewer
+
+unfoldable pub keeps-two-shares : (short : ℕ) (P : Plan) (i : ℕ) (h : History) → Dec (KeepsTwoShares short P i h)
+keeps-two-shares short P i h =
+    same (λ r. record { asks = r .0; two-shares = r .1 .0; not-lent = r .1 .1 .0; no-reset = r .1 .1 .1 })
+    (λ x. (x .asks, (x .two-shares, (x .not-lent, x .no-reset))))
+    (Dec·and
+    (each (at-request λ w h. implies (is-true (wellFormed P w)) (implies (ℕ-discrete (flowOf w) i)
+    (same {A = AsksInTurn P i w h × (madeIn P h i (currentFrame P h) < entry P i .share)} (λ r. record { in-turn = r .0; few = r .1 })
+    (λ x. (x .in-turn, x .few)) (Dec·and (in-turn P i w h) (decLt _ _))))) h)
+    (Dec·and (decLe _ _) (Dec·and (ℕ-discrete _ _) (ℕ-discrete _ _))))
+
+-- with two cells each request of the calls above is granted
+pub two-are-kept : KeepsTwoShares 0 (planOf (bytes 2)) 0 (events 2)
+unfolding delays-compute in-turn keeps-two-shares
+two-are-kept = proved (keeps-two-shares 0 (planOf (bytes 2)) 0 (events 2)) tt
+
+-- with one cell, which is held from slot 3 on, the tile that is asked for in slot 2 is refused
+pub not-fewer : TwoSharesBy 1 paper → ⊥
+unfolding delays-compute in-turn keeps-two-shares
+not-fewer two =
+    let calls = Call.request 0x24100000 ∷ Call.request 0x24100400 ∷ Call.request 0x24000000 ∷ Call.tick ∷ Call.tick ∷ Call.request 0x24000402 ∷ [] in
+    let h = run paper (planOf (bytes 1)) calls .history in
+    two (bytes 1) refl calls 0 (lit< tt) (proved (keeps-two-shares 1 (planOf (bytes 1)) 0 h) tt) .0 refl refl

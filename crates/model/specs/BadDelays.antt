@@ -1,0 +1,93 @@
+-- Cards that make a flow wait. Each is the paper's card but for its requests, and it may look at all calls and answers so far. Demand 3 takes the first
+-- two: it promises nothing to a flow that was not ready at each request, or was not refused in each frame. `Prompt` and `Soon` send them back. Assumes
+-- nothing.
+use Prim.Native.Nat.{ℕ, _-_, _%_}
+use mathlib.Core.List.{_∷_, []}
+use mathlib.Core.Bool.{Bool, false, _&&_, _||_, cond}
+use lib.Dec.{ltb, eqb}
+use Rattle.model.specs.Word.{flowOf}
+use Rattle.model.specs.Plan.{flowCount}
+use Rattle.model.specs.Calls.{Grant, Event, History, requested, credited, ticked, lent, accepted, refused}
+use Rattle.model.specs.Window.{newest}
+use Rattle.model.specs.Link.{Link, window, flow, share, withFlows, withFlow, movedTo}
+use Rattle.model.specs.History.{ticks, frameOf, renews, origin, refusedIn}
+use Rattle.model.specs.Card.{Card, Played, paper, started}
+use Rattle.model.specs.BadCards.{withRequest, withTick}
+
+-- ---- a card that remembers its events
+
+abbrev recorded : {A : Type 0} → (A → Event) → Played paper → Link × A → Played paper × A
+recorded event r handed = (record { state = handed .0; history = event (handed .1) ∷ r .history }, handed .1)
+
+-- its requests are answered by the link and the events so far
+abbrev pub remembers : (Played paper → ℕ → Link × Grant) → Card
+remembers request = record {
+  State = Played paper;
+  fresh = started paper;
+  request = λ r w. recorded (requested w) r (request r w);
+  credit = λ r i p. recorded (credited i p) r (paper .credit (r .state) i p);
+  tick = λ r. recorded ticked r (paper .tick (r .state));
+  lend = λ r m. recorded (lent m) r (paper .lend (r .state) m);
+  reset = λ r. recorded Event.reset r (paper .reset (r .state));
+}
+
+-- ---- 12 after the first 12
+
+-- the event is a refusal of flow i with 12
+abbrev pub is12 : ℕ → Event → Bool
+is12 i (requested w (accepted v)) = false
+is12 i (requested w (refused r)) = eqb (flowOf w) i && eqb r 12
+is12 i (credited j p a) = false
+is12 i (ticked x) = false
+is12 i (lent m a) = false
+is12 i (Event.reset a) = false
+
+-- flow i was refused with 12 since the last granted reset
+unfoldable pub had12 : ℕ → History → Bool
+had12 i [] = false
+had12 i (e ∷ h) = cond (renews e) false (is12 i e || had12 i h)
+
+-- after its first 12 a flow gets 12 at each request, until a reset is granted
+abbrev pub staysRefused : Card
+staysRefused = remembers (λ r w. cond (had12 (flowOf w) (r .history)) (r .state, refused 12) (paper .request (r .state) w))
+
+-- the same, where a reset changes nothing
+unfoldable pub ever12 : ℕ → History → Bool
+ever12 i [] = false
+ever12 i (e ∷ h) = is12 i e || ever12 i h
+
+abbrev pub neverForgets : Card
+neverForgets = remembers (λ r w. cond (ever12 (flowOf w) (r .history)) (r .state, refused 12) (paper .request (r .state) w))
+
+-- ---- the newest frame after a frame in which the flow was not refused
+
+-- flow i is one of the plan's, and it was not refused in the frame before the current one, where the counts had begun
+abbrev pub lapsed : Link → History → ℕ → Bool
+lapsed l h i =
+    ltb i (flowCount (l .plan)) && ltb (origin (l .plan) h) (frameOf (l .plan) (ticks h))
+    && eqb (refusedIn (l .plan) h i (frameOf (l .plan) (ticks h) - 1)) 0
+
+-- flow i injects in the newest frame
+abbrev pub atNewest : Link → ℕ → Link
+atNewest l i =
+    cond (eqb (flow l i .injection) (newest (window l))) l (withFlow l i (movedTo (flow l i) (newest (window l)) (share l i)))
+
+abbrev pub sendsToNewest : Card
+sendsToNewest = remembers (λ r w. paper .request (cond (lapsed (r .state) (r .history) (flowOf w)) (atNewest (r .state) (flowOf w)) (r .state)) w)
+
+-- ---- three that demand 3 sends back too
+
+-- refuses every request in a frame's first slot
+abbrev pub restsAtFirst : Card
+restsAtFirst = withRequest (λ l w. cond (eqb (l .current % l .plan .slots) 0) (l, refused 12) (paper .request l w))
+
+-- looks in no other frame than the newest
+abbrev pub newestOnly : Card
+newestOnly = withRequest (λ l w. paper .request (atNewest l (flowOf w)) w)
+
+-- a tick moves every flow on to the newest frame
+abbrev allAtNewest : {A : Type 0} → Link × A → Link × A
+allAtNewest handed = (withFlows (handed .0) (λ i. flow (atNewest (handed .0) i) i), handed .1)
+
+abbrev pub tickMovesOn : Card
+tickMovesOn = withTick (λ l. allAtNewest (paper .tick l))

@@ -1,0 +1,114 @@
+-- How many cells a stream needs that asks on arrival: with two shares of them each request is granted in its frame or the next, and with more it has room
+-- in every slot at every request. It names no link, only calls and answers. Assumes nothing.
+--
+-- Its cells are given back in time if, whenever it asks, the credits that are dated up to the end of the next frame after a slot that is gone are at
+-- least its grants up to that slot. So it is where the cell of each tile is credited in the slot in which the tile comes up, dated a slot of that frame
+-- or the next (`CreditsEachTile`). A stream is lent nothing here, and no reset is granted.
+use Prim.Native.Nat.{ℕ, _+_, _-_, _*_, _≤_, _<_}
+use mathlib.Core.Path.{_≡_}
+use mathlib.Core.List.{List, _∷_, [], _++_}
+use mathlib.Core.Bool.{Bool, true, _&&_}
+use lib.Dec.{leb, eqb}
+use Rattle.model.specs.Tables.{tally}
+use Rattle.model.specs.Word.{flowOf, quantumOf, departureOf}
+use Rattle.model.specs.Plan.{Plan, flowCount, entry, planOf, refusal}
+use Rattle.model.specs.Calls.{Call, Grant, Event, History, requested, credited, ticked, lent, accepted, refused}
+use Rattle.model.specs.History.{ticks, slotAfter, frameOf, wellFormed, hasCome, renews, grants, lends, ofFlow, atSlot, grantedUpTo, creditedUpTo}
+use Rattle.model.specs.History.{expectedNumber}
+use Rattle.model.specs.Claim.{Each, AtRequest, ReadyAt}
+use Rattle.model.specs.Card.{Card, run}
+use Rattle.model.specs.Delay.{currentFrame, madeIn, AtAnswer, GrantedSoon}
+
+-- the last slot of frame f
+abbrev pub lastOf : Plan → ℕ → ℕ
+lastOf P f = (f + 1) * P .slots - 1
+
+-- After h flow i's cells of slots that are gone fall free by the end of the frame after theirs.
+abbrev pub CreditedInTime : Plan → ℕ → History → Type 0
+CreditedInTime P i h = (s : ℕ) → s < ticks h → grantedUpTo P h i s ≤ creditedUpTo P h i (lastOf P (frameOf P s + 1))
+
+-- ---- so it is where the cell of each tile is credited in the slot in which the tile comes up (`credited-each-tile`, in proofs/CreditsInTime.antt)
+
+-- a taken credit: its flow, the slot in which it is made and the one that it is dated
+pub record Return : Type 0 where
+  pub flow : ℕ
+  pub made : ℕ
+  pub dated : ℕ
+
+abbrev pub returnAt : Plan → Event → History → List Return
+returnAt P (requested w a) h = []
+returnAt P (credited i p (accepted u)) h = record { flow = i; made = ticks h; dated = slotAfter P (ticks h) p } ∷ []
+returnAt P (credited i p (refused r)) h = []
+returnAt P (ticked x) h = []
+returnAt P (lent m a) h = []
+returnAt P (Event.reset a) h = []
+
+unfoldable pub returns : Plan → History → List Return
+returns P [] = []
+returns P (e ∷ h) = returnAt P e h ++ returns P h
+
+-- a credit of flow i, made in slot t and dated by the end of the next frame
+abbrev pub inSlot : Plan → (i t : ℕ) → Return → Bool
+inSlot P i t r = eqb (r .flow) i && eqb (r .made) t && leb (r .dated) (lastOf P (frameOf P t + 1))
+
+-- In each slot that is gone flow i made as many of these as tiles of it came up: one, or none.
+abbrev pub CreditsEachTile : Plan → ℕ → History → Type 0
+CreditsEachTile P i h = (t : ℕ) → t < ticks h → tally (λ m. ofFlow i m && atSlot t m) (grants P h) ≤ tally (inSlot P i t) (returns P h)
+
+-- ---- the stream
+
+-- what is asked of flow i's well-formed request with word w, after h; room is not
+pub record AsksInTurn (P : Plan) (i w : ℕ) (h : History) : Type 0 where
+  pub come : hasCome P (ticks h) (departureOf w) ≡ true
+  pub number : quantumOf w ≡ expectedNumber P h i
+  pub credited : CreditedInTime P i h
+
+-- The stream asks so, for no more than its share in a frame; and two shares are fewer than its cells, and `short`.
+pub record GivesBack (short : ℕ) (P : Plan) (i : ℕ) (h : History) : Type 0 where
+  pub asks : Each (AtRequest (λ w h. wellFormed P w ≡ true → flowOf w ≡ i → AsksInTurn P i w h)) h
+  pub within-share : (f : ℕ) → madeIn P h i f ≤ entry P i .share
+  pub enough-cells : 2 * entry P i .share < entry P i .cells + short
+  pub not-lent : tally (ofFlow i) (lends h) ≡ 0
+  pub no-reset : tally renews h ≡ 0
+
+-- Then it is ready at each request: room need not be asked, and it is served promptly and soon.
+abbrev pub EnoughCellsBy : (short : ℕ) → Card → Type 0
+EnoughCellsBy short c =
+    (bytes : List ℕ) → refusal bytes ≡ 0 → (calls : List Call) (i : ℕ) → i < flowCount (planOf bytes)
+    → GivesBack short (planOf bytes) i (run c (planOf bytes) calls .history) → Each (ReadyAt (planOf bytes) i) (run c (planOf bytes) calls .history)
+
+-- That the paper's card keeps it is `enough-cells`, in proofs/EnoughCells.antt.
+abbrev pub EnoughCells : Card → Type 0
+EnoughCells = EnoughCellsBy 0
+
+-- ---- with two shares of cells
+
+-- the same, of a stream that asks only while fewer than its share of grants were made in this frame
+pub record AsksWithinShare (P : Plan) (i w : ℕ) (h : History) : Type 0 where
+  pub in-turn : AsksInTurn P i w h
+  pub few : madeIn P h i (currentFrame P h) < entry P i .share
+
+pub record KeepsTwoShares (short : ℕ) (P : Plan) (i : ℕ) (h : History) : Type 0 where
+  pub asks : Each (AtRequest (λ w h. wellFormed P w ≡ true → flowOf w ≡ i → AsksWithinShare P i w h)) h
+  pub two-shares : 2 * entry P i .share ≤ entry P i .cells + short
+  pub not-lent : tally (ofFlow i) (lends h) ≡ 0
+  pub no-reset : tally renews h ≡ 0
+
+-- the request is granted, in this frame or the next
+abbrev pub GrantedNow : Plan → Grant → History → Type 0
+GrantedNow P (accepted v) h = GrantedSoon P (slotAfter P (ticks h) (departureOf v)) h
+GrantedNow P (refused r) h = ⊥
+
+abbrev pub EachGrantedNow : Plan → ℕ → History → Type 0
+EachGrantedNow P i = Each (AtAnswer (λ w a h. wellFormed P w ≡ true → flowOf w ≡ i → GrantedNow P a h))
+
+-- Room may be missing in slots of the current frame, and still each request is granted so. That the paper's card keeps it is `two-shares`, in
+-- proofs/TwoShares.antt.
+abbrev pub TwoSharesBy : (short : ℕ) → Card → Type 0
+TwoSharesBy short c =
+    (bytes : List ℕ) → refusal bytes ≡ 0 → (calls : List Call) (i : ℕ) → i < flowCount (planOf bytes)
+    → KeepsTwoShares short (planOf bytes) i (run c (planOf bytes) calls .history)
+    → EachGrantedNow (planOf bytes) i (run c (planOf bytes) calls .history)
+
+abbrev pub TwoShares : Card → Type 0
+TwoShares = TwoSharesBy 0
