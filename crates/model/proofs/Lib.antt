@@ -85,6 +85,7 @@ pub mod SeveralLinks
 pub mod EnoughCells
 pub mod CreditsInTime
 pub mod LinksOnArrival
+pub mod Ahead
 pub mod Outlines
 -- edges, cards that demand 3 sends back, streams that meet the premise of the least count, and what its premises on words are for
 pub mod Unfoldings

@@ -38,6 +38,7 @@ pub mod LessTimely
 pub mod SeveralLinks
 pub mod EnoughCells
 pub mod LinksOnArrival
+pub mod Ahead
 -- worked examples, and cards that are sent back
 pub mod PlanBytes
 pub mod EdgeCases
