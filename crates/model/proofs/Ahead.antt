@@ -1,7 +1,6 @@
 -- A lend and a credit of the flow that it is answered with, dated a later position: the credit is taken, and what the two come to. Assumes nothing.
 use Prim.Native.Nat.{ℕ, zero, suc, _+_, _-_, _%_, _≤_, _<_}
 use mathlib.Core.Path.{_≡_, refl, sym, ap, ap₂, _∙_, subst}
-use mathlib.Core.List.{List}
 use mathlib.Core.Option.{Option, some, none}
 use mathlib.Core.Bool.{Bool, true, false, not, _&&_, cond}
 use native.Mathlib.Nat.{mod-lt, mod-eq-of-lt}
@@ -11,24 +10,23 @@ use lib.Dec.{leb, ltb, eqb}
 use lib.ListN.{getD}
 use borrow.Author.Tests.{leb-true, leb-false, le-leb, lt-ltb, eq-eqb, ne-eqb}
 use Rattle.model.specs.Refusals.{firstOf}
-use Rattle.model.specs.Plan.{Plan, Accepted, positions, flowCount, planOf}
-use Rattle.model.specs.Calls.{Call, History, accepted, refused}
+use Rattle.model.specs.Plan.{positions, flowCount, planOf}
+use Rattle.model.specs.Calls.{History, accepted, refused}
 use Rattle.model.specs.Window.{Window, later, passed, fromOn, everyFrom}
-use Rattle.model.specs.Link.{Link, Flow, Step, window, linkWith, flow, holding, withHeld, heldFrom}
+use Rattle.model.specs.Link.{Link, window, linkWith, flow, holding, withHeld, heldFrom}
 use Rattle.model.specs.Credit.{creditTests, lowered, creditAfter, credit}
 use Rattle.model.specs.Lend.{takes, lendTests, lentTo, firstInTurn, lentAfter, lendAfter, lend}
 use Rattle.model.specs.History.{ticks, hasCome}
 use Rattle.model.specs.Holding.{InWindow}
-use Rattle.model.specs.Card.{run, paper}
-use Rattle.model.specs.Ahead.{heldUntil, sentAhead, ComesTo, TakenOn, Taken}
-use Rattle.model.proofs.Tests.{and-true}
+use Rattle.model.specs.Card.{paper}
+use Rattle.model.specs.Ahead.{heldUntil, sentAhead, ComesTo, Taken}
 use Rattle.model.proofs.Plan.{accepted as accepted-plan}
 use Rattle.model.proofs.Tables.{table-same, firstFrom-some}
 use Rattle.model.proofs.Slots.{some-position, slotAt, slotAt-in-window, slotAt-position, current-in-window}
 use Rattle.model.proofs.Window.{Current, passed-is, fromOn-is, everyFrom-intro}
 use Rattle.model.proofs.Departures.{come-at}
 use Rattle.model.proofs.LinkUpdates.{flow-same, flow-other, heldFrom-at}
-use Rattle.model.proofs.CreditKeeps.{CreditPasses}
+use Rattle.model.proofs.CreditKeeps.{CreditPasses, credit-passes}
 use Rattle.model.proofs.LendTurn.{lend-is}
 use Rattle.model.proofs.AfterHistory.{After}
 use Rattle.model.proofs.AfterCalls.{after-run}
@@ -63,12 +61,34 @@ lend-answered l mask i some-flow a = tested (firstOf (lendTests l mask)) refl a
     tested zero e is = found e (firstInTurn l mask) refl is
     tested (suc r) e is = let z : _≡_ {A = ℕ} 0 1 = cc in absurd (omega arith)
 
+-- a lend that is refused changes nothing
+pub lend-refused : (l : Link) (mask r : ℕ) → lend l mask .answer ≡ refused r → lend l mask .link ≡ l
+unfolding firstInTurn lentAfter lend lendAfter
+lend-refused l mask r a = tested (firstOf (lendTests l mask)) a
+  where
+    found : (o : Option ℕ) → lentAfter l o .answer ≡ refused r → lentAfter l o .link ≡ l
+    found none is = refl
+    found (some k) is = let z : _≡_ {A = ℕ} 0 1 = cc in absurd (omega arith)
+
+    tested : (x : ℕ) → lendAfter x l mask .answer ≡ refused r → lendAfter x l mask .link ≡ l
+    tested zero is = found (firstInTurn l mask) is
+    tested (suc x) is = refl
+
 -- ---- a credit that passes its tests is taken
 
 pub credit-taken : (l : Link) (i p : ℕ) → CreditPasses l i p → credit l i p ≡ record { link = lowered l i p; answer = accepted tt }
 unfolding credit creditAfter firstOf
 credit-taken l i p c =
     rw (lt-ltb i (flowCount (l .plan)) (c .known), lt-ltb p (positions (l .plan)) (c .position), c .later, c .holds) refl
+
+-- and one that is taken passed them
+pub credit-was-taken : (l : Link) (i p : ℕ) → credit l i p .answer ≡ accepted tt → CreditPasses l i p
+unfolding credit creditAfter
+credit-was-taken l i p a = go (firstOf (creditTests l i p)) refl a
+  where
+    go : (r : ℕ) → firstOf (creditTests l i p) ≡ r → creditAfter r l i p .answer ≡ accepted tt → CreditPasses l i p
+    go zero e is = credit-passes l i p e
+    go (suc r) e is = let z : _≡_ {A = ℕ} 0 1 = cc in absurd (omega arith)
 
 -- ---- the two calls
 

@@ -86,6 +86,12 @@ pub mod EnoughCells
 pub mod CreditsInTime
 pub mod LinksOnArrival
 pub mod Ahead
+pub mod Replays
+pub mod FewerValid
+pub mod CloseLinks
+pub mod CloseRequests
+pub mod CloseCalls
+pub mod AheadRuns
 pub mod Outlines
 -- edges, cards that demand 3 sends back, streams that meet the premise of the least count, and what its premises on words are for
 pub mod Unfoldings

@@ -39,6 +39,7 @@ pub mod SeveralLinks
 pub mod EnoughCells
 pub mod LinksOnArrival
 pub mod Ahead
+pub mod AheadRuns
 -- worked examples, and cards that are sent back
 pub mod PlanBytes
 pub mod EdgeCases
