@@ -85,6 +85,7 @@ pub mod SeveralLinks
 pub mod EnoughCells
 pub mod CreditsInTime
 pub mod LinksOnArrival
+pub mod BooksInOrder
 pub mod Ahead
 pub mod Replays
 pub mod FewerValid
@@ -92,6 +93,7 @@ pub mod CloseLinks
 pub mod CloseRequests
 pub mod CloseCalls
 pub mod AheadRuns
+pub mod AheadInTurn
 pub mod Outlines
 -- edges, cards that demand 3 sends back, streams that meet the premise of the least count, and what its premises on words are for
 pub mod Unfoldings

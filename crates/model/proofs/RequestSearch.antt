@@ -45,7 +45,7 @@ module _ {l : Link} {L : Ledger} (v : Invariant l L) {i : ℕ} (known : i < flow
   -- ---- where the flow has room, a frame to come of which the tile can leave in every slot is full if the search fails in it
 
   module _ (room : Room P (L .raises) (L .credits) i t) where
-    not-valid : (s : ℕ) → InWindow P t s → t < s → canLeave (window l) d (s % T) ≡ true → validFor l i d (s % T) ≡ false
+    pub not-valid : (s : ℕ) → InWindow P t s → t < s → canLeave (window l) d (s % T) ≡ true → validFor l i d (s % T) ≡ false
         → 0 < tally (atSlot s) (L .grants)
     not-valid s w h leaves e = go (tally (atSlot s) (L .grants)) refl
       where

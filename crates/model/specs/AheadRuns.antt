@@ -7,7 +7,7 @@
 -- - A refusal of the flow that sends ahead may have another number: 12 in the second run where it is 20 in the first.
 -- - Credits that the first run refuses are to be refused in the second too. One for a cell that only the second run counts would be taken there.
 -- - Lends are answered with one flow in both runs, or refused. Refused ones may stand in one run alone. There is no reset.
-use Prim.Native.Nat.{ℕ, _≤_}
+use Prim.Native.Nat.{ℕ, _≤_, _<_}
 use mathlib.Core.Path.{_≡_}
 use mathlib.Core.List.{List, _∷_, []}
 use mathlib.Core.Bool.{cond}
@@ -15,8 +15,11 @@ use lib.Dec.{leb, eqb}
 use Rattle.model.specs.Word.{flowOf, departureOf}
 use Rattle.model.specs.Plan.{Plan, planOf, refusal}
 use Rattle.model.specs.Calls.{Call, Grant, Receipt, Turn, History, requested, credited, ticked, lent, accepted, refused}
-use Rattle.model.specs.History.{ticks, slotAfter, grants}
+use Rattle.model.specs.History.{ticks, slotAfter, grants, WasGranted}
+use Rattle.model.specs.Claim.{Each}
 use Rattle.model.specs.Card.{Card, run}
+use Rattle.model.specs.Delay.{AsksAt}
+use Rattle.model.specs.BooksInOrder.{InTurn}
 
 -- ---- the two runs
 
@@ -61,16 +64,27 @@ RefusedToo (accepted u₁) a₂ = Unit {0}
 RefusedToo (refused r₁) (accepted u₂) = ⊥
 RefusedToo (refused r₁) (refused r₂) = Unit {0}
 
--- In the first run no flow is granted a slot before one that it has sent ahead; and no credit is taken in the second run alone.
-abbrev pub InOrder : Plan → {h₁ h₂ : History} → WithAhead h₁ h₂ → Type 0
-InOrder P start = Unit {0}
-InOrder P (both-tick x) = InOrder P x
-InOrder P (both-request {h₁ = h₁} {a₁ = a₁} w x) = GrantFrom P (ticks h₁) (latest P x (flowOf w)) a₁ × InOrder P x
-InOrder P (both-credit {a₁ = a₁} {a₂ = a₂} j p x) = RefusedToo a₁ a₂ × InOrder P x
-InOrder P (both-lend j x) = InOrder P x
-InOrder P (first-refused x) = InOrder P x
-InOrder P (second-refused x) = InOrder P x
-InOrder P (sent-ahead i p x) = InOrder P x
+-- In the first run no flow is granted a slot before one that it has sent ahead.
+abbrev pub GrantsAfter : Plan → {h₁ h₂ : History} → WithAhead h₁ h₂ → Type 0
+GrantsAfter P start = Unit {0}
+GrantsAfter P (both-tick x) = GrantsAfter P x
+GrantsAfter P (both-request {h₁ = h₁} {a₁ = a₁} w x) = GrantFrom P (ticks h₁) (latest P x (flowOf w)) a₁ × GrantsAfter P x
+GrantsAfter P (both-credit j p x) = GrantsAfter P x
+GrantsAfter P (both-lend j x) = GrantsAfter P x
+GrantsAfter P (first-refused x) = GrantsAfter P x
+GrantsAfter P (second-refused x) = GrantsAfter P x
+GrantsAfter P (sent-ahead i p x) = GrantsAfter P x
+
+-- No credit that both make is taken in the second run alone.
+abbrev pub NoneTakenAlone : {h₁ h₂ : History} → WithAhead h₁ h₂ → Type 0
+NoneTakenAlone start = Unit {0}
+NoneTakenAlone (both-tick x) = NoneTakenAlone x
+NoneTakenAlone (both-request w x) = NoneTakenAlone x
+NoneTakenAlone (both-credit {a₁ = a₁} {a₂ = a₂} j p x) = RefusedToo a₁ a₂ × NoneTakenAlone x
+NoneTakenAlone (both-lend j x) = NoneTakenAlone x
+NoneTakenAlone (first-refused x) = NoneTakenAlone x
+NoneTakenAlone (second-refused x) = NoneTakenAlone x
+NoneTakenAlone (sent-ahead i p x) = NoneTakenAlone x
 
 -- ---- what follows
 
@@ -103,13 +117,42 @@ Unmoved P (first-refused x) = Unmoved P x
 Unmoved P (second-refused x) = Unmoved P x
 Unmoved P (sent-ahead i p x) = Unmoved P x
 
+-- the calls are answered so, and the granted slots are the same, flow by flow
+pub record BookedAlike (P : Plan) {h₁ h₂ : History} (x : WithAhead h₁ h₂) : Type 0 where
+  pub unmoved : Unmoved P x
+  pub same-grants : grants P h₁ ≡ grants P h₂
+
 -- Two lists of calls on a card, from one plan.
 abbrev pub NobodyMovesOn : Card → Plan → Type 0
 NobodyMovesOn c P =
-    (calls₁ calls₂ : List Call) (x : WithAhead (run c P calls₁ .history) (run c P calls₂ .history)) → InOrder P x
-    → Unmoved P x × (grants P (run c P calls₁ .history) ≡ grants P (run c P calls₂ .history))
+    (calls₁ calls₂ : List Call) (x : WithAhead (run c P calls₁ .history) (run c P calls₂ .history)) → GrantsAfter P x → NoneTakenAlone x → BookedAlike P x
 
--- For the bytes of every accepted plan: the calls are answered so, and the granted slots are the same, flow by flow. That the paper's card keeps it is
--- `nobody-moves`, in proofs/AheadRuns.antt.
+-- for the bytes of every accepted plan. That the paper's card keeps it is `nobody-moves`, in proofs/AheadRuns.antt.
 abbrev pub NobodyMoves : Card → Type 0
 NobodyMoves c = (bytes : List ℕ) → refusal bytes ≡ 0 → NobodyMovesOn c (planOf bytes)
+
+-- ---- a flow that is in turn at each request may send ahead what it has booked
+
+-- each slot that is sent ahead was granted to the flow
+abbrev pub OfBooked : Plan → {h₁ h₂ : History} → WithAhead h₁ h₂ → Type 0
+OfBooked P start = Unit {0}
+OfBooked P (both-tick x) = OfBooked P x
+OfBooked P (both-request w x) = OfBooked P x
+OfBooked P (both-credit j p x) = OfBooked P x
+OfBooked P (both-lend j x) = OfBooked P x
+OfBooked P (first-refused x) = OfBooked P x
+OfBooked P (second-refused x) = OfBooked P x
+OfBooked P (sent-ahead {h₁ = h₁} i p x) = WasGranted P h₁ i (slotAfter P (ticks h₁) p) × OfBooked P x
+
+-- each flow that sends ahead is in turn at each of its requests in the first run
+abbrev pub SendersInTurn : Plan → {h₁ h₂ : History} → WithAhead h₁ h₂ → Type 0
+SendersInTurn P {h₁} x = (i : ℕ) → 0 < latest P x i → Each (AsksAt InTurn P i) h₁
+
+abbrev pub InTurnNobodyMovesOn : Card → Plan → Type 0
+InTurnNobodyMovesOn c P =
+    (calls₁ calls₂ : List Call) (x : WithAhead (run c P calls₁ .history) (run c P calls₂ .history))
+    → OfBooked P x → SendersInTurn P x → NoneTakenAlone x → BookedAlike P x
+
+-- That the paper's card keeps it is `in-turn-nobody-moves`, in proofs/AheadInTurn.antt.
+abbrev pub InTurnNobodyMoves : Card → Type 0
+InTurnNobodyMoves c = (bytes : List ℕ) → refusal bytes ≡ 0 → InTurnNobodyMovesOn c (planOf bytes)

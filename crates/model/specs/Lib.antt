@@ -38,6 +38,7 @@ pub mod LessTimely
 pub mod SeveralLinks
 pub mod EnoughCells
 pub mod LinksOnArrival
+pub mod BooksInOrder
 pub mod Ahead
 pub mod AheadRuns
 -- worked examples, and cards that are sent back
