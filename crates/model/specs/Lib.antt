@@ -41,6 +41,7 @@ pub mod LinksOnArrival
 pub mod BooksInOrder
 pub mod Ahead
 pub mod AheadRuns
+pub mod Sendings
 -- worked examples, and cards that are sent back
 pub mod PlanBytes
 pub mod EdgeCases
