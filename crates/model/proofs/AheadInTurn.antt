@@ -1,21 +1,21 @@
 -- Flows that are in turn at each request may send ahead what they have booked: nobody's bookings move. Assumes nothing.
 use Prim.Native.Nat.{ℕ, zero, suc, _≤_, _<_}
 use mathlib.Core.Path.{_≡_, refl, sym, subst}
-use mathlib.Core.List.{_∷_}
+use mathlib.Core.List.{List, _∷_}
 use mathlib.Core.Bool.{Bool, true, false, _&&_, cond}
 use native.Mathlib.Omega.{arith}
 use lib.Dec.{leb, eqb}
 use borrow.Author.Tests.{leb-true, leb-false, eqb-true}
 use Rattle.model.specs.Word.{flowOf}
 use Rattle.model.specs.Plan.{Plan, Accepted, planOf}
-use Rattle.model.specs.Calls.{Grant, Event, History, requested, accepted, refused}
+use Rattle.model.specs.Calls.{Call, Grant, Event, History, requested, accepted, refused}
 use Rattle.model.specs.History.{ticks, slotAfter, marksOf, grantAt, grants, grantsSince, ofFlow, atSlot, WasGranted}
 use Rattle.model.specs.Claim.{Each}
 use Rattle.model.specs.Card.{paper, run}
 use Rattle.model.specs.BooksInOrder.{InTurn, GrantedSince, AfterThoseAt}
 use Rattle.model.specs.Delay.{AsksAt}
 use Rattle.model.specs.AheadRuns.{WithAhead, start, both-tick, both-request, both-credit, both-lend, first-refused, second-refused, sent-ahead}
-use Rattle.model.specs.AheadRuns.{laterOf, latest, GrantFrom, GrantsAfter, OfBooked, InTurnNobodyMoves}
+use Rattle.model.specs.AheadRuns.{laterOf, latest, GrantFrom, GrantsAfter, OfBooked, SendersInTurn, InTurnNobodyMoves}
 use Rattle.model.proofs.Plan.{accepted as accepted-plan}
 use Rattle.model.proofs.Tallies.{tally-append}
 use Rattle.model.proofs.HistoryCounts.{NoneGranted, since-the-start}
@@ -79,7 +79,7 @@ module _ (P : Plan) where
       go before false e some = before some
 
   -- a flow that had sent ahead has so still
-  latest-on : (a b : ℕ) (e : Bool) → 0 < b → 0 < cond e (laterOf a b) b
+  pub latest-on : (a b : ℕ) (e : Bool) → 0 < b → 0 < cond e (laterOf a b) b
   latest-on a b true some = go (leb a b) refl
     where
       go : (e : Bool) → leb a b ≡ e → 0 < cond e b a
@@ -89,7 +89,7 @@ module _ (P : Plan) where
 
   -- ---- grants in order
 
-  abbrev Orders : {h₁ h₂ : History} → WithAhead h₁ h₂ → Type 0
+  abbrev pub Orders : {h₁ h₂ : History} → WithAhead h₁ h₂ → Type 0
   Orders {h₁} x = (i : ℕ) → 0 < latest P x i → Each (AfterThoseAt P i) h₁
 
   one-grant : (w : ℕ) (a : Grant) (h : History) (b : ℕ) → (0 < b → AfterThoseAt P (flowOf w) (requested w a) h) → (0 < b → GrantedSince P h (flowOf w) b)
@@ -101,7 +101,7 @@ module _ (P : Plan) where
       let before = order some refl (suc b) (booked some) in
       omega arith
 
-  grants-after : {h₁ h₂ : History} (x : WithAhead h₁ h₂) → OfBooked P x → Orders x → GrantsAfter P x
+  pub grants-after : {h₁ h₂ : History} (x : WithAhead h₁ h₂) → OfBooked P x → Orders x → GrantsAfter P x
   grants-after start booked order = tt
   grants-after (both-tick x) booked order = grants-after x booked (λ i some. order i some .1)
   grants-after (both-request {h₁ = h₁} {a₁ = a₁} w x) booked order = (
@@ -116,19 +116,14 @@ module _ (P : Plan) where
   grants-after (sent-ahead {h₁ = h₁} k p x) booked order =
       grants-after x (booked .1) (λ i some. order i (latest-on (slotAfter P (ticks h₁) p) (latest P x i) (eqb i k) some))
 
+  -- flows that are in turn book in order
+  pub in-turn-orders : Accepted P → (calls : List Call) {h₂ : History} (x : WithAhead (run paper P calls .history) h₂) → SendersInTurn P x → Orders x
+  in-turn-orders ok calls x turns i some =
+      let h = run paper P calls .history in
+      since-all (AfterThoseAt P i) h (none-granted x)
+      (in-order P ok i h (each-earliest P ok calls) (frames-in-order P ok calls) (each-happened P ok calls) (each-since (AsksAt InTurn P i) h (turns i some)) .1)
+
 pub in-turn-nobody-moves : InTurnNobodyMoves paper
 in-turn-nobody-moves bytes passes calls₁ calls₂ x booked turns alone =
-    nobody-moves bytes passes calls₁ calls₂ x (grants-after (planOf bytes) x booked orders) alone
-  where
-    ok : Accepted (planOf bytes)
-    ok = accepted-plan bytes passes
-
-    none : NoneGranted (run paper (planOf bytes) calls₁ .history)
-    none = none-granted x
-
-    orders : (i : ℕ) → 0 < latest (planOf bytes) x i → Each (AfterThoseAt (planOf bytes) i) (run paper (planOf bytes) calls₁ .history)
-    orders i some =
-        since-all (AfterThoseAt (planOf bytes) i) (run paper (planOf bytes) calls₁ .history) none
-        (in-order (planOf bytes) ok i (run paper (planOf bytes) calls₁ .history) (each-earliest (planOf bytes) ok calls₁)
-        (frames-in-order (planOf bytes) ok calls₁) (each-happened (planOf bytes) ok calls₁)
-        (each-since (AsksAt InTurn (planOf bytes) i) (run paper (planOf bytes) calls₁ .history) (turns i some)) .1)
+    let P = planOf bytes in
+    nobody-moves bytes passes calls₁ calls₂ x (grants-after P x booked (in-turn-orders P (accepted-plan bytes passes) calls₁ x turns)) alone

@@ -11,7 +11,7 @@ use Rattle.model.specs.Tables.{bit, tally}
 use Rattle.model.specs.Plan.{Plan}
 use Rattle.model.specs.Calls.{Event, History, requested, credited, ticked, lent, accepted, refused}
 use Rattle.model.specs.History.{ticks, slotAfter}
-use Rattle.model.specs.Sendings.{Sending, start, event, ahead, Tile, tileAt, waits, leavesIn, tiles, EachWaits, HasTile, KeepsOrder, InOrder}
+use Rattle.model.specs.Sendings.{Sending, nothing, event, ahead, Tile, tileAt, waits, leavesIn, tiles, EachWaits, HasTile, KeepsOrder, InOrder}
 use Rattle.model.proofs.Tests.{and-true}
 use Rattle.model.proofs.Tallies.{tally-append, tally-le}
 use Rattle.model.proofs.NewestGrants.{slot-to-come}
@@ -37,17 +37,17 @@ is-so i a r m e =
 
 -- one tile, or none; and it leaves in its slot
 pub data AtMostOne : List Tile → Type 0 where
-  nothing : AtMostOne []
+  no-tile : AtMostOne []
   one : (m : Tile) → m .leaves ≡ m .slot → AtMostOne (m ∷ [])
 
 new-tile : (P : Plan) (e : Event) (h : History) → AtMostOne (tileAt P e h)
 new-tile P (requested w (accepted v)) h = one _ refl
-new-tile P (requested w (refused r)) h = nothing
-new-tile P (credited i p a) h = nothing
-new-tile P (ticked x) h = nothing
+new-tile P (requested w (refused r)) h = no-tile
+new-tile P (credited i p a) h = no-tile
+new-tile P (ticked x) h = no-tile
 new-tile P (lent m (accepted i)) h = one _ refl
-new-tile P (lent m (refused r)) h = nothing
-new-tile P (Event.reset a) h = nothing
+new-tile P (lent m (refused r)) h = no-tile
+new-tile P (Event.reset a) h = no-tile
 
 counted : (f : Tile → Bool) (m : Tile) → 0 < tally f (m ∷ []) → f m ≡ true
 unfolding tally
@@ -60,13 +60,13 @@ counted f m = go (f m)
 -- it leaves in its slot
 new-leaves : (i a r : ℕ) {ms : List Tile} → AtMostOne ms → 0 < tally (is i a r) ms → r ≡ a
 unfolding tally
-new-leaves i a r nothing some = absurd (omega arith)
+new-leaves i a r no-tile some = absurd (omega arith)
 new-leaves i a r (one m same) some = let x = is-so i a r m (counted (is i a r) m some) in sym (x .leaves) ∙ same ∙ x .slot
 
 -- there are no two
 new-alone : (i a r b s : ℕ) {ms : List Tile} → AtMostOne ms → 0 < tally (is i a r) ms → 0 < tally (is i b s) ms → a ≡ b
 unfolding tally
-new-alone i a r b s nothing some also = absurd (omega arith)
+new-alone i a r b s no-tile some also = absurd (omega arith)
 new-alone i a r b s (one m same) some also = sym (is-so i a r m (counted (is i a r) m some) .slot) ∙ is-so i b s m (counted (is i b s) m also) .slot
 
 -- ---- a tile that is sent ahead
@@ -116,7 +116,7 @@ module _ (P : Plan) (i : ℕ) where
 
   ordered : {h : History} (x : Sending h) → EachWaits P x → KeepsOrder P x i → (a r b s : ℕ) → HasTile P x i a r → HasTile P x i b s → a < b → r < s
   unfolding tally
-  ordered start each keeps a r b s first second lt = absurd (omega arith)
+  ordered nothing each keeps a r b s first second lt = absurd (omega arith)
   ordered (event {h = h} e x) each keeps a r b s first second lt =
       split e x a r first
       (λ new-a.

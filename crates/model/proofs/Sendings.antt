@@ -14,7 +14,7 @@ use Rattle.model.specs.History.{Mark, ticks, slotAfter, marksOf, grantAt
 use Rattle.model.specs.Claim.{Each, HeldAt, Demand3}
 use Rattle.model.specs.Claim as claim
 use Rattle.model.specs.Card.{Card, Meets}
-use Rattle.model.specs.Sendings.{Sending, start, event, ahead, Tile, tileAt, waits, leavesIn, tiles, givenBack, EachWaits, SentWell}
+use Rattle.model.specs.Sendings.{Sending, nothing, event, ahead, Tile, tileAt, waits, leavesIn, tiles, givenBack, EachWaits, SentWell}
 use Rattle.model.specs.Sendings.{SendsWell}
 use Rattle.model.proofs.Tests.{and-true}
 use Rattle.model.proofs.Plan.{accepted as accepted-plan}
@@ -29,7 +29,7 @@ pub record Waits (i s : ℕ) (m : Tile) : Type 0 where
   pub slot : m .slot ≡ s
   pub leaves : m .leaves ≡ s
 
-waits-is : (i s : ℕ) (m : Tile) → waits i s m ≡ true → Waits i s m
+pub waits-is : (i s : ℕ) (m : Tile) → waits i s m ≡ true → Waits i s m
 waits-is i s m e =
     let a = and-true (eqb (m .flow) i && eqb (m .slot) s) (eqb (m .leaves) s) e in
     let b = and-true (eqb (m .flow) i) (eqb (m .slot) s) (a .0) in
@@ -61,7 +61,7 @@ moved-count q i s t (m ∷ ms) some = go (waits i s m) refl some (moved-count q 
 module _ (P : Plan) where
   -- the slots that tiles were sent ahead of
   abbrev dates : {h : History} → Sending h → List Mark
-  dates start = []
+  dates nothing = []
   dates (event e x) = dates x
   dates (ahead {h = h} i p x) = record { flow = i; slot = slotAfter P (ticks h) p } ∷ dates x
 
@@ -80,7 +80,7 @@ module _ (P : Plan) where
   tile-count : (q : ℕ → ℕ → Bool) {h : History} (x : Sending h) → EachWaits P x
       → tally (byLeaving q) (tiles P x) + tally (bySlot q) (dates x) ≡ tally (bySlot q) (grants P h) + tally (bySlot q) (lends h)
   unfolding tally grants lends marksOf
-  tile-count q start each = refl
+  tile-count q nothing each = refl
   tile-count q (event {h = h} e x) each =
       omega (
         arith,
@@ -95,7 +95,7 @@ module _ (P : Plan) where
 
   credit-count : (f : Mark → Bool) {h : History} (x : Sending h) → tally f (credits P h) ≡ tally f (givenBack P x) + tally f (dates x)
   unfolding tally credits marksOf ticks
-  credit-count f start = refl
+  credit-count f nothing = refl
   credit-count f (event {h = h} e x) =
       omega (arith, tally-append f (creditAt P e h) (credits P h), tally-append f (creditAt P e h) (givenBack P x), credit-count f x)
   credit-count f (ahead {h = h} {m = m} i p x) =
@@ -131,7 +131,7 @@ module _ (P : Plan) where
 
   pub none-late : {h : History} (x : Sending h) → tally late (tiles P x) ≡ 0
   unfolding tally
-  none-late start = refl
+  none-late nothing = refl
   none-late (event {h = h} e x) = omega (arith, tally-append late (tileAt P e h) (tiles P x), new-late e h, none-late x)
   none-late (ahead {h = h} i p x) =
       moved-late i (slotAfter P (ticks h) p) (ticks h) (tiles P x) (omega (arith, slot-to-come P (ticks h) p)) (none-late x)

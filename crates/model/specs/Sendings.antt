@@ -15,12 +15,14 @@ use Rattle.model.specs.Plan.{Plan, flowCount, entry, planOf, refusal}
 use Rattle.model.specs.Calls.{Call, Event, History, requested, credited, ticked, lent, accepted, refused}
 use Rattle.model.specs.History.{ticks, slotAfter, Mark, creditAt, upTo}
 use Rattle.model.specs.Card.{Card, run}
+use Rattle.model.specs.AheadRuns.{WithAhead, start, both-tick, both-request, both-credit, both-lend, first-refused, second-refused, sent-ahead}
+use Rattle.model.specs.AheadRuns.{NoneTakenAlone, SendersInTurn, BookedAlike}
 
 -- ---- a sending
 
 -- A history, and which pairs in it send a tile of flow i ahead of position p: a lend that is answered with i, and a credit of i dated p that is taken.
 pub data Sending : History → Type 0 where
-  start : Sending []
+  nothing : Sending []
   event : {h : History} (e : Event) → Sending h → Sending (e ∷ h)
   ahead : {h : History} {m : ℕ} (i p : ℕ) → Sending h → Sending (credited i p (accepted tt) ∷ lent m (accepted i) ∷ h)
 
@@ -53,19 +55,19 @@ leavesIn i s t (m ∷ ms) = cond (waits i s m) (record { flow = i; slot = s; lea
 module _ (P : Plan) where
   -- the tiles, the newest slot given first
   abbrev pub tiles : {h : History} → Sending h → List Tile
-  tiles start = []
+  tiles nothing = []
   tiles (event {h = h} e x) = tileAt P e h ++ tiles x
   tiles (ahead {h = h} i p x) = leavesIn i (slotAfter P (ticks h) p) (ticks h) (tiles x)
 
   -- the cells that are given back: the slots that the other credits are dated
   abbrev pub givenBack : {h : History} → Sending h → List Mark
-  givenBack start = []
+  givenBack nothing = []
   givenBack (event {h = h} e x) = creditAt P e h ++ givenBack x
   givenBack (ahead i p x) = givenBack x
 
   -- Each tile that is sent ahead has a slot, and waits for it.
   abbrev pub EachWaits : {h : History} → Sending h → Type 0
-  EachWaits start = Unit {0}
+  EachWaits nothing = Unit {0}
   EachWaits (event e x) = EachWaits x
   EachWaits (ahead {h = h} i p x) = (0 < tally (waits i (slotAfter P (ticks h) p)) (tiles x)) × EachWaits x
 
@@ -88,7 +90,7 @@ module _ (P : Plan) where
 
   -- A tile of flow i is sent ahead when each with an earlier slot has left; and each slot that it is given comes after those that it has sent ahead.
   abbrev pub KeepsOrder : {h : History} → Sending h → ℕ → Type 0
-  KeepsOrder start i = Unit {0}
+  KeepsOrder nothing i = Unit {0}
   KeepsOrder (event {h = h} e x) i =
       ((s : ℕ) → 0 < tally (λ m. eqb (m .flow) i && eqb (m .slot) s) (tileAt P e h) → (a r : ℕ) → HasTile x i a r → r < a → a < s) × KeepsOrder x i
   KeepsOrder (ahead {h = h} j p x) i =
@@ -109,3 +111,26 @@ abbrev pub SendsWell : Card → Type 0
 SendsWell c =
     (bytes : List ℕ) → refusal bytes ≡ 0 → (calls : List Call) (x : Sending (run c (planOf bytes) calls .history)) → EachWaits (planOf bytes) x
     → SentWell (planOf bytes) x
+
+-- ---- beside a run without any
+
+-- the second of two runs, as a sending
+abbrev pub sendingOf : {h₁ h₂ : History} → WithAhead h₁ h₂ → Sending h₂
+sendingOf start = nothing
+sendingOf (both-tick x) = event _ (sendingOf x)
+sendingOf (both-request w x) = event _ (sendingOf x)
+sendingOf (both-credit j p x) = event _ (sendingOf x)
+sendingOf (both-lend j x) = event _ (sendingOf x)
+sendingOf (first-refused x) = sendingOf x
+sendingOf (second-refused x) = event _ (sendingOf x)
+sendingOf (sent-ahead i p x) = ahead i p (sendingOf x)
+
+-- Flows that are in turn at each request send ahead tiles that wait for their slots: nobody's bookings move, and the tiles are sent well.
+abbrev pub AheadOn : Card → Plan → Type 0
+AheadOn c P =
+    (calls₁ calls₂ : List Call) (x : WithAhead (run c P calls₁ .history) (run c P calls₂ .history))
+    → EachWaits P (sendingOf x) → SendersInTurn P x → NoneTakenAlone x → BookedAlike P x × SentWell P (sendingOf x)
+
+-- That the paper's card keeps it is `sends-ahead`, in proofs/SendsAhead.antt.
+abbrev pub Ahead : Card → Type 0
+Ahead c = (bytes : List ℕ) → refusal bytes ≡ 0 → AheadOn c (planOf bytes)
