@@ -126,3 +126,4 @@ pub mod BadDelays
 pub mod SlowCards
 pub mod CellsNeeded
 pub mod OnArrivalExample
+pub mod LessAhead
