@@ -5,13 +5,13 @@ use mathlib.Core.List.{List, _∷_, []}
 use mathlib.Core.Bool.{Bool, true, false, _&&_, cond}
 use native.Mathlib.Decide.{decLt}
 use native.Mathlib.Omega.{arith}
-use lib.Dec.{ltb, eqb}
+use lib.Dec.{leb, ltb, eqb}
 use borrow.Author.Tests.{lt-ltb, eqb-true}
 use Rattle.model.specs.Tables.{bit, tally}
 use Rattle.model.specs.Plan.{Plan}
 use Rattle.model.specs.Calls.{Event, History, requested, credited, ticked, lent, accepted, refused}
 use Rattle.model.specs.History.{ticks, slotAfter}
-use Rattle.model.specs.Sendings.{Sending, nothing, event, ahead, Tile, tileAt, waits, leavesIn, tiles, EachWaits, HasTile, KeepsOrder, InOrder}
+use Rattle.model.specs.Sendings.{Sending, nothing, event, ahead, Tile, tileAt, ready, leavesIn, tiles, EachReady, HasTile, KeepsOrder, InOrder}
 use Rattle.model.proofs.Tests.{and-true}
 use Rattle.model.proofs.Tallies.{tally-append, tally-le}
 use Rattle.model.proofs.NewestGrants.{slot-to-come}
@@ -75,17 +75,21 @@ moved-has : {Q : Type 0} (k a r i s t : ℕ) (ms : List Tile) → 0 < tally (is 
     → (i ≡ k → s ≡ a → t ≡ r → Q) → Q
 unfolding tally leavesIn
 moved-has k a r i s t [] some old new = absurd (omega arith)
-moved-has {Q} k a r i s t (m ∷ ms) some old new = go (waits i s m) (is k a r m) refl some (λ x. moved-has k a r i s t ms x (λ y. old (omega arith)) new)
+moved-has {Q} k a r i s t (m ∷ ms) some old new = go (ready i s t m) (is k a r m) refl some (λ x. moved-has k a r i s t ms x (λ y. old (omega arith)) new)
   where
-    here : (d : Bool) → is k a r (record { flow = i; slot = s; leaves = t }) ≡ d → 0 < bit d + tally (is k a r) ms → Q
-    here true e some = let x = is-so k a r (record { flow = i; slot = s; leaves = t }) e in new (x .flow) (x .slot) (x .leaves)
+    here : (d : Bool) → is k a r (record { flow = i; due = m .due; slot = s; leaves = t }) ≡ d → 0 < bit d + tally (is k a r) ms → Q
+    here true e some = let x = is-so k a r (record { flow = i; due = m .due; slot = s; leaves = t }) e in new (x .flow) (x .slot) (x .leaves)
     here false e some = old (omega arith)
 
-    go : (b d : Bool) → is k a r m ≡ d → 0 < tally (is k a r) (cond b (record { flow = i; slot = s; leaves = t } ∷ ms) (m ∷ leavesIn i s t ms))
+    go : (b d : Bool) → is k a r m ≡ d → 0 < tally (is k a r) (cond b (record { flow = i; due = m .due; slot = s; leaves = t } ∷ ms) (m ∷ leavesIn i s t ms))
         → (0 < tally (is k a r) (leavesIn i s t ms) → Q) → Q
-    go true d e some rest = here (is k a r (record { flow = i; slot = s; leaves = t })) refl some
+    go true d e some rest = here (is k a r (record { flow = i; due = m .due; slot = s; leaves = t })) refl some
     go false true e some rest = old (rw e (omega arith))
     go false false e some rest = let z = rw e at some in rest (omega arith)
+
+ready-waits : (j d t : ℕ) (ms : List Tile) → 0 < tally (ready j d t) ms → 0 < tally (is j d d) ms
+ready-waits j d t ms some =
+    omega (arith, tally-le (ready j d t) (is j d d) (λ m e. and-true (is j d d m) (leb (m .due) t) e .0) ms)
 
 -- ---- in order
 
@@ -114,7 +118,7 @@ module _ (P : Plan) (i : ℕ) where
       go zero z = old (omega (arith, tally-append (is i a r) (tileAt P e h) (tiles P x)))
       go (suc n) z = new (omega arith)
 
-  ordered : {h : History} (x : Sending h) → EachWaits P x → KeepsOrder P x i → (a r b s : ℕ) → HasTile P x i a r → HasTile P x i b s → a < b → r < s
+  ordered : {h : History} (x : Sending h) → EachReady P x → KeepsOrder P x i → (a r b s : ℕ) → HasTile P x i a r → HasTile P x i b s → a < b → r < s
   unfolding tally
   ordered nothing each keeps a r b s first second lt = absurd (omega arith)
   ordered (event {h = h} e x) each keeps a r b s first second lt =
@@ -149,7 +153,7 @@ module _ (P : Plan) (i : ℕ) where
       (λ own at-a leaves-a.
       moved-has i b s j d (ticks h) (tiles P x) second
       (λ old-b.
-      let waited : HasTile P x i a a = subst (λ k. 0 < tally (is k a a) (tiles P x)) own (subst (λ q. 0 < tally (is j q q) (tiles P x)) at-a (each .0)) in
+      let waited : HasTile P x i a a = subst (λ k. 0 < tally (is k a a) (tiles P x)) own (subst (λ q. 0 < tally (is j q q) (tiles P x)) at-a (ready-waits j d (ticks h) (tiles P x) (each .0))) in
       let z = ordered x (each .1) (keeps .1) a a b s waited old-b lt in
       omega (arith, slot-to-come P (ticks h) p))
       (λ own at-b leaves-b. absurd (omega arith)))

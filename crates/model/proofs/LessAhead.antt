@@ -11,7 +11,8 @@ use Rattle.model.specs.History.{atSlot}
 use Rattle.model.specs.Card.{run, paper}
 use Rattle.model.specs.PlanBytes.{plan1, listing, oneCell}
 use Rattle.model.specs.AheadRuns.{WithAhead, start, both-tick, both-request, both-credit, sent-ahead, BookedAlike}
-use Rattle.model.specs.Sendings.{leavesIn, tiles, EachWaits, SentWell, sendingOf}
+use Rattle.model.specs.Sendings.{leavesIn, tiles, EachReady, SentWell, sendingOf}
+use Rattle.model.specs.Delay.{dueSlot}
 use Rattle.model.specs.LessAhead.{BookedAlikeIf, ButOrder, ButCredits}
 use Rattle.model.proofs.Unfoldings.{plans-compute, calls-compute, counts-compute}
 use Rattle.model.proofs.Demand3.{meets}
@@ -102,9 +103,9 @@ two-runs =
     both-tick (both-tick (both-tick (both-request 0x24000801 (both-credit 0 2 (both-tick (both-request 0x24100000 (sent-ahead 0 1
     (both-credit 0 1 (both-request 0x24000400 (both-request 0x24000000 start))))))))))
 
-pub each-waits : EachWaits P (sendingOf two-runs)
-unfolding calls-compute counts-compute two-runs
-each-waits = (lit< tt, tt)
+pub each-ready : EachReady P (sendingOf two-runs)
+unfolding calls-compute counts-compute dueSlot two-runs
+each-ready = (lit< tt, tt)
 
 pub booked-alike : BookedAlike P two-runs
 unfolding plans-compute calls-compute counts-compute two-runs
@@ -112,12 +113,12 @@ booked-alike = nobody-moves listing refl calls₁ calls₂ two-runs (lit≤ tt, 
 
 pub sent-well : SentWell P (sendingOf two-runs)
 unfolding plans-compute
-sent-well = sends-well paper meets listing refl calls₂ (sendingOf two-runs) each-waits
+sent-well = sends-well paper meets listing refl calls₂ (sendingOf two-runs) each-ready
 
 -- the tile with slot 1 leaves in slot 0
 pub tiles-are :
     tiles P (sendingOf two-runs)
-    ≡ record { flow = 0; slot = 4; leaves = 4 } ∷ record { flow = 1; slot = 3; leaves = 3 } ∷ record { flow = 0; slot = 2; leaves = 2 }
-    ∷ record { flow = 0; slot = 1; leaves = 0 } ∷ []
-unfolding calls-compute counts-compute leavesIn two-runs
+    ≡ record { flow = 0; due = 1; slot = 4; leaves = 4 } ∷ record { flow = 1; due = 0; slot = 3; leaves = 3 } ∷ record { flow = 0; due = 0; slot = 2; leaves = 2 }
+    ∷ record { flow = 0; due = 0; slot = 1; leaves = 0 } ∷ []
+unfolding calls-compute counts-compute dueSlot leavesIn two-runs
 tiles-are = refl

@@ -4,7 +4,7 @@ use mathlib.Core.Path.{_≡_, refl, ap}
 use mathlib.Core.List.{List, _∷_, []}
 use mathlib.Core.Bool.{Bool, true, false, _&&_, cond}
 use native.Mathlib.Omega.{arith}
-use lib.Dec.{eqb}
+use lib.Dec.{leb, eqb}
 use borrow.Author.Tests.{ne-eqb}
 use Rattle.model.specs.Tables.{bit, tally}
 use Rattle.model.specs.Plan.{Plan, Accepted, planOf}
@@ -14,7 +14,7 @@ use Rattle.model.specs.Claim.{Each}
 use Rattle.model.specs.Card.{paper}
 use Rattle.model.specs.AheadRuns.{WithAhead, start, both-tick, both-request, both-credit, both-lend, first-refused, second-refused, sent-ahead}
 use Rattle.model.specs.AheadRuns.{latest, NoneTakenAlone, OfBooked}
-use Rattle.model.specs.Sendings.{Sending, nothing, event, ahead, Tile, tileAt, waits, leavesIn, tiles, EachWaits, sendingOf, Ahead}
+use Rattle.model.specs.Sendings.{Sending, nothing, event, ahead, Tile, tileAt, waits, ready, leavesIn, tiles, EachReady, sendingOf, Ahead}
 use Rattle.model.proofs.Tests.{and-true, and-false}
 use Rattle.model.proofs.Tallies.{tally-append, tally-le}
 use Rattle.model.proofs.Plan.{accepted as accepted-plan}
@@ -22,7 +22,7 @@ use Rattle.model.proofs.Demand3.{meets}
 use Rattle.model.proofs.Replays.{Replayed, replays}
 use Rattle.model.proofs.AheadRuns.{follows}
 use Rattle.model.proofs.AheadInTurn.{Orders, latest-on, grants-after, in-turn-orders, in-turn-nobody-moves}
-use Rattle.model.proofs.Sendings.{waits-is, sends-well}
+use Rattle.model.proofs.Sendings.{ready-is, sends-well}
 use Rattle.model.proofs.NewestGrants.{slot-to-come}
 
 -- ---- a tile whose slot is to come was granted it
@@ -34,11 +34,11 @@ has i s m = eqb (m .flow) i && eqb (m .slot) s
 moved-has : (i s j d t : ℕ) (ms : List Tile) → tally (has i s) (leavesIn j d t ms) ≡ tally (has i s) ms
 unfolding tally leavesIn
 moved-has i s j d t [] = refl
-moved-has i s j d t (m ∷ ms) = go (waits j d m) refl (moved-has i s j d t ms)
+moved-has i s j d t (m ∷ ms) = go (ready j d t m) refl (moved-has i s j d t ms)
   where
-    go : (b : Bool) → waits j d m ≡ b → tally (has i s) (leavesIn j d t ms) ≡ tally (has i s) ms
-        → tally (has i s) (cond b (record { flow = j; slot = d; leaves = t } ∷ ms) (m ∷ leavesIn j d t ms)) ≡ bit (has i s m) + tally (has i s) ms
-    go true e rest = let w = waits-is j d m e in rw (w .flow, w .slot) refl
+    go : (b : Bool) → ready j d t m ≡ b → tally (has i s) (leavesIn j d t ms) ≡ tally (has i s) ms
+        → tally (has i s) (cond b (record { flow = j; due = m .due; slot = d; leaves = t } ∷ ms) (m ∷ leavesIn j d t ms)) ≡ bit (has i s m) + tally (has i s) ms
+    go true e rest = let w = ready-is j d t m e .0 in rw (w .flow, w .slot) refl
     go false e rest = ap (bit (has i s m) +_) rest
 
 module _ (P : Plan) (i s : ℕ) where
@@ -78,18 +78,19 @@ module _ (P : Plan) (i s : ℕ) where
   tiles-granted (ahead {h = h} j p x) to-come =
       omega (arith, moved-has i s j (slotAfter P (ticks h) p) (ticks h) (tiles P x), tiles-granted x to-come)
 
-  waits-granted : {h : History} (x : Sending h) → ticks h < s → 0 < tally (waits i s) (tiles P x) → WasGranted P h i s
-  waits-granted x to-come some =
+  ready-granted : {h : History} (x : Sending h) → ticks h < s → 0 < tally (ready i s (ticks h)) (tiles P x) → WasGranted P h i s
+  ready-granted {h} x to-come some =
       omega (
         arith,
         tiles-granted x to-come,
-        tally-le (waits i s) (has i s) (λ m e. and-true (has i s m) (eqb (m .leaves) s) e .0) (tiles P x),
+        tally-le (ready i s (ticks h)) (has i s)
+            (λ m e. and-true (has i s m) (eqb (m .leaves) s) (and-true (waits i s m) (leb (m .due) (ticks h)) e .0) .0) (tiles P x),
       )
 
 -- ---- what waits is booked, in the run without any too
 
 module _ (P : Plan) (ok : Accepted P) where
-  of-booked : {h₁ h₂ : History} (x : WithAhead h₁ h₂) → Each (Replayed P) h₁ → Each (Replayed P) h₂ → EachWaits P (sendingOf x) → Orders P x
+  of-booked : {h₁ h₂ : History} (x : WithAhead h₁ h₂) → Each (Replayed P) h₁ → Each (Replayed P) h₂ → EachReady P (sendingOf x) → Orders P x
       → NoneTakenAlone x → OfBooked P x
   of-booked start e₁ e₂ each order alone = tt
   of-booked (both-tick x) e₁ e₂ each order alone = of-booked x (e₁ .1) (e₂ .1) each (λ i some. order i some .1) alone
@@ -102,7 +103,7 @@ module _ (P : Plan) (ok : Accepted P) where
       let order′ : Orders P x = λ i some. order i (latest-on P (slotAfter P (ticks h₁) p) (latest P x i) (eqb i k) some) in
       let booked = of-booked x e₁ (e₂ .1 .1) (each .1) order′ alone in
       let r = follows P ok x e₁ (e₂ .1 .1) (grants-after P x booked order′) alone in
-      let was = waits-granted P k (slotAfter P (ticks h₂) p) (sendingOf x) (slot-to-come P (ticks h₂) p) (each .0) in
+      let was = ready-granted P k (slotAfter P (ticks h₂) p) (sendingOf x) (slot-to-come P (ticks h₂) p) (each .0) in
       (rw (r .same-grants, r .same-ticks) was, booked)
 
 pub sends-ahead : Ahead paper

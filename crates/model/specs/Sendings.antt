@@ -1,8 +1,8 @@
 -- What leaves in which slot, where tiles are sent ahead of their booked slots. It names no link, only calls and answers. Assumes nothing.
 --
--- A sending is a history in which some pairs of a lend and a credit send a tile ahead. Of each sending in which a tile that is sent ahead has a slot of its
--- own and waits for it: no tile leaves after its slot; no two leave in one slot; and the tiles of a flow that have left, less the cells given back, are at
--- most its cells, in every slot. Every card that meets demand 3 keeps these, since they count what demand 3 counts.
+-- A sending is a history in which some pairs of a lend and a credit send a tile ahead. Of each sending in which a tile that is sent ahead has come, and
+-- waits for a slot of its own: no tile leaves before it has come, or after its slot; no two leave in one slot; and the tiles of a flow that have left, less
+-- the cells given back, are at most its cells, in every slot. Every card that meets demand 3 keeps these, since they count what demand 3 counts.
 -- The tiles of a flow leave in order, if each is sent ahead when those with earlier slots have left, and each new slot comes after those sent ahead.
 use Prim.Native.Nat.{ℕ, _+_, _≤_, _<_}
 use mathlib.Core.Path.{_≡_}
@@ -15,6 +15,7 @@ use Rattle.model.specs.Plan.{Plan, flowCount, entry, planOf, refusal}
 use Rattle.model.specs.Calls.{Call, Event, History, requested, credited, ticked, lent, accepted, refused}
 use Rattle.model.specs.History.{ticks, slotAfter, Mark, creditAt, upTo}
 use Rattle.model.specs.Card.{Card, run}
+use Rattle.model.specs.Delay.{dueSlot}
 use Rattle.model.specs.AheadRuns.{WithAhead, start, both-tick, both-request, both-credit, both-lend, first-refused, second-refused, sent-ahead}
 use Rattle.model.specs.AheadRuns.{NoneTakenAlone, SendersInTurn, BookedAlike}
 
@@ -26,31 +27,41 @@ pub data Sending : History → Type 0 where
   event : {h : History} (e : Event) → Sending h → Sending (e ∷ h)
   ahead : {h : History} {m : ℕ} (i p : ℕ) → Sending h → Sending (credited i p (accepted tt) ∷ lent m (accepted i) ∷ h)
 
--- A tile of a flow: the slot that is booked for it, or lent to it, and the one in which it leaves.
+-- A tile of a flow: the slot in which it comes, the one that is booked for it, or lent to it, and the one in which it leaves.
 pub record Tile : Type 0 where
   pub flow : ℕ
+  pub due : ℕ
   pub slot : ℕ
   pub leaves : ℕ
 
 -- a grant and a lend give a tile a slot, and it leaves in it
 abbrev pub tileAt : Plan → Event → History → List Tile
 tileAt P (requested w (accepted v)) h =
-    record { flow = flowOf w; slot = slotAfter P (ticks h) (departureOf v); leaves = slotAfter P (ticks h) (departureOf v) } ∷ []
+    record {
+      flow = flowOf w;
+      due = dueSlot P w h;
+      slot = slotAfter P (ticks h) (departureOf v);
+      leaves = slotAfter P (ticks h) (departureOf v);
+    } ∷ []
 tileAt P (requested w (refused r)) h = []
 tileAt P (credited i p a) h = []
 tileAt P (ticked x) h = []
-tileAt P (lent m (accepted i)) h = record { flow = i; slot = ticks h; leaves = ticks h } ∷ []
+tileAt P (lent m (accepted i)) h = record { flow = i; due = ticks h; slot = ticks h; leaves = ticks h } ∷ []
 tileAt P (lent m (refused r)) h = []
 tileAt P (Event.reset a) h = []
 
--- the tile of flow i with slot s, which waits for it
+-- the tile of flow i with slot s waits for it
 abbrev pub waits : (i s : ℕ) → Tile → Bool
 waits i s m = eqb (m .flow) i && eqb (m .slot) s && eqb (m .leaves) s
+
+-- and it has come in slot t
+abbrev pub ready : (i s t : ℕ) → Tile → Bool
+ready i s t m = waits i s m && leb (m .due) t
 
 -- that tile leaves in slot t
 unfoldable pub leavesIn : (i s t : ℕ) → List Tile → List Tile
 leavesIn i s t [] = []
-leavesIn i s t (m ∷ ms) = cond (waits i s m) (record { flow = i; slot = s; leaves = t } ∷ ms) (m ∷ leavesIn i s t ms)
+leavesIn i s t (m ∷ ms) = cond (ready i s t m) (record { flow = i; due = m .due; slot = s; leaves = t } ∷ ms) (m ∷ leavesIn i s t ms)
 
 module _ (P : Plan) where
   -- the tiles, the newest slot given first
@@ -65,19 +76,20 @@ module _ (P : Plan) where
   givenBack (event {h = h} e x) = creditAt P e h ++ givenBack x
   givenBack (ahead i p x) = givenBack x
 
-  -- Each tile that is sent ahead has a slot, and waits for it.
-  abbrev pub EachWaits : {h : History} → Sending h → Type 0
-  EachWaits nothing = Unit {0}
-  EachWaits (event e x) = EachWaits x
-  EachWaits (ahead {h = h} i p x) = (0 < tally (waits i (slotAfter P (ticks h) p)) (tiles x)) × EachWaits x
+  -- Each tile that is sent ahead has come, and waits for a slot of its own.
+  abbrev pub EachReady : {h : History} → Sending h → Type 0
+  EachReady nothing = Unit {0}
+  EachReady (event e x) = EachReady x
+  EachReady (ahead {h = h} i p x) = (0 < tally (ready i (slotAfter P (ticks h) p) (ticks h)) (tiles x)) × EachReady x
 
-  -- ---- never late, never over, one to a slot
+  -- ---- never early, never late, never over, one to a slot
 
   -- the tiles of flow i that have left up to slot s
   abbrev pub leftUpTo : {h : History} → Sending h → (i s : ℕ) → ℕ
   leftUpTo x i s = tally (λ m. eqb (m .flow) i && leb (m .leaves) s) (tiles x)
 
   pub record SentWell {h : History} (x : Sending h) : Type 0 where
+    pub never-early : tally (λ m. ltb (m .leaves) (m .due)) (tiles x) ≡ 0
     pub never-late : tally (λ m. ltb (m .slot) (m .leaves)) (tiles x) ≡ 0
     pub never-over : (i s : ℕ) → i < flowCount P → leftUpTo x i s ≤ tally (upTo i s) (givenBack x) + entry P i .cells
     pub one-to-a-slot : (s : ℕ) → tally (λ m. eqb (m .leaves) s) (tiles x) ≤ 1
@@ -102,14 +114,14 @@ module _ (P : Plan) where
 
 -- That it follows, in every history, is `leave-in-order`, in proofs/LeaveInOrder.antt.
 abbrev pub InOrder : Type 0
-InOrder = (P : Plan) (h : History) (x : Sending h) (i : ℕ) → EachWaits P x → KeepsOrder P x i → LeaveInOrder P x i
+InOrder = (P : Plan) (h : History) (x : Sending h) (i : ℕ) → EachReady P x → KeepsOrder P x i → LeaveInOrder P x i
 
 -- ---- of a card
 
 -- Sent well in each list of calls, for the bytes of every accepted plan. That a card that meets demand 3 keeps it is `sends-well`, in proofs/Sendings.antt.
 abbrev pub SendsWell : Card → Type 0
 SendsWell c =
-    (bytes : List ℕ) → refusal bytes ≡ 0 → (calls : List Call) (x : Sending (run c (planOf bytes) calls .history)) → EachWaits (planOf bytes) x
+    (bytes : List ℕ) → refusal bytes ≡ 0 → (calls : List Call) (x : Sending (run c (planOf bytes) calls .history)) → EachReady (planOf bytes) x
     → SentWell (planOf bytes) x
 
 -- ---- beside a run without any
@@ -125,11 +137,11 @@ sendingOf (first-refused x) = sendingOf x
 sendingOf (second-refused x) = event _ (sendingOf x)
 sendingOf (sent-ahead i p x) = ahead i p (sendingOf x)
 
--- Flows that are in turn at each request send ahead tiles that wait for their slots: nobody's bookings move, and the tiles are sent well.
+-- Flows that are in turn at each request send ahead tiles that have come and wait for their slots: nobody's bookings move, and the tiles are sent well.
 abbrev pub AheadOn : Card → Plan → Type 0
 AheadOn c P =
     (calls₁ calls₂ : List Call) (x : WithAhead (run c P calls₁ .history) (run c P calls₂ .history))
-    → EachWaits P (sendingOf x) → SendersInTurn P x → NoneTakenAlone x → BookedAlike P x × SentWell P (sendingOf x)
+    → EachReady P (sendingOf x) → SendersInTurn P x → NoneTakenAlone x → BookedAlike P x × SentWell P (sendingOf x)
 
 -- That the paper's card keeps it is `sends-ahead`, in proofs/SendsAhead.antt.
 abbrev pub Ahead : Card → Type 0
