@@ -1,15 +1,15 @@
 -- What each premise on two runs is for, the second of which sends tiles ahead: without it bookings move. And two runs that meet them. Assumes nothing.
 use Prim.Native.Nat.{ℕ}
 use mathlib.Core.Path.{_≡_, refl, ap}
-use mathlib.Core.List.{List, _∷_, []}
+use mathlib.Core.List.{List, _∷_, [], _++_, take}
 use native.Mathlib.Omega.{arith}
 use lib.Dec.{lit≤, lit<}
 use Rattle.model.specs.Tables.{tally}
 use Rattle.model.specs.Plan.{Plan, planOf}
-use Rattle.model.specs.Calls.{Call, History, requested, credited, lent, accepted, refused}
+use Rattle.model.specs.Calls.{Call, Event, History, requested, refused}
 use Rattle.model.specs.History.{atSlot}
 use Rattle.model.specs.Card.{run, paper}
-use Rattle.model.specs.PlanBytes.{plan1, listing, oneCell}
+use Rattle.model.specs.PlanBytes.{plan1, plan2, listing}
 use Rattle.model.specs.AheadRuns.{WithAhead, start, both-tick, both-request, both-credit, sent-ahead, BookedAlike}
 use Rattle.model.specs.Sendings.{leavesIn, tiles, EachReady, SentWell, sendingOf}
 use Rattle.model.specs.Delay.{dueSlot}
@@ -19,59 +19,66 @@ use Rattle.model.proofs.Demand3.{meets}
 use Rattle.model.proofs.AheadRuns.{nobody-moves}
 use Rattle.model.proofs.Sendings.{sends-well}
 
--- F = 4, W = 2, one flow: with share 2 and 2 cells, and with share 3 and 1 cell
-abbrev twoCells : List ℕ
-twoCells = plan1 4 2 8 2 2
-
-abbrev threeShares : List ℕ
-threeShares = plan1 4 2 8 3 1
-
 -- ---- without the order of grants
 
--- F = 4, W = 2, share 2, one cell. The flow books slot 3 for a tile that comes in slot 2, and its cell falls free in slot 3. It sends that tile ahead in
--- slot 0, and asks for one that has come. Without the sending ahead it is granted slot 1, before slot 3; with it slots 1 and 2 are full, and it is slot 4.
+-- F = 8, W = 2, one flow with share 3 and one cell
+abbrev longFrames : List ℕ
+longFrames = plan1 8 2 8 3 1
+
+-- The flow books slot 1, and slot 5 when its cell falls free in slot 5. Then the cell falls free in slot 2. In slot 2 it sends the tile of slot 5 ahead, and
+-- asks once more: without the sending ahead it is granted slot 3; with it slots 3 and 4 are full, and it is slot 6.
 pub not-without-order : BookedAlikeIf ButOrder paper → ⊥
 unfolding plans-compute calls-compute counts-compute
 not-without-order alike =
-    let calls₁ = Call.request 0x24000002 ∷ Call.credit 0 3 ∷ Call.request 0x24000400 ∷ [] in
-    let calls₂ = Call.request 0x24000002 ∷ Call.credit 0 3 ∷ Call.lend 1 ∷ Call.credit 0 3 ∷ Call.request 0x24000400 ∷ [] in
-    let x = alike oneCell refl calls₁ calls₂ (both-request 0x24000400 (sent-ahead 0 3 (both-credit 0 3 (both-request 0x24000002 start)))) (tt, tt) in
-    let z = ap (tally (atSlot 1)) (x .same-grants) in
+    let calls₁ =
+    Call.request 0x24000000 ∷ Call.credit 0 5 ∷ Call.request 0x24000400 ∷ Call.credit 0 2 ∷ Call.tick ∷ Call.tick ∷ Call.request 0x24000800 ∷ [] in
+    let calls₂ =
+    Call.request 0x24000000 ∷ Call.credit 0 5 ∷ Call.request 0x24000400 ∷ Call.credit 0 2 ∷ Call.tick ∷ Call.tick ∷ Call.lend 1 ∷ Call.credit 0 5
+    ∷ Call.request 0x24000800 ∷ [] in
+    let x =
+    alike longFrames refl calls₁ calls₂
+    (both-request 0x24000800 (sent-ahead 0 5 (both-tick (both-tick (both-credit 0 2 (both-request 0x24000400 (both-credit 0 5 (both-request 0x24000000 start))))))))
+    (tt, (tt, tt)) in
+    let z = ap (tally (atSlot 3)) (x .same-grants) in
     omega arith
 
 -- ---- without the credits
 
--- Share 2 and two cells. The flow books slot 3 and sends it ahead in slot 0. A credit dated 1 is refused in the run without, since nothing is held in slot
--- 1, and taken in the other. Both grant slot 4. Then the first refuses, with two cells held from slot 4 on, and the second grants slot 5.
+-- The listing's plan. Flow 1 books slot 1, and flow 0 slot 2, which it sends ahead in slot 0. A credit of it dated 1 is refused in the run without, since it
+-- holds nothing in slot 1, and taken in the other. Both grant it slot 3. Then the first refuses, with two cells held, and the second grants slot 4.
 pub not-without-credits : BookedAlikeIf ButCredits paper → ⊥
 unfolding plans-compute calls-compute counts-compute
 not-without-credits alike =
-    let calls₁ = Call.request 0x24000002 ∷ Call.credit 0 1 ∷ Call.request 0x24000403 ∷ Call.request 0x24000800 ∷ [] in
+    let calls₁ = Call.request 0x24100000 ∷ Call.request 0x24000000 ∷ Call.credit 0 1 ∷ Call.request 0x24000400 ∷ Call.request 0x24000800 ∷ [] in
     let calls₂ =
-    Call.request 0x24000002 ∷ Call.lend 1 ∷ Call.credit 0 3 ∷ Call.credit 0 1 ∷ Call.request 0x24000403 ∷ Call.request 0x24000800 ∷ [] in
+    Call.request 0x24100000 ∷ Call.request 0x24000000 ∷ Call.lend 1 ∷ Call.credit 0 2 ∷ Call.credit 0 1 ∷ Call.request 0x24000400 ∷ Call.request 0x24000800 ∷ [] in
     let x =
-    alike twoCells refl calls₁ calls₂
-    (both-request 0x24000800 (both-request 0x24000403 (both-credit 0 1 (sent-ahead 0 3 (both-request 0x24000002 start))))) (tt, (lit≤ tt, (lit≤ tt, tt))) in
+    alike listing refl calls₁ calls₂
+    (both-request 0x24000800 (both-request 0x24000400 (both-credit 0 1 (sent-ahead 0 2 (both-request 0x24000000 (both-request 0x24100000 start))))))
+    (tt, (lit≤ tt, (lit≤ tt, (lit≤ tt, tt)))) in
     x .unmoved .0 .same-grant
 
 -- ---- the number of a refusal
 
--- Share 3 and one cell. The flow books slots 6 and 7, and their cells fall free in them. It sends slot 7 ahead in slot 0, and asks for a tile that comes in
--- slot 7: without the sending ahead slot 4 would be valid but for that, and the answer is 20. With it slots 4 and 5 are full, and the answer is 12.
-abbrev numbers₁ : List Call
-numbers₁ = Call.request 0x24000005 ∷ Call.credit 0 6 ∷ Call.request 0x24000406 ∷ Call.credit 0 7 ∷ Call.request 0x24000807 ∷ []
+-- F = 4, W = 2; flow 0 with share 2 and one cell, flow 1 with share 2 and 8 cells
+abbrev oneAndEight : List ℕ
+oneAndEight = plan2 4 2 16 2 1 2 8
 
-abbrev numbers₂ : List Call
-numbers₂ =
-    Call.request 0x24000005 ∷ Call.credit 0 6 ∷ Call.request 0x24000406 ∷ Call.credit 0 7 ∷ Call.lend 1 ∷ Call.credit 0 7 ∷ Call.request 0x24000807 ∷ []
+-- Flow 0 books slot 1, and slot 5 when its cell falls free in slot 5; then that falls free in slot 2. Flow 1 books slots 6 and 7. In slot 2 flow 0 sends the
+-- tile of slot 5 ahead, and asks for a tile that comes in slot 7. Without the sending ahead slot 4 would be valid but for that, and the answer is 20. With
+-- it slot 4 is full, and the answer is 12.
+abbrev numbers : List Call → List Call
+numbers sent =
+    Call.request 0x24000000 ∷ Call.credit 0 5 ∷ Call.request 0x24000400 ∷ Call.credit 0 2 ∷ Call.request 0x24100005 ∷ Call.request 0x24100406
+    ∷ Call.tick ∷ Call.tick ∷ (sent ++ Call.request 0x24000807 ∷ [])
+
+-- the newest event
+abbrev newest : List Call → List Event
+newest calls = take 1 (run paper (planOf oneAndEight) calls .history)
 
 pub another-number :
-    (run paper (planOf threeShares) numbers₁ .history
-    ≡ requested 0x24000807 (refused 20) ∷ credited 0 7 (accepted tt) ∷ requested 0x24000406 (accepted 0x24000407) ∷ credited 0 6 (accepted tt)
-    ∷ requested 0x24000005 (accepted 0x24000006) ∷ [])
-    × (run paper (planOf threeShares) numbers₂ .history
-    ≡ requested 0x24000807 (refused 12) ∷ credited 0 7 (accepted tt) ∷ lent 1 (accepted 0) ∷ credited 0 7 (accepted tt)
-    ∷ requested 0x24000406 (accepted 0x24000407) ∷ credited 0 6 (accepted tt) ∷ requested 0x24000005 (accepted 0x24000006) ∷ [])
+    (newest (numbers []) ≡ requested 0x24000807 (refused 20) ∷ [])
+    × (newest (numbers (Call.lend 1 ∷ Call.credit 0 5 ∷ [])) ≡ requested 0x24000807 (refused 12) ∷ [])
 unfolding calls-compute
 another-number = (refl, refl)
 

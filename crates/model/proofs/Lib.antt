@@ -127,3 +127,4 @@ pub mod SlowCards
 pub mod CellsNeeded
 pub mod OnArrivalExample
 pub mod LessAhead
+pub mod BadSendings

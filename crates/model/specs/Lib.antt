@@ -65,3 +65,4 @@ pub mod BadResets
 pub mod BadTurns
 pub mod BadNumbers
 pub mod BadDelays
+pub mod BadSendings
