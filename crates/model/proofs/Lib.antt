@@ -97,6 +97,7 @@ pub mod AheadInTurn
 pub mod Sendings
 pub mod LeaveInOrder
 pub mod SendsAhead
+pub mod AheadOverLinks
 pub mod Outlines
 -- edges, cards that demand 3 sends back, streams that meet the premise of the least count, and what its premises on words are for
 pub mod Unfoldings

@@ -42,6 +42,7 @@ pub mod BooksInOrder
 pub mod Ahead
 pub mod AheadRuns
 pub mod Sendings
+pub mod AheadOverLinks
 pub mod LessAhead
 -- worked examples, and cards that are sent back
 pub mod PlanBytes
