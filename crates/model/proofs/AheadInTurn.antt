@@ -27,7 +27,7 @@ use Rattle.model.proofs.AheadRuns.{nobody-moves}
 
 -- ---- a list without a granted reset
 
-none-granted : {h₁ h₂ : History} → WithAhead h₁ h₂ → NoneGranted h₁
+pub none-granted : {h₁ h₂ : History} → WithAhead h₁ h₂ → NoneGranted h₁
 none-granted start = tt
 none-granted (both-tick x) = (refl, none-granted x)
 none-granted (both-request w x) = (refl, none-granted x)
@@ -38,7 +38,7 @@ none-granted (second-refused x) = none-granted x
 none-granted (sent-ahead i p x) = none-granted x
 
 module _ (P : Plan) where
-  granted-since : (h : History) (i s : ℕ) → NoneGranted h → WasGranted P h i s → GrantedSince P h i s
+  pub granted-since : (h : History) (i s : ℕ) → NoneGranted h → WasGranted P h i s → GrantedSince P h i s
   unfolding grants grantsSince
   granted-since h i s none was = rw (since-the-start (grantAt P) h none) was
 

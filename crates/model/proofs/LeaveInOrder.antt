@@ -18,7 +18,7 @@ use Rattle.model.proofs.NewestGrants.{slot-to-come}
 use Rattle.model.proofs.Sendings.{none-late}
 
 -- the tile of flow i with slot a that leaves in slot r
-abbrev is : (i a r : ℕ) → Tile → Bool
+abbrev pub is : (i a r : ℕ) → Tile → Bool
 is i a r m = eqb (m .flow) i && eqb (m .slot) a && eqb (m .leaves) r
 
 pub record Is (i a r : ℕ) (m : Tile) : Type 0 where
@@ -27,7 +27,7 @@ pub record Is (i a r : ℕ) (m : Tile) : Type 0 where
   pub slot : m .slot ≡ a
   pub leaves : m .leaves ≡ r
 
-is-so : (i a r : ℕ) (m : Tile) → is i a r m ≡ true → Is i a r m
+pub is-so : (i a r : ℕ) (m : Tile) → is i a r m ≡ true → Is i a r m
 is-so i a r m e =
     let x = and-true (eqb (m .flow) i && eqb (m .slot) a) (eqb (m .leaves) r) e in
     let y = and-true (eqb (m .flow) i) (eqb (m .slot) a) (x .0) in
@@ -40,7 +40,7 @@ pub data AtMostOne : List Tile → Type 0 where
   no-tile : AtMostOne []
   one : (m : Tile) → m .leaves ≡ m .slot → AtMostOne (m ∷ [])
 
-new-tile : (P : Plan) (e : Event) (h : History) → AtMostOne (tileAt P e h)
+pub new-tile : (P : Plan) (e : Event) (h : History) → AtMostOne (tileAt P e h)
 new-tile P (requested w (accepted v)) h = one _ refl
 new-tile P (requested w (refused r)) h = no-tile
 new-tile P (credited i p a) h = no-tile
@@ -49,7 +49,7 @@ new-tile P (lent m (accepted i)) h = one _ refl
 new-tile P (lent m (refused r)) h = no-tile
 new-tile P (Event.reset a) h = no-tile
 
-counted : (f : Tile → Bool) (m : Tile) → 0 < tally f (m ∷ []) → f m ≡ true
+pub counted : (f : Tile → Bool) (m : Tile) → 0 < tally f (m ∷ []) → f m ≡ true
 unfolding tally
 counted f m = go (f m)
   where
@@ -58,7 +58,7 @@ counted f m = go (f m)
     go false some = absurd (omega arith)
 
 -- it leaves in its slot
-new-leaves : (i a r : ℕ) {ms : List Tile} → AtMostOne ms → 0 < tally (is i a r) ms → r ≡ a
+pub new-leaves : (i a r : ℕ) {ms : List Tile} → AtMostOne ms → 0 < tally (is i a r) ms → r ≡ a
 unfolding tally
 new-leaves i a r no-tile some = absurd (omega arith)
 new-leaves i a r (one m same) some = let x = is-so i a r m (counted (is i a r) m some) in sym (x .leaves) ∙ same ∙ x .slot
@@ -71,7 +71,7 @@ new-alone i a r b s (one m same) some also = sym (is-so i a r m (counted (is i a
 
 -- ---- a tile that is sent ahead
 
-moved-has : {Q : Type 0} (k a r i s t : ℕ) (ms : List Tile) → 0 < tally (is k a r) (leavesIn i s t ms) → (0 < tally (is k a r) ms → Q)
+pub moved-has : {Q : Type 0} (k a r i s t : ℕ) (ms : List Tile) → 0 < tally (is k a r) (leavesIn i s t ms) → (0 < tally (is k a r) ms → Q)
     → (i ≡ k → s ≡ a → t ≡ r → Q) → Q
 unfolding tally leavesIn
 moved-has k a r i s t [] some old new = absurd (omega arith)
@@ -110,7 +110,7 @@ module _ (P : Plan) (i : ℕ) where
           ))
 
   -- a tile is new, or there was one before
-  split : {Q : Type 0} {h : History} (e : Event) (x : Sending h) (a r : ℕ) → HasTile P (event e x) i a r
+  pub split : {Q : Type 0} {h : History} (e : Event) (x : Sending h) (a r : ℕ) → HasTile P (event e x) i a r
       → (0 < tally (is i a r) (tileAt P e h) → Q) → (HasTile P x i a r → Q) → Q
   split {Q} {h} e x a r has new old = go (tally (is i a r) (tileAt P e h)) refl
     where

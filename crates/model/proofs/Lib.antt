@@ -98,6 +98,7 @@ pub mod Sendings
 pub mod LeaveInOrder
 pub mod SendsAhead
 pub mod AheadOverLinks
+pub mod AheadInOrder
 pub mod Outlines
 -- edges, cards that demand 3 sends back, streams that meet the premise of the least count, and what its premises on words are for
 pub mod Unfoldings

@@ -28,7 +28,7 @@ use Rattle.model.proofs.NewestGrants.{slot-to-come}
 -- ---- a tile whose slot is to come was granted it
 
 -- of flow i, with slot s
-abbrev has : (i s : ℕ) → Tile → Bool
+abbrev pub has : (i s : ℕ) → Tile → Bool
 has i s m = eqb (m .flow) i && eqb (m .slot) s
 
 moved-has : (i s j d t : ℕ) (ms : List Tile) → tally (has i s) (leavesIn j d t ms) ≡ tally (has i s) ms
@@ -63,7 +63,7 @@ module _ (P : Plan) (i s : ℕ) where
   ticks-go-on (lent m a) h = omega arith
   ticks-go-on (Event.reset a) h = omega arith
 
-  tiles-granted : {h : History} (x : Sending h) → ticks h < s → tally (has i s) (tiles P x) ≤ tally grant (grants P h)
+  pub tiles-granted : {h : History} (x : Sending h) → ticks h < s → tally (has i s) (tiles P x) ≤ tally grant (grants P h)
   unfolding tally grants marksOf ticks
   tiles-granted nothing to-come = omega arith
   tiles-granted (event {h = h} e x) to-come =
@@ -90,7 +90,7 @@ module _ (P : Plan) (i s : ℕ) where
 -- ---- what waits is booked, in the run without any too
 
 module _ (P : Plan) (ok : Accepted P) where
-  of-booked : {h₁ h₂ : History} (x : WithAhead h₁ h₂) → Each (Replayed P) h₁ → Each (Replayed P) h₂ → EachReady P (sendingOf x) → Orders P x
+  pub of-booked : {h₁ h₂ : History} (x : WithAhead h₁ h₂) → Each (Replayed P) h₁ → Each (Replayed P) h₂ → EachReady P (sendingOf x) → Orders P x
       → NoneTakenAlone x → OfBooked P x
   of-booked start e₁ e₂ each order alone = tt
   of-booked (both-tick x) e₁ e₂ each order alone = of-booked x (e₁ .1) (e₂ .1) each (λ i some. order i some .1) alone

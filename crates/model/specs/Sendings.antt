@@ -14,6 +14,7 @@ use Rattle.model.specs.Word.{flowOf, departureOf}
 use Rattle.model.specs.Plan.{Plan, flowCount, entry, planOf, refusal}
 use Rattle.model.specs.Calls.{Call, Event, History, requested, credited, ticked, lent, accepted, refused}
 use Rattle.model.specs.History.{ticks, slotAfter, Mark, creditAt, upTo}
+use Rattle.model.specs.Claim.{AtLoan}
 use Rattle.model.specs.Card.{Card, run}
 use Rattle.model.specs.Delay.{dueSlot}
 use Rattle.model.specs.AheadRuns.{WithAhead, start, both-tick, both-request, both-credit, both-lend, first-refused, second-refused, sent-ahead}
@@ -112,7 +113,7 @@ module _ (P : Plan) where
   abbrev pub LeaveInOrder : {h : History} → Sending h → ℕ → Type 0
   LeaveInOrder x i = (a r b s : ℕ) → HasTile x i a r → HasTile x i b s → a < b → r < s
 
--- That it follows, in every history, is `leave-in-order`, in proofs/LeaveInOrder.antt.
+-- That it follows from `KeepsOrder`, in every history, is `leave-in-order`, in proofs/LeaveInOrder.antt.
 abbrev pub InOrder : Type 0
 InOrder = (P : Plan) (h : History) (x : Sending h) (i : ℕ) → EachReady P x → KeepsOrder P x i → LeaveInOrder P x i
 
@@ -146,3 +147,20 @@ AheadOn c P =
 -- That the paper's card keeps it is `sends-ahead`, in proofs/SendsAhead.antt.
 abbrev pub Ahead : Card → Type 0
 Ahead c = (bytes : List ℕ) → refusal bytes ≡ 0 → AheadOn c (planOf bytes)
+
+-- ---- in order, beside a run without any
+
+-- A tile of flow i is sent ahead when each with an earlier slot has left; and flow i is lent slots to send ahead only.
+abbrev pub FirstFirst : Plan → {h : History} → Sending h → ℕ → Type 0
+FirstFirst P nothing i = Unit {0}
+FirstFirst P (event {h = h} e x) i = AtLoan (λ m j. j ≡ i → ⊥) e h × FirstFirst P x i
+FirstFirst P (ahead {h = h} j p x) i = (j ≡ i → (a r : ℕ) → HasTile P x i a r → a < slotAfter P (ticks h) p → r < ticks h) × FirstFirst P x i
+
+abbrev pub AheadInOrderOn : Card → Plan → Type 0
+AheadInOrderOn c P =
+    (calls₁ calls₂ : List Call) (x : WithAhead (run c P calls₁ .history) (run c P calls₂ .history))
+    → EachReady P (sendingOf x) → SendersInTurn P x → NoneTakenAlone x → (i : ℕ) → FirstFirst P (sendingOf x) i → LeaveInOrder P (sendingOf x) i
+
+-- That the paper's card keeps it is `ahead-in-order`, in proofs/AheadInOrder.antt.
+abbrev pub AheadInOrder : Card → Type 0
+AheadInOrder c = (bytes : List ℕ) → refusal bytes ≡ 0 → AheadInOrderOn c (planOf bytes)
