@@ -19,10 +19,10 @@ use Rattle.model.specs.AheadRuns.{laterOf, latest, GrantFrom, GrantsAfte
 use Rattle.model.proofs.Plan.{accepted as accepted-plan}
 use Rattle.model.proofs.Tallies.{tally-append}
 use Rattle.model.proofs.HistoryCounts.{NoneGranted, since-the-start}
-use Rattle.model.proofs.EventsOfRuns.{each-happened}
-use Rattle.model.proofs.GrantsInOrder.{frames-in-order}
+use Rattle.model.proofs.EventsOfRuns.{Happened, each-happened}
+use Rattle.model.proofs.GrantsInOrder.{FrameInOrderAt, frames-in-order}
 use Rattle.model.proofs.NextLink.{each-since, since-all}
-use Rattle.model.proofs.BooksInOrder.{each-earliest, in-order}
+use Rattle.model.proofs.BooksInOrder.{EarliestAt, each-earliest, in-order}
 use Rattle.model.proofs.AheadRuns.{nobody-moves}
 
 -- ---- a list without a granted reset
@@ -117,11 +117,13 @@ module _ (P : Plan) where
       grants-after x (booked .1) (λ i some. order i (latest-on (slotAfter P (ticks h₁) p) (latest P x i) (eqb i k) some))
 
   -- flows that are in turn book in order
+  pub orders-of : Accepted P → {h₁ h₂ : History} (x : WithAhead h₁ h₂) → Each (EarliestAt P) h₁ → Each (FrameInOrderAt P) h₁ → Each (Happened P) h₁
+      → SendersInTurn P x → Orders x
+  orders-of ok {h₁} x first frames happened turns i some =
+      since-all (AfterThoseAt P i) h₁ (none-granted x) (in-order P ok i h₁ first frames happened (each-since (AsksAt InTurn P i) h₁ (turns i some)) .1)
+
   pub in-turn-orders : Accepted P → (calls : List Call) {h₂ : History} (x : WithAhead (run paper P calls .history) h₂) → SendersInTurn P x → Orders x
-  in-turn-orders ok calls x turns i some =
-      let h = run paper P calls .history in
-      since-all (AfterThoseAt P i) h (none-granted x)
-      (in-order P ok i h (each-earliest P ok calls) (frames-in-order P ok calls) (each-happened P ok calls) (each-since (AsksAt InTurn P i) h (turns i some)) .1)
+  in-turn-orders ok calls x = orders-of ok x (each-earliest P ok calls) (frames-in-order P ok calls) (each-happened P ok calls)
 
 pub in-turn-nobody-moves : InTurnNobodyMoves paper
 in-turn-nobody-moves bytes passes calls₁ calls₂ x booked turns alone =

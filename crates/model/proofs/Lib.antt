@@ -99,6 +99,7 @@ pub mod LeaveInOrder
 pub mod SendsAhead
 pub mod AheadOverLinks
 pub mod AheadInOrder
+pub mod InTurnWithout
 pub mod Outlines
 -- edges, cards that demand 3 sends back, streams that meet the premise of the least count, and what its premises on words are for
 pub mod Unfoldings

@@ -14,11 +14,12 @@ use Rattle.model.specs.Word.{flowOf, departureOf}
 use Rattle.model.specs.Plan.{Plan, flowCount, entry, planOf, refusal}
 use Rattle.model.specs.Calls.{Call, Event, History, requested, credited, ticked, lent, accepted, refused}
 use Rattle.model.specs.History.{ticks, slotAfter, Mark, creditAt, upTo}
-use Rattle.model.specs.Claim.{AtLoan}
+use Rattle.model.specs.Claim.{Each, AtLoan}
 use Rattle.model.specs.Card.{Card, run}
-use Rattle.model.specs.Delay.{dueSlot}
+use Rattle.model.specs.Delay.{dueSlot, AsksAt}
+use Rattle.model.specs.BooksInOrder.{InTurn}
 use Rattle.model.specs.AheadRuns.{WithAhead, start, both-tick, both-request, both-credit, both-lend, first-refused, second-refused, sent-ahead}
-use Rattle.model.specs.AheadRuns.{NoneTakenAlone, SendersInTurn, BookedAlike}
+use Rattle.model.specs.AheadRuns.{latest, NoneTakenAlone, SendersInTurn, BookedAlike}
 
 -- ---- a sending
 
@@ -164,3 +165,18 @@ AheadInOrderOn c P =
 -- That the paper's card keeps it is `ahead-in-order`, in proofs/AheadInOrder.antt.
 abbrev pub AheadInOrder : Card → Type 0
 AheadInOrder c = (bytes : List ℕ) → refusal bytes ≡ 0 → AheadInOrderOn c (planOf bytes)
+
+-- ---- by the run with sending ahead alone
+
+-- each flow that sends ahead is in turn at each of its requests in the second run
+abbrev pub SendersInTurnThere : Plan → {h₁ h₂ : History} → WithAhead h₁ h₂ → Type 0
+SendersInTurnThere P {h₁} {h₂} x = (i : ℕ) → 0 < latest P x i → Each (AsksAt InTurn P i) h₂
+
+-- Then it was so in the first run too. That it is so on the paper's card is `in-turn-without`, in proofs/InTurnWithout.antt.
+abbrev pub InTurnWithoutOn : Card → Plan → Type 0
+InTurnWithoutOn c P =
+    (calls₁ calls₂ : List Call) (x : WithAhead (run c P calls₁ .history) (run c P calls₂ .history))
+    → EachReady P (sendingOf x) → NoneTakenAlone x → SendersInTurnThere P x → SendersInTurn P x
+
+abbrev pub InTurnWithout : Card → Type 0
+InTurnWithout c = (bytes : List ℕ) → refusal bytes ≡ 0 → InTurnWithoutOn c (planOf bytes)
