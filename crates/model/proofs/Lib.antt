@@ -86,6 +86,21 @@ pub mod EnoughCells
 pub mod CreditsInTime
 pub mod TwoShares
 pub mod LinksOnArrival
+pub mod BooksInOrder
+pub mod Ahead
+pub mod Replays
+pub mod FewerValid
+pub mod CloseLinks
+pub mod CloseRequests
+pub mod CloseCalls
+pub mod AheadRuns
+pub mod AheadInTurn
+pub mod Sendings
+pub mod LeaveInOrder
+pub mod SendsAhead
+pub mod AheadOverLinks
+pub mod AheadInOrder
+pub mod InTurnWithout
 pub mod Outlines
 -- edges, cards that demand 3 sends back, streams that meet the premise of the least count, and what its premises on words are for
 pub mod Unfoldings
@@ -115,3 +130,5 @@ pub mod BadDelays
 pub mod SlowCards
 pub mod CellsNeeded
 pub mod OnArrivalExample
+pub mod LessAhead
+pub mod BadSendings

@@ -38,6 +38,12 @@ pub mod LessTimely
 pub mod SeveralLinks
 pub mod EnoughCells
 pub mod LinksOnArrival
+pub mod BooksInOrder
+pub mod Ahead
+pub mod AheadRuns
+pub mod Sendings
+pub mod AheadOverLinks
+pub mod LessAhead
 -- worked examples, and cards that are sent back
 pub mod PlanBytes
 pub mod EdgeCases
@@ -60,3 +66,4 @@ pub mod BadResets
 pub mod BadTurns
 pub mod BadNumbers
 pub mod BadDelays
+pub mod BadSendings
