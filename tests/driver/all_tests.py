@@ -4,9 +4,12 @@ import itertools
 import tempfile
 from functools import partial
 
+from ahead import wrong_sendings
 from demand3 import wrong_listings
 from driver import (
-    cases, pair_suite, plain_rust, question_cases, round_trips, wrong_answers)
+    ahead_suite, cases, pair_suite, plain_rust, question_cases, round_trips,
+    wrong_answers)
+from driver.ahead_suite import AheadSuite
 from driver.c_side import c_side
 from driver.formats import ALLCALLS
 from driver.pair_suite import PairSuite
@@ -70,6 +73,12 @@ def pairs():
         yield "pair: " + name, trouble
 
 
+def sendings():
+    """The check of runs with sending ahead sends back what it has to."""
+    for name, trouble in wrong_sendings.missed():
+        yield "sending: " + name, trouble
+
+
 def answers():
     """Wrong answers of domeplan are told."""
     for name, trouble in wrong_answers.missed():
@@ -91,7 +100,8 @@ def tables():
 def without_program(only):
     """The suite of what the tests themselves have to be."""
     suite = Suite("tests")
-    tests = itertools.chain(listings(), pairs(), answers(), tables())
+    tests = itertools.chain(listings(), pairs(), sendings(), answers(),
+                            tables())
     for name, trouble in counted(suite.name, wanted(tests, only)):
         suite.test(name, trouble)
     test_all(suite, self_tests.tests(), only)
@@ -215,6 +225,17 @@ def play_pairs(suites, only, count, seed):
     return suites
 
 
+def play_ahead(suites, only, count, seed):
+    """The same of runs without and with tiles sent ahead."""
+    suites = [AheadSuite(suite) for suite in suites
+              if suite.form is ALLCALLS and suite.command]
+    play_cases("sent ahead", suites, ahead_suite.seeds(count, seed), only)
+    for suite in suites:
+        if not only:
+            suite.totals()
+    return suites
+
+
 def play_questions(suite, only, count, seed):
     """Questions of the show editor, and the totals if nothing is left out.
     The tally of the generated ones."""
@@ -263,6 +284,7 @@ def play_all(domelink, allcalls, domeplan, library, only, count, seed):
         tallies = play_programs(
             [suite for suite in programs if suite.command], only, count, seed)
         in_pairs = play_pairs(players, only, count, seed)
-    tallies += [in_pairs[0].tally,
+        sent_ahead = play_ahead(players, only, count, seed)
+    tallies += [in_pairs[0].tally, sent_ahead[0].tally,
                 play_questions(domeplan, only, count, seed)]
-    return programs + in_pairs + [domeplan] + apart, tallies
+    return programs + in_pairs + sent_ahead + [domeplan] + apart, tallies
