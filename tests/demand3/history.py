@@ -8,13 +8,15 @@ import struct
 from collections import Counter
 
 from demand3 import departure_ways, lend_ways, number_ways, reset_ways
+from demand3.delays import Asked, Delays
 from demand3.turns import Turns
 
 
 class Verdict:
     """What was found: faults as text; grants and taken credits seen; how the
     lends, the resets, and the departures and the numbers of well-formed words
-    ended, and whose turn it was at a lend; per flow the largest k at which the
+    ended, and whose turn it was at a lend; how often a request had to be
+    granted promptly or soon, and was; per flow the largest k at which the
     least count was put to the test, from the beginning or from a granted reset
     on; and the largest of the latter."""
 
@@ -27,6 +29,7 @@ class Verdict:
         self.resets = Counter()
         self.departures = Counter()
         self.numbers = Counter()
+        self.delays = Counter()
         self.least = {}
         self.afresh = -1
 
@@ -53,6 +56,7 @@ class History:
         # Later slot -> grants less credits of that slot, for each flow.
         self.change = [{} for _ in entries]
         self.turns = Turns(self.flows)      # at lends
+        self.delays = Delays(self.flows)    # of requests
         self.renewed = None                 # the slot of the last reset
         self.count_afresh()
         self.verdict = verdict
@@ -195,6 +199,12 @@ class History:
             self.fault("flow %d has %d grants, below the least of %d"
                        % (flow, self.count[flow], least))
 
+    def check_delay(self, asked, letter, number):
+        """Prompt and soon (rules 22.2 to 22.5)."""
+        slot = self.slot_after_now(int(number)) if letter == "G" else None
+        self.verdict.delays.update(
+            self.delays.take(self, asked, slot, number))
+
     # ---- the calls, with what the listing says of them
 
     def well_formed(self, word):
@@ -240,6 +250,8 @@ class History:
             self.verdict.numbers[
                 number_ways.way(self, flow, quantum, letter, number)] += 1
             self.note_asking(flow, quantum, departure)
+            self.check_delay(Asked(self, flow, quantum, departure),
+                             letter, number)
             if letter == "R":
                 self.note_refused(flow)
         if letter == "G":
@@ -278,6 +290,7 @@ class History:
         if letter == "Z":
             self.renewed = self.now
             self.turns.begin()
+            self.delays.begin()
             self.count_afresh()
 
     def tick(self, record, letter, number):

@@ -7,8 +7,8 @@ rules 21.5 to 21.8.
 """
 
 from demand3 import (
-    wrong_bursts, wrong_departures, wrong_lends, wrong_numbers, wrong_resets,
-    wrong_turns)
+    wrong_bursts, wrong_delays, wrong_departures, wrong_lends, wrong_numbers,
+    wrong_resets, wrong_turns)
 from demand3.check import ALLCALLS, check
 from edges.edge_maker import TICK, ask, credit, edge, plan
 
@@ -89,8 +89,29 @@ def passed(right, least, *kinds):
     return None
 
 
+def tried(right, delays):
+    """The same for a right one, with prompt and soon tried so often."""
+    verdict = check(right.data, right.lines, ALLCALLS)
+    if verdict.faults or verdict.delays != delays:
+        return "sent back: %r, %r" % (verdict.faults, verdict.delays)
+    return None
+
+
+def delays():
+    """The same for listings that only prompt and soon tell apart."""
+    for wrong, words in wrong_delays.WRONG + wrong_delays.ALLCALLS_WRONG:
+        faults = check(wrong.data, wrong.lines, ALLCALLS).faults
+        others = [fault for fault in faults
+                  if not fault.endswith(("is prompt", "is modest"))]
+        yield wrong.name, (sent_back(wrong, words, ALLCALLS)
+                           or others and "demand 3: %s" % others)
+    for right, delays in wrong_delays.RIGHT + wrong_delays.ALLCALLS_RIGHT:
+        yield right.name, tried(right, delays)
+
+
 def missed():
     """(name, what went wrong or None) for each listing."""
+    yield from delays()
     for wrong, words in WRONG:
         yield wrong.name, sent_back(wrong, words)
     cut = check(RIGHT.data, RIGHT.lines[:-1]).faults

@@ -8,7 +8,7 @@ from ahead import wrong_sendings
 from demand3 import wrong_listings
 from driver import (
     ahead_suite, cases, pair_suite, plain_rust, question_cases, round_trips,
-    wrong_answers)
+    way_suite, wrong_answers)
 from driver.ahead_suite import AheadSuite
 from driver.c_side import c_side
 from driver.formats import ALLCALLS
@@ -19,6 +19,7 @@ from driver.suite import Suite
 from driver.tally import (
     BurstTally, DepartureTally, LendTally, NumberTally, QuestionTally,
     ResetTally, Tally)
+from driver.way_suite import WaySuite
 from edges import questions, refusals_page
 from edges.all_edges import ALLCALLS_EDGES, EDGES
 from front_door import architecture_page, decisions_page, doc_names
@@ -27,13 +28,14 @@ from front_door import (
     flights, help_pages, man_pages, must_fail_edits, old_program, page_sizes,
     performance_page, picture_errors,
     picture_pages, picture_scripts, picture_sizes, picture_view, pictures,
-    plan_check, plan_culprits, plan_files, plan_lost_output, plan_read, plan_week,
-    plan_wrong_words, play_explain, play_files, play_lost_output,
+    plan_check, plan_culprits, plan_delays, plan_files, plan_lost_output,
+    plan_read, plan_week, plan_wrong_words, play_explain, play_files, play_lost_output,
     play_options, play_states, progress, readme, remedies, rules_page,
     singular, slow_reader, tests_lost_output, versions, wrong_arguments)
 from front_door import desk_page, page_links, program_stacks, proved_page
 from images import self_tests
 from pairs import wrong_pairs
+from ways import wrong_ways
 
 PAGES = (proved_page, program_stacks, desk_page, page_links)
 FRONT_DOOR = (
@@ -41,7 +43,7 @@ FRONT_DOOR = (
     play_files, play_lost_output, play_explain, play_options, play_states,
     pictures, picture_sizes, picture_pages, picture_scripts, picture_view,
     picture_errors, singular, calls_text, plan_files, plan_culprits, plan_read,
-    plan_check,
+    plan_check, plan_delays,
     plan_week, plan_wrong_words, plan_lost_output, check_log,
     check_ahead, flights,
     old_program, slow_reader, asking_editor, wrong_arguments,
@@ -73,6 +75,12 @@ def pairs():
         yield "pair: " + name, trouble
 
 
+def ways():
+    """The check of ways sends back what it has to."""
+    for name, trouble in wrong_ways.missed():
+        yield "way: " + name, trouble
+
+
 def sendings():
     """The check of runs with sending ahead sends back what it has to."""
     for name, trouble in wrong_sendings.missed():
@@ -100,7 +108,7 @@ def tables():
 def without_program(only):
     """The suite of what the tests themselves have to be."""
     suite = Suite("tests")
-    tests = itertools.chain(listings(), pairs(), sendings(), answers(),
+    tests = itertools.chain(listings(), pairs(), ways(), sendings(), answers(),
                             tables())
     for name, trouble in counted(suite.name, wanted(tests, only)):
         suite.test(name, trouble)
@@ -225,6 +233,17 @@ def play_pairs(suites, only, count, seed):
     return suites
 
 
+def play_ways(suites, only, count, seed):
+    """Ways over several links, likewise."""
+    suites = [WaySuite(suite) for suite in suites
+              if suite.form is ALLCALLS and suite.command]
+    play_cases("ways", suites, way_suite.cases(count, seed), only)
+    for suite in suites:
+        if not only:
+            suite.totals()
+    return suites
+
+
 def play_ahead(suites, only, count, seed):
     """The same of runs without and with tiles sent ahead."""
     suites = [AheadSuite(suite) for suite in suites
@@ -284,7 +303,9 @@ def play_all(domelink, allcalls, domeplan, library, only, count, seed):
         tallies = play_programs(
             [suite for suite in programs if suite.command], only, count, seed)
         in_pairs = play_pairs(players, only, count, seed)
+        on_ways = play_ways(players, only, count, seed)
         sent_ahead = play_ahead(players, only, count, seed)
-    tallies += [in_pairs[0].tally, sent_ahead[0].tally,
+    tallies += [in_pairs[0].tally, on_ways[0].tally, sent_ahead[0].tally,
                 play_questions(domeplan, only, count, seed)]
-    return programs + in_pairs + sent_ahead + [domeplan] + apart, tallies
+    return (programs + in_pairs + on_ways + sent_ahead + [domeplan] + apart,
+            tallies)

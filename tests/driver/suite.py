@@ -7,7 +7,8 @@ in the first.
 import multiprocessing
 from collections import Counter
 
-from demand3 import departure_ways, lend_ways, number_ways, reset_ways, turns
+from demand3 import (
+    delays, departure_ways, lend_ways, number_ways, reset_ways, turns)
 from demand3.check import check
 from driver import progress
 from driver.formats import ALLCALLS, DOMELINK
@@ -63,6 +64,7 @@ class Suite:
         self.resets = Counter()     # how resets ended
         self.departures = Counter()     # where they lay, how requests ended
         self.numbers = Counter()    # which they were, how requests ended
+        self.delays = Counter()     # how requests were prompt, and soon
         self.largest_k = -1         # at which the least count was tried
         self.afresh = -1            # the same after a granted reset
         self.without_end = multiprocessing.Value("i", 0)    # for all processes
@@ -86,6 +88,7 @@ class Suite:
             self.resets += outcome.verdict.resets
             self.departures += outcome.verdict.departures
             self.numbers += outcome.verdict.numbers
+            self.delays += outcome.verdict.delays
             self.largest_k = max(self.largest_k, outcome.verdict.largest_k())
             self.afresh = max(self.afresh, outcome.verdict.afresh)
 
@@ -145,6 +148,7 @@ class Suite:
             way for way in number_ways.WAYS
             if self.form is ALLCALLS or way not in number_ways.AFTER_RESETS
         ], self.numbers)
+        self.every_way("prompt and soon requests", delays.WAYS, self.delays)
         if self.form is ALLCALLS:
             self.every_way("lends", lend_ways.WAYS, self.lends)
             self.every_way("turns", turns.WAYS, self.turns)

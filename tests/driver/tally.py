@@ -3,6 +3,7 @@
 from collections import Counter
 
 from demand3 import departure_ways, number_ways, turns
+from demand3.delays import PROMPT, SOON
 from demand3.lend_ways import BITS, LENT, NO_FLOW, TAKEN
 from demand3.reset_ways import GRANTED, REFUSED
 from generator import burst_seeds, departure_seeds, number_seeds
@@ -19,17 +20,23 @@ class Tally:
         self.calls = 0
         self.met = 0            # files that met the least count's premise
         self.met_later = 0      # the same with k of 2 and more
+        self.delays = Counter()     # how requests were prompt, and soon
 
     def add(self, case):
         self.files += 1
+        self.delays += case.own.verdict.delays
         self.calls += len(case.own.lines) - 1
         self.met += case.own.verdict.largest_k() >= 0
         self.met_later += case.own.verdict.largest_k() >= 2
 
     def text(self):
+        prompt, soon = (sum(self.delays[way] for way in ways)
+                        for ways in (PROMPT, SOON))
         return ("%d generated files with %d calls; the premise of the least "
-                "count is met by %d files, by %d with k of 2 and more"
-                % (self.files, self.calls, self.met, self.met_later))
+                "count is met by %d files, by %d with k of 2 and more; that "
+                "of prompt by %d requests, and of soon by %d"
+                % (self.files, self.calls, self.met, self.met_later,
+                   prompt, soon))
 
 
 class WordTally(Tally):

@@ -7,16 +7,25 @@ import call_bytes
 from edges import refusals_page
 from edges.edge_maker import BASE
 from front_door.command import ROOT, redirected, start, trouble
+from front_door.plan_delays import HEAD, WORDS
 from front_door.plan_read import PRINTED, ROOMY, ROOMY_PRINTED
 from front_door.plan_tree import NOT_DONE, REFUSED, in_trees
 from front_door.remedies import what_to_do
 
+DELAYS = """
+%s
+%%s
+%s
+""" % (HEAD, WORDS.strip())
 CHECKED = PRINTED + b"""
 flow   rate, its share over F
    0    2/4   50.0 %
    1    2/4   50.0 %
 left    0/4    0.0 %
-
+""" + (DELAYS % """\
+   0      7       2      2  needs 4: no     needs 6: no         2      1
+   1      7       2      2  needs 4: no     needs 6: no         2      1\
+""").encode() + b"""
 passes: the link takes this plan; slots left in a frame: 0 of 4; \
 places left in the buffer: 0 of 4
 """
@@ -28,7 +37,11 @@ flow   rate, its share over F
    1  40/64   62.5 %
    2   1/64    1.6 %
 left  14/64   21.9 %
-
+""" + (DELAYS % """\
+   0    127       2    255  needs 18: yes   needs 27: yes       9      1
+   1    127       2      1  needs 80: no    needs 120: no      40      1
+   2    127       2     12  needs 2: yes    needs 3: yes        1      1\
+""").encode() + b"""
 passes: the link takes this plan; slots left in a frame: 14 of 64; \
 places left in the buffer: 3827 of 4095
 """
@@ -87,7 +100,8 @@ def check_rates(tree):
     for share, frame, rate, rest in RATES:
         data = call_bytes.plan(frame, 2, 1, [(share, 1, 1, 9)])
         ended = tree.start("--check", "-", input=data)
-        lines = ended.output.decode().splitlines()[-4:-2]
+        rates = ended.output.decode().split("share over F\n")[-1]
+        lines = rates.splitlines()[:2]
         wrong = trouble(ended) or (
             [line.split(None, 1) for line in lines]
             != [["0", rate + " %"], ["left", rest + " %"]] and lines)

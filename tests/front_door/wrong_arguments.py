@@ -58,6 +58,9 @@ TESTS_RUN = [
     (["--pairs", "--allcalls", "--write", "1", MISSING],
      "--pairs goes with"),
     (["--pairs", "--write", "1", MISSING], "can't be written"),
+    (["--ways"], "--ways goes with"),
+    (["--ways", "--pairs", "--write", "1", MISSING], "goes with --write"),
+    (["--ways", "--write", "1", MISSING], "can't be written"),
 ]
 BENCH_RUN = [
     (["0"], "ROUNDS"),

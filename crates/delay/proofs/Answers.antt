@@ -12,7 +12,7 @@ use Rattle.model.specs.Refusals.{firstOf, _when_}
 use Rattle.model.proofs.Tests.{or-false, in-range, line-passed}
 use Rattle.delay.specs.declared.Delayed.{Delayed}
 use Rattle.delay.specs.Limits.{Asked, Passed}
-use Rattle.delay.specs.Bounds.{burstFrames, framesIn, bounds, noQuestion, refusalOf, delayed, answerFor}
+use Rattle.delay.specs.Bounds.{framesIn, bounds, noQuestion, refusalOf, delayed, answerFor}
 
 pub asked-limits : (m burst : ℕ) → noQuestion m burst ≡ false → Asked m burst
 unfolding noQuestion

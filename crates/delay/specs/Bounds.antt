@@ -1,11 +1,12 @@
--- What a stream can count on: when its tiles arrive, and how many cells keep it so. Assumes nothing.
-use Prim.Native.Nat.{ℕ, _+_, _-_, _*_, _/_}
+-- What a stream can count on: when its tiles arrive, and how many cells keep it so. What the numbers say of streams is in Promised.antt. Assumes nothing.
+use Prim.Native.Nat.{ℕ, _+_, _-_, _*_}
 use mathlib.Core.List.{_∷_, []}
 use mathlib.Core.Bool.{Bool, not, _||_, cond}
 use lib.Dec.{ltb, eqb}
 use Rattle.model.specs.Tables.{within}
 use Rattle.model.specs.Refusals.{firstOf, _when_}
 use Rattle.model.specs.Calls.{Answer, accepted, refused}
+use Rattle.model.specs.Source.{burstFrames}
 use Rattle.delay.specs.declared.Delayed.{Delayed}
 use Rattle.delay.specs.declared.Delayed.the-variants.{Within, Refused, NoQuestion}
 
@@ -17,11 +18,7 @@ pub record Bounds : Type 0 where
   -- cells on the last link, where a cell is given back only when its tile was shown
   pub shown : ℕ
 
--- the frames that `burst` tiles more than the share cost at the source: a frame for each share of them, and for what is left
-abbrev pub burstFrames : (share burst : ℕ) → ℕ
-burstFrames share burst = (burst + share - 1) / share
-
--- a frame for each of m links and one more, and those of the burst
+-- a frame for each of m links and one more, and those that `burst` tiles more than the share cost at the source
 abbrev pub framesIn : (m share burst : ℕ) → ℕ
 framesIn m share burst = m + 1 + burstFrames share burst
 

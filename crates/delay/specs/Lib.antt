@@ -1,3 +1,4 @@
 pub mod Bounds
+pub mod Promised
 pub mod Limits
 pub mod Edges

@@ -18,7 +18,8 @@ use Rattle.model.specs.QuantumNumbers.{InOrder}
 use Rattle.model.specs.Tables.{tally}
 use Rattle.model.specs.History.{renews}
 use Rattle.model.specs.SeveralLinks.{Board}
-use Rattle.model.specs.EnoughCells.{GivesBack, KeepsTwoShares, EachGrantedNow}
+use Rattle.model.specs.EnoughCells.{GivesBack}
+use Rattle.model.specs.SharesOfCells.{KeepsShares, EachGrantedNow}
 use Rattle.model.specs.Delay.{Timely, PromptOn, TimelyInOrder, SoonOn, SoonOnArrivalOn}
 use Rattle.model.specs.Card.{Played, paper, step, play, started, run}
 use Rattle.model.proofs.Tests.{line-passed}
@@ -30,7 +31,7 @@ use Rattle.model.proofs.Prompt.{prompt}
 use Rattle.model.proofs.Soon.{soon-ahead}
 use Rattle.model.proofs.SoonOnArrival.{soon}
 use Rattle.model.proofs.EnoughCells.{enough-cells}
-use Rattle.model.proofs.TwoShares.{two-shares}
+use Rattle.model.proofs.SharesOfCells.{shares-of-cells}
 use Rattle.images.specs.Image.{imageLength, imageOf, headerField}
 use Rattle.images.specs.Consistent.{Keepable}
 use Rattle.images.specs.Taken.{refusalOf}
@@ -192,10 +193,12 @@ module _ (plan : List ℕ) where
   chain-enough-cells ch i known =
       chain-has (λ h. GivesBack 0 (planOf plan) i h → Each (ReadyAt (planOf plan) i) h) (λ passes calls. enough-cells plan passes calls i known) ch
 
-  pub chain-two-shares : {calls : List Call} {h : History} {b : List ℕ} → Chain plan calls h b → (i : ℕ) → i < flowCount (planOf plan)
-      → KeepsTwoShares 0 (planOf plan) i h → EachGrantedNow (planOf plan) i h
-  chain-two-shares ch i known =
-      chain-has (λ h. KeepsTwoShares 0 (planOf plan) i h → EachGrantedNow (planOf plan) i h) (λ passes calls. two-shares plan passes calls i known) ch
+  -- and one that asks within its share, with cells by how late they are given back, is granted each request
+  pub chain-shares-of-cells : (late : ℕ) {calls : List Call} {h : History} {b : List ℕ} → Chain plan calls h b → (i : ℕ) → i < flowCount (planOf plan)
+      → KeepsShares late 0 (planOf plan) i h → EachGrantedNow (planOf plan) i h
+  chain-shares-of-cells late ch i known =
+      chain-has (λ h. KeepsShares late 0 (planOf plan) i h → EachGrantedNow (planOf plan) i h)
+      (λ passes calls. shares-of-cells late plan passes calls i known) ch
 
   -- and over several links a board of the host is one of those that `over-links` speaks of
   pub chain-board : {calls : List Call} {h : History} {b : List ℕ} → Chain plan calls h b → tally renews h ≡ 0 → (i : ℕ) → i < flowCount (planOf plan)

@@ -20,7 +20,8 @@ use Rattle.model.specs.QuantumNumbers.{InOrder}
 use Rattle.model.specs.Tables.{tally}
 use Rattle.model.specs.History.{renews}
 use Rattle.model.specs.SeveralLinks.{Ran, Board}
-use Rattle.model.specs.EnoughCells.{GivesBack, KeepsTwoShares, EachGrantedNow}
+use Rattle.model.specs.EnoughCells.{GivesBack}
+use Rattle.model.specs.SharesOfCells.{KeepsShares, EachGrantedNow}
 use Rattle.model.specs.Delay.{Timely, PromptOn, TimelyInOrder, SoonOn, SoonOnArrivalOn}
 use Rattle.model.specs.CountedBursts.{several, countsAs, eventsIn}
 use Rattle.model.proofs.AfterCalls.{Known, after-calls, after-fresh}
@@ -32,7 +33,7 @@ use Rattle.model.proofs.Prompt.{prompt-accepted}
 use Rattle.model.proofs.Soon.{soon-accepted}
 use Rattle.model.proofs.SoonOnArrival.{soon-on-arrival}
 use Rattle.model.proofs.EnoughCells.{enough-cells-accepted}
-use Rattle.model.proofs.TwoShares.{two-shares-accepted}
+use Rattle.model.proofs.SharesOfCells.{shares-of-cells-accepted}
 use Rattle.link.specs.declared.Link.{Link}
 use Rattle.link.specs.Reading.{linkOf}
 use Rattle.link.specs.Handed.{Handed}
@@ -188,10 +189,12 @@ pub code-enough-cells : (bytes : List ℕ) (o : Outcome) → o ≡ readOf bytes 
     → GivesBack 0 (model.planOf bytes) i h → Each (ReadyAt (model.planOf bytes) i) h
 code-enough-cells = code-has (λ P h. (i : ℕ) → i < model.flowCount P → GivesBack 0 P i h → Each (ReadyAt P i) h) enough-cells-accepted
 
-pub code-two-shares : (bytes : List ℕ) (o : Outcome) → o ≡ readOf bytes → (o .verdict ≡ Accepted → Valid (o .plan)) → o .verdict ≡ Accepted
+-- and one that asks within its share, with cells by how late they are given back, is granted each request: late = 0 is two shares, late = 1 three
+pub code-shares-of-cells : (late : ℕ) (bytes : List ℕ) (o : Outcome) → o ≡ readOf bytes → (o .verdict ≡ Accepted → Valid (o .plan)) → o .verdict ≡ Accepted
     → {h : History} {l : Link} → Handed (o .plan) h l → (i : ℕ) → i < model.flowCount (model.planOf bytes)
-    → KeepsTwoShares 0 (model.planOf bytes) i h → EachGrantedNow (model.planOf bytes) i h
-code-two-shares = code-has (λ P h. (i : ℕ) → i < model.flowCount P → KeepsTwoShares 0 P i h → EachGrantedNow P i h) two-shares-accepted
+    → KeepsShares late 0 (model.planOf bytes) i h → EachGrantedNow (model.planOf bytes) i h
+code-shares-of-cells late =
+    code-has (λ P h. (i : ℕ) → i < model.flowCount P → KeepsShares late 0 P i h → EachGrantedNow P i h) (shares-of-cells-accepted late)
 
 -- and over several links: the calls of the code on one board are such a board, so that `over-links` speaks of any way over boards of the code
 pub code-board : (bytes : List ℕ) (o : Outcome) → o ≡ readOf bytes → (o .verdict ≡ Accepted → Valid (o .plan)) → o .verdict ≡ Accepted

@@ -1,10 +1,11 @@
 -- With two shares of cells and no more a stream that gives them back in time may lack room; with one more it has it in the same calls. With one fewer a
--- request of it may be refused. Assumes nothing.
-use Prim.Native.Nat.{_<_, ℕ, _+_, _≤_}
+-- request of it may be refused, and with one fewer than three shares where cells are credited when their tiles were shown. Assumes nothing.
+use Prim.Native.Nat.{ℕ, _+_, _-_, _*_, _/_, _≤_, _<_}
 use mathlib.Core.Path.{_≡_, refl}
 use mathlib.Core.Logic.{Dec·and}
-use mathlib.Core.List.{List, _∷_, [], reverse}
-use mathlib.Core.Option.{some}
+use mathlib.Core.List.{List, _∷_, [], _++_, reverse}
+use mathlib.Core.Option.{some, none}
+use native.Mathlib.Nat.{le-div-iff-mul-le, div-mul-le-self}
 use native.Mathlib.Omega.{arith}
 use native.Mathlib.Decide.{decLe, decLt, ℕ-discrete}
 use lib.Dec.{lit<, lit≤}
@@ -13,9 +14,10 @@ use Rattle.model.specs.Plan.{Plan, entry, planOf}
 use Rattle.model.specs.Calls.{Call, History, requested, credited, ticked, accepted}
 use Rattle.model.specs.History.{ticks, frameOf, wellFormed, hasCome, expectedNumber, grantedUpTo, creditedUpTo}
 use Rattle.model.specs.Card.{run, paper}
-use Rattle.model.specs.PlanBytes.{plan2}
+use Rattle.model.specs.PlanBytes.{plan1, plan2}
 use Rattle.model.specs.Delay.{currentFrame, madeSince, madeIn}
-use Rattle.model.specs.EnoughCells.{lastOf, AsksInTurn, GivesBack, EnoughCellsBy, KeepsTwoShares, TwoSharesBy}
+use Rattle.model.specs.EnoughCells.{lastOf, returns, AsksInTurn, GivesBack, EnoughCellsBy}
+use Rattle.model.specs.SharesOfCells.{GivenBack, CreditsEachBy, KeepsShares, SharesOfCellsBy}
 use Rattle.model.proofs.Decidable.{same, implies, is-true, all-below, everywhere, proved}
 use Rattle.model.proofs.PastMarks.{above}
 use Rattle.model.proofs.ClaimDecided.{at-request, each}
@@ -74,27 +76,86 @@ pub three-are-enough : GivesBack 0 (planOf (bytes 3)) 0 (events 3)
 unfolding delays-compute in-turn gives-back
 three-are-enough = proved (gives-back 0 (planOf (bytes 3)) 0 (events 3)) tt
 
--- ---- two shares, and one cell fewer
+-- ---- shares of cells, by how late they are given back
 
-unfoldable pub keeps-two-shares : (short : ℕ) (P : Plan) (i : ℕ) (h : History) → Dec (KeepsTwoShares short P i h)
-keeps-two-shares short P i h =
-    same (λ r. record { asks = r .0; two-shares = r .1 .0; not-lent = r .1 .1 .0; no-reset = r .1 .1 .1 })
-    (λ x. (x .asks, (x .two-shares, (x .not-lent, x .no-reset))))
+unfoldable pub given-back : (late : ℕ) (P : Plan) → 0 < P .slots → (i : ℕ) (h : History) → Dec (GivenBack late P i h)
+given-back late P some-slot i h =
+    everywhere (ticks h) (λ s. implies (decLt _ _) (decLe _ _))
+    (λ below s past back.
+    let later : currentFrame P h ≤ frameOf P s = le-div-iff-mul-le some-slot .1 (omega (arith, div-mul-le-self (ticks h) (P .slots))) in
+    absurd (omega arith))
+
+unfoldable pub keeps-shares : (late short : ℕ) (P : Plan) → 0 < P .slots → (i : ℕ) (h : History) → Dec (KeepsShares late short P i h)
+keeps-shares late short P some-slot i h =
+    same (λ r. record { asks = r .0; enough-cells = r .1 .0; not-lent = r .1 .1 .0; no-reset = r .1 .1 .1 })
+    (λ x. (x .asks, (x .enough-cells, (x .not-lent, x .no-reset))))
     (Dec·and
     (each (at-request λ w h. implies (is-true (wellFormed P w)) (implies (ℕ-discrete (flowOf w) i)
-    (same {A = AsksInTurn P i w h × (madeIn P h i (currentFrame P h) < entry P i .share)} (λ r. record { in-turn = r .0; few = r .1 })
-    (λ x. (x .in-turn, x .few)) (Dec·and (in-turn P i w h) (decLt _ _))))) h)
+    (same (λ r. record { come = r .0; number = r .1 .0; given-back = r .1 .1 .0; few = r .1 .1 .1 }) (λ x. (x .come, (x .number, (x .given-back, x .few))))
+    (Dec·and (is-true (hasCome P (ticks h) (departureOf w))) (Dec·and (ℕ-discrete (quantumOf w) (expectedNumber P h i))
+    (Dec·and (given-back late P some-slot i h) (decLt (madeIn P h i (currentFrame P h)) (entry P i .share)))))))) h)
     (Dec·and (decLe _ _) (Dec·and (ℕ-discrete _ _) (ℕ-discrete _ _))))
 
+-- ---- two shares, and one cell fewer
+
 -- with two cells each request of the calls above is granted
-pub two-are-kept : KeepsTwoShares 0 (planOf (bytes 2)) 0 (events 2)
-unfolding delays-compute in-turn keeps-two-shares
-two-are-kept = proved (keeps-two-shares 0 (planOf (bytes 2)) 0 (events 2)) tt
+pub two-are-kept : KeepsShares 0 0 (planOf (bytes 2)) 0 (events 2)
+unfolding delays-compute given-back keeps-shares
+two-are-kept = proved (keeps-shares 0 0 (planOf (bytes 2)) (lit< tt) 0 (events 2)) tt
 
 -- with one cell, which is held from slot 3 on, the tile that is asked for in slot 2 is refused
-pub not-fewer : TwoSharesBy 1 paper → ⊥
-unfolding delays-compute in-turn keeps-two-shares
+pub not-fewer : SharesOfCellsBy 0 1 paper → ⊥
+unfolding delays-compute given-back keeps-shares
 not-fewer two =
     let calls = Call.request 0x24100000 ∷ Call.request 0x24100400 ∷ Call.request 0x24000000 ∷ Call.tick ∷ Call.tick ∷ Call.request 0x24000402 ∷ [] in
     let h = run paper (planOf (bytes 1)) calls .history in
-    two (bytes 1) refl calls 0 (lit< tt) (proved (keeps-two-shares 1 (planOf (bytes 1)) 0 h) tt) .0 refl refl
+    two (bytes 1) refl calls 0 (lit< tt) (proved (keeps-shares 0 1 (planOf (bytes 1)) (lit< tt) 0 h) tt) .0 refl refl
+
+-- ---- three shares, where a cell is credited when its tile was shown, and one cell fewer: F = 2, W = 2, one flow with share 2 and the given number of cells
+
+abbrev shown : (cells : ℕ) → List ℕ
+shown cells = plan1 2 2 8 2 cells
+
+-- Two tiles are asked for in each of the slots 1, 3 and 4, and granted slots 2 to 7.
+abbrev six : List Call
+six =
+    Call.tick ∷ Call.request 0x24000001 ∷ Call.request 0x24000401 ∷ Call.tick ∷ Call.tick ∷ Call.request 0x24000803 ∷ Call.request 0x24000C03 ∷ Call.tick
+    ∷ Call.request 0x24001000 ∷ Call.request 0x24001400 ∷ []
+
+-- In slot 5 the cells of slots 2 and 3 are credited, dated slot 6; and in slot 6 two more tiles are asked for, and granted slots 8 and 9.
+abbrev eight : List Call
+eight = six ++ (Call.tick ∷ Call.credit 0 2 ∷ Call.credit 0 2 ∷ Call.tick ∷ Call.request 0x24001802 ∷ Call.request 0x24001C02 ∷ [])
+
+abbrev shownEvents : History
+shownEvents = run paper (planOf (shown 6)) eight .history
+
+pub shown-come-to :
+    reverse shownEvents
+    ≡ ticked none ∷ requested 0x24000001 (accepted 0x24000002) ∷ requested 0x24000401 (accepted 0x24000403) ∷ ticked (some 0) ∷ ticked (some 0)
+    ∷ requested 0x24000803 (accepted 0x24000800) ∷ requested 0x24000C03 (accepted 0x24000C01) ∷ ticked (some 0)
+    ∷ requested 0x24001000 (accepted 0x24001002) ∷ requested 0x24001400 (accepted 0x24001403) ∷ ticked (some 0)
+    ∷ credited 0 2 (accepted tt) ∷ credited 0 2 (accepted tt) ∷ ticked (some 0)
+    ∷ requested 0x24001802 (accepted 0x24001800) ∷ requested 0x24001C02 (accepted 0x24001C01) ∷ []
+unfolding delays-compute
+shown-come-to = refl
+
+-- with six cells each of these is granted
+pub three-are-kept : KeepsShares 1 0 (planOf (shown 6)) 0 shownEvents
+unfolding delays-compute given-back keeps-shares
+three-are-kept = proved (keeps-shares 1 0 (planOf (shown 6)) (lit< tt) 0 shownEvents) tt
+
+-- the cell of each tile is credited in the last slot of the frame after its own
+pub credited-when-shown : CreditsEachBy 1 (planOf (shown 6)) 0 shownEvents
+unfolding delays-compute returns
+credited-when-shown = record {
+  creditOf = λ t. (t / 2 + 2) * 2 - 1;
+  in-frames = λ t. omega arith;
+  each = proved (all-below 6 (λ c. decLe _ _)) tt;
+}
+
+-- with five the second tile that is asked for in slot 4 is refused: the five of slots 2 to 6 are held
+pub not-fewer-shown : SharesOfCellsBy 1 1 paper → ⊥
+unfolding delays-compute given-back keeps-shares
+not-fewer-shown three =
+    let h = run paper (planOf (shown 5)) six .history in
+    three (shown 5) refl six 0 (lit< tt) (proved (keeps-shares 1 1 (planOf (shown 5)) (lit< tt) 0 h) tt) .0 refl refl

@@ -34,7 +34,7 @@ use Rattle.model.proofs.SeveralLinks.{none-granted}
 -- ---- marks up to a slot, by those below another and those of two frames
 
 -- flow i's mark, of a slot below b
-abbrev below : ℕ → ℕ → Mark → Bool
+abbrev pub below : ℕ → ℕ → Mark → Bool
 below i b m = ofFlow i m && ltb (m .slot) b
 
 pub all-of : {A : Type 0} (R : A → Type 0) → ((x : A) → R x) → (xs : List A) → All R xs
@@ -67,16 +67,16 @@ module _ (P : Plan) (i s b a : ℕ) where
   two-frames [] two = omega arith
   two-frames (m ∷ ms) two = omega (arith, one-mark m (two .0), two-frames ms (two .1))
 
-up-to-more : (i u s : ℕ) → u ≤ s → (ms : List Mark) → tally (upTo i u) ms ≤ tally (upTo i s) ms
+pub up-to-more : (i u s : ℕ) → u ≤ s → (ms : List Mark) → tally (upTo i u) ms ≤ tally (upTo i s) ms
 up-to-more i u s le = tally-le (upTo i u) (upTo i s) more
   where
     more : (m : Mark) → upTo i u m ≡ true → upTo i s m ≡ true
     more m e = let both = and-true (ofFlow i m) (leb (m .slot) u) e in rw (both .0) (le-leb (m .slot) s (omega (arith, leb-true (m .slot) u (both .1))))
 
-below-none : (i : ℕ) (ms : List Mark) → tally (below i 0) ms ≡ 0
+pub below-none : (i : ℕ) (ms : List Mark) → tally (below i 0) ms ≡ 0
 below-none i ms = tally-none (below i 0) ms (all-of _ (λ m. rw (le-ltb (m .slot) 0 (omega arith)) (and-false (ofFlow i m))) ms)
 
-below-up-to : (i s : ℕ) (ms : List Mark) → tally (below i (suc s)) ms ≤ tally (upTo i s) ms
+pub below-up-to : (i s : ℕ) (ms : List Mark) → tally (below i (suc s)) ms ≤ tally (upTo i s) ms
 below-up-to i s = tally-le (below i (suc s)) (upTo i s) up
   where
     up : (m : Mark) → below i (suc s) m ≡ true → upTo i s m ≡ true

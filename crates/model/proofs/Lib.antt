@@ -84,7 +84,8 @@ pub mod NextLink
 pub mod SeveralLinks
 pub mod EnoughCells
 pub mod CreditsInTime
-pub mod TwoShares
+pub mod HeldByFrames
+pub mod SharesOfCells
 pub mod LinksOnArrival
 pub mod BooksInOrder
 pub mod Ahead
@@ -101,6 +102,8 @@ pub mod SendsAhead
 pub mod AheadOverLinks
 pub mod AheadInOrder
 pub mod InTurnWithout
+pub mod Source
+pub mod FromSource
 pub mod Outlines
 -- edges, cards that demand 3 sends back, streams that meet the premise of the least count, and what its premises on words are for
 pub mod Unfoldings
@@ -132,3 +135,4 @@ pub mod CellsNeeded
 pub mod OnArrivalExample
 pub mod LessAhead
 pub mod BadSendings
+pub mod SourceExample

@@ -15,7 +15,7 @@ use Rattle.model.specs.Card.{paper}
 use Rattle.model.specs.Delay.{currentFrame, madeIn, dueIn, GrantedSoonAt, TimelyInOrder, Modest, ServedAt}
 use Rattle.model.specs.SeveralLinks.{ForNext, AsksForNext, Alone, AskedAt, Together, start, both-tick, first-alone, second-alone}
 use Rattle.model.specs.SeveralLinks.{Ran, Board, planOn, Joined, Way}
-use Rattle.model.specs.EnoughCells.{KeepsTwoShares}
+use Rattle.model.specs.SharesOfCells.{KeepsShares}
 use Rattle.model.specs.LinksOnArrival.{AsksOnArrival, JoinedOnArrival, WayOnArrival, OverLinksOnArrival}
 use Rattle.model.proofs.Tallies.{tally-append}
 use Rattle.model.proofs.Slots.{current-in-window}
@@ -29,7 +29,8 @@ use Rattle.model.proofs.GrantsInOrder.{FrameInOrderAt}
 use Rattle.model.proofs.NextLink.{each-since, counts-at, few-due, Shared, shared, modest-on-next}
 use Rattle.model.proofs.SeveralLinks.{ok, none, runs-have, happened, ordered, words, over-links}
 use Rattle.model.proofs.EnoughCells.{BeginningsRan, beginnings-ran}
-use Rattle.model.proofs.TwoShares.{room-next, modest-of, timely-at-each}
+use Rattle.model.proofs.HeldByFrames.{room-next}
+use Rattle.model.proofs.SharesOfCells.{modest-of, timely-at-each}
 
 module _ (a b : Board paper) (joined : JoinedOnArrival a b) where
   abbrev P : Plan
@@ -87,7 +88,7 @@ module _ (a b : Board paper) (joined : JoinedOnArrival a b) where
 
   -- ---- a request on arrival
 
-  module _ (h₁ h₂ : History) (k : Known h₁ h₂) (ran : Ran paper Q h₂) (s : SoFar h₁ h₂) (w : ℕ) (x : AsksOnArrival P Q i j h₁ w h₂) where
+  module _ (h₁ h₂ : History) (k : Known h₁ h₂) (ran : Ran paper Q h₂) (s : SoFar h₁ h₂) (w : ℕ) (x : AsksOnArrival (joined .late) P Q i j h₁ w h₂) where
     for-next : ForNext P Q i j h₁ w h₂
     for-next = record { sent = x .sent; departs = x .departs; not-late = omega (arith, x .comes-now) }
 
@@ -121,14 +122,14 @@ module _ (a b : Board paper) (joined : JoinedOnArrival a b) where
       for-next = for-next;
       in-time = omega (arith, ap (frameOf Q) (x .comes-now), ok b .two-frames);
       room =
-          rw (x .comes-now) (room-next (ok b) j (b .known) h₂ (k .none₂) soon (x .credited) (k .not-lent₂) (counts-at (ok b) h₂ (k .happened₂))
-          (omega (arith, joined .two-shares)) few);
+          rw (x .comes-now) (room-next (ok b) j (b .known) (joined .late) h₂ (k .none₂) soon (x .given-back) (k .not-lent₂) (counts-at (ok b) h₂ (k .happened₂))
+          (omega (arith, joined .enough-cells)) few);
       number = x .number;
     }
 
   -- ---- both histories
 
-  second-more : (h₁ h₂ : History) (e : Event) → Alone e → AskedAt P Q i j (AsksOnArrival P Q i j) h₁ e h₂ → Known h₁ (e ∷ h₂) → SoFar h₁ h₂
+  second-more : (h₁ h₂ : History) (e : Event) → Alone e → AskedAt P Q i j (AsksOnArrival (joined .late) P Q i j) h₁ e h₂ → Known h₁ (e ∷ h₂) → SoFar h₁ h₂
       → SoFar h₁ (e ∷ h₂)
   second-more h₁ h₂ (requested w r) alone asks k s =
       let before = second-back (requested w r) k in
@@ -142,7 +143,7 @@ module _ (a b : Board paper) (joined : JoinedOnArrival a b) where
   second-more h₁ h₂ (lent m r) alone asks k s = record { together = second-alone (lent m r) alone tt (s .together); come = (tt, s .come) }
   second-more h₁ h₂ (Event.reset r) alone asks k s = record { together = second-alone (Event.reset r) alone tt (s .together); come = (tt, s .come) }
 
-  with-room : {h₁ h₂ : History} → Together P Q i j (AsksOnArrival P Q i j) h₁ h₂ → Known h₁ h₂ → SoFar h₁ h₂
+  with-room : {h₁ h₂ : History} → Together P Q i j (AsksOnArrival (joined .late) P Q i j) h₁ h₂ → Known h₁ h₂ → SoFar h₁ h₂
   with-room start k = record { together = start; come = tt }
   with-room (both-tick {x₁ = x₁} {x₂ = x₂} t) k =
       let s = with-room t (second-back (ticked x₂) (first-back (ticked x₁) k)) in
@@ -170,18 +171,18 @@ module _ (a b : Board paper) (joined : JoinedOnArrival a b) where
         }) .together;
   }
 
-way-with-room : (a : Board paper) (rest : List (Board paper)) → WayOnArrival a rest → Way a rest
+pub way-with-room : (a : Board paper) (rest : List (Board paper)) → WayOnArrival a rest → Way a rest
 way-with-room a [] way = tt
 way-with-room a (b ∷ rest) way = (joined-with-room a b (way .0), way-with-room b rest (way .1))
 
 -- on the first board it is modest
-modest-first : (a : Board paper) → KeepsTwoShares 0 (planOn a) (a .stream) (a .events) → Modest TimelyInOrder 0 (planOn a) (a .stream) (a .events)
-modest-first a x =
+pub modest-first : (late : ℕ) (a : Board paper) → KeepsShares late 0 (planOn a) (a .stream) (a .events) → Modest TimelyInOrder 0 (planOn a) (a .stream) (a .events)
+modest-first late a x =
     let ran = runs-have a (BeginningsRan (planOn a)) (beginnings-ran (planOn a) (ok a)) in
-    modest-of (ok a) (a .stream) (a .known) (a .events) (words a) (none a) (x .asks)
-    (timely-at-each (ok a) (a .stream) (a .known) (a .events) (words a) (none a) (x .asks) ran (happened a) (x .not-lent) (x .two-shares))
+    modest-of (ok a) (a .stream) (a .known) late (a .events) (words a) (none a) (x .asks)
+    (timely-at-each (ok a) (a .stream) (a .known) late (a .events) (words a) (none a) (x .asks) ran (happened a) (x .not-lent) (x .enough-cells))
 
 pub over-links-on-arrival : OverLinksOnArrival paper
-over-links-on-arrival a rest way =
+over-links-on-arrival late a rest way =
     let x = over-links a rest (way-with-room a rest way) in
-    record { granted = x .granted; from-first = x .from-first; from-due = λ keeps. x .from-due (modest-first a keeps) }
+    record { granted = x .granted; from-first = x .from-first; from-due = λ keeps. x .from-due (modest-first late a keeps) }

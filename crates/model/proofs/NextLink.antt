@@ -98,7 +98,7 @@ as-many P i (Event.reset a ∷ h) = as-many P i h
 
 -- ---- on the first link, frames are in the order of the tiles
 
-abbrev Descending : Plan → List ℕ → Type 0
+abbrev pub Descending : Plan → List ℕ → Type 0
 Descending P [] = Unit {0}
 Descending P (s ∷ older) = ((f : ℕ) → frameOf P s < f → tally (ofFrame P f) older ≡ 0) × Descending P older
 

@@ -11,11 +11,11 @@ use Rattle.model.specs.History.{renews}
 use Rattle.model.specs.Card.{paper}
 use Rattle.model.specs.PlanBytes.{plan1}
 use Rattle.model.specs.SeveralLinks.{slotsOf, dues, tile, start, both-tick, first-alone, second-alone, Ran, Board, planOn, dueOn, EachWithin}
-use Rattle.model.specs.EnoughCells.{KeepsTwoShares}
+use Rattle.model.specs.SharesOfCells.{KeepsShares}
 use Rattle.model.specs.LinksOnArrival.{WayOnArrival}
 use Rattle.model.proofs.Decidable.{proved}
 use Rattle.model.proofs.DelayDecided.{delays-compute}
-use Rattle.model.proofs.CellsNeeded.{in-turn, keeps-two-shares}
+use Rattle.model.proofs.CellsNeeded.{given-back, keeps-shares}
 use Rattle.model.proofs.LinksOnArrival.{over-links-on-arrival}
 
 -- F = 2, W = 2, one flow with share 1 and 2 cells
@@ -60,11 +60,12 @@ abbrev pub second : Board paper
 second = record { bytes = bytes; passes = passes; events = events₂; ran = ran₂; no-reset = none₂; stream = 0; known = known }
 
 pub way-there : WayOnArrival first (second ∷ [])
-unfolding delays-compute in-turn slotsOf dues tile
+unfolding delays-compute given-back slotsOf dues tile
 way-there = (
   record {
     in-step = record { slots = refl; frames = refl };
     share-kept = lit≤ tt;
+    late = 0;
     together =
         second-alone (requested 0x24000001 (accepted 0x24000002)) tt
         (λ well own. record {
@@ -72,18 +73,18 @@ way-there = (
           departs = refl;
           comes-now = refl;
           number = refl;
-          credited = proved (in-turn (planOf bytes) 0 0x24000001 (ticked none ∷ [])) tt .credited;
+          given-back = proved (given-back 0 (planOf bytes) (lit< tt) 0 (ticked none ∷ [])) tt;
         })
         (first-alone (credited 0 2 (accepted tt)) tt (both-tick (first-alone (requested 0x24000000 (accepted 0x24000001)) tt start)));
-    two-shares = lit≤ tt;
+    enough-cells = lit≤ tt;
     not-lent = refl;
   },
   tt,
 )
 
-pub two-shares-there : KeepsTwoShares 0 (planOf bytes) 0 events₁
-unfolding delays-compute in-turn keeps-two-shares
-two-shares-there = proved (keeps-two-shares 0 (planOf bytes) 0 events₁) tt
+pub two-shares-there : KeepsShares 0 0 (planOf bytes) 0 events₁
+unfolding delays-compute given-back keeps-shares
+two-shares-there = proved (keeps-shares 0 0 (planOf bytes) (lit< tt) 0 events₁) tt
 
 pub both-within : EachWithin 1 (planOn first) (dueOn first) (first ∷ second ∷ [])
-both-within = over-links-on-arrival first (second ∷ []) way-there .from-due two-shares-there
+both-within = over-links-on-arrival 0 first (second ∷ []) way-there .from-due two-shares-there

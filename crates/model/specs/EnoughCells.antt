@@ -1,5 +1,5 @@
--- How many cells a stream needs that asks on arrival: with two shares of them each request is granted in its frame or the next, and with more it has room
--- in every slot at every request. It names no link, only calls and answers. Assumes nothing.
+-- With more than two shares of cells a stream that asks on arrival has room in every slot at every request. It names no link, only calls and answers.
+-- Assumes nothing.
 --
 -- Its cells are given back in time if, whenever it asks, the credits that are dated up to the end of the next frame after a slot that is gone are at
 -- least its grants up to that slot. So it is where the cell of each tile is credited in the slot in which the tile comes up, dated a slot of that frame
@@ -12,12 +12,12 @@ use lib.Dec.{leb, eqb}
 use Rattle.model.specs.Tables.{tally}
 use Rattle.model.specs.Word.{flowOf, quantumOf, departureOf}
 use Rattle.model.specs.Plan.{Plan, flowCount, entry, planOf, refusal}
-use Rattle.model.specs.Calls.{Call, Grant, Event, History, requested, credited, ticked, lent, accepted, refused}
+use Rattle.model.specs.Calls.{Call, Event, History, requested, credited, ticked, lent, accepted, refused}
 use Rattle.model.specs.History.{ticks, slotAfter, frameOf, wellFormed, hasCome, renews, grants, lends, ofFlow, atSlot, grantedUpTo, creditedUpTo}
 use Rattle.model.specs.History.{expectedNumber}
 use Rattle.model.specs.Claim.{Each, AtRequest, ReadyAt}
 use Rattle.model.specs.Card.{Card, run}
-use Rattle.model.specs.Delay.{currentFrame, madeIn, AtAnswer, GrantedSoon}
+use Rattle.model.specs.Delay.{madeIn}
 
 -- the last slot of frame f
 abbrev pub lastOf : Plan → ℕ → ℕ
@@ -80,35 +80,3 @@ EnoughCellsBy short c =
 -- That the paper's card keeps it is `enough-cells`, in proofs/EnoughCells.antt.
 abbrev pub EnoughCells : Card → Type 0
 EnoughCells = EnoughCellsBy 0
-
--- ---- with two shares of cells
-
--- the same, of a stream that asks only while fewer than its share of grants were made in this frame
-pub record AsksWithinShare (P : Plan) (i w : ℕ) (h : History) : Type 0 where
-  pub in-turn : AsksInTurn P i w h
-  pub few : madeIn P h i (currentFrame P h) < entry P i .share
-
-pub record KeepsTwoShares (short : ℕ) (P : Plan) (i : ℕ) (h : History) : Type 0 where
-  pub asks : Each (AtRequest (λ w h. wellFormed P w ≡ true → flowOf w ≡ i → AsksWithinShare P i w h)) h
-  pub two-shares : 2 * entry P i .share ≤ entry P i .cells + short
-  pub not-lent : tally (ofFlow i) (lends h) ≡ 0
-  pub no-reset : tally renews h ≡ 0
-
--- the request is granted, in this frame or the next
-abbrev pub GrantedNow : Plan → Grant → History → Type 0
-GrantedNow P (accepted v) h = GrantedSoon P (slotAfter P (ticks h) (departureOf v)) h
-GrantedNow P (refused r) h = ⊥
-
-abbrev pub EachGrantedNow : Plan → ℕ → History → Type 0
-EachGrantedNow P i = Each (AtAnswer (λ w a h. wellFormed P w ≡ true → flowOf w ≡ i → GrantedNow P a h))
-
--- Room may be missing in slots of the current frame, and still each request is granted so. That the paper's card keeps it is `two-shares`, in
--- proofs/TwoShares.antt.
-abbrev pub TwoSharesBy : (short : ℕ) → Card → Type 0
-TwoSharesBy short c =
-    (bytes : List ℕ) → refusal bytes ≡ 0 → (calls : List Call) (i : ℕ) → i < flowCount (planOf bytes)
-    → KeepsTwoShares short (planOf bytes) i (run c (planOf bytes) calls .history)
-    → EachGrantedNow (planOf bytes) i (run c (planOf bytes) calls .history)
-
-abbrev pub TwoShares : Card → Type 0
-TwoShares = TwoSharesBy 0

@@ -37,6 +37,7 @@ pub mod Delay
 pub mod LessTimely
 pub mod SeveralLinks
 pub mod EnoughCells
+pub mod SharesOfCells
 pub mod LinksOnArrival
 pub mod BooksInOrder
 pub mod Ahead
@@ -44,6 +45,7 @@ pub mod AheadRuns
 pub mod Sendings
 pub mod AheadOverLinks
 pub mod LessAhead
+pub mod Source
 -- worked examples, and cards that are sent back
 pub mod PlanBytes
 pub mod EdgeCases

@@ -1,6 +1,6 @@
--- Several links, where the stream asks on each for a tile in the slot in which it comes: with two shares of cells that are given back in time, room is
--- no premise. It names no link's state, only calls and answers. Assumes nothing.
-use Prim.Native.Nat.{ℕ, _*_, _%_, _≤_, _<_}
+-- Several links, where the stream asks on each for a tile in the slot in which it comes: with shares of cells by how late they are given back, room is no
+-- premise. It names no link's state, only calls and answers. Assumes nothing.
+use Prim.Native.Nat.{ℕ, _+_, _*_, _%_, _≤_, _<_}
 use mathlib.Core.Path.{_≡_}
 use mathlib.Core.List.{List, _∷_, []}
 use lib.ListN.{length}
@@ -12,30 +12,33 @@ use Rattle.model.specs.History.{ticks, lends, ofFlow, expectedNumber}
 use Rattle.model.specs.Card.{Card}
 use Rattle.model.specs.TwoHops.{InStep}
 use Rattle.model.specs.SeveralLinks.{sentSlots, nextTile, nextSlot, Together, Board, planOn, OnTime}
-use Rattle.model.specs.EnoughCells.{CreditedInTime, KeepsTwoShares}
+use Rattle.model.specs.SharesOfCells.{GivenBack, KeepsShares}
 
 -- After h₁ and h₂ word w asks on the second board for flow j's next tile, in the slot in which it comes up on the first.
-pub record AsksOnArrival (P Q : Plan) (i j : ℕ) (h₁ : History) (w : ℕ) (h₂ : History) : Type 0 where
+pub record AsksOnArrival (late : ℕ) (P Q : Plan) (i j : ℕ) (h₁ : History) (w : ℕ) (h₂ : History) : Type 0 where
   pub sent : nextTile P Q i j h₂ < length (sentSlots P h₁ i)
   pub departs : departureOf w ≡ nextSlot P Q i j h₁ h₂ % positions Q
   pub comes-now : nextSlot P Q i j h₁ h₂ ≡ ticks h₂
   pub number : quantumOf w ≡ expectedNumber Q h₂ j
-  pub credited : CreditedInTime Q j h₂
+  pub given-back : GivenBack late Q j h₂
 
 -- b is the next board after a
 pub record JoinedOnArrival {c : Card} (a b : Board c) : Type 0 where
   pub in-step : InStep (planOn a) (planOn b)
   pub share-kept : entry (planOn a) (a .stream) .share ≤ entry (planOn b) (b .stream) .share
+  -- how late cells are given back on b
+  pub late : ℕ
   pub together :
-      Together (planOn a) (planOn b) (a .stream) (b .stream) (AsksOnArrival (planOn a) (planOn b) (a .stream) (b .stream)) (a .events) (b .events)
-  pub two-shares : 2 * entry (planOn b) (b .stream) .share ≤ entry (planOn b) (b .stream) .cells
+      Together (planOn a) (planOn b) (a .stream) (b .stream) (AsksOnArrival late (planOn a) (planOn b) (a .stream) (b .stream)) (a .events) (b .events)
+  pub enough-cells : (late + 2) * entry (planOn b) (b .stream) .share ≤ entry (planOn b) (b .stream) .cells
   pub not-lent : tally (ofFlow (b .stream)) (lends (b .events)) ≡ 0
 
 abbrev pub WayOnArrival : {c : Card} → Board c → List (Board c) → Type 0
 WayOnArrival a [] = Unit {0}
 WayOnArrival a (b ∷ rest) = JoinedOnArrival a b × WayOnArrival b rest
 
--- Where the stream keeps two shares of cells on the first board too, it is modest there. That the paper's card keeps it is `over-links-on-arrival`, in
+-- Where the stream keeps such shares of cells on the first board too, it is modest there. That the paper's card keeps it is `over-links-on-arrival`, in
 -- proofs/LinksOnArrival.antt.
 abbrev pub OverLinksOnArrival : Card → Type 0
-OverLinksOnArrival c = (a : Board c) (rest : List (Board c)) → WayOnArrival a rest → OnTime (KeepsTwoShares 0 (planOn a) (a .stream) (a .events)) a rest
+OverLinksOnArrival c =
+    (late : ℕ) (a : Board c) (rest : List (Board c)) → WayOnArrival a rest → OnTime (KeepsShares late 0 (planOn a) (a .stream) (a .events)) a rest

@@ -1,0 +1,62 @@
+-- What the numbers of `bounds` say of streams on a card: the slots in which a tile arrives over several links, and the cells that keep each request
+-- granted. Of calls and answers alone, as the model's promises are. Assumes nothing.
+use Prim.Native.Nat.{ℕ, _+_, _≤_, _<_}
+use mathlib.Core.Path.{_≡_}
+use mathlib.Core.List.{List, _∷_, []}
+use mathlib.Core.Bool.{true}
+use lib.ListN.{length}
+use Rattle.model.specs.Tables.{tally}
+use Rattle.model.specs.Word.{flowOf}
+use Rattle.model.specs.Plan.{Plan, entry, flowCount, planOf, refusal}
+use Rattle.model.specs.Calls.{Call, History}
+use Rattle.model.specs.History.{frameOf, wellFormed, renews, lends, ofFlow}
+use Rattle.model.specs.Claim.{Each, AtRequest}
+use Rattle.model.specs.Card.{Card, run}
+use Rattle.model.specs.SeveralLinks.{tile, Board, planOn, sentOn}
+use Rattle.model.specs.SharesOfCells.{AsksWithinShare, KeepsShares, EachGrantedNow}
+use Rattle.model.specs.LinksOnArrival.{WayOnArrival}
+use Rattle.model.specs.Source.{upToFrame, Source, Bursts, AsksAs}
+use Rattle.delay.specs.Bounds.{Bounds, bounds}
+
+-- ---- the slots
+
+-- the last board of a way
+abbrev pub lastBoard : {c : Card} → Board c → List (Board c) → Board c
+lastBoard a [] = a
+lastBoard a (b ∷ rest) = lastBoard b rest
+
+abbrev pub shareOn : {c : Card} → Board c → ℕ
+shareOn b = entry (planOn b) (b .stream) .share
+
+-- A tile that came to the source in slot x comes up on board b at most so many slots later.
+abbrev pub ArrivesWithin : {c : Card} → (slots : ℕ) (comes : ℕ → ℕ) → Board c → Type 0
+ArrivesWithin slots comes b = (n x : ℕ) → n < length (sentOn b) → n < upToFrame comes (frameOf (planOn b) x) → tile n (sentOn b) ≤ x + slots
+
+-- The slots of `bounds` are such a number, for the boards of the way as its links. That the paper's card keeps it is `bound-is`, in proofs/Promised.antt.
+abbrev pub BoundIs : Card → Type 0
+BoundIs c =
+    (late : ℕ) (a : Board c) (rest : List (Board c)) → WayOnArrival a rest → KeepsShares late 0 (planOn a) (a .stream) (a .events)
+    → (burst : ℕ) (comes asks : ℕ → ℕ) → Source (shareOn a) comes asks → Bursts (shareOn a) burst comes → AsksAs asks (planOn a) (a .stream) (a .events)
+    → ArrivesWithin (bounds (planOn a .slots) (length (a ∷ rest)) (shareOn a) burst .slots) comes (lastBoard a rest)
+
+-- ---- the cells
+
+-- what is asked of flow i but for its cells
+pub record Asks (late : ℕ) (P : Plan) (i : ℕ) (h : History) : Type 0 where
+  pub each : Each (AtRequest (λ w h. wellFormed P w ≡ true → flowOf w ≡ i → AsksWithinShare late P i w h)) h
+  pub not-lent : tally (ofFlow i) (lends h) ≡ 0
+  pub no-reset : tally renews h ≡ 0
+
+-- Where its cells are given back `late` frames late, `need` of `bounds` are enough, whatever F, the links and the burst are.
+abbrev pub CellsAre : (late : ℕ) (need : Bounds → ℕ) → Card → Type 0
+CellsAre late need c =
+    (bytes : List ℕ) → refusal bytes ≡ 0 → (calls : List Call) (i : ℕ) → i < flowCount (planOf bytes)
+    → (F m burst : ℕ) → need (bounds F m (entry (planOf bytes) i .share) burst) ≤ entry (planOf bytes) i .cells
+    → Asks late (planOf bytes) i (run c (planOf bytes) calls .history) → EachGrantedNow (planOf bytes) i (run c (planOf bytes) calls .history)
+
+-- as each tile comes up, and when it was shown: `cells-are` and `shown-are`, in proofs/Promised.antt
+abbrev pub CellsSuffice : Card → Type 0
+CellsSuffice = CellsAre 0 (λ b. b .cells)
+
+abbrev pub ShownSuffice : Card → Type 0
+ShownSuffice = CellsAre 1 (λ b. b .shown)

@@ -1,0 +1,75 @@
+"""The verdict on a way: rules 22.6 and 22.7, checked from the call files and
+the listings of its links alone.
+
+Each tile has to be granted on each link, on link number j at the latest j
+frames after the one in which it was due on the first, and fewer than
+(j + 1) x F slots after that slot.
+"""
+
+from ways.board import read
+
+
+class Verdict:
+    def __init__(self):
+        self.faults = []
+        self.links = 0
+        self.tiles = 0          # that left the last link
+        self.ahead = 0          # requests for tiles that were still to come
+        self.attained = False   # a tile took all the slots of the bound
+
+
+def request_faults(place, board):
+    for number, tile in enumerate(board.tiles):
+        if tile.refusal is not None:
+            yield "link %d: tile %d is refused with %s" % (
+                place, number, tile.refusal)
+
+
+def passing_faults(place, before, board):
+    """Each tile is asked for with the slot in which it comes, from the grant
+    on the link before up to that slot; and none is left out."""
+    asked = board.tiles
+    for number, (sent, tile) in enumerate(zip(before.sent(), asked)):
+        if (tile.departure != sent.slot % board.total
+                or not sent.asked <= tile.asked <= sent.slot):
+            yield "link %d: tile %d comes in slot %d, and is asked for in " \
+                "slot %d with departure %s" % (
+                    place, number, sent.slot, tile.asked, tile.departure)
+    come = [tile for tile in before.sent() if tile.slot <= board.now]
+    if len(asked) < len(come):
+        yield "link %d: %d tiles came, and %d were asked for" % (
+            place, len(come), len(asked))
+
+
+def late_faults(place, first, board):
+    frame = board.frame_slots
+    for number, (tile, start) in enumerate(zip(board.tiles, first.tiles)):
+        if tile.slot is None:
+            continue
+        frames = tile.slot // frame - start.due // frame
+        if frames > place or tile.slot - start.due >= (place + 1) * frame:
+            yield "link %d: tile %d comes up %d slots after it is due, in " \
+                "frame %d after that" % (
+                    place, number, tile.slot - start.due, frames)
+
+
+def judge(flows, runs):
+    """On the stream that is these flows, one of each link; a run is a call
+    file and its lines."""
+    verdict = Verdict()
+    boards = [read(*run, flow, verdict) for flow, run in zip(flows, runs)]
+    first, last = boards[0], boards[-1]
+    for place, board in enumerate(boards, 1):
+        verdict.faults += request_faults(place, board)
+        verdict.faults += late_faults(place, first, board)
+        verdict.ahead += sum(tile.due > tile.asked for tile in board.tiles)
+    for place, pair in enumerate(zip(boards, boards[1:]), 2):
+        verdict.faults += passing_faults(place, *pair)
+    verdict.links = len(boards)
+    verdict.tiles = len(last.sent())
+    bound = (len(boards) + 1) * last.frame_slots - 1
+    verdict.attained = any(
+        tile.slot - start.due == bound
+        for tile, start in zip(last.tiles, first.tiles)
+        if tile.slot is not None)
+    return verdict
