@@ -1,5 +1,5 @@
 """Two runs from one plan, in the second of which tiles are sent ahead of their
-booked slots (rules 23.1 to 23.8).
+booked slots (rules 24.1 to 24.8).
 
 The second has the calls of the first in their places, and pairs besides: a
 lend that is answered with a flow, and a credit of that flow, taken, dated a

@@ -1,5 +1,5 @@
-"""The verdict on two runs, the second with tiles sent ahead: rules 23.5 to
-23.8, checked from two call files and two listings alone."""
+"""The verdict on two runs, the second with tiles sent ahead: rules 24.4 to
+24.7, checked from two call files and two listings alone."""
 
 from collections import Counter
 

@@ -1,7 +1,7 @@
 """Edges in pairs, for allcalls: runs from one plan, the second with tiles sent
 ahead of their booked slots by a lend and a credit.
 
-The first ones meet the premises of rule 23.5; two break one each, and bookings
+The first ones meet the premises of rule 24.5; two break one each, and bookings
 move; and the last send what may not be sent.
 """
 

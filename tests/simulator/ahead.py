@@ -1,4 +1,4 @@
-"""Sending ahead: rules 23.1 to 23.6.
+"""Sending ahead: rules 24.1 to 24.3.
 
 The calls are a lend and a credit, and nothing is new in the link.  What is
 kept besides are a board's tiles: what was booked for which slot, when it

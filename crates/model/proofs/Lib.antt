@@ -87,6 +87,8 @@ pub mod CreditsInTime
 pub mod HeldByFrames
 pub mod SharesOfCells
 pub mod LinksOnArrival
+pub mod Source
+pub mod FromSource
 pub mod BooksInOrder
 pub mod Ahead
 pub mod Replays
@@ -102,8 +104,6 @@ pub mod SendsAhead
 pub mod AheadOverLinks
 pub mod AheadInOrder
 pub mod InTurnWithout
-pub mod Source
-pub mod FromSource
 pub mod Outlines
 -- edges, cards that demand 3 sends back, streams that meet the premise of the least count, and what its premises on words are for
 pub mod Unfoldings
@@ -133,6 +133,6 @@ pub mod BadDelays
 pub mod SlowCards
 pub mod CellsNeeded
 pub mod OnArrivalExample
+pub mod SourceExample
 pub mod LessAhead
 pub mod BadSendings
-pub mod SourceExample

@@ -39,13 +39,13 @@ pub mod SeveralLinks
 pub mod EnoughCells
 pub mod SharesOfCells
 pub mod LinksOnArrival
+pub mod Source
 pub mod BooksInOrder
 pub mod Ahead
 pub mod AheadRuns
 pub mod Sendings
 pub mod AheadOverLinks
 pub mod LessAhead
-pub mod Source
 -- worked examples, and cards that are sent back
 pub mod PlanBytes
 pub mod EdgeCases
