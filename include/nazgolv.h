@@ -167,6 +167,16 @@ uint64_t nazgolv_tick(uint8_t *image, size_t image_length);
 uint64_t nazgolv_lend(uint8_t *image, size_t image_length, uint16_t mask);
 
 /*
+ * To send a tile ahead of its booked slot: in a slot that nobody booked, lend to
+ * flows that have a tile which has come and waits for a later position; then
+ * credit the flow that was answered, dated the position that is booked for the
+ * tile, before any other call. That credit is always taken. The tile leaves in
+ * the current slot, and when its position comes up there is nothing to send.
+ * Owners, and with them the slots that others get, stay as they are. The credit
+ * for the tile's cell is another call, when the next board has it free again.
+ */
+
+/*
  * Lets every flow start again in the head frame with its whole share, empties
  * all positions, and lets the next lend look from flow 0. CP, what was held
  * before it, and the quantum numbers stay. A current slot that was booked or marked taken is marked until
