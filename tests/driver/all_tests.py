@@ -22,10 +22,11 @@ from driver.tally import (
 from driver.way_suite import WaySuite
 from edges import questions, refusals_page
 from edges.all_edges import ALLCALLS_EDGES, EDGES
-from front_door import architecture_page, decisions_page, doc_names
 from front_door import (
-    asking_editor, calls_text, check_ahead, check_log, checklist_page, comparison_page,
-    flights, help_pages, man_pages, must_fail_edits, old_program, page_sizes,
+    architecture_page, bench_ahead, decisions_page, doc_names)
+from front_door import (
+    asking_editor, calls_text, check_ahead, check_log, checklist_page,
+    comparison_page, flights, help_pages, man_pages, must_fail_edits, old_program, page_sizes,
     performance_page, picture_errors,
     picture_pages, picture_scripts, picture_sizes, picture_view, pictures,
     plan_check, plan_culprits, plan_delays, plan_files, plan_lost_output,
@@ -47,8 +48,8 @@ FRONT_DOOR = (
     plan_week, plan_wrong_words, plan_lost_output, check_log,
     check_ahead, flights,
     old_program, slow_reader, asking_editor, wrong_arguments,
-    tests_lost_output, performance_page, page_sizes, must_fail_edits,
-    progress, versions, help_pages, man_pages, readme, rules_page, remedies,
+    tests_lost_output, bench_ahead, performance_page, page_sizes,
+    must_fail_edits, progress, versions, help_pages, man_pages, readme, rules_page, remedies,
     checklist_page, comparison_page)
 
 
