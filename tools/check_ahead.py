@@ -22,7 +22,7 @@ class Stream:
     def __init__(self):
         self.waiting = deque()      # slots of tiles that have not left
         self.left = {}              # booked slot -> the slot it left in
-        self.gains = []             # booked slot less leaving slot, if not late
+        self.gains = []             # slots, of those that left in time
 
     def first_leaves(self, slot):
         """The first tile that waits leaves; its booked slot, or None."""

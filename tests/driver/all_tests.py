@@ -26,11 +26,11 @@ from front_door import (
     architecture_page, bench_ahead, decisions_page, doc_names)
 from front_door import (
     asking_editor, calls_text, check_ahead, check_log, checklist_page,
-    comparison_page, flights, help_pages, man_pages, must_fail_edits, old_program, page_sizes,
-    performance_page, picture_errors,
-    picture_pages, picture_scripts, picture_sizes, picture_view, pictures,
-    plan_check, plan_culprits, plan_delays, plan_files, plan_lost_output,
-    plan_read, plan_week, plan_wrong_words, play_explain, play_files, play_lost_output,
+    comparison_page, flights, help_pages, man_pages, must_fail_edits,
+    old_program, page_sizes, performance_page, picture_errors, picture_pages,
+    picture_scripts, picture_sizes, picture_view, pictures, plan_check,
+    plan_culprits, plan_delays, plan_files, plan_lost_output, plan_read,
+    plan_week, plan_wrong_words, play_explain, play_files, play_lost_output,
     play_options, play_states, progress, readme, remedies, rules_page,
     singular, slow_reader, tests_lost_output, versions, wrong_arguments)
 from front_door import desk_page, page_links, program_stacks, proved_page
@@ -40,17 +40,15 @@ from ways import wrong_ways
 
 PAGES = (proved_page, program_stacks, desk_page, page_links)
 FRONT_DOOR = (
-    decisions_page, architecture_page, doc_names,
-    play_files, play_lost_output, play_explain, play_options, play_states,
-    pictures, picture_sizes, picture_pages, picture_scripts, picture_view,
-    picture_errors, singular, calls_text, plan_files, plan_culprits, plan_read,
-    plan_check, plan_delays,
-    plan_week, plan_wrong_words, plan_lost_output, check_log,
-    check_ahead, flights,
-    old_program, slow_reader, asking_editor, wrong_arguments,
+    decisions_page, architecture_page, doc_names, play_files, play_lost_output,
+    play_explain, play_options, play_states, pictures, picture_sizes,
+    picture_pages, picture_scripts, picture_view, picture_errors, singular,
+    calls_text, plan_files, plan_culprits, plan_read, plan_check, plan_delays,
+    plan_week, plan_wrong_words, plan_lost_output, check_log, check_ahead,
+    flights, old_program, slow_reader, asking_editor, wrong_arguments,
     tests_lost_output, bench_ahead, performance_page, page_sizes,
-    must_fail_edits, progress, versions, help_pages, man_pages, readme, rules_page, remedies,
-    checklist_page, comparison_page)
+    must_fail_edits, progress, versions, help_pages, man_pages, readme,
+    rules_page, remedies, checklist_page, comparison_page)
 
 
 def wanted(names, only):

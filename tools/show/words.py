@@ -111,9 +111,9 @@ class Words:
     def sent_ahead(self, step, answer):
         """What a credit and the lend before it come to, where that was
         answered with its flow, which has booked the slot of its date."""
-        before = self.replay.steps[step.number - 2] if step.number > 1 else None
+        before = self.replay.steps[max(step.number - 2, 0)]
         state = self.replay.states[step.number]
-        if (before is None or before.call.kind != "lend"
+        if (before.call.kind != "lend"
                 or before.answers[0].flow != answer.flow
                 or state.owners[answer.slot - state.slots[0]] != answer.flow):
             return ""
