@@ -17,21 +17,22 @@ from ways.check import judge
 class WayCase:
     """A way, with the right listing of each link."""
 
-    def __init__(self, links, listings, words=None, may_break=False,
-                 trouble=None):
+    def __init__(self, links, listings, words=None, trouble=None):
         self.flows = [flow for flow, _ in links]
         self.files = [data for _, data in links]
         self.listings = listings
         self.words = words              # of the fault that has to be told
-        self.may_break = may_break      # too few cells
         self.trouble = trouble          # what is wrong before it is played
+        self.may_break = False          # too few cells
+        self.came, self.burst = (), 0   # of tiles that come in bursts
         self.known = {}                 # verdicts, by the listings
 
     def verdict(self, listings):
         """On the way, whichever program wrote its listings."""
         key = tuple(map(tuple, listings))
         if key not in self.known:
-            self.known[key] = judge(self.flows, zip(self.files, listings))
+            self.known[key] = judge(self.flows, zip(self.files, listings),
+                                    self.came, self.burst)
         return self.known[key]
 
     def faults(self, verdict):
@@ -43,12 +44,16 @@ class WayCase:
 
 
 def from_seed(seed):
-    links = way_seeds.generate(seed)
+    way = way_seeds.generate(seed)
+    links = way.links
     listings = [simulate(data, ALLCALLS.kinds) for _, data in links]
     faults = [fault for (_, data), lines in zip(links, listings)
               for fault in check(data, lines, ALLCALLS.checked).faults]
-    return WayCase(links, listings, None, way_seeds.too_few(seed),
+    case = WayCase(links, listings, None,
                    faults and "by a listing, " + faults[0])
+    case.may_break = way_seeds.too_few(seed)
+    case.came, case.burst = way.source.came, way.source.burst
+    return case
 
 
 def from_hand(way):
@@ -57,7 +62,7 @@ def from_hand(way):
               if simulate(link.data, ALLCALLS.kinds) != link.lines]
     return WayCase([(STREAM, link.data) for link in way.links],
                    [link.lines for link in way.links], way.words,
-                   trouble=differ and "the simulator differs: %s" % differ)
+                   differ and "the simulator differs: %s" % differ)
 
 
 def cases(count, seed):

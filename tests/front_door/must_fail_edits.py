@@ -27,7 +27,8 @@ CRATES = {
     "playback": "root", "program": "root", "planwords": "root",
     "meshwords": "root", "sharewords": "root", "extrawords": "root",
     "programmewords": "root", "mesh": "root", "shares": "root",
-    "extras": "root", "programme": "root"}
+    "extras": "root", "programme": "root", "delay": "root",
+    "delaywords": "root"}
 
 # Public functions that others are built from.
 HELPERS = {
@@ -44,7 +45,7 @@ KNOWN = {
     "meshwords": "mesh mesh_over", "sharewords": "count",
     "extrawords": "extras", "programmewords": "programme",
     "mesh": "admit measure", "shares": "count", "extras": "choose",
-    "programme": "plan_at"}
+    "programme": "plan_at", "delay": "delay", "delaywords": "delay"}
 
 
 def sources(crate):

@@ -9,10 +9,12 @@ from front_door.plan_tree import NOT_DONE, in_trees
 from simulator.delay import bounds
 from simulator.plan import read_plan
 
-HEAD = "flow  slots  frames  cells  come up         shown           burst  costs"
+HEAD = ("flow  slots  frames  cells  come up         shown           "
+        "burst  costs")
 WORDS = """\
 slots, frames: what a tile takes on this link at most, if it is asked for on
-  arrival, and in a frame no more tiles of its flow than its share (two-shares)
+  arrival and its flow asks for no more than its share in a frame, has the
+  cells for it, takes no lent slot, and no reset is granted (two-shares)
 come up: cells for that, each credited as its tile comes up at the next board
   (two-shares)
 shown: the same, each credited when its tile was shown, by the end of the next
@@ -24,13 +26,20 @@ burst, costs: so many tiles more than the share cost so many frames more
 # Plans of one flow: F, share and cells beside the flow's line, worked out by
 # hand: 2F - 1 slots, and two and three shares of cells.
 LINES = [
-    (1, 1, 1, "1       2      1  needs 2: no     needs 3: no         1      1"),
-    (1, 1, 2, "1       2      2  needs 2: yes    needs 3: no         1      1"),
-    (1, 1, 3, "1       2      3  needs 2: yes    needs 3: yes        1      1"),
-    (8, 3, 5, "15       2      5  needs 6: no     needs 9: no         3      1"),
-    (8, 3, 6, "15       2      6  needs 6: yes    needs 9: no         3      1"),
-    (8, 3, 8, "15       2      8  needs 6: yes    needs 9: no         3      1"),
-    (8, 3, 9, "15       2      9  needs 6: yes    needs 9: yes        3      1"),
+    (1, 1, 1,
+     "1       2      1  needs 2: no     needs 3: no         1      1"),
+    (1, 1, 2,
+     "1       2      2  needs 2: yes    needs 3: no         1      1"),
+    (1, 1, 3,
+     "1       2      3  needs 2: yes    needs 3: yes        1      1"),
+    (8, 3, 5,
+     "15       2      5  needs 6: no     needs 9: no         3      1"),
+    (8, 3, 6,
+     "15       2      6  needs 6: yes    needs 9: no         3      1"),
+    (8, 3, 8,
+     "15       2      8  needs 6: yes    needs 9: no         3      1"),
+    (8, 3, 9,
+     "15       2      9  needs 6: yes    needs 9: yes        3      1"),
     (64, 64, 255,
      "127       2    255  needs 128: yes  needs 192: yes     64      1"),
     (64, 64, 127,

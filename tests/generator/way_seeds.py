@@ -3,6 +3,7 @@
 from generator import good_plans
 from generator.dice import Dice
 from generator.traffic.on_the_way import Board, Way
+from generator.way_sources import any_source, burst_source, latest_source
 
 # The kinds: the most slots of a frame, the most frames of the window, and the
 # frames in which the source asks.
@@ -13,13 +14,14 @@ KINDS = {
     "latest": (5, 3, 4),
     "single slots": (2, 8, 14),
     "wide": (16, 3, 4),
+    "bursts": (4, 3, 8),
     "a cell too few": (5, 3, 8),
 }
 
 # The kinds of seeds 0, 1, 2 and so on, which then begin again.
 ORDER = ("on arrival", "shown", "ahead", "latest", "on arrival",
          "single slots", "shown", "ahead", "wide", "latest", "ahead",
-         "a cell too few")
+         "a cell too few", "bursts")
 MOST_LINKS = 5
 
 
@@ -53,25 +55,6 @@ def draft(dice, frame_slots, window_frames, share, cells, all_taken):
     return good_plans.Draft(frame_slots, window_frames, entries), stream
 
 
-def any_source(dice, frame_slots, share, frames):
-    """At most its share of slots in each frame, with early and late ones."""
-    def pick():
-        return dice.pick([0, frame_slots - 1, dice.below(frame_slots)])
-    chosen = {frame: [frame * frame_slots + pick() for _ in range(
-                  dice.pick([share, share, dice.between(0, share)]))]
-              for frame in range(frames)}
-    return lambda frame: chosen.get(frame, ())
-
-
-def latest_source(frame_slots, share, frames):
-    """Late in frame 0, and then as early as may be: each tile finds its share
-    of its own frame given away to those before it."""
-    def slots(frame):
-        place = frame_slots - 1 if frame == 0 else 0
-        return [frame * frame_slots + place] * share if frame < frames else []
-    return slots
-
-
 def ahead_of(dice, kind, window_frames):
     """By how many frames tiles are asked for ahead, or None."""
     return dice.below(window_frames - 1) if kind == "ahead" else None
@@ -82,9 +65,22 @@ def cells_of(share, ahead, shown, fewer):
     return max(1, (2 + (ahead or 0) + shown) * share - fewer)
 
 
+def source_of(dice, kind, frame_slots, share, frames):
+    if kind == "latest":
+        return latest_source(frame_slots, share, frames)
+    make = burst_source if kind == "bursts" else any_source
+    return make(dice, frame_slots, share, frames)
+
+
+class Generated:
+    """The way of a seed."""
+
+    def __init__(self, links, source):
+        self.links = links          # the stream's flow and the call file
+        self.source = source
+
+
 def generate(seed):
-    """The way of a seed: of each link the flow that is the stream, and the
-    call file."""
     dice = Dice(seed)
     kind = kind_of(seed)
     most_slots, most_frames, frames = KINDS[kind]
@@ -92,22 +88,21 @@ def generate(seed):
     window_frames = dice.between(2, most_frames)
     latest = kind == "latest"
     frame_slots = dice.between(1, most_slots)
-    share = 1 if latest else dice.between(1, min(frame_slots, 20))
+    share = 1 if latest else dice.between(1, frame_slots)
     ahead = ahead_of(dice, kind, window_frames)
     boards = [
         Board(*draft(dice, frame_slots, window_frames, share, cells_of(
             share, ahead, kind == "shown" and place == links - 1,
             too_few(seed)), latest))
         for place in range(links)]
-    source = (latest_source(frame_slots, share, frames) if latest
-              else any_source(dice, frame_slots, share, frames))
-    way = Way(dice, boards, source, ahead, kind == "shown")
+    source = source_of(dice, kind, frame_slots, share, frames)
+    way = Way(dice, boards, source.slots, ahead, kind == "shown")
     if latest:
         way.greed = [100] * links
-    return way.files(frames + links + 2)
+    return Generated(way.files(max(source.asks) + links + 3), source)
 
 
 def files(seed):
-    """The same as files, each with the end of its name."""
-    for place, (_, data) in enumerate(generate(seed), 1):
+    """The links' call files, each with the end of its name."""
+    for place, (_, data) in enumerate(generate(seed).links, 1):
         yield "-%d" % place, data

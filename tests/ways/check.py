@@ -1,9 +1,10 @@
-"""The verdict on a way: rules 22.6 and 22.7, checked from the call files and
-the listings of its links alone.
+"""The verdict on a way: rules 22.6 to 22.8 and 22.10, checked from the call
+files and the listings of its links alone.
 
 Each tile has to be granted on each link, on link number j at the latest j
 frames after the one in which it was due on the first, and fewer than
-(j + 1) x F slots after that slot.
+(j + 1) x F slots after that slot.  Where it is told when tiles came to the
+source, a share of tiles beyond the share costs a frame more.
 """
 
 from ways.board import read
@@ -16,6 +17,7 @@ class Verdict:
         self.tiles = 0          # that left the last link
         self.ahead = 0          # requests for tiles that were still to come
         self.attained = False   # a tile took all the slots of the bound
+        self.after_burst = False    # so did one, with those of the burst
 
 
 def request_faults(place, board):
@@ -53,9 +55,20 @@ def late_faults(place, first, board):
                     place, number, tile.slot - start.due, frames)
 
 
-def judge(flows, runs):
+def longest(verdict, came, burst, last):
+    """The slots from a tile's coming to its arrival, with a burst."""
+    frames = verdict.links + 1 + -(-burst // last.share)
+    for number, (slot, tile) in enumerate(zip(came, last.sent())):
+        wait = tile.slot - slot
+        if wait >= frames * last.frame_slots:
+            verdict.faults.append("tile %d arrives %d slots after it came"
+                                  % (number, wait))
+        verdict.after_burst |= wait == frames * last.frame_slots - 1
+
+
+def judge(flows, runs, came=(), burst=0):
     """On the stream that is these flows, one of each link; a run is a call
-    file and its lines."""
+    file and its lines.  Tiles came to the source in these slots."""
     verdict = Verdict()
     boards = [read(*run, flow, verdict) for flow, run in zip(flows, runs)]
     first, last = boards[0], boards[-1]
@@ -72,4 +85,5 @@ def judge(flows, runs):
         tile.slot - start.due == bound
         for tile, start in zip(last.tiles, first.tiles)
         if tile.slot is not None)
+    longest(verdict, came, burst, last)
     return verdict

@@ -7,7 +7,7 @@ PAGE = Path(__file__).resolve().parents[2] / "docs/REFUSALS.md"
 # A row of the table that has what to do: five columns, the last two of which
 # are an input and its last line.
 ROW = re.compile(r"^\| (\d+) \| ([^|]*) \| ([^|]*) \|[^|]*\|[^|]*\|$")
-ELSEWHERE = "; for the mesh see below"          # of the page alone
+ELSEWHERE = "; for the mesh and for delays see below"     # of the page alone
 
 
 class Refusal:

@@ -5,13 +5,15 @@ use mathlib.Core.List.{List, _∷_, []}
 use native.Mathlib.Omega.{arith}
 use lib.ListN.{length}
 use Rattle.model.specs.Card.{Card, paper}
-use Rattle.model.specs.SeveralLinks.{tile, Board, planOn, sentOn}
+use Rattle.model.specs.SeveralLinks.{Board, planOn}
 use Rattle.model.specs.LinksOnArrival.{WayOnArrival}
-use Rattle.model.specs.Source.{burstFrames, CameWithin, EachCameWithin}
+use Rattle.model.specs.Source.{burstFrames, CameWithin, EachCameWithin, InTimeFromSource}
+use Rattle.model.specs.CreditedByNext.{WayByCredits}
 use Rattle.model.proofs.SharesOfCells.{two-shares, three-shares}
 use Rattle.model.proofs.FromSource.{from-source-on-arrival}
+use Rattle.model.proofs.CreditedByNext.{from-source-by-credits}
 use Rattle.delay.specs.Bounds.{framesIn}
-use Rattle.delay.specs.Promised.{lastBoard, shareOn, BoundIs, CellsSuffice, ShownSuffice}
+use Rattle.delay.specs.Promised.{lastBoard, shareOn, InBounds, BoundIs, BoundByCredits, CellsSuffice, ShownSuffice}
 
 -- the last of the boards
 last-within : {c : Card} (k : ℕ) (comes : ℕ → ℕ) (a : Board c) (rest : List (Board c)) → EachCameWithin k comes (a ∷ rest)
@@ -21,18 +23,28 @@ last-within k comes a (b ∷ rest) within =
     let same : k + length (b ∷ rest) ≡ k + 1 + length rest = omega arith in
     rw same (last-within (k + 1) comes b rest (within .1))
 
--- all have the same F
-same-slots : {c : Card} (a : Board c) (rest : List (Board c)) → WayOnArrival a rest → planOn a .slots ≡ planOn (lastBoard a rest) .slots
-same-slots a [] way = refl
-same-slots a (b ∷ rest) way = way .0 .in-step .slots ∙ same-slots b rest (way .1)
+in-bounds : (a : Board paper) (rest : List (Board paper)) → planOn a .slots ≡ planOn (lastBoard a rest) .slots → InTimeFromSource a rest → InBounds a rest
+in-bounds a rest same in-time burst comes asks source bursts asked n x lt came =
+    let cost = burstFrames (shareOn a) burst in
+    let last = last-within (cost + 1) comes a rest (in-time burst comes asks source bursts asked) in
+    let frames : framesIn (length (a ∷ rest)) (shareOn a) burst ≡ cost + 1 + length rest + 1 = omega arith in
+    let slots = ap (λ k. k * planOn a .slots) frames ∙ ap (λ F. (cost + 1 + length rest + 1) * F) same in
+    omega (arith, last .slots-later n x lt came, slots)
+
+-- all boards have the same F
+same-on-arrival : (a : Board paper) (rest : List (Board paper)) → WayOnArrival a rest → planOn a .slots ≡ planOn (lastBoard a rest) .slots
+same-on-arrival a [] way = refl
+same-on-arrival a (b ∷ rest) way = way .0 .in-step .slots ∙ same-on-arrival b rest (way .1)
+
+same-by-credits : (late : ℕ) (a : Board paper) (rest : List (Board paper)) → WayByCredits late a rest → planOn a .slots ≡ planOn (lastBoard a rest) .slots
+same-by-credits late a [] way = refl
+same-by-credits late a (b ∷ rest) way = way .0 .in-step .slots ∙ same-by-credits late b rest (way .1)
 
 pub bound-is : BoundIs paper
-bound-is late a rest way keeps burst comes asks source bursts asked n x lt came =
-    let cost = burstFrames (shareOn a) burst in
-    let last = last-within (cost + 1) comes a rest (from-source-on-arrival late a rest way keeps burst comes asks source bursts asked) in
-    let frames : framesIn (length (a ∷ rest)) (shareOn a) burst ≡ cost + 1 + length rest + 1 = omega arith in
-    let slots = ap (λ k. k * planOn a .slots) frames ∙ ap (λ F. (cost + 1 + length rest + 1) * F) (same-slots a rest way) in
-    omega (arith, last .slots-later n x lt came, slots)
+bound-is late a rest way keeps = in-bounds a rest (same-on-arrival a rest way) (from-source-on-arrival late a rest way keeps)
+
+pub bound-by-credits : BoundByCredits paper
+bound-by-credits late a rest way modest = in-bounds a rest (same-by-credits late a rest way) (from-source-by-credits late a rest way modest)
 
 pub cells-are : CellsSuffice paper
 cells-are bytes passes calls i known F m burst enough x =

@@ -16,6 +16,7 @@ use Rattle.model.specs.SeveralLinks.{tile, Board, planOn, sentOn}
 use Rattle.model.specs.SharesOfCells.{AsksWithinShare, KeepsShares, EachGrantedNow}
 use Rattle.model.specs.LinksOnArrival.{WayOnArrival}
 use Rattle.model.specs.Source.{upToFrame, Source, Bursts, AsksAs}
+use Rattle.model.specs.CreditedByNext.{WayByCredits, ModestFirst}
 use Rattle.delay.specs.Bounds.{Bounds, bounds}
 
 -- ---- the slots
@@ -32,12 +33,21 @@ shareOn b = entry (planOn b) (b .stream) .share
 abbrev pub ArrivesWithin : {c : Card} → (slots : ℕ) (comes : ℕ → ℕ) → Board c → Type 0
 ArrivesWithin slots comes b = (n x : ℕ) → n < length (sentOn b) → n < upToFrame comes (frameOf (planOn b) x) → tile n (sentOn b) ≤ x + slots
 
--- The slots of `bounds` are such a number, for the boards of the way as its links. That the paper's card keeps it is `bound-is`, in proofs/Promised.antt.
+-- The slots of `bounds` are such a number, for the boards of a way as its links.
+abbrev pub InBounds : {c : Card} → Board c → List (Board c) → Type 0
+InBounds a rest =
+    (burst : ℕ) (comes asks : ℕ → ℕ) → Source (shareOn a) comes asks → Bursts (shareOn a) burst comes → AsksAs asks (planOn a) (a .stream) (a .events)
+    → ArrivesWithin (bounds (planOn a .slots) (length (a ∷ rest)) (shareOn a) burst .slots) comes (lastBoard a rest)
+
+-- So it is where the stream asks on arrival with its shares of cells; and where each board credits the one before it at its own grant. That the paper's card
+-- keeps both is `bound-is` and `bound-by-credits`, in proofs/Promised.antt.
 abbrev pub BoundIs : Card → Type 0
 BoundIs c =
-    (late : ℕ) (a : Board c) (rest : List (Board c)) → WayOnArrival a rest → KeepsShares late 0 (planOn a) (a .stream) (a .events)
-    → (burst : ℕ) (comes asks : ℕ → ℕ) → Source (shareOn a) comes asks → Bursts (shareOn a) burst comes → AsksAs asks (planOn a) (a .stream) (a .events)
-    → ArrivesWithin (bounds (planOn a .slots) (length (a ∷ rest)) (shareOn a) burst .slots) comes (lastBoard a rest)
+    (late : ℕ) (a : Board c) (rest : List (Board c)) → WayOnArrival a rest → KeepsShares late 0 (planOn a) (a .stream) (a .events) → InBounds a rest
+
+abbrev pub BoundByCredits : Card → Type 0
+BoundByCredits c =
+    (late : ℕ) (a : Board c) (rest : List (Board c)) → WayByCredits late a rest → ModestFirst (planOn a) (a .stream) (a .events) → InBounds a rest
 
 -- ---- the cells
 

@@ -20,6 +20,7 @@ use Rattle.model.specs.History.{renews}
 use Rattle.model.specs.SeveralLinks.{Board}
 use Rattle.model.specs.EnoughCells.{GivesBack}
 use Rattle.model.specs.SharesOfCells.{KeepsShares, EachGrantedNow}
+use Rattle.model.specs.SharesAhead.{KeepsSharesAhead, EachGrantedInTime}
 use Rattle.model.specs.Delay.{Timely, PromptOn, TimelyInOrder, SoonOn, SoonOnArrivalOn}
 use Rattle.model.specs.Card.{Played, paper, step, play, started, run}
 use Rattle.model.proofs.Tests.{line-passed}
@@ -32,6 +33,7 @@ use Rattle.model.proofs.Soon.{soon-ahead}
 use Rattle.model.proofs.SoonOnArrival.{soon}
 use Rattle.model.proofs.EnoughCells.{enough-cells}
 use Rattle.model.proofs.SharesOfCells.{shares-of-cells}
+use Rattle.model.proofs.SharesAhead.{shares-ahead}
 use Rattle.images.specs.Image.{imageLength, imageOf, headerField}
 use Rattle.images.specs.Consistent.{Keepable}
 use Rattle.images.specs.Taken.{refusalOf}
@@ -199,6 +201,13 @@ module _ (plan : List ℕ) where
   chain-shares-of-cells late ch i known =
       chain-has (λ h. KeepsShares late 0 (planOf plan) i h → EachGrantedNow (planOf plan) i h)
       (λ passes calls. shares-of-cells late plan passes calls i known) ch
+
+  -- so where its words run ahead of their tiles
+  pub chain-shares-ahead : (ahead late : ℕ) {calls : List Call} {h : History} {b : List ℕ} → Chain plan calls h b → (i : ℕ) → i < flowCount (planOf plan)
+      → KeepsSharesAhead ahead late 0 (planOf plan) i h → EachGrantedInTime (planOf plan) i h
+  chain-shares-ahead ahead late ch i known =
+      chain-has (λ h. KeepsSharesAhead ahead late 0 (planOf plan) i h → EachGrantedInTime (planOf plan) i h)
+      (λ passes calls. shares-ahead ahead late plan passes calls i known) ch
 
   -- and over several links a board of the host is one of those that `over-links` speaks of
   pub chain-board : {calls : List Call} {h : History} {b : List ℕ} → Chain plan calls h b → tally renews h ≡ 0 → (i : ℕ) → i < flowCount (planOf plan)

@@ -1,5 +1,6 @@
 -- With two shares of cells and no more a stream that gives them back in time may lack room; with one more it has it in the same calls. With one fewer a
--- request of it may be refused, and with one fewer than three shares where cells are credited when their tiles were shown. Assumes nothing.
+-- request of it may be refused; so with one fewer than three shares where cells are credited when their tiles were shown, and with one fewer than three where
+-- it asks a frame ahead. Assumes nothing.
 use Prim.Native.Nat.{ℕ, _+_, _-_, _*_, _/_, _≤_, _<_}
 use mathlib.Core.Path.{_≡_, refl}
 use mathlib.Core.Logic.{Dec·and}
@@ -15,13 +16,14 @@ use Rattle.model.specs.Calls.{Call, History, requested, credited, ticked
 use Rattle.model.specs.History.{ticks, frameOf, wellFormed, hasCome, expectedNumber, grantedUpTo, creditedUpTo}
 use Rattle.model.specs.Card.{run, paper}
 use Rattle.model.specs.PlanBytes.{plan1, plan2}
-use Rattle.model.specs.Delay.{currentFrame, madeSince, madeIn}
+use Rattle.model.specs.Delay.{currentFrame, dueFrame, madeSince, madeIn, dueIn}
 use Rattle.model.specs.EnoughCells.{lastOf, returns, AsksInTurn, GivesBack, EnoughCellsBy}
 use Rattle.model.specs.SharesOfCells.{GivenBack, CreditsEachBy, KeepsShares, SharesOfCellsBy}
+use Rattle.model.specs.SharesAhead.{KeepsSharesAhead, SharesAheadBy}
 use Rattle.model.proofs.Decidable.{same, implies, is-true, all-below, everywhere, proved}
 use Rattle.model.proofs.PastMarks.{above}
 use Rattle.model.proofs.ClaimDecided.{at-request, each}
-use Rattle.model.proofs.DelayDecided.{none-in, delays-compute}
+use Rattle.model.proofs.DelayDecided.{none-in, ordered, delays-compute}
 
 -- ---- whether a stream gives its cells back in time is decided
 
@@ -159,3 +161,43 @@ unfolding delays-compute given-back keeps-shares
 not-fewer-shown three =
     let h = run paper (planOf (shown 5)) six .history in
     three (shown 5) refl six 0 (lit< tt) (proved (keeps-shares 1 1 (planOf (shown 5)) (lit< tt) 0 h) tt) .0 refl refl
+
+-- ---- a share more for each frame ahead, and one cell fewer: F = 1, W = 4, one flow with share 1 and the given number of cells, one frame ahead
+
+unfoldable pub keeps-ahead : (ahead late short : ℕ) (P : Plan) → 0 < P .slots → (i : ℕ) (h : History) → Dec (KeepsSharesAhead ahead late short P i h)
+keeps-ahead ahead late short P some-slot i h =
+    same (λ r. record { asks = r .0; enough-cells = r .1 .0; not-lent = r .1 .1 .0; no-reset = r .1 .1 .1 })
+    (λ x. (x .asks, (x .enough-cells, (x .not-lent, x .no-reset))))
+    (Dec·and
+    (each (at-request λ w h. implies (is-true (wellFormed P w)) (implies (ℕ-discrete (flowOf w) i)
+    (same (λ r. record { within = r .0 .0; in-time = r .0 .1; in-order = r .1 .0; number = r .1 .1 .0; given-back = r .1 .1 .1 .0; few = r .1 .1 .1 .1 })
+    (λ x. ((x .within, x .in-time), (x .in-order, (x .number, (x .given-back, x .few)))))
+    (Dec·and (Dec·and (decLe _ _) (decLt _ _)) (Dec·and (ordered P i w h) (Dec·and (ℕ-discrete (quantumOf w) (expectedNumber P h i))
+    (Dec·and (given-back late P some-slot i h) (decLt (dueIn P h i (dueFrame P w h)) (entry P i .share))))))))) h)
+    (Dec·and (decLe _ _) (Dec·and (ℕ-discrete _ _) (ℕ-discrete _ _))))
+
+abbrev aheadBytes : (cells : ℕ) → List ℕ
+aheadBytes cells = plan1 1 4 8 1 cells
+
+-- In slot 0 tiles are asked for that are due in slots 0 and 1, and granted slots 1 and 2; and in slot 1 one that is due in slot 2.
+abbrev aheadCalls : List Call
+aheadCalls = Call.request 0x24000000 ∷ Call.request 0x24000401 ∷ Call.tick ∷ Call.request 0x24000802 ∷ []
+
+-- with three cells it is granted slot 3
+pub ahead-come-to :
+    reverse (run paper (planOf (aheadBytes 3)) aheadCalls .history)
+    ≡ requested 0x24000000 (accepted 0x24000001) ∷ requested 0x24000401 (accepted 0x24000402) ∷ ticked (some 0)
+    ∷ requested 0x24000802 (accepted 0x24000803) ∷ []
+unfolding delays-compute
+ahead-come-to = refl
+
+pub ahead-are-kept : KeepsSharesAhead 1 0 0 (planOf (aheadBytes 3)) 0 (run paper (planOf (aheadBytes 3)) aheadCalls .history)
+unfolding delays-compute given-back keeps-ahead
+ahead-are-kept = proved (keeps-ahead 1 0 0 (planOf (aheadBytes 3)) (lit< tt) 0 (run paper (planOf (aheadBytes 3)) aheadCalls .history)) tt
+
+-- with two it is refused
+pub not-fewer-ahead : SharesAheadBy 1 0 1 paper → ⊥
+unfolding delays-compute given-back keeps-ahead
+not-fewer-ahead shares =
+    let h = run paper (planOf (aheadBytes 2)) aheadCalls .history in
+    shares (aheadBytes 2) refl aheadCalls 0 (lit< tt) (proved (keeps-ahead 1 0 1 (planOf (aheadBytes 2)) (lit< tt) 0 h) tt) .0 refl refl

@@ -188,7 +188,7 @@ module _ (a : Board paper) (modest : Modest TimelyInOrder 0 (planOn a) (a .strea
       each-came k j is (b ∷ rest) within =
           (rw is (came-within j b (within .0)), each-came (k + 1) (j + 1) (omega (arith, is)) rest (within .1))
 
-in-time : (a : Board paper) (rest : List (Board paper)) → Modest TimelyInOrder 0 (planOn a) (a .stream) (a .events)
+pub in-time : (a : Board paper) (rest : List (Board paper)) → Modest TimelyInOrder 0 (planOn a) (a .stream) (a .events)
     → EachWithin 1 (planOn a) (dueOn a) (a ∷ rest) → InTimeFromSource a rest
 in-time a rest modest within burst comes asks source bursts asked =
     each-came a modest asks asked burst comes source bursts (burstFrames (entry (planOn a) (a .stream) .share) burst + 1) 1 refl (a ∷ rest) within

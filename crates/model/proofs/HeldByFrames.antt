@@ -30,11 +30,11 @@ use Rattle.model.proofs.EnoughCells.{below, all-of, up-to-more, below-n
 -- ---- marks up to a slot, by those before frame a, those of frames a to a + n and those of frame g
 
 module _ {P : Plan} (ok : Accepted P) (i s a n g : ℕ) where
-  abbrev spans : Mark → Bool
+  abbrev pub spans : Mark → Bool
   spans m = ofFlow i m && within a (a + n) (frameOf P (m .slot))
 
   -- flow i's mark up to s that is not of frame g is of frame a + n at the latest
-  abbrev Near : Mark → Type 0
+  abbrev pub Near : Mark → Type 0
   Near m = m .flow ≡ i → m .slot ≤ s → (frameOf P (m .slot) ≡ g → ⊥) → frameOf P (m .slot) ≤ a + n
 
   one-mark : (m : Mark) → Near m → bit (upTo i s m) ≤ bit (below i (a * P .slots) m) + (bit (inFrame P i g m) + bit (spans m))
@@ -142,52 +142,54 @@ module _ {P : Plan} (ok : Accepted P) (i : ℕ) (known : i < flowCount P) where
 
   -- ---- room from the next frame on, where it holds less than late + 2 shares
 
-  module _ (late : ℕ) (h : History) (none : NoneGranted h) (soon : EachSince (GrantedSoonAt P i) h) (given-back : GivenBack late P i h)
-      (not-lent : tally (ofFlow i) (lends h) ≡ 0) (c : Counts P h) where
-    abbrev f : ℕ
-    f = currentFrame P h
+  -- no more than the share lies in a frame
+  pub most : (h : History) → NoneGranted h → Counts P h → (a : ℕ) → tally (inFrame P i a) (grants P h) ≤ entry P i .share
+  most h none c a = omega (arith, c .in-frames i known a, ap (tally (inFrame P i a)) (grants-are P h none))
 
-    -- the oldest frame of which cells may be held from the next frame on
-    abbrev oldest : ℕ
-    oldest = f - late
+  -- a tile of a frame that is more than `late` frames back is given back by slot s of the next frame or a later one
+  pub older-given-back : (late : ℕ) (h : History) → GivenBack late P i h → (s : ℕ) → (currentFrame P h + 1) * P .slots ≤ s
+      → tally (below i ((currentFrame P h - late) * P .slots)) (grants P h) ≤ creditedUpTo P h i s
+  older-given-back late h given-back s le = go (f - late) refl
+    where
+      f : ℕ
+      f = currentFrame P h
 
-    abbrev inOf : ℕ → ℕ
-    inOf a = tally (inFrame P i a) (grants P h)
+      go : (o : ℕ) → f - late ≡ o → tally (below i (o * P .slots)) (grants P h) ≤ creditedUpTo P h i s
+      go zero e = let none : 0 * P .slots ≡ 0 = omega arith in omega (arith, below-none i (grants P h), ap (λ b. tally (below i b) (grants P h)) none)
+      go (suc o) e =
+          let r = suc o * P .slots - 1 in
+          let starts : suc o * P .slots ≡ suc r = omega (arith, ok .some-slot) in
+          let before : frameOf P r < suc o = frame-high ok (suc o) r (omega arith) in
+          let from : o ≤ frameOf P r = frame-low ok o r (omega (arith, ok .some-slot)) in
+          let ends : (frameOf P r + late + 1 + 1) * P .slots ≤ (f + 1) * P .slots = mul-le-mul-right (P .slots) (omega arith) in
+          omega (
+            arith,
+            below-up-to i r (grants P h),
+            ap (λ b. tally (below i b) (grants P h)) starts,
+            given-back r (omega arith),
+            up-to-more i (lastOf P (frameOf P r + late + 1)) s (omega arith) (credits P h),
+          )
 
-    most : (a : ℕ) → inOf a ≤ entry P i .share
-    most a = omega (arith, c .in-frames i known a, ap (tally (inFrame P i a)) (grants-are P h none))
+  pub room-next : (late : ℕ) (h : History) → NoneGranted h → EachSince (GrantedSoonAt P i) h → GivenBack late P i h → tally (ofFlow i) (lends h) ≡ 0
+      → Counts P h → (late + 2) * entry P i .share ≤ entry P i .cells + 0 → madeIn P h i (currentFrame P h) < entry P i .share
+      → RoomFrom P i ((currentFrame P h + 1) * P .slots) h
+  room-next late h none soon given-back not-lent c enough few s le =
+      omega (
+        arith,
+        from-frame ok i s oldest late (suc f) (grants P h) (all-map _ _ near (grants P h) (soon-marks ok i known h none soon)),
+        sum-le (suc late) (λ k. tally (inFrame P i (oldest + k)) (grants P h)) (λ k. entry P i .share) (λ k lt. most h none c (oldest + k)),
+        sum-const (suc late) (entry P i .share),
+        older-given-back late h given-back s le,
+        next-made h none soon,
+        tally-le (upTo i s) (ofFlow i) (λ m e. and-true (ofFlow i m) (leb (m .slot) s) e .0) (lends h),
+      )
+    where
+      f : ℕ
+      f = currentFrame P h
 
-    -- a tile of an older frame is given back by slot s of the next frame or a later one
-    older-given-back : (s : ℕ) → (f + 1) * P .slots ≤ s → tally (below i (oldest * P .slots)) (grants P h) ≤ creditedUpTo P h i s
-    older-given-back s le = go oldest refl
-      where
-        go : (o : ℕ) → oldest ≡ o → tally (below i (o * P .slots)) (grants P h) ≤ creditedUpTo P h i s
-        go zero e = let none : 0 * P .slots ≡ 0 = omega arith in omega (arith, below-none i (grants P h), ap (λ b. tally (below i b) (grants P h)) none)
-        go (suc o) e =
-            let r = suc o * P .slots - 1 in
-            let starts : suc o * P .slots ≡ suc r = omega (arith, ok .some-slot) in
-            let before : frameOf P r < suc o = frame-high ok (suc o) r (omega arith) in
-            let from : o ≤ frameOf P r = frame-low ok o r (omega (arith, ok .some-slot)) in
-            let ends : (frameOf P r + late + 1 + 1) * P .slots ≤ (f + 1) * P .slots = mul-le-mul-right (P .slots) (omega arith) in
-            omega (
-              arith,
-              below-up-to i r (grants P h),
-              ap (λ b. tally (below i b) (grants P h)) starts,
-              given-back r (omega arith),
-              up-to-more i (lastOf P (frameOf P r + late + 1)) s (omega arith) (credits P h),
-            )
+      -- the oldest frame of which cells may be held from the next frame on
+      oldest : ℕ
+      oldest = f - late
 
-    pub room-next : (late + 2) * entry P i .share ≤ entry P i .cells + 0 → madeIn P h i f < entry P i .share → RoomFrom P i ((f + 1) * P .slots) h
-    room-next enough few s le =
-        omega (
-          arith,
-          from-frame ok i s oldest late (suc f) (grants P h) (all-map _ _ near (grants P h) (soon-marks ok i known h none soon)),
-          sum-le (suc late) (λ k. inOf (oldest + k)) (λ k. entry P i .share) (λ k lt. most (oldest + k)),
-          sum-const (suc late) (entry P i .share),
-          older-given-back s le,
-          next-made h none soon,
-          tally-le (upTo i s) (ofFlow i) (λ m e. and-true (ofFlow i m) (leb (m .slot) s) e .0) (lends h),
-        )
-      where
-        near : (m : Mark) → (m .flow ≡ i → frameOf P (m .slot) ≤ f + 1) → Near ok i s oldest late (suc f) m
-        near m soon-enough own up other = omega (arith, soon-enough own)
+      near : (m : Mark) → (m .flow ≡ i → frameOf P (m .slot) ≤ f + 1) → Near ok i s oldest late (suc f) m
+      near m soon-enough own up other = omega (arith, soon-enough own)

@@ -86,9 +86,11 @@ pub mod EnoughCells
 pub mod CreditsInTime
 pub mod HeldByFrames
 pub mod SharesOfCells
+pub mod SharesAhead
 pub mod LinksOnArrival
 pub mod Source
 pub mod FromSource
+pub mod CreditedByNext
 pub mod BooksInOrder
 pub mod Ahead
 pub mod Replays
@@ -129,10 +131,13 @@ pub mod LessAsked
 pub mod DelayDecided
 pub mod LessTimely
 pub mod TwoLinksExample
+pub mod JoinedDecided
+pub mod LessJoined
 pub mod BadDelays
 pub mod SlowCards
 pub mod CellsNeeded
 pub mod OnArrivalExample
 pub mod SourceExample
+pub mod ByCreditsExample
 pub mod LessAhead
 pub mod BadSendings

@@ -15,7 +15,7 @@ use Rattle.model.specs.Card.{paper}
 use Rattle.model.specs.Delay.{currentFrame, madeIn, dueIn, GrantedSoonAt, TimelyInOrder, Modest, ServedAt}
 use Rattle.model.specs.SeveralLinks.{ForNext, AsksForNext, Alone, AskedAt, Together, start, both-tick, first-alone, second-alone}
 use Rattle.model.specs.SeveralLinks.{Ran, Board, planOn, Joined, Way}
-use Rattle.model.specs.SharesOfCells.{KeepsShares}
+use Rattle.model.specs.SharesOfCells.{GivenBack, KeepsShares}
 use Rattle.model.specs.LinksOnArrival.{AsksOnArrival, JoinedOnArrival, WayOnArrival, OverLinksOnArrival}
 use Rattle.model.proofs.Tallies.{tally-append}
 use Rattle.model.proofs.Slots.{current-in-window}
@@ -26,8 +26,8 @@ use Rattle.model.proofs.EventsOfRuns.{Happened}
 use Rattle.model.proofs.Soon.{soon-accepted}
 use Rattle.model.proofs.SoonOnArrival.{ComeAt, due-when-made, served-on-arrival}
 use Rattle.model.proofs.GrantsInOrder.{FrameInOrderAt}
-use Rattle.model.proofs.NextLink.{each-since, counts-at, few-due, Shared, shared, modest-on-next}
-use Rattle.model.proofs.SeveralLinks.{ok, none, runs-have, happened, ordered, words, over-links}
+use Rattle.model.proofs.NextLink.{each-since, since-all, counts-at, few-due, Shared, shared, modest-on-next}
+use Rattle.model.proofs.SeveralLinks.{ok, none, runs-have, happened, ordered, words, served, next-modest, over-links}
 use Rattle.model.proofs.EnoughCells.{BeginningsRan, beginnings-ran}
 use Rattle.model.proofs.HeldByFrames.{room-next}
 use Rattle.model.proofs.SharesOfCells.{modest-of, timely-at-each}
@@ -88,7 +88,7 @@ module _ (a b : Board paper) (joined : JoinedOnArrival a b) where
 
   -- ---- a request on arrival
 
-  module _ (h₁ h₂ : History) (k : Known h₁ h₂) (ran : Ran paper Q h₂) (s : SoFar h₁ h₂) (w : ℕ) (x : AsksOnArrival (joined .late) P Q i j h₁ w h₂) where
+  module _ (h₁ h₂ : History) (k : Known h₁ h₂) (ran : Ran paper Q h₂) (s : SoFar h₁ h₂) (w : ℕ) (x : AsksOnArrival (GivenBack (joined .late)) P Q i j h₁ w h₂) where
     for-next : ForNext P Q i j h₁ w h₂
     for-next = record { sent = x .sent; departs = x .departs; not-late = omega (arith, x .comes-now) }
 
@@ -129,7 +129,7 @@ module _ (a b : Board paper) (joined : JoinedOnArrival a b) where
 
   -- ---- both histories
 
-  second-more : (h₁ h₂ : History) (e : Event) → Alone e → AskedAt P Q i j (AsksOnArrival (joined .late) P Q i j) h₁ e h₂ → Known h₁ (e ∷ h₂) → SoFar h₁ h₂
+  second-more : (h₁ h₂ : History) (e : Event) → Alone e → AskedAt P Q i j (AsksOnArrival (GivenBack (joined .late)) P Q i j) h₁ e h₂ → Known h₁ (e ∷ h₂) → SoFar h₁ h₂
       → SoFar h₁ (e ∷ h₂)
   second-more h₁ h₂ (requested w r) alone asks k s =
       let before = second-back (requested w r) k in
@@ -143,7 +143,7 @@ module _ (a b : Board paper) (joined : JoinedOnArrival a b) where
   second-more h₁ h₂ (lent m r) alone asks k s = record { together = second-alone (lent m r) alone tt (s .together); come = (tt, s .come) }
   second-more h₁ h₂ (Event.reset r) alone asks k s = record { together = second-alone (Event.reset r) alone tt (s .together); come = (tt, s .come) }
 
-  with-room : {h₁ h₂ : History} → Together P Q i j (AsksOnArrival (joined .late) P Q i j) h₁ h₂ → Known h₁ h₂ → SoFar h₁ h₂
+  with-room : {h₁ h₂ : History} → Together P Q i j (AsksOnArrival (GivenBack (joined .late)) P Q i j) h₁ h₂ → Known h₁ h₂ → SoFar h₁ h₂
   with-room start k = record { together = start; come = tt }
   with-room (both-tick {x₁ = x₁} {x₂ = x₂} t) k =
       let s = with-room t (second-back (ticked x₂) (first-back (ticked x₁) k)) in
@@ -153,23 +153,28 @@ module _ (a b : Board paper) (joined : JoinedOnArrival a b) where
       record { together = first-alone e alone (s .together); come = s .come }
   with-room (second-alone {h₁ = h₁} {h₂ = h₂} e alone asks t) k = second-more h₁ h₂ e alone asks k (with-room t (second-back e k))
 
+  so-far : SoFar (a .events) (b .events)
+  so-far =
+      with-room (joined .together) (record {
+        happened₁ = happened a;
+        ordered₁ = ordered a;
+        none₁ = none a;
+        none₂ = none b;
+        happened₂ = happened b;
+        words₂ = words b;
+        ran₂ = runs-have b (BeginningsRan Q) (beginnings-ran Q (ok b));
+        not-lent₂ = joined .not-lent;
+      })
+
   -- so the boards are joined as `over-links` asks
   joined-with-room : Joined a b
-  joined-with-room = record {
-    in-step = joined .in-step;
-    share-kept = joined .share-kept;
-    together =
-        with-room (joined .together) (record {
-          happened₁ = happened a;
-          ordered₁ = ordered a;
-          none₁ = none a;
-          none₂ = none b;
-          happened₂ = happened b;
-          words₂ = words b;
-          ran₂ = runs-have b (BeginningsRan Q) (beginnings-ran Q (ok b));
-          not-lent₂ = joined .not-lent;
-        }) .together;
-  }
+  joined-with-room = record { in-step = joined .in-step; share-kept = joined .share-kept; together = so-far .together }
+
+  -- and on the second the stream is granted each slot in the frame in which it asks, or in the next
+  pub soon-on-next : Each (GrantedSoonAt Q j) (b .events)
+  soon-on-next =
+      since-all (GrantedSoonAt Q j) (b .events) (none b) (served-on-arrival (ok b) j (b .events) (words b) (each-since (ComeAt Q j) (b .events) (so-far .come))
+      (each-since (ServedAt Q j) (b .events) (served b (next-modest a b joined-with-room))))
 
 pub way-with-room : (a : Board paper) (rest : List (Board paper)) → WayOnArrival a rest → Way a rest
 way-with-room a [] way = tt

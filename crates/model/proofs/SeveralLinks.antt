@@ -98,7 +98,7 @@ module _ (b : Board paper) where
   pub words : Each (GrantedWordAt (planOn b)) (b .events)
   words = each-map _ (GrantedWordAt (planOn b)) (λ e h x. x .word) (b .events) happened
 
-  served : Modest TimelyInOrder 0 (planOn b) (b .stream) (b .events) → Each (ServedAt (planOn b) (b .stream)) (b .events)
+  pub served : Modest TimelyInOrder 0 (planOn b) (b .stream) (b .events) → Each (ServedAt (planOn b) (b .stream)) (b .events)
   served m = since-all _ (b .events) none (runs-have (SoonOn TimelyInOrder 0 (planOn b) (b .stream)) (λ calls. soon-accepted (planOn b) ok calls (b .stream) (b .known)) m)
 
   one-frame : Modest TimelyInOrder 0 (planOn b) (b .stream) (b .events) → (n : ℕ) → n < length (sentOn b)
@@ -113,7 +113,7 @@ module _ (a b : Board paper) (joined : Joined a b) where
       shared (ok a) (ok b) (joined .in-step) (a .stream) (b .stream) (a .known) (joined .share-kept) (joined .together) (happened a)
       (ordered a) (none a) (none b) (words b)
 
-  next-modest : Modest TimelyInOrder 0 (planOn b) (b .stream) (b .events)
+  pub next-modest : Modest TimelyInOrder 0 (planOn b) (b .stream) (b .events)
   next-modest =
       modest-on-next (ok a) (ok b) (joined .in-step) (a .stream) (b .stream) (a .known) (joined .share-kept) (a .events) (b .events) both (happened a)
       (none a) (none b)

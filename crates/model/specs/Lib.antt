@@ -36,10 +36,13 @@ pub mod LessAsked
 pub mod Delay
 pub mod LessTimely
 pub mod SeveralLinks
+pub mod LessJoined
 pub mod EnoughCells
 pub mod SharesOfCells
+pub mod SharesAhead
 pub mod LinksOnArrival
 pub mod Source
+pub mod CreditedByNext
 pub mod BooksInOrder
 pub mod Ahead
 pub mod AheadRuns

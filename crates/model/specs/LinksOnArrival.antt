@@ -14,13 +14,14 @@ use Rattle.model.specs.TwoHops.{InStep}
 use Rattle.model.specs.SeveralLinks.{sentSlots, nextTile, nextSlot, Together, Board, planOn, OnTime}
 use Rattle.model.specs.SharesOfCells.{GivenBack, KeepsShares}
 
--- After h₁ and h₂ word w asks on the second board for flow j's next tile, in the slot in which it comes up on the first.
-pub record AsksOnArrival (late : ℕ) (P Q : Plan) (i j : ℕ) (h₁ : History) (w : ℕ) (h₂ : History) : Type 0 where
+-- After h₁ and h₂ word w asks on the second board for flow j's next tile, in the slot in which it comes up on the first; its cells there are given back as
+-- G says.
+pub record AsksOnArrival (G : Plan → ℕ → History → Type 0) (P Q : Plan) (i j : ℕ) (h₁ : History) (w : ℕ) (h₂ : History) : Type 0 where
   pub sent : nextTile P Q i j h₂ < length (sentSlots P h₁ i)
   pub departs : departureOf w ≡ nextSlot P Q i j h₁ h₂ % positions Q
   pub comes-now : nextSlot P Q i j h₁ h₂ ≡ ticks h₂
   pub number : quantumOf w ≡ expectedNumber Q h₂ j
-  pub given-back : GivenBack late Q j h₂
+  pub given-back : G Q j h₂
 
 -- b is the next board after a
 pub record JoinedOnArrival {c : Card} (a b : Board c) : Type 0 where
@@ -29,7 +30,8 @@ pub record JoinedOnArrival {c : Card} (a b : Board c) : Type 0 where
   -- how late cells are given back on b
   pub late : ℕ
   pub together :
-      Together (planOn a) (planOn b) (a .stream) (b .stream) (AsksOnArrival late (planOn a) (planOn b) (a .stream) (b .stream)) (a .events) (b .events)
+      Together (planOn a) (planOn b) (a .stream) (b .stream) (AsksOnArrival (GivenBack late) (planOn a) (planOn b) (a .stream) (b .stream))
+      (a .events) (b .events)
   pub enough-cells : (late + 2) * entry (planOn b) (b .stream) .share ≤ entry (planOn b) (b .stream) .cells
   pub not-lent : tally (ofFlow (b .stream)) (lends (b .events)) ≡ 0
 
