@@ -22,6 +22,7 @@ use Rattle.model.specs.History.{renews}
 use Rattle.model.specs.SeveralLinks.{Ran, Board}
 use Rattle.model.specs.EnoughCells.{GivesBack}
 use Rattle.model.specs.SharesOfCells.{KeepsShares, EachGrantedNow}
+use Rattle.model.specs.SharesAhead.{KeepsSharesAhead, EachGrantedInTime}
 use Rattle.model.specs.Delay.{Timely, PromptOn, TimelyInOrder, SoonOn, SoonOnArrivalOn}
 use Rattle.model.specs.CountedBursts.{several, countsAs, eventsIn}
 use Rattle.model.proofs.AfterCalls.{Known, after-calls, after-fresh}
@@ -34,6 +35,7 @@ use Rattle.model.proofs.Soon.{soon-accepted}
 use Rattle.model.proofs.SoonOnArrival.{soon-on-arrival}
 use Rattle.model.proofs.EnoughCells.{enough-cells-accepted}
 use Rattle.model.proofs.SharesOfCells.{shares-of-cells-accepted}
+use Rattle.model.proofs.SharesAhead.{shares-ahead-accepted}
 use Rattle.link.specs.declared.Link.{Link}
 use Rattle.link.specs.Steps.{readOf as linkRead}
 use Rattle.link.specs.Handed.{Handed}
@@ -195,6 +197,13 @@ pub code-shares-of-cells : (late : ℕ) (bytes : List ℕ) (o : Outcome) → o �
     → KeepsShares late 0 (model.planOf bytes) i h → EachGrantedNow (model.planOf bytes) i h
 code-shares-of-cells late =
     code-has (λ P h. (i : ℕ) → i < model.flowCount P → KeepsShares late 0 P i h → EachGrantedNow P i h) (shares-of-cells-accepted late)
+
+-- so where its words run ahead of their tiles
+pub code-shares-ahead : (ahead late : ℕ) (bytes : List ℕ) (o : Outcome) → o ≡ readOf bytes → (o .verdict ≡ Accepted → Valid (o .plan)) → o .verdict ≡ Accepted
+    → {h : History} {l : Link} → Handed (o .plan) h l → (i : ℕ) → i < model.flowCount (model.planOf bytes)
+    → KeepsSharesAhead ahead late 0 (model.planOf bytes) i h → EachGrantedInTime (model.planOf bytes) i h
+code-shares-ahead ahead late =
+    code-has (λ P h. (i : ℕ) → i < model.flowCount P → KeepsSharesAhead ahead late 0 P i h → EachGrantedInTime P i h) (shares-ahead-accepted ahead late)
 
 -- and over several links: the calls of the code on one board are such a board, so that `over-links` speaks of any way over boards of the code
 pub code-board : (bytes : List ℕ) (o : Outcome) → o ≡ readOf bytes → (o .verdict ≡ Accepted → Valid (o .plan)) → o .verdict ≡ Accepted
