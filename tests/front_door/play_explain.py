@@ -164,7 +164,8 @@ credit 0 7
 """
 AHEAD_IN_WORDS = (
     "C taken: from slot 2 (position 2, frame 0) on flow 0 holds one less; "
-    "with the lend before it this sends the tile of slot 2 ahead, in slot 0 ")
+    "with the lend before it this sends the tile of slot 2 ahead, in slot 0, "
+    "if it has come and has not left ")
 
 
 def sent_ahead(tree, program):

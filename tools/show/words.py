@@ -118,7 +118,8 @@ class Words:
                 or state.owners[answer.slot - state.slots[0]] != answer.flow):
             return ""
         return "; with the lend before it this sends the tile of slot %d " \
-            "ahead, in slot %d" % (answer.slot, state.ticks)
+            "ahead, in slot %d, if it has come and has not left" % (
+                answer.slot, state.ticks)
 
     def tick(self, step, answer):
         whose = ("nobody booked it" if answer.flow is None
