@@ -13,11 +13,12 @@ use Rattle.model.specs.Card.{paper}
 use Rattle.model.specs.SeveralLinks.{Board}
 use Rattle.model.specs.EnoughCells.{GivesBack}
 use Rattle.model.specs.SharesOfCells.{KeepsShares, EachGrantedNow}
+use Rattle.model.specs.SharesAhead.{KeepsSharesAhead, EachGrantedInTime}
 use Rattle.model.specs.Delay.{Timely, PromptOn, TimelyInOrder, SoonOn, SoonOnArrivalOn}
 use Rattle.images.specs.Taken.{refusalOf}
 use Rattle.images.specs.Exports.{Called, HandsBack, calledOn}
 use Rattle.images.specs.Chain.{eventOf, imageIn, Chain, starts, goes-on}
-use Rattle.images.proofs.Chain.{chain-taken, chain-meets, chain-fair, chain-numbers, chain-prompt, chain-soon-ahead, chain-soon, chain-enough-cells, chain-shares-of-cells, chain-board}
+use Rattle.images.proofs.Chain.{chain-taken, chain-meets, chain-fair, chain-numbers, chain-prompt, chain-soon-ahead, chain-soon, chain-enough-cells, chain-shares-of-cells, chain-shares-ahead, chain-board}
 use Rattle.image.specs.Hosted.{Hosted, by-fresh, by-request, by-credit, by-tick, by-lend, by-reset}
 
 module _ (plan : List ℕ) where
@@ -74,6 +75,10 @@ module _ (plan : List ℕ) where
   pub host-shares-of-cells : (late : ℕ) {h : History} {b : List ℕ} → Hosted plan h b → (i : ℕ) → i < flowCount (planOf plan)
       → KeepsShares late 0 (planOf plan) i h → EachGrantedNow (planOf plan) i h
   host-shares-of-cells late x = chain-shares-of-cells plan late (chained x .chain)
+
+  pub host-shares-ahead : (ahead late : ℕ) {h : History} {b : List ℕ} → Hosted plan h b → (i : ℕ) → i < flowCount (planOf plan)
+      → KeepsSharesAhead ahead late 0 (planOf plan) i h → EachGrantedInTime (planOf plan) i h
+  host-shares-ahead ahead late x = chain-shares-ahead plan ahead late (chained x .chain)
 
   -- a board, for what is said of several links
   pub host-board : {h : History} {b : List ℕ} → Hosted plan h b → tally renews h ≡ 0 → (i : ℕ) → i < flowCount (planOf plan) → Board paper
