@@ -23,9 +23,9 @@ use Rattle.image.specs.Hosted.{Hosted, by-fresh, by-request, by-credit, 
 
 module _ (plan : List ℕ) where
   -- some calls make this chain
-  record Chained (h : History) (b : List ℕ) : Type 0 where
-    calls : List Call
-    chain : Chain plan calls h b
+  pub record Chained (h : History) (b : List ℕ) : Type 0 where
+    pub calls : List Call
+    pub chain : Chain plan calls h b
 
   one-more : {h : History} {b : List ℕ} → Chained h b → (c : List ℕ) → imageIn c ≡ imageIn b → (call : Call) {r : ℕ} {after : List ℕ}
       → HandsBack (calledOn c call) r after → Chained (eventOf call r ∷ h) after
@@ -35,7 +35,7 @@ module _ (plan : List ℕ) where
         (goes-on (x .chain) c same call);
   }
 
-  chained : {h : History} {b : List ℕ} → Hosted plan h b → Chained h b
+  pub chained : {h : History} {b : List ℕ} → Hosted plan h b → Chained h b
   chained (by-fresh b (number, buffer)) = record { calls = []; chain = subst (Chain plan [] []) (sym buffer) (starts b (sym number)) }
   chained (by-request x c same word r e) = one-more (chained x) c same (Call.request word) e
   chained (by-credit x c same flow position r e) = one-more (chained x) c same (Call.credit flow position) e
