@@ -33,9 +33,9 @@ extern "C" {
 
 /* ---- the version: the first number goes up where older images are refused */
 
-#define NAZGOLV_VERSION "4.6.0"
+#define NAZGOLV_VERSION "4.7.0"
 #define NAZGOLV_VERSION_MAJOR 4
-#define NAZGOLV_VERSION_MINOR 6
+#define NAZGOLV_VERSION_MINOR 7
 #define NAZGOLV_VERSION_PATCH 0
 
 /* ---- the image
@@ -165,6 +165,16 @@ uint64_t nazgolv_tick(uint8_t *image, size_t image_length);
  * lent since fresh, or since a granted reset. A refused lend is no turn.
  */
 uint64_t nazgolv_lend(uint8_t *image, size_t image_length, uint16_t mask);
+
+/*
+ * To send a tile ahead of its booked slot: in a slot that nobody booked, lend to
+ * flows that have a tile which has come and waits for a later position; then
+ * credit the flow that was answered, dated the position that is booked for the
+ * tile, before any other call. That credit is always taken. The tile leaves in
+ * the current slot, and when its position comes up there is nothing to send.
+ * Owners, and with them the slots that others get, stay as they are. The credit
+ * for the tile's cell is another call, when the next board has it free again.
+ */
 
 /*
  * Lets every flow start again in the head frame with its whole share, empties

@@ -15,9 +15,18 @@
  *               asked, and the line of another is B 255 255
  *   R n         the record is refused with n
  *
+ * With --ahead it also sends tiles ahead of their booked slots, by a lend and a
+ * credit that have no lines: at the end of each slot from slot 1 on that nobody
+ * booked and that is not lent, one of a flow whose first tile that waits has
+ * come. It knows a tile by the word that asked for it, and takes it to come in
+ * the slot of the word's departure. With --ahead FILE it writes to FILE which
+ * flow left in each slot, from slot 1 on, or - where none did: what
+ * ./check-log --ahead reads.
+ *
  * Exit status: 0 the listing is whole; 1 it is not; 2 wrong arguments.
  */
 #include <stdio.h>
+#include <string.h>
 
 #include "nazgolv.h"
 
@@ -26,7 +35,24 @@
 #define WORDS 20            /* the most words of a burst */
 #define HANDLED 16          /* those of them that are asked */
 
+#define POSITIONS 256       /* the most positions of a window */
+#define NOBODY 16           /* no flow */
+
 static uint8_t image[NAZGOLV_IMAGE_MAX];
+
+/*
+ * The board's tiles, for --ahead: of each position the flow whose tile waits for
+ * it, or nobody, and the slot in which that tile comes. Slots are counted from 0 on.
+ */
+static struct {
+    int wanted;                         /* whether tiles are sent ahead */
+    FILE *list;                         /* of what left, or NULL */
+    unsigned slots, positions, flows;   /* of the plan: F, F x W, n */
+    unsigned long now;                  /* the current slot */
+    unsigned left;                      /* the flow that leaves in it, or nobody */
+    unsigned waits[POSITIONS];
+    unsigned long comes[POSITIONS];
+} board;
 
 static unsigned two_bytes(const uint8_t *at)
 {
@@ -53,11 +79,92 @@ static int refused(uint64_t result)
     return 1;
 }
 
+/* ---- sending ahead */
+
+/* The slot in which a word's tile comes: now, if its departure is in this frame and not after now. */
+static unsigned long comes_in(uint32_t word)
+{
+    unsigned departure = NAZGOLV_POSITION(word);
+    unsigned current = (unsigned)(board.now % board.positions);
+    if (departure / board.slots == current / board.slots && departure <= current)
+        return board.now;
+    return board.now + (departure + board.positions - current) % board.positions;
+}
+
+/* A tile waits for the position that its word was granted. */
+static void note_grant(uint32_t word, unsigned position)
+{
+    board.waits[position] = word >> 20 & 63;
+    board.comes[position] = comes_in(word);
+}
+
+/* The position of a flow's first tile that waits, if that has come; else a number past all. */
+static unsigned first_ready(unsigned flow)
+{
+    unsigned step;
+    for (step = 1; step < board.positions; step++) {
+        unsigned position = (unsigned)((board.now + step) % board.positions);
+        if (board.waits[position] == flow)
+            return board.comes[position] <= board.now ? position : POSITIONS;
+    }
+    return POSITIONS;
+}
+
+/* At the end of a slot: lends it to the flows that have a tile ready, and credits the one that gets it. */
+static void send_ahead(void)
+{
+    unsigned mask = 0, flow, position;
+    uint64_t result;
+    for (flow = 0; flow < board.flows; flow++)
+        if (first_ready(flow) < POSITIONS)
+            mask |= 1u << flow;
+    if (mask == 0)
+        return;
+    result = nazgolv_lend(image, sizeof image, (uint16_t)mask);
+    if (NAZGOLV_REFUSAL(result) != 0)
+        return;
+    flow = NAZGOLV_VALUE(result);
+    position = first_ready(flow);
+    nazgolv_credit(image, sizeof image, flow, position);
+    board.waits[position] = NOBODY;
+    board.left = flow;
+}
+
+/* What left in the slot that ends; slot 0 has no line. */
+static void list_left(void)
+{
+    if (board.list == NULL || board.now == 0)
+        return;
+    if (board.left == NOBODY)
+        fputs("-\n", board.list);
+    else
+        fprintf(board.list, "%u\n", board.left);
+}
+
+static void end_slot(void)
+{
+    if (board.wanted && board.now > 0)
+        send_ahead();
+    list_left();
+}
+
+/* The next slot, with the flow that booked it: its tile leaves, if it still waits. */
+static void begin_slot(unsigned owner)
+{
+    unsigned position = (unsigned)(++board.now % board.positions);
+    board.left = board.waits[position] == owner ? owner : NOBODY;
+    board.waits[position] = NOBODY;
+}
+
+/* ---- calls */
+
 static void request(uint32_t word)
 {
     uint64_t result = nazgolv_request(image, sizeof image, word);
-    if (!refused(result))
-        say('G', NAZGOLV_POSITION(NAZGOLV_VALUE(result)));
+    if (refused(result))
+        return;
+    note_grant(word, NAZGOLV_POSITION(NAZGOLV_VALUE(result)));
+    say('G', NAZGOLV_POSITION(NAZGOLV_VALUE(result)));
 }
 
 static void credit(unsigned flow, unsigned position)
@@ -68,9 +175,12 @@ static void credit(unsigned flow, unsigned position)
 
 static void tick(void)
 {
-    uint64_t result = nazgolv_tick(image, sizeof image);
+    uint64_t result;
+    end_slot();
+    result = nazgolv_tick(image, sizeof image);
     if (refused(result))
         return;
+    begin_slot(NAZGOLV_VALUE(result));
     if (NAZGOLV_VALUE(result) == NAZGOLV_IDLE)
         puts("T -");
     else
@@ -80,8 +190,10 @@ static void tick(void)
 static void lend(unsigned mask)
 {
     uint64_t result = nazgolv_lend(image, sizeof image, (uint16_t)mask);
-    if (!refused(result))
-        say('L', NAZGOLV_VALUE(result));
+    if (refused(result))
+        return;
+    board.left = NAZGOLV_VALUE(result);
+    say('L', NAZGOLV_VALUE(result));
 }
 
 static void reset(void)
@@ -96,6 +208,8 @@ static void ask(uint32_t word)
     uint64_t result = nazgolv_request(image, sizeof image, word);
     unsigned refusal = NAZGOLV_REFUSAL(result);
     unsigned position = refusal == 0 ? NAZGOLV_POSITION(NAZGOLV_VALUE(result)) : 0;
+    if (refusal == 0)
+        note_grant(word, position);
     printf("B %u %u\n", refusal, position);
 }
 
@@ -134,6 +248,18 @@ static void play(const uint8_t *record)
         say('R', NO_CALL);
 }
 
+/* The board of an accepted plan: no tile waits. */
+static void begin_board(const uint8_t *plan)
+{
+    unsigned position;
+    board.flows = two_bytes(plan + 2);
+    board.slots = two_bytes(plan + 6);
+    board.positions = board.slots * two_bytes(plan + 8);
+    board.left = NOBODY;
+    for (position = 0; position < POSITIONS; position++)
+        board.waits[position] = NOBODY;
+}
+
 /* Reads the plan, makes the link and writes the plan's line, but for a plan that can't be read; whether it is accepted. */
 static int begin(void)
 {
@@ -148,25 +274,48 @@ static int begin(void)
     if (ferror(stdin))
         return 0;
     say('P', refusal);
+    if (refusal == 0)
+        begin_board(plan);
     return refusal == 0;
+}
+
+/* Takes the words of the command line; whether they are right, and else why they are not. */
+static int begin_words(int argc, char **argv)
+{
+    if (argc > 3 || (argc > 1 && strcmp(argv[1], "--ahead") != 0)) {
+        fprintf(stderr, "%s: a file of calls is read from standard input; there are no arguments "
+                "but --ahead, and after it a file for the list of what left\n", argv[0]);
+        return 0;
+    }
+    board.wanted = argc > 1;
+    if (argc > 2 && (board.list = fopen(argv[2], "w")) == NULL) {
+        fprintf(stderr, "%s: '%s' can't be written\n", argv[0], argv[2]);
+        return 0;
+    }
+    return 1;
+}
+
+/* Whether all was read and written. */
+static int whole(void)
+{
+    int listed = board.list == NULL || (!ferror(board.list) && fclose(board.list) == 0);
+    return !ferror(stdin) && fflush(stdout) == 0 && !ferror(stdout) && listed;
 }
 
 int main(int argc, char **argv)
 {
     uint8_t record[RECORD];
     size_t got;
-    if (argc > 1) {
-        fprintf(stderr, "%s: a file of calls is read from standard input; there are no arguments\n",
-                argv[0]);
+    if (!begin_words(argc, argv))
         return 2;
-    }
     if (begin()) {
         while ((got = fread(record, 1, RECORD, stdin)) == RECORD)
             play(record);
         if (got > 0 && !ferror(stdin))
             say('R', NO_CALL);
+        list_left();
     }
-    if (ferror(stdin) || fflush(stdout) != 0 || ferror(stdout)) {
+    if (!whole()) {
         fprintf(stderr, "%s: the listing is not whole: input or output failed\n", argv[0]);
         return 1;
     }

@@ -5,6 +5,9 @@ import itertools
 import os
 import re
 import sys
+from functools import partial
+
+from check_ahead import compare_ahead
 
 ALIKE, DIFFER, NOT_COMPARED = range(3)          # exit statuses
 LONGEST = 200                                   # bytes of a line that are read
@@ -76,9 +79,10 @@ def look_at_first(line, name):
 
 
 def booked_slots(name):
-    """The flow that each slot of a listing is booked for, from slot 1 on."""
+    """The flow that each slot of a listing is booked for, from slot 1 on, and
+    how many slots are granted."""
     slots = []
-    number = 0
+    number = grants = 0
     for number, line in lines_of(name, "a listing"):
         if number == 1:
             look_at_first(line, name)
@@ -88,13 +92,14 @@ def booked_slots(name):
                                             MORE))
         if line.startswith("T "):
             slots.append(flow_of(line[2:]))
+        grants += line.startswith("G ")
     if number == 0:
         raise Trouble("%s is empty, and a listing begins with 'P 0'%s" % (
             called(name), MORE))
     if not slots:
         raise Trouble("%s has no T line: no slot came up, and there is "
                       "nothing to compare" % called(name))
-    return slots
+    return slots, grants
 
 
 def no_stream(number, line, name):
@@ -190,16 +195,24 @@ def compare(booked, sent, frame_slots):
 
 # ---- how it is started
 
-def slots_to_a_frame(words):
-    """F of --slots, which is taken off the words, or None."""
-    if words[:1] != ["--slots"]:
-        return None
-    text = words[1] if len(words) > 1 else ""
+def frame_of_slots(text):
+    """F of --slots."""
     if not NUMBER.fullmatch(text) or not 1 <= int(text) <= 64:
         raise Trouble("--slots takes F, the slots to a frame, 1 to 64, and "
                       "not '%s'%s" % (shown(text), MORE))
-    del words[:2]
     return int(text)
+
+
+def options_of(words):
+    """F of --slots, or None, and whether tiles may leave ahead; both are taken
+    off the words."""
+    frame_slots, ahead = None, False
+    while words[:1] in (["--slots"], ["--ahead"]):
+        if words.pop(0) == "--ahead":
+            ahead = True
+        else:
+            frame_slots = frame_of_slots(words.pop(0) if words else "")
+    return frame_slots, ahead
 
 
 def two_names(words):
@@ -216,11 +229,22 @@ def two_names(words):
     return words
 
 
+def comparison(words):
+    """The exit status, and the lines to be printed."""
+    frame_slots, ahead = options_of(words)
+    booked_name, sent_name = two_names(words)
+    booked, grants = booked_slots(booked_name)
+    sent = sent_slots(sent_name)
+    if not ahead:
+        return compare(booked, sent, frame_slots)
+    in_time, lines = compare_ahead(
+        booked, sent, grants - len(booked) + booked.count(None),
+        partial(place, frame_slots=frame_slots))
+    return ALIKE if in_time else DIFFER, lines
+
+
 def main(words):
-    frame_slots = slots_to_a_frame(words)
-    booked, sent = two_names(words)
-    status, lines = compare(booked_slots(booked), sent_slots(sent),
-                            frame_slots)
+    status, lines = comparison(words)
     try:
         print("\n".join(lines), flush=True)
     except OSError:

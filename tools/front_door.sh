@@ -11,7 +11,10 @@ stop() {
     exit "$status"
 }
 
-is_open() { (eval "exec 9>&$1") 2>/dev/null; }
+# Whether a file descriptor is open; of standard error it has to be asked before that is turned elsewhere.
+is_open() {
+    if [ "$1" = 2 ]; then (exec 9>&2); else (eval "exec 9>&$1") 2>/dev/null; fi
+}
 
 # Ends where --version is one of several words; how many there are is given.
 check_alone() {

@@ -4,10 +4,12 @@ import itertools
 import tempfile
 from functools import partial
 
+from ahead import wrong_sendings
 from demand3 import wrong_listings
 from driver import (
-    cases, pair_suite, plain_rust, question_cases, round_trips, way_suite,
-    wrong_answers)
+    ahead_suite, cases, pair_suite, plain_rust, question_cases, round_trips,
+    way_suite, wrong_answers)
+from driver.ahead_suite import AheadSuite
 from driver.c_side import c_side
 from driver.formats import ALLCALLS
 from driver.pair_suite import PairSuite
@@ -20,14 +22,15 @@ from driver.tally import (
 from driver.way_suite import WaySuite
 from edges import questions, refusals_page
 from edges.all_edges import ALLCALLS_EDGES, EDGES
-from front_door import architecture_page, decisions_page, doc_names
 from front_door import (
-    asking_editor, calls_text, check_log, checklist_page, comparison_page,
-    flights, help_pages, man_pages, must_fail_edits, old_program, page_sizes,
-    performance_page, picture_errors,
-    picture_pages, picture_scripts, picture_sizes, picture_view, pictures,
-    plan_check, plan_culprits, plan_delays, plan_files, plan_lost_output,
-    plan_read, plan_week, plan_wrong_words, play_explain, play_files, play_lost_output,
+    architecture_page, bench_ahead, decisions_page, doc_names)
+from front_door import (
+    asking_editor, calls_text, check_ahead, check_log, checklist_page,
+    comparison_page, flights, help_pages, man_pages, must_fail_edits,
+    old_program, page_sizes, performance_page, picture_errors, picture_pages,
+    picture_scripts, picture_sizes, picture_view, pictures, plan_check,
+    plan_culprits, plan_delays, plan_files, plan_lost_output, plan_read,
+    plan_week, plan_wrong_words, play_explain, play_files, play_lost_output,
     play_options, play_states, progress, readme, remedies, rules_page,
     singular, slow_reader, tests_lost_output, versions, wrong_arguments)
 from front_door import desk_page, page_links, program_stacks, proved_page
@@ -37,16 +40,15 @@ from ways import wrong_ways
 
 PAGES = (proved_page, program_stacks, desk_page, page_links)
 FRONT_DOOR = (
-    decisions_page, architecture_page, doc_names,
-    play_files, play_lost_output, play_explain, play_options, play_states,
-    pictures, picture_sizes, picture_pages, picture_scripts, picture_view,
-    picture_errors, singular, calls_text, plan_files, plan_culprits, plan_read,
-    plan_check, plan_delays,
-    plan_week, plan_wrong_words, plan_lost_output, check_log, flights,
-    old_program, slow_reader, asking_editor, wrong_arguments,
-    tests_lost_output, performance_page, page_sizes, must_fail_edits,
-    progress, versions, help_pages, man_pages, readme, rules_page, remedies,
-    checklist_page, comparison_page)
+    decisions_page, architecture_page, doc_names, play_files, play_lost_output,
+    play_explain, play_options, play_states, pictures, picture_sizes,
+    picture_pages, picture_scripts, picture_view, picture_errors, singular,
+    calls_text, plan_files, plan_culprits, plan_read, plan_check, plan_delays,
+    plan_week, plan_wrong_words, plan_lost_output, check_log, check_ahead,
+    flights, old_program, slow_reader, asking_editor, wrong_arguments,
+    tests_lost_output, bench_ahead, performance_page, page_sizes,
+    must_fail_edits, progress, versions, help_pages, man_pages, readme,
+    rules_page, remedies, checklist_page, comparison_page)
 
 
 def wanted(names, only):
@@ -78,6 +80,12 @@ def ways():
         yield "way: " + name, trouble
 
 
+def sendings():
+    """The check of runs with sending ahead sends back what it has to."""
+    for name, trouble in wrong_sendings.missed():
+        yield "sending: " + name, trouble
+
+
 def answers():
     """Wrong answers of domeplan are told."""
     for name, trouble in wrong_answers.missed():
@@ -99,7 +107,8 @@ def tables():
 def without_program(only):
     """The suite of what the tests themselves have to be."""
     suite = Suite("tests")
-    tests = itertools.chain(listings(), pairs(), ways(), answers(), tables())
+    tests = itertools.chain(listings(), pairs(), ways(), sendings(), answers(),
+                            tables())
     for name, trouble in counted(suite.name, wanted(tests, only)):
         suite.test(name, trouble)
     test_all(suite, self_tests.tests(), only)
@@ -234,6 +243,17 @@ def play_ways(suites, only, count, seed):
     return suites
 
 
+def play_ahead(suites, only, count, seed):
+    """The same of runs without and with tiles sent ahead."""
+    suites = [AheadSuite(suite) for suite in suites
+              if suite.form is ALLCALLS and suite.command]
+    play_cases("sent ahead", suites, ahead_suite.seeds(count, seed), only)
+    for suite in suites:
+        if not only:
+            suite.totals()
+    return suites
+
+
 def play_questions(suite, only, count, seed):
     """Questions of the show editor, and the totals if nothing is left out.
     The tally of the generated ones."""
@@ -283,6 +303,8 @@ def play_all(domelink, allcalls, domeplan, library, only, count, seed):
             [suite for suite in programs if suite.command], only, count, seed)
         in_pairs = play_pairs(players, only, count, seed)
         on_ways = play_ways(players, only, count, seed)
-    tallies += [in_pairs[0].tally, on_ways[0].tally,
+        sent_ahead = play_ahead(players, only, count, seed)
+    tallies += [in_pairs[0].tally, on_ways[0].tally, sent_ahead[0].tally,
                 play_questions(domeplan, only, count, seed)]
-    return programs + in_pairs + on_ways + [domeplan] + apart, tallies
+    return (programs + in_pairs + on_ways + sent_ahead + [domeplan] + apart,
+            tallies)

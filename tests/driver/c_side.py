@@ -16,7 +16,7 @@ from driver.plain_rust import trouble
 from driver.suite import Suite, first_difference
 from edges import bursts, lends, numbers, resets, turns
 from edges.all_edges import EDGES
-from front_door import c_player
+from front_door import c_ahead, c_player
 from front_door.pages import page
 from images import export_tests, stack_use
 
@@ -140,7 +140,9 @@ class Watcher:
     def player(self, builder):
         path, wrong = builder.program("player under " + self.name, PLAYER,
                                       *self.options)
-        return wrong or plays([*self.command, path])
+        return wrong or plays([*self.command, path]) or next(filter(None, (
+            c_ahead.differs([*self.command, path], edge.data)
+            for edge in some_edges())), None)
 
     def host(self, builder):
         """Without guards, so that a buffer ends where its memory does."""
@@ -197,6 +199,7 @@ class CSide:
                  c_player.build_tests(self.builder.library)]
         if self.player.command:
             tests.append(c_player.tests(*self.player.command))
+            tests.append(c_ahead.tests(*self.player.command))
         if self.exports.command:
             tests.append(export_tests.tests(
                 self.exports.command, IMAGES_EACH * count, seed))

@@ -148,7 +148,7 @@ WRONG = [
 
 class LogTree(Tree):
     script, crate = "check-log", "domelink"
-    needed = ("tools/check_log.py",)
+    needed = ("tools/check_log.py", "tools/check_ahead.py")
 
     def __init__(self, folder, program):
         """With the python3 that runs the tests first on the path."""

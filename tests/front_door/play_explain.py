@@ -139,6 +139,48 @@ def all_calls(tree, program):
         "line 4: lend is a call for the program allcalls")
 
 
+# F = 4 and T = 8.  Slot 2 is sent ahead in slot 0; in slot 3 the credit is
+# dated slot 5, which flow 0 has not booked; in slot 4 it is flow 1's, and the
+# lend flow 0's; in slot 5 a tick stands between the two.
+SENT_AHEAD = """\
+plan F=4 W=2 N=6
+flow share=2 cells=3 from=1 to=9
+flow share=2 cells=3 from=2 to=9
+ask 0
+ask 0
+ask 1
+lend 0
+credit 0 2
+tick 4
+lend 0
+credit 0 5
+tick
+ask 1
+lend 0
+credit 1 6
+tick
+ask 0
+credit 0 7
+"""
+AHEAD_IN_WORDS = (
+    "C taken: from slot 2 (position 2, frame 0) on flow 0 holds one less; "
+    "with the lend before it this sends the tile of slot 2 ahead, in slot 0, "
+    "if it has come and has not left ")
+
+
+def sent_ahead(tree, program):
+    """A lend and the credit after it, where its flow has booked the slot of
+    its date; of other credits it is not said."""
+    tree.copy(program, "target/bin/allcalls")
+    ended = tree.start("--allcalls", "--explain", tree.write(
+        "ahead.calls", SENT_AHEAD))
+    said = plain(ended.output.decode())
+    return trouble(ended) or (
+        AHEAD_IN_WORDS not in said and "not said: " + said
+        or said.count("ahead") != 1 and "said too often: " + said
+        or said.count(" C taken") != 4 and "credits: " + said)
+
+
 def the_dense_flight(tree):
     """What the summary adds up to, against the bare listing."""
     lines = tree.start("--dense").output.decode().splitlines()
@@ -273,4 +315,7 @@ def tests(programs):
 
     def with_all_calls(tree):
         return all_calls(tree, programs["allcalls"])
-    yield from in_trees((with_all_calls,), programs)
+
+    def a_tile_sent_ahead(tree):
+        return sent_ahead(tree, programs["allcalls"])
+    yield from in_trees((with_all_calls, a_tile_sent_ahead), programs)

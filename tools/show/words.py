@@ -104,8 +104,22 @@ class Words:
             plural(self.plan.flows[answer.flow].cells, "cell"))
 
     def credited(self, step, answer):
-        return "taken: from %s on flow %d holds one less" % (
-            place(answer.slot, self.plan), answer.flow)
+        return "taken: from %s on flow %d holds one less%s" % (
+            place(answer.slot, self.plan), answer.flow,
+            self.sent_ahead(step, answer))
+
+    def sent_ahead(self, step, answer):
+        """What a credit and the lend before it come to, where that was
+        answered with its flow, which has booked the slot of its date."""
+        before = self.replay.steps[max(step.number - 2, 0)]
+        state = self.replay.states[step.number]
+        if (before.call.kind != "lend"
+                or before.answers[0].flow != answer.flow
+                or state.owners[answer.slot - state.slots[0]] != answer.flow):
+            return ""
+        return "; with the lend before it this sends the tile of slot %d " \
+            "ahead, in slot %d, if it has come and has not left" % (
+                answer.slot, state.ticks)
 
     def tick(self, step, answer):
         whose = ("nobody booked it" if answer.flow is None

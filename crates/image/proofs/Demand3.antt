@@ -13,18 +13,19 @@ use Rattle.model.specs.Card.{paper}
 use Rattle.model.specs.SeveralLinks.{Board}
 use Rattle.model.specs.EnoughCells.{GivesBack}
 use Rattle.model.specs.SharesOfCells.{KeepsShares, EachGrantedNow}
+use Rattle.model.specs.SharesAhead.{KeepsSharesAhead, EachGrantedInTime}
 use Rattle.model.specs.Delay.{Timely, PromptOn, TimelyInOrder, SoonOn, SoonOnArrivalOn}
 use Rattle.images.specs.Taken.{refusalOf}
 use Rattle.images.specs.Exports.{Called, HandsBack, calledOn}
 use Rattle.images.specs.Chain.{eventOf, imageIn, Chain, starts, goes-on}
-use Rattle.images.proofs.Chain.{chain-taken, chain-meets, chain-fair, chain-numbers, chain-prompt, chain-soon-ahead, chain-soon, chain-enough-cells, chain-shares-of-cells, chain-board}
+use Rattle.images.proofs.Chain.{chain-taken, chain-meets, chain-fair, chain-numbers, chain-prompt, chain-soon-ahead, chain-soon, chain-enough-cells, chain-shares-of-cells, chain-shares-ahead, chain-board}
 use Rattle.image.specs.Hosted.{Hosted, by-fresh, by-request, by-credit, by-tick, by-lend, by-reset}
 
 module _ (plan : List ℕ) where
   -- some calls make this chain
-  record Chained (h : History) (b : List ℕ) : Type 0 where
-    calls : List Call
-    chain : Chain plan calls h b
+  pub record Chained (h : History) (b : List ℕ) : Type 0 where
+    pub calls : List Call
+    pub chain : Chain plan calls h b
 
   one-more : {h : History} {b : List ℕ} → Chained h b → (c : List ℕ) → imageIn c ≡ imageIn b → (call : Call) {r : ℕ} {after : List ℕ}
       → HandsBack (calledOn c call) r after → Chained (eventOf call r ∷ h) after
@@ -34,7 +35,7 @@ module _ (plan : List ℕ) where
         (goes-on (x .chain) c same call);
   }
 
-  chained : {h : History} {b : List ℕ} → Hosted plan h b → Chained h b
+  pub chained : {h : History} {b : List ℕ} → Hosted plan h b → Chained h b
   chained (by-fresh b (number, buffer)) = record { calls = []; chain = subst (Chain plan [] []) (sym buffer) (starts b (sym number)) }
   chained (by-request x c same word r e) = one-more (chained x) c same (Call.request word) e
   chained (by-credit x c same flow position r e) = one-more (chained x) c same (Call.credit flow position) e
@@ -74,6 +75,10 @@ module _ (plan : List ℕ) where
   pub host-shares-of-cells : (late : ℕ) {h : History} {b : List ℕ} → Hosted plan h b → (i : ℕ) → i < flowCount (planOf plan)
       → KeepsShares late 0 (planOf plan) i h → EachGrantedNow (planOf plan) i h
   host-shares-of-cells late x = chain-shares-of-cells plan late (chained x .chain)
+
+  pub host-shares-ahead : (ahead late : ℕ) {h : History} {b : List ℕ} → Hosted plan h b → (i : ℕ) → i < flowCount (planOf plan)
+      → KeepsSharesAhead ahead late 0 (planOf plan) i h → EachGrantedInTime (planOf plan) i h
+  host-shares-ahead ahead late x = chain-shares-ahead plan ahead late (chained x .chain)
 
   -- a board, for what is said of several links
   pub host-board : {h : History} {b : List ℕ} → Hosted plan h b → tally renews h ≡ 0 → (i : ℕ) → i < flowCount (planOf plan) → Board paper

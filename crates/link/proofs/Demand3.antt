@@ -60,7 +60,7 @@ one-turn (some i) none e = cc
 one-turn none (some j) e = cc
 one-turn none none e = refl
 
-one-loan : (a b : Loan) → answerToLend a ≡ answerToLend b → a ≡ b
+pub one-loan : (a b : Loan) → answerToLend a ≡ answerToLend b → a ≡ b
 one-loan (accepted i) (accepted j) e = cc
 one-loan (accepted i) (refused s) e = cc
 one-loan (refused r) (accepted j) e = cc
@@ -81,9 +81,9 @@ play-more r [] c = refl
 play-more r (x ∷ calls) c = play-more (step paper r x) calls c
 
 -- the calls that were made, played on the paper's card, come to this link with these events
-record RunOf (P : model.Plan) (h : History) (l : Link) : Type 0 where
-  calls : List Call
-  played : run paper P calls ≡ record { state = linkRead l; history = h }
+pub record RunOf (P : model.Plan) (h : History) (l : Link) : Type 0 where
+  pub calls : List Call
+  pub played : run paper P calls ≡ record { state = linkRead l; history = h }
 
 module _ {P : model.Plan} {h : History} {l : Link} (made : RunOf P h l) where
   -- one call more, with the event and the link that the card comes to
@@ -105,7 +105,7 @@ module _ {P : model.Plan} {h : History} {l : Link} (made : RunOf P h l) where
   known-of : model.Accepted P → Known P (record { state = linkRead l; history = h })
   known-of ok = subst (Known P) (made .played) (after-calls (started paper P) (made .calls) (after-fresh ok))
 
-run-of : {p : Plan} → model.Accepted (planFor p) → {h : History} {l : Link} → Handed p h l → RunOf (planFor p) h l
+pub run-of : {p : Plan} → model.Accepted (planFor p) → {h : History} {l : Link} → Handed p h l → RunOf (planFor p) h l
 unfolding play
 run-of ok (Handed.by-fresh is) = record { calls = []; played = λ k. record { state = sym (is .0) k; history = [] } }
 run-of ok (Handed.by-request {h} {l} g w r a s e) =
@@ -140,7 +140,7 @@ unfolding verdictFor
 accepted-passes zero e = refl
 accepted-passes (suc r) e = cc
 
-passes-of : (bytes : List ℕ) (o : Outcome) → o ≡ readOf bytes → o .verdict ≡ Accepted → model.refusal bytes ≡ 0
+pub passes-of : (bytes : List ℕ) (o : Outcome) → o ≡ readOf bytes → o .verdict ≡ Accepted → model.refusal bytes ≡ 0
 passes-of bytes o is accepts = accepted-passes (model.refusal bytes) (sym (ap (λ (x : Outcome). x .verdict) is ∙ verdict-of bytes) ∙ accepts)
 
 module _ (Q : model.Plan → History → Type 0) (runs : (P : model.Plan) → model.Accepted P → (calls : List Call) → Q P (run paper P calls .history)) where

@@ -31,6 +31,7 @@ pub mod Ticks
 mod StateTicks
 pub mod Told
 pub mod Demand3
+pub mod SendingAhead
 -- a state taken up again
 mod OwnerMasks
 pub mod Resumed

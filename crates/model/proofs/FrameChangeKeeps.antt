@@ -49,11 +49,11 @@ module _ {l : Link} {L : Ledger} (v : Invariant l L) (change : suc (L .now) % l 
   step : frameOf P (suc t) ≡ suc (frameOf P t)
   step = frame-changes ok t change
 
-  next-start : frameStart P (suc t) ≡ frameStart P t + F
+  pub next-start : frameStart P (suc t) ≡ frameStart P t + F
   next-start = let z : suc (frameOf P t) * F ≡ frameOf P t * F + F = omega arith in ap (_* F) step ∙ z
 
   -- A slot of the new window that was in the old one has no position of the old head, and one that was not has one.
-  kept : (s : ℕ) → InWindow P (suc t) s → s < end → inOldHead (s % T) ≡ false
+  pub kept : (s : ℕ) → InWindow P (suc t) s → s < end → inOldHead (s % T) ≡ false
   kept s w h = ne-eqb (frameAt (window l) (s % T)) (head (window l)) differ
     where
       differ : s % T / F ≡ head (window l) → ⊥
@@ -64,7 +64,7 @@ module _ {l : Link} {L : Ledger} (v : Invariant l L) (change : suc (L .now) % l 
           let z : frameOf P s ≡ frameOf P t = mod-unique (some-frame ok) {b = frameOf P t} (omega arith) high (omega arith) (omega arith) at-head in
           omega arith
 
-  added : (s : ℕ) → InWindow P (suc t) s → end ≤ s → inOldHead (s % T) ≡ true
+  pub added : (s : ℕ) → InWindow P (suc t) s → end ≤ s → inOldHead (s % T) ≡ true
   added s w h =
       let low = frame-low ok (frameOf P t + W) s (omega arith) in
       let high = frame-high ok (suc (frameOf P t + W)) s (omega (arith, w .high, next-start)) in
@@ -72,7 +72,7 @@ module _ {l : Link} {L : Ledger} (v : Invariant l L) (change : suc (L .now) % l 
       eq-eqb (frameAt (window l) (s % T)) (head (window l))
       (frame-of-position ok s ∙ ap (_% W) z ∙ add-mod-right (frameOf P t) W ∙ sym (head-is (v .current)))
 
-  before : (s : ℕ) → InWindow P (suc t) s → s < end → InWindow P t s
+  pub before : (s : ℕ) → InWindow P (suc t) s → s < end → InWindow P t s
   before s w h = record { low = omega (arith, w .low, next-start); high = h }
 
   -- ---- "the old head's positions are emptied"

@@ -91,6 +91,21 @@ pub mod LinksOnArrival
 pub mod Source
 pub mod FromSource
 pub mod CreditedByNext
+pub mod BooksInOrder
+pub mod Ahead
+pub mod Replays
+pub mod FewerValid
+pub mod CloseLinks
+pub mod CloseRequests
+pub mod CloseCalls
+pub mod AheadRuns
+pub mod AheadInTurn
+pub mod Sendings
+pub mod LeaveInOrder
+pub mod SendsAhead
+pub mod AheadOverLinks
+pub mod AheadInOrder
+pub mod InTurnWithout
 pub mod Outlines
 -- edges, cards that demand 3 sends back, streams that meet the premise of the least count, and what its premises on words are for
 pub mod Unfoldings
@@ -124,3 +139,5 @@ pub mod CellsNeeded
 pub mod OnArrivalExample
 pub mod SourceExample
 pub mod ByCreditsExample
+pub mod LessAhead
+pub mod BadSendings

@@ -32,28 +32,28 @@ module _ {l : Link} {L : Ledger} (v : Invariant l L) {i : ℕ} (known : i < flow
   open Ledger L using (now as t)
   open Current (v .current) using (accepted as ok)
 
-  abbrev foundSlot : ℕ
+  abbrev pub foundSlot : ℕ
   foundSlot = a * F + (p - a % W * F)
 
   place-below : p - a % W * F < F
   place-below = omega (arith, hit .low, hit .high)
 
-  in-frame : frameOf P foundSlot ≡ a
+  pub in-frame : frameOf P foundSlot ≡ a
   in-frame = digits-div a place-below
 
-  at-position : foundSlot % positions P ≡ p
+  pub at-position : foundSlot % positions P ≡ p
   at-position = position-of ok a (p - a % W * F) place-below ∙ (let z : a % W * F + (p - a % W * F) ≡ p = omega (arith, hit .low) in z)
 
-  in-window : InWindow P t foundSlot
+  pub in-window : InWindow P t foundSlot
   in-window = frame-slot-in-window ok t a (p - a % W * F) low high place-below
 
   passes : (valid l i (foundSlot % positions P) ≡ true) × (canLeave (window l) d (foundSlot % positions P) ≡ true)
   passes = valid-for-parts l i d (foundSlot % positions P) (ap (validFor l i d) at-position ∙ hit .passes)
 
-  free : Open v known foundSlot
+  pub free : Open v known foundSlot
   free = valid-open v known foundSlot in-window (passes .0)
 
-  slot-is : slotAfter P t p ≡ foundSlot
+  pub slot-is : slotAfter P t p ≡ foundSlot
   slot-is = ap (slotAfter P t) (sym at-position) ∙ slotAfter-is ok t foundSlot in-window (free .to-come)
 
   pub found-in-frame : frameOf P (slotAfter P t p) ≡ a

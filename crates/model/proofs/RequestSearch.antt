@@ -44,7 +44,7 @@ module _ {l : Link} {L : Ledger} (v : Invariant l L) {i : ℕ} (known : i < flow
 
   -- ---- a frame to come from which on the flow has room, and in every slot of which the tile can leave, is full if the search fails in it
 
-  not-valid : (s : ℕ) → InWindow P t s → t < s → Room P (L .raises) (L .credits) i s → canLeave (window l) d (s % T) ≡ true → validFor l i d (s % T) ≡ false
+  pub not-valid : (s : ℕ) → InWindow P t s → t < s → Room P (L .raises) (L .credits) i s → canLeave (window l) d (s % T) ≡ true → validFor l i d (s % T) ≡ false
       → 0 < tally (atSlot s) (L .grants)
   not-valid s w h room leaves e = go (tally (atSlot s) (L .grants)) refl
     where

@@ -43,6 +43,12 @@ pub mod SharesAhead
 pub mod LinksOnArrival
 pub mod Source
 pub mod CreditedByNext
+pub mod BooksInOrder
+pub mod Ahead
+pub mod AheadRuns
+pub mod Sendings
+pub mod AheadOverLinks
+pub mod LessAhead
 -- worked examples, and cards that are sent back
 pub mod PlanBytes
 pub mod EdgeCases
@@ -65,3 +71,4 @@ pub mod BadResets
 pub mod BadTurns
 pub mod BadNumbers
 pub mod BadDelays
+pub mod BadSendings

@@ -1,0 +1,139 @@
+-- Two lists of a host's calls from one plan, and sending ahead: what is proved of the paper's card holds of their answers. Assumes nothing.
+use Prim.Native.Nat.{ℕ, _<_}
+use mathlib.Core.Path.{_≡_, sym, ap, _∙_, subst}
+use mathlib.Core.List.{List, _∷_, [], _++_}
+use mathlib.Core.Bool.{false}
+use Rattle.model.specs.Plan.{Plan, positions, flowCount, planOf, refusal}
+use Rattle.model.specs.Calls.{Call, Receipt, Loan, History, credited, lent, accepted}
+use Rattle.model.specs.Credit.{credit}
+use Rattle.model.specs.Lend.{lend}
+use Rattle.model.specs.History.{ticks, hasCome}
+use Rattle.model.specs.Claim.{EachSince, ReadyAt}
+use Rattle.model.specs.Card.{Played, paper, step, play, started, run}
+use Rattle.model.specs.Delay.{AsksAt}
+use Rattle.model.specs.TwoRuns.{Aligned, AsksUntil11, SameFrames}
+use Rattle.model.specs.BooksInOrder.{InTurn, InOrder}
+use Rattle.model.specs.AheadRuns.{WithAhead, GrantsAfter, NoneTakenAlone, OfBooked, SendersInTurn, BookedAlike}
+use Rattle.model.specs.Sendings.{Sending, EachReady, SentWell, sendingOf, FirstFirst, LeaveInOrder, SendersInTurnThere}
+use Rattle.model.proofs.CountedBursts.{play-both}
+use Rattle.model.proofs.Demand3.{meets}
+use Rattle.model.proofs.SameFrames.{same-frames}
+use Rattle.model.proofs.Ahead.{taken}
+use Rattle.model.proofs.BooksInOrder.{books-in-order, ready-in-order}
+use Rattle.model.proofs.AheadRuns.{nobody-moves}
+use Rattle.model.proofs.AheadInTurn.{in-turn-nobody-moves}
+use Rattle.model.proofs.Sendings.{sends-well}
+use Rattle.model.proofs.SendsAhead.{sends-ahead}
+use Rattle.model.proofs.AheadInOrder.{ahead-in-order}
+use Rattle.model.proofs.InTurnWithout.{in-turn-without}
+use Rattle.images.specs.Exports.{HandsBack, calledOn, creditOn, lendOn}
+use Rattle.images.specs.Chain.{answerOf, imageIn, goes-on}
+use Rattle.images.proofs.Chain.{chain-follows}
+use Rattle.image.specs.Hosted.{Hosted}
+use Rattle.image.proofs.Demand3.{chained}
+
+-- a credit after a lend: their answers, and the events before them
+record Told (a a′ : Receipt) (b b′ : Loan) (h h′ : History) : Type 0 where
+  receipt : a ≡ a′
+  loan : b ≡ b′
+  before : h ≡ h′
+
+told : (i p mask : ℕ) (a a′ : Receipt) (b b′ : Loan) (h h′ : History)
+    → _≡_ {A = History} (credited i p a ∷ lent mask b ∷ h) (credited i p a′ ∷ lent mask b′ ∷ h′) → Told a a′ b b′ h h′
+told i p mask a a′ b b′ h h′ e = record { receipt = cc; loan = cc; before = cc }
+
+-- two calls more
+two-more : (P : Plan) (calls : List Call) (x y : Call)
+    → run paper P ((calls ++ (x ∷ [])) ++ (y ∷ [])) ≡ step paper (step paper (run paper P calls) x) y
+unfolding play
+two-more P calls x y =
+    play-both (started paper P) (calls ++ (x ∷ [])) (y ∷ []) ∙ ap (λ r. step paper r y) (play-both (started paper P) calls (x ∷ []))
+
+module _ (plan : List ℕ) where
+  abbrev P : Plan
+  P = planOf plan
+
+  -- what holds of every run of the paper's card, and of any two
+  has : (Q : History → Type 0) → (refusal plan ≡ 0 → (calls : List Call) → Q (run paper P calls .history)) → {h : History} {b : List ℕ}
+      → Hosted plan h b → Q h
+  has Q runs x =
+      let made = chained plan x in
+      let f = chain-follows plan (made .chain) in
+      subst Q (sym (f .history-is)) (runs (f .plan-passes) (made .calls))
+
+  both-have : (Q : History → History → Type 0)
+      → (refusal plan ≡ 0 → (calls₁ calls₂ : List Call) → Q (run paper P calls₁ .history) (run paper P calls₂ .history))
+      → {h₁ h₂ : History} {b₁ b₂ : List ℕ} → Hosted plan h₁ b₁ → Hosted plan h₂ b₂ → Q h₁ h₂
+  both-have Q runs {h₁} {h₂} x₁ x₂ = has (λ h. Q h h₂) (λ passes calls. has (Q (run paper P calls .history)) (λ again. runs passes calls) x₂) x₁
+
+  -- document 02, N14: the neighbours can't move a flow's frames
+  pub host-unmoved : {h₁ h₂ : History} {b₁ b₂ : List ℕ} → Hosted plan h₁ b₁ → Hosted plan h₂ b₂ → (i : ℕ) → i < flowCount P
+      → (aligned : Aligned i h₁ h₂) → AsksUntil11 P i h₁ → AsksUntil11 P i h₂ → SameFrames P 1 aligned
+  host-unmoved =
+      both-have (λ h₁ h₂. (i : ℕ) → i < flowCount P → (aligned : Aligned i h₁ h₂) → AsksUntil11 P i h₁ → AsksUntil11 P i h₂ → SameFrames P 1 aligned)
+      (same-frames plan)
+
+  -- ---- sending ahead
+
+  -- A lend that is answered with flow i, and then a credit of i: it is taken, if it is dated a position later than CP.
+  pub host-credit-taken : {h : History} {b : List ℕ} → Hosted plan h b → (c : List ℕ) → imageIn c ≡ imageIn b → (mask i p r s : ℕ) {after last : List ℕ}
+      → HandsBack (lendOn c mask) r after → answerOf r r ≡ accepted i → (d : List ℕ) → imageIn d ≡ imageIn after → HandsBack (creditOn d i p) s last
+      → p < positions P → hasCome P (ticks h) p ≡ false → _≡_ {A = Receipt} (answerOf tt s) (accepted tt)
+  host-credit-taken {h} x c same mask i p r s lends answer d again credits below yet =
+      let calls = chained plan x .calls in
+      let l = run paper P calls .state in
+      let one = calledOn c (Call.lend mask) .result in
+      let two = calledOn d (Call.credit i p) .result in
+      let f = chain-follows plan (goes-on (goes-on (chained plan x .chain) c same (Call.lend mask)) d (again ∙ ap imageIn (lends .1)) (Call.credit i p)) in
+      let are = told i p mask (answerOf tt two) (credit (lend l mask .link) i p .answer) (answerOf one one) (lend l mask .answer) h (run paper P calls .history)
+      (f .history-is ∙ ap (λ (q : Played paper). q .history) (two-more P calls (Call.lend mask) (Call.credit i p))) in
+      let loan : lend l mask .answer ≡ accepted i = sym (are .loan) ∙ ap (λ n. answerOf n n) (sym (lends .0)) ∙ answer in
+      let receipt : _≡_ {A = Receipt} (answerOf tt s) (answerOf tt two) = ap (λ n. answerOf tt n) (credits .0) in
+      receipt ∙ are .receipt ∙ taken plan (f .plan-passes) calls mask i p loan below (subst (λ k. hasCome P (ticks k) p ≡ false) (are .before) yet)
+
+  -- A flow in turn books in order, and one that is ready at each request is in turn.
+  pub host-books-in-order : {h : History} {b : List ℕ} → Hosted plan h b → (i : ℕ) → i < flowCount P → EachSince (AsksAt InTurn P i) h → InOrder P i h
+  host-books-in-order = has (λ h. (i : ℕ) → i < flowCount P → EachSince (AsksAt InTurn P i) h → InOrder P i h) (books-in-order plan)
+
+  pub host-ready-in-order : {h : History} {b : List ℕ} → Hosted plan h b → (i : ℕ) → i < flowCount P → EachSince (ReadyAt P i) h
+      → EachSince (AsksAt InTurn P i) h
+  host-ready-in-order = has (λ h. (i : ℕ) → i < flowCount P → EachSince (ReadyAt P i) h → EachSince (AsksAt InTurn P i) h) (ready-in-order plan)
+
+  -- never early, never late, never over, one to a slot
+  pub host-sends-well : {h : History} {b : List ℕ} → Hosted plan h b → (x : Sending h) → EachReady P x → SentWell P x
+  host-sends-well = has (λ h. (x : Sending h) → EachReady P x → SentWell P x) (sends-well paper meets plan)
+
+  -- ---- beside a run without any
+
+  pub host-nobody-moves : {h₁ h₂ : History} {b₁ b₂ : List ℕ} → Hosted plan h₁ b₁ → Hosted plan h₂ b₂ → (x : WithAhead h₁ h₂)
+      → GrantsAfter P x → NoneTakenAlone x → BookedAlike P x
+  host-nobody-moves = both-have (λ h₁ h₂. (x : WithAhead h₁ h₂) → GrantsAfter P x → NoneTakenAlone x → BookedAlike P x) (nobody-moves plan)
+
+  pub host-in-turn-nobody-moves : {h₁ h₂ : History} {b₁ b₂ : List ℕ} → Hosted plan h₁ b₁ → Hosted plan h₂ b₂ → (x : WithAhead h₁ h₂)
+      → OfBooked P x → SendersInTurn P x → NoneTakenAlone x → BookedAlike P x
+  host-in-turn-nobody-moves =
+      both-have (λ h₁ h₂. (x : WithAhead h₁ h₂) → OfBooked P x → SendersInTurn P x → NoneTakenAlone x → BookedAlike P x) (in-turn-nobody-moves plan)
+
+  -- it is enough that they are in turn in the run with tiles sent ahead
+  pub host-in-turn-without : {h₁ h₂ : History} {b₁ b₂ : List ℕ} → Hosted plan h₁ b₁ → Hosted plan h₂ b₂ → (x : WithAhead h₁ h₂)
+      → EachReady P (sendingOf x) → NoneTakenAlone x → SendersInTurnThere P x → SendersInTurn P x
+  host-in-turn-without =
+      both-have (λ h₁ h₂. (x : WithAhead h₁ h₂) → EachReady P (sendingOf x) → NoneTakenAlone x → SendersInTurnThere P x → SendersInTurn P x)
+      (in-turn-without plan)
+
+  -- bookings alike, and sent well
+  pub host-sends-ahead : {h₁ h₂ : History} {b₁ b₂ : List ℕ} → Hosted plan h₁ b₁ → Hosted plan h₂ b₂ → (x : WithAhead h₁ h₂)
+      → EachReady P (sendingOf x) → SendersInTurn P x → NoneTakenAlone x → BookedAlike P x × SentWell P (sendingOf x)
+  host-sends-ahead =
+      both-have
+      (λ h₁ h₂. (x : WithAhead h₁ h₂) → EachReady P (sendingOf x) → SendersInTurn P x → NoneTakenAlone x → BookedAlike P x × SentWell P (sendingOf x))
+      (sends-ahead plan)
+
+  -- in order
+  pub host-ahead-in-order : {h₁ h₂ : History} {b₁ b₂ : List ℕ} → Hosted plan h₁ b₁ → Hosted plan h₂ b₂ → (x : WithAhead h₁ h₂)
+      → EachReady P (sendingOf x) → SendersInTurn P x → NoneTakenAlone x → (i : ℕ) → FirstFirst P (sendingOf x) i → LeaveInOrder P (sendingOf x) i
+  host-ahead-in-order =
+      both-have
+      (λ h₁ h₂. (x : WithAhead h₁ h₂) → EachReady P (sendingOf x) → SendersInTurn P x → NoneTakenAlone x → (i : ℕ) → FirstFirst P (sendingOf x) i
+      → LeaveInOrder P (sendingOf x) i)
+      (ahead-in-order plan)

@@ -1,0 +1,211 @@
+-- Sendings: no tile leaves late, no two in one slot, and no more of a flow than its cells; and they leave in order. Assumes nothing.
+use Prim.Native.Nat.{ℕ, _+_, _≤_, _<_}
+use mathlib.Core.Path.{_≡_, refl, _∙_}
+use mathlib.Core.List.{List, _∷_, []}
+use mathlib.Core.Bool.{Bool, true, false, _&&_, cond}
+use native.Mathlib.Omega.{arith}
+use lib.Dec.{leb, ltb, eqb}
+use borrow.Author.Tests.{leb-true, le-ltb, eqb-true}
+use Rattle.model.specs.Tables.{bit, tally}
+use Rattle.model.specs.Word.{departureOf}
+use Rattle.model.specs.Plan.{Plan, flowCount, entry, planOf}
+use Rattle.model.specs.Calls.{Event, History, requested, credited, ticked, lent, accepted, refused}
+use Rattle.model.specs.History.{Mark, ticks, slotAfter, hasCome, marksOf, grantAt, creditAt, lendAt, grants, credits, lends, upTo}
+use Rattle.model.specs.Claim.{Each, HeldAt, AfterDepartureAt, GrantedWordAt, Demand3}
+use Rattle.model.specs.Claim as claim
+use Rattle.model.specs.Card.{Card, Meets}
+use Rattle.model.specs.Delay.{dueSlot}
+use Rattle.model.specs.Sendings.{Sending, nothing, event, ahead, Tile, tileAt, waits, ready, leavesIn, tiles, givenBack, EachReady, SentWell}
+use Rattle.model.specs.Sendings.{SendsWell}
+use Rattle.model.proofs.Tests.{and-true}
+use Rattle.model.proofs.Plan.{accepted as accepted-plan}
+use Rattle.model.proofs.Tallies.{tally-append}
+use Rattle.model.proofs.NewestGrants.{slot-to-come}
+use Rattle.model.proofs.TimelyRequests.{due-if-come, due-if-not}
+
+-- ---- a tile that leaves in another slot
+
+-- what the waiting tile of flow i with slot s is
+pub record Waits (i s : ℕ) (m : Tile) : Type 0 where
+  pub flow : m .flow ≡ i
+  pub slot : m .slot ≡ s
+  pub leaves : m .leaves ≡ s
+
+waits-is : (i s : ℕ) (m : Tile) → waits i s m ≡ true → Waits i s m
+waits-is i s m e =
+    let a = and-true (eqb (m .flow) i && eqb (m .slot) s) (eqb (m .leaves) s) e in
+    let b = and-true (eqb (m .flow) i) (eqb (m .slot) s) (a .0) in
+    record { flow = eqb-true (m .flow) i (b .0); slot = eqb-true (m .slot) s (b .1); leaves = eqb-true (m .leaves) s (a .1) }
+
+pub ready-is : (i s t : ℕ) (m : Tile) → ready i s t m ≡ true → Waits i s m × (m .due ≤ t)
+ready-is i s t m e = let a = and-true (waits i s m) (leb (m .due) t) e in (waits-is i s m (a .0), leb-true (m .due) t (a .1))
+
+-- tiles counted by flow and by the slot in which they leave
+abbrev byLeaving : (ℕ → ℕ → Bool) → Tile → Bool
+byLeaving q m = q (m .flow) (m .leaves)
+
+abbrev bySlot : (ℕ → ℕ → Bool) → Mark → Bool
+bySlot q m = q (m .flow) (m .slot)
+
+-- the count with the tile where it leaves now, and with it where it waited
+moved-count : (q : ℕ → ℕ → Bool) (i s t : ℕ) (ms : List Tile) → 0 < tally (ready i s t) ms
+    → tally (byLeaving q) (leavesIn i s t ms) + bit (q i s) ≡ tally (byLeaving q) ms + bit (q i t)
+unfolding tally leavesIn
+moved-count q i s t [] some = absurd (omega arith)
+moved-count q i s t (m ∷ ms) some = go (ready i s t m) refl some (moved-count q i s t ms)
+  where
+    go : (b : Bool) → ready i s t m ≡ b → 0 < bit b + tally (ready i s t) ms
+        → (0 < tally (ready i s t) ms → tally (byLeaving q) (leavesIn i s t ms) + bit (q i s) ≡ tally (byLeaving q) ms + bit (q i t))
+        → tally (byLeaving q) (cond b (record { flow = i; due = m .due; slot = s; leaves = t } ∷ ms) (m ∷ leavesIn i s t ms)) + bit (q i s)
+        ≡ bit (q (m .flow) (m .leaves)) + tally (byLeaving q) ms + bit (q i t)
+    go true e some rest = let w = ready-is i s t m e .0 in rw (w .flow, w .leaves) (omega arith)
+    go false e some rest = omega (arith, rest (omega arith))
+
+-- ---- tiles, grants, lends and credits
+
+module _ (P : Plan) where
+  -- the slots that tiles were sent ahead of
+  abbrev dates : {h : History} → Sending h → List Mark
+  dates nothing = []
+  dates (event e x) = dates x
+  dates (ahead {h = h} i p x) = record { flow = i; slot = slotAfter P (ticks h) p } ∷ dates x
+
+  new-count : (q : ℕ → ℕ → Bool) (e : Event) (h : History)
+      → tally (byLeaving q) (tileAt P e h) ≡ tally (bySlot q) (grantAt P e h) + tally (bySlot q) (lendAt e h)
+  unfolding tally
+  new-count q (requested w (accepted v)) h = omega arith
+  new-count q (requested w (refused r)) h = refl
+  new-count q (credited i p a) h = refl
+  new-count q (ticked x) h = refl
+  new-count q (lent m (accepted i)) h = omega arith
+  new-count q (lent m (refused r)) h = refl
+  new-count q (Event.reset a) h = refl
+
+  -- a tile for each grant and each lend, but for the lends that send ahead
+  tile-count : (q : ℕ → ℕ → Bool) {h : History} (x : Sending h) → EachReady P x
+      → tally (byLeaving q) (tiles P x) + tally (bySlot q) (dates x) ≡ tally (bySlot q) (grants P h) + tally (bySlot q) (lends h)
+  unfolding tally grants lends marksOf
+  tile-count q nothing each = refl
+  tile-count q (event {h = h} e x) each =
+      omega (
+        arith,
+        tally-append (byLeaving q) (tileAt P e h) (tiles P x),
+        new-count q e h,
+        tally-append (bySlot q) (grantAt P e h) (grants P h),
+        tally-append (bySlot q) (lendAt e h) (lends h),
+        tile-count q x each,
+      )
+  tile-count q (ahead {h = h} i p x) each =
+      omega (arith, moved-count q i (slotAfter P (ticks h) p) (ticks h) (tiles P x) (each .0), tile-count q x (each .1))
+
+  credit-count : (f : Mark → Bool) {h : History} (x : Sending h) → tally f (credits P h) ≡ tally f (givenBack P x) + tally f (dates x)
+  unfolding tally credits marksOf ticks
+  credit-count f nothing = refl
+  credit-count f (event {h = h} e x) =
+      omega (arith, tally-append f (creditAt P e h) (credits P h), tally-append f (creditAt P e h) (givenBack P x), credit-count f x)
+  credit-count f (ahead {h = h} {m = m} i p x) =
+      let dated = bit (f (record { flow = i; slot = slotAfter P (ticks h) p })) in
+      let one-more : tally f (credits P (credited i p (accepted tt) ∷ lent m (accepted i) ∷ h)) ≡ dated + tally f (credits P h) = refl in
+      let sent : tally f (dates (ahead {h = h} {m = m} i p x)) ≡ dated + tally f (dates x) = refl in
+      one-more ∙ (let z : dated + tally f (credits P h) ≡ tally f (givenBack P x) + (dated + tally f (dates x)) = omega (arith, credit-count f x) in z)
+
+  -- ---- never late
+
+  abbrev late : Tile → Bool
+  late m = ltb (m .slot) (m .leaves)
+
+  moved-late : (i s t : ℕ) (ms : List Tile) → t ≤ s → tally late ms ≡ 0 → tally late (leavesIn i s t ms) ≡ 0
+  unfolding tally leavesIn
+  moved-late i s t [] le none = refl
+  moved-late i s t (m ∷ ms) le none = go (ready i s t m) (moved-late i s t ms le)
+    where
+      go : (b : Bool) → (tally late ms ≡ 0 → tally late (leavesIn i s t ms) ≡ 0)
+          → tally late (cond b (record { flow = i; due = m .due; slot = s; leaves = t } ∷ ms) (m ∷ leavesIn i s t ms)) ≡ 0
+      go true rest = rw (le-ltb s t le) (omega arith)
+      go false rest = omega (arith, rest (omega arith))
+
+  new-late : (e : Event) (h : History) → tally late (tileAt P e h) ≡ 0
+  unfolding tally
+  new-late (requested w (accepted v)) h = rw (le-ltb (slotAfter P (ticks h) (departureOf v)) (slotAfter P (ticks h) (departureOf v)) (omega arith)) refl
+  new-late (requested w (refused r)) h = refl
+  new-late (credited i p a) h = refl
+  new-late (ticked x) h = refl
+  new-late (lent m (accepted i)) h = rw (le-ltb (ticks h) (ticks h) (omega arith)) refl
+  new-late (lent m (refused r)) h = refl
+  new-late (Event.reset a) h = refl
+
+  pub none-late : {h : History} (x : Sending h) → tally late (tiles P x) ≡ 0
+  unfolding tally
+  none-late nothing = refl
+  none-late (event {h = h} e x) = omega (arith, tally-append late (tileAt P e h) (tiles P x), new-late e h, none-late x)
+  none-late (ahead {h = h} i p x) =
+      moved-late i (slotAfter P (ticks h) p) (ticks h) (tiles P x) (omega (arith, slot-to-come P (ticks h) p)) (none-late x)
+
+  -- ---- never early
+
+  abbrev early : Tile → Bool
+  early m = ltb (m .leaves) (m .due)
+
+  moved-early : (i s t : ℕ) (ms : List Tile) → tally early ms ≡ 0 → tally early (leavesIn i s t ms) ≡ 0
+  unfolding tally leavesIn
+  moved-early i s t [] none = refl
+  moved-early i s t (m ∷ ms) none = go (ready i s t m) refl (moved-early i s t ms)
+    where
+      go : (b : Bool) → ready i s t m ≡ b → (tally early ms ≡ 0 → tally early (leavesIn i s t ms) ≡ 0)
+          → tally early (cond b (record { flow = i; due = m .due; slot = s; leaves = t } ∷ ms) (m ∷ leavesIn i s t ms)) ≡ 0
+      go true e rest = rw (le-ltb t (m .due) (ready-is i s t m e .1)) (omega arith)
+      go false e rest = omega (arith, rest (omega arith))
+
+  -- a granted slot comes after the tile is due
+  granted-later : (w v : ℕ) (h : History) → AfterDepartureAt P (requested w (accepted v)) h → GrantedWordAt P (requested w (accepted v)) h
+      → dueSlot P w h ≤ slotAfter P (ticks h) (departureOf v)
+  granted-later w v h after word = go (hasCome P (ticks h) (departureOf w)) refl
+    where
+      go : (b : Bool) → hasCome P (ticks h) (departureOf w) ≡ b → dueSlot P w h ≤ slotAfter P (ticks h) (departureOf v)
+      go true e = omega (arith, due-if-come P w h e, slot-to-come P (ticks h) (departureOf v))
+      go false e = omega (arith, due-if-not P w h e, after (word .asked-well-formed) e)
+
+  new-early : (e : Event) (h : History) → AfterDepartureAt P e h → GrantedWordAt P e h → tally early (tileAt P e h) ≡ 0
+  unfolding tally
+  new-early (requested w (accepted v)) h after word =
+      rw (le-ltb (slotAfter P (ticks h) (departureOf v)) (dueSlot P w h) (granted-later w v h after word)) refl
+  new-early (requested w (refused r)) h after word = refl
+  new-early (credited i p a) h after word = refl
+  new-early (ticked x) h after word = refl
+  new-early (lent m (accepted i)) h after word = rw (le-ltb (ticks h) (ticks h) (omega arith)) refl
+  new-early (lent m (refused r)) h after word = refl
+  new-early (Event.reset a) h after word = refl
+
+  none-early : {h : History} (x : Sending h) → Each (AfterDepartureAt P) h → Each (GrantedWordAt P) h → tally early (tiles P x) ≡ 0
+  unfolding tally
+  none-early nothing after word = refl
+  none-early (event {h = h} e x) after word =
+      omega (arith, tally-append early (tileAt P e h) (tiles P x), new-early e h (after .0) (word .0), none-early x (after .1) (word .1))
+  none-early (ahead {h = h} i p x) after word =
+      moved-early i (slotAfter P (ticks h) p) (ticks h) (tiles P x) (none-early x (after .1 .1) (word .1 .1))
+
+  -- ---- by demand 3
+
+  within-cells : (i s : ℕ) (h : History) → Each (HeldAt P i) h
+      → tally (upTo i s) (grants P h) + tally (upTo i s) (lends h) ≤ tally (upTo i s) (credits P h) + entry P i .cells
+  unfolding tally grants lends credits marksOf
+  within-cells i s [] held = omega arith
+  within-cells i s (e ∷ h) held = let x = held .0 s in omega (arith, x .is, x .within)
+
+  pub sent-well : {h : History} (x : Sending h) → EachReady P x → 0 < flowCount P → ((i : ℕ) → i < flowCount P → Demand3 P i h) → SentWell P x
+  sent-well {h} x each some-flow claims = record {
+    never-early = none-early x (claims 0 some-flow claim.Clause.after-departure) (claims 0 some-flow claim.Clause.granted-words);
+    never-late = none-late x;
+    never-over = λ i s known.
+        omega (
+          arith,
+          tile-count (λ j r. eqb j i && leb r s) x each,
+          credit-count (upTo i s) x,
+          within-cells i s h (claims i known claim.Clause.within-cells),
+        );
+    one-to-a-slot = λ s. omega (arith, tile-count (λ j r. eqb r s) x each, claims 0 some-flow claim.Clause.one-owner s);
+  }
+
+pub sends-well : (c : Card) → Meets c → SendsWell c
+sends-well c meets bytes passes calls x each =
+    sent-well (planOf bytes) x each (accepted-plan bytes passes .some-flow) (meets bytes passes calls)

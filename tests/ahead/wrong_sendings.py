@@ -1,0 +1,139 @@
+"""Pairs of listings that the check has to send back, each with words of the
+fault; right ones, which it must not; and pairs that break one premise."""
+
+from ahead.check import (
+    BOTH_REFUSED, LENT, OTHER_NUMBER, SAME_WORD, SENT, TAKEN, TO_COME, judge)
+from edges import ahead as edges
+from edges.ahead import (
+    BASE, ONE_AND_EIGHT, TWO, WITNESS, sent, with_pair)
+from edges.edge_maker import RESET, TICK, ask, credit, edge, lend, plan
+from edges.pairs import ticks
+
+AFTER = [(ask(1), "G 3"), *ticks(0), (credit(0, 2), "C")]
+FULL = plan(4, 2, (2, 1), (2, 2))
+
+
+def moved(name, after, *others):
+    """The witness up to slot 1, with other answers in the second run."""
+    return with_pair(name, BASE, TWO, sent(1), [*AFTER, *after],
+                     *AFTER, *others)
+
+
+# Listings that no right program writes, and the sendings that are bad ones.
+WRONG = [
+    (moved("a grant moves", [(ask(0), "G 4")], (ask(0), "G 5")),
+     "is answered with G 4 and G 5"),
+    (moved("granted in the first run alone", [(ask(0), "G 4")],
+           (ask(0), "R 12")), "is answered with G 4 and R 12"),
+    (moved("granted in the second run alone", [(ask(0), "R 12")],
+           (ask(0), "G 4")), "is answered with R 12 and G 4"),
+    (moved("a neighbour's grant moves", [(ask(1), "G 4")], (ask(1), "G 5")),
+     "is answered with G 4 and G 5"),
+    # Slot 1, which was sent ahead, has come up.
+    (moved("another number when the slot has come up", [(ask(0), "R 11")],
+           (ask(0), "R 12")), "is refused with 11 and 12"),
+    (moved("another number of a flow that sends nothing", [(ask(1), "R 11")],
+           (ask(1), "R 12")), "is refused with 11 and 12"),
+    (moved("a credit taken in the first run alone", [(credit(0, 3), "C")],
+           (credit(0, 3), "R 15")), "is taken in the first run alone"),
+    (moved("a tick that differs", ticks(0), *ticks("-")),
+     "comes up for 0 and -"),
+    (moved("a slot comes up for another", ticks(0), *ticks(1)),
+     "comes up for 0 and 1"),
+    (moved("a call less", [(ask(0), "G 4")], *[]), "not aligned"),
+    (moved("a call more", [], (ask(0), "G 4")), "not aligned"),
+    (moved("another credit", [(credit(0, 4), "C")], (credit(0, 5), "C")),
+     "not aligned"),
+    (moved("a reset", [(RESET, "R 23")], (RESET, "R 23")), "a reset"),
+    (moved("an answer of another call", ticks(0), (TICK, "C")),
+     "answered 'C'"),
+    # A second pair in slot 0, as a link without its mark would answer.
+    (with_pair("two in one slot", BASE, TWO, [*sent(1), *sent(2)], []),
+     "two tiles leave in slot 0"),
+    # One cell, held from slot 1 on; sent ahead all the same, it is in slot 0;
+    # the tile of slot 2 is the second before any cell came back.
+    (with_pair("over its cells", FULL,
+               [(ask(0), "G 1"), (ask(0), "G 2")], sent(1), ticks(0, 0)),
+     "flow 0 is over its cells in slot 2"),
+    (edges.CREDITED_ONLY, "not aligned"),
+    (edges.OF_NOTHING, "slot 3, which is not its own"),
+    (edges.ANOTHERS, "slot 3, which is not its own"),
+    (edges.OUT_OF_ORDER, "the tile of slot 2 out of order"),
+    (edges.NOT_COME, "the tile of slot 3 before it comes"),
+    (edges.TWICE, "the tile of slot 4 twice"),
+]
+
+# With what is counted.
+RIGHT = [
+    (WITNESS, {SENT: 1, SAME_WORD: 4, TAKEN: 2}),
+    (edges.NUMBERS, {SENT: 1, SAME_WORD: 4, TO_COME: 2, TAKEN: 2,
+                     BOTH_REFUSED: 1, OTHER_NUMBER: 1}),
+    (edges.BOTH_FLOWS, {SENT: 2, SAME_WORD: 3}),
+    (with_pair("a refused lend in one run", BASE, TWO, [(lend(0), "R 18")],
+               []), {SAME_WORD: 2, TAKEN: 1}),
+    (with_pair("the same run twice", ONE_AND_EIGHT, [(ask(0), "G 1")], [],
+               ticks(0)), {SAME_WORD: 1}),
+]
+
+
+def sent_back(pair, words):
+    """What went wrong with a pair that has to be sent back, or None."""
+    faults = [fault for in_order in (True, False)
+              for fault in judge(*pair.runs(), in_order=in_order).faults]
+    found = any(words in fault for fault in faults)
+    return None if found else "not sent back: %r" % faults
+
+
+def passed(pair, ways):
+    """The same for a right one."""
+    verdict = judge(*pair.runs())
+    if verdict.faults or verdict.broken or dict(+verdict.ways) != ways:
+        return "sent back: %r, %r, %r" % (
+            verdict.faults, verdict.broken, dict(+verdict.ways))
+    return None
+
+
+def premise_needed(pair):
+    """Not judged, and sent back without the premise that it breaks."""
+    verdict = judge(*pair.runs())
+    if verdict.faults or verdict.broken != pair.broken:
+        return "%r, %r" % (verdict.faults, verdict.broken)
+    faults = judge(*pair.runs(), left_out=[pair.broken]).faults
+    return (None if any(pair.says in fault for fault in faults)
+            else "not sent back without it: %r" % faults)
+
+
+def lent_alone():
+    """A lend that is no pair is not judged, and counted."""
+    verdict = judge(*edges.LENT_ONLY.runs())
+    return (None if verdict.broken == LENT and not verdict.faults
+            else "%r, %r" % (verdict.faults, verdict.broken))
+
+
+def in_any_order():
+    """Where no order is asked for, the second tile may be sent first."""
+    faults = judge(*edges.OUT_OF_ORDER.runs(), in_order=False).faults
+    return "%r" % faults if faults else None
+
+
+def cut_off():
+    first, second = WITNESS.runs()
+    other = edge("another plan", plan(4, 2, (2, 3), (2, 2)), *TWO)
+    yield "a line is missing", judge(first, (second[0], second[1][:-1]))
+    yield "a plan refused", judge(first, (second[0], ["P 3"]))
+    yield "nothing written", judge(first, (second[0], []))
+    yield "two plans", judge(first, (other.data, other.lines))
+
+
+def missed():
+    """(name, what went wrong or None) for each."""
+    for pair, words in WRONG:
+        yield pair.name, sent_back(pair, words)
+    for name, verdict in cut_off():
+        yield "ahead, " + name, None if verdict.faults else "not sent back"
+    for pair, ways in RIGHT:
+        yield pair.name, passed(pair, ways)
+    for pair in edges.PREMISES:
+        yield "the premise is needed: " + pair.name, premise_needed(pair)
+    yield "ahead, lent alone", lent_alone()
+    yield "ahead, in any order", in_any_order()

@@ -1,0 +1,91 @@
+"""Edges in pairs, for allcalls: runs from one plan, the second with tiles sent
+ahead of their booked slots by a lend and a credit.
+
+The first ones meet the premises of rule 24.5; two break one each, and bookings
+move; and the last send what may not be sent.
+"""
+
+from ahead.check import ALONE, ORDER
+from edges.edge_maker import BASE, ask, credit, lend, plan
+from edges.pairs import Pair, ticks
+
+LONG_FRAMES = plan(8, 2, (3, 1))
+ONE_AND_EIGHT = plan(4, 2, (2, 1), (2, 8))
+THIN = plan(2, 4, (1, 4))
+THREE_CELLS = plan(4, 2, (2, 3), (2, 3))
+
+
+def sent(position, flow=0):
+    """A tile of the slot at this position leaves in the current slot."""
+    return [(lend(1 << flow), "L %d" % flow), (credit(flow, position), "C")]
+
+
+def with_pair(name, plan_bytes, before, pair, after, *others, **more):
+    """Two runs with the same calls, and a pair in the second; where the calls
+    after it are answered otherwise there, they are named."""
+    return Pair("ahead, " + name, plan_bytes, [*before, *after],
+                [*before, *pair, *(others or after)], **more)
+
+
+# Flow 0 books slots 1 and 2, and sends the first tile in slot 0; flow 1 books
+# slot 3, and then flow 0 slot 4.
+TWO = [(ask(0), "G 1"), (ask(0), "G 2"), (credit(0, 1), "C")]
+WITNESS = with_pair(
+    "two runs", BASE, TWO, sent(1),
+    [(ask(1), "G 3"), *ticks(0), (credit(0, 2), "C"), (ask(0), "G 4"),
+     *ticks(0, 1, 0)])
+
+# Flow 0 has slots 1 and 5 and holds its one cell from 1 up to 2 and from 5
+# on.  It sends slot 5 in slot 2, and asks for a tile that comes in slot 7:
+# slot 4 fails by the departure alone without the pair, and is full with it.
+NUMBERS = with_pair(
+    "another number of a refusal", ONE_AND_EIGHT,
+    [(ask(0), "G 1"), (credit(0, 5), "C"), (ask(0), "G 5"),
+     (credit(0, 2), "C"), (ask(1, departure=5), "G 6"),
+     (ask(1, departure=6), "G 7"), *ticks(0, "-")], sent(5),
+    [(ask(0, departure=7), "R 20")], (ask(0, departure=7), "R 12"))
+
+# Slot 2 is sent in slot 0, and in slot 3 slot 4, of another flow.
+BOTH_FLOWS = with_pair(
+    "two flows", THREE_CELLS, [(ask(0), "G 1"), (ask(1), "G 2")], [],
+    [*ticks(0, 1, "-"), (ask(0), "G 4"), *ticks(0)],
+    *sent(2, 1), *ticks(0, 1, "-"), (ask(0), "G 4"), *sent(4), *ticks(0))
+
+# The flow has slots 1 and 5, and one cell, which falls free in slot 2.  With
+# slot 5 sent in slot 2 it is full up to slot 4: slot 6 for slot 3.
+NOT_IN_ORDER = with_pair(
+    "a grant before a slot sent ahead", LONG_FRAMES,
+    [(ask(0), "G 1"), (credit(0, 5), "C"), (ask(0), "G 5"),
+     (credit(0, 2), "C"), *ticks(0, "-")], sent(5),
+    [(ask(0), "G 3")], (ask(0), "G 6"),
+    broken=ORDER, says="is answered with G 3 and G 6")
+
+# The credit dated slot 1, where flow 0 holds nothing but the tile sent ahead.
+TAKEN_ALONE = with_pair(
+    "a credit taken in the second run alone", BASE,
+    [(ask(1), "G 1"), (ask(0), "G 2")], sent(2),
+    [(credit(0, 1), "R 15"), (ask(0), "G 3"), (ask(0), "R 12")],
+    (credit(0, 1), "C"), (ask(0), "G 3"), (ask(0), "G 4"),
+    broken=ALONE, says="is answered with R 12 and G 4")
+
+# A lend without its credit, of which the first run has none.
+LENT_ONLY = with_pair("lent only", BASE, TWO, [(lend(1), "L 0")], [])
+CREDITED_ONLY = with_pair("credited only", BASE, TWO, [(credit(0, 2), "C")],
+                          [])
+OF_NOTHING = with_pair("of a slot that is not booked", BASE, TWO, sent(3), [])
+OUT_OF_ORDER = with_pair("the second tile first", BASE, TWO, sent(2), [])
+NOT_COME = with_pair("before it comes", BASE, [(ask(0, departure=2), "G 3")],
+                     sent(3), [])
+TWICE = with_pair(
+    "twice", THIN, [(ask(0), "G 1"), (ask(0), "G 2"), (ask(0), "G 4")], [],
+    [*ticks(0, 0, "-")], *sent(4), *ticks(0, 0, "-"), *sent(4))
+ANOTHERS = with_pair(
+    "of a slot that another flow booked", BASE, [*TWO, (ask(1), "G 3")],
+    sent(3), [])
+
+RIGHT = [WITNESS, NUMBERS, BOTH_FLOWS]
+PREMISES = [NOT_IN_ORDER, TAKEN_ALONE]
+BAD = [LENT_ONLY, CREDITED_ONLY, OF_NOTHING, OUT_OF_ORDER, NOT_COME, TWICE,
+       ANOTHERS]
+EDGES = [run for pair in RIGHT + PREMISES + BAD
+         for run in (pair.first, pair.second)]

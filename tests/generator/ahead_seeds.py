@@ -1,0 +1,42 @@
+"""A seed to the links of a stream, each run twice, the second time with tiles
+sent ahead."""
+
+from collections import namedtuple
+
+from generator.dice import Dice
+from generator.traffic.over_links import Way
+
+# The most slots of a frame, frames of the window, links and frames played;
+# the fewest cells and how many more, in shares; and whether premises are left
+# to chance.
+Kind = namedtuple("Kind", "most_slots most_frames most_links frames cells "
+                  "careless")
+
+KINDS = {
+    "one link": Kind(8, 4, 1, 12, (2, 2), False),
+    "several links": Kind(6, 3, 4, 12, (2, 2), False),
+    "few cells": Kind(5, 4, 3, 12, (0, 2), False),
+    "many cells": Kind(12, 3, 2, 8, (3, 4), False),
+    "careless": Kind(9, 3, 2, 12, (0, 1), True),
+}
+
+# The kinds of seeds 0, 1, 2 and so on, which then begin again.
+ORDER = ("one link", "several links", "few cells", "several links",
+         "many cells", "several links", "one link", "few cells",
+         "several links", "careless")
+
+
+def kind_of(seed):
+    return ORDER[seed % len(ORDER)]
+
+
+def generate(seed):
+    """Of each link its two call files, without and with."""
+    return Way(Dice(seed), KINDS[kind_of(seed)]).files()
+
+
+def files(seed):
+    """The same as files, each with the end of its name."""
+    for place, pair in enumerate(generate(seed)):
+        for run, data in zip("ab", pair):
+            yield "-%d%s" % (place, run), data
