@@ -21,7 +21,9 @@ use Rattle.model.specs.SeveralLinks.{Board}
 use Rattle.model.specs.EnoughCells.{GivesBack}
 use Rattle.model.specs.SharesOfCells.{KeepsShares, EachGrantedNow}
 use Rattle.model.specs.SharesAhead.{KeepsSharesAhead, EachGrantedInTime}
-use Rattle.model.specs.Delay.{Timely, PromptOn, TimelyInOrder, SoonOn, SoonOnArrivalOn}
+use Rattle.model.specs.BooksInOrder.{AfterThoseAt}
+use Rattle.model.specs.TakenCredits.{CreditTakenAt}
+use Rattle.model.specs.Delay.{FitsNewest, PromptOn, TimelyInOrder, SoonOn, SoonOnArrivalOn}
 use Rattle.model.specs.Card.{Played, paper, step, play, started, run}
 use Rattle.model.proofs.Tests.{line-passed}
 use Rattle.model.proofs.Plan.{accepted}
@@ -33,7 +35,9 @@ use Rattle.model.proofs.Soon.{soon-ahead}
 use Rattle.model.proofs.SoonOnArrival.{soon}
 use Rattle.model.proofs.EnoughCells.{enough-cells}
 use Rattle.model.proofs.SharesOfCells.{shares-of-cells}
+use Rattle.model.proofs.SharesInOrder.{shares-in-order}
 use Rattle.model.proofs.SharesAhead.{shares-ahead}
+use Rattle.model.proofs.TakenCredits.{credits-taken}
 use Rattle.images.specs.Image.{imageLength, imageOf, headerField}
 use Rattle.images.specs.Consistent.{Keepable}
 use Rattle.images.specs.Taken.{refusalOf}
@@ -177,9 +181,13 @@ module _ (plan : List ℕ) where
       → InOrder (planOf plan) i h
   chain-numbers ch i known = chain-has (InOrder (planOf plan) i) (λ passes calls. numbers-in-order plan passes calls i known) ch
 
+  -- it takes the credits of cells that their flow holds, and no others
+  pub chain-credits-taken : {calls : List Call} {h : History} {b : List ℕ} → Chain plan calls h b → Each (CreditTakenAt (planOf plan)) h
+  chain-credits-taken ch = chain-has (Each (CreditTakenAt (planOf plan))) (credits-taken plan) ch
+
   -- it is prompt, and soon to a modest flow
-  pub chain-prompt : {calls : List Call} {h : History} {b : List ℕ} → Chain plan calls h b → PromptOn Timely 0 (planOf plan) h
-  chain-prompt ch = chain-has (PromptOn Timely 0 (planOf plan)) (prompt plan) ch
+  pub chain-prompt : {calls : List Call} {h : History} {b : List ℕ} → Chain plan calls h b → PromptOn FitsNewest 0 (planOf plan) h
+  chain-prompt ch = chain-has (PromptOn FitsNewest 0 (planOf plan)) (prompt plan) ch
 
   pub chain-soon-ahead : {calls : List Call} {h : History} {b : List ℕ} → Chain plan calls h b → (i : ℕ) → i < flowCount (planOf plan)
       → SoonOn TimelyInOrder 0 (planOf plan) i h
@@ -201,6 +209,13 @@ module _ (plan : List ℕ) where
   chain-shares-of-cells late ch i known =
       chain-has (λ h. KeepsShares late 0 (planOf plan) i h → EachGrantedNow (planOf plan) i h)
       (λ passes calls. shares-of-cells late plan passes calls i known) ch
+
+  -- and its slots come in the order in which it asked
+  pub chain-shares-in-order : (late : ℕ) {calls : List Call} {h : History} {b : List ℕ} → Chain plan calls h b → (i : ℕ) → i < flowCount (planOf plan)
+      → KeepsShares late 0 (planOf plan) i h → Each (AfterThoseAt (planOf plan) i) h
+  chain-shares-in-order late ch i known =
+      chain-has (λ h. KeepsShares late 0 (planOf plan) i h → Each (AfterThoseAt (planOf plan) i) h)
+      (λ passes calls. shares-in-order late plan passes calls i known) ch
 
   -- so where its words run ahead of their tiles
   pub chain-shares-ahead : (ahead late : ℕ) {calls : List Call} {h : History} {b : List ℕ} → Chain plan calls h b → (i : ℕ) → i < flowCount (planOf plan)

@@ -92,7 +92,9 @@ pub mod Source
 pub mod FromSource
 pub mod CreditedByNext
 pub mod BooksInOrder
+pub mod SharesInOrder
 pub mod Ahead
+pub mod TakenCredits
 pub mod Replays
 pub mod FewerValid
 pub mod CloseLinks

@@ -36,7 +36,7 @@ use Rattle.model.proofs.AfterRequest.{after-request}
 use Rattle.model.proofs.AfterCalls.{after-step, after-fresh}
 use Rattle.model.proofs.Demand3.{demand3}
 use Rattle.model.proofs.AnsweredRequests.{Requested, turned-back, searched, request-is}
-use Rattle.model.proofs.TimelyRequests.{known, ready-timely, full-if-fails-later}
+use Rattle.model.proofs.TimelyRequests.{known, ready-timely, full-if-fails-later, room-later}
 
 -- ---- a card that remembers its events, where each request leaves a link that stands after them, and R holds of them
 
@@ -238,7 +238,8 @@ module _ {l : Link} {h : History} (g : After (l .plan) l h) (w : ℕ) where
       omega arith
   searched-not-12 well x (nowhere (suc c)) s e =
       let t = ready-timely ok (flowOf w) w h x in
-      let full = full-if-fails-later g w well t (newestFrame P h) (suc c) (t .in-time) (omega (arith, some-frame ok)) (s .reached .spends) (s .fails) in
+      let full = full-if-fails-later g w well (newestFrame P h) (suc c) (room-later g w well t (newestFrame P h) (t .in-time)) (t .in-time) (omega (arith, some-frame ok))
+      (s .reached .spends) (s .fails) in
       omega (arith, s .reached .spends .spent)
 
   ready-not-12 : (wellFormed P w ≡ true → Ready P (flowOf w) w h) → request l w .answer ≡ refused 12 → ⊥
