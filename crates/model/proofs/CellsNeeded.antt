@@ -18,7 +18,7 @@ use Rattle.model.specs.Card.{run, paper}
 use Rattle.model.specs.PlanBytes.{plan1, plan2}
 use Rattle.model.specs.Delay.{currentFrame, dueFrame, madeSince, madeIn, dueIn}
 use Rattle.model.specs.EnoughCells.{lastOf, returns, AsksInTurn, GivesBack, EnoughCellsBy}
-use Rattle.model.specs.SharesOfCells.{GivenBack, CreditsEachBy, KeepsShares, SharesOfCellsBy}
+use Rattle.model.specs.SharesOfCells.{GivenBack, CreditsEachBy, KeepsShares, SharesOfCellsBy, SharesInOrderBy}
 use Rattle.model.specs.SharesAhead.{KeepsSharesAhead, SharesAheadBy}
 use Rattle.model.proofs.Decidable.{same, implies, is-true, all-below, everywhere, proved}
 use Rattle.model.proofs.PastMarks.{above}
@@ -112,6 +112,19 @@ not-fewer two =
     let calls = Call.request 0x24100000 ∷ Call.request 0x24100400 ∷ Call.request 0x24000000 ∷ Call.tick ∷ Call.tick ∷ Call.request 0x24000402 ∷ [] in
     let h = run paper (planOf (bytes 1)) calls .history in
     two (bytes 1) refl calls 0 (lit< tt) (proved (keeps-shares 0 1 (planOf (bytes 1)) (lit< tt) 0 h) tt) .0 refl refl
+
+-- ---- slots out of order, with two cells fewer: F = 4, W = 2, one flow with share 2 and two cells
+
+-- Slots 1 and 2 are granted, and their cells credited as the tiles come up, both dated slot 6. In slot 4 slot 6 is granted; a credit dated slot 5 frees a
+-- cell, and slot 5 is granted.
+pub not-in-order : SharesInOrderBy 0 2 paper → ⊥
+unfolding delays-compute given-back keeps-shares
+not-in-order order =
+    let bytes = plan1 4 2 8 2 2 in
+    let calls = Call.request 0x24000000 ∷ Call.request 0x24000400 ∷ Call.tick ∷ Call.credit 0 6 ∷ Call.tick ∷ Call.credit 0 6 ∷ Call.tick ∷ Call.tick
+    ∷ Call.request 0x24000804 ∷ Call.credit 0 5 ∷ Call.request 0x24000C04 ∷ [] in
+    let h = run paper (planOf bytes) calls .history in
+    omega (arith, order bytes refl calls 0 (lit< tt) (proved (keeps-shares 0 2 (planOf bytes) (lit< tt) 0 h) tt) .0 refl 6 (lit< tt))
 
 -- ---- three shares, where a cell is credited when its tile was shown, and one cell fewer: F = 2, W = 2, one flow with share 2 and the given number of cells
 

@@ -135,9 +135,11 @@ pub mod LessTimely
 pub mod TwoLinksExample
 pub mod JoinedDecided
 pub mod LessJoined
+pub mod CellsNeeded
 pub mod BadDelays
 pub mod SlowCards
-pub mod CellsNeeded
+pub mod BadCredits
+pub mod KeptCells
 pub mod OnArrivalExample
 pub mod SourceExample
 pub mod ByCreditsExample

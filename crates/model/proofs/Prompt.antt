@@ -61,15 +61,15 @@ one-more r Call.tick g happened x = (tt, x)
 one-more r (Call.lend m) g happened x = (tt, x)
 one-more r Call.reset g happened x = (tt, x)
 
+pub prompt-more : {P : Plan} (r : Played paper) (c : Call) → Known P r → Each (Happened P) (r .history) → PromptOn FitsNewest 0 P (r .history)
+    → PromptOn FitsNewest 0 P (step paper r c .history)
+prompt-more r c g =
+    subst (λ Q. Known Q r → Each (Happened Q) (r .history) → PromptOn FitsNewest 0 Q (r .history) → PromptOn FitsNewest 0 Q (step paper r c .history))
+    (g .plan-is) (one-more r c) g
+
 -- on any plan that keeps the limits, and so on the plan of any bytes that are accepted
 pub prompt-accepted : (P : Plan) → Accepted P → (calls : List Call) → PromptOn FitsNewest 0 P (run paper P calls .history)
-prompt-accepted P ok = by-calls ok (λ r. PromptOn FitsNewest 0 P (r .history)) more tt
-  where
-    more : (r : Played paper) (c : Call) → Known P r → Each (Happened P) (r .history) → PromptOn FitsNewest 0 P (r .history)
-        → PromptOn FitsNewest 0 P (step paper r c .history)
-    more r c g =
-        subst (λ Q. Known Q r → Each (Happened Q) (r .history) → PromptOn FitsNewest 0 Q (r .history) → PromptOn FitsNewest 0 Q (step paper r c .history))
-        (g .plan-is) (one-more r c) g
+prompt-accepted P ok = by-calls ok (λ r. PromptOn FitsNewest 0 P (r .history)) prompt-more tt
 
 pub prompt : Prompt paper
 prompt bytes passes = prompt-accepted (planOf bytes) (plan.accepted bytes passes)

@@ -72,4 +72,5 @@ pub mod BadResets
 pub mod BadTurns
 pub mod BadNumbers
 pub mod BadDelays
+pub mod BadCredits
 pub mod BadSendings
