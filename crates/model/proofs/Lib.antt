@@ -86,6 +86,7 @@ pub mod EnoughCells
 pub mod CreditsInTime
 pub mod HeldByFrames
 pub mod SharesOfCells
+pub mod CellsAtOnce
 pub mod SharesAhead
 pub mod LinksOnArrival
 pub mod Source
