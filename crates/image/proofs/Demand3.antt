@@ -11,17 +11,17 @@ use Rattle.model.specs.Tables.{tally}
 use Rattle.model.specs.History.{renews}
 use Rattle.model.specs.Card.{paper}
 use Rattle.model.specs.SeveralLinks.{Board}
-use Rattle.model.specs.EnoughCells.{GivesBack}
+use Rattle.model.specs.EnoughCells.{GivesBack, GivesBackAtOnce}
 use Rattle.model.specs.SharesOfCells.{KeepsShares, EachGrantedNow}
 use Rattle.model.specs.SharesAhead.{KeepsSharesAhead, EachGrantedInTime}
 use Rattle.model.specs.BooksInOrder.{AfterThoseAt}
 use Rattle.model.specs.TakenCredits.{CreditTakenAt}
-use Rattle.model.specs.Delay.{FitsNewest, PromptOn, TimelyInOrder, SoonOn, SoonOnArrivalOn}
+use Rattle.model.specs.Delay.{FitsNewest, PromptOn, RoomFrom, AsksAt, TimelyInOrder, SoonOn, SoonOnArrivalOn}
 use Rattle.images.specs.Taken.{refusalOf}
 use Rattle.images.specs.Exports.{Called, HandsBack, calledOn}
 use Rattle.images.specs.Chain.{eventOf, imageIn, Chain, starts, goes-on}
 use Rattle.images.proofs.Chain.{chain-taken, chain-meets, chain-fair, chain-numbers, chain-credits-taken, chain-prompt, chain-soon-ahead, chain-soon}
-use Rattle.images.proofs.Chain.{chain-enough-cells, chain-shares-of-cells, chain-shares-in-order, chain-shares-ahead, chain-board}
+use Rattle.images.proofs.Chain.{chain-enough-cells, chain-enough-at-once, chain-shares-of-cells, chain-shares-in-order, chain-shares-ahead, chain-board}
 use Rattle.image.specs.Hosted.{Hosted, by-fresh, by-request, by-credit, by-tick, by-lend, by-reset}
 
 module _ (plan : List ℕ) where
@@ -78,6 +78,10 @@ module _ (plan : List ℕ) where
   pub host-enough-cells : {h : History} {b : List ℕ} → Hosted plan h b → (i : ℕ) → i < flowCount (planOf plan)
       → GivesBack 0 (planOf plan) i h → Each (ReadyAt (planOf plan) i) h
   host-enough-cells x = chain-enough-cells plan (chained x .chain)
+
+  pub host-enough-at-once : {h : History} {b : List ℕ} → Hosted plan h b → (i : ℕ) → i < flowCount (planOf plan)
+      → GivesBackAtOnce 0 (planOf plan) i h → Each (AsksAt (λ P i w h. RoomFrom P i 0 h) (planOf plan) i) h
+  host-enough-at-once x = chain-enough-at-once plan (chained x .chain)
 
   pub host-shares-of-cells : (late : ℕ) {h : History} {b : List ℕ} → Hosted plan h b → (i : ℕ) → i < flowCount (planOf plan)
       → KeepsShares late 0 (planOf plan) i h → EachGrantedNow (planOf plan) i h

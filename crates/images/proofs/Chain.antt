@@ -18,12 +18,12 @@ use Rattle.model.specs.QuantumNumbers.{InOrder}
 use Rattle.model.specs.Tables.{tally}
 use Rattle.model.specs.History.{renews}
 use Rattle.model.specs.SeveralLinks.{Board}
-use Rattle.model.specs.EnoughCells.{GivesBack}
+use Rattle.model.specs.EnoughCells.{GivesBack, GivesBackAtOnce}
 use Rattle.model.specs.SharesOfCells.{KeepsShares, EachGrantedNow}
 use Rattle.model.specs.SharesAhead.{KeepsSharesAhead, EachGrantedInTime}
 use Rattle.model.specs.BooksInOrder.{AfterThoseAt}
 use Rattle.model.specs.TakenCredits.{CreditTakenAt}
-use Rattle.model.specs.Delay.{FitsNewest, PromptOn, TimelyInOrder, SoonOn, SoonOnArrivalOn}
+use Rattle.model.specs.Delay.{FitsNewest, PromptOn, RoomFrom, AsksAt, TimelyInOrder, SoonOn, SoonOnArrivalOn}
 use Rattle.model.specs.Card.{Played, paper, step, play, started, run}
 use Rattle.model.proofs.Tests.{line-passed}
 use Rattle.model.proofs.Plan.{accepted}
@@ -35,6 +35,7 @@ use Rattle.model.proofs.Soon.{soon-ahead}
 use Rattle.model.proofs.SoonOnArrival.{soon}
 use Rattle.model.proofs.EnoughCells.{enough-cells}
 use Rattle.model.proofs.SharesOfCells.{shares-of-cells}
+use Rattle.model.proofs.CellsAtOnce.{enough-at-once}
 use Rattle.model.proofs.SharesInOrder.{shares-in-order}
 use Rattle.model.proofs.SharesAhead.{shares-ahead}
 use Rattle.model.proofs.TakenCredits.{credits-taken}
@@ -202,6 +203,13 @@ module _ (plan : List ℕ) where
       → GivesBack 0 (planOf plan) i h → Each (ReadyAt (planOf plan) i) h
   chain-enough-cells ch i known =
       chain-has (λ h. GivesBack 0 (planOf plan) i h → Each (ReadyAt (planOf plan) i) h) (λ passes calls. enough-cells plan passes calls i known) ch
+
+  -- one whose cells are credited at the grants has room in every slot
+  pub chain-enough-at-once : {calls : List Call} {h : History} {b : List ℕ} → Chain plan calls h b → (i : ℕ) → i < flowCount (planOf plan)
+      → GivesBackAtOnce 0 (planOf plan) i h → Each (AsksAt (λ P i w h. RoomFrom P i 0 h) (planOf plan) i) h
+  chain-enough-at-once ch i known =
+      chain-has (λ h. GivesBackAtOnce 0 (planOf plan) i h → Each (AsksAt (λ P i w h. RoomFrom P i 0 h) (planOf plan) i) h)
+      (λ passes calls. enough-at-once plan passes calls i known) ch
 
   -- and one that asks within its share, with cells by how late they are given back, is granted each request
   pub chain-shares-of-cells : (late : ℕ) {calls : List Call} {h : History} {b : List ℕ} → Chain plan calls h b → (i : ℕ) → i < flowCount (planOf plan)

@@ -20,12 +20,12 @@ use Rattle.model.specs.QuantumNumbers.{InOrder}
 use Rattle.model.specs.Tables.{tally}
 use Rattle.model.specs.History.{renews}
 use Rattle.model.specs.SeveralLinks.{Ran, Board}
-use Rattle.model.specs.EnoughCells.{GivesBack}
+use Rattle.model.specs.EnoughCells.{GivesBack, GivesBackAtOnce}
 use Rattle.model.specs.SharesOfCells.{KeepsShares, EachGrantedNow}
 use Rattle.model.specs.SharesAhead.{KeepsSharesAhead, EachGrantedInTime}
 use Rattle.model.specs.BooksInOrder.{AfterThoseAt}
 use Rattle.model.specs.TakenCredits.{CreditTakenAt}
-use Rattle.model.specs.Delay.{FitsNewest, PromptOn, TimelyInOrder, SoonOn, SoonOnArrivalOn}
+use Rattle.model.specs.Delay.{FitsNewest, PromptOn, RoomFrom, AsksAt, TimelyInOrder, SoonOn, SoonOnArrivalOn}
 use Rattle.model.specs.CountedBursts.{several, countsAs, eventsIn}
 use Rattle.model.proofs.AfterCalls.{Known, after-calls, after-fresh}
 use Rattle.model.proofs.CountedBursts.{play-both, burst-played}
@@ -37,6 +37,7 @@ use Rattle.model.proofs.Soon.{soon-accepted}
 use Rattle.model.proofs.SoonOnArrival.{soon-on-arrival}
 use Rattle.model.proofs.EnoughCells.{enough-cells-accepted}
 use Rattle.model.proofs.SharesOfCells.{shares-of-cells-accepted}
+use Rattle.model.proofs.CellsAtOnce.{enough-at-once-accepted}
 use Rattle.model.proofs.SharesInOrder.{shares-in-order-accepted}
 use Rattle.model.proofs.SharesAhead.{shares-ahead-accepted}
 use Rattle.model.proofs.TakenCredits.{credits-taken-accepted}
@@ -199,6 +200,13 @@ pub code-enough-cells : (bytes : List ℕ) (o : Outcome) → o ≡ readOf bytes 
     → {h : History} {l : Link} → Handed (o .plan) h l → (i : ℕ) → i < model.flowCount (model.planOf bytes)
     → GivesBack 0 (model.planOf bytes) i h → Each (ReadyAt (model.planOf bytes) i) h
 code-enough-cells = code-has (λ P h. (i : ℕ) → i < model.flowCount P → GivesBack 0 P i h → Each (ReadyAt P i) h) enough-cells-accepted
+
+-- and one whose cells are credited at the grants has room in every slot
+pub code-enough-at-once : (bytes : List ℕ) (o : Outcome) → o ≡ readOf bytes → (o .verdict ≡ Accepted → Valid (o .plan)) → o .verdict ≡ Accepted
+    → {h : History} {l : Link} → Handed (o .plan) h l → (i : ℕ) → i < model.flowCount (model.planOf bytes)
+    → GivesBackAtOnce 0 (model.planOf bytes) i h → Each (AsksAt (λ P i w h. RoomFrom P i 0 h) (model.planOf bytes) i) h
+code-enough-at-once =
+    code-has (λ P h. (i : ℕ) → i < model.flowCount P → GivesBackAtOnce 0 P i h → Each (AsksAt (λ P i w h. RoomFrom P i 0 h) P i) h) enough-at-once-accepted
 
 -- and one that asks within its share, with cells by how late they are given back, is granted each request: late = 0 is two shares, late = 1 three
 pub code-shares-of-cells : (late : ℕ) (bytes : List ℕ) (o : Outcome) → o ≡ readOf bytes → (o .verdict ≡ Accepted → Valid (o .plan)) → o .verdict ≡ Accepted

@@ -15,7 +15,7 @@ use Rattle.model.specs.SharesOfCells.{SharesInOrder}
 use Rattle.model.specs.BadDelays.{had12, staysRefused, ever12, neverForgets, sendsToNewest, restsAtFirst, newestOnly, tickMovesOn, takesLast}
 use Rattle.model.proofs.Decidable.{proved, refuted}
 use Rattle.model.proofs.BadCards.{two-flows, one-cell, sent-back, events-compute}
-use Rattle.model.proofs.DelayDecided.{prompt-on, timely, modest-on-arrival, delays-compute}
+use Rattle.model.proofs.DelayDecided.{prompt-on, fits-newest, modest-on-arrival, delays-compute}
 use Rattle.model.proofs.CellsNeeded.{given-back, keeps-shares}
 
 -- ---- by `Prompt`
@@ -27,7 +27,7 @@ unfolding delays-compute had12
 stays-refused prompt =
     let calls = Call.request 0x24000000 ∷ Call.request 0x24000400 ∷ Call.credit 0 2 ∷ Call.tick ∷ Call.tick ∷ Call.request 0x24000402 ∷ [] in
     let h = run staysRefused (planOf oneCell) calls .history in
-    refuted (prompt-on timely 0 (planOf oneCell) h) tt (prompt oneCell refl calls)
+    refuted (prompt-on fits-newest 0 (planOf oneCell) h) tt (prompt oneCell refl calls)
 
 -- ---- by `Soon`
 

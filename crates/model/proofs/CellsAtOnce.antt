@@ -96,7 +96,7 @@ pub enough-at-once-accepted : (P : Plan) → Accepted P → (calls : List Call) 
     → GivesBackAtOnce 0 P i (run paper P calls .history) → Each (AsksAt (λ P i w h. RoomFrom P i 0 h) P i) (run paper P calls .history)
 enough-at-once-accepted P ok calls i known x =
     let h = run paper P calls .history in
-    room-at-each ok i known h (none-granted h (x .no-reset)) (each-happened P ok calls) (x .asks) (x .not-lent) (x .cells-at-once)
+    room-at-each ok i known h (none-granted h (x .no-reset)) (each-happened P ok calls) (x .asks) (x .not-lent) (omega (arith, x .cells-at-once))
 
 pub enough-at-once : EnoughAtOnce paper
 enough-at-once bytes passes = enough-at-once-accepted (planOf bytes) (plan.accepted bytes passes)

@@ -42,7 +42,7 @@ module _ {l : Link} {h : History} (g : After (l .plan) l h) (happened : Each (Ha
   unfolding answered
   found-if-few well x few (found j c p) s = tt
   found-if-few well x few (nowhere c) s =
-      let full = full-if-fails-later g w well (newestFrame P h) c (x .room) (x .in-time) (omega (arith, some-frame ok)) (s .reached .spends) (s .fails) in
+      let full = full-if-fails-later g w well (newestFrame P h) c (λ r le. x .room r (omega arith)) (x .in-time) (omega (arith, some-frame ok)) (s .reached .spends) (s .fails) in
       omega (arith, newest-made ok i h happened)
 
   prompt-at : PromptAt FitsNewest 0 P (requested w (request l w .answer)) h
