@@ -19,19 +19,15 @@ use Rattle.model.proofs.DelayDecided.{delays-compute}
 -- ---- whether a flow can give a cell back is decided
 
 unfoldable holds-from : (P : Plan) (i s : ℕ) (h : History) → Dec (HoldsFrom P i s h)
-holds-from P i s h = everywhere (suc (max s (end P h))) (λ r. implies (decLe _ _) (decLt _ _)) later
-  where
-    Holds : ℕ → Type 0
-    Holds r = s ≤ r → creditedUpTo P h i r < grantedUpTo P h i r + lentUpTo h i r
-
-    later : ((r : ℕ) → r < suc (max s (end P h)) → Holds r) → (r : ℕ) → suc (max s (end P h)) ≤ r → Holds r
-    later below r past le =
-        let u = max s (end P h) in
-        let x = below u (omega arith) (omega arith) in
-        let g = same-granted P h i r u (omega arith) (omega arith) in
-        let l = same-lent P h i r u (omega arith) (omega arith) in
-        let c = same-credited P h i r u (omega arith) (omega arith) in
-        omega arith
+holds-from P i s h =
+    everywhere (suc (max s (end P h))) (λ r. implies (decLe _ _) (decLt _ _))
+    (λ below r past le.
+    let u = max s (end P h) in
+    let x = below u (omega arith) (omega arith) in
+    let g = same-granted P h i r u (omega arith) (omega arith) in
+    let l = same-lent P h i r u (omega arith) (omega arith) in
+    let c = same-credited P h i r u (omega arith) (omega arith) in
+    omega arith)
 
 unfoldable gives-back-from : (P : Plan) (i p : ℕ) (h : History) → Dec (GivesBackFrom P i p h)
 gives-back-from P i p h =

@@ -83,18 +83,15 @@ three-are-enough = proved (gives-back 0 (planOf (bytes 3)) 0 (events 3)) tt
 -- ---- credited at the grant, for words that run ahead: F = 2, W = 3, one flow with share 1 and the given number of cells
 
 unfoldable at-once : {P : Plan} → Accepted P → (i : ℕ) (h : History) → Dec (CreditedAtOnce P i h)
-at-once {P} ok i h = everywhere (suc (end P h)) (λ s. decLe _ _) later
-  where
-    later : ((s : ℕ) → s < suc (end P h) → grantedUpTo P h i s ≤ creditedUpTo P h i (lastOf P (frameOf P s + 1)))
-        → (s : ℕ) → suc (end P h) ≤ s → grantedUpTo P h i s ≤ creditedUpTo P h i (lastOf P (frameOf P s + 1))
-    later below s past =
-        let u = end P h in
-        omega (
-          arith,
-          below u (omega arith),
-          same-granted P h i s u (omega arith) (omega arith),
-          same-credited P h i (lastOf P (frameOf P s + 1)) (lastOf P (frameOf P u + 1)) (omega (arith, frame-ends ok s)) (omega (arith, frame-ends ok u)),
-        )
+at-once {P} ok i h =
+    everywhere (suc (end P h)) (λ s. decLe _ _)
+    (λ below s past.
+    let u = end P h in
+    let x = below u (omega arith) in
+    let g = same-granted P h i s u (omega arith) (omega arith) in
+    let c =
+    same-credited P h i (lastOf P (frameOf P s + 1)) (lastOf P (frameOf P u + 1)) (omega (arith, frame-ends ok s)) (omega (arith, frame-ends ok u)) in
+    omega arith)
 
 unfoldable gives-back-at-once : (short : ℕ) {P : Plan} → Accepted P → (i : ℕ) (h : History) → Dec (GivesBackAtOnce short P i h)
 gives-back-at-once short {P} ok i h =

@@ -83,10 +83,10 @@ timely-from s P i w h =
     (Dec·and (room-from P i s h) (Dec·and (ℕ-discrete (quantumOf w) (expectedNumber P h i)) (decLt _ _)))
 
 unfoldable pub timely : Decides Timely
-timely P i w h = timely-from (nextFrameOf P (dueSlot P w h)) P i w h
+timely P i w h = timely-from _ P i w h
 
 unfoldable pub fits-newest : Decides FitsNewest
-fits-newest P i w h = timely-from (newestFrame P h * P .slots) P i w h
+fits-newest P i w h = timely-from _ P i w h
 
 -- ---- a modest flow
 
