@@ -1,13 +1,13 @@
 -- Cards that refuse credits of cells that are held are sent back by `CreditTaken`. Assumes nothing.
-use Prim.Native.Nat.{ℕ, suc, _+_, _≤_, _<_, max}
+use Prim.Native.Nat.{ℕ, suc, max}
 use mathlib.Core.Path.{refl}
 use mathlib.Core.Logic.{Dec·and}
 use mathlib.Core.List.{_∷_, []}
 use native.Mathlib.Omega.{arith}
 use native.Mathlib.Decide.{decLe, decLt}
-use Rattle.model.specs.Plan.{Plan, positions, flowCount, planOf}
+use Rattle.model.specs.Plan.{Plan, planOf}
 use Rattle.model.specs.Calls.{Call, History}
-use Rattle.model.specs.History.{ticks, slotAfter, hasCome, grantedUpTo, lentUpTo, creditedUpTo}
+use Rattle.model.specs.History.{ticks, hasCome}
 use Rattle.model.specs.Card.{run, paper}
 use Rattle.model.specs.PlanBytes.{oneCell}
 use Rattle.model.specs.TakenCredits.{HoldsFrom, GivesBackFrom, CreditTaken}
@@ -52,7 +52,7 @@ rests-at-last taken =
     taken oneCell refl (Call.request 0x24000000 ∷ Call.tick ∷ Call.tick ∷ Call.tick ∷ Call.credit 0 4 ∷ []) .0 .1
     (proved (gives-back-from (planOf oneCell) 0 4 h) tt)
 
--- the paper's card takes it
+-- on the paper's card it can be given back there
 pub taken-at-last : GivesBackFrom (planOf oneCell) 0 4 (run paper (planOf oneCell) (Call.request 0x24000000 ∷ Call.tick ∷ Call.tick ∷ Call.tick ∷ []) .history)
 unfolding delays-compute holds-from gives-back-from
 taken-at-last = proved (gives-back-from (planOf oneCell) 0 4 (run paper (planOf oneCell) (Call.request 0x24000000 ∷ Call.tick ∷ Call.tick ∷ Call.tick ∷ []) .history)) tt

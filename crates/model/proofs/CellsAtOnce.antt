@@ -1,15 +1,14 @@
 -- On the paper's card a stream that asks ahead, with more than two shares of cells that are credited at the grants, has room in every slot at each request.
 -- Assumes nothing.
-use Prim.Native.Nat.{ℕ, zero, suc, _+_, _-_, _*_, _≤_, _<_}
+use Prim.Native.Nat.{ℕ, _+_, _-_, _*_, _≤_, _<_}
 use mathlib.Core.Path.{_≡_, ap}
 use mathlib.Core.List.{List, [], _∷_}
-use native.Mathlib.Nat.{mul-le-mul-right}
 use native.Mathlib.Omega.{arith}
 use lib.Dec.{leb}
-use Rattle.model.specs.Tables.{tally, sum}
+use Rattle.model.specs.Tables.{tally}
 use Rattle.model.specs.Plan.{Plan, flowCount, entry, planOf, Accepted}
 use Rattle.model.specs.Calls.{Call, Event, History, requested, credited, ticked, lent}
-use Rattle.model.specs.History.{Mark, frameOf, lendAt, grants, credits, lends, ofFlow, inFrame, upTo, creditedUpTo}
+use Rattle.model.specs.History.{Mark, frameOf, lendAt, grants, lends, ofFlow, inFrame, upTo, grantedUpTo, creditedUpTo}
 use Rattle.model.specs.Claim.{Each}
 use Rattle.model.specs.Card.{paper, run}
 use Rattle.model.specs.Delay.{RoomFrom, AsksAt}
@@ -17,37 +16,17 @@ use Rattle.model.specs.EnoughCells.{lastOf, CreditedAtOnce, GivesBackAtO
 use Rattle.model.proofs.Plan as plan
 use Rattle.model.proofs.Tests.{and-true}
 use Rattle.model.proofs.Tallies.{sum-le, sum-const, tally-le, tally-append}
-use Rattle.model.proofs.Slots.{frame-begins, frame-low, frame-high}
+use Rattle.model.proofs.Slots.{frame-begins}
 use Rattle.model.proofs.HistoryCounts.{NoneGranted}
 use Rattle.model.proofs.EventsOfRuns.{Counts, Happened, each-happened}
 use Rattle.model.proofs.TimelyRequests.{frame-order}
 use Rattle.model.proofs.NextLink.{counts-at}
 use Rattle.model.proofs.SeveralLinks.{none-granted}
-use Rattle.model.proofs.EnoughCells.{below, all-of, up-to-more, below-none, below-up-to}
-use Rattle.model.proofs.HeldByFrames.{Near, from-frame, most}
+use Rattle.model.proofs.EnoughCells.{all-of}
+use Rattle.model.proofs.HeldByFrames.{Near, from-frame, most, before-frame}
 
 module _ {P : Plan} (ok : Accepted P) (i : ℕ) (known : i < flowCount P) where
-  -- tiles of the frames before the one before frame f are given back by slot s of it or a later one
-  given-back : (h : History) → CreditedAtOnce P i h → (f o s : ℕ) → (0 < o → o + 1 ≤ f) → f * P .slots ≤ s
-      → tally (below i (o * P .slots)) (grants P h) ≤ creditedUpTo P h i s
-  given-back h at-once f zero s far le =
-      let none : 0 * P .slots ≡ 0 = omega arith in
-      omega (arith, below-none i (grants P h), ap (λ b. tally (below i b) (grants P h)) none)
-  given-back h at-once f (suc o) s far le =
-      let r = suc o * P .slots - 1 in
-      let back : suc o + 1 ≤ f = far (omega arith) in
-      let starts : suc o * P .slots ≡ suc r = omega (arith, ok .some-slot) in
-      let before : frameOf P r < suc o = frame-high ok (suc o) r (omega arith) in
-      let ends : (frameOf P r + 1 + 1) * P .slots ≤ f * P .slots = mul-le-mul-right (P .slots) (omega arith) in
-      omega (
-        arith,
-        below-up-to i r (grants P h),
-        ap (λ b. tally (below i b) (grants P h)) starts,
-        at-once r,
-        up-to-more i (lastOf P (frameOf P r + 1)) s (omega arith) (credits P h),
-      )
-
-  -- so what it holds at a slot is of that slot's frame and the one before
+  -- what it holds at a slot is of that slot's frame and the one before
   room-at-once : (h : History) → NoneGranted h → Counts P h → tally (ofFlow i) (lends h) ≡ 0 → 2 * entry P i .share < entry P i .cells + 0
       → CreditedAtOnce P i h → RoomFrom P i 0 h
   room-at-once h none c not-lent enough at-once s le =
@@ -57,12 +36,17 @@ module _ {P : Plan} (ok : Accepted P) (i : ℕ) (known : i < flowCount P) where
         sum-le 1 (λ k. tally (inFrame P i (f - 1 + k)) (grants P h)) (λ k. entry P i .share) (λ k lt. most ok i known h none c (f - 1 + k)),
         sum-const 1 (entry P i .share),
         most ok i known h none c f,
-        given-back h at-once f (f - 1) s (λ some. omega arith) (frame-begins ok s),
+        before-frame ok i known 0 h f (f - 1) s back (λ some. omega arith) (frame-begins ok s),
         tally-le (upTo i s) (ofFlow i) (λ m e. and-true (ofFlow i m) (leb (m .slot) s) e .0) (lends h),
       )
     where
       f : ℕ
       f = frameOf P s
+
+      back : (r : ℕ) → frameOf P r < f - 1 → grantedUpTo P h i r ≤ creditedUpTo P h i (lastOf P (frameOf P r + 0 + 1))
+      back r lt =
+          let same : frameOf P r + 1 ≡ frameOf P r + 0 + 1 = omega arith in
+          omega (arith, at-once r, ap (λ k. creditedUpTo P h i (lastOf P k)) same)
 
       near : (m : Mark) → Near ok i s (f - 1) 0 f m
       near m own up other = omega (arith, frame-order ok (m .slot) s up)

@@ -1,5 +1,5 @@
 -- Whether a flow is modest in a history, and whether its requests are timely, is decided by computation. Assumes nothing.
-use Prim.Native.Nat.{ℕ, suc, _+_, _*_, _≤_, _<_, max}
+use Prim.Native.Nat.{ℕ, suc, _+_, _≤_, _<_, max}
 use mathlib.Core.Path.{_≡_}
 use mathlib.Core.Logic.{Dec·and}
 use mathlib.Core.List.{List}
@@ -14,7 +14,7 @@ use Rattle.model.specs.Calls.{Grant, Event, History, requested, credited
 use Rattle.model.specs.History.{Mark, frameOf, wellFormed, inFrame, ofFlow, grantedUpTo, lentUpTo, creditedUpTo, expectedNumber}
 use Rattle.model.specs.OtherPremises.{Premise}
 use Rattle.model.specs.LessAsked.{HasRoom}
-use Rattle.model.specs.Delay.{newestFrame, dueSlot, RoomFrom, nextFrameOf, madeSince, dueSince, TimelyFrom, Timely, FitsNewest}
+use Rattle.model.specs.Delay.{dueSlot, RoomFrom, madeSince, dueSince, TimelyFrom, Timely, FitsNewest}
 use Rattle.model.specs.Delay.{IsGranted, AtAnswer, PromptOn}
 use Rattle.model.specs.Delay.{Modest, ModestOnArrival}
 use Rattle.model.specs.LessTimely.{DueInTime, Ordered}

@@ -13,7 +13,7 @@ use Rattle.model.specs.Tables.{bit, tally, sum, within}
 use Rattle.model.specs.Word.{flowOf, departureOf}
 use Rattle.model.specs.Plan.{Plan, flowCount, entry, Accepted}
 use Rattle.model.specs.Calls.{Event, History, requested, credited, ticked, lent, accepted, refused}
-use Rattle.model.specs.History.{Mark, ticks, slotAfter, frameOf, grants, credits, lends, ofFlow, inFrame, upTo, creditedUpTo}
+use Rattle.model.specs.History.{Mark, ticks, slotAfter, frameOf, grants, credits, lends, ofFlow, inFrame, upTo, grantedUpTo, creditedUpTo}
 use Rattle.model.specs.Claim.{EachSince}
 use Rattle.model.specs.Delay.{currentFrame, madeSince, madeIn, RoomFrom, GrantedSoonAt}
 use Rattle.model.specs.EnoughCells.{lastOf}
@@ -146,30 +146,30 @@ module _ {P : Plan} (ok : Accepted P) (i : ℕ) (known : i < flowCount P) where
   pub most : (h : History) → NoneGranted h → Counts P h → (a : ℕ) → tally (inFrame P i a) (grants P h) ≤ entry P i .share
   most h none c a = omega (arith, c .in-frames i known a, ap (tally (inFrame P i a)) (grants-are P h none))
 
-  -- a tile of a frame that is more than `late` frames before frame e is given back by slot s of that frame or a later one
-  before-frame : (late : ℕ) (h : History) → GivenBack late P i h → (e o s : ℕ) → e ≤ currentFrame P h + 1 → (0 < o → o + late + 1 ≤ e) → e * P .slots ≤ s
-      → tally (below i (o * P .slots)) (grants P h) ≤ creditedUpTo P h i s
-  before-frame late h given-back e zero s now far le =
+  -- where tiles of the frames before frame o are given back by the end of frame late + 1 after theirs, they are so by slot s of frame o + late + 1 or a later one
+  pub before-frame : (late : ℕ) (h : History) (e o s : ℕ)
+      → ((r : ℕ) → frameOf P r < o → grantedUpTo P h i r ≤ creditedUpTo P h i (lastOf P (frameOf P r + late + 1)))
+      → (0 < o → o + late + 1 ≤ e) → e * P .slots ≤ s → tally (below i (o * P .slots)) (grants P h) ≤ creditedUpTo P h i s
+  before-frame late h e zero s back far le =
       let none : 0 * P .slots ≡ 0 = omega arith in
       omega (arith, below-none i (grants P h), ap (λ b. tally (below i b) (grants P h)) none)
-  before-frame late h given-back e (suc o) s now far le =
+  before-frame late h e (suc o) s back far le =
       let r = suc o * P .slots - 1 in
-      let back : suc o + late + 1 ≤ e = far (omega arith) in
       let starts : suc o * P .slots ≡ suc r = omega (arith, ok .some-slot) in
       let before : frameOf P r < suc o = frame-high ok (suc o) r (omega arith) in
-      let from : o ≤ frameOf P r = frame-low ok o r (omega (arith, ok .some-slot)) in
-      let ends : (frameOf P r + late + 1 + 1) * P .slots ≤ e * P .slots = mul-le-mul-right (P .slots) (omega arith) in
+      let ends : (frameOf P r + late + 1 + 1) * P .slots ≤ e * P .slots = mul-le-mul-right (P .slots) (omega (arith, far (omega arith))) in
       omega (
         arith,
         below-up-to i r (grants P h),
         ap (λ b. tally (below i b) (grants P h)) starts,
-        given-back r (omega arith),
+        back r before,
         up-to-more i (lastOf P (frameOf P r + late + 1)) s (omega arith) (credits P h),
       )
 
   pub older-given-back : (late : ℕ) (h : History) → GivenBack late P i h → (s : ℕ) → (currentFrame P h + 1) * P .slots ≤ s
       → tally (below i ((currentFrame P h - late) * P .slots)) (grants P h) ≤ creditedUpTo P h i s
-  older-given-back late h given-back s le = before-frame late h given-back (currentFrame P h + 1) (currentFrame P h - late) s (omega arith) (λ some. omega arith) le
+  older-given-back late h given-back s le =
+      before-frame late h (currentFrame P h + 1) (currentFrame P h - late) s (λ r lt. given-back r (omega arith)) (λ some. omega arith) le
 
   pub room-next : (late : ℕ) (h : History) → NoneGranted h → EachSince (GrantedSoonAt P i) h → GivenBack late P i h → tally (ofFlow i) (lends h) ≡ 0
       → Counts P h → (late + 2) * entry P i .share ≤ entry P i .cells + 0 → madeIn P h i (currentFrame P h) < entry P i .share
@@ -217,7 +217,7 @@ module _ {P : Plan} (ok : Accepted P) (i : ℕ) (known : i < flowCount P) where
             from-frame ok i s oldest late f (grants P h) (all-of _ near (grants P h)),
             sum-le (suc late) (λ k. tally (inFrame P i (oldest + k)) (grants P h)) (λ k. entry P i .share) (λ k lt. most h none c (oldest + k)),
             sum-const (suc late) (entry P i .share),
-            before-frame late h given-back f oldest s (omega arith) (λ some. omega arith) le,
+            before-frame late h f oldest s (λ r lt. given-back r (omega arith)) (λ some. omega arith) le,
             tally-le (upTo i s) (ofFlow i) (λ m e. and-true (ofFlow i m) (leb (m .slot) s) e .0) (lends h),
           )
         where

@@ -1,26 +1,25 @@
 -- Cards that refuse credits of cells that are held meet demand 3, and are prompt and soon: a refused credit changes nothing that these count. Assumes nothing.
 use Prim.Native.Nat.{ℕ, _<_}
-use mathlib.Core.Path.{_≡_, refl, ap, subst}
+use mathlib.Core.Path.{_≡_, refl, subst}
 use mathlib.Core.List.{List, [], _∷_}
 use mathlib.Core.Bool.{Bool, true, false, cond}
 use Rattle.model.specs.Plan.{Plan, flowCount, planOf, Accepted}
-use Rattle.model.specs.Calls.{Call, Receipt, Event, History, requested, credited, ticked, lent, refused}
-use Rattle.model.specs.Link.{Link, flow}
+use Rattle.model.specs.Calls.{Call, Receipt, credited, refused}
+use Rattle.model.specs.Link.{Link}
 use Rattle.model.specs.Claim.{Each, GrantedWordAt, Demand3}
 use Rattle.model.specs.Card.{Card, Played, Meets, paper, step, play, started, run}
 use Rattle.model.specs.Delay.{FitsNewest, PromptOn, Prompt, TimelyInOrder, SoonOn, SoonAhead, Soon}
 use Rattle.model.specs.BadCredits.{keepsCells}
 use Rattle.model.proofs.Plan as plan
-use Rattle.model.proofs.AfterHistory.{After}
 use Rattle.model.proofs.AfterCredit.{not-taken}
 use Rattle.model.proofs.AfterCalls.{Known, after-step, after-fresh}
 use Rattle.model.proofs.Demand3.{each-map, demand3}
 use Rattle.model.proofs.EventsOfRuns.{Happened, happens, one-more as happened-more}
 use Rattle.model.proofs.Prompt.{prompt-more}
-use Rattle.model.proofs.Fronts.{Kept}
 use Rattle.model.proofs.FrontsKept.{fresh-kept, refused-credit-kept}
 use Rattle.model.proofs.Soon.{KeptAfter, kept-more}
 use Rattle.model.proofs.SoonOnArrival.{soon-if-ready}
+use Rattle.model.proofs.SlowCards.{same-events}
 
 -- the same link, with a refused credit as one event more
 abbrev kept : Played paper → (i p : ℕ) → Played paper
@@ -33,14 +32,8 @@ module _ (keeps : Played paper → (i p : ℕ) → Bool) where
   abbrev card : Card
   card = keepsCells keeps
 
-  -- what it remembers are its events
-  same-events : (r : Played card) (c : Call) → r .state .history ≡ r .history → step card r c .state .history ≡ step card r c .history
-  same-events r (Call.request w) e = ap (requested w (paper .request (r .state .state) w .1) ∷_) e
-  same-events r (Call.credit i p) e =
-      ap (credited i p (cond (keeps (r .state) i p) (r .state .state, refused 15) (paper .credit (r .state .state) i p) .1) ∷_) e
-  same-events r Call.tick e = ap (ticked (paper .tick (r .state .state) .1) ∷_) e
-  same-events r (Call.lend m) e = ap (lent m (paper .lend (r .state .state) m .1) ∷_) e
-  same-events r Call.reset e = ap (Event.reset (paper .reset (r .state .state) .1) ∷_) e
+  abbrev answer : Played paper → ℕ → ℕ → Link × Receipt
+  answer r i p = cond (keeps r i p) (r .state, refused 15) (paper .credit (r .state) i p)
 
   -- What each call of the paper's card keeps, and a refused credit, holds after every list of calls on this card.
   module _ {P : Plan} (ok : Accepted P) (Q : Played paper → Type 0)
@@ -86,7 +79,7 @@ module _ (keeps : Played paper → (i p : ℕ) → Bool) where
     ends : (r : Played card) (calls : List Call) → Stands (r .state) → r .state .history ≡ r .history → Ends (play card r calls)
     unfolding play
     ends r [] s e = record { stands = s; events = e }
-    ends r (c ∷ calls) s e = ends (step card r c) calls (stands-more r c s) (same-events r c e)
+    ends r (c ∷ calls) s e = ends (step card r c) calls (stands-more r c s) (same-events (λ r w. paper .request (r .state) w) answer r c e)
 
     ends-run : (calls : List Call) → Ends (run card P calls)
     ends-run calls = ends (started card P) calls (record { known = after-fresh ok; happened = tt; has = first }) refl

@@ -1,5 +1,5 @@
 -- The paper's card takes the credits of cells that their flow holds, and no others. Assumes nothing.
-use Prim.Native.Nat.{ℕ, _%_, _≤_, _<_}
+use Prim.Native.Nat.{ℕ, _%_, _<_}
 use mathlib.Core.Path.{_≡_, refl, sym, ap, _∙_, subst}
 use mathlib.Core.List.{List}
 use mathlib.Core.Bool.{true, false}
@@ -15,7 +15,7 @@ use Rattle.model.specs.History.{ticks, slotAfter, hasCome, upTo}
 use Rattle.model.specs.Holding.{InWindow}
 use Rattle.model.specs.Claim.{Each}
 use Rattle.model.specs.Card.{Played, paper, step, run}
-use Rattle.model.specs.TakenCredits.{HoldsFrom, GivesBackFrom, IsTaken, CreditTakenAt, CreditTaken}
+use Rattle.model.specs.TakenCredits.{GivesBackFrom, IsTaken, CreditTakenAt, CreditTaken}
 use Rattle.model.proofs.Plan as plan
 use Rattle.model.proofs.Slots.{slotAt, slotAt-in-window, slotAt-position, slotAfter-is}
 use Rattle.model.proofs.Window.{Current, passed-is, everyFrom-intro}
