@@ -15,11 +15,11 @@ from demand3.turns import Turns
 
 class Verdict:
     """What was found: faults as text; grants and taken credits seen; how the
-    credits, the lends, the resets, and the departures and the numbers of well-formed words
-    ended, and whose turn it was at a lend; how often a request had to be
-    granted promptly or soon, and was; per flow the largest k at which the
-    least count was put to the test, from the beginning or from a granted reset
-    on; and the largest of the latter."""
+    credits, the lends, the resets, and the departures and the numbers of
+    well-formed words ended, and whose turn it was at a lend; how often a
+    request had to be granted promptly or soon, and was; per flow the largest
+    k at which the least count was put to the test, from the beginning or from
+    a granted reset on; and the largest of the latter."""
 
     def __init__(self):
         self.faults = []

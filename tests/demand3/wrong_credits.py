@@ -16,7 +16,8 @@ NOW, LATER = TAKEN
 NO_FLOW, NO_POSITION, CURRENT, GONE, EMPTY, EMPTY_LATER = NO_CELL
 
 WRONG = [
-    (edge("refuses every credit", TWO, (ask(0), "G 1"), (credit(0, 1), "R 15")),
+    (edge("refuses every credit", TWO,
+          (ask(0), "G 1"), (credit(0, 1), "R 15")),
      "the credit of flow 0 at 1 is refused, " + HELD),
     # Slot 1 is the last of frame 0.
     (edge("refuses credits in a frame's last slot", TWO,
@@ -50,8 +51,8 @@ RIGHT = [
           (credit(1, 1), "R 8"), (credit(0, 6), "R 13"),
           (credit(0, 0), "R 14"), (credit(0, 4), "R 15"),
           (ask(0), "G 1"), (credit(0, 4), "C"), (credit(0, 2), "R 15"),
-          (ask(0), "G 2"), (TICK, "T 0"), (TICK, "T 0"), (credit(0, 1), "R 14"),
-          (credit(0, 3), "C")),
+          (ask(0), "G 2"), (TICK, "T 0"), (TICK, "T 0"),
+          (credit(0, 1), "R 14"), (credit(0, 3), "C")),
      {NO_FLOW: 1, NO_POSITION: 1, CURRENT: 1, EMPTY: 1, LATER: 2,
       EMPTY_LATER: 1, GONE: 1}),
     (edge("a credit dated this frame", WIDE,

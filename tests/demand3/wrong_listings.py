@@ -7,8 +7,8 @@ rules 21.5 to 21.8.
 """
 
 from demand3 import (
-    wrong_bursts, wrong_credits, wrong_delays, wrong_departures, wrong_lends, wrong_numbers,
-    wrong_resets, wrong_turns)
+    wrong_bursts, wrong_credits, wrong_delays, wrong_departures, wrong_lends,
+    wrong_numbers, wrong_resets, wrong_turns)
 from demand3.check import ALLCALLS, check
 from edges.edge_maker import TICK, ask, credit, edge, plan
 
