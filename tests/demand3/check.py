@@ -1,9 +1,9 @@
-"""The verdict on a listing: demand 3, prompt and soon checked from it and its
-call file alone.
+"""The verdict on a listing: demand 3, prompt and soon, and which credits are
+taken, checked from it and its call file alone.
 
-The check follows rules 21.2 to 21.10 and 22.2 to 22.5.  It shares no code with
-the simulator and keeps no table of the link: it writes down which slots the
-listing grants or lends and which credits it takes, and counts them.
+The check follows rules 21.2 to 21.10, 22.2 to 22.5 and 22.12.  It shares no
+code with the simulator and keeps no table of the link: it writes down which
+slots the listing grants or lends and which credits it takes, and counts them.
 """
 
 import re

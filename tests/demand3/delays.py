@@ -6,7 +6,8 @@ they were made and by the frame in which their tiles were due.
 
 from collections import Counter
 
-PROMPT = ("prompt: a tile that has come", "prompt: a tile to come")
+PROMPT = ("prompt: a tile that has come", "prompt: a tile to come",
+          "prompt: with room in the newest frame, and not before it")
 SOON = ("soon: a tile that has come, in its frame",
         "soon: a tile that has come, in the next",
         "soon: a tile to come, in its frame",
@@ -26,14 +27,14 @@ class Asked:
                      else history.slot_after_now(departure))
         self.frame = self.slot // history.frame_slots
         newest = history.frame() + history.window_frames - 1
-        self.timely = (quantum == history.expected(flow)
-                       and self.frame < newest
-                       and self.has_room(history))
+        self.fits = (quantum == history.expected(flow)
+                     and self.frame < newest
+                     and self.has_room(history, newest))
+        self.timely = self.fits and self.has_room(history, self.frame + 1)
 
-    def has_room(self, history):
-        """Fewer than its cells in every slot from the frame after the due one
-        on."""
-        first = (self.frame + 1) * history.frame_slots
+    def has_room(self, history, frame):
+        """Fewer than its cells in every slot from this frame's first on."""
+        first = frame * history.frame_slots
         before = 0
         for slot, level in history.levels(self.flow):
             if slot > first and before >= history.cells[self.flow]:
@@ -70,11 +71,13 @@ class Delays:
 
     def prompt(self, history, asked, slot, refusal):
         share = history.share[asked.flow]
-        if not asked.timely or self.made[asked.flow, history.frame()] >= share:
+        if not asked.fits or self.made[asked.flow, history.frame()] >= share:
             return []
         if slot is None:
             history.fault("flow %d is refused with %s, though it is prompt"
                           % (asked.flow, refusal))
+        if not asked.timely:
+            return [PROMPT[2]]
         return [PROMPT[0 if asked.come else 1]]
 
     def soon(self, history, asked, slot, refusal):

@@ -7,23 +7,25 @@ counted over the whole list, the quantum numbers too."""
 import struct
 from collections import Counter
 
-from demand3 import departure_ways, lend_ways, number_ways, reset_ways
+from demand3 import (
+    credit_ways, departure_ways, lend_ways, number_ways, reset_ways)
 from demand3.delays import Asked, Delays
 from demand3.turns import Turns
 
 
 class Verdict:
     """What was found: faults as text; grants and taken credits seen; how the
-    lends, the resets, and the departures and the numbers of well-formed words
-    ended, and whose turn it was at a lend; how often a request had to be
-    granted promptly or soon, and was; per flow the largest k at which the
-    least count was put to the test, from the beginning or from a granted reset
-    on; and the largest of the latter."""
+    credits, the lends, the resets, and the departures and the numbers of
+    well-formed words ended, and whose turn it was at a lend; how often a
+    request had to be granted promptly or soon, and was; per flow the largest
+    k at which the least count was put to the test, from the beginning or from
+    a granted reset on; and the largest of the latter."""
 
     def __init__(self):
         self.faults = []
         self.grants = 0
         self.credits = 0
+        self.given_back = Counter()
         self.lends = Counter()
         self.turns = Counter()
         self.resets = Counter()
@@ -257,10 +259,22 @@ class History:
         if letter == "G":
             self.note_granted(flow, quantum, departure, int(number))
 
+    def check_credit(self, flow, position, letter):
+        """A credit is taken exactly if a cell is held (rule 22.12)."""
+        way = credit_ways.way(self, flow, position)
+        self.verdict.given_back[way] += 1
+        if letter != "C" and way in credit_ways.TAKEN:
+            self.fault("the credit of flow %d at %d is refused, though a cell "
+                       "is held" % (flow, position))
+        if letter == "C" and way not in credit_ways.TAKEN:
+            self.fault("the credit of flow %d at %d is taken, though no cell "
+                       "is held" % (flow, position))
+
     def credit(self, record, letter, number):
+        flow, position = struct.unpack_from("<BH", record, 1)
+        self.check_credit(flow, position, letter)
         if letter != "C":
             return
-        flow, position = struct.unpack_from("<BH", record, 1)
         if flow >= self.flows or position >= self.total:
             self.fault("a taken credit of flow %d at %d" % (flow, position))
             return

@@ -9,12 +9,13 @@ from edges.edge_maker import RESET, TICK, ask, burst, credit, edge, lend, plan
 ONE_CELL = plan(2, 2, (1, 1))           # F = 2, W = 2, share 1
 THREE = plan(2, 3, (1, 9))              # the same with W = 3 and 9 cells
 FOUR = plan(2, 4, (1, 9))
+LATE_CELL = plan(2, 3, (2, 1))          # F = 2, W = 3, share 2, one cell
 NEIGHBOUR = plan(2, 2, (1, 9), (1, 9))  # F = 2, W = 2, two flows of share 1
 IDLE = (TICK, "T -")
 PROMPTLY = "though it is prompt"
 MODEST = "though it is modest"
 
-COME, TO_COME = PROMPT
+COME, TO_COME, IN_NEWEST = PROMPT
 IN_ITS_FRAME, IN_THE_NEXT, AHEAD, AHEAD_NEXT, SHARE_DUE = SOON
 
 WRONG = [
@@ -45,6 +46,10 @@ WRONG = [
     (edge("refused ahead, with nothing due in that frame", THREE,
           (ask(0), "G 1"), (ask(0, departure=2), "R 11")),
      "flow 0 is refused with 11, " + MODEST),
+    # The cell is free from slot 4 on, the first of the newest frame.
+    (edge("refused with room in the newest frame alone", LATE_CELL,
+          (ask(0), "G 1"), (credit(0, 4), "C"), (ask(0), "R 12")),
+     "flow 0 is refused with 12, " + PROMPTLY),
     # After a tile of the newest frame demand 3 promises nothing.
     (edge("refused after a tile of the newest frame", NEIGHBOUR,
           (ask(0, departure=3), "R 20"), (ask(0), "R 11")),
@@ -70,6 +75,12 @@ RIGHT = [
     (edge("refused without room in the next frame", ONE_CELL,
           (ask(0), "G 1"), (ask(0), "R 12")),
      {COME: 1, IN_ITS_FRAME: 1}),
+    (edge("granted with room in the newest frame alone", LATE_CELL,
+          (ask(0), "G 1"), (credit(0, 4), "C"), (ask(0), "G 4")),
+     {COME: 1, IN_ITS_FRAME: 1, IN_NEWEST: 1}),
+    (edge("refused without room in the newest frame's first slot", LATE_CELL,
+          (ask(0), "G 1"), (credit(0, 5), "C"), (ask(0), "G 5"),
+          (ask(0), "R 12")), {COME: 1, IN_ITS_FRAME: 1}),
     (edge("refused without its number", THREE,
           (ask(0, quantum=1), "R 24"), (ask(0), "G 1")),
      {COME: 1}),

@@ -7,8 +7,8 @@ rules 21.5 to 21.8.
 """
 
 from demand3 import (
-    wrong_bursts, wrong_delays, wrong_departures, wrong_lends, wrong_numbers,
-    wrong_resets, wrong_turns)
+    wrong_bursts, wrong_credits, wrong_delays, wrong_departures, wrong_lends,
+    wrong_numbers, wrong_resets, wrong_turns)
 from demand3.check import ALLCALLS, check
 from edges.edge_maker import TICK, ask, credit, edge, plan
 
@@ -97,6 +97,25 @@ def tried(right, delays):
     return None
 
 
+def ended(right, given_back):
+    """The same for a right one, with credits that ended so."""
+    verdict = check(right.data, right.lines, ALLCALLS)
+    if verdict.faults or verdict.given_back != given_back:
+        return "sent back: %r, %r" % (verdict.faults, verdict.given_back)
+    return None
+
+
+def credits():
+    """The same for listings that only the rule on credits tells apart."""
+    for wrong, words in wrong_credits.WRONG + wrong_credits.ALLCALLS_WRONG:
+        faults = check(wrong.data, wrong.lines, ALLCALLS).faults
+        others = [fault for fault in faults if not fault.endswith("is held")]
+        yield wrong.name, (sent_back(wrong, words, ALLCALLS)
+                           or others and "demand 3: %s" % others)
+    for right, ways in wrong_credits.RIGHT + wrong_credits.ALLCALLS_RIGHT:
+        yield right.name, ended(right, ways)
+
+
 def delays():
     """The same for listings that only prompt and soon tell apart."""
     for wrong, words in wrong_delays.WRONG + wrong_delays.ALLCALLS_WRONG:
@@ -112,6 +131,7 @@ def delays():
 def missed():
     """(name, what went wrong or None) for each listing."""
     yield from delays()
+    yield from credits()
     for wrong, words in WRONG:
         yield wrong.name, sent_back(wrong, words)
     cut = check(RIGHT.data, RIGHT.lines[:-1]).faults

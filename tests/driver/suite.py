@@ -8,7 +8,8 @@ import multiprocessing
 from collections import Counter
 
 from demand3 import (
-    delays, departure_ways, lend_ways, number_ways, reset_ways, turns)
+    credit_ways, delays, departure_ways, lend_ways, number_ways, reset_ways,
+    turns)
 from demand3.check import check
 from driver import progress
 from driver.formats import ALLCALLS, DOMELINK
@@ -59,6 +60,7 @@ class Suite:
         self.passed = 0
         self.failed = 0
         self.seen = set()           # refusal numbers in the listings
+        self.given_back = Counter()     # how credits ended
         self.lends = Counter()      # how lends ended
         self.turns = Counter()      # which flow's turn it was
         self.resets = Counter()     # how resets ended
@@ -83,6 +85,7 @@ class Suite:
         """What came up in a file, for the totals."""
         self.seen |= outcome.seen
         if outcome.verdict:
+            self.given_back += outcome.verdict.given_back
             self.lends += outcome.verdict.lends
             self.turns += outcome.verdict.turns
             self.resets += outcome.verdict.resets
@@ -149,6 +152,7 @@ class Suite:
             if self.form is ALLCALLS or way not in number_ways.AFTER_RESETS
         ], self.numbers)
         self.every_way("prompt and soon requests", delays.WAYS, self.delays)
+        self.every_way("credits", credit_ways.WAYS, self.given_back)
         if self.form is ALLCALLS:
             self.every_way("lends", lend_ways.WAYS, self.lends)
             self.every_way("turns", turns.WAYS, self.turns)

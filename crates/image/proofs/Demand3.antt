@@ -11,14 +11,17 @@ use Rattle.model.specs.Tables.{tally}
 use Rattle.model.specs.History.{renews}
 use Rattle.model.specs.Card.{paper}
 use Rattle.model.specs.SeveralLinks.{Board}
-use Rattle.model.specs.EnoughCells.{GivesBack}
+use Rattle.model.specs.EnoughCells.{GivesBack, GivesBackAtOnce}
 use Rattle.model.specs.SharesOfCells.{KeepsShares, EachGrantedNow}
 use Rattle.model.specs.SharesAhead.{KeepsSharesAhead, EachGrantedInTime}
-use Rattle.model.specs.Delay.{Timely, PromptOn, TimelyInOrder, SoonOn, SoonOnArrivalOn}
+use Rattle.model.specs.BooksInOrder.{AfterThoseAt}
+use Rattle.model.specs.TakenCredits.{CreditTakenAt}
+use Rattle.model.specs.Delay.{FitsNewest, PromptOn, RoomFrom, AsksAt, TimelyInOrder, SoonOn, SoonOnArrivalOn}
 use Rattle.images.specs.Taken.{refusalOf}
 use Rattle.images.specs.Exports.{Called, HandsBack, calledOn}
 use Rattle.images.specs.Chain.{eventOf, imageIn, Chain, starts, goes-on}
-use Rattle.images.proofs.Chain.{chain-taken, chain-meets, chain-fair, chain-numbers, chain-prompt, chain-soon-ahead, chain-soon, chain-enough-cells, chain-shares-of-cells, chain-shares-ahead, chain-board}
+use Rattle.images.proofs.Chain.{chain-taken, chain-meets, chain-fair, chain-numbers, chain-credits-taken, chain-prompt, chain-soon-ahead, chain-soon}
+use Rattle.images.proofs.Chain.{chain-enough-cells, chain-enough-at-once, chain-shares-of-cells, chain-shares-in-order, chain-shares-ahead, chain-board}
 use Rattle.image.specs.Hosted.{Hosted, by-fresh, by-request, by-credit, by-tick, by-lend, by-reset}
 
 module _ (plan : List ℕ) where
@@ -58,8 +61,12 @@ module _ (plan : List ℕ) where
   pub host-numbers : {h : History} {b : List ℕ} → Hosted plan h b → (i : ℕ) → i < flowCount (planOf plan) → InOrder (planOf plan) i h
   host-numbers x = chain-numbers plan (chained x .chain)
 
+  -- its credits
+  pub host-credits-taken : {h : History} {b : List ℕ} → Hosted plan h b → Each (CreditTakenAt (planOf plan)) h
+  host-credits-taken x = chain-credits-taken plan (chained x .chain)
+
   -- its delay
-  pub host-prompt : {h : History} {b : List ℕ} → Hosted plan h b → PromptOn Timely 0 (planOf plan) h
+  pub host-prompt : {h : History} {b : List ℕ} → Hosted plan h b → PromptOn FitsNewest 0 (planOf plan) h
   host-prompt x = chain-prompt plan (chained x .chain)
 
   pub host-soon-ahead : {h : History} {b : List ℕ} → Hosted plan h b → (i : ℕ) → i < flowCount (planOf plan) → SoonOn TimelyInOrder 0 (planOf plan) i h
@@ -72,9 +79,17 @@ module _ (plan : List ℕ) where
       → GivesBack 0 (planOf plan) i h → Each (ReadyAt (planOf plan) i) h
   host-enough-cells x = chain-enough-cells plan (chained x .chain)
 
+  pub host-enough-at-once : {h : History} {b : List ℕ} → Hosted plan h b → (i : ℕ) → i < flowCount (planOf plan)
+      → GivesBackAtOnce 0 (planOf plan) i h → Each (AsksAt (λ P i w h. RoomFrom P i 0 h) (planOf plan) i) h
+  host-enough-at-once x = chain-enough-at-once plan (chained x .chain)
+
   pub host-shares-of-cells : (late : ℕ) {h : History} {b : List ℕ} → Hosted plan h b → (i : ℕ) → i < flowCount (planOf plan)
       → KeepsShares late 0 (planOf plan) i h → EachGrantedNow (planOf plan) i h
   host-shares-of-cells late x = chain-shares-of-cells plan late (chained x .chain)
+
+  pub host-shares-in-order : (late : ℕ) {h : History} {b : List ℕ} → Hosted plan h b → (i : ℕ) → i < flowCount (planOf plan)
+      → KeepsShares late 0 (planOf plan) i h → Each (AfterThoseAt (planOf plan) i) h
+  host-shares-in-order late x = chain-shares-in-order plan late (chained x .chain)
 
   pub host-shares-ahead : (ahead late : ℕ) {h : History} {b : List ℕ} → Hosted plan h b → (i : ℕ) → i < flowCount (planOf plan)
       → KeepsSharesAhead ahead late 0 (planOf plan) i h → EachGrantedInTime (planOf plan) i h

@@ -20,10 +20,12 @@ use Rattle.model.specs.QuantumNumbers.{InOrder}
 use Rattle.model.specs.Tables.{tally}
 use Rattle.model.specs.History.{renews}
 use Rattle.model.specs.SeveralLinks.{Ran, Board}
-use Rattle.model.specs.EnoughCells.{GivesBack}
+use Rattle.model.specs.EnoughCells.{GivesBack, GivesBackAtOnce}
 use Rattle.model.specs.SharesOfCells.{KeepsShares, EachGrantedNow}
 use Rattle.model.specs.SharesAhead.{KeepsSharesAhead, EachGrantedInTime}
-use Rattle.model.specs.Delay.{Timely, PromptOn, TimelyInOrder, SoonOn, SoonOnArrivalOn}
+use Rattle.model.specs.BooksInOrder.{AfterThoseAt}
+use Rattle.model.specs.TakenCredits.{CreditTakenAt}
+use Rattle.model.specs.Delay.{FitsNewest, PromptOn, RoomFrom, AsksAt, TimelyInOrder, SoonOn, SoonOnArrivalOn}
 use Rattle.model.specs.CountedBursts.{several, countsAs, eventsIn}
 use Rattle.model.proofs.AfterCalls.{Known, after-calls, after-fresh}
 use Rattle.model.proofs.CountedBursts.{play-both, burst-played}
@@ -35,7 +37,10 @@ use Rattle.model.proofs.Soon.{soon-accepted}
 use Rattle.model.proofs.SoonOnArrival.{soon-on-arrival}
 use Rattle.model.proofs.EnoughCells.{enough-cells-accepted}
 use Rattle.model.proofs.SharesOfCells.{shares-of-cells-accepted}
+use Rattle.model.proofs.CellsAtOnce.{enough-at-once-accepted}
+use Rattle.model.proofs.SharesInOrder.{shares-in-order-accepted}
 use Rattle.model.proofs.SharesAhead.{shares-ahead-accepted}
+use Rattle.model.proofs.TakenCredits.{credits-taken-accepted}
 use Rattle.link.specs.declared.Link.{Link}
 use Rattle.link.specs.Steps.{readOf as linkRead}
 use Rattle.link.specs.Handed.{Handed}
@@ -172,10 +177,15 @@ pub code-numbers : (bytes : List ℕ) (o : Outcome) → o ≡ readOf bytes → (
     → {h : History} {l : Link} → Handed (o .plan) h l → (i : ℕ) → i < model.flowCount (model.planOf bytes) → InOrder (model.planOf bytes) i h
 code-numbers = code-has (λ P h. (i : ℕ) → i < model.flowCount P → InOrder P i h) numbers-accepted
 
+-- and its credits: it takes those of cells that their flow holds, and no others
+pub code-credits-taken : (bytes : List ℕ) (o : Outcome) → o ≡ readOf bytes → (o .verdict ≡ Accepted → Valid (o .plan)) → o .verdict ≡ Accepted
+    → {h : History} {l : Link} → Handed (o .plan) h l → Each (CreditTakenAt (model.planOf bytes)) h
+code-credits-taken = code-has (λ P. Each (CreditTakenAt P)) credits-taken-accepted
+
 -- and its delay: it is prompt, and soon to a modest flow, whether that asks ahead of its tiles or on their arrival
 pub code-prompt : (bytes : List ℕ) (o : Outcome) → o ≡ readOf bytes → (o .verdict ≡ Accepted → Valid (o .plan)) → o .verdict ≡ Accepted
-    → {h : History} {l : Link} → Handed (o .plan) h l → PromptOn Timely 0 (model.planOf bytes) h
-code-prompt = code-has (PromptOn Timely 0) prompt-accepted
+    → {h : History} {l : Link} → Handed (o .plan) h l → PromptOn FitsNewest 0 (model.planOf bytes) h
+code-prompt = code-has (PromptOn FitsNewest 0) prompt-accepted
 
 pub code-soon-ahead : (bytes : List ℕ) (o : Outcome) → o ≡ readOf bytes → (o .verdict ≡ Accepted → Valid (o .plan)) → o .verdict ≡ Accepted
     → {h : History} {l : Link} → Handed (o .plan) h l → (i : ℕ) → i < model.flowCount (model.planOf bytes) → SoonOn TimelyInOrder 0 (model.planOf bytes) i h
@@ -191,12 +201,26 @@ pub code-enough-cells : (bytes : List ℕ) (o : Outcome) → o ≡ readOf bytes 
     → GivesBack 0 (model.planOf bytes) i h → Each (ReadyAt (model.planOf bytes) i) h
 code-enough-cells = code-has (λ P h. (i : ℕ) → i < model.flowCount P → GivesBack 0 P i h → Each (ReadyAt P i) h) enough-cells-accepted
 
+-- and one whose cells are credited at the grants has room in every slot
+pub code-enough-at-once : (bytes : List ℕ) (o : Outcome) → o ≡ readOf bytes → (o .verdict ≡ Accepted → Valid (o .plan)) → o .verdict ≡ Accepted
+    → {h : History} {l : Link} → Handed (o .plan) h l → (i : ℕ) → i < model.flowCount (model.planOf bytes)
+    → GivesBackAtOnce 0 (model.planOf bytes) i h → Each (AsksAt (λ P i w h. RoomFrom P i 0 h) (model.planOf bytes) i) h
+code-enough-at-once =
+    code-has (λ P h. (i : ℕ) → i < model.flowCount P → GivesBackAtOnce 0 P i h → Each (AsksAt (λ P i w h. RoomFrom P i 0 h) P i) h) enough-at-once-accepted
+
 -- and one that asks within its share, with cells by how late they are given back, is granted each request: late = 0 is two shares, late = 1 three
 pub code-shares-of-cells : (late : ℕ) (bytes : List ℕ) (o : Outcome) → o ≡ readOf bytes → (o .verdict ≡ Accepted → Valid (o .plan)) → o .verdict ≡ Accepted
     → {h : History} {l : Link} → Handed (o .plan) h l → (i : ℕ) → i < model.flowCount (model.planOf bytes)
     → KeepsShares late 0 (model.planOf bytes) i h → EachGrantedNow (model.planOf bytes) i h
 code-shares-of-cells late =
     code-has (λ P h. (i : ℕ) → i < model.flowCount P → KeepsShares late 0 P i h → EachGrantedNow P i h) (shares-of-cells-accepted late)
+
+-- and its slots come in the order in which it asked
+pub code-shares-in-order : (late : ℕ) (bytes : List ℕ) (o : Outcome) → o ≡ readOf bytes → (o .verdict ≡ Accepted → Valid (o .plan)) → o .verdict ≡ Accepted
+    → {h : History} {l : Link} → Handed (o .plan) h l → (i : ℕ) → i < model.flowCount (model.planOf bytes)
+    → KeepsShares late 0 (model.planOf bytes) i h → Each (AfterThoseAt (model.planOf bytes) i) h
+code-shares-in-order late =
+    code-has (λ P h. (i : ℕ) → i < model.flowCount P → KeepsShares late 0 P i h → Each (AfterThoseAt P i) h) (shares-in-order-accepted late)
 
 -- so where its words run ahead of their tiles
 pub code-shares-ahead : (ahead late : ℕ) (bytes : List ℕ) (o : Outcome) → o ≡ readOf bytes → (o .verdict ≡ Accepted → Valid (o .plan)) → o .verdict ≡ Accepted

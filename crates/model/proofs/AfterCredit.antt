@@ -38,7 +38,7 @@ module _ {l : Link} {h : History} (g : After (l .plan) l h) (i p : ℕ) where
     numbers = each-flow l (NumberOf P h) i (withHeld (flow l i) (heldFrom l i p (λ x. x - 1))) (g .numbers i (c .known)) (λ q known d. g .numbers q known);
   })
 
-  not-taken : (r : ℕ) → After P l (credited i p (refused r) ∷ h)
+  pub not-taken : (r : ℕ) → After P l (credited i p (refused r) ∷ h)
   unfolding ticks origin grants grantsSince raises credits
   not-taken r = after-event g (record {
     plan-is = refl;

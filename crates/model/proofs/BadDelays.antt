@@ -1,4 +1,5 @@
--- Cards that make a flow wait are sent back: by `Prompt` or by `Soon`, where demand 3 takes them, and else by demand 3. Assumes nothing.
+-- Cards that make a flow wait are sent back: by `Prompt` or by `Soon`, where demand 3 takes them, and else by demand 3; and one that mixes up a stream's
+-- slots, by `SharesInOrder`. Assumes nothing.
 use Prim.Native.Nat.{ℕ}
 use mathlib.Core.Path.{refl}
 use mathlib.Core.List.{List, _∷_, []}
@@ -10,10 +11,12 @@ use Rattle.model.specs.Claim.{Clause}
 use Rattle.model.specs.Card.{Meets, run}
 use Rattle.model.specs.PlanBytes.{plan1, oneCell}
 use Rattle.model.specs.Delay.{Prompt, Soon}
-use Rattle.model.specs.BadDelays.{had12, staysRefused, ever12, neverForgets, sendsToNewest, restsAtFirst, newestOnly, tickMovesOn}
+use Rattle.model.specs.SharesOfCells.{SharesInOrder}
+use Rattle.model.specs.BadDelays.{had12, staysRefused, ever12, neverForgets, sendsToNewest, restsAtFirst, newestOnly, tickMovesOn, takesLast}
 use Rattle.model.proofs.Decidable.{proved, refuted}
 use Rattle.model.proofs.BadCards.{two-flows, one-cell, sent-back, events-compute}
-use Rattle.model.proofs.DelayDecided.{prompt-on, timely, modest-on-arrival, delays-compute}
+use Rattle.model.proofs.DelayDecided.{prompt-on, fits-newest, modest-on-arrival, delays-compute}
+use Rattle.model.proofs.CellsNeeded.{given-back, keeps-shares}
 
 -- ---- by `Prompt`
 
@@ -24,7 +27,7 @@ unfolding delays-compute had12
 stays-refused prompt =
     let calls = Call.request 0x24000000 ∷ Call.request 0x24000400 ∷ Call.credit 0 2 ∷ Call.tick ∷ Call.tick ∷ Call.request 0x24000402 ∷ [] in
     let h = run staysRefused (planOf oneCell) calls .history in
-    refuted (prompt-on timely 0 (planOf oneCell) h) tt (prompt oneCell refl calls)
+    refuted (prompt-on fits-newest 0 (planOf oneCell) h) tt (prompt oneCell refl calls)
 
 -- ---- by `Soon`
 
@@ -40,6 +43,20 @@ sends-to-newest soon =
     let h = run sendsToNewest (planOf oneSlot) calls .history in
     let x = soon oneSlot refl calls 0 (lit< tt) (proved (modest-on-arrival (planOf oneSlot) 0 h) tt) in
     omega (arith, x .0 refl .this-or-next)
+
+-- ---- by `SharesInOrder`
+
+-- F = 3, W = 2, share 2, four cells. Slots 3, 4, 6 and 7 are granted in the last slots of frames 0 and 1, and the first two cells are credited, dated slot 8.
+-- In slot 7 the flow holds all four, and slot 11 is granted; in slot 8 it has room, and slot 9 is granted.
+pub takes-last : SharesInOrder takesLast → ⊥
+unfolding delays-compute given-back keeps-shares
+takes-last order =
+    let bytes = plan1 3 2 8 2 4 in
+    let calls = Call.tick ∷ Call.tick ∷ Call.request 0x24000002 ∷ Call.request 0x24000402 ∷ Call.tick ∷ Call.credit 0 2 ∷ Call.tick ∷ Call.credit 0 2
+    ∷ Call.tick ∷ Call.request 0x24000805 ∷ Call.request 0x24000C05 ∷ Call.tick ∷ Call.tick ∷ Call.request 0x24001001 ∷ Call.tick
+    ∷ Call.request 0x24001402 ∷ [] in
+    let h = run takesLast (planOf bytes) calls .history in
+    omega (arith, order 0 bytes refl calls 0 (lit< tt) (proved (keeps-shares 0 0 (planOf bytes) (lit< tt) 0 h) tt) .0 refl 11 (lit< tt))
 
 -- ---- by demand 3
 

@@ -19,7 +19,7 @@ use Rattle.model.specs.Holding.{InWindow}
 use Rattle.model.specs.Claim.{Each, EachSince, AtGrant, Ready, ReadyAt}
 use Rattle.model.specs.Claim as claim
 use Rattle.model.specs.Card.{Played, paper, step, run}
-use Rattle.model.specs.Delay.{dueSlot, dueSince, AsksAt}
+use Rattle.model.specs.Delay.{dueSlot, dueSince, RoomFrom, AsksAt}
 use Rattle.model.specs.BooksInOrder.{GrantedSince, NoneDueAfter, InTurn, InOrder, BooksInOrder, ReadyInOrder}
 use Rattle.model.proofs.Tests.{and-true}
 use Rattle.model.proofs.Tallies.{tally-le, tally-skip}
@@ -36,15 +36,17 @@ use Rattle.model.proofs.AfterCalls.{Known}
 use Rattle.model.proofs.EventsOfRuns.{Happened, each-happened, by-calls}
 use Rattle.model.proofs.AnsweredRequests.{Requested, turned-back, searched, request-is}
 use Rattle.model.proofs.TimelyRequests.{known, frame-order, due-if-come, due-if-not, due-from-now}
+use Rattle.model.proofs.Demand3.{each-since-map}
+use Rattle.model.proofs.SoonOnArrival.{ComeAt, ready-come}
 use Rattle.model.proofs.GrantsInOrder.{FrameInOrderAt, frames-in-order}
 
 -- ---- what is known of each grant
 
--- The granted slot s had no owner, and comes after the tile is due. Where the flow had room, each slot of its frame between the two had one.
+-- The granted slot s had no owner, and comes after the tile is due. Each slot of its frame between the two from which on the flow had room had one.
 pub record Earliest (P : Plan) (w s : ℕ) (h : History) : Type 0 where
   pub unowned : tally (atSlot s) (grantsSince P h) ≡ 0
   pub after-due : dueSlot P w h < s
-  pub none-between : claim.Room P (flowOf w) h → (r : ℕ) → frameOf P r ≡ frameOf P s → dueSlot P w h < r → r < s → 0 < tally (atSlot r) (grantsSince P h)
+  pub none-between : (r : ℕ) → RoomFrom P (flowOf w) r h → frameOf P r ≡ frameOf P s → dueSlot P w h < r → r < s → 0 < tally (atSlot r) (grantsSince P h)
 
 abbrev pub EarliestAt : Plan → Event → History → Type 0
 EarliestAt P = AtGrant (λ w v h. Earliest P w (slotAfter P (ticks h) (departureOf v)) h)
@@ -90,10 +92,10 @@ module _ {l : Link} {h : History} (g : After (l .plan) l h) (w : ℕ) where
         go true e = omega (arith, due-if-come P w h e, free v (known g w well) (departureOf w) (s .frame) p low high (s .hit) .to-come)
         go false e = omega (arith, due-if-not P w h e, granted .after-departure (departure-below P w well) e, at-slot)
 
-    none-between : claim.Room P (flowOf w) h → (r : ℕ) → frameOf P r ≡ frameOf P slot → dueSlot P w h < r → r < slot → 0 < tally (atSlot r) (grantsSince P h)
-    none-between room r same after before =
+    none-between : (r : ℕ) → RoomFrom P (flowOf w) r h → frameOf P r ≡ frameOf P slot → dueSlot P w h < r → r < slot → 0 < tally (atSlot r) (grantsSince P h)
+    none-between r room same after before =
         not-valid v (known g w well) (departureOf w) r in-the-window (omega (arith, due-from-now P w h))
-        (λ q le. omega (arith, room q (omega (arith, due-from-now P w h)), raises-are P (upTo (flowOf w) q) h)) leaves
+        (λ q le. omega (arith, room q le, raises-are P (upTo (flowOf w) q) h)) leaves
         (ap (validFor l (flowOf w) (departureOf w)) at-r ∙ s .hit .none-before (s .frame % W * F + r % F) (omega arith) (omega (arith, s .hit .low, r-is)))
       where
         frame-is : frameOf P r ≡ s .frame
@@ -180,6 +182,14 @@ module _ {A : Type 0} (f : A → Bool) (m : A) (ms : List A) where
 
 -- ---- the slots before a grant
 
+-- Slot s is granted to flow i's word w, where no grant of it before is for a tile that is due later, and each slot of its frame between the two has an owner.
+pub record Close (P : Plan) (i w s : ℕ) (h : History) : Type 0 where
+  pub none-due-after : NoneDueAfter P h i (dueSlot P w h)
+  pub none-between : (r : ℕ) → frameOf P r ≡ frameOf P s → dueSlot P w h < r → r < s → 0 < tally (atSlot r) (grantsSince P h)
+
+abbrev pub CloseAt : Plan → ℕ → Event → History → Type 0
+CloseAt P i = AtGrant (λ w v h. flowOf w ≡ i → Close P i w (slotAfter P (ticks h) (departureOf v)) h)
+
 module _ (P : Plan) (ok : Accepted P) (i : ℕ) where
   -- Where no tile of flow i is due after slot d: of the frame of each of its grants, each slot to come that lies between has an owner.
   abbrev Packed : History → Type 0
@@ -188,9 +198,9 @@ module _ (P : Plan) (ok : Accepted P) (i : ℕ) where
       → 0 < tally (atSlot r) (grantsSince P h)
 
   -- a grant of slot s to word w comes after those before it
-  comes-after : (w s : ℕ) (h : History) → flowOf w ≡ i → InTurn P i w h → Earliest P w s h
+  comes-after : (w s : ℕ) (h : History) → flowOf w ≡ i → Close P i w s h → Earliest P w s h
       → ((f : ℕ) → frameOf P s < f → grantedIn P h i f ≡ 0) → Packed h → (g : ℕ) → GrantedSince P h i g → g < s
-  comes-after w s h own turn first frames packed g was = go (decLt g s)
+  comes-after w s h own close first frames packed g was = go (decLt g s)
     where
       owned : 0 < tally (atSlot g) (grantsSince P h)
       owned = omega (arith, tally-le (λ m. ofFlow i m && atSlot g m) (atSlot g) (λ m e. and-true (ofFlow i m) (atSlot g m) e .1) (grantsSince P h))
@@ -208,17 +218,16 @@ module _ (P : Plan) (ok : Accepted P) (i : ℕ) where
       same le (yes e) f = absurd (omega (arith, ap (λ q. tally (atSlot q) (grantsSince P h)) e, first .unowned, owned))
       same le (no d) (no f) = absurd (omega (arith, frames (frameOf P g) (omega (arith, frame-order ok s g le)), counted))
       same le (no d) (yes f) =
-          absurd (omega (arith, first .unowned, packed (dueSlot P w h) g s (turn .none-due-after) was f (omega (arith, first .after-due, due-from-now P w h)) (first .after-due) (omega arith)))
+          absurd (omega (arith, first .unowned, packed (dueSlot P w h) g s (close .none-due-after) was f (omega (arith, first .after-due, due-from-now P w h)) (first .after-due) (omega arith)))
 
       go : Dec (g < s) → g < s
       go (yes lt) = lt
       go (no ge) = same (omega arith) (ℕ-discrete s g) (ℕ-discrete (frameOf P s) (frameOf P g))
 
   -- one grant more
-  packed-more : (w v : ℕ) (h : History) → (flowOf w ≡ i → InTurn P i w h) → Earliest P w (slotAfter P (ticks h) (departureOf v)) h → Packed h
-      → Packed (requested w (accepted v) ∷ h)
+  packed-more : (w v : ℕ) (h : History) → CloseAt P i (requested w (accepted v)) h → Packed h → Packed (requested w (accepted v) ∷ h)
   unfolding ticks grantsSince dueSince
-  packed-more w v h turn first packed d g r none-due was same to-come after before =
+  packed-more w v h close packed d g r none-due was same to-come after before =
       let s = slotAfter P (ticks h) (departureOf v) in
       let due = none-before (λ m. ofFlow i m && ltb d (m .slot)) (record { flow = flowOf w; slot = dueSlot P w h }) (dueSince P h) none-due in
       still-some (atSlot r) (record { flow = flowOf w; slot = s }) (grantsSince P h)
@@ -229,39 +238,60 @@ module _ (P : Plan) (ok : Accepted P) (i : ℕ) where
       let own = eqb-true (flowOf w) i (both .0) in
       let is : s ≡ g = eqb-true s g (both .1) in
       let due-before : dueSlot P w h ≤ d = ltb-false d (dueSlot P w h) (sym (rw (both .0)) ∙ due .0) in
-      first .none-between (subst (λ j. claim.Room P j h) (sym own) (turn own .room)) r (same ∙ ap (frameOf P) (sym is)) (omega arith) (omega arith)))
+      close own .none-between r (same ∙ ap (frameOf P) (sym is)) (omega arith) (omega arith)))
 
   -- ---- a history
 
-  pub in-order : (h : History) → Each (EarliestAt P) h → Each (FrameInOrderAt P) h → Each (Happened P) h → EachSince (AsksAt InTurn P i) h → Packed h × InOrder P i h
+  pub in-order-if-close : (h : History) → Each (EarliestAt P) h → Each (FrameInOrderAt P) h → EachSince (CloseAt P i) h → Packed h × InOrder P i h
   unfolding ticks grantsSince dueSince tally
-  in-order [] first frames happened asks = (λ d g r none was. absurd (omega arith), tt)
-  in-order (requested w (refused x) ∷ h) first frames happened asks =
-      let so-far = in-order h (first .1) (frames .1) (happened .1) (asks .1) in
+  in-order-if-close [] first frames close = (λ d g r none was. absurd (omega arith), tt)
+  in-order-if-close (requested w (refused x) ∷ h) first frames close =
+      let so-far = in-order-if-close h (first .1) (frames .1) (close .1) in
       (so-far .0, (tt, so-far .1))
-  in-order (requested w (accepted v) ∷ h) first frames happened asks =
-      let so-far = in-order h (first .1) (frames .1) (happened .1) (asks .1) in
-      let turn : flowOf w ≡ i → InTurn P i w h = asks .0 (happened .0 .word .asked-well-formed) in (
-        packed-more w v h turn (first .0) (so-far .0),
+  in-order-if-close (requested w (accepted v) ∷ h) first frames close =
+      let so-far = in-order-if-close h (first .1) (frames .1) (close .1) in (
+        packed-more w v h (close .0) (so-far .0),
         (
-          λ own. comes-after w (slotAfter P (ticks h) (departureOf v)) h own (turn own) (first .0)
+          λ own. comes-after w (slotAfter P (ticks h) (departureOf v)) h own (close .0 own) (first .0)
               (subst (λ j. (f : ℕ) → frameOf P (slotAfter P (ticks h) (departureOf v)) < f → grantedIn P h j f ≡ 0) own (frames .0)) (so-far .0),
           so-far .1,
         ),
       )
-  in-order (credited j p x ∷ h) first frames happened asks =
-      let so-far = in-order h (first .1) (frames .1) (happened .1) (asks .1) in
+  in-order-if-close (credited j p x ∷ h) first frames close =
+      let so-far = in-order-if-close h (first .1) (frames .1) (close .1) in
       (so-far .0, (tt, so-far .1))
-  in-order (ticked x ∷ h) first frames happened asks =
-      let so-far = in-order h (first .1) (frames .1) (happened .1) (asks .1) in
+  in-order-if-close (ticked x ∷ h) first frames close =
+      let so-far = in-order-if-close h (first .1) (frames .1) (close .1) in
       (λ d g r none was same to-come. so-far .0 d g r none was same (omega arith), (tt, so-far .1))
-  in-order (lent m x ∷ h) first frames happened asks =
-      let so-far = in-order h (first .1) (frames .1) (happened .1) (asks .1) in
+  in-order-if-close (lent m x ∷ h) first frames close =
+      let so-far = in-order-if-close h (first .1) (frames .1) (close .1) in
       (so-far .0, (tt, so-far .1))
-  in-order (Event.reset (accepted u) ∷ h) first frames happened asks = (λ d g r none was. absurd (omega arith), tt)
-  in-order (Event.reset (refused x) ∷ h) first frames happened asks =
-      let so-far = in-order h (first .1) (frames .1) (happened .1) (asks .1) in
+  in-order-if-close (Event.reset (accepted u) ∷ h) first frames close = (λ d g r none was. absurd (omega arith), tt)
+  in-order-if-close (Event.reset (refused x) ∷ h) first frames close =
+      let so-far = in-order-if-close h (first .1) (frames .1) (close .1) in
       (so-far .0, (tt, so-far .1))
+
+  -- a flow that is in turn has room in each slot to come
+  turn-close : (w v : ℕ) (h : History) → EarliestAt P (requested w (accepted v)) h → (flowOf w ≡ i → InTurn P i w h) → CloseAt P i (requested w (accepted v)) h
+  turn-close w v h first turn own = record {
+    none-due-after = turn own .none-due-after;
+    none-between = λ r same after before.
+        first .none-between r (λ q le. subst (λ j. claim.Room P j h) (sym own) (turn own .room) q (omega (arith, due-from-now P w h))) same after before;
+  }
+
+  turns-close : (h : History) → Each (EarliestAt P) h → Each (Happened P) h → EachSince (AsksAt InTurn P i) h → EachSince (CloseAt P i) h
+  turns-close [] first happened asks = tt
+  turns-close (requested w (refused x) ∷ h) first happened asks = (tt, turns-close h (first .1) (happened .1) (asks .1))
+  turns-close (requested w (accepted v) ∷ h) first happened asks =
+      (turn-close w v h (first .0) (asks .0 (happened .0 .word .asked-well-formed)), turns-close h (first .1) (happened .1) (asks .1))
+  turns-close (credited j p x ∷ h) first happened asks = (tt, turns-close h (first .1) (happened .1) (asks .1))
+  turns-close (ticked x ∷ h) first happened asks = (tt, turns-close h (first .1) (happened .1) (asks .1))
+  turns-close (lent m x ∷ h) first happened asks = (tt, turns-close h (first .1) (happened .1) (asks .1))
+  turns-close (Event.reset (accepted u) ∷ h) first happened asks = tt
+  turns-close (Event.reset (refused x) ∷ h) first happened asks = (tt, turns-close h (first .1) (happened .1) (asks .1))
+
+  pub in-order : (h : History) → Each (EarliestAt P) h → Each (FrameInOrderAt P) h → Each (Happened P) h → EachSince (AsksAt InTurn P i) h → Packed h × InOrder P i h
+  in-order h first frames happened asks = in-order-if-close h first frames (turns-close h first happened asks)
 
 pub books-in-order : BooksInOrder paper
 books-in-order bytes passes calls i known asks =
@@ -272,7 +302,7 @@ books-in-order bytes passes calls i known asks =
 -- ---- a flow that is ready at each request
 
 -- no tile is due after slot e, where none is due after slot d and d comes no later
-none-later : (P : Plan) (h : History) (i d e : ℕ) → d ≤ e → NoneDueAfter P h i d → NoneDueAfter P h i e
+pub none-later : (P : Plan) (h : History) (i d e : ℕ) → d ≤ e → NoneDueAfter P h i d → NoneDueAfter P h i e
 none-later P h i d e le none =
     omega (
       arith,
@@ -288,36 +318,44 @@ module _ (P : Plan) (i : ℕ) where
   ready-turn w h none x =
       record { room = x .room; none-due-after = none-later P h i (ticks h) (dueSlot P w h) (omega (arith, due-if-come P w h (x .come))) none }
 
-  due-so-far : (w v : ℕ) (h : History) → (flowOf w ≡ i → Ready P i w h) → NoneDueAfter P h i (ticks h) → NoneDueAfter P (requested w (accepted v) ∷ h) i (ticks h)
+  due-so-far : (w v : ℕ) (h : History) → (flowOf w ≡ i → hasCome P (ticks h) (departureOf w) ≡ true) → NoneDueAfter P h i (ticks h)
+      → NoneDueAfter P (requested w (accepted v) ∷ h) i (ticks h)
   unfolding ticks dueSince
-  due-so-far w v h ready none = go (eqb (flowOf w) i) refl
+  due-so-far w v h come none = go (eqb (flowOf w) i) refl
     where
       go : (b : Bool) → eqb (flowOf w) i ≡ b → NoneDueAfter P (requested w (accepted v) ∷ h) i (ticks h)
       go true e =
           tally-skip (λ m. ofFlow i m && ltb (ticks h) (m .slot)) (record { flow = flowOf w; slot = dueSlot P w h }) (dueSince P h)
-          (rw e (le-ltb (ticks h) (dueSlot P w h) (omega (arith, due-if-come P w h (ready (eqb-true (flowOf w) i e) .come))))) ∙ none
+          (rw e (le-ltb (ticks h) (dueSlot P w h) (omega (arith, due-if-come P w h (come (eqb-true (flowOf w) i e)))))) ∙ none
       go false e =
           tally-skip (λ m. ofFlow i m && ltb (ticks h) (m .slot)) (record { flow = flowOf w; slot = dueSlot P w h }) (dueSince P h) (rw e refl) ∙ none
 
-  ready-asks : (h : History) → Each (Happened P) h → EachSince (ReadyAt P i) h → NoneDueAfter P h i (ticks h) × EachSince (AsksAt InTurn P i) h
+  -- where each tile has come, none is due after the current slot
+  pub none-due : (h : History) → Each (Happened P) h → EachSince (ComeAt P i) h → NoneDueAfter P h i (ticks h)
   unfolding ticks dueSince tally
-  ready-asks [] happened ready = (refl, tt)
-  ready-asks (requested w (refused x) ∷ h) happened ready =
-      let so-far = ready-asks h (happened .1) (ready .1) in
-      (so-far .0, (λ well own. ready-turn w h (so-far .0) (ready .0 well own), so-far .1))
-  ready-asks (requested w (accepted v) ∷ h) happened ready =
-      let so-far = ready-asks h (happened .1) (ready .1) in
-      let well = happened .0 .word .asked-well-formed in
-      (due-so-far w v h (ready .0 well) (so-far .0), (λ well own. ready-turn w h (so-far .0) (ready .0 well own), so-far .1))
-  ready-asks (credited j p x ∷ h) happened ready = let so-far = ready-asks h (happened .1) (ready .1) in (so-far .0, (tt, so-far .1))
-  ready-asks (ticked x ∷ h) happened ready =
-      let so-far = ready-asks h (happened .1) (ready .1) in
-      (none-later P h i (ticks h) (suc (ticks h)) (omega arith) (so-far .0), (tt, so-far .1))
-  ready-asks (lent m x ∷ h) happened ready = let so-far = ready-asks h (happened .1) (ready .1) in (so-far .0, (tt, so-far .1))
-  ready-asks (Event.reset (accepted u) ∷ h) happened ready = (refl, tt)
-  ready-asks (Event.reset (refused x) ∷ h) happened ready = let so-far = ready-asks h (happened .1) (ready .1) in (so-far .0, (tt, so-far .1))
+  none-due [] happened come = refl
+  none-due (requested w (refused x) ∷ h) happened come = none-due h (happened .1) (come .1)
+  none-due (requested w (accepted v) ∷ h) happened come =
+      due-so-far w v h (come .0 (happened .0 .word .asked-well-formed)) (none-due h (happened .1) (come .1))
+  none-due (credited j p x ∷ h) happened come = none-due h (happened .1) (come .1)
+  none-due (ticked x ∷ h) happened come = none-later P h i (ticks h) (suc (ticks h)) (omega arith) (none-due h (happened .1) (come .1))
+  none-due (lent m x ∷ h) happened come = none-due h (happened .1) (come .1)
+  none-due (Event.reset (accepted u) ∷ h) happened come = refl
+  none-due (Event.reset (refused x) ∷ h) happened come = none-due h (happened .1) (come .1)
+
+  ready-asks : (h : History) → Each (Happened P) h → EachSince (ReadyAt P i) h → EachSince (AsksAt InTurn P i) h
+  ready-asks [] happened ready = tt
+  ready-asks (requested w x ∷ h) happened ready = (
+    λ well own. ready-turn w h (none-due h (happened .1) (each-since-map _ _ (ready-come P i) h (ready .1))) (ready .0 well own),
+    ready-asks h (happened .1) (ready .1),
+  )
+  ready-asks (credited j p x ∷ h) happened ready = (tt, ready-asks h (happened .1) (ready .1))
+  ready-asks (ticked x ∷ h) happened ready = (tt, ready-asks h (happened .1) (ready .1))
+  ready-asks (lent m x ∷ h) happened ready = (tt, ready-asks h (happened .1) (ready .1))
+  ready-asks (Event.reset (accepted u) ∷ h) happened ready = tt
+  ready-asks (Event.reset (refused x) ∷ h) happened ready = (tt, ready-asks h (happened .1) (ready .1))
 
 pub ready-in-order : ReadyInOrder paper
 ready-in-order bytes passes calls i known ready =
     let P = planOf bytes in
-    ready-asks P i (run paper P calls .history) (each-happened P (accepted-plan bytes passes) calls) ready .1
+    ready-asks P i (run paper P calls .history) (each-happened P (accepted-plan bytes passes) calls) ready

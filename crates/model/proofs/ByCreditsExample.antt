@@ -42,33 +42,35 @@ modest-first P i h =
     (decLt (madeIn P h i (currentFrame P h)) (entry P i .share))))))) h)
     (ℕ-discrete (tally (ofFlow i) (lends h)) 0))
 
--- ---- F = 2, W = 2, one flow with share 1, with two cells on the first board, and three on the second, which gives them back when tiles were shown
+-- ---- F = 2, W = 2, one flow with share 2, with four cells on the first board, and six on the second, which gives them back when tiles were shown
 
 abbrev bytes : (cells : ℕ) → List ℕ
-bytes cells = plan1 2 2 8 1 cells
+bytes cells = plan1 2 2 8 2 cells
 
--- Two tiles are granted slots 1 and 3 on the first board, and slots 2 and 4 on the second, which dates the first's credits so.
+-- Four tiles, two in a frame, are granted slots 1 to 4 on the first board, and slots 2 to 5 on the second, which dates the first's credits so.
 abbrev moves : List Move
 moves =
     reverse (
-    first (requested 0x24000000 (accepted 0x24000001)) ∷ both (some 0) none
-    ∷ second (requested 0x24000001 (accepted 0x24000002)) ∷ first (credited 0 2 (accepted tt)) ∷ both none (some 0)
-    ∷ first (requested 0x24000402 (accepted 0x24000403)) ∷ both (some 0) none
-    ∷ second (requested 0x24000403 (accepted 0x24000400)) ∷ first (credited 0 0 (accepted tt)) ∷ both none (some 0) ∷ [])
+    first (requested 0x24000000 (accepted 0x24000001)) ∷ first (requested 0x24000400 (accepted 0x24000402)) ∷ both (some 0) none
+    ∷ second (requested 0x24000001 (accepted 0x24000002)) ∷ first (credited 0 2 (accepted tt)) ∷ both (some 0) (some 0)
+    ∷ second (requested 0x24000402 (accepted 0x24000403)) ∷ first (credited 0 3 (accepted tt))
+    ∷ first (requested 0x24000802 (accepted 0x24000803)) ∷ first (requested 0x24000C02 (accepted 0x24000C00)) ∷ both (some 0) (some 0)
+    ∷ second (requested 0x24000803 (accepted 0x24000800)) ∷ first (credited 0 0 (accepted tt)) ∷ both (some 0) (some 0)
+    ∷ second (requested 0x24000C00 (accepted 0x24000C01)) ∷ first (credited 0 1 (accepted tt)) ∷ both none (some 0) ∷ [])
 
-pub passes₁ : refusal (bytes 2) ≡ 0
+pub passes₁ : refusal (bytes 4) ≡ 0
 unfolding joins-compute
 passes₁ = refl
 
-pub passes₂ : refusal (bytes 3) ≡ 0
+pub passes₂ : refusal (bytes 6) ≡ 0
 unfolding joins-compute
 passes₂ = refl
 
-pub ran₁ : Ran paper (planOf (bytes 2)) (firsts moves)
+pub ran₁ : Ran paper (planOf (bytes 4)) (firsts moves)
 unfolding joins-compute
 ran₁ = record { calls = callsOf (firsts moves); is = refl }
 
-pub ran₂ : Ran paper (planOf (bytes 3)) (seconds moves)
+pub ran₂ : Ran paper (planOf (bytes 6)) (seconds moves)
 unfolding joins-compute
 ran₂ = record { calls = callsOf (seconds moves); is = refl }
 
@@ -81,10 +83,10 @@ unfolding joins-compute
 none₂ = refl
 
 abbrev board₁ : Board paper
-board₁ = record { bytes = bytes 2; passes = passes₁; events = firsts moves; ran = ran₁; no-reset = none₁; stream = 0; known = lit< tt }
+board₁ = record { bytes = bytes 4; passes = passes₁; events = firsts moves; ran = ran₁; no-reset = none₁; stream = 0; known = lit< tt }
 
 abbrev board₂ : Board paper
-board₂ = record { bytes = bytes 3; passes = passes₂; events = seconds moves; ran = ran₂; no-reset = none₂; stream = 0; known = lit< tt }
+board₂ = record { bytes = bytes 6; passes = passes₂; events = seconds moves; ran = ran₂; no-reset = none₂; stream = 0; known = lit< tt }
 
 pub way-there : WayByCredits 1 board₁ (board₂ ∷ [])
 unfolding joins-compute on-arrival given-back returns passes
@@ -92,22 +94,22 @@ way-there = (
   record {
     in-step = record { slots = refl; frames = refl };
     share-kept = lit≤ tt;
-    together = by-moves on-arrival (planOf (bytes 2)) (planOf (bytes 3)) 0 0 moves tt;
-    credits = proved (all-below 4 (λ t. decLe _ _)) tt;
+    together = by-moves on-arrival (planOf (bytes 4)) (planOf (bytes 6)) 0 0 moves tt;
+    credits = proved (all-below 5 (λ t. decLe _ _)) tt;
     two-shares = lit≤ tt;
     not-lent = refl;
   },
   record {
     given-back =
-        proved (each (at-request λ w h. implies (is-true (wellFormed (planOf (bytes 3)) w)) (implies (ℕ-discrete (flowOf w) 0)
-        (given-back 1 (planOf (bytes 3)) (lit< tt) 0 h))) (seconds moves)) tt;
+        proved (each (at-request λ w h. implies (is-true (wellFormed (planOf (bytes 6)) w)) (implies (ℕ-discrete (flowOf w) 0)
+        (given-back 1 (planOf (bytes 6)) (lit< tt) 0 h))) (seconds moves)) tt;
     enough-cells = lit≤ tt;
   },
 )
 
-pub modest-there : ModestFirst (planOf (bytes 2)) 0 (firsts moves)
+pub modest-there : ModestFirst (planOf (bytes 4)) 0 (firsts moves)
 unfolding joins-compute modest-first
-modest-there = proved (modest-first (planOf (bytes 2)) 0 (firsts moves)) tt
+modest-there = proved (modest-first (planOf (bytes 4)) 0 (firsts moves)) tt
 
 pub both-within : EachWithin 1 (planOn board₁) (dueOn board₁) (board₁ ∷ board₂ ∷ [])
 both-within = over-links-by-credits 1 board₁ (board₂ ∷ []) way-there .from-due modest-there

@@ -1,7 +1,7 @@
 -- With two shares of cells and no more a stream that gives them back in time may lack room; with one more it has it in the same calls. With one fewer a
 -- request of it may be refused; so with one fewer than three shares where cells are credited when their tiles were shown, and with one fewer than three where
 -- it asks a frame ahead. Assumes nothing.
-use Prim.Native.Nat.{ℕ, _+_, _-_, _*_, _/_, _≤_, _<_}
+use Prim.Native.Nat.{ℕ, suc, _+_, _-_, _*_, _/_, _≤_, _<_}
 use mathlib.Core.Path.{_≡_, refl}
 use mathlib.Core.Logic.{Dec·and}
 use mathlib.Core.List.{List, _∷_, [], _++_, reverse}
@@ -11,17 +11,19 @@ use native.Mathlib.Omega.{arith}
 use native.Mathlib.Decide.{decLe, decLt, ℕ-discrete}
 use lib.Dec.{lit<, lit≤}
 use Rattle.model.specs.Word.{flowOf, quantumOf, departureOf}
-use Rattle.model.specs.Plan.{Plan, entry, planOf}
+use Rattle.model.specs.Plan.{Plan, entry, planOf, Accepted}
 use Rattle.model.specs.Calls.{Call, History, requested, credited, ticked, accepted}
 use Rattle.model.specs.History.{ticks, frameOf, wellFormed, hasCome, expectedNumber, grantedUpTo, creditedUpTo}
 use Rattle.model.specs.Card.{run, paper}
 use Rattle.model.specs.PlanBytes.{plan1, plan2}
 use Rattle.model.specs.Delay.{currentFrame, dueFrame, madeSince, madeIn, dueIn}
-use Rattle.model.specs.EnoughCells.{lastOf, returns, AsksInTurn, GivesBack, EnoughCellsBy}
-use Rattle.model.specs.SharesOfCells.{GivenBack, CreditsEachBy, KeepsShares, SharesOfCellsBy}
+use Rattle.model.specs.EnoughCells.{lastOf, returns, AsksInTurn, GivesBack, EnoughCellsBy, CreditedAtOnce, GivesBackAtOnce, EnoughAtOnceBy}
+use Rattle.model.specs.SharesOfCells.{GivenBack, CreditsEachBy, KeepsShares, SharesOfCellsBy, SharesInOrderBy}
 use Rattle.model.specs.SharesAhead.{KeepsSharesAhead, SharesAheadBy}
 use Rattle.model.proofs.Decidable.{same, implies, is-true, all-below, everywhere, proved}
-use Rattle.model.proofs.PastMarks.{above}
+use Rattle.model.proofs.Plan.{accepted as accepted-plan}
+use Rattle.model.proofs.Slots.{frame-ends}
+use Rattle.model.proofs.PastMarks.{above, end, same-granted, same-credited}
 use Rattle.model.proofs.ClaimDecided.{at-request, each}
 use Rattle.model.proofs.DelayDecided.{none-in, ordered, delays-compute}
 
@@ -78,6 +80,46 @@ pub three-are-enough : GivesBack 0 (planOf (bytes 3)) 0 (events 3)
 unfolding delays-compute in-turn gives-back
 three-are-enough = proved (gives-back 0 (planOf (bytes 3)) 0 (events 3)) tt
 
+-- ---- credited at the grant, for words that run ahead: F = 2, W = 3, one flow with share 1 and the given number of cells
+
+unfoldable at-once : {P : Plan} → Accepted P → (i : ℕ) (h : History) → Dec (CreditedAtOnce P i h)
+at-once {P} ok i h =
+    everywhere (suc (end P h)) (λ s. decLe _ _)
+    (λ below s past.
+    let u = end P h in
+    let x = below u (omega arith) in
+    let g = same-granted P h i s u (omega arith) (omega arith) in
+    let c =
+    same-credited P h i (lastOf P (frameOf P s + 1)) (lastOf P (frameOf P u + 1)) (omega (arith, frame-ends ok s)) (omega (arith, frame-ends ok u)) in
+    omega arith)
+
+unfoldable gives-back-at-once : (short : ℕ) {P : Plan} → Accepted P → (i : ℕ) (h : History) → Dec (GivesBackAtOnce short P i h)
+gives-back-at-once short {P} ok i h =
+    same (λ r. record { asks = r .0; cells-at-once = r .1 .0; not-lent = r .1 .1 .0; no-reset = r .1 .1 .1 })
+    (λ x. (x .asks, (x .cells-at-once, (x .not-lent, x .no-reset))))
+    (Dec·and (each (at-request λ w h. implies (is-true (wellFormed P w)) (implies (ℕ-discrete (flowOf w) i) (at-once ok i h))) h)
+    (Dec·and (decLt _ _) (Dec·and (ℕ-discrete _ _) (ℕ-discrete _ _))))
+
+abbrev onceBytes : (cells : ℕ) → List ℕ
+onceBytes cells = plan1 2 3 8 1 cells
+
+-- In slot 0 slots 1 and 2 are granted, and each cell is credited at its grant, dated slots 3 and 5; then a third tile is asked for.
+abbrev onceCalls : List Call
+onceCalls = Call.request 0x24000000 ∷ Call.credit 0 3 ∷ Call.request 0x24000400 ∷ Call.credit 0 5 ∷ Call.request 0x24000800 ∷ []
+
+-- with three cells there is room
+pub once-are-kept : GivesBackAtOnce 0 (planOf (onceBytes 3)) 0 (run paper (planOf (onceBytes 3)) onceCalls .history)
+unfolding delays-compute at-once gives-back-at-once
+once-are-kept = proved (gives-back-at-once 0 (accepted-plan (onceBytes 3) refl) 0 (run paper (planOf (onceBytes 3)) onceCalls .history)) tt
+
+-- with two both are held in slot 2
+pub not-two-at-once : EnoughAtOnceBy 1 paper → ⊥
+unfolding delays-compute at-once gives-back-at-once
+not-two-at-once enough =
+    let h = run paper (planOf (onceBytes 2)) onceCalls .history in
+    let room = enough (onceBytes 2) refl onceCalls 0 (lit< tt) (proved (gives-back-at-once 1 (accepted-plan (onceBytes 2) refl) 0 h) tt) in
+    omega (arith, room .0 refl refl 2 (lit≤ tt))
+
 -- ---- shares of cells, by how late they are given back
 
 unfoldable pub given-back : (late : ℕ) (P : Plan) → 0 < P .slots → (i : ℕ) (h : History) → Dec (GivenBack late P i h)
@@ -112,6 +154,19 @@ not-fewer two =
     let calls = Call.request 0x24100000 ∷ Call.request 0x24100400 ∷ Call.request 0x24000000 ∷ Call.tick ∷ Call.tick ∷ Call.request 0x24000402 ∷ [] in
     let h = run paper (planOf (bytes 1)) calls .history in
     two (bytes 1) refl calls 0 (lit< tt) (proved (keeps-shares 0 1 (planOf (bytes 1)) (lit< tt) 0 h) tt) .0 refl refl
+
+-- ---- slots out of order, with two cells fewer: F = 4, W = 2, one flow with share 2 and two cells
+
+-- Slots 1 and 2 are granted, and their cells credited as the tiles come up, both dated slot 6. In slot 4 slot 6 is granted; a credit dated slot 5 frees a
+-- cell, and slot 5 is granted.
+pub not-in-order : SharesInOrderBy 0 2 paper → ⊥
+unfolding delays-compute given-back keeps-shares
+not-in-order order =
+    let bytes = plan1 4 2 8 2 2 in
+    let calls = Call.request 0x24000000 ∷ Call.request 0x24000400 ∷ Call.tick ∷ Call.credit 0 6 ∷ Call.tick ∷ Call.credit 0 6 ∷ Call.tick ∷ Call.tick
+    ∷ Call.request 0x24000804 ∷ Call.credit 0 5 ∷ Call.request 0x24000C04 ∷ [] in
+    let h = run paper (planOf bytes) calls .history in
+    omega (arith, order bytes refl calls 0 (lit< tt) (proved (keeps-shares 0 2 (planOf bytes) (lit< tt) 0 h) tt) .0 refl 6 (lit< tt))
 
 -- ---- three shares, where a cell is credited when its tile was shown, and one cell fewer: F = 2, W = 2, one flow with share 2 and the given number of cells
 

@@ -26,7 +26,7 @@ use Rattle.model.proofs.Tallies.{All, tally-append, tally-le}
 use Rattle.model.proofs.Demand3.{each-map}
 use Rattle.model.proofs.SeveralLinks.{ok, over-links}
 use Rattle.model.proofs.CreditsInTime.{given-back-by, each-tile-by, granted-slot-dates}
-use Rattle.model.proofs.LinksOnArrival.{way-with-room, modest-first, soon-on-next}
+use Rattle.model.proofs.LinksOnArrival.{way-with-room, modest-first, granted-first, soon-on-next}
 use Rattle.model.proofs.FromSource.{in-time}
 
 -- ---- what holds of credits over a list of calls holds of each beginning
@@ -204,24 +204,31 @@ along late a (b ∷ rest) x =
 
 -- ---- the first board
 
-modest-there : (a : Board paper) → Back a → ModestFirst (planOn a) (a .stream) (a .events) → Modest TimelyInOrder 0 (planOn a) (a .stream) (a .events)
-modest-there a x m =
-    modest-first (x .late) a (record {
-      asks = both-at-requests (planOn a) (a .stream) with-cells (a .events) (m .asks) (x .back);
-      enough-cells = omega (arith, x .enough);
-      not-lent = m .not-lent;
-      no-reset = a .no-reset;
-    })
+shares-there : (a : Board paper) (x : Back a) → ModestFirst (planOn a) (a .stream) (a .events) → KeepsShares (x .late) 0 (planOn a) (a .stream) (a .events)
+shares-there a x m = record {
+  asks = both-at-requests (planOn a) (a .stream) with-cells (a .events) (m .asks) (x .back);
+  enough-cells = omega (arith, x .enough);
+  not-lent = m .not-lent;
+  no-reset = a .no-reset;
+}
   where
     with-cells : (w : ℕ) (h : History) → AsksModestly (planOn a) (a .stream) w h → GivenBack (x .late) (planOn a) (a .stream) h
         → AsksWithinShare (x .late) (planOn a) (a .stream) w h
     with-cells w h y back = record { come = y .come; number = y .number; given-back = back; few = y .few }
 
+modest-there : (a : Board paper) → Back a → ModestFirst (planOn a) (a .stream) (a .events) → Modest TimelyInOrder 0 (planOn a) (a .stream) (a .events)
+modest-there a x m = modest-first (x .late) a (shares-there a x m)
+
 pub over-links-by-credits : OverLinksByCredits paper
 over-links-by-credits late a rest way =
     let x = along late a rest way in
     let y = over-links a rest (way-with-room a rest (x .way)) in
-    record { granted = y .granted; from-first = y .from-first; from-due = λ m. y .from-due (modest-there a (x .back) m) }
+    record {
+      granted = y .granted;
+      served = λ m. granted-first (x .back .late) a (shares-there a (x .back) m);
+      from-first = y .from-first;
+      from-due = λ m. y .from-due (modest-there a (x .back) m);
+    }
 
 pub from-source-by-credits : FromSourceByCredits paper
 from-source-by-credits late a rest way m =

@@ -14,7 +14,8 @@ use Rattle.model.specs.Calls.{Grant, Event, History, requested, credited
 use Rattle.model.specs.History.{Mark, frameOf, wellFormed, inFrame, ofFlow, grantedUpTo, lentUpTo, creditedUpTo, expectedNumber}
 use Rattle.model.specs.OtherPremises.{Premise}
 use Rattle.model.specs.LessAsked.{HasRoom}
-use Rattle.model.specs.Delay.{dueSlot, RoomFrom, madeSince, dueSince, Timely, IsGranted, AtAnswer, PromptOn}
+use Rattle.model.specs.Delay.{dueSlot, RoomFrom, madeSince, dueSince, TimelyFrom, Timely, FitsNewest}
+use Rattle.model.specs.Delay.{IsGranted, AtAnswer, PromptOn}
 use Rattle.model.specs.Delay.{Modest, ModestOnArrival}
 use Rattle.model.specs.LessTimely.{DueInTime, Ordered}
 use Rattle.model.proofs.Unfoldings.{plans-compute, calls-compute, counts-compute}
@@ -76,10 +77,16 @@ room-from P i s h = everywhere (suc (max s (end P h))) (λ r. implies (decLe _ _
         let c = same-credited P h i r u (omega arith) (omega arith) in
         omega arith
 
-unfoldable pub timely : (P : Plan) (i w : ℕ) (h : History) → Dec (Timely P i w h)
-timely P i w h =
+unfoldable pub timely-from : (s : ℕ) (P : Plan) (i w : ℕ) (h : History) → Dec (TimelyFrom s P i w h)
+timely-from s P i w h =
     same (λ r. record { room = r .0; number = r .1 .0; in-time = r .1 .1 }) (λ x. (x .room, (x .number, x .in-time)))
-    (Dec·and (room-from P i _ h) (Dec·and (ℕ-discrete (quantumOf w) (expectedNumber P h i)) (decLt _ _)))
+    (Dec·and (room-from P i s h) (Dec·and (ℕ-discrete (quantumOf w) (expectedNumber P h i)) (decLt _ _)))
+
+unfoldable pub timely : Decides Timely
+timely P i w h = timely-from _ P i w h
+
+unfoldable pub fits-newest : Decides FitsNewest
+fits-newest P i w h = timely-from _ P i w h
 
 -- ---- a modest flow
 
@@ -100,5 +107,5 @@ modest-on-arrival P i h =
 
 unfoldable pub delays-compute : Unit {0}
 unfolding plans-compute calls-compute counts-compute persistent come numbered both dueSlot madeSince dueSince at-answer is-granted prompt-on room in-time
-    ordered room-from timely modest modest-on-arrival
+    ordered room-from timely-from timely fits-newest modest modest-on-arrival
 delays-compute = tt

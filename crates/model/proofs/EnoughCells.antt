@@ -252,7 +252,8 @@ module _ {P : Plan} (ok : Accepted P) (i : ℕ) (known : i < flowCount P) where
       one (requested w a) asks = λ well own.
           let y = asks well own in
           record {
-            room = has-room ok i known h (none-granted h (so-far .no-reset)) soon (y .credited) (so-far .not-lent) (counts-at ok h happened) (x .enough-cells);
+            room = has-room ok i known h (none-granted h (so-far .no-reset)) soon (y .credited) (so-far .not-lent) (counts-at ok h happened)
+                (omega (arith, x .enough-cells));
             come = y .come;
             number = y .number;
           }

@@ -100,10 +100,10 @@ pub record Happened (P : Plan) (e : Event) (h : History) : Type 0 where
   pub well-formed-if-11 : WellFormedIf11 P e
 
 module _ {P : Plan} where
-  happens : {l k : Link} {e : Event} {h : History} → After P l h → After P k (e ∷ h) → WellFormedIf11 P e → Happened P e h
+  pub happens : {l k : Link} {e : Event} {h : History} → After P l h → After P k (e ∷ h) → WellFormedIf11 P e → Happened P e h
   happens g later if-11 = record { counts-before = counts g; counts-after = counts later; word = later .events .0 .word; well-formed-if-11 = if-11 }
 
-  one-more : (r : Played paper) (c : Call) → Known P r → Each (Happened P) (r .history) → Each (Happened P) (step paper r c .history)
+  pub one-more : (r : Played paper) (c : Call) → Known P r → Each (Happened P) (r .history) → Each (Happened P) (step paper r c .history)
   one-more r (Call.request w) g each =
       let if-11 = subst (λ Q. WellFormedIf11 Q (requested w (request (r .state) w .answer))) (g .plan-is) (requested-11 (r .state) w) in
       (happens g (after-step r (Call.request w) g) if-11, each)

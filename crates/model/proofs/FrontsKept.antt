@@ -13,7 +13,7 @@ use borrow.Author.Tests.{eqb-false}
 use Rattle.model.specs.Tables.{tally}
 use Rattle.model.specs.Refusals.{firstOf}
 use Rattle.model.specs.Plan.{Plan, flowCount, Accepted}
-use Rattle.model.specs.Calls.{Turn, Event, History, Renewal, credited, ticked, lent, accepted}
+use Rattle.model.specs.Calls.{Turn, Event, History, Renewal, credited, ticked, lent, accepted, refused}
 use Rattle.model.specs.Window.{head, next}
 use Rattle.model.specs.Link.{Link, Step, window, flow, share, movedTo, withHeld, heldFrom}
 use Rattle.model.specs.Fresh.{fresh}
@@ -158,6 +158,12 @@ module _ {l : Link} {h : History} (g : After (l .plan) l h) {q : ℕ} (known : q
   credit-kept i p kept m =
       let so-far = kept (record { asks = m .asks .1; within-share = m .within-share }) in
       record { front = front-same P q refl refl refl (sym (credit-leaves l i p q known)) (so-far .front); served = (tt, so-far .served) }
+
+  pub refused-credit-kept : (i p r : ℕ) → Kept P h q (flow l q .injection) → Kept P (credited i p (refused r) ∷ h) q (flow l q .injection)
+  unfolding ticks grantsSince dueSince
+  refused-credit-kept i p r kept m =
+      let so-far = kept (record { asks = m .asks .1; within-share = m .within-share }) in
+      record { front = front-same P q refl refl refl refl (so-far .front); served = (tt, so-far .served) }
 
   pub lend-kept : (mask : ℕ) → Kept P h q (flow l q .injection) → Kept P (lent mask (lend l mask .answer) ∷ h) q (flow (lend l mask .link) q .injection)
   unfolding ticks grantsSince dueSince

@@ -5,7 +5,7 @@ use mathlib.Core.Path.{_≡_, refl, ap}
 use mathlib.Core.List.{List, [], _∷_}
 use mathlib.Core.Bool.{Bool, true, false, _&&_}
 use native.Mathlib.Nat.{mul-le-mul-right}
-use native.Mathlib.Decide.{ℕ-discrete}
+use native.Mathlib.Decide.{decLt, ℕ-discrete}
 use native.Mathlib.Omega.{arith}
 use lib.Dec.{leb, ltb, eqb}
 use borrow.Author.Tests.{leb-true, le-leb, ltb-false, eqb-true, eq-eqb, ne-eqb}
@@ -13,7 +13,7 @@ use Rattle.model.specs.Tables.{bit, tally, sum, within}
 use Rattle.model.specs.Word.{flowOf, departureOf}
 use Rattle.model.specs.Plan.{Plan, flowCount, entry, Accepted}
 use Rattle.model.specs.Calls.{Event, History, requested, credited, ticked, lent, accepted, refused}
-use Rattle.model.specs.History.{Mark, ticks, slotAfter, frameOf, grants, credits, lends, ofFlow, inFrame, upTo, creditedUpTo}
+use Rattle.model.specs.History.{Mark, ticks, slotAfter, frameOf, grants, credits, lends, ofFlow, inFrame, upTo, grantedUpTo, creditedUpTo}
 use Rattle.model.specs.Claim.{EachSince}
 use Rattle.model.specs.Delay.{currentFrame, madeSince, madeIn, RoomFrom, GrantedSoonAt}
 use Rattle.model.specs.EnoughCells.{lastOf}
@@ -146,29 +146,30 @@ module _ {P : Plan} (ok : Accepted P) (i : ℕ) (known : i < flowCount P) where
   pub most : (h : History) → NoneGranted h → Counts P h → (a : ℕ) → tally (inFrame P i a) (grants P h) ≤ entry P i .share
   most h none c a = omega (arith, c .in-frames i known a, ap (tally (inFrame P i a)) (grants-are P h none))
 
-  -- a tile of a frame that is more than `late` frames back is given back by slot s of the next frame or a later one
+  -- where tiles of the frames before frame o are given back by the end of frame late + 1 after theirs, they are so by slot s of frame o + late + 1 or a later one
+  pub before-frame : (late : ℕ) (h : History) (e o s : ℕ)
+      → ((r : ℕ) → frameOf P r < o → grantedUpTo P h i r ≤ creditedUpTo P h i (lastOf P (frameOf P r + late + 1)))
+      → (0 < o → o + late + 1 ≤ e) → e * P .slots ≤ s → tally (below i (o * P .slots)) (grants P h) ≤ creditedUpTo P h i s
+  before-frame late h e zero s back far le =
+      let none : 0 * P .slots ≡ 0 = omega arith in
+      omega (arith, below-none i (grants P h), ap (λ b. tally (below i b) (grants P h)) none)
+  before-frame late h e (suc o) s back far le =
+      let r = suc o * P .slots - 1 in
+      let starts : suc o * P .slots ≡ suc r = omega (arith, ok .some-slot) in
+      let before : frameOf P r < suc o = frame-high ok (suc o) r (omega arith) in
+      let ends : (frameOf P r + late + 1 + 1) * P .slots ≤ e * P .slots = mul-le-mul-right (P .slots) (omega (arith, far (omega arith))) in
+      omega (
+        arith,
+        below-up-to i r (grants P h),
+        ap (λ b. tally (below i b) (grants P h)) starts,
+        back r before,
+        up-to-more i (lastOf P (frameOf P r + late + 1)) s (omega arith) (credits P h),
+      )
+
   pub older-given-back : (late : ℕ) (h : History) → GivenBack late P i h → (s : ℕ) → (currentFrame P h + 1) * P .slots ≤ s
       → tally (below i ((currentFrame P h - late) * P .slots)) (grants P h) ≤ creditedUpTo P h i s
-  older-given-back late h given-back s le = go (f - late) refl
-    where
-      f : ℕ
-      f = currentFrame P h
-
-      go : (o : ℕ) → f - late ≡ o → tally (below i (o * P .slots)) (grants P h) ≤ creditedUpTo P h i s
-      go zero e = let none : 0 * P .slots ≡ 0 = omega arith in omega (arith, below-none i (grants P h), ap (λ b. tally (below i b) (grants P h)) none)
-      go (suc o) e =
-          let r = suc o * P .slots - 1 in
-          let starts : suc o * P .slots ≡ suc r = omega (arith, ok .some-slot) in
-          let before : frameOf P r < suc o = frame-high ok (suc o) r (omega arith) in
-          let from : o ≤ frameOf P r = frame-low ok o r (omega (arith, ok .some-slot)) in
-          let ends : (frameOf P r + late + 1 + 1) * P .slots ≤ (f + 1) * P .slots = mul-le-mul-right (P .slots) (omega arith) in
-          omega (
-            arith,
-            below-up-to i r (grants P h),
-            ap (λ b. tally (below i b) (grants P h)) starts,
-            given-back r (omega arith),
-            up-to-more i (lastOf P (frameOf P r + late + 1)) s (omega arith) (credits P h),
-          )
+  older-given-back late h given-back s le =
+      before-frame late h (currentFrame P h + 1) (currentFrame P h - late) s (λ r lt. given-back r (omega arith)) (λ some. omega arith) le
 
   pub room-next : (late : ℕ) (h : History) → NoneGranted h → EachSince (GrantedSoonAt P i) h → GivenBack late P i h → tally (ofFlow i) (lends h) ≡ 0
       → Counts P h → (late + 2) * entry P i .share ≤ entry P i .cells + 0 → madeIn P h i (currentFrame P h) < entry P i .share
@@ -193,3 +194,32 @@ module _ {P : Plan} (ok : Accepted P) (i : ℕ) (known : i < flowCount P) where
 
       near : (m : Mark) → (m .flow ≡ i → frameOf P (m .slot) ≤ f + 1) → Near ok i s oldest late (suc f) m
       near m soon-enough own up other = omega (arith, soon-enough own)
+
+  -- ---- room in this frame too, where less than the share of it is booked in it
+
+  pub room-now : (late : ℕ) (h : History) → NoneGranted h → EachSince (GrantedSoonAt P i) h → GivenBack late P i h → tally (ofFlow i) (lends h) ≡ 0
+      → Counts P h → (late + 2) * entry P i .share ≤ entry P i .cells + 0 → madeIn P h i (currentFrame P h) < entry P i .share
+      → tally (inFrame P i (currentFrame P h)) (grants P h) < entry P i .share → RoomFrom P i (currentFrame P h * P .slots) h
+  room-now late h none soon given-back not-lent c enough few left s le = go (decLt s ((f + 1) * P .slots))
+    where
+      f : ℕ
+      f = currentFrame P h
+
+      -- the oldest frame of which cells may be held in this one
+      oldest : ℕ
+      oldest = f - 1 - late
+
+      go : Dec (s < (f + 1) * P .slots) → tally (upTo i s) (grants P h) + tally (upTo i s) (lends h) < creditedUpTo P h i s + entry P i .cells
+      go (no next) = room-next late h none soon given-back not-lent c enough few s (omega arith)
+      go (yes now) =
+          omega (
+            arith,
+            from-frame ok i s oldest late f (grants P h) (all-of _ near (grants P h)),
+            sum-le (suc late) (λ k. tally (inFrame P i (oldest + k)) (grants P h)) (λ k. entry P i .share) (λ k lt. most h none c (oldest + k)),
+            sum-const (suc late) (entry P i .share),
+            before-frame late h f oldest s (λ r lt. given-back r (omega arith)) (λ some. omega arith) le,
+            tally-le (upTo i s) (ofFlow i) (λ m e. and-true (ofFlow i m) (leb (m .slot) s) e .0) (lends h),
+          )
+        where
+          near : (m : Mark) → Near ok i s oldest late f m
+          near m own up other = omega (arith, frame-high ok (f + 1) (m .slot) (omega arith))

@@ -10,6 +10,7 @@ use Rattle.model.specs.Plan.{Plan, planOf}
 use Rattle.model.specs.Calls.{Call, Event, History, requested, credited, ticked, lent, accepted, refused}
 use Rattle.model.specs.Card.{paper, run}
 use Rattle.model.specs.PlanBytes.{plan1, plan2}
+use Rattle.model.specs.TwoHops.{InStep}
 use Rattle.model.specs.SeveralLinks.{sentSlots, AsksForNext, AskedAt, Together, start, both-tick, first-alone, second-alone, Board}
 use Rattle.model.specs.LessJoined.{withLent, AllAsked, AllButOrder, AllButLate, AllButNewest, AllButRoom, AllButNumber, SharesKept, NoReset, TwoBoardsBy}
 use Rattle.model.specs.LessJoined.{TwoBoards}
@@ -60,7 +61,7 @@ two-boards bytes₁ bytes₂ passes₁ passes₂ step i j known₁ known₂ kept
 
 -- F = 3, W = 2, and a neighbour with share 2 on the second board. The first is reset in slot 4, and grants slots 3 and 5, both of frame 1: the second refuses
 -- the tile of slot 5 with 11.
-pub not-with-a-reset : TwoBoardsBy SharesKept (λ h. Unit {0}) sentSlots (AllAsked sentSlots) paper → ⊥
+pub not-with-a-reset : TwoBoardsBy InStep SharesKept (λ h. Unit {0}) sentSlots (AllAsked sentSlots) paper → ⊥
 unfolding joins-compute
 not-with-a-reset two =
     let ms =
@@ -77,7 +78,7 @@ not-with-a-reset two =
     x .granted .0 refl refl
 
 -- F = 2, W = 2. The first board grants slot 2 and lends slot 3, both of frame 1: the second refuses the tile of slot 3 with 11.
-pub not-with-a-lent-slot : TwoBoardsBy SharesKept NoReset withLent (AllAsked withLent) paper → ⊥
+pub not-with-a-lent-slot : TwoBoardsBy InStep SharesKept NoReset withLent (AllAsked withLent) paper → ⊥
 unfolding joins-compute
 not-with-a-lent-slot two =
     let ms =
@@ -93,7 +94,7 @@ not-with-a-lent-slot two =
     x .granted .0 refl refl
 
 -- F = 2, W = 2, share 2 on the first board and 1 on the second. Slots 1, 2 and 3 are granted on the first: the second refuses the tile of slot 3 with 11.
-pub not-with-a-smaller-share : TwoBoardsBy (λ share₁ share₂. Unit {0}) NoReset sentSlots (AllAsked sentSlots) paper → ⊥
+pub not-with-a-smaller-share : TwoBoardsBy InStep (λ share₁ share₂. Unit {0}) NoReset sentSlots (AllAsked sentSlots) paper → ⊥
 unfolding joins-compute
 not-with-a-smaller-share two =
     let ms =
@@ -108,8 +109,26 @@ not-with-a-smaller-share two =
     (by-moves (all-asked sentSlots) (planOf (plan1 2 2 8 2 8)) (planOf (plan1 2 2 8 1 8)) 0 0 ms tt) in
     x .granted .0 refl refl
 
--- F = 1, W = 5. Slots 1 and 2 are granted on the first board. The tile of slot 2 is asked for first on the second, and granted slot 3; the other then slot 4.
-pub not-out-of-order : TwoBoardsBy SharesKept NoReset sentSlots (AllButOrder sentSlots) paper → ⊥
+-- F = 1 and W = 4 on the first board, F = 2 and W = 2 on the second. Slots 1, 2 and 3 are granted on the first, each of another frame; on the second the last
+-- two are of one frame, and the tile of slot 3 is refused with 11.
+pub not-with-other-frames : TwoBoardsBy (λ P Q. Unit {0}) SharesKept NoReset sentSlots (AllAsked sentSlots) paper → ⊥
+unfolding joins-compute
+not-with-other-frames two =
+    let ms =
+    reverse (
+    first (requested 0x24000000 (accepted 0x24000001)) ∷ first (requested 0x24000400 (accepted 0x24000402))
+    ∷ first (requested 0x24000800 (accepted 0x24000803)) ∷ second (requested 0x24000001 (accepted 0x24000002)) ∷ both (some 0) none
+    ∷ both (some 0) (some 0) ∷ second (requested 0x24000402 (accepted 0x24000400)) ∷ both (some 0) none
+    ∷ second (requested 0x24000803 (refused 11)) ∷ []) in
+    let x = two (plan1 1 4 8 1 8) (plan1 2 2 8 1 8) refl refl tt 0 0 (lit< tt) (lit< tt) (lit≤ tt)
+    (firsts ms) (seconds ms)
+    (record { calls = callsOf (firsts ms); is = refl }) (record { calls = callsOf (seconds ms); is = refl }) refl refl
+    (by-moves (all-asked sentSlots) (planOf (plan1 1 4 8 1 8)) (planOf (plan1 2 2 8 1 8)) 0 0 ms tt) in
+    x .granted .0 refl refl
+
+-- F = 1, W = 5. Slots 1 and 2 are granted on the first board. The tile of slot 2 is asked for first on the second, and granted slot 3; the other then slot 4,
+-- three frames after it came. By number, the first grant on the second board is two frames after the first on the first.
+pub not-out-of-order : TwoBoardsBy InStep SharesKept NoReset sentSlots (AllButOrder sentSlots) paper → ⊥
 unfolding joins-compute
 not-out-of-order two =
     let ms =
@@ -123,7 +142,7 @@ not-out-of-order two =
     omega (arith, x .frames-later 0 (lit< tt))
 
 -- F = 1, W = 3. The tile of slot 1 is asked for in slot 2, where its departure is the newest frame's: 20.
-pub not-when-late : TwoBoardsBy SharesKept NoReset sentSlots (AllButLate sentSlots) paper → ⊥
+pub not-when-late : TwoBoardsBy InStep SharesKept NoReset sentSlots (AllButLate sentSlots) paper → ⊥
 unfolding joins-compute
 not-when-late two =
     let ms =
@@ -137,7 +156,7 @@ not-when-late two =
     x .granted .0 refl refl
 
 -- F = 1, W = 2. The tile of slot 1 is asked for in slot 0, where frame 1 is the newest: 20.
-pub not-in-the-newest-frame : TwoBoardsBy SharesKept NoReset sentSlots (AllButNewest sentSlots) paper → ⊥
+pub not-in-the-newest-frame : TwoBoardsBy InStep SharesKept NoReset sentSlots (AllButNewest sentSlots) paper → ⊥
 unfolding joins-compute
 not-in-the-newest-frame two =
     let ms =
@@ -150,7 +169,7 @@ not-in-the-newest-frame two =
     x .granted .0 refl refl
 
 -- F = 2, W = 3, one cell on the second board, which the first tile holds from slot 2 on: the next gets 12.
-pub not-without-room : TwoBoardsBy SharesKept NoReset sentSlots (AllButRoom sentSlots) paper → ⊥
+pub not-without-room : TwoBoardsBy InStep SharesKept NoReset sentSlots (AllButRoom sentSlots) paper → ⊥
 unfolding joins-compute
 not-without-room two =
     let ms =
@@ -164,7 +183,7 @@ not-without-room two =
     x .granted .0 refl refl
 
 -- number 1 on a fresh board: 24
-pub not-without-number : TwoBoardsBy SharesKept NoReset sentSlots (AllButNumber sentSlots) paper → ⊥
+pub not-without-number : TwoBoardsBy InStep SharesKept NoReset sentSlots (AllButNumber sentSlots) paper → ⊥
 unfolding joins-compute
 not-without-number two =
     let ms =

@@ -11,11 +11,11 @@ use Rattle.model.specs.OtherPremises.{Both, Come, Numbered}
 use Rattle.model.specs.LessAsked.{HasRoom}
 use Rattle.model.specs.Card.{run, paper}
 use Rattle.model.specs.PlanBytes.{plan1, plan2, listing, single, oneCell}
-use Rattle.model.specs.Delay.{Timely, PromptBy, SoonBy, ModestOnArrival}
+use Rattle.model.specs.Delay.{Timely, FitsNewest, PromptBy, SoonBy, ModestOnArrival}
 use Rattle.model.specs.LessTimely.{AllTimely, TimelyButRoom, TimelyButNumber, TimelyButTime, TimelyButOrder}
 use Rattle.model.proofs.Decidable.{proved, refuted}
 use Rattle.model.proofs.OtherPremises.{come, numbered, both}
-use Rattle.model.proofs.DelayDecided.{prompt-on, room, in-time, ordered, timely, modest, modest-on-arrival, delays-compute}
+use Rattle.model.proofs.DelayDecided.{prompt-on, room, in-time, ordered, timely, fits-newest, modest, modest-on-arrival, delays-compute}
 
 -- ---- prompt
 
@@ -26,6 +26,19 @@ prompt-not-without-room x =
     let calls = Call.request 0x24000000 ∷ Call.request 0x24000400 ∷ [] in
     let h = run paper (planOf oneCell) calls .history in
     refuted (prompt-on (both come numbered) 0 (planOf oneCell) h) tt (x oneCell refl calls)
+
+-- F = 2, W = 3, share 2, one cell: slot 1 is granted, and the cell falls free from slot 4 on, the first of the newest frame. The next request fits, though it
+-- is not timely, and it is granted slot 4.
+abbrev lateRoom : History
+lateRoom = run paper (planOf (plan1 2 3 8 2 1)) (Call.request 0x24000000 ∷ Call.credit 0 4 ∷ []) .history
+
+pub fits-the-newest : FitsNewest (planOf (plan1 2 3 8 2 1)) 0 0x24000400 lateRoom
+unfolding delays-compute
+fits-the-newest = proved (fits-newest (planOf (plan1 2 3 8 2 1)) 0 0x24000400 lateRoom) tt
+
+pub not-timely : Timely (planOf (plan1 2 3 8 2 1)) 0 0x24000400 lateRoom → ⊥
+unfolding delays-compute
+not-timely = refuted (timely (planOf (plan1 2 3 8 2 1)) 0 0x24000400 lateRoom) tt
 
 -- a tile that is due in the last slot of the newest frame: 20
 pub prompt-not-without-time : PromptBy (Both HasRoom Numbered) 0 paper → ⊥

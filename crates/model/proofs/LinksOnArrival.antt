@@ -15,7 +15,7 @@ use Rattle.model.specs.Card.{paper}
 use Rattle.model.specs.Delay.{currentFrame, madeIn, dueIn, GrantedSoonAt, TimelyInOrder, Modest, ServedAt}
 use Rattle.model.specs.SeveralLinks.{ForNext, AsksForNext, Alone, AskedAt, Together, start, both-tick, first-alone, second-alone}
 use Rattle.model.specs.SeveralLinks.{Ran, Board, planOn, Joined, Way}
-use Rattle.model.specs.SharesOfCells.{GivenBack, KeepsShares}
+use Rattle.model.specs.SharesOfCells.{GivenBack, KeepsShares, EachGrantedNow}
 use Rattle.model.specs.LinksOnArrival.{AsksOnArrival, JoinedOnArrival, WayOnArrival, OverLinksOnArrival}
 use Rattle.model.proofs.Tallies.{tally-append}
 use Rattle.model.proofs.Slots.{current-in-window}
@@ -30,7 +30,7 @@ use Rattle.model.proofs.NextLink.{each-since, since-all, counts-at, few
 use Rattle.model.proofs.SeveralLinks.{ok, none, runs-have, happened, ordered, words, served, next-modest, over-links}
 use Rattle.model.proofs.EnoughCells.{BeginningsRan, beginnings-ran}
 use Rattle.model.proofs.HeldByFrames.{room-next}
-use Rattle.model.proofs.SharesOfCells.{modest-of, timely-at-each}
+use Rattle.model.proofs.SharesOfCells.{modest-of, timely-at-each, shares-of-cells-accepted}
 
 module _ (a b : Board paper) (joined : JoinedOnArrival a b) where
   abbrev P : Plan
@@ -187,7 +187,18 @@ modest-first late a x =
     modest-of (ok a) (a .stream) (a .known) late (a .events) (words a) (none a) (x .asks)
     (timely-at-each (ok a) (a .stream) (a .known) late (a .events) (words a) (none a) (x .asks) ran (happened a) (x .not-lent) (x .enough-cells))
 
+-- and each request there is granted
+pub granted-first : (late : ℕ) (a : Board paper) → KeepsShares late 0 (planOn a) (a .stream) (a .events) → EachGrantedNow (planOn a) (a .stream) (a .events)
+granted-first late a =
+    runs-have a (λ h. KeepsShares late 0 (planOn a) (a .stream) h → EachGrantedNow (planOn a) (a .stream) h)
+    (λ calls. shares-of-cells-accepted late (planOn a) (ok a) calls (a .stream) (a .known))
+
 pub over-links-on-arrival : OverLinksOnArrival paper
 over-links-on-arrival late a rest way =
     let x = over-links a rest (way-with-room a rest way) in
-    record { granted = x .granted; from-first = x .from-first; from-due = λ keeps. x .from-due (modest-first late a keeps) }
+    record {
+      granted = x .granted;
+      served = granted-first late a;
+      from-first = x .from-first;
+      from-due = λ keeps. x .from-due (modest-first late a keeps);
+    }

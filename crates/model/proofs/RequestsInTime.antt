@@ -25,7 +25,7 @@ use Rattle.model.proofs.RequestKeeps.{found-in-frame, after-grant}
 use Rattle.model.proofs.HistoryCounts.{departure-below}
 use Rattle.model.proofs.AfterHistory.{After}
 use Rattle.model.proofs.NewestGrants.{slot-to-come}
-use Rattle.model.proofs.TimelyRequests.{due-if-come, due-if-not, due-frame-from-now, known, full-if-fails-later}
+use Rattle.model.proofs.TimelyRequests.{due-if-come, due-if-not, due-frame-from-now, known, full-if-fails-later, room-later}
 use Rattle.model.proofs.Fronts.{Front, Near, front-near}
 
 module _ {l : Link} {h : History} (g : After (l .plan) l h) (w : ℕ) (well : wellFormed (l .plan) w ≡ true) where
@@ -66,7 +66,7 @@ module _ {l : Link} {h : History} (g : After (l .plan) l h) (w : ℕ) (well : we
 
     full : (a c : ℕ) → suc due ≤ a → a < currentFrame P h + W → Reached v known-flow d none a c → FailsIn v known-flow d a c
         → grantedIn P h i a ≡ entry P i .share
-    full a c low high q fails = full-if-fails-later g w well timely a c low high (q .spends) fails
+    full a c low high q fails = full-if-fails-later g w well a c (room-later g w well timely a low) low high (q .spends) fails
 
     some-share : 1 ≤ entry P i .share
     some-share = ok .entries-fit i known-flow .some-share

@@ -179,6 +179,7 @@ each-granted b (next ∷ rest) way = (all-granted b next (way .0), each-granted 
 pub over-links : OverLinks paper
 over-links a rest way = record {
   granted = each-granted a rest way;
+  served = served a;
   from-first = each-within (ok a) (sentOn a) 0 a rest refl (λ n lt. omega arith) way;
   from-due = λ m. (within (ok a) (dueOn a) 1 a refl (one-frame a m), each-within (ok a) (dueOn a) 1 a rest refl (one-frame a m) way);
 }

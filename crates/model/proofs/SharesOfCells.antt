@@ -58,7 +58,7 @@ module _ {P : Plan} (ok : Accepted P) (i : ℕ) (known : i < flowCount P) (late 
 
   -- ---- a request
 
-  come-of : (h : History) → Each Asked h → EachSince (ComeAt P i) h
+  pub come-of : (h : History) → Each Asked h → EachSince (ComeAt P i) h
   come-of h asks = each-since (ComeAt P i) h (each-map Asked (ComeAt P i) one h asks)
     where
       one : (e : Event) (h : History) → Asked e h → ComeAt P i e h
@@ -79,7 +79,7 @@ module _ {P : Plan} (ok : Accepted P) (i : ℕ) (known : i < flowCount P) (late 
       served-of : EachSince (ServedAt P i) h
       served-of = subst (λ k. Modest TimelyInOrder 0 P i k → EachSince (ServedAt P i) k) (ran .is) (soon-accepted P ok (ran .calls) i known) modest-of
 
-      soon-of : EachSince (GrantedSoonAt P i) h
+      pub soon-of : EachSince (GrantedSoonAt P i) h
       soon-of = served-on-arrival ok i h words (come-of h asks) served-of
 
       module _ (happened : Each (Happened P) h) (not-lent : tally (ofFlow i) (lends h) ≡ 0) (enough : (late + 2) * entry P i .share ≤ entry P i .cells + 0) (w : ℕ)

@@ -10,7 +10,7 @@ use borrow.Author.Tests.{ltb-true, eqb-true, eqb-false}
 use Rattle.model.specs.Tables.{bit, tally}
 use Rattle.model.specs.Word.{flowOf, departureOf}
 use Rattle.model.specs.Plan.{Plan, flowCount, planOf}
-use Rattle.model.specs.Calls.{Call, Grant, Event, History, requested, credited, ticked, lent, accepted, refused}
+use Rattle.model.specs.Calls.{Call, Grant, Receipt, Event, History, requested, credited, ticked, lent, accepted, refused}
 use Rattle.model.specs.Window.{newest}
 use Rattle.model.specs.Link.{Link, Step, window, flow, share, withFlow, movedTo}
 use Rattle.model.specs.Request.{Found, found, nowhere, sought, wouldBeValid, answered, request}
@@ -18,7 +18,7 @@ use Rattle.model.specs.History.{ticks, frameOf, wellFormed, origin, gran
 use Rattle.model.specs.Claim.{EachSince, Ready, ReadyAt, Demand3}
 use Rattle.model.specs.Card.{Card, Played, Meets, paper, step, play, started}
 use Rattle.model.specs.Delay.{newestFrame}
-use Rattle.model.specs.BadDelays.{remembers, is12, had12, staysRefused, lapsed, atNewest, sendsToNewest}
+use Rattle.model.specs.BadDelays.{remembersBoth, remembers, is12, had12, staysRefused, lapsed, atNewest, sendsToNewest}
 use Rattle.model.proofs.Plan as plan
 use Rattle.model.proofs.Tests.{and-true}
 use Rattle.model.proofs.Slots.{some-frame}
@@ -36,9 +36,21 @@ use Rattle.model.proofs.AfterRequest.{after-request}
 use Rattle.model.proofs.AfterCalls.{after-step, after-fresh}
 use Rattle.model.proofs.Demand3.{demand3}
 use Rattle.model.proofs.AnsweredRequests.{Requested, turned-back, searched, request-is}
-use Rattle.model.proofs.TimelyRequests.{known, ready-timely, full-if-fails-later}
+use Rattle.model.proofs.TimelyRequests.{known, ready-timely, full-if-fails-later, room-later}
 
--- ---- a card that remembers its events, where each request leaves a link that stands after them, and R holds of them
+-- ---- a card that remembers its events
+
+-- what it remembers are its events
+pub same-events : (request : Played paper → ℕ → Link × Grant) (credit : Played paper → ℕ → ℕ → Link × Receipt)
+    (r : Played (remembersBoth request credit)) (c : Call) → r .state .history ≡ r .history
+    → step (remembersBoth request credit) r c .state .history ≡ step (remembersBoth request credit) r c .history
+same-events request credit r (Call.request w) e = ap (requested w (request (r .state) w .1) ∷_) e
+same-events request credit r (Call.credit i p) e = ap (credited i p (credit (r .state) i p .1) ∷_) e
+same-events request credit r Call.tick e = ap (ticked (paper .tick (r .state .state) .1) ∷_) e
+same-events request credit r (Call.lend m) e = ap (lent m (paper .lend (r .state .state) m .1) ∷_) e
+same-events request credit r Call.reset e = ap (Event.reset (paper .reset (r .state .state) .1) ∷_) e
+
+-- ---- where each request leaves a link that stands after them, and R holds of them
 
 -- the event is no request
 abbrev NoRequest : Event → Type 0
@@ -70,14 +82,6 @@ module _ (R : Plan → History → Type 0) where
         record { after = after-step (r .state) (Call.lend m) (s .after); remembered = kept P _ (r .state .history) tt (s .remembered) }
     one-more P r Call.reset s = record { after = after-step (r .state) Call.reset (s .after); remembered = kept P _ (r .state .history) tt (s .remembered) }
 
-    -- what it remembers are its events
-    same-events : (r : Played card) (c : Call) → r .state .history ≡ r .history → step card r c .state .history ≡ step card r c .history
-    same-events r (Call.request w) e = ap (requested w (request (r .state) w .1) ∷_) e
-    same-events r (Call.credit i p) e = ap (credited i p (paper .credit (r .state .state) i p .1) ∷_) e
-    same-events r Call.tick e = ap (ticked (paper .tick (r .state .state) .1) ∷_) e
-    same-events r (Call.lend m) e = ap (lent m (paper .lend (r .state .state) m .1) ∷_) e
-    same-events r Call.reset e = ap (Event.reset (paper .reset (r .state .state) .1) ∷_) e
-
     all-meet : (P : Plan) (r : Played card) (calls : List Call) → Stands P (r .state) → r .state .history ≡ r .history
         → (i : ℕ) → i < flowCount P → Demand3 P i (play card r calls .history)
     unfolding play
@@ -85,7 +89,7 @@ module _ (R : Plan → History → Type 0) where
         subst (Demand3 P i) e
         (subst (λ Q. After Q (r .state .state) (r .state .history) → i < flowCount Q → Demand3 Q i (r .state .history)) (s .after .plan-is)
         (λ g lt. demand3 (r .state .state) (r .state .history) g i lt) (s .after) below)
-    all-meet P r (c ∷ calls) s e i below = all-meet P (step card r c) calls (one-more P r c s) (same-events r c e) i below
+    all-meet P r (c ∷ calls) s e i below = all-meet P (step card r c) calls (one-more P r c s) (same-events request (λ r i p. paper .credit (r .state) i p) r c e) i below
 
     remembering-meets : Meets card
     remembering-meets bytes passes calls =
@@ -238,7 +242,8 @@ module _ {l : Link} {h : History} (g : After (l .plan) l h) (w : ℕ) where
       omega arith
   searched-not-12 well x (nowhere (suc c)) s e =
       let t = ready-timely ok (flowOf w) w h x in
-      let full = full-if-fails-later g w well t (newestFrame P h) (suc c) (t .in-time) (omega (arith, some-frame ok)) (s .reached .spends) (s .fails) in
+      let full = full-if-fails-later g w well (newestFrame P h) (suc c) (room-later g w well t (newestFrame P h) (t .in-time)) (t .in-time) (omega (arith, some-frame ok))
+      (s .reached .spends) (s .fails) in
       omega (arith, s .reached .spends .spent)
 
   ready-not-12 : (wellFormed P w ≡ true → Ready P (flowOf w) w h) → request l w .answer ≡ refused 12 → ⊥

@@ -126,7 +126,7 @@ module _ {l : Link} {h : History} (g : After (l .plan) l h) (w : ℕ)
 
 -- ---- a list of calls
 
-abbrev KeptAfter : Plan → Played paper → Type 0
+abbrev pub KeptAfter : Plan → Played paper → Type 0
 KeptAfter P r = (q : ℕ) → q < flowCount P → Kept P (r .history) q (flow (r .state) q .injection)
 
 call-kept : (r : Played paper) (c : Call) → Known (r .state .plan) r → KeptAfter (r .state .plan) r → KeptAfter (r .state .plan) (step paper r c)
@@ -136,12 +136,12 @@ call-kept r Call.tick g kept = λ q below. tick-kept g below (kept q below)
 call-kept r (Call.lend mask) g kept = λ q below. lend-kept g below mask (kept q below)
 call-kept r Call.reset g kept = λ q below. reset-kept g below (kept q below)
 
+pub kept-more : {P : Plan} (r : Played paper) (c : Call) → Known P r → Each (Happened P) (r .history) → KeptAfter P r → KeptAfter P (step paper r c)
+kept-more r c g happened = subst (λ Q. Known Q r → KeptAfter Q r → KeptAfter Q (step paper r c)) (g .plan-is) (call-kept r c) g
+
 -- on any plan that keeps the limits, and so on the plan of any bytes that are accepted
 pub soon-accepted : (P : Plan) → Accepted P → (calls : List Call) (i : ℕ) → i < flowCount P → SoonOn TimelyInOrder 0 P i (run paper P calls .history)
-soon-accepted P ok calls i known m = by-calls ok (KeptAfter P) more (fresh-kept ok) calls i known m .served
-  where
-    more : (r : Played paper) (c : Call) → Known P r → Each (Happened P) (r .history) → KeptAfter P r → KeptAfter P (step paper r c)
-    more r c g happened = subst (λ Q. Known Q r → KeptAfter Q r → KeptAfter Q (step paper r c)) (g .plan-is) (call-kept r c) g
+soon-accepted P ok calls i known m = by-calls ok (KeptAfter P) kept-more (fresh-kept ok) calls i known m .served
 
 pub soon-ahead : SoonAhead paper
 soon-ahead bytes passes = soon-accepted (planOf bytes) (plan.accepted bytes passes)

@@ -12,7 +12,7 @@ use Rattle.model.specs.Calls.{Call, Event, History, requested, credited,
 use Rattle.model.specs.History.{ticks, frameOf, wellFormed, hasCome, inFrame}
 use Rattle.model.specs.Claim.{Each, EachSince, AtRequest, ReadyAt, GrantedWordAt}
 use Rattle.model.specs.Card.{paper, run}
-use Rattle.model.specs.Delay.{currentFrame, dueSlot, madeSince, madeIn, dueSince, dueIn, TimelyInOrder, AsksAt, ServedAt, GrantedSoonAt}
+use Rattle.model.specs.Delay.{currentFrame, dueSlot, madeSince, madeIn, dueSince, dueIn, TimelyInOrder, AsksAt, SoonOn, ServedAt, GrantedSoonAt}
 use Rattle.model.specs.Delay.{SoonOnArrivalOn, Soon}
 use Rattle.model.proofs.Plan as plan
 use Rattle.model.proofs.Slots.{frames-go-on}
@@ -103,17 +103,22 @@ module _ {P : Plan} (ok : Accepted P) (i : ℕ) where
   served-on-arrival (Event.reset (accepted u) ∷ h) words come served = tt
   served-on-arrival (Event.reset (refused r) ∷ h) words come served = (tt, served-on-arrival h (words .1) (come .1) (served .1))
 
--- on any plan that keeps the limits, and so on the plan of any bytes that are accepted
-pub soon-on-arrival : (P : Plan) → Accepted P → (calls : List Call) (i : ℕ) → i < flowCount P → SoonOnArrivalOn P i (run paper P calls .history)
-soon-on-arrival P ok calls i known m =
-    let h = run paper P calls .history in
-    let words = each-map _ (GrantedWordAt P) (λ e h x. x .word) h (each-happened P ok calls) in
+-- what is soon for words that run ahead is so for those that are asked on arrival
+pub soon-if-ready : {P : Plan} → Accepted P → (i : ℕ) (h : History) → Each (GrantedWordAt P) h → SoonOn TimelyInOrder 0 P i h → SoonOnArrivalOn P i h
+soon-if-ready {P} ok i h words served m =
     let ready = m .ready-at-each-request in
     let come = each-since-map _ _ (ready-come P i) h ready in
-    served-on-arrival ok i h words come (soon-accepted P ok calls i known (record {
+    served-on-arrival ok i h words come (served (record {
       asks = asks-on-arrival ok i h words ready;
       within-share = λ f. omega (arith, due-when-made ok i f h words come, m .within-share f);
     }))
+
+-- on any plan that keeps the limits, and so on the plan of any bytes that are accepted
+pub soon-on-arrival : (P : Plan) → Accepted P → (calls : List Call) (i : ℕ) → i < flowCount P → SoonOnArrivalOn P i (run paper P calls .history)
+soon-on-arrival P ok calls i known =
+    let h = run paper P calls .history in
+    let words = each-map _ (GrantedWordAt P) (λ e h x. x .word) h (each-happened P ok calls) in
+    soon-if-ready ok i h words (soon-accepted P ok calls i known)
 
 pub soon : Soon paper
 soon bytes passes = soon-on-arrival (planOf bytes) (plan.accepted bytes passes)

@@ -10,7 +10,7 @@ use Rattle.model.specs.Calls.{History}
 use Rattle.model.specs.Link.{Link}
 use Rattle.model.specs.History.{ticks, slotAfter, frameOf, wellFormed, hasCome, grantsSince, credits, upTo}
 use Rattle.model.specs.Claim.{Ready}
-use Rattle.model.specs.Delay.{currentFrame, dueSlot, dueFrame, Timely}
+use Rattle.model.specs.Delay.{currentFrame, newestFrame, dueSlot, dueFrame, RoomFrom, Timely, FitsNewest}
 use Rattle.model.proofs.Slots.{frame-begins, frame-ends, frame-low, frame-slot-in-window}
 use Rattle.model.proofs.Window.{Current}
 use Rattle.model.proofs.Departures.{leaves-in}
@@ -56,6 +56,16 @@ module _ {P : Plan} (ok : Accepted P) where
     in-time = omega (arith, ap (frameOf P) (due-if-come P w h (x .come)), ok .two-frames);
   }
 
+  -- room from the frame after the due one on is room in the newest frame
+  pub timely-fits : (i w : ℕ) (h : History) → Timely P i w h → FitsNewest P i w h
+  timely-fits i w h x = record {
+    room = λ s le.
+        let begins : (dueFrame P w h + 1) * P .slots ≤ newestFrame P h * P .slots = mul-le-mul-right (P .slots) (omega (arith, x .in-time)) in
+        x .room s (omega arith);
+    number = x .number;
+    in-time = x .in-time;
+  }
+
 -- ---- a well-formed request, on a link that stands after a history
 
 module _ {l : Link} {h : History} (g : After (l .plan) l h) (w : ℕ) (well : wellFormed (l .plan) w ≡ true) where
@@ -87,13 +97,17 @@ module _ {l : Link} {h : History} (g : After (l .plan) l h) (w : ℕ) (well : we
           let ends : suc (dueFrame P w h) * F ≤ a * F = mul-le-mul-right F low in
           omega (arith, due-if-not P w h yet, frame-ends ok (dueSlot P w h))
 
-  -- where the search fails in such a frame, the flow has its whole share there
-  pub full-if-fails-later : Timely P i w h → (a c : ℕ) → dueFrame P w h < a → a < frameOf P t + W → Spent P (grantsSince P h) i a c → FailsIn v known d a c
+  -- where the search fails in such a frame, with room from it on, the flow has its whole share there
+  pub full-if-fails-later : (a c : ℕ) → RoomFrom P i (a * F) h → dueFrame P w h < a → a < frameOf P t + W → Spent P (grantsSince P h) i a c → FailsIn v known d a c
       → marksIn P i a (grantsSince P h) ≡ entry P i .share
-  full-if-fails-later timely a c low high =
+  full-if-fails-later a c has low high =
       full-if-fails v known d a c (omega (arith, due-frame-from-now ok w h)) high room (leaves-later a low high)
     where
       room : Room P (raises P h) (credits P h) i (a * F)
-      room s le =
-          let begins : (dueFrame P w h + 1) * F ≤ a * F = mul-le-mul-right F (omega arith) in
-          omega (arith, timely .room s (omega arith), raises-are P (upTo i s) h)
+      room s le = omega (arith, has s le, raises-are P (upTo i s) h)
+
+  -- a request that is timely has room from each such frame on
+  pub room-later : Timely P i w h → (a : ℕ) → dueFrame P w h < a → RoomFrom P i (a * F) h
+  room-later timely a low s le =
+      let begins : (dueFrame P w h + 1) * F ≤ a * F = mul-le-mul-right F (omega arith) in
+      timely .room s (omega arith)

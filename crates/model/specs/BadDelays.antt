@@ -1,17 +1,21 @@
--- Cards that make a flow wait. Each is the paper's card but for its requests, and it may look at all calls and answers so far. Demand 3 takes the first
--- two: it promises nothing to a flow that was not ready at each request, or was not refused in each frame. `Prompt` and `Soon` send them back. Assumes
--- nothing.
-use Prim.Native.Nat.{ℕ, _-_, _%_}
+-- Cards that make a flow wait, and one that mixes up a stream's slots. Each is the paper's card but for its requests, and it may look at all calls and
+-- answers so far. Demand 3 takes the first two: it promises nothing to a flow that was not ready at each request, or was not refused in each frame.
+-- `Prompt` and `Soon` send them back. Assumes nothing.
+use Prim.Native.Nat.{ℕ, zero, suc, _+_, _-_, _%_}
 use mathlib.Core.List.{_∷_, []}
+use mathlib.Core.Option.{Option, some, none}
 use mathlib.Core.Bool.{Bool, false, _&&_, _||_, cond}
 use lib.Dec.{ltb, eqb}
-use Rattle.model.specs.Word.{flowOf}
+use Rattle.model.specs.Tables.{firstFrom}
+use Rattle.model.specs.Refusals.{firstOf}
+use Rattle.model.specs.Word.{flowOf, departureOf}
 use Rattle.model.specs.Plan.{flowCount}
-use Rattle.model.specs.Calls.{Grant, Event, History, requested, credited, ticked, lent, accepted, refused}
-use Rattle.model.specs.Window.{newest}
-use Rattle.model.specs.Link.{Link, window, flow, share, withFlows, withFlow, movedTo}
+use Rattle.model.specs.Calls.{Grant, Receipt, Event, History, requested, credited, ticked, lent, accepted, refused}
+use Rattle.model.specs.Window.{everyFrom, start, newest}
+use Rattle.model.specs.Link.{Link, window, flow, holding, share, cells, withFlows, withFlow, movedTo}
+use Rattle.model.specs.Request.{Found, found, nowhere, requestTests, validFor, sought, answered}
 use Rattle.model.specs.History.{ticks, frameOf, renews, origin, refusedIn}
-use Rattle.model.specs.Card.{Card, Played, paper, started}
+use Rattle.model.specs.Card.{Card, Played, both, paper, started}
 use Rattle.model.specs.BadCards.{withRequest, withTick}
 
 -- ---- a card that remembers its events
@@ -19,17 +23,20 @@ use Rattle.model.specs.BadCards.{withRequest, withTick}
 abbrev recorded : {A : Type 0} → (A → Event) → Played paper → Link × A → Played paper × A
 recorded event r handed = (record { state = handed .0; history = event (handed .1) ∷ r .history }, handed .1)
 
--- its requests are answered by the link and the events so far
-abbrev pub remembers : (Played paper → ℕ → Link × Grant) → Card
-remembers request = record {
+-- its requests and credits are answered by the link and the events so far; and its requests alone
+abbrev pub remembersBoth : (Played paper → ℕ → Link × Grant) → (Played paper → ℕ → ℕ → Link × Receipt) → Card
+remembersBoth request credit = record {
   State = Played paper;
   fresh = started paper;
   request = λ r w. recorded (requested w) r (request r w);
-  credit = λ r i p. recorded (credited i p) r (paper .credit (r .state) i p);
+  credit = λ r i p. recorded (credited i p) r (credit r i p);
   tick = λ r. recorded ticked r (paper .tick (r .state));
   lend = λ r m. recorded (lent m) r (paper .lend (r .state) m);
   reset = λ r. recorded Event.reset r (paper .reset (r .state));
 }
+
+abbrev pub remembers : (Played paper → ℕ → Link × Grant) → Card
+remembers request = remembersBoth request (λ r i p. paper .credit (r .state) i p)
 
 -- ---- 12 after the first 12
 
@@ -91,3 +98,31 @@ allAtNewest handed = (withFlows (handed .0) (λ i. flow (atNewest (handed .0) i)
 
 abbrev pub tickMovesOn : Card
 tickMovesOn = withTick (λ l. allAtNewest (paper .tick l))
+
+-- ---- a frame's last slot
+
+-- the last position of frame j that is valid for flow i's request with departure d, or p
+abbrev lastIn : Link → (i d j p : ℕ) → ℕ
+lastIn l i d j p = ends (firstFrom (l .plan .slots) 0 (λ x. validFor l i d (last - x)))
+  where
+    last : ℕ
+    last = start (window l) j + l .plan .slots - 1
+
+    ends : Option ℕ → ℕ
+    ends (some x) = last - x
+    ends none = p
+
+abbrev lastFound : Link → (i d : ℕ) → Found → Found
+lastFound l i d (found j c p) = found j c (lastIn l i d j p)
+lastFound l i d (nowhere c) = nowhere c
+
+-- a word that passes its tests is granted the last valid slot of the frame, where the flow has no room in some slot from the current one on
+abbrev pub takesLast : Card
+takesLast = withRequest (λ l w. cond (roomNow l (flowOf w)) (paper .request l w) (grantsLast (firstOf (requestTests (l .plan) (flow l (flowOf w) .number) w)) l w))
+  where
+    roomNow : Link → ℕ → Bool
+    roomNow l i = everyFrom (window l) (l .current) (λ q. ltb (holding l i q) (cells l i))
+
+    grantsLast : ℕ → Link → ℕ → Link × Grant
+    grantsLast zero l w = both (answered l w (lastFound l (flowOf w) (departureOf w) (sought l (flowOf w) (departureOf w))))
+    grantsLast (suc r) l w = (l, refused (suc r))

@@ -11,13 +11,15 @@
 -- - which of a frame's valid positions is granted, as long as the counts come out; and in which frame, to a stream that asks for less than its share: a card
 --   that sends one to the newest frame meets demand 3 (`sends-to-newest-meets`). `Soon` and `SoonAhead` in Delay.antt see the frame, and what is built on
 --   them sees when a tile comes up on several links (SeveralLinks.antt) and from a source (Source.antt);
+-- - that a stream's slots come in the order of its requests: `BooksInOrder` and `SharesInOrder` (SharesOfCells.antt) say when they do;
 -- - credits refused that should be taken, and credits taken that should be refused with 8, 13 or 14 (of a position p of T or more it counts p
---   modulo T);
+--   modulo T). A card that refuses every credit meets demand 3, and is prompt and soon (`keeping-meets`). `CreditTaken` in TakenCredits.antt sees both;
 -- - requests refused to a stream that lapsed once: in some frame it was not refused, so that a stream that asks for less than its share has no least
 --   count from the next frame on; or once it asked with all of its cells held in a slot from the current one on, as flow 0 does in the listing's
 --   third call; or once it asked for a tile that had not come, or with another number than the expected one. A card that gives a flow 12
 --   after its first 12 until a reset is granted meets demand 3 (`stays-refused-meets`), and so does one that refuses whenever the tile has not come.
---   `Prompt` in Delay.antt sees such refusals of timely requests, and SharesOfCells.antt and SharesAhead.antt say with how many cells a stream has none;
+--   `Prompt` in Delay.antt sees such refusals of requests that fit the newest frame, and SharesOfCells.antt and SharesAhead.antt say with how many cells a
+--   stream has none;
 -- - words granted with another number than the expected one (`QuantumNumbers.antt` says which numbers granted words carry);
 -- - whose turn it is to be lent to: fairness says that (Fairness.antt);
 -- - lends refused that should be answered, and with which number; a mark that stands past the tick, or that a refused lend sets; a lent slot booked in

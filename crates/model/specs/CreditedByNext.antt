@@ -17,7 +17,7 @@ use Rattle.model.specs.TwoHops.{InStep}
 use Rattle.model.specs.Delay.{currentFrame, madeIn}
 use Rattle.model.specs.SeveralLinks.{Together, Board, planOn, OnTime}
 use Rattle.model.specs.EnoughCells.{returns}
-use Rattle.model.specs.SharesOfCells.{GivenBack}
+use Rattle.model.specs.SharesOfCells.{GivenBack, EachGrantedNow}
 use Rattle.model.specs.LinksOnArrival.{AsksOnArrival}
 use Rattle.model.specs.Source.{InTimeFromSource}
 
@@ -89,7 +89,8 @@ pub record ModestFirst (P : Plan) (i : ℕ) (h : History) : Type 0 where
 -- That the paper's card keeps both is `over-links-by-credits` and `from-source-by-credits`, in proofs/CreditedByNext.antt.
 abbrev pub OverLinksByCredits : Card → Type 0
 OverLinksByCredits c =
-    (late : ℕ) (a : Board c) (rest : List (Board c)) → WayByCredits late a rest → OnTime (ModestFirst (planOn a) (a .stream) (a .events)) a rest
+    (late : ℕ) (a : Board c) (rest : List (Board c)) → WayByCredits late a rest
+    → OnTime (ModestFirst (planOn a) (a .stream) (a .events)) (EachGrantedNow (planOn a) (a .stream) (a .events)) a rest
 
 abbrev pub FromSourceByCredits : Card → Type 0
 FromSourceByCredits c =

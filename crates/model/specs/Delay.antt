@@ -3,8 +3,8 @@
 --
 -- Two promises, of every list of calls:
 -- - prompt: a flow with fewer than its share of grants made in this frame is granted its next request, if that carries its number, names a tile that is
---   due before the newest frame, and has room from the frame after the due one on. Nothing is asked of its past. A request that is `Ready`, as the least
---   count asks, is one of these (`ready-timely`).
+--   due before the newest frame, and has room in the newest frame and later. Nothing is asked of its past. A request that is `Ready`, as the least count
+--   asks, is one of these, and so is one that is timely (`ready-timely`, `timely-fits`).
 -- - soon: the grants of a flow that is modest fall in the frame in which the tile is due or in the next one, fewer than 2 × F slots after it, however
 --   many frames the window has.
 -- Both count since the last granted reset, as the most and the least do.
@@ -12,8 +12,9 @@
 -- Their limits:
 -- - A flow with a request that is not timely is modest only after the next granted reset: such a request may move its frame on to the newest, where it
 --   stays as long as the flow asks for its share in each frame (`stays-late`).
--- - Which slot of the frame is granted is not said, nor that slots come in the order of the requests.
+-- - Which slot of the frame is granted is not said, nor that slots come in the order of the requests: BooksInOrder.antt and SharesOfCells.antt say when.
 -- - Room is a premise. EnoughCells.antt says how many cells give it, and SeveralLinks.antt what follows over several links.
+-- - That a credit is taken, so that a cell falls free, is said in TakenCredits.antt.
 use Prim.Native.Nat.{ℕ, _+_, _-_, _*_, _≤_, _<_}
 use mathlib.Core.Path.{_≡_}
 use mathlib.Core.List.{List, _∷_, []}
@@ -80,12 +81,18 @@ RoomFrom P i s h = (r : ℕ) → s ≤ r → grantedUpTo P h i r + lentUpTo h i 
 abbrev pub nextFrameOf : Plan → ℕ → ℕ
 nextFrameOf P s = (frameOf P s + 1) * P .slots
 
--- Flow i has a cell free in every slot from the frame after the due one on; its word carries the expected number; and the tile is due before the newest
--- frame.
-pub record Timely (P : Plan) (i w : ℕ) (h : History) : Type 0 where
-  pub room : RoomFrom P i (nextFrameOf P (dueSlot P w h)) h
+-- Flow i has a cell free in every slot from slot s on; its word carries the expected number; and the tile is due before the newest frame.
+pub record TimelyFrom (s : ℕ) (P : Plan) (i w : ℕ) (h : History) : Type 0 where
+  pub room : RoomFrom P i s h
   pub number : quantumOf w ≡ expectedNumber P h i
   pub in-time : dueFrame P w h < newestFrame P h
+
+-- so from the frame after the due one on, which soon asks; and from the newest frame on, which is less (`timely-fits`) and all that prompt asks
+abbrev pub Timely : Plan → (i w : ℕ) → History → Type 0
+Timely P i w h = TimelyFrom (nextFrameOf P (dueSlot P w h)) P i w h
+
+abbrev pub FitsNewest : Plan → (i w : ℕ) → History → Type 0
+FitsNewest P i w h = TimelyFrom (newestFrame P h * P .slots) P i w h
 
 -- Q holds of the asked word and its answer, where the event is a request.
 abbrev pub AtAnswer : (ℕ → Grant → History → Type 0) → Event → History → Type 0
@@ -116,7 +123,7 @@ PromptBy Q more c = (bytes : List ℕ) → refusal bytes ≡ 0 → (calls : List
 
 -- That the paper's card is prompt is `prompt`, in proofs/Prompt.antt.
 abbrev pub Prompt : Card → Type 0
-Prompt = PromptBy Timely 0
+Prompt = PromptBy FitsNewest 0
 
 -- ---- soon
 
@@ -161,7 +168,8 @@ SoonBy Q more c =
     (bytes : List ℕ) → refusal bytes ≡ 0 → (calls : List Call) (i : ℕ) → i < flowCount (planOf bytes)
     → SoonOn Q more (planOf bytes) i (run c (planOf bytes) calls .history)
 
--- A word may run ahead of its tile. That the paper's card keeps it is `soon-ahead`, in proofs/Soon.antt.
+-- A word may run ahead of its tile; where each tile has come, it is due in the slot of its request, and this is all that is said of those too. That the
+-- paper's card keeps it is `soon-ahead`, in proofs/Soon.antt.
 abbrev pub SoonAhead : Card → Type 0
 SoonAhead = SoonBy TimelyInOrder 0
 
@@ -183,8 +191,9 @@ GrantedSoonAt P i = AtGrant (λ w v h. flowOf w ≡ i → GrantedSoon P (slotAft
 abbrev pub SoonOnArrivalOn : Plan → ℕ → History → Type 0
 SoonOnArrivalOn P i h = ModestOnArrival P i h → EachSince (GrantedSoonAt P i) h
 
--- That the paper's card keeps it is `soon`, in proofs/SoonOnArrival.antt. Its requests that are refused are those made after its share in their frame,
--- since it is prompt.
+-- It asks more than `SoonAhead` does of a flow whose tiles have come: room from the current slot on at each request, as the least count asks, where
+-- `SoonAhead` asks for room from the next frame on. That the paper's card keeps it is `soon`, in proofs/SoonOnArrival.antt. Its requests that are refused
+-- are those made after its share in their frame, since it is prompt.
 abbrev pub Soon : Card → Type 0
 Soon c =
     (bytes : List ℕ) → refusal bytes ≡ 0 → (calls : List Call) (i : ℕ) → i < flowCount (planOf bytes)

@@ -3,7 +3,8 @@
 --
 -- Its cells are given back in time if, whenever it asks, the credits that are dated up to the end of the next frame after a slot that is gone are at
 -- least its grants up to that slot. So it is where the cell of each tile is credited in the slot in which the tile comes up, dated a slot of that frame
--- or the next (`CreditsEachTile`). A stream is lent nothing here, and no reset is granted.
+-- or the next (`CreditsEachTile`). A stream is lent nothing here, and no reset is granted. So has one that asks ahead, where each cell is credited at the
+-- grant.
 use Prim.Native.Nat.{ℕ, _+_, _-_, _*_, _≤_, _<_}
 use mathlib.Core.Path.{_≡_}
 use mathlib.Core.List.{List, _∷_, [], _++_}
@@ -17,7 +18,7 @@ use Rattle.model.specs.History.{ticks, slotAfter, frameOf, wellFormed, h
 use Rattle.model.specs.History.{expectedNumber}
 use Rattle.model.specs.Claim.{Each, AtRequest, ReadyAt}
 use Rattle.model.specs.Card.{Card, run}
-use Rattle.model.specs.Delay.{madeIn}
+use Rattle.model.specs.Delay.{madeIn, RoomFrom, AsksAt}
 
 -- the last slot of frame f
 abbrev pub lastOf : Plan → ℕ → ℕ
@@ -80,3 +81,28 @@ EnoughCellsBy short c =
 -- That the paper's card keeps it is `enough-cells`, in proofs/EnoughCells.antt.
 abbrev pub EnoughCells : Card → Type 0
 EnoughCells = EnoughCellsBy 0
+
+-- ---- where each cell is credited at the grant
+
+-- After h the cells of all slots that flow i was granted, those to come too, fall free by the end of the frame after theirs. So it is where each grant is
+-- passed on to the next board at once: that grants the tile a slot of the same frame or the next, and the cell is credited then, dated that slot.
+abbrev pub CreditedAtOnce : Plan → ℕ → History → Type 0
+CreditedAtOnce P i h = (s : ℕ) → grantedUpTo P h i s ≤ creditedUpTo P h i (lastOf P (frameOf P s + 1))
+
+-- It is so at each request of the stream, and two shares are fewer than its cells, and `short`. However far ahead it asks, and whatever for, is left open.
+pub record GivesBackAtOnce (short : ℕ) (P : Plan) (i : ℕ) (h : History) : Type 0 where
+  pub asks : Each (AtRequest (λ w h. wellFormed P w ≡ true → flowOf w ≡ i → CreditedAtOnce P i h)) h
+  pub cells-at-once : 2 * entry P i .share < entry P i .cells + short
+  pub not-lent : tally (ofFlow i) (lends h) ≡ 0
+  pub no-reset : tally renews h ≡ 0
+
+-- Then it has room in every slot at each request, which is what prompt and soon ask of it.
+abbrev pub EnoughAtOnceBy : (short : ℕ) → Card → Type 0
+EnoughAtOnceBy short c =
+    (bytes : List ℕ) → refusal bytes ≡ 0 → (calls : List Call) (i : ℕ) → i < flowCount (planOf bytes)
+    → GivesBackAtOnce short (planOf bytes) i (run c (planOf bytes) calls .history)
+    → Each (AsksAt (λ P i w h. RoomFrom P i 0 h) (planOf bytes) i) (run c (planOf bytes) calls .history)
+
+-- That the paper's card keeps it is `enough-at-once`, in proofs/CellsAtOnce.antt.
+abbrev pub EnoughAtOnce : Card → Type 0
+EnoughAtOnce = EnoughAtOnceBy 0

@@ -79,7 +79,8 @@ module _ (left : Leaving) where
 
 -- ---- what follows on the second board
 
--- Every request is granted, and each tile comes up at the latest in the frame after the one in which it left the first.
+-- Every request is granted, and each tile comes up at the latest in the frame after the one in which it left the first. Tiles are told by number: grant
+-- number n on the second board is of tile n, as it is where they are asked for in order.
 pub record NextInTime (left : Leaving) (P Q : Plan) (i j : ℕ) (h₁ h₂ : History) : Type 0 where
   pub granted : Each (AtAnswer (λ w x h. wellFormed Q w ≡ true → flowOf w ≡ j → IsGranted x)) h₂
   pub frames-later : (n : ℕ) → n < length (sentSlots Q h₂ j) → frameOf Q (tile n (sentSlots Q h₂ j)) ≤ frameOf P (tile n (left P h₁ i)) + 1
@@ -90,14 +91,14 @@ SharesKept share₁ share₂ = share₁ ≤ share₂
 abbrev pub NoReset : History → Type 0
 NoReset h = tally renews h ≡ 0
 
--- Of any two boards in step, whose shares are as S says and whose events are as N says, and on which the stream asks as A says. That the paper's card keeps
--- it with nothing left out is `two-boards`, in proofs/LessJoined.antt.
-abbrev pub TwoBoardsBy : (S : (share₁ share₂ : ℕ) → Type 0) (N : History → Type 0) (left : Leaving) (A : Joining) → Card → Type 0
-TwoBoardsBy S N left A c =
-    (bytes₁ bytes₂ : List ℕ) → refusal bytes₁ ≡ 0 → refusal bytes₂ ≡ 0 → InStep (planOf bytes₁) (planOf bytes₂)
+-- Of any two boards whose plans are as I says, whose shares are as S says and whose events are as N says, and on which the stream asks as A says. That the
+-- paper's card keeps it with nothing left out is `two-boards`, in proofs/LessJoined.antt.
+abbrev pub TwoBoardsBy : (I : (P Q : Plan) → Type 0) (S : (share₁ share₂ : ℕ) → Type 0) (N : History → Type 0) (left : Leaving) (A : Joining) → Card → Type 0
+TwoBoardsBy I S N left A c =
+    (bytes₁ bytes₂ : List ℕ) → refusal bytes₁ ≡ 0 → refusal bytes₂ ≡ 0 → I (planOf bytes₁) (planOf bytes₂)
     → (i j : ℕ) → i < flowCount (planOf bytes₁) → j < flowCount (planOf bytes₂) → S (entry (planOf bytes₁) i .share) (entry (planOf bytes₂) j .share)
     → (h₁ h₂ : History) → Ran c (planOf bytes₁) h₁ → Ran c (planOf bytes₂) h₂ → N h₁ → N h₂
     → Together (planOf bytes₁) (planOf bytes₂) i j (A (planOf bytes₁) (planOf bytes₂) i j) h₁ h₂ → NextInTime left (planOf bytes₁) (planOf bytes₂) i j h₁ h₂
 
 abbrev pub TwoBoards : Card → Type 0
-TwoBoards = TwoBoardsBy SharesKept NoReset sentSlots (AllAsked sentSlots)
+TwoBoards = TwoBoardsBy InStep SharesKept NoReset sentSlots (AllAsked sentSlots)

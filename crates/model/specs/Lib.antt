@@ -33,17 +33,18 @@ pub mod Fairness
 pub mod TwoRuns
 pub mod Outlines
 pub mod LessAsked
+pub mod TakenCredits
 pub mod Delay
 pub mod LessTimely
 pub mod SeveralLinks
 pub mod LessJoined
 pub mod EnoughCells
+pub mod BooksInOrder
 pub mod SharesOfCells
 pub mod SharesAhead
 pub mod LinksOnArrival
 pub mod Source
 pub mod CreditedByNext
-pub mod BooksInOrder
 pub mod Ahead
 pub mod AheadRuns
 pub mod Sendings
@@ -71,4 +72,5 @@ pub mod BadResets
 pub mod BadTurns
 pub mod BadNumbers
 pub mod BadDelays
+pub mod BadCredits
 pub mod BadSendings

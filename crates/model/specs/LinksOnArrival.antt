@@ -12,7 +12,7 @@ use Rattle.model.specs.History.{ticks, lends, ofFlow, expectedNumber}
 use Rattle.model.specs.Card.{Card}
 use Rattle.model.specs.TwoHops.{InStep}
 use Rattle.model.specs.SeveralLinks.{sentSlots, nextTile, nextSlot, Together, Board, planOn, OnTime}
-use Rattle.model.specs.SharesOfCells.{GivenBack, KeepsShares}
+use Rattle.model.specs.SharesOfCells.{GivenBack, KeepsShares, EachGrantedNow}
 
 -- After h₁ and h₂ word w asks on the second board for flow j's next tile, in the slot in which it comes up on the first; its cells there are given back as
 -- G says.
@@ -39,8 +39,9 @@ abbrev pub WayOnArrival : {c : Card} → Board c → List (Board c) → Type 0
 WayOnArrival a [] = Unit {0}
 WayOnArrival a (b ∷ rest) = JoinedOnArrival a b × WayOnArrival b rest
 
--- Where the stream keeps such shares of cells on the first board too, it is modest there. That the paper's card keeps it is `over-links-on-arrival`, in
--- proofs/LinksOnArrival.antt.
+-- Where the stream keeps such shares of cells on the first board too, it is modest there, and each request there is granted too. That the paper's card
+-- keeps it is `over-links-on-arrival`, in proofs/LinksOnArrival.antt.
 abbrev pub OverLinksOnArrival : Card → Type 0
 OverLinksOnArrival c =
-    (late : ℕ) (a : Board c) (rest : List (Board c)) → WayOnArrival a rest → OnTime (KeepsShares late 0 (planOn a) (a .stream) (a .events)) a rest
+    (late : ℕ) (a : Board c) (rest : List (Board c)) → WayOnArrival a rest
+    → OnTime (KeepsShares late 0 (planOn a) (a .stream) (a .events)) (EachGrantedNow (planOn a) (a .stream) (a .events)) a rest

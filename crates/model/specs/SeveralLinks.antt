@@ -6,8 +6,8 @@
 -- while that slot is in the newest frame. Where each request has its number, and room from the frame after that slot's on:
 -- - every request on the later boards is granted;
 -- - a tile that comes up on the first board in frame f comes up on board m in frame f + m - 1 at the latest;
--- - if the stream is modest on the first board, a tile that is due there in frame a comes up on board m in frame a + m at the latest, so fewer than
---   (m + 1) × F slots after it is due.
+-- - if the stream is modest on the first board, each request there is granted, unless the whole share is due already in the frame of its tile, and a tile
+--   that is due there in frame a comes up on board m in frame a + m at the latest, so fewer than (m + 1) × F slots after it is due.
 -- A link adds a frame, and not two, because no more than the share of a stream is due in a frame of the next link.
 use Prim.Native.Nat.{ℕ, _+_, _*_, _%_, _≤_, _<_}
 use mathlib.Core.Path.{_≡_}
@@ -23,7 +23,7 @@ use Rattle.model.specs.History.{ticks, frameOf, wellFormed, renews, Mark
 use Rattle.model.specs.Claim.{Each, AtRequest}
 use Rattle.model.specs.Card.{Card, run}
 use Rattle.model.specs.TwoHops.{InStep}
-use Rattle.model.specs.Delay.{newestFrame, dueSlot, grantBy, RoomFrom, nextFrameOf, AtAnswer, IsGranted, TimelyInOrder, Modest}
+use Rattle.model.specs.Delay.{newestFrame, dueSlot, grantBy, RoomFrom, nextFrameOf, AtAnswer, IsGranted, TimelyInOrder, Modest, ServedAt}
 
 -- ---- a stream's tiles on one board
 
@@ -151,14 +151,18 @@ abbrev pub EachGranted : {c : Card} → List (Board c) → Type 0
 EachGranted [] = Unit {0}
 EachGranted (b ∷ rest) = AllGranted b × EachGranted rest
 
--- The stream is on time on its way from board a; M says that it is modest there.
-pub record OnTime {c : Card} (M : Type 0) (a : Board c) (rest : List (Board c)) : Type 0 where
+-- The stream is on time on its way from board a; M says that it is modest there, and S how its requests are then served there.
+pub record OnTime {c : Card} (M S : Type 0) (a : Board c) (rest : List (Board c)) : Type 0 where
   pub granted : EachGranted rest
+  pub served : M → S
   -- a link adds a frame to the one in which a tile comes up on the first, whatever the stream does there
   pub from-first : EachWithin 1 (planOn a) (sentOn a) rest
   -- and to the one in which it is due on the first
   pub from-due : M → EachWithin 1 (planOn a) (dueOn a) (a ∷ rest)
 
--- That the paper's card keeps it is `over-links`, in proofs/SeveralLinks.antt.
+-- Each request on the first board is granted in time, unless the whole share is due already in the frame in which its tile is. That the paper's card keeps
+-- it is `over-links`, in proofs/SeveralLinks.antt.
 abbrev pub OverLinks : Card → Type 0
-OverLinks c = (a : Board c) (rest : List (Board c)) → Way a rest → OnTime (Modest TimelyInOrder 0 (planOn a) (a .stream) (a .events)) a rest
+OverLinks c =
+    (a : Board c) (rest : List (Board c)) → Way a rest
+    → OnTime (Modest TimelyInOrder 0 (planOn a) (a .stream) (a .events)) (Each (ServedAt (planOn a) (a .stream)) (a .events)) a rest

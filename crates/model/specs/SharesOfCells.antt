@@ -21,6 +21,7 @@ use Rattle.model.specs.Claim.{Each, AtRequest}
 use Rattle.model.specs.Card.{Card, run}
 use Rattle.model.specs.Delay.{currentFrame, madeIn, AtAnswer, GrantedSoon}
 use Rattle.model.specs.EnoughCells.{lastOf, returns, inSlot}
+use Rattle.model.specs.BooksInOrder.{AfterThoseAt}
 
 -- ---- how late cells are given back
 
@@ -81,3 +82,17 @@ TwoShares = SharesOfCellsBy 0 0
 
 abbrev pub ThreeShares : Card → Type 0
 ThreeShares = SharesOfCellsBy 1 0
+
+-- ---- and in order
+
+-- Each slot that the stream is granted comes after those that it was granted before, so that its tiles come up in the order in which it asked for them. Room
+-- may be missing only in a frame of which the stream has its whole share. That the paper's card keeps it, however late, is `shares-in-order`, in
+-- proofs/SharesInOrder.antt.
+abbrev pub SharesInOrderBy : (late short : ℕ) → Card → Type 0
+SharesInOrderBy late short c =
+    (bytes : List ℕ) → refusal bytes ≡ 0 → (calls : List Call) (i : ℕ) → i < flowCount (planOf bytes)
+    → KeepsShares late short (planOf bytes) i (run c (planOf bytes) calls .history)
+    → Each (AfterThoseAt (planOf bytes) i) (run c (planOf bytes) calls .history)
+
+abbrev pub SharesInOrder : Card → Type 0
+SharesInOrder c = (late : ℕ) → SharesInOrderBy late 0 c
