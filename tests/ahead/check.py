@@ -22,8 +22,10 @@ SENT, SAME_WORD, BOTH_REFUSED = (
 OTHER_NUMBER, TO_COME = "refused with two numbers", "asked ahead, granted"
 TAKEN, NOT_TAKEN, BOTH_LENT = (
     "credits taken", "credits refused in both", "lent in both")
+AFRESH, NOT_AFRESH = "resets granted in both", "resets refused in both"
+AFTER_RESET = "sent ahead after a granted reset"
 WAYS = (SENT, SAME_WORD, BOTH_REFUSED, OTHER_NUMBER, TO_COME, TAKEN,
-        NOT_TAKEN, BOTH_LENT)
+        NOT_TAKEN, BOTH_LENT, AFRESH, NOT_AFRESH, AFTER_RESET)
 
 
 class Verdict:
@@ -125,6 +127,7 @@ class Judge:
         wrong = self.sending.ahead(flow, position)
         self.must_not(wrong)
         self.verdict.ways[SENT] += 1
+        self.verdict.ways[AFTER_RESET] += bool(self.verdict.ways[AFRESH])
         self.verdict.flows.add(flow)
 
     def request(self, one, other):
@@ -175,7 +178,13 @@ class Judge:
         self.must_not(self.sending.tick(owner))
 
     def reset(self, one, other):
-        raise Fault("a reset")
+        """Nothing is asked for: each slot that was sent ahead is booked, so
+        that none is to come where a reset is granted."""
+        self.must((one.letter, one.number) == (other.letter, other.number),
+                  "a reset is answered with %s and %s" % (
+                      " ".join(filter(None, (one.letter, one.number))),
+                      " ".join(filter(None, (other.letter, other.number)))))
+        self.verdict.ways[AFRESH if one.letter == "Z" else NOT_AFRESH] += 1
 
 
 def judge(first, second, left_out=(), in_order=True):

@@ -2,7 +2,8 @@
 fault; right ones, which it must not; and pairs that break one premise."""
 
 from ahead.check import (
-    BOTH_REFUSED, LENT, OTHER_NUMBER, SAME_WORD, SENT, TAKEN, TO_COME, judge)
+    AFRESH, AFTER_RESET, BOTH_REFUSED, LENT, NOT_AFRESH, OTHER_NUMBER,
+    SAME_WORD, SENT, TAKEN, TO_COME, judge)
 from edges import ahead as edges
 from edges.ahead import (
     BASE, ONE_AND_EIGHT, TWO, WITNESS, sent, with_pair)
@@ -44,7 +45,11 @@ WRONG = [
     (moved("a call more", [], (ask(0), "G 4")), "not aligned"),
     (moved("another credit", [(credit(0, 4), "C")], (credit(0, 5), "C")),
      "not aligned"),
-    (moved("a reset", [(RESET, "R 23")], (RESET, "R 23")), "a reset"),
+    (moved("a reset in the first run alone", [(RESET, "Z")],
+           (RESET, "R 23")), "a reset is answered with Z and R 23"),
+    (moved("a reset in the second run alone", [(RESET, "R 23")],
+           (RESET, "Z")), "a reset is answered with R 23 and Z"),
+    (moved("a reset less", [(RESET, "R 23")], *[]), "not aligned"),
     (moved("an answer of another call", ticks(0), (TICK, "C")),
      "answered 'C'"),
     # A second pair in slot 0, as a link without its mark would answer.
@@ -61,6 +66,8 @@ WRONG = [
     (edges.OUT_OF_ORDER, "the tile of slot 2 out of order"),
     (edges.NOT_COME, "the tile of slot 3 before it comes"),
     (edges.TWICE, "the tile of slot 4 twice"),
+    (edges.DUE_LATER, "the tile of slot 5 before it comes"),
+    (edges.BEFORE_A_RESET, "slot 3, which is not its own"),
 ]
 
 # With what is counted.
@@ -69,6 +76,8 @@ RIGHT = [
     (edges.NUMBERS, {SENT: 1, SAME_WORD: 4, TO_COME: 2, TAKEN: 2,
                      BOTH_REFUSED: 1, OTHER_NUMBER: 1}),
     (edges.BOTH_FLOWS, {SENT: 2, SAME_WORD: 3}),
+    (edges.WITH_RESET, {SENT: 2, SAME_WORD: 3, TAKEN: 1, AFRESH: 1,
+                        NOT_AFRESH: 1, AFTER_RESET: 1}),
     (with_pair("a refused lend in one run", BASE, TWO, [(lend(0), "R 18")],
                []), {SAME_WORD: 2, TAKEN: 1}),
     (with_pair("the same run twice", ONE_AND_EIGHT, [(ask(0), "G 1")], [],
@@ -103,9 +112,9 @@ def premise_needed(pair):
             else "not sent back without it: %r" % faults)
 
 
-def lent_alone():
+def lent_alone(pair):
     """A lend that is no pair is not judged, and counted."""
-    verdict = judge(*edges.LENT_ONLY.runs())
+    verdict = judge(*pair.runs())
     return (None if verdict.broken == LENT and not verdict.faults
             else "%r, %r" % (verdict.faults, verdict.broken))
 
@@ -135,5 +144,6 @@ def missed():
         yield pair.name, passed(pair, ways)
     for pair in edges.PREMISES:
         yield "the premise is needed: " + pair.name, premise_needed(pair)
-    yield "ahead, lent alone", lent_alone()
+    for pair in edges.LENT_ONLY, edges.OTHER_CREDITED:
+        yield "not judged: " + pair.name, lent_alone(pair)
     yield "ahead, in any order", in_any_order()

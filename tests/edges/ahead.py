@@ -1,18 +1,21 @@
 """Edges in pairs, for allcalls: runs from one plan, the second with tiles sent
 ahead of their booked slots by a lend and a credit.
 
-The first ones meet the premises of rule 24.5; two break one each, and bookings
-move; and the last send what may not be sent.
+The first ones meet the premises of rule 24.5; the next break one each, and
+bookings move or tiles leave out of order; and the last send what may not be
+sent.
 """
 
 from ahead.check import ALONE, ORDER
-from edges.edge_maker import BASE, ask, credit, lend, plan
+from edges.edge_maker import BASE, RESET, ask, credit, lend, plan
 from edges.pairs import Pair, ticks
 
 LONG_FRAMES = plan(8, 2, (3, 1))
 ONE_AND_EIGHT = plan(4, 2, (2, 1), (2, 8))
 THIN = plan(2, 4, (1, 4))
 THREE_CELLS = plan(4, 2, (2, 3), (2, 3))
+TWO_CELLS = plan(8, 2, (4, 2))
+ONE_EACH = plan(4, 2, (1, 2), (1, 2))
 
 
 def sent(position, flow=0):
@@ -51,6 +54,15 @@ BOTH_FLOWS = with_pair(
     [*ticks(0, 1, "-"), (ask(0), "G 4"), *ticks(0)],
     *sent(2, 1), *ticks(0, 1, "-"), (ask(0), "G 4"), *sent(4), *ticks(0))
 
+# Slot 1 is sent in slot 0.  In slot 2 its cell has come back, and a reset is
+# granted in both; then slot 3 is booked, and sent in slot 2.
+QUIET = [(RESET, "R 23"), (credit(0, 2), "C"), *ticks(0, "-"), (RESET, "Z"),
+         (ask(0), "G 3")]
+WITH_RESET = with_pair(
+    "a reset in both", BASE, [(ask(0), "G 1")], sent(1),
+    [*QUIET, *ticks(0), (ask(1), "G 4")],
+    *QUIET, *sent(3), *ticks(0), (ask(1), "G 4"))
+
 # The flow has slots 1 and 5, and one cell, which falls free in slot 2.  With
 # slot 5 sent in slot 2 it is full up to slot 4: slot 6 for slot 3.
 NOT_IN_ORDER = with_pair(
@@ -68,6 +80,27 @@ TAKEN_ALONE = with_pair(
     (credit(0, 1), "C"), (ask(0), "G 3"), (ask(0), "G 4"),
     broken=ALONE, says="is answered with R 12 and G 4")
 
+# The same credit, and both flows have room at each request.  In slot 2 the
+# second run alone holds nothing, and is granted a reset: flow 1, whose share
+# of frame 0 was spent, books slot 3 of it, and in the first run slot 4.
+RENEWED_ALONE = with_pair(
+    "a reset after a credit taken in the second run alone", ONE_EACH,
+    [(ask(1), "G 1"), (ask(0), "G 2")], sent(2),
+    [(credit(0, 1), "R 15"), (credit(1, 2), "C"), *ticks(1, 0),
+     (RESET, "R 23"), (ask(1), "G 4")],
+    (credit(0, 1), "C"), (credit(1, 2), "C"), *ticks(1, 0),
+    (RESET, "Z"), (ask(1), "G 3"),
+    broken=ALONE, says="a reset is answered with R 23 and Z")
+
+# The flow has slots 1, 2 and 5, the last booked while slots 2 to 4 were full.
+# It sends slot 5 in slot 3, and books slot 4 when a cell falls free there.
+LATER_FIRST = with_pair(
+    "an earlier slot after one sent ahead", TWO_CELLS,
+    [(ask(0), "G 1"), (ask(0), "G 2"), (credit(0, 5), "C"), (ask(0), "G 5"),
+     (credit(0, 3), "C"), *ticks(0, 0, "-")], sent(5),
+    [(credit(0, 4), "C"), (ask(0), "G 4"), *ticks(0)],
+    broken=ORDER, says="the tile of slot 4 out of order")
+
 # A lend without its credit, of which the first run has none.
 LENT_ONLY = with_pair("lent only", BASE, TWO, [(lend(1), "L 0")], [])
 CREDITED_ONLY = with_pair("credited only", BASE, TWO, [(credit(0, 2), "C")],
@@ -83,9 +116,25 @@ ANOTHERS = with_pair(
     "of a slot that another flow booked", BASE, [*TWO, (ask(1), "G 3")],
     sent(3), [])
 
-RIGHT = [WITNESS, NUMBERS, BOTH_FLOWS]
-PREMISES = [NOT_IN_ORDER, TAKEN_ALONE]
+# The lend is answered with flow 0, and the credit is of flow 1.
+OTHER_CREDITED = with_pair(
+    "lent to one flow, credited to another", BASE, [*TWO, (ask(1), "G 3")],
+    [(lend(1), "L 0"), (credit(1, 3), "C")], [])
+# A tile that comes in slot 4 has slot 5.  Sent in slot 0, it fills slots 2 to
+# 4: slot 6 for slot 2.
+DUE_LATER = with_pair(
+    "before it comes, and a request", TWO_CELLS,
+    [(ask(0), "G 1"), (credit(0, 5), "C"), (ask(0, departure=4), "G 5")],
+    sent(5), [(ask(0), "G 2")], (ask(0), "G 6"))
+# In slot 2 all is quiet but for what the pair holds up to slot 3.
+BEFORE_A_RESET = with_pair(
+    "of a slot that is not booked, before a reset", ONE_EACH,
+    [(ask(1), "G 1"), (credit(1, 2), "C"), *ticks(1, "-")], sent(3),
+    [(RESET, "Z"), (ask(1), "G 3")], (RESET, "R 23"), (ask(1), "G 4"))
+
+RIGHT = [WITNESS, NUMBERS, BOTH_FLOWS, WITH_RESET]
+PREMISES = [NOT_IN_ORDER, TAKEN_ALONE, RENEWED_ALONE, LATER_FIRST]
 BAD = [LENT_ONLY, CREDITED_ONLY, OF_NOTHING, OUT_OF_ORDER, NOT_COME, TWICE,
-       ANOTHERS]
+       ANOTHERS, OTHER_CREDITED, DUE_LATER, BEFORE_A_RESET]
 EDGES = [run for pair in RIGHT + PREMISES + BAD
          for run in (pair.first, pair.second)]

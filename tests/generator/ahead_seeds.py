@@ -7,22 +7,24 @@ from generator.dice import Dice
 from generator.traffic.over_links import Way
 
 # The most slots of a frame, frames of the window, links and frames played;
-# the fewest cells and how many more, in shares; and whether premises are left
-# to chance.
+# the fewest cells and how many more, in shares; whether premises are left to
+# chance; and whether links fall quiet and are reset.
 Kind = namedtuple("Kind", "most_slots most_frames most_links frames cells "
-                  "careless")
+                  "careless resets")
 
 KINDS = {
-    "one link": Kind(8, 4, 1, 12, (2, 2), False),
-    "several links": Kind(6, 3, 4, 12, (2, 2), False),
-    "few cells": Kind(5, 4, 3, 12, (0, 2), False),
-    "many cells": Kind(12, 3, 2, 8, (3, 4), False),
-    "careless": Kind(9, 3, 2, 12, (0, 1), True),
+    "one link": Kind(8, 4, 1, 12, (2, 2), False, False),
+    "several links": Kind(6, 3, 4, 12, (2, 2), False, False),
+    "few cells": Kind(5, 4, 3, 12, (0, 2), False, False),
+    "many cells": Kind(12, 3, 2, 8, (3, 4), False, False),
+    "careless": Kind(9, 3, 2, 12, (0, 1), True, False),
+    "resets": Kind(6, 3, 2, 8, (1, 2), False, True),
+    "resets, few cells": Kind(5, 4, 1, 8, (0, 2), False, True),
 }
 
 # The kinds of seeds 0, 1, 2 and so on, which then begin again.
-ORDER = ("one link", "several links", "few cells", "several links",
-         "many cells", "several links", "one link", "few cells",
+ORDER = ("one link", "several links", "few cells", "resets",
+         "many cells", "several links", "resets, few cells", "few cells",
          "several links", "careless")
 
 

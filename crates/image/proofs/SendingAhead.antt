@@ -13,8 +13,8 @@ use Rattle.model.specs.Card.{Played, paper, step, play, started, run}
 use Rattle.model.specs.Delay.{AsksAt}
 use Rattle.model.specs.TwoRuns.{Aligned, AsksUntil11, SameFrames}
 use Rattle.model.specs.BooksInOrder.{InTurn, InOrder}
-use Rattle.model.specs.AheadRuns.{WithAhead, GrantsAfter, NoneTakenAlone, OfBooked, SendersInTurn, BookedAlike}
-use Rattle.model.specs.Sendings.{Sending, EachReady, SentWell, sendingOf, FirstFirst, LeaveInOrder, SendersInTurnThere}
+use Rattle.model.specs.AheadRuns.{WithAhead, GrantsAfter, ResetsAfter, NoneTakenAlone, OfBooked, SendersInTurn, BookedAlike}
+use Rattle.model.specs.Sendings.{Sending, EachReady, SentWell, sendingOf, FirstFirst, LentOnlyAhead, LeaveInOrder, SendersHaveRoom, SendersHaveRoomThere, SendersInTurnThere}
 use Rattle.model.proofs.CountedBursts.{play-both}
 use Rattle.model.proofs.Demand3.{meets}
 use Rattle.model.proofs.SameFrames.{same-frames}
@@ -25,7 +25,7 @@ use Rattle.model.proofs.AheadInTurn.{in-turn-nobody-moves}
 use Rattle.model.proofs.Sendings.{sends-well}
 use Rattle.model.proofs.SendsAhead.{sends-ahead}
 use Rattle.model.proofs.AheadInOrder.{ahead-in-order}
-use Rattle.model.proofs.InTurnWithout.{in-turn-without}
+use Rattle.model.proofs.InTurnWithout.{room-without, in-turn-without}
 use Rattle.images.specs.Exports.{HandsBack, calledOn, creditOn, lendOn}
 use Rattle.images.specs.Chain.{answerOf, imageIn, goes-on}
 use Rattle.images.proofs.Chain.{chain-follows}
@@ -100,21 +100,27 @@ module _ (plan : List ℕ) where
   host-ready-in-order = has (λ h. (i : ℕ) → i < flowCount P → EachSince (ReadyAt P i) h → EachSince (AsksAt InTurn P i) h) (ready-in-order plan)
 
   -- never early, never late, never over, one to a slot
-  pub host-sends-well : {h : History} {b : List ℕ} → Hosted plan h b → (x : Sending h) → EachReady P x → SentWell P x
-  host-sends-well = has (λ h. (x : Sending h) → EachReady P x → SentWell P x) (sends-well paper meets plan)
+  pub host-sends-well : {h : History} {b : List ℕ} → Hosted plan h b → (x : Sending h) → SentWell P x
+  host-sends-well = has (λ h. (x : Sending h) → SentWell P x) (sends-well paper meets plan)
 
   -- ---- beside a run without any
 
   pub host-nobody-moves : {h₁ h₂ : History} {b₁ b₂ : List ℕ} → Hosted plan h₁ b₁ → Hosted plan h₂ b₂ → (x : WithAhead h₁ h₂)
-      → GrantsAfter P x → NoneTakenAlone x → BookedAlike P x
-  host-nobody-moves = both-have (λ h₁ h₂. (x : WithAhead h₁ h₂) → GrantsAfter P x → NoneTakenAlone x → BookedAlike P x) (nobody-moves plan)
+      → GrantsAfter P x → ResetsAfter P x → NoneTakenAlone x → BookedAlike P x
+  host-nobody-moves = both-have (λ h₁ h₂. (x : WithAhead h₁ h₂) → GrantsAfter P x → ResetsAfter P x → NoneTakenAlone x → BookedAlike P x) (nobody-moves plan)
 
   pub host-in-turn-nobody-moves : {h₁ h₂ : History} {b₁ b₂ : List ℕ} → Hosted plan h₁ b₁ → Hosted plan h₂ b₂ → (x : WithAhead h₁ h₂)
       → OfBooked P x → SendersInTurn P x → NoneTakenAlone x → BookedAlike P x
   host-in-turn-nobody-moves =
       both-have (λ h₁ h₂. (x : WithAhead h₁ h₂) → OfBooked P x → SendersInTurn P x → NoneTakenAlone x → BookedAlike P x) (in-turn-nobody-moves plan)
 
-  -- it is enough that they are in turn in the run with tiles sent ahead
+  -- it is enough that they have room, or are in turn, in the run with tiles sent ahead
+  pub host-room-without : {h₁ h₂ : History} {b₁ b₂ : List ℕ} → Hosted plan h₁ b₁ → Hosted plan h₂ b₂ → (x : WithAhead h₁ h₂)
+      → EachReady P (sendingOf x) → NoneTakenAlone x → SendersHaveRoomThere P x → SendersHaveRoom P x
+  host-room-without =
+      both-have (λ h₁ h₂. (x : WithAhead h₁ h₂) → EachReady P (sendingOf x) → NoneTakenAlone x → SendersHaveRoomThere P x → SendersHaveRoom P x)
+      (room-without plan)
+
   pub host-in-turn-without : {h₁ h₂ : History} {b₁ b₂ : List ℕ} → Hosted plan h₁ b₁ → Hosted plan h₂ b₂ → (x : WithAhead h₁ h₂)
       → EachReady P (sendingOf x) → NoneTakenAlone x → SendersInTurnThere P x → SendersInTurn P x
   host-in-turn-without =
@@ -123,17 +129,18 @@ module _ (plan : List ℕ) where
 
   -- bookings alike, and sent well
   pub host-sends-ahead : {h₁ h₂ : History} {b₁ b₂ : List ℕ} → Hosted plan h₁ b₁ → Hosted plan h₂ b₂ → (x : WithAhead h₁ h₂)
-      → EachReady P (sendingOf x) → SendersInTurn P x → NoneTakenAlone x → BookedAlike P x × SentWell P (sendingOf x)
+      → EachReady P (sendingOf x) → SendersHaveRoom P x → NoneTakenAlone x → BookedAlike P x × SentWell P (sendingOf x)
   host-sends-ahead =
       both-have
-      (λ h₁ h₂. (x : WithAhead h₁ h₂) → EachReady P (sendingOf x) → SendersInTurn P x → NoneTakenAlone x → BookedAlike P x × SentWell P (sendingOf x))
+      (λ h₁ h₂. (x : WithAhead h₁ h₂) → EachReady P (sendingOf x) → SendersHaveRoom P x → NoneTakenAlone x → BookedAlike P x × SentWell P (sendingOf x))
       (sends-ahead plan)
 
   -- in order
   pub host-ahead-in-order : {h₁ h₂ : History} {b₁ b₂ : List ℕ} → Hosted plan h₁ b₁ → Hosted plan h₂ b₂ → (x : WithAhead h₁ h₂)
-      → EachReady P (sendingOf x) → SendersInTurn P x → NoneTakenAlone x → (i : ℕ) → FirstFirst P (sendingOf x) i → LeaveInOrder P (sendingOf x) i
+      → EachReady P (sendingOf x) → SendersHaveRoom P x → NoneTakenAlone x → (i : ℕ) → FirstFirst P (sendingOf x) i
+      → LentOnlyAhead (sendingOf x) i → LeaveInOrder P (sendingOf x) i
   host-ahead-in-order =
       both-have
-      (λ h₁ h₂. (x : WithAhead h₁ h₂) → EachReady P (sendingOf x) → SendersInTurn P x → NoneTakenAlone x → (i : ℕ) → FirstFirst P (sendingOf x) i
-      → LeaveInOrder P (sendingOf x) i)
+      (λ h₁ h₂. (x : WithAhead h₁ h₂) → EachReady P (sendingOf x) → SendersHaveRoom P x → NoneTakenAlone x → (i : ℕ) → FirstFirst P (sendingOf x) i
+      → LentOnlyAhead (sendingOf x) i → LeaveInOrder P (sendingOf x) i)
       (ahead-in-order plan)

@@ -18,8 +18,8 @@ use Rattle.model.specs.Card.{Played, paper, run}
 use Rattle.model.specs.Delay.{AsksAt}
 use Rattle.model.specs.TwoRuns.{Aligned, AsksUntil11, SameFrames}
 use Rattle.model.specs.BooksInOrder.{InTurn, InOrder}
-use Rattle.model.specs.AheadRuns.{WithAhead, GrantsAfter, NoneTakenAlone, OfBooked, SendersInTurn, BookedAlike}
-use Rattle.model.specs.Sendings.{Sending, EachReady, SentWell, sendingOf, FirstFirst, LeaveInOrder, SendersInTurnThere}
+use Rattle.model.specs.AheadRuns.{WithAhead, GrantsAfter, ResetsAfter, NoneTakenAlone, OfBooked, SendersInTurn, BookedAlike}
+use Rattle.model.specs.Sendings.{Sending, EachReady, SentWell, sendingOf, FirstFirst, LentOnlyAhead, LeaveInOrder, SendersHaveRoom, SendersHaveRoomThere, SendersInTurnThere}
 use Rattle.model.proofs.Demand3.{meets}
 use Rattle.model.proofs.SameFrames.{same-frames}
 use Rattle.model.proofs.Ahead.{taken}
@@ -29,7 +29,7 @@ use Rattle.model.proofs.AheadInTurn.{in-turn-nobody-moves}
 use Rattle.model.proofs.Sendings.{sends-well}
 use Rattle.model.proofs.SendsAhead.{sends-ahead}
 use Rattle.model.proofs.AheadInOrder.{ahead-in-order}
-use Rattle.model.proofs.InTurnWithout.{in-turn-without}
+use Rattle.model.proofs.InTurnWithout.{room-without, in-turn-without}
 use Rattle.link.specs.declared.Link.{Link}
 use Rattle.link.specs.declared.Step.{Step}
 use Rattle.link.specs.Steps.{readOf as linkRead, Stepped}
@@ -91,22 +91,28 @@ module _ (bytes : List ℕ) (o : Outcome) (is : o ≡ readOf bytes) (valid : o .
       has (λ h. (i : ℕ) → i < model.flowCount P → EachSince (ReadyAt P i) h → EachSince (AsksAt InTurn P i) h) (ready-in-order bytes passes)
 
   -- never early, never late, never over, one to a slot
-  pub code-sends-well : {h : History} {l : Link} → Handed (o .plan) h l → (x : Sending h) → EachReady P x → SentWell P x
-  code-sends-well = has (λ h. (x : Sending h) → EachReady P x → SentWell P x) (sends-well paper meets bytes passes)
+  pub code-sends-well : {h : History} {l : Link} → Handed (o .plan) h l → (x : Sending h) → SentWell P x
+  code-sends-well = has (λ h. (x : Sending h) → SentWell P x) (sends-well paper meets bytes passes)
 
   -- ---- beside a run without any
 
   pub code-nobody-moves : {h₁ h₂ : History} {l₁ l₂ : Link} → Handed (o .plan) h₁ l₁ → Handed (o .plan) h₂ l₂ → (x : WithAhead h₁ h₂)
-      → GrantsAfter P x → NoneTakenAlone x → BookedAlike P x
+      → GrantsAfter P x → ResetsAfter P x → NoneTakenAlone x → BookedAlike P x
   code-nobody-moves =
-      both-have (λ h₁ h₂. (x : WithAhead h₁ h₂) → GrantsAfter P x → NoneTakenAlone x → BookedAlike P x) (nobody-moves bytes passes)
+      both-have (λ h₁ h₂. (x : WithAhead h₁ h₂) → GrantsAfter P x → ResetsAfter P x → NoneTakenAlone x → BookedAlike P x) (nobody-moves bytes passes)
 
   pub code-in-turn-nobody-moves : {h₁ h₂ : History} {l₁ l₂ : Link} → Handed (o .plan) h₁ l₁ → Handed (o .plan) h₂ l₂ → (x : WithAhead h₁ h₂)
       → OfBooked P x → SendersInTurn P x → NoneTakenAlone x → BookedAlike P x
   code-in-turn-nobody-moves =
       both-have (λ h₁ h₂. (x : WithAhead h₁ h₂) → OfBooked P x → SendersInTurn P x → NoneTakenAlone x → BookedAlike P x) (in-turn-nobody-moves bytes passes)
 
-  -- it is enough that they are in turn in the run with tiles sent ahead
+  -- it is enough that they have room, or are in turn, in the run with tiles sent ahead
+  pub code-room-without : {h₁ h₂ : History} {l₁ l₂ : Link} → Handed (o .plan) h₁ l₁ → Handed (o .plan) h₂ l₂ → (x : WithAhead h₁ h₂)
+      → EachReady P (sendingOf x) → NoneTakenAlone x → SendersHaveRoomThere P x → SendersHaveRoom P x
+  code-room-without =
+      both-have (λ h₁ h₂. (x : WithAhead h₁ h₂) → EachReady P (sendingOf x) → NoneTakenAlone x → SendersHaveRoomThere P x → SendersHaveRoom P x)
+      (room-without bytes passes)
+
   pub code-in-turn-without : {h₁ h₂ : History} {l₁ l₂ : Link} → Handed (o .plan) h₁ l₁ → Handed (o .plan) h₂ l₂ → (x : WithAhead h₁ h₂)
       → EachReady P (sendingOf x) → NoneTakenAlone x → SendersInTurnThere P x → SendersInTurn P x
   code-in-turn-without =
@@ -115,17 +121,18 @@ module _ (bytes : List ℕ) (o : Outcome) (is : o ≡ readOf bytes) (valid : o .
 
   -- bookings alike, and sent well
   pub code-sends-ahead : {h₁ h₂ : History} {l₁ l₂ : Link} → Handed (o .plan) h₁ l₁ → Handed (o .plan) h₂ l₂ → (x : WithAhead h₁ h₂)
-      → EachReady P (sendingOf x) → SendersInTurn P x → NoneTakenAlone x → BookedAlike P x × SentWell P (sendingOf x)
+      → EachReady P (sendingOf x) → SendersHaveRoom P x → NoneTakenAlone x → BookedAlike P x × SentWell P (sendingOf x)
   code-sends-ahead =
       both-have
-      (λ h₁ h₂. (x : WithAhead h₁ h₂) → EachReady P (sendingOf x) → SendersInTurn P x → NoneTakenAlone x → BookedAlike P x × SentWell P (sendingOf x))
+      (λ h₁ h₂. (x : WithAhead h₁ h₂) → EachReady P (sendingOf x) → SendersHaveRoom P x → NoneTakenAlone x → BookedAlike P x × SentWell P (sendingOf x))
       (sends-ahead bytes passes)
 
   -- in order
   pub code-ahead-in-order : {h₁ h₂ : History} {l₁ l₂ : Link} → Handed (o .plan) h₁ l₁ → Handed (o .plan) h₂ l₂ → (x : WithAhead h₁ h₂)
-      → EachReady P (sendingOf x) → SendersInTurn P x → NoneTakenAlone x → (i : ℕ) → FirstFirst P (sendingOf x) i → LeaveInOrder P (sendingOf x) i
+      → EachReady P (sendingOf x) → SendersHaveRoom P x → NoneTakenAlone x → (i : ℕ) → FirstFirst P (sendingOf x) i
+      → LentOnlyAhead (sendingOf x) i → LeaveInOrder P (sendingOf x) i
   code-ahead-in-order =
       both-have
-      (λ h₁ h₂. (x : WithAhead h₁ h₂) → EachReady P (sendingOf x) → SendersInTurn P x → NoneTakenAlone x → (i : ℕ) → FirstFirst P (sendingOf x) i
-      → LeaveInOrder P (sendingOf x) i)
+      (λ h₁ h₂. (x : WithAhead h₁ h₂) → EachReady P (sendingOf x) → SendersHaveRoom P x → NoneTakenAlone x → (i : ℕ) → FirstFirst P (sendingOf x) i
+      → LentOnlyAhead (sendingOf x) i → LeaveInOrder P (sendingOf x) i)
       (ahead-in-order bytes passes)

@@ -1,8 +1,8 @@
--- The tiles of a flow that is in turn at each request leave in order, if the first that waits is sent ahead first. Assumes nothing.
+-- The tiles of a flow that has room at each request leave in order, if the first that waits is sent ahead first. Assumes nothing.
 use Prim.Native.Nat.{ℕ, _≤_, _<_}
 use mathlib.Core.Path.{_≡_, refl, sym, ap, subst}
 use mathlib.Core.Bool.{Bool, true, false, _&&_, cond}
-use native.Mathlib.Decide.{decLe}
+use native.Mathlib.Decide.{decLe, ℕ-discrete}
 use native.Mathlib.Omega.{arith}
 use lib.Dec.{leb, eqb}
 use borrow.Author.Tests.{leb-true, leb-false, eq-eqb, eqb-true}
@@ -10,24 +10,26 @@ use Rattle.model.specs.Tables.{tally}
 use Rattle.model.specs.Word.{flowOf, departureOf}
 use Rattle.model.specs.Plan.{Plan, Accepted, planOf}
 use Rattle.model.specs.Calls.{Grant, Event, History, requested, credited, ticked, lent, accepted, refused}
-use Rattle.model.specs.History.{ticks, slotAfter, grants, WasGranted}
+use Rattle.model.specs.History.{ticks, slotAfter, grants, grantsSince, ofFlow, atSlot, WasGranted}
 use Rattle.model.specs.Claim.{Each}
 use Rattle.model.specs.Card.{paper, run}
 use Rattle.model.specs.Delay.{dueSlot}
-use Rattle.model.specs.BooksInOrder.{AfterThoseAt}
-use Rattle.model.specs.AheadRuns.{WithAhead, start, both-tick, both-request, both-credit, both-lend, first-refused, second-refused, sent-ahead}
-use Rattle.model.specs.AheadRuns.{laterOf, latest, GrantsAfter, NoneTakenAlone, SameGrant}
-use Rattle.model.specs.Sendings.{Sending, event, Tile, tileAt, tiles, HasTile, KeepsOrder, FirstFirst, sendingOf, AheadInOrder}
+use Rattle.model.specs.AheadRuns.{WithAhead, start, both-tick, both-request, both-credit, both-lend, first-refused, second-refused, both-reset, sent-ahead}
+use Rattle.model.specs.AheadRuns.{laterOf, latest, GrantFrom, GrantsAfter, ResetsAfter, NoneTakenAlone, SameGrant}
+use Rattle.model.specs.Sendings.{Sending, event, Tile, tileAt, tiles, HasTile, KeepsOrder, FirstFirst, LentOnlyAhead, sendingOf, AheadInOrder}
 use Rattle.model.proofs.Tests.{and-true}
 use Rattle.model.proofs.Tallies.{tally-le}
 use Rattle.model.proofs.Plan.{accepted as accepted-plan}
 use Rattle.model.proofs.NewestGrants.{slot-to-come}
-use Rattle.model.proofs.HistoryCounts.{NoneGranted}
-use Rattle.model.proofs.Replays.{Replayed, replays}
+use Rattle.model.proofs.AfterHistory.{After}
+use Rattle.model.proofs.EventsOfRuns.{each-happened}
+use Rattle.model.proofs.GrantsInOrder.{frames-in-order}
+use Rattle.model.proofs.BooksInOrder.{EarliestAt, each-earliest}
+use Rattle.model.proofs.Replays.{Replayed, replays, linkAfter}
 use Rattle.model.proofs.AheadRuns.{follows}
-use Rattle.model.proofs.AheadInTurn.{Orders, none-granted, granted-since, latest-on, grants-after, in-turn-orders}
+use Rattle.model.proofs.AheadInTurn.{granted-since}
 use Rattle.model.proofs.LeaveInOrder.{is, counted, moved-has, new-tile, new-leaves, split, leave-in-order}
-use Rattle.model.proofs.SendsAhead.{has, tiles-granted, of-booked}
+use Rattle.model.proofs.SendsAhead.{has, tiles-granted, room-orders, ready-asked}
 
 -- ---- a tile that was sent ahead
 
@@ -61,10 +63,11 @@ module _ (P : Plan) (i : ℕ) where
   sent-latest (both-lend {m₂ = m} j x) same a r has early = sent-latest x same a r (old-tile (lent m (accepted j)) (sendingOf x) a r has early) early
   sent-latest (first-refused x) same a r has early = sent-latest x same a r has early
   sent-latest (second-refused {m = m} {r = n} x) same a r has early = sent-latest x same a r (old-tile (lent m (refused n)) (sendingOf x) a r has early) early
+  sent-latest (both-reset {a₂ = y} x) same a r has early = sent-latest x same a r (old-tile (Event.reset y) (sendingOf x) a r has early) early
   sent-latest (sent-ahead {h₁ = h₁} {h₂ = h₂} j p x) same a r has early =
       moved-has i a r j (slotAfter P (ticks h₂) p) (ticks h₂) (tiles P (sendingOf x)) has
       (λ old. grows (eqb i j) (sent-latest x same a r old early))
-      (λ own at-a leaves. rw (eq-eqb i j (sym own)) (first at-a))
+      (λ own at-a leaves waited. rw (eq-eqb i j (sym own)) (first at-a))
     where
       grows : (e : Bool) → a ≤ latest P x i → a ≤ cond e (laterOf (slotAfter P (ticks h₁) p) (latest P x i)) (latest P x i)
       grows true le = omega (arith, later-second (slotAfter P (ticks h₁) p) (latest P x i))
@@ -78,14 +81,13 @@ module _ (P : Plan) (i : ℕ) where
 
   -- what is known after both runs
   pub record SoFar {h₁ h₂ : History} (x : WithAhead h₁ h₂) : Type 0 where
-    pub none : NoneGranted h₁
+    pub stands : After P (linkAfter P h₁) h₁
     pub same-ticks : ticks h₁ ≡ ticks h₂
     pub same-grants : grants P h₁ ≡ grants P h₂
 
-  granted-after : {h₁ h₂ : History} (x : WithAhead h₁ h₂) → SoFar x → (w v : ℕ)
-      → (0 < latest P x i → AfterThoseAt P i (requested w (accepted v)) h₁) → flowOf w ≡ i
-      → (a r : ℕ) → HasTile P (sendingOf x) i a r → r < a → a < slotAfter P (ticks h₂) (departureOf v)
-  granted-after {h₁} {h₂} x so-far w v order own a r tile early = go (decLe a (ticks h₂))
+  granted-after : {h₁ h₂ : History} (x : WithAhead h₁ h₂) → SoFar x → (w v : ℕ) → EarliestAt P (requested w (accepted v)) h₁
+      → latest P x i ≤ slotAfter P (ticks h₁) (departureOf v) → (a r : ℕ) → HasTile P (sendingOf x) i a r → r < a → a < slotAfter P (ticks h₂) (departureOf v)
+  granted-after {h₁} {h₂} x so-far w v one after a r tile early = go (decLe a (ticks h₂))
     where
       before : a ≤ latest P x i
       before = sent-latest x (so-far .same-ticks) a r tile early
@@ -100,17 +102,32 @@ module _ (P : Plan) (i : ℕ) where
       go : Dec (a ≤ ticks h₂) → a < slotAfter P (ticks h₂) (departureOf v)
       go (yes le) = omega (arith, slot-to-come P (ticks h₂) (departureOf v))
       go (no gt) =
-          let z = order (omega (arith, before)) own a (granted-since P h₁ i a (so-far .none) (was (omega arith))) in
-          omega (arith, ap (λ t. slotAfter P t (departureOf v)) (so-far .same-ticks))
+          other (ℕ-discrete a (slotAfter P (ticks h₁) (departureOf v)))
+        where
+          slot-same : slotAfter P (ticks h₁) (departureOf v) ≡ slotAfter P (ticks h₂) (departureOf v)
+          slot-same = ap (λ t. slotAfter P t (departureOf v)) (so-far .same-ticks)
+
+          owned : 0 < tally (atSlot a) (grantsSince P h₁)
+          owned =
+              omega (
+                arith,
+                granted-since P h₁ i a (so-far .stands) (omega (arith, so-far .same-ticks)) (was (omega arith)),
+                tally-le (λ m. ofFlow i m && atSlot a m) (atSlot a) (λ m e. and-true (ofFlow i m) (atSlot a m) e .1) (grantsSince P h₁),
+              )
+
+          -- it is not the new slot, which had no owner
+          other : Dec (a ≡ slotAfter P (ticks h₁) (departureOf v)) → a < slotAfter P (ticks h₂) (departureOf v)
+          other (yes same) = absurd (omega (arith, one .unowned, owned, ap (λ s. tally (atSlot s) (grantsSince P h₁)) same))
+          other (no not-same) = omega (arith, before, after, slot-same)
 
   -- a request that is answered alike
   request-keeps : {h₁ h₂ : History} (x : WithAhead h₁ h₂) → SoFar x → (w : ℕ) (a₁ a₂ : Grant) → SameGrant a₁ a₂
-      → (0 < latest P x i → AfterThoseAt P i (requested w a₁) h₁) → (s : ℕ)
+      → EarliestAt P (requested w a₁) h₁ → GrantFrom P (ticks h₁) (latest P x (flowOf w)) a₁ → (s : ℕ)
       → 0 < tally (λ m. eqb (m .flow) i && eqb (m .slot) s) (tileAt P (requested w a₂) h₂) → (a r : ℕ) → HasTile P (sendingOf x) i a r → r < a → a < s
   unfolding tally
-  request-keeps x so-far w a₁ (refused r₂) same order s new a r tile early = absurd (omega arith)
-  request-keeps x so-far w (refused r₁) (accepted v₂) same order s new a r tile early = absurd same
-  request-keeps {h₁} {h₂} x so-far w (accepted v₁) (accepted v₂) same order s new a r tile early =
+  request-keeps x so-far w a₁ (refused r₂) same one after s new a r tile early = absurd (omega arith)
+  request-keeps x so-far w (refused r₁) (accepted v₂) same one after s new a r tile early = absurd same
+  request-keeps {h₁} {h₂} x so-far w (accepted v₁) (accepted v₂) same one after s new a r tile early =
       let m : Tile = record {
         flow = flowOf w;
         due = dueSlot P w h₂;
@@ -121,8 +138,9 @@ module _ (P : Plan) (i : ℕ) where
       let both = and-true (eqb (flowOf w) i) (eqb (slotAfter P (ticks h₂) (departureOf v₂)) s) is-new in
       let own = eqb-true (flowOf w) i (both .0) in
       let at-s = eqb-true (slotAfter P (ticks h₂) (departureOf v₂)) s (both .1) in
-      let after = granted-after x so-far w v₂ (subst (λ v. 0 < latest P x i → AfterThoseAt P i (requested w (accepted v)) h₁) same order) own a r tile early in
-      omega arith
+      let from = subst (λ j. latest P x j ≤ slotAfter P (ticks h₁) (departureOf v₁)) own after in
+      let before = granted-after x so-far w v₁ one from a r tile early in
+      omega (arith, ap (λ v. slotAfter P (ticks h₂) (departureOf v)) same)
 
   -- a lend to another flow gives it no tile
   of-another : (h : History) (m j s : ℕ) → (j ≡ i → ⊥) → 0 < tally (λ m. eqb (m .flow) i && eqb (m .slot) s) (tileAt P (lent m (accepted j)) h) → ⊥
@@ -134,38 +152,41 @@ module _ (P : Plan) (i : ℕ) where
   -- ---- two runs
 
   module _ (ok : Accepted P) where
-    keeps : {h₁ h₂ : History} (x : WithAhead h₁ h₂) → Each (Replayed P) h₁ → Each (Replayed P) h₂ → GrantsAfter P x → NoneTakenAlone x → Orders P x
-        → FirstFirst P (sendingOf x) i → KeepsOrder P (sendingOf x) i
+    keeps : {h₁ h₂ : History} (x : WithAhead h₁ h₂) → Each (Replayed P) h₁ → Each (Replayed P) h₂ → Each (EarliestAt P) h₁ → GrantsAfter P x → ResetsAfter P x
+        → NoneTakenAlone x → FirstFirst P (sendingOf x) i → LentOnlyAhead (sendingOf x) i → KeepsOrder P (sendingOf x) i
     unfolding tally
-    keeps start e₁ e₂ after alone order first = tt
-    keeps (both-tick x) e₁ e₂ after alone order first =
-        (λ s new. absurd (omega arith), keeps x (e₁ .1) (e₂ .1) after alone (λ j some. order j some .1) (first .1))
-    keeps (both-request {h₁ = h₁} {h₂ = h₂} {a₁ = a₁} {a₂ = a₂} w x) e₁ e₂ after alone order first =
-        let r = follows P ok x (e₁ .1) (e₂ .1) (after .1) alone in
-        let so-far : SoFar x = record { none = none-granted x; same-ticks = r .same-ticks; same-grants = r .same-grants } in
-        let whole = follows P ok (both-request {h₁ = h₁} {h₂ = h₂} {a₁ = a₁} {a₂ = a₂} w x) e₁ e₂ after alone in (
-          request-keeps x so-far w a₁ a₂ (whole .unmoved .0 .same-grant) (λ some. order i some .0),
-          keeps x (e₁ .1) (e₂ .1) (after .1) alone (λ j some. order j some .1) (first .1),
+    keeps start e₁ e₂ earliest after resets alone first only = tt
+    keeps (both-tick x) e₁ e₂ earliest after resets alone first only =
+        (λ s new. absurd (omega arith), keeps x (e₁ .1) (e₂ .1) (earliest .1) after resets alone first (only .1))
+    keeps (both-request {h₁ = h₁} {h₂ = h₂} {a₁ = a₁} {a₂ = a₂} w x) e₁ e₂ earliest after resets alone first only =
+        let r = follows P ok x (e₁ .1) (e₂ .1) (after .1) resets alone in
+        let so-far : SoFar x = record { stands = e₁ .0 .stands; same-ticks = r .same-ticks; same-grants = r .same-grants } in
+        let whole = follows P ok (both-request {h₁ = h₁} {h₂ = h₂} {a₁ = a₁} {a₂ = a₂} w x) e₁ e₂ after resets alone in (
+          request-keeps x so-far w a₁ a₂ (whole .unmoved .0 .same-grant) (earliest .0) (after .0),
+          keeps x (e₁ .1) (e₂ .1) (earliest .1) (after .1) resets alone first (only .1),
         )
-    keeps (both-credit j p x) e₁ e₂ after alone order first =
-        (λ s new. absurd (omega arith), keeps x (e₁ .1) (e₂ .1) after (alone .1) (λ k some. order k some .1) (first .1))
-    keeps (both-lend {h₂ = h₂} {m₂ = m₂} j x) e₁ e₂ after alone order first = (
-      λ s new. absurd (of-another h₂ m₂ j s (first .0) new),
-      keeps x (e₁ .1) (e₂ .1) after alone (λ k some. order k some .1) (first .1),
+    keeps (both-credit j p x) e₁ e₂ earliest after resets alone first only =
+        (λ s new. absurd (omega arith), keeps x (e₁ .1) (e₂ .1) (earliest .1) after resets (alone .1) first (only .1))
+    keeps (both-lend {h₂ = h₂} {m₂ = m₂} j x) e₁ e₂ earliest after resets alone first only = (
+      λ s new. absurd (of-another h₂ m₂ j s (only .0) new),
+      keeps x (e₁ .1) (e₂ .1) (earliest .1) after resets alone first (only .1),
     )
-    keeps (first-refused x) e₁ e₂ after alone order first = keeps x (e₁ .1) e₂ after alone (λ k some. order k some .1) first
-    keeps (second-refused x) e₁ e₂ after alone order first = (λ s new. absurd (omega arith), keeps x e₁ (e₂ .1) after alone order (first .1))
-    keeps (sent-ahead {h₁ = h₁} j p x) e₁ e₂ after alone order first = (
-      first .0,
-      keeps x e₁ (e₂ .1 .1) after alone (λ k some. order k (latest-on P (slotAfter P (ticks h₁) p) (latest P x k) (eqb k j) some)) (first .1),
-    )
+    keeps (first-refused x) e₁ e₂ earliest after resets alone first only = keeps x (e₁ .1) e₂ (earliest .1) after resets alone first only
+    keeps (second-refused x) e₁ e₂ earliest after resets alone first only =
+        (λ s new. absurd (omega arith), keeps x e₁ (e₂ .1) earliest after resets alone first (only .1))
+    keeps (both-reset x) e₁ e₂ earliest after resets alone first only =
+        (λ s new. absurd (omega arith), keeps x (e₁ .1) (e₂ .1) (earliest .1) after (resets .1) alone first (only .1))
+    keeps (sent-ahead j p x) e₁ e₂ earliest after resets alone first only =
+        (first .0, keeps x e₁ (e₂ .1 .1) earliest after resets alone (first .1) only)
 
 pub ahead-in-order : AheadInOrder paper
-ahead-in-order bytes passes calls₁ calls₂ x each turns alone i first =
+ahead-in-order bytes passes calls₁ calls₂ x each room alone i first only =
     let P = planOf bytes in
     let ok = accepted-plan bytes passes in
     let r₁ = replays P ok calls₁ .each in
     let r₂ = replays P ok calls₂ .each in
-    let order = in-turn-orders P ok calls₁ x turns in
-    let after = grants-after P x (of-booked P ok x r₁ r₂ each order alone) order in
-    leave-in-order P (run paper P calls₂ .history) (sendingOf x) i each (keeps P i ok x r₁ r₂ after alone order first)
+    let earliest = each-earliest P ok calls₁ in
+    let order = room-orders P ok x earliest (frames-in-order P ok calls₁) (each-happened P ok calls₁) room in
+    let asked = ready-asked P ok x r₁ r₂ each order alone in
+    leave-in-order P (run paper P calls₂ .history) (sendingOf x) i
+    (keeps P i ok x r₁ r₂ earliest (asked .grants-after) (asked .resets-after) alone first only)

@@ -14,8 +14,8 @@ use Rattle.model.specs.History.{ticks, slotAfter, marksOf, grantAt, gran
 use Rattle.model.specs.Claim.{AtLoan}
 use Rattle.model.specs.Card.{Card}
 use Rattle.model.specs.SeveralLinks.{slotsOf, tile, planOn, sentOn}
-use Rattle.model.specs.Sendings.{Sending, nothing, event, ahead, Tile, tileAt, ready, leavesIn, tiles, sendingOf}
-use Rattle.model.specs.AheadOverLinks.{leavesOf, LentOnlyAhead, KeptWithin}
+use Rattle.model.specs.Sendings.{Sending, nothing, event, ahead, Tile, tileAt, ready, leavesIn, tiles, sendingOf, LentOnlyAhead}
+use Rattle.model.specs.AheadOverLinks.{leavesOf, KeptWithin}
 use Rattle.model.proofs.Plan.{accepted as accepted-plan}
 use Rattle.model.proofs.TimelyRequests.{frame-order}
 use Rattle.model.proofs.Sendings.{ready-is, none-late}
@@ -39,7 +39,7 @@ moved-slots i j s t (m ∷ ms) = go (ready j s t m) refl (moved-slots i j s t ms
     go false e rest = ap (λ z. cond (eqb (m .flow) i) (m .slot ∷ z) z) rest
 
 module _ (P : Plan) (i : ℕ) where
-  slots-are : {h : History} (x : Sending h) → LentOnlyAhead i x → slotsIn i (tiles P x) ≡ slotsOf i (grants P h)
+  slots-are : {h : History} (x : Sending h) → LentOnlyAhead x i → slotsIn i (tiles P x) ≡ slotsOf i (grants P h)
   unfolding slotsIn slotsOf grants marksOf
   slots-are nothing only = refl
   slots-are (event {h = h} e x) only = go e (only .0) (slots-are x (only .1))

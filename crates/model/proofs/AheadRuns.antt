@@ -18,8 +18,8 @@ use Rattle.model.specs.History.{ticks, slotAfter, marksOf, grants}
 use Rattle.model.specs.Claim.{Each}
 use Rattle.model.specs.Card.{paper}
 use Rattle.model.specs.Ahead.{sentAhead}
-use Rattle.model.specs.AheadRuns.{WithAhead, start, both-tick, both-request, both-credit, both-lend, first-refused, second-refused, sent-ahead}
-use Rattle.model.specs.AheadRuns.{latest, GrantFrom, RefusedToo, GrantsAfter, NoneTakenAlone, SameGrant, AnsweredAlike, TakenToo, Unmoved, NobodyMoves}
+use Rattle.model.specs.AheadRuns.{WithAhead, start, both-tick, both-request, both-credit, both-lend, first-refused, second-refused, both-reset, sent-ahead}
+use Rattle.model.specs.AheadRuns.{latest, GrantFrom, RenewedFrom, RefusedToo, GrantsAfter, ResetsAfter, NoneTakenAlone, SameGrant, AnsweredAlike, TakenToo, Unmoved, NobodyMoves}
 use Rattle.model.proofs.Plan.{accepted as accepted-plan}
 use Rattle.model.proofs.Slots.{some-position}
 use Rattle.model.proofs.AfterHistory.{After}
@@ -28,6 +28,7 @@ use Rattle.model.proofs.Replays.{linkAfter, Replayed, replays, stands-a
 use Rattle.model.proofs.CloseLinks.{Close}
 use Rattle.model.proofs.CloseRequests.{close-request}
 use Rattle.model.proofs.CloseCalls.{close-credit, close-lend, close-ahead, close-tick}
+use Rattle.model.proofs.CloseResets.{close-reset}
 
 -- what a tile sent ahead leaves
 pub record SentAhead (l : Link) (m i p : ℕ) : Type 0 where
@@ -71,9 +72,10 @@ module _ (P : Plan) (plan-ok : Accepted P) where
   one-more w (refused r₁) (accepted v₂) h₁ h₂ same at-once before = absurd same
   one-more w (refused r₁) (refused r₂) h₁ h₂ same at-once before = before
 
-  pub follows : {h₁ h₂ : History} (x : WithAhead h₁ h₂) → Each (Replayed P) h₁ → Each (Replayed P) h₂ → GrantsAfter P x → NoneTakenAlone x → Follows x
+  pub follows : {h₁ h₂ : History} (x : WithAhead h₁ h₂) → Each (Replayed P) h₁ → Each (Replayed P) h₂ → GrantsAfter P x → ResetsAfter P x
+      → NoneTakenAlone x → Follows x
   unfolding ticks linkAfter grants marksOf fresh
-  follows start e₁ e₂ order alone = record {
+  follows start e₁ e₂ order resets alone = record {
     same-ticks = refl;
     close = record {
       plan-first = refl;
@@ -86,8 +88,8 @@ module _ (P : Plan) (plan-ok : Accepted P) where
     unmoved = tt;
     same-grants = refl;
   }
-  follows (both-tick x) e₁ e₂ order alone =
-      let r = follows x (e₁ .1) (e₂ .1) order alone in
+  follows (both-tick x) e₁ e₂ order resets alone =
+      let r = follows x (e₁ .1) (e₂ .1) order resets alone in
       let both = close-tick (e₁ .0 .stands .invariant) (r .close) in
       record {
         same-ticks = ap suc (r .same-ticks);
@@ -95,8 +97,8 @@ module _ (P : Plan) (plan-ok : Accepted P) where
         unmoved = (sym (e₁ .0 .answer) ∙ both .0 ∙ e₂ .0 .answer, r .unmoved);
         same-grants = r .same-grants;
       }
-  follows (both-request {h₁ = h₁} {h₂ = h₂} {a₁ = a₁} {a₂ = a₂} w x) e₁ e₂ order alone =
-      let r = follows x (e₁ .1) (e₂ .1) (order .1) alone in
+  follows (both-request {h₁ = h₁} {h₂ = h₂} {a₁ = a₁} {a₂ = a₂} w x) e₁ e₂ order resets alone =
+      let r = follows x (e₁ .1) (e₂ .1) (order .1) resets alone in
       let both =
       close-request (e₁ .0 .stands .invariant) (r .close) w (subst (GrantFrom P (ticks h₁) (latest P x (flowOf w))) (sym (e₁ .0 .answer)) (order .0)) in
       let alike : AnsweredAlike (ticks h₁) (latest P x (flowOf w)) a₁ a₂ =
@@ -108,8 +110,8 @@ module _ (P : Plan) (plan-ok : Accepted P) where
         unmoved = (alike, r .unmoved);
         same-grants = one-more w a₁ a₂ h₁ h₂ (alike .same-grant) (r .same-ticks) (r .same-grants);
       }
-  follows (both-credit {h₁ = h₁} {h₂ = h₂} {a₁ = a₁} {a₂ = a₂} j p x) e₁ e₂ order alone =
-      let r = follows x (e₁ .1) (e₂ .1) order (alone .1) in
+  follows (both-credit {h₁ = h₁} {h₂ = h₂} {a₁ = a₁} {a₂ = a₂} j p x) e₁ e₂ order resets alone =
+      let r = follows x (e₁ .1) (e₂ .1) order resets (alone .1) in
       let both = close-credit (e₁ .0 .stands .invariant) (r .close) j p
       (subst (λ a. RefusedToo a (credit (linkAfter P h₂) j p .answer)) (sym (e₁ .0 .answer)) (subst (RefusedToo a₁) (sym (e₂ .0 .answer)) (alone .0))) in
       record {
@@ -118,8 +120,8 @@ module _ (P : Plan) (plan-ok : Accepted P) where
         unmoved = (subst (λ a. TakenToo a a₂) (e₁ .0 .answer) (subst (TakenToo (credit (linkAfter P h₁) j p .answer)) (e₂ .0 .answer) (both .0)), r .unmoved);
         same-grants = r .same-grants;
       }
-  follows (both-lend {h₁ = h₁} {h₂ = h₂} {m₁ = m₁} {m₂ = m₂} j x) e₁ e₂ order alone =
-      let r = follows x (e₁ .1) (e₂ .1) order alone in
+  follows (both-lend {h₁ = h₁} {h₂ = h₂} {m₁ = m₁} {m₂ = m₂} j x) e₁ e₂ order resets alone =
+      let r = follows x (e₁ .1) (e₂ .1) order resets alone in
       let v₁ = e₁ .0 .stands .invariant in
       let v₂ = e₂ .0 .stands .invariant in
       let loan₁ = lend-answered (linkAfter P h₁) m₁ j (v₁ .current .accepted .some-flow) (e₁ .0 .answer) in
@@ -133,8 +135,8 @@ module _ (P : Plan) (plan-ok : Accepted P) where
         unmoved = r .unmoved;
         same-grants = r .same-grants;
       }
-  follows (first-refused {h₁ = h₁} {h₂ = h₂} {m = m} {r = n} x) e₁ e₂ order alone =
-      let r = follows x (e₁ .1) e₂ order alone in
+  follows (first-refused {h₁ = h₁} {h₂ = h₂} {m = m} {r = n} x) e₁ e₂ order resets alone =
+      let r = follows x (e₁ .1) e₂ order resets alone in
       record {
         same-ticks = r .same-ticks;
         close =
@@ -142,16 +144,26 @@ module _ (P : Plan) (plan-ok : Accepted P) where
         unmoved = r .unmoved;
         same-grants = r .same-grants;
       }
-  follows (second-refused {h₁ = h₁} {h₂ = h₂} {m = m} {r = n} x) e₁ e₂ order alone =
-      let r = follows x e₁ (e₂ .1) order alone in
+  follows (second-refused {h₁ = h₁} {h₂ = h₂} {m = m} {r = n} x) e₁ e₂ order resets alone =
+      let r = follows x e₁ (e₂ .1) order resets alone in
       record {
         same-ticks = r .same-ticks;
         close = subst (Close P (ticks h₁) (λ j. latest P x j) (linkAfter P h₁)) (sym (lend-refused (linkAfter P h₂) m n (e₂ .0 .answer))) (r .close);
         unmoved = r .unmoved;
         same-grants = r .same-grants;
       }
-  follows (sent-ahead {h₁ = h₁} {h₂ = h₂} {m = m} i p x) e₁ e₂ order alone =
-      let r = follows x e₁ (e₂ .1 .1) order alone in
+  follows (both-reset {h₁ = h₁} x) e₁ e₂ order resets alone =
+      let r = follows x (e₁ .1) (e₂ .1) order (resets .1) alone in
+      let both =
+      close-reset (e₁ .0 .stands .invariant) (r .close) (subst (RenewedFrom (ticks h₁) (λ j. latest P x j)) (sym (e₁ .0 .answer)) (resets .0)) in
+      record {
+        same-ticks = r .same-ticks;
+        close = both .1;
+        unmoved = (sym (e₁ .0 .answer) ∙ both .0 ∙ e₂ .0 .answer, r .unmoved);
+        same-grants = r .same-grants;
+      }
+  follows (sent-ahead {h₁ = h₁} {h₂ = h₂} {m = m} i p x) e₁ e₂ order resets alone =
+      let r = follows x e₁ (e₂ .1 .1) order resets alone in
       let after = sent (e₂ .1 .0 .stands) m i p (e₂ .1 .0 .answer) (e₂ .0 .answer) in
       record {
         same-ticks = r .same-ticks;
@@ -163,8 +175,8 @@ module _ (P : Plan) (plan-ok : Accepted P) where
       }
 
 pub nobody-moves : NobodyMoves paper
-nobody-moves bytes passes calls₁ calls₂ x order alone =
+nobody-moves bytes passes calls₁ calls₂ x order resets alone =
     let P = planOf bytes in
     let ok = accepted-plan bytes passes in
-    let r = follows P ok x (replays P ok calls₁ .each) (replays P ok calls₂ .each) order alone in
+    let r = follows P ok x (replays P ok calls₁ .each) (replays P ok calls₂ .each) order resets alone in
     record { unmoved = r .unmoved; same-grants = r .same-grants }

@@ -7,8 +7,9 @@ use Rattle.model.specs.Plan.{planOf}
 use Rattle.model.specs.Calls.{Call, History}
 use Rattle.model.specs.Card.{run, paper}
 use Rattle.model.specs.Delay.{dueSlot}
-use Rattle.model.specs.Sendings.{Sending, nothing, event, leavesIn, HasTile, EachReady, KeepsOrder, LeaveInOrder}
+use Rattle.model.specs.Sendings.{Sending, nothing, event, leavesIn, HasTile, EachReady, SentWell, KeepsOrder, LeaveInOrder}
 use Rattle.model.specs.BadSendings.{P, thin, notLent, notCredited, ofNothing, sendsNothing, twice, sendsTwice, outOfOrder, sendsOutOfOrder, notCome, sendsNotCome}
+use Rattle.model.specs.BadSendings.{otherCredited, sendsTwoInOne}
 use Rattle.model.proofs.Unfoldings.{calls-compute, counts-compute}
 
 -- ---- they are runs of the paper's card
@@ -44,6 +45,10 @@ pub twice-runs :
 unfolding calls-compute
 twice-runs = refl
 
+pub other-credited-runs : answered (Call.request 0x24100000 ∷ Call.lend 1 ∷ Call.credit 1 3 ∷ []) ≡ otherCredited
+unfolding calls-compute
+other-credited-runs = refl
+
 -- ---- what is no sending ahead: the tile of slot 2 leaves in slot 2
 
 pub credited-only : (x : Sending notLent) → HasTile P x 0 2 0 → ⊥
@@ -53,6 +58,11 @@ credited-only (event _ (event _ (event _ (event _ nothing)))) has = omega arith
 pub lent-only : (x : Sending notCredited) → HasTile P x 0 2 0 → ⊥
 unfolding counts-compute dueSlot
 lent-only (event _ (event _ (event _ (event _ nothing)))) has = omega arith
+
+-- and flow 1's tile in slot 3
+pub other-credited : (x : Sending otherCredited) → HasTile P x 1 3 0 → ⊥
+unfolding counts-compute dueSlot
+other-credited (event _ (event _ (event _ (event _ (event _ (event _ nothing)))))) has = omega arith
 
 -- ---- no tile is ready
 
@@ -67,6 +77,16 @@ sends-twice x = omega (arith, x .0)
 pub sends-not-come : EachReady P sendsNotCome → ⊥
 unfolding counts-compute dueSlot
 sends-not-come x = omega (arith, x .0)
+
+-- ---- two in one slot, each of which was ready
+
+pub both-ready : EachReady P sendsTwoInOne
+unfolding counts-compute leavesIn dueSlot
+both-ready = (lit< tt, (lit< tt, tt))
+
+pub sends-two-in-one : SentWell P sendsTwoInOne → ⊥
+unfolding counts-compute leavesIn dueSlot
+sends-two-in-one x = omega (arith, x .one-to-a-slot 0)
 
 -- ---- out of order
 

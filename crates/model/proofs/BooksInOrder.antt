@@ -2,7 +2,7 @@
 use Prim.Native.Nat.{ℕ, suc, _+_, _*_, _%_, _≤_, _<_}
 use mathlib.Core.Path.{_≡_, refl, sym, ap, _∙_, subst}
 use mathlib.Core.List.{List, [], _∷_}
-use mathlib.Core.Bool.{Bool, true, false, _&&_}
+use mathlib.Core.Bool.{Bool, true, false, _&&_, cond}
 use native.Mathlib.Nat.{div-add-mod', mod-lt}
 use native.Mathlib.Decide.{decLt, ℕ-discrete}
 use native.Mathlib.Omega.{arith}
@@ -14,15 +14,16 @@ use Rattle.model.specs.Plan.{Plan, Accepted, positions, planOf}
 use Rattle.model.specs.Calls.{Call, Grant, Event, History, requested, credited, ticked, lent, accepted, refused}
 use Rattle.model.specs.Link.{Link, Step, window}
 use Rattle.model.specs.Request.{Found, found, nowhere, canLeave, validFor, sought, answered, request}
-use Rattle.model.specs.History.{ticks, slotAfter, frameOf, wellFormed, hasCome, grantsSince, ofFlow, atSlot, inFrame, upTo, grantedIn}
+use Rattle.model.specs.History.{ticks, slotAfter, frameOf, wellFormed, hasCome, renews, Mark, grantAt, grantsSince, ofFlow, atSlot, inFrame, upTo, grantedIn}
 use Rattle.model.specs.Holding.{InWindow}
 use Rattle.model.specs.Claim.{Each, EachSince, AtGrant, Ready, ReadyAt}
 use Rattle.model.specs.Claim as claim
 use Rattle.model.specs.Card.{Played, paper, step, run}
 use Rattle.model.specs.Delay.{dueSlot, dueSince, RoomFrom, AsksAt}
-use Rattle.model.specs.BooksInOrder.{GrantedSince, NoneDueAfter, InTurn, InOrder, BooksInOrder, ReadyInOrder}
+use Rattle.model.specs.LessAsked.{HasRoom}
+use Rattle.model.specs.BooksInOrder.{GrantedSince, NoneDueAfter, InTurn, AfterThoseAt, InOrder, BooksInOrder, ReadyInOrder}
 use Rattle.model.proofs.Tests.{and-true}
-use Rattle.model.proofs.Tallies.{tally-le, tally-skip}
+use Rattle.model.proofs.Tallies.{tally-le, tally-append, tally-skip}
 use Rattle.model.proofs.Plan.{accepted as accepted-plan}
 use Rattle.model.proofs.Word.{departure-depart}
 use Rattle.model.proofs.Slots.{some-frame, frame-slot-in-window, position-of}
@@ -39,6 +40,7 @@ use Rattle.model.proofs.TimelyRequests.{known, frame-order, due-if-come
 use Rattle.model.proofs.Demand3.{each-since-map}
 use Rattle.model.proofs.SoonOnArrival.{ComeAt, ready-come}
 use Rattle.model.proofs.GrantsInOrder.{FrameInOrderAt, frames-in-order}
+use Rattle.model.proofs.NextLink.{each-since}
 
 -- ---- what is known of each grant
 
@@ -154,7 +156,15 @@ each-earliest P ok = by-calls ok (λ r. Each (EarliestAt P) (r .history)) more t
     more r c g happened =
         subst (λ Q. Known Q r → Each (EarliestAt Q) (r .history) → Each (EarliestAt Q) (step paper r c .history)) (g .plan-is) (earliest-more r c) g
 
--- ---- one mark more
+-- ---- one event more, and one mark
+
+pub ticks-go-on : (e : Event) (h : History) → ticks h ≤ ticks (e ∷ h)
+unfolding ticks
+ticks-go-on (requested w a) h = omega arith
+ticks-go-on (credited j p a) h = omega arith
+ticks-go-on (ticked x) h = omega arith
+ticks-go-on (lent m a) h = omega arith
+ticks-go-on (Event.reset a) h = omega arith
 
 module _ {A : Type 0} (f : A → Bool) (m : A) (ms : List A) where
   -- a count that was above 0 is so still
@@ -172,7 +182,7 @@ module _ {A : Type 0} (f : A → Bool) (m : A) (ms : List A) where
       go false e = (refl, omega arith)
 
   -- one that is above 0 was so, or the mark counts
-  some-split : {Q : Type 0} → 0 < tally f (m ∷ ms) → (0 < tally f ms → Q) → (f m ≡ true → Q) → Q
+  pub some-split : {Q : Type 0} → 0 < tally f (m ∷ ms) → (0 < tally f ms → Q) → (f m ≡ true → Q) → Q
   unfolding tally
   some-split {Q} = go (f m)
     where
@@ -180,124 +190,241 @@ module _ {A : Type 0} (f : A → Bool) (m : A) (ms : List A) where
       go true h old new = new refl
       go false h old new = old (omega arith)
 
+-- ---- grants and the slots in which their tiles are due
+
+-- Since the last granted reset flow i was granted slot g, for a tile that is due in slot d.
+pub data Booked (P : Plan) (i d g : ℕ) : History → Type 0 where
+  newest : {h : History} (w v : ℕ) → flowOf w ≡ i → dueSlot P w h ≡ d → slotAfter P (ticks h) (departureOf v) ≡ g → Booked P i d g (requested w (accepted v) ∷ h)
+  older : {h : History} (e : Event) → renews e ≡ false → Booked P i d g h → Booked P i d g (e ∷ h)
+
+-- for one that is due by slot b
+pub record BookedBy (P : Plan) (i g b : ℕ) (h : History) : Type 0 where
+  pub due : ℕ
+  pub by : due ≤ b
+  pub booked : Booked P i due g h
+
+module _ (P : Plan) (i g : ℕ) where
+  abbrev slot-g : Mark → Bool
+  slot-g m = ofFlow i m && atSlot g m
+
+  pub granted-too : {d : ℕ} {h : History} → Booked P i d g h → GrantedSince P h i g
+  unfolding grantsSince tally
+  granted-too (newest w v own due at) = rw (eq-eqb (flowOf w) i own, eq-eqb _ g at) (omega arith)
+  granted-too (older {h = h} e keeps b) = rw keeps (omega (arith, tally-append slot-g (grantAt P e h) (grantsSince P h), granted-too b))
+
+  pub one-older : {c : ℕ} {h : History} (e : Event) → renews e ≡ false → BookedBy P i g c h → BookedBy P i g c (e ∷ h)
+  one-older e keeps x = record { due = x .due; by = x .by; booked = older e keeps (x .booked) }
+
+  -- each granted slot is one of a tile; where none is due after slot c, it is due by then
+  booked-by : (c : ℕ) (h : History) → NoneDueAfter P h i c → GrantedSince P h i g → BookedBy P i g c h
+  unfolding grantsSince dueSince tally
+  booked-by c [] none was = absurd (omega arith)
+  booked-by c (requested w (accepted v) ∷ h) none was =
+      let due = none-before (λ m. ofFlow i m && ltb c (m .slot)) (record { flow = flowOf w; slot = dueSlot P w h }) (dueSince P h) none in
+      some-split slot-g (record { flow = flowOf w; slot = slotAfter P (ticks h) (departureOf v) }) (grantsSince P h) was
+      (λ old. one-older _ refl (booked-by c h (due .1) old))
+      (λ new.
+      let both = and-true (eqb (flowOf w) i) (eqb (slotAfter P (ticks h) (departureOf v)) g) new in
+      record {
+        due = dueSlot P w h;
+        by = ltb-false c (dueSlot P w h) (sym (rw (both .0)) ∙ due .0);
+        booked = newest w v (eqb-true (flowOf w) i (both .0)) refl (eqb-true _ g (both .1));
+      })
+  booked-by c (requested w (refused r) ∷ h) none was = one-older _ refl (booked-by c h none was)
+  booked-by c (credited j p a ∷ h) none was = one-older _ refl (booked-by c h none was)
+  booked-by c (ticked y ∷ h) none was = one-older _ refl (booked-by c h none was)
+  booked-by c (lent m a ∷ h) none was = one-older _ refl (booked-by c h none was)
+  booked-by c (Event.reset (accepted u) ∷ h) none was = absurd (omega arith)
+  booked-by c (Event.reset (refused r) ∷ h) none was = one-older _ refl (booked-by c h none was)
+
+-- where the event is a grant to flow i: it comes after those of tiles that are due no later
+abbrev pub AfterDueAt : Plan → ℕ → Event → History → Type 0
+AfterDueAt P i = AtGrant (λ w v h. flowOf w ≡ i → (d g : ℕ) → Booked P i d g h → d ≤ dueSlot P w h → g < slotAfter P (ticks h) (departureOf v))
+
 -- ---- the slots before a grant
 
--- Slot s is granted to flow i's word w, where no grant of it before is for a tile that is due later, and each slot of its frame between the two has an owner.
-pub record Close (P : Plan) (i w s : ℕ) (h : History) : Type 0 where
-  pub none-due-after : NoneDueAfter P h i (dueSlot P w h)
-  pub none-between : (r : ℕ) → frameOf P r ≡ frameOf P s → dueSlot P w h < r → r < s → 0 < tally (atSlot r) (grantsSince P h)
+-- Each slot of the frame of slot s, between the one in which word w's tile is due and s, has an owner.
+abbrev pub Close : Plan → (w s : ℕ) → History → Type 0
+Close P w s h = (r : ℕ) → frameOf P r ≡ frameOf P s → dueSlot P w h < r → r < s → 0 < tally (atSlot r) (grantsSince P h)
 
+-- where the event is a grant to flow i
 abbrev pub CloseAt : Plan → ℕ → Event → History → Type 0
-CloseAt P i = AtGrant (λ w v h. flowOf w ≡ i → Close P i w (slotAfter P (ticks h) (departureOf v)) h)
+CloseAt P i = AtGrant (λ w v h. flowOf w ≡ i → Close P w (slotAfter P (ticks h) (departureOf v)) h)
+
+-- where the event is a grant to flow i: no tile of it was due later
+abbrev pub DueInOrderAt : Plan → ℕ → Event → History → Type 0
+DueInOrderAt P i = AtGrant (λ w v h. flowOf w ≡ i → NoneDueAfter P h i (dueSlot P w h))
 
 module _ (P : Plan) (ok : Accepted P) (i : ℕ) where
-  -- Where no tile of flow i is due after slot d: of the frame of each of its grants, each slot to come that lies between has an owner.
-  abbrev Packed : History → Type 0
-  Packed h =
-      (d g r : ℕ) → NoneDueAfter P h i d → GrantedSince P h i g → frameOf P r ≡ frameOf P g → ticks h < r → d < r → r < g
+  -- Of the frame of a slot that flow i was granted, each slot to come between the due one and that has an owner.
+  packed : (d g r : ℕ) {h : History} → EachSince (CloseAt P i) h → Booked P i d g h → frameOf P r ≡ frameOf P g → ticks h < r → d < r → r < g
       → 0 < tally (atSlot r) (grantsSince P h)
+  unfolding ticks grantsSince
+  packed d g r closes (newest {h = h} w v own due at) same to-come after before =
+      still-some (atSlot r) (record { flow = flowOf w; slot = slotAfter P (ticks h) (departureOf v) }) (grantsSince P h)
+      (closes .0 own r (same ∙ ap (frameOf P) (sym at)) (omega arith) (omega arith))
+  packed d g r closes (older {h = h} e keeps b) same to-come after before =
+      let rest = rw keeps at closes in
+      let so-far = packed d g r (rest .1) b same (omega (arith, ticks-go-on e h)) after before in
+      rw keeps (omega (arith, tally-append (atSlot r) (grantAt P e h) (grantsSince P h)))
 
-  -- a grant of slot s to word w comes after those before it
-  comes-after : (w s : ℕ) (h : History) → flowOf w ≡ i → Close P i w s h → Earliest P w s h
-      → ((f : ℕ) → frameOf P s < f → grantedIn P h i f ≡ 0) → Packed h → (g : ℕ) → GrantedSince P h i g → g < s
-  comes-after w s h own close first frames packed g was = go (decLt g s)
+  -- A grant of slot s comes after each of a tile that is due no later.
+  comes-after : (w s : ℕ) (h : History) → Earliest P w s h → ((f : ℕ) → frameOf P s < f → grantedIn P h i f ≡ 0) → EachSince (CloseAt P i) h
+      → (d g : ℕ) → Booked P i d g h → d ≤ dueSlot P w h → g < s
+  comes-after w s h newest-one frames closes d g was due = go (decLt g s)
     where
       owned : 0 < tally (atSlot g) (grantsSince P h)
-      owned = omega (arith, tally-le (λ m. ofFlow i m && atSlot g m) (atSlot g) (λ m e. and-true (ofFlow i m) (atSlot g m) e .1) (grantsSince P h))
+      owned =
+          omega (
+            arith,
+            granted-too P i g was,
+            tally-le (λ m. ofFlow i m && atSlot g m) (atSlot g) (λ m e. and-true (ofFlow i m) (atSlot g m) e .1) (grantsSince P h),
+          )
 
       counted : 0 < grantedIn P h i (frameOf P g)
       counted =
           omega (
             arith,
+            granted-too P i g was,
             tally-le (λ m. ofFlow i m && atSlot g m) (inFrame P i (frameOf P g)) (λ m e.
                 let both = and-true (ofFlow i m) (atSlot g m) e in
                 rw (both .0) (eq-eqb (frameOf P (m .slot)) (frameOf P g) (ap (frameOf P) (eqb-true (m .slot) g (both .1))))) (grantsSince P h),
           )
 
       same : s ≤ g → Dec (s ≡ g) → Dec (frameOf P s ≡ frameOf P g) → g < s
-      same le (yes e) f = absurd (omega (arith, ap (λ q. tally (atSlot q) (grantsSince P h)) e, first .unowned, owned))
+      same le (yes e) f = absurd (omega (arith, ap (λ q. tally (atSlot q) (grantsSince P h)) e, newest-one .unowned, owned))
       same le (no d) (no f) = absurd (omega (arith, frames (frameOf P g) (omega (arith, frame-order ok s g le)), counted))
-      same le (no d) (yes f) =
-          absurd (omega (arith, first .unowned, packed (dueSlot P w h) g s (close .none-due-after) was f (omega (arith, first .after-due, due-from-now P w h)) (first .after-due) (omega arith)))
+      same le (no n) (yes f) =
+          absurd (
+          omega (
+            arith,
+            newest-one .unowned,
+            packed d g s closes was f (omega (arith, newest-one .after-due, due-from-now P w h)) (omega (arith, newest-one .after-due)) (omega arith),
+          )
+          )
 
       go : Dec (g < s) → g < s
       go (yes lt) = lt
       go (no ge) = same (omega arith) (ℕ-discrete s g) (ℕ-discrete (frameOf P s) (frameOf P g))
 
-  -- one grant more
-  packed-more : (w v : ℕ) (h : History) → CloseAt P i (requested w (accepted v)) h → Packed h → Packed (requested w (accepted v) ∷ h)
-  unfolding ticks grantsSince dueSince
-  packed-more w v h close packed d g r none-due was same to-come after before =
-      let s = slotAfter P (ticks h) (departureOf v) in
-      let due = none-before (λ m. ofFlow i m && ltb d (m .slot)) (record { flow = flowOf w; slot = dueSlot P w h }) (dueSince P h) none-due in
-      still-some (atSlot r) (record { flow = flowOf w; slot = s }) (grantsSince P h)
-      (some-split (λ m. ofFlow i m && atSlot g m) (record { flow = flowOf w; slot = s }) (grantsSince P h) was
-      (λ old. packed d g r (due .1) old same to-come after before)
-      (λ new.
-      let both = and-true (eqb (flowOf w) i) (eqb s g) new in
-      let own = eqb-true (flowOf w) i (both .0) in
-      let is : s ≡ g = eqb-true s g (both .1) in
-      let due-before : dueSlot P w h ≤ d = ltb-false d (dueSlot P w h) (sym (rw (both .0)) ∙ due .0) in
-      close own .none-between r (same ∙ ap (frameOf P) (sym is)) (omega arith) (omega arith)))
-
   -- ---- a history
 
-  pub in-order-if-close : (h : History) → Each (EarliestAt P) h → Each (FrameInOrderAt P) h → EachSince (CloseAt P i) h → Packed h × InOrder P i h
-  unfolding ticks grantsSince dueSince tally
-  in-order-if-close [] first frames close = (λ d g r none was. absurd (omega arith), tt)
-  in-order-if-close (requested w (refused x) ∷ h) first frames close =
-      let so-far = in-order-if-close h (first .1) (frames .1) (close .1) in
-      (so-far .0, (tt, so-far .1))
-  in-order-if-close (requested w (accepted v) ∷ h) first frames close =
-      let so-far = in-order-if-close h (first .1) (frames .1) (close .1) in (
-        packed-more w v h (close .0) (so-far .0),
-        (
-          λ own. comes-after w (slotAfter P (ticks h) (departureOf v)) h own (close .0 own) (first .0)
-              (subst (λ j. (f : ℕ) → frameOf P (slotAfter P (ticks h) (departureOf v)) < f → grantedIn P h j f ≡ 0) own (frames .0)) (so-far .0),
-          so-far .1,
-        ),
-      )
-  in-order-if-close (credited j p x ∷ h) first frames close =
-      let so-far = in-order-if-close h (first .1) (frames .1) (close .1) in
-      (so-far .0, (tt, so-far .1))
-  in-order-if-close (ticked x ∷ h) first frames close =
-      let so-far = in-order-if-close h (first .1) (frames .1) (close .1) in
-      (λ d g r none was same to-come. so-far .0 d g r none was same (omega arith), (tt, so-far .1))
-  in-order-if-close (lent m x ∷ h) first frames close =
-      let so-far = in-order-if-close h (first .1) (frames .1) (close .1) in
-      (so-far .0, (tt, so-far .1))
-  in-order-if-close (Event.reset (accepted u) ∷ h) first frames close = (λ d g r none was. absurd (omega arith), tt)
-  in-order-if-close (Event.reset (refused x) ∷ h) first frames close =
-      let so-far = in-order-if-close h (first .1) (frames .1) (close .1) in
-      (so-far .0, (tt, so-far .1))
+  one-after : (e : Event) (h : History) → EarliestAt P e h → FrameInOrderAt P e h → EachSince (CloseAt P i) h → AfterDueAt P i e h
+  one-after (requested w (accepted v)) h one frames closes = λ own.
+      comes-after w (slotAfter P (ticks h) (departureOf v)) h one
+      (subst (λ j. (f : ℕ) → frameOf P (slotAfter P (ticks h) (departureOf v)) < f → grantedIn P h j f ≡ 0) own frames) closes
+  one-after (requested w (refused r)) h one frames closes = tt
+  one-after (credited j p a) h one frames closes = tt
+  one-after (ticked x) h one frames closes = tt
+  one-after (lent m a) h one frames closes = tt
+  one-after (Event.reset a) h one frames closes = tt
 
-  -- a flow that is in turn has room in each slot to come
-  turn-close : (w v : ℕ) (h : History) → EarliestAt P (requested w (accepted v)) h → (flowOf w ≡ i → InTurn P i w h) → CloseAt P i (requested w (accepted v)) h
-  turn-close w v h first turn own = record {
-    none-due-after = turn own .none-due-after;
-    none-between = λ r same after before.
-        first .none-between r (λ q le. subst (λ j. claim.Room P j h) (sym own) (turn own .room) q (omega (arith, due-from-now P w h))) same after before;
-  }
+  each-after : (h : History) → Each (EarliestAt P) h → Each (FrameInOrderAt P) h → Each (CloseAt P i) h → Each (AfterDueAt P i) h
+  each-after [] first frames closes = tt
+  each-after (e ∷ h) first frames closes =
+      (one-after e h (first .0) (frames .0) (each-since (CloseAt P i) h (closes .1)), each-after h (first .1) (frames .1) (closes .1))
 
-  turns-close : (h : History) → Each (EarliestAt P) h → Each (Happened P) h → EachSince (AsksAt InTurn P i) h → EachSince (CloseAt P i) h
-  turns-close [] first happened asks = tt
-  turns-close (requested w (refused x) ∷ h) first happened asks = (tt, turns-close h (first .1) (happened .1) (asks .1))
-  turns-close (requested w (accepted v) ∷ h) first happened asks =
-      (turn-close w v h (first .0) (asks .0 (happened .0 .word .asked-well-formed)), turns-close h (first .1) (happened .1) (asks .1))
-  turns-close (credited j p x ∷ h) first happened asks = (tt, turns-close h (first .1) (happened .1) (asks .1))
-  turns-close (ticked x ∷ h) first happened asks = (tt, turns-close h (first .1) (happened .1) (asks .1))
-  turns-close (lent m x ∷ h) first happened asks = (tt, turns-close h (first .1) (happened .1) (asks .1))
-  turns-close (Event.reset (accepted u) ∷ h) first happened asks = tt
-  turns-close (Event.reset (refused x) ∷ h) first happened asks = (tt, turns-close h (first .1) (happened .1) (asks .1))
+  -- no grant of it is for a tile that is due later
+  one-in-order : (e : Event) (h : History) → DueInOrderAt P i e h → AfterDueAt P i e h → AfterThoseAt P i e h
+  one-in-order (requested w (accepted v)) h none after = λ own s was.
+      let x = booked-by P i s (dueSlot P w h) h (none own) was in
+      after own (x .due) s (x .booked) (x .by)
+  one-in-order (requested w (refused r)) h none after = tt
+  one-in-order (credited j p a) h none after = tt
+  one-in-order (ticked x) h none after = tt
+  one-in-order (lent m a) h none after = tt
+  one-in-order (Event.reset a) h none after = tt
 
-  pub in-order : (h : History) → Each (EarliestAt P) h → Each (FrameInOrderAt P) h → Each (Happened P) h → EachSince (AsksAt InTurn P i) h → Packed h × InOrder P i h
-  in-order h first frames happened asks = in-order-if-close h first frames (turns-close h first happened asks)
+  in-order-since : (h : History) → Each (EarliestAt P) h → Each (FrameInOrderAt P) h → EachSince (CloseAt P i) h → EachSince (DueInOrderAt P i) h → InOrder P i h
+  in-order-since [] first frames closes dues = tt
+  in-order-since (e ∷ h) first frames closes dues = go (renews e) closes dues (in-order-since h (first .1) (frames .1))
+    where
+      go : (b : Bool) → cond b (Unit {0}) (CloseAt P i e h × EachSince (CloseAt P i) h) → cond b (Unit {0}) (DueInOrderAt P i e h × EachSince (DueInOrderAt P i) h)
+          → (EachSince (CloseAt P i) h → EachSince (DueInOrderAt P i) h → InOrder P i h) → cond b (Unit {0}) (AfterThoseAt P i e h × InOrder P i h)
+      go true closes dues rest = tt
+      go false closes dues rest = (one-in-order e h (dues .0) (one-after e h (first .0) (frames .0) (closes .1)), rest (closes .1) (dues .1))
+
+  -- at each grant, those before a granted reset too
+  pub all-in-order-if-close : (h : History) → Each (EarliestAt P) h → Each (FrameInOrderAt P) h → Each (CloseAt P i) h → Each (DueInOrderAt P i) h → Each (AfterThoseAt P i) h
+  all-in-order-if-close [] first frames closes dues = tt
+  all-in-order-if-close (e ∷ h) first frames closes dues = (
+    one-in-order e h (dues .0) (one-after e h (first .0) (frames .0) (each-since (CloseAt P i) h (closes .1))),
+    all-in-order-if-close h (first .1) (frames .1) (closes .1) (dues .1),
+  )
+
+  -- ---- a flow that has room at each request, and one that is in turn
+
+  room-close : (e : Event) (h : History) → EarliestAt P e h → Happened P e h → AsksAt HasRoom P i e h → CloseAt P i e h
+  room-close (requested w (accepted v)) h first happened asks = λ own r same after before.
+      first .none-between r (λ q le. subst (λ j. claim.Room P j h) (sym own) (asks (happened .word .asked-well-formed) own) q (omega (arith, due-from-now P w h)))
+      same after before
+  room-close (requested w (refused r)) h first happened asks = tt
+  room-close (credited j p a) h first happened asks = tt
+  room-close (ticked x) h first happened asks = tt
+  room-close (lent m a) h first happened asks = tt
+  room-close (Event.reset a) h first happened asks = tt
+
+  pub all-after : (h : History) → Each (EarliestAt P) h → Each (FrameInOrderAt P) h → Each (Happened P) h → Each (AsksAt HasRoom P i) h → Each (AfterDueAt P i) h
+  all-after h first frames happened asks = each-after h first frames (closes h first happened asks)
+    where
+      closes : (h : History) → Each (EarliestAt P) h → Each (Happened P) h → Each (AsksAt HasRoom P i) h → Each (CloseAt P i) h
+      closes [] first happened asks = tt
+      closes (e ∷ h) first happened asks = (room-close e h (first .0) (happened .0) (asks .0), closes h (first .1) (happened .1) (asks .1))
+
+  turn-room : (e : Event) (h : History) → AsksAt InTurn P i e h → AsksAt HasRoom P i e h
+  turn-room (requested w a) h asks = λ well own. asks well own .room
+  turn-room (credited j p a) h asks = tt
+  turn-room (ticked x) h asks = tt
+  turn-room (lent m a) h asks = tt
+  turn-room (Event.reset a) h asks = tt
+
+  turn-due : (e : Event) (h : History) → Happened P e h → AsksAt InTurn P i e h → DueInOrderAt P i e h
+  turn-due (requested w (accepted v)) h happened asks = λ own. asks (happened .word .asked-well-formed) own .none-due-after
+  turn-due (requested w (refused r)) h happened asks = tt
+  turn-due (credited j p a) h happened asks = tt
+  turn-due (ticked x) h happened asks = tt
+  turn-due (lent m a) h happened asks = tt
+  turn-due (Event.reset a) h happened asks = tt
+
+  -- what holds of each grant of a flow that is in turn
+  abbrev InTurnHas : (Event → History → Type 0) → Type 0
+  InTurnHas Q = (e : Event) (h : History) → EarliestAt P e h → Happened P e h → AsksAt InTurn P i e h → Q e h
+
+  turn-close : InTurnHas (CloseAt P i)
+  turn-close e h first happened asks = room-close e h first happened (turn-room e h asks)
+
+  turn-ordered : InTurnHas (DueInOrderAt P i)
+  turn-ordered e h first happened asks = turn-due e h happened asks
+
+  module _ (Q : Event → History → Type 0) (has : InTurnHas Q) where
+    turns-have : (h : History) → Each (EarliestAt P) h → Each (Happened P) h → Each (AsksAt InTurn P i) h → Each Q h
+    turns-have [] first happened asks = tt
+    turns-have (e ∷ h) first happened asks = (has e h (first .0) (happened .0) (asks .0), turns-have h (first .1) (happened .1) (asks .1))
+
+    turns-have-since : (h : History) → Each (EarliestAt P) h → Each (Happened P) h → EachSince (AsksAt InTurn P i) h → EachSince Q h
+    turns-have-since [] first happened asks = tt
+    turns-have-since (e ∷ h) first happened asks = go (renews e) asks (turns-have-since h (first .1) (happened .1))
+      where
+        go : (b : Bool) → cond b (Unit {0}) (AsksAt InTurn P i e h × EachSince (AsksAt InTurn P i) h) → (EachSince (AsksAt InTurn P i) h → EachSince Q h)
+            → cond b (Unit {0}) (Q e h × EachSince Q h)
+        go true asks rest = tt
+        go false asks rest = (has e h (first .0) (happened .0) (asks .0), rest (asks .1))
+
+  in-order : (h : History) → Each (EarliestAt P) h → Each (FrameInOrderAt P) h → Each (Happened P) h → EachSince (AsksAt InTurn P i) h → InOrder P i h
+  in-order h first frames happened asks =
+      in-order-since h first frames (turns-have-since (CloseAt P i) turn-close h first happened asks)
+      (turns-have-since (DueInOrderAt P i) turn-ordered h first happened asks)
+
+  pub all-in-order : (h : History) → Each (EarliestAt P) h → Each (FrameInOrderAt P) h → Each (Happened P) h → Each (AsksAt InTurn P i) h → Each (AfterThoseAt P i) h
+  all-in-order h first frames happened asks =
+      all-in-order-if-close h first frames (turns-have (CloseAt P i) turn-close h first happened asks)
+      (turns-have (DueInOrderAt P i) turn-ordered h first happened asks)
 
 pub books-in-order : BooksInOrder paper
 books-in-order bytes passes calls i known asks =
     let P = planOf bytes in
     let ok = accepted-plan bytes passes in
-    in-order P ok i (run paper P calls .history) (each-earliest P ok calls) (frames-in-order P ok calls) (each-happened P ok calls) asks .1
+    in-order P ok i (run paper P calls .history) (each-earliest P ok calls) (frames-in-order P ok calls) (each-happened P ok calls) asks
 
 -- ---- a flow that is ready at each request
 

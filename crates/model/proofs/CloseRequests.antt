@@ -220,7 +220,7 @@ module _ (base : Link) (x y : Parts) {L : Ledger} (v : Invariant (with base x) L
     unfolding answered
     searched known (found j r p) f′ follows in-window from =
         let departs = departure-depart u p (omega (arith, in-window .0, ok .positions-most)) in
-        let there = valid-second known (departureOf u) p (in-window .0) (in-window .1) (subst (λ q. b i ≤ slotAfter P t q) departs from) in
+        let there = valid-second known (departureOf u) p (in-window .0) (in-window .1) (omega (arith, from, ap (slotAfter P t) departs)) in
         subst (λ z. Alike i (answered k u (found j r p)) (answered l u z)) (sym (follows there))
         (record { same-grant = refl; same-answer = λ come. refl }, booked-close known j r p)
     searched known (nowhere r) f′ follows in-window from =

@@ -11,7 +11,7 @@ use Rattle.model.specs.Tables.{bit, tally}
 use Rattle.model.specs.Plan.{Plan}
 use Rattle.model.specs.Calls.{Event, History, requested, credited, ticked, lent, accepted, refused}
 use Rattle.model.specs.History.{ticks, slotAfter}
-use Rattle.model.specs.Sendings.{Sending, nothing, event, ahead, Tile, tileAt, ready, leavesIn, tiles, EachReady, HasTile, KeepsOrder, InOrder}
+use Rattle.model.specs.Sendings.{Sending, nothing, event, ahead, Tile, tileAt, ready, leavesIn, tiles, HasTile, KeepsOrder, InOrder}
 use Rattle.model.proofs.Tests.{and-true}
 use Rattle.model.proofs.Tallies.{tally-append, tally-le}
 use Rattle.model.proofs.NewestGrants.{slot-to-come}
@@ -71,21 +71,24 @@ new-alone i a r b s (one m same) some also = sym (is-so i a r m (counted (is i a
 
 -- ---- a tile that is sent ahead
 
+-- it was there before, or is the one that leaves, and that waited
 pub moved-has : {Q : Type 0} (k a r i s t : ℕ) (ms : List Tile) → 0 < tally (is k a r) (leavesIn i s t ms) → (0 < tally (is k a r) ms → Q)
-    → (i ≡ k → s ≡ a → t ≡ r → Q) → Q
+    → (i ≡ k → s ≡ a → t ≡ r → 0 < tally (ready i s t) ms → Q) → Q
 unfolding tally leavesIn
 moved-has k a r i s t [] some old new = absurd (omega arith)
-moved-has {Q} k a r i s t (m ∷ ms) some old new = go (ready i s t m) (is k a r m) refl some (λ x. moved-has k a r i s t ms x (λ y. old (omega arith)) new)
+moved-has {Q} k a r i s t (m ∷ ms) some old new = go (ready i s t m) refl (is k a r m) refl some (λ x. moved-has k a r i s t ms x (λ y. old (omega arith)) (λ own at leaves y. new own at leaves (omega arith)))
   where
-    here : (d : Bool) → is k a r (record { flow = i; due = m .due; slot = s; leaves = t }) ≡ d → 0 < bit d + tally (is k a r) ms → Q
-    here true e some = let x = is-so k a r (record { flow = i; due = m .due; slot = s; leaves = t }) e in new (x .flow) (x .slot) (x .leaves)
-    here false e some = old (omega arith)
+    here : ready i s t m ≡ true → (d : Bool) → is k a r (record { flow = i; due = m .due; slot = s; leaves = t }) ≡ d → 0 < bit d + tally (is k a r) ms → Q
+    here waits true e some =
+        let x = is-so k a r (record { flow = i; due = m .due; slot = s; leaves = t }) e in
+        new (x .flow) (x .slot) (x .leaves) (rw waits (omega arith))
+    here waits false e some = old (omega arith)
 
-    go : (b d : Bool) → is k a r m ≡ d → 0 < tally (is k a r) (cond b (record { flow = i; due = m .due; slot = s; leaves = t } ∷ ms) (m ∷ leavesIn i s t ms))
+    go : (b : Bool) → ready i s t m ≡ b → (d : Bool) → is k a r m ≡ d → 0 < tally (is k a r) (cond b (record { flow = i; due = m .due; slot = s; leaves = t } ∷ ms) (m ∷ leavesIn i s t ms))
         → (0 < tally (is k a r) (leavesIn i s t ms) → Q) → Q
-    go true d e some rest = here (is k a r (record { flow = i; due = m .due; slot = s; leaves = t })) refl some
-    go false true e some rest = old (rw e (omega arith))
-    go false false e some rest = let z = rw e at some in rest (omega arith)
+    go true waits d e some rest = here waits (is k a r (record { flow = i; due = m .due; slot = s; leaves = t })) refl some
+    go false waits true e some rest = old (rw e (omega arith))
+    go false waits false e some rest = let z = rw e at some in rest (omega arith)
 
 ready-waits : (j d t : ℕ) (ms : List Tile) → 0 < tally (ready j d t) ms → 0 < tally (is j d d) ms
 ready-waits j d t ms some =
@@ -118,10 +121,10 @@ module _ (P : Plan) (i : ℕ) where
       go zero z = old (omega (arith, tally-append (is i a r) (tileAt P e h) (tiles P x)))
       go (suc n) z = new (omega arith)
 
-  ordered : {h : History} (x : Sending h) → EachReady P x → KeepsOrder P x i → (a r b s : ℕ) → HasTile P x i a r → HasTile P x i b s → a < b → r < s
+  ordered : {h : History} (x : Sending h) → KeepsOrder P x i → (a r b s : ℕ) → HasTile P x i a r → HasTile P x i b s → a < b → r < s
   unfolding tally
-  ordered nothing each keeps a r b s first second lt = absurd (omega arith)
-  ordered (event {h = h} e x) each keeps a r b s first second lt =
+  ordered nothing keeps a r b s first second lt = absurd (omega arith)
+  ordered (event {h = h} e x) keeps a r b s first second lt =
       split e x a r first
       (λ new-a.
       split e x b s second
@@ -130,7 +133,7 @@ module _ (P : Plan) (i : ℕ) where
       (λ old-a.
       split e x b s second
       (λ new-b. omega (arith, not-late x a r old-a, new-leaves i b s (new-tile P e h) new-b))
-      (λ old-b. ordered x each (keeps .1) a r b s old-a old-b lt))
+      (λ old-b. ordered x (keeps .1) a r b s old-a old-b lt))
     where
       -- the new tile has an earlier slot than one that was there: that one waits
       before-new : 0 < tally (is i a r) (tileAt P e h) → HasTile P x i b s → r < s
@@ -143,20 +146,20 @@ module _ (P : Plan) (i : ℕ) where
           go : Dec (s < b) → r < s
           go (yes early) = let z = keeps .0 a counts b s old-b early in absurd (omega arith)
           go (no not-early) = omega (arith, not-late x b s old-b, new-leaves i a r (new-tile P e h) new-a)
-  ordered (ahead {h = h} j p x) each keeps a r b s first second lt =
+  ordered (ahead {h = h} j p x) keeps a r b s first second lt =
       let d = slotAfter P (ticks h) p in
       moved-has i a r j d (ticks h) (tiles P x) first
       (λ old-a.
       moved-has i b s j d (ticks h) (tiles P x) second
-      (λ old-b. ordered x (each .1) (keeps .1) a r b s old-a old-b lt)
-      (λ own at-b leaves-b. let z = keeps .0 own a r old-a (omega arith) in omega arith))
-      (λ own at-a leaves-a.
+      (λ old-b. ordered x (keeps .1) a r b s old-a old-b lt)
+      (λ own at-b leaves-b waited. let z = keeps .0 own a r old-a (omega arith) in omega arith))
+      (λ own at-a leaves-a ready-a.
       moved-has i b s j d (ticks h) (tiles P x) second
       (λ old-b.
-      let waited : HasTile P x i a a = subst (λ k. 0 < tally (is k a a) (tiles P x)) own (subst (λ q. 0 < tally (is j q q) (tiles P x)) at-a (ready-waits j d (ticks h) (tiles P x) (each .0))) in
-      let z = ordered x (each .1) (keeps .1) a a b s waited old-b lt in
+      let waited : HasTile P x i a a = subst (λ k. 0 < tally (is k a a) (tiles P x)) own (subst (λ q. 0 < tally (is j q q) (tiles P x)) at-a (ready-waits j d (ticks h) (tiles P x) ready-a)) in
+      let z = ordered x (keeps .1) a a b s waited old-b lt in
       omega (arith, slot-to-come P (ticks h) p))
-      (λ own at-b leaves-b. absurd (omega arith)))
+      (λ own at-b leaves-b ready-b. absurd (omega arith)))
 
 pub leave-in-order : InOrder
-leave-in-order P h x i each keeps a r b s first second lt = ordered P i x each keeps a r b s first second lt
+leave-in-order P h x i keeps a r b s first second lt = ordered P i x keeps a r b s first second lt

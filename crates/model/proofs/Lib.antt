@@ -101,6 +101,7 @@ pub mod FewerValid
 pub mod CloseLinks
 pub mod CloseRequests
 pub mod CloseCalls
+pub mod CloseResets
 pub mod AheadRuns
 pub mod AheadInTurn
 pub mod Sendings
@@ -144,5 +145,7 @@ pub mod KeptCells
 pub mod OnArrivalExample
 pub mod SourceExample
 pub mod ByCreditsExample
+pub mod AheadDecided
 pub mod LessAhead
+pub mod LessInOrder
 pub mod BadSendings

@@ -1,11 +1,11 @@
 -- Sendings: no tile leaves late, no two in one slot, and no more of a flow than its cells; and they leave in order. Assumes nothing.
-use Prim.Native.Nat.{ℕ, _+_, _≤_, _<_}
-use mathlib.Core.Path.{_≡_, refl, _∙_}
-use mathlib.Core.List.{List, _∷_, []}
+use Prim.Native.Nat.{ℕ, zero, suc, _+_, _≤_, _<_}
+use mathlib.Core.Path.{_≡_, refl, ap}
+use mathlib.Core.List.{List, _∷_, [], _++_}
 use mathlib.Core.Bool.{Bool, true, false, _&&_, cond}
 use native.Mathlib.Omega.{arith}
 use lib.Dec.{leb, ltb, eqb}
-use borrow.Author.Tests.{leb-true, le-ltb, eqb-true}
+use borrow.Author.Tests.{leb-true, le-leb, le-ltb, eqb-true}
 use Rattle.model.specs.Tables.{bit, tally}
 use Rattle.model.specs.Word.{departureOf}
 use Rattle.model.specs.Plan.{Plan, flowCount, entry, planOf}
@@ -15,7 +15,7 @@ use Rattle.model.specs.Claim.{Each, HeldAt, AfterDepartureAt, GrantedWor
 use Rattle.model.specs.Claim as claim
 use Rattle.model.specs.Card.{Card, Meets}
 use Rattle.model.specs.Delay.{dueSlot}
-use Rattle.model.specs.Sendings.{Sending, nothing, event, ahead, Tile, tileAt, waits, ready, leavesIn, tiles, givenBack, EachReady, SentWell}
+use Rattle.model.specs.Sendings.{Sending, nothing, event, ahead, Tile, tileAt, waits, ready, leavesIn, tiles, givenBack, SentWell}
 use Rattle.model.specs.Sendings.{SendsWell}
 use Rattle.model.proofs.Tests.{and-true}
 use Rattle.model.proofs.Plan.{accepted as accepted-plan}
@@ -61,6 +61,33 @@ moved-count q i s t (m ∷ ms) some = go (ready i s t m) refl some (moved-count 
     go true e some rest = let w = ready-is i s t m e .0 in rw (w .flow, w .leaves) (omega arith)
     go false e some rest = omega (arith, rest (omega arith))
 
+-- where no tile is ready, none leaves
+none-moved : (i s t : ℕ) (ms : List Tile) → tally (ready i s t) ms ≡ 0 → leavesIn i s t ms ≡ ms
+unfolding tally leavesIn
+none-moved i s t [] none = refl
+none-moved i s t (m ∷ ms) none = go (ready i s t m) none (none-moved i s t ms)
+  where
+    go : (b : Bool) → bit b + tally (ready i s t) ms ≡ 0 → (tally (ready i s t) ms ≡ 0 → leavesIn i s t ms ≡ ms)
+        → cond b (record { flow = i; due = m .due; slot = s; leaves = t } ∷ ms) (m ∷ leavesIn i s t ms) ≡ m ∷ ms
+    go true none rest = absurd (omega arith)
+    go false none rest = ap (m ∷_) (rest (omega arith))
+
+-- what the count rises by, at most: in all, and where a slot counts if a later one does
+moved-most : (q : ℕ → ℕ → Bool) (i s t : ℕ) (ms : List Tile) → tally (byLeaving q) (leavesIn i s t ms) ≤ tally (byLeaving q) ms + bit (q i t)
+moved-most q i s t ms = go (tally (ready i s t) ms) refl
+  where
+    go : (n : ℕ) → tally (ready i s t) ms ≡ n → tally (byLeaving q) (leavesIn i s t ms) ≤ tally (byLeaving q) ms + bit (q i t)
+    go zero e = omega (arith, ap (tally (byLeaving q)) (none-moved i s t ms e))
+    go (suc n) e = omega (arith, moved-count q i s t ms (omega arith))
+
+moved-up-to : (q : ℕ → ℕ → Bool) (i s t : ℕ) (ms : List Tile) → bit (q i s) ≤ bit (q i t)
+    → tally (byLeaving q) (leavesIn i s t ms) + bit (q i s) ≤ tally (byLeaving q) ms + bit (q i t)
+moved-up-to q i s t ms le = go (tally (ready i s t) ms) refl
+  where
+    go : (n : ℕ) → tally (ready i s t) ms ≡ n → tally (byLeaving q) (leavesIn i s t ms) + bit (q i s) ≤ tally (byLeaving q) ms + bit (q i t)
+    go zero e = omega (arith, ap (tally (byLeaving q)) (none-moved i s t ms e))
+    go (suc n) e = omega (arith, moved-count q i s t ms (omega arith))
+
 -- ---- tiles, grants, lends and credits
 
 module _ (P : Plan) where
@@ -81,22 +108,36 @@ module _ (P : Plan) where
   new-count q (lent m (refused r)) h = refl
   new-count q (Event.reset a) h = refl
 
-  -- a tile for each grant and each lend, but for the lends that send ahead
-  tile-count : (q : ℕ → ℕ → Bool) {h : History} (x : Sending h) → EachReady P x
-      → tally (byLeaving q) (tiles P x) + tally (bySlot q) (dates x) ≡ tally (bySlot q) (grants P h) + tally (bySlot q) (lends h)
-  unfolding tally grants lends marksOf
-  tile-count q nothing each = refl
-  tile-count q (event {h = h} e x) each =
+  -- what an event gives
+  one-more : (q : ℕ → ℕ → Bool) {h : History} (e : Event) (x : Sending h) (d : ℕ)
+      → tally (byLeaving q) (tiles P x) + d ≤ tally (bySlot q) (grants P h) + tally (bySlot q) (lends h)
+      → tally (byLeaving q) (tileAt P e h ++ tiles P x) + d ≤ tally (bySlot q) (grants P (e ∷ h)) + tally (bySlot q) (lends (e ∷ h))
+  unfolding grants lends marksOf
+  one-more q {h} e x d so-far =
       omega (
         arith,
         tally-append (byLeaving q) (tileAt P e h) (tiles P x),
         new-count q e h,
         tally-append (bySlot q) (grantAt P e h) (grants P h),
         tally-append (bySlot q) (lendAt e h) (lends h),
-        tile-count q x each,
       )
-  tile-count q (ahead {h = h} i p x) each =
-      omega (arith, moved-count q i (slotAfter P (ticks h) p) (ticks h) (tiles P x) (each .0), tile-count q x (each .1))
+
+  -- at most a tile for each grant and each lend
+  tile-most : (q : ℕ → ℕ → Bool) {h : History} (x : Sending h) → tally (byLeaving q) (tiles P x) + 0 ≤ tally (bySlot q) (grants P h) + tally (bySlot q) (lends h)
+  unfolding tally grants lends marksOf
+  tile-most q nothing = omega arith
+  tile-most q (event e x) = one-more q e x 0 (tile-most q x)
+  tile-most q (ahead {h = h} i p x) = omega (arith, moved-most q i (slotAfter P (ticks h) p) (ticks h) (tiles P x), tile-most q x)
+
+  -- and the pairs' dates are among them, where a slot counts if a later one does
+  tile-up-to : (q : ℕ → ℕ → Bool) → ((i s t : ℕ) → t < s → bit (q i s) ≤ bit (q i t)) → {h : History} (x : Sending h)
+      → tally (byLeaving q) (tiles P x) + tally (bySlot q) (dates x) ≤ tally (bySlot q) (grants P h) + tally (bySlot q) (lends h)
+  unfolding tally grants lends marksOf
+  tile-up-to q falls nothing = omega arith
+  tile-up-to q falls (event e x) = one-more q e x (tally (bySlot q) (dates x)) (tile-up-to q falls x)
+  tile-up-to q falls (ahead {h = h} i p x) =
+      let s = slotAfter P (ticks h) p in
+      omega (arith, moved-up-to q i s (ticks h) (tiles P x) (falls i s (ticks h) (slot-to-come P (ticks h) p)), tile-up-to q falls x)
 
   credit-count : (f : Mark → Bool) {h : History} (x : Sending h) → tally f (credits P h) ≡ tally f (givenBack P x) + tally f (dates x)
   unfolding tally credits marksOf ticks
@@ -107,7 +148,8 @@ module _ (P : Plan) where
       let dated = bit (f (record { flow = i; slot = slotAfter P (ticks h) p })) in
       let one-more : tally f (credits P (credited i p (accepted tt) ∷ lent m (accepted i) ∷ h)) ≡ dated + tally f (credits P h) = refl in
       let sent : tally f (dates (ahead {h = h} {m = m} i p x)) ≡ dated + tally f (dates x) = refl in
-      one-more ∙ (let z : dated + tally f (credits P h) ≡ tally f (givenBack P x) + (dated + tally f (dates x)) = omega (arith, credit-count f x) in z)
+      let given : tally f (givenBack P (ahead {h = h} {m = m} i p x)) ≡ tally f (givenBack P x) = refl in
+      omega (arith, one-more, sent, given, credit-count f x)
 
   -- ---- never late
 
@@ -192,20 +234,29 @@ module _ (P : Plan) where
   within-cells i s [] held = omega arith
   within-cells i s (e ∷ h) held = let x = held .0 s in omega (arith, x .is, x .within)
 
-  pub sent-well : {h : History} (x : Sending h) → EachReady P x → 0 < flowCount P → ((i : ℕ) → i < flowCount P → Demand3 P i h) → SentWell P x
-  sent-well {h} x each some-flow claims = record {
+  -- a slot is up to s if a later one is
+  up-to-falls : (i s j r t : ℕ) → t < r → bit (eqb j i && leb r s) ≤ bit (eqb j i && leb t s)
+  up-to-falls i s j r t lt = go (eqb j i) (leb r s) refl
+    where
+      go : (own late : Bool) → leb r s ≡ late → bit (own && late) ≤ bit (own && leb t s)
+      go false late e = omega arith
+      go true true e = rw (le-leb t s (omega (arith, leb-true r s e))) (omega arith)
+      go true false e = omega arith
+
+  pub sent-well : {h : History} (x : Sending h) → 0 < flowCount P → ((i : ℕ) → i < flowCount P → Demand3 P i h) → SentWell P x
+  sent-well {h} x some-flow claims = record {
     never-early = none-early x (claims 0 some-flow claim.Clause.after-departure) (claims 0 some-flow claim.Clause.granted-words);
     never-late = none-late x;
     never-over = λ i s known.
         omega (
           arith,
-          tile-count (λ j r. eqb j i && leb r s) x each,
+          tile-up-to (λ j r. eqb j i && leb r s) (up-to-falls i s) x,
           credit-count (upTo i s) x,
           within-cells i s h (claims i known claim.Clause.within-cells),
         );
-    one-to-a-slot = λ s. omega (arith, tile-count (λ j r. eqb r s) x each, claims 0 some-flow claim.Clause.one-owner s);
+    one-to-a-slot = λ s. omega (arith, tile-most (λ j r. eqb r s) x, claims 0 some-flow claim.Clause.one-owner s);
   }
 
 pub sends-well : (c : Card) → Meets c → SendsWell c
-sends-well c meets bytes passes calls x each =
-    sent-well (planOf bytes) x each (accepted-plan bytes passes .some-flow) (meets bytes passes calls)
+sends-well c meets bytes passes calls x =
+    sent-well (planOf bytes) x (accepted-plan bytes passes .some-flow) (meets bytes passes calls)

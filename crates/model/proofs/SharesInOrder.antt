@@ -14,7 +14,7 @@ use Rattle.model.specs.History.{ticks, slotAfter, frameOf, grantsSince, 
 use Rattle.model.specs.Claim.{Each, EachSince, GrantedWordAt}
 use Rattle.model.specs.Card.{paper, run}
 use Rattle.model.specs.Delay.{currentFrame, dueSlot, RoomFrom, TimelyInOrder, AsksAt, GrantedSoonAt}
-use Rattle.model.specs.BooksInOrder.{AfterThoseAt}
+use Rattle.model.specs.BooksInOrder.{AfterThoseAt, NoneDueAfter}
 use Rattle.model.specs.SharesOfCells.{AsksWithinShare, KeepsShares, SharesInOrder}
 use Rattle.model.proofs.Plan as plan
 use Rattle.model.proofs.Tallies.{tally-append}
@@ -25,12 +25,12 @@ use Rattle.model.proofs.Demand3.{each-map}
 use Rattle.model.proofs.EventsOfRuns.{Happened, each-happened}
 use Rattle.model.proofs.TimelyRequests.{frame-order, due-if-come}
 use Rattle.model.proofs.GrantsInOrder.{frames-in-order}
-use Rattle.model.proofs.NextLink.{each-since, since-all, grants-are, counts-at}
+use Rattle.model.proofs.NextLink.{grants-are, counts-at}
 use Rattle.model.proofs.SeveralLinks.{none-granted}
 use Rattle.model.proofs.EnoughCells.{BeginningsRan, beginnings-ran}
 use Rattle.model.proofs.HeldByFrames.{room-next, room-now}
 use Rattle.model.proofs.SharesOfCells.{come-of, soon-of, timely-at-each}
-use Rattle.model.proofs.BooksInOrder.{EarliestAt, each-earliest, Close, CloseAt, in-order-if-close, none-later, none-due}
+use Rattle.model.proofs.BooksInOrder.{EarliestAt, each-earliest, Close, CloseAt, DueInOrderAt, all-in-order-if-close, none-later, none-due}
 
 module _ {P : Plan} (ok : Accepted P) (i : ℕ) (known : i < flowCount P) (late : ℕ) (enough : (late + 2) * entry P i .share ≤ entry P i .cells + 0) where
   abbrev Asked : Event → History → Type 0
@@ -78,24 +78,35 @@ module _ {P : Plan} (ok : Accepted P) (i : ℕ) (known : i < flowCount P) (late 
             room-now ok i known late h (b .none) (b .soon) (x .given-back) (b .not-lent) (counts-at ok h (b .happened)) enough (x .few) (left is) q
             (omega (arith, frame-begins ok r))
 
-    close : Close P i w s h
-    close = record {
-      none-due-after =
-          none-later P h i (ticks h) (dueSlot P w h) (omega (arith, due-if-come P w h (x .come)))
-          (none-due P i h (b .happened) (come-of ok i known late h (b .asks)));
-      none-between = λ r same after before. first .none-between r (subst (λ j. RoomFrom P j r h) (sym own) (room r same)) same after before;
-    }
+    close : Close P w s h
+    close r same after before = first .none-between r (subst (λ j. RoomFrom P j r h) (sym own) (room r same)) same after before
 
-  close-at : (e : Event) (h : History) → Before h → Asked e h → Happened P e h → EarliestAt P e h → CloseAt P i e h
-  close-at (requested w (accepted v)) h b asked happens first = λ own. close w v h b own (asked (happens .word .asked-well-formed) own) happens first
-  close-at (requested w (refused r)) h b asked happens first = tt
-  close-at (credited j p a) h b asked happens first = tt
-  close-at (ticked x) h b asked happens first = tt
-  close-at (lent m a) h b asked happens first = tt
-  close-at (Event.reset a) h b asked happens first = tt
+    -- its tiles have come, so that none was due later
+    in-turn : NoneDueAfter P h i (dueSlot P w h)
+    in-turn =
+        none-later P h i (ticks h) (dueSlot P w h) (omega (arith, due-if-come P w h (x .come)))
+        (none-due P i h (b .happened) (come-of ok i known late h (b .asks)))
+
+  -- what holds of each event
+  record After (e : Event) (h : History) : Type 0 where
+    closes : CloseAt P i e h
+    ordered : DueInOrderAt P i e h
+
+  one-close : (e : Event) (h : History) → Before h → Asked e h → Happened P e h → EarliestAt P e h → After e h
+  one-close (requested w (accepted v)) h b asked happens first =
+      let well = happens .word .asked-well-formed in
+      record {
+        closes = λ own. close w v h b own (asked well own) happens first;
+        ordered = λ own. in-turn w v h b own (asked well own) happens first;
+      }
+  one-close (requested w (refused r)) h b asked happens first = record { closes = tt; ordered = tt }
+  one-close (credited j p a) h b asked happens first = record { closes = tt; ordered = tt }
+  one-close (ticked x) h b asked happens first = record { closes = tt; ordered = tt }
+  one-close (lent m a) h b asked happens first = record { closes = tt; ordered = tt }
+  one-close (Event.reset a) h b asked happens first = record { closes = tt; ordered = tt }
 
   all-close : (h : History) → Each (GrantedWordAt P) h → NoneGranted h → Each Asked h → Each (AsksAt TimelyInOrder P i) h → BeginningsRan P h
-      → Each (Happened P) h → tally (ofFlow i) (lends h) ≡ 0 → Each (EarliestAt P) h → Each (CloseAt P i) h
+      → Each (Happened P) h → tally (ofFlow i) (lends h) ≡ 0 → Each (EarliestAt P) h → Each After h
   unfolding lends
   all-close [] words none asks timely ran happened not-lent first = tt
   all-close (e ∷ h) words none asks timely ran happened not-lent first =
@@ -107,7 +118,7 @@ module _ {P : Plan} (ok : Accepted P) (i : ℕ) (known : i < flowCount P) (late 
         soon = soon-of ok i known late h (words .1) (none .1) (asks .1) (timely .1) (ran .0);
         not-lent = not-yet;
       } in (
-        close-at e h before (asks .0) (happened .0) (first .0),
+        one-close e h before (asks .0) (happened .0) (first .0),
         all-close h (words .1) (none .1) (asks .1) (timely .1) (ran .1) (happened .1) not-yet (first .1),
       )
 
@@ -124,7 +135,8 @@ shares-in-order-accepted late P ok calls i known x =
     let first = each-earliest P ok calls in
     let timely = timely-at-each ok i known late h words none (x .asks) ran happened (x .not-lent) enough in
     let all = all-close ok i known late enough h words none (x .asks) timely ran happened (x .not-lent) first in
-    since-all (AfterThoseAt P i) h none (in-order-if-close P ok i h first (frames-in-order P ok calls) (each-since (CloseAt P i) h all) .1)
+    all-in-order-if-close P ok i h first (frames-in-order P ok calls) (each-map _ (CloseAt P i) (λ e h x. x .closes) h all)
+    (each-map _ (DueInOrderAt P i) (λ e h x. x .ordered) h all)
 
 pub shares-in-order : SharesInOrder paper
 shares-in-order late bytes passes = shares-in-order-accepted late (planOf bytes) (plan.accepted bytes passes)

@@ -13,22 +13,15 @@ use lib.ListN.{length}
 use Rattle.model.specs.Plan.{Plan}
 use Rattle.model.specs.Calls.{History}
 use Rattle.model.specs.History.{frameOf}
-use Rattle.model.specs.Claim.{AtLoan}
 use Rattle.model.specs.Card.{Card}
 use Rattle.model.specs.SeveralLinks.{tile, Board, planOn, sentOn, Within}
 use Rattle.model.specs.AheadRuns.{WithAhead, BookedAlike}
-use Rattle.model.specs.Sendings.{Sending, nothing, event, ahead, Tile, tiles, sendingOf}
+use Rattle.model.specs.Sendings.{Tile, tiles, sendingOf, LentOnlyAhead}
 
 -- the slots in which flow i's tiles leave, in the order of the list
 unfoldable pub leavesOf : ℕ → List Tile → List ℕ
 leavesOf i [] = []
 leavesOf i (m ∷ ms) = cond (eqb (m .flow) i) (m .leaves ∷ leavesOf i ms) (leavesOf i ms)
-
--- Flow i is lent slots to send ahead only.
-abbrev pub LentOnlyAhead : ℕ → {h : History} → Sending h → Type 0
-LentOnlyAhead i nothing = Unit {0}
-LentOnlyAhead i (event {h = h} e x) = AtLoan (λ m j. j ≡ i → ⊥) e h × LentOnlyAhead i x
-LentOnlyAhead i (ahead j p x) = LentOnlyAhead i x
 
 -- Board b's stream, with tiles sent ahead: each leaves at the latest k frames after the frame of its slot in `from`.
 pub record LeaveWithin {c : Card} (k : ℕ) (P : Plan) (from : List ℕ) (b : Board c) {h₂ : History} (x : WithAhead (b .events) h₂) : Type 0 where
@@ -42,4 +35,4 @@ pub record LeaveWithin {c : Card} (k : ℕ) (P : Plan) (from : List ℕ) (b : Bo
 abbrev pub KeptWithin : Card → Type 0
 KeptWithin c =
     (k : ℕ) (P : Plan) (from : List ℕ) (b : Board c) → Within k P from b → (h₂ : History) (x : WithAhead (b .events) h₂) → BookedAlike (planOn b) x
-    → LentOnlyAhead (b .stream) (sendingOf x) → LeaveWithin k P from b x
+    → LentOnlyAhead (sendingOf x) (b .stream) → LeaveWithin k P from b x

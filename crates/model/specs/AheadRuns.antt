@@ -6,7 +6,9 @@
 --   sends nothing ahead keeps its own whatever the others do.
 -- - A refusal of the flow that sends ahead may have another number: 12 in the second run where it is 20 in the first.
 -- - Credits that the first run refuses are to be refused in the second too. One for a cell that only the second run counts would be taken there.
--- - Lends are answered with one flow in both runs, or refused. Refused ones may stand in one run alone. There is no reset.
+-- - Lends are answered with one flow in both runs, or refused. Refused ones may stand in one run alone.
+-- - A reset is made in both. The first run is to be granted one only when the slots sent ahead have come up: while one is to come, its flow holds a cell
+--   more in the second run, and that refuses. Where each slot sent ahead was booked, this is so by itself.
 use Prim.Native.Nat.{ℕ, _≤_, _<_}
 use mathlib.Core.Path.{_≡_}
 use mathlib.Core.List.{List, _∷_, []}
@@ -14,7 +16,7 @@ use mathlib.Core.Bool.{cond}
 use lib.Dec.{leb, eqb}
 use Rattle.model.specs.Word.{flowOf, departureOf}
 use Rattle.model.specs.Plan.{Plan, planOf, refusal}
-use Rattle.model.specs.Calls.{Call, Grant, Receipt, Turn, History, requested, credited, ticked, lent, accepted, refused}
+use Rattle.model.specs.Calls.{Call, Grant, Receipt, Turn, Renewal, Event, History, requested, credited, ticked, lent, accepted, refused}
 use Rattle.model.specs.History.{ticks, slotAfter, grants, WasGranted}
 use Rattle.model.specs.Claim.{Each}
 use Rattle.model.specs.Card.{Card, run}
@@ -33,6 +35,7 @@ pub data WithAhead : (h₁ h₂ : History) → Type 0 where
   both-lend : {h₁ h₂ : History} {m₁ m₂ : ℕ} (j : ℕ) → WithAhead h₁ h₂ → WithAhead (lent m₁ (accepted j) ∷ h₁) (lent m₂ (accepted j) ∷ h₂)
   first-refused : {h₁ h₂ : History} {m r : ℕ} → WithAhead h₁ h₂ → WithAhead (lent m (refused r) ∷ h₁) h₂
   second-refused : {h₁ h₂ : History} {m r : ℕ} → WithAhead h₁ h₂ → WithAhead h₁ (lent m (refused r) ∷ h₂)
+  both-reset : {h₁ h₂ : History} {a₁ a₂ : Renewal} → WithAhead h₁ h₂ → WithAhead (Event.reset a₁ ∷ h₁) (Event.reset a₂ ∷ h₂)
   -- A tile of flow i leaves in the current slot, ahead of position p. Since the credit is taken, p is later than CP.
   sent-ahead : {h₁ h₂ : History} {m : ℕ} (i p : ℕ) → WithAhead h₁ h₂ → WithAhead h₁ (credited i p (accepted tt) ∷ lent m (accepted i) ∷ h₂)
 
@@ -49,6 +52,7 @@ latest P (both-credit k p x) j = latest P x j
 latest P (both-lend k x) j = latest P x j
 latest P (first-refused x) j = latest P x j
 latest P (second-refused x) j = latest P x j
+latest P (both-reset x) j = latest P x j
 latest P (sent-ahead {h₁ = h₁} i p x) j = cond (eqb j i) (laterOf (slotAfter P (ticks h₁) p) (latest P x j)) (latest P x j)
 
 -- ---- what is asked of them
@@ -57,6 +61,11 @@ latest P (sent-ahead {h₁ = h₁} i p x) j = cond (eqb j i) (laterOf (slotAfter
 abbrev pub GrantFrom : Plan → (t b : ℕ) → Grant → Type 0
 GrantFrom P t b (accepted v) = b ≤ slotAfter P t (departureOf v)
 GrantFrom P t b (refused r) = Unit {0}
+
+-- The answer to a reset, where slot t is current: if it is granted, slot b j of each flow j has come up.
+abbrev pub RenewedFrom : (t : ℕ) (b : ℕ → ℕ) → Renewal → Type 0
+RenewedFrom t b (accepted u) = (j : ℕ) → b j ≤ t
+RenewedFrom t b (refused r) = Unit {0}
 
 -- a credit that is refused in the first run is refused in the second
 abbrev pub RefusedToo : Receipt → Receipt → Type 0
@@ -73,7 +82,20 @@ GrantsAfter P (both-credit j p x) = GrantsAfter P x
 GrantsAfter P (both-lend j x) = GrantsAfter P x
 GrantsAfter P (first-refused x) = GrantsAfter P x
 GrantsAfter P (second-refused x) = GrantsAfter P x
+GrantsAfter P (both-reset x) = GrantsAfter P x
 GrantsAfter P (sent-ahead i p x) = GrantsAfter P x
+
+-- In the first run no reset is granted while a slot that was sent ahead is to come.
+abbrev pub ResetsAfter : Plan → {h₁ h₂ : History} → WithAhead h₁ h₂ → Type 0
+ResetsAfter P start = Unit {0}
+ResetsAfter P (both-tick x) = ResetsAfter P x
+ResetsAfter P (both-request w x) = ResetsAfter P x
+ResetsAfter P (both-credit j p x) = ResetsAfter P x
+ResetsAfter P (both-lend j x) = ResetsAfter P x
+ResetsAfter P (first-refused x) = ResetsAfter P x
+ResetsAfter P (second-refused x) = ResetsAfter P x
+ResetsAfter P (both-reset {h₁ = h₁} {a₁ = a₁} x) = RenewedFrom (ticks h₁) (λ j. latest P x j) a₁ × ResetsAfter P x
+ResetsAfter P (sent-ahead i p x) = ResetsAfter P x
 
 -- No credit that both make is taken in the second run alone.
 abbrev pub NoneTakenAlone : {h₁ h₂ : History} → WithAhead h₁ h₂ → Type 0
@@ -84,6 +106,7 @@ NoneTakenAlone (both-credit {a₁ = a₁} {a₂ = a₂} j p x) = RefusedToo a₁
 NoneTakenAlone (both-lend j x) = NoneTakenAlone x
 NoneTakenAlone (first-refused x) = NoneTakenAlone x
 NoneTakenAlone (second-refused x) = NoneTakenAlone x
+NoneTakenAlone (both-reset x) = NoneTakenAlone x
 NoneTakenAlone (sent-ahead i p x) = NoneTakenAlone x
 
 -- ---- what follows
@@ -115,6 +138,7 @@ Unmoved P (both-credit {a₁ = a₁} {a₂ = a₂} j p x) = TakenToo a₁ a₂ �
 Unmoved P (both-lend j x) = Unmoved P x
 Unmoved P (first-refused x) = Unmoved P x
 Unmoved P (second-refused x) = Unmoved P x
+Unmoved P (both-reset {a₁ = a₁} {a₂ = a₂} x) = (a₁ ≡ a₂) × Unmoved P x
 Unmoved P (sent-ahead i p x) = Unmoved P x
 
 -- the calls are answered so, and the granted slots are the same, flow by flow
@@ -125,7 +149,8 @@ pub record BookedAlike (P : Plan) {h₁ h₂ : History} (x : WithAhead h₁ h₂
 -- Two lists of calls on a card, from one plan.
 abbrev pub NobodyMovesOn : Card → Plan → Type 0
 NobodyMovesOn c P =
-    (calls₁ calls₂ : List Call) (x : WithAhead (run c P calls₁ .history) (run c P calls₂ .history)) → GrantsAfter P x → NoneTakenAlone x → BookedAlike P x
+    (calls₁ calls₂ : List Call) (x : WithAhead (run c P calls₁ .history) (run c P calls₂ .history))
+    → GrantsAfter P x → ResetsAfter P x → NoneTakenAlone x → BookedAlike P x
 
 -- for the bytes of every accepted plan. That the paper's card keeps it is `nobody-moves`, in proofs/AheadRuns.antt.
 abbrev pub NobodyMoves : Card → Type 0
@@ -142,6 +167,7 @@ OfBooked P (both-credit j p x) = OfBooked P x
 OfBooked P (both-lend j x) = OfBooked P x
 OfBooked P (first-refused x) = OfBooked P x
 OfBooked P (second-refused x) = OfBooked P x
+OfBooked P (both-reset x) = OfBooked P x
 OfBooked P (sent-ahead {h₁ = h₁} i p x) = WasGranted P h₁ i (slotAfter P (ticks h₁) p) × OfBooked P x
 
 -- each flow that sends ahead is in turn at each of its requests in the first run

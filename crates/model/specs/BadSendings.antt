@@ -1,5 +1,5 @@
--- Histories in which a tile is not sent ahead as it should be, each of which the paper's card can come to. But for the last, they are on the listing's plan,
--- and in slot 0. Assumes nothing.
+-- Histories in which a tile is not sent ahead as it should be, each of which the paper's card can come to, but for two tiles in one slot. All but the twice
+-- sent tile are on the listing's plan, and in slot 0. Assumes nothing.
 use Prim.Native.Nat.{ℕ}
 use mathlib.Core.List.{List, _∷_, []}
 use mathlib.Core.Option.{some, none}
@@ -45,6 +45,17 @@ notCome = credited 0 3 (accepted tt) ∷ lent 1 (accepted 0) ∷ requested 0x240
 
 abbrev pub sendsNotCome : Sending notCome
 sendsNotCome = ahead 0 3 (event _ nothing)
+
+-- flow 1 has slot 3: the lend is answered with flow 0, and the credit is of flow 1
+abbrev pub otherCredited : History
+otherCredited = credited 1 3 (accepted tt) ∷ lent 1 (accepted 0) ∷ requested 0x24100000 (accepted 0x24100003) ∷ booked
+
+-- slots 1 and 2, both in slot 0: a card that does not mark a lent slot
+abbrev pub twoInOne : History
+twoInOne = credited 0 2 (accepted tt) ∷ lent 1 (accepted 0) ∷ credited 0 1 (accepted tt) ∷ lent 1 (accepted 0) ∷ booked
+
+abbrev pub sendsTwoInOne : Sending twoInOne
+sendsTwoInOne = ahead 0 2 (ahead 0 1 bookedOnly)
 
 -- F = 2, W = 4, share 1: slots 1, 2 and 4 are booked, and slot 4 is sent ahead in slot 0 and again in slot 3
 abbrev pub thin : List ℕ

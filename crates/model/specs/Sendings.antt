@@ -1,8 +1,9 @@
 -- What leaves in which slot, where tiles are sent ahead of their booked slots. It names no link, only calls and answers. Assumes nothing.
 --
--- A sending is a history in which some pairs of a lend and a credit send a tile ahead. Of each sending in which a tile that is sent ahead has come, and
--- waits for a slot of its own: no tile leaves before it has come, or after its slot; no two leave in one slot; and the tiles of a flow that have left, less
--- the cells given back, are at most its cells, in every slot. Every card that meets demand 3 keeps these, since they count what demand 3 counts.
+-- A sending is a history in which some pairs of a lend and a credit send a tile ahead. Of each sending: no tile leaves before it has come, or after its
+-- slot; no two leave in one slot; and the tiles of a flow that have left, less the cells given back, are at most its cells, in every slot. Every card that
+-- meets demand 3 keeps these, since they count what demand 3 counts. A pair sends the tile of its flow that has the slot of its date, has come and waits;
+-- where there is none, no tile leaves. That there is one is asked for where bookings are compared.
 -- The tiles of a flow leave in order, if each is sent ahead when those with earlier slots have left, and each new slot comes after those sent ahead.
 use Prim.Native.Nat.{ℕ, _+_, _≤_, _<_}
 use mathlib.Core.Path.{_≡_}
@@ -17,8 +18,9 @@ use Rattle.model.specs.History.{ticks, slotAfter, Mark, creditAt, upTo}
 use Rattle.model.specs.Claim.{Each, AtLoan}
 use Rattle.model.specs.Card.{Card, run}
 use Rattle.model.specs.Delay.{dueSlot, AsksAt}
+use Rattle.model.specs.LessAsked.{HasRoom}
 use Rattle.model.specs.BooksInOrder.{InTurn}
-use Rattle.model.specs.AheadRuns.{WithAhead, start, both-tick, both-request, both-credit, both-lend, first-refused, second-refused, sent-ahead}
+use Rattle.model.specs.AheadRuns.{WithAhead, start, both-tick, both-request, both-credit, both-lend, first-refused, second-refused, both-reset, sent-ahead}
 use Rattle.model.specs.AheadRuns.{latest, NoneTakenAlone, SendersInTurn, BookedAlike}
 
 -- ---- a sending
@@ -116,15 +118,14 @@ module _ (P : Plan) where
 
 -- That it follows from `KeepsOrder`, in every history, is `leave-in-order`, in proofs/LeaveInOrder.antt.
 abbrev pub InOrder : Type 0
-InOrder = (P : Plan) (h : History) (x : Sending h) (i : ℕ) → EachReady P x → KeepsOrder P x i → LeaveInOrder P x i
+InOrder = (P : Plan) (h : History) (x : Sending h) (i : ℕ) → KeepsOrder P x i → LeaveInOrder P x i
 
 -- ---- of a card
 
 -- Sent well in each list of calls, for the bytes of every accepted plan. That a card that meets demand 3 keeps it is `sends-well`, in proofs/Sendings.antt.
 abbrev pub SendsWell : Card → Type 0
 SendsWell c =
-    (bytes : List ℕ) → refusal bytes ≡ 0 → (calls : List Call) (x : Sending (run c (planOf bytes) calls .history)) → EachReady (planOf bytes) x
-    → SentWell (planOf bytes) x
+    (bytes : List ℕ) → refusal bytes ≡ 0 → (calls : List Call) (x : Sending (run c (planOf bytes) calls .history)) → SentWell (planOf bytes) x
 
 -- ---- beside a run without any
 
@@ -137,13 +138,18 @@ sendingOf (both-credit j p x) = event _ (sendingOf x)
 sendingOf (both-lend j x) = event _ (sendingOf x)
 sendingOf (first-refused x) = sendingOf x
 sendingOf (second-refused x) = event _ (sendingOf x)
+sendingOf (both-reset x) = event _ (sendingOf x)
 sendingOf (sent-ahead i p x) = ahead i p (sendingOf x)
 
--- Flows that are in turn at each request send ahead tiles that have come and wait for their slots: nobody's bookings move, and the tiles are sent well.
+-- each flow that sends ahead has room at each of its requests in the first run
+abbrev pub SendersHaveRoom : Plan → {h₁ h₂ : History} → WithAhead h₁ h₂ → Type 0
+SendersHaveRoom P {h₁} x = (i : ℕ) → 0 < latest P x i → Each (AsksAt HasRoom P i) h₁
+
+-- They send ahead tiles that have come and wait for their slots: nobody's bookings move, and the tiles are sent well.
 abbrev pub AheadOn : Card → Plan → Type 0
 AheadOn c P =
     (calls₁ calls₂ : List Call) (x : WithAhead (run c P calls₁ .history) (run c P calls₂ .history))
-    → EachReady P (sendingOf x) → SendersInTurn P x → NoneTakenAlone x → BookedAlike P x × SentWell P (sendingOf x)
+    → EachReady P (sendingOf x) → SendersHaveRoom P x → NoneTakenAlone x → BookedAlike P x × SentWell P (sendingOf x)
 
 -- That the paper's card keeps it is `sends-ahead`, in proofs/SendsAhead.antt.
 abbrev pub Ahead : Card → Type 0
@@ -151,16 +157,23 @@ Ahead c = (bytes : List ℕ) → refusal bytes ≡ 0 → AheadOn c (planOf bytes
 
 -- ---- in order, beside a run without any
 
--- A tile of flow i is sent ahead when each with an earlier slot has left; and flow i is lent slots to send ahead only.
+-- A tile of flow i is sent ahead when each with an earlier slot has left.
 abbrev pub FirstFirst : Plan → {h : History} → Sending h → ℕ → Type 0
 FirstFirst P nothing i = Unit {0}
-FirstFirst P (event {h = h} e x) i = AtLoan (λ m j. j ≡ i → ⊥) e h × FirstFirst P x i
+FirstFirst P (event e x) i = FirstFirst P x i
 FirstFirst P (ahead {h = h} j p x) i = (j ≡ i → (a r : ℕ) → HasTile P x i a r → a < slotAfter P (ticks h) p → r < ticks h) × FirstFirst P x i
+
+-- Flow i is lent slots to send ahead only.
+abbrev pub LentOnlyAhead : {h : History} → Sending h → ℕ → Type 0
+LentOnlyAhead nothing i = Unit {0}
+LentOnlyAhead (event {h = h} e x) i = AtLoan (λ m j. j ≡ i → ⊥) e h × LentOnlyAhead x i
+LentOnlyAhead (ahead j p x) i = LentOnlyAhead x i
 
 abbrev pub AheadInOrderOn : Card → Plan → Type 0
 AheadInOrderOn c P =
     (calls₁ calls₂ : List Call) (x : WithAhead (run c P calls₁ .history) (run c P calls₂ .history))
-    → EachReady P (sendingOf x) → SendersInTurn P x → NoneTakenAlone x → (i : ℕ) → FirstFirst P (sendingOf x) i → LeaveInOrder P (sendingOf x) i
+    → EachReady P (sendingOf x) → SendersHaveRoom P x → NoneTakenAlone x → (i : ℕ) → FirstFirst P (sendingOf x) i
+    → LentOnlyAhead (sendingOf x) i → LeaveInOrder P (sendingOf x) i
 
 -- That the paper's card keeps it is `ahead-in-order`, in proofs/AheadInOrder.antt.
 abbrev pub AheadInOrder : Card → Type 0
@@ -168,11 +181,22 @@ AheadInOrder c = (bytes : List ℕ) → refusal bytes ≡ 0 → AheadInOrderOn c
 
 -- ---- by the run with sending ahead alone
 
--- each flow that sends ahead is in turn at each of its requests in the second run
+-- The two promises above ask for room in the first run. It is enough that it is there in the second, or that the flow is in turn there.
+abbrev pub SendersHaveRoomThere : Plan → {h₁ h₂ : History} → WithAhead h₁ h₂ → Type 0
+SendersHaveRoomThere P {h₁} {h₂} x = (i : ℕ) → 0 < latest P x i → Each (AsksAt HasRoom P i) h₂
+
 abbrev pub SendersInTurnThere : Plan → {h₁ h₂ : History} → WithAhead h₁ h₂ → Type 0
 SendersInTurnThere P {h₁} {h₂} x = (i : ℕ) → 0 < latest P x i → Each (AsksAt InTurn P i) h₂
 
--- Then it was so in the first run too. That it is so on the paper's card is `in-turn-without`, in proofs/InTurnWithout.antt.
+-- Then it was so in the first run too. On the paper's card that is `room-without` and `in-turn-without`, in proofs/InTurnWithout.antt.
+abbrev pub RoomWithoutOn : Card → Plan → Type 0
+RoomWithoutOn c P =
+    (calls₁ calls₂ : List Call) (x : WithAhead (run c P calls₁ .history) (run c P calls₂ .history))
+    → EachReady P (sendingOf x) → NoneTakenAlone x → SendersHaveRoomThere P x → SendersHaveRoom P x
+
+abbrev pub RoomWithout : Card → Type 0
+RoomWithout c = (bytes : List ℕ) → refusal bytes ≡ 0 → RoomWithoutOn c (planOf bytes)
+
 abbrev pub InTurnWithoutOn : Card → Plan → Type 0
 InTurnWithoutOn c P =
     (calls₁ calls₂ : List Call) (x : WithAhead (run c P calls₁ .history) (run c P calls₂ .history))

@@ -5,12 +5,15 @@ a link get the same calls; the pairs stand in the second alone.
 Tiles of the stream, which is flow 0 on each link, are asked for on a later
 link by the slot that the one before granted, in that slot or ahead of it, and
 each grant there gives a cell of the link before back.  Other flows are greedy,
-ask oddly, and give back when they like.
+ask oddly, and give back when they like.  Where there are resets, both runs of
+a link have them: nobody asks for a while, cells come back, and tiles that wait
+are sent ahead all the same.
 """
 
 import call_bytes
 from generator import departures, good_plans, neighbours
 from generator.call_file import CallFile
+from generator.resets import return_cells
 from simulator.ahead import Tiles, due_slot, send_ahead
 from simulator.lend import taken
 from simulator.records import ALLCALLS
@@ -67,6 +70,9 @@ class Twice:
 
     def tick(self):
         self.record(call_bytes.TICK)
+
+    def reset(self):
+        self.record(call_bytes.RESET)
 
     # ---- what is lent
 
@@ -201,9 +207,29 @@ class Way:
         for link in self.links:
             link.tick()
 
+    def quiet_slot(self):
+        """Nobody asks; cells come back, and a reset is tried now and then, in
+        both runs, before a tile is sent ahead or after it."""
+        dice = self.dice
+        for link in self.links:
+            if dice.chance(50):
+                return_cells(dice, link, 20)
+            if dice.chance(20):
+                link.reset()
+            if dice.chance(self.often):
+                link.send_ahead(dice, self.kind.careless)
+            if dice.chance(30):
+                link.reset()
+        for link in self.links:
+            link.tick()
+
     def files(self):
         """The two files of each link."""
-        frame_slots = self.links[0].plan.frame_slots
-        for _ in range(frame_slots * self.dice.between(2, self.kind.frames)):
-            self.slot()
+        plan, dice = self.links[0].plan, self.dice
+        for _ in range(dice.between(2, self.kind.frames)):
+            for _ in range(plan.frame_slots):
+                self.slot()
+            if self.kind.resets and dice.chance(40):
+                for _ in range(dice.between(1, plan.slots)):
+                    self.quiet_slot()
         return [link.files() for link in self.links]
