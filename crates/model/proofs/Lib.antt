@@ -54,6 +54,7 @@ pub mod ListingMeets
 pub mod Holding
 pub mod Buffer
 pub mod QuantumNumbers
+pub mod EventsOfRuns
 pub mod TwoHops
 pub mod RequestsAlike
 pub mod AsFresh
@@ -63,7 +64,6 @@ pub mod TurnCounts
 pub mod LookFrom
 pub mod Waiting
 pub mod Fairness
-pub mod EventsOfRuns
 pub mod AskedInFrames
 pub mod AskingUntil11
 pub mod NewestGrants
