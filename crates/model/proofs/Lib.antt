@@ -117,11 +117,13 @@ pub mod BadHistories
 pub mod BadCards
 pub mod BadLends
 pub mod BadDepartures
+pub mod BadHops
 pub mod BadResets
 pub mod FairDecided
 pub mod BadTurns
 pub mod TwoHeads
 pub mod BadNumbers
+pub mod BadBursts
 pub mod PersistentStream
 pub mod StreamAfterReset
 pub mod OtherPremises

@@ -70,5 +70,6 @@ pub mod BadDepartures
 pub mod BadResets
 pub mod BadTurns
 pub mod BadNumbers
+pub mod BadBursts
 pub mod BadDelays
 pub mod BadSendings
