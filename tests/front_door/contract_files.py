@@ -119,40 +119,52 @@ def quantified(text):
 
 class Definitions:
     """Those of a file of specs/: for each name the types that it stands for,
-    a record's by its fields."""
+    a record's by its fields, another's by its equations."""
 
-    def __init__(self, path):
-        self.path = path
-        text = COMMENT.sub("", path.read_text(encoding="utf-8"))
-        self.uses = text
+    def __init__(self, crate, module):
+        self.crate, self.module = crate, module
+        self.path = (CRATES / crate / "specs"
+                     / (module.replace(".", "/") + ".antt"))
+        self.text = COMMENT.sub("", self.path.read_text(encoding="utf-8"))
         self.types = {}
-        blocks = re.split(r"^(?=\S)", text, flags=re.MULTILINE)
-        for block, after in zip(blocks, blocks[1:] + [""]):
-            self.take(block, after)
+        current = None
+        for block in re.split(r"^(?=\S)", self.text, flags=re.MULTILINE):
+            current = self.taken(block, current)
 
-    def take(self, block, after):
-        record = RECORD.match(block)
+    def taken(self, block, current):
+        """Takes a block.  The name whose equations may follow, or None."""
+        record, given = RECORD.match(block), GIVEN.match(block)
         if record:
-            fields = re.sub(r"\n {4,}", " ", block).splitlines()[1:]
+            lines = re.sub(r"\n {4,}", " ", block).splitlines()[1:]
             self.types[record.group(1)] = [
-                FIELD.match(line).groups() for line in fields
-                if FIELD.match(line)]
-            return
-        given = GIVEN.match(block)
-        if given and re.search(r"→ Type 0\s*$|: Type 0\s*$", block):
-            name, _, body = after.partition(" =")
-            if name.split() and name.split()[0] == given.group(1):
-                self.types[given.group(1)] = [("", " ".join(body.split()))]
+                field.groups() for field in map(FIELD.match, lines) if field]
+        elif given and re.search(r"[→:] Type 0\s*$", block):
+            self.types[given.group(1)] = []
+            return given.group(1)
+        elif current and block.split()[:1] == [current]:
+            body = block.partition(" =")[2]
+            self.types[current].append(("", " ".join(body.split())))
+            return current
+        return None
+
+    def names(self):
+        """What a word in this file may stand for."""
+        own = {name: (self.crate, self.module, name) for name in self.types}
+        names, aliases = imported(self.text, USE)
+        return {**own, **names}, aliases
 
 
 @lru_cache(maxsize=None)
 def definitions(crate, module):
-    path = CRATES / crate / "specs" / (module.replace(".", "/") + ".antt")
-    return Definitions(path) if path.is_file() else None
+    try:
+        return Definitions(crate, module)
+    except FileNotFoundError:
+        return None
 
 
 def imported(text, pattern):
-    """For each name, or alias and name, the crate and the module it is of."""
+    """For each name the crate, the module and the name there that it stands
+    for, and for each alias the crate and the module."""
     names, aliases = {}, {}
     for crate, module, chosen, alias in pattern.findall(text):
         if alias:
@@ -165,7 +177,7 @@ def imported(text, pattern):
 
 
 def resolved(word, names, aliases):
-    """The definitions and the name that a word stands for, or None."""
+    """The file and the name of the definition that a word is, or None."""
     alias, dot, name = word.partition(".")
     if dot and alias in aliases:
         crate, module = aliases[alias]
@@ -175,3 +187,54 @@ def resolved(word, names, aliases):
         return None
     found = definitions(crate, module)
     return (found, name) if found and name in found.types else None
+
+
+# ---- what a promise speaks of
+
+class Spoken:
+    """Something that a promise says of all that meet a condition."""
+
+    def __init__(self, function, clause, where, bound, asked):
+        self.function = function
+        self.clause = clause
+        self.where = where      # the definition that says it, or None
+        self.bound = bound
+        self.asked = asked
+
+
+class Reader:
+    """Reads one promise of a function, with the definitions it is made of."""
+
+    def __init__(self, function, clause):
+        self.function, self.clause = function, clause
+        self.read, self.found, self.unknown = set(), [], set()
+        source = function.path.read_text(encoding="utf-8")
+        self.take(clause.text, *imported(source, GHOST), None)
+
+    def take(self, text, names, aliases, where):
+        for part in parts(bare(text), " × "):
+            bound, asked, says = quantified(part)
+            if asked:
+                self.found.append(Spoken(self.function, self.clause, where,
+                                         bound, asked))
+            word = bare(says).split()[0] if says.split() else ""
+            definition = resolved(word, names, aliases)
+            if definition:
+                self.define(*definition)
+            elif re.match(r"(\w+\.)?[A-Z]\w", word):
+                self.unknown.add(word)
+
+    def define(self, file, name):
+        if (file.path, name) in self.read:
+            return
+        self.read.add((file.path, name))
+        where = "%s/%s %s" % (file.crate, file.module, name)
+        for field, text in file.types[name]:
+            self.take(text, *file.names(), where)
+
+
+@lru_cache(maxsize=None)
+def promises():
+    """Every promise of every function, read."""
+    return [Reader(each, clause) for each in functions()
+            for clause in each.ensures]
