@@ -21,10 +21,15 @@ CULPRITS = [
     ("4 2 4  1 3 1 9  1 2 2 9", 7, "they add to 5, and N is 4"),
     ("08 2 4  09 1 1 9", 4, "flow 0 has share 9"),
 ]
+# The same of numbers that no plan file has room for.
+TOO_WIDE = [
+    ("4 2 4095  1 255 1 9  1 256 2 9", 4, "flow 1 has 256 cells"),
+    ("4 2 65536  1 1 1 9", 3, "N is 65536"),
+]
 
 
 def of_numbers(tree):
-    for numbers, refusal, words in CULPRITS:
+    for numbers, refusal, words in CULPRITS + TOO_WIDE:
         ended = tree.start(*numbers.split())
         wrong = trouble(ended, REFUSED, b"", "; here " + words,
                         what_to_do(refusal))
