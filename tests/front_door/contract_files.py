@@ -39,6 +39,7 @@ class Function:
         self.crate = path.relative_to(CRATES).parts[0]
         self.name = name
         self.shown = shown              # for others, or None
+        self.signature = ""
         self.requires = []
         self.ensures = []
 
@@ -65,6 +66,8 @@ def functions_of(path):
         each = Function(path, head.group(3), head.group(2))
         end = after.start() if after else len(text)
         place = head.end()
+        each.signature = re.split(r"\n *(?:requires|ensures)\b|\{",
+                                  text[place:end])[0]
         while True:
             clause = CLAUSE.search(text, place, end)
             if not clause:

@@ -17,7 +17,7 @@ import re
 from front_door.contract_files import (
     CRATES, Clause, Reader, functions, promises)
 from front_door.pages import page
-from front_door.proof_files import MEASURING, declarations
+from front_door.proof_files import declarations
 
 ONE_LINK = ("link/proofs/OneState.antt", "one-link", "SoundLink")
 # For each definition the theorem after which it leaves one answer, its file,
@@ -152,9 +152,9 @@ def shown():
 
 
 def each_promises_something():
-    """But for those that print and read clocks."""
-    wrong = [each.title() for each in shown()
-             if not each.ensures and each.crate not in MEASURING]
+    """But for those that hand nothing back, and change nothing."""
+    wrong = [each.title() for each in shown() if not each.ensures
+             and ("->" in each.signature or "&mut" in each.signature)]
     return wrong and "no ensures: " + ", ".join(wrong)
 
 
