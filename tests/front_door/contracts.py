@@ -7,13 +7,14 @@ Each promise, and each definition that it is made of, is read for the shape
 
 - some number meets the condition: `i < 16`, or 'not 0';
 - the function asks that there is one: `SomeRequest`, with the same condition;
-- another promise of the function is an equation of what it hands back;
+- another promise of the function is an equation of what it hands back, `r`;
 - SETTLED names a theorem that says so.
 
 A function or a definition with such a promise and nothing of these is told."""
 
 import re
 
+from front_door.command import ROOT, start, trouble
 from front_door.contract_files import (
     CRATES, Clause, Reader, functions, promises)
 from front_door.pages import page
@@ -56,7 +57,7 @@ INVARIANT = re.compile(
 ROOM = re.compile(r"((said\.)?room|7|100) ≤ length \(now out\)$")
 BELOW = re.compile(r"(\w+) < [1-9]\d*$")
 NOT_ZERO = re.compile(r"\((\w+) ≡ 0 → ⊥\)$")
-EQUATION = re.compile(r"(r|now \(\w+ \.exit\)) ≡ ")
+EQUATION = re.compile(r"r ≡ ")
 
 
 # ---- that there is one
@@ -232,9 +233,21 @@ def a_silent_one_is_told():
     return "; ".join(wrong)
 
 
+def the_list_has_each():
+    """What tests/contracts writes, and how it ends with a word too many."""
+    ended = start([ROOT / "tests/contracts"])
+    lines = ended.output.decode().splitlines()
+    lost = [each.title() for each in shown() if each.title() not in lines]
+    return trouble(ended, 0) or "; ".join(lost) or (
+        lines[-1] != "Of the %s." % counted() and lines[-1]) or trouble(
+            start([ROOT / "tests/contracts", "all"]), 2, b"",
+            "tests/contracts: it takes no words")
+
+
 TESTS = (none_is_silent, each_definition_is_found, the_theorems_are_there,
          each_promises_something, the_decision_counts_them,
-         each_that_asks_more_is_in_a_group, a_silent_one_is_told)
+         each_that_asks_more_is_in_a_group, a_silent_one_is_told,
+         the_list_has_each)
 
 
 def tests(_):
