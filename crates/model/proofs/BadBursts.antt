@@ -4,7 +4,7 @@ use mathlib.Core.Path.{_≡_, refl, ap}
 use mathlib.Core.List.{List, _∷_, [], _++_, flatMap}
 use native.Mathlib.Omega.{arith}
 use lib.ListN.{replicate}
-use Rattle.model.specs.Plan.{planOf}
+use Rattle.model.specs.Plan.{planOf, Accepted}
 use Rattle.model.specs.Link.{Link}
 use Rattle.model.specs.History.{grantedInAll}
 use Rattle.model.specs.Burst.{Ask, Burst}
@@ -13,6 +13,7 @@ use Rattle.model.specs.CountedBursts.{Item, several, playWith, BurstsCou
 use Rattle.model.specs.QuantumNumbers.{expectedOn}
 use Rattle.model.specs.PlanBytes.{listing}
 use Rattle.model.specs.BadBursts.{handlesSeventeen, handlesFifteen, onOneLink, stopsAtRefusal, writesNoResult}
+use Rattle.model.proofs.Plan.{accepted}
 use Rattle.model.proofs.Unfoldings.{plans-compute, calls-compute, bursts-compute, counts-compute}
 
 -- a record as it is lent
@@ -37,27 +38,31 @@ byLink r = expectedOn (r .state) 0
 abbrev byEvents : Played paper → ℕ
 byEvents r = grantedInAll (planOf listing) (r .history) 0
 
+passes : Accepted (planOf listing)
+unfolding plans-compute
+passes = accepted listing refl
+
 unfoldable items-compute : Unit {0}
 unfolding flatMap playWith plans-compute calls-compute bursts-compute counts-compute
 items-compute = tt
 
 pub handles-seventeen : BurstsCounted handlesSeventeen → ⊥
 unfolding items-compute
-handles-seventeen counted = let z : _≡_ {A = ℕ} 1 0 = ap byLink (counted listing refl (burstOf 16 (first ∷ []))) in omega arith
+handles-seventeen counted = let z : _≡_ {A = ℕ} 1 0 = ap byLink (counted (planOf listing) passes (burstOf 16 (first ∷ []))) in omega arith
 
 pub handles-fifteen : BurstsCounted handlesFifteen → ⊥
 unfolding items-compute
-handles-fifteen counted = let z : _≡_ {A = ℕ} 0 1 = ap byLink (counted listing refl (burstOf 15 (first ∷ []))) in omega arith
+handles-fifteen counted = let z : _≡_ {A = ℕ} 0 1 = ap byLink (counted (planOf listing) passes (burstOf 15 (first ∷ []))) in omega arith
 
 -- quantum 1 is refused with 24, and then nothing is booked
 pub on-one-link : BurstsCounted onOneLink → ⊥
 unfolding items-compute
-on-one-link counted = let z : _≡_ {A = ℕ} 0 2 = ap byLink (counted listing refl (burstOf 0 (first ∷ second ∷ []))) in omega arith
+on-one-link counted = let z : _≡_ {A = ℕ} 0 2 = ap byLink (counted (planOf listing) passes (burstOf 0 (first ∷ second ∷ []))) in omega arith
 
 pub stops-at-refusal : BurstsCounted stopsAtRefusal → ⊥
 unfolding items-compute
-stops-at-refusal counted = let z : _≡_ {A = ℕ} 0 1 = ap byLink (counted listing refl (burstOf 1 (first ∷ []))) in omega arith
+stops-at-refusal counted = let z : _≡_ {A = ℕ} 0 1 = ap byLink (counted (planOf listing) passes (burstOf 1 (first ∷ []))) in omega arith
 
 pub writes-no-result : BurstsCounted writesNoResult → ⊥
 unfolding items-compute
-writes-no-result counted = let z : _≡_ {A = ℕ} 0 1 = ap byEvents (counted listing refl (burstOf 0 (first ∷ []))) in omega arith
+writes-no-result counted = let z : _≡_ {A = ℕ} 0 1 = ap byEvents (counted (planOf listing) passes (burstOf 0 (first ∷ []))) in omega arith

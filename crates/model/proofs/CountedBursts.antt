@@ -109,11 +109,11 @@ items-counted r g (several xs ∷ items) =
     ∙ sym (play-both r cs (replaced items))
 
 pub bursts-counted : BurstsCounted burst
-bursts-counted bytes passes items = items-counted (started paper (planOf bytes)) (after-fresh (plan.accepted bytes passes)) items
+bursts-counted P ok items = items-counted (started paper P) (after-fresh ok) items
 
 -- and so demand 3 is met of what its caller sees
 pub bursts-meet : (bytes : List ℕ) → refusal bytes ≡ 0 → (items : List Item) (i : ℕ) → i < flowCount (planOf bytes)
     → Demand3 (planOf bytes) i (runWith burst (planOf bytes) items .history)
 bursts-meet bytes passes items i known =
-    subst (λ r. Demand3 (planOf bytes) i (r .history)) (sym (bursts-counted bytes passes items))
+    subst (λ r. Demand3 (planOf bytes) i (r .history)) (sym (bursts-counted (planOf bytes) (plan.accepted bytes passes) items))
     (meets bytes passes (replaced items) i known)

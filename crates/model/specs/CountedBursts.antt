@@ -1,12 +1,11 @@
 -- Lists of calls with bursts, as demand 3 counts them. Document 02, N7. Assumes nothing.
-use Prim.Native.Nat.{ℕ}
 use mathlib.Core.Path.{_≡_}
 use mathlib.Core.List.{List, _∷_, [], _++_, map, flatMap, reverse}
 use mathlib.Core.Bool.{cond}
 use lib.ListN.{take}
 use lib.Dec.{eqb}
 use Rattle.model.specs.Word.{depart}
-use Rattle.model.specs.Plan.{Plan, planOf, refusal}
+use Rattle.model.specs.Plan.{Plan, Accepted}
 use Rattle.model.specs.Calls.{Call, Grant, Event, History, requested, accepted, refused}
 use Rattle.model.specs.Link.{Link}
 use Rattle.model.specs.Burst.{Ask, Burst}
@@ -57,4 +56,4 @@ runWith bursts P items = playWith bursts (started paper P) items
 
 -- "in demand 3's list a burst counts as those requests": a list with bursts comes to the link and the events of the list without. RULES 21.2.
 abbrev pub BurstsCounted : (Link → List Ask → Burst) → Type 0
-BurstsCounted bursts = (bytes : List ℕ) → refusal bytes ≡ 0 → (items : List Item) → runWith bursts (planOf bytes) items ≡ run paper (planOf bytes) (replaced items)
+BurstsCounted bursts = (P : Plan) → Accepted P → (items : List Item) → runWith bursts P items ≡ run paper P (replaced items)
