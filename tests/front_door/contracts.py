@@ -58,6 +58,8 @@ ROOM = re.compile(r"((said\.)?room|7|100) ≤ length \(now out\)$")
 BELOW = re.compile(r"(\w+) < [1-9]\d*$")
 NOT_ZERO = re.compile(r"\((\w+) ≡ 0 → ⊥\)$")
 EQUATION = re.compile(r"r ≡ ")
+BOUND = re.compile(r"r [≤<] [^×≡]*$")
+CLOCKS = {"timing::clock::" + name for name in ("nanoseconds", "since", "cost")}
 
 
 # ---- that there is one
@@ -152,11 +154,18 @@ def shown():
     return [each for each in functions() if each.shown == "pub "]
 
 
+def says_too_little(function):
+    """It hands something back or changes it, and promises a bound at most."""
+    bounds = [BOUND.match(clause.text) for clause in function.ensures]
+    return all(bounds) and ("->" in function.signature
+                            or "&mut" in function.signature)
+
+
 def each_promises_something():
-    """But for those that hand nothing back, and change nothing."""
-    wrong = [each.title() for each in shown() if not each.ensures
-             and ("->" in each.signature or "&mut" in each.signature)]
-    return wrong and "no ensures: " + ", ".join(wrong)
+    """More than a bound, but for what a clock says."""
+    wrong = {each.title() for each in shown() if says_too_little(each)}
+    return wrong != CLOCKS and "nothing or a bound alone: " + ", ".join(
+        sorted(wrong ^ CLOCKS))
 
 
 def asks(function):
