@@ -59,7 +59,8 @@ BELOW = re.compile(r"(\w+) < [1-9]\d*$")
 NOT_ZERO = re.compile(r"\((\w+) ≡ 0 → ⊥\)$")
 EQUATION = re.compile(r"r ≡ ")
 BOUND = re.compile(r"r [≤<] [^×≡]*$")
-CLOCKS = {"timing::clock::" + name for name in ("nanoseconds", "since", "cost")}
+CLOCKS = {"timing::clock::" + name
+          for name in ("nanoseconds", "since", "cost")}
 
 
 # ---- that there is one

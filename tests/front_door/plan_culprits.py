@@ -51,7 +51,13 @@ def of_a_file(tree):
     return None
 
 
-TESTS = (of_numbers, of_a_file)
+def of_wide_cells(tree):
+    """The sentence of 4 says that there may be too many cells, too."""
+    ended = tree.start(*TOO_WIDE[0][0].split())
+    return trouble(ended, REFUSED, b"", "its cells are 0 or above 255")
+
+
+TESTS = (of_numbers, of_a_file, of_wide_cells)
 
 
 def tests(programs):
