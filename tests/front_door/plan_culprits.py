@@ -53,8 +53,9 @@ def of_a_file(tree):
 
 def of_wide_cells(tree):
     """The sentence of 4 says that there may be too many cells, too."""
-    ended = tree.start(*TOO_WIDE[0][0].split())
-    return trouble(ended, REFUSED, b"", "its cells are 0 or above 255")
+    numbers, refusal, words = TOO_WIDE[0]
+    return trouble(tree.start(*numbers.split()), REFUSED, b"",
+                   "its cells are 0 or above 255", what_to_do(refusal))
 
 
 TESTS = (of_numbers, of_a_file, of_wide_cells)
