@@ -33,12 +33,13 @@ from front_door import (
     plan_week, plan_wrong_words, play_explain, play_files, play_lost_output,
     play_options, play_states, progress, readme, remedies, rules_page,
     singular, slow_reader, tests_lost_output, versions, wrong_arguments)
-from front_door import desk_page, page_links, program_stacks, proved_page
+from front_door import (
+    contracts, desk_page, page_links, program_stacks, proved_page)
 from images import self_tests
 from pairs import wrong_pairs
 from ways import wrong_ways
 
-PAGES = (proved_page, program_stacks, desk_page, page_links)
+PAGES = (proved_page, contracts, program_stacks, desk_page, page_links)
 FRONT_DOOR = (
     decisions_page, architecture_page, doc_names, play_files, play_lost_output,
     play_explain, play_options, play_states, pictures, picture_sizes,

@@ -21,10 +21,15 @@ CULPRITS = [
     ("4 2 4  1 3 1 9  1 2 2 9", 7, "they add to 5, and N is 4"),
     ("08 2 4  09 1 1 9", 4, "flow 0 has share 9"),
 ]
+# The same of numbers that no plan file has room for.
+TOO_WIDE = [
+    ("4 2 4095  1 255 1 9  1 256 2 9", 4, "flow 1 has 256 cells"),
+    ("4 2 65536  1 1 1 9", 3, "N is 65536"),
+]
 
 
 def of_numbers(tree):
-    for numbers, refusal, words in CULPRITS:
+    for numbers, refusal, words in CULPRITS + TOO_WIDE:
         ended = tree.start(*numbers.split())
         wrong = trouble(ended, REFUSED, b"", "; here " + words,
                         what_to_do(refusal))
@@ -46,7 +51,14 @@ def of_a_file(tree):
     return None
 
 
-TESTS = (of_numbers, of_a_file)
+def of_wide_cells(tree):
+    """The sentence of 4 says that there may be too many cells, too."""
+    numbers, refusal, words = TOO_WIDE[0]
+    return trouble(tree.start(*numbers.split()), REFUSED, b"",
+                   "its cells are 0 or above 255", what_to_do(refusal))
+
+
+TESTS = (of_numbers, of_a_file, of_wide_cells)
 
 
 def tests(programs):

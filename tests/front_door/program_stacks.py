@@ -1,18 +1,25 @@
 """How much stack the programs take: what docs/PROVED.md says of it holds, from
 above and from below."""
 
+import re
+
 from front_door.command import ROOT, start
 from front_door.pages import page, table
 
 ABOVE, BELOW = 16, 32           # KB with which it has to suffice, or not
 QUESTION = b"count 4 2\n"
+LOST = re.compile(r"under `ulimit -s (\d+)` it ends by a signal and has "
+                  r"written nothing$")
+
+
+def rows():
+    return [(name.strip("`"), stack) for name, stack in
+            table(page("docs/PROVED.md"), "Program or call") if " KB" in stack]
 
 
 def told():
     """The KB that the page has for each program."""
-    rows = table(page("docs/PROVED.md"), "Program or call")
-    return {name.strip("`"): int(stack.partition(" KB")[0])
-            for name, stack in rows if " KB" in stack}
+    return {name: int(stack.partition(" KB")[0]) for name, stack in rows()}
 
 
 def input_of(name):
@@ -38,6 +45,18 @@ def wrong_figure(name, program):
     return less.status >= 0 and "it does with %d KB" % (stack - BELOW)
 
 
+def wrong_end(programs):
+    """The page says of a program how it ends with too little, and it does."""
+    found = [(name, LOST.search(stack)) for name, stack in rows()]
+    found = [(name, limit.group(1)) for name, limit in found if limit]
+    for name, limit in found:
+        ended = with_stack(programs[name], limit, input_of(name))
+        if ended.status >= 0 or ended.output:
+            return "%s with %s KB: status %d, %d bytes" % (
+                name, limit, ended.status, len(ended.output))
+    return not found and "it says so of no program"
+
+
 def all_programs(programs):
     return told().keys() != programs.keys() and "told of: %s" % sorted(told())
 
@@ -45,6 +64,8 @@ def all_programs(programs):
 def tests(programs):
     yield "docs: proved, the stack of all programs", (
         lambda: all_programs(programs))
+    yield ("docs: proved, a program with too little stack ends as told",
+           lambda: wrong_end(programs))
     for name in sorted(programs):
         yield ("docs: proved, the stack of %s" % name,
                lambda name=name: wrong_figure(name, programs[name]))

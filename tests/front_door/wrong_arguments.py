@@ -8,8 +8,10 @@ from pathlib import Path
 
 from front_door.command import ROOT, start, trouble
 
-BUILT = ("bin/domelink", "bin/allcalls", "bin/domeplan",
-         "staticlib/libimage.a")        # what tests/run needs
+PROGRAMS = "rt check domelink allcalls domeplan"
+BUILT = {                     # what tests/run needs, and what makes it
+    "bin/domelink": PROGRAMS, "bin/allcalls": PROGRAMS,
+    "bin/domeplan": PROGRAMS, "staticlib/libimage.a": "rt staticlib image"}
 MISSING = os.path.join(os.sep, "nowhere", "calls")
 
 # Arguments of tests/run, and words of the sentence.
@@ -104,8 +106,8 @@ def without_built(name):
             built.parent.mkdir(parents=True, exist_ok=True)
             if built != target / name:
                 os.symlink(sys.executable, built)
-        return refused("tests/run", [], " at %s" % (target.resolve() / name),
-                       root)
+        return refused("tests/run", [], " at %s; `%s` makes it" % (
+            target.resolve() / name, BUILT[name]), root)
 
 
 def tests(programs):

@@ -2,6 +2,7 @@
 pub mod TurnedBack
 pub mod Stepping
 pub mod FreshImages
--- demand 3 of a host's calls, and sending ahead
+-- demand 3 of a host's calls, sending ahead, the next board
 pub mod Demand3
 pub mod SendingAhead
+pub mod Boards

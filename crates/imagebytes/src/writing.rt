@@ -18,6 +18,7 @@ use plan::Plan;
 use state::CURRENT;
 use state::MARK;
 use state::OWNERS;
+use state::ROW;
 use state::State;
 use state::TURN;
 use taken::layout::layout_of;
@@ -65,7 +66,7 @@ fn put_flow(s: &State, i: usize, size: usize, image: &mut [u8], at: usize) -> us
     let flow = flow_at(s, i);
     let start = [flow.frame, flow.left];
     let next = put_all(&start, image, at);
-    let last = put_part(s, 256 * i, size, image, next);
+    let last = put_part(s, ROW * i, size, image, next);
     put(flow.number, image, last)
 }
 

@@ -32,6 +32,7 @@ mod StateTicks
 pub mod Told
 pub mod Demand3
 pub mod SendingAhead
+pub mod Boards
 -- a state taken up again
 mod OwnerMasks
 pub mod Resumed

@@ -63,17 +63,25 @@ module _ (l : Parts) (s : Sound l) (v : Window) (is : v ≡ model.window (linkOf
       let leaves = canLeave (model.window (linkOf l)) d p in
       rw (valid-same p hp, is) (and-assoc (unbooked (ownerOf (ownerAt l p))) (lateAt (model.window (linkOf l)) (flowAt l i .held) (entryAt l i .cells) p) leaves)
 
+  -- a frame's word of slots, for two tests that agree on the window
+  slots-same : (here there : ℕ → Bool) → ((p : ℕ) → p < sizeOf l → there p ≡ here p) → (j word : ℕ) → j < v .frames
+      → ValidSlots v here j word → ValidSlots v there j word
+  slots-same here there same j word hj x = record { is = λ k. x .is k ∙ go k (decLt k (v .slots)) }
+    where
+      fits : (k : ℕ) → k < v .slots → j * v .slots + k < sizeOf l
+      fits k h = rw (← read-size l is) (omega (arith, frame-fits (v .slots) (v .frames) j hj))
+
+      go : (k : ℕ) → Dec (k < v .slots) → ltb k (v .slots) && here (j * v .slots + k) ≡ ltb k (v .slots) && there (j * v .slots + k)
+      go k (yes h) = ap (ltb k (v .slots) &&_) (sym (same (j * v .slots + k) (fits k h)))
+      go k (no h) = rw (le-ltb k (v .slots) (omega arith))
+
   -- a frame's word of valid slots has the positions that are valid by the paper
   pub valid-slots-same : (j word : ℕ) → j < v .frames → ValidSlots v validHere j word → ValidSlots v (valid (linkOf l) i) j word
-  valid-slots-same j word hj x = record { is = λ k. x .is k ∙ go k (decLt k (v .slots)) }
-    where
-      there : (k : ℕ) → k < v .slots → j * v .slots + k < sizeOf l
-      there k h = rw (← read-size l is) (omega (arith, frame-fits (v .slots) (v .frames) j hj))
+  valid-slots-same = slots-same validHere (valid (linkOf l) i) valid-same
 
-      go : (k : ℕ) → Dec (k < v .slots)
-          → ltb k (v .slots) && validHere (j * v .slots + k) ≡ ltb k (v .slots) && valid (linkOf l) i (j * v .slots + k)
-      go k (yes h) = ap (ltb k (v .slots) &&_) (sym (valid-same (j * v .slots + k) (there k h)))
-      go k (no h) = rw (le-ltb k (v .slots) (omega arith))
+  -- and the word that a request with departure d is answered from, those that are valid for it
+  pub valid-slots-for : (d j word : ℕ) → j < v .frames → ValidSlots v (validAfter d) j word → ValidSlots v (validFor (linkOf l) i d) j word
+  valid-slots-for d = slots-same (validAfter d) (validFor (linkOf l) i d) (after-same d)
 
   two : 2 ≤ v .frames
   two = rw (read-frames l is) (s .plan .accepted .two-frames)

@@ -83,7 +83,7 @@ module _ (l : Link) (ok : Accepted (l .plan)) (below : l .current < positions (l
     });
   }
 
-pub goes-on-as-fresh : GoesOnAsFresh
+pub goes-on-as-fresh : GoesOnAsFresh reset
 unfolding renewed fresh
 goes-on-as-fresh l ok below e words =
     let was-quiet = granted-quiet l e in
@@ -121,7 +121,7 @@ module _ (l : Link) (below : l .current < positions (l .plan)) (found : Quiet l)
       (table-same (flowCount P) _ _ (λ i known. ap (λ x. movedTo x (head (window l)) (entry P i .share)) (from-head i known)))
       (ap (λ o. not (unbooked o) || renewed l .taken) (emptied (l .current) below))
 
-pub twice-is-once : TwiceIsOnce
+pub twice-is-once : TwiceIsOnce reset
 twice-is-once l below e =
     let was-quiet = granted-quiet l e in
     let q = quiet-parts l was-quiet in
@@ -161,5 +161,5 @@ module _ (P : Plan) (ok : Accepted P) where
       ∙ ap (λ o. linkWith (fresh P) 0 (replicate (positions P) none) (table (flowCount P) (freshFlow P)) (not (unbooked o) || false) 0)
       (unowned 0 (some-position ok))
 
-pub fresh-stays : FreshStays
+pub fresh-stays : FreshStays reset
 fresh-stays P ok = quiet-granted (fresh P) (rw (none-booked P ok, none-held P ok)) ∙ ap (λ l. record { link = l; answer = accepted tt }) (fresh-again P ok)

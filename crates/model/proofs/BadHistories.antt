@@ -10,7 +10,8 @@ use lib.ListN.{length, getD}
 use Rattle.model.specs.Plan.{Plan, planOf}
 use Rattle.model.specs.Calls.{History}
 use Rattle.model.specs.Claim.{Clause}
-use Rattle.model.specs.BadHistories.{BreaksAlone, BadHistory, AllBreak, badHistories, overfull, Overfills, JustFits}
+use Rattle.model.specs.BadHistories.{BreaksAlone, BadHistory, AllBreak, badHistories, overfull, Overfills, JustFits, lentOver, OverfillsByLend}
+use Rattle.model.specs.BadHistories.{JustFitsWithLend, FitsWithCredit}
 use Rattle.model.proofs.Unfoldings.{plans-compute, counts-compute}
 use Rattle.model.proofs.Decidable.{proved, same, implies, all-below}
 use Rattle.model.proofs.ClaimDecided.{decided}
@@ -77,3 +78,15 @@ overfills fits = omega (arith, fits)
 pub just-fits : JustFits
 unfolding overfull counts-compute plans-compute
 just-fits = omega arith
+
+pub overfills-by-lend : OverfillsByLend
+unfolding lentOver counts-compute plans-compute
+overfills-by-lend fits = omega (arith, fits)
+
+pub just-fits-with-lend : JustFitsWithLend
+unfolding lentOver counts-compute plans-compute
+just-fits-with-lend = omega arith
+
+pub fits-with-credit : FitsWithCredit
+unfolding lentOver counts-compute plans-compute
+fits-with-credit = omega arith

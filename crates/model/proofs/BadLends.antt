@@ -7,11 +7,16 @@ use native.Mathlib.Omega.{arith}
 use Rattle.model.specs.Plan.{planOf}
 use Rattle.model.specs.Calls.{Call, History, ticked, lent, accepted, refused}
 use Rattle.model.specs.Claim.{Clause}
-use Rattle.model.specs.Card.{Meets, run, paper}
-use Rattle.model.specs.PlanBytes.{listing}
+use Rattle.model.specs.Card.{Card, Meets, run, paper}
+use Rattle.model.specs.Buffer.{FitsBuffer, NeverOverfull}
+use Rattle.model.specs.PlanBytes.{plan1, listing}
 use Rattle.model.specs.BadLends.{lendsBooked, forgetsMark, holdsNoLoan, lendsToFull, ignoresMask, keepsMark}
 use Rattle.model.proofs.Unfoldings.{calls-compute}
 use Rattle.model.proofs.BadCards.{two-flows, one-cell, sent-back, events-compute}
+
+-- a slot is lent, and the next one
+abbrev lendAgain : List Call
+lendAgain = Call.lend 1 ∷ Call.tick ∷ Call.lend 1 ∷ []
 
 -- slot 1 is granted to flow 0 and lent to flow 1
 pub lends-booked : Meets lendsBooked → ⊥
@@ -26,21 +31,34 @@ forgets-mark = sent-back forgetsMark two-flows (Call.lend 1 ∷ Call.lend 2 ∷ 
 -- slots 0 and 1 are lent to a flow with one cell
 pub holds-no-loan : Meets holdsNoLoan → ⊥
 unfolding events-compute
-holds-no-loan = sent-back holdsNoLoan one-cell (Call.lend 1 ∷ Call.tick ∷ Call.lend 1 ∷ []) Clause.within-cells tt
+holds-no-loan = sent-back holdsNoLoan one-cell lendAgain Clause.within-cells tt
 
 pub lends-to-full : Meets lendsToFull → ⊥
 unfolding events-compute
-lends-to-full = sent-back lendsToFull one-cell (Call.lend 1 ∷ Call.tick ∷ Call.lend 1 ∷ []) Clause.within-cells tt
+lends-to-full = sent-back lendsToFull one-cell lendAgain Clause.within-cells tt
 
 pub ignores-mask : Meets ignoresMask → ⊥
 unfolding events-compute
 ignores-mask = sent-back ignoresMask two-flows (Call.lend 2 ∷ []) Clause.lent-flows tt
 
+-- ---- the next board's buffer: N = 1, one flow with one cell, and slots 0 and 1 are lent to it
+
+one-place : (c : Card) → (FitsBuffer (planOf (plan1 4 2 1 2 1)) (run c (planOf (plan1 4 2 1 2 1)) lendAgain .history) 1 → ⊥) → NeverOverfull c → ⊥
+unfolding events-compute
+one-place c over never = over (never (plan1 4 2 1 2 1) refl lendAgain 1)
+
+pub overfills-with-loan : NeverOverfull holdsNoLoan → ⊥
+unfolding events-compute
+overfills-with-loan = one-place holdsNoLoan (λ fits. omega (arith, fits))
+
+pub overfills-when-full : NeverOverfull lendsToFull → ⊥
+unfolding events-compute
+overfills-when-full = one-place lendsToFull (λ fits. omega (arith, fits))
+
+-- ---- by the answers
+
 -- Demand 3 counts no refused lend, and so does not see a mark that stands past the tick. The answers differ: in the next slot the paper's card lends,
 -- and this one gives 17.
-abbrev lendAgain : List Call
-lendAgain = Call.lend 1 ∷ Call.tick ∷ Call.lend 1 ∷ []
-
 pub kept-mark-answers : run keepsMark (planOf listing) lendAgain .history ≡ lent 1 (refused 17) ∷ ticked none ∷ lent 1 (accepted 0) ∷ []
 unfolding calls-compute
 kept-mark-answers = refl

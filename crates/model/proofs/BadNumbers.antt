@@ -6,11 +6,11 @@ use mathlib.Core.List.{List, _∷_, []}
 use native.Mathlib.Omega.{arith}
 use lib.Dec.{lit<}
 use Rattle.model.specs.Plan.{planOf}
-use Rattle.model.specs.Calls.{Call, requested, accepted, refused}
+use Rattle.model.specs.Calls.{Call, Event, requested, accepted, refused}
 use Rattle.model.specs.Claim.{Clause}
 use Rattle.model.specs.Link.{Link, flow, withFlow, withNumber}
 use Rattle.model.specs.Card.{Meets, run, paper}
-use Rattle.model.specs.QuantumNumbers.{wordsGranted, NumbersInOrder}
+use Rattle.model.specs.QuantumNumbers.{NumberIsCount, expectedOn, wordsGranted, InOrder, NumbersInOrder}
 use Rattle.model.specs.PlanBytes.{listing}
 use Rattle.model.specs.BadNumbers.{ignoresNumber, countsRefusals, oneForAll, countsModulo, restartsNumbers, testsNumberEarly, testsNumberLate}
 use Rattle.model.proofs.Unfoldings.{plans-compute, calls-compute, counts-compute}
@@ -76,6 +76,51 @@ ignores-number in-order =
     let numbers = in-order listing refl (Call.request 0x24000000 ∷ Call.request 0x24000000 ∷ []) 0 (lit< tt) in
     let second : _≡_ {A = ℕ} 0 1 = cc in
     omega arith
+
+-- ---- by the number that the link expects
+
+-- slot 1 is granted, and the word that is refused counts too
+pub count-refusals : NumberIsCount countsRefusals expectedOn → ⊥
+unfolding events-compute
+count-refusals is-count =
+    let z : _≡_ {A = ℕ} 1 0 = is-count listing refl (Call.request 0x24000007 ∷ []) 0 (lit< tt) in
+    omega arith
+
+-- a grant to flow 0 moves flow 1's
+pub count-for-all : NumberIsCount oneForAll expectedOn → ⊥
+unfolding events-compute
+count-for-all is-count =
+    let z : _≡_ {A = ℕ} 1 0 = is-count listing refl (Call.request 0x24000000 ∷ []) 1 (lit< tt) in
+    omega arith
+
+-- a reset leaves it
+pub count-restarts : NumberIsCount restartsNumbers expectedOn → ⊥
+unfolding events-compute
+count-restarts is-count =
+    let z : _≡_ {A = ℕ} 0 1 = is-count listing refl (Call.request 0x24000000 ∷ Call.credit 0 1 ∷ Call.tick ∷ Call.reset ∷ []) 0 (lit< tt) in
+    omega arith
+
+-- ---- by the words of a history: number 2 after 0, and 0 after 1; flow 1's words are not flow 0's
+
+abbrev grants : (w v : ℕ) → Event
+grants w v = requested w (accepted v)
+
+unfoldable words-compute : Unit {0}
+unfolding wordsGranted events-compute
+words-compute = tt
+
+pub numbers-skip : InOrder (planOf listing) 0 (grants 0x24000800 0x24000802 ∷ grants 0x24000000 0x24000001 ∷ []) → ⊥
+unfolding words-compute
+numbers-skip in-order = let z : _≡_ {A = ℕ} 2 1 = cc in omega arith
+
+pub numbers-go-back : InOrder (planOf listing) 0 (grants 0x24000000 0x24000002 ∷ grants 0x24000400 0x24000401 ∷ []) → ⊥
+unfolding words-compute
+numbers-go-back in-order = let z : _≡_ {A = ℕ} 1 0 = cc in omega arith
+
+pub each-flow-its-own :
+    InOrder (planOf listing) 0 (grants 0x24000400 0x24000402 ∷ grants 0x24100000 0x24100003 ∷ grants 0x24000000 0x24000001 ∷ [])
+unfolding words-compute
+each-flow-its-own = refl
 
 -- ---- by the answers
 

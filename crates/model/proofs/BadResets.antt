@@ -1,19 +1,24 @@
 -- Each card that resets wrongly is sent back: by a clause of demand 3, or, where it leaves C or is granted over cells that stay held, by its answers.
 -- Assumes nothing.
-use Prim.Native.Nat.{ℕ}
+use Prim.Native.Nat.{ℕ, suc}
 use mathlib.Core.Path.{_≡_, refl, ap}
 use mathlib.Core.List.{List, _∷_, []}
 use mathlib.Core.Option.{some}
 use native.Mathlib.Omega.{arith}
 use lib.Dec.{lit<}
 use Rattle.model.specs.Plan.{planOf}
-use Rattle.model.specs.Calls.{Call, Event, requested, credited, ticked, lent, accepted}
+use Rattle.model.specs.Tables.{bit}
+use Rattle.model.specs.Calls.{Call, Grant, Renewal, Event, requested, credited, ticked, lent, accepted, refused}
+use Rattle.model.specs.Link.{Link, Step}
 use Rattle.model.specs.History.{grantedIn}
 use Rattle.model.specs.Claim.{Clause}
 use Rattle.model.specs.Card.{Meets, run, paper}
-use Rattle.model.specs.PlanBytes.{plan1, listing, oneShare}
+use Rattle.model.specs.AsFresh.{answersTo, GoesOnAsFresh, TwiceIsOnce, FreshStays}
+use Rattle.model.specs.PlanBytes.{plan1, listing, oneCell, oneShare}
 use Rattle.model.specs.BadResets.{unmarksBooked, unmarksTaken, resetsBooked, zeroesHeld, putsClockBack, leavesFrame, resetsRefused}
-use Rattle.model.specs.BadResets.{leavesRemainder, resetsHeld}
+use Rattle.model.specs.BadResets.{leavesRemainder, resetsHeld, marksAlways}
+use Rattle.model.specs.BadNumbers.{restartsNumbers}
+use Rattle.model.proofs.Plan.{accepted as accepted-plan}
 use Rattle.model.proofs.Unfoldings.{plans-compute, calls-compute, counts-compute}
 use Rattle.model.proofs.BadCards.{Sample, two-flows, one-cell, sent-back, events-compute}
 
@@ -92,3 +97,63 @@ held-reset-answers = refl
 pub resets-held : run resetsHeld (planOf listing) resetHeld .history ≡ run paper (planOf listing) resetHeld .history → ⊥
 unfolding calls-compute
 resets-held e = let z : _≡_ {A = ℕ} 0 1 = cc in omega arith
+
+-- ---- what is not as fresh
+
+-- a card's reset
+abbrev resetOf : (Link → Link × Renewal) → Link → Step Renewal
+resetOf reset l = record { link = reset l .0; answer = reset l .1 }
+
+-- the link after some calls on the paper's card
+abbrev after : List ℕ → List Call → Link
+after bytes calls = run paper (planOf bytes) calls .state
+
+-- how many words are granted among these answers
+unfoldable grantsIn : List Grant → ℕ
+grantsIn [] = 0
+grantsIn (accepted v ∷ answers) = suc (grantsIn answers)
+grantsIn (refused r ∷ answers) = grantsIn answers
+
+unfoldable fresh-computes : Unit {0}
+unfolding events-compute answersTo grantsIn
+fresh-computes = tt
+
+-- The share was spent before the reset: after it, one word is granted where a fresh link grants two.
+abbrev spent : Link
+spent = after oneShare (Call.request 0x24000000 ∷ Call.credit 0 1 ∷ Call.tick ∷ [])
+
+pub goes-on-spent : GoesOnAsFresh (resetOf (leavesRemainder .reset)) → ⊥
+unfolding fresh-computes
+goes-on-spent as-fresh =
+    let z : _≡_ {A = ℕ} 1 2 = ap grantsIn (as-fresh spent (accepted-plan oneShare refl) (lit< tt) refl (0x24000401 ∷ 0x24000801 ∷ [])) in
+    omega arith
+
+-- The only cell is held by a lent slot: nothing is granted where a fresh link grants one.
+abbrev holding : Link
+holding = after oneCell (Call.lend 1 ∷ [])
+
+pub goes-on-held : GoesOnAsFresh (resetOf (resetsHeld .reset)) → ⊥
+unfolding fresh-computes
+goes-on-held as-fresh =
+    let z : _≡_ {A = ℕ} 0 1 = ap grantsIn (as-fresh holding (accepted-plan oneCell refl) (lit< tt) refl (0x24000000 ∷ [])) in
+    omega arith
+
+-- Number 1 is expected, and refused.
+pub goes-on-from-0 : GoesOnAsFresh (resetOf (restartsNumbers .reset)) → ⊥
+unfolding fresh-computes
+goes-on-from-0 as-fresh =
+    let z : _≡_ {A = ℕ} 0 1 = ap grantsIn (as-fresh spent (accepted-plan oneShare refl) (lit< tt) refl (0x24000401 ∷ [])) in
+    omega arith
+
+-- The second reset forgets the mark that the first left.
+pub twice-unmarks : TwiceIsOnce (resetOf (unmarksTaken .reset)) → ⊥
+unfolding fresh-computes
+twice-unmarks twice =
+    let z : _≡_ {A = ℕ} 0 1 = ap (λ s. bit (s .link .taken)) (twice spent (lit< tt) refl) in
+    omega arith
+
+pub fresh-is-marked : FreshStays (resetOf (marksAlways .reset)) → ⊥
+unfolding fresh-computes
+fresh-is-marked stays =
+    let z : _≡_ {A = ℕ} 1 0 = ap (λ s. bit (s .link .taken)) (stays (planOf oneShare) (accepted-plan oneShare refl)) in
+    omega arith

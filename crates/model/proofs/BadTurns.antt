@@ -1,17 +1,17 @@
 -- Each card that lends out of turn is sent back: by fairness where a flow is lent to again before one that waits, else by its answers or by the link.
 -- Demand 3 asks of a lent slot that its flow is in the mask and has a cell for it, and not whose turn it is. Assumes nothing.
-use Prim.Native.Nat.{ℕ, _<_}
-use mathlib.Core.Path.{_≡_, refl, ap}
+use Prim.Native.Nat.{ℕ, _≤_, _<_}
+use mathlib.Core.Path.{_≡_, refl, sym, ap}
 use mathlib.Core.List.{List, _∷_, [], _++_}
 use mathlib.Core.Option.{none}
 use native.Mathlib.Omega.{arith}
 use lib.Dec.{lit<}
 use Rattle.model.specs.Plan.{flowCount, planOf}
-use Rattle.model.specs.Calls.{Call, Event, History, credited, ticked, lent, accepted, refused}
-use Rattle.model.specs.History.{ofFlow, lends}
+use Rattle.model.specs.Calls.{Call, Event, History, requested, credited, ticked, lent, accepted, refused}
+use Rattle.model.specs.History.{ofFlow, marksOf, lends}
 use Rattle.model.specs.Card.{Card, run, paper}
 use Rattle.model.specs.PlanBytes.{plan3, listing}
-use Rattle.model.specs.Fairness.{Waiting, lentIn, Fair}
+use Rattle.model.specs.Fairness.{Waiting, lentIn, allLentIn, InTurn, Even, WithinARound, Fair}
 use Rattle.model.specs.BadTurns.{lowestAlways, looksFromLast, stepsOn, turnsOnRefusal, tickForgets, leavesCount, keepsTurn}
 use Rattle.model.proofs.Unfoldings.{plans-compute, calls-compute, counts-compute}
 use Rattle.model.proofs.Decidable.{IsYes, proved}
@@ -72,6 +72,40 @@ unfolding turns-compute
 steps-on =
     passed-over stepsOn three-flows (Call.lend 4 ∷ Call.tick ∷ Call.lend 7 ∷ Call.tick ∷ Call.lend 7 ∷ []) 2 7 4
     (ticked none ∷ lent 7 (accepted 1) ∷ ticked none ∷ []) [] 0 refl (lit< tt) (λ e. omega arith) tt refl
+
+-- ---- a history that is uneven and keeps the rest of fairness: of three flows the first is lent to twice, and flow 1 waits
+
+abbrev uneven : History
+uneven = ticked none ∷ lent 7 (accepted 0) ∷ ticked none ∷ lent 7 (accepted 0) ∷ []
+
+pub uneven-lends : Even (planOf (plan3 8)) uneven → ⊥
+unfolding turns-compute
+uneven-lends even =
+    let P = planOf (plan3 8) in
+    let twice = even uneven [] refl 0 1 (lit< tt) (lit< tt) (proved (waiting P 1 uneven []) tt) in
+    omega (arith, twice)
+
+-- the newest event is no lend
+pub uneven-in-turn : InTurn (planOf (plan3 8)) uneven
+uneven-in-turn i mask mask₀ between before events j known other waits = let z : _≡_ {A = ℕ} 0 1 = cc in absurd (omega arith)
+
+-- the lends of a stretch are no more than those of the list
+lends-of-stretch : (stretch early : History) → allLentIn stretch ≤ allLentIn (stretch ++ early)
+unfolding lends marksOf
+lends-of-stretch [] early = omega arith
+lends-of-stretch (requested w a ∷ stretch) early = lends-of-stretch stretch early
+lends-of-stretch (credited i p a ∷ stretch) early = lends-of-stretch stretch early
+lends-of-stretch (ticked x ∷ stretch) early = lends-of-stretch stretch early
+lends-of-stretch (lent m (accepted i) ∷ stretch) early = omega (arith, lends-of-stretch stretch early)
+lends-of-stretch (lent m (refused r) ∷ stretch) early = lends-of-stretch stretch early
+lends-of-stretch (Event.reset a ∷ stretch) early = lends-of-stretch stretch early
+
+-- two lends are no round of three flows
+pub uneven-within-a-round : WithinARound (planOf (plan3 8)) uneven
+unfolding turns-compute
+uneven-within-a-round stretch early is j known waits round =
+    let two : allLentIn (stretch ++ early) ≡ 2 = ap allLentIn (sym is) in
+    absurd (omega (arith, lends-of-stretch stretch early))
 
 -- ---- what fairness can't see
 

@@ -7,9 +7,10 @@ use Rattle.model.specs.Plan.{Plan, flowCount, entry, planOf, Accepted}
 use Rattle.model.specs.Calls.{History}
 use Rattle.model.specs.History.{grants, lends, grantedUpTo, lentUpTo, creditedUpTo}
 use Rattle.model.specs.Claim.{Clause, Demand3}
-use Rattle.model.specs.Card.{Card, Meets, run}
+use Rattle.model.specs.Card.{Card, Meets, paper, run}
 use Rattle.model.specs.Buffer.{FitsBuffer, NeverOverfull}
 use Rattle.model.proofs.Plan.{accepted}
+use Rattle.model.proofs.Demand3.{meets}
 use Rattle.model.proofs.Tallies.{sum-le, sum-add}
 
 -- what one stream holds
@@ -19,7 +20,7 @@ unfolding grants lends tally
 within P i [] s d = omega arith
 within P i (e ∷ h) s d = let x = d Clause.within-cells .0 s in omega (arith, x .is, x .within)
 
-together : (P : Plan) → Accepted P → (h : History) (s : ℕ) → ((i : ℕ) → i < flowCount P → Demand3 P i h) → FitsBuffer P h s
+pub together : (P : Plan) → Accepted P → (h : History) (s : ℕ) → ((i : ℕ) → i < flowCount P → Demand3 P i h) → FitsBuffer P h s
 together P ok h s d =
     let n = flowCount P in
     omega (
@@ -32,3 +33,6 @@ together P ok h s d =
 pub never-overfull : (c : Card) → Meets c → NeverOverfull c
 never-overfull c meets bytes passes calls s =
     together (planOf bytes) (accepted bytes passes) (run c (planOf bytes) calls .history) s (meets bytes passes calls)
+
+pub paper-never-overfull : NeverOverfull paper
+paper-never-overfull = never-overfull paper meets

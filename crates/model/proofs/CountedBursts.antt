@@ -16,7 +16,7 @@ use Rattle.model.specs.Request.{Found, found, nowhere, requestTests, sou
 use Rattle.model.specs.Claim.{GrantedWordAt, Demand3}
 use Rattle.model.specs.Card.{Played, paper, step, play, started, run}
 use Rattle.model.specs.Burst.{Ask, filled, inOrder, burst}
-use Rattle.model.specs.CountedBursts.{Item, single, several, countsAs, replaced, eventIn, stepWith, playWith, runWith}
+use Rattle.model.specs.CountedBursts.{Item, single, several, countsAs, replaced, eventIn, stepWith, playWith, runWith, BurstsCounted}
 use Rattle.model.proofs.AfterCalls.{Known, after-calls, after-fresh}
 use Rattle.model.proofs.Plan as plan
 use Rattle.model.proofs.Demand3.{meets}
@@ -85,7 +85,7 @@ first-handled (suc k) l (x ∷ xs) =
     let first = request l (x .word) in
     ap (λ ys. filled x (first .answer) ∷ ys) (first-handled k (first .link) xs)
 
-pub burst-played : {P : Plan} (r : Played paper) → Known P r → (xs : List Ask) → stepWith r (several xs) ≡ play paper r (countsAs (several xs))
+pub burst-played : {P : Plan} (r : Played paper) → Known P r → (xs : List Ask) → stepWith burst r (several xs) ≡ play paper r (countsAs (several xs))
 unfolding burst asks
 burst-played r g xs =
     let b = inOrder (r .state) (take 16 xs) in
@@ -98,23 +98,22 @@ unfolding play
 play-both r [] ys = refl
 play-both r (x ∷ xs) ys = play-both (step paper r x) xs ys
 
-items-counted : {P : Plan} (r : Played paper) → Known P r → (items : List Item) → playWith r items ≡ play paper r (replaced items)
+items-counted : {P : Plan} (r : Played paper) → Known P r → (items : List Item) → playWith burst r items ≡ play paper r (replaced items)
 unfolding playWith play flatMap
 items-counted r g [] = refl
 items-counted r g (single c ∷ items) = items-counted (step paper r c) (after-calls r (c ∷ []) g) items
 items-counted r g (several xs ∷ items) =
     let cs = countsAs (several xs) in
-    ap (λ q. playWith q items) (burst-played r g xs)
+    ap (λ q. playWith burst q items) (burst-played r g xs)
     ∙ items-counted (play paper r cs) (after-calls r cs g) items
     ∙ sym (play-both r cs (replaced items))
 
--- "in demand 3's list a burst counts as those requests": a list with bursts comes to the link and to the events of the list without
-pub bursts-counted : (P : Plan) → Accepted P → (items : List Item) → runWith P items ≡ run paper P (replaced items)
+pub bursts-counted : BurstsCounted burst
 bursts-counted P ok items = items-counted (started paper P) (after-fresh ok) items
 
 -- and so demand 3 is met of what its caller sees
 pub bursts-meet : (bytes : List ℕ) → refusal bytes ≡ 0 → (items : List Item) (i : ℕ) → i < flowCount (planOf bytes)
-    → Demand3 (planOf bytes) i (runWith (planOf bytes) items .history)
+    → Demand3 (planOf bytes) i (runWith burst (planOf bytes) items .history)
 bursts-meet bytes passes items i known =
     subst (λ r. Demand3 (planOf bytes) i (r .history)) (sym (bursts-counted (planOf bytes) (plan.accepted bytes passes) items))
     (meets bytes passes (replaced items) i known)

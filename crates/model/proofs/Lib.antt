@@ -54,6 +54,7 @@ pub mod ListingMeets
 pub mod Holding
 pub mod Buffer
 pub mod QuantumNumbers
+pub mod EventsOfRuns
 pub mod TwoHops
 pub mod RequestsAlike
 pub mod AsFresh
@@ -63,7 +64,6 @@ pub mod TurnCounts
 pub mod LookFrom
 pub mod Waiting
 pub mod Fairness
-pub mod EventsOfRuns
 pub mod AskedInFrames
 pub mod AskingUntil11
 pub mod NewestGrants
@@ -121,11 +121,13 @@ pub mod BadHistories
 pub mod BadCards
 pub mod BadLends
 pub mod BadDepartures
+pub mod BadHops
 pub mod BadResets
 pub mod FairDecided
 pub mod BadTurns
 pub mod TwoHeads
 pub mod BadNumbers
+pub mod BadBursts
 pub mod PersistentStream
 pub mod StreamAfterReset
 pub mod OtherPremises

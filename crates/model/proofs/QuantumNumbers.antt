@@ -12,9 +12,8 @@ use Rattle.model.specs.Plan.{Plan, flowCount, planOf, Accepted}
 use Rattle.model.specs.Calls.{Call, Event, History, requested, credited, ticked, lent, accepted, refused}
 use Rattle.model.specs.History.{grantAt, grants, ofFlow, grantedInAll, expectedNumber}
 use Rattle.model.specs.Claim.{Each}
-use Rattle.model.specs.Link.{flow}
 use Rattle.model.specs.Card.{paper, run}
-use Rattle.model.specs.QuantumNumbers.{NumberIsCount, wordGranted, wordsGranted, InOrder, NumbersInOrder}
+use Rattle.model.specs.QuantumNumbers.{NumberIsCount, expectedOn, wordGranted, wordsGranted, InOrder, NumbersInOrder}
 use Rattle.model.proofs.Tables.{table-append}
 use Rattle.model.proofs.Tallies.{tally-append}
 use Rattle.model.proofs.Plan as plan
@@ -22,9 +21,12 @@ use Rattle.model.proofs.AfterHistory.{NumberedAt}
 use Rattle.model.proofs.AfterCalls.{after-run}
 use Rattle.model.proofs.Demand3.{each-map}
 
-pub number-is-count : NumberIsCount
-number-is-count bytes passes =
-    after-run (λ P l h. (i : ℕ) → i < flowCount P → flow l i .number ≡ expectedNumber P h i) (λ l h g. g .numbers) (planOf bytes) (plan.accepted bytes passes)
+pub number-accepted : (P : Plan) → Accepted P → (calls : List Call) (i : ℕ) → i < flowCount P
+    → expectedOn (run paper P calls .state) i ≡ expectedNumber P (run paper P calls .history) i
+number-accepted = after-run (λ P l h. (i : ℕ) → i < flowCount P → expectedOn l i ≡ expectedNumber P h i) (λ l h g. g .numbers)
+
+pub number-is-count : NumberIsCount paper expectedOn
+number-is-count bytes passes = number-accepted (planOf bytes) (plan.accepted bytes passes)
 
 -- ---- the words that are granted
 

@@ -1,7 +1,7 @@
 -- On two boards in step a tile leaves the second after the slot in which it left the first. Assumes nothing.
 use Prim.Native.Nat.{ℕ, _+_, _%_, _≤_, _<_}
 use mathlib.Core.Path.{_≡_, refl, sym, ap, _∙_, subst}
-use mathlib.Core.List.{List, _∷_}
+use mathlib.Core.List.{List, _∷_, [], _++_}
 use mathlib.Core.Bool.{false}
 use native.Mathlib.Nat.{mul-le-mul-right}
 use native.Mathlib.Decide.{decLe}
@@ -9,18 +9,21 @@ use native.Mathlib.Omega.{arith}
 use borrow.Author.Tests.{lt-leb}
 use Rattle.model.specs.Word.{departureOf}
 use Rattle.model.specs.Plan.{Plan, positions, planOf, refusal, Accepted}
-use Rattle.model.specs.Calls.{Call, History, requested, accepted}
+use Rattle.model.specs.Calls.{Call, Grant, Event, History, requested, accepted, refused}
 use Rattle.model.specs.Link.{Link}
 use Rattle.model.specs.Request.{request}
 use Rattle.model.specs.History.{ticks, slotAfter, frameOf, hasCome, grantsSince}
+use Rattle.model.specs.Claim.{Each, AtGrant}
+use Rattle.model.specs.Card.{Played, paper, step, run}
 use Rattle.model.specs.Holding.{frameStart, InWindow}
-use Rattle.model.specs.TwoHops.{InStep, slotNow, Sends, LeavesAfterItCame}
+use Rattle.model.specs.TwoHops.{InStep, GrantedIn, LeavesAfter, LeavesAfterItCame}
 use Rattle.model.proofs.Plan as plan
 use Rattle.model.proofs.Slots.{frame-low, frame-begins, slotAfter-first, slotAfter-is}
 use Rattle.model.proofs.Departures.{come-at}
 use Rattle.model.proofs.AfterHistory.{After}
 use Rattle.model.proofs.AfterRequest.{after-request}
-use Rattle.model.proofs.AfterCalls.{after-run}
+use Rattle.model.proofs.AfterCalls.{Known}
+use Rattle.model.proofs.EventsOfRuns.{by-calls}
 
 -- ---- a grant after t ticks
 
@@ -43,6 +46,37 @@ grants-are l h g w v e =
       begun = subst (λ (Q : Plan). s < frameStart Q (ticks h) + positions Q) (known .plan-is) (known .invariant .marks .grants-in .0 .begun);
       after-departure = claimed .after-departure (claimed .word .asked-well-formed);
     }
+
+-- ---- each grant of a run
+
+abbrev GrantsAt : Plan → Event → History → Type 0
+GrantsAt P = AtGrant (λ w v h. Grants P (ticks h) w v)
+
+answered : (l : Link) (h : History) → After (l .plan) l h → (w : ℕ) → GrantsAt (l .plan) (requested w (request l w .answer)) h
+answered l h g w = go (request l w .answer) refl
+  where
+    go : (a : Grant) → request l w .answer ≡ a → GrantsAt (l .plan) (requested w a) h
+    go (accepted v) e = grants-are l h g w v e
+    go (refused r) e = tt
+
+one-more : {P : Plan} (r : Played paper) (c : Call) → Known P r → Each (GrantsAt P) (r .history) → Each (GrantsAt P) (step paper r c .history)
+one-more {P} r (Call.request w) g each =
+    (subst (λ Q. Known Q r → GrantsAt Q (requested w (request (r .state) w .answer)) (r .history)) (g .plan-is) (λ k. answered (r .state) (r .history) k w) g, each)
+one-more r (Call.credit i p) g each = (tt, each)
+one-more r Call.tick g each = (tt, each)
+one-more r (Call.lend m) g each = (tt, each)
+one-more r Call.reset g each = (tt, each)
+
+pub each-grant : {P : Plan} → Accepted P → (calls : List Call) → Each (GrantsAt P) (run paper P calls .history)
+each-grant {P} ok = by-calls ok (λ r. Each (GrantsAt P) (r .history)) (λ r c g happened. one-more r c g) tt
+
+-- what holds of each event holds of one among them
+one-of : (Q : Event → History → Type 0) (later : History) (e : Event) (early : History) → Each Q (later ++ e ∷ early) → Q e early
+one-of Q [] e early each = each .0
+one-of Q (x ∷ later) e early each = one-of Q later e early (each .1)
+
+granted : {P : Plan} {h : History} {w v : ℕ} {early : History} → Each (GrantsAt P) h → GrantedIn h w v early → Grants P (ticks early) w v
+granted {P} {h} {w} {v} {early} each x = one-of (GrantsAt P) (x .later) (requested w (accepted v)) early (subst (Each (GrantsAt P)) (x .is) each)
 
 -- ---- two boards in step
 
@@ -88,12 +122,10 @@ module _ {P Q : Plan} (ok : Accepted Q) (step : InStep P Q) {t₁ t₂ w₁ v₁
       go (yes gone) = omega (arith, slotAfter-first ok t₂ (departureOf v₂) (two .position) .later)
       go (no n) = to-come (omega arith)
 
-pub leaves-after-it-came : LeavesAfterItCame
-leaves-after-it-came first second passes₁ passes₂ step calls₁ calls₂ w₁ v₁ w₂ v₂ one two =
-    comes-first (plan.accepted second passes₂) step (granted first passes₁ calls₁ w₁ v₁ one) (granted second passes₂ calls₂ w₂ v₂ two)
-  where
-    granted : (bytes : List ℕ) → refusal bytes ≡ 0 → (calls : List Call) (w v : ℕ) → Sends (planOf bytes) calls w v
-        → Grants (planOf bytes) (slotNow (planOf bytes) calls) w v
-    granted bytes passes calls w v x =
-        after-run (λ P l h. (w v : ℕ) → request l w .answer ≡ accepted v → Grants P (ticks h) w v) grants-are
-        (planOf bytes) (plan.accepted bytes passes) calls w v (x .granted)
+pub leaves-after : {P Q : Plan} → Accepted P → Accepted Q → InStep P Q → (calls₁ calls₂ : List Call)
+    → LeavesAfter P Q (run paper P calls₁ .history) (run paper Q calls₂ .history)
+leaves-after ok₁ ok₂ step calls₁ calls₂ w₁ v₁ w₂ v₂ early₁ early₂ one two =
+    comes-first ok₂ step (granted (each-grant ok₁ calls₁) one) (granted (each-grant ok₂ calls₂) two)
+
+pub leaves-after-it-came : LeavesAfterItCame paper
+leaves-after-it-came first second passes₁ passes₂ = leaves-after (plan.accepted first passes₁) (plan.accepted second passes₂)

@@ -4,11 +4,10 @@ use Prim.Native.Nat.{ℕ, _/_, _<_}
 use mathlib.Core.Path.{_≡_}
 use mathlib.Core.List.{List, _∷_, []}
 use Rattle.model.specs.Plan.{Plan, Accepted, positions, entry}
-use Rattle.model.specs.Calls.{Grant, accepted}
-use Rattle.model.specs.Link.{Link, Flow, flow, withCurrent, withFlows, movedTo, withNumber}
+use Rattle.model.specs.Calls.{Grant, Renewal, accepted}
+use Rattle.model.specs.Link.{Link, Flow, Step, flow, withCurrent, withFlows, movedTo, withNumber}
 use Rattle.model.specs.Fresh.{freshFlow, fresh}
 use Rattle.model.specs.Request.{request}
-use Rattle.model.specs.Reset.{reset}
 
 -- the link that fresh makes, but with CP at p, each IF the frame of p, and each flow i's number `numbers i`
 abbrev pub flowAt : Plan → (p : ℕ) → (numbers : ℕ → ℕ) → (i : ℕ) → Flow
@@ -22,18 +21,20 @@ unfoldable pub answersTo : Link → List ℕ → List Grant
 answersTo l [] = []
 answersTo l (w ∷ ws) = request l w .answer ∷ answersTo (request l w .link) ws
 
--- On every link, whether or not calls lead to it from fresh: after a granted reset requests are answered as on that link.
-abbrev pub GoesOnAsFresh : Type 0
-GoesOnAsFresh =
+-- ---- of a reset, on every link, whether or not calls lead to it from fresh
+
+-- After a granted one requests are answered as on that link. RULES 10.2.
+abbrev pub GoesOnAsFresh : (Link → Step Renewal) → Type 0
+GoesOnAsFresh reset =
     (l : Link) → Accepted (l .plan) → l .current < positions (l .plan) → reset l .answer ≡ accepted tt
     → (words : List ℕ) → answersTo (reset l .link) words ≡ answersTo (freshAt (l .plan) (l .current) (λ i. flow l i .number)) words
 
--- A second reset in the same slot is granted, and changes nothing.
-abbrev pub TwiceIsOnce : Type 0
-TwiceIsOnce =
+-- A second one in the same slot is granted, and changes nothing.
+abbrev pub TwiceIsOnce : (Link → Step Renewal) → Type 0
+TwiceIsOnce reset =
     (l : Link) → l .current < positions (l .plan) → reset l .answer ≡ accepted tt
     → reset (reset l .link) ≡ record { link = reset l .link; answer = accepted tt }
 
--- On a fresh link a reset is granted, and changes nothing.
-abbrev pub FreshStays : Type 0
-FreshStays = (P : Plan) → Accepted P → reset (fresh P) ≡ record { link = fresh P; answer = accepted tt }
+-- On a fresh link it is granted, and changes nothing.
+abbrev pub FreshStays : (Link → Step Renewal) → Type 0
+FreshStays reset = (P : Plan) → Accepted P → reset (fresh P) ≡ record { link = fresh P; answer = accepted tt }

@@ -212,3 +212,18 @@ Overfills = FitsBuffer (planOf listing) (reverse overfull) 5 → ⊥
 -- without the last it is just full
 abbrev pub JustFits : Type 0
 JustFits = FitsBuffer (planOf listing) (reverse overfull) 4
+
+-- N = 4: slot 0 is lent to flow 0, which is granted slots 1 and 2, and flow 1 slots 3 and 4
+unfoldable pub lentOver : List Event
+lentOver =
+    lent 1 (accepted 0) ∷ granted 0 1 ∷ granted 1 2 ∷ requested 0x24100000 (accepted 0x24100003) ∷ requested 0x24100400 (accepted 0x24100404) ∷ []
+
+abbrev pub OverfillsByLend : Type 0
+OverfillsByLend = FitsBuffer (planOf listing) (reverse lentOver) 4 → ⊥
+
+abbrev pub JustFitsWithLend : Type 0
+JustFitsWithLend = FitsBuffer (planOf listing) (reverse lentOver) 3
+
+-- with a cell of flow 0 that falls free from slot 4 on
+abbrev pub FitsWithCredit : Type 0
+FitsWithCredit = FitsBuffer (planOf listing) (credited 0 4 (accepted tt) ∷ reverse lentOver) 4

@@ -1,5 +1,5 @@
 -- Cards that reset wrongly. Document 02, N6. Each is the paper's card but for one fault. Assumes nothing.
-use mathlib.Core.Bool.{Bool, not, cond}
+use mathlib.Core.Bool.{Bool, true, not, cond}
 use lib.ListN.{replicate}
 use Rattle.model.specs.Plan.{positions}
 use Rattle.model.specs.Calls.{accepted, refused}
@@ -52,3 +52,7 @@ leavesRemainder = resetsBy quiet (λ l. withFlows (renewed l) (λ i. movedTo (fl
 -- is granted while cells are held, which stay held
 abbrev pub resetsHeld : Card
 resetsHeld = resetsBy noneBooked renewed
+
+-- marks the current slot, whether or not it was booked
+abbrev pub marksAlways : Card
+marksAlways = resetsBy quiet (λ l. withTaken (renewed l) true)

@@ -1,13 +1,15 @@
 -- Lists of calls with bursts, as demand 3 counts them. Document 02, N7. Assumes nothing.
+use mathlib.Core.Path.{_≡_}
 use mathlib.Core.List.{List, _∷_, [], _++_, map, flatMap, reverse}
 use mathlib.Core.Bool.{cond}
 use lib.ListN.{take}
 use lib.Dec.{eqb}
 use Rattle.model.specs.Word.{depart}
-use Rattle.model.specs.Plan.{Plan}
+use Rattle.model.specs.Plan.{Plan, Accepted}
 use Rattle.model.specs.Calls.{Call, Grant, Event, History, requested, accepted, refused}
-use Rattle.model.specs.Burst.{Ask, burst}
-use Rattle.model.specs.Card.{Played, paper, step, started}
+use Rattle.model.specs.Link.{Link}
+use Rattle.model.specs.Burst.{Ask, Burst}
+use Rattle.model.specs.Card.{Played, paper, step, started, run}
 
 -- a call of demand 3's list, or a burst of records
 pub data Item : Type 0 where
@@ -38,16 +40,20 @@ eventIn x = requested (x .word) (answerIn x)
 abbrev pub eventsIn : List Ask → History
 eventsIn records = reverse (map eventIn (take 16 records))
 
--- one item more: a burst's events are those that its records show
-abbrev pub stepWith : Played paper → Item → Played paper
-stepWith r (single c) = step paper r c
-stepWith r (several xs) =
-    let b = burst (r .state) xs in
+-- one item more, where bursts are answered by this function: a burst's events are those that its records show
+abbrev pub stepWith : (Link → List Ask → Burst) → Played paper → Item → Played paper
+stepWith bursts r (single c) = step paper r c
+stepWith bursts r (several xs) =
+    let b = bursts (r .state) xs in
     record { state = b .link; history = eventsIn (b .records) ++ r .history }
 
-unfoldable pub playWith : Played paper → List Item → Played paper
-playWith r [] = r
-playWith r (x ∷ xs) = playWith (stepWith r x) xs
+unfoldable pub playWith : (Link → List Ask → Burst) → Played paper → List Item → Played paper
+playWith bursts r [] = r
+playWith bursts r (x ∷ xs) = playWith bursts (stepWith bursts r x) xs
 
-abbrev pub runWith : Plan → List Item → Played paper
-runWith P items = playWith (started paper P) items
+abbrev pub runWith : (Link → List Ask → Burst) → Plan → List Item → Played paper
+runWith bursts P items = playWith bursts (started paper P) items
+
+-- "in demand 3's list a burst counts as those requests": a list with bursts comes to the link and the events of the list without. RULES 21.2.
+abbrev pub BurstsCounted : (Link → List Ask → Burst) → Type 0
+BurstsCounted bursts = (P : Plan) → Accepted P → (items : List Item) → runWith bursts P items ≡ run paper P (replaced items)

@@ -71,6 +71,7 @@ pub mod BadDepartures
 pub mod BadResets
 pub mod BadTurns
 pub mod BadNumbers
+pub mod BadBursts
 pub mod BadDelays
 pub mod BadCredits
 pub mod BadSendings

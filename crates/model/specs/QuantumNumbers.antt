@@ -9,14 +9,19 @@ use Rattle.model.specs.Word.{flowOf, quantumOf}
 use Rattle.model.specs.Plan.{Plan, flowCount, planOf, refusal}
 use Rattle.model.specs.Calls.{Call, Event, History, requested, credited, ticked, lent, accepted, refused}
 use Rattle.model.specs.History.{grantedInAll, expectedNumber}
-use Rattle.model.specs.Link.{flow}
-use Rattle.model.specs.Card.{Card, paper, run}
+use Rattle.model.specs.Link.{Link, flow}
+use Rattle.model.specs.Card.{Card, run}
 
--- "The link now keeps the number it expects for each flow": after every list of calls it is the flow's grants so far, modulo 1,024.
-abbrev pub NumberIsCount : Type 0
-NumberIsCount =
+-- "The link now keeps the number it expects for each flow": after every list of calls what a card's state has for it is the flow's grants so far, modulo
+-- 1,024.
+abbrev pub NumberIsCount : (c : Card) → (number : c .State → (i : ℕ) → ℕ) → Type 0
+NumberIsCount c number =
     (bytes : List ℕ) → refusal bytes ≡ 0 → (calls : List Call) (i : ℕ) → i < flowCount (planOf bytes)
-    → flow (run paper (planOf bytes) calls .state) i .number ≡ expectedNumber (planOf bytes) (run paper (planOf bytes) calls .history) i
+    → number (run c (planOf bytes) calls .state) i ≡ expectedNumber (planOf bytes) (run c (planOf bytes) calls .history) i
+
+-- the number that a link of the paper expects
+abbrev pub expectedOn : Link → (i : ℕ) → ℕ
+expectedOn l i = flow l i .number
 
 -- the word that an event grants to flow i
 abbrev pub wordGranted : ℕ → Event → List ℕ

@@ -1,35 +1,35 @@
 -- Two boards, one after the other. Document 02, N4: "In domes with two hops", and "Boards tick in step on equal F and W". Assumes nothing.
 use Prim.Native.Nat.{ℕ, _≤_, _<_}
 use mathlib.Core.Path.{_≡_}
-use mathlib.Core.List.{List}
+use mathlib.Core.List.{List, _∷_, _++_}
 use Rattle.model.specs.Word.{departureOf}
 use Rattle.model.specs.Plan.{Plan, planOf, refusal}
-use Rattle.model.specs.Calls.{Call, accepted}
+use Rattle.model.specs.Calls.{Call, History, requested, accepted}
 use Rattle.model.specs.History.{ticks, slotAfter}
-use Rattle.model.specs.Request.{request}
-use Rattle.model.specs.Card.{run, paper}
+use Rattle.model.specs.Card.{Card, run}
 
 pub record InStep (P Q : Plan) : Type 0 where
   pub slots : P .slots ≡ Q .slots
   pub frames : P .frames ≡ Q .frames
 
--- the number of the current slot after these calls on a board with plan P
-abbrev pub slotNow : Plan → List Call → ℕ
-slotNow P calls = ticks (run paper P calls .history)
+-- Among the events h a word w is answered with the word v, after the events of `early`.
+pub record GrantedIn (h : History) (w v : ℕ) (early : History) : Type 0 where
+  pub later : History
+  pub is : h ≡ later ++ requested w (accepted v) ∷ early
 
--- After these calls on a board with plan P a request with word w is answered with the word v.
-pub record Sends (P : Plan) (calls : List Call) (w v : ℕ) : Type 0 where
-  pub granted : request (run paper P calls .state) w .answer ≡ accepted v
+-- the slot that v grants after them
+abbrev pub sentAt : Plan → (early : History) → (v : ℕ) → ℕ
+sentAt P early v = slotAfter P (ticks early) (departureOf v)
 
--- the slot that v grants
-abbrev pub sentAt : Plan → List Call → ℕ → ℕ
-sentAt P calls v = slotAfter P (slotNow P calls) (departureOf v)
+-- The first board grants v₁, and then, or in the same slot, the second is asked with a word of that departure and grants another: the second slot comes
+-- after the first. RULES 21.12.
+abbrev pub LeavesAfter : (P Q : Plan) (h₁ h₂ : History) → Type 0
+LeavesAfter P Q h₁ h₂ =
+    (w₁ v₁ w₂ v₂ : ℕ) (early₁ early₂ : History) → GrantedIn h₁ w₁ v₁ early₁ → GrantedIn h₂ w₂ v₂ early₂
+    → departureOf w₂ ≡ departureOf v₁ → ticks early₁ ≤ ticks early₂ → sentAt P early₁ v₁ < sentAt Q early₂ v₂
 
--- The first board grants v, and then, or in the same slot, the second is asked with a word of that departure and grants another: the second slot comes
--- after the first.
-abbrev pub LeavesAfterItCame : Type 0
-LeavesAfterItCame =
-    (first second : List ℕ) → refusal first ≡ 0 → refusal second ≡ 0 → InStep (planOf first) (planOf second)
-    → (calls₁ calls₂ : List Call) (w₁ v₁ w₂ v₂ : ℕ) → Sends (planOf first) calls₁ w₁ v₁ → Sends (planOf second) calls₂ w₂ v₂
-    → departureOf w₂ ≡ departureOf v₁ → slotNow (planOf first) calls₁ ≤ slotNow (planOf second) calls₂
-    → sentAt (planOf first) calls₁ v₁ < sentAt (planOf second) calls₂ v₂
+-- so on two boards with this card, whatever else they are asked
+abbrev pub LeavesAfterItCame : Card → Type 0
+LeavesAfterItCame c =
+    (first second : List ℕ) → refusal first ≡ 0 → refusal second ≡ 0 → InStep (planOf first) (planOf second) → (calls₁ calls₂ : List Call)
+    → LeavesAfter (planOf first) (planOf second) (run c (planOf first) calls₁ .history) (run c (planOf second) calls₂ .history)

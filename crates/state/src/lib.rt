@@ -1,5 +1,5 @@
 // The state of a link but for its plan: one array of bytes in parts, one after the other. Each part has an offset, a length and a reader, in this
-// crate alone: what each flow holds (flow i at position p: 256 * i + p), the owner of each position, the mask of each frame's unbooked slots (eight
+// crate alone: what each flow holds (flow i at position p: ROW * i + p), the owner of each position, the mask of each frame's unbooked slots (eight
 // bytes, low first), the flows (four bytes each), for each flow a bound of what it holds, the current position, the mark and the turn.
 ghost use mathlib.Core.Path.{_≡_};
 ghost use Prim.Native.Nat.{_+_, _*_, _≤_, _<_};
@@ -8,6 +8,9 @@ ghost use Rattle.state.specs.Parts.{withPart};
 ghost use Rattle.state.specs.State.{Whole, maskAt, withMask, MasksNow};
 
 pub type State = [u8; 4499];
+
+// The bytes of one flow's holdings, from ROW * i on.
+pub const ROW: usize = 256;
 
 pub const OWNERS: usize = 4096;
 

@@ -1,17 +1,13 @@
--- The tables of a fresh link: one value at every position, and a row of zeros for each flow; and a row that is copied. Assumes nothing.
-use Prim.Native.Nat.{ℕ, _+_, _*_, _<_}
-use mathlib.Core.Path.{_≡_, sym, ap, _∙_}
-use mathlib.Core.List.{List}
+-- The tables of a fresh link: one value at every position, and a row of zeros for each flow. Assumes nothing.
+use Prim.Native.Nat.{ℕ, _<_}
+use mathlib.Core.Path.{_≡_, sym, _∙_}
 use native.Mathlib.Decide.{decLt}
 use native.Mathlib.Omega.{arith}
 use lib.ListN.{length, getD, length-replicate, getD-replicate, List·getD-eq-default}
 use Rattle.window.proofs.Tabulated.{replicate-table}
-use Rattle.window.specs.Ranges.{inRange, replaced}
-use Rattle.window.proofs.Ranges.{in-range, length-replaced, replaced-at}
 use Rattle.tables.specs.Owners.{everywhere}
 use Rattle.tables.specs.Rows.{row}
 use Rattle.tables.specs.Holdings.{nothingHeld}
-use Rattle.tables.proofs.Places.{row-is}
 use Rattle.tables.proofs.Rows.{length-rows-of, row-of-rows}
 
 module _ (v : ℕ) where
@@ -37,9 +33,3 @@ length-nothing = length-rows-of _
 pub row-of-nothing : (i : ℕ) → i < 16 → row nothingHeld i ≡ everywhere 0
 unfolding everywhere
 row-of-nothing i h = row-of-rows _ i h ∙ sym (replicate-table 256 0)
-
--- a table into which row i is copied, place by place
-pub row-copied : (h : List ℕ) (i : ℕ) (xs : List ℕ) → xs ≡ replaced (inRange 0 256) (λ p x. getD h (256 * i + p) 0) (everywhere 0) → xs ≡ row h i
-row-copied h i xs e = sym (row-is h i xs (ap length e ∙ length-replaced _ _ _ ∙ length-everywhere 0) λ p b.
-    let put = replaced-at (inRange 0 256) (λ p x. getD h (256 * i + p) 0) (everywhere 0) p 0 (omega (arith, length-everywhere 0)) in
-    sym (ap (λ (ys : List ℕ). getD ys p 0) e ∙ put ∙ rw (in-range 0 256 p (omega arith) b)))

@@ -1,4 +1,4 @@
-// What each flow holds at each position: what flow i holds at position p stands at 256 * i + p of the state, which only `state` and this crate know.
+// What each flow holds at each position: what flow i holds at position p stands at ROW * i + p of the state.
 // From p on means at p and at every later position. With h the first position of the head frame: where h <= p, these are p to T - 1 and
 // 0 to h - 1; where p < h, they are p to h - 1.
 // A change from p on, and a test of what is held from p on, is one pass over all T places; at those before p it changes nothing, and the test
@@ -21,6 +21,7 @@ ghost use Rattle.tables.specs.Padded.{onFrom, pad, Bytes};
 ghost use Rattle.tables.specs.Holdings.{someHeld, roomAt, largest, mostHeld, shiftedRow, shifted, carried, nothingHeld};
 ghost use Rattle.tables.specs.Bounds.{raised, lowered};
 use state::BOUNDS;
+use state::ROW;
 use state::State;
 use state::put_table;
 use window::Window;
@@ -79,7 +80,7 @@ pub(crate) fn room_rank(s: &State, i: usize, cells: u8, w: Window) -> usize
     requires { ⌜ Proper w × (i < 16) ⌝ }
     ensures { λ r. ⌜ FromRank w (λ p. model.everyFrom (windowOf w) p (roomAt (row (now (s .entry)) i) cells)) r ⌝ }
 {
-    let first = 256 * i;
+    let first = ROW * i;
     let head = first + w.head * w.slots;
     let past = first + w.slots * w.frames;
     if room_in(s, cells, first, past) {
@@ -132,7 +133,7 @@ fn shift_from(s: &mut State, by: u8, i: usize, w: Window, p: usize)
     requires { ⌜ FlowAt w i p ⌝ }
     ensures { λ r. ⌜ now (s .exit) ≡ shifted (windowOf w) by i p (now (s .entry)) ⌝ }
 {
-    let first = 256 * i;
+    let first = ROW * i;
     let past = first + w.slots * w.frames;
     let base = w.head * w.slots;
     shift(s, first, past, base as u8, on_from_head(w, p), by);
@@ -160,7 +161,7 @@ fn held_from(s: &State, i: usize, w: Window, p: usize) -> bool
     requires { ⌜ FlowAt w i p ⌝ }
     ensures { λ r. ⌜ r ≡ model.everyFrom (windowOf w) p (someHeld (row (now (s .entry)) i)) ⌝ }
 {
-    let first = 256 * i;
+    let first = ROW * i;
     let past = first + w.slots * w.frames;
     let base = w.head * w.slots;
     held_in(s, first, past, base as u8, on_from_head(w, p))
@@ -203,7 +204,7 @@ fn lower_all(s: &mut State, i: usize, w: Window, p: usize) -> u8
     ensures shifts { λ r. ⌜ now (s .exit) ≡ shifted (windowOf w) 255 i p (now (s .entry)) ⌝ }
     ensures bytes { λ r. ⌜ Bytes (now (s .entry)) (256 * i) (256 * i + sizeOf w) ⌝ }
 {
-    let first = 256 * i;
+    let first = ROW * i;
     let past = first + w.slots * w.frames;
     let base = w.head * w.slots;
     lower(s, first, past, base as u8, on_from_head(w, p))
@@ -254,22 +255,7 @@ pub fn store(s: &mut State, i: usize, table: [u8; 256])
     requires { ⌜ i < 16 ⌝ }
     ensures { λ r. ⌜ now (s .exit) ≡ withRow (now (s .entry)) i table ⌝ }
 {
-    put_table(s, 256 * i, table);
-}
-
-// The table of flow i: its row.
-pub fn row_of(s: &State, i: usize) -> [u8; 256]
-    requires { ⌜ i < 16 ⌝ }
-    ensures { λ r. ⌜ r ≡ row (now (s .entry)) i ⌝ }
-{
-    let first = 256 * i;
-    let mut table = unheld();
-    let mut p = 0;
-    while p < 256 {
-        table[p] = s[first + p];
-        p += 1;
-    }
-    table
+    put_table(s, ROW * i, table);
 }
 
 // Nothing is held: the table of each flow, stored as that flow's row. Nothing of what was held is left.
@@ -291,7 +277,7 @@ fn carry(s: &mut State, count: usize, last: usize, a: usize, e: usize)
 {
     let mut i = 0;
     while i < count {
-        let first = 256 * i;
+        let first = ROW * i;
         let value = s[first + last];
         fill(s, value, first + a, first + e);
         i += 1;

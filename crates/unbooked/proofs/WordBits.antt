@@ -1,14 +1,14 @@
 -- The bits of a word: the lowest one and the rest, above a word's length, and that they determine the word. Assumes nothing.
 use Prim.Native.Nat.{ℕ, zero, suc, _+_, _*_, _/_, _%_, _^_, _≤_, _<_}
 use mathlib.Core.Path.{_≡_, sym, ap, _∙_}
-use mathlib.Core.Bool.{Bool, true, false}
+use mathlib.Core.Bool.{Bool, true, false, true≢false}
 use native.Mathlib.Nat.{div-one, div-div-eq-div-mul, div-eq-of-lt, pow-suc, mul-comm, lt-of-lt-of-le}
-use native.Mathlib.Decide.{ℕ-discrete}
+use native.Mathlib.Decide.{decLt, ℕ-discrete}
 use native.Mathlib.Omega.{arith}
 use lib.Dec.{eqb}
 use lib.Pow.{pow-mono}
 use borrow.Author.Tests.{eq-eqb, ne-eqb, eqb-true}
-use Rattle.unbooked.specs.Bits.{bitAt, Bits}
+use Rattle.unbooked.specs.Bits.{bitAt, Bits, Lowest}
 
 -- ---- the lowest bit, and the rest
 
@@ -62,3 +62,19 @@ same-bits (suc n) a b h l e =
 
 pub one-word : {t : ℕ → Bool} {a b : ℕ} → Bits t a → Bits t b → a ≡ b
 one-word {a = a} {b = b} x y = same-bits (a + b) a b (omega arith) (omega arith) (λ i. x .is i ∙ sym (y .is i))
+
+-- one lowest bit for each word
+pub one-lowest : {word i j : ℕ} → Lowest word i → Lowest word j → i ≡ j
+one-lowest {word} {i} {j} x y = go (ℕ-discrete word 0)
+  where
+    before : {i j : ℕ} → Lowest word i → Lowest word j → (word ≡ 0 → ⊥) → i < j → ⊥
+    before {i} x y n h = true≢false (sym (x .there n) ∙ y .none-before i h)
+
+    apart : (word ≡ 0 → ⊥) → Dec (i < j) → Dec (j < i) → i ≡ j
+    apart n (yes d) e = absurd (before x y n d)
+    apart n (no d) (yes e) = absurd (before y x n e)
+    apart n (no d) (no e) = omega arith
+
+    go : Dec (word ≡ 0) → i ≡ j
+    go (yes z) = x .none z ∙ sym (y .none z)
+    go (no n) = apart n (decLt i j) (decLt j i)

@@ -9,3 +9,5 @@ pub mod Windows
 pub mod Ranks
 pub mod FromOn
 pub mod PassesFrom
+-- one answer to each contract
+pub mod OneAnswer
