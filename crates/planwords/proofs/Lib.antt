@@ -2,3 +2,4 @@ pub mod SpacedNumbers
 pub mod BytesLines
 pub mod DraftsAsked
 pub mod FileLines
+pub mod PlanLineEdges
