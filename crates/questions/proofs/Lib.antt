@@ -1,0 +1,4 @@
+pub mod WordsTold
+pub mod LineAnswers
+pub mod FedBytes
+pub mod AnyPieces

@@ -1,0 +1,5 @@
+pub mod Answers
+pub mod Input
+pub mod Feeding
+pub mod Promises
+pub mod Parts
