@@ -18,8 +18,14 @@ use Rattle.questions.specs.declared.State.{State}
 use Rattle.questions.specs.declared.Progress.{Progress}
 use Rattle.questions.specs.Answers.{answerOf}
 use Rattle.questions.specs.Feeding.{kept, lineWith, saidWith, lineFed, saidFed, takenFrom}
-use Rattle.questions.specs.Promises.{lineOf, Holds, Regular, FedPiece}
+use Rattle.questions.specs.Promises.{lineOf, Holds, Regular, Stands, FedPiece}
 use Rattle.questions.specs.Parts.{Keeps, TakesByte}
+
+-- ---- states
+
+-- a state that stands at some line is regular
+pub stands-regular : {s : State} {line : List ℕ} → Stands s line → Regular s
+stands-regular h = record { long = h .long; most = h .most; line-is = refl }
 
 -- ---- a byte that is kept
 

@@ -2,3 +2,4 @@ pub mod WordsTold
 pub mod LineAnswers
 pub mod FedBytes
 pub mod AnyPieces
+pub mod InputEdges

@@ -3,3 +3,4 @@ pub mod Input
 pub mod Feeding
 pub mod Promises
 pub mod Parts
+pub mod InputEdges
