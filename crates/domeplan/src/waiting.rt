@@ -1,6 +1,17 @@
 // Waiting for an output that takes nothing for now.
+use libc::types::timespec;
+
+// Waits for a millisecond.
 fn pause() {
-    libc::sched_yield();
+    let asked = timespec {
+        tv_sec: 0,
+        tv_nsec: 1000000,
+    };
+    let mut left = timespec {
+        tv_sec: 0,
+        tv_nsec: 0,
+    };
+    libc::nanosleep(&asked, &mut left);
 }
 
 // Whether a write that failed for this reason may be made again: a signal came first, or the output takes nothing for now, which is waited for.

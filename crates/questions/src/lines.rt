@@ -67,10 +67,7 @@ pub fn feed(state: State, piece: &[u8], out: &mut [u8]) -> Fed
         written = taken.written;
         used += 1;
     }
-    let state = State {
-        bytes: line,
-        count,
-    };
+    let state = State { bytes: line, count };
     Fed {
         state,
         used,
