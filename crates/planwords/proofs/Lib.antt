@@ -3,3 +3,4 @@ pub mod BytesLines
 pub mod DraftsAsked
 pub mod FileLines
 pub mod PlanLineEdges
+pub mod RoundTrip
