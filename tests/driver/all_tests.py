@@ -23,7 +23,7 @@ from driver.way_suite import WaySuite
 from edges import questions, refusals_page
 from edges.all_edges import ALLCALLS_EDGES, EDGES
 from front_door import (
-    architecture_page, bench_ahead, decisions_page, doc_names)
+    architecture_page, bench_ahead, cut_questions, decisions_page, doc_names)
 from front_door import (
     asking_editor, calls_text, check_ahead, check_log, checklist_page,
     comparison_page, flights, help_pages, man_pages, must_fail_edits,
@@ -46,10 +46,10 @@ FRONT_DOOR = (
     picture_pages, picture_scripts, picture_view, picture_errors, singular,
     calls_text, plan_files, plan_culprits, plan_read, plan_check, plan_delays,
     plan_week, plan_wrong_words, plan_lost_output, check_log, check_ahead,
-    flights, old_program, slow_reader, asking_editor, wrong_arguments,
-    tests_lost_output, bench_ahead, performance_page, page_sizes,
-    must_fail_edits, progress, versions, help_pages, man_pages, readme,
-    rules_page, remedies, checklist_page, comparison_page)
+    flights, old_program, slow_reader, cut_questions, asking_editor,
+    wrong_arguments, tests_lost_output, bench_ahead, performance_page,
+    page_sizes, must_fail_edits, progress, versions, help_pages, man_pages,
+    readme, rules_page, remedies, checklist_page, comparison_page)
 
 
 def wanted(names, only):

@@ -30,12 +30,18 @@ def start(words, **options):
                  done.stderr.decode(errors="replace"))
 
 
-def into_full_pipe(words, **options):
-    """How a command ends whose output goes to a small pipe that doesn't wait
-    and that nobody reads meanwhile; its output is what stands there then."""
+def small_pipe():
+    """The two ends of a small pipe that doesn't wait for its reader."""
     reader, writer = os.pipe()
     fcntl.fcntl(writer, SET_PIPE_SIZE, PIPE_SIZE)
     os.set_blocking(writer, False)
+    return reader, writer
+
+
+def into_full_pipe(words, **options):
+    """How a command ends whose output goes to a small pipe that doesn't wait
+    and that nobody reads meanwhile; its output is what stands there then."""
+    reader, writer = small_pipe()
     ended = start(words, stdout=writer, **options)
     os.close(writer)
     with os.fdopen(reader, "rb") as pipe:

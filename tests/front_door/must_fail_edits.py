@@ -28,12 +28,13 @@ CRATES = {
     "meshwords": "root", "sharewords": "root", "extrawords": "root",
     "programmewords": "root", "mesh": "root", "shares": "root",
     "extras": "root", "programme": "root", "delay": "root",
-    "delaywords": "root"}
+    "delaywords": "root", "questions": "root"}
 
 # Public functions that others are built from.
 HELPERS = {
     "burst": {"burst_first"},           # a burst on an array, for callers
     "program": {"start"},               # the state before any input
+    "questions": {"start"},             # likewise
     "mesh": {"any_over", "link_from", "link_to"}}
 
 # What the table above has to find, whatever else it finds.
@@ -45,7 +46,8 @@ KNOWN = {
     "meshwords": "mesh mesh_over", "sharewords": "count",
     "extrawords": "extras", "programmewords": "programme",
     "mesh": "admit measure", "shares": "count", "extras": "choose",
-    "programme": "plan_at", "delay": "delay", "delaywords": "delay"}
+    "programme": "plan_at", "delay": "delay", "delaywords": "delay",
+    "questions": "feed finish"}
 
 
 def sources(crate):

@@ -4,8 +4,8 @@ use mathlib.Core.Path.{_≡_, refl, sym, ap, _∙_}
 use mathlib.Core.List.{List, [], _++_}
 use mathlib.Core.Bool.{Bool, true, false, not, cond}
 use native.Mathlib.Omega.{arith}
-use lib.ListN.{length, take, drop}
-use lib.Seq.{sets, sets-eq, take-at}
+use lib.ListN.{length, take}
+use lib.Seq.{sets}
 use lib.Dec.{eqb}
 use Rattle.model.specs.Listing.{refusalLine}
 use Rattle.model.specs.Plan as model
@@ -18,6 +18,7 @@ use Rattle.tokens.specs.declared.Fault.{Fault}
 use Rattle.tokens.specs.declared.Found.{Found}
 use Rattle.tokens.specs.Pieces.{each}
 use Rattle.tokens.specs.Hexadecimal.{isHexDigit, byteAt, bytesOf, foundBytes, keptOf}
+use Rattle.tokens.proofs.NumbersCounted.{kept-first}
 use Rattle.replies.specs.Lines.{faultLine}
 use Rattle.planwords.specs.Reads.{question, readLine, bytesLine, digitsLine}
 
@@ -59,10 +60,6 @@ count-is digits n e = go (each isHexDigit digits) (eqb (length digits % 2) 0) e
     go true false p = let z : _≡_ {A = ℕ} 0 1 = cc in absurd (omega arith)
     go false t p = let z : _≡_ {A = ℕ} 0 1 = cc in absurd (omega arith)
 
--- what is stored at the start of a list, if it has room there
-pub stored-first : (xs l : List ℕ) (n : ℕ) → n ≡ length xs → n ≤ length l → take n (sets l 0 xs) ≡ xs
-stored-first xs l n e h = ap (take n) (sets-eq xs l 0 (omega arith)) ∙ take-at xs (drop (0 + length xs) l) n (sym e)
-
 module _ (digits : List ℕ) where
   pub wrong-line : {fault : Fault} → Found.Wrong fault ≡ foundBytes digits → faultLine fault ≡ digitsLine digits
   unfolding digitsLine
@@ -73,7 +70,7 @@ module _ (digits : List ℕ) where
     count-most few = omega (arith, count-is digits n e)
 
     pub kept-bytes : (kept₀ kept : List ℕ) → kept ≡ sets kept₀ 0 (bytesOf digits) → n ≤ length kept₀ → take n kept ≡ bytesOf digits
-    kept-bytes kept₀ kept k room = ap (take n) k ∙ stored-first (bytesOf digits) kept₀ n (count-is digits n e ∙ sym (length-table (length digits / 2) (byteAt digits))) room
+    kept-bytes kept₀ kept k room = ap (take n) k ∙ kept-first (bytesOf digits) kept₀ n (count-is digits n e ∙ sym (length-table (length digits / 2) (byteAt digits))) room
 
     pub bytes-line : (b : List ℕ) → b ≡ bytesOf digits → readLine (model.refusal b) (model.planOf b) ≡ digitsLine digits
     unfolding digitsLine

@@ -33,12 +33,12 @@ none-taken numbers = record { most = omega arith; entries = refl }
 past : (numbers : List ℕ) (k : ℕ) → length numbers ≤ 3 + 4 * k → wantedAt numbers k ≡ noWanted
 past numbers k h =
     let zero-at : (j : ℕ) → 3 + 4 * k ≤ j → getD numbers j 0 ≡ 0 = λ j l. List·getD-eq-default numbers 0 {n = j} (omega arith) in
-    λ i. record {
-      share = zero-at (3 + 4 * k) (omega arith) i;
-      cells = zero-at (3 + 4 * k + 1) (omega arith) i;
-      source = zero-at (3 + 4 * k + 2) (omega arith) i;
-      destination = zero-at (3 + 4 * k + 3) (omega arith) i;
-    }
+    rw (
+      zero-at (3 + 4 * k) (omega arith),
+      zero-at (3 + 4 * k + 1) (omega arith),
+      zero-at (3 + 4 * k + 2) (omega arith),
+      zero-at (3 + 4 * k + 3) (omega arith),
+    )
 
 module _ {numbers : List ℕ} {all : List Wanted} {i : ℕ} (s : TakenTo numbers all i) where
   pub one-taken : {w : Wanted} → i < 16 → w ≡ wantedAt numbers i → TakenTo numbers (set all i w) (i + 1)

@@ -128,7 +128,7 @@ module _ (size : ℕ) (numbers : List ℕ) where
   unfolding inRoom
   no-fours h n = rw (le-ltb (length numbers) 3 h, ne-eqb ((length numbers - 3) % 4) 0 n)
 
-  whole : WholeFlows numbers → fileLine (written (planAsked numbers) (replicate size 0) .answer) (planAsked numbers) ≡ inRoom size numbers
+  pub whole : WholeFlows numbers → fileLine (written (planAsked numbers) (replicate size 0) .answer) (planAsked numbers) ≡ inRoom size numbers
   unfolding inRoom
   whole w = rw (le-ltb (length numbers) 3 (w .header), eq-eqb ((length numbers - 3) % 4) 0 (w .fours))
 

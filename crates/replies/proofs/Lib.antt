@@ -1,2 +1,3 @@
 pub mod PutOn
 pub mod DecimalLength
+pub mod ReplyEdges

@@ -5,3 +5,5 @@ pub mod FirstPiece
 pub mod NumbersRead
 pub mod BytesRead
 pub mod Filled
+pub mod NumbersCounted
+pub mod TokenEdges

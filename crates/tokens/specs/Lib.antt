@@ -1,3 +1,4 @@
 pub mod Pieces
 pub mod Decimal
 pub mod Hexadecimal
+pub mod TokenEdges

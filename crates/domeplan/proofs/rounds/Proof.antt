@@ -1,73 +1,77 @@
 -- `domeplan::rounds` is safe and ends: the rounds left count down. Assumes nothing.
 use mathlib.Core.Path.{_≡_, refl, _∙_}
 use lib.ListN.{length}
-use borrow.Author.Needs.{needs}
 use native.Mathlib.Omega.{arith}
+use borrow.Author.Needs.{needs}
 use borrow.Author.Tests.{ltb-true}
+use Rattle.questions.specs.Promises.{Regular}
+use Rattle.questions.proofs.FedBytes.{stands-regular}
 use Rattle.domeplan.proofs.rounds.Statement.{statement}
 use Rattle.domeplan.proofs.rounds.Tie as tie
 
 abbrev Inv-loop : tie.InvT-loop
-Inv-loop space₀ line₀ out₀ left₀ now₀ space line out left now = (length space ≡ length space₀) × (length line ≡ length line₀) × (length out ≡ length out₀)
+Inv-loop space₀ out₀ left₀ now₀ space out left now = Regular (now .state) × (length space ≡ length space₀) × (length out ≡ length out₀)
 
 abbrev μ-loop : tie.MeasureT-loop
-μ-loop space₀ line₀ out₀ left₀ now₀ space line out left now = left
+μ-loop space₀ out₀ left₀ now₀ space out left now = left
 
--- src/main.rt:89:5
+-- where the loop has been left
+abbrev left-at : tie.Left-loop Inv-loop μ-loop → tie.At-loop Inv-loop μ-loop
+left-at c = c .before
+
+abbrev finished-at : tie.After-write Inv-loop μ-loop → tie.Left-loop Inv-loop μ-loop
+finished-at c = c .before .before .before .before .before .before .before
+
+start-requires : tie.Need-start-requires Inv-loop μ-loop
+start-requires c κs = search needs
+
 loop-holds : tie.Need-loop-holds Inv-loop μ-loop
-loop-holds c = (refl, refl, refl)
+loop-holds c = (stands-regular (c .start .ensures), refl, refl)
 
--- src/main.rt:90:9
 round-once-requires : tie.Need-round-once-requires Inv-loop μ-loop
 round-once-requires c κs =
-    let loop = c .before .before .before .before .before in
-    let given = loop .before .before .before .before .pre in
-    (omega (arith, loop .loop .inv .1, given .0), omega (arith, loop .loop .inv .2, given .1))
+    let loop = c .before .before .before .before in
+    let i = loop .loop .inv in
+    (i .0, omega (arith, i .2, loop .before .before .before .before .pre))
 
--- src/main.rt:91:9
 sub-left : tie.Need-sub-left Inv-loop μ-loop
-sub-left c = omega (arith, ltb-true)
+sub-left c = search needs
 
--- src/main.rt:89:5
 loop-less : tie.Need-loop-less Inv-loop μ-loop
 loop-less c = omega (arith, ltb-true)
 
--- src/main.rt:89:5
 loop-again : tie.Need-loop-again Inv-loop μ-loop
 loop-again c =
-    let t = c .before .before .before .before .before .before in
-    let inv = t .before .before .before .before .before .before .loop .inv in
-    (t .round-once .kept .0 ∙ inv .0, t .round-once .kept .1 .0 ∙ inv .1, t .round-once .kept .1 .1 .1 .0 ∙ inv .2)
+    let t = c .before .before .before .before in
+    let i = t .before .before .before .before .before .loop .inv in
+    (t .round-once .ensures, t .round-once .kept .1 .0 ∙ i .1, t .round-once .kept .1 .1 .0 ∙ i .2)
 
--- src/main.rt:81:1
+finish-requires : tie.Need-finish-requires Inv-loop μ-loop
+finish-requires c κs =
+    let at = left-at (c .before .before) in
+    let i = at .loop .inv in
+    (i .0, omega (arith, i .2, at .before .before .before .before .pre))
+
+write-requires : tie.Need-write-requires Inv-loop μ-loop
+write-requires c κs =
+    let f = c .before .before .before .finish in
+    omega (arith, f .ensures .fits, f .kept .1 .0)
+
 same-length : tie.Need-same-length Inv-loop μ-loop
-same-length c = search needs
+same-length c = left-at (finished-at c) .loop .inv .1
 
--- src/main.rt:81:1
 same-length-2 : tie.Need-same-length-2 Inv-loop μ-loop
-same-length-2 c = search needs
+same-length-2 c = c .before .before .before .before .finish .kept .1 .0 ∙ left-at (finished-at c) .loop .inv .2
 
--- src/main.rt:81:1
-same-length-3 : tie.Need-same-length-3 Inv-loop μ-loop
-same-length-3 c = search needs
-
--- src/main.rt:81:1
 returns : tie.Need-returns Inv-loop μ-loop
 returns c = search needs
 
--- src/main.rt:81:1
+same-length-3 : tie.Need-same-length-3 Inv-loop μ-loop
+same-length-3 c = left-at (c .before) .loop .inv .1
+
 same-length-4 : tie.Need-same-length-4 Inv-loop μ-loop
-same-length-4 c = search needs
+same-length-4 c = left-at (c .before) .loop .inv .2
 
--- src/main.rt:81:1
-same-length-5 : tie.Need-same-length-5 Inv-loop μ-loop
-same-length-5 c = search needs
-
--- src/main.rt:81:1
-same-length-6 : tie.Need-same-length-6 Inv-loop μ-loop
-same-length-6 c = search needs
-
--- src/main.rt:81:1
 returns-2 : tie.Need-returns-2 Inv-loop μ-loop
 returns-2 c = search needs
 
@@ -77,16 +81,17 @@ rounds-spec =
     (tie.spec
     Inv-loop
     μ-loop
+    start-requires
     loop-holds
     round-once-requires
     sub-left
     loop-less
     loop-again
+    finish-requires
+    write-requires
     same-length
     same-length-2
-    same-length-3
     returns
+    same-length-3
     same-length-4
-    same-length-5
-    same-length-6
     returns-2)

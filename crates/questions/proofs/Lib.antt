@@ -1,0 +1,5 @@
+pub mod WordsTold
+pub mod LineAnswers
+pub mod FedBytes
+pub mod AnyPieces
+pub mod InputEdges
