@@ -6,6 +6,7 @@ have to be those of domelink without any.  What left is measured as
 
 import subprocess
 import sys
+from itertools import zip_longest
 
 import call_bytes
 import programs
@@ -15,6 +16,7 @@ from simulator.records import split
 
 sys.path.insert(0, str(programs.ROOT / "tools"))
 from check.ahead import Sending             # noqa: E402
+from check.ends import ENDED                # noqa: E402
 
 FLIGHTS = ("sparse", "dense")
 
@@ -56,8 +58,9 @@ def same_bookings(data, booked, board):
 def measured(booked, sent):
     """The lines on what is gained; or it ends, where some tile is late."""
     sending = Sending()
-    for slot, pair in enumerate(zip(sending.reads(booked), sent), 1):
-        sending.add(slot, *pair)
+    pairs = zip_longest(sending.reads(booked), sent, fillvalue=ENDED)
+    for slot, (owner, flow) in enumerate(pairs, 1):
+        sending.add(slot, owner, flow)
     sending.end()
     if not sending.good():
         programs.stop("what left is not in time: " + sending.bad_words())

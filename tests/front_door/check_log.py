@@ -221,6 +221,10 @@ class LogTree(Tree):
         super().__init__(folder, program)
         self.path = os.path.dirname(sys.executable) + os.pathsep + self.path
 
+    def listing_of(self, calls):
+        """The program's listing of a file of calls."""
+        return start([self.program], input=calls).output
+
     def compare(self, booked, sent, *words):
         """Starts it on a listing of these slots and on a list of these
         streams."""
@@ -281,8 +285,7 @@ def the_sparse_flight(tree):
     """As docs/CHECKLIST.md says it: 12 slots of 40 have a stream.  The title
     leaves in slot 9, slot 1 of frame 1, and asks once too soon, with call 17
     of flights/sparse.txt."""
-    booked = tree.write("booked", start(
-        [tree.program], input=SPARSE.read_bytes()).output)
+    booked = tree.write("booked", tree.listing_of(SPARSE.read_bytes()))
     sent = (ROOT / "flights/sparse.sent").read_bytes()
     other = sent.split(b"\n")
     other[8] = b"0"

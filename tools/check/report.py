@@ -2,6 +2,7 @@
 for programs."""
 
 import json
+import re
 
 from check.booked import MISTAKES
 from check.words import plural
@@ -25,6 +26,11 @@ def by_flow(flows):
     if len(pairs) == 1 == len(flows):
         return " (flow %d)" % pairs[0][0]
     return " (%s)" % ", ".join("flow %d: %d" % pair for pair in pairs)
+
+
+def clause(text):
+    """What stands before the first colon or semicolon."""
+    return re.split("[:;]", text)[0]
 
 
 class Report:
@@ -57,9 +63,9 @@ class Report:
                 "power, or at where SENT was taken"
         yield from compared.ends.lines()
         yield from compared.shift.lines()
-        for _, line in compared.flow_lines(self.link_is_dead()):
+        for _, line in sorted([*compared.flow_lines(self.link_is_dead()),
+                               *self.lines_without_grants()]):
             yield line
-        yield from self.without_grants()
         yield from compared.faults.lines(self.frame_slots)
         yield from self.refused_lines()
         yield from self.to_come_lines()
@@ -69,24 +75,24 @@ class Report:
         if verdict == "differ":
             return "differ: " + self.compared.bad_words()
         if verdict == "refused":
-            return "refused: %s of BOOKED made wrongly; %s: %s" % (
-                plural(self.booked.mistakes(), "call"),
-                self.compared.good_word, self.compared.good_words())
+            return "refused: %s in BOOKED; %s" % (
+                plural(self.booked.mistakes(), "wrong call"),
+                self.compared.good_words())
         return "%s: %s" % (verdict, self.compared.good_words())
 
-    def asked_in_vain(self):
+    def without_grants(self):
         """With the file of calls: flows some of whose calls were refused, and
         to which nothing was granted."""
         flows = {flow for refused in self.booked.refused.values()
                  for flow in refused.flows if flow is not None}
         return sorted(flow for flow in flows if not self.booked.granted[flow])
 
-    def without_grants(self):
-        for flow in self.asked_in_vain():
+    def lines_without_grants(self):
+        for flow in self.without_grants():
             numbers = ["%d with %d" % (refused.flows[flow], number)
                        for number, refused in sorted(
                            self.booked.refused.items()) if refused.flows[flow]]
-            yield "flow %d: nothing was granted to it; refused: %s" % (
+            yield flow, "flow %d: nothing was granted to it, %s refused" % (
                 flow, ", ".join(numbers))
 
     def refused_lines(self):
@@ -95,11 +101,11 @@ class Report:
         rows = refusals.rows()
         for number, refused in sorted(self.booked.refused.items()):
             row = refusals.refusal(number, "request", rows)
-            why = row.when + "; " if number in MISTAKES else ""
+            why = clause(row.when) + "; " if number in MISTAKES else ""
             yield "%s refused with %d%s, call %d%s: %s%s" % (
                 plural(refused.calls, "call"), number, by_flow(refused.flows),
                 refused.first, " first" if refused.calls > 1 else "",
-                why, row.what_to_do)
+                why, clause(row.what_to_do))
 
     def to_come_lines(self):
         flows = self.booked.to_come()
@@ -120,6 +126,7 @@ class Report:
             "flows": [dict(compared.flow_numbers(compared.flows[number]),
                            flow=number, says=line) for number, line in
                       compared.flow_lines(self.link_is_dead())],
+            "without_grants": self.without_grants(),
             "faults": compared.faults.count,
             "first_faults": [{"slot": slot, "says": text} for slot, _, text
                              in compared.faults.first],
