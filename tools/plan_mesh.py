@@ -1,5 +1,5 @@
-"""python3 plan_mesh.py DOMEPLAN F SOURCE DESTINATION SHARE ..: streams over the
-mesh in words and drawn.  ./plan --mesh starts it.
+"""python3 plan_mesh.py DOMEPLAN F SOURCE DESTINATION SHARE ..: streams over
+the mesh in words and drawn.  ./plan --mesh starts it.
 
 What fits, which links are over and what they carry, and the way of a stream
 are domeplan's answers.  A stream's way are the links that are over where it
@@ -16,8 +16,8 @@ FIT, REFUSED, NOT_DONE = range(3)       # exit statuses
 SIDE = 8                                # boards to a row
 # Refusals: when each is given, and what to do.
 F_IS_WRONG = (3, "F is not 1 to 64", "choose F from 1 to 64")
-STREAM_IS_WRONG = (4, "a stream's share is not 1 to F, a board is above 63, or "
-                   "it ends where it starts", "mend that stream")
+STREAM_IS_WRONG = (4, "a stream's share is not 1 to F, a board is above 63, "
+                   "or it ends where it starts", "mend that stream")
 TOO_MANY = (25, "there are more than 64 streams", "ask for at most 64 streams")
 LINK_IS_OVER = (25, "on some link of the mesh the streams' shares add to more "
                 "than F", "lower a share, or send a stream from another board")
@@ -76,7 +76,8 @@ def answers(program, questions):
 
 def refusal_in(answer):
     """The number of a refusal, or 0."""
-    return int(answer[2:]) if answer[:2] == "R " and answer[2:].isdigit() else 0
+    word, _, number = answer.partition(" ")
+    return int(number) if word == "R" and number.isdigit() else 0
 
 
 def links_in(answer):
@@ -139,7 +140,7 @@ def table(streams):
                 end for _, end in stream.links])))
 
 
-# Unused; forth, used and over; back, used and over; both, and one of them over.
+# Unused; forth, used or over; back, used or over; both, and one of both over.
 RIGHT = ("    ", " -> ", " !> ", " <- ", " <! ", "<-> ", "<!> ")
 DOWN = ("  ", " v", "!v", " ^", "!^", " |", "!|")
 
@@ -168,8 +169,8 @@ def drawn(used, over):
         if first + SIDE < SIDE * SIDE:
             yield "    ".join(between(board, board + SIDE, DOWN)
                               for board in boards).rstrip()
-    yield "-> <- v ^ is a link that is used, <-> and | are two; one with ! is " \
-        "over"
+    yield "-> <- v ^ is a link that is used, <-> and | are two; one with ! " \
+        "is over"
 
 
 def over_lines(streams, over, frame_slots):
@@ -194,8 +195,8 @@ def report(program, frame_slots, streams):
     lines = [*table(streams), "", *drawn(used, over), ""]
     if over:
         return lines + list(over_lines(streams, over, frame_slots)), Refused(
-            LINK_IS_OVER, "%d %s" % (len(over), "link is over" if len(over) == 1
-                                     else "links are over"))
+            LINK_IS_OVER, "1 link is over" if len(over) == 1
+            else "%d links are over" % len(over))
     return lines + ["fits: no link carries more than %d slots of a frame"
                     % frame_slots], None
 

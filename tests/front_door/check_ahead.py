@@ -39,8 +39,8 @@ IN_TIME = [
     # From slot 1 to 256, which is as far as can be booked.
     ("- " * 255 + "0", "0" + " -" * 255,
      ["ahead: 1 tile left at or before its slot, 1 ahead; 255 slots gained",
-      "flow 0: 1 tile, 1 ahead; 255 slots gained, a mean of 255.00 and at most "
-      "255"]),
+      "flow 0: 1 tile, 1 ahead; 255 slots gained, a mean of 255.00 and at "
+      "most 255"]),
     ("- -", "- -",
      ["ahead: 0 tiles left at or before their slots, 0 ahead; 0 slots gained"
       ]),
@@ -64,8 +64,8 @@ UNBOOKED = ("%sflow %d left, and no tile of it waits that was booked: it left "
             "twice, or was never booked")
 TWICE = ("slot %d: flow %d left, and its tile of this slot had left in slot "
          "%d: it left twice, or another in its place")
-NO_TILE = ("flow %d: none booked, 1 left wrongly: look at who sends under this "
-           "number, and whether its requests were refused")
+NO_TILE = ("flow %d: none booked, 1 left wrongly: look at who sends under "
+           "this number, and whether its requests were refused")
 ONE_MORE = ("flow 0: 1 booked, 1 left in time, 1 wrongly: 1 more than booked: "
             "look at what its board sends")
 ONE_AHEAD = ("flow 0: 1 tile, 1 ahead; 1 slot gained, a mean of 1.00 and at "

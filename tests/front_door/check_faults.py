@@ -80,8 +80,8 @@ def cable_comes_off(tree):
     sent = ["-" if flow == "2" and slot > 9 else flow
             for slot, flow in enumerate(sparse_sent(), 1)]
     said = tree.sparse(sent).output.decode().splitlines()
-    return said[3] != ("flow 2: 4 booked, 2 left in their slots, 2 never: none "
-                       "left after slot 9: look at its cable") and said
+    return said[3] != ("flow 2: 4 booked, 2 left in their slots, 2 never: "
+                       "none left after slot 9: look at its cable") and said
 
 
 def cables_change_places(tree):
@@ -89,12 +89,11 @@ def cables_change_places(tree):
     other = {"1": "2", "2": "1"}
     ended = tree.sparse([other.get(flow, flow) for flow in sparse_sent()])
     said = ended.output.decode().splitlines()
-    end = "none in a slot of its own: look at its board's plan, and at which " \
-        "stream has this number"
+    end = "none in a slot of its own: look at its board's plan, and at " \
+        "which stream has this number"
     return trouble(ended, DIFFER) or said[1:4] != [
         WELL[0],
-        "flow 1: 3 booked, 4 left elsewhere: 1 more than booked: look at what "
-        "its board sends",
+        "flow 1: 3 booked, 4 left elsewhere: " + end,
         "flow 2: 4 booked, 3 left elsewhere, 1 never: " + end] and said
 
 
@@ -113,8 +112,8 @@ def log_breaks_off(tree):
     """After slot 30: one booked slot, 33, is left."""
     return trouble(tree.sparse(sparse_sent()[:30]), DIFFER, lines([
         "differ: 30 of 40 slots agree; BOOKED has 40 and SENT has 30",
-        "SENT ends after slot 30 and BOOKED after slot 40: 10 slots, 1 booked, "
-        "can't be compared",
+        "SENT ends after slot 30 and BOOKED after slot 40: 10 slots, 1 "
+        "booked, can't be compared",
         "flow 0: 4 booked, all left in their slots", *WELL[1:], REFUSED]))
 
 
@@ -133,8 +132,8 @@ def wrong_destination(tree):
         "stream and 31 idle", WELL[0],
         "flow 1: nothing was granted to it, 1 with 9, 3 with 15, 2 with 24 "
         "refused", WELL[2],
-        "1 call refused with 9 (flow 1), call 2: the word's destination is not "
-        "the flow's; look at the sender's routing", REFUSED,
+        "1 call refused with 9 (flow 1), call 2: the word's destination is "
+        "not the flow's; look at the sender's routing", REFUSED,
         "3 calls refused with 15 (flow 1), call 7 first: the flow holds "
         "nothing at the credit's position, or at some later one; send one "
         "credit for each cell that falls free, and none twice",

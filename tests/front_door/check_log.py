@@ -9,8 +9,8 @@ from front_door.tree import Tree, named
 ALIKE, DIFFER, NOT_COMPARED = range(3)          # exit statuses
 SPARSE = ROOT / "flights/sparse"
 
-DEAD = ("nothing left at all: look at the link, its cable and its power, or at "
-        "where SENT was taken")
+DEAD = ("nothing left at all: look at the link, its cable and its power, or "
+        "at where SENT was taken")
 MOVED_BY_ONE = ("moved by one slot SENT agrees: is its first line slot %d? it "
                 "has to be slot 1")
 
@@ -289,8 +289,8 @@ def the_sparse_flight(tree):
     sent = (ROOT / "flights/sparse.sent").read_bytes()
     other = sent.split(b"\n")
     other[8] = b"0"
-    refused = "1 call refused with 12, call 17: wait for credits or the next " \
-        "frame"
+    refused = "1 call refused with 12, call 17: wait for credits or the " \
+        "next frame"
     return trouble(
         tree.start("--slots", "8", booked, tree.write("sent", sent)),
         output=lines([
@@ -302,8 +302,8 @@ def the_sparse_flight(tree):
         tree.start("--slots", "8", booked, "-", input=b"\n".join(other)),
         DIFFER, lines([
             "differ: 39 of 40 slots agree; BOOKED has 40 and SENT has 40",
-            "flow 0: 5 booked, 5 left in their slots, 1 elsewhere: 1 more than "
-            "booked: look at what its board sends",
+            "flow 0: 5 booked, 5 left in their slots, 1 elsewhere: 1 more "
+            "than booked: look at what its board sends",
             "flow 1: 3 booked, all left in their slots",
             "flow 2: 4 booked, 3 left in their slots, 1 never",
             "slot 9 (frame 1, its slot 1): it was booked for flow 2, and flow "
@@ -443,7 +443,8 @@ def help_page(tree):
 
 
 TESTS = (
-    slot_by_slot, moved_by_one, twenty_are_told, frames_are_named, the_sparse_flight,
+    slot_by_slot, moved_by_one, twenty_are_told, frames_are_named,
+    the_sparse_flight,
     listing_on_standard_input, other_ends_of_lines, empty_lines_at_the_end,
     odd_names, no_listing, no_list_of_streams, wrong_words,
     streams_are_missing, output_is_lost, python3_is_missing, help_page,

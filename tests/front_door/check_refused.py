@@ -19,8 +19,8 @@ NUMBERS = [
      "both boards the same plan"),
     (11, ALIKE, "ask again in the next frame"),
     (12, ALIKE, "wait for credits or the next frame"),
-    (13, DIFFER, "the credit's position is not in the window; give both boards "
-     "the same plan"),
+    (13, DIFFER, "the credit's position is not in the window; give both "
+     "boards the same plan"),
     (14, DIFFER, "the credit's position lies in the head frame and not after "
      "the current one; date it with a position to come"),
     (15, DIFFER, "the flow holds nothing at the credit's position, or at some "
@@ -29,8 +29,8 @@ NUMBERS = [
     (16, DIFFER, "the record's kind is unknown, a filler is not 0, or fewer "
      "than five bytes are left; look at the writer of the call file"),
     (20, ALIKE, "ask again in the next frame"),
-    (24, DIFFER, "the word's quantum number is not the one that is expected of "
-     "its flow; go on by one after a grant, and send the same number again "
+    (24, DIFFER, "the word's quantum number is not the one that is expected "
+     "of its flow; go on by one after a grant, and send the same number again "
      "after a refusal"),
 ]
 
@@ -45,8 +45,8 @@ CALLS = call_bytes.plan(4, 2, 4, [(2, 2, 1, 9), (2, 2, 2, 9)]) + b"".join((
     b"\7\0\0"))
 ANSWERS = b"P 0\nG 1\nG 2\nR 12\nR 9\nR 24\nR 8\nT 0\nC\nC\nR 15\nR 16\n"
 NAMED = [
-    "refused: 5 wrong calls in BOOKED; 1 of 1 slot agrees, 1 with a stream and "
-    "0 idle",
+    "refused: 5 wrong calls in BOOKED; 1 of 1 slot agrees, 1 with a stream "
+    "and 0 idle",
     "flow 0: 1 booked, left in its slot",
     "flow 1: nothing was granted to it, 1 with 9, 1 with 24 refused",
     "flow 2: nothing was granted to it, 1 with 8 refused",
@@ -56,8 +56,8 @@ NAMED = [
     "1 call refused with 15 (flow 0), call 10: " + NUMBERS[7][2],
     "1 call refused with 16, call 11: " + NUMBERS[8][2],
     "1 call refused with 24 (flow 1), call 5: " + NUMBERS[10][2],
-    "1 granted slot had not come up at the end of BOOKED (flow 0): let it tick "
-    "on until each has",
+    "1 granted slot had not come up at the end of BOOKED (flow 0): let it "
+    "tick on until each has",
 ]
 
 # What stands in a file that BOOKED is not the listing of, and the sentence.
@@ -150,10 +150,10 @@ def frames_are_known(tree):
     """F of the plan, unless --slots gives another."""
     calls = tree.write("calls", CALLS[:20] + 5 * TICK)
     listing, sent = "P 0\n" + 5 * "T -\n", "-\n-\n-\n-\n1\n"
-    for words, name in (([], "slot 5 (frame 1, its slot 1)"),
-                        (["--slots", "5"], "slot 5 (frame 1, its slot 0)")):
+    for words, name in (([], b"slot 5 (frame 1, its slot 1)"),
+                        (["--slots", "5"], b"slot 5 (frame 1, its slot 0)")):
         said = tree.on(listing, sent, *words, "--calls", calls).output
-        if name.encode() + b": nobody booked it, and flow 1 left\n" not in said:
+        if b"%s: nobody booked it, and flow 1 left\n" % name not in said:
             return "%s: %s" % (words, said)
     return None
 
@@ -195,7 +195,7 @@ def wrong_words(tree):
     for words, says in (
             (["--calls"], "--calls takes a file of calls, and none is named"),
             (["--calls", "nowhere", "a", "b"], "there is no file 'nowhere'"),
-            (["--calls", "/", "a", "b"], "is a directory, not a file of calls"),
+            (["--calls", "/", "a", "b"], "is a directory, not a file of "),
             (["--calls", "-", "-", "b"], "only one of the files can be"),
             (["--calls", "-", "a"], "and 1 is named")):
         wrong = trouble(tree.start(*words), NOT_COMPARED, b"", says)

@@ -170,8 +170,9 @@ def check_a_call_file(tree):
     """A plan with calls after it is no plan file: it is said what plays it,
     and how its plan is checked, which is so."""
     path = tree.write("a file", BASE + call_bytes.TICK)
-    advice = "a file of calls, which begins with a plan, is played by ./play; " \
-        "its plan is its first 20 bytes: head -c 20 %s | ./plan --check -"
+    advice = "a file of calls, which begins with a plan, is played by " \
+        "./play; its plan is its first 20 bytes: head -c 20 %s | ./plan " \
+        "--check -"
     named = advice % ("'%s'" % path)
     return trouble(
         tree.start("--check", "-", input=BASE + call_bytes.TICK), REFUSED, b"",
@@ -184,7 +185,8 @@ def check_a_call_file(tree):
 def check_other_files(tree):
     """What states another length than 12 to 76, or is short, has no plan at
     its beginning."""
-    for data in (b"", BASE[:19], b"\x0b\0" + 30 * b"\0", b"\x4d\0" + 99 * b"\0"):
+    for data in (b"", BASE[:19], b"\x0b\0" + 30 * b"\0",
+                 b"\x4d\0" + 99 * b"\0"):
         said = tree.start("--check", "-", input=data).errors
         if "head -c" in said:
             return "%r: %s" % (data[:9], said)

@@ -154,7 +154,8 @@ def named_theorems(tree):
     return missing and "not on the page: %s" % ", ".join(missing)
 
 
-TESTS = each_message, what_to_change, plans_of_flights, odd_delays, named_theorems
+TESTS = (each_message, what_to_change, plans_of_flights, odd_delays,
+         named_theorems)
 
 
 def tests(programs):

@@ -80,8 +80,6 @@ WRONG = [
 
 
 class MeshTree(PlanTree):
-    needed = ("tools/plan_mesh.py",)
-
     def mesh(self, numbers):
         return self.start("--mesh", *numbers.split())
 
@@ -106,10 +104,10 @@ def several_links(tree):
     told = [line for line in ended.output.decode().splitlines()
             if line.startswith("over: ")]
     right = [
-        "over: the link from 3 to 4 carries 70 slots of 64, 6 too many: stream "
-        "0 (from 3 to 5) has 36, stream 1 (from 3 to 4) has 34",
-        "over: the link from 4 to 5 carries 66 slots of 64, 2 too many: stream "
-        "0 (from 3 to 5) has 36, stream 2 (from 4 to 5) has 30"]
+        "over: the link from 3 to 4 carries 70 slots of 64, 6 too many: "
+        "stream 0 (from 3 to 5) has 36, stream 1 (from 3 to 4) has 34",
+        "over: the link from 4 to 5 carries 66 slots of 64, 2 too many: "
+        "stream 0 (from 3 to 5) has 36, stream 2 (from 4 to 5) has 30"]
     return trouble(ended, REFUSED, None, OVER % "2 links are", "lower") or (
         told != right and "%s" % told)
 
@@ -154,9 +152,10 @@ def wrong_words(tree):
 
 
 def odd_answers(tree):
-    for answer, says in (("", "broke off"), ("over 1 9", "answered 'over 1 9'"),
-                         ("over 1 9 x", "answered"), ("yes", "answered"),
-                         ("over 3 4 2", "a way that doesn't lead from 0 to 9")):
+    for answer, says in (
+            ("", "broke off"), ("over 1 9", "answered 'over 1 9'"),
+            ("over 1 9 x", "answered"), ("yes", "answered"),
+            ("over 3 4 2", "a way that doesn't lead from 0 to 9")):
         tree.instead("while read -r line; do %s; done" % (
             "echo '%s'" % answer if answer else ":"))
         wrong = trouble(tree.mesh("1 0 9 1"), NOT_DONE, b"",

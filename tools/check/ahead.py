@@ -49,8 +49,9 @@ class Stream(Flow):
     def time_words(self):
         return "time"
 
-    def advice_on_slots(self):
-        return ""
+    def never_in_its_own(self):
+        """Not told: a tile that is late is no sign of another's slots."""
+        return False
 
     def in_time_by(self, slots):
         self.in_time += 1
@@ -125,9 +126,9 @@ class Sending:
             self.leave_elsewhere(slot, owner, flow, stream)
         elif slot in stream.early:
             stream.elsewhere += 1
-            self.faults.add(slot, "flow %d left, and its tile of this slot had "
-                            "left in slot %d: it left twice, or another in "
-                            "its place" % (flow, stream.early[slot]))
+            self.faults.add(slot, "flow %d left, and its tile of this slot "
+                            "had left in slot %d: it left twice, or another "
+                            "in its place" % (flow, stream.early[slot]))
         else:
             stream.waiting.remove(slot)
             stream.booked += 1

@@ -78,5 +78,5 @@ class Shift:
     def lines(self):
         first = self.first_slot()
         if first is not None:
-            yield "moved by one slot SENT agrees: is its first line slot %d? " \
-                "it has to be slot 1" % first
+            yield "moved by one slot SENT agrees: is its first line slot " \
+                "%d? it has to be slot 1" % first

@@ -62,16 +62,17 @@ class Flow:
                 "requests were refused"
         if self.missed > 1 and self.missed == self.never:
             return "none left after slot %d: look at its cable" % self.last
+        if self.never_in_its_own():
+            return "none in a slot of its own: look at its board's plan, " \
+                "and at which stream has this number"
         if self.left > self.booked:
             return "%d more than booked: look at what its board sends" % (
                 self.left - self.booked)
-        return self.advice_on_slots()
+        return ""
 
-    def advice_on_slots(self):
-        if not self.elsewhere or self.in_time:
-            return ""
-        return "none in a slot of its own: look at its board's plan, and at " \
-            "which stream has this number"
+    def never_in_its_own(self):
+        """It leaves, but in others' slots alone."""
+        return self.elsewhere and not self.in_time
 
     def sentence(self, number, link_is_dead=False):
         """All of it; where nothing left at all it is not the flow's cable."""

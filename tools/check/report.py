@@ -110,8 +110,8 @@ class Report:
     def to_come_lines(self):
         flows = self.booked.to_come()
         if flows:
-            yield "%s had not come up at the end of BOOKED%s: let it tick on " \
-                "until each has" % (plural(sum(flows.values()),
+            yield "%s had not come up at the end of BOOKED%s: let it tick " \
+                "on until each has" % (plural(sum(flows.values()),
                                            "granted slot"), by_flow(flows))
 
     # ---- for programs
