@@ -70,10 +70,10 @@ class Comparison:
         ahead = "--ahead" in options.flags
         calls = options.calls and Calls(options.calls)
         self.frame_slots = options.frame_slots or (
-            calls and calls.plan.frame_slots)
+            calls and calls.plan.frame_slots) or None
         self.booked = Booked(options.booked, calls, ahead)
-        self.compared = Sending(calls.plan.positions if calls else WINDOW
-                                ) if ahead else SlotBySlot()
+        window = min(calls.plan.positions, WINDOW) if calls else WINDOW
+        self.compared = Sending(window) if ahead else SlotBySlot()
         self.slot = 0                   # the last that was compared
 
     def report(self):
