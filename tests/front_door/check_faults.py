@@ -89,12 +89,26 @@ def cables_change_places(tree):
     other = {"1": "2", "2": "1"}
     ended = tree.sparse([other.get(flow, flow) for flow in sparse_sent()])
     said = ended.output.decode().splitlines()
-    end = "none in a slot of its own: look at its board's plan, and at " \
-        "which stream has this number"
+    end = "slots: look at which stream has which number"
     return trouble(ended, DIFFER) or said[1:4] != [
         WELL[0],
-        "flow 1: 3 booked, 4 left elsewhere: " + end,
-        "flow 2: 4 booked, 3 left elsewhere, 1 never: " + end] and said
+        "flow 1: 3 booked, 4 left elsewhere: all in flow 2's " + end,
+        "flow 2: 4 booked, 3 left elsewhere, 1 never: all in flow 1's " + end
+    ] and said
+
+
+def numbers_from_one(tree):
+    """The log counts its streams from 1 on."""
+    ended = tree.sparse([flow if flow == "-" else int(flow) + 1
+                         for flow in sparse_sent()])
+    said = ended.output.decode().splitlines()
+    end = "slots: look at which stream has which number"
+    return trouble(ended, DIFFER) or said[1:5] != [
+        "flow 0: 5 booked, none left: look at its cable",
+        "flow 1: 3 booked, 5 left elsewhere: all in flow 0's " + end,
+        "flow 2: 4 booked, 3 left elsewhere, 1 never: all in flow 1's " + end,
+        "flow 3: none booked, 4 left elsewhere: all in flow 2's " + end
+    ] and said
 
 
 def log_begins_late(tree):
@@ -179,6 +193,7 @@ def one_late_return(tree):
 
 TESTS = (
     dead_flow, dead_link, cable_comes_off, cables_change_places,
+    numbers_from_one,
     log_begins_late, log_breaks_off, wrong_destination, bookings_never_sent,
     one_late_return,
 )

@@ -1,5 +1,7 @@
 """What came of a flow's bookings, and the sentence that a person wants."""
 
+from collections import Counter
+
 
 class Flow:
     """Counts of a flow.  A tile that didn't leave in time and left in another
@@ -13,6 +15,7 @@ class Flow:
         self.elsewhere = 0      # left in other slots, or late
         self.last = 0           # the slot in which it left last
         self.missed = 0         # slots booked for it since then
+        self.owners = Counter()     # of the slots in which it left elsewhere
 
     def leaves(self, slot):
         self.last = slot
@@ -57,6 +60,9 @@ class Flow:
         """Where to look, or nothing."""
         if not self.left and self.booked:
             return "look at its cable"
+        if self.in_place_of() is not None:
+            return "all in flow %d's slots: look at which stream has which " \
+                "number" % self.in_place_of()
         if not self.booked and self.left:
             return "look at who sends under this number, and whether its " \
                 "requests were refused"
@@ -69,6 +75,12 @@ class Flow:
             return "%d more than booked: look at what its board sends" % (
                 self.left - self.booked)
         return ""
+
+    def in_place_of(self):
+        """The flow in whose slots alone it leaves, several times; or None."""
+        if self.in_time or self.elsewhere < 2 or len(self.owners) != 1:
+            return None
+        return next(iter(self.owners))
 
     def never_in_its_own(self):
         """It leaves, but in others' slots alone."""

@@ -50,6 +50,7 @@ class SlotBySlot:
             return
         if flow is not None:
             self.flow(flow).elsewhere += 1
+            self.flow(flow).owners[owner] += 1
             self.flow(flow).leaves(slot)
         self.faults.add(slot, "%s, and %s" % (was_booked(owner),
                                               has_left(flow)))
