@@ -13,7 +13,8 @@ class Calls:
         self.name = name
         self.size = 2           # bytes of the next piece: the plan's length
         self.pieces = pieces_of(name, "a file of calls",
-                                lambda source: source.read(self.size))
+                                lambda source:
+                                lambda: source.read(self.size))
         data = next(self.pieces, b"")
         self.size = max(call_file.low_first(data) - len(data), 0)
         data += next(self.pieces, b"")

@@ -1,6 +1,7 @@
 """The files that are read, and what is said of one that can't be."""
 
 import sys
+from functools import lru_cache, partial
 
 LONGEST = 200                   # bytes of a line that are read
 MORE = "; ./check-log --help says more"
@@ -25,25 +26,27 @@ def opened(name, role):
                       % (shown(name), role)) from None
 
 
-def pieces_of(name, role, read):
-    """What `read` takes from a file each time, until that is nothing."""
+def pieces_of(name, role, reader):
+    """What the reader of a file takes from it each time, until that is
+    nothing."""
     try:
         with opened(name, role) as source:
-            while True:
-                piece = read(source)
-                if not piece:
-                    return
-                yield piece
+            yield from iter(reader(source), b"")
     except OSError as error:
         raise Trouble("%s can't be read: %s" % (
             called(name), error.strerror or error)) from None
 
 
+@lru_cache(maxsize=1024)
+def text_of(line):
+    """A line without blanks around it."""
+    return line.decode("latin-1").strip(" \t\r\n")
+
+
 def lines_of(name, role):
-    """Each line without blanks around it.  Of a line that is too long to be
-    one, its beginning."""
-    for line in pieces_of(name, role, lambda source: source.readline(LONGEST)):
-        yield line.decode("latin-1").strip(" \t\r\n")
+    """Each line.  Of one that is too long to be a line, its beginning."""
+    return map(text_of, pieces_of(
+        name, role, lambda source: partial(source.readline, LONGEST)))
 
 
 def shown(text):

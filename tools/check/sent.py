@@ -1,6 +1,7 @@
 """SENT: the flow that left in each slot."""
 
 import re
+from functools import lru_cache
 
 from check.files import MORE, Trouble, called, lines_of, shown
 
@@ -14,6 +15,7 @@ def no_stream(number, line, name):
                                       FLOWS - 1, MORE))
 
 
+@lru_cache(maxsize=1024)
 def flow_of(line):
     """The flow that left, None where nothing did, and -1 for what is no line
     of a list of streams."""
