@@ -253,6 +253,8 @@ def moved_by_one(tree):
         found = [line for line in said if line.startswith("moved")]
         if found != ([] if first is None else [MOVED_BY_ONE % first]):
             return "%s against %s: %s" % (booked, sent, said)
+        if found and any("look at" in line for line in said):
+            return "no flow is at fault: %s" % said
     return None
 
 

@@ -189,12 +189,12 @@ class Sending:
             ", ".join(self.reasons()), in_time, plural(tiles, "tile"),
             "its slot" if tiles == 1 else "their slots")
 
-    def flow_lines(self, link_is_dead):
+    def flow_lines(self, explained):
         for number, stream in sorted(self.flows.items()):
             if stream.all_in_time() and stream.booked:
                 yield number, gained(number, stream)
             elif stream.booked or stream.elsewhere:
-                yield number, stream.sentence(number, link_is_dead)
+                yield number, stream.sentence(number, explained)
 
     def numbers(self):
         """For --json."""

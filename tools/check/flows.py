@@ -86,8 +86,8 @@ class Flow:
         """It leaves, but in others' slots alone."""
         return self.elsewhere and not self.in_time
 
-    def sentence(self, number, link_is_dead=False):
-        """All of it; where nothing left at all it is not the flow's cable."""
-        advice = "" if link_is_dead else self.advice()
+    def sentence(self, number, explained=False):
+        """All of it; where something else explains it, it is not the flow."""
+        advice = "" if explained else self.advice()
         return "flow %d: %s%s" % (number, ", ".join(self.counts()),
                                   advice and ": " + advice)

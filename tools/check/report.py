@@ -53,6 +53,12 @@ class Report:
         return not self.compared.ends.left and any(
             flow.booked for flow in self.compared.flows.values())
 
+    def explained(self):
+        """Whether what is wrong is no flow's own: nothing left at all, or SENT
+        seems to be moved by a slot."""
+        return (self.link_is_dead()
+                or self.compared.shift.first_slot() is not None)
+
     # ---- lines
 
     def lines(self):
@@ -63,7 +69,7 @@ class Report:
                 "power, or at where SENT was taken"
         yield from compared.ends.lines()
         yield from compared.shift.lines()
-        for _, line in sorted([*compared.flow_lines(self.link_is_dead()),
+        for _, line in sorted([*compared.flow_lines(self.explained()),
                                *self.lines_without_grants()]):
             yield line
         yield from compared.faults.lines(self.frame_slots)
@@ -125,7 +131,7 @@ class Report:
             "first_line_is_slot": compared.shift.first_slot(),
             "flows": [dict(compared.flow_numbers(compared.flows[number]),
                            flow=number, says=line) for number, line in
-                      compared.flow_lines(self.link_is_dead())],
+                      compared.flow_lines(self.explained())],
             "without_grants": self.without_grants(),
             "faults": compared.faults.count,
             "first_faults": [{"slot": slot, "says": text} for slot, _, text

@@ -87,9 +87,9 @@ class SlotBySlot:
         return "%s; BOOKED has %d and SENT has %d" % (
             self.agreeing(), self.ends.booked, self.ends.sent)
 
-    def flow_lines(self, link_is_dead):
+    def flow_lines(self, explained):
         for number, flow in sorted(self.flows.items()):
-            yield number, flow.sentence(number, link_is_dead)
+            yield number, flow.sentence(number, explained)
 
     def numbers(self):
         """For --json."""
