@@ -11,7 +11,7 @@ import time
 
 from front_door.check_log import (
     ALIKE, DIFFER, NOT_COMPARED, LogTree, listing)
-from front_door.command import LIMIT, start, trouble
+from front_door.command import LIMIT, ROOT, start, trouble
 from front_door.tree import named
 
 # What is booked and what left, words before them, and the object.
@@ -73,6 +73,17 @@ def objects(tree):
         if wrong:
             return "%s against %s: %s" % (booked, sent, wrong)
     return None
+
+
+def members_are_on_the_man_page(tree):
+    """Each is named there, as a word that is set bold."""
+    text = (ROOT / "docs/man/check-log.1").read_text()
+    bold = set(re.findall(r"\w+", " ".join(
+        re.findall(r"^\.BR? (.*)$", text, re.MULTILINE))))
+    members = {name for *_, right in OBJECTS for name in [
+        *right, *(each for flow in right["flows"] for each in flow)]}
+    missing = sorted(members - bold)
+    return missing and "not named: %s" % missing
 
 
 def object_of_refusals(tree):
@@ -141,13 +152,14 @@ def broken_off(tree):
         time.sleep(0.5)
         process.send_signal(signal.SIGINT)
         output, errors = process.communicate(timeout=LIMIT)
-    return (process.returncode, output) != (NOT_COMPARED, b"") \
-        or not re.fullmatch(rb"check-log: broken off after slot [0-2]\n",
-                            errors) and (process.returncode, output, errors)
+    right = (process.returncode, output) == (NOT_COMPARED, b"") \
+        and re.fullmatch(rb"check-log: broken off after slot [0-2]\n", errors)
+    return not right and "status %d, %r, %r" % (process.returncode, output,
+                                                errors)
 
 
-TESTS = (objects, object_of_refusals, moved, no_object, constant_memory,
-         broken_off)
+TESTS = (objects, members_are_on_the_man_page, object_of_refusals, moved,
+         no_object, constant_memory, broken_off)
 
 
 def tests(programs):
