@@ -6,6 +6,7 @@ have to be those of domelink without any.  What left is measured as
 
 import subprocess
 import sys
+from itertools import zip_longest
 
 import call_bytes
 import programs
@@ -14,7 +15,8 @@ from simulator.listing import split_file
 from simulator.records import split
 
 sys.path.insert(0, str(programs.ROOT / "tools"))
-from check_ahead import compare_ahead       # noqa: E402
+from check.ahead import Sending             # noqa: E402
+from check.ends import ENDED                # noqa: E402
 
 FLIGHTS = ("sparse", "dense")
 
@@ -53,6 +55,19 @@ def same_bookings(data, booked, board):
     return lines[:1] + rest == booked and pairs == taken
 
 
+def measured(booked, sent):
+    """The lines on what is gained; or it ends, where some tile is late."""
+    sending = Sending()
+    pairs = zip_longest(sending.reads(booked), sent, fillvalue=ENDED)
+    for slot, (owner, flow) in enumerate(pairs, 1):
+        sending.add(slot, owner, flow)
+    sending.end()
+    if not sending.good():
+        programs.stop("what left is not in time: " + sending.bad_words())
+    return ["ahead: " + sending.good_words()] + [
+        line for _, line in sending.flow_lines(False)]
+
+
 def of_flight(name):
     """The lines that tell of a flight."""
     data = (programs.ROOT / "flights" / name).read_bytes()
@@ -63,9 +78,7 @@ def of_flight(name):
                       % name)
     slots = [None if line == "T -" else int(line[2:])
              for line in booked if line.startswith("T ")]
-    in_time, lines = compare_ahead(slots, board.left, 0, str)
-    if not in_time:
-        programs.stop("flights/%s: %s" % (name, "; ".join(lines[:2])))
+    lines = measured(slots, board.left)
     return ["flights/%s" % name] + ["  " + line for line in lines]
 
 

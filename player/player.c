@@ -23,7 +23,8 @@
  * flow left in each slot, from slot 1 on, or - where none did: what
  * ./check-log --ahead reads.
  *
- * Exit status: 0 the listing is whole; 1 it is not; 2 wrong arguments.
+ * Exit status: 0 the listing and the list are whole; 1 one of them is not, and a
+ * sentence says which; 2 wrong arguments.
  */
 #include <stdio.h>
 #include <string.h>
@@ -47,6 +48,7 @@ static uint8_t image[NAZGOLV_IMAGE_MAX];
 static struct {
     int wanted;                         /* whether tiles are sent ahead */
     FILE *list;                         /* of what left, or NULL */
+    const char *name;                   /* of the list */
     unsigned slots, positions, flows;   /* of the plan: F, F x W, n */
     unsigned long now;                  /* the current slot */
     unsigned left;                      /* the flow that leaves in it, or nobody */
@@ -288,18 +290,25 @@ static int begin_words(int argc, char **argv)
         return 0;
     }
     board.wanted = argc > 1;
-    if (argc > 2 && (board.list = fopen(argv[2], "w")) == NULL) {
-        fprintf(stderr, "%s: '%s' can't be written\n", argv[0], argv[2]);
-        return 0;
-    }
-    return 1;
+    if (argc < 3)
+        return 1;
+    board.name = argv[2];
+    board.list = fopen(board.name, "w");
+    if (board.list == NULL)
+        fprintf(stderr, "%s: '%s' can't be written\n", argv[0], board.name);
+    return board.list != NULL;
 }
 
-/* Whether all was read and written. */
-static int whole(void)
+/* Whether all was read and written; else which of the two is not whole. */
+static int whole(const char *player)
 {
+    int played = !ferror(stdin) && fflush(stdout) == 0 && !ferror(stdout);
     int listed = board.list == NULL || (!ferror(board.list) && fclose(board.list) == 0);
-    return !ferror(stdin) && fflush(stdout) == 0 && !ferror(stdout) && listed;
+    if (!played)
+        fprintf(stderr, "%s: the listing is not whole: input or output failed\n", player);
+    if (!listed)
+        fprintf(stderr, "%s: '%s', the list of what left, is not whole: it took no more\n", player, board.name);
+    return played && listed;
 }
 
 int main(int argc, char **argv)
@@ -315,9 +324,5 @@ int main(int argc, char **argv)
             say('R', NO_CALL);
         list_left();
     }
-    if (!whole()) {
-        fprintf(stderr, "%s: the listing is not whole: input or output failed\n", argv[0]);
-        return 1;
-    }
-    return 0;
+    return whole(argv[0]) ? 0 : 1;
 }

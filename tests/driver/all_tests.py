@@ -25,11 +25,13 @@ from edges.all_edges import ALLCALLS_EDGES, EDGES
 from front_door import (
     architecture_page, bench_ahead, cut_questions, decisions_page, doc_names)
 from front_door import (
-    asking_editor, calls_text, check_ahead, check_log, checklist_page,
-    comparison_page, flights, help_pages, man_pages, must_fail_edits,
+    asking_editor, calls_text, check_ahead, check_faults, check_log, check_long,
+    check_refused, checklist_page, comparison_page, flights, help_pages,
+    man_pages, must_fail_edits,
     old_program, page_sizes, performance_page, picture_errors, picture_pages,
     picture_scripts, picture_sizes, picture_view, pictures, plan_check,
-    plan_culprits, plan_delays, plan_files, plan_lost_output, plan_read,
+    plan_culprits, plan_delays, plan_files, plan_lost_output, plan_mesh,
+    plan_read,
     plan_week, plan_wrong_words, play_explain, play_files, play_lost_output,
     play_options, play_states, progress, readme, remedies, rules_page,
     singular, slow_reader, tests_lost_output, versions, wrong_arguments)
@@ -45,11 +47,12 @@ FRONT_DOOR = (
     play_explain, play_options, play_states, pictures, picture_sizes,
     picture_pages, picture_scripts, picture_view, picture_errors, singular,
     calls_text, plan_files, plan_culprits, plan_read, plan_check, plan_delays,
-    plan_week, plan_wrong_words, plan_lost_output, check_log, check_ahead,
-    flights, old_program, slow_reader, cut_questions, asking_editor,
-    wrong_arguments, tests_lost_output, bench_ahead, performance_page,
-    page_sizes, must_fail_edits, progress, versions, help_pages, man_pages,
-    readme, rules_page, remedies, checklist_page, comparison_page)
+    plan_mesh, plan_week, plan_wrong_words, plan_lost_output, check_log,
+    check_ahead, check_refused, check_faults, check_long, flights, old_program,
+    slow_reader, cut_questions, asking_editor, wrong_arguments,
+    tests_lost_output, bench_ahead, performance_page, page_sizes,
+    must_fail_edits, progress, versions, help_pages, man_pages, readme,
+    rules_page, remedies, checklist_page, comparison_page)
 
 
 def wanted(names, only):

@@ -122,15 +122,19 @@ def refused_plan(player):
 
 
 def full_disk(player):
+    """Which of the two is not whole is said."""
     if not os.path.exists("/dev/full"):
         return None
+    listing = "the listing is not whole: input or output failed"
+    left = "'/dev/full', the list of what left, is not whole: it took no more"
     return trouble(start([player, "--ahead", "/dev/full"],
                          input=flight("sparse")), NOT_WHOLE,
                    start([player], input=flight("sparse")).output,
-                   "the listing is not whole") or trouble(
+                   left) or trouble(
         start(redirected(">/dev/full", player, "--ahead"),
-              input=flight("sparse")), NOT_WHOLE, b"",
-        "the listing is not whole")
+              input=flight("sparse")), NOT_WHOLE, b"", listing) or trouble(
+        start(redirected(">/dev/full", player, "--ahead", "/dev/full"),
+              input=flight("sparse")), NOT_WHOLE, b"", listing, left)
 
 
 TESTS = (edges, generated_files, flights, same_bookings,

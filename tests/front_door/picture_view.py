@@ -80,6 +80,18 @@ CHOSEN = [(["choose", 8], 0), (["key", "n"], 1), (["key", "n"], 5),
 # Slot 0 is lent to flow 1, and slot 1 is nobody's.
 LENT = Played(BASE + lend(2) + TICK, ["P 0", "L 1", "T -"], ["--allcalls"])
 
+# Slot 2 may leave ahead in slot 0; the credit of slot 1 has no lend before it,
+# and that of slot 5 is another flow's than was lent to.
+PAIRED = Played(
+    BASE + call_bytes.request(9, 0) + call_bytes.request(9, 0, 1)
+    + call_bytes.request(9, 1) + call_bytes.credit(0, 1) + lend(1)
+    + call_bytes.credit(0, 2) + TICK + TICK + TICK + TICK + lend(1)
+    + call_bytes.credit(1, 5),
+    ["P 0", "G 1", "G 2", "G 3", "C", "L 0", "C", "T 0", "T 0", "T 1", "T -",
+     "L 0", "C"], ["--allcalls"])
+PAIR = (" With the lend before it the tile of slot 2 may leave ahead, in slot "
+        "0.")
+
 # One of each thing, but for the two frames of the window.
 ONE = Played(call_bytes.plan(1, 2, 1, [(1, 1, 1, 9)]) + TICK, ["P 0", "T -"])
 
@@ -185,6 +197,16 @@ def flows_of_a_call():
     return (found != [[], [1], []] or refused) and "%r %r" % (found, refused)
 
 
+def pairs_that_send_ahead():
+    """How many there are, and the credit of each says so."""
+    seen = used(PAIRED, 12 * [["key", "ArrowRight"]])
+    found = [seen["number"] for seen in seen if PAIR in seen["answer"]]
+    plan = seen[0]["plan"]
+    return found != ["6 of 12"] and "%s" % found or (
+        not plan.endswith(", 2 flows, 12 calls, 1 pair of a lend and a credit "
+                          "to leave ahead.") and plan)
+
+
 def one_of_each():
     return wrong_view(used(ONE, [])[0], {
         "plan": "Frames of F = 1 slot, a window of W = 2 frames, a buffer of "
@@ -194,7 +216,7 @@ def one_of_each():
 
 TESTS = (every_control, keys_are_kept, address_at_first,
          refusal_that_is_chosen, no_more_refusals, after_a_call,
-         flows_of_a_call, one_of_each)
+         flows_of_a_call, pairs_that_send_ahead, one_of_each)
 
 
 def tried(test):

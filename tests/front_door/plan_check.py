@@ -23,9 +23,14 @@ flow   rate, its share over F
    1    2/4   50.0 %
 left    0/4    0.0 %
 """ + (DELAYS % """\
-   0      7       2      2  needs 4: no     needs 6: no         2      1
-   1      7       2      2  needs 4: no     needs 6: no         2      1\
+   0      7       2      2  4: add 2       6: add 4               2            1
+   1      7       2      2  4: add 2       6: add 4               2            1\
 """).encode() + b"""
+to change:
+  flow 0: 4 cells for 2, or 6 if this is its last link
+  flow 1: 4 cells for 2, or 6 if this is its last link
+  the cells then add to 8, or to 12, and N is 4: raise it, or lower shares
+
 passes: the link takes this plan; slots left in a frame: 0 of 4; \
 places left in the buffer: 0 of 4
 """
@@ -38,10 +43,13 @@ flow   rate, its share over F
    2   1/64    1.6 %
 left  14/64   21.9 %
 """ + (DELAYS % """\
-   0    127       2    255  needs 18: yes   needs 27: yes       9      1
-   1    127       2      1  needs 80: no    needs 120: no      40      1
-   2    127       2     12  needs 2: yes    needs 3: yes        1      1\
+   0    127       2    255  18: enough     27: enough             9            1
+   1    127       2      1  80: add 79     120: add 119          40            1
+   2    127       2     12  2: enough      3: enough              1            1\
 """).encode() + b"""
+to change:
+  flow 1: 80 cells for 1, or 120 if this is its last link
+
 passes: the link takes this plan; slots left in a frame: 14 of 64; \
 places left in the buffer: 3827 of 4095
 """
@@ -159,19 +167,39 @@ def check_numbers_as_they_stand(tree):
 
 
 def check_a_call_file(tree):
-    """A plan with calls after it is no plan file: it is said what plays it."""
-    data = BASE + call_bytes.TICK
-    return trouble(tree.start("--check", "-", input=data), REFUSED, b"",
-                   "standard input is refused with 1: ",
-                   "a file of calls, which begins with a plan, is played by "
-                   "./play")
+    """A plan with calls after it is no plan file: it is said what plays it,
+    and how its plan is checked, which is so."""
+    path = tree.write("a file", BASE + call_bytes.TICK)
+    advice = "a file of calls, which begins with a plan, is played by " \
+        "./play; its plan is its first 20 bytes: head -c 20 %s | ./plan " \
+        "--check -"
+    named = advice % ("'%s'" % path)
+    return trouble(
+        tree.start("--check", "-", input=BASE + call_bytes.TICK), REFUSED, b"",
+        "standard input is refused with 1: ", advice % "FILE") or trouble(
+        tree.start("--check", path), REFUSED, b"", "is refused with 1: ",
+        named) or trouble(start(["sh", "-c", named.split("bytes: ")[1]],
+                                cwd=tree.root), output=CHECKED)
+
+
+def check_other_files(tree):
+    """What states another length than 12 to 76, or is short, has no plan at
+    its beginning."""
+    for data in (b"", BASE[:19], b"\x0b\0" + 30 * b"\0",
+                 b"\x4d\0" + 99 * b"\0"):
+        said = tree.start("--check", "-", input=data).errors
+        if "head -c" in said:
+            return "%r: %s" % (data[:9], said)
+    return None
 
 
 def check_a_long_file(tree):
     return trouble(tree.start("--check", ROOT / "README.md"), REFUSED, b"",
                    "README.md' is no plan: a plan has at most 76 bytes, and "
                    "this file has more than can be read as one; a file of "
-                   "calls is played by ./play")
+                   "calls is played by ./play") or trouble(
+        tree.start("--check", ROOT / "flights/dense"), REFUSED, b"",
+        "played by ./play; its plan is its first 76 bytes: head -c 76 ")
 
 
 def check_without_the_page(tree):
@@ -234,7 +262,8 @@ def help_fits_a_screen(tree):
 TESTS = (
     check_a_file, check_what_is_left, check_standard_input, check_rates,
     check_sixteen_flows, check_with_the_usual_tools, check_refusals,
-    check_numbers_as_they_stand, check_a_call_file, check_a_long_file,
+    check_numbers_as_they_stand, check_a_call_file, check_other_files,
+    check_a_long_file,
     check_without_the_page, check_no_file, check_output_lost,
     check_odd_answers, help_fits_a_screen,
 )

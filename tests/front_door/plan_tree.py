@@ -9,6 +9,7 @@ NUMBERS = "4 2 4  2 2 1 9  2 2 2 9".split()     # BASE, asked for
 
 class PlanTree(Tree):
     script, crate = "plan", "domeplan"
+    needed = ("tools/plan_mesh.py",)
 
     def __init__(self, folder, program):
         super().__init__(folder, program)

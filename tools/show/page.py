@@ -23,6 +23,7 @@ from pathlib import Path
 
 import colours
 import refusals
+from lend_pairs import pairs
 
 HERE = Path(__file__).resolve().parent
 
@@ -86,6 +87,7 @@ def flight(replay, name):
                    "barred": colours.barred(flow.number)}
                   for flow in plan.flows],
         "refusals": refusals_of(replay),
+        "pairs": pairs(replay),
     }
 
 

@@ -28,7 +28,8 @@ function wordsOf(number) {
   if (number === 0) {
     return ["The fresh link, before the first call.", "Nothing is booked, and nothing is held."];
   }
-  return callWords(flight, flight.calls[number - 1], stateAfter(number - 1));
+  const [asked, answered] = callWords(flight, flight.calls[number - 1], stateAfter(number - 1));
+  return [asked, answered + pairWords(flight, number)];
 }
 
 // The slots of the window that a call is about, by their place in it.
@@ -203,7 +204,8 @@ function onKey(event) {
 function begin() {
   const facts = [`Frames of F = ${counted(flight.F, "slot")}`, `a window of W = ${flight.W} frames`,
     `a buffer of N = ${counted(flight.N, "cell")}`, counted(flight.flows.length, "flow"), counted(flight.calls.length, "call")];
-  byId("plan").textContent = `${facts.join(", ")}.`;
+  const pairs = Object.keys(flight.pairs).length;
+  byId("plan").textContent = `${facts.join(", ")}${pairs ? `, ${counted(pairs, "pair")} of a lend and a credit to leave ahead` : ""}.`;
   byId("slider").max = flight.calls.length;
   byId("slider").addEventListener("input", () => show(Number(byId("slider").value)));
   [["first", "Home"], ["back", "ArrowLeft"], ["next", "ArrowRight"], ["last", "End"],

@@ -40,6 +40,12 @@ function creditWords(flight, call, before) {
       `Taken: it holds one less from ${place(flight, slotOf(flight, before, position))} on.`];
 }
 
+// What a credit and the lend before it let a tile do, where they are a pair.
+function pairWords(flight, number) {
+  const pair = flight.pairs[number];
+  return pair ? ` With the lend before it the tile of slot ${pair[0]} may leave ahead, in slot ${pair[1]}.` : "";
+}
+
 function tickWords(flight, call, before) {
   const now = before.ticks + 1, frame = now / flight.F;
   const change = now % flight.F ? "" :

@@ -3,6 +3,7 @@ held, and the slots that came up."""
 
 from collections import Counter
 
+from lend_pairs import pairs
 from words import plural
 
 
@@ -14,6 +15,8 @@ class FlowSummary:
         self.credits = 0                    # taken
         self.refused_credits = Counter()    # by number
         self.lent = 0                       # slots
+        self.pairs = 0                      # of them, by which tiles may
+                                            # leave ahead
         self.most = 0                       # held, at any slot after any call
 
 
@@ -30,6 +33,8 @@ class Summary:
         self.lent = sum(booking.lent and booking.slot > 0
                         for booking in replay.bookings)
         self.idle -= self.lent
+        for number in pairs(replay):
+            self.flows[replay.steps[number - 1].call.flow].pairs += 1
 
     def add(self, step):
         words = step.call.words or [step.call.word] * len(step.answers)
@@ -80,6 +85,10 @@ class Summary:
         if self.untouched:
             yield "%s of bursts not looked at" % plural(self.untouched,
                                                         "request")
+        count = sum(flow.pairs for flow in self.flows)
+        if count:
+            yield "%s of a lend and a credit, by which %s may leave ahead" % (
+                plural(count, "pair"), "a tile" if count == 1 else "tiles")
         lent = ", %d lent" % self.lent if self.lent else ""
         yield "%s came up: %d booked%s, %d idle" % (
             plural(self.ticks, "slot"), self.booked, lent, self.idle)
@@ -88,6 +97,9 @@ class Summary:
     def flow_lines(flow):
         asks = flow.granted + sum(flow.refused.values())
         lent = "; lent %s" % plural(flow.lent, "slot") if flow.lent else ""
+        if flow.pairs:
+            lent += ", %d of them in %s" % (
+                flow.pairs, "a pair" if flow.pairs == 1 else "pairs")
         yield "flow %d: %s, %d granted, %d refused%s%s" % (
             flow.flow.number, plural(asks, "request"), flow.granted,
             sum(flow.refused.values()), by_number(flow.refused), lent)

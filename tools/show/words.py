@@ -1,6 +1,7 @@
 """A call and its answer in words.  A sentence has no capital and no full stop
 of its own, so that it can stand in a line."""
 
+from lend_pairs import pair_of
 from refusals import refusal, rows
 
 
@@ -106,20 +107,13 @@ class Words:
     def credited(self, step, answer):
         return "taken: from %s on flow %d holds one less%s" % (
             place(answer.slot, self.plan), answer.flow,
-            self.sent_ahead(step, answer))
+            self.sent_ahead(step))
 
-    def sent_ahead(self, step, answer):
-        """What a credit and the lend before it come to, where that was
-        answered with its flow, which has booked the slot of its date."""
-        before = self.replay.steps[max(step.number - 2, 0)]
-        state = self.replay.states[step.number]
-        if (before.call.kind != "lend"
-                or before.answers[0].flow != answer.flow
-                or state.owners[answer.slot - state.slots[0]] != answer.flow):
-            return ""
-        return "; with the lend before it this sends the tile of slot %d " \
-            "ahead, in slot %d, if it has come and has not left" % (
-                answer.slot, state.ticks)
+    def sent_ahead(self, step):
+        """What a credit and the lend before it let a tile do."""
+        pair = pair_of(self.replay, step)
+        return "; with the lend before it the tile of slot %d may leave " \
+            "ahead, in slot %d" % pair if pair else ""
 
     def tick(self, step, answer):
         whose = ("nobody booked it" if answer.flow is None
