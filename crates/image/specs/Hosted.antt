@@ -1,5 +1,4 @@
--- What the contracts of the exports say of a host's calls, each on the image that the call before left. Document 02, N5: "a chain that starts with fresh
--- and passes each image on unaltered". Assumes nothing.
+-- What the contracts of the exports say of a host's calls, each on the image that the call before left. RULES 12.7. Assumes nothing.
 use Prim.Native.Nat.{ℕ}
 use mathlib.Core.Path.{_≡_}
 use mathlib.Core.List.{List, _∷_, []}

@@ -1,4 +1,4 @@
--- A chain of exported calls. Document 02, N5: "a chain that starts with fresh and passes each image on unaltered". Assumes nothing.
+-- A chain of exported calls. RULES 12.7. Assumes nothing.
 use Prim.Native.Nat.{ℕ, _/_, _^_}
 use mathlib.Core.Path.{_≡_}
 use mathlib.Core.List.{List, _∷_, [], _++_}

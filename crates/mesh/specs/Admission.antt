@@ -1,4 +1,4 @@
--- Which sets of streams are admitted, and the refusals of the others. Document 02, N10. Assumes nothing.
+-- Which sets of streams are admitted, and the refusals of the others. RULES 16.3. Assumes nothing.
 use Prim.Native.Nat.{ℕ, _≤_, _<_}
 use mathlib.Core.Path.{_≡_}
 use mathlib.Core.List.{List, _∷_, [], _++_}

@@ -1,4 +1,4 @@
--- The mesh of boards, and its links. Document 02, N10. Assumes nothing.
+-- The mesh of boards, and its links. RULES 16.1. Assumes nothing.
 use Prim.Native.Nat.{ℕ, _+_, _-_, _/_, _%_}
 use mathlib.Core.List.{List, _∷_, [], flatMap}
 use mathlib.Core.Bool.{Bool, _&&_, _||_, true, false, cond}

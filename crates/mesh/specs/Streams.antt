@@ -1,4 +1,4 @@
--- Streams, the links that they use, and what a link carries. Document 02, N10. Assumes nothing.
+-- Streams, the links that they use, and what a link carries. RULES 16.2. Assumes nothing.
 use Prim.Native.Nat.{ℕ}
 use mathlib.Core.List.{List}
 use mathlib.Core.Bool.{Bool, _&&_, cond}

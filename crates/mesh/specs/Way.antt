@@ -1,4 +1,4 @@
--- The way of a stream, link by link, first in its row. Document 02, N10. Assumes nothing.
+-- The way of a stream, link by link, first in its row. RULES 16.2. Assumes nothing.
 use Prim.Native.Nat.{ℕ, _+_, _-_, _*_, _<_}
 use mathlib.Core.Path.{_≡_}
 use mathlib.Core.List.{List, _∷_, [], _++_}

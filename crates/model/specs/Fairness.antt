@@ -1,4 +1,4 @@
--- What lending in turn gives each flow: what two heads who complained of uneven detail can rely on. Document 02, N8. It names no link, only calls and
+-- What lending in turn gives each flow: what two heads who complained of uneven detail can rely on. RULES 21.10. It names no link, only calls and
 -- answers. Assumes nothing.
 --
 -- A stretch of a list is a number of its events in a row, the first of them right after those of `early`. A flow waits in it if at each lend that is
@@ -28,7 +28,7 @@ use Rattle.model.specs.Card.{Card, run}
 
 -- ---- a stretch in which a flow waits
 
--- at a lend with this mask, after h: flow i is in the mask, and it "can take the slot"
+-- RULES 21.10: at a lend with this mask, after h, flow i is in the mask and can take the slot
 pub record Waits (P : Plan) (i mask : ℕ) (h : History) : Type 0 where
   pub in-mask : inMask mask i ≡ true
   pub can-take : Room P i h

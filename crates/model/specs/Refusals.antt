@@ -1,4 +1,4 @@
--- Tables of refusals. Document 01, "Where a call is turned back": "The first that applies is returned, the number alone". Assumes nothing.
+-- Tables of refusals, of which the first that applies gives its number. RULES 1.3. Assumes nothing.
 use Prim.Native.Nat.{ℕ}
 use mathlib.Core.List.{List, _∷_, []}
 use mathlib.Core.Bool.{Bool, cond}

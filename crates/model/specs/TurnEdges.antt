@@ -1,6 +1,6 @@
--- Edges of lends in turn. Document 02, N8. Assumes nothing.
+-- Edges of lends in turn. RULES 9.3 and 9.4. Assumes nothing.
 --
--- What each comes to is worked out from the request. Masks of three flows: 1 is flow 0, 2 is flow 1, 4 is flow 2, 7 all.
+-- What each comes to is worked out from the rules. Masks of three flows: 1 is flow 0, 2 is flow 1, 4 is flow 2, 7 all.
 use mathlib.Core.List.{List, _∷_, []}
 use Rattle.model.specs.PlanBytes.{plan3, planOfMany, single}
 use Rattle.model.specs.EdgeCases.{Case, grant, credit, serve, idle, lend, deny, renew, decline, follows}

@@ -1,4 +1,4 @@
--- The week's programme. Document 02, N13. Assumes nothing.
+-- The week's programme. RULES 19.1 to 19.3. Assumes nothing.
 use Prim.Native.Nat.{ℕ, zero, suc, _≤_, _<_}
 use mathlib.Core.Path.{_≡_}
 use mathlib.Core.List.{List, _∷_, []}
