@@ -53,8 +53,8 @@ GRANTED = [
 ]
 
 REFUSED = [
-    # Slot 1 is booked, and nothing is held.  When it is current it does not
-    # stand in the way.
+    # Rule 10.1: slot 1 is booked, and nothing is held.  When it is current
+    # it does not stand in the way.
     edge("reset: a later slot is booked and nothing held", BASE,
          (ask(0), "G 1"), (credit(0, 1), "C"), (RESET, "R 23"),
          (TICK, "T 0"), (RESET, "Z")),
@@ -119,7 +119,8 @@ REFUSED = [
 ]
 
 WHERE_FLOWS_START = [
-    # The refusal left IF at the newest frame, for each flow that asked.
+    # Rule 10.2: the refusal left IF at the newest frame, for each flow that
+    # asked.
     edge("reset: IF becomes HF", BASE,
          (ask(0, departure=7), "R 20"), (RESET, "Z"), (ask(0), "G 1")),
     edge("reset: IF becomes HF, three frames", plan(4, 3, (1, 8)),

@@ -32,7 +32,7 @@ def only_a_beginning(program, data, whole):
 
 
 def lost_output_is_said(program, data, name):
-    """One line on standard error."""
+    """One line on standard error: rules 13.1 and 20.1."""
     errors = play(program, data).errors
     lines = errors.splitlines()
     right = (len(lines) == 1 and lines[0].startswith(name + ": ")

@@ -5,7 +5,7 @@ use mathlib.Core.Option.{Option}
 use mathlib.Core.Bool.{Bool}
 use lib.Dec.{eqb}
 
--- Requests have any word, credits any flow and position, and lends any mask.
+-- RULES 4.3: the calls. Requests have any word, credits any flow and position, and lends any mask.
 pub data Call : Type 0 where
   request : (word : ℕ) → Call
   credit : (flow position : ℕ) → Call

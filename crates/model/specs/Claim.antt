@@ -81,7 +81,7 @@ AtLoan Q (Event.reset a) h = Unit {0}
 
 -- ---- the stream that asks until it is refused
 
--- after h, flow i holds fewer than its cells in every slot from the current one on
+-- RULES 21.8: after h, flow i holds fewer than its cells in every slot from the current one on
 abbrev pub Room : Plan → ℕ → History → Type 0
 Room P i h = (s : ℕ) → ticks h ≤ s → grantedUpTo P h i s + lentUpTo h i s < creditedUpTo P h i s + entry P i .cells
 
@@ -179,5 +179,6 @@ Says Clause.lent-flows P i h = Each (LentFlowAt P) h
 
 -- ---- the claim, for flow i
 
+-- RULES 21.1: all of its clauses
 abbrev pub Demand3 : Plan → ℕ → History → Type 0
 Demand3 P i h = (clause : Clause) → Says clause P i h

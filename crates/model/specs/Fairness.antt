@@ -62,20 +62,20 @@ allLentIn stretch = length (lends stretch)
 
 -- ---- fairness of a list of calls, with these events
 
--- Between two lends to flow i, the newest event and an earlier one, flow j is lent to, if it waits from the earlier one on.
+-- RULES 21.10: between two lends to flow i, the newest event and an earlier one, flow j is lent to, if it waits from the earlier one on.
 abbrev pub InTurn : Plan → History → Type 0
 InTurn P h =
     (i mask mask₀ : ℕ) (between before : History) → h ≡ (lent mask (accepted i) ∷ between) ++ lent mask₀ (accepted i) ∷ before
     → (j : ℕ) → j < flowCount P → (j ≡ i → ⊥) → Waiting P j (lent mask (accepted i) ∷ between) (lent mask₀ (accepted i) ∷ before)
     → 0 < lentIn between j
 
--- In a stretch that ends with the newest event no flow i is lent to more than once more than a flow j that waits.
+-- RULES 21.10: in a stretch that ends with the newest event no flow i is lent to more than once more than a flow j that waits.
 abbrev pub Even : Plan → History → Type 0
 Even P h =
     (stretch early : History) → h ≡ stretch ++ early
     → (i j : ℕ) → i < flowCount P → j < flowCount P → Waiting P j stretch early → lentIn stretch i ≤ lentIn stretch j + 1
 
--- Of n answered lends in such a stretch one is to flow j.
+-- RULES 21.10: of n answered lends in such a stretch one is to flow j.
 abbrev pub WithinARound : Plan → History → Type 0
 WithinARound P h =
     (stretch early : History) → h ≡ stretch ++ early

@@ -34,7 +34,7 @@ unfoldable pub wellFormed : Plan → ℕ → Bool
 wellFormed P w =
     ltb (flowOf w) (flowCount P) && eqb (destinationOf w) (entry P (flowOf w) .destination) && ltb (departureOf w) (positions P)
 
--- RULES 6.3: after t ticks departure d has gone by, told from positions alone
+-- RULES 6.3 and 6.7: after t ticks departure d has gone by, told from positions alone
 abbrev pub hasCome : Plan → (t d : ℕ) → Bool
 hasCome P t d = eqb (frameOf P d) (frameOf P t % P .frames) && leb d (t % positions P)
 

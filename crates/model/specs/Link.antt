@@ -16,7 +16,7 @@ pub record Flow : Type 0 where
   pub held : List ℕ  -- what the flow holds at each position
   pub number : ℕ  -- RULES 5.3: the quantum number that its next word has to carry
 
--- RULES 4.1: what a link keeps
+-- RULES 1.1 and 4.1: a link, and what it keeps
 pub record Link : Type 0 where
   pub plan : Plan
   pub current : ℕ  -- CP

@@ -43,7 +43,7 @@ text (string._∷_ c s) = code c ∷ text s
 abbrev pub digit : ℕ → ℕ
 digit d = code "0" + d
 
--- the decimal digits of a number, without leading zeros, where there are no more than `most`
+-- RULES 13.1: the decimal digits of a number, without leading zeros, where there are no more than `most`
 unfoldable pub digits : (most n : ℕ) → List ℕ
 digits zero n = []
 digits (suc k) n = cond (ltb n 10) (digit n ∷ []) (digits k (n / 10) ++ (digit (n % 10) ∷ []))
@@ -51,7 +51,7 @@ digits (suc k) n = cond (ltb n 10) (digit n ∷ []) (digits k (n / 10) ++ (digit
 unfoldable pub decimal : ℕ → List ℕ
 decimal n = digits (suc n) n
 
--- a letter, a space, what is said, and a newline
+-- RULES 13.1: a letter, a space, what is said, and a newline
 abbrev pub line : Char → List ℕ → List ℕ
 line letter said = code letter ∷ text " " ++ said ++ text "\n"
 

@@ -16,7 +16,7 @@ framed F W N = plan1 F W N 1 1
 
 unfoldable pub planEdges : List Case
 planEdges =
-    -- 1: fewer than 12 bytes, or not the stated length
+    -- 1: too short, or another length than it says
     refuses 1 []  -- no bytes
     ∷ refuses 1 (take 11 (header 11 1 12 4 2 8))  -- 11 bytes, as stated
     ∷ refuses 1 (header 16 1 12 4 2 8)  -- 12 bytes where 16 are stated

@@ -11,7 +11,7 @@ pub data Line : Type 0 where
 abbrev pub condition : Line → Bool
 condition (r when b) = b
 
--- the number of the first line that applies, and 0 where none does
+-- RULES 1.3: the number of the first line that applies, and 0 where none does
 unfoldable pub firstOf : List Line → ℕ
 firstOf [] = 0
 firstOf (r when b ∷ rest) = cond b r (firstOf rest)

@@ -7,7 +7,7 @@ use Rattle.model.specs.EdgeCases.{Case, grant, credit, serve, idle, lend
 
 unfoldable pub turnEdges : List Case
 turnEdges =
-    -- from the flow after the last one lent to, which is not the one after the flow that was looked from
+    -- RULES 9.4: the flow after the one that got the slot, which is not the one after the flow that was looked from
     follows (plan3 8) (lend 4 2 ∷ idle ∷ lend 3 0 ∷ [])
     -- one flow after the other, and after flow n - 1 flow 0: with three flows, with sixteen and with one
     ∷ follows (plan3 8) (lend 7 0 ∷ idle ∷ lend 7 1 ∷ idle ∷ lend 7 2 ∷ idle ∷ lend 7 0 ∷ idle ∷ lend 7 1 ∷ [])

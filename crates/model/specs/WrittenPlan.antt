@@ -32,6 +32,7 @@ headerFor P = record {
   buffer = P .buffer;
 }
 
+-- RULES 15.2 and 15.3: the plan's bytes, which are read as the same plan
 unfoldable pub bytesOf : Plan → List ℕ
 bytesOf P = headerBytes (headerFor P) ++ flatMap entryBytes (P .entries)
 
