@@ -9,7 +9,8 @@ SINGLE_SLOT = plan(1, 2, (1, 4))        # every tick is a frame change
 SIXTEEN = plan(16, 2, *[(1, 1)] * 16)
 
 GRANTED = [
-    # Nothing changes, and slot 0, which nobody booked, is not marked.
+    # Rule 10.3: nothing changes, and slot 0, which nobody booked, is not
+    # marked.
     edge("reset: a fresh link", BASE,
          (RESET, "Z"), (RESET, "Z"), (lend(1), "L 0")),
     edge("reset: requests on a fresh link", BASE,

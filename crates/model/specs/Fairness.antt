@@ -1,5 +1,5 @@
--- What lending in turn gives each flow: what two heads who complained of uneven detail can rely on. RULES 21.10. It names no link, only calls and
--- answers. Assumes nothing.
+-- What lending in turn gives each flow, so that none gets more detail than another that waits. RULES 21.10. It names no link, only calls and answers.
+-- Assumes nothing.
 --
 -- A stretch of a list is a number of its events in a row, the first of them right after those of `early`. A flow waits in it if at each lend that is
 -- answered with a flow, whichever that is, it is in the mask and can take the slot. In a stretch with no granted reset:

@@ -28,7 +28,7 @@ outOfRange F n = not (within 1 16 F) || not (within 1 8 n)
 unfoldable pub counted : (F n : ℕ) → Answer Counts
 counted F n = cond (outOfRange F n) (refused 26) (accepted (record { accepts = acceptedLists F n; refuses = refusedLists F n }))
 
--- the code's answer for the request's, case by case
+-- the code's answer for the definition's, case by case
 abbrev pub countedFor : Answer Counts → Counted
 countedFor (accepted counts) = Lists (counts .accepts) (counts .refuses)
 countedFor (refused number) = Refused number
