@@ -16,7 +16,7 @@ pub record NoWorse (x : Extras) (c : Chosen) : Type 0 where
   pub worth-no-smaller : c .worth ≤ chosen .worth
   pub ceiling-no-higher : chosen .ceiling ≤ c .ceiling
 
--- RULES 18.4: of an answer c
+-- RULES 18.4: what is promised of an answer c
 pub record Promised (x : Extras) (c : Chosen) : Type 0 where
   -- the best of the sets looked at, by worth and then by mask; it fits
   pub best : Best x (lookedAt x) (c .mask) (c .worth)

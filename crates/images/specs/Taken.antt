@@ -11,7 +11,7 @@ use Rattle.model.specs.Plan.{positions, flowCount, refusal}
 use Rattle.images.specs.Image.{headerLength, positionsAt, flowsAt, imageLength, layout, headerField, stateField, planPart, planIn, linkIn}
 use Rattle.images.specs.Consistent.{Consistent, consistent}
 
--- RULES 12.2: test 21
+-- RULES 12.2: test 21, on how many bytes there are
 abbrev pub tooShort : List ℕ → Bool
 tooShort b = ltb (length b) headerLength || ltb (length b) (headerField b 0)
 

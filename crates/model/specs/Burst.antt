@@ -7,7 +7,7 @@ use Rattle.model.specs.Calls.{Grant, accepted, refused}
 use Rattle.model.specs.Link.{Link}
 use Rattle.model.specs.Request.{request}
 
--- RULES 11.1: a record
+-- RULES 11.1: a record, in which a word is asked for
 pub record Ask : Type 0 where
   pub word : ℕ
   pub result : ℕ

@@ -103,7 +103,7 @@ ReadyAt P i = AtRequest (λ w h. wellFormed P w ≡ true → flowOf w ≡ i → 
 abbrev pub RefusedInEachFrame : Plan → ℕ → History → Type 0
 RefusedInEachFrame P i h = (f : ℕ) → origin P h ≤ f → f ≤ origin P h + changes P h → 0 < refusedIn P h i f
 
--- RULES 21.8: the second part of it, what a flow has to do for the least count
+-- RULES 21.8: what a flow has to do for the least count
 pub record Persistent (P : Plan) (i : ℕ) (h : History) : Type 0 where
   pub refused-in-each-frame : RefusedInEachFrame P i h
   pub ready-at-each-request : EachSince (ReadyAt P i) h

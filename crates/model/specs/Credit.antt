@@ -9,7 +9,7 @@ use Rattle.model.specs.Calls.{Receipt, accepted, refused}
 use Rattle.model.specs.Window.{passed, everyFrom}
 use Rattle.model.specs.Link.{Link, Step, window, flow, holding, withFlow, withHeld, heldFrom}
 
--- RULES 7.1: the tests
+-- RULES 7.1: the tests of a credit
 abbrev pub creditTests : Link → ℕ → ℕ → List Line
 creditTests l i p =
     -- no such flow

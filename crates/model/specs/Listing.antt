@@ -137,7 +137,7 @@ linkAfter l bytes = linkAfterCalls l (callsOf bytes)
 abbrev pub planLine : ℕ → List ℕ
 planLine number = line "P" (decimal number)
 
--- RULES 13.2: L
+-- RULES 13.2: L, the plan's length
 abbrev pub planLength : List ℕ → ℕ
 planLength input = field16 input 0
 

@@ -27,11 +27,11 @@ pub record Plan : Type 0 where
 abbrev pub noEntry : Entry
 noEntry = record { share = 0; cells = 0; source = 0; destination = 0 }
 
--- RULES 1.4: T
+-- RULES 1.4: T, which is F × W
 abbrev pub positions : Plan → ℕ
 positions P = P .slots * P .frames
 
--- RULES 1.4: n
+-- RULES 1.4: n, the number of flows
 abbrev pub flowCount : Plan → ℕ
 flowCount P = length (P .entries)
 
@@ -103,14 +103,15 @@ samePair a b = eqb (a .source) (b .source) && eqb (a .destination) (b .destinati
 abbrev pub countTest : Header → Line
 countTest h = 2 when (not (within 1 16 (h .count)) || not (eqb (h .offset) 12) || not (eqb (h .total) (12 + 4 * h .count)))
 
--- RULES 2.3: test 3
+-- RULES 2.3: test 3, on F, W, N and T
 abbrev pub frameTest : ℕ → ℕ → ℕ → Line
 frameTest F W N = 3 when (not (within 1 64 F) || not (within 2 8 W) || not (within 1 4095 N) || ltb 256 (F * W))
 
+-- RULES 2.3: tests 3 to 7
 abbrev pub limitTests : Plan → List Line
 limitTests P =
     frameTest (P .slots) (P .frames) (P .buffer)
-    -- RULES 2.3: an entry that doesn't fit
+    -- an entry doesn't fit
     ∷ 4 when any (flowCount P) (λ i. not (entryFits (P .slots) (entry P i)))
     -- two entries alike
     ∷ 5 when any (flowCount P) (λ i. any i (λ j. samePair (entry P j) (entry P i)))
@@ -120,7 +121,7 @@ limitTests P =
     ∷ 7 when ltb (P .buffer) (sum (flowCount P) (λ i. entry P i .cells))
     ∷ []
 
--- RULES 2.3: test 1
+-- RULES 2.3: test 1, on the length
 abbrev pub lengthTest : List ℕ → Line
 lengthTest b = 1 when (ltb (length b) 12 || not (eqb (length b) (headerOf b .total)))
 

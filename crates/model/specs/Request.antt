@@ -80,7 +80,7 @@ module _ (w : Window) (ok : ℕ → Bool) (share : ℕ) where
   unfoldable pub search : (more j remainder : ℕ) → Found
   -- RULES 6.4, step 3: IF is newest, and C is 0: 11
   search zero j zero = nowhere 0
-  -- step 1 in the newest frame, where one more is used of C; and step 3: 20 or 12
+  -- step 1 in the newest frame, which takes one of C; and step 3: 20 or 12
   search zero j (suc c) = orElse j c (earliest j) (nowhere (suc c))
   -- step 2, as C is 0
   search (suc more) j zero = search more (next w j) share

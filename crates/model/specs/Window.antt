@@ -9,7 +9,7 @@ pub record Window : Type 0 where
   pub frames : ℕ  -- W
   pub current : ℕ  -- CP
 
--- RULES 1.4: T
+-- RULES 1.4: T, which is F × W
 abbrev pub size : Window → ℕ
 size w = w .slots * w .frames
 
@@ -20,7 +20,7 @@ start w j = j * w .slots
 abbrev pub frameAt : Window → ℕ → ℕ
 frameAt w p = p / w .slots
 
--- RULES 3.1: HF
+-- RULES 3.1: HF, the frame of CP
 abbrev pub head : Window → ℕ
 head w = frameAt w (w .current)
 
