@@ -11,13 +11,12 @@ from front_door.rule_book import citations, cited, rules
 EXECUTED = ("ahead", "demand3", "driver", "edges", "front_door", "images",
             "pairs", "ways")
 HEAD = {".antt": re.compile(r"(?:--.*\n)+"),
-        ".rt": re.compile(r"(?:(?://|ghost |use ).*\n)+"),
         ".py": re.compile(r'"""(?:.|\n)*?"""')}
 COMMENT = {".antt": re.compile(r"(?:^|\s)--(?: .*)?$", re.MULTILINE),
            ".rt": re.compile(r"(?:^|\s)//(?: .*)?$", re.MULTILINE)}
 QUOTED = re.compile(r'"[^"\n]*[a-z] [^"\n]*"')
 LIST = "Rule"           # the head of the list's first column
-# Definitions that don't cite them yet, and comments that quote.
+# Rules that their definitions don't cite yet, and files that still quote.
 LATER = ["20.1", "20.2", "20.3", "20.5", "10.3", *citations(
     "rules 21.12 to 22.7, 22.9 to 22.11, 24.1 to 24.8")]
 QUOTING = re.compile(
@@ -87,10 +86,10 @@ def the_list_has_reasons():
 
 
 def comments_quote_nothing():
-    """Definitions cite, and have words of their own."""
-    wrong = ["%s: %s" % (path.relative_to(ROOT), quoted)
-             for path in ROOT.glob("crates/*/specs/*.antt")
-             if not QUOTING.search(str(path))
+    """Definitions, proofs and code cite, and have words of their own."""
+    paths = [path for path in (ROOT / "crates").rglob("*")
+             if path.suffix in COMMENT and not QUOTING.search(str(path))]
+    wrong = ["%s: %s" % (path.relative_to(ROOT), quoted) for path in paths
              for comment in COMMENT[path.suffix].findall(path.read_text())
              for quoted in QUOTED.findall(comment)]
     return wrong and "; ".join(wrong)
