@@ -55,8 +55,8 @@ WRONG = [
     # A second pair in slot 0, as a link without its mark would answer.
     (with_pair("two in one slot", BASE, TWO, [*sent(1), *sent(2)], []),
      "two tiles leave in slot 0"),
-    # One cell, held from slot 1 on; sent ahead all the same, it is in slot 0;
-    # the tile of slot 2 is the second before any cell came back.
+    # Rule 24.7: one cell, held from slot 1 on; sent ahead all the same, it is
+    # in slot 0; the tile of slot 2 is the second before any cell came back.
     (with_pair("over its cells", FULL,
                [(ask(0), "G 1"), (ask(0), "G 2")], sent(1), ticks(0, 0)),
      "flow 0 is over its cells in slot 2"),

@@ -135,7 +135,8 @@ def tell_all(history, data, lines, kinds):
 
 
 def check(data, lines, kinds=DOMELINK):
-    """The verdict on the listing `lines` of the call file `data`."""
+    """The verdict on the listing `lines` of the call file `data`: rules
+    21.1 to 21.10."""
     verdict = Verdict()
     if not lines or lines[0] != "P 0":
         if len(lines) != 1:

@@ -19,7 +19,7 @@ COME, TO_COME, IN_NEWEST = PROMPT
 IN_ITS_FRAME, IN_THE_NEXT, AHEAD, AHEAD_NEXT, SHARE_DUE = SOON
 
 WRONG = [
-    # The cell is free from slot 3 on, and slot 3 is open.
+    # Rule 22.3: the cell is free from slot 3 on, and slot 3 is open.
     (edge("12 after the first 12", ONE_CELL,
           (ask(0), "G 1"), (ask(0), "R 12"), (TICK, "T 0"),
           (credit(0, 3), "C"), IDLE, (ask(0), "R 12")),
@@ -28,7 +28,7 @@ WRONG = [
           (burst(ask(0), ask(0)), "B 0 1", "B 12 0"), (TICK, "T 0"),
           (credit(0, 3), "C"), IDLE, (burst(ask(0)), "B 12 0")),
      "flow 0 is refused with 12, " + PROMPTLY),
-    # Slot 2 is in frame 1, and frame 3 is the newest.
+    # Rule 22.5: slot 2 is in frame 1, and frame 3 is the newest.
     (edge("moved to the newest frame at a frame change", THREE,
           (ask(0), "G 1"), (TICK, "T 0"), IDLE, (ask(0), "G 0")),
      "slot 6 is granted 2 frames after the tile of slot 2 is due"),
@@ -84,9 +84,11 @@ RIGHT = [
     (edge("refused without its number", THREE,
           (ask(0, quantum=1), "R 24"), (ask(0), "G 1")),
      {COME: 1}),
+    # Rules 22.2 and 22.11: not timely.
     (edge("refused for a tile that is due in the newest frame", THREE,
           (ask(0, departure=5), "R 20")), {}),
-    # Not modest after the refusal: frame 2 is its own from there on.
+    # Rule 22.4: not modest after the refusal: frame 2 is its own from there
+    # on.
     (edge("late after a request that was not timely", FOUR,
           (ask(0, departure=7), "R 20"), (ask(0), "G 6"), (ask(0), "R 11")),
      {COME: 1}),

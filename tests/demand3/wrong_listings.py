@@ -17,7 +17,7 @@ WIDE = plan(4, 2, (2, 2), (2, 2))   # F = 4, W = 2
 LEAST = "below the least"
 
 WRONG = [
-    # The least is (W - 1) x share = 1 in frame 0.
+    # Rule 21.8: the least is (W - 1) x share = 1 in frame 0.
     (edge("refuses every request", ONE,
           (ask(0), "R 12"), (ask(0), "R 12")), LEAST),
     (edge("reports 11 before booking anything", ONE,
@@ -27,6 +27,7 @@ WRONG = [
           (ask(0), "G 1"), (ask(0), "G 2"), (ask(0), "R 11"),
           (TICK, "T 0"), (TICK, "T 0"), (credit(0, 3), "C"), (ask(0), "R 11"),
           (TICK, "T -"), (TICK, "T -"), (ask(0), "R 11")), LEAST),
+    # Rule 21.6.
     (edge("grants one position every time", WIDE,
           (ask(0), "G 1"), (ask(1), "G 1")), "slot 1 granted to 0 and to 1"),
     (edge("writes no booking down", WIDE,
@@ -38,6 +39,7 @@ WRONG = [
     (edge("brings a booking up twice", ONE,
           (ask(0), "G 1"), (TICK, "T 0"), (TICK, "T -"), (TICK, "T -"),
           (TICK, "T -"), (TICK, "T 0")), "slot 5 comes up for 0"),
+    # Rule 21.7.
     (edge("grants more than the share in a frame", ONE,
           (ask(0), "G 2"), (ask(0), "G 3")), "more than its share in frame 1"),
     # (W + k) x share = 2 with k = 0; position 0 is slot 4, in frame 2.
@@ -50,7 +52,7 @@ WRONG = [
           (ask(0), "G 4")), "position 4 is not below T"),
     (edge("grants to a flow that the plan has not", ONE,
           (ask(5), "G 1")), "flow 5, which the plan has not"),
-    # Three bookings with two cells, across a frame change.
+    # Rule 21.5: three bookings with two cells, across a frame change.
     (edge("goes above the cells", WIDE,
           (ask(0), "G 1"), (ask(0), "G 2"),
           *[(TICK, line) for line in ("T 0", "T 0", "T -", "T -")],

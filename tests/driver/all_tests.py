@@ -26,8 +26,8 @@ from front_door import (
     architecture_page, bench_ahead, cut_questions, decisions_page, doc_names)
 from front_door import (
     asking_editor, calls_text, check_ahead, check_faults, check_log, check_long,
-    check_refused, checklist_page, comparison_page, flights, help_pages,
-    man_pages, must_fail_edits,
+    check_refused, checklist_page, citations, comparison_page, flights,
+    help_pages, man_pages, must_fail_edits,
     old_program, page_sizes, performance_page, picture_errors, picture_pages,
     picture_scripts, picture_sizes, picture_view, pictures, plan_check,
     plan_culprits, plan_delays, plan_files, plan_lost_output, plan_mesh,
@@ -52,7 +52,7 @@ FRONT_DOOR = (
     slow_reader, cut_questions, asking_editor, wrong_arguments,
     tests_lost_output, bench_ahead, performance_page, page_sizes,
     must_fail_edits, progress, versions, help_pages, man_pages, readme,
-    rules_page, remedies, checklist_page, comparison_page)
+    rules_page, citations, remedies, checklist_page, comparison_page)
 
 
 def wanted(names, only):

@@ -65,7 +65,7 @@ def page():
 # ---- lines and their ends
 
 def ends():
-    """What is a line at the end of the input."""
+    """What is a line at the end of the input: rule 20.1."""
     good = b"plan 4 2 4", "R 2"
     for name, data, expected in (
             ("no input", b"", []),

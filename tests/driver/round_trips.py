@@ -21,7 +21,7 @@ def to_read(answers):
 
 
 def numbers_first(suite, seed):
-    """plan, then read, then plan."""
+    """plan, then read, then plan: rule 15.3."""
     lines = ["plan " + " ".join(map(str, asked_plans.numbers(plan)))
              for plan in question_seeds.good_plans(seed, PLANS)]
     written = suite.answers(lines)

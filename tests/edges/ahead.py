@@ -7,7 +7,7 @@ sent.
 """
 
 from ahead.check import ALONE, ORDER
-from edges.edge_maker import BASE, RESET, ask, credit, lend, plan
+from edges.edge_maker import BASE, RESET, ask, credit, edge, lend, plan
 from edges.pairs import Pair, ticks
 
 LONG_FRAMES = plan(8, 2, (3, 1))
@@ -19,7 +19,8 @@ ONE_EACH = plan(4, 2, (1, 2), (1, 2))
 
 
 def sent(position, flow=0):
-    """A tile of the slot at this position leaves in the current slot."""
+    """A tile of the slot at this position leaves in the current slot: rules
+    24.1 and 24.3."""
     return [(lend(1 << flow), "L %d" % flow), (credit(flow, position), "C")]
 
 
@@ -30,8 +31,8 @@ def with_pair(name, plan_bytes, before, pair, after, *others, **more):
                 [*before, *pair, *(others or after)], **more)
 
 
-# Flow 0 books slots 1 and 2, and sends the first tile in slot 0; flow 1 books
-# slot 3, and then flow 0 slot 4.
+# Rules 24.4 and 24.5: flow 0 books slots 1 and 2, and sends the first tile in
+# slot 0; flow 1 books slot 3, and then flow 0 slot 4.
 TWO = [(ask(0), "G 1"), (ask(0), "G 2"), (credit(0, 1), "C")]
 WITNESS = with_pair(
     "two runs", BASE, TWO, sent(1),
@@ -63,8 +64,8 @@ WITH_RESET = with_pair(
     [*QUIET, *ticks(0), (ask(1), "G 4")],
     *QUIET, *sent(3), *ticks(0), (ask(1), "G 4"))
 
-# The flow has slots 1 and 5, and one cell, which falls free in slot 2.  With
-# slot 5 sent in slot 2 it is full up to slot 4: slot 6 for slot 3.
+# Rule 24.6: the flow has slots 1 and 5, and one cell, free from slot 2 on.
+# With slot 5 sent in slot 2 it is full up to slot 4: slot 6 for slot 3.
 NOT_IN_ORDER = with_pair(
     "a grant before a slot sent ahead", LONG_FRAMES,
     [(ask(0), "G 1"), (credit(0, 5), "C"), (ask(0), "G 5"),
@@ -101,7 +102,8 @@ LATER_FIRST = with_pair(
     [(credit(0, 4), "C"), (ask(0), "G 4"), *ticks(0)],
     broken=ORDER, says="the tile of slot 4 out of order")
 
-# A lend without its credit, of which the first run has none.
+# Rule 24.2: what may not be sent.  A lend without its credit, of which the
+# first run has none.
 LENT_ONLY = with_pair("lent only", BASE, TWO, [(lend(1), "L 0")], [])
 CREDITED_ONLY = with_pair("credited only", BASE, TWO, [(credit(0, 2), "C")],
                           [])
@@ -132,9 +134,24 @@ BEFORE_A_RESET = with_pair(
     [(ask(1), "G 1"), (credit(1, 2), "C"), *ticks(1, "-")], sent(3),
     [(RESET, "Z"), (ask(1), "G 3")], (RESET, "R 23"), (ask(1), "G 4"))
 
+# Rule 24.8, F = 2, W = 2, share 1.  The first board has tiles in slots 2 and
+# 4, and sends the second in slot 3.  On the second a neighbour has slot 3, so
+# that the first tile gets slot 4, the share of frame 2.  By its booked slot
+# the second gets slot 6; asked for when it came, it is the second of frame 1.
+SHARE_OF_ONE = plan(2, 2, (1, 9), (1, 9))
+FIRST_TILE = [*ticks("-", "-"), (ask(1), "G 3"), (ask(0), "G 0"), *ticks(1)]
+OVER_LINKS = [
+    edge("ahead, over two links: sent early on the first", SHARE_OF_ONE,
+         *ticks("-"), (ask(0), "G 2"), *ticks(0), (ask(0), "G 0"),
+         *ticks("-"), *sent(0), *ticks(0)),
+    edge("ahead, over two links: asked for by its booked slot", SHARE_OF_ONE,
+         *FIRST_TILE, *ticks(0), (ask(0), "G 2")),
+    edge("ahead, over two links: asked for when it came early", SHARE_OF_ONE,
+         *FIRST_TILE, (ask(0), "R 11"))]
+
 RIGHT = [WITNESS, NUMBERS, BOTH_FLOWS, WITH_RESET]
 PREMISES = [NOT_IN_ORDER, TAKEN_ALONE, RENEWED_ALONE, LATER_FIRST]
 BAD = [LENT_ONLY, CREDITED_ONLY, OF_NOTHING, OUT_OF_ORDER, NOT_COME, TWICE,
        ANOTHERS, OTHER_CREDITED, DUE_LATER, BEFORE_A_RESET]
 EDGES = [run for pair in RIGHT + PREMISES + BAD
-         for run in (pair.first, pair.second)]
+         for run in (pair.first, pair.second)] + OVER_LINKS

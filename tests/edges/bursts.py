@@ -15,7 +15,7 @@ BAD = ask(7)                            # refused with 8
 NO_WORDS = call_bytes.burst([])
 
 IN_ORDER = [
-    # Both cells of flow 0, then 12 twice: a refusal ends nothing.
+    # Rule 11.1: both cells of flow 0, then 12 twice: a refusal ends nothing.
     edge("burst: on after a refusal", BASE,
          (burst(ask(0), ask(0, quantum=1), ask(0, quantum=2),
                 ask(0, quantum=2), ask(1)),
@@ -114,7 +114,7 @@ HOW_MANY = [
          (burst(*[BAD] * 15, ask(0)), *["B 8 0"] * 15, "B 0 1"),
          (ask(1), "G 2")),
 
-    # A 17th is untouched, and books nothing.
+    # Rule 11.2: a 17th is untouched, and books nothing.
     edge("burst: 17 records", ROOMY,
          (burst(*[BAD] * 16, ask(0)), *["B 8 0"] * 16, "B 255 255"),
          (ask(1), "G 1")),
@@ -127,7 +127,8 @@ HOW_MANY = [
 ]
 
 NO_BURSTS = [
-    # Five bytes are used up, and what follows is a record of its own.
+    # Rule 14.3: five bytes are used up, and what follows is a record of its
+    # own.
     edge("burst: a count above 20", BASE,
          (call_bytes.burst([], count=21), "R 16"), (ask(0), "G 1"),
          (call_bytes.burst([], count=255), "R 16"), (TICK, "T 0")),

@@ -7,7 +7,8 @@ from edges.edge_maker import (
 WORD = request(TO, 0)
 
 NO_CALLS = [
-    # Kinds other than 1 to 3, and fillers, before any test of the call.
+    # Rule 13.4: kinds other than 1 to 3, and fillers, before any test of the
+    # call.
     edge("refusal 16", BASE,
          (bytes([0, 0, 0, 0, 0]), "R 16"), (bytes([4, 0, 0, 0, 0]), "R 16"),
          (bytes([255, 0, 0, 0, 36]), "R 16"), (b"\x05" + WORD[1:], "R 16"),
@@ -32,7 +33,8 @@ NO_CALLS = [
          (RESET, "R 16"), (ask(0), "G 4")),
 ]
 
-# A last record of 1 to 4 bytes, whatever they would begin; and none at all.
+# Rule 13.3: a last record of 1 to 4 bytes, whatever they would begin; and
+# none at all.
 LAST_RECORDS = [
     edge("a last record of %d bytes" % size, BASE,
          (ask(0), "G 1"), (tail, "R 16"))

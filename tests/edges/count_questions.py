@@ -2,6 +2,7 @@
 
 # F, n and the two numbers, or the refusal.
 COUNTS = [
+    # Rule 17.1: 1 1, 1 2, 1 3, 2 1, 2 2 and 3 1 of 16 lists.
     ("four slots, two flows", "count 4 2", "6 10"),
     ("one slot for one flow", "count 1 1", "1 0"),
     # Each flow has a share of 1 at least.
@@ -25,7 +26,7 @@ COUNTS = [
     ("15 slots, 8 flows", "count 15 8", "6435 2562884190"),
     ("16 slots, 7 flows", "count 16 7", "11440 268424016"),
     ("zeros in front", "count 000000004 02", "6 10"),
-    # 26
+    # Rule 17.2: 26.
     ("F = 0", "count 0 1", "R 26"),
     ("F = 17", "count 17 1", "R 26"),
     ("n = 0", "count 1 0", "R 26"),

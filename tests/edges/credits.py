@@ -3,7 +3,7 @@
 from edges.edge_maker import BASE, TICK, ask, credit, edge, plan
 
 REFUSED = [
-    # Credits: flow, then position, then place, then holding.  256 and 65535
+    # Rule 7.1: flow, then position, then place, then holding.  256 and 65535
     # are 16-bit positions, so their low byte alone does not count.
     edge("refusals 8 and 13 to 15 in order", BASE,
          (ask(0), "G 1"),
@@ -15,8 +15,9 @@ REFUSED = [
          (credit(0, 7), "C"),       # last position of the window
          (credit(0, 7), "R 15")),
 
-    # After 3 ticks with F = 2, W = 3: CP = 3, HF is positions 2 and 3.
-    # Positions 0 and 1 are the newest frame, slots 6 and 7: not 14.
+    # Rules 3.1, 3.2 and 3.4, after 3 ticks with F = 2, W = 3: CP = 3, HF is
+    # positions 2 and 3, which have gone by.  Positions 0 and 1 are the newest
+    # frame, slots 6 and 7: not 14.
     edge("14 where the head frame is not 0", plan(2, 3, (1, 2)),
          (TICK, "T -"), (TICK, "T -"), (TICK, "T -"),
          (credit(0, 2), "R 14"), (credit(0, 3), "R 14"),
@@ -25,7 +26,8 @@ REFUSED = [
 ]
 
 TAKEN = [
-    # A credit dated the granted slot itself counts there: 1 - 1 = 0 held.
+    # Rule 7.2: a credit dated the granted slot itself counts there, and one
+    # is held less: 1 - 1 = 0.
     edge("a credit dated the grant", plan(4, 2, (2, 1)),
          (ask(0), "G 1"), (ask(0), "R 12"),
          (credit(0, 1), "C"),

@@ -2,7 +2,7 @@
 
 # F, links, share and burst; slots, cells and cells where tiles are shown.
 DELAYS = [
-    # three frames for two links, and two for three tiles by twos
+    # Rule 23.1: three frames for two links, and two for three tiles by twos
     ("two links and a burst of three", "delay 4 2 2 3", "19 4 6"),
     ("one link", "delay 4 1 2 0", "7 4 6"),
     ("one slot, one link", "delay 1 1 1 0", "1 2 3"),

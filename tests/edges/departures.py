@@ -11,7 +11,7 @@ FOUR_FRAMES = plan(2, 4, (1, 9))        # frame f is slots 2f and 2f + 1
 
 # (plan, ticks, what an untouched flow is granted for departures 0 to T - 1)
 POSITIONS = [
-    # Slot 0 alone has come; the first later position is 1.
+    # Rule 6.3: slot 0 alone has come; the first later position is 1.
     (TWO, 0, "G 1, G 2, G 3, G 4, G 5, G 6, G 7, R 20"),
     # 0 and 1 lie before CP in the head frame, 2 is CP.
     (TWO, 2, "G 3, G 3, G 3, G 4, G 5, G 6, G 7, R 20"),
@@ -127,7 +127,7 @@ REFUSED = [
          (ask(0, departure=8), "R 10"),
          (ask(0), "G 1")),
 
-    # C is 0 in the newest frame: 11, whatever the departure.
+    # Rule 6.4: C is 0 in the newest frame: 11, whatever the departure.
     edge("departure: 11 before 20", ONE_SHARE,
          (ask(0), "G 1"), (ask(0), "G 4"),
          (ask(0, departure=7), "R 11"), (ask(0, departure=4), "R 11")),
@@ -216,9 +216,9 @@ EVERY_LATER_POSITION = [
          (ask(0, departure=3), "R 20"), (ask(0), "G 0")),
 ]
 
-# Two boards that tick in step: the first's granted positions are the second's
-# departures.  Slots 1, 2, 4, 5, 8 and 9 on the first; each tile leaves the
-# second in the slot after it came.
+# Rules 1.1, 6.7 and 21.12, two boards that tick in step: the first's granted
+# positions are the second's departures.  Slots 1, 2, 4, 5, 8 and 9 on the
+# first; each tile leaves the second in the slot after it came.
 FIRST_BOARD = edge(
     "two boards: the first", BASE,
     (ask(0), "G 1"), (ask(0), "G 2"), (ask(0), "R 12"),

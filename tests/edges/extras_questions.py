@@ -8,12 +8,14 @@ LONE = "".join(" 64 %d" % worth for worth in range(12))     # only one fits
 POWERS = " 1 1 1 2 1 4"         # each set is worth its mask
 
 EXTRAS = [
-    # The budget counts every set looked at, also those that don't fit.
+    # Rule 18.2: the budget counts every set looked at, also those that don't
+    # fit.
     ("a set that doesn't fit uses up the budget",
      "extras 1 2 64 5 1 7", "0 0 7"),
     ("one set more", "extras 1 3 64 5 1 7", "2 7 7"),
     ("all four sets", "extras 1 4 64 5 1 7", "2 7 7"),
-    # The ceiling is the worth when all sets were looked at, and only then.
+    # Rules 18.3 and 18.4: the ceiling is the worth when all sets were looked
+    # at, and only then; with more sets worth 0, 5 and 5, ceilings 10, 10, 5.
     ("one set short of all", "extras 1 3 1 5 1 5", "1 5 10"),
     ("just all sets", "extras 1 4 1 5 1 5", "1 5 5"),
     ("one set alone", "extras 1 1 1 5 1 5", "0 0 10"),
@@ -72,7 +74,7 @@ EXTRAS = [
     ("a budget of 65,537", "extras 1 65537 1 5 1 5", "1 5 5"),      # 1
     ("a budget of nine digits", "extras 1 999999999 1 5 1 5", "1 5 5"),
     ("zeros in front", "extras 001 000000004 1 05 01 5", "1 5 5"),
-    # 27.
+    # Rule 18.1: 27.
     ("a budget of 0", "extras 1 0 1 5", "R 27"),
     ("a budget of 0 and no layers", "extras 1 0", "R 27"),
     ("13 layers", "extras 64 1" + 13 * " 1 1", "R 27"),

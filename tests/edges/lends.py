@@ -14,7 +14,7 @@ SIXTEEN = plan(16, 2, *[(1, 1)] * 16)
 
 REFUSED = [
     # The current slot is slot 0, which nobody booked: it is lent once, and
-    # not at all while it is booked.  A tick ends the mark.
+    # not at all while it is booked.  Rule 8.1: a tick ends the mark.
     edge("lend: 17 at a lent and at a booked slot", BASE,
          (lend(1), "L 0"), (lend(2), "R 17"), (lend(1), "R 17"),
          (ask(0), "G 1"),
@@ -33,8 +33,9 @@ REFUSED = [
          (ask(0), "G 1"), (TICK, "T 0"),
          (lend(4), "R 8"), (lend(0), "R 17")),
 
-    # Slot 1 is booked, and flow 0 holds both of its cells from slot 2 on.
-    # Each mask with a bit at 2 or above is 8; nothing of it changes the link.
+    # Rule 9.2: slot 1 is booked, and flow 0 holds both of its cells from slot
+    # 2 on.  Each mask with a bit at 2 or above is 8; nothing of it changes
+    # the link.
     edge("lend: refusals 8, 17 and 18 in order", BASE,
          (ask(0), "G 1"), (ask(0), "G 2"),
          (lend(5), "R 8"), (lend(1), "R 18"),
@@ -60,7 +61,7 @@ REFUSED = [
 ]
 
 WHO_CAN_TAKE = [
-    # 0 is held at slot 0, but the only cell from slot 1 on.
+    # Rule 9.1: 0 is held at slot 0, but the only cell from slot 1 on.
     edge("lend: all cells held later", ONE_CELL,
          (ask(0), "G 1"), (lend(1), "R 18")),
 
@@ -139,8 +140,8 @@ WHO_CAN_TAKE = [
 ]
 
 WHAT_IS_HELD = [
-    # A lent slot is no booking: C and IF stay, so that the share of each
-    # frame is still there.
+    # Rule 9.4: a lent slot is no booking: C and IF stay, so that the share
+    # of each frame is still there.
     edge("lend: the share is not used", EIGHT_CELLS,
          (lend(1), "L 0"),
          (ask(0), "G 1"), (ask(0), "G 4"), (ask(0), "R 11")),
@@ -222,8 +223,8 @@ WHAT_IS_HELD = [
 ]
 
 RECORDS = [
-    # The mask has its low byte first; a filler that is not 0 is tested before
-    # the mask, and makes no lend.
+    # Rules 14.1 and 14.2: the mask has its low byte first; a filler that is
+    # not 0 is tested before the mask, and makes no lend.
     edge("lend: fillers", BASE,
          (lend(1, fillers=(1, 0)), "R 16"), (lend(1, fillers=(0, 1)), "R 16"),
          (lend(0xffff, fillers=(255, 255)), "R 16"),

@@ -18,11 +18,12 @@ SETS = [
     ("one stream of 14 links", "4 0 63 4", "ok", ""),
     ("two streams with the same ends", "2 0 1 1 0 1 1", "ok", ""),
     ("two streams with the same ends, over", "2 0 1 1 0 1 2", "R 25", "0 1 3"),
-    # Row first: both of these use the link from 1 to 9, and column first they
-    # would meet in none.
+    # Rule 16.2, row first: both of these use the link from 1 to 9, and column
+    # first they would meet in none.
     ("row first", "2 0 9 2 1 9 1", "R 25", "1 9 3"),
     # Column first both of these would use the link from 8 to 9.
     ("not column first", "2 0 9 2 8 9 1", "ok", ""),
+    # Rule 16.1: the two directions are two links.
     ("the two directions of a row", "2 0 1 2 1 0 2", "ok", ""),
     ("the two directions of a column", "2 0 8 2 8 0 2", "ok", ""),
     ("ways that only cross", "1 8 10 1 1 17 1", "ok", ""),
@@ -64,7 +65,7 @@ SETS = [
     ("zeros in front of numbers", "02 000000000 009 2 1 9 1", "R 25", "1 9 3"),
 ]
 
-# The first that applies, the same for both words.
+# Rule 16.3: the first that applies, the same for both words.
 REFUSED = [
     ("F = 0", "0", "R 3"),
     ("F = 65", "65", "R 3"),

@@ -21,6 +21,7 @@ def words(flow, *numbers):
 
 
 EXPECTED = [
+    # Rule 5.3: 0 first, and then one more with each grant.
     edge("number: 0 on a fresh link", BASE,
          *wrong(0, *WRONG), (ask(0, quantum=0), "G 1")),
     edge("number: one behind and one ahead", BASE,
@@ -47,7 +48,7 @@ NOTHING_CHANGES = [
 ]
 
 IN_ORDER = [
-    # Departure 8 is T.
+    # Rule 5.2: 24 comes after 10.  Departure 8 is T.
     edge("number: 8, 9 and 10 before 24", BASE,
          (ask(2, quantum=7), "R 8"), (ask(63, quantum=7), "R 8"),
          (ask(0, quantum=7, to=8), "R 9"),

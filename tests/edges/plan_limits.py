@@ -16,7 +16,8 @@ def one(share=1, cells=1, source=1, destination=9):
     return [(share, cells, source, destination)]
 
 
-# The file is these bytes and nothing more: 1, whatever they say otherwise.
+# Rule 13.2, the file is these bytes and nothing more: 1, whatever they say
+# otherwise.
 LENGTHS = [
     ("an empty file", b""),
     ("one byte", GOOD[:1]),
@@ -150,6 +151,7 @@ ORDER = [
 
 
 def with_tick(name, data, number):
+    """Rule 2.4: only an accepted plan has a link that ticks."""
     lines = ["P %d" % number] + (["T -"] if number == 0 else [])
     return Edge("plan: " + name, data + TICK, lines)
 

@@ -20,7 +20,7 @@ ROWS = [
     ("no entry", "programme 0", "dark"),
     ("no entry, the last minute", "programme 10079", "dark"),
     ("no entry, a minute past the week", "programme 10080", "R 28"),
-    # At the start, and up to the minute before the end.
+    # Rules 19.1 and 19.3: at the start, and up to the minute before the end.
     ("at the start", "programme 10 10 20 7", "plan 7"),
     ("before the start", "programme 9 10 20 7", "dark"),
     ("the last minute", "programme 19 10 20 7", "plan 7"),
@@ -54,7 +54,7 @@ ROWS = [
     ("plan 65,535", "programme 5 0 10 65535", "plan 65535"),
     ("one plan twice", "programme 15 0 10 5 10 20 5", "plan 5"),
     ("zeros in front", "programme 000000005 00 010 007", "plan 7"),
-    # 28: entries.
+    # Rule 19.2: 28, entries.
     ("no minute long", "programme 10 10 10 7", "R 28"),
     ("no minute long, at 0", "programme 0 0 0 7", "R 28"),
     ("no minute long, at the week's end", "programme 0 10080 10080 7",

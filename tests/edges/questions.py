@@ -36,14 +36,16 @@ def flows(count):
 # ---- plan: numbers to bytes
 
 PLANS = [
+    # Rule 2.2: the header's six fields, and four bytes for each flow.
     ("the plan of rule 13.6's listing", "plan 4 2 4 " + TWO,
      "140002000c000400020004000202010902020209"),
     ("the largest plan", "plan 64 4 4095 " + FULL, FULL_HEX),
     ("the smallest plan", "plan 1 2 1 1 1 0 1",
      "100001000c000100020001000101" "0001"),
-    # N = 513 is hex 0201, low byte first.
+    # Rule 1.2: N = 513 is hex 0201, low byte first.
     ("both bytes of a field", "plan 4 2 513 1 1 1 9",
      "100001000c00040002000102" "01010109"),
+    # Rule 20.3: zeros may lead.
     ("zeros in front of numbers", "plan 000000004 02 4 " + TWO, LISTING),
     # 2: n alone, since length and offset are the writer's own.
     ("no flow", "plan 4 2 4", "R 2"),
@@ -51,8 +53,8 @@ PLANS = [
     ("40 flows", "plan 64 4 40" + flows(40), "R 2"),
     ("257 flows, a low byte of 1", "plan 64 4 4" + flows(257), "R 2"),
     ("272 flows, a low byte of 16", "plan 64 4 16" + flows(272), "R 2"),
-    # Numbers that are too wide for their fields; in the comments what they
-    # would be if they were cut off.
+    # Rule 15.1: numbers that are too wide for their fields; in the comments
+    # what they would be if they were cut off.
     ("F = 300", "plan 300 2 4 1 1 1 9", "R 3"),                 # 44
     ("F = 65540", "plan 65540 2 4 1 1 1 9", "R 3"),             # 4
     ("a W of 258", "plan 4 258 4 1 1 1 9", "R 3"),              # 2
@@ -80,6 +82,7 @@ PLANS = [
 # ---- room: the same in a buffer of R bytes, and 19
 
 ROOMS = [
+    # Rule 15.2: what is written ends where the plan does.
     ("19 bytes for 20", "room 19 4 2 4 " + TWO, "R 19"),
     ("20 bytes for 20", "room 20 4 2 4 " + TWO, LISTING),
     ("21 bytes for 20", "room 21 4 2 4 " + TWO, LISTING),
@@ -111,6 +114,7 @@ READS = [
     ("digits of both cases", "read 140002000C000400020004000202010902020209",
      "plan 4 2 4 " + TWO),
     ("the largest plan", "read " + FULL_HEX, "plan 64 4 4095 " + FULL),
+    # Rule 20.5: no digits are no byte.
     ("no digits", "read", "R 1"),
     ("no digits after a blank", "read ", "R 1"),
     ("one byte", "read 14", "R 1"),
@@ -126,6 +130,7 @@ READS = [
 # ---- lines that are no question
 
 FAULTS = [
+    # Rule 20.2: a word, and one blank before each field.
     ("an empty line", ""),
     ("a blank", " "),
     ("another word", "write 4 2 4 " + TWO),
@@ -154,6 +159,7 @@ FAULTS = [
     ("ten digits that say 4", "plan 0000000004 2 4 " + TWO),
     ("4 + 2^64", "plan 18446744073709551620 2 4 " + TWO),
     ("a room of ten digits", "room 1000000000 4 2 4 " + TWO),
+    # Rules 20.4 and 20.6: fields that a question lacks.
     ("plan without numbers", "plan"),
     ("plan with a blank alone", "plan "),
     ("plan with one number", "plan 4"),

@@ -5,8 +5,9 @@ from call_bytes import request
 from edges.edge_maker import BASE, TICK, ask, credit, edge, plan
 
 REFUSED_WORDS = [
-    # Flow before destination before departure; nothing of it changes the
-    # link, so the next good request gets what a fresh link gives.
+    # Rules 1.3 and 5.2: flow before destination before departure; nothing
+    # of it changes the link, so the next good request gets what a fresh link
+    # gives.
     edge("refusals 8 to 10 in order", BASE,
          (ask(2), "R 8"), (ask(32), "R 8"), (ask(63), "R 8"),
          (ask(2, to=8, departure=8), "R 8"),
@@ -15,7 +16,7 @@ REFUSED_WORDS = [
          (ask(1, departure=8), "R 10"),
          (ask(1), "G 1"), (ask(0), "G 2")),
 
-    # The destination tested is the one of the word's own flow.
+    # Rule 2.1: the destination tested is the one of the word's own flow.
     edge("each flow its own destination",
          bytes.fromhex("14 00 02 00 0C 00 04 00 02 00 04 00"
                        "02 02 01 05 02 02 01 06"),
@@ -24,7 +25,8 @@ REFUSED_WORDS = [
 ]
 
 BOOKED_SLOTS = [
-    # A flow left at the old head gets a full share in the next frame.
+    # Rule 8.2: a flow left at the old head gets a full share in the next
+    # frame.
     edge("C is the share again after a frame change", plan(4, 2, (1, 4)),
          (ask(0), "G 1"),           # C is 0 now, IF still 0
          (TICK, "T 0"), (TICK, "T -"), (TICK, "T -"), (TICK, "T -"),
@@ -49,8 +51,8 @@ BOOKED_SLOTS = [
          (ask(0), "G 0"), (ask(0), "G 1"),      # slots 8 and 9
          (ask(0), "R 11")),
 
-    # 12 leaves IF newest with a full C: a credit dated early doesn't bring
-    # the frames between back.  Frames are slots 2f and 2f + 1.
+    # Rule 6.6: 12 leaves IF newest with a full C: a credit dated early
+    # doesn't bring the frames between back.  Frames are slots 2f and 2f + 1.
     edge("after 12 only the newest frame is left", plan(2, 4, (1, 1)),
          (ask(0), "G 1"),
          (ask(0), "R 12"),          # full in frames 1 to 3
@@ -60,8 +62,8 @@ BOOKED_SLOTS = [
          (TICK, "T 0"), (TICK, "T -"),
          (ask(0), "R 12")),         # frame 4: slot 6 holds the cell
 
-    # Valid positions begin where the flow is no longer full, so a later
-    # credit can make an earlier position of the same frame valid again.
+    # Rule 6.2: valid positions begin where the flow is no longer full, so a
+    # later credit can make an earlier position of the same frame valid again.
     edge("an earlier position after a later one", plan(8, 2, (4, 2)),
          (ask(0), "G 1"), (ask(0), "G 2"),
          (credit(0, 6), "C"),       # 2 held at 2 to 5, 1 from 6 on
@@ -70,7 +72,8 @@ BOOKED_SLOTS = [
          (ask(0), "G 3"),
          (ask(0), "R 12")),         # frame 1, full
 
-    # A slot has one owner; the flows alternate, 11 at the end for both.
+    # Rule 6.5: a slot that is booked has an owner, and costs one of C; the
+    # flows alternate, 11 at the end for both.
     edge("two flows share two frames", plan(3, 2, (1, 9), (2, 9)),
          (ask(0), "G 1"), (ask(1), "G 2"),
          (ask(1), "G 3"),           # frame 0 is full; C was 1, now 2 less 1

@@ -9,7 +9,8 @@ SINGLE_SLOT = plan(1, 2, (1, 4))        # every tick is a frame change
 SIXTEEN = plan(16, 2, *[(1, 1)] * 16)
 
 GRANTED = [
-    # Nothing changes, and slot 0, which nobody booked, is not marked.
+    # Rule 10.3: nothing changes, and slot 0, which nobody booked, is not
+    # marked.
     edge("reset: a fresh link", BASE,
          (RESET, "Z"), (RESET, "Z"), (lend(1), "L 0")),
     edge("reset: requests on a fresh link", BASE,
@@ -53,8 +54,8 @@ GRANTED = [
 ]
 
 REFUSED = [
-    # Slot 1 is booked, and nothing is held.  When it is current it does not
-    # stand in the way.
+    # Rule 10.1: slot 1 is booked, and nothing is held.  When it is current
+    # it does not stand in the way.
     edge("reset: a later slot is booked and nothing held", BASE,
          (ask(0), "G 1"), (credit(0, 1), "C"), (RESET, "R 23"),
          (TICK, "T 0"), (RESET, "Z")),
@@ -119,7 +120,8 @@ REFUSED = [
 ]
 
 WHERE_FLOWS_START = [
-    # The refusal left IF at the newest frame, for each flow that asked.
+    # Rule 10.2: the refusal left IF at the newest frame, for each flow that
+    # asked.
     edge("reset: IF becomes HF", BASE,
          (ask(0, departure=7), "R 20"), (RESET, "Z"), (ask(0), "G 1")),
     edge("reset: IF becomes HF, three frames", plan(4, 3, (1, 8)),

@@ -5,9 +5,9 @@ These cases tell each from rules 7.1, 3.3 and 8.2."""
 from edges.edge_maker import TICK, ask, credit, edge, plan
 
 EDGES = [
-    # Slip 1, in one window.  After the credit dated 5 the flow holds 1 at
-    # slots 1 to 4 and 0 from 5 on.  A credit dated 2 finds 1 at slot 2, but
-    # would leave -1 from 5 on.
+    # Slip 1 (rule 7.1), in one window.  After the credit dated 5 the flow
+    # holds 1 at slots 1 to 4 and 0 from 5 on.  A credit dated 2 finds 1 at
+    # slot 2, but would leave -1 from 5 on.
     edge("slip 1: a later cell is back already", plan(4, 2, (2, 2)),
          (ask(0), "G 1"),
          (credit(0, 5), "C"),
@@ -33,8 +33,8 @@ EDGES = [
          (credit(0, 1), "C"),       # holds 1 from slot 8 on
          (credit(0, 0), "R 15")),   # slot 8 holds 1, slot 9 holds 0
 
-    # Slip 2.  After the change the newest frame is slots 8 to 11, positions
-    # 0 to 3: the walk has to go on past position 7.
+    # Slip 2 (rule 3.3).  After the change the newest frame is slots 8 to 11,
+    # positions 0 to 3: the walk has to go on past position 7.
     edge("slip 2: the newest frame is at position 0", plan(4, 2, (1, 9)),
          (ask(0), "G 1"), (ask(0), "G 4"), (ask(0), "R 11"),
          (TICK, "T 0"), (TICK, "T -"), (TICK, "T -"), (TICK, "T 0"),
@@ -58,8 +58,9 @@ EDGES = [
          (TICK, "T 1"), (TICK, "T 0"), (TICK, "T 1"), (TICK, "T 0"),
          (TICK, "T 1"), (TICK, "T -")),
 
-    # Slip 3.  Both cells were taken in frame 0 and never came back, so they
-    # are still held when frame 0's positions come again as slots 8 to 11.
+    # Slip 3 (rule 8.2).  Both cells were taken in frame 0 and never came
+    # back, so they are still held when frame 0's positions come again as
+    # slots 8 to 11.
     edge("slip 3: holdings go on past a frame change", plan(4, 2, (2, 2)),
          (ask(0), "G 1"), (ask(0), "G 2"),
          (TICK, "T 0"), (TICK, "T 0"), (TICK, "T -"), (TICK, "T -"),
@@ -70,7 +71,8 @@ EDGES = [
          (credit(0, 2), "C"),       # 1 held at both
          (credit(0, 2), "R 15")),   # 0 held at both
 
-    # Slip 3 once round: what is given back after T slots is still there.
+    # Slip 3 once round (rule 4.4): what was booked in a frame that is over
+    # counts until it is given back.
     edge("slip 3: a cell given back after going round", plan(2, 2, (1, 1)),
          (ask(0), "G 1"),
          (TICK, "T 0"), (TICK, "T -"), (TICK, "T -"), (TICK, "T -"),

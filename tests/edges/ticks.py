@@ -3,7 +3,8 @@
 from edges.edge_maker import TICK, ask, credit, edge, plan
 
 EMPTIED = [
-    # The old head is emptied: slot 5 is position 1 again, granted to nobody.
+    # Rule 8.3: the old head is emptied: slot 5 is position 1 again, granted
+    # to nobody.
     edge("a position is idle when it comes again", plan(2, 2, (1, 3)),
          (ask(0), "G 1"), (TICK, "T 0"),
          *[(TICK, "T -")] * 8),

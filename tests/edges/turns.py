@@ -8,7 +8,8 @@ ONE_CELL = plan(4, 2, (1, 8), (1, 1), (1, 8))   # flow 1 has one cell
 SIXTEEN = plan(16, 2, *[(1, 4)] * 16)
 
 WHOSE_TURN = [
-    # Flow 2 is lent to, though flow 0 was looked at first: then flow 0.
+    # Rule 9.3: flow 2 is lent to, though flow 0 was looked at first: then
+    # flow 0.
     edge("turn: after the last one lent to", THREE,
          (lend(4), "L 2"), (TICK, "T -"), (lend(3), "L 0")),
     edge("turn: one after the other", THREE,

@@ -10,6 +10,12 @@ from front_door.pages import FILE, inline_code, page
 RULE = re.compile(r"^\*\*(\d+)\.(\d+)\*\* ")
 SECTION = re.compile(r"^## (\d+)\. ")
 CITED = re.compile(r"(?<![\d.,])(\d+\.\d+)(?![\d.]*\d)")
+# As definitions cite them, and as tests and pages do.
+CITATION = re.compile(
+    r"\b(?:RULES|[Rr]ules?)\s+((?:\d+\.\d+(?:\.\d)?"
+    r"(?:,?\s+(?:and|to|or)\s+|,\s+)?)+)")
+NUMBER = re.compile(r"(\d+\.\d+)(?:\.\d)?|\b(to)\b")
+LEADER = re.compile(r"\n\s*(?:--|//|#)(?=[ \n])")
 DEFINITION = r"^\s*(?:abbrev |unfoldable )?pub (?:record |data )?%s\b"
 FUNCTION = r"\bfn %s\b"
 
@@ -43,6 +49,26 @@ def sections():
 def cited(text):
     """The numbers of the rules that a text names."""
     return CITED.findall(text)
+
+
+def between(first, last):
+    """The numbers of the rules from one to another."""
+    return [number for number, _, _ in rules()
+            if pair(first) <= pair(number) <= pair(last)]
+
+
+def citations(text):
+    """The numbers of the rules that are cited as rules; of 'A to B' those
+    between them too.  A comment may break anywhere."""
+    found = []
+    for group in CITATION.findall(LEADER.sub(" ", text)):
+        upto = False
+        for number, to in NUMBER.findall(group):
+            if upto and number:
+                found += between(found[-1], number)
+            found += [number] if number else []
+            upto = bool(to)
+    return found
 
 
 def given_by(number):

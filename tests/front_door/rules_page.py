@@ -8,15 +8,13 @@ from edges import refusals_page
 from front_door.command import ROOT
 from front_door.pages import inline_code, page
 from front_door.rule_book import (
-    cited, decided, given_by, is_in, named, pair, rules, sections)
+    citations, cited, decided, given_by, is_in, named, pair, rules, sections)
 from simulator.listing import simulate
 
 # Rules are cited in the files below these.
 CITING = ("crates", "docs", "tests", "tools", "include", "player", "bench",
           "flights")
 CITING_FILES = ("README.md", "CONTRIBUTING.md", "play", "plan", "check-log")
-RULES_OF = re.compile(
-    r"\b[Rr]ules?\s+((?:\d+\.\d+(?:,?\s(?:and|to|or)\s|,\s)?)+)")
 # The papers behind the rules, by name.
 PAPER = re.compile(r"\b[Dd]oc(?:ument)?s? ?0\d\d?\b|\bN(?:1[0-4]|[1-9])\b")
 # History is told there, or the names are still to go.
@@ -135,8 +133,8 @@ def texts():
 def citations_hold():
     known = {number for number, _, _ in rules()}
     wrong = ["%s in %s" % (number, name) for name, text in texts()
-             for group in RULES_OF.findall(text)
-             for number in cited(group) if number not in known]
+             if name != "tests/front_door/citations.py"
+             for number in citations(text) if number not in known]
     return wrong and "no rule " + "; no rule ".join(wrong)
 
 

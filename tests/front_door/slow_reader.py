@@ -42,7 +42,7 @@ def only_a_beginning(program):
 
 
 def lost_output_is_said(program):
-    """One line on standard error."""
+    """One line on standard error: rule 13.1."""
     with source_of(CALLS) as source:
         errors = into_full_pipe([program], stdin=source).errors
     lines = errors.splitlines()

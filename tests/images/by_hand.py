@@ -20,6 +20,7 @@ def image(current, taken, look_from, owners, *flows):
                                    owners, *flows]))
 
 
+# Rule 12.1, and rules 4.1 and 4.2: all that a fresh link keeps.
 FRESH = image("0000", "0000", "0000", NOBODY,
               "0000 0200" + NOTHING + "0000",
               "0000 0200" + NOTHING + "0000")
@@ -148,7 +149,7 @@ AFTER_LENDS = [
 ]
 AFTER_CALLS += AFTER_LENDS
 
-# ---- images that are taken
+# ---- images that are taken (rule 12.3)
 
 # Both flows have bookings in frame 0 up to their share.
 FULL_FRAME = change(FRESH, ("owner", 0, 0), ("owner", 1, 1), ("owner", 2, 0),
@@ -342,7 +343,7 @@ BROKEN += [("the expected number is below 1,024", name,
                ("of the middle one", THREE, 1),
                ("of flow 15", LARGEST, 15), ("after calls", PLAYED, 0))]
 
-# ---- buffers that are too short, whatever else is wrong
+# ---- buffers that are too short (rule 12.2), whatever else is wrong
 
 SHORT = [
     ("no bytes", b""), ("one byte", FRESH[:1]), ("17 bytes", FRESH[:17]),

@@ -59,7 +59,7 @@ def first(troubles):
 
 
 def after_calls(command, edge, image):
-    """The bytes are those worked out by hand."""
+    """The bytes are those worked out by hand: rule 12.4."""
     played = play(command, edge.data, len(image))
     return (played.wrong
             or played.lines != edge.lines and "gives %r" % played.lines
@@ -162,7 +162,8 @@ def seeds_of(family, kinds, seed):
 
 
 def each_image(command, family, seed):
-    """The answers of a file, and the image after each of its calls."""
+    """The answers of a file, and the image after each of its calls, which gets
+    the one that the call before left: rule 12.7."""
     data = family.generate(seed)
     images = images_after(data)
     length = len(images[-1])

@@ -15,7 +15,8 @@ from simulator.plan import read_plan
 
 
 def right_fresh(plan, buffer):
-    """The plan's refusal first, then 21, else the image of a fresh link."""
+    """The plan's refusal first, then 21, else the image of a fresh link:
+    rule 12.5."""
     refusal, read = read_plan(plan)
     if refusal:
         return refusal * POWER, buffer

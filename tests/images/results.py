@@ -5,8 +5,9 @@ IDLE = 16
 
 
 def number_of(call, letter, number):
-    """The result of a call that the simulator answers so: a refusal is a
-    multiple of 2^32, and below that are words, flows, 16 for idle, and 0."""
+    """The result of a call that the simulator answers so, by rule 12.6: a
+    refusal is a multiple of 2^32, and below that are words, flows, 16 for
+    idle, and 0."""
     if letter == "R":
         return number * POWER
     if letter == "G":

@@ -35,7 +35,8 @@ class Verdict:
 
 
 def told(verdict, flow, left_out, data, lines):
-    """The run that a listing tells of, or None where it tells of none."""
+    """The run that a listing tells of, or None where it tells of none; what is
+    asked of it is rule 21.11's."""
     if not lines or lines[0] != "P 0" or not countable(data):
         verdict.faults.append("the plan was not accepted")
         return None

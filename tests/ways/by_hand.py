@@ -45,19 +45,29 @@ ATTAINED = ByHand(
     [(NEIGHBOURS, *FIRST_LINK),
      (NEIGHBOURS, *SECOND_LINK, (ask(0), "G 7"))])
 
-# Three shares of cells on the last link, whose tiles are shown two frames on.
+# Rules 22.8 and 23.2: three shares of cells on the last link, whose tiles are
+# shown two frames on.
 SHOWN = [
     IDLE, (ask(0), "G 2"), (ask(0), "G 3"), (TICK, "T 0"), (TICK, "T 0"),
     (ask(0), "G 0"), (ask(0), "G 1"), (TICK, "T 0"), (ask(0), "G 2")]
+# Rule 22.9: F = 2, W = 3, share 1, each tile asked for a frame ahead.  Tiles
+# are due in slots 3, 5 and 7, and come up in 4, 6 and 8; in slot 4 none is
+# given back, so that the third finds two held from slot 6 on.
+AHEAD = [
+    (ask(0, departure=3), "G 4"), IDLE, IDLE, (ask(0, departure=5), "G 0"),
+    IDLE, (TICK, "T 0")]
 IN_TIME = [
     ATTAINED,
+    ByHand("three shares of cells where words run ahead by a frame",
+           [(plan(2, 3, (1, 3)), *AHEAD, (ask(0, departure=1), "G 2"))]),
     ByHand("three shares of cells where tiles are shown first",
            [(plan(2, 2, (2, 6)), *SHOWN, (ask(0), "G 3"))]),
 ]
 
 BROKEN = [
-    # F = 3, W = 2, share 1; the second link has a neighbour of share 2.  Link
-    # 1 grants slot 3, is reset in slot 4, and grants slot 5.
+    # Rule 22.11, here and below.  F = 3, W = 2, share 1; the second link has a
+    # neighbour of share 2.  Link 1 grants slot 3, is reset in slot 4, and
+    # grants slot 5.
     ByHand("a reset breaks it",
            [(plan(3, 2, (1, 2)),
              IDLE, IDLE, (ask(0), "G 3"), (TICK, "T 0"), (credit(0, 4), "C"),
@@ -76,7 +86,8 @@ BROKEN = [
              IDLE, IDLE, (ask(1), "G 3"), (ask(0), "G 0"), (TICK, "T 1"),
              (ask(0), "R 11"))],
            "link 2: tile 1 is refused with 11"),
-    # F = 2, W = 2, share 1, one cell: the neighbour has slots 1 and 2.
+    # Rule 23.3: F = 2, W = 2, share 1, one cell: the neighbour has slots 1 and
+    # 2.
     ByHand("one cell fewer than two shares breaks it",
            [(plan(2, 2, (1, 1), (1, 9)),
              (ask(1), "G 1"), (ask(1), "G 2"), (ask(0), "G 3"),
@@ -86,6 +97,9 @@ BROKEN = [
     ByHand("one cell fewer than three breaks it where tiles are shown first",
            [(plan(2, 2, (2, 5)), *SHOWN, (ask(0), "R 12"))],
            "link 1: tile 5 is refused with 12"),
+    ByHand("one cell fewer than three breaks it where words run ahead",
+           [(plan(2, 3, (1, 2)), *AHEAD, (ask(0, departure=1), "R 12"))],
+           "link 1: tile 2 is refused with 12"),
     # F = 2, W = 3, share 1, asked for after its share in frame 0: slot 4 is
     # in frame 2.
     ByHand("a tile more than the share in a frame is late",

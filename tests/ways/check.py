@@ -28,8 +28,8 @@ def request_faults(place, board):
 
 
 def passing_faults(place, before, board):
-    """Each tile is asked for with the slot in which it comes, from the grant
-    on the link before up to that slot; and none is left out."""
+    """Rule 22.6: each tile is asked for with the slot in which it comes, from
+    the grant on the link before up to that slot; and none is left out."""
     asked = board.tiles
     for number, (sent, tile) in enumerate(zip(before.sent(), asked)):
         if (tile.departure != sent.slot % board.total
@@ -44,6 +44,7 @@ def passing_faults(place, before, board):
 
 
 def late_faults(place, first, board):
+    """Rules 22.1 and 22.7: on link number j at most j frames late."""
     frame = board.frame_slots
     for number, (tile, start) in enumerate(zip(board.tiles, first.tiles)):
         if tile.slot is None:
@@ -56,7 +57,8 @@ def late_faults(place, first, board):
 
 
 def longest(verdict, came, burst, last):
-    """The slots from a tile's coming to its arrival, with a burst."""
+    """The slots from a tile's coming to its arrival, with a burst: rule
+    22.10."""
     frames = verdict.links + 1 + -(-burst // last.share)
     for number, (slot, tile) in enumerate(zip(came, last.sent())):
         wait = tile.slot - slot

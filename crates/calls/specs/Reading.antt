@@ -37,7 +37,7 @@ abbrev pub numberOf : Record → ℕ
 numberOf (Record.Call call) = 0
 numberOf NoCall = 16
 
--- the number by the paper: "unknown kind, a nonzero filler, or fewer than 5 bytes" give 16
+-- RULES 13.4: 16 where a record makes no call
 abbrev pub numberFor : Option RecordCall → ℕ
 numberFor (some call) = 0
 numberFor none = 16

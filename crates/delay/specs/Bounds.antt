@@ -1,4 +1,5 @@
--- What a stream can count on: when its tiles arrive, and how many cells keep it so. What the numbers say of streams is in Promised.antt. Assumes nothing.
+-- What a stream can count on: when its tiles arrive, and how many cells keep it so. RULES 23.1. What the numbers say of streams is in Promised.antt.
+-- Assumes nothing.
 use Prim.Native.Nat.{ℕ, _+_, _-_, _*_}
 use mathlib.Core.List.{_∷_, []}
 use mathlib.Core.Bool.{Bool, not, _||_, cond}
@@ -10,6 +11,7 @@ use Rattle.model.specs.Source.{burstFrames}
 use Rattle.delay.specs.declared.Delayed.{Delayed}
 use Rattle.delay.specs.declared.Delayed.the-variants.{Within, Refused, NoQuestion}
 
+-- RULES 23.1: the three numbers
 pub record Bounds : Type 0 where
   -- slots from a tile's coming to its arrival, at most
   pub slots : ℕ
@@ -18,18 +20,18 @@ pub record Bounds : Type 0 where
   -- cells on the last link, where a cell is given back only when its tile was shown
   pub shown : ℕ
 
--- a frame for each of m links and one more, and those that `burst` tiles more than the share cost at the source
+-- RULES 23.1: a frame for each of m links and one more, and those that `burst` tiles more than the share cost at the source
 abbrev pub framesIn : (m share burst : ℕ) → ℕ
 framesIn m share burst = m + 1 + burstFrames share burst
 
 abbrev pub bounds : (F m share burst : ℕ) → Bounds
 bounds F m share burst = record { slots = framesIn m share burst * F - 1; cells = 2 * share; shown = 3 * share }
 
--- Only 1 to 14 links, and a burst of 0 to 999 tiles, can be asked about.
+-- RULES 23.1: only 1 to 14 links, and a burst of 0 to 999 tiles, can be asked about.
 unfoldable pub noQuestion : (m burst : ℕ) → Bool
 noQuestion m burst = not (within 1 14 m) || ltb 999 burst
 
--- the refusal, and 0 where there is none: a frame has 1 to 64 slots, and a share is 1 to F
+-- RULES 23.1: the refusal, and 0 where there is none: a frame has 1 to 64 slots, and a share is 1 to F
 unfoldable pub refusalOf : (F share : ℕ) → ℕ
 refusalOf F share = firstOf (3 when not (within 1 64 F) ∷ 4 when not (within 1 F share) ∷ [])
 

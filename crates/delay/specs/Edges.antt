@@ -1,4 +1,4 @@
--- Edges of what a stream can count on, one table, worked out by hand. Assumes nothing.
+-- Edges of what a stream can count on, one table, worked out by hand from RULES 23.1. Assumes nothing.
 use Prim.Native.Nat.{ℕ}
 use mathlib.Core.Path.{_≡_}
 use mathlib.Core.List.{List, _∷_, [], map}

@@ -39,8 +39,8 @@ InBounds a rest =
     (burst : ℕ) (comes asks : ℕ → ℕ) → Source (shareOn a) comes asks → Bursts (shareOn a) burst comes → AsksAs asks (planOn a) (a .stream) (a .events)
     → ArrivesWithin (bounds (planOn a .slots) (length (a ∷ rest)) (shareOn a) burst .slots) comes (lastBoard a rest)
 
--- So it is where the stream asks on arrival with its shares of cells; and where each board credits the one before it at its own grant. That the paper's card
--- keeps both is `bound-is` and `bound-by-credits`, in proofs/Promised.antt.
+-- RULES 23.2: so it is where the stream asks on arrival with its shares of cells (22.8); and where each board credits the one before it at its own
+-- grant. That the paper's card keeps both is `bound-is` and `bound-by-credits`, in proofs/Promised.antt.
 abbrev pub BoundIs : Card → Type 0
 BoundIs c =
     (late : ℕ) (a : Board c) (rest : List (Board c)) → WayOnArrival a rest → KeepsShares late 0 (planOn a) (a .stream) (a .events) → InBounds a rest
@@ -57,14 +57,15 @@ pub record Asks (late : ℕ) (P : Plan) (i : ℕ) (h : History) : Type 0 where
   pub not-lent : tally (ofFlow i) (lends h) ≡ 0
   pub no-reset : tally renews h ≡ 0
 
--- Where its cells are given back `late` frames late, `need` of `bounds` are enough, whatever F, the links and the burst are.
+-- RULES 23.2 and 23.3: where its cells are given back `late` frames late, `need` of `bounds` are enough, whatever F, the links and the burst are. Of
+-- a stream with fewer nothing is said.
 abbrev pub CellsAre : (late : ℕ) (need : Bounds → ℕ) → Card → Type 0
 CellsAre late need c =
     (bytes : List ℕ) → refusal bytes ≡ 0 → (calls : List Call) (i : ℕ) → i < flowCount (planOf bytes)
     → (F m burst : ℕ) → need (bounds F m (entry (planOf bytes) i .share) burst) ≤ entry (planOf bytes) i .cells
     → Asks late (planOf bytes) i (run c (planOf bytes) calls .history) → EachGrantedNow (planOf bytes) i (run c (planOf bytes) calls .history)
 
--- as each tile comes up, and when it was shown: `cells-are` and `shown-are`, in proofs/Promised.antt
+-- RULES 22.8: as each tile comes up, and when it was shown: `cells-are` and `shown-are`, in proofs/Promised.antt
 abbrev pub CellsSuffice : Card → Type 0
 CellsSuffice = CellsAre 0 (λ b. b .cells)
 

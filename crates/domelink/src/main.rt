@@ -1,4 +1,4 @@
-// Plays a file of calls: what standard input brings is fed to the program, and what that hands back is written to standard output.
+// Plays a file of calls: what standard input brings is fed to the program, and what that hands back is written to standard output. RULES 13.1.
 mod output;
 
 ghost use Prim.Native.Nat.{_*_, _/_, _≤_};

@@ -1,4 +1,4 @@
--- Every edge of the table comes out as the request has it. Assumes nothing.
+-- Every edge of the table comes out as it stands there. Assumes nothing.
 use mathlib.Core.Path.{refl}
 use Rattle.model.specs.Tables.{any, sum, firstFrom}
 use Rattle.extras.specs.Extras.{shareOf, worthOf, greatest, layerInside, outside, choose}

@@ -1,4 +1,4 @@
--- What is given, read as the request's, and the limits that it keeps. Assumes nothing.
+-- What is given, read as the definitions have it, and the limits that it keeps. Assumes nothing.
 use Prim.Native.Nat.{ℕ, _≤_, _<_}
 use mathlib.Core.Path.{_≡_, refl, sym, ap, _∙_, subst}
 use mathlib.Core.Bool.{false, not, cond}

@@ -1,4 +1,4 @@
--- What is promised of an answer holds of every answer. Document 02, N12. Assumes nothing.
+-- What is promised of an answer holds of every answer. RULES 18.4. Assumes nothing.
 use Prim.Native.Nat.{ℕ, zero, suc, _≤_, _<_}
 use mathlib.Core.Path.{_≡_, refl, sym, _∙_}
 use mathlib.Core.Bool.{Bool, true, false, cond}

@@ -1,4 +1,4 @@
--- What it is to be the best of the sets with the masks 0 to k - 1. Document 02, N12. Assumes nothing.
+-- What it is to be the best of the sets with the masks 0 to k - 1. RULES 18.3. Assumes nothing.
 use Prim.Native.Nat.{ℕ, _≤_, _<_}
 use mathlib.Core.Path.{_≡_}
 use mathlib.Core.Bool.{true}

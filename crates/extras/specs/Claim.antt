@@ -1,4 +1,4 @@
--- What is promised of an answer. Document 02, N12. Assumes nothing.
+-- What is promised of an answer. RULES 18.3 and 18.4. Assumes nothing.
 use Prim.Native.Nat.{ℕ, _≤_, _<_}
 use mathlib.Core.Path.{_≡_}
 use mathlib.Core.Bool.{true}
@@ -9,13 +9,14 @@ use Rattle.extras.specs.Best.{Best}
 abbrev pub withBudget : Extras → ℕ → Extras
 withBudget x budget = record { slots = x .slots; budget = budget; layers = x .layers }
 
--- an answer at least as good: no smaller worth and no higher ceiling
+-- RULES 18.4: an answer at least as good, with no smaller worth and no higher ceiling
 pub record NoWorse (x : Extras) (c : Chosen) : Type 0 where
   pub chosen : Chosen
   pub answered : choose x ≡ accepted chosen
   pub worth-no-smaller : c .worth ≤ chosen .worth
   pub ceiling-no-higher : chosen .ceiling ≤ c .ceiling
 
+-- RULES 18.4: what is promised of an answer c
 pub record Promised (x : Extras) (c : Chosen) : Type 0 where
   -- the best of the sets looked at, by worth and then by mask; it fits
   pub best : Best x (lookedAt x) (c .mask) (c .worth)

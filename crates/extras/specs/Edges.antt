@@ -1,6 +1,6 @@
--- Edges of the choice of layers, one table. Document 02, N12. Assumes nothing.
+-- Edges of the choice of layers, one table. RULES 18.1 to 18.3. Assumes nothing.
 --
--- What each comes to is worked out from the request.
+-- What each comes to is worked out from the rules.
 use Prim.Native.Nat.{ℕ}
 use mathlib.Core.Path.{_≡_}
 use mathlib.Core.List.{List, _∷_, [], map}

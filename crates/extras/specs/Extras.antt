@@ -1,4 +1,4 @@
--- Which optional layers to switch on. Document 02, N12. Assumes nothing.
+-- Which optional layers to switch on. RULES 18.1 to 18.3. Assumes nothing.
 use Prim.Native.Nat.{ℕ, zero, suc, _^_, min, max}
 use mathlib.Core.List.{List}
 use mathlib.Core.Option.{Option, some, none}
@@ -10,11 +10,12 @@ use Rattle.model.specs.Calls.{Answer, accepted, refused, inMask}
 
 -- ---- what is given
 
--- an optional layer: the slots of a frame that it takes, and what it is worth
+-- RULES 18.1: an optional layer, the slots of a frame that it takes, and what it is worth
 pub record Layer : Type 0 where
   pub share : ℕ
   pub worth : ℕ
 
+-- RULES 18.1: what is given
 pub record Extras : Type 0 where
   pub slots : ℕ  -- the slots left in a frame
   pub budget : ℕ  -- how many sets may be looked at
@@ -37,14 +38,14 @@ layer x i = getD (x .layers) i noLayer
 abbrev pub sumOver : (t : ℕ → Bool) → (f : Layer → ℕ) → Extras → ℕ
 sumOver t f x = sum (layerCount x) (λ i. cond (t i) (f (layer x i)) 0)
 
--- The number of a set is its mask, and bit i stands for layer i. What a set takes of a frame, and what it is worth:
+-- RULES 18.2: the number of a set is its mask, and bit i stands for layer i. What a set takes of a frame, and what it is worth:
 unfoldable pub shareOf : Extras → (mask : ℕ) → ℕ
 shareOf x mask = sumOver (inMask mask) (λ e. e .share) x
 
 unfoldable pub worthOf : Extras → (mask : ℕ) → ℕ
 worthOf x mask = sumOver (inMask mask) (λ e. e .worth) x
 
--- a set fits in the slots left
+-- RULES 18.2: a set fits in the slots left
 abbrev pub fits : Extras → (mask : ℕ) → Bool
 fits x mask = leb (shareOf x mask) (x .slots)
 
@@ -52,7 +53,7 @@ fits x mask = leb (shareOf x mask) (x .slots)
 abbrev pub setCount : Extras → ℕ
 setCount x = 2 ^ layerCount x
 
--- how many sets are looked at, from mask 0 upward: as many as the budget allows, and as there are
+-- RULES 18.2: how many sets are looked at, from mask 0 upward: as many as the budget allows, and as there are
 abbrev pub lookedAt : Extras → ℕ
 lookedAt x = min (x .budget) (setCount x)
 
@@ -67,11 +68,11 @@ unfoldable pub greatest : (k : ℕ) → (t : ℕ → Bool) → (f : ℕ → ℕ)
 greatest zero t f = 0
 greatest (suc k) t f = max (cond (t k) (f k) 0) (greatest k t f)
 
--- the greatest worth of a set that fits, among the sets 0 to k - 1
+-- RULES 18.3: the greatest worth of a set that fits, among the sets 0 to k - 1
 abbrev pub bestWorth : Extras → (k : ℕ) → ℕ
 bestWorth x k = greatest k (fits x) (worthOf x)
 
--- the lowest mask of a set among them that fits and has this worth; there is one, since the empty set fits (`some-best`)
+-- RULES 18.3: the lowest mask of a set among them that fits and has this worth; there is one, since the empty set fits (`some-best`)
 abbrev pub lowestBest : Extras → (k : ℕ) → Option ℕ
 lowestBest x k = firstFrom k 0 (λ m. fits x m && eqb (worthOf x m) (bestWorth x k))
 
@@ -86,11 +87,11 @@ bestMask x k = maskFound (lowestBest x k)
 abbrev pub singlesWorth : Extras → ℕ
 singlesWorth x = sumOver (λ i. leb (layer x i .share) (x .slots)) (λ e. e .worth) x
 
--- where no set is left to look at, the worth that was found; otherwise what all layers that fit singly are worth together
+-- RULES 18.3: where no set is left to look at, the worth that was found; otherwise what all layers that fit singly are worth together
 abbrev pub ceilingOf : Extras → ℕ
 ceilingOf x = cond (allLookedAt x) (bestWorth x (lookedAt x)) (singlesWorth x)
 
--- the best set looked at, its worth, and the ceiling
+-- RULES 18.3: the answer
 pub record Chosen : Type 0 where
   pub mask : ℕ
   pub worth : ℕ
@@ -101,11 +102,11 @@ best x = record { mask = bestMask x (lookedAt x); worth = bestWorth x (lookedAt 
 
 -- ---- the refusal
 
--- a share of 1 to 64 and a worth of 0 to 1,000
+-- RULES 18.1: the limits of a layer
 unfoldable pub layerInside : Layer → Bool
 layerInside e = within 1 64 (e .share) && within 0 1000 (e .worth)
 
--- no set may be looked at, there are more than twelve layers, or the slots or a layer break their limits
+-- RULES 18.1: no set may be looked at, there are more than twelve layers, or the slots or a layer break their limits
 unfoldable pub outside : Extras → Bool
 outside x =
     eqb (x .budget) 0 || ltb 12 (layerCount x) || not (within 0 64 (x .slots)) || any (layerCount x) (λ i. not (layerInside (layer x i)))

@@ -1,4 +1,4 @@
--- What is given and what is answered, read as the request's. Assumes nothing.
+-- What is given and what is answered, read as the definitions have it. Assumes nothing.
 use Prim.Native.Nat.{ℕ}
 use mathlib.Core.Bool.{false}
 use mathlib.Core.Path.{_≡_}

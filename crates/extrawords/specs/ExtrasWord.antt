@@ -22,11 +22,12 @@ layerAsked numbers i = record { share = getD numbers (2 + 2 * i) 0; worth = getD
 abbrev pub extrasAsked : List ℕ → Extras
 extrasAsked numbers = record { slots = getD numbers 0 0; budget = getD numbers 1 0; layers = table (layersAsked numbers) (layerAsked numbers) }
 
--- mask, worth and ceiling as three numbers, or `R` and the refusal
+-- RULES 20.4: mask, worth and ceiling as three numbers, or `R` and the refusal
 abbrev pub chosenLine : Answer Chosen → List ℕ
 chosenLine (accepted c) = threeLine (c .mask) (c .worth) (c .ceiling)
 chosenLine (refused number) = refusalLine number
 
+-- RULES 20.6: what is no question, and else the answer
 unfoldable pub answerToExtras : (numbers : List ℕ) → List ℕ
 answerToExtras numbers =
     cond (ltb (length numbers) 2) (cannot "the slots or the budget is missing")

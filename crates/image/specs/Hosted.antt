@@ -1,5 +1,4 @@
--- What the contracts of the exports say of a host's calls, each on the image that the call before left. Document 02, N5: "a chain that starts with fresh
--- and passes each image on unaltered". Assumes nothing.
+-- What the contracts of the exports say of a host's calls, each on the image that the call before left. RULES 12.7. Assumes nothing.
 use Prim.Native.Nat.{ℕ}
 use mathlib.Core.Path.{_≡_}
 use mathlib.Core.List.{List, _∷_, []}
@@ -7,9 +6,9 @@ use Rattle.model.specs.Calls.{Event, History, requested, credited, ticked, lent
 use Rattle.images.specs.Exports.{HandsBack, freshOn, requestOn, creditOn, tickOn, lendOn, resetOn}
 use Rattle.images.specs.Chain.{answerOf, turnOf, imageIn}
 
--- This buffer is in hand after a host's calls with the events h, of which the newest is first. Each case has what the contract of that export ensures of
--- its number r and of the buffer after it; the event has the answer that r stands for. The next call gets any buffer with the same image, whole: a call that gets less
--- of it is turned back with 21, reaches no link, and is no call of the list.
+-- RULES 12.7: this buffer is in hand after a host's calls with the events h, of which the newest is first. Each case has what the contract of that
+-- export ensures of its number r and of the buffer after it; the event has the answer that r stands for. The next call gets any buffer with the same
+-- image, whole: a call that gets less of it is turned back with 21, reaches no link, and is no call of the list.
 pub data Hosted (plan : List ℕ) : History → List ℕ → Type 0 where
   by-fresh : (b : List ℕ) {after : List ℕ} → HandsBack (freshOn plan b) 0 after → Hosted plan [] after
   by-request : {h : History} {b : List ℕ} → Hosted plan h b → (c : List ℕ) → imageIn c ≡ imageIn b → (word r : ℕ) {after : List ℕ}

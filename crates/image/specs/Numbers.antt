@@ -1,10 +1,10 @@
--- The 64-bit number of an answer. Document 02, N5, "as one 64-bit number". Assumes nothing.
+-- The 64-bit number of an answer. RULES 12.6. Assumes nothing.
 use Prim.Native.Nat.{ℕ}
 use Rattle.calls.specs.declared.Answer.{Answer}
 use Rattle.calls.specs.declared.Answer.the-variants.{Granted, Taken, Turn, Idle, Lent, Reset, Refused}
 use Rattle.images.specs.Exports.{refusalNumber}
 
--- "the refusal times 2 to the power 32, else the word, for a tick the flow or 16 for idle, for a lend .. the flow, and 0 for .. a credit"
+-- RULES 12.6: the number of the code's answer, case by case
 abbrev pub numberFor : Answer → ℕ
 numberFor (Granted word) = word
 numberFor Taken = 0

@@ -1,5 +1,5 @@
--- A chain of exported calls never meets 21 or 22, its answers are those of the paper's card, and demand 3 holds of them. Document 02, N5: "Counts over
--- images hold for a chain that starts with fresh and passes each image on unaltered." Assumes nothing.
+-- A chain of exported calls (RULES 12.7) never meets 21 or 22, its answers are those of the paper's card, and demand 3 holds of them. Assumes
+-- nothing.
 use Prim.Native.Nat.{ℕ, zero, suc, _≤_, _<_}
 use mathlib.Core.Path.{_≡_, refl, sym, ap, _∙_, subst}
 use mathlib.Core.List.{List, _∷_, [], _++_}

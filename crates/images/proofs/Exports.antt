@@ -1,4 +1,4 @@
--- The exported calls on the image of a link: the call on the link itself, with its answer. Document 02, N5. Assumes nothing.
+-- The exported calls on the image of a link: the call on the link itself, with its answer. RULES 12.4. Assumes nothing.
 use Prim.Native.Nat.{ℕ, suc, _≤_}
 use mathlib.Core.Path.{_≡_, refl, sym, ap, _∙_, subst}
 use mathlib.Core.List.{List, _∷_, [], _++_}

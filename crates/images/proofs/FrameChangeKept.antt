@@ -63,7 +63,7 @@ module _ {l : Link} {t : ℕ} (v : LinkAt l t) (change : suc t % l .plan .slots 
         go a low high (yes e) = omega (arith, bookings-last v change i a low high e)
         go a low high (no d) = omega (arith, bookings-stay v change i a low high d, f .within-share (a % W) (mod-lt a (some-frame ok)))
 
-    -- ---- "every flow with IF = HF moves to the next frame with C = share"
+    -- ---- flows whose IF is over
 
     -- none after frame b, of the old window or the new
     none-later : (b a : ℕ) → f .spends .frame ≤ b → b < a → a < suc k + W → bookingsIn P owners i (a % W) ≡ 0
@@ -111,7 +111,7 @@ module _ {l : Link} {t : ℕ} (v : LinkAt l t) (change : suc t % l .plan .slots 
               none-after = λ a after below. none-later (f .spends .frame) a (omega arith) after below;
             }
 
-    -- ---- "(holdings go on)"
+    -- ---- what is held goes on
 
     module _ (x : Flow) where
       abbrev held : List ℕ

@@ -1,4 +1,4 @@
--- Every edge of images comes out as the request has it. Assumes nothing.
+-- Every edge of images comes out as it stands in its table. Assumes nothing.
 use mathlib.Core.Path.{refl}
 use Rattle.model.proofs.Unfoldings.{plans-compute, calls-compute, writer-computes}
 use Rattle.images.specs.Image.{fields, imageOf, linkIn}

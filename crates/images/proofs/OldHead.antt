@@ -26,7 +26,7 @@ use Rattle.images.specs.Consistent.{known, bookedBy, bookingsIn}
 use Rattle.images.proofs.Bookings.{booking, bookings-same, bookings-none}
 use Rattle.images.proofs.BySlots.{LinkAt}
 
--- "the old head's positions are emptied"
+-- RULES 8.2: the owners after a frame change
 abbrev pub ownersAfter : Link → List (Option ℕ)
 ownersAfter l = table (positions (l .plan)) (emptied l)
 

@@ -1,4 +1,4 @@
--- What a request leaves of a link, and what its answer can be: all that is used of the request's definition. Document 01, "Request". Assumes nothing.
+-- What a request leaves of a link, and what its answer can be: all that is used of the request's definition. RULES 6.4 to 6.6. Assumes nothing.
 use Prim.Native.Nat.{ℕ, zero, suc, _+_, _-_, _*_, _/_, _%_, _≤_, _<_}
 use mathlib.Core.Path.{_≡_, refl, sym, ap, _∙_, subst}
 use mathlib.Core.List.{_∷_, []}
@@ -30,7 +30,7 @@ module _ (l : Link) where
   open Link l using (plan as P)
   open Plan P using (slots as F, frames as W)
 
-  -- "IF goes to the next frame, C becomes the share", some times and not past the newest frame: then flow i has frame j as IF and c as C
+  -- RULES 6.4, step 2, some times and not past the newest frame: then flow i has frame j as IF and c as C
   pub record Walked (i j c : ℕ) : Type 0 where
     pub steps : ℕ
     pub not-past : ahead W (head (window l)) (flow l i .injection) + steps < W
@@ -38,7 +38,7 @@ module _ (l : Link) where
     pub at-first : steps ≡ 0 → c ≡ flow l i .remainder
     pub later-on : 0 < steps → c ≡ share l i
 
-  -- position p of frame j is "unbooked, later than CP when in HF, and the flow holds fewer than its cells there and at every later position"
+  -- RULES 6.2: position p of frame j is valid
   pub record Bookable (i j p : ℕ) : Type 0 where
     pub position : p < positions P
     pub in-frame : frameAt (window l) p ≡ j

@@ -1,4 +1,4 @@
--- An image is taken exactly if it meets the conditions that the request lists. Document 02, N5. Assumes nothing.
+-- An image is taken exactly if it meets the conditions of RULES 12.3. Assumes nothing.
 use Prim.Native.Nat.{ℕ, _<_}
 use mathlib.Core.Path.{_≡_, _∙_}
 use mathlib.Core.Logic.{_↔_}

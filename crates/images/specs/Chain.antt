@@ -1,4 +1,4 @@
--- A chain of exported calls. Document 02, N5: "a chain that starts with fresh and passes each image on unaltered". Assumes nothing.
+-- A chain of exported calls. RULES 12.7. Assumes nothing.
 use Prim.Native.Nat.{ℕ, _/_, _^_}
 use mathlib.Core.Path.{_≡_}
 use mathlib.Core.List.{List, _∷_, [], _++_}
@@ -33,8 +33,8 @@ eventOf Call.reset number = Event.reset (answerOf tt number)
 abbrev pub imageIn : List ℕ → List ℕ
 imageIn b = take (headerField b 0) b
 
--- These calls were made, oldest first; their numbers give this history; and this buffer is in hand. The next call gets any buffer with the same
--- image: what stands past it, and how long the buffer is, may differ.
+-- RULES 12.7: these calls were made, oldest first; their numbers give this history; and this buffer is in hand. The next call gets any buffer with
+-- the same image: what stands past it, and how long the buffer is, may differ.
 pub data Chain (plan : List ℕ) : List Call → History → List ℕ → Type 0 where
   starts : (b : List ℕ) → freshOn plan b .result ≡ 0 → Chain plan [] [] (freshOn plan b .buffer)
   goes-on : {calls : List Call} {h : History} {b : List ℕ} → Chain plan calls h b → (c : List ℕ) → imageIn c ≡ imageIn b → (call : Call)

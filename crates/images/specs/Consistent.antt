@@ -1,4 +1,4 @@
--- The conditions on a link of which an image is taken. Document 02, N5, "An image is taken exactly if", N8 and N9. Assumes nothing.
+-- The conditions on a link of which an image is taken. RULES 12.3. Assumes nothing.
 use Prim.Native.Nat.{ℕ, _+_, _-_, _*_, _%_, _≤_, _<_}
 use mathlib.Core.Path.{_≡_}
 use mathlib.Core.List.{List}
@@ -13,7 +13,7 @@ use Rattle.model.specs.Link.{Link, Flow, owner, flow}
 
 -- ---- owners and bookings
 
--- "a flow or none", where there are n flows
+-- RULES 12.3: an owner is one of n flows, or nobody
 abbrev pub known : ℕ → Option ℕ → Bool
 known n none = true
 known n (some k) = ltb k n
@@ -43,24 +43,24 @@ windowAt P current = record { slots = P .slots; frames = P .frames; current = cu
 -- ---- a flow, with the plan, CP and the owners
 
 module _ (P : Plan) (current : ℕ) (owners : List (Option ℕ)) (i : ℕ) (x : Flow) where
-  -- the most that the flow may hold at p, if it is later than CP: what it holds before p, and "at most one" more, "only at a position that the flow booked"
+  -- RULES 12.3: the most that the flow may hold at p, if it is later than CP: what it holds before p, and one more where it is the owner of p
   abbrev pub growsTo : ℕ → ℕ
   growsTo p = getD (x .held) (before (windowAt P current) p) 0 + bit (bookedBy i (getD owners p none))
 
   pub record ConsistentFlow : Type 0 where
-    -- "each IF is below W"
+    -- IF is one of the frames
     pub injection-below : x .injection < P .frames
-    -- "its bookings in a frame are at most its share"
+    -- RULES 12.3: in each frame at most its share is booked
     pub within-share : (j : ℕ) → j < P .frames → bookingsIn P owners i j ≤ entry P i .share
-    -- "none lies in a frame after IF"
+    -- RULES 12.3: nothing is booked after IF
     pub none-after : (j : ℕ) → j < P .frames → frameAfter (windowAt P current) j (x .injection) ≡ true → bookingsIn P owners i j ≡ 0
-    -- "those in IF and C add to the share"
+    -- RULES 12.3: in IF its bookings and C make up the share
     pub spent : bookingsIn P owners i (x .injection) + x .remainder ≡ entry P i .share
-    -- "its holdings are 0 to its cells"
+    -- RULES 12.3: no position has more than its cells
     pub within-cells : (p : ℕ) → p < positions P → getD (x .held) p 0 ≤ entry P i .cells
-    -- "later than CP a holding exceeds the one before it by at most one, and only at a position that the flow booked"
+    -- RULES 12.3: after CP a position has no more than the one before it, or one more where the flow is its owner
     pub grows : (p : ℕ) → p < positions P → later (windowAt P current) p current ≡ true → getD (x .held) p 0 ≤ growsTo p
-    -- N9: the expected number, "1,024 or above is a fault"
+    -- RULES 12.3: its next number fits ten bits
     pub number-below : x .number < 1024
 
   -- the same as a test
@@ -77,13 +77,13 @@ module _ (P : Plan) (current : ℕ) (owners : List (Option ℕ)) (i : ℕ) (x : 
 -- ---- a link
 
 pub record Consistent (l : Link) : Type 0 where
-  -- "CP is below T"
+  -- RULES 12.3: CP is a position
   pub current-below : l .current < positions (l .plan)
-  -- N8: the flow to look from, "at n or above is a fault"
+  -- the next lend looks from a flow
   pub look-from-below : l .lookFrom < flowCount (l .plan)
-  -- "every owner is a flow or none"
+  -- each position has a known owner
   pub owners-known : (p : ℕ) → p < positions (l .plan) → known (flowCount (l .plan)) (owner l p) ≡ true
-  -- "and for each flow"
+  -- RULES 12.3: what is asked of each flow
   pub each-flow : (i : ℕ) → i < flowCount (l .plan) → ConsistentFlow (l .plan) (l .current) (l .owners) i (flow l i)
 
 unfoldable pub consistent : Link → Bool

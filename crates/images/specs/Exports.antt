@@ -1,4 +1,4 @@
--- The exported calls on bytes. Document 02, N5: "A call reads the image, acts, and writes the image back". Assumes nothing.
+-- The exported calls on bytes. RULES 12.4 to 12.6. Assumes nothing.
 use Prim.Native.Nat.{ℕ, zero, suc, _*_, _^_}
 use mathlib.Core.Path.{_≡_}
 use mathlib.Core.List.{List, _∷_, [], _++_}
@@ -28,31 +28,31 @@ pub record Called : Type 0 where
 abbrev pub HandsBack : Called → (r : ℕ) (after : List ℕ) → Type 0
 HandsBack called r after = (r ≡ called .result) × (after ≡ called .buffer)
 
--- ---- "as one 64-bit number"
+-- ---- RULES 12.6: one number of 64 bits
 
--- "the refusal times 2 to the power 32"
+-- RULES 12.6: a refusal, above the low 32 bits
 abbrev pub refusalNumber : ℕ → ℕ
 refusalNumber number = number * 2 ^ 32
 
--- "else" what is answered, as a number
+-- RULES 12.6: else what is answered, as a number
 abbrev pub numberOf : {A : Type 0} → (A → ℕ) → Answer A → ℕ
 numberOf f (accepted x) = f x
 numberOf f (refused number) = refusalNumber number
 
--- "the word"
+-- RULES 12.6: the granted word
 abbrev pub grantNumber : Grant → ℕ
 grantNumber = numberOf (λ word. word)
 
--- "0 for fresh and a credit"
+-- RULES 12.6: 0, as for fresh
 abbrev pub receiptNumber : Receipt → ℕ
 receiptNumber = numberOf (λ _. 0)
 
--- "for a tick the flow or 16 for idle"
+-- RULES 12.6: the flow, and 16 for nobody
 abbrev pub turnNumber : Turn → ℕ
 turnNumber (some flow) = flow
 turnNumber none = 16
 
--- "for a lend .. the flow"
+-- RULES 12.6: the flow that it is lent to
 abbrev pub loanNumber : Loan → ℕ
 loanNumber = numberOf (λ flow. flow)
 
@@ -78,18 +78,18 @@ onLink l Call.reset = done renewalNumber (reset.reset l)
 
 -- ---- the buffer
 
--- a link's image, and behind it the buffer's own bytes: "Bytes past the image keep their values."
+-- RULES 12.4: a link's image, and behind it the buffer's own bytes
 abbrev pub writtenTo : List ℕ → Link → List ℕ
 writtenTo b l = imageOf l ++ drop (imageLength (l .plan)) b
 
--- what is handed back, where the tests of the buffer gave the number r: a refusal leaves "the buffer as it came"
+-- RULES 12.4: what is handed back, where the tests of the buffer gave the number r, which leaves each byte
 unfoldable pub handedBack : ℕ → List ℕ → Done → Called
 handedBack zero b d = record { buffer = writtenTo b (d .link); result = d .number }
 handedBack (suc r) b d = record { buffer = b; result = refusalNumber (suc r) }
 
 -- ---- the exported calls
 
--- "Fresh tests the plan first; then .. 21", for the image "to be written"
+-- RULES 12.5: the plan's own tests, and then 21 by the plan's image
 abbrev pub freshTests : (plan b : List ℕ) → List Line
 freshTests plan b =
     refusal plan when not (eqb (refusal plan) 0)
@@ -99,7 +99,7 @@ freshTests plan b =
 unfoldable pub freshOn : (plan b : List ℕ) → Called
 freshOn plan b = handedBack (firstOf (freshTests plan b)) b (record { link = fresh.fresh (planOf plan); number = 0 })
 
--- "A call reads the image, acts, and writes the image back; the result equals the call on the link itself"
+-- RULES 12.4: the call on the link that the image is of, and the next link's image
 unfoldable pub calledOn : List ℕ → Call → Called
 calledOn b c = handedBack (refusalOf b) b (onLink (linkIn b) c)
 

@@ -1,4 +1,4 @@
--- The image of a link: its layout, a link as bytes, and bytes read as a link. Document 02, N5, "a link image between calls", N8 and N9. Assumes nothing.
+-- The image of a link: its layout, a link as bytes, and bytes read as a link. RULES 12.1. Assumes nothing.
 use Prim.Native.Nat.{ℕ, _+_, _*_}
 use mathlib.Core.List.{List, _∷_, [], _++_, map, flatMap}
 use mathlib.Core.Option.{Option, some, none}
@@ -10,7 +10,7 @@ use Rattle.model.specs.Plan.{Plan, positions, flowCount, field16, planOf}
 use Rattle.model.specs.Link.{Link, Flow}
 use Rattle.model.specs.WrittenPlan.{field, bytesOf}
 
--- ---- "16-bit fields, low byte first"
+-- ---- fields (RULES 1.2)
 
 -- numbers as fields, one after the other
 unfoldable pub fields : List ℕ → List ℕ
@@ -20,10 +20,9 @@ fields xs = flatMap field xs
 abbrev pub fieldAt : List ℕ → (at k : ℕ) → ℕ
 fieldAt b at k = field16 b (at + 2 * k)
 
--- ---- the table of the header's and each flow's own fields. "A field that a later request adds stands last in the header, or in each flow's part": it is
--- added here, and where it is read.
+-- ---- the table of the header's and each flow's own fields. One that is added comes last, here and where it is read.
 
--- "CP and the taken mark"; N8: the flow to look from, which "the image carries"
+-- RULES 12.1: CP, the mark, and the flow that the next lend looks from
 abbrev pub state : List (Link → ℕ)
 state =
     (λ l. l .current)
@@ -31,7 +30,7 @@ state =
     ∷ (λ l. l .lookFrom)
     ∷ []
 
--- "for each flow IF, C and its holdings at positions 0 to T-1"; N9: the number that is expected of it, which images "carry"
+-- RULES 12.1: a flow's part
 abbrev pub flowPart : Flow → List ℕ
 flowPart x = x .injection ∷ x .remainder ∷ (x .held ++ (x .number ∷ []))
 
@@ -39,13 +38,13 @@ flowPart x = x .injection ∷ x .remainder ∷ (x .held ++ (x .number ∷ []))
 abbrev pub flowFields : Plan → ℕ
 flowFields P = 3 + positions P
 
--- ---- the parts, "without gaps"
+-- ---- the parts (RULES 12.1)
 
 -- six fields that the plan gives, and the link's own
 abbrev pub headerLength : ℕ
 headerLength = 2 * (6 + length state)
 
--- "then without gaps the plan's bytes, each position's owner .., and for each flow" its part
+-- RULES 12.1: where the positions' owners start, behind the plan; where the flows' parts do; and how long all is
 abbrev pub positionsAt : Plan → ℕ
 positionsAt P = headerLength + (12 + 4 * flowCount P)
 
@@ -57,14 +56,14 @@ imageLength P = flowsAt P + 2 * (flowCount P * flowFields P)
 
 -- ---- a link as bytes
 
--- "total length, offset of the plan, offset and count of positions, offset and count of flows"
+-- RULES 12.1: the six fields of the header that the plan gives
 abbrev pub layout : Plan → List ℕ
 layout P = imageLength P ∷ headerLength ∷ positionsAt P ∷ positions P ∷ flowsAt P ∷ flowCount P ∷ []
 
 abbrev pub header : Link → List ℕ
 header l = layout (l .plan) ++ map (λ f. f l) state
 
--- "each position's owner (16 for none)"
+-- RULES 12.1: an owner's field
 abbrev pub ownerField : Option ℕ → ℕ
 ownerField none = 16
 ownerField (some i) = i

@@ -59,7 +59,7 @@ Pass cases = map (λ e. outcome (e .trial)) cases ≡ map (λ e. e .expected) ca
 -- as fresh writes it
 abbrev pub blank : List ℕ
 blank =
-    -- total length, offset of the plan, offset and count of positions, offset and count of flows, CP, taken mark, flow to look from
+    -- RULES 12.1: the six fields of the plan, CP, the mark, the flow to look from
     0x62 ∷ 0x00 ∷ 0x12 ∷ 0x00 ∷ 0x26 ∷ 0x00 ∷ 0x08 ∷ 0x00 ∷ 0x36 ∷ 0x00 ∷ 0x02 ∷ 0x00 ∷ 0x00 ∷ 0x00 ∷ 0x00 ∷ 0x00 ∷ 0x00 ∷ 0x00
     -- the plan
     ∷ 0x14 ∷ 0x00 ∷ 0x02 ∷ 0x00 ∷ 0x0C ∷ 0x00 ∷ 0x04 ∷ 0x00 ∷ 0x02 ∷ 0x00 ∷ 0x04 ∷ 0x00

@@ -1,6 +1,7 @@
--- Edges of images: when they are taken, and what the calls on them leave. Document 02, N5, N8 and N9. Assumes nothing.
+-- Edges of images: when they are taken, and what the calls on them leave. RULES 12.1 to 12.6. Assumes nothing.
 --
--- What each comes to is worked out from the request. The images are those of the listing's plan: F = 4, W = 2, T = 8, two flows with share 2 and 2 cells.
+-- What each comes to is worked out from the rules. The images are those of the listing's plan: F = 4, W = 2, T = 8, two flows with share 2 and 2
+-- cells.
 use Prim.Native.Nat.{ℕ}
 use mathlib.Core.List.{List, _∷_, [], _++_}
 use lib.ListN.{take, drop, replicate}
@@ -51,7 +52,7 @@ lengthEdges =
     ∷ gives 21 (image (total 99 ∷ []))
     ∷ gives 21 (image (total 99 ∷ planOffset 20 ∷ mark 2 ∷ []))
     ∷ gives 22 (image (total 99 ∷ []) ++ (0 ∷ []))
-    -- images as they were before N8, without the flow to look from, and before N9, without numbers
+    -- images of earlier versions, without the flow to look from, and without numbers
     ∷ gives 22 (0x5C ∷ 0x00 ∷ 0x10 ∷ 0x00 ∷ 0x24 ∷ 0x00 ∷ 0x08 ∷ 0x00 ∷ 0x34 ∷ 0x00 ∷ 0x02 ∷ 0x00 ∷ 0x00 ∷ 0x00 ∷ 0x00 ∷ 0x00 ∷ unnumbered)
     ∷ gives 22 (0x5E ∷ 0x00 ∷ 0x12 ∷ 0x00 ∷ 0x26 ∷ 0x00 ∷ 0x08 ∷ 0x00 ∷ 0x36 ∷ 0x00 ∷ 0x02 ∷ 0x00 ∷ 0x00 ∷ 0x00 ∷ 0x00 ∷ 0x00 ∷ 0x00 ∷ 0x00 ∷ unnumbered)
     -- too small a length stated
@@ -77,25 +78,25 @@ lengthEdges =
 
 unfoldable pub conditionEdges : List Case
 conditionEdges =
-    -- "CP is below T"
+    -- RULES 12.3: CP is a position
     taken (cp 7 ∷ [])
     ∷ fault (cp 8 ∷ [])
     ∷ fault (cp 256 ∷ [])
-    -- "each IF is below W"
+    -- IF is a frame
     ∷ taken (frame 0 1 ∷ [])
     ∷ fault (frame 0 2 ∷ [])
     ∷ fault (frame 1 2 ∷ [])
     ∷ fault (frame 0 256 ∷ [])
-    -- "the taken mark is 0 or 1", also where CP is booked
+    -- the mark is a bit, also where CP is booked
     ∷ taken (mark 1 ∷ [])
     ∷ taken (mark 1 ∷ cp 1 ∷ owner 1 0 ∷ left 0 1 ∷ [])
     ∷ fault (mark 2 ∷ [])
     ∷ fault (mark 256 ∷ [])
-    -- N8: the flow to look from, "at n or above is a fault"
+    -- the next lend looks from a flow
     ∷ taken (look 1 ∷ [])
     ∷ fault (look 2 ∷ [])
     ∷ fault (look 256 ∷ [])
-    -- "every owner is a flow or none": flow 1 of two, and none but 16
+    -- owners: flow 1 of two, and none but 16
     ∷ taken (owner 7 1 ∷ frame 1 1 ∷ left 1 1 ∷ [])
     ∷ fault (owner 7 2 ∷ [])
     ∷ fault (owner 7 15 ∷ [])
@@ -105,17 +106,17 @@ conditionEdges =
     ∷ fault (owner 1 256 ∷ left 0 1 ∷ [])
     ∷ fault (owner 7 272 ∷ [])
     ∷ fault (owner 0 65535 ∷ [])
-    -- "its bookings in a frame are at most its share", those that have gone by too
+    -- RULES 12.3: bookings in a frame, those that have gone by too, are no more than the share
     ∷ taken (frame 0 1 ∷ owner 1 0 ∷ owner 2 0 ∷ [])
     ∷ fault (frame 0 1 ∷ owner 1 0 ∷ owner 2 0 ∷ owner 3 0 ∷ [])
     ∷ fault (cp 3 ∷ frame 0 1 ∷ owner 1 0 ∷ owner 2 0 ∷ owner 3 0 ∷ [])
     ∷ taken (frame 0 1 ∷ owner 1 0 ∷ owner 2 0 ∷ owner 3 1 ∷ left 1 1 ∷ [])
-    -- "none lies in a frame after IF", going round from HF: after a frame change frame 1 is HF, and frame 0 comes after it
+    -- RULES 12.3: no booking after IF, going round from HF: after a frame change frame 1 is HF, and frame 0 comes after it
     ∷ taken (frame 0 1 ∷ owner 4 0 ∷ left 0 1 ∷ [])
     ∷ fault (owner 4 0 ∷ [])
     ∷ taken (cp 4 ∷ owner 5 0 ∷ owner 6 0 ∷ [])
     ∷ fault (cp 4 ∷ frame 0 1 ∷ owner 1 0 ∷ [])
-    -- "those in IF and C add to the share", by all 16 bits
+    -- RULES 12.3: bookings in IF and C make up the share, by all 16 bits
     ∷ taken (owner 1 0 ∷ left 0 1 ∷ [])
     ∷ taken (owner 1 0 ∷ owner 2 0 ∷ left 0 0 ∷ [])
     ∷ fault (owner 1 0 ∷ [])
@@ -123,12 +124,12 @@ conditionEdges =
     ∷ fault (left 1 3 ∷ [])
     ∷ fault (left 0 258 ∷ [])
     ∷ fault (owner 1 0 ∷ owner 2 0 ∷ frame 0 0 ∷ left 0 65535 ∷ [])
-    -- "its holdings are 0 to its cells", also at CP
+    -- RULES 12.3: no position has more than the cells, nor has CP
     ∷ taken (held 0 0 2 ∷ [])
     ∷ fault (held 0 0 3 ∷ [])
     ∷ fault (held 1 0 257 ∷ [])
     ∷ fault (held 0 0 65535 ∷ [])
-    -- "later than CP a holding exceeds the one before it by at most one, and only at a position that the flow booked"
+    -- RULES 12.3: after CP a position has no more than the one before it, or one more where the flow is its owner
     ∷ taken (owner 1 0 ∷ left 0 1 ∷ held 0 1 1 ∷ [])
     ∷ fault (held 0 1 1 ∷ [])
     ∷ fault (owner 1 0 ∷ left 0 1 ∷ held 1 1 1 ∷ [])
@@ -149,7 +150,7 @@ conditionEdges =
     ∷ fault (cp 4 ∷ held 0 0 1 ∷ [])
     ∷ taken (cp 4 ∷ held 0 4 2 ∷ [])
     ∷ taken (cp 7 ∷ held 0 7 1 ∷ held 0 0 1 ∷ [])
-    -- N9: the expected number, "1,024 or above is a fault", by all 16 bits
+    -- RULES 12.3: a number fits ten bits, by all 16 of its field
     ∷ taken (expected 0 1023 ∷ expected 1 7 ∷ [])
     ∷ fault (expected 0 1024 ∷ [])
     ∷ fault (expected 1 1024 ∷ [])
@@ -209,7 +210,7 @@ exportEdges =
     ∷ freshly listing (room 100) (blank ++ (0xAA ∷ 0xAA ∷ [])) 0
     ∷ freshly listing (room 97) (room 97) (refusalNumber 21)
     ∷ freshly listing [] [] (refusalNumber 21)
-    -- as long as an image was before N8, and before N9
+    -- as long as an image was in two earlier versions
     ∷ freshly listing (room 92) (room 92) (refusalNumber 21)
     ∷ freshly listing (room 94) (room 94) (refusalNumber 21)
     ∷ freshly (plan2 4 2 3 2 2 2 2) (room 97) (room 97) (refusalNumber 7)
@@ -246,7 +247,7 @@ exportEdges =
     ∷ turnsBack blank (Call.credit 0 1) 15
     ∷ turnsBack (image (mark 1 ∷ [])) (Call.lend 3) 17
     ∷ turnsBack blank (Call.lend 0) 18
-    -- N9: 24, after 10 and before all that moves IF, leaves it too: a number ahead, one behind, that of another flow
+    -- RULES 12.4: 24, after 10 and before all that moves IF, leaves it too: a number ahead, one behind, that of another flow
     ∷ turnsBack (blank ++ past) (Call.request word1) 24
     ∷ turnsBack (image (expected 0 1 ∷ [])) (Call.request word0) 24
     ∷ turnsBack (image (expected 1 1 ∷ [])) (Call.request other0) 24

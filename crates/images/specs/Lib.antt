@@ -1,4 +1,4 @@
--- Document 02, N5: the link image, when it is taken, and the calls on it.
+-- The link image, when it is taken, and the calls on it. RULES 12.1 to 12.7.
 pub mod Image
 pub mod Consistent
 pub mod Taken

@@ -1,4 +1,4 @@
--- Which images are taken, and refusals 21 and 22. Document 02, N5. Assumes nothing.
+-- Which images are taken, and refusals 21 and 22. RULES 12.2 and 12.3. Assumes nothing.
 use Prim.Native.Nat.{ℕ, _≤_}
 use mathlib.Core.Path.{_≡_}
 use mathlib.Core.List.{List, _∷_, []}
@@ -11,23 +11,23 @@ use Rattle.model.specs.Plan.{positions, flowCount, refusal}
 use Rattle.images.specs.Image.{headerLength, positionsAt, flowsAt, imageLength, layout, headerField, stateField, planPart, planIn, linkIn}
 use Rattle.images.specs.Consistent.{Consistent, consistent}
 
--- "a buffer shorter than the header or the image's total length"
+-- RULES 12.2: test 21, on how many bytes there are
 abbrev pub tooShort : List ℕ → Bool
 tooShort b = ltb (length b) headerLength || ltb (length b) (headerField b 0)
 
--- "its header is as listed"
+-- RULES 12.3: the first six fields are those of the plan
 unfoldable pub listed : List ℕ → Bool
 listed b = every 6 (λ k. eqb (headerField b k) (getD (layout (planIn b)) k 0))
 
--- "22 any other fault"
+-- RULES 12.2: test 22, part by part
 abbrev pub faultTests : List ℕ → List Line
 faultTests b =
     22 when not (listed b)
-    -- "its plan passes"
+    -- the plan is accepted
     ∷ 22 when not (eqb (refusal (planPart b)) 0)
-    -- "the taken mark is 0 or 1"
+    -- the mark is a bit
     ∷ 22 when ltb 1 (stateField b 1)
-    -- "CP is below T" and the rest, which is about the link
+    -- RULES 12.3: what is about the link itself
     ∷ 22 when not (consistent (linkIn b))
     ∷ []
 
@@ -38,21 +38,21 @@ imageTests b = 21 when tooShort b ∷ faultTests b
 unfoldable pub refusalOf : List ℕ → ℕ
 refusalOf b = firstOf (imageTests b)
 
--- ---- "An image is taken exactly if": that these are the same is `taken`, in proofs/Taken.antt
+-- ---- RULES 12.3: an image that is taken. That these are the same is `taken`, in proofs/Taken.antt
 
 pub record Taken (b : List ℕ) : Type 0 where
   -- the buffer is long enough
   pub header-there : headerLength ≤ length b
   pub image-there : headerField b 0 ≤ length b
-  -- "its header is as listed"
+  -- its header is the plan's
   pub total-is : headerField b 0 ≡ imageLength (planIn b)
   pub plan-offset-is : headerField b 1 ≡ headerLength
   pub positions-offset-is : headerField b 2 ≡ positionsAt (planIn b)
   pub positions-are : headerField b 3 ≡ positions (planIn b)
   pub flows-offset-is : headerField b 4 ≡ flowsAt (planIn b)
   pub flows-are : headerField b 5 ≡ flowCount (planIn b)
-  -- "its plan passes"
+  -- the plan is accepted
   pub plan-passes : refusal (planPart b) ≡ 0
-  -- "the taken mark is 0 or 1"
+  -- the mark is a bit
   pub mark-is-bit : stateField b 1 ≤ 1
   pub link-consistent : Consistent (linkIn b)

@@ -1,1 +1,2 @@
-// Link images as definitions (specs/), and what is proved of them (proofs/): document 02, N5. There is no code here: the exports' contracts cite it.
+// Link images as definitions (specs/), and what is proved of them (proofs/): RULES 12.1 to 12.7. There is no code here: the exports' contracts cite
+// it.

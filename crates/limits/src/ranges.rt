@@ -14,7 +14,7 @@ pub(crate) fn inside(low: usize, high: usize, x: usize) -> bool
     x <= high
 }
 
-// Test 3: F, W or N out of range, or T above 256.
+// RULES 2.3: test 3, on F, W and N, and on T.
 pub(crate) fn misframes(slots: usize, frames: usize, buffer: usize) -> bool
     ensures { λ r. ⌜ r ≡ condition (frameTest slots frames buffer) ⌝ }
 {

@@ -57,7 +57,7 @@ module _ (bytes : List ℕ) (o : Outcome) (is : o ≡ readOf bytes) (valid : o .
       → {h₁ h₂ : History} {l₁ l₂ : Link} → Handed (o .plan) h₁ l₁ → Handed (o .plan) h₂ l₂ → Q h₁ h₂
   both-have Q runs {h₁} {h₂} g₁ g₂ = has (λ h. Q h h₂) (λ calls. has (Q (run paper P calls .history)) (runs calls) g₂) g₁
 
-  -- document 02, N14: the neighbours can't move a flow's frames, bursts counted as their requests
+  -- RULES 21.11: the neighbours can't move a flow's frames, bursts counted as their requests
   pub code-unmoved : {h₁ h₂ : History} {l₁ l₂ : Link} → Handed (o .plan) h₁ l₁ → Handed (o .plan) h₂ l₂ → (i : ℕ) → i < model.flowCount P
       → (aligned : Aligned i h₁ h₂) → AsksUntil11 P i h₁ → AsksUntil11 P i h₂ → SameFrames P 1 aligned
   code-unmoved =

@@ -38,7 +38,7 @@ held-back plan f v p = go (decLt p (sizeFor plan))
     go (yes b) = getD-table (sizeFor plan) _ p 0 b
     go (no b) = table-past (sizeFor plan) _ p 0 (omega arith) ∙ sym (v .spare p (omega arith))
 
--- "the reading determines the link"
+-- a link that is stored and read is itself
 pub stored-reading : (l : Parts) → Sound l → stored (linkOf l) ≡ l
 unfolding stored linkOf everywhere
 stored-reading l s = λ k. record {

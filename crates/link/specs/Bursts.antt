@@ -1,4 +1,4 @@
--- What a burst of the code hands back, against what the paper's burst hands back. Document 02, N7. Assumes nothing.
+-- What a burst of the code hands back, against what the paper's burst hands back. RULES 11.1 and 11.2. Assumes nothing.
 use mathlib.Core.Path.{_≡_}
 use mathlib.Core.List.{List}
 use Rattle.model.specs.Burst as model

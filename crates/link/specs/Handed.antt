@@ -1,4 +1,4 @@
--- What the contracts of the code say of a list of calls, each on the link that the call before handed back. Document 01, "What demand 3 counts". Assumes nothing.
+-- What the contracts of the code say of a list of calls, each on the link that the call before handed back. RULES 21.2. Assumes nothing.
 use Prim.Native.Nat.{ℕ}
 use mathlib.Core.Path.{_≡_}
 use mathlib.Core.List.{List, _∷_, [], _++_}
@@ -40,6 +40,6 @@ pub data Handed (p : Plan) : History → Link → Type 0 where
       → Stepped answerToLend (lend.lend (readOf l) mask) r → r .answer ≡ answerToLend a → Handed p (lent mask a ∷ h) (r .link)
   by-reset : {h : History} {l : Link} → Handed p h l → (r : Step) (a : Renewal)
       → Stepped answerToReset (reset.reset (readOf l)) r → r .answer ≡ answerToReset a → Handed p (Event.reset a ∷ h) (r .link)
-  -- document 02, N7: a burst of the records xs, which are ys after it, counts as the requests that stand in ys
+  -- RULES 21.2: a burst of the records xs, which are ys after it, counts as the requests that stand in ys
   by-burst : {h : History} {l : Link} → Handed p h l → (xs ys : List burst.Ask) (r : Link)
       → Bursted (burst.burst (readOf l) xs) r ys → Handed p (eventsIn ys ++ h) r

@@ -1,4 +1,4 @@
--- Every edge of the mesh comes out as the request has it. Assumes nothing.
+-- Every edge of the mesh comes out as it stands in its table. Assumes nothing.
 use mathlib.Core.Path.{refl}
 use mathlib.Core.List.{_++_, flatMap}
 use Rattle.model.specs.Tables.{any, sum}

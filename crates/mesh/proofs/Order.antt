@@ -30,7 +30,7 @@ not-beside-itself west node j e = omega (arith, ltb-true 0 (column node) j)
 not-beside-itself east node j e = omega arith
 not-beside-itself south node j e = omega arith
 
--- "directed": the link from a to b and the link from b to a are different
+-- RULES 16.1: the link from a to b and the link from b to a are two
 pub two-directions : (l m : Link) → inMesh l ≡ true → m .from ≡ to l → to m ≡ l .from → l ≡ m → ⊥
 two-directions l m there starts ends same =
     let joins = mesh-parts l there .1 in

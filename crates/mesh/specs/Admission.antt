@@ -1,4 +1,4 @@
--- Which sets of streams are admitted, and the refusals of the others. Document 02, N10. Assumes nothing.
+-- Which sets of streams are admitted, and the refusals of the others. RULES 16.3. Assumes nothing.
 use Prim.Native.Nat.{ℕ, _≤_, _<_}
 use mathlib.Core.Path.{_≡_}
 use mathlib.Core.List.{List, _∷_, [], _++_}
@@ -10,16 +10,16 @@ use Rattle.model.specs.Refusals.{Line, firstOf, _when_}
 use Rattle.mesh.specs.Mesh.{Link, to, inMesh, links, keep, someOf}
 use Rattle.mesh.specs.Streams.{Stream, stream, load}
 
--- a stream within its limits: a share of 1 to F, and the nodes of two boards of the mesh
+-- RULES 16.3: a stream within its limits, a share of 1 to F, and the nodes of two boards of the mesh
 unfoldable pub streamFits : (F : ℕ) → Stream → Bool
 streamFits F s =
     within 1 F (s .share) && leb (s .source) 63 && leb (s .destination) 63 && not (eqb (s .source) (s .destination))
 
--- a link carries more than F
+-- RULES 16.3: a link carries more than F
 abbrev pub over : (F : ℕ) → List Stream → Link → Bool
 over F streams l = ltb F (load streams l)
 
--- the tests before the links are looked at
+-- RULES 16.3: the tests before the links are looked at
 abbrev pub numberTests : (F : ℕ) → List Stream → List Line
 numberTests F streams =
     -- the number of streams, before anything else is looked at
@@ -34,7 +34,7 @@ numberTests F streams =
 unfoldable pub refusalBeforeLinks : (F : ℕ) → List Stream → ℕ
 refusalBeforeLinks F streams = firstOf (numberTests F streams)
 
--- the refusal of a set of streams, and 0 where it is admitted: after those tests, 25 for a link of the mesh that carries too much
+-- RULES 16.3: the refusal of a set of streams, and 0 where it is admitted: after those tests, 25 for a link of the mesh that carries too much
 unfoldable pub refusal : (F : ℕ) → List Stream → ℕ
 refusal F streams = firstOf (numberTests F streams ++ (25 when someOf (over F streams) links ∷ []))
 

@@ -1,4 +1,4 @@
--- Edge cases of the mesh: F and streams, with the refusal and the links that are over. Assumes nothing.
+-- Edge cases of the mesh: F and streams, with the refusal and the links that are over. RULES 16.3. Assumes nothing.
 use Prim.Native.Nat.{ℕ, zero, suc}
 use mathlib.Core.Path.{_≡_}
 use mathlib.Core.List.{List, _∷_, [], map, flatMap}

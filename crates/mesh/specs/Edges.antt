@@ -1,6 +1,6 @@
--- Edges of the mesh: the request's cases, and more that tell wrong readings apart. Document 02, N10. Assumes nothing.
+-- Edges of the mesh: the first cases, and more that tell wrong readings apart. RULES 16.1 to 16.3. Assumes nothing.
 --
--- What each comes to is worked out from the request. Boards of the first rows:
+-- What each comes to is worked out from the rules. Boards of the first rows:
 --    0  1  2  3  4  5  6  7
 --    8  9 10 11 12 13 14 15
 --   16 17 18 19 20 21 22 23

@@ -1,4 +1,4 @@
--- The mesh of boards, and its links. Document 02, N10. Assumes nothing.
+-- The mesh of boards, and its links. RULES 16.1. Assumes nothing.
 use Prim.Native.Nat.{ℕ, _+_, _-_, _/_, _%_}
 use mathlib.Core.List.{List, _∷_, [], flatMap}
 use mathlib.Core.Bool.{Bool, _&&_, _||_, true, false, cond}
@@ -7,7 +7,7 @@ use Rattle.model.specs.Tables.{table}
 
 -- ---- boards
 
--- A node is a board's number: column + 8 × row, with eight boards to a row (`node-is`).
+-- RULES 16.1: a node is a board's number, column + 8 × row, with eight boards to a row (`node-is`).
 abbrev pub column : (node : ℕ) → ℕ
 column node = node % 8
 
@@ -37,7 +37,7 @@ joined west node = ltb 0 (column node)
 joined east node = ltb (column node) 7
 joined south node = ltb (row node) 7
 
--- a directed link, by the node of the board that it leaves and the side on which it does
+-- RULES 16.1: a link in one direction, by the node of the board that it leaves and the side on which it does
 pub record Link : Type 0 where
   pub from : ℕ
   pub side : Side
@@ -68,7 +68,7 @@ link side node = record { from = node; side = side }
 abbrev pub linksAt : (node : ℕ) → List Link
 linksAt node = link north node ∷ link west node ∷ link east node ∷ link south node ∷ []
 
--- the links of the mesh, by from and then to node
+-- RULES 16.1: the links of the mesh, by from and then to node
 unfoldable pub links : List Link
 links = keep inMesh (flatMap linksAt (table 64 (λ node. node)))
 

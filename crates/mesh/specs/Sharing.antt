@@ -1,4 +1,4 @@
--- Streams of one link as the flows of a plan. Assumes nothing.
+-- Streams of one link (RULES 16.3) as the flows of a plan (RULES 2.3). Assumes nothing.
 use Prim.Native.Nat.{ℕ, _≤_, _<_}
 use mathlib.Core.Path.{_≡_}
 use mathlib.Core.List.{List}

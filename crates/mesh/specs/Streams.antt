@@ -1,4 +1,4 @@
--- Streams, the links that they use, and what a link carries. Document 02, N10. Assumes nothing.
+-- Streams, the links that they use, and what a link carries. RULES 16.2. Assumes nothing.
 use Prim.Native.Nat.{ℕ}
 use mathlib.Core.List.{List}
 use mathlib.Core.Bool.{Bool, _&&_, cond}
@@ -7,7 +7,7 @@ use lib.Dec.{leb, ltb, eqb}
 use Rattle.model.specs.Tables.{sum}
 use Rattle.mesh.specs.Mesh.{Side, north, west, east, south, Link, column, row}
 
--- a stream: the nodes of the boards that it comes from and goes to, and its slots of a frame
+-- RULES 16.2: a stream, the nodes of the boards that it comes from and goes to, and its slots of a frame
 pub record Stream : Type 0 where
   pub source : ℕ
   pub destination : ℕ
@@ -22,8 +22,8 @@ noStream = streamWith 0 0 0
 abbrev pub stream : List Stream → ℕ → Stream
 stream streams i = getD streams i noStream
 
--- The row comes first, the column after it: which of the links that leave a board on a side lie on the way. By where they lie, and not by a walk: in the
--- source's row between the two columns, and in the destination's column between the two rows.
+-- RULES 16.2, the row first and then the column: which of the links that leave a board on a side lie on the way. By where they lie, and not by a
+-- walk: in the source's row between the two columns, and in the destination's column between the two rows.
 abbrev pub onWay : (source destination : ℕ) → Side → (node : ℕ) → Bool
 onWay s d east node = eqb (row node) (row s) && (leb (column s) (column node) && ltb (column node) (column d))
 onWay s d west node = eqb (row node) (row s) && (ltb (column d) (column node) && leb (column node) (column s))
@@ -37,6 +37,6 @@ uses s l = onWay (s .source) (s .destination) (l .side) (l .from)
 abbrev pub shareOn : Link → Stream → ℕ
 shareOn l s = cond (uses s l) (s .share) 0
 
--- what all streams take of a link together
+-- RULES 16.3: what all streams take of a link together
 unfoldable pub load : List Stream → Link → ℕ
 load streams l = sum (length streams) (λ i. shareOn l (stream streams i))

@@ -1,4 +1,4 @@
--- The way of a stream, link by link, first in its row. Document 02, N10. Assumes nothing.
+-- The way of a stream, link by link, first in its row. RULES 16.2. Assumes nothing.
 use Prim.Native.Nat.{ℕ, _+_, _-_, _*_, _<_}
 use mathlib.Core.Path.{_≡_}
 use mathlib.Core.List.{List, _∷_, [], _++_}
@@ -58,7 +58,8 @@ pub record In (l : Link) (ls : List Link) : Type 0 where
   pub within : place < length ls
   pub there : getD ls place l ≡ l
 
--- The way of a stream: it leads from the source to the destination, is as long as they lie apart, and its links are the links of the mesh that the stream uses.
+-- RULES 16.2: the way of a stream leads from the source to the destination, is as long as they lie apart, and its links are the links of the mesh
+-- that the stream uses.
 pub record RightWay (s : Stream) (ls : List Link) : Type 0 where
   pub walk : Walk (s .source) ls (s .destination)
   pub as-long : length ls ≡ distance s

@@ -11,12 +11,12 @@ use Rattle.mesh.specs.Admission.{refusalBeforeLinks, refusal, overLinks, overNu
 use Rattle.mesh.specs.Reading.{streamsOf}
 use Rattle.replies.specs.Lines.{cannot, spaced}
 
--- whether a set is admitted: a word for yes, and the refusal for no
+-- RULES 20.4: whether a set is admitted, a word for yes, and the refusal for no
 abbrev pub admissionLine : (refusal : ℕ) → List ℕ
 admissionLine zero = text "ok\n"
 admissionLine (suc r) = refusalLine (suc r)
 
--- the links that are over, each with its two nodes and its load, or the word for none
+-- RULES 20.4: the links that are over, each with its two nodes and its load, or the word for none
 abbrev pub linksLine : List Stream → List Link → List ℕ
 linksLine streams [] = text "ok\n"
 linksLine streams (l ∷ ls) = text "over" ++ flatMap spaced (flatMap (overNumbers streams) (l ∷ ls)) ++ text "\n"
@@ -31,7 +31,7 @@ abbrev pub meshLine : (over : Bool) → (F : ℕ) → List Stream → List ℕ
 meshLine false F streams = admissionLine (refusal F streams)
 meshLine true F streams = overLine (refusalBeforeLinks F streams) F streams
 
--- F, and three numbers for each stream
+-- RULES 20.6: F, and three numbers for each stream
 unfoldable pub meshAnswer : (over : Bool) → (numbers : List ℕ) → List ℕ
 meshAnswer over numbers =
     cond (eqb (length numbers) 0) (cannot "F is missing")

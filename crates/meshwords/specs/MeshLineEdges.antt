@@ -1,4 +1,4 @@
--- Edges of the words `mesh` and `mesh-over`: numbers, and the line that answers them. Assumes nothing.
+-- Edges of the words `mesh` and `mesh-over`: numbers, and the line that answers them. RULES 20.4 and 20.6. Assumes nothing.
 use Prim.Native.Nat.{ℕ}
 use Prim.Native.String.{String}
 use mathlib.Core.Path.{_≡_}

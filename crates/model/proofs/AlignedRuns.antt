@@ -53,7 +53,7 @@ module _ (i : ℕ) where
   aligned-ticks (first-alone {h₁ = h} e other x) = neighbours-tick e h other ∙ aligned-ticks x
   aligned-ticks (second-alone {h₂ = h} e other x) = aligned-ticks x ∙ sym (neighbours-tick e h other)
 
-  -- "There is no reset."
+  -- no reset stands in either run
   pub none-granted : {h₁ h₂ : History} → Aligned i h₁ h₂ → NoneGranted h₁ × NoneGranted h₂
   none-granted start = (tt, tt)
   none-granted (both-tick x) = let n = none-granted x in ((refl, n .0), (refl, n .1))

@@ -54,7 +54,7 @@ unfoldable pub events-compute : Unit {0}
 unfolding plans-compute calls-compute counts-compute decided
 events-compute = tt
 
--- ---- "Link cards we would send back"
+-- ---- cards that demand 3 rules out
 
 -- one request, and it is refused: the least count is 2
 pub refuses-all : (refusal : Link → ℕ → Link × ℕ) → Meets (refusesAll refusal) → ⊥
@@ -141,7 +141,7 @@ pub invents-a-cell : Meets (inventsHolding holding (λ l i q. 1)) → ⊥
 unfolding events-compute
 invents-a-cell = sent-back (inventsHolding holding (λ l i q. 1)) two-flows (Call.credit 0 1 ∷ []) Clause.within-cells tt
 
--- ---- "Three slips that would pass the sparse flight"
+-- ---- the three slips
 
 -- No edge marked P tells them from the paper's card.
 pub slips-pass-marked :

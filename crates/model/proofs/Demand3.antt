@@ -1,4 +1,4 @@
--- Demand 3: the card of documents 01 and 02 meets it. Assumes nothing.
+-- Demand 3: the card of the rules meets it. Assumes nothing.
 use Prim.Native.Nat.{ℕ, suc, _+_, _-_, _*_, _≤_, _<_}
 use mathlib.Core.Path.{_≡_, subst}
 use mathlib.Core.List.{[], _∷_}

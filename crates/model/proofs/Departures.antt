@@ -53,7 +53,7 @@ module _ (l : Link) (i d p : ℕ) where
   unfolding validFor
   valid-for-both free leaves = rw (free, leaves)
 
-  -- "the tile has come and nothing changes"
+  -- RULES 6.3: where the tile has come, d makes no difference
   pub valid-if-come : later (window l) d (l .current) ≡ false → validFor l i d p ≡ valid l i p
   unfolding validFor
   valid-if-come e = rw (leaves-if-come (window l) d p e) (Bool.and-true (valid l i p))

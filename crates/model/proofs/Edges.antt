@@ -1,4 +1,4 @@
--- Every edge of the table comes out as the papers have it. Assumes nothing.
+-- Every edge of the table comes out as it stands there. Assumes nothing.
 use mathlib.Core.Path.{refl}
 use Rattle.model.specs.Card.{paper}
 use Rattle.model.specs.EdgeCases.{Passes}

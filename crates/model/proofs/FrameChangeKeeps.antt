@@ -75,7 +75,7 @@ module _ {l : Link} {L : Ledger} (v : Invariant l L) (change : suc (L .now) % l 
   pub before : (s : ℕ) → InWindow P (suc t) s → s < end → InWindow P t s
   before s w h = record { low = omega (arith, w .low, next-start); high = h }
 
-  -- ---- "the old head's positions are emptied"
+  -- ---- owners of the frame that is over
 
   owner-is : (s : ℕ) → InWindow P (suc t) s → Dec (s < end) → cond (inOldHead (s % T)) none (owner l (s % T)) ≡ ownerIn (L .grants) s
   owner-is s w (yes h) = rw (kept s w h) (v .bookings .owners-are s (before s w h))
@@ -86,7 +86,7 @@ module _ {l : Link} {L : Ledger} (v : Invariant l L) (change : suc (L .now) % l 
           tally-none (atSlot s) (L .grants)
           (all-map _ _ (λ m g. ne-eqb (m .slot) s (λ e. omega (arith, g .begun))) (L .grants) (v .marks .grants-in))
 
-  -- ---- "(holdings go on)"
+  -- ---- what is held goes on
 
   held : (i : ℕ) → i < flowCount P → (x : Flow) → Holds P (suc t) (L .raises) (L .credits) i (carriedOn l i x)
   held i known x s = record { at-slot = λ w. at-slot w (decLt s end); covered = h .covered; within = h .within }
@@ -108,7 +108,7 @@ module _ {l : Link} {L : Ledger} (v : Invariant l L) (change : suc (L .now) % l 
             up-to-past i end s (end - 1) (L .credits) (v .marks .credits-in) (omega arith) (omega arith),
           )
 
-  -- ---- "every flow with IF = HF moves to the next frame with C = share"
+  -- ---- flows whose IF is over
 
   injects-on : (i : ℕ) → i < flowCount P → Injects P (frameOf P (suc t)) (L .grants) i (leftHead l i)
   injects-on i known = go (eqb (flow l i .injection) (head (window l))) refl

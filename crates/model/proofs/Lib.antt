@@ -1,4 +1,4 @@
--- What is proved of document 01: each file uses those above it. Assumes nothing.
+-- What is proved of the rules: each file uses those above it. Assumes nothing.
 -- numbers, tests and lists
 pub mod Tests
 pub mod Round

@@ -37,7 +37,7 @@ pub call-at : (b : List ℕ) (at : ℕ) → at + 5 ≤ length b
 unfolding callOf
 call-at b at h = rw (five-at b at h) (simp towards-suc)
 
--- "fewer than 5 bytes"
+-- RULES 13.4: a record that is short makes no call
 pub no-call-at : (b : List ℕ) (at : ℕ) → length b < at + 5 → callOf (take 5 (drop at b)) ≡ none
 unfolding callOf
 no-call-at b at h = rw (lt-leb 5 (length (take 5 (drop at b))) (omega (arith, length-take 5 (drop at b), length-drop at b)))

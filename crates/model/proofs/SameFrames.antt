@@ -1,5 +1,5 @@
--- The neighbours can't move a stream's frames: of two runs from one plan with the same calls of one flow, which in each of them asks until it is
--- refused with 11, that flow's requests are answered alike from the first frame change on, with grants in the same frames. Assumes nothing.
+-- What a flow's neighbours can't change (RULES 21.11): of two runs from one plan with the same calls of one flow, which in each of them asks until it
+-- is refused with 11, that flow's requests are answered alike from the first frame change on, with grants in the same frames. Assumes nothing.
 use Prim.Native.Nat.{ℕ, _<_}
 use mathlib.Core.Path.{_≡_, sym, ap, _∙_}
 use mathlib.Core.List.{List, [], _∷_}

@@ -9,7 +9,7 @@ use Rattle.model.specs.Holding.{frameStart, InWindow}
 use Rattle.model.proofs.Round.{firstWith, firstWith-low, firstWith-high, firstWith-mod, firstWith-is, firstWith-first, split-position}
 use lib.Arith.{digits-div, digits-mod}
 
--- what document 01 says of the slot of a position after t ticks: "the first slot after slot t whose number modulo T is that position"
+-- RULES 21.3: the slot of a position after t ticks, the lowest above t that is the position modulo T
 pub record FirstAfter (P : Plan) (t p s : ℕ) : Type 0 where
   pub later : t < s
   pub position : s % positions P ≡ p

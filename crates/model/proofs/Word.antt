@@ -32,7 +32,7 @@ fitting f e =
 digits : (w a b c x y z : ℕ) → c * 64 + x ≡ b → b * 1024 + y ≡ a → a * 1024 + z ≡ w → c * 67108864 + x * 1048576 + y * 1024 + z ≡ w
 digits w a b c x y z e f g = omega arith
 
--- "joins back to itself"
+-- RULES 5.1: the word of a word's parts is the word
 pub join-split : (w : ℕ) → w < 2 ^ 32 → join (split w) ≡ w
 join-split w h =
     let a = w / 1024 in
@@ -61,7 +61,7 @@ module _ (f : Fields) (h : Fitting f) where
   departure-join : departureOf (join f) ≡ f .departure
   departure-join = omega arith
 
-  -- "splits into fields in one way"
+  -- RULES 5.1: and the parts of a word of such parts are these, so that there is one way
   pub split-join : split (join f) ≡ f
   split-join = λ i. record { destination = destination-join i; flow = flow-join i; quantum = quantum-join i; departure = departure-join i }
 
@@ -71,7 +71,7 @@ module _ (f : Fields) (h : Fitting f) where
 split-fits : (w : ℕ) → Fitting (split w)
 split-fits w = record { destination = omega arith; flow = omega arith; quantum = omega arith; departure = omega arith }
 
--- "other fields unchanged"
+-- RULES 6.5: a granted word's other parts stay
 pub split-depart : (w p : ℕ) → p < 1024 → split (depart w p) ≡ departing (split w) p
 split-depart w p h =
     let f = split-fits w in

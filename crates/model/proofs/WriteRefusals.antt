@@ -1,4 +1,4 @@
--- The writer's refusals are the reader's from 2 to 7, and then 19. Document 02, N2. Assumes nothing.
+-- The writer's refusals are the reader's from 2 to 7, and then 19. RULES 15.1. Assumes nothing.
 use Prim.Native.Nat.{ℕ, zero, suc, _≤_, _<_}
 use mathlib.Core.Path.{_≡_, refl, sym, ap, _∙_, subst}
 use mathlib.Core.List.{List, _∷_, [], _++_, flatMap}
@@ -104,7 +104,7 @@ accepts P out e = go (refusal (bytesOf P)) refl (sym (refused-by P out) ∙ e)
 pub within-limits : (P : Plan) → firstOf (numberTests P) ≡ 0 → Accepted P
 within-limits P e = subst Accepted (read-back P) (accepted-bytes (bytesOf P) (same-tests P ∙ e))
 
--- "What it writes is read back to the same plan."
+-- RULES 15.3: what is written is read as the plan it was made of
 pub read-as-written : (P : Plan) (out : List ℕ) → writeRefusal P out ≡ 0 → (refusal (bytesOf P) ≡ 0) × (planOf (bytesOf P) ≡ P)
 read-as-written P out e = (accepts P out e .read-too, read-back P)
 

@@ -1,4 +1,5 @@
--- What is written is read back to the same plan, and an accepted file written again is the same file. Document 02, N2. Assumes nothing.
+-- What is written is read as the plan it was made of, and an accepted file that is read and written again has the same bytes. RULES 15.3. Assumes
+-- nothing.
 use Prim.Native.Nat.{ℕ, zero, suc, _+_, _*_, _/_, _%_, _≤_}
 use mathlib.Core.Path.{_≡_, refl, sym, ap, _∙_}
 use mathlib.Core.List.{List, _∷_, [], _++_, flatMap}

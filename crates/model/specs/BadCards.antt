@@ -1,4 +1,4 @@
--- The cards of document 01's "Link cards we would send back", and its "Three slips that would pass the sparse flight" as cards. Assumes nothing.
+-- Cards that have to be ruled out, among them three with slips that a short test doesn't tell. Assumes nothing.
 --
 -- Each is the paper's card but for one fault.
 use Prim.Native.Nat.{ℕ, zero, suc, _-_, _%_}
@@ -50,28 +50,28 @@ withLend lend = cardWith (paper .fresh) (paper .request) (paper .credit) (paper 
 abbrev pub withReset : (Link → Link × Renewal) → Card
 withReset reset = cardWith (paper .fresh) (paper .request) (paper .credit) (paper .tick) (paper .lend) reset
 
--- ---- "Link cards we would send back"
+-- ---- cards that demand 3 has to rule out
 
--- "refuses every request": with any number, whatever it does to the link
+-- refuses each request, with any number, whatever it does to the link
 abbrev pub refusesAll : (Link → ℕ → Link × ℕ) → Card
 refusesAll refusal = withRequest (λ l w. (refusal l w .0, refused (refusal l w .1)))
 
--- the same for flow 1 alone: "the claim holds for each" stream
+-- the same for flow 1 alone, as demand 3 is said of each flow
 abbrev pub refusesFlow1 : Card
 refusesFlow1 = withRequest (λ l w. cond (eqb (flowOf w) 1) (l, refused 12) (paper .request l w))
 
--- "grants one position every time": position p, whatever it does to the link
+-- grants position p each time, whatever it does to the link
 abbrev pub grantsOne : ℕ → (Link → ℕ → Link) → Card
 grantsOne p next = withRequest (λ l w. (next l w, accepted (depart w p)))
 
--- "writes no booking down": the owners stay as they are
+-- leaves the owners as they are when it books
 abbrev unwritten : Link → Link → Link
 unwritten l next = linkWith next (next .current) (l .owners) (next .flows) (next .taken) (next .lookFrom)
 
 abbrev pub writesNoBooking : Card
 writesNoBooking = withRequest (λ l w. (unwritten l (paper .request l w .0), paper .request l w .1))
 
--- "books well in the first window, later only refuses": the state has the number of ticks
+-- keeps to the rules for one window, and then refuses: the state has the number of ticks
 pub record Counted : Type 0 where
   pub link : Link
   pub ticks : ℕ
@@ -102,13 +102,13 @@ creditTestsWith holds l i p =
 abbrev withHoldingTest : (Link → ℕ → ℕ → Bool) → Card
 withHoldingTest holds = withCredit (λ l i p. both (creditAfter (firstOf (creditTestsWith holds l i p)) l i p))
 
--- "reports 11 before booking anything": each flow starts in the newest frame with C = 0
+-- gives 11 from the start: each flow starts in the newest frame with C = 0
 abbrev pub startsAtZero : Card
 startsAtZero = withFresh (λ P. withFlows (paper .fresh P) (λ i. movedTo (flow (paper .fresh P) i) (P .frames - 1) 0))
 
--- ---- "Three slips that would pass the sparse flight"
+-- ---- the three slips
 
--- "Testing a credit against the holding at its own position only"
+-- RULES 7.1: a credit tested at its own position alone
 abbrev pub testsOwnPosition : Card
 testsOwnPosition = withHoldingTest (λ l i p. ltb 0 (holding l i p))
 
@@ -138,7 +138,7 @@ module _ (valid : Link → (i p : ℕ) → Bool) (leaves : Window → (d p : ℕ
   abbrev pub withValid : Card
   withValid = searches soughtBy (λ l i. someInNewest (window l) (valid l i))
 
--- "invents the holding": requests and credits are tested against invented ones
+-- another holding than by RULES 4.4: requests and credits are tested against invented ones
 abbrev validWith : (Link → ℕ → ℕ → ℕ) → Link → ℕ → ℕ → Bool
 validWith invented l i p =
     unbooked (owner l p) && not (passed (window l) p) && everyFrom (window l) p (λ q. ltb (invented l i q) (cells l i))
@@ -152,7 +152,7 @@ inventsHolding forRequests forCredits =
 abbrev pub fullest : Link → ℕ → ℕ → ℕ
 fullest l i q = cond (every (positions (l .plan)) (λ p. ltb (holding l i p) (cells l i))) 0 (cells l i)
 
--- "Ending the last frame's walk at position 0 without going round": the walk of frame W - 1 never meets 0, and goes on through the 256 entries
+-- RULES 3.3: the order that doesn't go round. The walk of frame W - 1 never meets 0, and goes on through the 256 entries
 module _ (l : Link) (i d : ℕ) where
   abbrev walked : ℕ → ℕ
   walked j = cond (eqb (suc j) (l .plan .frames)) (256 - start (window l) j) (l .plan .slots)
@@ -180,7 +180,7 @@ soughtBeforeEnd l i d =
 abbrev pub stopsAtLastFrame : Card
 stopsAtLastFrame = withSearch soughtBeforeEnd
 
--- "Dropping a flow's holding when its frame is recycled": at a frame change nothing is held in the frame that becomes the newest
+-- RULES 8.2: what a flow held is dropped: at a frame change nothing is held in the frame that becomes the newest
 abbrev dropped : Link → Link
 dropped l =
     withFlows l

@@ -1,5 +1,5 @@
--- Cards that take the departure wrongly, and one that tests a position's own holding only. Document 02, N4. Each is the paper's card but for one
--- fault. Assumes nothing.
+-- Cards that take the departure (RULES 6.3) wrongly, and one that tests a position's own holding only. Each is the paper's card but for one fault.
+-- Assumes nothing.
 use mathlib.Core.Bool.{true, not, _&&_, _||_, cond}
 use lib.Dec.{ltb}
 use Rattle.model.specs.Word.{departureOf}

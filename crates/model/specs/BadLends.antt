@@ -1,4 +1,4 @@
--- Cards that lend wrongly. Document 02, N1. Each is the paper's card but for one fault. Assumes nothing.
+-- Cards that lend wrongly (RULES 9.1 to 9.4). Each is the paper's card but for one fault. Assumes nothing.
 use Prim.Native.Nat.{ℕ, suc, _%_, _^_}
 use mathlib.Core.Option.{Option, some, none}
 use mathlib.Core.Bool.{Bool, true, not, _&&_, cond}

@@ -1,4 +1,4 @@
--- Cards that take the quantum number wrongly. Document 02, N9. Each is the paper's card but for one fault. Assumes nothing.
+-- Cards that take the quantum number wrongly (RULES 5.2 and 5.3). Each is the paper's card but for one fault. Assumes nothing.
 use Prim.Native.Nat.{ℕ, _+_, _%_}
 use mathlib.Core.List.{_∷_, [], _++_}
 use mathlib.Core.Bool.{true, cond}

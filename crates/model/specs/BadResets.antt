@@ -1,4 +1,4 @@
--- Cards that reset wrongly. Document 02, N6. Each is the paper's card but for one fault. Assumes nothing.
+-- Cards that reset wrongly (RULES 10.1 and 10.2). Each is the paper's card but for one fault. Assumes nothing.
 use mathlib.Core.Bool.{Bool, true, not, cond}
 use lib.ListN.{replicate}
 use Rattle.model.specs.Plan.{positions}

@@ -1,4 +1,4 @@
--- Cards that lend out of turn. Document 02, N8. Each is the paper's card but for one fault. Assumes nothing.
+-- Cards that lend out of turn (RULES 9.3). Each is the paper's card but for one fault. Assumes nothing.
 use Prim.Native.Nat.{ℕ, _+_, _%_}
 use Rattle.model.specs.Plan.{flowCount}
 use Rattle.model.specs.Calls.{Loan, accepted, refused}

@@ -1,4 +1,4 @@
--- A burst: several requests in a single call. Document 02, N7. Assumes nothing.
+-- A burst: several requests in a single call. RULES 11.1 and 11.2. Assumes nothing.
 use Prim.Native.Nat.{ℕ}
 use mathlib.Core.List.{List, _∷_, [], _++_}
 use lib.ListN.{take, drop}
@@ -7,7 +7,7 @@ use Rattle.model.specs.Calls.{Grant, accepted, refused}
 use Rattle.model.specs.Link.{Link}
 use Rattle.model.specs.Request.{request}
 
--- a record: "a word, a result number and a position"
+-- RULES 11.1: a record, in which a word is asked for
 pub record Ask : Type 0 where
   pub word : ℕ
   pub result : ℕ
@@ -18,31 +18,31 @@ pub record Burst : Type 0 where
   pub link : Link
   pub records : List Ask
 
--- "On a grant the result is 0"; on a refusal it is the number.
+-- RULES 11.2: the result, 0 or a refusal
 abbrev pub resultOf : Grant → ℕ
 resultOf (accepted word) = 0
 resultOf (refused number) = number
 
--- "on a refusal the position is 0"; on a grant it is the position granted, the departure of the granted word.
+-- RULES 11.2: the position that was booked, which is the granted word's departure, or 0
 abbrev pub positionOf : Grant → ℕ
 positionOf (accepted word) = departureOf word
 positionOf (refused number) = 0
 
--- record x with the answer to its request: "the word is not written"
+-- RULES 11.2: record x with the answer to its request; its word stays
 abbrev pub filled : Ask → Grant → Ask
 filled x a = record { word = x .word; result = resultOf a; position = positionOf a }
 
 abbrev pub inFront : Ask → Burst → Burst
 inFront x b = record { link = b .link; records = x ∷ b .records }
 
--- "Results and link equal those of single requests in that order, refusals among them included"
+-- RULES 11.1: each record is a request on the link that the one before left
 unfoldable pub inOrder : Link → List Ask → Burst
 inOrder l [] = record { link = l; records = [] }
 inOrder l (x ∷ xs) =
     let first = request l (x .word) in
     inFront (filled x (first .answer)) (inOrder (first .link) xs)
 
--- "With more than 16 records only the first 16 are handled and the others are untouched."
+-- RULES 11.1: the first 16 are handled
 unfoldable pub burst : Link → List Ask → Burst
 burst l xs =
     let handled = inOrder l (take 16 xs) in

@@ -1,6 +1,7 @@
--- Edges of bursts. Document 02, N7 and N9. Assumes nothing.
+-- Edges of bursts. RULES 11.1 and 11.2. Assumes nothing.
 --
--- What each comes to is worked out from the request. Where a row says no more, each flow's words carry the numbers of its quanta; T is 8 but for `single`.
+-- What each comes to is worked out from the rules. Where a row says no more, each flow's words carry the numbers of its quanta; T is 8 but for
+-- `single`.
 use Prim.Native.Nat.{ℕ}
 use mathlib.Core.List.{List, _∷_, [], _++_}
 use mathlib.Core.Option.{some, none}

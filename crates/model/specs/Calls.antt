@@ -1,11 +1,11 @@
--- The calls of a list and their answers. Document 01, "The four calls"; document 02, N1, N6 and N8. It names no link. Assumes nothing.
+-- The calls of a list and their answers. RULES 4.3 and 21.2. It names no link. Assumes nothing.
 use Prim.Native.Nat.{ℕ, _/_, _%_, _^_}
 use mathlib.Core.List.{List}
 use mathlib.Core.Option.{Option}
 use mathlib.Core.Bool.{Bool}
 use lib.Dec.{eqb}
 
--- Requests have any word, credits any flow and position, and lends any mask.
+-- RULES 4.3: the calls. Requests have any word, credits any flow and position, and lends any mask.
 pub data Call : Type 0 where
   request : (word : ℕ) → Call
   credit : (flow position : ℕ) → Call
@@ -13,7 +13,7 @@ pub data Call : Type 0 where
   lend : (mask : ℕ) → Call
   reset : Call
 
--- document 02, N1: "a 16-bit mask, bit i for flow i"
+-- RULES 9.1: bit i of the mask
 abbrev pub inMask : (mask i : ℕ) → Bool
 inMask mask i = eqb (mask / 2 ^ i % 2) 1
 

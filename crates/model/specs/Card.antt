@@ -31,7 +31,7 @@ pub record Played (c : Card) : Type 0 where
 abbrev pub next : {c : Card} {A : Type 0} → Played c → (A → Event) → c .State × A → Played c
 next r event handed = record { state = handed .0; history = event (handed .1) ∷ r .history }
 
--- "each later one the link exactly as the call before handed it back"
+-- RULES 21.2: each call gets the link that the one before handed back
 abbrev pub step : (c : Card) → Played c → Call → Played c
 step c r (Call.request w) = next r (requested w) (c .request (r .state) w)
 step c r (Call.credit i p) = next r (credited i p) (c .credit (r .state) i p)
@@ -43,7 +43,7 @@ unfoldable pub play : (c : Card) → Played c → List Call → Played c
 play c r [] = r
 play c r (x ∷ xs) = play c (step c r x) xs
 
--- "The first call gets the link that fresh made from an accepted plan"
+-- RULES 21.2: the first call gets a fresh link
 abbrev pub started : (c : Card) → Plan → Played c
 started c P = record { state = c .fresh P; history = [] }
 
@@ -59,7 +59,7 @@ MeetsOn c P = (calls : List Call) (i : ℕ) → i < flowCount P → Demand3 P i 
 abbrev pub Meets : Card → Type 0
 Meets c = (bytes : List ℕ) → refusal bytes ≡ 0 → MeetsOn c (planOf bytes)
 
--- the card of documents 01 and 02
+-- RULES 4.3: the card that keeps to the rules
 abbrev pub both : {A : Type 0} → Step A → Link × A
 both handed = (handed .link, handed .answer)
 

@@ -1,12 +1,9 @@
--- Demand 3: one claim about the events of a whole list of calls. Document 01, "What demand 3 counts"; document 02, N1, N4, N6 and N9. It names
--- no link. Assumes nothing.
+-- Demand 3: one claim about the events of a whole list of calls. RULES 21.1 and 21.4 to 21.9. It names no link. Assumes nothing.
 --
--- With k frame changes so far a stream is granted at most (W + k) × share slots, and at most its share in any frame. One that asks until it is
--- refused in each of the frames 0 to k, and at each of its well-formed requests names a tile that has come, carries the expected number and holds
--- fewer than its cells in every slot from the current one on, is granted at least (W - 1 + k) × share. After a granted reset all of this begins
--- afresh, with the frame of the slot that is then current in the place of frame 0. What else is claimed is over the whole list.
+-- It says of each flow the most and the least that it is granted, what it holds, and of each slot who owns it. The most and the least begin afresh
+-- with a granted reset, and the rest is said of the whole list.
 --
--- Demand 3 cannot see what follows; demand 2's equations of each call say it:
+-- Demand 3 cannot see what follows; the rules of each call say it:
 -- - which number a refusal has, and what C and IF are after it;
 -- - which of a frame's valid positions is granted, as long as the counts come out; and in which frame, to a stream that asks for less than its share: a card
 --   that sends one to the newest frame meets demand 3 (`sends-to-newest-meets`). `Soon` and `SoonAhead` in Delay.antt see the frame, and what is built on
@@ -86,55 +83,54 @@ AtLoan Q (Event.reset a) h = Unit {0}
 
 -- ---- the stream that asks until it is refused
 
--- after h, flow i holds fewer than its cells in every slot from the current one on
+-- RULES 21.8: after h, flow i holds fewer than its cells in every slot from the current one on
 abbrev pub Room : Plan → ℕ → History → Type 0
 Room P i h = (s : ℕ) → ticks h ≤ s → grantedUpTo P h i s + lentUpTo h i s < creditedUpTo P h i s + entry P i .cells
 
 -- what the least count asks of each well-formed request of flow i, with word w, after h
 pub record Ready (P : Plan) (i w : ℕ) (h : History) : Type 0 where
   pub room : Room P i h
-  -- document 02, N4: the word "names a tile that has come, by this test of its departure against CP and by no other"
+  -- RULES 21.8: the tile has come, by 6.3
   pub come : hasCome P (ticks h) (departureOf w) ≡ true
-  -- Document 02, N9: the word "also carries the expected number". The grants are those of the whole list, as no reset starts the numbers afresh. A
-  -- word is well formed whatever its number, so that by the letter a refusal with 24 is one of the refusals of 'asks until it is refused'. Of a stream
-  -- that keeps this premise at each of its well-formed requests a link that gives 24 only to a word with another number has none.
+  -- RULES 21.8: the word carries its flow's next number. The grants are those of the whole list, as no reset starts the numbers afresh. A word is
+  -- well formed whatever its number, so that by the letter a refusal with 24 is one of the refusals that are asked for. Of a stream that keeps this
+  -- premise at each of its well-formed requests a link that gives 24 only to a word with another number has none.
   pub number : quantumOf w ≡ expectedNumber P h i
 
--- "Each request means each of its well-formed requests."
+-- RULES 21.8: so at each well-formed request of flow i
 abbrev pub ReadyAt : Plan → ℕ → Event → History → Type 0
 ReadyAt P i = AtRequest (λ w h. wellFormed P w ≡ true → flowOf w ≡ i → Ready P i w h)
 
--- "in each of the frames 0 to k, one of its well-formed requests is refused"; since a granted reset, in each of the k + 1 frames from its frame on
+-- RULES 21.8: flow i is refused in each frame from 0 to k; since a granted reset (21.9), in each of the k + 1 frames from its frame on
 abbrev pub RefusedInEachFrame : Plan → ℕ → History → Type 0
 RefusedInEachFrame P i h = (f : ℕ) → origin P h ≤ f → f ≤ origin P h + changes P h → 0 < refusedIn P h i f
 
--- "The stream asks until it is refused".
+-- RULES 21.8: what a flow has to do for the least count
 pub record Persistent (P : Plan) (i : ℕ) (h : History) : Type 0 where
   pub refused-in-each-frame : RefusedInEachFrame P i h
   pub ready-at-each-request : EachSince (ReadyAt P i) h
 
 -- ---- what is held, granted and answered
 
--- "What a stream holds at slot s is its granted slots up to and including s, less its taken credits for slots up to and including s."
--- Document 02, N1: "a lent slot counts in what its flow holds".
+-- RULES 21.4 and 21.5: what flow i holds at slot s, at most its cells
 pub record Held (P : Plan) (i : ℕ) (h : History) (s : ℕ) : Type 0 where
   pub held : ℕ
   pub is : grantedUpTo P h i s + lentUpTo h i s ≡ creditedUpTo P h i s + held
   pub within : held ≤ entry P i .cells
 
--- "It never holds more than its cells at any slot, after any call."
+-- RULES 21.5: at every slot, after each call
 abbrev pub HeldAt : Plan → ℕ → Event → History → Type 0
 HeldAt P i e h = (s : ℕ) → Held P i (e ∷ h) s
 
--- "A slot granted after t ticks has a number below t + T."
+-- RULES 21.6: a granted slot lies less than T after the current one
 abbrev pub SoonAt : Plan → Event → History → Type 0
 SoonAt P = AtGrant (λ w v h. slotAfter P (ticks h) (departureOf v) < ticks h + positions P)
 
--- "Tick number s answers a flow exactly when an earlier request of that flow was granted slot s, and else idle."
+-- RULES 21.6: a tick answers the flow that its slot was granted to, and idle where there is none
 abbrev pub ComesUpAt : Plan → Event → History → Type 0
 ComesUpAt P = AtTick (λ x h. (i : ℕ) → (x ≡ some i) ↔ WasGranted P h i (ticks h + 1))
 
--- A granted word v is the asked word w with another departure, a position; and w was well formed.
+-- RULES 21.6: a granted word v is the asked word w with another departure, a position; and w was well formed.
 pub record GrantedWord (P : Plan) (w v : ℕ) : Type 0 where
   pub asked-well-formed : wellFormed P w ≡ true
   pub same-but-departure : v ≡ depart w (departureOf v)
@@ -143,12 +139,12 @@ pub record GrantedWord (P : Plan) (w v : ℕ) : Type 0 where
 abbrev pub GrantedWordAt : Plan → Event → History → Type 0
 GrantedWordAt P = AtGrant (λ w v h. GrantedWord P w v)
 
--- Document 02, N4: "only positions later than it". The granted slot comes after that of the asked word's departure, where the tile has not come.
+-- RULES 21.6: where the tile has not come, the granted slot comes after that of the asked word's departure
 abbrev pub AfterDepartureAt : Plan → Event → History → Type 0
 AfterDepartureAt P = AtGrant (λ w v h. wellFormed P w ≡ true → hasCome P (ticks h) (departureOf w) ≡ false
     → slotAfter P (ticks h) (departureOf w) < slotAfter P (ticks h) (departureOf v))
 
--- Document 02, N1: "The slot goes to some flow of the mask", and the mask has no bit at n or above.
+-- RULES 21.6: a lend is answered with a flow of its mask, which has no bit at n or above
 pub record LentFlow (P : Plan) (m i : ℕ) : Type 0 where
   pub mask-below : m < 2 ^ flowCount P
   pub known : i < flowCount P
@@ -160,30 +156,31 @@ LentFlowAt P = AtLoan (LentFlow P)
 -- ---- the clauses of the claim
 
 pub data Clause : Type 0 where
-  -- the most and the least that is granted; document 02, N1: they "speak of booked slots only"; N6: they "begin afresh" after a granted reset
+  -- the most and the least that is granted, without what is lent; RULES 21.9: they begin afresh with a granted reset
   most most-in-a-frame least : Clause
   -- over the whole list, granted resets in it too
   within-cells one-owner within-a-window comes-up granted-words after-departure lent-flows : Clause
 
 -- what each says of flow i
 abbrev pub Says : Clause → Plan → ℕ → History → Type 0
--- at most (W + k) × share slots
+-- RULES 21.7: over all frames
 Says Clause.most P i h = granted P h i ≤ (P .frames + changes P h) * entry P i .share
--- at most its share "in any frame"
+-- RULES 21.7: in any one frame
 Says Clause.most-in-a-frame P i h = (f : ℕ) → grantedIn P h i f ≤ entry P i .share
--- at least (W - 1 + k) × share slots, for a stream that asks until it is refused
+-- RULES 21.8: at least, for a stream that asks until it is refused
 Says Clause.least P i h = Persistent P i h → (P .frames - 1 + changes P h) * entry P i .share ≤ granted P h i
 Says Clause.within-cells P i h = Each (HeldAt P i) h
--- "No two grants of the list are of one slot." Document 02, N1: a lent slot "has no other owner".
+-- RULES 21.6: no slot has two owners
 Says Clause.one-owner P i h = (s : ℕ) → ownersOf P h s ≤ 1
 Says Clause.within-a-window P i h = Each (SoonAt P) h
 Says Clause.comes-up P i h = Each (ComesUpAt P) h
 Says Clause.granted-words P i h = Each (GrantedWordAt P) h
--- "A tile can't leave before it has come."
+-- RULES 21.6: no tile leaves before it has come
 Says Clause.after-departure P i h = Each (AfterDepartureAt P) h
 Says Clause.lent-flows P i h = Each (LentFlowAt P) h
 
 -- ---- the claim, for flow i
 
+-- RULES 21.1: all of its clauses
 abbrev pub Demand3 : Plan → ℕ → History → Type 0
 Demand3 P i h = (clause : Clause) → Says clause P i h

@@ -1,7 +1,7 @@
--- Edges of departures. Document 02, N4. Assumes nothing.
+-- Edges of departures. RULES 6.3 and 6.4. Assumes nothing.
 --
--- What each comes to is worked out from the request. Where a row says no more, F = 4 and W = 2: on a fresh link the head frame is 0 to 3 and the
--- newest 4 to 7.
+-- What each comes to is worked out from the rules. Where a row says no more, F = 4 and W = 2: on a fresh link the head frame is 0 to 3 and the newest
+-- 4 to 7.
 use mathlib.Core.List.{List, _∷_, []}
 use Rattle.model.specs.Calls.{requested, accepted, refused}
 use Rattle.model.specs.PlanBytes.{plan1, listing, roomy, single, oneCell, oneShare}
@@ -44,7 +44,7 @@ departureEdges =
     ∷ follows listing (grantFrom 1 6 7 ∷ refuseFrom 0 7 20 ∷ [])
     -- C is the share after 20 as the newest frame is reached, and then stays as it is
     ∷ follows roomy (grant 0 1 ∷ refuseFrom 0 7 20 ∷ grant 0 4 ∷ refuseFrom 0 7 20 ∷ grant 0 5 ∷ refuseFrom 0 7 11 ∷ [])
-    -- "there and at every later position": the cell is held from 2 on, so that 1 is not valid though nothing is held there
+    -- RULES 6.2, each later position too: the cell is held from 2 on, so that 1 is not valid though nothing is held there
     ∷ follows oneCell (grantFrom 0 1 2 ∷ refuse 0 12 ∷ [])
     -- another flow's frame stays
     ∷ follows listing (refuseFrom 0 7 20 ∷ grant 1 1 ∷ [])

@@ -42,7 +42,7 @@ pub data Outcome : Type 0 where
   -- the records after a burst, and the events after it, oldest first
   handed : (records : List Ask) → History → Outcome
 
--- the outcome of a plan and calls, where the plan's tests give the number r: "Refused plans make no link."
+-- RULES 2.4: the outcome of a plan and calls, where the plan's tests give the number r: a refused plan makes no link
 abbrev linkOutcome : Card → ℕ → List ℕ → List Call → Outcome
 linkOutcome c zero bytes calls = events (reverse (run c (planOf bytes) calls .history))
 linkOutcome c (suc r) bytes calls = refusedPlan (suc r)

@@ -1,4 +1,4 @@
--- The one table of edge cases: those that document 01 marks P, and more, by plan, calls, departures, numbers, lends, turns, resets, bursts and program,
+-- The one table of edge cases: the first ones, marked P, and more, by plan, calls, departures, numbers, lends, turns, resets, bursts and program,
 -- that tell wrong readings apart. Assumes nothing.
 use mathlib.Core.List.{List, _∷_, [], _++_}
 use mathlib.Core.Option.{some}
@@ -16,15 +16,15 @@ use Rattle.model.specs.ResetEdges.{resetEdges}
 use Rattle.model.specs.BurstEdges.{burstEdges}
 use Rattle.model.specs.ProgramEdges.{programEdges}
 
--- ---- the edges that the paper marks P
+-- ---- the first edges, marked P
 
--- "G 1", "G 2", "R 12", "C", "G 4", "G 3", "T 0"
+-- RULES 13.6: the events of its lines
 abbrev listingEvents : List Event
 listingEvents =
     requested 0x24000000 (accepted 0x24000001) ∷ requested 0x24000400 (accepted 0x24000402) ∷ requested 0x24000800 (refused 12)
     ∷ credited 0 4 (accepted tt) ∷ requested 0x24000800 (accepted 0x24000804) ∷ requested 0x24100000 (accepted 0x24100003) ∷ ticked (some 0) ∷ []
 
--- "Why each flow has cells of its own"
+-- RULES 2.1: four frames, in which each flow has cells of its own
 abbrev fourFrames : List Answered
 fourFrames =
     grant 0 1 ∷ grant 0 2 ∷ refuse 0 12 ∷ credit 0 3 ∷ credit 0 3 ∷ grant 0 12 ∷ grant 0 13 ∷ grant 1 3 ∷ grant 1 4 ∷ refuse 1 12 ∷ []

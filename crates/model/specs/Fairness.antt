@@ -1,5 +1,5 @@
--- What lending in turn gives each flow: what two heads who complained of uneven detail can rely on. Document 02, N8. It names no link, only calls and
--- answers. Assumes nothing.
+-- What lending in turn gives each flow, so that none gets more detail than another that waits. RULES 21.10. It names no link, only calls and answers.
+-- Assumes nothing.
 --
 -- A stretch of a list is a number of its events in a row, the first of them right after those of `early`. A flow waits in it if at each lend that is
 -- answered with a flow, whichever that is, it is in the mask and can take the slot. In a stretch with no granted reset:
@@ -28,7 +28,7 @@ use Rattle.model.specs.Card.{Card, run}
 
 -- ---- a stretch in which a flow waits
 
--- at a lend with this mask, after h: flow i is in the mask, and it "can take the slot"
+-- RULES 21.10: at a lend with this mask, after h, flow i is in the mask and can take the slot
 pub record Waits (P : Plan) (i mask : ℕ) (h : History) : Type 0 where
   pub in-mask : inMask mask i ≡ true
   pub can-take : Room P i h
@@ -62,20 +62,20 @@ allLentIn stretch = length (lends stretch)
 
 -- ---- fairness of a list of calls, with these events
 
--- Between two lends to flow i, the newest event and an earlier one, flow j is lent to, if it waits from the earlier one on.
+-- RULES 21.10: between two lends to flow i, the newest event and an earlier one, flow j is lent to, if it waits from the earlier one on.
 abbrev pub InTurn : Plan → History → Type 0
 InTurn P h =
     (i mask mask₀ : ℕ) (between before : History) → h ≡ (lent mask (accepted i) ∷ between) ++ lent mask₀ (accepted i) ∷ before
     → (j : ℕ) → j < flowCount P → (j ≡ i → ⊥) → Waiting P j (lent mask (accepted i) ∷ between) (lent mask₀ (accepted i) ∷ before)
     → 0 < lentIn between j
 
--- In a stretch that ends with the newest event no flow i is lent to more than once more than a flow j that waits.
+-- RULES 21.10: in a stretch that ends with the newest event no flow i is lent to more than once more than a flow j that waits.
 abbrev pub Even : Plan → History → Type 0
 Even P h =
     (stretch early : History) → h ≡ stretch ++ early
     → (i j : ℕ) → i < flowCount P → j < flowCount P → Waiting P j stretch early → lentIn stretch i ≤ lentIn stretch j + 1
 
--- Of n answered lends in such a stretch one is to flow j.
+-- RULES 21.10: of n answered lends in such a stretch one is to flow j.
 abbrev pub WithinARound : Plan → History → Type 0
 WithinARound P h =
     (stretch early : History) → h ≡ stretch ++ early

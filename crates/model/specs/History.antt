@@ -1,6 +1,6 @@
--- What is counted over the events of a list of calls. Document 01, "What demand 3 counts"; document 02, N1, N4, N6 and N9. It names no link. Assumes nothing.
+-- What is counted over the events of a list of calls. RULES 21.3, 21.4 and 21.9. It names no link. Assumes nothing.
 --
--- Counts are of two families: over the whole list, and since the last granted reset, after which "the most and least counts begin afresh".
+-- Counts are of two families: over the whole list, and since the last granted reset, with which the most and the least begin afresh.
 use Prim.Native.Nat.{ℕ, suc, _+_, _/_, _%_, _<_}
 use mathlib.Core.List.{List, _∷_, [], _++_}
 use mathlib.Core.Bool.{Bool, true, false, _&&_, cond}
@@ -12,7 +12,7 @@ use Rattle.model.specs.Calls.{Event, History, requested, credited, ticke
 
 -- ---- slots and frames, numbered on without end
 
--- "Slot 0 is current on the fresh link; slot s comes up with tick number s of the list": the number of the current slot
+-- RULES 21.3: the number of the current slot is that of the ticks so far
 unfoldable pub ticks : History → ℕ
 ticks [] = 0
 ticks (requested w a ∷ h) = ticks h
@@ -21,20 +21,20 @@ ticks (ticked x ∷ h) = suc (ticks h)
 ticks (lent m a ∷ h) = ticks h
 ticks (Event.reset a ∷ h) = ticks h
 
--- "the first slot after slot t whose number modulo T is that position"
+-- RULES 21.3: the slot of a position after t ticks, the next one above t that is the position modulo T
 unfoldable pub slotAfter : Plan → ℕ → ℕ → ℕ
 slotAfter P t p = suc t + ahead (positions P) (suc t % positions P) p
 
--- "frame f has slots f × F to f × F + F - 1"
+-- RULES 21.3: the frame of a slot
 abbrev pub frameOf : Plan → ℕ → ℕ
 frameOf P s = s / P .slots
 
--- "A word is well formed if its flow is below n, its destination the plan's and its departure below T."
+-- RULES 21.4: the word passes the tests 8, 9 and 10
 unfoldable pub wellFormed : Plan → ℕ → Bool
 wellFormed P w =
     ltb (flowOf w) (flowCount P) && eqb (destinationOf w) (entry P (flowOf w) .destination) && ltb (departureOf w) (positions P)
 
--- document 02, N4: after t ticks, departure d "is CP or lies before CP in the head frame", by positions alone
+-- RULES 6.3 and 6.7: after t ticks departure d has gone by, told from positions alone
 abbrev pub hasCome : Plan → (t d : ℕ) → Bool
 hasCome P t d = eqb (frameOf P d) (frameOf P t % P .frames) && leb d (t % positions P)
 
@@ -49,13 +49,12 @@ renews (lent m a) = false
 renews (Event.reset (accepted u)) = true
 renews (Event.reset (refused r)) = false
 
--- Document 02, N6: the counts begin "with the rest of the frame that is then head". The frame of the slot that was current then, and frame 0 where no
--- reset was granted.
+-- RULES 21.9: the frame of the slot that was current at the last granted reset, and frame 0 where there was none
 unfoldable pub origin : Plan → History → ℕ
 origin P [] = 0
 origin P (e ∷ h) = cond (renews e) (frameOf P (ticks h)) (origin P h)
 
--- k: "A tick whose number is a multiple of F is a frame change."
+-- RULES 21.3: k, how many ticks brought a new frame
 unfoldable pub changes : Plan → History → ℕ
 changes P [] = 0
 changes P (requested w a ∷ h) = changes P h
@@ -83,7 +82,7 @@ marksSince f (e ∷ h) = cond (renews e) [] (f e h ++ marksSince f h)
 
 -- ---- the mark of a granted slot, a taken credit, a refusal, a lent slot
 
--- "A slot is granted by a request that is answered with a word." The position of a grant is the departure of that word.
+-- RULES 21.3: the slot of a grant, whose position is the granted word's departure
 abbrev pub grantAt : Plan → Event → History → List Mark
 grantAt P (requested w (accepted v)) h = record { flow = flowOf w; slot = slotAfter P (ticks h) (departureOf v) } ∷ []
 grantAt P (requested w (refused r)) h = []
@@ -92,7 +91,7 @@ grantAt P (ticked x) h = []
 grantAt P (lent m a) h = []
 grantAt P (Event.reset a) h = []
 
--- the slot that a taken credit is dated
+-- RULES 21.3: the slot that a taken credit is dated
 abbrev pub creditAt : Plan → Event → History → List Mark
 creditAt P (requested w a) h = []
 creditAt P (credited i p (accepted u)) h = record { flow = i; slot = slotAfter P (ticks h) p } ∷ []
@@ -101,7 +100,7 @@ creditAt P (ticked x) h = []
 creditAt P (lent m a) h = []
 creditAt P (Event.reset a) h = []
 
--- the slot in which a well-formed request is refused: "A request after t ticks is made in the frame of slot t."
+-- RULES 21.8: the slot in which a well-formed request is refused, the one that was current
 abbrev pub refusalAt : Plan → Event → History → List Mark
 refusalAt P (requested w (accepted v)) h = []
 refusalAt P (requested w (refused r)) h = cond (wellFormed P w) (record { flow = flowOf w; slot = ticks h } ∷ []) []
@@ -110,7 +109,7 @@ refusalAt P (ticked x) h = []
 refusalAt P (lent m a) h = []
 refusalAt P (Event.reset a) h = []
 
--- document 02, N1: the slot that is lent, the current one of a lend that is answered with a flow
+-- RULES 21.3: the slot that is lent, the current one of a lend that is answered with a flow
 abbrev pub lendAt : Event → History → List Mark
 lendAt (requested w a) h = []
 lendAt (credited i p a) h = []
@@ -151,17 +150,17 @@ ofFlow i m = eqb (m .flow) i
 abbrev pub atSlot : ℕ → Mark → Bool
 atSlot s m = eqb (m .slot) s
 
--- "In any frame means: of the slots of one frame."
+-- flow i's, of the slots of frame f
 abbrev pub inFrame : Plan → ℕ → ℕ → Mark → Bool
 inFrame P i f m = ofFlow i m && eqb (frameOf P (m .slot)) f
 
--- "up to and including s"
+-- flow i's, slot s and those before it
 abbrev pub upTo : ℕ → ℕ → Mark → Bool
 upTo i s m = ofFlow i m && leb (m .slot) s
 
 -- ---- counts since the last granted reset, for the most and the least that is granted
 
--- flow i's granted slots, all of them and those of frame f: "in any frame" means booked since the reset
+-- flow i's granted slots, all of them and those of frame f, since the last granted reset
 abbrev pub granted : Plan → History → ℕ → ℕ
 granted P h i = tally (ofFlow i) (grantsSince P h)
 
@@ -174,7 +173,7 @@ refusedIn P h i f = tally (inFrame P i f) (refusalsSince P h)
 
 -- ---- counts over the whole list, for what is held and who owns a slot
 
--- flow i's granted slots up to slot s, its lent slots up to s, and its taken credits for slots up to s
+-- RULES 21.4: flow i's granted slots up to slot s, its lent slots up to s, and its taken credits for slots up to s
 abbrev pub grantedUpTo : Plan → History → ℕ → ℕ → ℕ
 grantedUpTo P h i s = tally (upTo i s) (grants P h)
 
@@ -188,7 +187,7 @@ creditedUpTo P h i s = tally (upTo i s) (credits P h)
 abbrev pub grantedInAll : Plan → History → ℕ → ℕ
 grantedInAll P h i = tally (ofFlow i) (grants P h)
 
--- Document 02, N9: the number that is expected of flow i's next word: "0 when fresh, one more modulo 1,024 after each grant; lending and resets leave it"
+-- RULES 5.3: the number of flow i's next word is the count of its grants, modulo 1,024
 abbrev pub expectedNumber : Plan → History → ℕ → ℕ
 expectedNumber P h i = grantedInAll P h i % 1024
 

@@ -1,4 +1,4 @@
--- The link's table of holdings against the paper's holding. Document 01, "Holding" and "What demand 3 counts"; document 02, N1. Assumes nothing.
+-- The link's table of holdings against what the list of calls says. RULES 4.4. Assumes nothing.
 use Prim.Native.Nat.{ℕ, _+_, _*_, _%_, _≤_, _<_}
 use mathlib.Core.Path.{_≡_}
 use mathlib.Core.List.{List}
@@ -17,12 +17,11 @@ pub record InWindow (P : Plan) (t s : ℕ) : Type 0 where
   pub low : frameStart P t ≤ s
   pub high : s < frameStart P t + positions P
 
--- "its bookings up to and including it, minus its credits dated up to and including it, frames already gone counted too". Document 02, N1: "a lent
--- slot counts in what its flow holds".
+-- RULES 4.4: what is booked and lent up to a slot, and what is credited up to it with what is held there
 pub record HoldingIs (P : Plan) (l : Link) (h : History) (i : ℕ) : Type 0 where
   pub at-slot : (s : ℕ) → InWindow P (ticks h) s → grantedUpTo P h i s + lentUpTo h i s ≡ creditedUpTo P h i s + holding l i (s % positions P)
 
--- The table of the paper's link says the paper's holding, after every list of calls.
+-- RULES 4.4: the table says so after every list of calls.
 abbrev pub TableIsHolding : Type 0
 TableIsHolding =
     (bytes : List ℕ) → refusal bytes ≡ 0 → (calls : List Call) (i : ℕ) → i < flowCount (planOf bytes)

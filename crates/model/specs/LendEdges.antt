@@ -1,6 +1,6 @@
--- Edges of lends. Document 02, N1. Assumes nothing.
+-- Edges of lends. RULES 9.1 to 9.4. Assumes nothing.
 --
--- What each comes to is worked out from the request. Masks: 1 is flow 0, 2 is flow 1, 3 both.
+-- What each comes to is worked out from the rules. Masks: 1 is flow 0, 2 is flow 1, 3 both.
 use mathlib.Core.List.{List, _∷_, []}
 use Rattle.model.specs.PlanBytes.{planOfMany, listing, single, oneCell, oneShare}
 use Rattle.model.specs.EdgeCases.{Case, grant, refuse, credit, reject, serve, idle, idles, lend, deny, follows}

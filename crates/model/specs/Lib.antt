@@ -1,4 +1,4 @@
--- Document 01 as definitions, in its order.
+-- The rules as definitions, in their order.
 pub mod Tables
 pub mod Refusals
 pub mod Word
@@ -10,7 +10,7 @@ pub mod Fresh
 pub mod Request
 pub mod Credit
 pub mod Tick
--- document 02
+-- what came with later versions
 pub mod Lend
 pub mod WrittenPlan
 pub mod Reset

@@ -1,5 +1,4 @@
--- The booking table of one link: who booked each position, what each flow holds, and how they are changed. Document 01, "Slots, frames, positions".
--- Assumes nothing.
+-- The booking table of one link: who booked each position, what each flow holds, and how they are changed. RULES 4.1. Assumes nothing.
 use Prim.Native.Nat.{ℕ}
 use mathlib.Core.List.{List, []}
 use mathlib.Core.Option.{Option, none}
@@ -10,21 +9,23 @@ use Rattle.model.specs.Tables.{table}
 use Rattle.model.specs.Plan.{Plan, positions, flowCount, entry}
 use Rattle.model.specs.Window.{Window, fromOn}
 
+-- RULES 4.1: what a link keeps for each flow
 pub record Flow : Type 0 where
   pub injection : ℕ  -- IF
   pub remainder : ℕ  -- C
   pub held : List ℕ  -- what the flow holds at each position
-  pub number : ℕ  -- document 02, N9: the quantum number that is expected of its next word
+  pub number : ℕ  -- RULES 5.3: the quantum number that its next word has to carry
 
+-- RULES 1.1 and 4.1: a link, and what it keeps
 pub record Link : Type 0 where
   pub plan : Plan
   pub current : ℕ  -- CP
   pub owners : List (Option ℕ)  -- the flow that booked each position
   pub flows : List Flow
-  pub taken : Bool  -- document 02, N1: the current slot is marked taken
-  pub lookFrom : ℕ  -- document 02, N8: the flow that the next lend looks from
+  pub taken : Bool  -- RULES 9.2: the mark of the current slot
+  pub lookFrom : ℕ  -- RULES 9.3: the flow that the next lend looks from
 
--- what a call hands back: the next link and its answer
+-- RULES 4.3: what a call hands back, the next link and its answer
 pub record Step (A : Type 0) : Type 0 where
   pub link : Link
   pub answer : A

@@ -1,4 +1,4 @@
--- What the program writes. Document 01, "The program and its listing". Assumes nothing.
+-- What the program writes. RULES 13.1 to 13.5 and 14.2. Assumes nothing.
 use Prim.Native.Nat.{ℕ, zero, suc, _+_, _/_, _%_}
 use Prim.Native.Char.{Char, code}
 use Prim.Native.String.{String}
@@ -43,7 +43,7 @@ text (string._∷_ c s) = code c ∷ text s
 abbrev pub digit : ℕ → ℕ
 digit d = code "0" + d
 
--- the decimal digits of a number, without leading zeros, where there are no more than `most`
+-- RULES 13.1: the decimal digits of a number, without leading zeros, where there are no more than `most`
 unfoldable pub digits : (most n : ℕ) → List ℕ
 digits zero n = []
 digits (suc k) n = cond (ltb n 10) (digit n ∷ []) (digits k (n / 10) ++ (digit (n % 10) ∷ []))
@@ -51,40 +51,40 @@ digits (suc k) n = cond (ltb n 10) (digit n ∷ []) (digits k (n / 10) ++ (digit
 unfoldable pub decimal : ℕ → List ℕ
 decimal n = digits (suc n) n
 
--- a letter, a space, what is said, and a newline
+-- RULES 13.1: a letter, a space, what is said, and a newline
 abbrev pub line : Char → List ℕ → List ℕ
 line letter said = code letter ∷ text " " ++ said ++ text "\n"
 
--- "`R` and a refusal"
+-- RULES 13.5: the line of a refusal
 abbrev pub refusalLine : ℕ → List ℕ
 refusalLine number = line "R" (decimal number)
 
--- "`G` and the position granted", the departure of the granted word
+-- RULES 13.5: the line of a request, whose position is the granted word's departure
 abbrev pub requestLine : Grant → List ℕ
 requestLine (accepted word) = line "G" (decimal (departureOf word))
 requestLine (refused number) = refusalLine number
 
--- "`C` for a credit"
+-- RULES 13.5: the line of a credit
 abbrev pub creditLine : Receipt → List ℕ
 creditLine (accepted _) = text "C\n"
 creditLine (refused number) = refusalLine number
 
--- "`T` and the flow or `-`"
+-- RULES 13.5: the line of a tick
 abbrev pub tickLine : Turn → List ℕ
 tickLine (some flow) = line "T" (decimal flow)
 tickLine none = line "T" (text "-")
 
--- a lend, which `domelink` has no record for: `L` and the flow
+-- RULES 14.2: the line of a lend, which `domelink` has no record for
 abbrev pub lendLine : Loan → List ℕ
 lendLine (accepted flow) = line "L" (decimal flow)
 lendLine (refused number) = refusalLine number
 
--- a reset, which it has none for either: `Z`
+-- RULES 14.2: the line of a reset, which it has none for either
 abbrev pub resetLine : Renewal → List ℕ
 resetLine (accepted _) = text "Z\n"
 resetLine (refused number) = refusalLine number
 
--- "It writes one line for each": the line of a call with its answer, or of a record that makes no call
+-- RULES 13.5: the line of a call with its answer, or of a record that makes no call
 abbrev pub lineOf : Option RecordEvent → List ℕ
 lineOf (some (RecordEvent.requested w a)) = requestLine a
 lineOf (some (RecordEvent.credited i p a)) = creditLine a
@@ -101,7 +101,7 @@ callsOf bytes = map callOf (records bytes)
 abbrev pub cameTo : {A : Type 0} → (A → RecordEvent) → Step A → Step (Option RecordEvent)
 cameTo event handed = record { link = handed .link; answer = some (event (handed .answer)) }
 
--- A record's call on a link, and what it comes to. "16 is tested before the call that the record would make", and leaves the link unchanged.
+-- RULES 13.4: a record's call on a link, and what it comes to; 16 leaves the link as it was.
 abbrev pub made : Link → Option RecordCall → Step (Option RecordEvent)
 made l (some (RecordCall.request w)) = cameTo (RecordEvent.requested w) (request l w)
 made l (some (RecordCall.credit i p)) = cameTo (RecordEvent.credited i p) (credit l i p)
@@ -123,7 +123,7 @@ present [] = []
 present (some x ∷ rest) = x ∷ present rest
 present (none ∷ rest) = present rest
 
--- the lines of a stream of records, from a link
+-- RULES 13.3: the lines of a stream of records, from a link
 unfoldable pub listing : Link → List ℕ → List ℕ
 listing l bytes = flatMap lineOf (outcomes l (callsOf bytes))
 
@@ -133,23 +133,24 @@ linkAfter l bytes = linkAfterCalls l (callsOf bytes)
 
 -- ---- the program
 
+-- RULES 13.2: the plan's line
 abbrev pub planLine : ℕ → List ℕ
 planLine number = line "P" (decimal number)
 
--- "L being the first two bytes as a number"
+-- RULES 13.2: L, the plan's length
 abbrev pub planLength : List ℕ → ℕ
 planLength input = field16 input 0
 
--- "fewer than two bytes or fewer than L stand there, or L isn't 12 to 76"
+-- RULES 13.2: there is no plan to be tested
 unfoldable pub planMissing : List ℕ → Bool
 planMissing input = ltb (length input) 2 || ltb (length input) (planLength input) || not (within 12 76 (planLength input))
 
--- "it writes `P` and the refusal and ends, or it writes `P 0` and goes on"
+-- RULES 13.2: the plan's line, and where it is accepted those of the records
 unfoldable pub outputAfter : (number : ℕ) → (plan rest : List ℕ) → List ℕ
 outputAfter zero plan rest = planLine 0 ++ listing (fresh (planOf plan)) rest
 outputAfter (suc r) plan rest = planLine (suc r)
 
--- "The plan is its first L bytes", and "After an accepted plan come 5-byte records".
+-- RULES 13.2 and 13.3: all lines of an input
 unfoldable pub output : List ℕ → List ℕ
 output input =
     let plan = take (planLength input) input in

@@ -1,7 +1,7 @@
--- Edges of quantum numbers. Document 02, N9. Assumes nothing.
+-- Edges of quantum numbers. RULES 5.2 and 5.3. Assumes nothing.
 --
--- What each comes to is worked out from the request. That 0 comes after 1,023 is an edge of images, and `after-1023` of BadNumbers. Where a row says no more, F = 4 and W = 2; the arguments of `refuseAs` are the flow, the quantum
--- number and the departure of the word, and the refusal.
+-- What each comes to is worked out from the rules. That 0 comes after 1,023 is an edge of images, and `after-1023` of BadNumbers. Where a row says no
+-- more, F = 4 and W = 2; the arguments of `refuseAs` are the flow, the quantum number and the departure of the word, and the refusal.
 use mathlib.Core.List.{List, _∷_, []}
 use Rattle.model.specs.Calls.{requested, accepted, refused}
 use Rattle.model.specs.PlanBytes.{listing, roomy, single}

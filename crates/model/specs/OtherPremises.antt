@@ -1,5 +1,4 @@
--- The least count with other premises on a stream's words: on the tiles that they name, and on their numbers. Document 02, N4: "by this test of its
--- departure against CP and by no other"; N9: "every word also carries the expected number". Assumes nothing.
+-- The least count with other premises on a stream's words: on the tiles that they name, and on their numbers (RULES 21.8). Assumes nothing.
 use Prim.Native.Nat.{ℕ, _+_, _-_, _*_, _%_, _≤_, _<_}
 use mathlib.Core.Path.{_≡_}
 use mathlib.Core.List.{List}

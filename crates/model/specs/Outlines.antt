@@ -1,4 +1,4 @@
--- What two runs have in common, as one list: a second way to say that they are aligned. Document 02, N14. Assumes nothing.
+-- What two runs have in common, as one list: a second way to say that they are aligned. RULES 21.11. Assumes nothing.
 use Prim.Native.Nat.{ℕ}
 use mathlib.Core.Path.{_≡_}
 use mathlib.Core.Logic.{_↔_}
@@ -16,7 +16,7 @@ pub data Place : Type 0 where
   request : (destination departure : ℕ) → Place
   credit : (position : ℕ) → Place
 
--- "the other flows' calls and all lending" have none
+-- calls of other flows and lends have none
 abbrev pub placesOf : ℕ → Event → List Place
 placesOf i (requested w a) = cond (eqb (flowOf w) i) (Place.request (destinationOf w) (departureOf w) ∷ []) []
 placesOf i (credited j p a) = cond (eqb j i) (Place.credit p ∷ []) []

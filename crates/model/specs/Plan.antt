@@ -1,4 +1,4 @@
--- The plan, its bytes and refusals 1 to 7. Document 01, "Plan bytes" and "Where a call is turned back". Assumes nothing.
+-- The plan, its bytes and refusals 1 to 7. RULES 2.1 to 2.4. Assumes nothing.
 use Prim.Native.Nat.{ℕ, _+_, _*_, _≤_, _<_}
 use mathlib.Core.Path.{_≡_}
 use mathlib.Core.List.{List, _∷_, []}
@@ -10,13 +10,14 @@ use Rattle.model.specs.Refusals.{Line, firstOf, _when_}
 
 -- ---- the plan
 
--- "four bytes: share, cells, source node, destination node"
+-- RULES 2.1: what a flow has
 pub record Entry : Type 0 where
   pub share : ℕ
   pub cells : ℕ
   pub source : ℕ
   pub destination : ℕ
 
+-- RULES 2.1: what a plan has
 pub record Plan : Type 0 where
   pub slots : ℕ  -- F, the slots of a frame
   pub frames : ℕ  -- W, the frames of the window
@@ -26,21 +27,21 @@ pub record Plan : Type 0 where
 abbrev pub noEntry : Entry
 noEntry = record { share = 0; cells = 0; source = 0; destination = 0 }
 
--- T = F × W
+-- RULES 1.4: T, which is F × W
 abbrev pub positions : Plan → ℕ
 positions P = P .slots * P .frames
 
--- n
+-- RULES 1.4: n, the number of flows
 abbrev pub flowCount : Plan → ℕ
 flowCount P = length (P .entries)
 
--- "A flow's number is its entry's place, from 0."
+-- RULES 2.1: flow i is that of entry i
 abbrev pub entry : Plan → ℕ → Entry
 entry P i = getD (P .entries) i noEntry
 
 -- ---- the bytes
 
--- "All header fields are 16-bit, low byte first: total length; flow count n; offset of the flow part; F; W; N."
+-- RULES 2.2: the six fields that a file begins with
 pub record Header : Type 0 where
   pub total : ℕ
   pub count : ℕ
@@ -49,7 +50,7 @@ pub record Header : Type 0 where
   pub frames : ℕ
   pub buffer : ℕ
 
--- the 16-bit field at a place
+-- RULES 1.2: the field at a place
 abbrev pub field16 : List ℕ → ℕ → ℕ
 field16 b at = getD b at 0 + 256 * getD b (at + 1) 0
 
@@ -63,7 +64,7 @@ headerOf b = record {
   buffer = field16 b 10;
 }
 
--- "It has n entries of four bytes"
+-- RULES 2.2: the bytes of entry i, where the entries begin
 abbrev pub entryOf : List ℕ → ℕ → Entry
 entryOf part i = record {
   share = getD part (4 * i) 0;
@@ -72,7 +73,7 @@ entryOf part i = record {
   destination = getD part (4 * i + 3) 0;
 }
 
--- "The flow part starts at the header's offset, which is 12, and is read as a part on its own."
+-- RULES 2.2: n entries, each read from its own four bytes
 abbrev pub entriesOf : ℕ → List ℕ → List Entry
 entriesOf n part = table n (entryOf part)
 
@@ -80,48 +81,51 @@ entriesOf n part = table n (entryOf part)
 abbrev pub planWith : Header → List Entry → Plan
 planWith h es = record { slots = h .slots; frames = h .frames; buffer = h .buffer; entries = es }
 
+-- RULES 2.2: the plan of a file, whose entries begin at byte 12
 abbrev pub planOf : List ℕ → Plan
 planOf b = planWith (headerOf b) (entriesOf (headerOf b .count) (drop 12 b))
 
 -- ---- the refusals
 
--- "share 1 to F, cells 1 to 255, nodes 0 to 63. Source and destination differ."
+-- RULES 2.3: what test 4 asks of one entry
 unfoldable pub entryFits : ℕ → Entry → Bool
 entryFits F e =
     within 1 F (e .share) && within 1 255 (e .cells) && within 0 63 (e .source) && within 0 63 (e .destination)
     && not (eqb (e .source) (e .destination))
 
+-- RULES 2.3: the two entries of test 5
 abbrev pub samePair : Entry → Entry → Bool
 samePair a b = eqb (a .source) (b .source) && eqb (a .destination) (b .destination)
 
--- Tests 2 to 7 need no bytes, only a header and a plan, so that a writer makes them on the same numbers.
+-- RULES 2.3: tests 2 to 7 need no bytes, only a header and a plan, so that a writer makes them on the same numbers.
 
--- "n out of range, offset not 12, or length not 12 + 4n"
+-- RULES 2.3: test 2, on the header alone
 abbrev pub countTest : Header → Line
 countTest h = 2 when (not (within 1 16 (h .count)) || not (eqb (h .offset) 12) || not (eqb (h .total) (12 + 4 * h .count)))
 
--- "F, W or N out of range, or T above 256"
+-- RULES 2.3: test 3, on F, W, N and T
 abbrev pub frameTest : ℕ → ℕ → ℕ → Line
 frameTest F W N = 3 when (not (within 1 64 F) || not (within 2 8 W) || not (within 1 4095 N) || ltb 256 (F * W))
 
+-- RULES 2.3: tests 3 to 7
 abbrev pub limitTests : Plan → List Line
 limitTests P =
     frameTest (P .slots) (P .frames) (P .buffer)
-    -- "some entry breaks its limits"
+    -- an entry doesn't fit
     ∷ 4 when any (flowCount P) (λ i. not (entryFits (P .slots) (entry P i)))
-    -- "two entries with equal source and destination"
+    -- two entries alike
     ∷ 5 when any (flowCount P) (λ i. any i (λ j. samePair (entry P j) (entry P i)))
-    -- "their sum is above F"
+    -- the shares don't fit a frame
     ∷ 6 when ltb (P .slots) (sum (flowCount P) (λ i. entry P i .share))
-    -- "their sum is above N"
+    -- the cells don't fit the buffer
     ∷ 7 when ltb (P .buffer) (sum (flowCount P) (λ i. entry P i .cells))
     ∷ []
 
--- "fewer than 12 bytes, or not the stated length"
+-- RULES 2.3: test 1, on the length
 abbrev pub lengthTest : List ℕ → Line
 lengthTest b = 1 when (ltb (length b) 12 || not (eqb (length b) (headerOf b .total)))
 
--- the refusal of a plan's bytes, and 0 where the plan is accepted
+-- RULES 2.4: the refusal of a plan's bytes, and 0 where the plan is accepted
 unfoldable pub refusal : List ℕ → ℕ
 refusal b = firstOf (lengthTest b ∷ countTest (headerOf b) ∷ limitTests (planOf b))
 

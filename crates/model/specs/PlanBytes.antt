@@ -1,4 +1,4 @@
--- The bytes of plans, for examples. Document 01, "Plan bytes". Assumes nothing.
+-- The bytes of plans (RULES 2.2), for examples. Assumes nothing.
 use Prim.Native.Nat.{ℕ, _+_, _*_}
 use mathlib.Core.List.{List, _∷_, [], _++_, foldr}
 use lib.ListN.{length}

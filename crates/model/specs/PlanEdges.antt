@@ -1,6 +1,6 @@
 -- Edges of the plan's tests, 1 to 7: both ends of each limit, and the order of the tests. Assumes nothing.
 --
--- What each comes to is worked out from document 01.
+-- What each comes to is worked out from RULES 2.3.
 use Prim.Native.Nat.{ℕ}
 use mathlib.Core.List.{List, _∷_, [], _++_}
 use lib.ListN.{take}
@@ -16,7 +16,7 @@ framed F W N = plan1 F W N 1 1
 
 unfoldable pub planEdges : List Case
 planEdges =
-    -- 1: fewer than 12 bytes, or not the stated length
+    -- 1: too short, or another length than it says
     refuses 1 []  -- no bytes
     ∷ refuses 1 (take 11 (header 11 1 12 4 2 8))  -- 11 bytes, as stated
     ∷ refuses 1 (header 16 1 12 4 2 8)  -- 12 bytes where 16 are stated
@@ -96,7 +96,7 @@ planEdges =
     ∷ refuses 7 (plan 4 2 4 (entry 1 2 1 9 ∷ entry 1 2 2 9 ∷ entry 1 1 3 9 ∷ []))  -- N + 1
     ∷ accepts (plan2 4 2 510 2 255 2 255)  -- N, more than a byte
     ∷ refuses 7 (plan2 4 2 509 2 255 2 255)  -- N + 1, more than a byte
-    -- "The first that applies"
+    -- the order of the tests
     ∷ refuses 1 (header 16 0 12 4 2 8)  -- 1 and 2
     ∷ refuses 2 (header 16 1 13 0 2 8 ++ entry 1 1 1 9)  -- 2 and 3
     ∷ refuses 3 (plan1 4 9 8 0 1)  -- 3 and 4

@@ -1,6 +1,6 @@
 -- Edges of the program: its input, call records and lines. Assumes nothing.
 --
--- What each comes to is worked out from document 01.
+-- What each comes to is worked out from RULES 13.1 to 13.5.
 use Prim.Native.Nat.{ℕ}
 use mathlib.Core.List.{List, _∷_, [], _++_, foldr}
 use lib.ListN.{take, replicate}
@@ -54,9 +54,9 @@ programEdges =
     ∷ writes (listing ++ five 2 2 1 0 1 ++ five 2 2 1 0 0) "P 0\nR 16\nR 8\n"
     -- a position has two bytes, low first: 256 is no position, 1 is
     ∷ writes (listing ++ requestRecord ++ five 2 0 0 1 0 ++ five 2 0 1 0 0) "P 0\nG 1\nR 13\nC\n"
-    -- document 02, N4: departure 7 of 8 on a fresh link, and then the flow's frame is the newest
+    -- RULES 6.3: departure 7 of 8 on a fresh link, and then the flow's frame is the newest
     ∷ writes (listing ++ five 1 0x07 0x00 0x00 0x24 ++ requestRecord) "P 0\nR 20\nG 4\n"
-    -- document 02, N9: the same number again after a grant, and then the next one
+    -- RULES 5.2: the same number again after a grant, and then the next one
     ∷ writes (listing ++ requestRecord ++ requestRecord ++ five 1 0x00 0x04 0x00 0x24) "P 0\nG 1\nR 24\nG 2\n"
     -- two digits
     ∷ writes (plan1 16 2 8 1 1 ++ foldr _++_ [] (replicate 9 tickRecord) ++ requestRecord) "P 0\nT -\nT -\nT -\nT -\nT -\nT -\nT -\nT -\nT -\nG 10\n"

@@ -1,4 +1,4 @@
--- Call records, and the calls that they can make. Document 01, "The program and its listing", and refusal 16. Assumes nothing.
+-- Call records, and the calls that they can make. RULES 13.3 and 13.4. Assumes nothing.
 use Prim.Native.Nat.{ℕ, _+_, _*_, _/_, _%_}
 use mathlib.Core.List.{List, _∷_, []}
 use mathlib.Core.Option.{Option, some, none}
@@ -23,7 +23,7 @@ asCall RecordCall.tick = Call.tick
 
 -- ---- records
 
--- "5-byte records", of which the last may be short
+-- RULES 13.3: records of five bytes, of which the last may be short
 unfoldable pub records : List ℕ → List (List ℕ)
 records [] = []
 records (a ∷ []) = (a ∷ []) ∷ []
@@ -40,14 +40,14 @@ field32 r at = field16 r at + 65536 * field16 r (at + 2)
 abbrev pub isKind : ℕ → List ℕ → Bool
 isKind k r = leb 5 (length r) && eqb (getD r 0 0) k
 
--- the call that a record makes; none where 16 applies: "unknown kind, a nonzero filler, or fewer than 5 bytes"
+-- RULES 13.4: the call that a record makes, and none where 16 applies
 unfoldable pub callOf : List ℕ → Option RecordCall
 callOf r =
-    -- "1 and a word, low byte first"
+    -- a request
     cond (isKind 1 r) (some (RecordCall.request (field32 r 1)))
-    -- "2, flow, position (two bytes, low first), 0"
+    -- a credit
     (cond (isKind 2 r && eqb (getD r 4 0) 0) (some (RecordCall.credit (getD r 1 0) (field16 r 2)))
-    -- "3 and four zeros"
+    -- a tick
     (cond (isKind 3 r && eqb (field32 r 1) 0) (some RecordCall.tick) none))
 
 -- the record of a call

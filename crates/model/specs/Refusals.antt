@@ -1,4 +1,4 @@
--- Tables of refusals. Document 01, "Where a call is turned back": "The first that applies is returned, the number alone". Assumes nothing.
+-- Tables of refusals, of which the first that applies gives its number. RULES 1.3. Assumes nothing.
 use Prim.Native.Nat.{ℕ}
 use mathlib.Core.List.{List, _∷_, []}
 use mathlib.Core.Bool.{Bool, cond}
@@ -11,7 +11,7 @@ pub data Line : Type 0 where
 abbrev pub condition : Line → Bool
 condition (r when b) = b
 
--- the number of the first line that applies, and 0 where none does
+-- RULES 1.3: the number of the first line that applies, and 0 where none does
 unfoldable pub firstOf : List Line → ℕ
 firstOf [] = 0
 firstOf (r when b ∷ rest) = cond b r (firstOf rest)

@@ -1,4 +1,4 @@
--- The request. Document 01, "The four calls", "Request", and refusals 8 to 12; document 02, N4 and N9, and refusals 20 and 24. Assumes nothing.
+-- The request. RULES 5.2, 5.3 and 6.1 to 6.6. Assumes nothing.
 use Prim.Native.Nat.{ℕ, zero, suc, _+_, _%_}
 use mathlib.Core.List.{List, _∷_, [], _++_}
 use mathlib.Core.Option.{Option, some, none}
@@ -15,25 +15,26 @@ use Rattle.model.specs.Link.{withNumber, heldFrom}
 
 -- ---- the word's own tests
 
+-- RULES 5.2: the tests 8, 9 and 10
 abbrev pub wordTests : Plan → ℕ → List Line
 wordTests P w =
-    -- "flow not below n"
+    -- no such flow
     8 when not (ltb (flowOf w) (flowCount P))
-    -- "not the plan's"
+    -- another destination than its flow's
     ∷ 9 when not (eqb (destinationOf w) (entry P (flowOf w) .destination))
-    -- "not below T"
+    -- no position
     ∷ 10 when not (ltb (departureOf w) (positions P))
     ∷ []
 
--- Document 02, N9, where the number `expected` is expected of the word's flow: "A word with another number is refused as 24, tested straight after 10".
+-- RULES 5.2: test 24, where the number `expected` is expected of the word's flow
 abbrev pub numberTests : (expected w : ℕ) → List Line
 numberTests expected w = 24 when not (eqb (quantumOf w) expected) ∷ []
 
--- all that is tested before the search
+-- RULES 5.2: all that is tested before the search
 abbrev pub requestTests : Plan → (expected w : ℕ) → List Line
 requestTests P expected w = wordTests P w ++ numberTests expected w
 
--- "one more modulo 1,024"
+-- RULES 5.3: the number after a grant
 abbrev pub nextNumber : ℕ → ℕ
 nextNumber k = (k + 1) % 1024
 
@@ -43,17 +44,17 @@ abbrev pub unbooked : Option ℕ → Bool
 unbooked none = true
 unbooked (some i) = false
 
--- "unbooked, later than CP when in HF, and the flow holds fewer than its cells there and at every later position of the window"
+-- RULES 6.2: a position that is valid for flow i
 unfoldable pub valid : Link → ℕ → ℕ → Bool
 valid l i p =
     unbooked (owner l p) && not (passed (window l) p)
     && everyFrom (window l) p (λ q. ltb (holding l i q) (cells l i))
 
--- Document 02, N4, where the word's departure is d: "If it is later than CP, only positions later than it"; else "nothing changes".
+-- RULES 6.3: where the word's departure is d and is still to come, the position has to be later than d; where it has gone by, any will do
 unfoldable pub canLeave : Window → (d p : ℕ) → Bool
 canLeave w d p = not (later w d (w .current)) || later w p d
 
--- position p is valid for a request of flow i with departure d
+-- RULES 6.2 and 6.3: position p is valid for a request of flow i with departure d
 unfoldable pub validFor : Link → (i d p : ℕ) → Bool
 validFor l i d p = valid l i p && canLeave (window l) d p
 
@@ -69,23 +70,24 @@ abbrev pub orElse : (j c : ℕ) → Option ℕ → Found → Found
 orElse j c (some p) rest = found j c p
 orElse j c none rest = rest
 
--- The request rule, where a position is valid if it passes `ok`. IF is frame j, C the last argument, and `more` frames come after j up to the newest.
+-- RULES 6.4: the search, where a position is valid if it passes `ok`. IF is frame j, C the last argument, and `more` frames come after j up to the
+-- newest.
 module _ (w : Window) (ok : ℕ → Bool) (share : ℕ) where
-  -- "the earliest valid position of IF"
+  -- RULES 6.4: the lowest valid position of frame j
   abbrev pub earliest : ℕ → Option ℕ
   earliest j = firstFrom (w .slots) (start w j) ok
 
   unfoldable pub search : (more j remainder : ℕ) → Found
-  -- IF is newest. C is 0: 11
+  -- RULES 6.4, step 3: IF is newest, and C is 0: 11
   search zero j zero = nowhere 0
-  -- IF is newest. "If C is above 0, the earliest valid position of IF is booked, C falls by one"; there is none: 20 or 12
+  -- step 1 in the newest frame, which takes one of C; and step 3: 20 or 12
   search zero j (suc c) = orElse j c (earliest j) (nowhere (suc c))
-  -- "If C is 0 .., and IF isn't newest, IF goes to the next frame, C becomes the share, and the rule applies again."
+  -- step 2, as C is 0
   search (suc more) j zero = search more (next w j) share
-  -- C is above 0: the earliest valid position; "or there is none": the next frame
+  -- step 1, and step 2 where no position is valid
   search (suc more) j (suc c) = orElse j c (earliest j) (search more (next w j) share)
 
--- the search of flow i's request with departure d, from its injection frame to the newest
+-- RULES 6.1: the search of flow i's request with departure d, from its injection frame to the newest
 unfoldable pub sought : Link → (i d : ℕ) → Found
 sought l i d =
     search (window l) (validFor l i d) (share l i) (ahead (l .plan .frames) (flow l i .injection) (newest (window l)))
@@ -97,31 +99,31 @@ sought l i d =
 abbrev pub someInNewest : Window → (ℕ → Bool) → Bool
 someInNewest w ok = any (w .slots) (λ x. ok (start w (newest w) + x))
 
--- document 02, N4: "the newest frame has a position that would be valid but for the departure"
+-- RULES 6.4: whether some position of the newest frame is valid but for the departure
 unfoldable pub wouldBeValid : Link → ℕ → Bool
 wouldBeValid l i = someInNewest (window l) (valid l i)
 
--- no position is found; C is c, and `would` says whether one would be valid but for the departure
+-- RULES 6.4, step 3: no position is found; C is c, and `would` says whether one is valid but for the departure
 abbrev pub newestTests : (would : Bool) (c : ℕ) → List Line
 newestTests would c =
-    -- "C is 0"
+    -- no slot is left to the flow
     11 when eqb c 0
-    -- document 02, N4: it "stands between 11 and 12"
+    -- the tile comes too late
     ∷ 20 when would
-    -- "C above 0, no valid position"
+    -- no position is valid
     ∷ 12 when true
     ∷ []
 
 -- ---- what the request does
 
--- flow i after it booked position p of frame j, with C left; document 02, N9: its number is one more "after each grant"
+-- RULES 6.5: flow i after it booked position p of frame j, with C left; its next number is one more
 abbrev pub bookedFlow : Link → (i j c p : ℕ) → Flow
 bookedFlow l i j c p = withNumber (withHeld (movedTo (flow l i) j c) (heldFrom l i p suc)) (nextNumber (flow l i .number))
 
 unfoldable pub booked : Link → (i j c p : ℕ) → Link
 booked l i j c p = withFlow (withOwners l (λ q. cond (eqb q p) (some i) (owner l q))) i (bookedFlow l i j c p)
 
--- "11 and 12 leave IF newest, with C as the request rule leaves it, and nothing else changed." 20 "leaves what 12 leaves".
+-- RULES 6.6: what 11, 12 and 20 leave
 unfoldable pub refusedAtNewest : Link → ℕ → ℕ → Link
 refusedAtNewest l i c = withFlow l i (movedTo (flow l i) (newest (window l)) c)
 
@@ -129,10 +131,11 @@ unfoldable pub answered : Link → ℕ → Found → Step Grant
 answered l w (found j c p) = record { link = booked l (flowOf w) j c p; answer = accepted (depart w p) }
 answered l w (nowhere c) = record { link = refusedAtNewest l (flowOf w) c; answer = refused (firstOf (newestTests (wouldBeValid l (flowOf w)) c)) }
 
--- the request, where the tests before the search give the number r; 24 too is answered "with the link unchanged"
+-- RULES 1.3: the request, where the tests before the search give the number r, which leaves all as it was
 unfoldable pub requestAfter : ℕ → Link → ℕ → Step Grant
 requestAfter zero l w = answered l w (sought l (flowOf w) (departureOf w))
 requestAfter (suc r) l w = record { link = l; answer = refused (suc r) }
 
+-- RULES 6.1: the request
 unfoldable pub request : Link → ℕ → Step Grant
 request l w = requestAfter (firstOf (requestTests (l .plan) (flow l (flowOf w) .number) w)) l w

@@ -1,4 +1,4 @@
--- The local reset. Document 02, N6, N8 and N9. Assumes nothing.
+-- The local reset. RULES 10.1 and 10.2. Assumes nothing.
 use Prim.Native.Nat.{ℕ, zero, suc}
 use mathlib.Core.List.{List, _∷_, []}
 use mathlib.Core.Option.{none}
@@ -12,33 +12,33 @@ use Rattle.model.specs.Window.{head, later, everyFrom}
 use Rattle.model.specs.Link.{Link, Flow, Step, window, owner, flow, holding, share, withOwners, withFlows, withTaken, withLookFrom, movedTo}
 use Rattle.model.specs.Request.{unbooked}
 
--- "no position later than CP is booked"
+-- RULES 10.1: no later position has an owner
 unfoldable pub noneBooked : Link → Bool
 noneBooked l = every (positions (l .plan)) (λ q. not (later (window l) q (l .current)) || unbooked (owner l q))
 
--- "every flow holds 0 at CP and at each later position"
+-- RULES 10.1: no flow holds anything from CP on
 unfoldable pub noneHeld : Link → Bool
 noneHeld l = every (flowCount (l .plan)) (λ i. everyFrom (window l) (l .current) (λ q. eqb (holding l i q) 0))
 
 abbrev pub quiet : Link → Bool
 quiet l = noneBooked l && noneHeld l
 
+-- RULES 10.1: the only test
 abbrev pub resetTests : Link → List Line
 resetTests l =
-    -- "that condition is not met"
+    -- something is booked or held
     23 when not (quiet l)
     ∷ []
 
--- "every IF becomes HF, every C the share"; what a flow holds stays, and so does its number (N9)
+-- RULES 10.2: each flow begins in HF with its whole share; what it holds stays, and so does its next number
 abbrev pub fromHead : Link → ℕ → Flow
 fromHead l i = movedTo (flow l i) (head (window l)) (share l i)
 
--- "the positions are emptied; a current slot that was booked or already marked taken is marked taken". CP stays: the clock "goes on". N8: the next lend
--- looks "from flow 0".
+-- RULES 10.2: all owners are removed, and a current slot that had one stays taken by the mark. CP stays. Flow 0 is looked at first.
 unfoldable pub renewed : Link → Link
 renewed l = withLookFrom (withTaken (withFlows (withOwners l (λ q. none)) (fromHead l)) (not (unbooked (owner l (l .current))) || l .taken)) 0
 
--- the reset, where its test gives the number r: "the call returns 23 and changes nothing"
+-- RULES 10.1: the reset, where its test gives the number r, which leaves all as it was
 unfoldable pub resetAfter : ℕ → Link → Step Renewal
 resetAfter zero l = record { link = renewed l; answer = accepted tt }
 resetAfter (suc r) l = record { link = l; answer = refused (suc r) }

@@ -1,6 +1,6 @@
--- Edges of resets. Document 02, N6. Assumes nothing.
+-- Edges of resets. RULES 10.1 and 10.2. Assumes nothing.
 --
--- What each comes to is worked out from the request. Where a row says no more, F = 4 and W = 2.
+-- What each comes to is worked out from the rules. Where a row says no more, F = 4 and W = 2.
 use mathlib.Core.List.{List, _∷_, []}
 use Rattle.model.specs.PlanBytes.{plan1, planOfMany, listing, roomy, single, oneShare}
 use Rattle.model.specs.EdgeCases.{Case, grant, refuse, grantFrom, refuseFrom, credit, serve, idle, idles, lend, deny, renew, decline, follows}

@@ -1,13 +1,13 @@
--- Edges of lends in turn. Document 02, N8. Assumes nothing.
+-- Edges of lends in turn. RULES 9.3 and 9.4. Assumes nothing.
 --
--- What each comes to is worked out from the request. Masks of three flows: 1 is flow 0, 2 is flow 1, 4 is flow 2, 7 all.
+-- What each comes to is worked out from the rules. Masks of three flows: 1 is flow 0, 2 is flow 1, 4 is flow 2, 7 all.
 use mathlib.Core.List.{List, _∷_, []}
 use Rattle.model.specs.PlanBytes.{plan3, planOfMany, single}
 use Rattle.model.specs.EdgeCases.{Case, grant, credit, serve, idle, lend, deny, renew, decline, follows}
 
 unfoldable pub turnEdges : List Case
 turnEdges =
-    -- from the flow after the last one lent to, which is not the one after the flow that was looked from
+    -- RULES 9.4: the flow after the one that got the slot, which is not the one after the flow that was looked from
     follows (plan3 8) (lend 4 2 ∷ idle ∷ lend 3 0 ∷ [])
     -- one flow after the other, and after flow n - 1 flow 0: with three flows, with sixteen and with one
     ∷ follows (plan3 8) (lend 7 0 ∷ idle ∷ lend 7 1 ∷ idle ∷ lend 7 2 ∷ idle ∷ lend 7 0 ∷ idle ∷ lend 7 1 ∷ [])

@@ -1,11 +1,11 @@
--- Two runs from one plan in which one flow makes the same calls: what its neighbours can't change. Document 02, N14. It names no link, only calls and
+-- Two runs from one plan in which one flow makes the same calls: what its neighbours can't change. RULES 21.11. It names no link, only calls and
 -- answers. Assumes nothing.
 --
 -- Its limits:
 -- - It is said of a flow that asks until it is refused with 11, by `AsksUntil11`, in both runs. In frame 0 its requests may be answered otherwise in the
 --   one than in the other (`not-from-the-start`), and so its words may carry other numbers from then on.
 -- - A card that never gives 11 keeps it, since no flow has such a run on it. Which answers a card gives is not said here.
--- - "The slot in the frame may differ" (`other-slots`). So may what the flow holds, and which of its credits are taken.
+-- - Which slot of the frame it is, is not said (`other-slots`); nor what the flow holds, and which of its credits are taken.
 -- - A list with a reset in it, granted or refused, is aligned with none. A burst is its requests, as in demand 3's list.
 use Prim.Native.Nat.{ℕ, _≤_, _<_}
 use mathlib.Core.Path.{_≡_}
@@ -22,24 +22,24 @@ use Rattle.model.specs.Card.{Card, run}
 
 -- ---- two runs with the same calls of flow i
 
--- requests that are the same, "quantum numbers aside": the other three fields of their words are equal
+-- RULES 21.11: requests that are the same but for their numbers: the other three parts of their words are equal
 pub record SameButNumber (w₁ w₂ : ℕ) : Type 0 where
   pub destination : destinationOf w₁ ≡ destinationOf w₂
   pub flow : flowOf w₁ ≡ flowOf w₂
   pub departure : departureOf w₁ ≡ departureOf w₂
 
--- An event that one run may have by itself: "the other flows' calls and all lending". Another flow may be one that the plan does not have, and a lend
--- may go to flow i.
+-- RULES 21.11: an event that one run may have by itself, a call of another flow or a lend. Another flow may be one that the plan does not have, and a
+-- lend may go to flow i.
 abbrev pub Neighbours : ℕ → Event → Type 0
 Neighbours i (requested w a) = flowOf w ≡ i → ⊥
 Neighbours i (credited j p a) = j ≡ i → ⊥
 Neighbours i (ticked x) = ⊥
 Neighbours i (lent m a) = Unit {0}
--- "There is no reset."
+-- a reset stands in neither
 Neighbours i (Event.reset a) = ⊥
 
--- The two runs have "the same ticks", and flow i's requests and credits "in the same places", whatever their answers are. As in a history, the newest
--- event is first.
+-- RULES 21.11: the ticks of two runs, and flow i's requests and credits, stand in the same order, whatever their answers are. As in a history, the
+-- newest event is first.
 pub data Aligned (i : ℕ) : (h₁ h₂ : History) → Type 0 where
   start : Aligned i [] []
   both-tick : {h₁ h₂ : History} {x₁ x₂ : Turn} → Aligned i h₁ h₂ → Aligned i (ticked x₁ ∷ h₁) (ticked x₂ ∷ h₂)
@@ -60,20 +60,20 @@ refusal11At (ticked x) h = []
 refusal11At (lent m a) h = []
 refusal11At (Event.reset a) h = []
 
--- "until refused with 11 in every frame": at least once in each frame that has ended, from frame 0 on. The frame that is current need not count; if
--- that frame is asked for too, this follows.
+-- RULES 21.11: 11 at least once in each frame that is over, from frame 0 on. The frame that is current need not count; if that frame is asked for
+-- too, this follows.
 abbrev pub Refused11InEachFrame : Plan → ℕ → History → Type 0
 Refused11InEachFrame P i h = (f : ℕ) → f < frameOf P (ticks h) → 0 < tally (inFrame P i f) (marksOf refusal11At h)
 
--- The flow asks until it is refused with 11; and at each of its well-formed requests it is `Ready`, which is that it has a cell free in every slot "from
--- the current one on", that its word names a tile that has come, and that it carries "the number which that run expects".
+-- RULES 21.11: the flow asks until it is refused with 11; and each of its well-formed requests is `Ready`, as the least count asks: a cell free from
+-- the current slot on, a tile that has come, and the number that its own run expects.
 pub record AsksUntil11 (P : Plan) (i : ℕ) (h : History) : Type 0 where
   pub refused-11-in-each-frame : Refused11InEachFrame P i h
   pub ready-at-each-request : Each (ReadyAt P i) h
 
 -- ---- what follows
 
--- "granted in both runs or refused in both, and a grant falls in the same frame": the one is answered a₁ after h₁, the other a₂ after h₂
+-- RULES 21.11: both granted with slots of one frame, or both refused: the one is answered a₁ after h₁, the other a₂ after h₂
 abbrev pub SameFrame : Plan → (h₁ : History) (a₁ : Grant) (h₂ : History) (a₂ : Grant) → Type 0
 SameFrame P h₁ (accepted v₁) h₂ (accepted v₂) =
     frameOf P (slotAfter P (ticks h₁) (departureOf v₁)) ≡ frameOf P (slotAfter P (ticks h₂) (departureOf v₂))
@@ -101,6 +101,6 @@ UnmovedOn c P k Q =
 abbrev pub UnmovedFrom : Card → (k : ℕ) → (Q : Plan → ℕ → History → Type 0) → Type 0
 UnmovedFrom c k Q = (bytes : List ℕ) → refusal bytes ≡ 0 → UnmovedOn c (planOf bytes) k Q
 
--- "from the first frame change on". That the paper's card keeps it is `same-frames`, in proofs/SameFrames.antt.
+-- RULES 21.11: each request after the first frame change. That the paper's card keeps it is `same-frames`, in proofs/SameFrames.antt.
 abbrev pub Unmoved : Card → Type 0
 Unmoved c = UnmovedFrom c 1 AsksUntil11

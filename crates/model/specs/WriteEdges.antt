@@ -1,6 +1,6 @@
--- Edges of the writer. Document 02, N2. Assumes nothing.
+-- Edges of the writer. RULES 15.1 to 15.3. Assumes nothing.
 --
--- What each comes to is worked out from the request and document 01.
+-- What each comes to is worked out from the rules.
 use Prim.Native.Nat.{ℕ}
 use mathlib.Core.List.{List, _∷_, [], _++_}
 use lib.ListN.{replicate}

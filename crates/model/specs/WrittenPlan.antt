@@ -1,4 +1,4 @@
--- Plans written as bytes, and refusal 19. Document 02, N2; document 01, "Plan bytes". Assumes nothing.
+-- Plans written as bytes, and refusal 19. RULES 15.1 to 15.3. Assumes nothing.
 use Prim.Native.Nat.{ℕ, zero, suc, _+_, _*_, _/_, _%_, _<_}
 use mathlib.Core.List.{List, _∷_, [], _++_, flatMap}
 use lib.ListN.{length, getD, drop}
@@ -9,15 +9,15 @@ use Rattle.model.specs.Calls.{Answer, accepted, refused}
 
 -- ---- the bytes of a plan
 
--- a field: "16-bit, low byte first"
+-- RULES 1.2: a field's two bytes
 abbrev pub field : ℕ → List ℕ
 field x = x % 256 ∷ x / 256 ∷ []
 
--- "total length; flow count n; offset of the flow part; F; W; N"
+-- RULES 2.2: the header's bytes
 abbrev pub headerBytes : Header → List ℕ
 headerBytes h = field (h .total) ++ field (h .count) ++ field (h .offset) ++ field (h .slots) ++ field (h .frames) ++ field (h .buffer)
 
--- "four bytes: share, cells, source node, destination node"
+-- RULES 2.2: an entry's bytes
 abbrev pub entryBytes : Entry → List ℕ
 entryBytes e = e .share ∷ e .cells ∷ e .source ∷ e .destination ∷ []
 
@@ -32,35 +32,36 @@ headerFor P = record {
   buffer = P .buffer;
 }
 
+-- RULES 15.2 and 15.3: the plan's bytes, which are read as the same plan
 unfoldable pub bytesOf : Plan → List ℕ
 bytesOf P = headerBytes (headerFor P) ++ flatMap entryBytes (P .entries)
 
 -- ---- the refusals
 
--- "It makes the reader's tests 2 to 7 on the same numbers."
+-- RULES 15.1: the tests 2 to 7, on the numbers themselves
 abbrev pub numberTests : Plan → List Line
 numberTests P = countTest (headerFor P) ∷ limitTests P
 
--- "a buffer shorter than the plan"
+-- RULES 15.1: test 19
 abbrev pub roomTest : Plan → (out : List ℕ) → Line
 roomTest P out = 19 when ltb (length out) (length (bytesOf P))
 
--- the refusal, and 0 where the plan is written: 19 is "tested after 7"
+-- RULES 15.1: the refusal, and 0 where the plan is written: 19 comes last
 unfoldable pub writeRefusal : Plan → (out : List ℕ) → ℕ
 writeRefusal P out = firstOf (numberTests P ++ (roomTest P out ∷ []))
 
 -- ---- what is written
 
--- what the writer hands back: "the count of bytes written" or the refusal, and the lent buffer
+-- RULES 15.2: what the writer hands back: how many bytes it wrote, or the refusal, and the lent buffer
 pub record Written : Type 0 where
   pub answer : Answer ℕ
   pub out : List ℕ
 
 -- the plan in the buffer, where the tests give a number
 unfoldable pub writtenAfter : ℕ → Plan → (out : List ℕ) → Written
--- "Bytes after the plan keep their values."
+-- the buffer's own bytes follow
 writtenAfter zero P out = record { answer = accepted (length (bytesOf P)); out = bytesOf P ++ drop (length (bytesOf P)) out }
--- "every refusal leaves the buffer untouched"
+-- the buffer as it came
 writtenAfter (suc r) P out = record { answer = refused (suc r); out = out }
 
 unfoldable pub written : Plan → (out : List ℕ) → Written

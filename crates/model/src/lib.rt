@@ -1,1 +1,1 @@
-// Document 01 as definitions (specs/), and what is proved of them (proofs/). There is no code here: the other crates' contracts cite it.
+// The rules as definitions (specs/), and what is proved of them (proofs/). There is no code here: the other crates' contracts cite it.

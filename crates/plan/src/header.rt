@@ -47,7 +47,7 @@ pub(crate) fn read_header(bytes: &[u8]) -> Header
     }
 }
 
-// Test 2: n out of range, offset not 12, or length not 12 + 4n.
+// RULES 2.3: test 2, on n, the offset and the length.
 pub(crate) fn miscounts(h: Header) -> bool
     ensures { λ r. ⌜ r ≡ condition (countTest (headerFor h)) ⌝ }
 {

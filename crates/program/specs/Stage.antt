@@ -1,4 +1,4 @@
--- Where the program stands after an input so far, and what it has written by then. Document 01, "The program and its listing". Assumes nothing.
+-- Where the program stands after an input so far, and what it has written by then. RULES 13.2 and 13.3. Assumes nothing.
 use Prim.Native.Nat.{ℕ, zero, suc, _*_, _/_}
 use mathlib.Core.List.{List, _∷_, [], _++_}
 use mathlib.Core.Bool.{Bool, _&&_, _||_, cond}
@@ -27,14 +27,14 @@ pub data Stage : Type 0 where
   reading : (plan : List ℕ) → Stage
   -- after an accepted plan: the link after the whole records, and the bytes of a record that is cut off
   playing : (link : Link) → (cut : List ℕ) → Stage
-  -- "and ends"
+  -- nothing more is read
   ended : Stage
 
 -- whether bytes of the plan are still to come: fewer than two stand there, or L is 12 to 76 and fewer than L stand there
 unfoldable pub planOpen : List ℕ → Bool
 planOpen input = ltb (length input) 2 || (within 12 76 (planLength input) && ltb (length input) (planLength input))
 
--- "it writes `P` and the refusal and ends, or it writes `P 0` and goes on"
+-- RULES 13.2: the program goes on only with an accepted plan
 unfoldable pub stageWith : (number : ℕ) → (plan rest : List ℕ) → Stage
 stageWith zero plan rest = playing (linkAfter (fresh (planOf plan)) (wholeRecords rest)) (cutOff rest)
 stageWith (suc r) plan rest = ended
@@ -53,7 +53,7 @@ writtenAfter input =
     let plan = take (planLength input) input in
     cond (planOpen input) [] (cond (planMissing input) (planLine 1) (outputAfter (refusal plan) plan (wholeRecords (drop (planLength input) input))))
 
--- what it writes at the end of the input: `P 1` where the plan is missing, and "A short last record gives `R 16`."
+-- RULES 13.2 and 13.3: what it writes at the end of the input: `P 1` where the plan is missing, and `R 16` where a few bytes are left
 abbrev pub atEnd : Stage → List ℕ
 atEnd (reading plan) = planLine 1
 atEnd (playing link []) = []

@@ -1,4 +1,4 @@
-// The program of document 01 but for reading and writing: input is fed in pieces of any sizes, and what is to be written after each is handed back.
+// The program `domelink` but for reading and writing: input is fed in pieces of any sizes, and what is to be written after each is handed back.
 mod keeping;
 mod plans;
 mod records;

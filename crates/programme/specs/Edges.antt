@@ -1,6 +1,6 @@
--- Edge cases of a programme, one table. Document 02, N13. Assumes nothing.
+-- Edge cases of a programme, one table. RULES 19.1 to 19.3. Assumes nothing.
 --
--- What each comes to is worked out from the request.
+-- What each comes to is worked out from the rules.
 use Prim.Native.Nat.{ℕ, _+_, _*_}
 use mathlib.Core.Path.{_≡_}
 use mathlib.Core.List.{List, _∷_, [], map, _++_}

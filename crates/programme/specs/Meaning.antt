@@ -1,4 +1,4 @@
--- What an answer says of the entries, and entries that pass. Assumes nothing.
+-- What an answer says of the entries, and entries that pass. RULES 19.2 and 19.3. Assumes nothing.
 use Prim.Native.Nat.{ℕ, suc, _≤_, _<_}
 use mathlib.Core.Path.{_≡_}
 use mathlib.Core.List.{List}

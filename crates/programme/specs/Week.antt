@@ -1,4 +1,4 @@
--- The week's programme. Document 02, N13. Assumes nothing.
+-- The week's programme. RULES 19.1 to 19.3. Assumes nothing.
 use Prim.Native.Nat.{ℕ, zero, suc, _≤_, _<_}
 use mathlib.Core.Path.{_≡_}
 use mathlib.Core.List.{List, _∷_, []}
@@ -11,7 +11,7 @@ use Rattle.model.specs.Calls.{Answer, accepted, refused}
 
 -- ---- the programme
 
--- an entry: a showing's start and end in minutes of the week, and the number of its plan
+-- RULES 19.1: an entry, a showing's start and end in minutes of the week, and the number of its plan
 pub record Entry : Type 0 where
   pub start : ℕ
   pub end : ℕ
@@ -27,7 +27,7 @@ noEntry = record { start = 0; end = 0; plan = 0 }
 abbrev pub entry : List Entry → ℕ → Entry
 entry entries i = getD entries i noEntry
 
--- a showing runs at its start and at each minute after it, and no more at its end
+-- RULES 19.1: a showing runs at its start and at each minute after it, and no more at its end
 abbrev pub runs : Entry → ℕ → Bool
 runs e minute = leb (e .start) minute && ltb minute (e .end)
 
@@ -41,7 +41,7 @@ keepsLimits e = ltb (e .start) (e .end) && within 0 week (e .start) && within 0 
 abbrev pub someBreaksLimits : List Entry → Bool
 someBreaksLimits entries = any (length entries) (λ i. not (keepsLimits (entry entries i)))
 
--- two entries share a minute: at some minute of the week both run
+-- RULES 19.2: two entries share a minute: at some minute of the week both run
 unfoldable pub shareMinute : Entry → Entry → Bool
 shareMinute a b = any week (λ minute. runs a minute && runs b minute)
 
@@ -49,7 +49,7 @@ shareMinute a b = any week (λ minute. runs a minute && runs b minute)
 abbrev pub someShared : List Entry → Bool
 someShared entries = any (length entries) (λ i. any i (λ j. shareMinute (entry entries j) (entry entries i)))
 
--- the refusal of a programme and a minute, and 0 where there is none: every reason for 28 is tested before 29
+-- RULES 19.2: the refusal of a programme and a minute, and 0 where there is none: every reason for 28 is tested before 29
 unfoldable pub refusal : List Entry → ℕ → ℕ
 refusal entries minute = firstOf (
     28 when (someBreaksLimits entries || ltb 64 (length entries) || not (ltb minute week))
@@ -68,7 +68,7 @@ unfoldable pub running : List Entry → ℕ → List Entry
 running [] minute = []
 running (e ∷ rest) minute = cond (runs e minute) (e ∷ running rest minute) (running rest minute)
 
--- the plan of the entry that runs, which is the only one (`one-at-most`), and dark where none does
+-- RULES 19.3: the plan of the entry that runs, which is the only one (`one-at-most`), and dark where none does
 abbrev pub planOrDark : List Entry → AtMinute
 planOrDark [] = dark
 planOrDark (e ∷ others) = plan (e .plan)
@@ -77,7 +77,7 @@ abbrev pub answered : ℕ → AtMinute → Answer AtMinute
 answered zero found = accepted found
 answered (suc r) found = refused (suc r)
 
--- the answer for a minute
+-- RULES 19.3: the answer for a minute
 unfoldable pub planAt : List Entry → ℕ → Answer AtMinute
 planAt entries minute = answered (refusal entries minute) (planOrDark (running entries minute))
 

@@ -28,13 +28,13 @@ programmeAsked numbers = table (entriesAsked numbers) (entryAsked numbers)
 abbrev pub widePlan : List ℕ → Bool
 widePlan numbers = any (entriesAsked numbers) (λ i. ltb 65535 (entryAsked numbers i .plan))
 
--- `plan` and the number, `dark`, or `R` and the refusal
+-- RULES 20.4: `plan` and the number, `dark`, or `R` and the refusal
 abbrev pub programmeLine : Answer AtMinute → List ℕ
 programmeLine (accepted (plan number)) = text "plan" ++ spaced number ++ text "\n"
 programmeLine (accepted dark) = text "dark\n"
 programmeLine (refused number) = refusalLine number
 
--- the line for numbers and an answer: a reason why the numbers are no question, or else the answer's line
+-- RULES 20.6: the line for numbers and an answer: a reason why the numbers are no question, or else the answer's line
 abbrev pub lineOn : (numbers : List ℕ) → Answer AtMinute → List ℕ
 lineOn numbers answer =
     cond (eqb (length numbers) 0) (cannot "the minute is missing")

@@ -1,4 +1,4 @@
--- Every edge of the count comes out as the request has it. Assumes nothing.
+-- Every edge of the count comes out as it stands in its table. Assumes nothing.
 use Prim.Native.Nat.{ℕ, _-_, _^_}
 use mathlib.Core.Path.{_≡_, refl, _∙_}
 use mathlib.Core.List.{map}

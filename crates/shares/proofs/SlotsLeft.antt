@@ -17,7 +17,7 @@ use Rattle.shares.proofs.FirstShare.{tally-no, by-first, total-first}
 fits : (left : ℕ) → List ℕ → Bool
 fits left shares = not (ltb left (total shares))
 
--- the lists of n shares, each 1 to F, that fit into the slots left
+-- how many of the lists fit into the slots left
 fitting : (F left n : ℕ) → ℕ
 fitting F left n = tally (fits left) (shareLists F n)
 

@@ -1,4 +1,4 @@
--- Binomial coefficients: a second meaning of the count. Assumes nothing.
+-- Binomial coefficients: a second meaning of the count. RULES 17.1. Assumes nothing.
 use Prim.Native.Nat.{ℕ, zero, suc, _+_}
 
 -- how many sets of n things there are among F: without the last thing, or with it

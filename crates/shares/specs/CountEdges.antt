@@ -1,4 +1,4 @@
--- Edges of the count, one table. What each comes to is worked out from the request. Assumes nothing.
+-- Edges of the count, one table. What each comes to is worked out from RULES 17.1 and 17.2. Assumes nothing.
 use Prim.Native.Nat.{ℕ}
 use mathlib.Core.Path.{_≡_}
 use mathlib.Core.List.{List, _∷_, [], map}
@@ -22,7 +22,7 @@ Pass cases = map (λ e. counted (e .slots) (e .flows)) cases ≡ map (λ e. e .e
 
 unfoldable pub countEdges : List Case
 countEdges =
-    -- the request's example: four slots and two flows
+    -- the first example: four slots and two flows
     gives 4 2 6 10
     -- one list of one share, which fills the frame
     ∷ gives 1 1 1 0

@@ -1,4 +1,4 @@
--- How many plans fit. Document 02, N11: numbers of lists, however they are come by. Assumes nothing.
+-- How many plans fit: numbers of lists, however they are come by. RULES 17.1 and 17.2. Assumes nothing.
 use Prim.Native.Nat.{ℕ}
 use mathlib.Core.Bool.{Bool, not, _||_, cond}
 use Rattle.model.specs.Tables.{within, tally}
@@ -12,23 +12,23 @@ pub record Counts : Type 0 where
   pub accepts : ℕ
   pub refuses : ℕ
 
--- N11, the first number: how many lists pass the share test
+-- RULES 17.1: how many lists pass the share test
 unfoldable pub acceptedLists : (F n : ℕ) → ℕ
 acceptedLists F n = tally (λ shares. not (condition (shareTest F shares))) (shareLists F n)
 
--- N11, the second: how many lists fail it, by 6
+-- RULES 17.1: how many lists fail it, by 6
 unfoldable pub refusedLists : (F n : ℕ) → ℕ
 refusedLists F n = tally (λ shares. condition (shareTest F shares)) (shareLists F n)
 
--- N11, the refusal: 26, where F is not 1 to 16 or n is not 1 to 8
+-- RULES 17.2: 26, where F is not 1 to 16 or n is not 1 to 8
 abbrev pub outOfRange : (F n : ℕ) → Bool
 outOfRange F n = not (within 1 16 F) || not (within 1 8 n)
 
--- N11, the answer for F and n: both numbers, or the refusal
+-- RULES 17.1 and 17.2: the answer for F and n, both numbers, or the refusal
 unfoldable pub counted : (F n : ℕ) → Answer Counts
 counted F n = cond (outOfRange F n) (refused 26) (accepted (record { accepts = acceptedLists F n; refuses = refusedLists F n }))
 
--- the code's answer for the request's, case by case
+-- the code's answer for the definition's, case by case
 abbrev pub countedFor : Answer Counts → Counted
 countedFor (accepted counts) = Lists (counts .accepts) (counts .refuses)
 countedFor (refused number) = Refused number

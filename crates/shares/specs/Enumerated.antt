@@ -1,4 +1,4 @@
--- What it is that a list of lists has each share list exactly once. Assumes nothing.
+-- What it is that a list of lists has each share list exactly once. RULES 17.1. Assumes nothing.
 use Prim.Native.Nat.{ℕ, _≤_, _<_}
 use mathlib.Core.Path.{_≡_}
 use mathlib.Core.List.{List, _∷_, []}

@@ -1,4 +1,4 @@
-// How many plans fit: the share lists of a frame that the share test accepts, and those that it refuses. Document 02, N11.
+// How many plans fit: of the share lists of a frame, those that pass the share test and those that fail it. RULES 17.1 and 17.2.
 mod lists;
 
 ghost use mathlib.Core.Path.{_≡_};

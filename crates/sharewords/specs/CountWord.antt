@@ -15,12 +15,12 @@ use Rattle.replies.specs.Lines.{cannot, spaced}
 abbrev pub twoLine : (first second : ℕ) → List ℕ
 twoLine first second = decimal first ++ spaced second ++ text "\n"
 
--- the two numbers, those accepted and those refused, or `R` and the refusal
+-- RULES 20.4: the two numbers, those accepted and those refused, or `R` and the refusal
 abbrev pub countLine : Answer Counts → List ℕ
 countLine (accepted counts) = twoLine (counts .accepts) (counts .refuses)
 countLine (refused number) = refusalLine number
 
--- `count F n`, and nothing else
+-- RULES 20.4 and 20.6: `count F n`, and nothing else
 unfoldable pub answerToCount : (numbers : List ℕ) → List ℕ
 answerToCount numbers =
     cond (not (eqb (length numbers) 2)) (cannot "the numbers are F and n")

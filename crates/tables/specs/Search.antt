@@ -18,8 +18,7 @@ abbrev pub foundOf : Found → model.Found
 foundOf (At frame left position) = model.found frame left position
 foundOf (Nowhere left) = model.nowhere left
 
--- position p is late enough for a flow with these cells and these holdings: it is not passed, and from it on the flow has room (document 01, the
--- request)
+-- RULES 6.2: position p is late enough for a flow with these cells and these holdings: it is not passed, and from it on the flow has room
 abbrev pub lateAt : Window → (held : List ℕ) (cells p : ℕ) → Bool
 lateAt w held cells p = not (passed w p) && everyFrom w p (roomAt held cells)
 
@@ -27,7 +26,7 @@ lateAt w held cells p = not (passed w p) && everyFrom w p (roomAt held cells)
 unfoldable pub validAt : (owners : List ℕ) (late : ℕ → Bool) (p : ℕ) → Bool
 validAt owners late p = unbookedAt owners p && late p
 
--- position p is late enough, where it is if it passes `late`, and document 02, N4: a tile with departure d can leave there
+-- RULES 6.3: position p is late enough, where it is if it passes `late`, and a tile with departure d can leave there
 abbrev pub lateAfter : Window → (d : ℕ) (late : ℕ → Bool) (p : ℕ) → Bool
 lateAfter w d late p = late p && model.canLeave w d p
 
@@ -37,6 +36,6 @@ searchFrom w ok share j c = model.search w ok share (ahead (w .frames) j (newest
 
 -- ---- a frame's valid slots in one word
 
--- document 02, N3: the word of frame j has a 1 for each of its F slots that is valid, and no other, where a position is valid if it passes `ok`
+-- the word of frame j has a 1 for each of its F slots that is valid, and no other, where a position is valid if it passes `ok`
 pub record ValidSlots (w : Window) (ok : ℕ → Bool) (j word : ℕ) : Type 0 where
   pub is : (i : ℕ) → bitAt word i ≡ ltb i (w .slots) && ok (start w j + i)

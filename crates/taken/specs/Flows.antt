@@ -23,7 +23,7 @@ frameKept b owners w i share frame j =
     leb (bookingsAt b i (owners + 2 * (j * w .slots)) (w .slots)) share
     && (not (frameAfter w j frame) || eqb (bookingsAt b i (owners + 2 * (j * w .slots)) (w .slots)) 0)
 
--- flow i's holding at position p, where that is later than CP, exceeds the one before it by at most one, and only if it booked p
+-- RULES 12.3: where position p is later than CP, flow i holds no more there than before it, or one more if it booked p
 abbrev pub growsAt : List ℕ → (owners held : ℕ) → Window → (i p : ℕ) → Bool
 growsAt b owners held w i p =
     not (later w p (w .current)) || leb (fieldAt b held p) (fieldAt b held (before w p) + bookingAt b i (owners + 2 * p))

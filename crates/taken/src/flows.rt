@@ -75,7 +75,7 @@ fn at_most(image: &[u8], at: usize, count: usize, most: usize) -> bool
     true
 }
 
-// Whether flow i's holding at position p, where that is later than CP, exceeds the one before it by at most one, and only if it booked p.
+// RULES 12.3: whether, where position p is later than CP, flow i holds no more there than before it, or one more if it booked p.
 fn grows_at(image: &[u8], owners: usize, held: usize, w: Window, i: usize, p: usize) -> bool
     requires { ⌜ HeldOn (now image) owners held w i × (p < w .slots * w .frames) ⌝ }
     ensures { λ r. ⌜ r ≡ growsAt (now (image .entry)) owners held (windowOf w) i p ⌝ }

@@ -1,4 +1,4 @@
--- "Any 32-bit number splits into fields in one way and joins back to itself." Assumes nothing.
+-- Each number below 2 to the power 32 is a word in exactly one way. RULES 5.1. Assumes nothing.
 use Prim.Native.Nat.{ℕ, _<_, _^_}
 use mathlib.Core.Path.{_≡_}
 use Rattle.word.specs.declared.Joined.the-variants.{Word}
