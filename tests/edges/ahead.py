@@ -81,7 +81,7 @@ TAKEN_ALONE = with_pair(
     (credit(0, 1), "C"), (ask(0), "G 3"), (ask(0), "G 4"),
     broken=ALONE, says="is answered with R 12 and G 4")
 
-# The same credit, and both flows have room at each request.  In slot 2 the
+# Rule 24.9: the same credit, with room at each request.  In slot 2 the
 # second run alone holds nothing, and is granted a reset: flow 1, whose share
 # of frame 0 was spent, books slot 3 of it, and in the first run slot 4.
 RENEWED_ALONE = with_pair(

@@ -16,12 +16,6 @@ COMMENT = {".antt": re.compile(r"(?:^|\s)--(?: .*)?$", re.MULTILINE),
            ".rt": re.compile(r"(?:^|\s)//(?: .*)?$", re.MULTILINE)}
 QUOTED = re.compile(r'"([^"\n]*[a-z] [^"\n]*)"')
 LIST = "Rule"           # the head of the list's first column
-# Rules that their definitions don't cite yet, and files that still quote.
-LATER = ["20.1", "20.2", "20.3", "20.5", "10.3", *citations(
-    "rules 21.12 to 22.7, 22.9 to 22.11, 24.1 to 24.8")]
-QUOTING = re.compile(
-    r"(?:planwords|replies|tokens)/|model/\w+/(?:AsFresh|Buffer|CountedBursts"
-    r"|QuantumNumbers|TwoHops)\.antt")
 
 
 def known():
@@ -65,7 +59,7 @@ def listed():
 
 def each_rule_has_a_definition():
     """Or stands in the list, and the code cites it."""
-    found = by_definitions() | (by_code() & set(listed())) | set(LATER)
+    found = by_definitions() | (by_code() & set(listed()))
     wrong = [number for number in known() if number not in found]
     return wrong and "cited by none: " + ", ".join(wrong)
 
@@ -89,7 +83,7 @@ def comments_quote_the_rule_book_alone():
     """Definitions, proofs and code cite, and have words of their own."""
     book = page("docs/RULES.md")
     paths = [path for path in (ROOT / "crates").rglob("*")
-             if path.suffix in COMMENT and not QUOTING.search(str(path))]
+             if path.suffix in COMMENT]
     wrong = ["%s: %s" % (path.relative_to(ROOT), quoted) for path in paths
              for comment in COMMENT[path.suffix].findall(path.read_text())
              for quoted in QUOTED.findall(comment) if quoted not in book]

@@ -17,9 +17,9 @@ CITING = ("crates", "docs", "tests", "tools", "include", "player", "bench",
 CITING_FILES = ("README.md", "CONTRIBUTING.md", "play", "plan", "check-log")
 # The papers behind the rules, by name.
 PAPER = re.compile(r"\b[Dd]oc(?:ument)?s? ?0\d\d?\b|\bN(?:1[0-4]|[1-9])\b")
-# History is told there, or the names are still to go.
+# History is told there.
 TOLD = ("docs/landings/", "docs/history/", "docs/DECISIONS.md",
-        "docs/COMPARISON.md", "docs/PERFORMANCE.md", "crates/")
+        "docs/COMPARISON.md", "docs/PERFORMANCE.md")
 BYTES = re.compile(r"(?:[0-9A-F]{2} ?)+")
 LINE = re.compile(r"[PGRCT](?: \S+)?")
 

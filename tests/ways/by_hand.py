@@ -62,6 +62,13 @@ IN_TIME = [
            [(plan(2, 3, (1, 3)), *AHEAD, (ask(0, departure=1), "G 2"))]),
     ByHand("three shares of cells where tiles are shown first",
            [(plan(2, 2, (2, 6)), *SHOWN, (ask(0), "G 3"))]),
+    # Rule 22.13: F = 2, W = 4, share 1.  Tiles of three frames are asked for in
+    # slot 0, each credited at its grant, dated by the end of the next frame.
+    ByHand("two shares and a cell where each is credited at its grant",
+           [(plan(2, 4, (1, 3)),
+             (ask(0), "G 1"), (credit(0, 3), "C"),
+             (ask(0, departure=2), "G 3"), (credit(0, 5), "C"),
+             (ask(0, departure=4), "G 5"))]),
 ]
 
 BROKEN = [

@@ -41,7 +41,7 @@ fn take(state: State, piece: &[u8], out: &mut [u8]) -> Round
     now
 }
 
-// Reads once, and takes what was read.
+// RULES 20.1: reads once, and takes what was read.
 fn round_once(state: State, space: &mut [u8], out: &mut [u8]) -> Round
     requires { ⌜ Regular state × (room ≤ length (now out)) ⌝ }
     ensures { λ r. ⌜ Regular (r .state) ⌝ }

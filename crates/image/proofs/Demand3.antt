@@ -53,11 +53,11 @@ module _ (plan : List ℕ) where
   pub host-meets : {h : History} {b : List ℕ} → Hosted plan h b → (i : ℕ) → i < flowCount (planOf plan) → Demand3 (planOf plan) i h
   host-meets x = chain-meets plan (chained x .chain)
 
-  -- document 02, N8
+  -- RULES 21.10: lending in turn is fair
   pub host-fair : {h : History} {b : List ℕ} → Hosted plan h b → FairOn (planOf plan) h
   host-fair x = chain-fair plan (chained x .chain)
 
-  -- document 02, N9
+  -- RULES 5.3: granted words count up from 0 modulo 1,024
   pub host-numbers : {h : History} {b : List ℕ} → Hosted plan h b → (i : ℕ) → i < flowCount (planOf plan) → InOrder (planOf plan) i h
   host-numbers x = chain-numbers plan (chained x .chain)
 

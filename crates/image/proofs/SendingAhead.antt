@@ -66,7 +66,7 @@ module _ (plan : List ℕ) where
       → {h₁ h₂ : History} {b₁ b₂ : List ℕ} → Hosted plan h₁ b₁ → Hosted plan h₂ b₂ → Q h₁ h₂
   both-have Q runs {h₁} {h₂} x₁ x₂ = has (λ h. Q h h₂) (λ passes calls. has (Q (run paper P calls .history)) (λ again. runs passes calls) x₂) x₁
 
-  -- document 02, N14: the neighbours can't move a flow's frames
+  -- RULES 21.11: the neighbours can't move a flow's frames
   pub host-unmoved : {h₁ h₂ : History} {b₁ b₂ : List ℕ} → Hosted plan h₁ b₁ → Hosted plan h₂ b₂ → (i : ℕ) → i < flowCount P
       → (aligned : Aligned i h₁ h₂) → AsksUntil11 P i h₁ → AsksUntil11 P i h₂ → SameFrames P 1 aligned
   host-unmoved =

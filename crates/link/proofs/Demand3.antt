@@ -167,12 +167,12 @@ pub code-meets : (bytes : List ℕ) (o : Outcome) → o ≡ readOf bytes → (o 
     → {h : History} {l : Link} → Handed (o .plan) h l → (i : ℕ) → i < model.flowCount (model.planOf bytes) → Demand3 (model.planOf bytes) i h
 code-meets = code-has (λ P h. (i : ℕ) → i < model.flowCount P → Demand3 P i h) meets-accepted
 
--- and document 02, N8: lending in turn is fair
+-- and RULES 21.10: lending in turn is fair
 pub code-fair : (bytes : List ℕ) (o : Outcome) → o ≡ readOf bytes → (o .verdict ≡ Accepted → Valid (o .plan)) → o .verdict ≡ Accepted
     → {h : History} {l : Link} → Handed (o .plan) h l → FairOn (model.planOf bytes) h
 code-fair = code-has FairOn fair-accepted
 
--- and N9: what a flow is granted by these calls counts up from 0 modulo 1,024, grant after grant
+-- and RULES 5.3: what a flow is granted by these calls counts up from 0 modulo 1,024, grant after grant
 pub code-numbers : (bytes : List ℕ) (o : Outcome) → o ≡ readOf bytes → (o .verdict ≡ Accepted → Valid (o .plan)) → o .verdict ≡ Accepted
     → {h : History} {l : Link} → Handed (o .plan) h l → (i : ℕ) → i < model.flowCount (model.planOf bytes) → InOrder (model.planOf bytes) i h
 code-numbers = code-has (λ P h. (i : ℕ) → i < model.flowCount P → InOrder P i h) numbers-accepted

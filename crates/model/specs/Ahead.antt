@@ -1,4 +1,4 @@
--- A tile sent ahead of its booked slot: a lend, and then a credit. Document 02, N1. Assumes nothing.
+-- A tile sent ahead of its booked slot: a lend, and then a credit. RULES 24.1 to 24.3. Assumes nothing.
 --
 -- In the current slot, which nobody booked, a lend is answered with flow i, and the tile that leaves in it is one that i booked at a later position p. A
 -- credit of i dated p then takes it off where the booking counts it again: i holds one more from CP up to, but not including, p.
@@ -19,17 +19,17 @@ use Rattle.model.specs.Card.{Card, run}
 
 -- ---- what the two calls come to
 
--- flow i's holdings, one more at CP and at each later position that comes before p
+-- RULES 24.3: flow i's holdings, one more at CP and at each later position that comes before p
 abbrev pub heldUntil : Link → (i p : ℕ) → List ℕ
 heldUntil l i p =
     table (positions (l .plan)) (λ q. cond (fromOn (window l) (l .current) q && not (fromOn (window l) p q)) (suc (holding l i q)) (holding l i q))
 
--- Owners, injection frames, remainders and numbers stay. The slot is marked taken, and the turn has moved on.
+-- RULES 24.3: owners, injection frames, remainders and numbers stay. The slot is marked taken, and the turn has moved on.
 abbrev pub sentAhead : Link → (i p : ℕ) → Link
 sentAhead l i p = withLookFrom (withTaken (withFlow l i (withHeld (flow l i) (heldUntil l i p))) true) ((i + 1) % flowCount (l .plan))
 
--- On every link, whether or not calls lead to it from fresh: where a lend is answered with flow i, a credit of i dated any position later than CP is
--- taken, and the two come to this. That it is so is `comes-to`, in proofs/Ahead.antt.
+-- RULES 24.1 and 24.3: on every link, whether or not calls lead to it from fresh: where a lend is answered with flow i, a credit of i dated any
+-- position later than CP is taken, and the two come to this. That it is so is `comes-to`, in proofs/Ahead.antt.
 abbrev pub ComesTo : Type 0
 ComesTo =
     (l : Link) → Accepted (l .plan) → l .current < positions (l .plan) → (mask i p : ℕ) → lend l mask .answer ≡ accepted i
@@ -37,8 +37,8 @@ ComesTo =
 
 -- ---- taken, of a card
 
--- After any calls, where a lend is answered with flow i: a credit of i that comes next is taken, if it is dated a position later than CP. `hasCome` is the
--- test of a position that is CP or lies before CP in the head frame.
+-- RULES 24.1: after any calls, where a lend is answered with flow i: a credit of i that comes next is taken, if it is dated a position later than CP.
+-- `hasCome` is the test of a position that has gone by.
 abbrev pub TakenOn : Card → Plan → Type 0
 TakenOn c P =
     (calls : List Call) (mask i p : ℕ) → c .lend (run c P calls .state) mask .1 ≡ accepted i

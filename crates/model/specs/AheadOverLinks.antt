@@ -23,7 +23,7 @@ unfoldable pub leavesOf : ℕ → List Tile → List ℕ
 leavesOf i [] = []
 leavesOf i (m ∷ ms) = cond (eqb (m .flow) i) (m .leaves ∷ leavesOf i ms) (leavesOf i ms)
 
--- Board b's stream, with tiles sent ahead: each leaves at the latest k frames after the frame of its slot in `from`.
+-- RULES 24.8: board b's stream, with tiles sent ahead: each leaves at the latest k frames after the frame of its slot in `from`.
 pub record LeaveWithin {c : Card} (k : ℕ) (P : Plan) (from : List ℕ) (b : Board c) {h₂ : History} (x : WithAhead (b .events) h₂) : Type 0 where
   pub as-many : length (leavesOf (b .stream) (tiles (planOn b) (sendingOf x))) ≡ length (sentOn b)
   pub frames-later : (n : ℕ) → n < length (sentOn b)

@@ -25,8 +25,8 @@ use Rattle.model.specs.BooksInOrder.{InTurn}
 
 -- ---- the two runs
 
--- They make the same calls in the same places, whatever the answers are, but for the tiles that the second run sends ahead. As in a history, the newest
--- event is first.
+-- RULES 24.4: they make the same calls in the same places, whatever the answers are, but for the tiles that the second run sends ahead. As in a
+-- history, the newest event is first.
 pub data WithAhead : (h₁ h₂ : History) → Type 0 where
   start : WithAhead [] []
   both-tick : {h₁ h₂ : History} {x₁ x₂ : Turn} → WithAhead h₁ h₂ → WithAhead (ticked x₁ ∷ h₁) (ticked x₂ ∷ h₂)
@@ -73,7 +73,7 @@ RefusedToo (accepted u₁) a₂ = Unit {0}
 RefusedToo (refused r₁) (accepted u₂) = ⊥
 RefusedToo (refused r₁) (refused r₂) = Unit {0}
 
--- In the first run no flow is granted a slot before one that it has sent ahead.
+-- RULES 24.5: in the first run no flow is granted a slot before one that it has sent ahead.
 abbrev pub GrantsAfter : Plan → {h₁ h₂ : History} → WithAhead h₁ h₂ → Type 0
 GrantsAfter P start = Unit {0}
 GrantsAfter P (both-tick x) = GrantsAfter P x
@@ -97,7 +97,7 @@ ResetsAfter P (second-refused x) = ResetsAfter P x
 ResetsAfter P (both-reset {h₁ = h₁} {a₁ = a₁} x) = RenewedFrom (ticks h₁) (λ j. latest P x j) a₁ × ResetsAfter P x
 ResetsAfter P (sent-ahead i p x) = ResetsAfter P x
 
--- No credit that both make is taken in the second run alone.
+-- RULES 24.5: no credit that both make is taken in the second run alone.
 abbrev pub NoneTakenAlone : {h₁ h₂ : History} → WithAhead h₁ h₂ → Type 0
 NoneTakenAlone start = Unit {0}
 NoneTakenAlone (both-tick x) = NoneTakenAlone x
@@ -118,8 +118,8 @@ SameGrant (accepted v₁) (refused r₂) = ⊥
 SameGrant (refused r₁) (accepted v₂) = ⊥
 SameGrant (refused r₁) (refused r₂) = Unit {0}
 
--- The answers to a request after t ticks, where b is the latest slot that its flow has sent ahead. If that has come up, they are the same, the number of a
--- refusal with them.
+-- RULES 24.5: the answers to a request after t ticks, where b is the latest slot that its flow has sent ahead. If that has come up, they are the
+-- same, the number of a refusal with them.
 pub record AnsweredAlike (t b : ℕ) (a₁ a₂ : Grant) : Type 0 where
   pub same-grant : SameGrant a₁ a₂
   pub same-answer : b ≤ t → a₁ ≡ a₂
@@ -146,7 +146,7 @@ pub record BookedAlike (P : Plan) {h₁ h₂ : History} (x : WithAhead h₁ h₂
   pub unmoved : Unmoved P x
   pub same-grants : grants P h₁ ≡ grants P h₂
 
--- Two lists of calls on a card, from one plan.
+-- RULES 24.5: two lists of calls on a card, from one plan.
 abbrev pub NobodyMovesOn : Card → Plan → Type 0
 NobodyMovesOn c P =
     (calls₁ calls₂ : List Call) (x : WithAhead (run c P calls₁ .history) (run c P calls₂ .history))
@@ -170,7 +170,7 @@ OfBooked P (second-refused x) = OfBooked P x
 OfBooked P (both-reset x) = OfBooked P x
 OfBooked P (sent-ahead {h₁ = h₁} i p x) = WasGranted P h₁ i (slotAfter P (ticks h₁) p) × OfBooked P x
 
--- each flow that sends ahead is in turn at each of its requests in the first run
+-- RULES 24.6: each flow that sends ahead is in turn at each of its requests in the first run
 abbrev pub SendersInTurn : Plan → {h₁ h₂ : History} → WithAhead h₁ h₂ → Type 0
 SendersInTurn P {h₁} x = (i : ℕ) → 0 < latest P x i → Each (AsksAt InTurn P i) h₁
 

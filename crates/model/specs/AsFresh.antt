@@ -1,5 +1,5 @@
--- What a granted reset leaves: a link that takes requests like one that is fresh but for the clock and the numbers that are expected. Document 02, N6:
--- it "recycles every frame", and the clock "goes on"; N9: "resets leave it", the number of each flow. Assumes nothing.
+-- What a granted reset leaves: a link that takes requests like one that is fresh but for the clock and the numbers that are expected. RULES 10.3.
+-- Assumes nothing.
 use Prim.Native.Nat.{ℕ, _/_, _<_}
 use mathlib.Core.Path.{_≡_}
 use mathlib.Core.List.{List, _∷_, []}
@@ -23,18 +23,18 @@ answersTo l (w ∷ ws) = request l w .answer ∷ answersTo (request l w .link) w
 
 -- ---- of a reset, on every link, whether or not calls lead to it from fresh
 
--- After a granted one requests are answered as on that link. RULES 10.2.
+-- RULES 10.3: after a granted one requests are answered as on that link.
 abbrev pub GoesOnAsFresh : (Link → Step Renewal) → Type 0
 GoesOnAsFresh reset =
     (l : Link) → Accepted (l .plan) → l .current < positions (l .plan) → reset l .answer ≡ accepted tt
     → (words : List ℕ) → answersTo (reset l .link) words ≡ answersTo (freshAt (l .plan) (l .current) (λ i. flow l i .number)) words
 
--- A second one in the same slot is granted, and changes nothing.
+-- RULES 10.3: a second one in the same slot is granted, and changes nothing.
 abbrev pub TwiceIsOnce : (Link → Step Renewal) → Type 0
 TwiceIsOnce reset =
     (l : Link) → l .current < positions (l .plan) → reset l .answer ≡ accepted tt
     → reset (reset l .link) ≡ record { link = reset l .link; answer = accepted tt }
 
--- On a fresh link it is granted, and changes nothing.
+-- RULES 10.3: on a fresh link it is granted, and changes nothing.
 abbrev pub FreshStays : (Link → Step Renewal) → Type 0
 FreshStays reset = (P : Plan) → Accepted P → reset (fresh P) ≡ record { link = fresh P; answer = accepted tt }

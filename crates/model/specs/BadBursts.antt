@@ -1,4 +1,4 @@
--- Bursts that are answered wrongly. Document 02, N7. Each is the paper's burst but for one fault. Assumes nothing.
+-- Bursts that are answered wrongly (RULES 11.1 and 11.2). Each is the paper's burst but for one fault. Assumes nothing.
 use Prim.Native.Nat.{ℕ}
 use mathlib.Core.List.{List, _∷_, [], _++_}
 use lib.ListN.{take, drop}

@@ -25,7 +25,7 @@ GrantedSince P h i s = 0 < tally (λ m. ofFlow i m && atSlot s m) (grantsSince P
 abbrev pub NoneDueAfter : Plan → History → (i d : ℕ) → Type 0
 NoneDueAfter P h i d = tally (λ m. ofFlow i m && ltb d (m .slot)) (dueSince P h) ≡ 0
 
--- what is asked of flow i's request with word w after h
+-- RULES 24.6: what is asked of flow i's request with word w after h
 pub record InTurn (P : Plan) (i w : ℕ) (h : History) : Type 0 where
   pub room : Room P i h
   pub none-due-after : NoneDueAfter P h i (dueSlot P w h)

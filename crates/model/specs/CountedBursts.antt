@@ -1,4 +1,4 @@
--- Lists of calls with bursts, as demand 3 counts them. Document 02, N7. Assumes nothing.
+-- Lists of calls with bursts, as demand 3 counts them. RULES 21.2. Assumes nothing.
 use mathlib.Core.Path.{_≡_}
 use mathlib.Core.List.{List, _∷_, [], _++_, map, flatMap, reverse}
 use mathlib.Core.Bool.{cond}
@@ -11,14 +11,14 @@ use Rattle.model.specs.Link.{Link}
 use Rattle.model.specs.Burst.{Ask, Burst}
 use Rattle.model.specs.Card.{Played, paper, step, started, run}
 
--- a call of demand 3's list, or a burst of records
+-- RULES 21.2: a call of demand 3's list, or a burst of records
 pub data Item : Type 0 where
   single : Call → Item
   several : (records : List Ask) → Item
 
 -- ---- the list without bursts
 
--- "a burst counts as those requests"
+-- RULES 21.2: a burst stands for its first 16 requests
 abbrev pub countsAs : Item → List Call
 countsAs (single c) = c ∷ []
 countsAs (several xs) = map (λ x. Call.request (x .word)) (take 16 xs)
@@ -54,6 +54,6 @@ playWith bursts r (x ∷ xs) = playWith bursts (stepWith bursts r x) xs
 abbrev pub runWith : (Link → List Ask → Burst) → Plan → List Item → Played paper
 runWith bursts P items = playWith bursts (started paper P) items
 
--- "in demand 3's list a burst counts as those requests": a list with bursts comes to the link and the events of the list without. RULES 21.2.
+-- RULES 21.2: a list with bursts comes to the link and the events of the list in which each is its requests.
 abbrev pub BurstsCounted : (Link → List Ask → Burst) → Type 0
 BurstsCounted bursts = (P : Plan) → Accepted P → (items : List Item) → runWith bursts P items ≡ run paper P (replaced items)

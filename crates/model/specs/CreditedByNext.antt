@@ -45,8 +45,8 @@ passes P (e ∷ h) = passAt P e h ++ passes P h
 abbrev pub grantedThen : Plan → (j t s : ℕ) → History → Bool
 grantedThen Q j t s h = ltb 0 (tally (λ g. eqb (g .flow) j && eqb (g .made) t && eqb (g .slot) s) (passes Q h))
 
--- In each slot that is gone flow i made as many credits, each dated a slot that flow j was granted in that slot on the next board, as tiles of it came up:
--- one, or none.
+-- RULES 22.8: in each slot that is gone flow i made as many credits, each dated a slot that flow j was granted in that slot on the next board, as
+-- tiles of it came up: one, or none.
 abbrev pub CreditedByNext : (P Q : Plan) (i j : ℕ) (h₁ h₂ : History) → Type 0
 CreditedByNext P Q i j h₁ h₂ =
     (t : ℕ) → t < ticks h₁ → tally (λ m. ofFlow i m && atSlot t m) (grants P h₁)
@@ -86,7 +86,7 @@ pub record ModestFirst (P : Plan) (i : ℕ) (h : History) : Type 0 where
   pub asks : Each (AtRequest (λ w h. wellFormed P w ≡ true → flowOf w ≡ i → AsksModestly P i w h)) h
   pub not-lent : tally (ofFlow i) (lends h) ≡ 0
 
--- That the paper's card keeps both is `over-links-by-credits` and `from-source-by-credits`, in proofs/CreditedByNext.antt.
+-- RULES 22.8: that the paper's card keeps both is `over-links-by-credits` and `from-source-by-credits`, in proofs/CreditedByNext.antt.
 abbrev pub OverLinksByCredits : Card → Type 0
 OverLinksByCredits c =
     (late : ℕ) (a : Board c) (rest : List (Board c)) → WayByCredits late a rest

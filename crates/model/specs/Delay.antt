@@ -30,14 +30,14 @@ use Rattle.model.specs.Card.{Card, run}
 
 -- ---- when a tile is due
 
--- the frame of the current slot, and the newest of the window
+-- RULES 22.1: the frame of the current slot, and the newest of the window
 abbrev pub currentFrame : Plan → History → ℕ
 currentFrame P h = frameOf P (ticks h)
 
 abbrev pub newestFrame : Plan → History → ℕ
 newestFrame P h = currentFrame P h + P .frames - 1
 
--- The slot in which the tile of word w is due, after h: the current one where the tile has come, else that of its departure.
+-- RULES 22.2: the slot in which the tile of word w is due, after h: the current one where the tile has come, else that of its departure.
 unfoldable pub dueSlot : Plan → (w : ℕ) → History → ℕ
 dueSlot P w h = cond (hasCome P (ticks h) (departureOf w)) (ticks h) (slotAfter P (ticks h) (departureOf w))
 
@@ -73,7 +73,7 @@ dueIn P h i f = tally (inFrame P i f) (dueSince P h)
 
 -- ---- a request that can be served
 
--- after h, flow i holds fewer than its cells in every slot from slot s on
+-- RULES 22.2: after h, flow i holds fewer than its cells in every slot from slot s on
 abbrev pub RoomFrom : Plan → (i s : ℕ) → History → Type 0
 RoomFrom P i s h = (r : ℕ) → s ≤ r → grantedUpTo P h i r + lentUpTo h i r < creditedUpTo P h i r + entry P i .cells
 
@@ -87,7 +87,8 @@ pub record TimelyFrom (s : ℕ) (P : Plan) (i w : ℕ) (h : History) : Type 0 wh
   pub number : quantumOf w ≡ expectedNumber P h i
   pub in-time : dueFrame P w h < newestFrame P h
 
--- so from the frame after the due one on, which soon asks; and from the newest frame on, which is less (`timely-fits`) and all that prompt asks
+-- RULES 22.2: so from the frame after the due one on, which soon asks; and from the newest frame on, which is less (`timely-fits`) and all that
+-- prompt asks
 abbrev pub Timely : Plan → (i w : ℕ) → History → Type 0
 Timely P i w h = TimelyFrom (nextFrameOf P (dueSlot P w h)) P i w h
 
@@ -108,7 +109,7 @@ abbrev pub IsGranted : Grant → Type 0
 IsGranted (accepted v) = Unit {0}
 IsGranted (refused r) = ⊥
 
--- A well-formed request that is as Q says is granted, if fewer than the flow's share, and `more`, of its grants were made in this frame.
+-- RULES 22.3: a well-formed request that is as Q says is granted, if fewer than the flow's share, and `more`, of its grants were made in this frame.
 abbrev pub PromptAt : (Q : Plan → (i w : ℕ) → History → Type 0) (more : ℕ) → Plan → Event → History → Type 0
 PromptAt Q more P =
     AtAnswer (λ w a h. wellFormed P w ≡ true → Q P (flowOf w) w h → madeIn P h (flowOf w) (currentFrame P h) < entry P (flowOf w) .share + more → IsGranted a)
@@ -121,7 +122,7 @@ PromptOn Q more P = Each (PromptAt Q more P)
 abbrev pub PromptBy : (Q : Plan → (i w : ℕ) → History → Type 0) (more : ℕ) → Card → Type 0
 PromptBy Q more c = (bytes : List ℕ) → refusal bytes ≡ 0 → (calls : List Call) → PromptOn Q more (planOf bytes) (run c (planOf bytes) calls .history)
 
--- That the paper's card is prompt is `prompt`, in proofs/Prompt.antt.
+-- RULES 22.3: that the paper's card is prompt is `prompt`, in proofs/Prompt.antt.
 abbrev pub Prompt : Card → Type 0
 Prompt = PromptBy FitsNewest 0
 
@@ -139,19 +140,20 @@ pub record TimelyInOrder (P : Plan) (i w : ℕ) (h : History) : Type 0 where
 abbrev pub AsksAt : (Q : Plan → (i w : ℕ) → History → Type 0) → Plan → ℕ → Event → History → Type 0
 AsksAt Q P i = AtRequest (λ w h. wellFormed P w ≡ true → flowOf w ≡ i → Q P i w h)
 
--- Since the last granted reset each request of flow i was as Q says, and no more than its share, and `more`, of its grants are due in any one frame.
+-- RULES 22.4: since the last granted reset each request of flow i was as Q says, and no more than its share, and `more`, of its grants are due in any
+-- one frame.
 pub record Modest (Q : Plan → (i w : ℕ) → History → Type 0) (more : ℕ) (P : Plan) (i : ℕ) (h : History) : Type 0 where
   pub asks : EachSince (AsksAt Q P i) h
   pub within-share : (f : ℕ) → dueIn P h i f ≤ entry P i .share + more
 
--- The slot s that is granted to word w after h lies in the frame in which the tile is due or in the next one.
+-- RULES 22.5: the slot s that is granted to word w after h lies in the frame in which the tile is due or in the next one.
 pub record InTime (P : Plan) (w s : ℕ) (h : History) : Type 0 where
   pub not-before : dueSlot P w h < s
   pub due-or-next : frameOf P s ≤ dueFrame P w h + 1
   -- so it comes fewer than two frames after the tile is due
   pub within-two-frames : s < dueSlot P w h + 2 * P .slots
 
--- A request is granted in time, unless flow i's whole share is due already in the frame in which its tile is.
+-- RULES 22.5: a request is granted in time, unless flow i's whole share is due already in the frame in which its tile is.
 abbrev pub ServedInTime : Plan → ℕ → (w : ℕ) → Grant → History → Type 0
 ServedInTime P i w (accepted v) h = InTime P w (slotAfter P (ticks h) (departureOf v)) h
 ServedInTime P i w (refused r) h = entry P i .share ≤ dueIn P h i (dueFrame P w h)
@@ -168,8 +170,8 @@ SoonBy Q more c =
     (bytes : List ℕ) → refusal bytes ≡ 0 → (calls : List Call) (i : ℕ) → i < flowCount (planOf bytes)
     → SoonOn Q more (planOf bytes) i (run c (planOf bytes) calls .history)
 
--- A word may run ahead of its tile; where each tile has come, it is due in the slot of its request, and this is all that is said of those too. That the
--- paper's card keeps it is `soon-ahead`, in proofs/Soon.antt.
+-- RULES 22.5: a word may run ahead of its tile; where each tile has come, it is due in the slot of its request, and this is all that is said of those
+-- too. That the paper's card keeps it is `soon-ahead`, in proofs/Soon.antt.
 abbrev pub SoonAhead : Card → Type 0
 SoonAhead = SoonBy TimelyInOrder 0
 
@@ -191,9 +193,9 @@ GrantedSoonAt P i = AtGrant (λ w v h. flowOf w ≡ i → GrantedSoon P (slotAft
 abbrev pub SoonOnArrivalOn : Plan → ℕ → History → Type 0
 SoonOnArrivalOn P i h = ModestOnArrival P i h → EachSince (GrantedSoonAt P i) h
 
--- It asks more than `SoonAhead` does of a flow whose tiles have come: room from the current slot on at each request, as the least count asks, where
--- `SoonAhead` asks for room from the next frame on. That the paper's card keeps it is `soon`, in proofs/SoonOnArrival.antt. Its requests that are refused
--- are those made after its share in their frame, since it is prompt.
+-- RULES 22.5: it asks more than `SoonAhead` does of a flow whose tiles have come: room from the current slot on at each request, as the least count
+-- asks, where `SoonAhead` asks for room from the next frame on. That the paper's card keeps it is `soon`, in proofs/SoonOnArrival.antt. Its requests
+-- that are refused are those made after its share in their frame, since it is prompt.
 abbrev pub Soon : Card → Type 0
 Soon c =
     (bytes : List ℕ) → refusal bytes ≡ 0 → (calls : List Call) (i : ℕ) → i < flowCount (planOf bytes)

@@ -24,7 +24,7 @@ use Rattle.model.specs.Delay.{madeIn, RoomFrom, AsksAt}
 abbrev pub lastOf : Plan → ℕ → ℕ
 lastOf P f = (f + 1) * P .slots - 1
 
--- After h flow i's cells of slots that are gone fall free by the end of the frame after theirs.
+-- RULES 22.8: after h flow i's cells of slots that are gone fall free by the end of the frame after theirs.
 abbrev pub CreditedInTime : Plan → ℕ → History → Type 0
 CreditedInTime P i h = (s : ℕ) → s < ticks h → grantedUpTo P h i s ≤ creditedUpTo P h i (lastOf P (frameOf P s + 1))
 
@@ -78,7 +78,7 @@ EnoughCellsBy short c =
     (bytes : List ℕ) → refusal bytes ≡ 0 → (calls : List Call) (i : ℕ) → i < flowCount (planOf bytes)
     → GivesBack short (planOf bytes) i (run c (planOf bytes) calls .history) → Each (ReadyAt (planOf bytes) i) (run c (planOf bytes) calls .history)
 
--- That the paper's card keeps it is `enough-cells`, in proofs/EnoughCells.antt.
+-- RULES 22.8: that the paper's card keeps it is `enough-cells`, in proofs/EnoughCells.antt.
 abbrev pub EnoughCells : Card → Type 0
 EnoughCells = EnoughCellsBy 0
 
@@ -96,7 +96,7 @@ pub record GivesBackAtOnce (short : ℕ) (P : Plan) (i : ℕ) (h : History) : Ty
   pub not-lent : tally (ofFlow i) (lends h) ≡ 0
   pub no-reset : tally renews h ≡ 0
 
--- Then it has room in every slot at each request, which is what prompt and soon ask of it.
+-- RULES 22.13: then it has room in every slot at each request, which is what prompt and soon ask of it.
 abbrev pub EnoughAtOnceBy : (short : ℕ) → Card → Type 0
 EnoughAtOnceBy short c =
     (bytes : List ℕ) → refusal bytes ≡ 0 → (calls : List Call) (i : ℕ) → i < flowCount (planOf bytes)

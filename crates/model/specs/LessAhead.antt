@@ -29,6 +29,7 @@ FollowsIf Q R c =
 
 -- ---- nobody's bookings move
 
+-- RULES 24.9: what is asked for, so that bookings stay.
 abbrev pub BookedAlikeIf : Asked → Card → Type 0
 BookedAlikeIf Q = FollowsIf Q (λ P h₁ h₂ x. BookedAlike P x)
 

@@ -1,4 +1,4 @@
--- What is asked of two runs, with one part of it left out: for pairs of runs that show what each part is for. Document 02, N14. Assumes nothing.
+-- What is asked of two runs, with one part of it left out: for pairs of runs that show what each part is for. RULES 21.11. Assumes nothing.
 use Prim.Native.Nat.{ℕ, _≤_, _<_}
 use mathlib.Core.Path.{_≡_}
 use mathlib.Core.List.{List, _∷_, [], _++_}

@@ -91,8 +91,8 @@ SharesKept share₁ share₂ = share₁ ≤ share₂
 abbrev pub NoReset : History → Type 0
 NoReset h = tally renews h ≡ 0
 
--- Of any two boards whose plans are as I says, whose shares are as S says and whose events are as N says, and on which the stream asks as A says. That the
--- paper's card keeps it with nothing left out is `two-boards`, in proofs/LessJoined.antt.
+-- RULES 22.11: of any two boards whose plans are as I says, whose shares are as S says and whose events are as N says, and on which the stream asks
+-- as A says. That the paper's card keeps it with nothing left out is `two-boards`, in proofs/LessJoined.antt.
 abbrev pub TwoBoardsBy : (I : (P Q : Plan) → Type 0) (S : (share₁ share₂ : ℕ) → Type 0) (N : History → Type 0) (left : Leaving) (A : Joining) → Card → Type 0
 TwoBoardsBy I S N left A c =
     (bytes₁ bytes₂ : List ℕ) → refusal bytes₁ ≡ 0 → refusal bytes₂ ≡ 0 → I (planOf bytes₁) (planOf bytes₂)

@@ -16,7 +16,7 @@ Ordered P i w h = DueInOrder P i w h
 abbrev pub AllTimely : Premise
 AllTimely = Both HasRoom (Both Numbered (Both DueInTime Ordered))
 
--- Without room, where even every tile has come; without the number; without a tile that is due in time; and without order.
+-- RULES 22.11: without room, where even every tile has come; without the number; without a tile that is due in time; and without order.
 abbrev pub TimelyButRoom : Premise
 TimelyButRoom = Both Come (Both Numbered (Both DueInTime Ordered))
 

@@ -14,8 +14,8 @@ use Rattle.model.specs.TwoHops.{InStep}
 use Rattle.model.specs.SeveralLinks.{sentSlots, nextTile, nextSlot, Together, Board, planOn, OnTime}
 use Rattle.model.specs.SharesOfCells.{GivenBack, KeepsShares, EachGrantedNow}
 
--- After h₁ and h₂ word w asks on the second board for flow j's next tile, in the slot in which it comes up on the first; its cells there are given back as
--- G says.
+-- RULES 22.8: after h₁ and h₂ word w asks on the second board for flow j's next tile, in the slot in which it comes up on the first; its cells there
+-- are given back as G says.
 pub record AsksOnArrival (G : Plan → ℕ → History → Type 0) (P Q : Plan) (i j : ℕ) (h₁ : History) (w : ℕ) (h₂ : History) : Type 0 where
   pub sent : nextTile P Q i j h₂ < length (sentSlots P h₁ i)
   pub departs : departureOf w ≡ nextSlot P Q i j h₁ h₂ % positions Q
@@ -39,8 +39,8 @@ abbrev pub WayOnArrival : {c : Card} → Board c → List (Board c) → Type 0
 WayOnArrival a [] = Unit {0}
 WayOnArrival a (b ∷ rest) = JoinedOnArrival a b × WayOnArrival b rest
 
--- Where the stream keeps such shares of cells on the first board too, it is modest there, and each request there is granted too. That the paper's card
--- keeps it is `over-links-on-arrival`, in proofs/LinksOnArrival.antt.
+-- RULES 22.8: where the stream keeps such shares of cells on the first board too, it is modest there, and each request there is granted too. That the
+-- paper's card keeps it is `over-links-on-arrival`, in proofs/LinksOnArrival.antt.
 abbrev pub OverLinksOnArrival : Card → Type 0
 OverLinksOnArrival c =
     (late : ℕ) (a : Board c) (rest : List (Board c)) → WayOnArrival a rest

@@ -1,4 +1,4 @@
--- The quantum numbers of a link and of the words that it grants. Document 02, N9. Assumes nothing.
+-- The quantum numbers of a link and of the words that it grants. RULES 5.3. Assumes nothing.
 use Prim.Native.Nat.{ℕ, _%_, _<_}
 use mathlib.Core.Path.{_≡_}
 use mathlib.Core.List.{List, _∷_, [], _++_, map}
@@ -12,8 +12,7 @@ use Rattle.model.specs.History.{grantedInAll, expectedNumber}
 use Rattle.model.specs.Link.{Link, flow}
 use Rattle.model.specs.Card.{Card, run}
 
--- "The link now keeps the number it expects for each flow": after every list of calls what a card's state has for it is the flow's grants so far, modulo
--- 1,024.
+-- RULES 5.3: after every list of calls the number that a card's state expects of a flow is how many grants the flow has had, modulo 1,024.
 abbrev pub NumberIsCount : (c : Card) → (number : c .State → (i : ℕ) → ℕ) → Type 0
 NumberIsCount c number =
     (bytes : List ℕ) → refusal bytes ≡ 0 → (calls : List Call) (i : ℕ) → i < flowCount (planOf bytes)
@@ -37,7 +36,7 @@ unfoldable pub wordsGranted : ℕ → History → List ℕ
 wordsGranted i [] = []
 wordsGranted i (e ∷ h) = wordsGranted i h ++ wordGranted i e
 
--- Document 01: "A flow's quanta are numbered 0, 1, 2 and so on modulo 1,024". So are the words that a flow is granted.
+-- RULES 5.3: the words that a flow is granted carry 0, 1, 2 and so on modulo 1,024.
 abbrev pub InOrder : Plan → ℕ → History → Type 0
 InOrder P i h = map quantumOf (wordsGranted i h) ≡ table (grantedInAll P h i) (λ k. k % 1024)
 

@@ -25,7 +25,8 @@ use Rattle.model.specs.AheadRuns.{latest, NoneTakenAlone, SendersInTurn,
 
 -- ---- a sending
 
--- A history, and which pairs in it send a tile of flow i ahead of position p: a lend that is answered with i, and a credit of i dated p that is taken.
+-- RULES 24.1: a history, and which pairs in it send a tile of flow i ahead of position p: a lend that is answered with i, and a credit of i dated p
+-- that is taken.
 pub data Sending : History → Type 0 where
   nothing : Sending []
   event : {h : History} (e : Event) → Sending h → Sending (e ∷ h)
@@ -58,7 +59,7 @@ tileAt P (Event.reset a) h = []
 abbrev pub waits : (i s : ℕ) → Tile → Bool
 waits i s m = eqb (m .flow) i && eqb (m .slot) s && eqb (m .leaves) s
 
--- and it has come in slot t
+-- RULES 24.2: and it has come in slot t
 abbrev pub ready : (i s t : ℕ) → Tile → Bool
 ready i s t m = waits i s m && leb (m .due) t
 
@@ -122,7 +123,8 @@ InOrder = (P : Plan) (h : History) (x : Sending h) (i : ℕ) → KeepsOrder P x 
 
 -- ---- of a card
 
--- Sent well in each list of calls, for the bytes of every accepted plan. That a card that meets demand 3 keeps it is `sends-well`, in proofs/Sendings.antt.
+-- RULES 24.7: sent well in each list of calls, for the bytes of every accepted plan. That a card that meets demand 3 keeps it is `sends-well`, in
+-- proofs/Sendings.antt.
 abbrev pub SendsWell : Card → Type 0
 SendsWell c =
     (bytes : List ℕ) → refusal bytes ≡ 0 → (calls : List Call) (x : Sending (run c (planOf bytes) calls .history)) → SentWell (planOf bytes) x
@@ -157,13 +159,13 @@ Ahead c = (bytes : List ℕ) → refusal bytes ≡ 0 → AheadOn c (planOf bytes
 
 -- ---- in order, beside a run without any
 
--- A tile of flow i is sent ahead when each with an earlier slot has left.
+-- RULES 24.7: a tile of flow i is sent ahead when each with an earlier slot has left.
 abbrev pub FirstFirst : Plan → {h : History} → Sending h → ℕ → Type 0
 FirstFirst P nothing i = Unit {0}
 FirstFirst P (event e x) i = FirstFirst P x i
 FirstFirst P (ahead {h = h} j p x) i = (j ≡ i → (a r : ℕ) → HasTile P x i a r → a < slotAfter P (ticks h) p → r < ticks h) × FirstFirst P x i
 
--- Flow i is lent slots to send ahead only.
+-- RULES 24.8: flow i is lent slots to send ahead only.
 abbrev pub LentOnlyAhead : {h : History} → Sending h → ℕ → Type 0
 LentOnlyAhead nothing i = Unit {0}
 LentOnlyAhead (event {h = h} e x) i = AtLoan (λ m j. j ≡ i → ⊥) e h × LentOnlyAhead x i
@@ -181,7 +183,7 @@ AheadInOrder c = (bytes : List ℕ) → refusal bytes ≡ 0 → AheadInOrderOn c
 
 -- ---- by the run with sending ahead alone
 
--- The two promises above ask for room in the first run. It is enough that it is there in the second, or that the flow is in turn there.
+-- RULES 24.6: the two promises above ask for room in the first run. It is enough that it is there in the second, or that the flow is in turn there.
 abbrev pub SendersHaveRoomThere : Plan → {h₁ h₂ : History} → WithAhead h₁ h₂ → Type 0
 SendersHaveRoomThere P {h₁} {h₂} x = (i : ℕ) → 0 < latest P x i → Each (AsksAt HasRoom P i) h₂
 

@@ -1,9 +1,9 @@
 -- When a tile comes up on the last of several links, one after the other. It names no link's state, only calls and answers. Assumes nothing.
 --
--- A stream is a flow of each board on its way, with no smaller share on the next board than on the one before. Its tiles are numbered by its grants, from
--- 0, on each board. The boards tick in step on equal F and W, and no reset is granted. On each board after the first the stream asks for its tiles in
--- order, each with the slot in which it comes up on the board before as its departure, at any time from that grant on until it comes up there, and not
--- while that slot is in the newest frame. Where each request has its number, and room from the frame after that slot's on:
+-- A stream is a flow of each board on its way, with no smaller share on the next board than on the one before. Its tiles are numbered by its grants,
+-- from 0, on each board. The boards tick in step, F and W are the same on each, and no reset is granted. On each board after the first the stream
+-- asks for its tiles in order, each with the slot in which it comes up on the board before as its departure, at any time from that grant on until it
+-- comes up there, and not while that slot is in the newest frame. Where each request has its number, and room from the frame after that slot's on:
 -- - every request on the later boards is granted;
 -- - a tile that comes up on the first board in frame f comes up on board m in frame f + m - 1 at the latest;
 -- - if the stream is modest on the first board, each request there is granted, unless the whole share is due already in the frame of its tile, and a tile
@@ -101,7 +101,7 @@ pub record Ran (c : Card) (P : Plan) (h : History) : Type 0 where
   pub calls : List Call
   pub is : run c P calls .history ≡ h
 
--- the events of a list of calls on card c from an accepted plan, with no reset granted; and the flow that is the stream
+-- RULES 22.6: the events of a list of calls on card c from an accepted plan, with no reset granted; and the flow that is the stream
 pub record Board (c : Card) : Type 0 where
   pub bytes : List ℕ
   pub passes : refusal bytes ≡ 0
@@ -120,20 +120,22 @@ sentOn b = sentSlots (planOn b) (b .events) (b .stream)
 abbrev pub dueOn : {c : Card} → Board c → List ℕ
 dueOn b = dueSlots (planOn b) (b .events) (b .stream)
 
--- b is the next board after a
+-- RULES 22.6: b is the next board after a
 pub record Joined {c : Card} (a b : Board c) : Type 0 where
   pub in-step : InStep (planOn a) (planOn b)
   pub share-kept : entry (planOn a) (a .stream) .share ≤ entry (planOn b) (b .stream) .share
   pub together :
       Together (planOn a) (planOn b) (a .stream) (b .stream) (AsksForNext (planOn a) (planOn b) (a .stream) (b .stream)) (a .events) (b .events)
 
+-- RULES 22.6: a stream's way, from a board on
 abbrev pub Way : {c : Card} → Board c → List (Board c) → Type 0
 Way a [] = Unit {0}
 Way a (b ∷ rest) = Joined a b × Way b rest
 
 -- ---- what follows
 
--- Each of the stream's tiles comes up on board b at the latest k frames after the frame of its slot in `from`, a slot of a board with plan P for each tile.
+-- RULES 22.7: each of the stream's tiles comes up on board b at the latest k frames after the frame of its slot in `from`, a slot of a board with
+-- plan P for each tile.
 pub record Within {c : Card} (k : ℕ) (P : Plan) (from : List ℕ) (b : Board c) : Type 0 where
   pub frames-later : (n : ℕ) → n < length (sentOn b) → frameOf (planOn b) (tile n (sentOn b)) ≤ frameOf P (tile n from) + k
   pub slots-later : (n : ℕ) → n < length (sentOn b) → tile n (sentOn b) < tile n from + (k + 1) * planOn b .slots
@@ -151,7 +153,7 @@ abbrev pub EachGranted : {c : Card} → List (Board c) → Type 0
 EachGranted [] = Unit {0}
 EachGranted (b ∷ rest) = AllGranted b × EachGranted rest
 
--- The stream is on time on its way from board a; M says that it is modest there, and S how its requests are then served there.
+-- RULES 22.7: the stream is on time on its way from board a; M says that it is modest there, and S how its requests are then served there.
 pub record OnTime {c : Card} (M S : Type 0) (a : Board c) (rest : List (Board c)) : Type 0 where
   pub granted : EachGranted rest
   pub served : M → S
@@ -160,8 +162,8 @@ pub record OnTime {c : Card} (M S : Type 0) (a : Board c) (rest : List (Board c)
   -- and to the one in which it is due on the first
   pub from-due : M → EachWithin 1 (planOn a) (dueOn a) (a ∷ rest)
 
--- Each request on the first board is granted in time, unless the whole share is due already in the frame in which its tile is. That the paper's card keeps
--- it is `over-links`, in proofs/SeveralLinks.antt.
+-- RULES 22.7: each request on the first board is granted in time, unless the whole share is due already in the frame in which its tile is. That the
+-- paper's card keeps it is `over-links`, in proofs/SeveralLinks.antt.
 abbrev pub OverLinks : Card → Type 0
 OverLinks c =
     (a : Board c) (rest : List (Board c)) → Way a rest

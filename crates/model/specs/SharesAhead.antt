@@ -17,7 +17,8 @@ use Rattle.model.specs.Card.{Card, run}
 use Rattle.model.specs.Delay.{currentFrame, newestFrame, dueFrame, dueIn, AtAnswer, DueInOrder, AsksAt, InTime}
 use Rattle.model.specs.SharesOfCells.{GivenBack}
 
--- what is asked of flow i's well-formed request with word w, after h: fewer than its share are due in the frame in which its tile is, and room is not asked
+-- RULES 22.9: what is asked of flow i's well-formed request with word w, after h: fewer than its share are due in the frame in which its tile is, and
+-- room is not asked
 pub record AsksAhead (ahead late : ℕ) (P : Plan) (i w : ℕ) (h : History) : Type 0 where
   pub within : dueFrame P w h ≤ currentFrame P h + ahead
   pub in-time : dueFrame P w h < newestFrame P h
@@ -47,6 +48,6 @@ SharesAheadBy ahead late short c =
     → KeepsSharesAhead ahead late short (planOf bytes) i (run c (planOf bytes) calls .history)
     → EachGrantedInTime (planOf bytes) i (run c (planOf bytes) calls .history)
 
--- That the paper's card keeps it, however far ahead and however late, is `shares-ahead`, in proofs/SharesAhead.antt.
+-- RULES 22.9: that the paper's card keeps it, however far ahead and however late, is `shares-ahead`, in proofs/SharesAhead.antt.
 abbrev pub SharesAhead : Card → Type 0
 SharesAhead c = (ahead late : ℕ) → SharesAheadBy ahead late 0 c

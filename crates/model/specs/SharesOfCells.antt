@@ -25,7 +25,7 @@ use Rattle.model.specs.BooksInOrder.{AfterThoseAt}
 
 -- ---- how late cells are given back
 
--- After h flow i's cells of the frames that are more than `late` frames back fall free by the end of frame late + 1 after theirs.
+-- RULES 22.8: after h flow i's cells of the frames that are more than `late` frames back fall free by the end of frame late + 1 after theirs.
 abbrev pub GivenBack : (late : ℕ) → Plan → ℕ → History → Type 0
 GivenBack late P i h =
     (s : ℕ) → frameOf P s + late < currentFrame P h → grantedUpTo P h i s ≤ creditedUpTo P h i (lastOf P (frameOf P s + late + 1))
@@ -41,7 +41,8 @@ pub record CreditsEachBy (late : ℕ) (P : Plan) (i : ℕ) (h : History) : Type 
 
 -- ---- the stream
 
--- what is asked of flow i's well-formed request with word w, after h: fewer than its share of grants were made in this frame, and room is not asked
+-- RULES 22.8: what is asked of flow i's well-formed request with word w, after h: fewer than its share of grants were made in this frame, and room is
+-- not asked
 pub record AsksWithinShare (late : ℕ) (P : Plan) (i w : ℕ) (h : History) : Type 0 where
   pub come : hasCome P (ticks h) (departureOf w) ≡ true
   pub number : quantumOf w ≡ expectedNumber P h i
@@ -65,8 +66,8 @@ GrantedNow P (refused r) h = ⊥
 abbrev pub EachGrantedNow : Plan → ℕ → History → Type 0
 EachGrantedNow P i = Each (AtAnswer (λ w a h. wellFormed P w ≡ true → flowOf w ≡ i → GrantedNow P a h))
 
--- Room may be missing in slots of the current frame, and still each request is granted so. That the paper's card keeps it, however late, is
--- `shares-of-cells`, in proofs/SharesOfCells.antt.
+-- RULES 22.8: room may be missing in slots of the current frame, and still each request is granted so. That the paper's card keeps it, however late,
+-- is `shares-of-cells`, in proofs/SharesOfCells.antt.
 abbrev pub SharesOfCellsBy : (late short : ℕ) → Card → Type 0
 SharesOfCellsBy late short c =
     (bytes : List ℕ) → refusal bytes ≡ 0 → (calls : List Call) (i : ℕ) → i < flowCount (planOf bytes)

@@ -26,8 +26,8 @@ use Rattle.model.specs.LinksOnArrival.{WayOnArrival}
 abbrev pub upToFrame : (ℕ → ℕ) → ℕ → ℕ
 upToFrame count f = sum (suc f) count
 
--- `comes f` tiles come in frame f, and `asks f` are asked for in it. Tiles are numbered from 0 as they come; as the oldest is asked for first, tile n is
--- asked for by the end of frame f where n < upToFrame asks f.
+-- RULES 22.10: `comes f` tiles come in frame f, and `asks f` are asked for in it. Tiles are numbered from 0 as they come; as the oldest is asked for
+-- first, tile n is asked for by the end of frame f where n < upToFrame asks f.
 pub record Source (share : ℕ) (comes asks : ℕ → ℕ) : Type 0 where
   -- a tile has come when it is asked for
   pub come : (f : ℕ) → upToFrame asks f ≤ upToFrame comes f
@@ -35,11 +35,11 @@ pub record Source (share : ℕ) (comes asks : ℕ → ℕ) : Type 0 where
   -- where fewer than its share are asked for, none is left
   pub none-waits : (f : ℕ) → asks f < share → upToFrame asks f ≡ upToFrame comes f
 
--- in k frames in a row, from frame f on, no more than k shares come and `burst` tiles more
+-- RULES 22.10: in k frames in a row, from frame f on, no more than k shares come and `burst` tiles more
 abbrev pub Bursts : (share burst : ℕ) (comes : ℕ → ℕ) → Type 0
 Bursts share burst comes = (f k : ℕ) → sum (f + k) comes ≤ sum f comes + k * share + burst
 
--- the frames that `burst` tiles more than the share cost: a frame for each share of them, and for what is left
+-- RULES 22.10: the frames that `burst` tiles more than the share cost: a frame for each share of them, and for what is left
 abbrev pub burstFrames : (share burst : ℕ) → ℕ
 burstFrames share burst = (burst + share - 1) / share
 
@@ -75,8 +75,8 @@ InTimeFromSource a rest =
     (burst : ℕ) (comes asks : ℕ → ℕ) → Source (entry (planOn a) (a .stream) .share) comes asks → Bursts (entry (planOn a) (a .stream) .share) burst comes
     → AsksAs asks (planOn a) (a .stream) (a .events) → EachCameWithin (burstFrames (entry (planOn a) (a .stream) .share) burst + 1) comes (a ∷ rest)
 
--- So it is for a stream that is modest on the first board, and for one that asks on arrival with its shares of cells. That the paper's card keeps both
--- is `from-source` and `from-source-on-arrival`, in proofs/FromSource.antt.
+-- RULES 22.10: so it is for a stream that is modest on the first board, and for one that asks on arrival with its shares of cells. That the paper's
+-- card keeps both is `from-source` and `from-source-on-arrival`, in proofs/FromSource.antt.
 abbrev pub FromSource : Card → Type 0
 FromSource c =
     (a : Board c) (rest : List (Board c)) → Way a rest → Modest TimelyInOrder 0 (planOn a) (a .stream) (a .events) → InTimeFromSource a rest

@@ -37,6 +37,7 @@ abbrev pub IsTaken : Receipt → Type 0
 IsTaken (accepted u) = Unit {0}
 IsTaken (refused r) = ⊥
 
+-- RULES 22.12: a credit is taken exactly if the flow holds a cell from its date on.
 abbrev pub CreditTakenAt : Plan → Event → History → Type 0
 CreditTakenAt P = AtCredit (λ i p a h. IsTaken a ↔ GivesBackFrom P i p h)
 

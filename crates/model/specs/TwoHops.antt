@@ -1,4 +1,4 @@
--- Two boards, one after the other. Document 02, N4: "In domes with two hops", and "Boards tick in step on equal F and W". Assumes nothing.
+-- Two boards, one after the other. RULES 6.7 and 21.12. Assumes nothing.
 use Prim.Native.Nat.{ℕ, _≤_, _<_}
 use mathlib.Core.Path.{_≡_}
 use mathlib.Core.List.{List, _∷_, _++_}
@@ -8,6 +8,7 @@ use Rattle.model.specs.Calls.{Call, History, requested, accepted}
 use Rattle.model.specs.History.{ticks, slotAfter}
 use Rattle.model.specs.Card.{Card, run}
 
+-- RULES 6.7: two boards with equal F and W
 pub record InStep (P Q : Plan) : Type 0 where
   pub slots : P .slots ≡ Q .slots
   pub frames : P .frames ≡ Q .frames
@@ -28,7 +29,7 @@ LeavesAfter P Q h₁ h₂ =
     (w₁ v₁ w₂ v₂ : ℕ) (early₁ early₂ : History) → GrantedIn h₁ w₁ v₁ early₁ → GrantedIn h₂ w₂ v₂ early₂
     → departureOf w₂ ≡ departureOf v₁ → ticks early₁ ≤ ticks early₂ → sentAt P early₁ v₁ < sentAt Q early₂ v₂
 
--- so on two boards with this card, whatever else they are asked
+-- RULES 21.12: so on two boards with this card, whatever else they are asked
 abbrev pub LeavesAfterItCame : Card → Type 0
 LeavesAfterItCame c =
     (first second : List ℕ) → refusal first ≡ 0 → refusal second ≡ 0 → InStep (planOf first) (planOf second) → (calls₁ calls₂ : List Call)

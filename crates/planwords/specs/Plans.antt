@@ -15,7 +15,7 @@ use Rattle.replies.specs.Lines.{cannot, hex}
 abbrev pub flowsAsked : List ℕ → ℕ
 flowsAsked numbers = (length numbers - 3) / 4
 
--- "share, cells, source, destination for each flow", after F, W and N
+-- RULES 20.4: the four numbers of a flow, after F, W and N
 abbrev pub entryAsked : List ℕ → ℕ → Entry
 entryAsked numbers i = record {
   share = getD numbers (3 + 4 * i) 0;
@@ -24,7 +24,7 @@ entryAsked numbers i = record {
   destination = getD numbers (3 + 4 * i + 3) 0;
 }
 
--- "`plan F W N` and then" the flows, any number of them
+-- RULES 20.4: F, W and N, and then the flows, any number of them
 abbrev pub planAsked : List ℕ → Plan
 planAsked numbers = record {
   slots = getD numbers 0 0;
@@ -33,7 +33,7 @@ planAsked numbers = record {
   entries = table (flowsAsked numbers) (entryAsked numbers);
 }
 
--- "the plan file as hexadecimal digits, lower case, or `R` and the refusal"
+-- RULES 20.4: the bytes in digits, or the refusal
 abbrev pub fileLine : Answer ℕ → Plan → List ℕ
 fileLine (accepted count) P = hex (bytesOf P) ++ text "\n"
 fileLine (refused number) P = refusalLine number
@@ -42,7 +42,7 @@ fileLine (refused number) P = refusalLine number
 unfoldable pub inRoom : (size : ℕ) → (numbers : List ℕ) → List ℕ
 inRoom size numbers =
     cond (ltb (length numbers) 3) (cannot "F, W or N is missing")
-    -- "a number of entries' fields that is no multiple of four"
+    -- RULES 20.6: a flow lacks a number
     (cond (not (eqb ((length numbers - 3) % 4) 0)) (cannot "each flow has a share, cells, a source and a destination: the numbers after N are no multiple of four")
     (fileLine (written (planAsked numbers) (replicate size 0) .answer) (planAsked numbers)))
 
@@ -50,6 +50,6 @@ inRoom size numbers =
 abbrev pub answerToPlan : (numbers : List ℕ) → List ℕ
 answerToPlan numbers = inRoom 76 numbers
 
--- "`room R F W N ..`: as `plan`, in a buffer of R bytes"
+-- RULES 20.4: the same in a buffer of the first number's bytes
 unfoldable pub answerToRoom : (numbers : List ℕ) → List ℕ
 answerToRoom numbers = cond (eqb (length numbers) 0) (cannot "the buffer's size is missing") (inRoom (getD numbers 0 0) (drop 1 numbers))

@@ -7,18 +7,18 @@ use Rattle.tokens.specs.declared.Found.{Found}
 use Rattle.tokens.specs.Hexadecimal.{bytesOf, foundBytes}
 use Rattle.replies.specs.Lines.{spaced, faultLine}
 
--- "share, cells, source, destination for each flow"
+-- the four numbers of a flow
 abbrev pub entryNumbers : Entry → List ℕ
 entryNumbers e = e .share ∷ e .cells ∷ e .source ∷ e .destination ∷ []
 
--- "`plan F W N` and then" the flows
+-- F, W and N, and then the flows
 unfoldable pub planNumbers : Plan → List ℕ
 planNumbers P = P .slots ∷ P .frames ∷ P .buffer ∷ flatMap entryNumbers (P .entries)
 
 unfoldable pub question : Plan → List ℕ
 question P = text "plan" ++ flatMap spaced (planNumbers P) ++ text "\n"
 
--- "the line that `plan` would take to make these bytes", "or `R` and the reader's refusal"
+-- RULES 20.4: the question that asks for these bytes, or the refusal
 unfoldable pub readLine : ℕ → Plan → List ℕ
 readLine zero P = question P
 readLine (suc r) P = refusalLine (suc r)
@@ -27,6 +27,6 @@ abbrev pub bytesLine : Found → (bytes : List ℕ) → List ℕ
 bytesLine (Found.Count n) bytes = readLine (refusal bytes) (planOf bytes)
 bytesLine (Found.Wrong fault) bytes = faultLine fault
 
--- "`read` and hexadecimal digits of either case, as many as the line has"
+-- RULES 20.5: the answer to what stands after `read`
 unfoldable pub digitsLine : (digits : List ℕ) → List ℕ
 digitsLine digits = bytesLine (foundBytes digits) (bytesOf digits)

@@ -12,11 +12,11 @@ use Rattle.model.specs.Listing.{text, decimal}
 use Rattle.tokens.specs.declared.Fault.{Fault}
 use Rattle.tokens.specs.declared.Fault.the-variants.{Missing, NoDigit, LongNumber, NoHexDigit, OddDigits}
 
--- "`?` and a short reason"
+-- RULES 20.6: the answer to what is no question
 abbrev pub cannot : String → List ℕ
 cannot reason = text "? " ++ text reason ++ text "\n"
 
--- a hexadecimal digit, "lower case"
+-- RULES 20.4: a hexadecimal digit, in small letters
 abbrev pub hexGlyph : ℕ → ℕ
 hexGlyph d = cond (ltb d 10) (code "0" + d) (code "a" + (d - 10))
 
@@ -32,7 +32,7 @@ spaced n = text " " ++ decimal n
 abbrev pub threeLine : (first second third : ℕ) → List ℕ
 threeLine first second third = decimal first ++ spaced second ++ spaced third ++ text "\n"
 
--- what is wrong with a field, in words
+-- RULES 20.6: what is wrong with a field, in words
 unfoldable pub faultLine : Fault → List ℕ
 faultLine Missing = cannot "a number is missing: words and numbers are set apart by single spaces"
 faultLine NoDigit = cannot "a number has a byte that is no digit"

@@ -14,12 +14,12 @@ use Rattle.tokens.specs.Pieces.{each}
 abbrev pub isDigit : ℕ → Bool
 isDigit = within (code "0") (code "9")
 
--- each digit adds to ten times the digits before it
+-- RULES 20.3: each digit adds to ten times the digits before it
 unfoldable pub valueFrom : ℕ → List ℕ → ℕ
 valueFrom v [] = v
 valueFrom v (b ∷ rest) = valueFrom (v * 10 + (b - code "0")) rest
 
--- the number of a field, or what is wrong with it: it is empty, "a sign or letter in a number", "a number of more than nine digits"
+-- RULES 20.3 and 20.6: the number of a field, or what is wrong with it: it is empty, has a byte that is no digit, or more than nine
 unfoldable pub numberOf : List ℕ → Number
 numberOf field =
     cond (eqb (length field) 0) (Number.Wrong Missing)

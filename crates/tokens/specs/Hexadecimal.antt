@@ -25,10 +25,11 @@ isHexDigit b = not (eqb (hexDigit b) 16)
 abbrev pub byteAt : List ℕ → ℕ → ℕ
 byteAt digits i = 16 * hexDigit (getD digits (2 * i) 0) + hexDigit (getD digits (2 * i + 1) 0)
 
+-- RULES 20.5: the bytes of a line's digits
 abbrev pub bytesOf : List ℕ → List ℕ
 bytesOf digits = table (length digits / 2) (byteAt digits)
 
--- how many bytes some digits are, or what is wrong with them: a byte that is no digit, "an odd number of digits"
+-- RULES 20.5 and 20.6: how many bytes some digits are, or what is wrong with them: a byte that is no digit, or a digit left over
 unfoldable pub foundBytes : List ℕ → Found
 foundBytes digits =
     cond (not (each isHexDigit digits)) (Found.Wrong NoHexDigit)

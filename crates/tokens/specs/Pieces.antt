@@ -1,4 +1,4 @@
--- What stands between the spaces of a line: "words and numbers are set apart by single spaces". Assumes nothing.
+-- What stands between the blanks of a line. RULES 20.2. Assumes nothing.
 use Prim.Native.Nat.{ℕ, suc, _+_}
 use Prim.Native.Char.{code}
 use mathlib.Core.List.{List, _∷_, []}
@@ -14,7 +14,7 @@ abbrev pub before : ℕ → List (List ℕ) → List (List ℕ)
 before b [] = (b ∷ []) ∷ []
 before b (piece ∷ rest) = (b ∷ piece) ∷ rest
 
--- the pieces of a line, one more than it has spaces; a piece may be empty
+-- RULES 20.2: the pieces of a line, one more than it has spaces; a piece may be empty
 unfoldable pub pieces : List ℕ → List (List ℕ)
 pieces [] = [] ∷ []
 pieces (b ∷ rest) = cond (isSpace b) ([] ∷ pieces rest) (before b (pieces rest))
@@ -32,7 +32,7 @@ unfoldable pub pieceLength : List ℕ → ℕ
 pieceLength [] = 0
 pieceLength (b ∷ rest) = cond (isSpace b) 0 (suc (pieceLength rest))
 
--- a line's word, and what stands after it and one space
+-- RULES 20.2: a line's word, and what stands after it and one space
 abbrev pub wordOf : List ℕ → List ℕ
 wordOf line = take (pieceLength line) line
 
