@@ -17,7 +17,7 @@ use Rattle.model.specs.TwoHops.{InStep}
 use Rattle.model.specs.Delay.{currentFrame, madeIn}
 use Rattle.model.specs.SeveralLinks.{Together, Board, planOn, OnTime}
 use Rattle.model.specs.EnoughCells.{returns}
-use Rattle.model.specs.SharesOfCells.{GivenBack}
+use Rattle.model.specs.SharesOfCells.{GivenBack, EachGrantedNow}
 use Rattle.model.specs.LinksOnArrival.{AsksOnArrival}
 use Rattle.model.specs.Source.{InTimeFromSource}
 
@@ -94,3 +94,9 @@ OverLinksByCredits c =
 abbrev pub FromSourceByCredits : Card → Type 0
 FromSourceByCredits c =
     (late : ℕ) (a : Board c) (rest : List (Board c)) → WayByCredits late a rest → ModestFirst (planOn a) (a .stream) (a .events) → InTimeFromSource a rest
+
+-- On the first board too each request is granted, in its frame or the next: `granted-by-credits`, there.
+abbrev pub GrantedByCredits : Card → Type 0
+GrantedByCredits c =
+    (late : ℕ) (a : Board c) (rest : List (Board c)) → WayByCredits late a rest → ModestFirst (planOn a) (a .stream) (a .events)
+    → EachGrantedNow (planOn a) (a .stream) (a .events)
