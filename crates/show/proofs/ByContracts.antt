@@ -13,6 +13,7 @@ use Rattle.plan.specs.Reading.{stored, verdictFor, planAfter, readOf}
 use Rattle.plan.specs.Writing.{answerFor}
 use Rattle.model.specs.Plan as plan
 use Rattle.model.specs.Refusals.{firstOf}
+use Rattle.model.specs.Calls.{refused}
 use Rattle.model.specs.WrittenPlan as writer
 use Rattle.model.specs.WrittenPlan.{bytesOf, numberTests}
 use Rattle.model.proofs.WriteRefusals.{refused-writes, by-number}
@@ -29,6 +30,12 @@ no-flow P e = rw e
 unused-plan : (show : Show) (l : Link) → used show l ≡ false → plan.flowCount (linkPlan show l) ≡ 0
 unfolding used linkPlan
 unused-plan show l u = ap (λ (xs : List ShowStream). length (map (entryOn l) xs)) (none-kept (usesLink l) (show .streams) u)
+
+-- what is written for such a link, whatever the show: 2, and the buffer as it came
+pub unused-written : (show : Show) (l : Link) (out : List ℕ) → used show l ≡ false → writer.written (linkPlan show l) out ≡ record { answer = refused 2; out = out }
+unused-written show l out u =
+    let P = linkPlan show l in
+    refused-writes P out 2 (omega arith) (by-number P out 2 (omega arith) (no-flow P (unused-plan show l u)))
 
 -- what the contract of `write` says, for a link and a buffer
 pub record Wrote (show : Show) (l : Link) (before : List ℕ) (r : Written) (after : List ℕ) : Type 0 where
@@ -49,9 +56,8 @@ module _ {show : Show} {l : Link} {before after : List ℕ} {r : Written} (w : W
         ap readOf bytes ∙ (λ k. record { verdict = verdictFor (good .accepted-by-reader k); plan = planAfter (good .accepted-by-reader k) (good .read-back k) }),
       )
 
-  -- any other link, whatever the show: 2, and the buffer as it came
+  -- any other link, whatever the show
   pub unused-is-2 : used show l ≡ false → (r ≡ Refused 2) × (after ≡ before)
   unused-is-2 u =
-      let P = linkPlan show l in
-      let two = refused-writes P before 2 (omega arith) (by-number P before 2 (omega arith) (no-flow P (unused-plan show l u))) in
+      let two = unused-written show l before u in
       (w .answered ∙ ap (λ (x : writer.Written). answerFor (x .answer)) two, w .left ∙ ap (λ (x : writer.Written). x .out) two)

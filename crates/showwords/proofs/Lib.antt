@@ -1,0 +1,2 @@
+pub mod LinkLines
+pub mod AskedShow

@@ -15,7 +15,7 @@ room = 51207
 
 -- a link's line with some bytes
 abbrev pub bytesLine : Link → List ℕ → List ℕ
-bytesLine l bytes = nodesText l ++ hex bytes ++ text "\n"
+bytesLine l bytes = nodesText l ++ (hex bytes ++ text "\n")
 
 abbrev pub writtenLine : Answer ℕ → Link → plan.Plan → List ℕ
 writtenLine (accepted count) l P = bytesLine l (bytesOf P)

@@ -1,55 +1,45 @@
-use borrow.Author.Needs.{needs}
+-- `showwords::links::put_links` meets its contract. The loop: the lines of the links before place k are put. Assumes nothing.
+use Prim.Native.Nat.{_-_}
 use native.Mathlib.Omega.{arith}
+use Rattle.show.specs.Reading.{showOf}
+use Rattle.showwords.proofs.LinkLines.{LinesTo, none-put, one-put, all-put}
+use borrow.Author.Needs.{needs}
 use Rattle.showwords.proofs.links.put_links.Statement.{statement}
 use Rattle.showwords.proofs.links.put_links.Tie as tie
-use Rattle.showwords.proofs.links.put_links.Reads as reads
-use Rattle.showwords.proofs.links.put_links.Lts as lts
-use Rattle.showwords.proofs.links.put_link.Reads as put-link-reads
 
 abbrev Inv-loop : tie.InvT-loop
-Inv-loop dome numbers cells out₀ at next₀ k₀ out next k = ?
+Inv-loop dome numbers cells out₀ at next₀ k₀ out next k = LinesTo (showOf dome numbers cells) out₀ out at next k
 
 abbrev μ-loop : tie.MeasureT-loop
-μ-loop dome numbers cells out₀ at next₀ k₀ out next k = ?
+μ-loop dome numbers cells out₀ at next₀ k₀ out next k = 256 - k
 
--- src/links.rt:110:5
 loop-holds : tie.Need-loop-holds Inv-loop μ-loop
-loop-holds c = search needs
+loop-holds c = none-put _ _ _
 
--- src/links.rt:111:9
 put-link-requires : tie.Need-put-link-requires Inv-loop μ-loop
-put-link-requires c κs = search needs
+put-link-requires c κs =
+    let loop = c .before .before in
+    omega (arith, loop .loop .inv .most, loop .loop .inv .puts .length-stays, loop .before .before .before .before .pre, c .before .loop-test .taken)
 
--- src/links.rt:112:9
 add-k : tie.Need-add-k Inv-loop μ-loop
 add-k c = search needs
 
--- src/links.rt:110:5
 loop-less : tie.Need-loop-less Inv-loop μ-loop
 loop-less c = search needs
 
--- src/links.rt:110:5
 loop-again : tie.Need-loop-again Inv-loop μ-loop
-loop-again c = search needs
+loop-again c =
+    let put = c .before .before in
+    let loop = put .before .before in
+    one-put (loop .before .loop .inv) (loop .loop-test .taken) (put .put-link .ensures .0) (put .put-link .ensures .1)
 
--- src/links.rt:97:1
 same-length : tie.Need-same-length Inv-loop μ-loop
-same-length c = search needs
+same-length c = c .before .loop .inv .puts .length-stays
 
--- src/links.rt:97:1
 returns : tie.Need-returns Inv-loop μ-loop
-returns c = search needs
+returns c =
+    let s = c .before .loop .inv in
+    (all-put s (c .loop-test .left), omega (arith, s .most, s .within))
 
 pub put-links-spec : {M : Type 1} → statement M
-put-links-spec =
-    tie.close
-    (tie.spec
-    Inv-loop
-    μ-loop
-    loop-holds
-    put-link-requires
-    add-k
-    loop-less
-    loop-again
-    same-length
-    returns)
+put-links-spec = tie.close (tie.spec Inv-loop μ-loop loop-holds put-link-requires add-k loop-less loop-again same-length returns)
