@@ -28,7 +28,7 @@ CRATES = {
     "meshwords": "root", "sharewords": "root", "extrawords": "root",
     "programmewords": "root", "mesh": "root", "shares": "root",
     "extras": "root", "programme": "root", "delay": "root",
-    "delaywords": "root"}
+    "delaywords": "root", "show": "root", "showwords": "root"}
 
 # Public functions that others are built from.
 HELPERS = {
@@ -45,7 +45,8 @@ KNOWN = {
     "meshwords": "mesh mesh_over", "sharewords": "count",
     "extrawords": "extras", "programmewords": "programme",
     "mesh": "admit measure", "shares": "count", "extras": "choose",
-    "programme": "plan_at", "delay": "delay", "delaywords": "delay"}
+    "programme": "plan_at", "delay": "delay", "delaywords": "delay",
+    "show": "write link_refusal refusal", "showwords": "show"}
 
 
 def sources(crate):
