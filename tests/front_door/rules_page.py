@@ -24,8 +24,9 @@ TOLD = ("docs/landings/", "docs/history/", "docs/DECISIONS.md",
         "docs/COMPARISON.md", "docs/PERFORMANCE.md", "crates/")
 BYTES = re.compile(r"(?:[0-9A-F]{2} ?)+")
 LINE = re.compile(r"[PGRCT](?: \S+)?")
-# A line of domeplan has 4,000 bytes at most, too few for so many.
-UNREACHED = "the line has more than 2,000 numbers"
+# A line or question has 4,000 bytes at most, too few for so many.
+UNREACHED = {"the line has more than 2,000 numbers",
+             "the question has more than 2,000 numbers"}
 
 
 # ---- rules
@@ -73,11 +74,13 @@ def example_is_right():
 
 
 def reasons_are_those_of_the_code():
-    """Rule 20.6: each reason of domeplan is on the page, and no other."""
-    text = next(text for number, text, _ in rules() if number == "20.6")
+    """Rules 20.6 and 25.6: each reason of domeplan and domeshow is on the
+    page, and no other."""
+    text = " ".join(text for number, text, _ in rules()
+                    if number in ("20.6", "25.6"))
     told = {reason for reason in inline_code(text) if " " in reason}
     code = {reason for path in ROOT.glob("crates/*/src/*.rt") for reason in
-            re.findall(r'b"\? ([^"]*)\\n"', path.read_text())} - {UNREACHED}
+            re.findall(r'b"\? ([^"]*)\\n"', path.read_text())} - UNREACHED
     wrong = sorted(told ^ code)
     return wrong and "on one side alone: " + "; ".join(wrong)
 
