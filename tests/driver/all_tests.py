@@ -34,7 +34,7 @@ from front_door import (
     play_options, play_states, progress, readme, remedies, rules_page,
     singular, slow_reader, tests_lost_output, versions, wrong_arguments)
 from front_door import desk_page, page_links, program_stacks, proved_page
-from front_door import dome_files, dome_runs
+from front_door import dome_files, dome_page, dome_runs
 from images import self_tests
 from pairs import wrong_pairs
 from ways import wrong_ways
@@ -50,7 +50,7 @@ FRONT_DOOR = (
     tests_lost_output, bench_ahead, performance_page, page_sizes,
     must_fail_edits, progress, versions, help_pages, man_pages, readme,
     rules_page, remedies, checklist_page, comparison_page, dome_files,
-    dome_runs)
+    dome_page, dome_runs)
 
 
 def wanted(names, only):

@@ -3,7 +3,7 @@ and shows by chance beside the second simulator."""
 
 from collections import Counter
 
-from front_door.command import trouble
+from front_door.command import ROOT, trouble
 from front_door.dome_tree import DONE, in_trees
 from shows.comparison import compare
 
@@ -75,6 +75,22 @@ def a_late_board_costs_its_own_stream(tree):
     return fewer != {"east"} and "fewer tiles of %s" % fewer
 
 
+def the_flights(tree):
+    """Each passes, and no bound is passed, greedy neighbours or not."""
+    for name, greedy in (("ten", ("comet", "titles")),
+                         ("case-study", ("south", "corner")),
+                         ("hotspot", ("s3", "s8"))):
+        words = [word for one in greedy for word in ("--greedy", one)]
+        for more in ((), words):
+            ended = tree.start("play", ROOT / "flights" / (name + ".dome"),
+                               "--slots", "300", *more)
+            found = rows(ended) if ended.status == DONE else {}
+            kept = {one for one, row in found.items() if row[6] != "-"}
+            if not found or kept != set(found) - set(greedy if more else ()):
+                return "%s %s: %s" % (name, more, ended.errors or kept)
+    return None
+
+
 def shows_by_chance(tree):
     came = Counter()
     for seed in range(1, SHOWS + 1):
@@ -88,4 +104,5 @@ def shows_by_chance(tree):
 def tests(programs):
     return in_trees((
         whoever_is_greedy_or_late, one_seed_one_run,
-        a_late_board_costs_its_own_stream, shows_by_chance), programs)
+        a_late_board_costs_its_own_stream, the_flights, shows_by_chance),
+        programs)

@@ -17,7 +17,7 @@ class DomeTree(Tree):
     script, crate = "dome", "domeshow"
     needed = tuple(
         "tools/dome/" + path.name
-        for path in sorted((ROOT / "tools/dome").glob("*.py"))
+        for path in sorted((ROOT / "tools/dome").glob("*.*"))
     ) + ("tools/show/refusals.py", "tools/show/ends.py")
 
     def __init__(self, folder, programs):

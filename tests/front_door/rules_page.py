@@ -14,7 +14,8 @@ from simulator.listing import simulate
 # Rules are cited in the files below these.
 CITING = ("crates", "docs", "tests", "tools", "include", "player", "bench",
           "flights")
-CITING_FILES = ("README.md", "CONTRIBUTING.md", "play", "plan", "check-log")
+CITING_FILES = ("README.md", "CONTRIBUTING.md", "play", "plan", "dome",
+                "check-log")
 RULES_OF = re.compile(
     r"\b[Rr]ules?\s+((?:\d+\.\d+(?:,?\s(?:and|to|or)\s|,\s)?)+)")
 # The papers behind the rules, by name.

@@ -3,8 +3,9 @@ file.  Exit status: 0 the show passes, and all is written; 1 it is refused, or
 a bound was passed; 2 neither, and a sentence says why."""
 
 import sys
+from pathlib import Path
 
-from dome import check, planned, plans, play, proved, show_file
+from dome import check, page, planned, plans, play, proved, show_file
 
 sys.path.insert(0, str(proved.BIN.parents[1] / "tools/show"))
 from ends import read_file, stop, write_output  # noqa: E402
@@ -57,27 +58,52 @@ def do_plans(words):
         count, "s"[count == 1:], words[1]), file=sys.stderr)
 
 
-def do_play(words):
-    options = play.options(words)
+def take_run(words, files):
+    """The options, and a show and its dome after the run."""
+    options = play.options(words, files)
     if isinstance(options, str):
         stop("dome", 2, options)
     answers = take(options.path)
     wrong = play.unknown(options, answers)
     if wrong:
         stop("dome", 2, wrong)
-    lines, passed = play.play(answers, options)
-    write_output("dome", ("\n".join(lines) + "\n").encode())
-    for text in passed:
+    return options, answers, play.played(answers, options)
+
+
+def end(dome):
+    """Ends with 1 where a bound was passed."""
+    found = play.passed(dome)
+    for text in found:
         print("dome: " + text, file=sys.stderr)
-    sys.exit(1 if passed else 0)
+    sys.exit(1 if found else 0)
 
 
-DO = {"check": do_check, "plans": do_plans, "play": do_play}
+def do_play(words):
+    options, _, dome = take_run(words, 1)
+    write_output("dome", ("\n".join(play.lines(dome, options)) + "\n")
+                 .encode())
+    end(dome)
+
+
+def do_page(words):
+    options, answers, dome = take_run(words, 2)
+    out = options.files[1]
+    try:
+        plans.put(Path(out), page.text(answers, dome, options).encode())
+    except OSError as wrong:
+        stop("dome", 2, "'%s' can't be written: %s" % (out, wrong.strerror))
+    print("dome: '%s' is written" % out, file=sys.stderr)
+    end(dome)
+
+
+DO = {"check": do_check, "plans": do_plans, "play": do_play,
+      "page": do_page}
 
 
 def main(words):
     if not words or words[0] not in DO:
-        stop("dome", 2, "the first word is none of check, plans and play; "
+        stop("dome", 2, "the first word is none of check, plans, play and "
+             "page; "
              "./dome --help says more")
     try:
         DO[words[0]](words[1:])

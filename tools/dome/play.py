@@ -5,6 +5,7 @@ import random
 import sys
 import time
 
+from dome.check import table
 from dome.links import Link
 
 LATE_FRAMES = 2         # how much later a late board credits
@@ -12,7 +13,8 @@ LATE_FRAMES = 2         # how much later a late board credits
 
 class Options:
     def __init__(self):
-        self.path = None
+        self.path = None        # the first of the files
+        self.files = []
         self.slots = 1000
         self.seed = 1
         self.rates = {}
@@ -52,8 +54,8 @@ def take_option(found, word, value):
     return None
 
 
-def options(words):
-    """The options of a line, or a sentence."""
+def options(words, files):
+    """The options of a line, and so many files in it; or a sentence."""
     found = Options()
     left = list(words)
     while left:
@@ -62,11 +64,14 @@ def options(words):
             wrong = take_option(found, word, left.pop(0) if left else None)
             if wrong:
                 return wrong
-        elif word.startswith("--") or found.path:
-            return "'%s' is no option of play; ./dome --help has them" % word
+        elif word.startswith("--") or len(found.files) == files:
+            return "'%s' is no option; ./dome --help has them" % word
         else:
-            found.path = word
-    return found if found.path else "play takes a show file"
+            found.files.append(word)
+    found.path = found.files[0] if found.files else None
+    return found if len(found.files) == files else (
+        "a show file is missing" if files == 1 else
+        "page takes a show file and the page's own")
 
 
 def unknown(found, planned):
@@ -138,6 +143,15 @@ class Played:
         return (self.bound is not None and not self.greedy and not self.late
                 and self.source.kept and self.stream.cells >= self.bound.cells
                 and self.stream.last_cells >= self.bound.shown)
+
+
+    def mark(self):
+        """Why it has a bound, or has none, in a word or two."""
+        marks = [word for word, is_so in (("greedy", self.greedy),
+                                          ("late", self.late)) if is_so]
+        if self.keeps():
+            marks.append("kept")
+        return " ".join(marks) or "premises not kept"
 
 
 class Dome:
@@ -280,10 +294,6 @@ def run(dome, slots):
 def row(played, slots):
     name = played.stream.name
     delays = played.delays
-    marks = [word for word, is_so in (("greedy", played.greedy),
-                                      ("late", played.late)) if is_so]
-    if played.keeps():
-        marks.append("kept")
     return [name, str(played.asked), str(played.flows[0].granted),
             str(len(delays)),
             "%.1f" % (sum(delays) / len(delays)) if delays else "-",
@@ -291,30 +301,35 @@ def row(played, slots):
             str(played.bound.slots) if played.keeps() else "-",
             "%.3f" % (len(delays) / slots),
             "%.3f" % (played.stream.share / played.source.slots),
-            " ".join(marks) or "premises not kept"]
+            played.mark()]
 
 
 HEAD = ["stream", "asked", "granted", "arrived", "mean", "greatest", "bound",
         "rate", "share", "kept"]
 
 
-def play(planned, options):
-    """The lines of a run, and a sentence for each bound that was passed."""
-    from dome.check import table
+def played(planned, options):
+    """A dome after its run."""
     dome = Dome(planned, options)
     try:
         run(dome, options.slots)
     finally:
         dome.close()
-    passed = []
-    for played in dome.streams:
-        if played.keeps() and played.delays and (
-                max(played.delays) > played.bound.slots):
-            passed.append("stream %s passed its bound: a tile took %d slots, "
-                          "and the bound is %d" % (
-                              played.stream.name, max(played.delays),
-                              played.bound.slots))
-    lines = ["%d slots, seed %s" % (options.slots, options.seed), ""]
+    return dome
+
+
+def passed(dome):
+    """A sentence for each bound that was passed."""
+    return ["stream %s passed its bound: a tile took %d slots, and the bound "
+            "is %d" % (one.stream.name, max(one.delays), one.bound.slots)
+            for one in dome.streams if one.keeps() and one.delays
+            and max(one.delays) > one.bound.slots]
+
+
+def lines(dome, options):
+    """The lines of a run."""
+    said = ["%d slots, seed %s" % (options.slots, options.seed), ""]
     if dome.streams:
-        lines += table([HEAD] + [row(p, options.slots) for p in dome.streams])
-    return lines, passed
+        said += table([HEAD] + [row(one, options.slots)
+                                for one in dome.streams])
+    return said
