@@ -37,6 +37,7 @@ from front_door import (
     singular, slow_reader, tests_lost_output, versions, wrong_arguments)
 from front_door import (
     contracts, desk_page, page_links, program_stacks, proved_page)
+from front_door import dome_files, dome_page, dome_runs
 from images import self_tests
 from pairs import wrong_pairs
 from ways import wrong_ways
@@ -52,7 +53,8 @@ FRONT_DOOR = (
     slow_reader, cut_questions, asking_editor, wrong_arguments,
     tests_lost_output, bench_ahead, performance_page, page_sizes,
     must_fail_edits, progress, versions, help_pages, man_pages, readme,
-    rules_page, citations, remedies, checklist_page, comparison_page)
+    rules_page, citations, remedies, checklist_page, comparison_page,
+    dome_files, dome_page, dome_runs)
 
 
 def wanted(names, only):

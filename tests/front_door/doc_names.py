@@ -12,7 +12,7 @@ PAGES = ("README.md", "CONTRIBUTING.md", "tests/README.md",
          "docs/src/README.md")              # and docs/*.md
 SOURCES = ("crates", "tests", "tools", "include", "player", "bench",
            "docs/src", ".ci")
-COMMANDS = ("play", "plan", "check-log", "crates.txt")
+COMMANDS = ("play", "plan", "dome", "check-log", "crates.txt")
 LEFT_OUT = {"must-fail", "__pycache__"}     # edits name what isn't there
 ENDINGS = ("antt", "rt", "md", "py", "rs", "c", "h", "sh", "js", "css",
            "html", "svg", "txt", "edit", "1")

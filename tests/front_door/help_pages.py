@@ -3,7 +3,7 @@
 from front_door.command import ROOT, start, trouble
 
 LINES, COLUMNS = 40, 80
-COMMANDS = ("play", "plan", "check-log", "tools/calls", "tests/run",
+COMMANDS = ("play", "plan", "dome", "check-log", "tools/calls", "tests/run",
             "bench/run")
 
 

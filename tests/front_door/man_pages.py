@@ -9,8 +9,8 @@ from front_door.plan_tree import PlanTree
 from front_door.tree import named
 from simulator.questions import WORDS
 
-COMMANDS = {"play": "play", "plan": "plan", "check-log": "check-log",
-            "calls": "tools/calls"}
+COMMANDS = {"play": "play", "plan": "plan", "dome": "dome",
+            "check-log": "check-log", "calls": "tools/calls"}
 PAGES = ("domelink", "domeplan", *COMMANDS)
 SECTIONS = ("NAME", "SYNOPSIS", "DESCRIPTION", "EXIT STATUS", "EXAMPLES",
             "SEE ALSO")

@@ -28,7 +28,8 @@ CRATES = {
     "meshwords": "root", "sharewords": "root", "extrawords": "root",
     "programmewords": "root", "mesh": "root", "shares": "root",
     "extras": "root", "programme": "root", "delay": "root",
-    "delaywords": "root", "questions": "root"}
+    "delaywords": "root", "questions": "root", "show": "root",
+    "showwords": "root"}
 
 # Public functions that others are built from.
 HELPERS = {
@@ -47,7 +48,8 @@ KNOWN = {
     "extrawords": "extras", "programmewords": "programme",
     "mesh": "admit measure", "shares": "count", "extras": "choose",
     "programme": "plan_at", "delay": "delay", "delaywords": "delay",
-    "questions": "feed finish"}
+    "questions": "feed finish", "show": "write link_refusal refusal",
+    "showwords": "show"}
 
 
 def sources(crate):

@@ -21,7 +21,7 @@ use Rattle.mesh.proofs.Admission.{Asked, well-asked, refused-before, re
 
 -- ---- a link's place in the table
 
-number : Side → ℕ
+pub number : Side → ℕ
 number north = 0
 number west = 1
 number east = 2
@@ -34,7 +34,7 @@ side-of west = refl
 side-of east = refl
 side-of south = refl
 
-number-most : (s : Side) → number s < 4
+pub number-most : (s : Side) → number s < 4
 unfolding number
 number-most north = omega arith
 number-most west = omega arith
@@ -42,10 +42,10 @@ number-most east = omega arith
 number-most south = omega arith
 
 module _ (l : Link) where
-  abbrev place : ℕ
+  abbrev pub place : ℕ
   place = 4 * l .from + number (l .side)
 
-  link-there : linkAt place ≡ l
+  pub link-there : linkAt place ≡ l
   link-there =
       let side : place % 4 ≡ number (l .side) = omega (arith, number-most (l .side)) in
       let node : place / 4 ≡ l .from = omega (arith, number-most (l .side)) in

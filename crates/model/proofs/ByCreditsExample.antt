@@ -12,7 +12,7 @@ use Rattle.model.specs.Plan.{Plan, entry, flowCount, planOf, refusal}
 use Rattle.model.specs.Calls.{History, requested, credited, accepted}
 use Rattle.model.specs.History.{ticks, wellFormed, hasCome, renews, lends, ofFlow, expectedNumber}
 use Rattle.model.specs.Card.{paper}
-use Rattle.model.specs.PlanBytes.{plan1}
+use Rattle.model.specs.PlanBytes as planBytes
 use Rattle.model.specs.Delay.{currentFrame, madeIn}
 use Rattle.model.specs.SeveralLinks.{Ran, Board, planOn, dueOn, EachWithin}
 use Rattle.model.specs.EnoughCells.{returns}
@@ -42,13 +42,13 @@ modest-first P i h =
     (decLt (madeIn P h i (currentFrame P h)) (entry P i .share))))))) h)
     (ℕ-discrete (tally (ofFlow i) (lends h)) 0))
 
--- ---- F = 2, W = 2, one flow with share 2, with four cells on the first board, and six on the second, which gives them back when tiles were shown
+-- ---- F = 2, W = 2, one flow with share 2 from node 0 to node 9, with four cells on the first board, and six on the second, which gives them back when tiles were shown
 
-abbrev bytes : (cells : ℕ) → List ℕ
-bytes cells = plan1 2 2 8 2 cells
+abbrev pub bytes : (cells : ℕ) → List ℕ
+bytes cells = planBytes.plan 2 2 8 (planBytes.entry 2 cells 0 9 ∷ [])
 
 -- Four tiles, two in a frame, are granted slots 1 to 4 on the first board, and slots 2 to 5 on the second, which dates the first's credits so.
-abbrev moves : List Move
+abbrev pub moves : List Move
 moves =
     reverse (
     first (requested 0x24000000 (accepted 0x24000001)) ∷ first (requested 0x24000400 (accepted 0x24000402)) ∷ both (some 0) none
@@ -82,10 +82,10 @@ pub none₂ : tally renews (seconds moves) ≡ 0
 unfolding joins-compute
 none₂ = refl
 
-abbrev board₁ : Board paper
+abbrev pub board₁ : Board paper
 board₁ = record { bytes = bytes 4; passes = passes₁; events = firsts moves; ran = ran₁; no-reset = none₁; stream = 0; known = lit< tt }
 
-abbrev board₂ : Board paper
+abbrev pub board₂ : Board paper
 board₂ = record { bytes = bytes 6; passes = passes₂; events = seconds moves; ran = ran₂; no-reset = none₂; stream = 0; known = lit< tt }
 
 pub way-there : WayByCredits 1 board₁ (board₂ ∷ [])

@@ -1,6 +1,6 @@
 -- The paper's card over several links on which each board credits the one before it at its own grant. Assumes nothing.
 use Prim.Native.Nat.{ℕ, suc, _+_, _-_, _*_, _/_, _≤_, _<_}
-use mathlib.Core.Path.{_≡_, refl, ap}
+use mathlib.Core.Path.{_≡_, refl, sym, ap, subst}
 use mathlib.Core.List.{List, [], _∷_, _++_}
 use mathlib.Core.Bool.{Bool, true, false, _&&_}
 use native.Mathlib.Omega.{arith}
@@ -17,15 +17,16 @@ use Rattle.model.specs.TwoHops.{InStep}
 use Rattle.model.specs.Delay.{TimelyInOrder, Modest, GrantedSoonAt}
 use Rattle.model.specs.SeveralLinks.{AskedAt, Together, start, both-tick, first-alone, second-alone, Board, planOn}
 use Rattle.model.specs.EnoughCells.{lastOf, Return, returnAt, returns, inSlot, CreditsEachTile}
-use Rattle.model.specs.SharesOfCells.{GivenBack, AsksWithinShare, KeepsShares}
+use Rattle.model.specs.SharesOfCells.{GivenBack, AsksWithinShare, KeepsShares, EachGrantedNow}
 use Rattle.model.specs.LinksOnArrival.{AsksOnArrival, JoinedOnArrival, WayOnArrival}
 use Rattle.model.specs.CreditedByNext.{Pass, passAt, passes, grantedThen, CreditedByNext, JoinedByCredits, WayByCredits, AsksModestly, ModestFirst}
-use Rattle.model.specs.CreditedByNext.{OverLinksByCredits, FromSourceByCredits}
+use Rattle.model.specs.CreditedByNext.{OverLinksByCredits, FromSourceByCredits, GrantedByCredits}
 use Rattle.model.proofs.Tests.{and-true, and-false}
 use Rattle.model.proofs.Tallies.{All, tally-append, tally-le}
 use Rattle.model.proofs.Demand3.{each-map}
 use Rattle.model.proofs.SeveralLinks.{ok, over-links}
 use Rattle.model.proofs.CreditsInTime.{given-back-by, each-tile-by, granted-slot-dates}
+use Rattle.model.proofs.SharesOfCells.{shares-of-cells}
 use Rattle.model.proofs.LinksOnArrival.{way-with-room, modest-first, granted-first, soon-on-next}
 use Rattle.model.proofs.FromSource.{in-time}
 
@@ -235,3 +236,11 @@ from-source-by-credits late a rest way m =
     let x = along late a rest way in
     let modest = modest-there a (x .back) m in
     in-time a rest modest (over-links a rest (way-with-room a rest (x .way)) .from-due modest)
+
+pub granted-by-credits : GrantedByCredits paper
+granted-by-credits late a rest way m =
+    let back = along late a rest way .back in
+    let i = a .stream in
+    subst (EachGrantedNow (planOn a) i) (a .ran .is)
+    (shares-of-cells (back .late) (a .bytes) (a .passes) (a .ran .calls) i (a .known)
+    (subst (KeepsShares (back .late) 0 (planOn a) i) (sym (a .ran .is)) (shares-there a back m)))

@@ -95,3 +95,9 @@ OverLinksByCredits c =
 abbrev pub FromSourceByCredits : Card → Type 0
 FromSourceByCredits c =
     (late : ℕ) (a : Board c) (rest : List (Board c)) → WayByCredits late a rest → ModestFirst (planOn a) (a .stream) (a .events) → InTimeFromSource a rest
+
+-- On the first board too each request is granted, in its frame or the next: `granted-by-credits`, there.
+abbrev pub GrantedByCredits : Card → Type 0
+GrantedByCredits c =
+    (late : ℕ) (a : Board c) (rest : List (Board c)) → WayByCredits late a rest → ModestFirst (planOn a) (a .stream) (a .events)
+    → EachGrantedNow (planOn a) (a .stream) (a .events)

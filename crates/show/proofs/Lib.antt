@@ -1,0 +1,10 @@
+pub mod LinkFlows
+pub mod LinkPlans
+pub mod Places
+pub mod Chosen
+pub mod LastLink
+pub mod Claim
+pub mod Edges
+pub mod ByContracts
+pub mod Delay
+pub mod DelayExample

@@ -1,0 +1,84 @@
+-- From a show's numbers to the arrival of a stream's tiles. RULES 25.5. It names no link's state, only calls and answers. Assumes nothing.
+--
+-- A show has no refusal, and a stream of it has its shares of cells. Each board on its way runs any list of calls from the plan of its link, with no reset
+-- granted; what the other streams do is open. On the first board the stream asks for tiles that have come, within its share; on each later one it asks for
+-- each tile in the slot in which that comes, and the board credits the one before at this grant. On the last board cells are given back `late` frames late.
+-- It is lent nothing. Then every request is granted, and its tiles arrive within the slots of `bounds`.
+use Prim.Native.Nat.{ℕ, _+_, _*_, _≤_, _<_}
+use mathlib.Core.Path.{_≡_}
+use mathlib.Core.List.{List, _∷_, []}
+use mathlib.Core.Bool.{true}
+use lib.ListN.{length}
+use Rattle.model.specs.Tables.{tally}
+use Rattle.model.specs.Word.{flowOf}
+use Rattle.model.specs.WrittenPlan.{bytesOf}
+use Rattle.model.specs.History.{wellFormed, lends, ofFlow}
+use Rattle.model.specs.Claim.{Each, AtRequest}
+use Rattle.model.specs.Card.{Card}
+use Rattle.model.specs.SeveralLinks.{tile, Together, Board, planOn, sentOn, dueOn, EachGranted}
+use Rattle.model.specs.SharesOfCells.{GivenBack, EachGrantedNow}
+use Rattle.model.specs.LinksOnArrival.{AsksOnArrival}
+use Rattle.model.specs.Source.{Source, Bursts, AsksAs}
+use Rattle.model.specs.CreditedByNext.{CreditedByNext, ModestFirst}
+use Rattle.delay.specs.Bounds.{bounds}
+use Rattle.delay.specs.Promised.{lastBoard, ArrivesWithin}
+use Rattle.mesh.specs.Mesh.{Link}
+use Rattle.mesh.specs.Way.{way, distance}
+use Rattle.show.specs.Show.{Show, showStream, linkPlan, flowOn, refusal}
+
+-- ---- boards on a way
+
+-- a board runs the plan of a link, and its stream is stream i of the show
+pub record OnLink (show : Show) (i : ℕ) (l : Link) {c : Card} (b : Board c) : Type 0 where
+  pub bytes-are : b .bytes ≡ bytesOf (linkPlan show l)
+  pub flow-is : b .stream ≡ flowOn show l i
+
+-- so one board for each of several links
+abbrev pub OnLinks : Show → ℕ → {c : Card} → List Link → List (Board c) → Type 0
+OnLinks show i [] [] = Unit {0}
+OnLinks show i [] (b ∷ bs) = ⊥
+OnLinks show i (l ∷ ls) [] = ⊥
+OnLinks show i (l ∷ ls) (b ∷ bs) = OnLink show i l b × OnLinks show i ls bs
+
+-- ---- what the stream does
+
+-- From board a to the next: it asks on arrival, its cells of a are credited at the grants of b, and it is lent nothing on b. RULES 22.8.
+pub record PassedOn {c : Card} (a b : Board c) : Type 0 where
+  pub together :
+      Together (planOn a) (planOn b) (a .stream) (b .stream) (AsksOnArrival (λ P i h. Unit {0}) (planOn a) (planOn b) (a .stream) (b .stream))
+      (a .events) (b .events)
+  pub credits : CreditedByNext (planOn a) (planOn b) (a .stream) (b .stream) (a .events) (b .events)
+  pub not-lent : tally (ofFlow (b .stream)) (lends (b .events)) ≡ 0
+
+-- so from board to board, up to the last one, which gives its cells back `late` frames late
+abbrev pub PassedAlong : {c : Card} → (late : ℕ) → Board c → List (Board c) → Type 0
+PassedAlong late a [] =
+    Each (AtRequest (λ w h. wellFormed (planOn a) w ≡ true → flowOf w ≡ a .stream → GivenBack late (planOn a) (a .stream) h)) (a .events)
+PassedAlong late a (b ∷ rest) = PassedOn a b × PassedAlong late b rest
+
+-- ---- what follows
+
+pub record InTime (show : Show) (i : ℕ) {c : Card} (a : Board c) (rest : List (Board c)) : Type 0 where
+  -- every request is granted: on the first board, in its frame or the next; and on each later one
+  pub granted-first : EachGrantedNow (planOn a) (a .stream) (a .events)
+  pub granted-later : EachGranted rest
+  -- a tile comes up on the last link fewer than (distance + 1) × F slots after it is due on the first
+  pub from-due : (n : ℕ) → n < length (sentOn (lastBoard a rest))
+      → tile n (sentOn (lastBoard a rest)) < tile n (dueOn a) + (distance (showStream show i .stream) + 1) * show .slots
+  -- and, whatever burst comes to the source, at most so many slots after it came there
+  pub from-source : (burst : ℕ) (comes asks : ℕ → ℕ) → Source (showStream show i .stream .share) comes asks
+      → Bursts (showStream show i .stream .share) burst comes → AsksAs asks (planOn a) (a .stream) (a .events)
+      → ArrivesWithin (bounds (show .slots) (distance (showStream show i .stream)) (showStream show i .stream .share) burst .slots) comes (lastBoard a rest)
+
+-- The cells that it takes: two shares on each link but the last, and late + 2 on that. RULES 23.1.
+pub record EnoughCells (show : Show) (late i : ℕ) : Type 0 where
+  pub usual : 2 * showStream show i .stream .share ≤ showStream show i .cells
+  pub last : (late + 2) * showStream show i .stream .share ≤ showStream show i .lastCells
+
+-- That the paper's card keeps it is `in-time`, in proofs/Delay.antt. With late = 1, where the last board credits a cell when its tile was shown, these are
+-- the cells that a show file has where it names none.
+abbrev pub ShowInTime : Card → Type 0
+ShowInTime c =
+    (show : Show) → refusal show ≡ 0 → (i : ℕ) → i < length (show .streams) → (late : ℕ) → EnoughCells show late i
+    → (a : Board c) (rest : List (Board c)) → OnLinks show i (way (showStream show i .stream)) (a ∷ rest)
+    → ModestFirst (planOn a) (a .stream) (a .events) → PassedAlong late a rest → InTime show i a rest

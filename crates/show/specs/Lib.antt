@@ -1,0 +1,6 @@
+pub mod Show
+pub mod Reading
+pub mod Gathering
+pub mod Claim
+pub mod Delay
+pub mod Edges

@@ -1,0 +1,3 @@
+pub mod LinkLines
+pub mod AskedShow
+pub mod Edges

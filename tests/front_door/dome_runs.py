@@ -1,0 +1,108 @@
+"""./dome play: runs in which no bound is passed, whoever is greedy or late;
+and shows by chance beside the second simulator."""
+
+from collections import Counter
+
+from front_door.command import ROOT, trouble
+from front_door.dome_tree import DONE, in_trees
+from shows.comparison import compare
+
+SHOWS = 300             # compared in the gate
+REFUSALS = {"ok", "R 2", "R 3", "R 4", "R 5", "R 7", "R 25"}
+THREE = """\
+dome F=8 W=4 N=255
+stream main from=0 to=63 share=2 burst=3
+stream comet from=48 to=63 share=2
+stream east from=0 to=7 share=3
+stream row from=1 to=15 share=3
+"""
+NAMES = ("main", "comet", "east", "row")
+
+
+def rows(ended):
+    """Each stream's columns, of what play printed."""
+    lines = ended.output.decode().splitlines()[3:]
+    return {line.split()[0]: line.split() for line in lines}
+
+
+def in_bounds(found, kept):
+    """What is wrong where these streams keep their premises, or None."""
+    for name in NAMES:
+        _, asked, granted, arrived, _, greatest, bound = found[name][:7]
+        if (bound == "-") != (name not in kept):
+            return "%s has the bound %s" % (name, bound)
+        if bound != "-" and not (
+                int(asked) == int(granted) >= int(arrived) > 0
+                and int(greatest) <= int(bound)):
+            return "%s: %s" % (name, found[name])
+    return None
+
+
+def play(tree, *words):
+    ended = tree.start("play", "-", "--slots", "600", *words,
+                       input=THREE.encode())
+    return ended, trouble(ended, DONE) or None
+
+
+def whoever_is_greedy_or_late(tree):
+    for words, kept in (
+            ((), NAMES),
+            (("--greedy", "east"), ("main", "comet", "row")),
+            (("--greedy", "east", "--greedy", "comet"), ("main", "row")),
+            (("--late", "row"), ("main", "comet", "east")),
+            (("--rate", "main=1", "--rate", "east=0.9"), ("comet", "row")),
+            (("--greedy", "main", "--late", "row"), ("comet", "east"))):
+        for seed in "123":
+            ended, wrong = play(tree, "--seed", seed, *words)
+            wrong = wrong or in_bounds(rows(ended), kept)
+            if wrong:
+                return "%s, seed %s: %s" % (words, seed, wrong)
+    return None
+
+
+def one_seed_one_run(tree):
+    one, other, third = (play(tree, "--seed", seed)[0].output
+                         for seed in "557")
+    return (one != other or one == third) and "seeds make no difference"
+
+
+def a_late_board_costs_its_own_stream(tree):
+    """It has fewer tiles then, and no other has."""
+    usual = rows(play(tree)[0])
+    late = rows(play(tree, "--late", "east")[0])
+    fewer = {name for name in NAMES
+             if int(late[name][3]) + 10 < int(usual[name][3])}
+    return fewer != {"east"} and "fewer tiles of %s" % fewer
+
+
+def the_flights(tree):
+    """Each passes, and no bound is passed, greedy neighbours or not."""
+    for name, greedy in (("ten", ("comet", "titles")),
+                         ("case-study", ("south", "corner")),
+                         ("hotspot", ("s3", "s8"))):
+        words = [word for one in greedy for word in ("--greedy", one)]
+        for more in ((), words):
+            ended = tree.start("play", ROOT / "flights" / (name + ".dome"),
+                               "--slots", "300", *more)
+            found = rows(ended) if ended.status == DONE else {}
+            kept = {one for one, row in found.items() if row[6] != "-"}
+            if not found or kept != set(found) - set(greedy if more else ()):
+                return "%s %s: %s" % (name, more, ended.errors or kept)
+    return None
+
+
+def shows_by_chance(tree):
+    came = Counter()
+    for seed in range(1, SHOWS + 1):
+        wrong, first = compare(seed, tree.program)
+        came[first] += 1
+        if wrong:
+            return wrong
+    return set(came) != REFUSALS and "only %s came up" % sorted(came)
+
+
+def tests(programs):
+    return in_trees((
+        whoever_is_greedy_or_late, one_seed_one_run,
+        a_late_board_costs_its_own_stream, the_flights, shows_by_chance),
+        programs)

@@ -1,0 +1,115 @@
+"""./dome, behind its shell script: check, plans, play and page of a show
+file.  Exit status: 0 the show passes, and all is written; 1 it is refused, or
+a bound was passed; 2 neither, and a sentence says why."""
+
+import sys
+from pathlib import Path
+
+from dome import check, page, planned, plans, play, proved, show_file
+
+sys.path.insert(0, str(proved.BIN.parents[1] / "tools/show"))
+from ends import read_file, stop, write_output  # noqa: E402
+
+MOST_SENTENCES = 100
+
+
+def say_all(path, found, status):
+    """Ends with a sentence for each fault."""
+    for line, text in found[:MOST_SENTENCES]:
+        where = "line %d: " % line if line else ""
+        print("dome: %s: %s%s" % (path, where, text), file=sys.stderr)
+    if len(found) > MOST_SENTENCES:
+        print("dome: %s: and %d more faults" % (
+            path, len(found) - MOST_SENTENCES), file=sys.stderr)
+    sys.exit(status)
+
+
+def take(path):
+    """The show of a file with its plans, or the end."""
+    show, faults = show_file.read(read_file("dome", path))
+    name = "standard input" if path == "-" else "'%s'" % path
+    if faults:
+        say_all(name, faults, 2)
+    answers = planned.Planned(show)
+    found = planned.refused(answers)
+    if found:
+        say_all(name, found, 1)
+    return answers
+
+
+def do_check(words):
+    if len(words) != 1:
+        stop("dome", 2, "check takes one show file; ./dome --help says more")
+    write_output("dome", ("\n".join(check.lines(take(words[0]))) + "\n")
+                 .encode())
+
+
+def do_plans(words):
+    if len(words) != 2:
+        stop("dome", 2, "plans takes a show file and a folder; ./dome --help "
+             "says more")
+    answers = take(words[0])
+    try:
+        count = plans.write(answers, words[1])
+    except OSError as wrong:
+        stop("dome", 2, "'%s' can't be written: %s" % (
+            words[1], wrong.strerror))
+    print("dome: %d plan%s and index.txt are written to '%s'" % (
+        count, "s"[count == 1:], words[1]), file=sys.stderr)
+
+
+def take_run(words, files):
+    """The options, and a show and its dome after the run."""
+    options = play.options(words, files)
+    if isinstance(options, str):
+        stop("dome", 2, options)
+    answers = take(options.path)
+    wrong = play.unknown(options, answers)
+    if wrong:
+        stop("dome", 2, wrong)
+    return options, answers, play.played(answers, options)
+
+
+def end(dome):
+    """Ends with 1 where a bound was passed."""
+    found = play.passed(dome)
+    for text in found:
+        print("dome: " + text, file=sys.stderr)
+    sys.exit(1 if found else 0)
+
+
+def do_play(words):
+    options, _, dome = take_run(words, 1)
+    write_output("dome", ("\n".join(play.lines(dome, options)) + "\n")
+                 .encode())
+    end(dome)
+
+
+def do_page(words):
+    options, answers, dome = take_run(words, 2)
+    out = options.files[1]
+    try:
+        plans.put(Path(out), page.text(answers, dome, options).encode())
+    except OSError as wrong:
+        stop("dome", 2, "'%s' can't be written: %s" % (out, wrong.strerror))
+    print("dome: '%s' is written" % out, file=sys.stderr)
+    end(dome)
+
+
+DO = {"check": do_check, "plans": do_plans, "play": do_play,
+      "page": do_page}
+
+
+def main(words):
+    if not words or words[0] not in DO:
+        stop("dome", 2, "the first word is none of check, plans, play and "
+             "page; "
+             "./dome --help says more")
+    try:
+        DO[words[0]](words[1:])
+    except proved.Broken as wrong:
+        stop("dome", 2, str(wrong))
+
+
+if __name__ == "__main__":
+    main(sys.argv[1:])

@@ -1,0 +1,95 @@
+"""Questions to the proved programs: domeshow for plans, domeplan for
+bounds."""
+
+import subprocess
+from pathlib import Path
+
+BIN = Path(__file__).resolve().parents[2] / "target/bin"
+
+
+class Broken(Exception):
+    """A program that answers what it should not."""
+
+
+class Answer:
+    """What domeshow answers: the show's refusal, the plan's bytes of each
+    link that is used and has one, and the refusals of the others.  A link is
+    a pair of boards."""
+
+    def __init__(self):
+        self.refusal = 0
+        self.plans = {}
+        self.refusals = {}
+
+    def links(self):
+        return sorted([*self.plans, *self.refusals])
+
+
+def ask(program, question):
+    done = subprocess.run([str(BIN / program)], input=question.encode(),
+                          stdout=subprocess.PIPE, check=False)
+    lines = done.stdout.decode("ascii", "replace").splitlines()
+    if done.returncode or not lines or lines[0].startswith("?"):
+        raise Broken("%s answered %r to %r"
+                     % (program, lines[:1], question[:60]))
+    return lines
+
+
+def number_after(letter, words):
+    """The number of a refusal, or None."""
+    if len(words) == 2 and words[0] == letter and words[1].isdigit():
+        return int(words[1])
+    return None
+
+
+def ask_show(dome, streams):
+    """The answer to a show of these streams."""
+    numbers = [dome["F"], dome["W"], dome["N"]]
+    for s in streams:
+        numbers += [s.source, s.destination, s.share]
+    for s in streams:
+        numbers += [s.cells, s.last_cells]
+    lines = ask("domeshow", " ".join(["show"] + [str(n) for n in numbers]))
+    answer = Answer()
+    if lines[0] != "ok":
+        answer.refusal = number_after("R", lines[0].split())
+    for line in lines[1:]:
+        word, source, destination, *rest = line.split()
+        link = (int(source), int(destination))
+        if word != "link" or not rest:
+            raise Broken("domeshow answered %r" % line)
+        if len(rest) == 1:
+            answer.plans[link] = bytes.fromhex(rest[0])
+        else:
+            answer.refusals[link] = number_after("R", rest)
+    return answer
+
+
+def ask_dome(dome):
+    """The refusal of F, W and N, 0 where they pass: that of a plan with one
+    flow that is within its limits, whatever they are."""
+    lines = ask("domeplan", "plan %d %d %d 1 1 0 1\n" % (
+        dome["F"], dome["W"], dome["N"]))
+    return number_after("R", lines[0].split()) or 0
+
+
+class Bound:
+    """What domeplan answers of a delay: slots, and two numbers of cells."""
+
+    def __init__(self, slots, cells, shown):
+        self.slots = slots
+        self.cells = cells
+        self.shown = shown
+
+
+def ask_bounds(dome, streams, hops):
+    """The bound of each stream, None where domeplan has none for it."""
+    lines = ask("domeplan", "".join(
+        "delay %d %d %d %d\n" % (dome["F"], n, s.share, s.burst)
+        for s, n in zip(streams, hops))) if streams else []
+    bounds = []
+    for line in lines:
+        words = line.split()
+        known = len(words) == 3 and all(word.isdigit() for word in words)
+        bounds.append(Bound(*map(int, words)) if known else None)
+    return bounds
