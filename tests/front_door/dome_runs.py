@@ -3,7 +3,7 @@ and shows by chance beside the second simulator."""
 
 from collections import Counter
 
-from front_door.command import ROOT, trouble
+from front_door.command import ROOT, start, trouble
 from front_door.dome_tree import DONE, in_trees
 from shows.comparison import compare
 
@@ -17,6 +17,36 @@ stream east from=0 to=7 share=3
 stream row from=1 to=15 share=3
 """
 NAMES = ("main", "comet", "east", "row")
+ONE_LINK = b"ok\nlink 0 1 100001000c0004000200080001030001\n"
+# Questions to domeshow and their answers, worked out by hand.
+QUESTIONS = (
+    (b"", b"? F, W or N is missing\n"),
+    (b"\n", b"? F, W or N is missing\n"),
+    (b"show 4 2", b"? F, W or N is missing\n"),
+    (b"show 4 2 8", b"ok\n"),
+    (b"show 0 0 0", b"R 3\n"),
+    (b"show 4 2 8 0 1 1 2", b"? each stream has a source, a destination and a "
+     b"share, and cells twice: the numbers after N are no multiple of five\n"),
+    (b"show 4 2 8 0 1 1 2 3", ONE_LINK),
+    (b"show 4 2 8 0 1 1 2 3\n", ONE_LINK),
+    (b"show 4 2 8 0 1 1 2 3\n\n", b"? a number has a byte that is no digit\n"),
+    (b"show  4", b"? a number is missing: words and numbers are set apart by "
+     b"single spaces\n"),
+    (b"show 4 x", b"? a number has a byte that is no digit\n"),
+    (b"show 1234567890", b"? a number has more than nine digits\n"),
+    # no stream uses a link twice, so of its usual cells over one link nothing
+    # is asked; 8 cells are N, and 9 one more
+    (b"show 4 2 8 0 1 1 0 9", b"R 7\nlink 0 1 R 7\n"),
+    # from row 8, which is none of the mesh, up the column of board 1
+    (b"show 4 2 8 64 1 1 2 3", b"R 4\n" + b"".join(
+        b"link %d %d R 4\n" % (board, board - 8)
+        for board in (9, 17, 25, 33, 41, 49, 57))),
+    (b"show 4 2 8 56 64 1 2 3", b"R 4\nlink 56 64 R 4\n"),
+    (b"show 4 2 8" + 3990 * b" ", b"? a number is missing: words and numbers "
+     b"are set apart by single spaces\n"),
+    (b"show 4 2 8" + 3991 * b" ", b"? the question has more than 4,000 "
+     b"bytes\n"),
+)
 
 
 def rows(ended):
@@ -91,6 +121,14 @@ def the_flights(tree):
     return None
 
 
+def questions_by_hand(tree):
+    for question, answer in QUESTIONS:
+        wrong = trouble(start([tree.program], input=question), DONE, answer)
+        if wrong:
+            return "%r: %s" % (question[:40], wrong)
+    return None
+
+
 def shows_by_chance(tree):
     came = Counter()
     for seed in range(1, SHOWS + 1):
@@ -104,5 +142,5 @@ def shows_by_chance(tree):
 def tests(programs):
     return in_trees((
         whoever_is_greedy_or_late, one_seed_one_run,
-        a_late_board_costs_its_own_stream, the_flights, shows_by_chance),
-        programs)
+        a_late_board_costs_its_own_stream, the_flights, questions_by_hand,
+        shows_by_chance), programs)

@@ -15,12 +15,11 @@ def answered(program, found):
 def compare(seed, program=PROGRAM):
     """What differs, or None; and the refusal that came."""
     found = numbers(seed)
-    expected, whole = lines(found)
+    expected = lines(found)
     heard = answered(program, found).splitlines()
-    shown = heard if whole else heard[:1]
-    if shown == expected:
+    if heard == expected:
         return None, expected[0]
-    for at, (a, b) in enumerate(zip(shown + [""] * 300, expected + [""])):
+    for at, (a, b) in enumerate(zip(heard + [""] * 300, expected + [""])):
         if a != b:
             return "seed %d, line %d: %r, and %r was expected" % (
                 seed, at + 1, a, b), expected[0]

@@ -16,6 +16,8 @@ def ends(chance, kind):
     if kind == "over one link":
         return chance.randrange(4), 8 * chance.randrange(8) + (
             chance.randrange(4, 8))
+    if kind == "any limits" and chance.random() < 0.1:
+        return chance.randrange(80), chance.randrange(80)
     return chance.randrange(64), chance.randrange(64)
 
 

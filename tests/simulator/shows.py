@@ -10,13 +10,15 @@ NUMBERS = 5             # of each stream: three, and two for its cells
 
 
 def flows(streams, cells):
-    """The entries of each hop, in the order of the streams."""
+    """The entries of each hop from a board of the mesh, in the order of the
+    streams."""
     found = {}
     for (source, destination, share), (usual, last) in zip(streams, cells):
         for hop in mesh.hops(source, destination):
-            found.setdefault(hop, []).append(
-                (share, last if hop[1] == destination else usual,
-                 source, destination))
+            if hop[0] < mesh.BOARDS:
+                found.setdefault(hop, []).append(
+                    (share, last if hop[1] == destination else usual,
+                     source, destination))
     return found
 
 
@@ -39,16 +41,13 @@ def line_of(hop, number, data):
 
 
 def lines(numbers):
-    """The lines that answer the numbers of a show whose boards are all on the
-    mesh: of others the lines of links are not told here, and left out."""
+    """The lines that answer the numbers of a show."""
     slots, frames, buffer = numbers[:3]
     count = (len(numbers) - 3) // NUMBERS
     streams = [tuple(numbers[3 + 3 * i:6 + 3 * i]) for i in range(count)]
     at = 3 + 3 * count
     cells = [tuple(numbers[at + 2 * i:at + 2 * i + 2]) for i in range(count)]
-    on_mesh = all(s < mesh.BOARDS and d < mesh.BOARDS for s, d, _ in streams)
-    links = (link_answers(slots, frames, buffer, streams, cells)
-             if on_mesh else [])
+    links = link_answers(slots, frames, buffer, streams, cells)
     number = refusal(slots, streams, links)
     said = ["R %d" % number if number else "ok"]
-    return said + [line_of(*link) for link in links], on_mesh
+    return said + [line_of(*link) for link in links]
