@@ -88,19 +88,25 @@ def capitals(program):
     return difference(len(lines) * NONE, play([program], b"\n".join(lines)))
 
 
+def packets_of(program, data):
+    """What it writes for a file, each write by itself."""
+    reader, writer = os.pipe2(os.O_DIRECT)
+    with tempfile.TemporaryFile() as source:
+        source.write(data)
+        source.seek(0)
+        process = subprocess.Popen([program], stdin=source, stdout=writer)
+    os.close(writer)
+    packets = list(iter(lambda: os.read(reader, 65536), b""))
+    os.close(reader)
+    process.wait(timeout=LIMIT)
+    return packets
+
+
 def one_write(program):
     """The answers to a short file come in one packet of a pipe that keeps
     writes apart."""
-    reader, writer = os.pipe2(os.O_DIRECT)
-    with tempfile.TemporaryFile() as source:
-        source.write(PACKETS * b"count 4 2\n")
-        source.seek(0)
-        subprocess.run([program], stdin=source, stdout=writer, timeout=LIMIT)
-    os.close(writer)
-    packet, rest = os.read(reader, 65536), os.read(reader, 65536)
-    os.close(reader)
-    return (packet != PACKETS * b"6 10\n" or rest) and (
-        "%d bytes, then %r" % (len(packet), rest[:20]))
+    packets = packets_of(program, PACKETS * b"count 4 2\n")
+    return packets != [PACKETS * b"6 10\n"] and "%d writes" % len(packets)
 
 
 TESTS = {
