@@ -56,7 +56,8 @@ def rows(ended):
 
 
 def in_bounds(found, kept):
-    """What is wrong where these streams keep their premises, or None."""
+    """Rule 25.5: what is wrong where these streams keep their premises, or
+    None."""
     for name in NAMES:
         _, asked, granted, arrived, _, greatest, bound = found[name][:7]
         if (bound == "-") != (name not in kept):
@@ -130,6 +131,7 @@ def questions_by_hand(tree):
 
 
 def shows_by_chance(tree):
+    """Rule 25.4: each refusal comes up, and no other."""
     came = Counter()
     for seed in range(1, SHOWS + 1):
         wrong, first = compare(seed, tree.program)

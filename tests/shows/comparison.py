@@ -13,7 +13,7 @@ def answered(program, found):
 
 
 def compare(seed, program=PROGRAM):
-    """What differs, or None; and the refusal that came."""
+    """Rule 25.6: what differs, or None; and the refusal that came."""
     found = numbers(seed)
     expected = lines(found)
     heard = answered(program, found).splitlines()

@@ -10,8 +10,8 @@ NUMBERS = 5             # of each stream: three, and two for its cells
 
 
 def flows(streams, cells):
-    """The entries of each hop from a board of the mesh, in the order of the
-    streams."""
+    """Rules 25.1 and 25.2: the entries of each hop from a board of the mesh, in
+    the order of the streams."""
     found = {}
     for (source, destination, share), (usual, last) in zip(streams, cells):
         for hop in mesh.hops(source, destination):
@@ -29,7 +29,7 @@ def link_answers(slots, frames, buffer, streams, cells):
 
 
 def refusal(slots, streams, links):
-    """That of the mesh, and then the first of the links."""
+    """Rule 25.3: that of the mesh, and then the first of the links."""
     number = mesh.refusal_before_ways(slots, streams)
     if not number and mesh.overloads(slots, streams):
         number = 25

@@ -40,8 +40,8 @@ pub record InOrder (show : Show) (l : Link) : Type 0 where
 
 -- ---- the whole show
 
--- The streams are admitted over the mesh, and every link that is used has a plan that the reader accepts: so it is where there is no refusal (`planned`), and
--- only there (`no-refusal`).
+-- RULES 25.4: the streams are admitted over the mesh, and every link that is used has a plan that the reader accepts: so it is where there is no refusal
+-- (`planned`), and only there (`no-refusal`).
 pub record Planned (show : Show) : Type 0 where
   pub admits : Admitted (show .slots) (streamsIn show)
   pub each-link : (l : Link) → used show l ≡ true → GoodPlan (linkPlan show l)

@@ -58,6 +58,7 @@ PassedAlong late a (b ∷ rest) = PassedOn a b × PassedAlong late b rest
 
 -- ---- what follows
 
+-- RULES 25.5: of one stream and its boards.
 pub record InTime (show : Show) (i : ℕ) {c : Card} (a : Board c) (rest : List (Board c)) : Type 0 where
   -- every request is granted: on the first board, in its frame or the next; and on each later one
   pub granted-first : EachGrantedNow (planOn a) (a .stream) (a .events)

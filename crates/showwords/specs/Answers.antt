@@ -56,6 +56,7 @@ abbrev pub showAsked : (numbers : List ℕ) → Show
 showAsked numbers =
     showOf (domeAsked numbers) (take (3 * streamsAsked numbers) (drop 3 numbers)) (drop (3 + 3 * streamsAsked numbers) numbers)
 
+-- RULES 25.6: the whole answer.
 unfoldable pub answerToShow : (numbers : List ℕ) → List ℕ
 answerToShow numbers =
     cond (ltb (length numbers) 3) (cannot "F, W or N is missing")
