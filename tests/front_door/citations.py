@@ -9,7 +9,7 @@ from front_door.rule_book import citations, cited, rules
 
 # Folders whose tests are executed; the simulator and the generator have none.
 EXECUTED = ("ahead", "demand3", "driver", "edges", "front_door", "images",
-            "pairs", "ways")
+            "pairs", "ways", "shows")
 HEAD = {".antt": re.compile(r"(?:--.*\n)+"),
         ".py": re.compile(r'"""(?:.|\n)*?"""')}
 COMMENT = {".antt": re.compile(r"(?:^|\s)--(?: .*)?$", re.MULTILINE),

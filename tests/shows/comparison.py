@@ -13,8 +13,8 @@ def answered(program, found):
 
 
 def compare(seed, program=PROGRAM):
-    """Rules 25.1 to 25.3 and 25.6: what differs, or None; and the refusal that
-    came."""
+    """Rules 25.1, 25.2, 25.3 and 25.6: what differs, or None; and the refusal
+    that came."""
     found = numbers(seed)
     expected = lines(found)
     heard = answered(program, found).splitlines()
