@@ -1,206 +1,175 @@
-// The input in pieces: as many records as are whole are played, and the rest is kept for the next piece.
+// The input in pieces: records that are whole are played, and what is left is kept for the next piece.
+ghost use Prim.Native.Nat.{_+_, _*_, _≤_, _<_};
+ghost use lib.ListN.{length};
+ghost use Rattle.link.specs.Given.{StateIn};
+ghost use Rattle.link.specs.Sound.{SoundLink};
 use crate::output;
 use crate::records::Found;
 use crate::records::record_at;
 use crate::records::word_at;
+use crate::records::words_of;
 use link::Link;
 use plan::Plan;
 use state::CURRENT;
 use state::State;
 use trace::Call;
-use trace::ROOM;
+use trace::Reached;
 use trace::step;
 use window::Window;
 use window::positions::window;
 
-// A link after some pieces.
-pub(crate) struct Piece {
-    pub(crate) link: Link,
-    // bytes at the start of the space that are not played yet
-    pub(crate) kept: usize,
-    // more is to be read
-    pub(crate) more: bool,
+// Room for the lines of a burst, which has the most.
+const ROOM: usize = 43008;
+
+// A word of a burst, by its place among them.
+fn word_call(k: usize, word: u32) -> Call {
+    if k < 16 {
+        return Call::Word(word);
+    }
+    Call::Past(word)
 }
 
-// How far records were played, and where their lines end.
-struct Reach {
-    window: Window,
-    at: usize,
-    end: usize,
-}
-
-// Plays the words of a burst, which stand from a place on.
-fn words(
-    s: &mut State,
-    plan: Plan,
-    w: Window,
-    bytes: &[u8],
-    from: usize,
-    count: usize,
-    out: &mut [u8],
-    at: usize,
-) -> usize {
+// Plays the words of a burst, which stand behind its record.
+fn words(s: &mut State, plan: Plan, w: Window, part: &[u8], out: &mut [u8], at: usize) -> Reached
+    requires { ⌜ StateIn plan w (now s) × (5 ≤ length (now part)) × (length (now part) ≤ 85) × (at + 43008 ≤ length (now out)) ⌝ }
+    ensures hand { λ r. ⌜ StateIn plan (r .window) (now (s .exit)) ⌝ }
+    ensures most { λ r. ⌜ r .end ≤ at + 43008 ⌝ }
+{
+    let count = (part.len() - 5) / 4;
     let mut end = trace::write_burst(s, plan, w, count, out, at);
+    let mut on = w;
     let mut k = 0;
     while k < count {
-        let word = word_at(bytes, from + 4 * k);
-        if k < 16 {
-            let next = step(s, plan, w, Call::Word(word), out, end);
-            end = next.end;
-        } else {
-            let next = step(s, plan, w, Call::Past(word), out, end);
-            end = next.end;
-        }
+        let call = word_call(k, word_at(part, 5 + 4 * k));
+        let next = step(s, plan, on, call, out, end);
+        on = next.window;
+        end = next.end;
         k += 1;
     }
-    end
+    Reached { window: on, end }
 }
 
-// The bytes that a record has.
-fn length_of(found: Found) -> usize {
-    match found {
-        Found::Burst(count) => 5 + 4 * count,
-        Found::Call(call) => 5,
-        Found::NoCall => 5,
-    }
+// Writes the line of bytes that are no call, at most 85.
+pub(crate) fn put_bytes(bytes: &[u8], out: &mut [u8], at: usize) -> usize
+    requires { ⌜ (at + (2 * length (now bytes) + 3)) ≤ length (now out) ⌝ }
+    ensures { λ r. ⌜ r ≤ at + (2 * length (now (bytes .entry)) + 3) ⌝ }
+{
+    let first = replies::put(b"X ", out, at);
+    let last = replies::put_hex(bytes, out, first);
+    replies::put(b"\n", out, last)
 }
 
-// Plays one record that is whole.
+// Plays one record with its words.
 fn one(
     s: &mut State,
     plan: Plan,
     w: Window,
-    found: Found,
-    bytes: &[u8],
-    at: usize,
+    part: &[u8],
+    all: bool,
     out: &mut [u8],
-    end: usize,
-) -> trace::Reached {
+    at: usize,
+) -> Reached
+    requires { ⌜ StateIn plan w (now s) × (5 ≤ length (now part)) × (length (now part) ≤ 85) × (at + 43008 ≤ length (now out)) ⌝ }
+    ensures hand { λ r. ⌜ StateIn plan (r .window) (now (s .exit)) ⌝ }
+    ensures most { λ r. ⌜ r .end ≤ at + 43008 ⌝ }
+{
+    let found = record_at(part, all);
     match found {
-        Found::Call(call) => step(s, plan, w, call, out, end),
-        Found::Burst(count) => trace::Reached {
-            window: w,
-            end: words(s, plan, w, bytes, at + 5, count, out, end),
-        },
-        Found::NoCall => trace::Reached {
-            window: w,
-            end: put_bytes(bytes, at, at + 5, out, end),
-        },
+        Found::Call(call) => {
+            return step(s, plan, w, call, out, at);
+        }
+        Found::Burst(count) => {
+            return words(s, plan, w, part, out, at);
+        }
+        Found::NoCall => {
+            return Reached {
+                window: w,
+                end: put_bytes(part, out, at),
+            };
+        }
     }
 }
 
-// Writes the line of bytes that are no call.
-fn put_bytes(bytes: &[u8], from: usize, to: usize, out: &mut [u8], at: usize) -> usize {
-    let first = replies::put(b"X ", out, at);
-    let last = replies::put_hex(&bytes[from..to], out, first);
-    replies::put(b"\n", out, last)
+// How many bytes the record at a place has with its words, at most 85; 0 where they are not all there.
+fn whole_at(bytes: &[u8], at: usize, all: bool) -> usize
+    requires { ⌜ at ≤ length (now bytes) ⌝ }
+    ensures some { λ r. ⌜ (0 < r → 5 ≤ r) ⌝ }
+    ensures most { λ r. ⌜ r ≤ 85 ⌝ }
+    ensures there { λ r. ⌜ at + r ≤ length (now (bytes .entry)) ⌝ }
+{
+    let left = bytes.len() - at;
+    if left < 5 {
+        return 0;
+    }
+    let size = 5 + 4 * words_of(record_at(&bytes[at..], all));
+    if left < size {
+        return 0;
+    }
+    size
 }
 
-// Plays the records of a slice that are whole, up to the room that there is; the last few bytes may be cut off.
-pub(crate) fn play(mut link: Link, bytes: &[u8], all: bool, out: &mut [u8]) -> Played {
+// A link after the whole records of a piece.
+pub(crate) struct Played {
+    pub(crate) link: Link,
+    // bytes of the records
+    pub(crate) used: usize,
+    // the output takes more
+    pub(crate) more: bool,
+}
+
+// Makes room for the lines of a record, by writing those that there are; false where the output takes no more.
+fn flushed(out: &[u8], end: usize) -> bool
+    requires { ⌜ end ≤ length (now out) ⌝ }
+{
+    if out.len() - end < ROOM {
+        return output::write(out, end);
+    }
+    true
+}
+
+// The place for the next line, after that.
+fn place_in(out: &[u8], end: usize) -> usize
+    requires { ⌜ (end ≤ length (now out)) × (43008 ≤ length (now out)) ⌝ }
+    ensures { λ r. ⌜ r + 43008 ≤ length (now (out .entry)) ⌝ }
+{
+    if out.len() - end < ROOM {
+        return 0;
+    }
+    end
+}
+
+// Plays the records of a slice that are whole, and writes their lines.
+pub(crate) fn play(mut link: Link, bytes: &[u8], all: bool, out: &mut [u8]) -> Played
+    requires { ⌜ SoundLink link × (43008 ≤ length (now out)) ⌝ }
+    ensures sound { λ r. ⌜ SoundLink (r .link) ⌝ }
+    ensures used { λ r. ⌜ r .used ≤ length (now (bytes .entry)) ⌝ }
+{
     let plan = link.plan;
     let cp = link.state[CURRENT];
     let mut w = window(plan.slots, plan.frames, cp as usize);
-    let mut at = 0;
     let mut end = 0;
-    while at + 5 <= bytes.len() && end + 12000 <= out.len() {
-        let found = record_at(bytes, at, all);
-        let size = length_of(found);
-        if bytes.len() - at < size {
-            return Played {
-                link,
-                at,
-                end,
-                cut: true,
-            };
-        }
-        let next = one(&mut link.state, plan, w, found, bytes, at, out, end);
+    let mut used = 0;
+    let mut more = true;
+    let mut size = whole_at(bytes, 0, all);
+    while more && 0 < size {
+        more = flushed(out, end);
+        let at = place_in(out, end);
+        let next = one(
+            &mut link.state,
+            plan,
+            w,
+            &bytes[used..used + size],
+            all,
+            out,
+            at,
+        );
         w = next.window;
         end = next.end;
-        at += size;
+        used += size;
+        size = whole_at(bytes, used, all);
     }
-    Played {
-        link,
-        at,
-        end,
-        cut: bytes.len() - at < 5,
+    if more {
+        more = output::write(out, end);
     }
-}
-
-pub(crate) struct Played {
-    pub(crate) link: Link,
-    pub(crate) at: usize,
-    pub(crate) end: usize,
-    // what is left is no whole record
-    pub(crate) cut: bool,
-}
-
-// Moves the bytes from one place to another to the start.
-fn keep(space: &mut [u8], from: usize, to: usize) {
-    let mut k = from;
-    while k < to {
-        space[k - from] = space[k];
-        k += 1;
-    }
-}
-
-// Plays the first bytes of the space; what is left of them, and the link.
-fn drain(link: Link, have: usize, all: bool, space: &mut [u8], out: &mut [u8]) -> Piece {
-    let mut now = Piece {
-        link,
-        kept: have,
-        more: true,
-    };
-    let mut cut = false;
-    let mut left = have + 1;
-    while !cut && 0 < left {
-        let played = play(now.link, &space[..now.kept], all, out);
-        cut = played.cut;
-        let more = output::write(out, played.end);
-        keep(space, played.at, now.kept);
-        let kept = now.kept - played.at;
-        let link = played.link;
-        if !more {
-            return Piece {
-                link,
-                kept,
-                more: false,
-            };
-        }
-        now = Piece {
-            link,
-            kept,
-            more: true,
-        };
-        left -= 1;
-    }
-    now
-}
-
-// Reads once, and plays what can be played.
-pub(crate) fn round(piece: Piece, all: bool, space: &mut [u8], out: &mut [u8]) -> Piece {
-    let kept = piece.kept;
-    let got = libc::read(libc::STDIN_FILENO, &mut space[kept..]);
-    let link = piece.link;
-    if got < 0 {
-        output::input_lost();
-        return Piece {
-            link,
-            kept,
-            more: false,
-        };
-    }
-    if got == 0 {
-        if 0 < kept {
-            let end = put_bytes(space, 0, kept, out, 0);
-            output::write(out, end);
-        }
-        return Piece {
-            link,
-            kept,
-            more: false,
-        };
-    }
-    let have = kept + io::count(got, &space[kept..]);
-    drain(link, have, all, space, out)
+    Played { link, used, more }
 }

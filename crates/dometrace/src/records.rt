@@ -3,6 +3,7 @@ ghost use Prim.Native.Nat.{_+_, _≤_, _<_};
 ghost use lib.ListN.{length};
 use calls::Record;
 use trace::Call;
+use window::numbers::smaller;
 
 // The most words that stand behind the record of a burst.
 const MOST: usize = 20;
@@ -36,16 +37,26 @@ pub(crate) fn word_at(bytes: &[u8], at: usize) -> u32
     two_bytes(bytes, at) + 65536 * two_bytes(bytes, at + 2)
 }
 
-// A record that is none of domelink's.
-fn other(bytes: &[u8], at: usize) -> Found
-    requires { ⌜ at + 4 < length (now bytes) ⌝ }
+// How many words stand behind a record.
+pub(crate) fn words_of(found: Found) -> usize
+    ensures { λ r. ⌜ r ≤ 20 ⌝ }
 {
-    let kind = bytes[at];
-    let high = two_bytes(bytes, at + 3);
+    let Found::Burst(count) = found else {
+        return 0;
+    };
+    smaller(count, MOST)
+}
+
+// A record that is none of domelink's.
+fn other(bytes: &[u8]) -> Found
+    requires { ⌜ 5 ≤ length (now bytes) ⌝ }
+{
+    let kind = bytes[0];
+    let high = two_bytes(bytes, 3);
     if high != 0 {
         return Found::NoCall;
     }
-    let low = two_bytes(bytes, at + 1);
+    let low = two_bytes(bytes, 1);
     if kind == 4 {
         return Found::Call(Call::Lend(low as u16));
     }
@@ -58,13 +69,13 @@ fn other(bytes: &[u8], at: usize) -> Found
     Found::NoCall
 }
 
-// The record of five bytes at a place; those of section 14 too where all are asked for.
-pub(crate) fn record_at(bytes: &[u8], at: usize, all: bool) -> Found
-    requires { ⌜ at + 4 < length (now bytes) ⌝ }
+// The record at the start of some bytes; those of section 14 too where all are asked for.
+pub(crate) fn record_at(bytes: &[u8], all: bool) -> Found
+    requires { ⌜ 5 ≤ length (now bytes) ⌝ }
 {
-    let Record::Call(call) = calls::read(bytes, at) else {
+    let Record::Call(call) = calls::read(bytes, 0) else {
         if all {
-            return other(bytes, at);
+            return other(bytes);
         }
         return Found::NoCall;
     };
