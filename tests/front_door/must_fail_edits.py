@@ -28,7 +28,7 @@ CRATES = {
     "meshwords": "root", "sharewords": "root", "extrawords": "root",
     "programmewords": "root", "mesh": "root", "shares": "root",
     "extras": "root", "programme": "root", "delay": "root",
-    "delaywords": "root"}
+    "delaywords": "root", "trace": "root"}
 
 # Public functions that others are built from.
 HELPERS = {
@@ -45,7 +45,8 @@ KNOWN = {
     "meshwords": "mesh mesh_over", "sharewords": "count",
     "extrawords": "extras", "programmewords": "programme",
     "mesh": "admit measure", "shares": "count", "extras": "choose",
-    "programme": "plan_at", "delay": "delay", "delaywords": "delay"}
+    "programme": "plan_at", "delay": "delay", "delaywords": "delay",
+    "trace": "step write_burst write_plan"}
 
 
 def sources(crate):

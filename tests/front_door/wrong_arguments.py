@@ -9,7 +9,7 @@ from pathlib import Path
 from front_door.command import ROOT, start, trouble
 
 BUILT = ("bin/domelink", "bin/allcalls", "bin/domeplan",
-         "staticlib/libimage.a")        # what tests/run needs
+         "bin/dometrace", "staticlib/libimage.a")        # what tests/run needs
 MISSING = os.path.join(os.sep, "nowhere", "calls")
 
 # Arguments of tests/run, and words of the sentence.

@@ -8,7 +8,7 @@ ghost use Prim.Native.Nat.{_≤_};
 ghost use lib.ListN.{length};
 ghost use Rattle.link.specs.Sound.{SoundLink};
 use link::Link;
-use pieces::play;
+use pieces::play_first;
 use pieces::put_bytes;
 use plan::Verdict;
 
@@ -76,7 +76,7 @@ fn round_once(round: Round, all: bool, space: &mut [u8], out: &mut [u8]) -> Roun
             more: false,
         };
     }
-    let played = play(link, &space[..have], all, out);
+    let played = play_first(link, space, have, all, out);
     let used = played.used;
     keep(space, used, have);
     let more = played.more;

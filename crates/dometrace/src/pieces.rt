@@ -1,5 +1,6 @@
 // The input in pieces: records that are whole are played, and what is left is kept for the next piece.
 ghost use Prim.Native.Nat.{_+_, _*_, _≤_, _<_};
+ghost use mathlib.Core.Path.{_≡_};
 ghost use lib.ListN.{length};
 ghost use Rattle.link.specs.Given.{StateIn};
 ghost use Rattle.link.specs.Sound.{SoundLink};
@@ -31,12 +32,12 @@ fn word_call(k: usize, word: u32) -> Call {
 
 // Plays the words of a burst, which stand behind its record.
 fn words(s: &mut State, plan: Plan, w: Window, part: &[u8], out: &mut [u8], at: usize) -> Reached
-    requires { ⌜ StateIn plan w (now s) × (5 ≤ length (now part)) × (length (now part) ≤ 85) × (at + 43008 ≤ length (now out)) ⌝ }
+    requires { ⌜ StateIn plan w (now s) × (5 ≤ length (now part)) × (length (now part) ≤ 85) × (at + 40960 ≤ length (now out)) ⌝ }
     ensures hand { λ r. ⌜ StateIn plan (r .window) (now (s .exit)) ⌝ }
-    ensures most { λ r. ⌜ r .end ≤ at + 43008 ⌝ }
+    ensures most { λ r. ⌜ r .end ≤ at + 40960 ⌝ }
 {
     let count = (part.len() - 5) / 4;
-    let mut end = trace::write_burst(s, plan, w, count, out, at);
+    let mut end = at;
     let mut on = w;
     let mut k = 0;
     while k < count {
@@ -49,13 +50,21 @@ fn words(s: &mut State, plan: Plan, w: Window, part: &[u8], out: &mut [u8], at: 
     Reached { window: on, end }
 }
 
+// Writes two hexadecimal digits for each byte.
+fn put_digits(bytes: &[u8], out: &mut [u8], at: usize) -> usize
+    requires { ⌜ at + 2 * length (now bytes) ≤ length (now out) ⌝ }
+    ensures { λ r. ⌜ r ≤ at + 2 * length (now (bytes .entry)) ⌝ }
+{
+    replies::put_hex(bytes, out, at)
+}
+
 // Writes the line of bytes that are no call, at most 85.
 pub(crate) fn put_bytes(bytes: &[u8], out: &mut [u8], at: usize) -> usize
     requires { ⌜ (at + (2 * length (now bytes) + 3)) ≤ length (now out) ⌝ }
     ensures { λ r. ⌜ r ≤ at + (2 * length (now (bytes .entry)) + 3) ⌝ }
 {
     let first = replies::put(b"X ", out, at);
-    let last = replies::put_hex(bytes, out, first);
+    let last = put_digits(bytes, out, first);
     replies::put(b"\n", out, last)
 }
 
@@ -79,7 +88,8 @@ fn one(
             return step(s, plan, w, call, out, at);
         }
         Found::Burst(count) => {
-            return words(s, plan, w, part, out, at);
+            let first = trace::write_burst(s, plan, w, count, out, at);
+            return words(s, plan, w, part, out, first);
         }
         Found::NoCall => {
             return Reached {
@@ -138,8 +148,16 @@ fn place_in(out: &[u8], end: usize) -> usize
     end
 }
 
+// The place after a record of a slice.
+fn past(bytes: &[u8], at: usize, size: usize) -> usize
+    requires { ⌜ at + size ≤ length (now bytes) ⌝ }
+    ensures { λ r. ⌜ r ≡ at + size ⌝ }
+{
+    at + size
+}
+
 // Plays the records of a slice that are whole, and writes their lines.
-pub(crate) fn play(mut link: Link, bytes: &[u8], all: bool, out: &mut [u8]) -> Played
+fn play(mut link: Link, bytes: &[u8], all: bool, out: &mut [u8]) -> Played
     requires { ⌜ SoundLink link × (43008 ≤ length (now out)) ⌝ }
     ensures sound { λ r. ⌜ SoundLink (r .link) ⌝ }
     ensures used { λ r. ⌜ r .used ≤ length (now (bytes .entry)) ⌝ }
@@ -165,11 +183,20 @@ pub(crate) fn play(mut link: Link, bytes: &[u8], all: bool, out: &mut [u8]) -> P
         );
         w = next.window;
         end = next.end;
-        used += size;
+        used = past(bytes, used, size);
         size = whole_at(bytes, used, all);
     }
     if more {
         more = output::write(out, end);
     }
     Played { link, used, more }
+}
+
+// The same of the first bytes of a space.
+pub(crate) fn play_first(link: Link, space: &[u8], have: usize, all: bool, out: &mut [u8]) -> Played
+    requires { ⌜ SoundLink link × (have ≤ length (now space)) × (43008 ≤ length (now out)) ⌝ }
+    ensures sound { λ r. ⌜ SoundLink (r .link) ⌝ }
+    ensures used { λ r. ⌜ r .used ≤ have ⌝ }
+{
+    play(link, &space[..have], all, out)
 }
