@@ -8,7 +8,7 @@ from ahead import wrong_sendings
 from demand3 import wrong_listings
 from driver import (
     ahead_suite, cases, pair_suite, plain_rust, question_cases, round_trips,
-    way_suite, wrong_answers)
+    trace_suite, way_suite, wrong_answers)
 from driver.ahead_suite import AheadSuite
 from driver.c_side import c_side
 from driver.formats import ALLCALLS
@@ -277,6 +277,16 @@ def play_questions(suite, only, count, seed):
     return tally
 
 
+def play_traces(suite, only, count, seed):
+    """Edges and files of every sort through dometrace, and the totals if
+    nothing is left out."""
+    play_cases("traces", [suite], itertools.chain(
+        trace_suite.edges(), trace_suite.in_pieces(seed),
+        trace_suite.generated(count, seed)), only)
+    if not only:
+        suite.totals()
+
+
 def c_suites(library, folder, only, count, seed):
     """The suites of the C side, or none where there is no C compiler."""
     side = c_side(library, folder)
@@ -298,7 +308,8 @@ def play_library(library, only, count, seed):
     return suites, tallies
 
 
-def play_all(domelink, allcalls, domeplan, library, only, count, seed):
+def play_all(domelink, allcalls, domeplan, dometrace, library, only, count,
+             seed):
     """All tests, those of the programs first.  The suites and the tallies."""
     apart = [without_program(only),
              front_door((domelink, allcalls, domeplan), only)]
@@ -310,7 +321,8 @@ def play_all(domelink, allcalls, domeplan, library, only, count, seed):
         in_pairs = play_pairs(players, only, count, seed)
         on_ways = play_ways(players, only, count, seed)
         sent_ahead = play_ahead(players, only, count, seed)
+    play_traces(dometrace, only, count, seed)
     tallies += [in_pairs[0].tally, on_ways[0].tally, sent_ahead[0].tally,
                 play_questions(domeplan, only, count, seed)]
-    return (programs + in_pairs + on_ways + sent_ahead + [domeplan] + apart,
-            tallies)
+    return (programs + in_pairs + on_ways + sent_ahead
+            + [domeplan, dometrace] + apart, tallies)

@@ -8,10 +8,11 @@ from pathlib import Path
 
 from front_door.command import ROOT, start, trouble
 
-PROGRAMS = "rt check domelink allcalls domeplan"
+PROGRAMS = "rt check domelink allcalls domeplan domeshow dometrace"
 BUILT = {                     # what tests/run needs, and what makes it
     "bin/domelink": PROGRAMS, "bin/allcalls": PROGRAMS,
-    "bin/domeplan": PROGRAMS, "staticlib/libimage.a": "rt staticlib image"}
+    "bin/domeplan": PROGRAMS, "bin/domeshow": PROGRAMS,
+    "bin/dometrace": PROGRAMS, "staticlib/libimage.a": "rt staticlib image"}
 MISSING = os.path.join(os.sep, "nowhere", "calls")
 
 # Arguments of tests/run, and words of the sentence.
