@@ -106,7 +106,7 @@ module _ (show : Show) (i : ℕ) where
           share-kept = omega (arith, f .share-is, g .share-is);
           together = passed .together;
           credits = passed .credits;
-          two-shares = omega (arith, f .share-is, x .before-last h, enough .usual);
+          two-shares = omega (arith, f .share-is, x .before-last h, enough .usual (omega arith));
           not-lent = passed .not-lent;
         }
 

@@ -35,4 +35,4 @@ passed = (record { together = way-there .0 .together; credits = way-there .0 .cr
 
 pub example-in-time : InTime example 0 board₁ (board₂ ∷ [])
 example-in-time =
-    in-time example no-refusal 0 (lit< tt) 1 (record { usual = lit≤ tt; last = lit≤ tt }) board₁ (board₂ ∷ []) on-links modest-there passed
+    in-time example no-refusal 0 (lit< tt) 1 (record { usual = λ h. lit≤ tt; last = lit≤ tt }) board₁ (board₂ ∷ []) on-links modest-there passed

@@ -71,9 +71,9 @@ pub record InTime (show : Show) (i : ℕ) {c : Card} (a : Board c) (rest : List 
       → Bursts (showStream show i .stream .share) burst comes → AsksAs asks (planOn a) (a .stream) (a .events)
       → ArrivesWithin (bounds (show .slots) (distance (showStream show i .stream)) (showStream show i .stream .share) burst .slots) comes (lastBoard a rest)
 
--- The cells that it takes: two shares on each link but the last, and late + 2 on that. RULES 23.1.
+-- The cells that it takes: two shares on each link but the last, if there are any, and late + 2 on the last. RULES 23.1.
 pub record EnoughCells (show : Show) (late i : ℕ) : Type 0 where
-  pub usual : 2 * showStream show i .stream .share ≤ showStream show i .cells
+  pub usual : 1 < length (way (showStream show i .stream)) → 2 * showStream show i .stream .share ≤ showStream show i .cells
   pub last : (late + 2) * showStream show i .stream .share ≤ showStream show i .lastCells
 
 -- That the paper's card keeps it is `in-time`, in proofs/Delay.antt. With late = 1, where the last board credits a cell when its tile was shown, these are
