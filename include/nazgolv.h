@@ -33,9 +33,9 @@ extern "C" {
 
 /* ---- the version: the first number goes up where older images are refused */
 
-#define NAZGOLV_VERSION "4.7.0"
+#define NAZGOLV_VERSION "4.8.0"
 #define NAZGOLV_VERSION_MAJOR 4
-#define NAZGOLV_VERSION_MINOR 7
+#define NAZGOLV_VERSION_MINOR 8
 #define NAZGOLV_VERSION_PATCH 0
 
 /* ---- the image

@@ -4,6 +4,7 @@ on generated files of every sort, with domelink's records and with allcalls'."""
 from driver.formats import ALLCALLS, DOMELINK
 from driver.starting import play, play_in_pieces
 from driver.suite import Outcome, Suite, first_difference
+from driver.trace_reader import window_trouble
 from edges.all_edges import ALLCALLS_EDGES, EDGES
 from generator import (
     burst_seeds, departure_seeds, lend_seeds, number_seeds, reset_seeds, seeds)
@@ -21,13 +22,16 @@ LETTERS = "PEGRCTLZBWXF"
 
 
 class TraceCase:
+    """Rules 26.1 to 26.9: a file, and its trace by the rules' words."""
+
     def __init__(self, data, form, size=None):
         self.data = data
         self.form = form
         self.size = size
         self.lines = trace(data, form.kinds)
         wrong = listing_of(self.lines) != simulate(data, form.kinds)
-        self.trouble = "the trace is not that of the listing" if wrong else None
+        self.trouble = ("the trace is not that of the listing" if wrong
+                        else window_trouble(self.lines))
         self.right = "".join(line + "\n" for line in self.lines).encode()
 
 

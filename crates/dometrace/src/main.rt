@@ -1,4 +1,4 @@
-// Plays a file of calls, and writes what is so after each of them. With an argument it takes lends, resets and bursts too.
+// Plays a file of calls, and writes what is so after each of them. With an argument it takes lends, resets and bursts too. RULES 26.1.
 mod input;
 mod output;
 mod pieces;

@@ -58,7 +58,7 @@ fn put_digits(bytes: &[u8], out: &mut [u8], at: usize) -> usize
     replies::put_hex(bytes, out, at)
 }
 
-// Writes the line of bytes that are no call, at most 85.
+// Writes the line of bytes that are no call, at most 85. RULES 26.9.
 pub(crate) fn put_bytes(bytes: &[u8], out: &mut [u8], at: usize) -> usize
     requires { ⌜ (at + (2 * length (now bytes) + 3)) ≤ length (now out) ⌝ }
     ensures { λ r. ⌜ r ≤ at + (2 * length (now (bytes .entry)) + 3) ⌝ }

@@ -158,7 +158,7 @@ tickLine l change = answered (code "T") 0 (storedOwner (owner l (l .current))) (
 unfoldable pub tickLines : Link → (change : Bool) → List ℕ
 tickLines l change = tickLine l (bit change) ++ cond change (flowLines l (paper.flowCount (l .plan))) []
 
--- "If CP modulo F is now 0": a frame change
+-- RULES 26.7: there is a frame change where CP is now 0 modulo F
 unfoldable pub tracedTick : Link → Traced
 tracedTick l = record { link = tick l .link; lines = tickLines (tick l .link) (eqb (nextPosition l % l .plan .slots) 0) }
 

@@ -1,4 +1,5 @@
-// What is so after each call, as lines of a letter and numbers: the answer, the call, the link, and the flow that it is about.
+// What is so after each call, as lines of a letter and numbers: the answer, the call, the link, and the flow that it is about. RULES 26.10: a reader keeps
+// the window by these lines alone.
 mod asks;
 mod credits;
 mod lends;
