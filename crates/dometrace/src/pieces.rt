@@ -103,7 +103,6 @@ fn one(
 // How many bytes the record at a place has with its words, at most 85; 0 where they are not all there.
 fn whole_at(bytes: &[u8], at: usize, all: bool) -> usize
     requires { ⌜ at ≤ length (now bytes) ⌝ }
-    ensures some { λ r. ⌜ (0 < r → 5 ≤ r) ⌝ }
     ensures most { λ r. ⌜ r ≤ 85 ⌝ }
     ensures there { λ r. ⌜ at + r ≤ length (now (bytes .entry)) ⌝ }
 {
@@ -169,7 +168,7 @@ fn play(mut link: Link, bytes: &[u8], all: bool, out: &mut [u8]) -> Played
     let mut used = 0;
     let mut more = true;
     let mut size = whole_at(bytes, 0, all);
-    while more && 0 < size {
+    while more && 4 < size {
         more = flushed(out, end);
         let at = place_in(out, end);
         let next = one(

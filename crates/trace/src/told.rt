@@ -3,8 +3,7 @@ ghost use Prim.Native.Nat.{_+_, _*_, _≤_, _<_};
 ghost use mathlib.Core.Path.{_≡_};
 ghost use lib.ListN.{length, getD};
 ghost use Rattle.plan.specs.declared.Plan.{Plan};
-ghost use Rattle.window.specs.Window.{Proper};
-ghost use Rattle.link.specs.Given.{StateIn};
+ghost use Rattle.link.specs.Given.{StateIn, SomePlan};
 ghost use Rattle.link.specs.Steps.{readIn};
 ghost use Rattle.trace.specs.Trace.{answered, burstLine, flowLine, flowLines, flowNumbers, heldLast, saidFor};
 ghost use Rattle.trace.specs.Written.{Lines, Tellable, namedNumbers, partNumbers};
@@ -103,7 +102,7 @@ pub(crate) fn byte_at(s: &State, k: usize) -> usize
 
 // What flow i holds at the last position of the window.
 fn last_held(s: &State, w: Window, i: usize) -> usize
-    requires { ⌜ Proper w × (i < 16) ⌝ }
+    requires { ⌜ SomePlan (λ plan. StateIn plan w (now s)) × (i < 16) ⌝ }
     ensures { λ r. ⌜ ((plan : Plan) → StateIn plan w (now (s .entry)) → r ≡ heldLast (readIn plan (now (s .entry))) i) ⌝ }
 {
     let last = before(w.slots * w.frames, w.head * w.slots);
@@ -123,7 +122,7 @@ struct Part {
 
 // What is told of flow i and position p.
 fn part_of(s: &State, w: Window, i: usize, p: usize) -> Part
-    requires { ⌜ Proper w × (i < 16) × (p < 256) ⌝ }
+    requires { ⌜ SomePlan (λ plan. StateIn plan w (now s)) × (i < 16) × (p < 256) ⌝ }
     ensures { λ r. ⌜ ((plan : Plan) → StateIn plan w (now (s .entry)) → partNumbers r ≡ flowNumbers (readIn plan (now (s .entry))) i p) ⌝ }
 {
     let f = flow_at(s, i);
@@ -198,7 +197,7 @@ pub(crate) fn put_answer(
 
 // Writes the line of flow i after a frame change or a reset.
 fn put_flow(s: &State, w: Window, i: usize, out: &mut [u8], at: usize) -> usize
-    requires { ⌜ Proper w × (i < 16) × (at + 86 ≤ length (now out)) ⌝ }
+    requires { ⌜ SomePlan (λ plan. StateIn plan w (now s)) × (i < 16) × (at + 86 ≤ length (now out)) ⌝ }
     ensures { λ r. ⌜ ((plan : Plan) → StateIn plan w (now (s .entry))
         → Lines (flowLine (readIn plan (now (s .entry))) i) (now (out .entry)) (now (out .exit)) at r 86) ⌝ }
 {

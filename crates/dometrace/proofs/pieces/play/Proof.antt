@@ -11,7 +11,7 @@ use Rattle.dometrace.proofs.pieces.play.Statement.{statement}
 use Rattle.dometrace.proofs.pieces.play.Tie as tie
 
 abbrev Inv-loop : tie.InvT-loop
-Inv-loop bytes all out₀ link₀ plan cp w₀ end₀ used₀ more₀ size₀ out link w end used more size = StateIn plan w (link .state) × (link .plan ≡ plan) × (used + size ≤ length bytes) × (size ≤ 85) × (0 < size → 5 ≤ size) × (end ≤ length out) × (length out ≡ length out₀)
+Inv-loop bytes all out₀ link₀ plan cp w₀ end₀ used₀ more₀ size₀ out link w end used more size = StateIn plan w (link .state) × (link .plan ≡ plan) × (used + size ≤ length bytes) × (size ≤ 85) × (end ≤ length out) × (length out ≡ length out₀)
 
 abbrev μ-loop : tie.MeasureT-loop
 μ-loop bytes all out₀ link₀ plan cp w₀ end₀ used₀ more₀ size₀ out link w end used more size = length bytes - used
@@ -23,8 +23,8 @@ start l = l .before .before .before .before .before .before .before
 abbrev then-of : tie.After-one Inv-loop μ-loop → tie.Then1 Inv-loop μ-loop
 then-of one = one .before .before .before .before .before .before .before .before
 
-some : (t : tie.Then1 Inv-loop μ-loop) → 0 < t .before .before .loop .size
-some t = ltb-true 0 _ (t .if1 .taken)
+some : (t : tie.Then1 Inv-loop μ-loop) → 4 < t .before .before .loop .size
+some t = ltb-true 4 _ (t .if1 .taken)
 
 element-copy-out-cp : tie.Need-element-copy-out-cp Inv-loop μ-loop
 element-copy-out-cp c = search needs
@@ -43,15 +43,15 @@ loop-holds c =
     let win = c .before in
     let s = win .before .before .before .before .before in
     let w = c .whole-at .ensures in
-    (state-in (s .pre .0) (win .window .ensures .0) (win .window .ensures .1), refl, w .1 .1, w .1 .0, w .0, omega arith, refl)
+    (state-in (s .pre .0) (win .window .ensures .0) (win .window .ensures .1), refl, w .1, w .0, omega arith, refl)
 
 flushed-requires : tie.Need-flushed-requires Inv-loop μ-loop
-flushed-requires c κs = c .before .before .before .loop .inv .5
+flushed-requires c κs = c .before .before .before .loop .inv .4
 
 place-in-requires : tie.Need-place-in-requires Inv-loop μ-loop
 place-in-requires c κs =
     let l = c .before .before .before .before .before in
-    (l .loop .inv .5, omega (arith, l .loop .inv .6, start l .pre .1))
+    (l .loop .inv .4, omega (arith, l .loop .inv .5, start l .pre .1))
 
 add-one : tie.Need-add-one Inv-loop μ-loop
 add-one c = search needs
@@ -70,7 +70,7 @@ one-requires c κs =
     let p = c .before .before .before in
     let t = p .before .before .before .before in
     let v = t .before .before .loop .inv in
-    (v .0, simp (length-take, length-drop) (omega (arith, v .2, v .4 (some t))), simp (length-take, length-drop) (omega (arith, v .3)), p .place-in .ensures)
+    (v .0, simp (length-take, length-drop) (omega (arith, v .2, some t)), simp (length-take, length-drop) (omega (arith, v .3)), p .place-in .ensures)
 
 past-requires : tie.Need-past-requires Inv-loop μ-loop
 past-requires c κs = then-of (c .before .before .before) .before .before .loop .inv .2
@@ -84,20 +84,20 @@ loop-less : tie.Need-loop-less Inv-loop μ-loop
 loop-less c =
     let t = then-of (c .before .before .before .before .before) in
     let v = t .before .before .loop .inv in
-    omega (arith, c .before .past .ensures, v .2, v .4 (some t))
+    omega (arith, c .before .past .ensures, v .2, some t)
 
 loop-again : tie.Need-loop-again Inv-loop μ-loop
 loop-again c =
     let one = c .before .before .before .before .before in
     let v = then-of one .before .before .loop .inv in
     let w = c .whole-at2 .ensures in
-    (one .one .ensures .0, v .1, w .1 .1, w .1 .0, w .0, search needs, search needs)
+    (one .one .ensures .0, v .1, w .1, w .0, search needs, search needs)
 
 write-requires : tie.Need-write-requires Inv-loop μ-loop
-write-requires c κs = c .before .before .before .loop .inv .5
+write-requires c κs = c .before .before .before .loop .inv .4
 
 same-length : tie.Need-same-length Inv-loop μ-loop
-same-length c = c .before .before .before .before .loop .inv .6
+same-length c = c .before .before .before .before .loop .inv .5
 
 returns : tie.Need-returns Inv-loop μ-loop
 returns c =
@@ -105,7 +105,7 @@ returns c =
     (rw (v .1) (v .0 .sound), omega (arith, v .2))
 
 same-length-2 : tie.Need-same-length-2 Inv-loop μ-loop
-same-length-2 c = c .before .before .loop .inv .6
+same-length-2 c = c .before .before .loop .inv .5
 
 returns-2 : tie.Need-returns-2 Inv-loop μ-loop
 returns-2 c =

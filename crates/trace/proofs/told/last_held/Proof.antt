@@ -13,7 +13,7 @@ abbrev start : tie.After-before2 → tie.Start
 start c = c .before .before .before
 
 few : (c : tie.After-before2) → c .before2 .result < 256
-few c = last-few (start c .pre .0) (c .before2 .ensures)
+few c = last-few (start c .pre .0 .given .proper) (c .before2 .ensures)
 
 mul-before : tie.Need-mul-before
 mul-before c = search needs

@@ -41,7 +41,7 @@ part-of-requires : tie.Need-part-of-requires
 part-of-requires c κs =
     let k = c .before .before in
     let s = start k in
-    (s .pre .hand .proper, omega (arith, c .if1 .left, flows-most _ (s .pre .hand .sound .parts)), s .pre .position)
+    (record { plan = s .args .plan; given = s .pre .hand }, omega (arith, c .if1 .left, flows-most _ (s .pre .hand .sound .parts)), s .pre .position)
 
 slice-aggregate-put-line-2 : tie.Need-slice-aggregate-put-line-2
 slice-aggregate-put-line-2 c = search needs

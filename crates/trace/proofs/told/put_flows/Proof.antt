@@ -24,7 +24,7 @@ put-flow-requires c κs =
     let l = t .before .before in
     let s = l .before .before in
     let few = flows-most _ (s .pre .0 .sound .parts) in
-    (s .pre .0 .proper, omega (arith, t .if1 .taken, few), omega (arith, t .if1 .taken, few, l .loop .inv .short, l .loop .inv .put .length-stays, s .pre .1))
+    (record { plan = s .args .plan; given = s .pre .0 }, omega (arith, t .if1 .taken, few), omega (arith, t .if1 .taken, few, l .loop .inv .short, l .loop .inv .put .length-stays, s .pre .1))
 
 add-i : tie.Need-add-i Inv-loop μ-loop
 add-i c = search needs
