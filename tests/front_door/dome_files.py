@@ -70,7 +70,8 @@ REFUSALS = {
     "two links that are over": (
         HEAD + "stream a from=0 to=2 share=9\nstream b from=0 to=2 share=8\n",
         ["the link from 0 to 1 is refused with", "the link from 1 to 2 is",
-         "on it meet a and b, with 17 of 16 slots"]),
+         "on it meet a and b, with 17 of 16 slots and 34 of 255 cells",
+         "on it meet a and b, with 17 of 16 slots and 51 of 255 cells"]),
     "the same ends": (
         HEAD + "stream a from=0 to=1 share=1\nstream b from=0 to=1 share=1\n",
         ["the link from 0 to 1 is refused with 5", "meet a and b"]),
@@ -120,6 +121,18 @@ def what_is_printed(tree):
         if words.split() not in [line.split() for line in text.splitlines()]:
             return "not printed: %r, but %s" % (words, text)
     return trouble(ended, DONE)
+
+
+def no_bound_is_told(tree):
+    """Of a burst that domeplan takes no question about, and of a stream over
+    one link with fewer cells than three shares."""
+    ended = tree.check(HEAD + "stream a from=0 to=1 share=1 burst=1000\n"
+                       "stream b from=1 to=2 share=1 cells=1\n")
+    text = ended.output.decode()
+    missing = [words for words in (
+        "none: a bound is told of bursts up to 999",
+        "none: 1 on the last link, and it takes 3") if words not in text]
+    return trouble(ended, DONE) or missing and "%s: %s" % (missing, text)
 
 
 def a_show_without_streams(tree):
@@ -180,6 +193,6 @@ def wrong_words(tree):
 def tests(programs):
     return in_trees((
         each_bad_file, each_refused_show, what_is_printed,
-        a_show_without_streams, the_plan_files,
+        no_bound_is_told, a_show_without_streams, the_plan_files,
         nothing_is_written_of_a_refused_show, no_permission, wrong_words),
         programs)

@@ -2,8 +2,10 @@
 mesh and, by click or by key, a stream's way and its delays."""
 
 import json
+import os
 import re
 import shutil
+import stat
 import subprocess
 
 from front_door.command import LIMIT, trouble
@@ -107,10 +109,29 @@ def what_is_in_it(tree):
 
 
 def no_place_for_it(tree):
-    return trouble(tree.start("page", "-", tree.root, input=SMALL.encode()),
-                   NOT_DONE, b"", "can't be written")
+    """A folder, and a device that takes nothing and stays what it is."""
+    for place in (tree.root, "/dev/full"):
+        wrong = trouble(tree.start("page", "-", place, input=SMALL.encode()),
+                        NOT_DONE, b"", "can't be written")
+        if wrong:
+            return "%s: %s" % (place, wrong)
+    return not stat.S_ISCHR(os.stat("/dev/full").st_mode) and (
+        "/dev/full is no device any more")
+
+
+def not_over_the_show(tree):
+    wrong = trouble(tree.start("page", tree.file, tree.file), NOT_DONE, b"",
+                    "would be written over")
+    return wrong or tree.file.read_text() != SMALL and "the show is gone"
+
+
+def to_standard_output(tree):
+    ended = tree.start("page", tree.file, "-", "--slots", "200")
+    _, text = made(tree)
+    return trouble(ended, DONE, text.encode())
 
 
 def tests(programs):
     return in_trees((a_page_of_its_own, by_key_and_by_click, what_is_in_it,
-                     no_place_for_it), programs)
+                     no_place_for_it, not_over_the_show, to_standard_output),
+                    programs)

@@ -1,6 +1,7 @@
 """./dome play: runs in which no bound is passed, whoever is greedy or late;
 and shows by chance beside the second simulator."""
 
+import sys
 from collections import Counter
 
 from front_door.command import ROOT, start, trouble
@@ -122,6 +123,26 @@ def the_flights(tree):
     return None
 
 
+# A tile that came in slot 3 and waits still, with a bound of 11 slots: after
+# 15 slots it isn't passed, and after 16 it is.
+WAITS = """
+from types import SimpleNamespace as Any
+from dome.play import passed
+one = Any(stream=Any(name="a"), flows=[Any(waiting=[3])], delays=[1],
+          bound=Any(slots=11), keeps=lambda: True)
+for slots in 15, 16:
+    print(passed(Any(streams=[one], come_up={}), slots))
+"""
+WAITED = b"""[]
+['stream a passed its bound: a tile took 12 slots, and the bound is 11']
+"""
+
+
+def a_tile_that_never_arrives(tree):
+    return trouble(start([sys.executable, "-B", "-c", WAITS],
+                         cwd=ROOT / "tools"), DONE, WAITED)
+
+
 def questions_by_hand(tree):
     for question, answer in QUESTIONS:
         wrong = trouble(start([tree.program], input=question), DONE, answer)
@@ -144,5 +165,6 @@ def shows_by_chance(tree):
 def tests(programs):
     return in_trees((
         whoever_is_greedy_or_late, one_seed_one_run,
-        a_late_board_costs_its_own_stream, the_flights, questions_by_hand,
+        a_late_board_costs_its_own_stream, a_tile_that_never_arrives,
+        the_flights, questions_by_hand,
         shows_by_chance), programs)

@@ -58,21 +58,31 @@ def do_plans(words):
         count, "s"[count == 1:], words[1]), file=sys.stderr)
 
 
+def over_itself(options):
+    """What is wrong where the page would go over the show, or None."""
+    source, *outs = options.files
+    if outs and Path(outs[0]).is_file() and Path(source).exists() and (
+            Path(outs[0]).samefile(source)):
+        return "the page would be written over '%s', which it is made from" % (
+            source)
+    return None
+
+
 def take_run(words, files):
     """The options, and a show and its dome after the run."""
     options = play.options(words, files)
     if isinstance(options, str):
         stop("dome", 2, options)
     answers = take(options.path)
-    wrong = play.unknown(options, answers)
+    wrong = play.unknown(options, answers) or over_itself(options)
     if wrong:
         stop("dome", 2, wrong)
     return options, answers, play.played(answers, options)
 
 
-def end(dome):
+def end(dome, options):
     """Ends with 1 where a bound was passed."""
-    found = play.passed(dome)
+    found = play.passed(dome, options.slots)
     for text in found:
         print("dome: " + text, file=sys.stderr)
     sys.exit(1 if found else 0)
@@ -82,18 +92,32 @@ def do_play(words):
     options, _, dome = take_run(words, 1)
     write_output("dome", ("\n".join(play.lines(dome, options)) + "\n")
                  .encode())
-    end(dome)
+    end(dome, options)
+
+
+def put_page(out, data):
+    """Whole where OUT is a file or none yet, as it comes where it is a device
+    or a pipe."""
+    path = Path(out).resolve()
+    if path.exists() and not path.is_file():
+        with open(path, "wb") as place:
+            place.write(data)
+    else:
+        plans.put(path, data)
 
 
 def do_page(words):
     options, answers, dome = take_run(words, 2)
-    out = options.files[1]
+    out, data = options.files[1], page.text(answers, dome, options).encode()
+    if out == "-":
+        write_output("dome", data)
+        end(dome, options)
     try:
-        plans.put(Path(out), page.text(answers, dome, options).encode())
+        put_page(out, data)
     except OSError as wrong:
         stop("dome", 2, "'%s' can't be written: %s" % (out, wrong.strerror))
     print("dome: '%s' is written" % out, file=sys.stderr)
-    end(dome)
+    end(dome, options)
 
 
 DO = {"check": do_check, "plans": do_plans, "play": do_play,

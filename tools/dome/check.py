@@ -25,10 +25,11 @@ def table(rows):
     return lines
 
 
-def kept(stream, bound):
-    """Whether the cells are those that the bound asks for, in words."""
+def cells_missing(stream, bound, hops):
+    """The cells that are fewer than the bound asks for, in words.  A way of
+    one link has only its last."""
     short = []
-    if stream.cells < bound.cells:
+    if hops > 1 and stream.cells < bound.cells:
         short.append("%d cells, and it takes %d" % (
             stream.cells, bound.cells))
     if stream.last_cells < bound.shown:
@@ -37,10 +38,10 @@ def kept(stream, bound):
     return short
 
 
-def bound_words(stream, bound, slots):
+def bound_words(stream, bound, slots, hops):
     if bound is None:
-        return ["-", "none: no bound is told of this burst"]
-    short = kept(stream, bound)
+        return ["-", "none: a bound is told of bursts up to 999"]
+    short = cells_missing(stream, bound, hops)
     if short:
         return ["-", "none: " + " and ".join(short)]
     return [str(bound.slots), "%d frames" % -(-(bound.slots + 1) // slots)]
@@ -56,7 +57,7 @@ def stream_rows(planned):
                      str(s.share), percent(s.share, slots) + " %",
                      str(s.cells) if len(way) > 1 else "-",
                      str(s.last_cells), str(s.burst),
-                     *bound_words(s, bound, slots)])
+                     *bound_words(s, bound, slots, len(way))])
     return rows
 
 

@@ -62,12 +62,16 @@ def why(number, known):
 
 def said_of_link(planned, link, number, known):
     """The sentence of a link that is refused, with its streams."""
-    names = [s.name for s in planned.streams_on(link)]
-    shares = sum(s.share for s in planned.streams_on(link))
-    return "the link from %d to %d is refused with %d: %s; on it %s %s, with %d of %d slots" % (
-        *link, number, why(number, known),
-        "is" if len(names) == 1 else "meet", listed(names), shares,
-        planned.dome["F"])
+    streams = planned.streams_on(link)
+    cells = sum(s.last_cells if link[1] == s.destination else s.cells
+                for s in streams)
+    return ("the link from %d to %d is refused with %d: %s; on it %s %s, with "
+            "%d of %d slots and %d of %d cells" % (
+                *link, number, why(number, known),
+                "is" if len(streams) == 1 else "meet",
+                listed([s.name for s in streams]),
+                sum(s.share for s in streams), planned.dome["F"],
+                cells, planned.dome["N"]))
 
 
 def refused(planned):

@@ -5,7 +5,7 @@ import random
 import sys
 import time
 
-from dome.check import table
+from dome.check import cells_missing, table
 from dome.links import Link
 
 LATE_FRAMES = 2         # how much later a late board credits
@@ -44,7 +44,8 @@ def take_option(found, word, value):
         return "%s takes a word after it" % word
     if word == "--slots":
         found.slots = number(value, 10000000)
-        return None if found.slots else "--slots takes a number from 1 on"
+        return None if found.slots else (
+            "--slots takes a number from 1 to 10,000,000")
     if word == "--seed":
         found.seed = value
         return None
@@ -141,9 +142,8 @@ class Played:
     def keeps(self):
         """Whether it kept what the bound asks for."""
         return (self.bound is not None and not self.greedy and not self.late
-                and self.source.kept and self.stream.cells >= self.bound.cells
-                and self.stream.last_cells >= self.bound.shown)
-
+                and self.source.kept
+                and not cells_missing(self.stream, self.bound, len(self.flows)))
 
     def mark(self):
         """Why it has a bound, or has none, in a word or two."""
@@ -318,12 +318,28 @@ def played(planned, options):
     return dome
 
 
-def passed(dome):
-    """A sentence for each bound that was passed."""
+def still_on_the_way(dome, played):
+    """The tiles of a stream that wait at a board, or are granted a slot to
+    come."""
+    return [tile for flow in played.flows for tile in flow.waiting] + [
+        tile for coming in dome.come_up.values()
+        for one, _, tile in coming if one is played]
+
+
+def longest(dome, played, slots):
+    """The most slots that a tile took or takes so far, -1 where none came."""
+    return max([-1, *played.delays, *(
+        slots - 1 - tile for tile in still_on_the_way(dome, played))])
+
+
+def passed(dome, slots):
+    """A sentence for each bound that was passed, by tiles that have not
+    arrived too."""
+    found = [(one, longest(dome, one, slots))
+             for one in dome.streams if one.keeps()]
     return ["stream %s passed its bound: a tile took %d slots, and the bound "
-            "is %d" % (one.stream.name, max(one.delays), one.bound.slots)
-            for one in dome.streams if one.keeps() and one.delays
-            and max(one.delays) > one.bound.slots]
+            "is %d" % (one.stream.name, most, one.bound.slots)
+            for one, most in found if most > one.bound.slots]
 
 
 def lines(dome, options):

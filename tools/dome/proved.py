@@ -25,11 +25,12 @@ class Answer:
         return sorted([*self.plans, *self.refusals])
 
 
-def ask(program, question):
+def ask(program, question, questions=1):
+    """The lines that a program answers to so many questions."""
     done = subprocess.run([str(BIN / program)], input=question.encode(),
                           stdout=subprocess.PIPE, check=False)
     lines = done.stdout.decode("ascii", "replace").splitlines()
-    if done.returncode or not lines or lines[0].startswith("?"):
+    if done.returncode or len(lines) < questions:
         raise Broken("%s answered %r to %r"
                      % (program, lines[:1], question[:60]))
     return lines
@@ -51,6 +52,8 @@ def ask_show(dome, streams):
         numbers += [s.cells, s.last_cells]
     lines = ask("domeshow", " ".join(["show"] + [str(n) for n in numbers]))
     answer = Answer()
+    if lines[0].startswith("?"):
+        raise Broken("domeshow answered %r" % lines[0])
     if lines[0] != "ok":
         answer.refusal = number_after("R", lines[0].split())
     for line in lines[1:]:
@@ -86,7 +89,7 @@ def ask_bounds(dome, streams, hops):
     """The bound of each stream, None where domeplan has none for it."""
     lines = ask("domeplan", "".join(
         "delay %d %d %d %d\n" % (dome["F"], n, s.share, s.burst)
-        for s, n in zip(streams, hops))) if streams else []
+        for s, n in zip(streams, hops)), len(streams)) if streams else []
     bounds = []
     for line in lines:
         words = line.split()
