@@ -100,7 +100,7 @@ function look(kept) {
   return {
     kept: kept === true, number: `${byName.get("at-call").value} ${text("calls")}`, address: location.hash,
     slot: `${byName.get("at-slot").value} ${text("slots")}`, slider: Number(byName.get("slider").value), plan: text("plan"),
-    call: text("call"), answer: text("answer"), advice: text("advice"), rule: text("rule"), where: text("where"),
+    call: text("call"), answer: text("answer"), advice: text("advice"), rule: text("rule"), whose: text("whose"), where: text("where"),
     refused: byName.get("said").classes().includes("refused"),
     frames: inWindow.filter((element) => element.classes().includes("name")).map((element) => element.textContent),
     owners: slots.map((slot) => String(slot.textContent)),

@@ -287,10 +287,14 @@ def flows_beside_the_words():
         return "%s" % found
     held = [each["besideHolds"] for each in seen if each["beside"] != [
         flow for flow in (0, 1) if each["holds"][flow] in each["besideHolds"]]]
-    burst = [(each["beside"], each["several"])
+    burst = [(each["beside"], each["several"], each["whose"])
              for each in used(BURST, 2 * [["key", "ArrowRight"]])]
+    none = used(REFUSED, [["key", "ArrowRight"]])[1]
     return held and "%s" % held or burst != [
-        ([], False), ([0, 1], True), ([1], False)] and "%s" % burst
+        ([], False, ""), ([0, 1], True, "Flows 1, 0."),
+        ([1], False, "Flow 1 holds 1 of 2 now, at most 1. Granted so far: "
+         "1.")] and "%s" % burst or (none["beside"] or none["whose"]) and (
+        "%s" % none["whose"])
 
 
 def pairs_that_send_ahead():

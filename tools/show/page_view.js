@@ -135,15 +135,25 @@ function areaPath(held, cells) {
   return `${path}H${SLOTS}V${HIGH}Z`;
 }
 
+// Whatever slot a flow books, it is held in the window's last slot too.
+function noneLeft(flow, state) {
+  const held = state.holdings[flow];
+  return held[held.length - 1] >= flight.flows[flow].cells;
+}
+
+// What a flow holds; the words begin behind "holds".
+function heldWords(flow, state) {
+  const coming = state.holdings[flow].slice(state.ticks % flight.F);
+  const none = noneLeft(flow, state) ? ": none left to book with" : "";
+  return `${coming[0]} of ${flight.flows[flow].cells} now, at most ${Math.max(...coming)}${none}. Granted so far: ${state.granted[flow]}.`;
+}
+
 function drawCurve(curve, flow, state) {
-  const now = state.ticks % flight.F, held = state.holdings[flow], cells = flight.flows[flow].cells;
-  const most = Math.max(...held.slice(now));
-  // Whatever slot is booked, it is held in the window's last slot too.
-  const full = held[held.length - 1] >= cells;
-  curve.area.setAttribute("d", areaPath(held, cells));
+  const now = state.ticks % flight.F;
+  curve.area.setAttribute("d", areaPath(state.holdings[flow], flight.flows[flow].cells));
   curve.current.setAttribute("d", `M${now + 0.5} 0V${HIGH}`);
-  curve.words.textContent = `Holds ${held[now]} of ${cells} now, at most ${most}${full ? ": none left to book with" : ""}. Granted so far: ${state.granted[flow]}.`;
-  curve.card.classList.toggle("full", full);
+  curve.words.textContent = `Holds ${heldWords(flow, state)}`;
+  curve.card.classList.toggle("full", noneLeft(flow, state));
 }
 
 // The call's own flows are marked among all, and stand beside its words too.
@@ -157,7 +167,10 @@ function drawCurves(number, state) {
     curve.card.hidden = !about.includes(flow);
     drawCurve(curve, flow, state);
   });
-  byId("said").classList.toggle("several", new Set(about).size > 1);
+  const flows = Array.from(new Set(about)).filter((flow) => curves[flow]);
+  byId("said").classList.toggle("several", flows.length > 1);
+  byId("whose").textContent = flows.length === 1 ? `Flow ${flows[0]} holds ${heldWords(flows[0], state)}` :
+    flows.length ? `Flows ${flows.join(", ")}.` : "";
 }
 
 // The call and the slot that are shown, wherever they can be set.
