@@ -215,8 +215,9 @@ def bad_field_is_told():
     steps = [["field", *field] for field in BAD_FIELDS]
     for (kind, words), found in zip(
             BAD_FIELDS, used(LISTING, steps, "#4")[1:]):
-        says = {"call": "There is no call %s: the last is call 7.",
-                "slot": "No slot %s has come up: the last is slot 1."}[kind]
+        says = {"call": "'%s' is no call: the last is call 7.",
+                "slot": "'%s' is no slot that has come up: the last is slot "
+                        "1."}[kind]
         if (found["number"], found["slot"], found["address"],
                 found["advice"]) != ("4 of 7", "0 of 1", "#call=4",
                                      says % words):
@@ -297,6 +298,28 @@ def flows_beside_the_words():
         "%s" % none["whose"])
 
 
+def refusals_of_a_burst():
+    """Each word's in the answer, and of the first what to do and when it is
+    given."""
+    played = Played(BASE + call_bytes.burst(
+        [call_bytes.word(9, 7), call_bytes.word(5, 1)]),
+        ["P 0", "B 8 0", "B 9 0"], ["--allcalls"])
+    return wrong_view(used(played, [["key", "End"]])[1], {
+        "call": "A burst of 2 requests.", "refused": True, "beside": [1],
+        "answer": "Answers: flow 7 refused with 8; flow 1 refused with 9 (it "
+                  "goes to node 9).",
+        "advice": "What to do: look at the sender's flow number.",
+        "rule": "8 is given where the word's or the credit's flow is not "
+                "below n."})
+
+
+def sentence_once():
+    """8 has no reason of its own: its row stands in the answer alone."""
+    return wrong_view(used(REFUSED, [["key", "ArrowRight"]])[1], {
+        "answer": "Refused with 8: the word's or the credit's flow is not "
+                  "below n.", "rule": ""})
+
+
 def pairs_that_send_ahead():
     """How many there are, and the credit of each says so."""
     seen = used(PAIRED, 12 * [["key", "ArrowRight"]])
@@ -318,6 +341,7 @@ TESTS = (every_control, keys_are_kept, address_at_first, address_follows,
          bad_address_is_ignored, address_that_is_not_taken, bad_field_is_told,
          slot_that_has_come_up, refusal_that_is_chosen, no_more_refusals,
          after_a_call, flows_of_a_call, flows_beside_the_words,
+         refusals_of_a_burst, sentence_once,
          pairs_that_send_ahead, one_of_each)
 
 

@@ -183,11 +183,10 @@ function drawControls(state) {
 
 function drawWords(number) {
   const [asked, answered] = wordsOf(number), refused = number ? refusalsOf(flight.calls[number - 1]) : [];
-  const reason = reasonsOf(flight, number).find(Boolean);
   byId("call").textContent = asked;
   byId("answer").textContent = answered;
   byId("advice").textContent = refused.length ? advice(flight, refused[0]) : "";
-  byId("rule").textContent = refused.length ? ruleWords(flight, refused[0], reason) : "";
+  byId("rule").textContent = refused.length ? ruleWords(flight, refused[0], answered) : "";
   byId("said").classList.toggle("refused", refused.length > 0);
 }
 
@@ -223,14 +222,14 @@ function meant(kind, digits) {
 
 // Goes to what a field says; where there is no such call or slot, it is said, and the page stays.
 function goByField(kind) {
-  const digits = byId(`at-${kind}`).value.trim(), found = meant(kind, digits);
+  const words = byId(`at-${kind}`).value.trim(), found = meant(kind, words);
   if (found !== undefined) {
-    show(found, `#${kind}=${Number(digits)}`);
+    show(found, `#${kind}=${Number(words)}`);
     return;
   }
   drawControls(stateAfter(shown));
-  byId("advice").textContent = kind === "slot" ? `No slot ${digits} has come up: the last is slot ${COMES.length - 1}.` :
-    `There is no call ${digits}: the last is call ${flight.calls.length}.`;
+  byId("advice").textContent = `'${words}' is no ` + (kind === "slot" ?
+    `slot that has come up: the last is slot ${COMES.length - 1}.` : `call: the last is call ${flight.calls.length}.`);
 }
 
 // Goes to what the address says, #call=17, #17 or #slot=40; a bad one is ignored.

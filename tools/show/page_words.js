@@ -23,10 +23,10 @@ function advice(flight, number) {
   return said && said[1] ? `What to do: ${said[1]}.` : "";
 }
 
-// When a number is given, where the answer says only what holds here.
-function ruleWords(flight, number, reason) {
+// When a number is given, where the answer doesn't say it.
+function ruleWords(flight, number, answered) {
   const said = flight.refusals[number];
-  return said && reason ? `${number} is given where ${said[0]}.` : "";
+  return said && !answered.includes(said[0]) ? `${number} is given where ${said[0]}.` : "";
 }
 
 // The reason that holds of each answer of a call, where there is one.
