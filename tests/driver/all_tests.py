@@ -29,12 +29,13 @@ from front_door import (
     check_refused, checklist_page, citations, comparison_page, flights,
     help_pages, man_pages, must_fail_edits,
     old_program, page_sizes, performance_page, picture_errors, picture_pages,
-    picture_scripts, picture_sizes, picture_view, pictures, plan_check,
+    picture_scripts, picture_sizes, picture_style, picture_view, pictures,
+    plan_check,
     plan_culprits, plan_delays, plan_files, plan_lost_output, plan_mesh,
     plan_read,
     plan_week, plan_wrong_words, play_explain, play_files, play_lost_output,
-    play_options, play_states, progress, readme, remedies, rules_page,
-    singular, slow_reader, tests_lost_output, versions, wrong_arguments)
+    play_options, play_states, progress, readme, refusal_reasons, remedies,
+    rules_page, singular, slow_reader, tests_lost_output, versions, wrong_arguments)
 from front_door import (
     contracts, desk_page, page_links, program_stacks, proved_page)
 from front_door import dome_files, dome_page, dome_runs
@@ -46,7 +47,8 @@ PAGES = (proved_page, contracts, program_stacks, desk_page, page_links)
 FRONT_DOOR = (
     decisions_page, architecture_page, doc_names, play_files, play_lost_output,
     play_explain, play_options, play_states, pictures, picture_sizes,
-    picture_pages, picture_scripts, picture_view, picture_errors, singular,
+    picture_pages, picture_scripts, picture_view, picture_style,
+    picture_errors, refusal_reasons, singular,
     calls_text, plan_files, plan_culprits, plan_read, plan_check, plan_delays,
     plan_mesh, plan_week, plan_wrong_words, plan_lost_output, check_log,
     check_ahead, check_refused, check_faults, check_long, flights, old_program,

@@ -46,6 +46,14 @@ document.createElement = (kind) => new Element(kind);
 document.createElementNS = (space, kind) => new Element(kind);
 const window = new Element("window");
 const location = { hash: asked.hash };
+const history = {
+  replaceState(state, title, address) {
+    if (asked.noAddress) {
+      throw new Error("too many");
+    }
+    location.hash = address;
+  },
+};
 byName.get("flight").textContent = asked.flight;
 
 // What a user can do; each says whether the page kept the event for itself.
@@ -56,12 +64,17 @@ const DO = {
     return kept;
   },
   keyInSelect: (key) => DO.key(key, { target: new Element("select") }),
+  keyInField: (key) => DO.key(key, { target: Object.assign(new Element("input"), { type: "text" }) }),
   keyWithControl: (key) => DO.key(key, { ctrlKey: true }),
   click: (name) => byName.get(name).listeners.click({}),
   choose(value) { byName.get("sought").value = String(value); },
   slide(value) {
     byName.get("slider").value = String(value);
     byName.get("slider").listeners.input({});
+  },
+  field(kind, words) {
+    byName.get(`at-${kind}`).value = words;
+    byName.get(`at-${kind}`).listeners.change({});
   },
   address(hash) {
     location.hash = hash;
@@ -83,15 +96,18 @@ function look(kept) {
   const text = (name) => byName.get(name).textContent;
   const inWindow = below(byName.get("window"));
   const slots = inWindow.filter((element) => element.classes().includes("slot"));
-  const cards = byName.get("holdings").children;
+  const cards = byName.get("holdings").children, beside = byName.get("own").children;
   return {
-    kept: kept === true, number: text("number"), slider: Number(byName.get("slider").value), plan: text("plan"),
-    call: text("call"), answer: text("answer"), advice: text("advice"), where: text("where"),
+    kept: kept === true, number: `${byName.get("at-call").value} ${text("calls")}`, address: location.hash,
+    slot: `${byName.get("at-slot").value} ${text("slots")}`, slider: Number(byName.get("slider").value), plan: text("plan"),
+    call: text("call"), answer: text("answer"), advice: text("advice"), rule: text("rule"), whose: text("whose"), where: text("where"),
     refused: byName.get("said").classes().includes("refused"),
     frames: inWindow.filter((element) => element.classes().includes("name")).map((element) => element.textContent),
     owners: slots.map((slot) => String(slot.textContent)),
     gone: places(slots, "gone"), current: places(slots, "cp"), about: places(slots, "new"),
-    own: places(cards, "own"), full: places(cards, "full"),
+    own: places(cards, "own"), full: places(cards, "full"), several: byName.get("said").classes().includes("several"),
+    beside: beside.map((card, flow) => (card.hidden ? -1 : flow)).filter((flow) => flow >= 0),
+    besideHolds: beside.filter((card) => !card.hidden).map((card) => card.children[card.children.length - 1].textContent),
     holds: cards.map((card) => card.children[card.children.length - 1].textContent),
     sought: byName.get("sought").children.map((option) => option.textContent),
   };

@@ -32,7 +32,8 @@ const flight = JSON.parse(require("fs").readFileSync(0, "utf8"));
 flight.refusals = {};
 const stateAfter = player(flight);
 console.log(JSON.stringify(flight.calls.map((call, number) =>
-  callWords(flight, call, stateAfter(number)).join(" ")).concat(
+  callWords(flight, call, stateAfter(number), reasonsOf(flight, number + 1))
+    .join(" ")).concat(
   [`n ${refusalFrom(flight, 0, 1, 0)} p ${refusalFrom(flight, 7, -1, 12)}` +
    ` none ${refusalFrom(flight, 3, 1, 0)} ${refusalFrom(flight, 0, 1, 11)}`])));
 """
@@ -42,7 +43,8 @@ SAID = [
         "position 1 of frame 0, which comes up with the next tick.",
         "Flow 0 asks for a slot: quantum 1, departure 0. Granted slot 2, "
         "position 2 of frame 0, which comes up in 2 ticks.",
-        "Flow 0 asks for a slot: quantum 2, departure 0. Refused with 12.",
+        "Flow 0 asks for a slot: quantum 2, departure 0. Refused with 12: all "
+        "of its 2 cells are held.",
         "Flow 0 gives a cell back, dated position 4. Taken: it holds one less "
         "from slot 4, position 4 of frame 1 on.",
         "Flow 0 asks for a slot: quantum 2, departure 0. Granted slot 4, "

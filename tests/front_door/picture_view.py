@@ -33,11 +33,25 @@ STEPS = [
     (["click", "previous-refusal"], 3), (["click", "first"], 0),
     (["click", "next-refusal"], 3),
     (["slide", 5], 5), (["slide", 0], 0),
-    (["address", "#6"], 6), (["address", "#99"], 7), (["address", "#x"], 0),
+    (["address", "#6"], 6), (["address", "#call=2"], 2),
+    (["address", "#slot=1"], 7), (["address", "#slot=0"], 0),
+    (["field", "call", "5"], 5), (["field", "slot", " 1 "], 7),
+    (["field", "call", "007"], 7), (["field", "slot", "0"], 0),
 ]
+# An address and a number in a field that mean no call: the page stays.  The
+# file has calls 0 to 7, and slots 0 and 1 have come up.
+BAD_ADDRESSES = ["", "#", "#x", "#99", "#8", "#-1", "#1.5", "#1e0", "#call=",
+                 "#call=8", "#call=1x", "#slot=2", "#slot=-1", "#slot=", "#s=1",
+                 "#CALL=1", "#slot=1&call=2", "#call=" + 400 * "9",
+                 "#__proto__", "#slot=__proto__"]
+BAD_FIELDS = [("call", "8"), ("call", ""), ("call", "x"), ("call", "-1"),
+              ("call", "1e0"), ("call", 400 * "9"), ("slot", "2"),
+              ("slot", "0.5"), ("slot", "length")]
 # Keys that are not the page's own, and stay the browser's.
 OTHERS = [["key", "x"], ["key", " "], ["keyWithControl", "ArrowRight"],
-          ["keyInSelect", "ArrowRight"], ["keyInSelect", "n"]]
+          ["keyInSelect", "ArrowRight"], ["keyInSelect", "n"],
+          ["keyInField", "ArrowRight"], ["keyInField", "Home"],
+          ["keyInField", "n"]]
 
 # What is drawn after a call: the call's number, and some of what is seen.
 # Flow 0 books 1, 2 and 4 and gives a cell back from 4 on, so that it holds
@@ -51,9 +65,14 @@ DRAWN = [
     (2, {"owners": ["", "0", "0", "", "", "", "", ""], "about": [2],
          "own": [0], "full": [0]}),
     (3, {"about": [], "own": [0], "full": [0], "refused": True,
-         "advice": "What to do: wait for credits or the next frame."}),
+         "answer": "Refused with 12: all of its 2 cells are held.",
+         "advice": "What to do: wait for credits or the next frame.",
+         "rule": "12 is given where the flow has share left in the newest "
+                 "frame, but no position that would be valid, whatever the "
+                 "word's departure: its cells are all held, or the slots are "
+                 "booked."}),
     (4, {"about": [4], "own": [0], "full": [], "refused": False,
-         "advice": ""}),
+         "advice": "", "rule": ""}),
     (6, {"about": [3], "own": [1], "full": [0], "current": [0]}),
     (7, {"owners": ["", "0", "0", "1", "0", "", "", ""], "current": [1],
          "gone": [0], "about": [], "own": [0], "full": [0],
@@ -92,6 +111,12 @@ PAIRED = Played(
 PAIR = (" With the lend before it the tile of slot 2 may leave ahead, in slot "
         "0.")
 
+# A burst of a word of flow 1 and two of flow 0; then flow 1's slot comes up.
+BURST = Played(
+    BASE + call_bytes.burst([call_bytes.word(9, 1), call_bytes.word(9, 0),
+                             call_bytes.word(9, 0, 1)]) + TICK,
+    ["P 0", "B 0 1", "B 0 2", "B 0 3", "T 1"], ["--allcalls"])
+
 # One of each thing, but for the two frames of the window.
 ONE = Played(call_bytes.plan(1, 2, 1, [(1, 1, 1, 9)]) + TICK, ["P 0", "T -"])
 
@@ -100,14 +125,14 @@ def scripts_of(text):
     return re.findall(r"<script>\n(.*?)</script>", text, re.DOTALL)
 
 
-def used(played, steps, at=""):
+def used(played, steps, at="", **more):
     """What is seen of a file's page at first, and after each step of a user;
     `at` is the end of its address."""
     text, wrong = page(played)
     if wrong:
         raise Broken(wrong)
     asked = {"ids": Reader(text).ids, "flight": flight_of(played),
-             "steps": steps, "hash": at}
+             "steps": steps, "hash": at, **more}
     done = subprocess.run(
         ["node", "-e", "\n".join([STUB.read_text(), *scripts_of(text),
                                   "lookAtEachStep();"])],
@@ -146,11 +171,68 @@ def keys_are_kept():
 
 
 def address_at_first():
-    for at, shown in (("", "0 of 7"), ("#4", "4 of 7"), ("#-1", "0 of 7")):
+    for at, shown in (("", "0 of 7"), ("#4", "4 of 7"), ("#call=4", "4 of 7"),
+                      ("#slot=1", "7 of 7"), ("#-1", "0 of 7"),
+                      ("#call=8", "0 of 7")):
         found = used(LISTING, [], at)[0]["number"]
         if found != shown:
             return "%s: %s" % (at, found)
     return None
+
+
+def address_follows():
+    """Each step but the last two ends in its call; a slot that is asked for
+    stays one."""
+    steps = [["key", "End"], ["click", "back"], ["slide", 2], ["key", "n"],
+             ["field", "call", "04"], ["address", "#5"],
+             ["field", "slot", "01"], ["address", "#slot=0"]]
+    found = [seen["address"] for seen in used(LISTING, steps)]
+    return found != ["#call=0", "#call=7", "#call=6", "#call=2", "#call=3",
+                     "#call=4", "#call=5", "#slot=1", "#slot=0"] and (
+        "%s" % found)
+
+
+def bad_address_is_ignored():
+    """The page stays, without a word, and the address is put right."""
+    steps = [["address", at] for at in BAD_ADDRESSES]
+    for at, found in zip(BAD_ADDRESSES, used(LISTING, steps, "#3")[1:]):
+        if (found["number"], found["address"], found["advice"]) != (
+                "3 of 7", "#call=3", "What to do: wait for credits or the "
+                "next frame."):
+            return "%s: %s, %s" % (at, found["number"], found["address"])
+    return None
+
+
+def address_that_is_not_taken():
+    """A browser may take no more addresses in a row: the page goes on."""
+    seen = used(LISTING, [["key", "End"]], "", noAddress=True)[1]
+    return (seen["number"], seen["address"]) != ("7 of 7", "") and (
+        "%s, %s" % (seen["number"], seen["address"]))
+
+
+def bad_field_is_told():
+    """The page stays, and the field has its number again."""
+    steps = [["field", *field] for field in BAD_FIELDS]
+    for (kind, words), found in zip(
+            BAD_FIELDS, used(LISTING, steps, "#4")[1:]):
+        says = {"call": "'%s' is no call: the last is call 7.",
+                "slot": "'%s' is no slot that has come up: the last is slot "
+                        "1."}[kind]
+        if (found["number"], found["slot"], found["address"],
+                found["advice"]) != ("4 of 7", "0 of 1", "#call=4",
+                                     says % words):
+            return "%s %s: %s" % (kind, words[:9], found["advice"])
+    return None
+
+
+def slot_that_has_come_up():
+    """Of the file's twelve calls 7 to 10 are ticks: slots 1 to 4."""
+    steps = [["field", "slot", str(slot)] for slot in range(5)]
+    found = [(seen["number"], seen["slot"])
+             for seen in used(PAIRED, steps)[1:]]
+    calls = (0, 7, 8, 9, 10)
+    return found != [("%d of 12" % call, "%d of 4" % slot)
+                     for slot, call in enumerate(calls)] and "%s" % found
 
 
 def refusal_that_is_chosen():
@@ -197,6 +279,47 @@ def flows_of_a_call():
     return (found != [[], [1], []] or refused) and "%r %r" % (found, refused)
 
 
+def flows_beside_the_words():
+    """The call's flow is in view: with its holdings beside its words, and
+    hidden there for every other call."""
+    seen = used(LISTING, 7 * [["key", "ArrowRight"]])
+    found = [each["beside"] for each in seen]
+    if found != [[], [0], [0], [0], [0], [0], [1], [0]]:
+        return "%s" % found
+    held = [each["besideHolds"] for each in seen if each["beside"] != [
+        flow for flow in (0, 1) if each["holds"][flow] in each["besideHolds"]]]
+    burst = [(each["beside"], each["several"], each["whose"])
+             for each in used(BURST, 2 * [["key", "ArrowRight"]])]
+    none = used(REFUSED, [["key", "ArrowRight"]])[1]
+    return held and "%s" % held or burst != [
+        ([], False, ""), ([0, 1], True, "Flows 1, 0."),
+        ([1], False, "Flow 1 holds 1 of 2 now, at most 1. Granted so far: "
+         "1.")] and "%s" % burst or (none["beside"] or none["whose"]) and (
+        "%s" % none["whose"])
+
+
+def refusals_of_a_burst():
+    """Each word's in the answer, and of the first what to do and when it is
+    given."""
+    played = Played(BASE + call_bytes.burst(
+        [call_bytes.word(9, 7), call_bytes.word(5, 1)]),
+        ["P 0", "B 8 0", "B 9 0"], ["--allcalls"])
+    return wrong_view(used(played, [["key", "End"]])[1], {
+        "call": "A burst of 2 requests.", "refused": True, "beside": [1],
+        "answer": "Answers: flow 7 refused with 8; flow 1 refused with 9 (it "
+                  "goes to node 9).",
+        "advice": "What to do: look at the sender's flow number.",
+        "rule": "8 is given where the word's or the credit's flow is not "
+                "below n."})
+
+
+def sentence_once():
+    """8 has no reason of its own: its row stands in the answer alone."""
+    return wrong_view(used(REFUSED, [["key", "ArrowRight"]])[1], {
+        "answer": "Refused with 8: the word's or the credit's flow is not "
+                  "below n.", "rule": ""})
+
+
 def pairs_that_send_ahead():
     """How many there are, and the credit of each says so."""
     seen = used(PAIRED, 12 * [["key", "ArrowRight"]])
@@ -214,9 +337,12 @@ def one_of_each():
         "frames": ["Head frame 0: position 0", "Newest frame 1: position 1"]})
 
 
-TESTS = (every_control, keys_are_kept, address_at_first,
-         refusal_that_is_chosen, no_more_refusals, after_a_call,
-         flows_of_a_call, pairs_that_send_ahead, one_of_each)
+TESTS = (every_control, keys_are_kept, address_at_first, address_follows,
+         bad_address_is_ignored, address_that_is_not_taken, bad_field_is_told,
+         slot_that_has_come_up, refusal_that_is_chosen, no_more_refusals,
+         after_a_call, flows_of_a_call, flows_beside_the_words,
+         refusals_of_a_burst, sentence_once,
+         pairs_that_send_ahead, one_of_each)
 
 
 def tried(test):

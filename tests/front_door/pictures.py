@@ -4,6 +4,8 @@ import os
 import re
 from xml.etree import ElementTree
 
+from call_bytes import TICK, request
+from edges.edge_maker import BASE
 from front_door.command import ROOT, trouble
 from front_door.picture_files import (
     LENT, LISTING, ONE_SLOT, Played, colours, drawn)
@@ -138,28 +140,89 @@ def window_as_svg():
     return None
 
 
+def marks(root, fill):
+    """The places of marks of a colour in the rows, and whether each is
+    pale."""
+    return [(float(rect.get("x")), float(rect.get("y")),
+             rect.get("fill-opacity") is not None)
+            for rect in all_of(root, "rect") if rect.get("fill") == fill
+            and rect.get("stroke") and float(rect.get("x")) > 70]
+
+
+def wedges(root):
+    """Where the refusals in the rows point to."""
+    found = [re.match(r"M([\d.]+) ([\d.]+) h7 l-3.5 7 z", path.get("d"))
+             for path in all_of(root, "path")]
+    return [(float(place[1]) + 3.5, float(place[2]) + 1) for place in found
+            if place and float(place[1]) > 60]
+
+
 def timeline():
     """Slot 1 has come up for flow 0.  Still to come are 2 and 4 of flow 0, and
-    3 of flow 1.  A slot is 24 wide, from 70 on, and a flow 12 high."""
+    3 of flow 1.  A slot is 24 wide, from 70 on, and a flow 14 high, from 64
+    on; a mark is half a pixel further in.  Call 3 of flow 0 is refused in slot
+    0, whose middle is at 82."""
     root, wrong = svg(LISTING, "--timeline", "OUT")
     if wrong:
         return wrong
-    rects = [rect for rect in all_of(root, "rect")
-             if float(rect.get("x")) > 70]
-    came = [(rect.get("x"), rect.get("y")) for rect in rects
-            if rect.get("fill") == "#072e5b"]
-    to_come = [(rect.get("x"), rect.get("y")) for rect in rects
-               if rect.get("stroke")]
-    description = all_of(root, "desc")[0].text
     for found, expected in (
-            (came, [("94", "64")]),
-            (to_come, [("118.5", "64.5"), ("142.5", "76.5"),
-                       ("166.5", "64.5")]),
-            (description, "flow 0: 3 booked, 0 lent; flow 1: 1 booked, "
-             "0 lent; idle: 0")):
+            (marks(root, colours.fill(0)), [
+                (94.5, 64.5, False), (118.5, 64.5, True),
+                (166.5, 64.5, True)]),
+            (marks(root, colours.fill(1)), [(142.5, 78.5, True)]),
+            (wedges(root), [(82, 64)]),
+            (all_of(root, "desc")[0].text, "flow 0: 3 booked, 0 lent, "
+             "1 refused; flow 1: 1 booked, 0 lent, 0 refused; idle: 0")):
         if found != expected:
             return "%r for %r" % (found, expected)
     return None
+
+
+def axis(root):
+    """The numbers of slots, each with the middle that it stands at."""
+    return [(int(text.text), float(text.get("x")))
+            for text in all_of(root, "text")
+            if text.get("text-anchor") == "middle"]
+
+
+def timeline_axis():
+    """Slots 0 to 4 are 24 wide: each has its number.  Of 880 slots, 4 wide in
+    bands of 256, every tenth has: 26 in the first band, as 0 to 250; the
+    second begins with slot 256, so that 260 stands at 70 + 4 * 4 + 2."""
+    short, wrong = svg(LISTING, "--timeline", "OUT")
+    if wrong:
+        return wrong
+    data = (ROOT / "flights/dense").read_bytes()
+    long, wrong = svg(Played(data, simulate(data)), "--timeline", "OUT")
+    if wrong:
+        return wrong
+    numbers = axis(long)
+    steps = {after[0] - before[0]
+             for before, after in zip(numbers, numbers[1:])}
+    for found, expected in (
+            (axis(short), [(slot, 82 + 24 * slot) for slot in range(5)]),
+            (numbers[0], (0, 72)), (numbers[26], (260, 88)),
+            (steps, {10})):
+        if found != expected:
+            return "%r for %r" % (found, expected)
+    return None
+
+
+def timeline_with_refusals_of_no_flow():
+    """Flow 7 is none of the plan's: a row of its own, the fourth, below the
+    two flows and the idle slots.  In slot 1 flow 0 is refused twice, which is
+    one mark."""
+    played = Played(
+        BASE + request(9, 7) + TICK + request(9, 0, 5, 1)
+        + request(9, 0, 6, 1), ["P 0", "R 8", "T -", "R 24", "R 24"])
+    root, wrong = svg(played, "--timeline", "OUT")
+    texts = [] if wrong else [text.text for text in all_of(root, "text")]
+    return wrong or wedges(root) != [(82, 64 + 3 * 14), (106, 64)] and (
+        "%s" % wedges(root)) or next(
+        (words + " is missing" for words in ("refused: 3", "no flow", "idle")
+         if words not in texts), None) or (
+        "; of no flow: 1 refused; idle: 1" not in all_of(root, "desc")[0].text
+        and "another description")
 
 
 def timeline_with_a_lent_slot():
@@ -167,8 +230,12 @@ def timeline_with_a_lent_slot():
     texts = [] if wrong else [text.text for text in all_of(root, "text")]
     return wrong or next(
         (words + " is missing" for words in (
-            "booked: 1", "booked, still to come: 0", "lent: 1", "idle: 1")
-         if words not in texts), None)
+            "booked: 1", "booked, still to come: 0", "lent: 1", "idle: 1",
+            "refused: 0") if words not in texts), None) or (
+        # Slot 0, lent to flow 0, is a lower mark than slot 2, booked by flow 1.
+        (marks(root, colours.fill(0)), marks(root, colours.fill(1)))
+        != ([(70.5, 70.5, False)], [(118.5, 78.5, False)])
+        and "%s" % marks(root, colours.fill(0)))
 
 
 def odd_names():
@@ -196,7 +263,8 @@ TESTS = (
     window_after_the_last_call, window_after_a_call_without_blocks,
     window_of_the_fresh_link, window_with_a_lent_slot,
     window_after_a_frame_change, dense_window_fits_80_columns,
-    window_as_svg, timeline, timeline_with_a_lent_slot, odd_names,
+    window_as_svg, timeline, timeline_axis, timeline_with_refusals_of_no_flow,
+    timeline_with_a_lent_slot, odd_names,
     colours_apart,
 )
 

@@ -241,7 +241,8 @@ def number_that_is_expected(tree):
     ended = tree.start("--explain", calls)
     said = plain(ended.output.decode())
     return trouble(ended) or (
-        "modulo 1,024 (here 1 is); what to do: go on" not in said and said)
+        "modulo 1,024 (here 1 is expected); what to do: go on" not in said
+        and said)
 
 
 def refused_plan(tree):

@@ -2,8 +2,8 @@
 
 The page has the plan, and each call with its answer, as JSON; the script of
 page_replay.js counts from them what the window and the holdings are, that of
-page_words.js says them, and that of page_view.js draws.  A call is a list: its kind, its numbers, and last
-its answer.
+page_words.js says them, and that of page_view.js draws.  A call is a list: its
+kind, its numbers, and last its answer.
 
     1, flow, quantum number, departure, destination, position granted
     2, flow, position, 0                    a credit
@@ -13,7 +13,8 @@ its answer.
     6, list of [flow, quantum number, departure, destination, answer]
     0                                       a record that is no call
 
-A negative answer is a refusal; null is a burst's word past the 16th.
+A negative answer is a refusal; null is a burst's word past the 16th.  Why it is
+one stands beside the calls, by the call's number, as ./play --explain says it.
 """
 
 import html
@@ -24,6 +25,7 @@ from pathlib import Path
 import colours
 import refusals
 from lend_pairs import pairs
+from words import Words
 
 HERE = Path(__file__).resolve().parent
 
@@ -74,6 +76,14 @@ def refusals_of(replay):
     return dict(sorted(said.items()))
 
 
+def reasons_of(replay):
+    """What holds here of each refusal, by the number of its call: a sentence
+    for each answer, and "" where the refusal's own row says it all."""
+    words = Words(replay)
+    said = ((step.number, words.reasons(step)) for step in replay.steps)
+    return {number: reasons for number, reasons in said if any(reasons)}
+
+
 def flight(replay, name):
     """What the page's scripts read, but for the calls."""
     plan = replay.plan
@@ -87,6 +97,7 @@ def flight(replay, name):
                    "barred": colours.barred(flow.number)}
                   for flow in plan.flows],
         "refusals": refusals_of(replay),
+        "reasons": reasons_of(replay),
         "pairs": pairs(replay),
     }
 

@@ -6,6 +6,8 @@ const stateAfter = player(flight);
 const SLOTS = flight.F * flight.W;
 const SVG = "http://www.w3.org/2000/svg";
 const HIGH = 40; // a curve's height in its own units
+const COMES = [0]; // by slot: the number of the call with which it comes up
+flight.calls.forEach((call, place) => (call[0] === 3 ? COMES.push(place + 1) : 0));
 let shown = 0; // the number of the call that is shown
 
 const byId = (name) => document.getElementById(name);
@@ -28,7 +30,7 @@ function wordsOf(number) {
   if (number === 0) {
     return ["The fresh link, before the first call.", "Nothing is booked, and nothing is held."];
   }
-  const [asked, answered] = callWords(flight, flight.calls[number - 1], stateAfter(number - 1));
+  const [asked, answered] = callWords(flight, flight.calls[number - 1], stateAfter(number - 1), reasonsOf(flight, number));
   return [asked, answered + pairWords(flight, number)];
 }
 
@@ -67,8 +69,8 @@ function buildWindow() {
   return { labels, slots };
 }
 
-function buildCurve(flow) {
-  const card = element("div", byId("holdings"), "card");
+function buildCurve(flow, parent) {
+  const card = element("div", byId(parent), "card");
   const title = element("div", card, "title");
   const badge = element("span", title, "badge", String(flow.number));
   dress(badge, flow.number);
@@ -86,7 +88,8 @@ function buildCurve(flow) {
 
 flight.flows.forEach((flow, number) => { flow.number = number; });
 const parts = buildWindow();
-const curves = flight.flows.map(buildCurve);
+const curves = flight.flows.map((flow) => buildCurve(flow, "holdings"));
+const ownCurves = flight.flows.map((flow) => buildCurve(flow, "own")); // beside the call's words
 
 // ---- what is drawn for each call
 
@@ -132,37 +135,113 @@ function areaPath(held, cells) {
   return `${path}H${SLOTS}V${HIGH}Z`;
 }
 
-function drawCurves(number, state) {
-  const now = state.ticks % flight.F, about = flowsAbout(number);
-  curves.forEach((curve, flow) => {
-    const held = state.holdings[flow], cells = flight.flows[flow].cells;
-    const most = Math.max(...held.slice(now));
-    // Whatever slot is booked, it is held in the window's last slot too.
-    const full = held[held.length - 1] >= cells;
-    curve.area.setAttribute("d", areaPath(held, cells));
-    curve.current.setAttribute("d", `M${now + 0.5} 0V${HIGH}`);
-    curve.words.textContent = `Holds ${held[now]} of ${cells} now, at most ${most}${full ? ": none left to book with" : ""}. Granted so far: ${state.granted[flow]}.`;
-    curve.card.classList.toggle("full", full);
-    curve.card.classList.toggle("own", about.includes(flow));
-  });
+// Whatever slot a flow books, it is held in the window's last slot too.
+function noneLeft(flow, state) {
+  const held = state.holdings[flow];
+  return held[held.length - 1] >= flight.flows[flow].cells;
 }
 
-function show(number) {
-  shown = Math.max(0, Math.min(number, flight.calls.length));
-  const state = stateAfter(shown), [asked, answered] = wordsOf(shown);
-  const refused = shown ? refusalsOf(flight.calls[shown - 1]) : [];
+// What a flow holds; the words begin behind "holds".
+function heldWords(flow, state) {
+  const coming = state.holdings[flow].slice(state.ticks % flight.F);
+  const none = noneLeft(flow, state) ? ": none left to book with" : "";
+  return `${coming[0]} of ${flight.flows[flow].cells} now, at most ${Math.max(...coming)}${none}. Granted so far: ${state.granted[flow]}.`;
+}
+
+function drawCurve(curve, flow, state) {
+  const now = state.ticks % flight.F;
+  curve.area.setAttribute("d", areaPath(state.holdings[flow], flight.flows[flow].cells));
+  curve.current.setAttribute("d", `M${now + 0.5} 0V${HIGH}`);
+  curve.words.textContent = `Holds ${heldWords(flow, state)}`;
+  curve.card.classList.toggle("full", noneLeft(flow, state));
+}
+
+// The call's own flows are marked among all, and stand beside its words too.
+function drawCurves(number, state) {
+  const about = flowsAbout(number);
+  curves.forEach((curve, flow) => {
+    drawCurve(curve, flow, state);
+    curve.card.classList.toggle("own", about.includes(flow));
+  });
+  ownCurves.forEach((curve, flow) => {
+    curve.card.hidden = !about.includes(flow);
+    drawCurve(curve, flow, state);
+  });
+  const flows = Array.from(new Set(about)).filter((flow) => curves[flow]);
+  byId("said").classList.toggle("several", flows.length > 1);
+  byId("whose").textContent = flows.length === 1 ? `Flow ${flows[0]} holds ${heldWords(flows[0], state)}` :
+    flows.length ? `Flows ${flows.join(", ")}.` : "";
+}
+
+// The call and the slot that are shown, wherever they can be set.
+function drawControls(state) {
   byId("slider").value = shown;
   byId("slider").setAttribute("aria-valuetext", `call ${shown} of ${flight.calls.length}`);
-  byId("number").textContent = `${shown} of ${flight.calls.length}`;
+  byId("at-call").value = shown;
+  byId("at-slot").value = state.ticks;
+}
+
+function drawWords(number) {
+  const [asked, answered] = wordsOf(number), refused = number ? refusalsOf(flight.calls[number - 1]) : [];
   byId("call").textContent = asked;
   byId("answer").textContent = answered;
   byId("advice").textContent = refused.length ? advice(flight, refused[0]) : "";
+  byId("rule").textContent = refused.length ? ruleWords(flight, refused[0], answered) : "";
   byId("said").classList.toggle("refused", refused.length > 0);
+}
+
+// The address follows; a browser that takes no more of them in a row leaves it as it was.
+function follow(address) {
+  try {
+    history.replaceState(null, "", address);
+  } catch (tooMany) {
+    return;
+  }
+}
+
+function show(number, address) {
+  shown = Math.max(0, Math.min(number, flight.calls.length));
+  const state = stateAfter(shown);
+  drawControls(state);
+  drawWords(shown);
   drawWindow(shown, state);
   drawCurves(shown, state);
+  follow(address || `#call=${shown}`);
 }
 
 // ---- the controls
+
+// The number of the call that these digits mean, as a call's number or as a slot that comes up with it; or undefined.
+function meant(kind, digits) {
+  if (!/^\d{1,15}$/.test(digits)) {
+    return undefined;
+  }
+  const number = Number(digits);
+  return kind === "slot" ? COMES[number] : number <= flight.calls.length ? number : undefined;
+}
+
+// Goes to what a field says; where there is no such call or slot, it is said, and the page stays.
+function goByField(kind) {
+  const words = byId(`at-${kind}`).value.trim(), found = meant(kind, words);
+  if (found !== undefined) {
+    show(found, `#${kind}=${Number(words)}`);
+    return;
+  }
+  drawControls(stateAfter(shown));
+  byId("advice").textContent = `'${words}' is no ` + (kind === "slot" ?
+    `slot that has come up: the last is slot ${COMES.length - 1}.` : `call: the last is call ${flight.calls.length}.`);
+}
+
+// Goes to what the address says, #call=17, #17 or #slot=40; a bad one is ignored.
+function goByAddress() {
+  const [, kind, digits] = /^#(?:(call|slot)=)?(\d+)$/.exec(location.hash) || [];
+  const found = digits === undefined ? undefined : meant(kind, digits);
+  if (found === undefined) {
+    show(shown);
+  } else {
+    show(found, `#${kind || "call"}=${Number(digits)}`);
+  }
+}
 
 function seek(step) {
   const sought = Number(byId("sought").value);
@@ -193,7 +272,7 @@ const KEYS = {
 };
 
 function onKey(event) {
-  const own = event.target.tagName === "SELECT";
+  const own = event.target.tagName === "SELECT" || event.target.type === "text";
   if (own || event.ctrlKey || event.altKey || event.metaKey || !KEYS[event.key]) {
     return;
   }
@@ -207,15 +286,17 @@ function begin() {
   const pairs = Object.keys(flight.pairs).length;
   byId("plan").textContent = `${facts.join(", ")}${pairs ? `, ${counted(pairs, "pair")} of a lend and a credit to leave ahead` : ""}.`;
   byId("slider").max = flight.calls.length;
+  byId("calls").textContent = `of ${flight.calls.length}`;
+  byId("slots").textContent = `of ${COMES.length - 1}`;
+  ["call", "slot"].forEach((kind) => byId(`at-${kind}`).addEventListener("change", () => goByField(kind)));
   byId("slider").addEventListener("input", () => show(Number(byId("slider").value)));
   [["first", "Home"], ["back", "ArrowLeft"], ["next", "ArrowRight"], ["last", "End"],
     ["previous-refusal", "p"], ["next-refusal", "n"]].forEach(([name, key]) =>
     byId(name).addEventListener("click", KEYS[key]));
   document.addEventListener("keydown", onKey);
-  const fromAddress = () => show(Number(location.hash.slice(1)) || 0);
-  window.addEventListener("hashchange", fromAddress);
+  window.addEventListener("hashchange", goByAddress);
   fillSought();
-  fromAddress();
+  goByAddress();
 }
 
 begin();

@@ -11,9 +11,10 @@ function place(flight, slot) {
   return `slot ${slot}, position ${slot % (flight.F * flight.W)} of frame ${Math.floor(slot / flight.F)}`;
 }
 
-function refusedWith(flight, number) {
-  const said = flight.refusals[number];
-  return said ? `Refused with ${number}: ${said[0]}.` : `Refused with ${number}.`;
+// The reason that holds here goes before the one that holds of all.
+function refusedWith(flight, number, reason) {
+  const said = reason || (flight.refusals[number] || [""])[0];
+  return said ? `Refused with ${number}: ${said}.` : `Refused with ${number}.`;
 }
 
 // What to do about a refusal.
@@ -22,21 +23,32 @@ function advice(flight, number) {
   return said && said[1] ? `What to do: ${said[1]}.` : "";
 }
 
-function requestWords(flight, call, before) {
+// When a number is given, where the answer doesn't say it.
+function ruleWords(flight, number, answered) {
+  const said = flight.refusals[number];
+  return said && !answered.includes(said[0]) ? `${number} is given where ${said[0]}.` : "";
+}
+
+// The reason that holds of each answer of a call, where there is one.
+function reasonsOf(flight, number) {
+  return flight.reasons[number] || [];
+}
+
+function requestWords(flight, call, before, reasons) {
   const [, flow, number, departure, , answer] = call;
   const asked = `Flow ${flow} asks for a slot: quantum ${number}, departure ${departure}.`;
   if (answer < 0) {
-    return [asked, refusedWith(flight, -answer)];
+    return [asked, refusedWith(flight, -answer, reasons[0])];
   }
   const slot = slotOf(flight, before, answer), away = slot - before.ticks;
   const when = away === 1 ? "with the next tick" : `in ${away} ticks`;
   return [asked, `Granted ${place(flight, slot)}, which comes up ${when}.`];
 }
 
-function creditWords(flight, call, before) {
+function creditWords(flight, call, before, reasons) {
   const [, flow, position, answer] = call;
   return [`Flow ${flow} gives a cell back, dated position ${position}.`,
-    answer < 0 ? refusedWith(flight, -answer) :
+    answer < 0 ? refusedWith(flight, -answer, reasons[0]) :
       `Taken: it holds one less from ${place(flight, slotOf(flight, before, position))} on.`];
 }
 
@@ -76,8 +88,9 @@ function wordAnswer(answer) {
   return answer < 0 ? `refused with ${-answer}` : `position ${answer}`;
 }
 
-function burstWords(flight, call) {
-  const answers = call[1].map((word) => `flow ${word[0]} ${wordAnswer(word[4])}`);
+function burstWords(flight, call, before, reasons) {
+  const answers = call[1].map((word, place) => `flow ${word[0]} ${wordAnswer(word[4])}` +
+    (reasons[place] ? ` (${reasons[place]})` : ""));
   return [`A burst of ${counted(call[1].length, "request")}.`, answers.length ? `Answers: ${answers.join("; ")}.` : ""];
 }
 
@@ -87,7 +100,7 @@ function noCallWords(flight, call) {
 
 const WORDS = [noCallWords, requestWords, creditWords, tickWords, lendWords, resetWords, burstWords];
 
-// What a call asks, and its answer; `before` is the state before it.
-function callWords(flight, call, before) {
-  return WORDS[call[0]](flight, call, before);
+// What a call asks, and its answer; `before` is the state before it, and `reasons` has why each answer refuses.
+function callWords(flight, call, before, reasons) {
+  return WORDS[call[0]](flight, call, before, reasons);
 }

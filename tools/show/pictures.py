@@ -8,8 +8,9 @@
 --window draws the window after call number CALL in the terminal, --svg OUT
 writes it as SVG; CALL is the last call where it is missing, and 0 the fresh
 link.  --timeline OUT writes an SVG of the booked, lent and idle slots of the
-whole file by flow.  --page OUT writes one HTML page that needs no network:
-the window and the holdings call by call.  With --name NAME pictures name the
+whole file by flow, and of its refusals.  --page OUT writes one HTML page that
+needs no network: the window and the holdings call by call; its address may
+end in #call=17 or #slot=40.  With --name NAME pictures name the
 file so; with --allcalls FILE and LISTING are those of allcalls, which has
 lends, resets and bursts too.  OUT may be -, standard output; of a file it is
 said on standard error that it is written.

@@ -23,6 +23,15 @@ def place(slot, plan):
         slot, slot % plan.positions, slot // plan.frame_slots)
 
 
+def no_position(held, cells):
+    """Why the newest frame has no valid position, where the flow holds so many
+    of its cells in the window's last slot."""
+    if held < cells:
+        return "the slots that its cells would allow are booked"
+    return ("its only cell is held" if cells == 1
+            else "all of its %d cells are held" % cells)
+
+
 class Words:
     """The words for the steps of a replay."""
 
@@ -141,15 +150,28 @@ class Words:
         return "refused with %d: %s%s%s" % (number, row.when, reason, to_do)
 
     def reason(self, step, answer, word):
-        """What the state says of a refused request besides."""
+        """What the state says of a refused call besides, in brackets."""
+        here = self.here(step, answer, word)
+        return " (here %s)" % here if here else ""
+
+    def reasons(self, step):
+        """What the state says of each answer of a step, "" for nothing."""
+        words = step.call.words or [step.call.word]
+        return [self.here(step, answer, word)
+                for word, answer in zip(words, step.answers)]
+
+    def here(self, step, answer, word):
+        """Why a request is refused: what holds here of what the refusal's row
+        says, or ""."""
         if word is None or word.flow >= len(self.plan.flows):
             return ""
-        state = self.replay.states[step.number]
-        held = state.holdings[word.flow][-1]
-        if answer.refusal == 12 and held == self.plan.flows[word.flow].cells:
-            return " (here %s held)" % (
-                "its only cell is" if held == 1
-                else "all of its %d cells are" % held)
+        state, flow = self.replay.states[step.number], self.plan.flows[word.flow]
+        if answer.refusal == 9:
+            return "it goes to node %d" % flow.destination
+        if answer.refusal == 11:
+            return "its share is %s to a frame" % plural(flow.share, "slot")
+        if answer.refusal == 12:
+            return no_position(state.holdings[word.flow][-1], flow.cells)
         if answer.refusal == 24 and step.call.kind == "request":
-            return " (here %d is)" % (state.granted[word.flow] % 1024)
+            return "%d is expected" % (state.granted[word.flow] % 1024)
         return ""
