@@ -9,7 +9,7 @@ played, 3 the output is not whole.
 
 import signal
 import sys
-import time
+import threading
 
 from ends import stop, write_output
 from health_report import Report
@@ -18,7 +18,7 @@ from run_health import RunHealth
 from traced import Traced, Trouble
 
 OPTIONS = ("--json", "--allcalls")
-A_SECOND = 4                    # times that the line is written which counts
+EVERY = 0.25                    # seconds, a line that counts is written
 
 
 def say_refusal(name, number):
@@ -32,54 +32,52 @@ def say_refusal(name, number):
         name, number, row.when, row.what_to_do, more))
 
 
-class Counter:
-    """A line on standard error that counts, where that is a terminal."""
+class CountingLine(threading.Thread):
+    """Counts on standard error, where that is a terminal, until it ends."""
 
-    def __init__(self):
+    def __init__(self, run):
+        super().__init__(daemon=True)
+        self.run_health = run
+        self.over = threading.Event()
         self.shown = bool(sys.stderr) and sys.stderr.isatty()
-        self.wide = 0
-        self.next = time.monotonic()
 
-    def show(self, run):
-        if self.shown and time.monotonic() >= self.next:
-            self.next = time.monotonic() + 1 / A_SECOND
-            text = "play: %d calls, slot %d " % (run.calls, run.slot)
-            self.wide = len(text)
-            print("\r" + text, end="", file=sys.stderr, flush=True)
+    def run(self):
+        while self.shown and not self.over.wait(EVERY):
+            print("\rplay: %d calls, slot %d " % (
+                self.run_health.calls, self.run_health.slot), end="",
+                file=sys.stderr, flush=True)
 
-    def clear(self):
-        if self.wide:
-            print("\r%*s\r" % (self.wide, ""), end="", file=sys.stderr,
-                  flush=True)
-            self.wide = 0
+    def end(self):
+        self.over.set()
+        self.join()
+        if self.shown:
+            print("\r%60s\r" % "", end="", file=sys.stderr, flush=True)
 
 
 def begun(traced):
     """A run of which the plan is read."""
-    first = traced.first_line()
+    first = traced.plan_line()
     if first[1] != b"0":
         say_refusal(traced.name, int(first[1]))
     frame_slots, window_frames, _, flows = map(int, first[2:])
-    entries = [tuple(map(int, traced.first_line()[1:3]))
+    entries = [tuple(map(int, traced.plan_line()[1:3]))
                for _ in range(flows)]
     return RunHealth(frame_slots, window_frames, entries)
 
 
 def read(traced):
-    """The run, or how far it came."""
-    counter = Counter()
-    run = None
+    """The run; broken off, how far it came."""
+    run = begun(traced)
+    line = CountingLine(run)
+    line.start()
     try:
-        run = begun(traced)
-        for lines in traced.lines():
-            run.add(lines)
-            counter.show(run)
+        run.add(traced.lines)
+        traced.end()
     except KeyboardInterrupt:
-        counter.clear()
+        line.end()
         stop("play", 3, "broken off after call %d, in slot %d" % (
-            run.calls, run.slot) if run else "broken off at the plan")
-    finally:
-        counter.clear()
+            run.calls, run.slot))
+    line.end()
     return run
 
 

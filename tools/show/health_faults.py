@@ -51,9 +51,10 @@ class Fault:
 def nothing_granted(flow):
     if flow.requests and not flow.granted and (flow.wrong or flow.within):
         yield Fault("nothing granted", flow.number,
-                    "none of its requests is granted: %s refused" % ", ".join(
-                        "%d with %d" % (count, number) for number, count
-                        in sorted(flow.refused.items())))
+                    "nothing is granted to it: %s refused, %s" % (
+                        plural(flow.requests, "request"), ", ".join(
+                            "%d with %d" % (count, number) for number, count
+                            in sorted(flow.refused.items()))))
 
 
 def mistakes(flow, rows):
@@ -115,8 +116,7 @@ def held_back_of(flow):
     refused = flow.held_back
     if refused:
         yield Fault("held back", flow.number,
-                    "%s past its share refused with 12 while a cell that had "
-                    "come up was out, %s: %s: %s" % (
+                    "%s past its share refused with 12, %s: %s: %s" % (
                         plural(refused.calls, "request"), first(refused),
                         not_back(refused.cell), BOARD),
                     calls=refused.calls, call=refused.call,
@@ -127,9 +127,7 @@ def ahead_of(flow):
     refused = flow.ahead
     if refused:
         yield Fault("ahead of its cells", flow.number,
-                    "%s refused with 12 while its %s in slots to come, %s: it "
-                    "asks further ahead than its cells go" % (
-                        plural(refused.calls, "request"),
-                        plural(flow.cells, "cell is", "cells are"),
-                        first(refused)),
+                    "%s refused with 12 while all its cells are in slots to "
+                    "come, %s: it asks further ahead than its cells go" % (
+                        plural(refused.calls, "request"), first(refused)),
                     calls=refused.calls, call=refused.call, slot=refused.slot)

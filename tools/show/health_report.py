@@ -2,7 +2,7 @@
 programs."""
 
 import json
-from collections import Counter
+from collections import defaultdict
 
 from health_faults import (
     ahead_of, clause, faults_of, held_back_of, of_no_flow)
@@ -48,11 +48,15 @@ class Report:
         return count / self.run.frames()
 
     def refusals(self):
-        """How many calls were refused with each number."""
-        counts = Counter(self.run.others)
+        """For each number whose calls were refused with it, and how many."""
+        found = defaultdict(list)
         for flow in self.run.flows:
-            counts += flow.refused + flow.refused_credits
-        return sorted(counts.items())
+            counts = flow.refused + flow.refused_credits
+            for number, count in counts.items():
+                found[number].append(("flow %d" % flow.number, count))
+        for number, count in self.run.others.items():
+            found[number].append(("no flow", count))
+        return sorted(found.items())
 
     # ---- lines
 
@@ -86,10 +90,12 @@ class Report:
             "fails" if self.faults[flow.number] else "")
 
     def refusal_line(self, pair):
-        number, count = pair
+        number, whose = pair
         row = refusal(number, "request", self.rows)
-        return "%d refused with %d: %s; %s" % (
-            count, number, clause(row.when), clause(row.what_to_do))
+        return "%d refused with %d (%s): %s; %s" % (
+            sum(count for _, count in whose), number,
+            ", ".join("%s: %d" % each for each in whose),
+            clause(row.when), clause(row.what_to_do))
 
     # ---- for programs
 

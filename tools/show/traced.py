@@ -9,7 +9,6 @@ from call_text import TextError, bytes_of, is_text
 
 PEEK = 1 << 16          # bytes by which a text is told from a call file
 MOST_TEXT = 1 << 26     # bytes of a text: the whole of it is read
-PIECE = 1 << 20         # bytes of lines that are looked at in one go
 
 
 class Trouble(Exception):
@@ -21,21 +20,31 @@ class Trouble(Exception):
         self.status = status
 
 
-def first_bytes(source, most):
-    """So many bytes, or all where there are fewer."""
-    pieces, left = [], most
-    while left:
-        piece = os.read(source, left)
+def read_on(source, data, most):
+    """What is read so far and what follows, up to so many bytes."""
+    while len(data) < most:
+        piece = os.read(source, min(PEEK, most - len(data)))
         if not piece:
             break
-        pieces.append(piece)
-        left -= len(piece)
-    return b"".join(pieces)
+        data += piece
+    return data
+
+
+def begin(source):
+    """So much that a text can be told; of what has a 0 as its second byte, as
+    plans have and texts don't, what is there."""
+    data = bytearray()
+    while len(data) < 2:
+        piece = os.read(source, PEEK)
+        if not piece:
+            break
+        data += piece
+    return data if 0 in data[1:2] else read_on(source, data, PEEK)
 
 
 def of_text(begun, source, all_calls, name):
     """The bytes of a text of which the first part is read."""
-    data = begun + first_bytes(source, MOST_TEXT - len(begun) + 1)
+    data = read_on(source, begun, MOST_TEXT + 1)
     if len(data) > MOST_TEXT:
         raise Trouble(2, "%s is a text of more than %d bytes: make a call file "
                       "of it first" % (name, MOST_TEXT))
@@ -62,34 +71,27 @@ class Traced:
 
     def __init__(self, program, source, all_calls, name):
         self.name = name
-        begun, more = first_bytes(source, PEEK), source
-        if is_text(begun):
+        begun, more = begin(source), source
+        if 0 not in begun[1:2] and is_text(begun):
             begun, more = of_text(begun, source, all_calls, name), None
         self.process = subprocess.Popen(
             [program, *["--allcalls"] * all_calls], stdin=subprocess.PIPE,
-            stdout=subprocess.PIPE, stderr=subprocess.PIPE)
+            stdout=subprocess.PIPE, stderr=subprocess.PIPE, bufsize=PEEK)
+        self.lines = self.process.stdout        # those that are still to come
         threading.Thread(target=hand_on, daemon=True, args=(
             begun, more, self.process.stdin)).start()
 
-    def first_line(self):
-        """The words of the line on the plan."""
-        line = self.process.stdout.readline()
+    def plan_line(self):
+        """The words of a line on the plan."""
+        line = self.lines.readline()
         if not line:
             self.end()
             raise Trouble(3, "dometrace broke off: it says nothing")
         return line.split()
 
-    def lines(self):
-        """Lists of lines, one after the other; broken off at the end where
-        the program is."""
-        while True:
-            piece = self.process.stdout.readlines(PIECE)
-            if not piece:
-                return self.end()
-            yield piece
-
     def end(self):
-        """Waits for the program, which has written all that it has."""
+        """Waits for the program, whose lines are read; they may have broken
+        off."""
         said = self.process.stderr.read().decode(errors="replace").strip()
         if self.process.wait() or said:
             raise Trouble(3, said or "dometrace broke off: the trace is not "
