@@ -108,11 +108,26 @@ PAST_SHARE = (ONE % 1 + "ask 0\ntick 2\nask 0\ncredit 0 3\n",
 AHEAD = (ONE.replace("share=1", "share=2") % 1 + "ask 0\nask 0\n",
          "passes: 2 calls, 0 slots in 1 frame\n\n" + HEAD +
          "   0   2.00     1.00         2        1             1        0\n\n"
-         "flow 0: 1 request refused with 12 while all its cells are in slots "
-         "to come, call 2 in slot 0: it asks further ahead than its cells go\n"
-         "\n1 refused with 12 (flow 0: 1): " + WITH_12)
+         "flow 0: 1 request refused with 12 before the slots of its cells were "
+         "over, call 2 in slot 0: it asks further ahead than its cells go\n\n"
+         "1 refused with 12 (flow 0: 1): " + WITH_12)
+# The same a slot later: slot 1 is the current one.
+IN_ITS_SLOT = (AHEAD[0].replace("ask 0\nask", "ask 0\ntick\nask"),
+               AHEAD[1].replace("2 calls, 0 slots", "3 calls, 1 slot").replace(
+                   "call 2 in slot 0", "call 3 in slot 1"))
+# Flow 0's cell is free from slot 7 on, and that is flow 1's (rule 6.2).
+DATED_LATE = (
+    "plan F=4 W=2 N=8\nflow share=2 cells=1 from=1 to=9\n"
+    "flow share=2 cells=4 from=2 to=9\n"
+    "ask 0\ncredit 0 7\nask 1 departure=6\nask 0\n",
+    "fails: 4 calls, 0 slots in 1 frame\n\n" + HEAD +
+    "   0   2.00     1.00         2        1             1        0  fails\n"
+    "   1   1.00     1.00         2        0             7        0\n\n"
+    "flow 0: 1 request within its share refused with 12, call 4 in slot 0: "
+    + WITH_12.replace(";", ":") + "\n1 refused with 12 (flow 0: 1): "
+    + WITH_12)
 FILES = (GOOD, WRONG_NODE, LATE, DEAD, SILENT, IN_TIME, OVERDUE, BOTH_OVERDUE,
-         BACK_IN_TIME, BACK_LATE, PAST_SHARE, AHEAD)
+         BACK_IN_TIME, BACK_LATE, PAST_SHARE, AHEAD, IN_ITS_SLOT, DATED_LATE)
 
 # Slot 0 is lent to flow 1 and slot 4 to flow 0; the burst gets slot 5.
 NO_CALL = "the record's kind is unknown, a filler is not 0, or fewer than " \
@@ -174,8 +189,12 @@ def by_hand(tree):
 def lends_bursts_and_what_is_no_call(tree):
     """Rules 26.8 and 26.9."""
     ended = health(tree, ALL_CALLS, "--allcalls")
-    return trouble(ended, FAILS, OF_ALL_CALLS.encode()) and \
-        ended.output.decode()
+    if trouble(ended, FAILS, OF_ALL_CALLS.encode()):
+        return ended.output.decode()
+    ended = health(tree, TWO + "lend 2\n", "--allcalls")
+    return trouble(ended, FAILS) or ended.output.decode().count(
+        "the lend's mask has a bit for a flow that is not below n") != 2 \
+        and ended.output
 
 
 def flights_are_good(tree):
@@ -303,13 +322,30 @@ def program_breaks_off(tree):
             ("echo P 0 4 2 4 1; echo E 1 1 1 9; cat >/dev/null; exit 3\n",
              "the trace is not whole"),
             ("cat >/dev/null; exit 3\n", "the trace is not whole"),
-            ("cat >/dev/null\n", "it says nothing")):
+            ("cat >/dev/null\n", "it says nothing"),
+            ("echo P 0 4 2 4 1; echo E 1 1 1 9; printf 'G 0 1'; cat >/dev/null"
+             "; exit 3\n", "the trace is not whole"),
+            ("echo P 0 4 2 4 1; echo E 1 1 1 9; echo Q; cat >/dev/null\n",
+             "after call 0 dometrace writes a line that is none of a trace")):
         tree.instead(script)
         wrong = trouble(tree.start("--health", tree.calls), NOT_WHOLE, b"",
-                        "dometrace broke off: " + says)
+                        says)
         if wrong:
             return "%s: %s" % (script, wrong)
     return None
+
+
+def built_where_it_is_missing(tree):
+    """It is dometrace that rt is asked for, and no other program."""
+    rt = tree.write("bin/rt", '#!/bin/sh\necho "$@" >>rt.words\n'
+                    "mv away target/bin/dometrace\n")
+    rt.chmod(0o755)
+    tree.path = "%s:%s" % (rt.parent, tree.path)
+    tree.program.rename(tree.root / "away")
+    ended = tree.start("--health", tree.calls)
+    return trouble(ended, PASSES, None, "target/bin/dometrace is missing: it "
+                   "is proved and built first") or (
+        tree.rt_words() != "check dometrace\n" and tree.rt_words())
 
 
 def broken_off(tree):
@@ -344,7 +380,8 @@ def constant_memory(tree):
 TESTS = (by_hand, lends_bursts_and_what_is_no_call, flights_are_good,
          late_return_in_a_dense_field, objects, members_are_on_the_man_page,
          without_a_file, wrong_words, refused_at_the_plan, lost_output,
-         program_breaks_off, broken_off, constant_memory)
+         program_breaks_off, built_where_it_is_missing, broken_off,
+         constant_memory)
 
 
 def tests(programs):

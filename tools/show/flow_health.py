@@ -35,7 +35,7 @@ class FlowHealth:
         self.wrong = {}         # Refused by kind of call and number
         self.within = {}        # by number: within the share
         self.held_back = None   # 12 past the share, with a cell that came up
-        self.ahead = None       # 12 within it, with all cells still to come
+        self.ahead = None       # 12 with no slot of its cells over yet
         self.latest = None      # a cell that was late: slot, when credited
 
     def frame_change(self):
@@ -69,8 +69,7 @@ class FlowHealth:
         cell = self.out[0] if self.out else None
         if number in MISTAKES:
             self.count(self.wrong, ("request", number), call, now)
-        elif number == NO_CELL and cell is not None and cell > now and \
-                len(self.out) == self.cells:
+        elif number == NO_CELL and len(self.out) == self.cells and cell >= now:
             self.ahead = self.one_more(self.ahead, call, now)
         elif self.load <= self.share:
             self.count(self.within, number, call, now, cell)

@@ -48,6 +48,8 @@ class CountingLine(threading.Thread):
                 file=sys.stderr, flush=True)
 
     def end(self):
+        if self.over.is_set():
+            return
         self.over.set()
         self.join()
         if self.shown:
@@ -74,10 +76,15 @@ def read(traced):
         run.add(traced.lines)
         traced.end()
     except KeyboardInterrupt:
-        line.end()
+        line.end()              # before the sentence
         stop("play", 3, "broken off after call %d, in slot %d" % (
             run.calls, run.slot))
-    line.end()
+    except (LookupError, ValueError):
+        traced.end()
+        raise Trouble(3, "after call %d dometrace writes a line that is none "
+                      "of a trace" % run.calls) from None
+    finally:
+        line.end()
     return run
 
 

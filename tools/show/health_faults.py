@@ -60,17 +60,18 @@ def nothing_granted(flow):
 def mistakes(flow, rows):
     for (kind, number), refused in sorted(
             flow.wrong.items(), key=lambda pair: pair[1].call):
-        yield Fault("made wrongly", flow.number, "%s refused with %d, %s: %s" % (
-            plural(refused.calls, kind), number, first(refused),
-            reason(number, rows, kind)), number=number, calls=refused.calls,
-            call=refused.call, slot=refused.slot)
+        yield Fault("made wrongly", flow.number,
+                    "%s refused with %d, %s: %s" % (
+                        plural(refused.calls, kind), number, first(refused),
+                        reason(number, rows, kind)), number=number,
+                    calls=refused.calls, call=refused.call, slot=refused.slot)
 
 
 def within_share(flow, rows):
     for number, refused in sorted(flow.within.items()):
         why = reason(number, rows)
         if number == NO_CELL and refused.cell is not None \
-                and refused.cell <= refused.slot:
+                and refused.cell < refused.slot:
             why = "%s: %s" % (not_back(refused.cell), BOARD)
         yield Fault("refused within its share", flow.number,
                     "%s within its share refused with %d, %s: %s" % (
@@ -95,11 +96,11 @@ def cells(flow, now):
 
 def of_no_flow(run, rows):
     for number in sorted(MISTAKES & set(run.others)):
-        count, call = run.others[number], run.first_other[number]
+        count, (call, kind) = run.others[number], run.first_other[number]
         yield Fault("made wrongly", None, "%s of no flow refused with %d, call "
                     "%d%s: %s" % (plural(count, "call"), number, call,
                                   " first" if count > 1 else "",
-                                  reason(number, rows)),
+                                  reason(number, rows, kind)),
                     number=number, calls=count, call=call)
 
 
@@ -127,7 +128,7 @@ def ahead_of(flow):
     refused = flow.ahead
     if refused:
         yield Fault("ahead of its cells", flow.number,
-                    "%s refused with 12 while all its cells are in slots to "
-                    "come, %s: it asks further ahead than its cells go" % (
+                    "%s refused with 12 before the slots of its cells were "
+                    "over, %s: it asks further ahead than its cells go" % (
                         plural(refused.calls, "request"), first(refused)),
                     calls=refused.calls, call=refused.call, slot=refused.slot)

@@ -91,7 +91,8 @@ class Report:
 
     def refusal_line(self, pair):
         number, whose = pair
-        row = refusal(number, "request", self.rows)
+        _, kind = self.run.first_other.get(number, (None, "request"))
+        row = refusal(number, kind, self.rows)
         return "%d refused with %d (%s): %s; %s" % (
             sum(count for _, count in whose), number,
             ", ".join("%s: %d" % each for each in whose),

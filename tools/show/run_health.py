@@ -5,7 +5,7 @@ from collections import Counter
 
 from flow_health import FlowHealth
 
-REQUEST, CREDIT = b"1", b"2"            # kinds of calls
+REQUEST, CREDIT, LEND = b"1", b"2", b"4"        # kinds of calls
 CALL, FLOW, AHEAD = 3, 4, 14            # words of a line: the call's kind, its
                                         # flow, how far the position is ahead
 UNTOUCHED = b"255"                      # a burst's word past the sixteenth
@@ -20,7 +20,7 @@ class RunHealth:
                       for number, (share, cells) in enumerate(entries)]
         self.calls = self.slot = 0
         self.others = Counter()         # refusals of calls that no flow made
-        self.first_other = {}           # by number: a call
+        self.first_other = {}           # by number: a call, and its kind
         self.takes = {b"T": self.tick, b"G": self.grant, b"C": self.credit,
                       b"R": self.refusal, b"X": self.no_call, b"L": self.lend,
                       b"W": self.one_call, b"Z": self.one_call,
@@ -61,7 +61,7 @@ class RunHealth:
         self.calls += 1
         number, kind, flow = int(words[1]), words[CALL], int(words[FLOW])
         if kind not in (REQUEST, CREDIT) or flow >= len(self.flows):
-            self.of_no_flow(number)
+            self.of_no_flow(number, "lend" if kind == LEND else "request")
         elif kind == REQUEST:
             self.flows[flow].refuse(number, self.calls, self.slot)
         else:
@@ -89,6 +89,6 @@ class RunHealth:
     def skip(self, words):
         pass
 
-    def of_no_flow(self, number):
+    def of_no_flow(self, number, kind="request"):
         self.others[number] += 1
-        self.first_other.setdefault(number, self.calls)
+        self.first_other.setdefault(number, (self.calls, kind))
