@@ -88,6 +88,12 @@ BOTH_OVERDUE = (
     "fails: 16 calls, 14 slots in 4 frames\n\n" + HEAD +
     "   0   0.50     0.50         1        0             1        2  fails\n\n"
     "flow 0: " + NOT_BACK + " (and 1 cell of later slots)" + BOARD)
+# The one credit is for the cell of slot 1.
+ONE_BACK = (
+    ONE % 2 + "ask 0\ntick 4\nask 0\ntick 2\ncredit 0 7\ntick 8\n",
+    "fails: 17 calls, 14 slots in 4 frames\n\n" + HEAD +
+    "   0   0.50     0.50         1        0             1        1  fails\n\n"
+    "flow 0: a cell of slot 5 is not given back since slot 6" + BOARD)
 BACK_IN_TIME = (ONE % 2 + "ask 0\ntick 9\ncredit 0 2\n",
                 "passes: 11 calls, 9 slots in 3 frames\n\n" + HEAD +
                 "   0   0.33     0.33         1        0             1        "
@@ -115,19 +121,21 @@ AHEAD = (ONE.replace("share=1", "share=2") % 1 + "ask 0\nask 0\n",
 IN_ITS_SLOT = (AHEAD[0].replace("ask 0\nask", "ask 0\ntick\nask"),
                AHEAD[1].replace("2 calls, 0 slots", "3 calls, 1 slot").replace(
                    "call 2 in slot 0", "call 3 in slot 1"))
-# Flow 0's cell is free from slot 7 on, and that is flow 1's (rule 6.2).
+# One of flow 0's two cells is free from slot 7 on, and that is flow 1's (rule
+# 6.2).
 DATED_LATE = (
-    "plan F=4 W=2 N=8\nflow share=2 cells=1 from=1 to=9\n"
-    "flow share=2 cells=4 from=2 to=9\n"
-    "ask 0\ncredit 0 7\nask 1 departure=6\nask 0\n",
-    "fails: 4 calls, 0 slots in 1 frame\n\n" + HEAD +
-    "   0   2.00     1.00         2        1             1        0  fails\n"
-    "   1   1.00     1.00         2        0             7        0\n\n"
-    "flow 0: 1 request within its share refused with 12, call 4 in slot 0: "
+    "plan F=4 W=2 N=8\nflow share=3 cells=2 from=1 to=9\n"
+    "flow share=1 cells=4 from=2 to=9\n"
+    "ask 0\nask 0\ncredit 0 7\nask 1 departure=6\nask 0\n",
+    "fails: 5 calls, 0 slots in 1 frame\n\n" + HEAD +
+    "   0   3.00     2.00         3        1             2        0  fails\n"
+    "   1   1.00     1.00         1        0             7        0\n\n"
+    "flow 0: 1 request within its share refused with 12, call 5 in slot 0: "
     + WITH_12.replace(";", ":") + "\n1 refused with 12 (flow 0: 1): "
     + WITH_12)
 FILES = (GOOD, WRONG_NODE, LATE, DEAD, SILENT, IN_TIME, OVERDUE, BOTH_OVERDUE,
-         BACK_IN_TIME, BACK_LATE, PAST_SHARE, AHEAD, IN_ITS_SLOT, DATED_LATE)
+         ONE_BACK, BACK_IN_TIME, BACK_LATE, PAST_SHARE, AHEAD, IN_ITS_SLOT,
+         DATED_LATE)
 
 # Slot 0 is lent to flow 1 and slot 4 to flow 0; the burst gets slot 5.
 NO_CALL = "the record's kind is unknown, a filler is not 0, or fewer than " \
