@@ -11,7 +11,7 @@ from front_door.command import ROOT, start
 
 PAGE = ROOT / "docs/CHECKLIST.md"
 BOXES = ["Plan", "Plan, over the mesh", "Sparse sky", "Dense field",
-         "Console log"]
+         "Health of a run", "Console log"]
 PARTS = ["Command:", "Good:", "Bad:", "What to do:", "It can't see"]
 QUOTED = re.compile(r"`([^`]+)`")
 FOLDERS = ("crates/", "docs/", "flights/", "tests/run")
@@ -19,13 +19,23 @@ TREE = ("play", "plan", "check-log", "flights", "target", "tools", "docs")
 
 # What is done before a box's commands, as a reader would with files of his
 # own.
-BEFORE = {"Console log": "cp flights/sparse show.calls; "
+BEFORE = {"Health of a run": "cp flights/sparse show.calls",
+          "Console log": "cp flights/sparse show.calls; "
           "cp flights/sparse.sent sent"}
 # Faults, by the words that the page calls bad.  The sparse flight has the
 # title, flow 2, in slots 7, 9, 16 and 24.
 WRONG_NODE = ("sed 's/^ask 1 number=0/& to=8/' flights/sparse.txt "
               "| tools/calls - >wrong; ./play wrong >other; ")
 LOG = "./play flights/sparse >booked; %s ./check-log --calls flights/sparse %s"
+# A credit of flow 5, the 859th record of the dense flight, sixty later.
+LATE_CREDIT = (
+    "head -c $((76 + 5 * 858)) flights/dense >late; "
+    "tail -c +$((77 + 5 * 859)) flights/dense | head -c 300 >>late; "
+    "tail -c +$((77 + 5 * 858)) flights/dense | head -c 5 >>late; "
+    "tail -c +$((77 + 5 * 919)) flights/dense >>late; ")
+# A flow of share 1, whose first slot is slot 1, and T = 8.
+HEALTH = ("printf 'plan F=4 W=2 N=4\\nflow share=1 cells=1 from=1 to=9\\n"
+          "ask 0\\n%s' | ./play --health -")
 FAULTS = {
     "refused with 7: the cells add to more than N; here they add to 12, and N "
     "is 11": "./plan 8 2 11  2 6 1 9  2 6 2 9",
@@ -63,14 +73,22 @@ FAULTS = {
         "--ahead booked -"),
     "refused": WRONG_NODE + "./check-log other flights/sparse.sent",
     "differ": LOG % ("sed 's/^2$/-/' flights/sparse.sent |", "booked -"),
-    # A credit of flow 5, the 859th record, sixty later.
-    "7 calls refused with 15 (flow 5), call 1343 first":
-        "head -c $((76 + 5 * 858)) flights/dense >late; "
-        "tail -c +$((77 + 5 * 859)) flights/dense | head -c 300 >>late; "
-        "tail -c +$((77 + 5 * 858)) flights/dense | head -c 5 >>late; "
-        "tail -c +$((77 + 5 * 919)) flights/dense >>late; "
-        "./play late >booked; sed -n 's/^T //p' booked >sent; "
-        "./check-log --calls late booked sent",
+    "7 calls refused with 15 (flow 5), call 1343 first": LATE_CREDIT
+    + "./play late >booked; sed -n 's/^T //p' booked >sent; "
+    "./check-log --calls late booked sent",
+    "fails": LATE_CREDIT + "./play --health late",
+    "flow 5: 1 request past its share refused with 12, call 894 in slot 277: a "
+    "cell of slot 267 is not given back since slot 268: look at the board that "
+    "it leads to": LATE_CREDIT + "./play --health late",
+    "flow 1: nothing is granted to it: 3 requests refused, 1 with 9, 2 with "
+    "24": WRONG_NODE + "./play --health wrong",
+    "flow 0: 1 request within its share refused with 12, call 6 in slot 4: a "
+    "cell of slot 1 is not given back since slot 2":
+        HEALTH % "tick 4\\nask 0\\ncredit 0 5\\n",
+    "a cell of slot 1 was given back in slot 10, more than a window later":
+        HEALTH % "tick 10\\ncredit 0 3\\n",
+    "flow 0: a cell of slot 1 is not given back since slot 2: look at the "
+    "board that it leads to": HEALTH % "tick 10\\n",
 }
 
 

@@ -10,4 +10,5 @@ import call_file        # noqa: E402, F401
 import call_text        # noqa: E402, F401
 import explain          # noqa: E402, F401
 import replay           # noqa: E402, F401
+import run_health       # noqa: E402, F401
 import text_lines       # noqa: E402, F401
