@@ -45,7 +45,7 @@ returns c =
     let s = w .before .before in
     let o = s .pre .0 in
     let word = w .word-of .ensures in
-    let place = p .place-of .ensures .1 ∙ ap (λ q. cond (eqb (s .args .reply .number) 0) (s .args .reply .position) q) (current-told o) in
+    let place = p .place-of .ensures .1 ∙ ap (λ q. cond (eqb (s .args .asked .reply .number) 0) (s .args .asked .reply .position) q) (current-told o) in
     lines-as (answered-as _ (a .answer-of .ensures) word (ap (λ (n : Named). n .first) word) place) (omega arith) (put .put-answer .ensures)
 
 pub put-ask-spec : {M : Type 1} → statement M
