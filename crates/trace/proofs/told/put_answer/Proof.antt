@@ -9,7 +9,7 @@ use Rattle.trace.proofs.told.put_answer.Tie as tie
 
 -- where the function is entered
 abbrev start : tie.After-byte-at2 → tie.Start
-start c = c .before .before .before
+start c = c .before .before .before .before .before
 
 byte-at-requires : tie.Need-byte-at-requires
 byte-at-requires c κs = search needs
