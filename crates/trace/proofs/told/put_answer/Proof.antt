@@ -9,7 +9,7 @@ use Rattle.trace.proofs.told.put_answer.Tie as tie
 
 -- where the function is entered
 abbrev start : tie.After-byte-at2 → tie.Start
-start c = c .before .before .before
+start c = c .before .before .before .before .before
 
 byte-at-requires : tie.Need-byte-at-requires
 byte-at-requires c κs = search needs
@@ -34,7 +34,7 @@ returns c =
     let s = start two in
     let o = s .pre .hand in
     lines-as
-    (line-told _ _ _ _ _ _ _ _ _ _ _ (about-short o (two .before .byte-at .ensures) (two .byte-at2 .ensures) (s .args .p) (then .if1 .taken)))
+    (line-told _ _ _ _ _ _ _ _ _ _ _ (about-short o (two .before .byte-at .ensures) (two .byte-at2 .ensures) (s .args .line .position) (then .if1 .taken)))
     (omega arith) (line .put-line .ensures)
 
 part-of-requires : tie.Need-part-of-requires
@@ -61,7 +61,7 @@ returns-2 c =
     let o = s .pre .hand in
     lines-as
     (line-told _ _ _ _ _ _ _ _ _ _ _
-    (about-long o (two .before .byte-at .ensures) (two .byte-at2 .ensures) (s .args .p) (omega (arith, part .before .if1 .left)) (part .part-of .ensures _ o)))
+    (about-long o (two .before .byte-at .ensures) (two .byte-at2 .ensures) (s .args .line .position) (omega (arith, part .before .if1 .left)) (part .part-of .ensures _ o)))
     (omega arith) (line .put-line2 .ensures)
 
 pub put-answer-spec : {M : Type 1} → statement M
