@@ -160,36 +160,33 @@ pub(crate) fn put_answer(
         (readIn plan (now (s .entry))) (line .flow) (line .position)) (now (out .entry)) (now (out .exit)) at r 384 ⌝ }
 {
     let a = line.said;
-    let c = line.call;
-    let i = line.flow;
-    let cp = w.current;
     let mark = byte_at(s, MARK);
     let turn = byte_at(s, TURN);
-    if plan.count <= i {
+    if plan.count <= line.flow {
         let short = [
             a.number,
             a.value,
-            c.kind,
-            c.first,
-            c.second,
-            c.third,
-            c.fourth,
-            cp,
+            line.call.kind,
+            line.call.first,
+            line.call.second,
+            line.call.third,
+            line.call.fourth,
+            w.current,
             mark,
             turn,
         ];
         return put_line(a.letter, &short, out, at);
     }
-    let f = part_of(s, w, i, line.position);
+    let f = part_of(s, w, line.flow, line.position);
     let long = [
         a.number,
         a.value,
-        c.kind,
-        c.first,
-        c.second,
-        c.third,
-        c.fourth,
-        cp,
+        line.call.kind,
+        line.call.first,
+        line.call.second,
+        line.call.third,
+        line.call.fourth,
+        w.current,
         mark,
         turn,
         f.frame,
