@@ -38,8 +38,10 @@ from front_door import (
     tests_lost_output, versions, wrong_arguments)
 from front_door import (
     contracts, desk_page, page_links, program_stacks, proved_page)
-from front_door import dome_files, dome_page, dome_runs, tests_left_out
+from front_door import (
+    dome_files, dome_page, dome_runs, function_sizes, tests_left_out)
 from images import self_tests
+from mutants import all_mutants
 from pairs import wrong_pairs
 from ways import wrong_ways
 
@@ -56,7 +58,8 @@ FRONT_DOOR = (
     tests_lost_output, bench_ahead, performance_page, page_sizes,
     must_fail_edits, progress, versions, help_pages, man_pages, readme,
     rules_page, citations, remedies, checklist_page, comparison_page,
-    dome_files, dome_page, dome_runs, tests_left_out)
+    dome_files, dome_page, dome_runs, function_sizes, tests_left_out,
+    all_mutants)
 
 
 def wanted(names, only):
