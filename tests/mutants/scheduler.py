@@ -113,10 +113,13 @@ MUTANTS = table(SOURCE, [
     ("a reset leaves the turn", "        self.turn = 0;\n        Ok(())",
      "        Ok(())", "turn: after a reset"),
     ("a new frame holds nothing", "row[places - slots..].fill(last);",
-     "row[places - slots..].fill(last.min(0));", "slip 3: holdings go on past a frame change"),
+     "row[places - slots..].fill(last.min(0));",
+     "slip 3: holdings go on past a frame change"),
     ("a frame change leaves the injection frame",
-     "                flow.frame -= 1;", "", "C is kept by a flow that is ahead"),
+     "                flow.frame -= 1;", "",
+     "C is kept by a flow that is ahead"),
     ("a frame change gives no share", "if flow.frame == 0 {\n"
      "                flow.left = flow.share;",
-     "if flow.frame == 0 {\n                flow.left += 0;", "C is the share again after a frame change"),
+     "if flow.frame == 0 {\n                flow.left += 0;",
+     "C is the share again after a frame change"),
 ])
