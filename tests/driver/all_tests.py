@@ -1,9 +1,12 @@
 """All tests, in their order."""
 
 import itertools
+import pkgutil
 import tempfile
 from functools import partial
+from importlib import import_module
 
+import front_door as front_door_package
 from ahead import wrong_sendings
 from demand3 import wrong_listings
 from driver import (
@@ -22,41 +25,20 @@ from driver.tally import (
 from driver.way_suite import WaySuite
 from edges import questions, refusals_page
 from edges.all_edges import ALLCALLS_EDGES, EDGES
-from front_door import (
-    architecture_page, bench_ahead, cut_questions, decisions_page, doc_names)
-from front_door import (
-    asking_editor, calls_text, check_ahead, check_faults, check_log, check_long,
-    check_refused, checklist_page, citations, comparison_page, flights,
-    help_pages, man_pages, must_fail_edits,
-    old_program, page_sizes, performance_page, picture_errors, picture_pages,
-    picture_scripts, picture_sizes, picture_style, picture_view, pictures,
-    plan_check,
-    plan_culprits, plan_delays, plan_files, plan_lost_output, plan_mesh,
-    plan_read, plan_week, plan_wrong_words, play_explain, play_files,
-    play_health, play_lost_output, play_options, play_states, progress, readme,
-    refusal_reasons, remedies, rules_page, singular, slow_reader,
-    tests_lost_output, versions, wrong_arguments)
-from front_door import (
-    contracts, desk_page, page_links, program_stacks, proved_page)
-from front_door import dome_files, dome_page, dome_runs
 from images import self_tests
+from mutants import all_mutants
 from pairs import wrong_pairs
 from ways import wrong_ways
 
-PAGES = (proved_page, contracts, program_stacks, desk_page, page_links)
-FRONT_DOOR = (
-    decisions_page, architecture_page, doc_names, play_files, play_lost_output,
-    play_explain, play_health, play_options, play_states, pictures,
-    picture_sizes, picture_pages, picture_scripts, picture_view, picture_style,
-    picture_errors, refusal_reasons, singular,
-    calls_text, plan_files, plan_culprits, plan_read, plan_check, plan_delays,
-    plan_mesh, plan_week, plan_wrong_words, plan_lost_output, check_log,
-    check_ahead, check_refused, check_faults, check_long, flights, old_program,
-    slow_reader, cut_questions, asking_editor, wrong_arguments,
-    tests_lost_output, bench_ahead, performance_page, page_sizes,
-    must_fail_edits, progress, versions, help_pages, man_pages, readme,
-    rules_page, citations, remedies, checklist_page, comparison_page,
-    dome_files, dome_page, dome_runs)
+
+def found(package):
+    """The modules of a folder that have tests; those of the C side, whose
+    names begin with c_, are the C side's own."""
+    names = sorted(each.name for each in pkgutil.iter_modules(package.__path__)
+                   if not each.name.startswith("c_"))
+    modules = [import_module("%s.%s" % (package.__name__, name))
+               for name in names]
+    return [module for module in modules if hasattr(module, "tests")]
 
 
 def wanted(names, only):
@@ -128,7 +110,8 @@ def front_door(programs, only):
     suite = Suite("front door")
     paths = {program.name: program.command[0] for program in programs}
     test_all(suite, itertools.chain.from_iterable(
-        subject.tests(paths) for subject in FRONT_DOOR + PAGES), only)
+        subject.tests(paths) for subject in [*found(front_door_package),
+                                             all_mutants]), only)
     return suite
 
 

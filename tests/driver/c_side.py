@@ -12,6 +12,7 @@ from textwrap import dedent
 
 from driver.formats import ALLCALLS
 from driver.image_suite import ImageSuite
+from driver.left_out import leave_out
 from driver.plain_rust import trouble
 from driver.suite import Suite, first_difference
 from edges import bursts, lends, numbers, resets, turns
@@ -32,6 +33,9 @@ VALGRIND = ["valgrind", "-q", "--error-exitcode=9", "--leak-check=full"]
 IMAGES_EACH = 10            # images by chance for each seed
 WATCHED_IMAGES = 100        # of them under a tool that watches
 WATCHED_FILES = 3           # edges of each sort, through the player
+WATCHED_TESTS = 2           # under each tool that watches
+PLUS = ("c++98", "c++17")   # standards of the header
+OWN_TESTS = 0               # besides files of calls, where all tools are there
 
 
 def found(*names):
@@ -71,7 +75,9 @@ def header_tests(builder):
     yield ("C: the header as C99",
            partial(builder.alone, "c99", sizes, "-std=c99"))
     plus = found("c++", "g++", "clang++")
-    for standard in ("c++98", "c++17") if plus else ():
+    if not plus:
+        leave_out("c++", "the header in C++", len(PLUS))
+    for standard in PLUS if plus else ():
         yield ("C: the header as " + standard, partial(
             builder.alone, standard, sizes, "-x", "c++", "-std=" + standard,
             "-Wno-long-long", compiler=plus))
@@ -157,11 +163,11 @@ def watchers(builder):
     if found("valgrind"):
         yield Watcher("valgrind", VALGRIND, ["-g"])
     else:
-        print("valgrind is not on this machine: nothing runs under it")
+        leave_out("valgrind", "exports and player under it", WATCHED_TESTS)
     if builder.sanitises():
         yield Watcher("the address sanitiser", [], CHECKED)
     else:
-        print("the compiler has no address sanitiser: nothing runs under it")
+        leave_out("sanitiser", "exports and player under it", WATCHED_TESTS)
 
 
 def watched_tests(builder):
@@ -211,5 +217,5 @@ def c_side(library, folder):
     compiler = found("cc", "gcc", "clang")
     if compiler:
         return CSide(compiler, library, folder)
-    print("no C compiler is on this machine: the C side is not played")
+    leave_out("cc", "the C side", OWN_TESTS, ("allcalls", "allcalls"))
     return None

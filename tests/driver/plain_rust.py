@@ -6,9 +6,11 @@ from pathlib import Path
 
 from driver import progress
 from driver.formats import ALLCALLS, DOMELINK
+from driver.left_out import leave_out
 from driver.suite import Suite
 
 SOURCES = Path(__file__).resolve().parents[2] / "docs/src"
+OWN_TESTS = 2
 
 
 def has_rustc():
@@ -56,7 +58,7 @@ def suites(folder, only):
     """Its suites, one for each way to read records, or none where there is
     no rustc."""
     if not has_rustc():
-        print("rustc is not on this machine: plain Rust is not played")
+        leave_out("rustc", "plain Rust", OWN_TESTS, ("domelink", "allcalls"))
         return []
     plain = player(folder, "plain Rust", "play", DOMELINK)
     if not only:

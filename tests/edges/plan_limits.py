@@ -99,6 +99,8 @@ ENTRIES = [
 
 PAIRS = [
     ("equal pairs", plan(4, 2, 4, one() + one()), 5),
+    ("equal pairs, other shares and cells",
+     plan(4, 2, 4, one() + one(share=2, cells=3)), 5),
     ("equal pairs, first and last",
      plan(16, 2, 16, SIXTEEN[:15] + SIXTEEN[:1]), 5),
     ("equal sources only", plan(4, 2, 4, one() + one(destination=8)), 0),

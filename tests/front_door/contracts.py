@@ -6,8 +6,10 @@ Each promise, and each definition that it is made of, is read for the shape
 'for all .. such that'.  One of these has to hold of it:
 
 - some number meets the condition: `i < 16`, or 'not 0';
-- the function asks that there is one: `SomeRequest`, with the same condition;
-- another promise of the function is an equation of what it hands back, `r`;
+- the function asks that there is one: `SomeRequest`, of the same conditions and
+  no others;
+- the function's other promises are equations for all that it leaves: of what it
+  hands back, `r`, and of each thing that it was lent to change;
 - SETTLED names a theorem that says so.
 
 A function or a definition with such a promise and nothing of these is told."""
@@ -16,7 +18,7 @@ import re
 
 from front_door.command import ROOT, start, trouble
 from front_door.contract_files import (
-    CRATES, Clause, Reader, functions, promises)
+    CRATES, Clause, Reader, bare, functions, parts, promises)
 from front_door.pages import page
 from front_door.proof_files import declarations
 
@@ -57,8 +59,9 @@ INVARIANT = re.compile(
 ROOM = re.compile(r"((said\.)?room|7|100) ≤ length \(now out\)$")
 BELOW = re.compile(r"(\w+) < [1-9]\d*$")
 NOT_ZERO = re.compile(r"\((\w+) ≡ 0 → ⊥\)$")
-EQUATION = re.compile(r"r ≡ ")
-BOUND = re.compile(r"r [≤<] [^×≡]*$")
+SOME = re.compile(r"Some\w* \(λ ([\w ]+)\. (.*)\)$")
+LENT = re.compile(r"(\w+): &(?:'\w+ )?mut\b")
+BOUND = re.compile(r"\(?r(?: \.\w+)*\)? [≤<] [^×≡]*$")
 CLOCKS = {"timing::clock::" + name
           for name in ("nanoseconds", "since", "cost")}
 
@@ -82,17 +85,27 @@ def a_number_meets(spoken):
 
 
 def is_asked_for(spoken):
-    """What the function asks is that there is one."""
-    wanted = [re.sub(r"\((\w+) \.entry\)", r"\1", each)
+    """What the function asks is that there is one, which meets just this."""
+    wanted = [bare(re.sub(r"\((\w+) \.entry\)", r"\1", each))
               for each in spoken.asked]
-    return any(clause.text.startswith("Some")
-               and all(each in clause.text for each in wanted)
-               for clause in spoken.function.requires)
+    some = [SOME.match(part) for clause in spoken.function.requires
+            for part in parts(clause.text, " × ")]
+    return any(each and each.group(1).split() == variables(spoken.bound)
+               and [bare(part) for part in parts(each.group(2), " × ")]
+               == wanted for each in some)
 
 
-def stands_beside_an_equation(spoken):
-    return any(clause is not spoken.clause and EQUATION.match(clause.text)
-               for clause in spoken.function.ensures)
+def equations_are_beside(spoken):
+    """The other promises are equations for all that the function leaves."""
+    function = spoken.function
+    others = [clause.text for clause in function.ensures
+              if clause is not spoken.clause]
+    left = ["now (%s .exit) ≡ " % lent
+            for lent in LENT.findall(function.signature)]
+    if "->" in function.signature:
+        left.append("r ≡ ")
+    return left and all(any(text.startswith(each) for text in others)
+                        for each in left)
 
 
 def why(spoken):
@@ -103,8 +116,8 @@ def why(spoken):
         return "it is asked for"
     if spoken.where in SETTLED:
         return SETTLED[spoken.where][1]
-    if stands_beside_an_equation(spoken):
-        return "an equation stands beside it"
+    if equations_are_beside(spoken):
+        return "equations stand beside it"
     return None
 
 
@@ -156,8 +169,10 @@ def shown():
 
 
 def says_too_little(function):
-    """It hands something back or changes it, and promises a bound at most."""
-    bounds = [BOUND.match(clause.text) for clause in function.ensures]
+    """It hands something back or changes it, and promises bounds at most, of
+    the whole or of fields."""
+    bounds = [BOUND.match(bare(part)) for clause in function.ensures
+              for part in parts(bare(clause.text), " × ")]
     return all(bounds) and ("->" in function.signature
                             or "&mut" in function.signature)
 
@@ -206,10 +221,11 @@ def each_that_asks_more_is_in_a_group():
 class Made:
     """A function with this contract, in the place of one of link's."""
 
-    def __init__(self, requires, ensures):
+    def __init__(self, requires, ensures, signature=" -> u8"):
         like = next(each for each in functions()
                     if each.title() == "link::request::request")
         self.path, self.crate, self.name = like.path, like.crate, "made"
+        self.signature = signature
         self.requires = [Clause("", text) for text in requires]
         self.ensures = [Clause("", text) for text in ensures]
 
@@ -232,14 +248,33 @@ def a_silent_one_is_told():
               Made([GIVEN.replace(" x (now s)", " 7 (now s)")], [RULE]),
               Made([], ["((k : ℕ) → k < 0 → r ≡ k)"]),
               Made([], ["((k : ℕ) → k < 4 → 3 < k → r ≡ k)"]),
+              Made([GIVEN.replace("fields x", "fields x extra")], [RULE]),
+              Made([GIVEN.replace("(now s))", "(now s) × (p ≡ p))")], [RULE]),
+              Made([], [RULE, "r ≡ 0"], "(out: &mut [u8]) -> u8"),
+              Made([], [RULE, "now (out .exit) ≡ now (out .entry)"],
+                   "(out: &mut [u8]) -> u8"),
               Made([], ["InFrame w frame position × " + RULE])]
     spoken = [Made([GIVEN], [RULE]), Made([], [RULE, "r ≡ 0"]),
+              Made([], [RULE, "r ≡ 0", "now (out .exit) ≡ now (out .entry)"],
+                   "(out: &mut [u8]) -> u8"),
               Made([], ["((k : ℕ) → k < 4 → r ≡ k)"]),
               Made([], ["((k : ℕ) → (k ≡ 0 → ⊥) → r ≡ 0)"]),
               Made([], ["((k : ℕ) → r ≡ 0)"])]
     wrong = [each.ensures[0].text for each in silent if not each.silent()]
     wrong += ["not silent: " + each.ensures[0].text
               for each in spoken if each.silent()]
+    return "; ".join(wrong)
+
+
+def bounds_alone_are_told():
+    """Of what is handed back, and of its fields."""
+    bounds = (["r < 4"], ["r .position < 256"],
+              ["(r .number ≤ 24) × (r .position < 256)"], [])
+    more = ["r ≡ 3"], ["r < 4", "r ≡ 3"], ["(r < 4) × (r ≡ 3)"]
+    wrong = ["not told: %s" % each for each in bounds
+             if not says_too_little(Made([], each))]
+    wrong += ["told: %s" % each for each in more
+              if says_too_little(Made([], each))]
     return "; ".join(wrong)
 
 
@@ -257,7 +292,7 @@ def the_list_has_each():
 TESTS = (none_is_silent, each_definition_is_found, the_theorems_are_there,
          each_promises_something, the_decision_counts_them,
          each_that_asks_more_is_in_a_group, a_silent_one_is_told,
-         the_list_has_each)
+         bounds_alone_are_told, the_list_has_each)
 
 
 def tests(_):

@@ -8,6 +8,7 @@ import shutil
 import stat
 import subprocess
 
+from driver.left_out import leave_out
 from front_door.command import LIMIT, trouble
 from front_door.dome_tree import DONE, NOT_DONE, SMALL, in_trees
 
@@ -82,8 +83,6 @@ def a_page_of_its_own(tree):
 
 
 def by_key_and_by_click(tree):
-    if not shutil.which("node"):
-        return None
     _, text = made(tree)
     script = text.split("<script>\n")[1].split("</script>")[0]
     done = subprocess.run(["node", "-e", STUB + script + USER], timeout=LIMIT,
@@ -132,6 +131,10 @@ def to_standard_output(tree):
 
 
 def tests(programs):
-    return in_trees((a_page_of_its_own, by_key_and_by_click, what_is_in_it,
+    by_node = (by_key_and_by_click,)
+    if not shutil.which("node"):
+        leave_out("node", "the keys of a dome's page", len(by_node))
+        by_node = ()
+    return in_trees((a_page_of_its_own, *by_node, what_is_in_it,
                      no_place_for_it, not_over_the_show, to_standard_output),
                     programs)

@@ -4,6 +4,7 @@ import re
 import shutil
 import subprocess
 
+from driver.left_out import leave_out
 from front_door.command import ROOT, start
 from front_door.plan_tree import PlanTree
 from front_door.tree import named
@@ -56,9 +57,7 @@ def complete(name):
 
 
 def laid_out(name):
-    """Without a warning, where groff is on the machine."""
-    if not shutil.which("groff"):
-        return None
+    """Without a warning."""
     done = subprocess.run(["groff", "-man", "-Tutf8", "-ww", "-z",
                            ROOT / "docs/man" / (name + ".1")],
                           capture_output=True, text=True)
@@ -135,8 +134,12 @@ def examples_of_domeplan(programs):
 
 
 def tests(programs):
+    each = (complete, laid_out)
+    if not shutil.which("groff"):
+        leave_out("groff", "the layout of man pages", len(PAGES))
+        each = (complete,)
     for name in PAGES:
-        for test in (complete, laid_out):
+        for test in each:
             yield ("man %s: %s" % (name, test.__name__.replace("_", " ")),
                    lambda name=name, test=test: test(name))
     yield "man domeplan: questions", questions

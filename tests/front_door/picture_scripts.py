@@ -4,6 +4,7 @@ import json
 import shutil
 import subprocess
 
+from driver.left_out import leave_out
 from edges.all_edges import ALLCALLS_EDGES, EDGES
 from front_door.command import LIMIT, ROOT
 from front_door.picture_files import (
@@ -156,10 +157,12 @@ def script_speaks():
     return None
 
 
+TESTS = (script_agrees_with_simulator, script_speaks)
+
+
 def tests(programs):
     if not shutil.which("node"):
-        print("node is not on this machine: no script of a page is run")
+        leave_out("node", "the scripts of a page", len(TESTS))
         return
-    yield ("pictures: script agrees with the simulator",
-           script_agrees_with_simulator)
-    yield "pictures: script speaks", script_speaks
+    for test in TESTS:
+        yield "pictures: " + test.__name__.replace("_", " "), test

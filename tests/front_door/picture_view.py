@@ -7,6 +7,7 @@ import shutil
 import subprocess
 
 import call_bytes
+from driver.left_out import leave_out
 from edges.edge_maker import BASE, TICK, lend
 from front_door.command import LIMIT, ROOT
 from front_door.picture_files import LISTING, Played, flight_of
@@ -354,7 +355,7 @@ def tried(test):
 
 def tests(programs):
     if not shutil.which("node"):
-        print("node is not on this machine: no key of a page is tried")
+        leave_out("node", "the keys of a page", len(TESTS))
         return
     for test in TESTS:
         yield ("pictures: page used, " + test.__name__.replace("_", " "),

@@ -12,8 +12,8 @@ ghost use lib.Dec.{eqb};
 ghost use Rattle.model.specs.Word.{flowOf, quantumOf, departureOf, destinationOf};
 ghost use Rattle.model.specs.Request as model;
 ghost use Rattle.link.specs.Steps.{Went, replyOf};
+use crate::told::Line;
 use crate::told::Named;
-use crate::told::Said;
 use crate::told::answer_of;
 use crate::told::put_answer;
 use link::request::Reply;
@@ -60,25 +60,31 @@ fn place_of(w: Window, reply: Reply) -> usize
     reply.position as usize
 }
 
-// Writes the line of a word.
-fn put_ask(
-    s: &State,
-    plan: Plan,
-    w: Window,
+// A word that was asked for: the letter and the kind of its line, and what its request came to.
+struct Asked {
     letter: u8,
     kind: usize,
     word: u32,
     reply: Reply,
-    out: &mut [u8],
-    at: usize,
-) -> usize
+}
+
+// Writes the line of a word.
+fn put_ask(s: &State, plan: Plan, w: Window, asked: Asked, out: &mut [u8], at: usize) -> usize
     requires { ⌜ StateIn plan w (now s) × (at + 384 ≤ length (now out)) ⌝ }
-    ensures { λ r. ⌜ Lines (askLine letter kind word (readIn plan (now (s .entry))) reply) (now (out .entry)) (now (out .exit)) at r 384 ⌝ }
+    ensures { λ r. ⌜ Lines (askLine (asked .letter) (asked .kind) (asked .word) (readIn plan (now (s .entry))) (asked .reply))
+        (now (out .entry)) (now (out .exit)) at r 384 ⌝ }
 {
-    let c = word_of(kind, word);
-    let p = place_of(w, reply);
-    let a = answer_of(letter, reply.number as usize, reply.position as usize);
-    put_answer(s, plan, w, a, c, c.first, p, out, at)
+    let reply = asked.reply;
+    let call = word_of(asked.kind, asked.word);
+    let position = place_of(w, reply);
+    let said = answer_of(asked.letter, reply.number as usize, reply.position as usize);
+    let line = Line {
+        said,
+        call,
+        flow: call.first,
+        position,
+    };
+    put_answer(s, plan, w, line, out, at)
 }
 
 // The letter of a request's answer.
@@ -105,7 +111,13 @@ pub(crate) fn ask(
         (now (out .entry)) (now (out .exit)) at r ⌝ }
 {
     let reply = reply_to(s, plan, w, word);
-    put_ask(s, plan, w, letter_of(reply), 1, word, reply, out, at)
+    let asked = Asked {
+        letter: letter_of(reply),
+        kind: 1,
+        word,
+        reply,
+    };
+    put_ask(s, plan, w, asked, out, at)
 }
 
 // One of the first words of a burst.
@@ -122,7 +134,13 @@ pub(crate) fn ask_in_burst(
         (now (out .entry)) (now (out .exit)) at r ⌝ }
 {
     let reply = reply_to(s, plan, w, word);
-    put_ask(s, plan, w, b'B', 6, word, reply, out, at)
+    let asked = Asked {
+        letter: b'B',
+        kind: 6,
+        word,
+        reply,
+    };
+    put_ask(s, plan, w, asked, out, at)
 }
 
 // A word of a burst that is not looked at.
@@ -142,5 +160,11 @@ pub(crate) fn ask_past_burst(
         number: 255,
         position: 255,
     };
-    put_ask(s, plan, w, b'B', 6, word, reply, out, at)
+    let asked = Asked {
+        letter: b'B',
+        kind: 6,
+        word,
+        reply,
+    };
+    put_ask(s, plan, w, asked, out, at)
 }

@@ -5,6 +5,7 @@ ghost use Rattle.link.specs.Given.{StateIn};
 ghost use Rattle.link.specs.Steps.{readIn};
 ghost use Rattle.trace.specs.Trace.{tracedCredit};
 ghost use Rattle.trace.specs.Written.{Told};
+use crate::told::Line;
 use crate::told::answer_of;
 use crate::told::call_of;
 use crate::told::put_answer;
@@ -27,30 +28,21 @@ pub(crate) fn give(
         (now (out .entry)) (now (out .exit)) at r ⌝ }
 {
     let number = credit(s, plan, w, flow, position);
-    let c = call_of(2, flow, position);
+    let call = call_of(2, flow, position);
     if number != 0 {
-        let cp = w.current;
-        return put_answer(
-            s,
-            plan,
-            w,
-            answer_of(b'R', number as usize, 0),
-            c,
+        let refused = Line {
+            said: answer_of(b'R', number as usize, 0),
+            call,
             flow,
-            cp,
-            out,
-            at,
-        );
+            position: w.current,
+        };
+        return put_answer(s, plan, w, refused, out, at);
     }
-    put_answer(
-        s,
-        plan,
-        w,
-        answer_of(b'C', 0, 0),
-        c,
+    let taken = Line {
+        said: answer_of(b'C', 0, 0),
+        call,
         flow,
         position,
-        out,
-        at,
-    )
+    };
+    put_answer(s, plan, w, taken, out, at)
 }

@@ -8,6 +8,7 @@ ghost use Rattle.trace.specs.Written.{Told};
 ghost use mathlib.Core.Path.{_≡_};
 ghost use mathlib.Core.Bool.{cond};
 ghost use lib.Dec.{eqb};
+use crate::told::Line;
 use crate::told::Said;
 use crate::told::call_of;
 use crate::told::put_answer;
@@ -40,8 +41,12 @@ pub(crate) fn hand_on(
         (now (out .entry)) (now (out .exit)) at r ⌝ }
 {
     let answer = lend(s, plan, w, mask);
-    let a = spoken(answer);
-    let i = lent_to(a, plan.count);
-    let cp = w.current;
-    put_answer(s, plan, w, a, call_of(4, mask as usize, 0), i, cp, out, at)
+    let said = spoken(answer);
+    let line = Line {
+        said,
+        flow: lent_to(said, plan.count),
+        call: call_of(4, mask as usize, 0),
+        position: w.current,
+    };
+    put_answer(s, plan, w, line, out, at)
 }

@@ -5,6 +5,7 @@ ghost use Rattle.link.specs.Given.{StateIn};
 ghost use Rattle.link.specs.Steps.{readIn};
 ghost use Rattle.trace.specs.Trace.{tracedReset};
 ghost use Rattle.trace.specs.Written.{Told};
+use crate::told::Line;
 use crate::told::call_of;
 use crate::told::put_answer;
 use crate::told::put_flows;
@@ -20,10 +21,15 @@ pub(crate) fn renew(s: &mut State, plan: Plan, w: Window, out: &mut [u8], at: us
         (now (out .entry)) (now (out .exit)) at r ⌝ }
 {
     let answer = reset(s, plan, w);
-    let a = spoken(answer);
-    let cp = w.current;
-    let next = put_answer(s, plan, w, a, call_of(5, 0, 0), plan.count, cp, out, at);
-    if a.number != 0 {
+    let said = spoken(answer);
+    let line = Line {
+        said,
+        call: call_of(5, 0, 0),
+        flow: plan.count,
+        position: w.current,
+    };
+    let next = put_answer(s, plan, w, line, out, at);
+    if said.number != 0 {
         return next;
     }
     put_flows(s, plan, w, out, next)

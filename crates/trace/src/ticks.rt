@@ -6,6 +6,7 @@ ghost use Rattle.link.specs.Steps.{readIn};
 ghost use Rattle.trace.specs.Trace.{tickLine, tracedTick};
 ghost use Rattle.trace.specs.Written.{Lines, Told};
 use crate::Reached;
+use crate::told::Line;
 use crate::told::answer_of;
 use crate::told::byte_at;
 use crate::told::call_of;
@@ -22,19 +23,14 @@ fn put_tick(s: &State, plan: Plan, w: Window, change: usize, out: &mut [u8], at:
     requires { ⌜ StateIn plan w (now s) × (at + 384 ≤ length (now out)) ⌝ }
     ensures { λ r. ⌜ Lines (tickLine (readIn plan (now (s .entry))) change) (now (out .entry)) (now (out .exit)) at r 384 ⌝ }
 {
-    let cp = w.current;
-    let owner = byte_at(s, OWNERS + cp);
-    put_answer(
-        s,
-        plan,
-        w,
-        answer_of(b'T', 0, owner),
-        call_of(3, change, 0),
-        plan.count,
-        cp,
-        out,
-        at,
-    )
+    let owner = byte_at(s, OWNERS + w.current);
+    let line = Line {
+        said: answer_of(b'T', 0, owner),
+        call: call_of(3, change, 0),
+        flow: plan.count,
+        position: w.current,
+    };
+    put_answer(s, plan, w, line, out, at)
 }
 
 pub(crate) fn turn(s: &mut State, plan: Plan, w: Window, out: &mut [u8], at: usize) -> Reached

@@ -57,6 +57,14 @@ pub(crate) fn answer_of(letter: u8, number: usize, value: usize) -> Said
     }
 }
 
+// What an answer's line has: the answer, the call, and the flow and the position that it is about.
+pub(crate) struct Line {
+    pub(crate) said: Said,
+    pub(crate) call: Named,
+    pub(crate) flow: usize,
+    pub(crate) position: usize,
+}
+
 // An answer, as it is said.
 pub(crate) fn spoken(answer: Answer) -> Said
     ensures { λ r. ⌜ r ≡ saidFor answer ⌝ }
@@ -138,50 +146,47 @@ fn part_of(s: &State, w: Window, i: usize, p: usize) -> Part
     }
 }
 
-// Writes the line of an answer that is about flow i, if the plan has it, and position p.
+// Writes the line of an answer, with the flow that it is about if the plan has it.
 pub(crate) fn put_answer(
     s: &State,
     plan: Plan,
     w: Window,
-    a: Said,
-    c: Named,
-    i: usize,
-    p: usize,
+    line: Line,
     out: &mut [u8],
     at: usize,
 ) -> usize
-    requires { ⌜ Tellable plan w (now s) p (now out) at ⌝ }
-    ensures { λ r. ⌜ Lines (answered (a .letter) (a .number) (a .value) (namedNumbers c)
-        (readIn plan (now (s .entry))) i p) (now (out .entry)) (now (out .exit)) at r 384 ⌝ }
+    requires { ⌜ Tellable plan w (now s) (line .position) (now out) at ⌝ }
+    ensures { λ r. ⌜ Lines (answered (line .said .letter) (line .said .number) (line .said .value) (namedNumbers (line .call))
+        (readIn plan (now (s .entry))) (line .flow) (line .position)) (now (out .entry)) (now (out .exit)) at r 384 ⌝ }
 {
-    let cp = w.current;
+    let a = line.said;
     let mark = byte_at(s, MARK);
     let turn = byte_at(s, TURN);
-    if plan.count <= i {
+    if plan.count <= line.flow {
         let short = [
             a.number,
             a.value,
-            c.kind,
-            c.first,
-            c.second,
-            c.third,
-            c.fourth,
-            cp,
+            line.call.kind,
+            line.call.first,
+            line.call.second,
+            line.call.third,
+            line.call.fourth,
+            w.current,
             mark,
             turn,
         ];
         return put_line(a.letter, &short, out, at);
     }
-    let f = part_of(s, w, i, p);
+    let f = part_of(s, w, line.flow, line.position);
     let long = [
         a.number,
         a.value,
-        c.kind,
-        c.first,
-        c.second,
-        c.third,
-        c.fourth,
-        cp,
+        line.call.kind,
+        line.call.first,
+        line.call.second,
+        line.call.third,
+        line.call.fourth,
+        w.current,
         mark,
         turn,
         f.frame,
@@ -232,16 +237,11 @@ pub fn write_burst(
     requires { ⌜ StateIn plan w (now s) × (at + 384 ≤ length (now out)) ⌝ }
     ensures { λ r. ⌜ Lines (burstLine (readIn plan (now (s .entry))) count) (now (out .entry)) (now (out .exit)) at r 384 ⌝ }
 {
-    let cp = w.current;
-    put_answer(
-        s,
-        plan,
-        w,
-        answer_of(b'W', 0, 0),
-        call_of(6, count, 0),
-        plan.count,
-        cp,
-        out,
-        at,
-    )
+    let line = Line {
+        said: answer_of(b'W', 0, 0),
+        call: call_of(6, count, 0),
+        flow: plan.count,
+        position: w.current,
+    };
+    put_answer(s, plan, w, line, out, at)
 }

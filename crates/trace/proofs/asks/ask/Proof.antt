@@ -36,7 +36,7 @@ returns c =
       link-is = went .link-is;
       hand = still-in (start d .pre .0) went (request-current _ _);
       lines-are =
-          lines-as (λ k. askLine ((put .before .before .letter-of .ensures ∙ ap (λ (r : Reply). replyLetter (r .number)) (went .answer-is)) k) 1 (start d .args .word) (went .link-is k) (went .answer-is k)) (omega arith) (put .put-ask .ensures);
+          lines-as (λ k. askLine ((put .before .before .before .letter-of .ensures ∙ ap (λ (r : Reply). replyLetter (r .number)) (went .answer-is)) k) 1 (start d .args .word) (went .link-is k) (went .answer-is k)) (omega arith) (put .put-ask .ensures);
     }
 
 pub ask-spec : {M : Type 1} → statement M

@@ -29,7 +29,7 @@ answer-of-requires c κs = search needs
 put-answer-requires : tie.Need-put-answer-requires
 put-answer-requires c κs =
     let p = c .before .before .before .before in
-    let s = p .before .before .before in
+    let s = p .before .before .before .before in
     record { hand = s .pre .0; position = p .place-of .ensures .0; fits = s .pre .1 }
 
 same-length : tie.Need-same-length
@@ -42,10 +42,10 @@ returns c =
     let a = put .before .before in
     let p = a .before .before .before in
     let w = p .before in
-    let s = w .before .before in
+    let s = w .before .before .before in
     let o = s .pre .0 in
     let word = w .word-of .ensures in
-    let place = p .place-of .ensures .1 ∙ ap (λ q. cond (eqb (s .args .reply .number) 0) (s .args .reply .position) q) (current-told o) in
+    let place = p .place-of .ensures .1 ∙ ap (λ q. cond (eqb (s .args .asked .reply .number) 0) (s .args .asked .reply .position) q) (current-told o) in
     lines-as (answered-as _ (a .answer-of .ensures) word (ap (λ (n : Named). n .first) word) place) (omega arith) (put .put-answer .ensures)
 
 pub put-ask-spec : {M : Type 1} → statement M

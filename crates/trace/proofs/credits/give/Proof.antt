@@ -38,8 +38,8 @@ returns : tie.Need-returns
 unfolding tracedCredit creditLine
 returns c =
     let put = c .before .before in
-    let a = put .before .before in
-    let t = a .before .before in
+    let a = put .before .before .before in
+    let t = a .before in
     let k = t .before .before in
     let s = start k in
     let went = k .credit .ensures in
@@ -78,8 +78,8 @@ returns-2 : tie.Need-returns-2
 unfolding tracedCredit creditLine
 returns-2 c =
     let put = c .before .before in
-    let a = put .before .before in
-    let t = a .before .before in
+    let a = put .before .before .before in
+    let t = a .before in
     let k = t .before .before in
     let s = start k in
     let went = k .credit .ensures in

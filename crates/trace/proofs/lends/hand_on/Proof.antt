@@ -38,8 +38,8 @@ returns : tie.Need-returns
 unfolding tracedLend lendLine
 returns c =
     let put = c .before .before in
-    let call = put .before .before in
-    let to = call .before .before in
+    let call = put .before .before .before in
+    let to = call .before in
     let sp = to .before in
     let d = sp .before in
     let went = d .lend .ensures in

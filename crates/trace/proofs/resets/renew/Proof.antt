@@ -33,8 +33,8 @@ returns : tie.Need-returns
 unfolding tracedReset
 returns c =
     let put = c .before .before .before .before in
-    let call = put .before .before in
-    let sp = call .before .before in
+    let call = put .before .before .before in
+    let sp = call .before in
     let d = sp .before in
     let went = d .reset .ensures in
     let o = still-in (start d .pre .0) (d .reset .ensures) (reset-current _) in
@@ -64,8 +64,8 @@ returns-2 c =
     let flows = c .before .before in
     let e = flows .before .before .before in
     let put = e .before .before .before .before in
-    let call = put .before .before in
-    let sp = call .before .before in
+    let call = put .before .before .before in
+    let sp = call .before in
     let d = sp .before in
     let went = d .reset .ensures in
     let o = still-in (start d .pre .0) (d .reset .ensures) (reset-current _) in

@@ -12,10 +12,10 @@ use Rattle.trace.proofs.ticks.put_tick.Statement.{statement}
 use Rattle.trace.proofs.ticks.put_tick.Tie as tie
 
 add-byte-at : tie.Need-add-byte-at
-add-byte-at c = omega (arith, current-few (c .before .pre .0 .proper))
+add-byte-at c = omega (arith, current-few (c .before .before .pre .0 .proper))
 
 byte-at-requires : tie.Need-byte-at-requires
-byte-at-requires c κs = omega (arith, current-few (c .before .pre .0 .proper))
+byte-at-requires c κs = omega (arith, current-few (c .before .before .pre .0 .proper))
 
 answer-of-requires : tie.Need-answer-of-requires
 answer-of-requires c κs = search needs
@@ -25,7 +25,7 @@ call-of-requires c κs = search needs
 
 put-answer-requires : tie.Need-put-answer-requires
 put-answer-requires c κs =
-    let s = c .before .before .before .before .before in
+    let s = c .before .before .before .before .before .before in
     record { hand = s .pre .0; position = current-few (s .pre .0 .proper); fits = s .pre .1 }
 
 same-length : tie.Need-same-length
@@ -37,7 +37,7 @@ returns c =
     let put = c .before .before in
     let call = put .before .before in
     let a = call .before in
-    let s = a .before .before .before in
+    let s = a .before .before .before .before in
     let o = s .pre .0 in
     let m = readIn (s .args .plan) (s .args .s .now) in
     let owner = a .before .byte-at .ensures ∙ owner-told o _ (current-few (o .proper)) ∙ ap (λ q. storedOwner (model.owner m q)) (current-told o) in
