@@ -1,9 +1,11 @@
 """The verdict on a listing: demand 3, prompt and soon, and which credits are
-taken, checked from it and its call file alone.
+taken, lends answered and resets granted, checked from it and its call file
+alone.
 
-The check follows rules 21.2 to 21.10, 22.2 to 22.5 and 22.12.  It shares no
-code with the simulator and keeps no table of the link: it writes down which
-slots the listing grants or lends and which credits it takes, and counts them.
+The check follows rules 21.2 to 21.10, 22.2 to 22.5, 22.12 and 22.14.  It
+shares no code with the simulator and keeps no table of the link: it writes
+down which slots the listing grants or lends and which credits it takes, and
+counts them.
 """
 
 import re

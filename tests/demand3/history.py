@@ -281,11 +281,35 @@ class History:
         self.verdict.credits += 1
         self.move(flow, self.slot_after_now(position), -1)
 
+    def check_answered(self, mask, letter):
+        """A lend is answered with a flow exactly if some flow of the mask can
+        take the slot (rule 22.14)."""
+        able = not mask >> self.flows and not self.taken() and (
+            self.waiting(mask))
+        if letter != "L" and able:
+            self.fault("the lend of mask %#x is refused, though flow %d can "
+                       "take the slot" % (mask, able[0]))
+        if letter == "L" and not able:
+            self.fault("the lend of mask %#x is answered, though no flow can "
+                       "take the slot" % mask)
+
+    def check_granted(self, letter):
+        """A reset is granted exactly if no slot to come is booked and nothing
+        is held from now on (rule 22.14)."""
+        rests = max(self.owner, default=0) <= self.now and not any(
+            level for flow in range(self.flows)
+            for _, level in self.levels(flow))
+        if rests and letter != "Z":
+            self.fault("the reset is refused, though all is at rest")
+        if not rests and letter == "Z":
+            self.fault("the reset is granted, though not all is at rest")
+
     def lend(self, record, letter, number):
         """A lent slot counts in what is held, and in no count of grants."""
         mask = struct.unpack_from("<H", record, 1)[0]
         self.verdict.lends[
             lend_ways.way(self, mask, letter, number)] += 1
+        self.check_answered(mask, letter)
         if letter != "L":
             return
         flow = int(number)
@@ -301,6 +325,7 @@ class History:
     def reset(self, record, letter, number):
         """Counts begin afresh; owners, and what is held, stay."""
         self.verdict.resets[reset_ways.way(self, letter, number)] += 1
+        self.check_granted(letter)
         if letter == "Z":
             self.renewed = self.now
             self.turns.begin()

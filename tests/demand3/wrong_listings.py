@@ -7,8 +7,8 @@ rules 21.5 to 21.8.
 """
 
 from demand3 import (
-    wrong_bursts, wrong_credits, wrong_delays, wrong_departures, wrong_lends,
-    wrong_numbers, wrong_resets, wrong_turns)
+    wrong_answers, wrong_bursts, wrong_credits, wrong_delays,
+    wrong_departures, wrong_lends, wrong_numbers, wrong_resets, wrong_turns)
 from demand3.check import ALLCALLS, check
 from edges.edge_maker import TICK, ask, credit, edge, plan
 
@@ -118,6 +118,19 @@ def credits():
         yield right.name, ended(right, ways)
 
 
+def answers():
+    """The same for listings that only the rule on lends and resets tells
+    apart."""
+    for wrong, words in wrong_answers.WRONG:
+        faults = check(wrong.data, wrong.lines, ALLCALLS).faults
+        others = [fault for fault in faults
+                  if not fault.endswith(("take the slot", "at rest"))]
+        yield wrong.name, (sent_back(wrong, words, ALLCALLS)
+                           or others and "demand 3: %s" % others)
+    for right in wrong_answers.RIGHT:
+        yield right.name, passed(right, {}, ALLCALLS)
+
+
 def delays():
     """The same for listings that only prompt and soon tell apart."""
     for wrong, words in wrong_delays.WRONG + wrong_delays.ALLCALLS_WRONG:
@@ -134,6 +147,7 @@ def missed():
     """(name, what went wrong or None) for each listing."""
     yield from delays()
     yield from credits()
+    yield from answers()
     for wrong, words in WRONG:
         yield wrong.name, sent_back(wrong, words)
     cut = check(RIGHT.data, RIGHT.lines[:-1]).faults

@@ -56,8 +56,15 @@ SHOWN = [
 AHEAD = [
     (ask(0, departure=3), "G 4"), IDLE, IDLE, (ask(0, departure=5), "G 0"),
     IDLE, (TICK, "T 0")]
+# Rule 22.15: F = 2, W = 2, share 1.  The tile is due in slot 0, comes up on
+# link 1 in slot 1, and on link 2 in slot 2; in slot 6 it has to be up.
+SIX_SLOTS = [(ask(0), "G 1"), (TICK, "T 0"), (credit(0, 2), "C"), *[IDLE] * 5]
 IN_TIME = [
     ATTAINED,
+    ByHand("a tile arrives",
+           [(plan(2, 2, (1, 2)), *SIX_SLOTS),
+            (plan(2, 2, (1, 2)), IDLE, (ask(0, departure=1), "G 2"),
+             (TICK, "T 0"), *[IDLE] * 4)]),
     ByHand("three shares of cells where words run ahead by a frame",
            [(plan(2, 3, (1, 3)), *AHEAD, (ask(0, departure=1), "G 2"))]),
     ByHand("three shares of cells where tiles are shown first",
@@ -131,6 +138,10 @@ WRONG = [
     ByHand("a tile that is not asked for",
            [(NEIGHBOURS, *FIRST_LINK), (NEIGHBOURS, *SECOND_LINK)],
            "link 2: 2 tiles came, and 1 were asked for"),
+    ByHand("a second link that never asks",
+           [(plan(2, 2, (1, 2)), *SIX_SLOTS),
+            (plan(2, 2, (1, 2)), *[IDLE] * 6)],
+           "link 2: 1 tiles have to be up, and 0 are"),
     ByHand("a departure that is not the tile's slot",
            [(NEIGHBOURS, *FIRST_LINK),
             (NEIGHBOURS, *SECOND_LINK, (ask(0, departure=2), "G 7"))],

@@ -1,5 +1,5 @@
-"""The verdict on a way: rules 22.6 to 22.8 and 22.10, checked from the call
-files and the listings of its links alone.
+"""The verdict on a way: rules 22.6 to 22.8, 22.10 and 22.15, checked from the
+call files and the listings of its links alone.
 
 Each tile has to be granted on each link, on link number j at the latest j
 frames after the one in which it was due on the first, and fewer than
@@ -56,6 +56,17 @@ def late_faults(place, first, board):
                     place, number, tile.slot - start.due, frames)
 
 
+def missing_faults(place, first, board):
+    """Rule 22.15: each tile that is granted on the first link has come up on
+    link number j once (j + 1) x F slots are over since it was due."""
+    up = [tile for tile in board.sent() if tile.slot < board.now]
+    over = [tile for tile in first.sent()
+            if tile.due + (place + 1) * board.frame_slots <= board.now]
+    if len(up) < len(over):
+        yield "link %d: %d tiles have to be up, and %d are" % (
+            place, len(over), len(up))
+
+
 def longest(verdict, came, burst, last):
     """The slots from a tile's coming to its arrival, with a burst: rule
     22.10."""
@@ -77,6 +88,7 @@ def judge(flows, runs, came=(), burst=0):
     for place, board in enumerate(boards, 1):
         verdict.faults += request_faults(place, board)
         verdict.faults += late_faults(place, first, board)
+        verdict.faults += missing_faults(place, first, board)
         verdict.ahead += sum(tile.due > tile.asked for tile in board.tiles)
     for place, pair in enumerate(zip(boards, boards[1:]), 2):
         verdict.faults += passing_faults(place, *pair)

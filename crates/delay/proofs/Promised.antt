@@ -1,19 +1,22 @@
 -- On the paper's card a stream can count on the numbers of `bounds`. Assumes nothing.
-use Prim.Native.Nat.{ℕ, _+_, _*_}
+use Prim.Native.Nat.{ℕ, _+_, _*_, _≤_}
 use mathlib.Core.Path.{_≡_, refl, ap, _∙_}
 use mathlib.Core.List.{List, _∷_, []}
 use native.Mathlib.Omega.{arith}
 use lib.ListN.{length}
+use Rattle.model.specs.History.{ticks}
 use Rattle.model.specs.Card.{Card, paper}
-use Rattle.model.specs.SeveralLinks.{Board, planOn}
-use Rattle.model.specs.LinksOnArrival.{WayOnArrival}
-use Rattle.model.specs.Source.{burstFrames, CameWithin, EachCameWithin, InTimeFromSource}
-use Rattle.model.specs.CreditedByNext.{WayByCredits}
-use Rattle.model.proofs.SharesOfCells.{two-shares, three-shares}
-use Rattle.model.proofs.FromSource.{from-source-on-arrival}
-use Rattle.model.proofs.CreditedByNext.{from-source-by-credits}
+use Rattle.arrival.specs.SeveralLinks.{Board, planOn}
+use Rattle.arrival.specs.LinksOnArrival.{WayOnArrival}
+use Rattle.arrival.specs.Source.{burstFrames, CameWithin, EachCameWithin, InTimeFromSource}
+use Rattle.arrival.specs.CreditedByNext.{WayByCredits}
+use Rattle.arrival.specs.AllArrive.{Up, UpAlong, AllUpFromSource}
+use Rattle.arrival.proofs.SharesOfCells.{two-shares, three-shares}
+use Rattle.arrival.proofs.FromSource.{from-source-on-arrival}
+use Rattle.arrival.proofs.CreditedByNext.{from-source-by-credits}
+use Rattle.arrival.proofs.AllArrive.{all-from-source-on-arrival, all-from-source-by-credits}
 use Rattle.delay.specs.Bounds.{framesIn}
-use Rattle.delay.specs.Promised.{lastBoard, shareOn, InBounds, BoundIs, BoundByCredits, CellsSuffice, ShownSuffice}
+use Rattle.delay.specs.Promised.{lastBoard, shareOn, InBounds, BoundIs, BoundByCredits, UpInBounds, UpIs, UpByCredits, CellsSuffice, ShownSuffice}
 
 -- the last of the boards
 last-within : {c : Card} (k : ℕ) (comes : ℕ → ℕ) (a : Board c) (rest : List (Board c)) → EachCameWithin k comes (a ∷ rest)
@@ -45,6 +48,34 @@ bound-is late a rest way keeps = in-bounds a rest (same-on-arrival a rest way) (
 
 pub bound-by-credits : BoundByCredits paper
 bound-by-credits late a rest way modest = in-bounds a rest (same-by-credits late a rest way) (from-source-by-credits late a rest way modest)
+
+-- ---- every tile has come up
+
+pub last-up : {c : Card} (n x k : ℕ) (a : Board c) (rest : List (Board c)) → UpAlong n x k (a ∷ rest)
+    → x + (k + length rest + 1) * planOn (lastBoard a rest) .slots ≤ ticks (lastBoard a rest .events) → Up n (lastBoard a rest)
+last-up n x k a [] up over =
+    let none-more : k + 0 ≡ k = omega arith in
+    let same = ap (λ j. (j + 1) * planOn a .slots) none-more in
+    up .0 (omega (arith, same))
+last-up n x k a (b ∷ rest) up over =
+    let frames : k + length (b ∷ rest) ≡ k + 1 + length rest = omega arith in
+    let same = ap (λ j. (j + 1) * planOn (lastBoard b rest) .slots) frames in
+    last-up n x (k + 1) b rest (up .1) (omega (arith, same))
+
+up-in-bounds : (a : Board paper) (rest : List (Board paper)) → planOn a .slots ≡ planOn (lastBoard a rest) .slots → AllUpFromSource a rest → UpInBounds a rest
+up-in-bounds a rest same all burst comes asks source bursts so on n x came over =
+    let cost = burstFrames (shareOn a) burst in
+    let frames : framesIn (length (a ∷ rest)) (shareOn a) burst ≡ cost + 1 + length rest + 1 = omega arith in
+    let slots = ap (λ k. k * planOn a .slots) frames ∙ ap (λ F. (cost + 1 + length rest + 1) * F) same in
+    last-up n x (cost + 1) a rest (all burst comes asks source bursts so on n x came) (omega (arith, slots, over))
+
+pub up-is : UpIs paper
+up-is late a rest way asked keeps = up-in-bounds a rest (same-on-arrival a rest way) (all-from-source-on-arrival late a rest way asked keeps)
+
+pub up-by-credits : UpByCredits paper
+up-by-credits late a rest way asked modest = up-in-bounds a rest (same-by-credits late a rest way) (all-from-source-by-credits late a rest way asked modest)
+
+-- ---- the cells
 
 pub cells-are : CellsSuffice paper
 cells-are bytes passes calls i known F m burst enough x =

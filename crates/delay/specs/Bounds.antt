@@ -7,7 +7,7 @@ use lib.Dec.{ltb, eqb}
 use Rattle.model.specs.Tables.{within}
 use Rattle.model.specs.Refusals.{firstOf, _when_}
 use Rattle.model.specs.Calls.{Answer, accepted, refused}
-use Rattle.model.specs.Source.{burstFrames}
+use Rattle.arrival.specs.Source.{burstFrames}
 use Rattle.delay.specs.declared.Delayed.{Delayed}
 use Rattle.delay.specs.declared.Delayed.the-variants.{Within, Refused, NoQuestion}
 

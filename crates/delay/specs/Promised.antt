@@ -1,6 +1,6 @@
 -- What the numbers of `bounds` say of streams on a card: the slots in which a tile arrives over several links, and the cells that keep each request
 -- granted. Of calls and answers alone, as the model's promises are. Assumes nothing.
-use Prim.Native.Nat.{ℕ, _+_, _≤_, _<_}
+use Prim.Native.Nat.{ℕ, _+_, _/_, _≤_, _<_}
 use mathlib.Core.Path.{_≡_}
 use mathlib.Core.List.{List, _∷_, []}
 use mathlib.Core.Bool.{true}
@@ -9,14 +9,15 @@ use Rattle.model.specs.Tables.{tally}
 use Rattle.model.specs.Word.{flowOf}
 use Rattle.model.specs.Plan.{Plan, entry, flowCount, planOf, refusal}
 use Rattle.model.specs.Calls.{Call, History}
-use Rattle.model.specs.History.{frameOf, wellFormed, renews, lends, ofFlow}
+use Rattle.model.specs.History.{ticks, frameOf, wellFormed, renews, lends, ofFlow}
 use Rattle.model.specs.Claim.{Each, AtRequest}
 use Rattle.model.specs.Card.{Card, run}
-use Rattle.model.specs.SeveralLinks.{tile, Board, planOn, sentOn}
-use Rattle.model.specs.SharesOfCells.{AsksWithinShare, KeepsShares, EachGrantedNow}
-use Rattle.model.specs.LinksOnArrival.{WayOnArrival}
-use Rattle.model.specs.Source.{upToFrame, Source, Bursts, AsksAs}
-use Rattle.model.specs.CreditedByNext.{WayByCredits, ModestFirst}
+use Rattle.arrival.specs.SeveralLinks.{tile, Board, planOn, sentOn}
+use Rattle.arrival.specs.SharesOfCells.{AsksWithinShare, KeepsShares, EachGrantedNow}
+use Rattle.arrival.specs.LinksOnArrival.{WayOnArrival}
+use Rattle.arrival.specs.Source.{upToFrame, Source, Bursts, AsksAs}
+use Rattle.arrival.specs.CreditedByNext.{WayByCredits, ModestFirst}
+use Rattle.arrival.specs.AllArrive.{AllAskedAlong, Up, AsksOn}
 use Rattle.delay.specs.Bounds.{Bounds, bounds}
 
 -- ---- the slots
@@ -48,6 +49,24 @@ BoundIs c =
 abbrev pub BoundByCredits : Card → Type 0
 BoundByCredits c =
     (late : ℕ) (a : Board c) (rest : List (Board c)) → WayByCredits late a rest → ModestFirst (planOn a) (a .stream) (a .events) → InBounds a rest
+
+-- RULES 22.15: where each tile is asked for on the next board, and the source goes on asking, it has come up there once those slots are over.
+abbrev pub UpInBounds : {c : Card} → Board c → List (Board c) → Type 0
+UpInBounds a rest =
+    (burst : ℕ) (comes asks : ℕ → ℕ) → Source (shareOn a) comes asks → Bursts (shareOn a) burst comes → AsksAs asks (planOn a) (a .stream) (a .events)
+    → AsksOn asks (planOn a) (a .stream) (a .events) → (n x : ℕ) → n < upToFrame comes (x / planOn a .slots)
+    → x + bounds (planOn a .slots) (length (a ∷ rest)) (shareOn a) burst .slots < ticks (lastBoard a rest .events) → Up n (lastBoard a rest)
+
+-- That the paper's card keeps both is `up-is` and `up-by-credits`, in proofs/Promised.antt.
+abbrev pub UpIs : Card → Type 0
+UpIs c =
+    (late : ℕ) (a : Board c) (rest : List (Board c)) → WayOnArrival a rest → AllAskedAlong a rest → KeepsShares late 0 (planOn a) (a .stream) (a .events)
+    → UpInBounds a rest
+
+abbrev pub UpByCredits : Card → Type 0
+UpByCredits c =
+    (late : ℕ) (a : Board c) (rest : List (Board c)) → WayByCredits late a rest → AllAskedAlong a rest → ModestFirst (planOn a) (a .stream) (a .events)
+    → UpInBounds a rest
 
 -- ---- the cells
 

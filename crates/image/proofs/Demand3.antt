@@ -2,26 +2,16 @@
 use Prim.Native.Nat.{ℕ, _<_}
 use mathlib.Core.Path.{_≡_, sym, ap₂, subst}
 use mathlib.Core.List.{List, _∷_, [], _++_}
-use Rattle.model.specs.Plan.{flowCount, planOf}
+use Rattle.model.specs.Plan.{flowCount, planOf, refusal}
 use Rattle.model.specs.Calls.{Call, History}
-use Rattle.model.specs.Claim.{Each, ReadyAt, Demand3}
+use Rattle.model.specs.Claim.{Demand3}
 use Rattle.model.specs.Fairness.{FairOn}
 use Rattle.model.specs.QuantumNumbers.{InOrder}
-use Rattle.model.specs.Tables.{tally}
-use Rattle.model.specs.History.{renews}
-use Rattle.model.specs.Card.{paper}
-use Rattle.model.specs.SeveralLinks.{Board}
-use Rattle.model.specs.EnoughCells.{GivesBack, GivesBackAtOnce}
-use Rattle.model.specs.SharesOfCells.{KeepsShares, EachGrantedNow}
-use Rattle.model.specs.SharesAhead.{KeepsSharesAhead, EachGrantedInTime}
-use Rattle.model.specs.BooksInOrder.{AfterThoseAt}
-use Rattle.model.specs.TakenCredits.{CreditTakenAt}
-use Rattle.model.specs.Delay.{FitsNewest, PromptOn, RoomFrom, AsksAt, TimelyInOrder, SoonOn, SoonOnArrivalOn}
+use Rattle.model.specs.Card.{paper, run}
 use Rattle.images.specs.Taken.{refusalOf}
 use Rattle.images.specs.Exports.{Called, HandsBack, calledOn}
 use Rattle.images.specs.Chain.{eventOf, imageIn, Chain, starts, goes-on}
-use Rattle.images.proofs.Chain.{chain-taken, chain-meets, chain-fair, chain-numbers, chain-credits-taken, chain-prompt, chain-soon-ahead, chain-soon}
-use Rattle.images.proofs.Chain.{chain-enough-cells, chain-enough-at-once, chain-shares-of-cells, chain-shares-in-order, chain-shares-ahead, chain-board}
+use Rattle.images.proofs.Chain.{chain-taken, chain-has, chain-meets, chain-fair, chain-numbers}
 use Rattle.image.specs.Hosted.{Hosted, by-fresh, by-request, by-credit, by-tick, by-lend, by-reset}
 
 module _ (plan : List ℕ) where
@@ -61,40 +51,7 @@ module _ (plan : List ℕ) where
   pub host-numbers : {h : History} {b : List ℕ} → Hosted plan h b → (i : ℕ) → i < flowCount (planOf plan) → InOrder (planOf plan) i h
   host-numbers x = chain-numbers plan (chained x .chain)
 
-  -- its credits
-  pub host-credits-taken : {h : History} {b : List ℕ} → Hosted plan h b → Each (CreditTakenAt (planOf plan)) h
-  host-credits-taken x = chain-credits-taken plan (chained x .chain)
-
-  -- its delay
-  pub host-prompt : {h : History} {b : List ℕ} → Hosted plan h b → PromptOn FitsNewest 0 (planOf plan) h
-  host-prompt x = chain-prompt plan (chained x .chain)
-
-  pub host-soon-ahead : {h : History} {b : List ℕ} → Hosted plan h b → (i : ℕ) → i < flowCount (planOf plan) → SoonOn TimelyInOrder 0 (planOf plan) i h
-  host-soon-ahead x = chain-soon-ahead plan (chained x .chain)
-
-  pub host-soon : {h : History} {b : List ℕ} → Hosted plan h b → (i : ℕ) → i < flowCount (planOf plan) → SoonOnArrivalOn (planOf plan) i h
-  host-soon x = chain-soon plan (chained x .chain)
-
-  pub host-enough-cells : {h : History} {b : List ℕ} → Hosted plan h b → (i : ℕ) → i < flowCount (planOf plan)
-      → GivesBack 0 (planOf plan) i h → Each (ReadyAt (planOf plan) i) h
-  host-enough-cells x = chain-enough-cells plan (chained x .chain)
-
-  pub host-enough-at-once : {h : History} {b : List ℕ} → Hosted plan h b → (i : ℕ) → i < flowCount (planOf plan)
-      → GivesBackAtOnce 0 (planOf plan) i h → Each (AsksAt (λ P i w h. RoomFrom P i 0 h) (planOf plan) i) h
-  host-enough-at-once x = chain-enough-at-once plan (chained x .chain)
-
-  pub host-shares-of-cells : (late : ℕ) {h : History} {b : List ℕ} → Hosted plan h b → (i : ℕ) → i < flowCount (planOf plan)
-      → KeepsShares late 0 (planOf plan) i h → EachGrantedNow (planOf plan) i h
-  host-shares-of-cells late x = chain-shares-of-cells plan late (chained x .chain)
-
-  pub host-shares-in-order : (late : ℕ) {h : History} {b : List ℕ} → Hosted plan h b → (i : ℕ) → i < flowCount (planOf plan)
-      → KeepsShares late 0 (planOf plan) i h → Each (AfterThoseAt (planOf plan) i) h
-  host-shares-in-order late x = chain-shares-in-order plan late (chained x .chain)
-
-  pub host-shares-ahead : (ahead late : ℕ) {h : History} {b : List ℕ} → Hosted plan h b → (i : ℕ) → i < flowCount (planOf plan)
-      → KeepsSharesAhead ahead late 0 (planOf plan) i h → EachGrantedInTime (planOf plan) i h
-  host-shares-ahead ahead late x = chain-shares-ahead plan ahead late (chained x .chain)
-
-  -- a board, for what is said of several links
-  pub host-board : {h : History} {b : List ℕ} → Hosted plan h b → tally renews h ≡ 0 → (i : ℕ) → i < flowCount (planOf plan) → Board paper
-  host-board x = chain-board plan (chained x .chain)
+  -- what holds of every run of the paper's card holds of the answers
+  pub host-has : (Q : History → Type 0) → (refusal plan ≡ 0 → (calls : List Call) → Q (run paper (planOf plan) calls .history)) → {h : History} {b : List ℕ}
+      → Hosted plan h b → Q h
+  host-has Q runs x = chain-has plan Q runs (chained x .chain)

@@ -10,27 +10,29 @@ use Rattle.model.specs.Lend.{lend}
 use Rattle.model.specs.History.{ticks, hasCome}
 use Rattle.model.specs.Claim.{EachSince, ReadyAt}
 use Rattle.model.specs.Card.{Played, paper, step, play, started, run}
-use Rattle.model.specs.Delay.{AsksAt}
+use Rattle.arrival.specs.Delay.{AsksAt}
 use Rattle.model.specs.TwoRuns.{Aligned, AsksUntil11, SameFrames}
-use Rattle.model.specs.BooksInOrder.{InTurn, InOrder}
-use Rattle.model.specs.AheadRuns.{WithAhead, GrantsAfter, ResetsAfter, NoneTakenAlone, OfBooked, SendersInTurn, BookedAlike}
-use Rattle.model.specs.Sendings.{Sending, EachReady, SentWell, sendingOf, FirstFirst, LentOnlyAhead, LeaveInOrder, SendersHaveRoom, SendersHaveRoomThere, SendersInTurnThere}
+use Rattle.arrival.specs.BooksInOrder.{InTurn, InOrder}
+use Rattle.ahead.specs.AheadRuns.{WithAhead, GrantsAfter, ResetsAfter, NoneTakenAlone, OfBooked, SendersInTurn, SendersInOrder, BookedAlike}
+use Rattle.ahead.specs.Sendings.{Sending, EachReady, SentWell, sendingOf, FirstFirst, LentOnlyAhead, LeaveInOrder, SendersHaveRoom, SendersHaveRoomThere, SendersInTurnThere}
+use Rattle.ahead.specs.Sendings.{SendersHaveShares}
 use Rattle.model.proofs.CountedBursts.{play-both}
 use Rattle.model.proofs.Demand3.{meets}
 use Rattle.model.proofs.SameFrames.{same-frames}
-use Rattle.model.proofs.Ahead.{taken}
-use Rattle.model.proofs.BooksInOrder.{books-in-order, ready-in-order}
-use Rattle.model.proofs.AheadRuns.{nobody-moves}
-use Rattle.model.proofs.AheadInTurn.{in-turn-nobody-moves}
-use Rattle.model.proofs.Sendings.{sends-well}
-use Rattle.model.proofs.SendsAhead.{sends-ahead}
-use Rattle.model.proofs.AheadInOrder.{ahead-in-order}
-use Rattle.model.proofs.InTurnWithout.{room-without, in-turn-without}
+use Rattle.ahead.proofs.Ahead.{taken}
+use Rattle.arrival.proofs.BooksInOrder.{books-in-order, ready-in-order}
+use Rattle.ahead.proofs.AheadRuns.{nobody-moves}
+use Rattle.ahead.proofs.AheadInTurn.{in-turn-nobody-moves, in-order-nobody-moves}
+use Rattle.ahead.proofs.Sendings.{sends-well}
+use Rattle.ahead.proofs.SendsAhead.{sends-ahead}
+use Rattle.ahead.proofs.AheadInOrder.{ahead-in-order}
+use Rattle.ahead.proofs.AheadByOrder.{sends-by-order, leave-by-order, shares-order-senders}
+use Rattle.ahead.proofs.InTurnWithout.{room-without, in-turn-without}
 use Rattle.images.specs.Exports.{HandsBack, calledOn, creditOn, lendOn}
 use Rattle.images.specs.Chain.{answerOf, imageIn, goes-on}
 use Rattle.images.proofs.Chain.{chain-follows}
 use Rattle.image.specs.Hosted.{Hosted}
-use Rattle.image.proofs.Demand3.{chained}
+use Rattle.image.proofs.Demand3.{chained, host-has}
 
 -- a credit after a lend: their answers, and the events before them
 record Told (a a′ : Receipt) (b b′ : Loan) (h h′ : History) : Type 0 where
@@ -56,10 +58,7 @@ module _ (plan : List ℕ) where
   -- what holds of every run of the paper's card, and of any two
   has : (Q : History → Type 0) → (refusal plan ≡ 0 → (calls : List Call) → Q (run paper P calls .history)) → {h : History} {b : List ℕ}
       → Hosted plan h b → Q h
-  has Q runs x =
-      let made = chained plan x in
-      let f = chain-follows plan (made .chain) in
-      subst Q (sym (f .history-is)) (runs (f .plan-passes) (made .calls))
+  has = host-has plan
 
   both-have : (Q : History → History → Type 0)
       → (refusal plan ≡ 0 → (calls₁ calls₂ : List Call) → Q (run paper P calls₁ .history) (run paper P calls₂ .history))
@@ -100,8 +99,8 @@ module _ (plan : List ℕ) where
   host-ready-in-order = has (λ h. (i : ℕ) → i < flowCount P → EachSince (ReadyAt P i) h → EachSince (AsksAt InTurn P i) h) (ready-in-order plan)
 
   -- never early, never late, never over, one to a slot
-  pub host-sends-well : {h : History} {b : List ℕ} → Hosted plan h b → (x : Sending h) → SentWell P x
-  host-sends-well = has (λ h. (x : Sending h) → SentWell P x) (sends-well paper meets plan)
+  pub host-sends-well : {h : History} {b : List ℕ} → Hosted plan h b → (x : Sending h) → EachReady P x → SentWell P x
+  host-sends-well = has (λ h. (x : Sending h) → EachReady P x → SentWell P x) (sends-well paper meets plan)
 
   -- ---- beside a run without any
 
@@ -144,3 +143,31 @@ module _ (plan : List ℕ) where
       (λ h₁ h₂. (x : WithAhead h₁ h₂) → EachReady P (sendingOf x) → SendersHaveRoom P x → NoneTakenAlone x → (i : ℕ) → FirstFirst P (sendingOf x) i
       → LentOnlyAhead (sendingOf x) i → LeaveInOrder P (sendingOf x) i)
       (ahead-in-order plan)
+
+  -- ---- by slots that are granted in order, and by shares of cells, whether or not there is room
+
+  pub host-in-order-nobody-moves : {h₁ h₂ : History} {b₁ b₂ : List ℕ} → Hosted plan h₁ b₁ → Hosted plan h₂ b₂ → (x : WithAhead h₁ h₂)
+      → OfBooked P x → SendersInOrder P x → NoneTakenAlone x → BookedAlike P x
+  host-in-order-nobody-moves =
+      both-have (λ h₁ h₂. (x : WithAhead h₁ h₂) → OfBooked P x → SendersInOrder P x → NoneTakenAlone x → BookedAlike P x) (in-order-nobody-moves plan)
+
+  pub host-sends-by-order : {h₁ h₂ : History} {b₁ b₂ : List ℕ} → Hosted plan h₁ b₁ → Hosted plan h₂ b₂ → (x : WithAhead h₁ h₂)
+      → EachReady P (sendingOf x) → SendersInOrder P x → NoneTakenAlone x → BookedAlike P x × SentWell P (sendingOf x)
+  host-sends-by-order =
+      both-have
+      (λ h₁ h₂. (x : WithAhead h₁ h₂) → EachReady P (sendingOf x) → SendersInOrder P x → NoneTakenAlone x → BookedAlike P x × SentWell P (sendingOf x))
+      (sends-by-order plan)
+
+  pub host-leave-by-order : {h₁ h₂ : History} {b₁ b₂ : List ℕ} → Hosted plan h₁ b₁ → Hosted plan h₂ b₂ → (x : WithAhead h₁ h₂)
+      → EachReady P (sendingOf x) → SendersInOrder P x → NoneTakenAlone x → (i : ℕ) → FirstFirst P (sendingOf x) i
+      → LentOnlyAhead (sendingOf x) i → LeaveInOrder P (sendingOf x) i
+  host-leave-by-order =
+      both-have
+      (λ h₁ h₂. (x : WithAhead h₁ h₂) → EachReady P (sendingOf x) → SendersInOrder P x → NoneTakenAlone x → (i : ℕ) → FirstFirst P (sendingOf x) i
+      → LentOnlyAhead (sendingOf x) i → LeaveInOrder P (sendingOf x) i)
+      (leave-by-order plan)
+
+  pub host-shares-order-senders : {h₁ h₂ : History} {b₁ b₂ : List ℕ} → Hosted plan h₁ b₁ → Hosted plan h₂ b₂ → (x : WithAhead h₁ h₂)
+      → SendersHaveShares P x → SendersInOrder P x
+  host-shares-order-senders =
+      both-have (λ h₁ h₂. (x : WithAhead h₁ h₂) → SendersHaveShares P x → SendersInOrder P x) (shares-order-senders plan)

@@ -12,33 +12,15 @@ use Rattle.model.specs.Refusals.{Line, _when_, firstOf}
 use Rattle.model.specs.Plan.{flowCount, planOf, refusal}
 use Rattle.model.specs.Calls.{Call, History}
 use Rattle.model.specs.Fresh.{fresh}
-use Rattle.model.specs.Claim.{Each, ReadyAt, Demand3}
+use Rattle.model.specs.Claim.{Demand3}
 use Rattle.model.specs.Fairness.{FairOn}
 use Rattle.model.specs.QuantumNumbers.{InOrder}
-use Rattle.model.specs.Tables.{tally}
-use Rattle.model.specs.History.{renews}
-use Rattle.model.specs.SeveralLinks.{Board}
-use Rattle.model.specs.EnoughCells.{GivesBack, GivesBackAtOnce}
-use Rattle.model.specs.SharesOfCells.{KeepsShares, EachGrantedNow}
-use Rattle.model.specs.SharesAhead.{KeepsSharesAhead, EachGrantedInTime}
-use Rattle.model.specs.BooksInOrder.{AfterThoseAt}
-use Rattle.model.specs.TakenCredits.{CreditTakenAt}
-use Rattle.model.specs.Delay.{FitsNewest, PromptOn, RoomFrom, AsksAt, TimelyInOrder, SoonOn, SoonOnArrivalOn}
 use Rattle.model.specs.Card.{Played, paper, step, play, started, run}
 use Rattle.model.proofs.Tests.{line-passed}
 use Rattle.model.proofs.Plan.{accepted}
 use Rattle.model.proofs.Demand3.{meets}
 use Rattle.model.proofs.Fairness.{fair}
 use Rattle.model.proofs.QuantumNumbers.{numbers-in-order}
-use Rattle.model.proofs.Prompt.{prompt}
-use Rattle.model.proofs.Soon.{soon-ahead}
-use Rattle.model.proofs.SoonOnArrival.{soon}
-use Rattle.model.proofs.EnoughCells.{enough-cells}
-use Rattle.model.proofs.SharesOfCells.{shares-of-cells}
-use Rattle.model.proofs.CellsAtOnce.{enough-at-once}
-use Rattle.model.proofs.SharesInOrder.{shares-in-order}
-use Rattle.model.proofs.SharesAhead.{shares-ahead}
-use Rattle.model.proofs.TakenCredits.{credits-taken}
 use Rattle.images.specs.Image.{imageLength, imageOf, headerField}
 use Rattle.images.specs.Consistent.{Keepable}
 use Rattle.images.specs.Taken.{refusalOf}
@@ -162,7 +144,7 @@ module _ (plan : List ℕ) where
       ap refusalOf (image-and-rest c image (same ∙ f .image-is)) ∙ taken _ .1 (image-taken (kept-after (f .plan-passes) calls) _)
 
   -- what holds of the paper's every run holds of its answers
-  chain-has : (Q : History → Type 0) → (refusal plan ≡ 0 → (calls : List Call) → Q (run paper (planOf plan) calls .history))
+  pub chain-has : (Q : History → Type 0) → (refusal plan ≡ 0 → (calls : List Call) → Q (run paper (planOf plan) calls .history))
       → {calls : List Call} {h : History} {b : List ℕ} → Chain plan calls h b → Q h
   chain-has Q has {calls} ch =
       let f = chain-follows ch in
@@ -181,68 +163,3 @@ module _ (plan : List ℕ) where
   pub chain-numbers : {calls : List Call} {h : History} {b : List ℕ} → Chain plan calls h b → (i : ℕ) → i < flowCount (planOf plan)
       → InOrder (planOf plan) i h
   chain-numbers ch i known = chain-has (InOrder (planOf plan) i) (λ passes calls. numbers-in-order plan passes calls i known) ch
-
-  -- it takes the credits of cells that their flow holds, and no others
-  pub chain-credits-taken : {calls : List Call} {h : History} {b : List ℕ} → Chain plan calls h b → Each (CreditTakenAt (planOf plan)) h
-  chain-credits-taken ch = chain-has (Each (CreditTakenAt (planOf plan))) (credits-taken plan) ch
-
-  -- it is prompt, and soon to a modest flow
-  pub chain-prompt : {calls : List Call} {h : History} {b : List ℕ} → Chain plan calls h b → PromptOn FitsNewest 0 (planOf plan) h
-  chain-prompt ch = chain-has (PromptOn FitsNewest 0 (planOf plan)) (prompt plan) ch
-
-  pub chain-soon-ahead : {calls : List Call} {h : History} {b : List ℕ} → Chain plan calls h b → (i : ℕ) → i < flowCount (planOf plan)
-      → SoonOn TimelyInOrder 0 (planOf plan) i h
-  chain-soon-ahead ch i known = chain-has (SoonOn TimelyInOrder 0 (planOf plan) i) (λ passes calls. soon-ahead plan passes calls i known) ch
-
-  pub chain-soon : {calls : List Call} {h : History} {b : List ℕ} → Chain plan calls h b → (i : ℕ) → i < flowCount (planOf plan)
-      → SoonOnArrivalOn (planOf plan) i h
-  chain-soon ch i known = chain-has (SoonOnArrivalOn (planOf plan) i) (λ passes calls. soon plan passes calls i known) ch
-
-  -- a stream that gives its cells back in time is ready at each request
-  pub chain-enough-cells : {calls : List Call} {h : History} {b : List ℕ} → Chain plan calls h b → (i : ℕ) → i < flowCount (planOf plan)
-      → GivesBack 0 (planOf plan) i h → Each (ReadyAt (planOf plan) i) h
-  chain-enough-cells ch i known =
-      chain-has (λ h. GivesBack 0 (planOf plan) i h → Each (ReadyAt (planOf plan) i) h) (λ passes calls. enough-cells plan passes calls i known) ch
-
-  -- one whose cells are credited at the grants has room in every slot
-  pub chain-enough-at-once : {calls : List Call} {h : History} {b : List ℕ} → Chain plan calls h b → (i : ℕ) → i < flowCount (planOf plan)
-      → GivesBackAtOnce 0 (planOf plan) i h → Each (AsksAt (λ P i w h. RoomFrom P i 0 h) (planOf plan) i) h
-  chain-enough-at-once ch i known =
-      chain-has (λ h. GivesBackAtOnce 0 (planOf plan) i h → Each (AsksAt (λ P i w h. RoomFrom P i 0 h) (planOf plan) i) h)
-      (λ passes calls. enough-at-once plan passes calls i known) ch
-
-  -- and one that asks within its share, with cells by how late they are given back, is granted each request
-  pub chain-shares-of-cells : (late : ℕ) {calls : List Call} {h : History} {b : List ℕ} → Chain plan calls h b → (i : ℕ) → i < flowCount (planOf plan)
-      → KeepsShares late 0 (planOf plan) i h → EachGrantedNow (planOf plan) i h
-  chain-shares-of-cells late ch i known =
-      chain-has (λ h. KeepsShares late 0 (planOf plan) i h → EachGrantedNow (planOf plan) i h)
-      (λ passes calls. shares-of-cells late plan passes calls i known) ch
-
-  -- and its slots come in the order in which it asked
-  pub chain-shares-in-order : (late : ℕ) {calls : List Call} {h : History} {b : List ℕ} → Chain plan calls h b → (i : ℕ) → i < flowCount (planOf plan)
-      → KeepsShares late 0 (planOf plan) i h → Each (AfterThoseAt (planOf plan) i) h
-  chain-shares-in-order late ch i known =
-      chain-has (λ h. KeepsShares late 0 (planOf plan) i h → Each (AfterThoseAt (planOf plan) i) h)
-      (λ passes calls. shares-in-order late plan passes calls i known) ch
-
-  -- so where its words run ahead of their tiles
-  pub chain-shares-ahead : (ahead late : ℕ) {calls : List Call} {h : History} {b : List ℕ} → Chain plan calls h b → (i : ℕ) → i < flowCount (planOf plan)
-      → KeepsSharesAhead ahead late 0 (planOf plan) i h → EachGrantedInTime (planOf plan) i h
-  chain-shares-ahead ahead late ch i known =
-      chain-has (λ h. KeepsSharesAhead ahead late 0 (planOf plan) i h → EachGrantedInTime (planOf plan) i h)
-      (λ passes calls. shares-ahead ahead late plan passes calls i known) ch
-
-  -- and over several links a board of the host is one of those that `over-links` speaks of
-  pub chain-board : {calls : List Call} {h : History} {b : List ℕ} → Chain plan calls h b → tally renews h ≡ 0 → (i : ℕ) → i < flowCount (planOf plan)
-      → Board paper
-  chain-board {calls} {h} ch unreset i known =
-      let f = chain-follows ch in
-      record {
-        bytes = plan;
-        passes = f .plan-passes;
-        events = h;
-        ran = record { calls = calls; is = sym (f .history-is) };
-        no-reset = unreset;
-        stream = i;
-        known = known;
-      }

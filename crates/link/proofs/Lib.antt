@@ -31,6 +31,7 @@ pub mod Ticks
 mod StateTicks
 pub mod Told
 pub mod Demand3
+pub mod Arrival
 pub mod SendingAhead
 pub mod Boards
 -- a state taken up again

@@ -15,21 +15,23 @@ use Rattle.model.specs.Lend.{lend}
 use Rattle.model.specs.History.{ticks, hasCome}
 use Rattle.model.specs.Claim.{EachSince, ReadyAt}
 use Rattle.model.specs.Card.{Played, paper, run}
-use Rattle.model.specs.Delay.{AsksAt}
+use Rattle.arrival.specs.Delay.{AsksAt}
 use Rattle.model.specs.TwoRuns.{Aligned, AsksUntil11, SameFrames}
-use Rattle.model.specs.BooksInOrder.{InTurn, InOrder}
-use Rattle.model.specs.AheadRuns.{WithAhead, GrantsAfter, ResetsAfter, NoneTakenAlone, OfBooked, SendersInTurn, BookedAlike}
-use Rattle.model.specs.Sendings.{Sending, EachReady, SentWell, sendingOf, FirstFirst, LentOnlyAhead, LeaveInOrder, SendersHaveRoom, SendersHaveRoomThere, SendersInTurnThere}
+use Rattle.arrival.specs.BooksInOrder.{InTurn, InOrder}
+use Rattle.ahead.specs.AheadRuns.{WithAhead, GrantsAfter, ResetsAfter, NoneTakenAlone, OfBooked, SendersInTurn, SendersInOrder, BookedAlike}
+use Rattle.ahead.specs.Sendings.{Sending, EachReady, SentWell, sendingOf, FirstFirst, LentOnlyAhead, LeaveInOrder, SendersHaveRoom, SendersHaveRoomThere, SendersInTurnThere}
+use Rattle.ahead.specs.Sendings.{SendersHaveShares}
 use Rattle.model.proofs.Demand3.{meets}
 use Rattle.model.proofs.SameFrames.{same-frames}
-use Rattle.model.proofs.Ahead.{taken}
-use Rattle.model.proofs.BooksInOrder.{books-in-order, ready-in-order}
-use Rattle.model.proofs.AheadRuns.{nobody-moves}
-use Rattle.model.proofs.AheadInTurn.{in-turn-nobody-moves}
-use Rattle.model.proofs.Sendings.{sends-well}
-use Rattle.model.proofs.SendsAhead.{sends-ahead}
-use Rattle.model.proofs.AheadInOrder.{ahead-in-order}
-use Rattle.model.proofs.InTurnWithout.{room-without, in-turn-without}
+use Rattle.ahead.proofs.Ahead.{taken}
+use Rattle.arrival.proofs.BooksInOrder.{books-in-order, ready-in-order}
+use Rattle.ahead.proofs.AheadRuns.{nobody-moves}
+use Rattle.ahead.proofs.AheadInTurn.{in-turn-nobody-moves, in-order-nobody-moves}
+use Rattle.ahead.proofs.Sendings.{sends-well}
+use Rattle.ahead.proofs.SendsAhead.{sends-ahead}
+use Rattle.ahead.proofs.AheadInOrder.{ahead-in-order}
+use Rattle.ahead.proofs.AheadByOrder.{sends-by-order, leave-by-order, shares-order-senders}
+use Rattle.ahead.proofs.InTurnWithout.{room-without, in-turn-without}
 use Rattle.link.specs.declared.Link.{Link}
 use Rattle.link.specs.declared.Step.{Step}
 use Rattle.link.specs.Steps.{readOf as linkRead, Stepped}
@@ -91,8 +93,8 @@ module _ (bytes : List ℕ) (o : Outcome) (is : o ≡ readOf bytes) (valid : o .
       has (λ h. (i : ℕ) → i < model.flowCount P → EachSince (ReadyAt P i) h → EachSince (AsksAt InTurn P i) h) (ready-in-order bytes passes)
 
   -- never early, never late, never over, one to a slot
-  pub code-sends-well : {h : History} {l : Link} → Handed (o .plan) h l → (x : Sending h) → SentWell P x
-  code-sends-well = has (λ h. (x : Sending h) → SentWell P x) (sends-well paper meets bytes passes)
+  pub code-sends-well : {h : History} {l : Link} → Handed (o .plan) h l → (x : Sending h) → EachReady P x → SentWell P x
+  code-sends-well = has (λ h. (x : Sending h) → EachReady P x → SentWell P x) (sends-well paper meets bytes passes)
 
   -- ---- beside a run without any
 
@@ -136,3 +138,31 @@ module _ (bytes : List ℕ) (o : Outcome) (is : o ≡ readOf bytes) (valid : o .
       (λ h₁ h₂. (x : WithAhead h₁ h₂) → EachReady P (sendingOf x) → SendersHaveRoom P x → NoneTakenAlone x → (i : ℕ) → FirstFirst P (sendingOf x) i
       → LentOnlyAhead (sendingOf x) i → LeaveInOrder P (sendingOf x) i)
       (ahead-in-order bytes passes)
+
+  -- ---- by slots that are granted in order, and by shares of cells, whether or not there is room
+
+  pub code-in-order-nobody-moves : {h₁ h₂ : History} {l₁ l₂ : Link} → Handed (o .plan) h₁ l₁ → Handed (o .plan) h₂ l₂ → (x : WithAhead h₁ h₂)
+      → OfBooked P x → SendersInOrder P x → NoneTakenAlone x → BookedAlike P x
+  code-in-order-nobody-moves =
+      both-have (λ h₁ h₂. (x : WithAhead h₁ h₂) → OfBooked P x → SendersInOrder P x → NoneTakenAlone x → BookedAlike P x) (in-order-nobody-moves bytes passes)
+
+  pub code-sends-by-order : {h₁ h₂ : History} {l₁ l₂ : Link} → Handed (o .plan) h₁ l₁ → Handed (o .plan) h₂ l₂ → (x : WithAhead h₁ h₂)
+      → EachReady P (sendingOf x) → SendersInOrder P x → NoneTakenAlone x → BookedAlike P x × SentWell P (sendingOf x)
+  code-sends-by-order =
+      both-have
+      (λ h₁ h₂. (x : WithAhead h₁ h₂) → EachReady P (sendingOf x) → SendersInOrder P x → NoneTakenAlone x → BookedAlike P x × SentWell P (sendingOf x))
+      (sends-by-order bytes passes)
+
+  pub code-leave-by-order : {h₁ h₂ : History} {l₁ l₂ : Link} → Handed (o .plan) h₁ l₁ → Handed (o .plan) h₂ l₂ → (x : WithAhead h₁ h₂)
+      → EachReady P (sendingOf x) → SendersInOrder P x → NoneTakenAlone x → (i : ℕ) → FirstFirst P (sendingOf x) i
+      → LentOnlyAhead (sendingOf x) i → LeaveInOrder P (sendingOf x) i
+  code-leave-by-order =
+      both-have
+      (λ h₁ h₂. (x : WithAhead h₁ h₂) → EachReady P (sendingOf x) → SendersInOrder P x → NoneTakenAlone x → (i : ℕ) → FirstFirst P (sendingOf x) i
+      → LentOnlyAhead (sendingOf x) i → LeaveInOrder P (sendingOf x) i)
+      (leave-by-order bytes passes)
+
+  pub code-shares-order-senders : {h₁ h₂ : History} {l₁ l₂ : Link} → Handed (o .plan) h₁ l₁ → Handed (o .plan) h₂ l₂ → (x : WithAhead h₁ h₂)
+      → SendersHaveShares P x → SendersInOrder P x
+  code-shares-order-senders =
+      both-have (λ h₁ h₂. (x : WithAhead h₁ h₂) → SendersHaveShares P x → SendersInOrder P x) (shares-order-senders bytes passes)

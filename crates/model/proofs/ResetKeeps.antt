@@ -34,7 +34,7 @@ module _ {l : Link} {L : Ledger} (v : Invariant l L) (empty : noneBooked l ≡ t
   T = positions P
 
   -- no slot to come was granted
-  none-granted : (s : ℕ) → t < s → tally (atSlot s) (L .grants) ≡ 0
+  pub none-granted : (s : ℕ) → t < s → tally (atSlot s) (L .grants) ≡ 0
   unfolding noneBooked
   none-granted s lt = go (decLt s (frameStart P t + T))
     where

@@ -40,7 +40,7 @@ module _ {l : Link} {h : History} (g : After (l .plan) l h) (i mask : ℕ) (know
       room = everyFrom-intro (v .current) (ticks h) fewer (current-in-window ok (ticks h))
           (λ r w le. lt-ltb _ (cells l i) (omega (arith, v .holds i known r .at-slot w, waits .can-take r le, raises-are P (upTo i r) h)))
 
-  taking-waits : takes l mask i ≡ true → Waits P i mask h
+  pub taking-waits : takes l mask i ≡ true → Waits P i mask h
   unfolding canTake
   taking-waits can =
       let both = and-true (inMask mask i) (canTake l i) can in

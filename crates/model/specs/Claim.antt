@@ -6,8 +6,9 @@
 -- Demand 3 cannot see what follows; the rules of each call say it:
 -- - which number a refusal has, and what C and IF are after it;
 -- - which of a frame's valid positions is granted, as long as the counts come out; and in which frame, to a stream that asks for less than its share: a card
---   that sends one to the newest frame meets demand 3 (`sends-to-newest-meets`). `Soon` and `SoonAhead` in Delay.antt see the frame, and what is built on
---   them sees when a tile comes up on several links (SeveralLinks.antt) and from a source (Source.antt);
+--   that sends one to the newest frame meets demand 3 (`sends-to-newest-meets`). `Soon` and `SoonAhead` in Delay.antt of the crate arrival see the frame,
+--   and what is built on them sees when a tile comes up on several links (SeveralLinks.antt) and from a source (Source.antt); the files that follow are
+--   there too;
 -- - that a stream's slots come in the order of its requests: `BooksInOrder` and `SharesInOrder` (SharesOfCells.antt) say when they do;
 -- - credits refused that should be taken, and credits taken that should be refused with 8, 13 or 14 (of a position p of T or more it counts p
 --   modulo T). A card that refuses every credit meets demand 3, and is prompt and soon (`keeping-meets`). `CreditTaken` in TakenCredits.antt sees both;
@@ -19,11 +20,11 @@
 --   stream has none;
 -- - words granted with another number than the expected one (`QuantumNumbers.antt` says which numbers granted words carry);
 -- - whose turn it is to be lent to: fairness says that (Fairness.antt);
--- - lends refused that should be answered, and with which number; a mark that stands past the tick, or that a refused lend sets; a lent slot booked in
---   the table of owners; what is held of a lent slot in slots that are gone, or in the current one;
--- - resets refused that should be granted; one granted over cells that are held, where they stay held; and a remainder C that a reset leaves as it
---   was, since the least count is that of the frames after the one of the reset; an IF that it leaves, where W = 2; owners that it leaves at CP or
---   before it; and what it does to holdings of slots that are gone.
+-- - lends refused that should be answered, as by a mark that stands past the tick, or that a refused lend sets: `LendAnswered` in AnsweredLends.antt sees
+--   them. And with which number; a lent slot booked in the table of owners; what is held of a lent slot in slots that are gone, or in the current one;
+-- - resets refused that should be granted, and one granted over cells that are held, where they stay held: `ResetGranted` sees both. And a remainder C
+--   that a reset leaves as it was, since the least count is that of the frames after the one of the reset; an IF that it leaves, where W = 2; owners that
+--   it leaves at CP or before it; and what it does to holdings of slots that are gone.
 use Prim.Native.Nat.{ℕ, _+_, _-_, _*_, _^_, _≤_, _<_}
 use mathlib.Core.Path.{_≡_}
 use mathlib.Core.Logic.{_↔_}

@@ -33,23 +33,6 @@ pub mod Fairness
 pub mod TwoRuns
 pub mod Outlines
 pub mod LessAsked
-pub mod TakenCredits
-pub mod Delay
-pub mod LessTimely
-pub mod SeveralLinks
-pub mod LessJoined
-pub mod EnoughCells
-pub mod BooksInOrder
-pub mod SharesOfCells
-pub mod SharesAhead
-pub mod LinksOnArrival
-pub mod Source
-pub mod CreditedByNext
-pub mod Ahead
-pub mod AheadRuns
-pub mod Sendings
-pub mod AheadOverLinks
-pub mod LessAhead
 -- worked examples, and cards that are sent back
 pub mod PlanBytes
 pub mod EdgeCases
@@ -72,6 +55,3 @@ pub mod BadResets
 pub mod BadTurns
 pub mod BadNumbers
 pub mod BadBursts
-pub mod BadDelays
-pub mod BadCredits
-pub mod BadSendings

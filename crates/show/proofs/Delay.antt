@@ -1,24 +1,27 @@
 -- The streams of a show without a refusal are in time. Assumes nothing.
-use Prim.Native.Nat.{ℕ, suc, _+_, _*_, _≤_, _<_}
+use Prim.Native.Nat.{ℕ, suc, _+_, _*_, _/_, _≤_, _<_}
 use mathlib.Core.Path.{_≡_, refl, sym, ap, ap₂, _∙_, subst}
 use mathlib.Core.List.{List, _∷_, []}
 use native.Mathlib.Omega.{arith}
 use lib.ListN.{length}
 use Rattle.model.specs.Plan as plan
+use Rattle.model.specs.History.{ticks}
 use Rattle.model.specs.Card.{Card, paper}
-use Rattle.model.specs.SeveralLinks.{tile, Board, planOn, sentOn, dueOn, Within, EachWithin}
-use Rattle.model.specs.Source.{Source, Bursts, AsksAs}
-use Rattle.model.specs.CreditedByNext.{JoinedByCredits, WayByCredits}
-use Rattle.model.proofs.CreditedByNext.{over-links-by-credits, granted-by-credits}
+use Rattle.arrival.specs.SeveralLinks.{tile, Board, planOn, sentOn, dueOn, Within, EachWithin}
+use Rattle.arrival.specs.Source.{upToFrame, Source, Bursts, AsksAs}
+use Rattle.arrival.specs.CreditedByNext.{JoinedByCredits, WayByCredits}
+use Rattle.arrival.specs.AllArrive.{Up, AsksOn}
+use Rattle.arrival.proofs.CreditedByNext.{over-links-by-credits, granted-by-credits}
+use Rattle.arrival.proofs.AllArrive.{all-arrive-by-credits}
 use Rattle.delay.specs.Bounds.{bounds}
-use Rattle.delay.specs.Promised.{lastBoard, shareOn, ArrivesWithin, InBounds}
-use Rattle.delay.proofs.Promised.{bound-by-credits}
+use Rattle.delay.specs.Promised.{lastBoard, shareOn, ArrivesWithin, InBounds, UpInBounds}
+use Rattle.delay.proofs.Promised.{bound-by-credits, last-up, up-by-credits}
 use Rattle.mesh.specs.Mesh.{Link}
 use Rattle.mesh.specs.Way.{In, way, distance}
 use Rattle.mesh.proofs.Ways.{right-way}
 use Rattle.show.specs.Show.{Show, ShowStream, showStream, linkPlan, refusal}
 use Rattle.show.specs.Claim.{Flows}
-use Rattle.show.specs.Delay.{OnLink, OnLinks, PassedOn, PassedAlong, EnoughCells, ShowInTime}
+use Rattle.show.specs.Delay.{OnLink, OnLinks, PassedOn, PassedAlong, EnoughCells, ShowInTime, ShowAllInTime}
 use Rattle.show.proofs.Places.{fits, mesh-passed}
 use Rattle.show.proofs.Claim.{all-the-way}
 
@@ -144,23 +147,61 @@ module _ (a : Board paper) (rest : List (Board paper)) where
       subst (λ F. InBoundsOf F m share) slots
       (subst (λ m. InBoundsOf (planOn a .slots) m share) links (subst (InBoundsOf (planOn a .slots) (length (a ∷ rest))) shares x))
 
-pub in-time : ShowInTime paper
-in-time show none i below late enough a rest on modest passed =
+  abbrev UpInBoundsOf : (F m share : ℕ) → Type 0
+  UpInBoundsOf F m share =
+      (burst : ℕ) (comes asks : ℕ → ℕ) → Source share comes asks → Bursts share burst comes → AsksAs asks (planOn a) (a .stream) (a .events)
+      → AsksOn asks (planOn a) (a .stream) (a .events) → (n x : ℕ) → n < upToFrame comes (x / F)
+      → x + bounds F m share burst .slots < ticks (lastBoard a rest .events) → Up n (lastBoard a rest)
+
+  up-with-numbers : {F m share : ℕ} → planOn a .slots ≡ F → length (a ∷ rest) ≡ m → shareOn a ≡ share → UpInBounds a rest → UpInBoundsOf F m share
+  up-with-numbers {F} {m} {share} slots links shares x =
+      subst (λ F. UpInBoundsOf F m share) slots
+      (subst (λ m. UpInBoundsOf (planOn a .slots) m share) links (subst (UpInBoundsOf (planOn a .slots) (length (a ∷ rest))) shares x))
+
+-- what the numbers of a show say of a stream's boards
+record Along (show : Show) (i late : ℕ) (a : Board paper) (rest : List (Board paper)) : Type 0 where
+  hops : suc (length rest) ≡ distance (showStream show i .stream)
+  way-there : WayByCredits late a rest
+  first : Fits show (showStream show i) a
+  last : Fits show (showStream show i) (lastBoard a rest)
+
+along : (show : Show) → refusal show ≡ 0 → (i : ℕ) → i < length (show .streams) → (late : ℕ) → EnoughCells show late i
+    → (a : Board paper) (rest : List (Board paper)) → OnLinks show i (way (showStream show i .stream)) (a ∷ rest) → PassedAlong late a rest → Along show i late a rest
+along show none i below late enough a rest on passed =
     let s = showStream show i in
     let ls = way (s .stream) in
     let fit = fits show (mesh-passed show none) i below in
-    let hops : suc (length rest) ≡ distance (s .stream)
-    = as-many show i ls (a ∷ rest) on ∙ right-way (s .stream) (fit .source-most) (fit .destination-most) .as-long in
     let each = each-fits show i 0 ls (a ∷ rest) (there-all show i none below) on in
-    let along = a-way show i enough 0 a rest (omega (arith, as-many show i ls (a ∷ rest) on)) each passed in
-    let first = each .0 .fits-there in
-    let later = over-links-by-credits late a rest along in
-    let final = last-within 1 (planOn a) (dueOn a) a rest (later .from-due modest) in
-    let bound : (1 + length rest + 1) * planOn (lastBoard a rest) .slots ≡ (distance (s .stream) + 1) * show .slots
-    = ap₂ _*_ (omega arith) (last-fits 0 a rest each .slots-are) in
     record {
-      granted-first = granted-by-credits late a rest along modest;
+      hops = as-many show i ls (a ∷ rest) on ∙ right-way (s .stream) (fit .source-most) (fit .destination-most) .as-long;
+      way-there = a-way show i enough 0 a rest (omega (arith, as-many show i ls (a ∷ rest) on)) each passed;
+      first = each .0 .fits-there;
+      last = last-fits 0 a rest each;
+    }
+
+-- the bound by its frames, and by the hops
+same-bound : (show : Show) (i late : ℕ) (a : Board paper) (rest : List (Board paper)) → Along show i late a rest
+    → (1 + length rest + 1) * planOn (lastBoard a rest) .slots ≡ (distance (showStream show i .stream) + 1) * show .slots
+same-bound show i late a rest x = ap₂ _*_ (omega (arith, x .hops)) (x .last .slots-are)
+
+pub in-time : ShowInTime paper
+in-time show none i below late enough a rest on modest passed =
+    let x = along show none i below late enough a rest on passed in
+    let later = over-links-by-credits late a rest (x .way-there) in
+    let final = last-within 1 (planOn a) (dueOn a) a rest (later .from-due modest) in
+    record {
+      granted-first = granted-by-credits late a rest (x .way-there) modest;
       granted-later = later .granted;
-      from-due = λ n h. subst (λ x. tile n (sentOn (lastBoard a rest)) < tile n (dueOn a) + x) bound (final .slots-later n h);
-      from-source = with-numbers a rest (first .slots-are) hops (first .share-is) (bound-by-credits late a rest along modest);
+      from-due = λ n h. subst (λ y. tile n (sentOn (lastBoard a rest)) < tile n (dueOn a) + y) (same-bound show i late a rest x) (final .slots-later n h);
+      from-source = with-numbers a rest (x .first .slots-are) (x .hops) (x .first .share-is) (bound-by-credits late a rest (x .way-there) modest);
+    }
+
+pub all-in-time : ShowAllInTime paper
+all-in-time show none i below late enough a rest on modest passed asked =
+    let x = along show none i below late enough a rest on passed in
+    record {
+      from-due = λ n due over.
+          last-up n (tile n (dueOn a)) 1 a rest (all-arrive-by-credits late a rest (x .way-there) asked modest n due)
+          (subst (λ y. tile n (dueOn a) + y ≤ ticks (lastBoard a rest .events)) (sym (same-bound show i late a rest x)) over);
+      from-source = up-with-numbers a rest (x .first .slots-are) (x .hops) (x .first .share-is) (up-by-credits late a rest (x .way-there) asked modest);
     }

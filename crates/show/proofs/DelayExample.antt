@@ -7,7 +7,7 @@ use Rattle.model.specs.Tables.{any, sum}
 use Rattle.model.specs.Refusals.{firstOf}
 use Rattle.model.specs.Plan.{entryFits}
 use Rattle.model.specs.WrittenPlan.{bytesOf}
-use Rattle.model.proofs.ByCreditsExample.{board₁, board₂, way-there, modest-there}
+use Rattle.arrival.proofs.ByCreditsExample.{board₁, board₂, way-there, modest-there}
 use Rattle.mesh.specs.Mesh.{keep, someOf, links}
 use Rattle.mesh.specs.Streams.{uses, load}
 use Rattle.mesh.specs.Way.{way}

@@ -4,7 +4,7 @@
 -- granted; what the other streams do is open. On the first board the stream asks for tiles that have come, within its share; on each later one it asks for
 -- each tile in the slot in which that comes, and the board credits the one before at this grant. On the last board cells are given back `late` frames late.
 -- It is lent nothing. Then every request is granted, and its tiles arrive within the slots of `bounds`.
-use Prim.Native.Nat.{ℕ, _+_, _*_, _≤_, _<_}
+use Prim.Native.Nat.{ℕ, _+_, _*_, _/_, _≤_, _<_}
 use mathlib.Core.Path.{_≡_}
 use mathlib.Core.List.{List, _∷_, []}
 use mathlib.Core.Bool.{true}
@@ -12,14 +12,15 @@ use lib.ListN.{length}
 use Rattle.model.specs.Tables.{tally}
 use Rattle.model.specs.Word.{flowOf}
 use Rattle.model.specs.WrittenPlan.{bytesOf}
-use Rattle.model.specs.History.{wellFormed, lends, ofFlow}
+use Rattle.model.specs.History.{ticks, wellFormed, lends, ofFlow}
 use Rattle.model.specs.Claim.{Each, AtRequest}
 use Rattle.model.specs.Card.{Card}
-use Rattle.model.specs.SeveralLinks.{tile, Together, Board, planOn, sentOn, dueOn, EachGranted}
-use Rattle.model.specs.SharesOfCells.{GivenBack, EachGrantedNow}
-use Rattle.model.specs.LinksOnArrival.{AsksOnArrival}
-use Rattle.model.specs.Source.{Source, Bursts, AsksAs}
-use Rattle.model.specs.CreditedByNext.{CreditedByNext, ModestFirst}
+use Rattle.arrival.specs.SeveralLinks.{tile, Together, Board, planOn, sentOn, dueOn, EachGranted}
+use Rattle.arrival.specs.SharesOfCells.{GivenBack, EachGrantedNow}
+use Rattle.arrival.specs.LinksOnArrival.{AsksOnArrival}
+use Rattle.arrival.specs.Source.{upToFrame, Source, Bursts, AsksAs}
+use Rattle.arrival.specs.CreditedByNext.{CreditedByNext, ModestFirst}
+use Rattle.arrival.specs.AllArrive.{AllAskedAlong, Up, AsksOn}
 use Rattle.delay.specs.Bounds.{bounds}
 use Rattle.delay.specs.Promised.{lastBoard, ArrivesWithin}
 use Rattle.mesh.specs.Mesh.{Link}
@@ -71,6 +72,18 @@ pub record InTime (show : Show) (i : ℕ) {c : Card} (a : Board c) (rest : List 
       → Bursts (showStream show i .stream .share) burst comes → AsksAs asks (planOn a) (a .stream) (a .events)
       → ArrivesWithin (bounds (show .slots) (distance (showStream show i .stream)) (showStream show i .stream .share) burst .slots) comes (lastBoard a rest)
 
+-- RULES 25.5: where each of its tiles whose slot is gone was asked for on the next board, all of them arrive.
+pub record AllInTime (show : Show) (i : ℕ) {c : Card} (a : Board c) (rest : List (Board c)) : Type 0 where
+  -- a tile that was granted on the first has come up on the last link once (distance + 1) × F slots are over since it was due
+  pub from-due : (n : ℕ) → n < length (dueOn a)
+      → tile n (dueOn a) + (distance (showStream show i .stream) + 1) * show .slots ≤ ticks (lastBoard a rest .events) → Up n (lastBoard a rest)
+  -- and one that came to a source that goes on asking, once the slots of `bounds` are over since it came
+  pub from-source : (burst : ℕ) (comes asks : ℕ → ℕ) → Source (showStream show i .stream .share) comes asks
+      → Bursts (showStream show i .stream .share) burst comes → AsksAs asks (planOn a) (a .stream) (a .events) → AsksOn asks (planOn a) (a .stream) (a .events)
+      → (n x : ℕ) → n < upToFrame comes (x / show .slots)
+      → x + bounds (show .slots) (distance (showStream show i .stream)) (showStream show i .stream .share) burst .slots < ticks (lastBoard a rest .events)
+      → Up n (lastBoard a rest)
+
 -- The cells that it takes: two shares on each link but the last, if there are any, and late + 2 on the last. RULES 23.1.
 pub record EnoughCells (show : Show) (late i : ℕ) : Type 0 where
   pub usual : 1 < length (way (showStream show i .stream)) → 2 * showStream show i .stream .share ≤ showStream show i .cells
@@ -83,3 +96,10 @@ ShowInTime c =
     (show : Show) → refusal show ≡ 0 → (i : ℕ) → i < length (show .streams) → (late : ℕ) → EnoughCells show late i
     → (a : Board c) (rest : List (Board c)) → OnLinks show i (way (showStream show i .stream)) (a ∷ rest)
     → ModestFirst (planOn a) (a .stream) (a .events) → PassedAlong late a rest → InTime show i a rest
+
+-- That it keeps this too is `all-in-time`, there.
+abbrev pub ShowAllInTime : Card → Type 0
+ShowAllInTime c =
+    (show : Show) → refusal show ≡ 0 → (i : ℕ) → i < length (show .streams) → (late : ℕ) → EnoughCells show late i
+    → (a : Board c) (rest : List (Board c)) → OnLinks show i (way (showStream show i .stream)) (a ∷ rest)
+    → ModestFirst (planOn a) (a .stream) (a .events) → PassedAlong late a rest → AllAskedAlong a rest → AllInTime show i a rest

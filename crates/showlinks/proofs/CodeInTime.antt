@@ -8,7 +8,7 @@ use lib.ListN.{length, take}
 use lib.Seq.{take-at}
 use Rattle.model.specs.Plan as plan
 use Rattle.model.specs.Card.{Played, paper}
-use Rattle.model.specs.SeveralLinks.{Ran, Board}
+use Rattle.arrival.specs.SeveralLinks.{Ran, Board}
 use Rattle.model.specs.WrittenPlan as writer
 use Rattle.model.specs.WrittenPlan.{bytesOf}
 use Rattle.plan.specs.declared.Written.the-variants.{Bytes}
@@ -24,8 +24,8 @@ use Rattle.show.specs.Claim.{Flows}
 use Rattle.show.specs.Delay.{OnLink, OnLinks}
 use Rattle.show.proofs.LinkPlans.{in-use}
 use Rattle.show.proofs.Claim.{planned, all-the-way}
-use Rattle.show.proofs.Delay.{in-time}
-use Rattle.showlinks.specs.OfCode.{CodeLink, OfCode, BoardOf, AllOfCode, CodeBoards, CodeInTime}
+use Rattle.show.proofs.Delay.{in-time, all-in-time}
+use Rattle.showlinks.specs.OfCode.{CodeLink, OfCode, BoardOf, AllOfCode, CodeBoards, CodeInTime, CodeAllInTime}
 
 module _ (show : Show) (none : refusal show ≡ 0) where
   -- the bytes that `write` left are the plan's
@@ -95,4 +95,9 @@ code-boards show none i below l on x = board-of show none i below on x
 pub code-in-time : CodeInTime
 code-in-time show none i below late enough a rest boards =
     in-time show none i below late enough a rest
+    (on-links show none i (way (showStream show i .stream)) (a ∷ rest) (λ l on. used-there show none i below on) boards)
+
+pub code-all-in-time : CodeAllInTime
+code-all-in-time show none i below late enough a rest boards =
+    all-in-time show none i below late enough a rest
     (on-links show none i (way (showStream show i .stream)) (a ∷ rest) (λ l on. used-there show none i below on) boards)

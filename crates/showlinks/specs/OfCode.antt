@@ -7,8 +7,9 @@ use Rattle.model.specs.Tables.{tally}
 use Rattle.model.specs.Calls.{History}
 use Rattle.model.specs.History.{renews}
 use Rattle.model.specs.Card.{paper}
-use Rattle.model.specs.SeveralLinks.{Board, planOn}
-use Rattle.model.specs.CreditedByNext.{ModestFirst}
+use Rattle.arrival.specs.SeveralLinks.{Board, planOn}
+use Rattle.arrival.specs.CreditedByNext.{ModestFirst}
+use Rattle.arrival.specs.AllArrive.{AllAskedAlong}
 use Rattle.plan.specs.declared.Written.{Written}
 use Rattle.plan.specs.declared.Written.the-variants.{Bytes}
 use Rattle.plan.specs.declared.Outcome.{Outcome}
@@ -19,7 +20,7 @@ use Rattle.link.specs.Handed.{Handed}
 use Rattle.mesh.specs.Mesh.{Link}
 use Rattle.mesh.specs.Way.{In, way}
 use Rattle.show.specs.Show.{Show, showStream, flowOn, refusal}
-use Rattle.show.specs.Delay.{PassedAlong, EnoughCells, InTime}
+use Rattle.show.specs.Delay.{PassedAlong, EnoughCells, InTime, AllInTime}
 use Rattle.show.proofs.ByContracts.{Wrote}
 
 -- What the code did with a link: `show::write` left its plan in a buffer, `plan::read` accepted that, `Link::fresh` made a link of it, and calls on it have
@@ -73,3 +74,10 @@ CodeInTime =
     (show : Show) → refusal show ≡ 0 → (i : ℕ) → i < length (show .streams) → (late : ℕ) → EnoughCells show late i
     → (a : Board paper) (rest : List (Board paper)) → AllOfCode show i (way (showStream show i .stream)) (a ∷ rest)
     → ModestFirst (planOn a) (a .stream) (a .events) → PassedAlong late a rest → InTime show i a rest
+
+-- and where each tile is asked for on the next board, all of them arrive: `code-all-in-time`, there
+abbrev pub CodeAllInTime : Type 0
+CodeAllInTime =
+    (show : Show) → refusal show ≡ 0 → (i : ℕ) → i < length (show .streams) → (late : ℕ) → EnoughCells show late i
+    → (a : Board paper) (rest : List (Board paper)) → AllOfCode show i (way (showStream show i .stream)) (a ∷ rest)
+    → ModestFirst (planOn a) (a .stream) (a .events) → PassedAlong late a rest → AllAskedAlong a rest → AllInTime show i a rest

@@ -4,7 +4,7 @@ use native.Mathlib.Nat.{div-le-self}
 use native.Mathlib.Omega.{arith}
 use borrow.Author.Needs.{needs}
 use mathlib.Core.Path.{refl}
-use Rattle.model.specs.Source.{burstFrames}
+use Rattle.arrival.specs.Source.{burstFrames}
 use Rattle.delay.proofs.frames_in.Statement.{statement}
 use Rattle.delay.proofs.frames_in.Tie as tie
 
