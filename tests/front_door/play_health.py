@@ -7,6 +7,7 @@ import re
 import signal
 import subprocess
 import time
+from pathlib import Path
 
 import call_bytes
 from edges.all_edges import ALLCALLS_EDGES
@@ -362,11 +363,25 @@ def broken_off(tree):
                                                 errors)
 
 
-def wait_for_child(process):
-    """Until a process has started another."""
-    children = "/proc/%d/task/%d/children" % (process.pid, process.pid)
-    while process.poll() is None and not open(children).read():
+def wait_for_child(process, name="dometrace"):
+    """Until a process has started a program of this name."""
+    until = time.monotonic() + LIMIT
+    while process.poll() is None and time.monotonic() < until:
         time.sleep(0.05)
+        if name in children_of(process.pid):
+            return
+
+
+def children_of(number):
+    """The names of a process's children."""
+    names = []
+    for child in Path("/proc/%d/task/%d/children" % (number, number)
+                      ).read_text().split():
+        try:
+            names.append(Path("/proc/%s/comm" % child).read_text().strip())
+        except OSError:
+            pass                # it has ended
+    return names
 
 
 def constant_memory(tree):

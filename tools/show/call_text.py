@@ -83,6 +83,7 @@ class TextReader:
 
     def __init__(self, all_calls):
         self.all_calls = all_calls
+        self.lines = 0              # that are read
         self.numbers = None         # the plan's F, W and N
         self.flows = []             # share, cells, source, destination
         self.pieces = []            # bytes that are not taken; the plan's
@@ -108,6 +109,14 @@ class TextReader:
         if self.defaults is None and self.numbers is not None:
             self.put(plan_bytes(self.numbers, self.flows))
         return self.taken()
+
+    def read_next(self, line):
+        """Reads the next line; a TextError names it."""
+        self.lines += 1
+        try:
+            self.read(line)
+        except TextError as wrong:
+            raise TextError("line %d: %s" % (self.lines, wrong)) from None
 
     def read(self, line):
         words = line.partition("#")[0].split()
@@ -257,10 +266,6 @@ def is_text(data):
 def bytes_of(text, all_calls=False):
     """The bytes of a text; a TextError names the line."""
     reader = TextReader(all_calls)
-    lines = text.split("\n")
-    for number, line in enumerate(lines, 1):
-        try:
-            reader.read(line)
-        except TextError as wrong:
-            raise TextError("line %d: %s" % (number, wrong)) from None
+    for line in text.split("\n"):
+        reader.read_next(line)
     return reader.data()

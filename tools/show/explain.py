@@ -23,6 +23,9 @@ OPTIONS = ("--summary", "--allcalls")
 # ---- lines of at most 80 characters
 
 def paragraph(head, text):
+    line = head.ljust(INDENT) + text
+    if len(line) <= WIDTH:
+        return line + "\n"
     return filled(head.ljust(INDENT), text, INDENT)
 
 
@@ -75,27 +78,33 @@ class Telling:
         return self.summary.slot
 
     def add(self, lines):
-        said = []
+        said, take, say = [], self.summary.take, self.said
         for line in lines:
             words = line.split()
-            self.summary.take(words)
+            take(words)
             if words[0] != "F":
-                said.append(self.said(words))
+                said.append(say(words))
         self.write("".join(said))
 
     def said(self, words):
         """A line's paragraphs: a burst has a call, and its words answers."""
-        letter, said, say = words[0], "", self.words
-        say.slot = self.summary.kept.slot
-        if letter != "B":
-            said = paragraph("%5d" % self.summary.kept.calls,
-                             say.of_call(words))
+        summary, say, letter = self.summary, self.words, words[0]
+        say.slot = summary.kept.slot
+        if letter == "B":
+            return self.answered(words, say.of_burst(words))
+        called = paragraph("%5d" % summary.kept.calls,
+                           say.calls[letter](words))
         if letter == "W":
-            return said
+            return called
+        return called + self.answered(words, say.of_answer(words,
+                                                           summary.pair))
+
+    @staticmethod
+    def answered(words, text):
         answer = listing_line(words)
-        return said + paragraph("  " + answer, " " * (
-            len(answer) > INDENT - 3) + say.of_answer(
-                words, self.summary.pair))
+        if len(answer) > INDENT - 3:
+            text = " " + text
+        return paragraph("  " + answer, text)
 
 
 def plan_page(plan):

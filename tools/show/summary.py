@@ -45,7 +45,7 @@ class Summary:
         self.lent = 0               # of the idle ones, but for slot 0
         self.counts = {"G": self.grant, "C": self.credit, "T": self.tick,
                        "L": self.lend, "R": self.refuse, "X": self.no_call,
-                       "B": self.word, "F": None, "W": None, "Z": None}
+                       "B": self.word}
 
     @property
     def calls(self):
@@ -62,12 +62,11 @@ class Summary:
     def take(self, words):
         """A line, split."""
         letter = words[0]
-        count = self.counts[letter]
         self.kept.takes[letter](words)
         if letter not in "FB":
             self.pair = self.pairs.of_line(words, self.kept.slot)
-        if count:
-            count(words)
+        if letter in self.counts:
+            self.counts[letter](words)
 
     # ---- lines
 

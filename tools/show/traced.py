@@ -1,16 +1,12 @@
 """The lines that dometrace writes of a call file, as they come: the file is
 handed on in pieces, and never kept."""
 
-import os
 import subprocess
-import tempfile
 import threading
 
-from call_text import TextError, TextReader, is_text
+from call_stream import PIECE, begin, is_a_text, pieces_of, pieces_of_text
+from call_text import TextError
 from trace_words import TracedPlan
-
-PIECE = 1 << 16         # bytes that are read at a time
-IN_MEMORY = 1 << 20     # bytes of a text's call file; more go to the disk
 
 
 class Trouble(Exception):
@@ -30,70 +26,19 @@ class RefusedPlan(Exception):
         self.number = number
 
 
-# ---- a text or a call file
-
-def begin(source):
-    """So much that a text can be told; of what has a 0 as its second byte, as
-    plans have and texts don't, what is there."""
-    data = b""
-    while len(data) < 2 or 0 not in data[1:2] and len(data) < PIECE:
-        piece = os.read(source, PIECE)
-        if not piece:
-            break
-        data += piece
-    return data
-
-
-def is_a_text(begun):
-    return 0 not in begun[1:2] and is_text(begun)
-
-
-def pieces_of(begun, source):
-    """What is read so far, and what follows."""
-    while begun:
-        yield begun
-        begun = os.read(source, PIECE)
-
-
-def text_lines(pieces):
-    """The lines of a text that comes in pieces of bytes."""
-    rest = b""
-    for piece in pieces:
-        lines = (rest + piece).split(b"\n")
-        rest = lines.pop()
-        for line in lines:
-            yield line.decode("utf-8", "replace")
-    yield rest.decode("utf-8", "replace")
-
-
-def made_of_text(pieces, all_calls):
-    """A file with the bytes of a text, at its beginning; it goes when it is
-    closed.  A TextError names the line, so that nothing is made of a wrong
-    text."""
-    made = tempfile.SpooledTemporaryFile(IN_MEMORY)
-    reader = TextReader(all_calls)
-    for number, line in enumerate(text_lines(pieces), 1):
-        try:
-            reader.read(line)
-        except TextError as wrong:
-            raise TextError("line %d: %s" % (number, wrong)) from None
-        if reader.size >= PIECE:
-            made.write(reader.taken())
-    made.write(reader.data())
-    made.seek(0)
-    return made
-
-
-def of_text(begun, source, all_calls, name):
-    """The pieces of a text's call file."""
+def calls_of(source, all_calls, name):
+    """The pieces of the call file that stands at a file descriptor, itself or
+    as a text."""
     try:
-        made = made_of_text(pieces_of(begun, source), all_calls)
+        begun = begin(source)
+        if not is_a_text(begun):
+            return pieces_of(begun, source)
+        return pieces_of_text(begun, source, all_calls)
     except TextError as wrong:
         raise Trouble(2, "%s, %s" % (name, wrong)) from None
     except OSError as wrong:
-        raise Trouble(2, "%s is a text, and its call file can't be kept: %s"
-                      % (name, wrong.strerror)) from None
-    return iter(lambda: made.read(PIECE), b"")
+        raise Trouble(2, "%s can't be read, or its call file kept: %s" % (
+            name, wrong.strerror)) from None
 
 
 def hand_on(pieces, target):
@@ -112,14 +57,7 @@ class Traced:
     """A program that traces what stands at a file descriptor."""
 
     def __init__(self, program, source, all_calls, name):
-        self.name = name
-        try:
-            begun = begin(source)
-        except OSError as wrong:
-            raise Trouble(2, "%s can't be read: %s" % (name, wrong.strerror)
-                          ) from None
-        pieces = (of_text(begun, source, all_calls, name)
-                  if is_a_text(begun) else pieces_of(begun, source))
+        pieces = calls_of(source, all_calls, name)
         self.process = subprocess.Popen(
             [program, *["--allcalls"] * all_calls], stdin=subprocess.PIPE,
             stdout=subprocess.PIPE, stderr=subprocess.PIPE, bufsize=0)

@@ -75,31 +75,44 @@ class Words:
                         for flow in plan.flows}
         self.cells = {str(flow.number): plural(flow.cells, "cell")
                       for flow in plan.flows}
+        self.kinds = {REQUEST: self.of_word, CREDIT: self.of_credit,
+                      LEND: self.of_lend, RESET: self.a_reset}
+        # What is asked, and what is answered, by a line's letter.
+        self.calls = {"G": self.of_word, "C": self.of_credit,
+                      "T": self.a_tick, "L": self.of_lend, "Z": self.a_reset,
+                      "R": self.of_refused_call, "X": self.no_call,
+                      "W": self.a_burst}
         self.answers = {"G": self.granted, "C": self.credited, "T": self.tick,
                         "L": self.lent, "Z": self.reset, "R": self.refused,
-                        "X": self.refused, "B": self.of_burst}
+                        "X": self.refused}
 
     # ---- calls
 
-    def of_call(self, words):
-        """What is asked, of a line that begins a call."""
-        letter, kind = words[0], words[KIND:KIND + 1]
-        if letter == "T":
-            return "a tick"
-        if letter == "X":
-            return self.no_call(bytes.fromhex(words[1]))
-        if letter == "W":
-            return "a burst of %s" % plural(int(words[WORDS]), "request")
-        if kind == [REQUEST]:
-            return self.of_word(words)
-        if kind == [CREDIT]:
-            return "flow %s gives a cell back, dated position %s" % (
-                words[FLOW], words[POSITION])
-        if kind == [RESET]:
-            return "a local reset"
+    def of_refused_call(self, words):
+        return self.kinds[words[KIND]](words)
+
+    @staticmethod
+    def a_tick(words):
+        return "a tick"
+
+    @staticmethod
+    def a_reset(words):
+        return "a local reset"
+
+    @staticmethod
+    def of_credit(words):
+        return "flow %s gives a cell back, dated position %s" % (
+            words[FLOW], words[POSITION])
+
+    @staticmethod
+    def of_lend(words):
         flows = lends_to(int(words[MASK]))
         return "the current slot is to be lent to %s" % (
             "flow " + listed(flows) if flows else "no flow at all")
+
+    @staticmethod
+    def a_burst(words):
+        return "a burst of %s" % plural(int(words[WORDS]), "request")
 
     def of_word(self, words):
         flow, to = words[FLOW], words[TO]
@@ -108,7 +121,8 @@ class Words:
             flow, words[NUMBER], words[DEPARTURE], other)
 
     @staticmethod
-    def no_call(record):
+    def no_call(words):
+        record = bytes.fromhex(words[1])
         return "%s no call: %s" % (
             plural(len(record), "byte that is", "bytes that are"),
             record.hex(" "))
@@ -118,7 +132,7 @@ class Words:
     def of_answer(self, words, pair=None):
         """What is answered; for a credit, the pair that it makes with the
         lend before it, or None."""
-        if words[0] == "C" and pair:
+        if pair:
             return self.credited(words) + self.sent_ahead(pair)
         return self.answers[words[0]](words)
 
@@ -127,7 +141,7 @@ class Words:
 
     def granted(self, words):
         return "granted %s; there it holds %s of its %s" % (
-            self.place(self.slot + int(words[AHEAD])), words[HELD],
+            place(self.slot + int(words[AHEAD]), self.plan), words[HELD],
             self.cells[words[FLOW]])
 
     def credited(self, words):
