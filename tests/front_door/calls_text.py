@@ -18,7 +18,7 @@ WRITTEN, WRONG_TEXT, NOT_READ, NOT_WHOLE = range(4)     # exit statuses
 LISTING = from_the_paper.EDGES[0].data
 PLAN = "plan F=4 W=2 N=4\nflow share=2 cells=2 from=1 to=9\n"
 CALLS = 200_000             # of a long file
-MORE_BYTES = 4_000_000      # that it may take more than a short one
+MORE_BYTES = 6_000_000      # that it may take more than a short one
 PLAN_BYTES = "10 00 01 00 0C 00 04 00 02 00 04 00 02 02 01 09"
 
 # Lines behind the plan, and their bytes.  A word is 9 << 26 for the node, the
