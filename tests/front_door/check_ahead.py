@@ -165,7 +165,8 @@ BAD = [
       "slot 6: flow 1's tile of slot 5 left, 1 slot late"]),
     # Slot 257 can't be booked yet in slot 1, since a window has 256 positions.
     ("before its slot could be booked", "- " * 256 + "0", "0" + " -" * 256,
-     [of("2 faults", 0, 1), "flow 0: 1 booked, 1 left wrongly, 1 never",
+     [of("2 faults", 0, 1),
+      "flow 0: 1 booked, 1 left wrongly, 1 never" + HAD_IT,
       UNBOOKED % ("slot 1: ", 0),
       "slot 257: flow 0's tile did not leave at all"]),
     ("256 slots late", "0" + " -" * 256, "- " * 256 + "0",
@@ -173,7 +174,8 @@ BAD = [
       "slot 257: flow 0's tile of slot 1 left, 256 slots late"]),
     # What is later than that is a tile that never left, and one too many.
     ("257 slots late", "0" + " -" * 257, "- " * 257 + "0",
-     [of("2 faults", 0, 1), "flow 0: 1 booked, 1 left wrongly, 1 never",
+     [of("2 faults", 0, 1),
+      "flow 0: 1 booked, 1 left wrongly, 1 never" + HAD_IT,
       "slot 1: flow 0's tile did not leave at all",
       UNBOOKED % ("slot 258: ", 0)]),
 ]
