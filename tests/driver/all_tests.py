@@ -29,11 +29,13 @@ from front_door import (
     check_refused, checklist_page, citations, comparison_page, flights,
     help_pages, man_pages, must_fail_edits,
     old_program, page_sizes, performance_page, picture_errors, picture_pages,
-    picture_scripts, picture_sizes, picture_style, picture_view, pictures,
+    picture_scripts, picture_sizes, picture_stretches, picture_style,
+    picture_view, pictures,
     plan_check,
     plan_culprits, plan_delays, plan_files, plan_lost_output, plan_mesh,
     plan_read, plan_week, plan_wrong_words, play_explain, play_files,
-    play_health, play_lost_output, play_options, play_states, progress, readme,
+    play_health, play_long, play_lost_output, play_options, play_states,
+    progress, readme,
     refusal_reasons, remedies, rules_page, singular, slow_reader,
     tests_lost_output, versions, wrong_arguments)
 from front_door import (
@@ -46,8 +48,8 @@ from ways import wrong_ways
 PAGES = (proved_page, contracts, program_stacks, desk_page, page_links)
 FRONT_DOOR = (
     decisions_page, architecture_page, doc_names, play_files, play_lost_output,
-    play_explain, play_health, play_options, play_states, pictures,
-    picture_sizes, picture_pages, picture_scripts, picture_view, picture_style,
+    play_explain, play_health, play_long, play_options, play_states, pictures,
+    picture_sizes, picture_stretches, picture_pages, picture_scripts, picture_view, picture_style,
     picture_errors, refusal_reasons, singular,
     calls_text, plan_files, plan_culprits, plan_read, plan_check, plan_delays,
     plan_mesh, plan_week, plan_wrong_words, plan_lost_output, check_log,

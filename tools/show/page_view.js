@@ -291,7 +291,7 @@ function onKey(event) {
 function begin() {
   const facts = [`Frames of F = ${counted(flight.F, "slot")}`, `a window of W = ${flight.W} frames`,
     `a buffer of N = ${counted(flight.N, "cell")}`, counted(flight.flows.length, "flow"),
-    flight.whole ? counted(LAST, "call") : `calls ${FIRST + 1} to ${LAST} of the file, slots ${flight.start.slot} to ${LAST_SLOT}`];
+    flight.whole ? counted(LAST, "call") : `calls ${FIRST + 1} to ${LAST} of the file, slots ${flight.start.slot + (FIRST ? 1 : 0)} to ${LAST_SLOT}`];
   const pairs = Object.keys(flight.pairs).length;
   byId("plan").textContent = `${facts.join(", ")}${pairs ? `, ${counted(pairs, "pair")} of a lend and a credit to leave ahead` : ""}.`;
   byId("slider").min = FIRST;
