@@ -4,6 +4,7 @@ the call file that a text makes."""
 import os
 import tempfile
 
+from call_file import LONGEST
 from call_text import TextError, TextReader, is_text
 
 PIECE = 1 << 16         # bytes that are read at a time
@@ -11,11 +12,19 @@ LONGEST_LINE = 1 << 16  # bytes of a line of a text
 IN_MEMORY = 1 << 20     # bytes of a text's call file; more go to the disk
 
 
-def begin(source, least=2):
-    """So much that a text can be told; of what has a 0 as its second byte, as
-    plans have and texts don't, so many bytes as are asked for."""
+def is_enough(data, plan):
+    """Whether a text can be told by these bytes.  What has a 0 as its second
+    byte, as plans have and texts don't, is none; then with `plan` its plan has
+    to be there too, which is as long as its first byte says."""
+    if len(data) >= 2 and data[1] == 0:
+        return not plan or len(data) >= min(data[0], LONGEST)
+    return len(data) >= PIECE
+
+
+def begin(source, plan=False):
+    """The first bytes."""
     data = b""
-    while len(data) < least or 0 not in data[1:2] and len(data) < PIECE:
+    while not is_enough(data, plan):
         piece = os.read(source, PIECE)
         if not piece:
             break

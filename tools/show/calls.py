@@ -70,7 +70,7 @@ class Made:
         self.counts = None              # counts in words what is read
 
     def pieces(self):
-        begun = begin(self.source, call_file.LONGEST)
+        begun = begin(self.source, True)
         text = is_a_text(begun)
         if self.back:
             if text:

@@ -59,7 +59,7 @@ def read_to_the_end(traced, reader):
 def read(traced, reader, quiet=False):
     """The reader, when it has read the trace.  A reader counts its calls and
     has the current slot, takes lists of lines, and says when it is over."""
-    line = CountingLine(lambda: "play: %d calls, slot %d" % (
+    line = CountingLine(lambda: "play: call %d, slot %d" % (
         reader.calls, reader.slot))
     line.shown = line.shown and not quiet
     line.start()
