@@ -34,9 +34,14 @@ show_version() {
     printf 'kit %s\nprogram %s\n' "$kit" "$(state)"
 }
 
-# A source that is newer than the program.
+# A source that is newer than the program, of the crates that it stands on.
 newer_source() {
-    find "$here/crates" "$here/crates.txt" -type f ! -path '*/must-fail/*' -newer "$program" 2>/dev/null | head -n 1
+    count_crates
+    set --
+    for name in $needed; do
+        [ -d "$here/crates/$name" ] && set -- "$@" "$here/crates/$name"
+    done
+    find "$@" "$here/crates.txt" -type f ! -path '*/must-fail/*' -newer "$program" 2>/dev/null | head -n 1
 }
 
 # Whether the program can be started, in words.
@@ -53,7 +58,7 @@ state() {
 # Proves and builds the program. What rt says goes to the log.
 check_crate() { cd "$here" && rt check "$crate" </dev/null >"$log" 2>&1; }
 
-# Leaves in $crates how many crates rt proves for the program: itself and all that it stands on, of those that crates.txt lists.
+# Leaves in $needed the names of the program's crate and of all that it stands on, and in $crates how many of them crates.txt lists: rt proves these.
 count_crates() {
     needed=" $crate "
     before=

@@ -1,10 +1,14 @@
 """tools/calls: call files as text, there and back."""
 
 import os
+import select
+import signal
+import subprocess
 
 from edges import from_the_paper
 from edges.all_edges import ALLCALLS_EDGES, EDGES
-from front_door.command import redirected, start, trouble
+from front_door.check_long import most_memory
+from front_door.command import LIMIT, redirected, start, trouble
 from front_door.play_tree import SHOW
 from front_door.show_tools import call_text, text_lines
 from front_door.tree import Tree, named
@@ -13,6 +17,8 @@ from generator import burst_seeds, number_seeds, seeds
 WRITTEN, WRONG_TEXT, NOT_READ, NOT_WHOLE = range(4)     # exit statuses
 LISTING = from_the_paper.EDGES[0].data
 PLAN = "plan F=4 W=2 N=4\nflow share=2 cells=2 from=1 to=9\n"
+CALLS = 200_000             # of a long file
+MORE_BYTES = 6_000_000      # that it may take more than a short one
 PLAN_BYTES = "10 00 01 00 0C 00 04 00 02 00 04 00 02 02 01 09"
 
 # Lines behind the plan, and their bytes.  A word is 9 << 26 for the node, the
@@ -148,6 +154,15 @@ def short_text():
     return None
 
 
+def many_ticks():
+    """More than a line takes: the text has two."""
+    data = bytes.fromhex(PLAN_BYTES + "03 00 00 00 00")
+    data = data[:-5] + 1000002 * data[-5:]
+    text = text_lines.text_of(data)
+    return (text.splitlines()[2:] != ["tick 1000000", "tick 2"]
+            or call_text.bytes_of(text) != data) and text
+
+
 # ---- the command
 
 def the_listing(tree):
@@ -236,6 +251,46 @@ def lost_output(tree):
                    NOT_WHOLE, b"", "output was lost")
 
 
+def no_text_at_all(tree):
+    """Endless input is refused at its first line."""
+    return trouble(tree.start("-", stdin=open("/dev/zero")), WRONG_TEXT, b"",
+                   "calls: standard input, line 1: it has more than 65536 "
+                   "bytes, so that this is no text")
+
+
+def constant_memory(tree):
+    """A call file and its text, there and back."""
+    taken = []
+    for calls in (4, CALLS):
+        data = tree.write("long", bytes.fromhex(PLAN_BYTES) + calls // 2
+                          * bytes.fromhex("03 00 00 00 00 02 00 04 00 00"))
+        text = tree.write("text", PLAN + calls // 2 * "tick\ncredit 0 4\n")
+        for words in (["--back", data], [text], ["--bytes", text]):
+            most, status = most_memory([tree.command, *words])
+            if status:
+                return "status %d" % status
+            taken.append(most)
+    more = [long - short for short, long in zip(taken, taken[3:])]
+    return max(more) > MORE_BYTES and "%s" % taken
+
+
+def broken_off(tree):
+    """A break says how far it came, in a line."""
+    process = subprocess.Popen(
+        [tree.command, "--back", "-"], stdin=subprocess.PIPE,
+        stdout=subprocess.PIPE, stderr=subprocess.PIPE, bufsize=0)
+    process.stdin.write(bytes.fromhex(PLAN_BYTES + 20 * "02 00 04 00 00"))
+    heard = b""
+    while heard.count(b"credit") < 20 and select.select(
+            [process.stdout], [], [], LIMIT)[0]:
+        heard += process.stdout.read(4096)
+    process.send_signal(signal.SIGINT)
+    _, errors = process.communicate(timeout=LIMIT)
+    return (process.returncode, errors) != (
+        NOT_WHOLE, b"calls: broken off after call 20\n") and (
+        "status %d, %r" % (process.returncode, errors))
+
+
 def no_python(tree):
     tree.only_tools()
     return trouble(tree.start("-"), NOT_READ, b"",
@@ -249,9 +304,10 @@ def help_page(tree):
         (len(lines) > 40 or max(map(len, lines)) > 80) and "too large")
 
 
-APART = (every_line, wrong_lines, wrong_wholes, there_and_back, short_text)
+APART = (every_line, wrong_lines, wrong_wholes, there_and_back, short_text,
+         many_ticks)
 TESTS = (the_listing, late_credits, back, back_of_a_text, bytes_as_a_text,
-         either, wrong_text,
+         either, wrong_text, no_text_at_all, constant_memory, broken_off,
          wrong_words, lost_output, no_python, help_page)
 
 

@@ -3,7 +3,8 @@
 import os
 
 from front_door.check_log import (
-    ALIKE, DEAD, DIFFER, MOVED_BY_ONE, NOT_COMPARED, SPARSE, LogTree, lines)
+    ALIKE, DEAD, DIFFER, HAD_IT, MOVED_BY_ONE, NOT_COMPARED, SPARSE, LogTree,
+    lines)
 from front_door.command import ROOT, redirected, start, trouble
 from front_door.tree import named
 
@@ -107,7 +108,7 @@ BAD = [
     # is not idle.
     ("in its own earlier slot", "- 0 - 0", "0 0 - -",
      [of("2 faults", 1, 2),
-      "flow 0: 2 booked, 1 left in time, 1 wrongly, 1 never",
+      "flow 0: 2 booked, 1 left in time, 1 wrongly, 1 never" + HAD_IT,
       TWICE % (2, 0, 1), "slot 4: flow 0's tile did not leave at all"]),
     ("not at all", "- 0 1", "- - 1",
      [of("1 fault", 1, 2), "flow 0: 1 booked, none left: look at its cable",
@@ -134,7 +135,8 @@ BAD = [
     # An idle slot that is used carries the first tile that waits, which is
     # the one that was missed.
     ("a tile that was missed goes first", "0 - 0", "- 0 -",
-     [of("2 faults", 0, 2), "flow 0: 2 booked, 1 left wrongly, 1 never",
+     [of("2 faults", 0, 2),
+      "flow 0: 2 booked, 1 left wrongly, 1 never" + HAD_IT,
       "slot 2: flow 0's tile of slot 1 left, 1 slot late",
       "slot 3: flow 0's tile did not leave at all"]),
     ("the streams end early", "- 0 -", "0 -",
@@ -163,7 +165,8 @@ BAD = [
       "slot 6: flow 1's tile of slot 5 left, 1 slot late"]),
     # Slot 257 can't be booked yet in slot 1, since a window has 256 positions.
     ("before its slot could be booked", "- " * 256 + "0", "0" + " -" * 256,
-     [of("2 faults", 0, 1), "flow 0: 1 booked, 1 left wrongly, 1 never",
+     [of("2 faults", 0, 1),
+      "flow 0: 1 booked, 1 left wrongly, 1 never" + HAD_IT,
       UNBOOKED % ("slot 1: ", 0),
       "slot 257: flow 0's tile did not leave at all"]),
     ("256 slots late", "0" + " -" * 256, "- " * 256 + "0",
@@ -171,7 +174,8 @@ BAD = [
       "slot 257: flow 0's tile of slot 1 left, 256 slots late"]),
     # What is later than that is a tile that never left, and one too many.
     ("257 slots late", "0" + " -" * 257, "- " * 257 + "0",
-     [of("2 faults", 0, 1), "flow 0: 1 booked, 1 left wrongly, 1 never",
+     [of("2 faults", 0, 1),
+      "flow 0: 1 booked, 1 left wrongly, 1 never" + HAD_IT,
       "slot 1: flow 0's tile did not leave at all",
       UNBOOKED % ("slot 258: ", 0)]),
 ]

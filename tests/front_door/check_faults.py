@@ -97,6 +97,52 @@ def cables_change_places(tree):
     ] and said
 
 
+def cables_change_places_ahead(tree):
+    """The same with --ahead: each is told by the other's slots.  Of a flow
+    that leaves once in another's it is told by the other."""
+    end = "look at which stream has which number"
+    for booked, sent, right in (
+            ("0 0 1 0 0 1 -", "1 1 0 1 1 0 -", [
+                "flow 0: 4 booked, 2 left wrongly, 2 never: all in flow 1's "
+                "slots: " + end,
+                "flow 1: 2 booked, 4 left wrongly: all in flow 0's slots: "
+                + end]),
+            ("0 0 1 -", "1 1 0 -", [
+                "flow 0: 2 booked, 1 left wrongly, 1 never: flow 1 leaves in "
+                "its slots: " + end,
+                "flow 1: 1 booked, 2 left wrongly: all in flow 0's slots: "
+                + end])):
+        ended = tree.compare(booked, sent, "--ahead")
+        said = ended.output.decode().splitlines()
+        wrong = trouble(ended, DIFFER) or said[1:3] != right and said
+        if wrong:
+            return wrong
+    return None
+
+
+def one_booking_never_sent(tree):
+    """The title's second slot stays empty: its board is named."""
+    sent = sparse_sent()
+    sent[TITLE_SLOTS[1] - 1] = "-"
+    said = tree.sparse(sent).output.decode().splitlines()
+    return said[3] != ("flow 2: 4 booked, 3 left in their slots, 1 never: "
+                       "look at whether its board had the tile by then"
+                       ) and said
+
+
+def empty_list(tree):
+    """It differs, and a line says why."""
+    for words in ([], ["--ahead"]):
+        ended = tree.sent(SPARSE.read_bytes(), [], *words)
+        said = ended.output.decode().splitlines()
+        wrong = trouble(ended, DIFFER) or said[1] != (
+            "SENT is empty: of 40 slots, 12 booked, none can be compared: "
+            "look at whether the list was written") and said
+        if wrong:
+            return "%s: %s" % (words, wrong)
+    return None
+
+
 def numbers_from_one(tree):
     """The log counts its streams from 1 on."""
     ended = tree.sparse([flow if flow == "-" else int(flow) + 1
@@ -193,6 +239,7 @@ def one_late_return(tree):
 
 TESTS = (
     dead_flow, dead_link, cable_comes_off, cables_change_places,
+    cables_change_places_ahead, one_booking_never_sent, empty_list,
     numbers_from_one,
     log_begins_late, log_breaks_off, wrong_destination, bookings_never_sent,
     one_late_return,

@@ -9,6 +9,7 @@ from front_door.tree import Tree, named
 ALIKE, DIFFER, NOT_COMPARED = range(3)          # exit statuses
 SPARSE = ROOT / "flights/sparse"
 
+HAD_IT = ": look at whether its board had the tile by then"
 DEAD = ("nothing left at all: look at the link, its cable and its power, or "
         "at where SENT was taken")
 MOVED_BY_ONE = ("moved by one slot SENT agrees: is its first line slot %d? it "
@@ -59,7 +60,8 @@ COMPARED = [
     # All four ways in one flow: slot 1 in time, slot 3 elsewhere, 5 never.
     ("0 - 0 1 0 0", "0 0 - 1 - 0", DIFFER,
      ["differ: 3 of 6 slots agree; BOOKED has 6 and SENT has 6",
-      "flow 0: 4 booked, 2 left in their slots, 1 elsewhere, 1 never",
+      "flow 0: 4 booked, 2 left in their slots, 1 elsewhere, 1 never"
+      + HAD_IT,
       "flow 1: 1 booked, left in its slot",
       "slot 2: nobody booked it, and flow 0 left",
       "slot 3: it was booked for flow 0, and nothing left",
@@ -74,7 +76,7 @@ COMPARED = [
       "slot 5: it was booked for flow 0, and nothing left"]),
     ("0 1 0", "0 1 -", DIFFER,
      ["differ: 2 of 3 slots agree; BOOKED has 3 and SENT has 3",
-      "flow 0: 2 booked, 1 left in its slot, 1 never",
+      "flow 0: 2 booked, 1 left in its slot, 1 never" + HAD_IT,
       "flow 1: 1 booked, left in its slot",
       "slot 3: it was booked for flow 0, and nothing left"]),
     # A dead link is no dead flow.
@@ -106,8 +108,8 @@ COMPARED = [
       "flow 1: 1 booked, left in its slot"]),
     ("0 1 2", "", DIFFER,
      ["differ: 0 of 3 slots agree; BOOKED has 3 and SENT has 0",
-      "SENT ends after slot 0 and BOOKED after slot 3: 3 slots, 3 booked, "
-      "can't be compared"]),
+      "SENT is empty: of 3 slots, 3 booked, none can be compared: look at "
+      "whether the list was written"]),
     ("0 1", "0 1 - 4", DIFFER,
      ["differ: 2 of 4 slots agree; BOOKED has 2 and SENT has 4",
       "BOOKED ends after slot 2 and SENT after slot 4: 2 slots, 1 with a "
@@ -263,7 +265,7 @@ def twenty_are_told(tree):
     ended = tree.compare("3 " * 24, "- " * 22 + "3 -")
     return trouble(ended, DIFFER, lines(
         ["differ: 1 of 24 slots agrees; BOOKED has 24 and SENT has 24",
-         "flow 3: 24 booked, 1 left in its slot, 23 never"]
+         "flow 3: 24 booked, 1 left in its slot, 23 never" + HAD_IT]
         + ["slot %d: it was booked for flow 3, and nothing left" % slot
            for slot in range(1, 21)] + ["and 3 more"]))
 
@@ -307,7 +309,7 @@ def the_sparse_flight(tree):
             "flow 0: 5 booked, 5 left in their slots, 1 elsewhere: 1 more "
             "than booked: look at what its board sends",
             "flow 1: 3 booked, all left in their slots",
-            "flow 2: 4 booked, 3 left in their slots, 1 never",
+            "flow 2: 4 booked, 3 left in their slots, 1 never" + HAD_IT,
             "slot 9 (frame 1, its slot 1): it was booked for flow 2, and flow "
             "0 left", refused]))
 

@@ -56,6 +56,9 @@ FAULTS = {
         "sed '/^1$/{N;s/1\\n-/-\\n1/;}' flights/sparse.sent |", "booked -"),
     "all in flow 2's slots": LOG % ("tr 12 21 <flights/sparse.sent |",
                                     "booked -"),
+    "1 never: look at whether its board had the tile by then": LOG % (
+        "sed '9s/2/-/' flights/sparse.sent |", "booked -"),
+    "SENT is empty": LOG % ("", "booked /dev/null"),
     "1 more than booked": LOG % ("sed '3s/-/0/' flights/sparse.sent |",
                                  "booked -"),
     "nothing was granted to it": WRONG_NODE

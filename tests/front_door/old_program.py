@@ -65,6 +65,18 @@ def old_and_built(tree):
             or asked_once(tree))
 
 
+def another_crate_is_newer(tree):
+    """rt is asked for nothing where no crate is newer that the program stands
+    on."""
+    other = tree.write("crates/extras/src/lib.rt" if tree.crate == "domelink"
+                       else "crates/link/src/lib.rt", "// a source\n")
+    os.utime(tree.program, (2000, 2000))
+    os.utime(other, (3000, 3000))
+    tree.rt("exit 0\n")
+    return trouble(tree.start(*tree.good), 0, tree.output) or (
+        tree.rt_words() and "rt was started with " + tree.rt_words())
+
+
 def old_and_not_built(tree):
     os.utime(tree.program, (1000, 1000))
     os.utime(tree.source, (2000, 2000))
@@ -74,7 +86,8 @@ def old_and_not_built(tree):
 
 
 TESTS = (missing_without_rt, missing_and_built, missing_and_not_built,
-         missing_and_nothing_left, old_and_built, old_and_not_built)
+         missing_and_nothing_left, old_and_built, another_crate_is_newer,
+         old_and_not_built)
 
 
 def tests(programs):

@@ -5,7 +5,7 @@ import tempfile
 
 from front_door.command import redirected, start, trouble
 from front_door.picture_files import COMMAND, LISTING, SHOW, Played, drawn
-from front_door.play_tree import in_trees
+from front_door.play_tree import in_traced_trees
 
 NOTHING_DRAWN, NOT_WRITTEN = 2, 3
 
@@ -20,19 +20,34 @@ WRONG_WORDS = [
     (["--window"], ["last"], "'last' is no call number"),
     (["--window"], ["²"], "'²' is no call number"),
     (["--window"], ["1", "2"], "there are 4 words"),
+    (["--window", "--from", "1"], [], "--from goes with --timeline or --page"),
+    (["--timeline", "OUT", "--to", "x"], [], "--to takes a slot, as in --to "
+     "40, and not 'x'"),
+    (["--page", "OUT", "--from", "1" * 16], [], "--from takes a slot"),
+    (["--page", "OUT", "--from", "3", "--to", "2"], [], "a stretch from slot "
+     "3 to slot 2 has no slots"),
+    (["--page", "OUT", "--from", "2"], [], "slot 2 has not come up: the last "
+     "is slot 1"),
+    (["--timeline", "OUT", "--from", "9"], [], "slot 9 has not come up"),
     (["--timeline", "OUT"], ["1"], "a call number goes with --window"),
     (["--svg", "OUT"], ["--page"], "--page needs a word after it"),
     (["--svg", "x", "--page", "x"], [], "two pictures can't both go to 'x'"),
     (["--window", "--svg", "-"], [], "the picture can't go there too"),
 ]
 BAD_FILES = [
-    (Played(b"", ["P 1"]), "is no file of calls: "),
-    (Played(LISTING.data[:14], ["P 1"]), "states 20 bytes, and 14 are there"),
+    (Played(b"", ["P 1"]), "is refused with 1: "),
+    (Played(LISTING.data[:14], ["P 1"]), "is refused with 1: "),
     (Played(bytes.fromhex("0c0000000c00040002000400"), ["P 2"]),
-     "is refused with 2"),
-    (Played(LISTING.data, ["P 0", "G 1"]), "the listing doesn't fit"),
-    (Played(LISTING.data, ["P 0"] + 8 * ["T -"]), "the listing doesn't fit"),
-    (Played(LISTING.data, []), "the listing doesn't fit"),
+     "is refused with 2: "),
+]
+REFUSED = 1
+# In the place of dometrace, and what is said.
+BAD_TRACES = [
+    ("exit 1\n", "dometrace broke off: the trace is not whole"),
+    ("echo Q\n", "after call 0 dometrace writes a line that is none of"),
+    ("echo G 0\n", "after call 0 dometrace writes a line that is none of"),
+    ("echo T 0 16 3 0 0 0 0 1 0 0; echo G 0 9 1 7 0 0 9 0 0 0 0 1 1 1 0 1 1\n",
+     "after call 1 dometrace writes a line that is none of a trace"),
 ]
 
 
@@ -48,20 +63,34 @@ def wrong_words():
 def missing_words():
     for words in (["--window"], ["--window", "calls"]):
         wrong = trouble(start([*COMMAND, *words]), NOTHING_DRAWN, b"",
-                        "a call file and its listing have to be named")
+                        "a program and a call file have to be named")
         if wrong:
             return wrong
     return None
 
 
 def bad_files():
+    """A plan that is refused, with what to do; and no file to read."""
     for played, says in BAD_FILES:
         done = drawn(played, "--window")
-        wrong = trouble(done.ended, NOTHING_DRAWN, b"", says)
+        wrong = trouble(done.ended, REFUSED, b"", says, "play: what to do: ")
         if wrong:
             return "%s: %s" % (says, wrong)
-    return trouble(start([*COMMAND, "--window", "nowhere", "listing"]),
-                   NOTHING_DRAWN, b"", "'nowhere' can't be read")
+    return None
+
+
+def bad_traces(tree):
+    """Nothing is drawn of lines that are none of a trace, or break off."""
+    for script, says in BAD_TRACES:
+        tree.instead("cat >/dev/null\necho P 0 4 2 4 1\necho E 2 2 1 9\n"
+                     + script)
+        for option in ("--svg", "--timeline", "--page"):
+            out = tree.root / "out"
+            wrong = trouble(tree.start(option, out, tree.calls), NOT_WRITTEN,
+                            b"", says)
+            if wrong or out.exists():
+                return "%s, %s: %s" % (option, script, wrong or "it is drawn")
+    return None
 
 
 def files_that_cannot_be_written():
@@ -176,10 +205,11 @@ def closed_output(tree):
 TESTS = (wrong_words, missing_words, bad_files, files_that_cannot_be_written,
          lost_output, help_fits_a_screen, says_what_is_written)
 THROUGH_PLAY = (window_through_play, page_through_play, svg_through_play,
-                not_over_its_own_file, no_file_to_draw, closed_output)
+                not_over_its_own_file, no_file_to_draw, closed_output,
+                bad_traces)
 
 
 def tests(programs):
     for test in TESTS:
         yield "pictures: " + test.__name__.replace("_", " "), test
-    yield from in_trees(THROUGH_PLAY, programs)
+    yield from in_traced_trees(THROUGH_PLAY)

@@ -8,25 +8,30 @@ from edges import from_the_paper
 from edges.edge_maker import BASE, TICK, lend
 from call_bytes import plan, request
 from front_door.command import ROOT, start
+from front_door.show_tools import followed, page
+from simulator.listing import simulate
+from simulator.records import ALLCALLS, DOMELINK
+
+import colours          # noqa: F401 (for tests; show_tools has its folder)
 
 SHOW = ROOT / "tools" / "show"
-sys.path.append(str(SHOW))
-
-import call_file        # noqa: E402
-import colours          # noqa: E402, F401 (for tests)
-import page             # noqa: E402
-from replay import Replay       # noqa: E402
-
 COMMAND = [sys.executable, "-B", SHOW / "pictures.py"]
+PROGRAM = ROOT / "target/bin/dometrace"
+
+
+class OtherListing(Exception):
+    """A listing by hand is not the file's."""
 
 
 class Played:
-    """A call file and its listing."""
+    """A call file and its listing, which the second simulator has to give."""
 
     def __init__(self, data, lines, options=()):
         self.data = data
-        self.listing = "".join(line + "\n" for line in lines).encode()
         self.options = list(options)
+        given = list(simulate(data, ALLCALLS if self.options else DOMELINK))
+        if given != list(lines):
+            raise OtherListing("%s for %s" % (given[:20], lines))
 
 
 # Rule 13.6's listing: flow 0 books 1, 2 and 4, flow 1 books 3, and after the
@@ -53,20 +58,21 @@ class Drawn:
 
 def drawn(played, *words, after=(), name="calls", **options):
     """Starts pictures.py on a file; OUT among the words is a file to write,
-    and `after` what stands after the listing."""
+    and `after` what stands after the file."""
     with tempfile.TemporaryDirectory() as folder:
         path = Path(folder)
         (path / name).write_bytes(played.data)
-        (path / "listing").write_bytes(played.listing)
         out = path / "out"
-        ended = start([*COMMAND, *(out if word == "OUT" else word
-                                   for word in words), *played.options,
-                       path / name, path / "listing", *after], **options)
+        with open(path / name, "rb") as calls:
+            ended = start([*COMMAND, *(out if word == "OUT" else word
+                                       for word in words), *played.options,
+                           PROGRAM, path / name, *after], stdin=calls,
+                          **options)
         return Drawn(ended, out)
 
 
-def flight_of(played):
+def flight_of(played, first=0, last=None):
     """What the page of a file has for its script."""
-    return page.flight_in_html(Replay(
-        call_file.read(played.data, bool(played.options)),
-        played.listing.decode()), "calls")
+    return page.flight_in_html(followed(
+        lambda plan: page.Flight(plan, first, last), played.data,
+        bool(played.options)), "calls")

@@ -8,9 +8,15 @@ from front_door.command import ROOT, trouble
 from front_door.picture_files import LISTING, Played, drawn
 from simulator.listing import simulate
 
-# Rule 13.6's seven calls as the page has them; page.py says how.
-ROWS = [[1, 0, 0, 0, 9, 1], [1, 0, 1, 0, 9, 2], [1, 0, 2, 0, 9, -12],
-        [2, 0, 4, 0], [1, 0, 2, 0, 9, 4], [1, 1, 0, 0, 9, 3], [3, 0]]
+# Rule 13.6's seven calls as lines of a trace, by rules 26.4 to 26.6: the
+# refusal, what is answered, the call, the link, the flow.
+TRACE = ["G 0 1 1 0 0 0 9 0 0 0 0 1 1 1 0 1 1",
+         "G 0 2 1 0 1 0 9 0 0 0 0 0 2 2 0 2 2",
+         "R 12 0 1 0 2 0 9 0 0 0 1 2 2 0 16 0 2",
+         "C 0 0 2 0 4 0 0 0 0 0 1 2 2 4 16 1 1",
+         "G 0 4 1 0 2 0 9 0 0 0 1 1 3 4 0 2 2",
+         "G 0 3 1 1 0 0 9 0 0 0 0 1 1 3 1 1 1",
+         "T 0 0 3 0 0 0 0 1 0 0"]
 KEPT = ("sparse", "dense")              # flights whose pages stand in docs
 CONTROLS = {"button", "input", "select"}
 FROM_OUTSIDE = re.compile(
@@ -55,7 +61,7 @@ def calls_and_answers():
                                       "destination")]
              for flow in flight["flows"]]
     for found, expected in (
-            (flight["calls"], ROWS), (flows, [[2, 2, 1, 9], [2, 2, 2, 9]]),
+            (flight["trace"], TRACE), (flows, [[2, 2, 1, 9], [2, 2, 2, 9]]),
             ([flight[name] for name in "FWN"], [4, 2, 4]),
             (list(flight["refusals"]), ["12"]),
             (flight["refusals"]["12"][1], "wait for credits or the next "

@@ -17,6 +17,7 @@ from simulator.records import ALLCALLS, DOMELINK, read_record, split
 COUNTS = """
 const asked = JSON.parse(require("fs").readFileSync(0, "utf8"));
 console.log(JSON.stringify(asked.map(({ flight, calls }) => {
+  flight.calls = callsOf(flight.trace);
   const stateAfter = player(flight);
   return calls.map((number) => {
     const state = stateAfter(number);
@@ -31,6 +32,7 @@ console.log(JSON.stringify(asked.map(({ flight, calls }) => {
 SENTENCES = """
 const flight = JSON.parse(require("fs").readFileSync(0, "utf8"));
 flight.refusals = {};
+flight.calls = callsOf(flight.trace);
 const stateAfter = player(flight);
 console.log(JSON.stringify(flight.calls.map((call, number) =>
   callWords(flight, call, stateAfter(number), reasonsOf(flight, number + 1))
@@ -69,7 +71,7 @@ SAID = [
 def by_node(script, asked):
     """What a script of ours on top of the page's own answers."""
     scripts = [(SHOW / name).read_text().replace('"use strict";', "")
-               for name in ("page_replay.js", "page_words.js")]
+               for name in ("page_trace.js", "page_words.js")]
     done = subprocess.run(
         ["node", "-e", "\n".join([*scripts, script])], input=asked.encode(),
         stdout=subprocess.PIPE, timeout=LIMIT, check=True)

@@ -126,14 +126,15 @@ def scripts_of(text):
     return re.findall(r"<script>\n(.*?)</script>", text, re.DOTALL)
 
 
-def used(played, steps, at="", **more):
+def used(played, steps, at="", first=0, last=None, **more):
     """What is seen of a file's page at first, and after each step of a user;
-    `at` is the end of its address."""
+    `at` is the end of its address, `first` and `last` are its slots."""
     text, wrong = page(played)
     if wrong:
         raise Broken(wrong)
-    asked = {"ids": Reader(text).ids, "flight": flight_of(played),
-             "steps": steps, "hash": at, **more}
+    asked = {"ids": Reader(text).ids,
+             "flight": flight_of(played, first, last), "steps": steps,
+             "hash": at, **more}
     done = subprocess.run(
         ["node", "-e", "\n".join([STUB.read_text(), *scripts_of(text),
                                   "lookAtEachStep();"])],
@@ -331,6 +332,30 @@ def pairs_that_send_ahead():
                           "to leave ahead.") and plan)
 
 
+def page_of_a_stretch():
+    """It begins and ends with its own calls, and says which they are: slot 1
+    comes up with call 7 of 12, and the last call in slot 3 is call 9.  Before
+    call 7 slot 0 is lent to flow 0."""
+    steps = [["key", "End"], ["key", "Home"], ["key", "ArrowRight"],
+             ["field", "slot", "2"], ["field", "call", "5"],
+             ["field", "slot", "4"], ["address", "#call=12"]]
+    seen = used(PAIRED, steps, first=1, last=3)
+    found = [(each["number"], each["slot"]) for each in seen]
+    right = [(call, slot) for call, slot in (
+        (6, 0), (9, 3), (6, 0), (7, 1), (8, 2), (8, 2), (8, 2), (8, 2))]
+    said = [each["advice"] for each in seen[5:7]]
+    return found != [("%d of 9" % call, "%d of 3" % slot)
+                     for call, slot in right] and "%s" % found or said != [
+        "'5' is no call: the first here is call 6, and the last is call 9.",
+        "'4' is no slot that has come up: the first here is slot 0, and the "
+        "last is slot 3."] and "%s" % said or wrong_view(seen[0], {
+            "call": "The link after call 6.",
+            "answer": "With the next call this page begins.",
+            "plan": "Frames of F = 4 slots, a window of W = 2 frames, a "
+            "buffer of N = 4 cells, 2 flows, calls 7 to 9 of the file, slots "
+            "1 to 3.", "owners": ["0", "0", "0", "1", "", "", "", ""]})
+
+
 def one_of_each():
     return wrong_view(used(ONE, [])[0], {
         "plan": "Frames of F = 1 slot, a window of W = 2 frames, a buffer of "
@@ -343,7 +368,7 @@ TESTS = (every_control, keys_are_kept, address_at_first, address_follows,
          slot_that_has_come_up, refusal_that_is_chosen, no_more_refusals,
          after_a_call, flows_of_a_call, flows_beside_the_words,
          refusals_of_a_burst, sentence_once,
-         pairs_that_send_ahead, one_of_each)
+         pairs_that_send_ahead, page_of_a_stretch, one_of_each)
 
 
 def tried(test):

@@ -1,17 +1,19 @@
 """./play in words: rule 13.6's listing, --explain, and the summary."""
 
 import re
+import select
+import signal
+import subprocess
 
 import call_bytes
 from edges import from_the_paper, refusals_page
 from edges.edge_maker import BASE
-from front_door.command import into_full_pipe, redirected, start, trouble
+from front_door.command import (
+    LIMIT, into_full_pipe, redirected, start, trouble)
 from front_door.play_tree import (
-    NOT_PLAYED, NOT_WHOLE, PLAYED, REFUSED, in_trees)
+    NOT_PLAYED, NOT_WHOLE, PLAYED, REFUSED, in_traced_trees)
 from front_door.remedies import what_to_do
-from front_door.show_tools import explain
-from simulator.listing import simulate
-from simulator.records import ALLCALLS, DOMELINK
+from front_door.show_tools import explained
 
 LISTING = b"P 0\nG 1\nG 2\nR 12\nC\nG 4\nG 3\nT 0\n"    # by rule 13.6
 
@@ -125,9 +127,8 @@ def text_and_bytes(tree):
     return None
 
 
-def all_calls(tree, program):
-    """Lends, a burst and what is refused, through allcalls."""
-    tree.copy(program, "target/bin/allcalls")
+def with_all_calls(tree):
+    """Lends, a burst and what is refused."""
     path = tree.write("all.calls", ALL_CALLS)
     ended = tree.start("--allcalls", "--explain", path)
     said = ended.output.decode()
@@ -170,10 +171,9 @@ AHEAD_IN_WORDS = (
     " 1 pair of a lend and a credit, by which a tile may leave ahead ")
 
 
-def sent_ahead(tree, program):
+def a_tile_sent_ahead(tree):
     """A lend and the credit after it, where its flow has booked the slot of
     its date; of other credits it is not said."""
-    tree.copy(program, "target/bin/allcalls")
     ended = tree.start("--allcalls", "--explain", tree.write(
         "ahead.calls", SENT_AHEAD))
     said = plain(ended.output.decode())
@@ -204,9 +204,7 @@ def long_lines_of_the_summary():
     """What doesn't fit a line goes on further in than what comes next."""
     calls = [call_bytes.request(8, 0), call_bytes.request(9, 0, 0, 8),
              call_bytes.request(9, 0, 1)]
-    data = BASE + 100 * b"".join(calls)
-    listing = "".join(line + "\n" for line in simulate(data, DOMELINK))
-    said, _ = explain.explained(data, listing, False)
+    said = explained(BASE + 100 * b"".join(calls))
     wanted = (
         "        flow 0: 300 requests, 0 granted, 300 refused (100 with 9, "
         "100 with 10,\n"
@@ -223,10 +221,9 @@ def plain(text):
 
 def every_refusal():
     """Each number's sentence, on the inputs of docs/REFUSALS.md."""
-    for only, kinds in ((None, DOMELINK), ("allcalls", ALLCALLS)):
+    for only in (None, "allcalls"):
         for number, data, last in refusals_page.examples(only):
-            listing = "".join(line + "\n" for line in simulate(data, kinds))
-            said, _ = explain.explained(data, listing, kinds is ALLCALLS)
+            said = explained(data, bool(only))
             when = [row[1] for row in refusals_page.refusal_rows(
                 refusals_page.page()) if row[0] == number and row[4] == only]
             if "refused with %d: %s" % (number, when[0].split(" (")[0]) \
@@ -270,22 +267,87 @@ def wrong_text(tree):
                    "play: '%s', line 3: 'aks' is none of" % calls)
 
 
+PLAN_LINES = "cat >/dev/null\necho P 0 4 2 4 1\necho E 2 2 1 9\n"
+OF_THE_PLAN = b"""\
+  P 0   the plan is accepted: F = 4 slots to a frame, W = 2 frames in the
+        window, T = 8 positions, N = 4 places in the buffer
+        flow 0: from node 1 to node 9, share 2, 2 cells
+
+"""
+
+
 def program_breaks_off(tree):
-    tree.instead('echo "P 0"\nexit 1\n')
-    return trouble(tree.start("--explain", tree.calls), NOT_WHOLE, b"",
-                   "play: domelink broke off")
+    """What was said before stands there, and that it is not whole is said."""
+    for script, output, says in (
+            (PLAN_LINES + "exit 1\n", OF_THE_PLAN,
+             "play: dometrace broke off: the trace is not whole"),
+            ("cat >/dev/null\nexit 1\n", b"",
+             "play: dometrace broke off: the trace is not whole"),
+            (PLAN_LINES + 'echo "dometrace: input was lost" >&2\n',
+             OF_THE_PLAN, "play: dometrace: input was lost"),
+            ("echo P 0\n", b"", "after call 0 dometrace writes a line that is "
+             "none of a trace"),
+            (PLAN_LINES + "echo G 0\n", OF_THE_PLAN,
+             "after call 0 dometrace writes a line that is none of a trace")):
+        tree.instead(script)
+        wrong = trouble(tree.start("--explain", tree.calls), NOT_WHOLE,
+                        output, says)
+        if wrong:
+            return "%s: %s" % (script, wrong)
+    return None
 
 
-def program_says_so(tree):
-    tree.instead('echo "P 0"\necho "domelink: input was lost" >&2\n')
-    return trouble(tree.start("--explain", tree.calls), NOT_WHOLE, b"",
-                   "play: domelink: input was lost")
+# ---- the summary alone
+
+def summary_alone(tree):
+    """The lines that --explain ends with, further left."""
+    whole = tree.start("--explain", "--dense").output.decode()
+    lines = whole.partition("\nSummary\n")[2].splitlines()
+    return trouble(tree.start("--summary", "--dense"), output="".join(
+        line[8:] + "\n" for line in lines).encode()) or trouble(
+        tree.start("--summary", tree.write("text", "plan F=65 W=2 N=4\n")),
+        REFUSED, None) or trouble(
+        tree.start("--summary", "--explain", tree.calls), NOT_PLAYED, b"",
+        "don't go together")
 
 
-def listing_of_another(tree):
-    tree.instead('echo "P 0"\n')
-    return trouble(tree.start("--explain", tree.calls), NOT_PLAYED, b"",
-                   "the listing ends after line 1, before the file does")
+# ---- as it comes
+
+def as_it_comes(tree):
+    """Each call is said while the input is still open."""
+    process = subprocess.Popen([tree.command, "--explain", "-"], bufsize=0,
+                               stdin=subprocess.PIPE, stdout=subprocess.PIPE)
+    heard = b""
+    for piece, words in ((BASE, b"flow 1: from node 2"),
+                         (call_bytes.TICK, b"slot 1 (position 1, frame 0)"),
+                         (call_bytes.TICK, b"slot 2 (position 2, frame 0)")):
+        process.stdin.write(piece)
+        while words not in heard and select.select(
+                [process.stdout], [], [], LIMIT)[0]:
+            heard += process.stdout.read(4096)
+        if words not in heard:
+            break
+    process.stdin.close()
+    process.stdout.close()
+    process.wait(timeout=LIMIT)
+    return words not in heard and "%s" % heard
+
+
+def broken_off(tree):
+    """A break says how far it came, in a line."""
+    process = subprocess.Popen(
+        [tree.command, "--explain", "-"], stdin=subprocess.PIPE,
+        stdout=subprocess.PIPE, stderr=subprocess.PIPE, bufsize=0)
+    process.stdin.write(BASE + 3 * call_bytes.TICK)
+    heard = b""
+    while b"slot 3 (position 3" not in heard and select.select(
+            [process.stdout], [], [], LIMIT)[0]:
+        heard += process.stdout.read(4096)
+    process.send_signal(signal.SIGINT)
+    _, errors = process.communicate(timeout=LIMIT)
+    return (process.returncode, errors) != (
+        NOT_WHOLE, b"play: broken off after call 3, in slot 3\n") and (
+        "status %d, %r" % (process.returncode, errors))
 
 
 def lost_words(tree):
@@ -309,17 +371,11 @@ def no_python(tree):
 TESTS = (
     without_a_file, text_and_bytes, the_dense_flight,
     number_that_is_expected, refused_plan, wrong_text, program_breaks_off,
-    program_says_so, listing_of_another, lost_words, no_python)
+    summary_alone, as_it_comes, broken_off, lost_words, no_python,
+    with_all_calls, a_tile_sent_ahead)
 
 
 def tests(programs):
     yield "./play: every refusal in words", every_refusal
     yield "./play: long lines of the summary", long_lines_of_the_summary
-    yield from in_trees(TESTS, programs)
-
-    def with_all_calls(tree):
-        return all_calls(tree, programs["allcalls"])
-
-    def a_tile_sent_ahead(tree):
-        return sent_ahead(tree, programs["allcalls"])
-    yield from in_trees((with_all_calls, a_tile_sent_ahead), programs)
+    yield from in_traced_trees(TESTS)

@@ -7,6 +7,7 @@ import re
 import signal
 import subprocess
 import time
+from pathlib import Path
 
 import call_bytes
 from edges.all_edges import ALLCALLS_EDGES
@@ -15,13 +16,10 @@ from front_door.check_long import most_memory
 from front_door.command import (
     LIMIT, ROOT, into_full_pipe, redirected, start, trouble)
 from front_door.play_explain import ALL_CALLS
-from front_door.play_tree import NOT_PLAYED, NOT_WHOLE, PlayTree
+from front_door.play_tree import NOT_PLAYED, NOT_WHOLE, in_traced_trees
 from front_door.remedies import what_to_do
-from front_door.show_tools import run_health
-from front_door.tree import named
+from front_door.show_tools import plan_and_lines, run_health
 from generator import burst_seeds, lend_seeds, reset_seeds
-from simulator.records import ALLCALLS
-from simulator.trace import trace
 
 PASSES, FAILS = 0, 1
 HEAD = "flow  asked  granted  promised  refused  longest wait  overdue\n"
@@ -169,10 +167,6 @@ CALLS = 200_000             # of a long file, ticks and wrong requests
 MORE_BYTES = 4_000_000      # that it may take more than a short one
 
 
-class HealthTree(PlayTree):
-    crate = "dometrace"
-
-
 def health(tree, text, *words):
     return tree.start("--health", *words, "-", input=text.encode())
 
@@ -260,24 +254,20 @@ def without_a_file(tree):
 def cells_out_are_those_held():
     """Rule 26.10: after each line as many cells are out as the trace says
     that the flow holds at the last position of the window."""
-    files = [edge.data for edge in ALLCALLS_EDGES]
+    files = [edge.data for edge in ALLCALLS_EDGES if edge.lines[0] == "P 0"]
     files += [seeds.generate(seed) for seed in range(3)
               for seeds in (lend_seeds, reset_seeds, burst_seeds)]
     for data in files:
-        lines = trace(data, ALLCALLS)
-        wrong = lines[0].startswith("P 0 ") and held_otherwise(lines)
+        wrong = held_otherwise(*plan_and_lines(data, True))
         if wrong:
             return wrong
     return None
 
 
-def held_otherwise(lines):
-    frame, frames, _, flows = map(int, lines[0].split()[2:])
-    entries = [tuple(map(int, line.split()[1:3]))
-               for line in lines[1:flows + 1]]
-    run = run_health.RunHealth(frame, frames, entries)
-    for line in lines[flows + 1:]:
-        run.add([line.encode()])
+def held_otherwise(plan, lines):
+    run = run_health.RunHealth(plan)
+    for line in lines:
+        run.add([line])
         words = line.split()
         flow = words[2 if words[0] == "L" else 4:][:1]
         if len(words) == 18 and len(run.flows[int(*flow)].out) != int(
@@ -363,7 +353,7 @@ def broken_off(tree):
         stdout=subprocess.PIPE, stderr=subprocess.PIPE)
     process.stdin.write(tree.calls.read_bytes())
     process.stdin.flush()
-    time.sleep(1)
+    wait_for_child(process)
     process.send_signal(signal.SIGINT)
     output, errors = process.communicate(timeout=LIMIT)
     right = (process.returncode, output) == (NOT_WHOLE, b"") and re.fullmatch(
@@ -371,6 +361,27 @@ def broken_off(tree):
         errors)
     return not right and "status %d, %r, %r" % (process.returncode, output,
                                                 errors)
+
+
+def wait_for_child(process, name="dometrace"):
+    """Until a process has started a program of this name."""
+    until = time.monotonic() + LIMIT
+    while process.poll() is None and time.monotonic() < until:
+        time.sleep(0.05)
+        if name in children_of(process.pid):
+            return
+
+
+def children_of(number):
+    """The names of a process's children."""
+    names = []
+    for child in Path("/proc/%d/task/%d/children" % (number, number)
+                      ).read_text().split():
+        try:
+            names.append(Path("/proc/%s/comm" % child).read_text().strip())
+        except OSError:
+            pass                # it has ended
+    return names
 
 
 def constant_memory(tree):
@@ -393,7 +404,6 @@ TESTS = (by_hand, lends_bursts_and_what_is_no_call, flights_are_good,
 
 
 def tests(programs):
-    for name, test in named(HealthTree, TESTS, {
-            "dometrace": ROOT / "target/bin/dometrace"}):
+    for name, test in in_traced_trees(TESTS):
         yield name.replace("play:", "play, health:"), test
     yield "health: cells out are those held", cells_out_are_those_held

@@ -2,18 +2,16 @@
 
 from front_door.command import start, trouble
 from front_door.play_tree import (
-    ACCEPTED, LISTING, NOT_PLAYED, REFUSED, in_trees)
+    ACCEPTED, NOT_PLAYED, REFUSED, in_traced_trees)
 from front_door.remedies import what_to_do
 
-# In the place of pictures.py: says its words, a line each, and what it was
-# handed; ends with 3.
+# In the place of pictures.py: says its words, a line each, and the bytes of
+# standard input; ends with 3.
 STAND_IN = """\
 import os, sys
-words = sys.argv[1:]
-for word in words:
+for word in sys.argv[1:]:
     print(os.path.basename(word))
-    if os.path.isfile(word):
-        print(open(word, "rb").read().hex())
+print(sys.stdin.buffer.read().hex())
 sys.exit(3)
 """
 
@@ -22,30 +20,28 @@ def stand_in(tree):
     tree.write("tools/show/pictures.py", STAND_IN)
 
 
-def handed(*words):
-    """What the stand-in says of words; the file and its listing are pairs of
-    a name and bytes."""
-    lines = []
-    for word in words:
-        lines += [word] if isinstance(word, str) else [word[0], word[1].hex()]
-    return "".join(line + "\n" for line in lines).encode()
+def handed(*words, data=ACCEPTED):
+    """What the stand-in says of words and of the file's bytes."""
+    return "".join(line + "\n" for line in (*words, data.hex())).encode()
 
 
 def words_of_pictures(tree):
-    """Options first, as they are given; then file, listing, call."""
+    """Options first, as they are given; then program, file, call."""
     stand_in(tree)
-    calls, listing = ("calls", ACCEPTED), ("listing", LISTING)
+    named = "--", "dometrace", "calls"
     for words, output in (
-            (("--window", tree.calls), ("--window", calls, listing)),
-            (("--window", tree.calls, "7"), ("--window", calls, listing, "7")),
+            (("--window", tree.calls), ("--window", *named)),
+            (("--window", tree.calls, "7"), ("--window", *named, "7")),
             (("--window", "--svg", "a b", tree.calls, "7"),
-             ("--window", "--svg", "a b", calls, listing, "7")),
+             ("--window", "--svg", "a b", *named, "7")),
             (("--window", tree.calls, "7", "--svg", "out"),
-             ("--window", "--svg", "out", calls, listing, "7")),
-            (("--timeline", "--x", tree.calls),
-             ("--timeline", "--x", calls, listing)),
-            (("--page", "out.html", "--", tree.calls),
-             ("--page", "out.html", calls, listing))):
+             ("--window", "--svg", "out", *named, "7")),
+            (("--timeline", "--x", tree.calls), ("--timeline", "--x", *named)),
+            (("--to", "9", "--page", "out.html", "--from", "4", "--",
+              tree.calls),
+             ("--to", "9", "--page", "out.html", "--from", "4", *named)),
+            (("--allcalls", "--page", "out.html", tree.calls),
+             ("--page", "out.html", "--allcalls", *named))):
         wrong = trouble(tree.start(*words), 3, handed(*output))
         if wrong:
             return "%s: %s" % (words, wrong)
@@ -53,18 +49,19 @@ def words_of_pictures(tree):
 
 
 def text_as_bytes(tree):
-    """A picture is drawn of a text's bytes, under the text's name; standard
-    input is named as such."""
-    stand_in(tree)
+    """A picture is drawn of a text, under the text's name; standard input is
+    named as such."""
     text = b"plan F=4 W=2 N=8\nflow share=1 cells=1 from=1 to=9\ntick\n"
-    data = bytes.fromhex("10 00 01 00 0C 00 04 00 02 00 08 00 01 01 01 09"
-                         "03 00 00 00 00")
-    return (trouble(tree.start("--window", tree.write("by hand", text)), 3,
-                    handed("--window", ("by hand", data),
-                           ("listing", LISTING)))
-            or trouble(tree.start("--window", "-", input=text), 3,
-                       handed("--window", ("standard input", data),
-                              ("listing", LISTING))))
+    for words, options, name in (
+            ((tree.write("by hand", text),), {}, "by hand"),
+            (("-",), {"input": text}, "standard input")):
+        ended = tree.start("--svg", "-", *words, **options)
+        wrong = trouble(ended) or (
+            "<title>%s after call 1 of 1</title>" % name
+            not in ended.output.decode() and "another picture")
+        if wrong:
+            return "%s: %s" % (name, wrong)
+    return None
 
 
 def nothing_is_left(tree):
@@ -82,7 +79,6 @@ def nothing_is_left(tree):
 
 def refused_plan(tree):
     """Nothing is drawn."""
-    stand_in(tree)
     return trouble(tree.start("--window", "-", input=b"no plan"), REFUSED, b"",
                    "standard input is refused with 1: the plan has fewer",
                    what_to_do(1))
@@ -108,6 +104,9 @@ def wrong_words(tree):
             (("--explain", tree.calls, "7"), "and 2 are named"),
             (("--dense", tree.calls), "and 2 are named"),
             (("--explain", "--window", tree.calls), "don't go together"),
+            (("--page", "out", tree.calls, "--to"), "--to names no slot"),
+            (("--explain", "--from", "1", tree.calls),
+             "--from goes with --timeline or --page alone"),
             (("--window", "nowhere"), "there is no file 'nowhere'")):
         wrong = trouble(tree.start(*words), NOT_PLAYED, b"", says)
         if wrong:
@@ -121,6 +120,6 @@ def help_fits(tree):
 
 
 def tests(programs):
-    return in_trees((words_of_pictures, text_as_bytes, nothing_is_left,
+    return in_traced_trees((words_of_pictures, text_as_bytes, nothing_is_left,
                      refused_plan, pictures_are_missing, no_python,
-                     wrong_words, help_fits), programs)
+                     wrong_words, help_fits))

@@ -15,7 +15,8 @@ SHOW = tuple("tools/show/" + path.name              # what says and draws plays
 
 class PlayTree(Tree):
     script, crate = "play", "domelink"
-    needed = ("flights/dense", "flights/listing", *SHOW)
+    needed = ("flights/dense", "flights/listing", "target/bin/domelink",
+              "target/bin/dometrace", *SHOW)
 
     def __init__(self, folder, program):
         super().__init__(folder, program)
@@ -24,5 +25,16 @@ class PlayTree(Tree):
         self.output = LISTING           # what it then writes
 
 
+class TracedTree(PlayTree):
+    """Of what says and draws plays."""
+
+    crate = "dometrace"
+
+
 def in_trees(tests, programs):
     return named(PlayTree, tests, programs)
+
+
+def in_traced_trees(tests):
+    return named(TracedTree, tests, {"dometrace": ROOT
+                                     / "target/bin/dometrace"})

@@ -10,9 +10,11 @@ import subprocess
 import sys
 import tempfile
 
+from call_bytes import TICK, credit
+from edges.edge_maker import BASE
 from front_door.command import LIMIT, ROOT, Ended, start, trouble
 from front_door.plan_tree import PlanTree
-from front_door.play_tree import PlayTree
+from front_door.play_tree import PlayTree, in_traced_trees
 from front_door.tree import named
 
 NOTHING_DONE = 2                # exit status of play and plan
@@ -83,6 +85,33 @@ def wrong_lines(ended, counts, left):
         return "status %d, no %s: %r" % (ended.status, missing,
                                          ended.errors[-300:])
     return seen(ended.errors) != left and "left: %r" % seen(ended.errors)
+
+
+# ---- long files
+
+def slowly(tree, command, *words):
+    """How a command ends whose input stays open for some seconds after two
+    ticks and a credit that is refused."""
+    calls = tree.write("slow", BASE + 2 * TICK + credit(0, 4))
+    return on_a_terminal([
+        "sh", "-c", 'file=$1; shift; (cat "$file"; sleep 3) | "$@" -', "sh",
+        calls, command, *words])
+
+
+def counts_calls_on_a_terminal(tree):
+    """Where nothing else goes there; the line is empty at the end."""
+    for words in (["--summary"], ["--health"], ["--timeline", "/dev/null"]):
+        ended = slowly(tree, tree.command, *words)
+        left = [""]
+        if words[0] == "--timeline":
+            left = ["play: '/dev/null' is written", ""]
+        # A credit that finds no cell is a fault for --health.
+        ended.status -= words == ["--health"]
+        wrong = wrong_lines(ended, ["play: call 3, slot 2 "], left)
+        if wrong:
+            return "%s: %s" % (words, wrong)
+    return wrong_lines(slowly(tree, ROOT / "tools/calls", "--back"),
+                       ["calls: call 3 "], [""])
 
 
 # ---- ./play and ./plan while rt proves and builds
@@ -232,6 +261,7 @@ RUNNING = (tests_run_counts_on_a_terminal, tests_run_fails_on_a_terminal,
 
 
 def tests(programs):
+    yield from in_traced_trees((counts_calls_on_a_terminal,))
     yield from named(PlayTree, (counts_crates_on_a_terminal,
                                 no_count_on_a_pipe, failure_on_a_pipe),
                      programs)

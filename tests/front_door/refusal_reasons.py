@@ -1,13 +1,12 @@
 """Why a call is refused: what holds here, in words and on the page.  The
-listings are worked out by hand, and the second simulator gives the same."""
+listings are worked out by hand, and the second simulator gives the same
+(`Played` asks for it)."""
 
 import call_bytes
 from call_bytes import TICK, credit, plan, request, word
 from edges.edge_maker import BASE
-from front_door.picture_files import Played, Replay, call_file, page
-from front_door.show_tools import explain
-from simulator.listing import simulate
-from simulator.records import ALLCALLS, DOMELINK
+from front_door.picture_files import Played
+from front_door.show_tools import explained, followed, page
 
 
 class Reason:
@@ -16,6 +15,7 @@ class Reason:
 
     def __init__(self, name, data, lines, sentences, options=()):
         self.name = name
+        self.last = len(lines) - len(sentences)     # the last call
         self.played = Played(data, lines, options)
         self.sentences = sentences
 
@@ -58,22 +58,10 @@ CASES = [
 ]
 
 
-def by_the_simulator():
-    for case in CASES:
-        lines = list(simulate(case.played.data,
-                              ALLCALLS if case.all_calls else DOMELINK))
-        given = case.played.listing.decode().splitlines()
-        if lines != given:
-            return "%s: %s" % (case.name, lines)
-    return None
-
-
 def in_words():
     """./play --explain has each sentence once, and no other."""
     for case in CASES:
-        said, _ = explain.explained(case.played.data,
-                                    case.played.listing.decode(),
-                                    case.all_calls)
+        said = explained(case.played.data, case.all_calls)
         found = " ".join(said.split())
         missing = [sentence for sentence in filter(None, case.sentences)
                    if "(here %s)" % sentence not in found]
@@ -86,18 +74,15 @@ def in_words():
 def on_the_page():
     """The page carries the same sentences, of the last call alone."""
     for case in CASES:
-        found = page.reasons_of(Replay(
-            call_file.read(case.played.data, case.all_calls),
-            case.played.listing.decode()))
-        last = len(case.played.listing.decode().splitlines()) - len(
-            case.sentences)
-        meant = {last: case.sentences} if any(case.sentences) else {}
+        found = followed(page.Flight, case.played.data,
+                         case.all_calls).facts("calls")["reasons"]
+        meant = {case.last: case.sentences} if any(case.sentences) else {}
         if found != meant:
             return "%s: %s" % (case.name, found)
     return None
 
 
-TESTS = (by_the_simulator, in_words, on_the_page)
+TESTS = (in_words, on_the_page)
 
 
 def tests(programs):

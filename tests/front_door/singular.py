@@ -7,8 +7,7 @@ from edges.edge_maker import TICK
 from front_door.command import trouble
 from front_door.picture_files import Played, drawn
 from front_door.pictures import UTF8, all_of, svg
-from front_door.show_tools import explain
-from simulator.listing import simulate
+from front_door.show_tools import explained
 
 # One slot to a frame, one place, one flow, one cell; one tick, and one byte
 # that is no call.
@@ -24,8 +23,7 @@ SEVERAL = re.compile(r"\b1 (slots|cells|places|flows|calls|bytes|credits|"
 
 def said(data):
     """A file in words, on one line."""
-    listing = "".join(line + "\n" for line in simulate(data))
-    return " ".join(explain.explained(data, listing, False)[0].split())
+    return " ".join(explained(data).split())
 
 
 def wrong_words(text, *needed):

@@ -1,4 +1,5 @@
-"""Programs whose reader is too slow: the pipe is full and doesn't wait.
+"""Programs whose reader is too slow: the pipe is full and doesn't wait; and
+input that can't be read.
 
 domelink says that output was lost; domeplan waits for its reader, and says it
 where the output takes nothing at all."""
@@ -11,7 +12,7 @@ import time
 import call_bytes
 from edges.edge_maker import BASE
 from front_door.command import (
-    LIMIT, into_full_pipe, redirected, small_pipe, start, trouble)
+    LIMIT, ROOT, into_full_pipe, redirected, small_pipe, start, trouble)
 from simulator.listing import simulate
 
 CALLS = BASE + 5000 * call_bytes.TICK + call_bytes.TICK[:2]
@@ -98,7 +99,23 @@ DOMEPLAN = {
     "a closed output is said on standard error": is_said(">&-")}
 
 
+def input_that_cannot_be_read(program):
+    """Rules 13.1 and 26.1: a closed one and a directory are told, and nothing
+    is written."""
+    for redirection in ("<&-", "</"):
+        wrong = trouble(start(redirected(redirection, program)), output=b"",
+                        says="%s: input was lost: standard input can't be "
+                        "read" % os.path.basename(program))
+        if wrong:
+            return "%s: %s" % (redirection, wrong)
+    return None
+
+
 def tests(programs):
+    for name in ("domelink", "dometrace"):
+        yield (name + ": input that can't be read is said",
+               lambda name=name: input_that_cannot_be_read(
+                   ROOT / "target/bin" / name))
     yield ("domelink: a full pipe has the beginning of the output",
            lambda: only_a_beginning(programs["domelink"]))
     yield ("domelink: lost output is said on standard error",

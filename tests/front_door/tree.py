@@ -25,7 +25,7 @@ class Tree:
             self.copy(ROOT / name, name)
         self.command = self.root / self.script
         self.program = self.copy(program, "target/bin/" + self.crate)
-        self.source = self.write("crates/link/src/lib.rt", "// a source\n")
+        self.source = self.write("crates/plan/src/lib.rt", "// a source\n")
         for path in (self.source, self.root / "crates.txt"):
             os.utime(path, (1, 1))
         self.path = os.environ.get("PATH", os.defpath)

@@ -10,7 +10,7 @@ than 256 slots late is taken never to leave.
 from collections import deque
 
 from check.ends import ENDED, Ends, Shift
-from check.flows import Flow
+from check.flows import Flow, takers
 from check.words import Faults, plural
 
 WINDOW = 256                    # the most positions of a window
@@ -145,6 +145,7 @@ class Sending:
             stream.in_time_by(tile - slot)
             return
         stream.elsewhere += 1
+        stream.owners[owner] += 1
         self.faults.add(slot, wrong_leaving(slot, owner, flow, tile))
 
     def end(self):
@@ -190,11 +191,13 @@ class Sending:
             "its slot" if tiles == 1 else "their slots")
 
     def flow_lines(self, explained):
+        taken_by = takers(self.flows)
         for number, stream in sorted(self.flows.items()):
             if stream.all_in_time() and stream.booked:
                 yield number, gained(number, stream)
             elif stream.booked or stream.elsewhere:
-                yield number, stream.sentence(number, explained)
+                yield number, stream.sentence(number, explained,
+                                              taken_by.get(number))
 
     def numbers(self):
         """For --json."""

@@ -26,7 +26,11 @@ class Ends:
 
     def lines(self):
         """A sentence where one ends before the other."""
-        if self.sent < self.booked:
+        if not self.sent:
+            yield "SENT is empty: of %s, %d booked, none can be compared: " \
+                "look at whether the list was written" % (
+                    plural(self.booked, "slot"), self.booked_alone)
+        elif self.sent < self.booked:
             yield "SENT ends after slot %d and BOOKED after slot %d: %s, %d " \
                 "booked, can't be compared" % (
                     self.sent, self.booked,

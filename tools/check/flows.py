@@ -3,6 +3,12 @@
 from collections import Counter
 
 
+def takers(flows):
+    """By flow: the one that leaves in its slots alone, where there is one."""
+    return {flow.in_place_of(): number for number, flow in flows.items()
+            if flow.in_place_of() is not None}
+
+
 class Flow:
     """Counts of a flow.  A tile that didn't leave in time and left in another
     slot is one elsewhere."""
@@ -56,13 +62,17 @@ class Flow:
         if self.never:
             yield "%d never" % self.never
 
-    def advice(self):
-        """Where to look, or nothing."""
+    def advice(self, taker=None):
+        """Where to look; `taker` is the flow that leaves in this one's slots
+        alone, or None."""
         if not self.left and self.booked:
             return "look at its cable"
         if self.in_place_of() is not None:
             return "all in flow %d's slots: look at which stream has which " \
                 "number" % self.in_place_of()
+        if taker is not None:
+            return "flow %d leaves in its slots: look at which stream has " \
+                "which number" % taker
         if not self.booked and self.left:
             return "look at who sends under this number, and whether its " \
                 "requests were refused"
@@ -74,6 +84,8 @@ class Flow:
         if self.left > self.booked:
             return "%d more than booked: look at what its board sends" % (
                 self.left - self.booked)
+        if self.never:
+            return "look at whether its board had the tile by then"
         return ""
 
     def in_place_of(self):
@@ -86,8 +98,8 @@ class Flow:
         """It leaves, but in others' slots alone."""
         return self.elsewhere and not self.in_time
 
-    def sentence(self, number, explained=False):
+    def sentence(self, number, explained=False, taker=None):
         """All of it; where something else explains it, it is not the flow."""
-        advice = "" if explained else self.advice()
+        advice = "" if explained else self.advice(taker)
         return "flow %d: %s%s" % (number, ", ".join(self.counts()),
                                   advice and ": " + advice)

@@ -2,7 +2,7 @@
 other."""
 
 from check.ends import ENDED, Ends, Shift
-from check.flows import Flow
+from check.flows import Flow, takers
 from check.words import Faults, plural
 
 
@@ -88,8 +88,10 @@ class SlotBySlot:
             self.agreeing(), self.ends.booked, self.ends.sent)
 
     def flow_lines(self, explained):
+        taken_by = takers(self.flows)
         for number, flow in sorted(self.flows.items()):
-            yield number, flow.sentence(number, explained)
+            yield number, flow.sentence(number, explained,
+                                        taken_by.get(number))
 
     def numbers(self):
         """For --json."""

@@ -64,14 +64,6 @@ class Call:
         self.mask = fields.get("mask")          # lend: bit i is for flow i
 
 
-class CallFile:
-    """A plan and its calls.  `calls[0]` is call number 1."""
-
-    def __init__(self, plan, calls):
-        self.plan = plan
-        self.calls = calls
-
-
 def low_first(data):
     """The number of some bytes, low byte first."""
     return int.from_bytes(data, "little")
@@ -121,13 +113,16 @@ def begins_burst(record):
             and record[1] <= BURST_WORDS and not any(record[2:RECORD]))
 
 
-def records_of(data, kinds):
-    """The records of the bytes after the plan; the last may be short."""
-    start = 0
-    while start < len(data):
+def whole_records(data, kinds):
+    """The records at the start of some bytes that are all there, bursts with
+    their words."""
+    start, bursts = 0, 6 in kinds
+    while start + RECORD <= len(data):
         end = start + RECORD
-        if 6 in kinds and begins_burst(data[start:end]):
+        if bursts and begins_burst(data[start:end]):
             end += 4 * data[start + 1]
+            if end > len(data):
+                return
         yield data[start:end]
         start = end
 
@@ -147,12 +142,3 @@ def split(data):
         raise NoPlan("the plan states %d bytes, and %d are there"
                      % (length, len(data)))
     return data[:length], data[length:]
-
-
-def read(data, all_calls=False):
-    """The call file of some bytes; with `all_calls` the records of lends,
-    resets and bursts are calls too, as they are for allcalls."""
-    kinds = ALLCALLS if all_calls else DOMELINK
-    plan, rest = split(bytes(data))
-    return CallFile(Plan(plan), [call_of(record, kinds)
-                                 for record in records_of(rest, kinds)])

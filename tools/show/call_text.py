@@ -83,21 +83,40 @@ class TextReader:
 
     def __init__(self, all_calls):
         self.all_calls = all_calls
+        self.lines = 0              # that are read
         self.numbers = None         # the plan's F, W and N
         self.flows = []             # share, cells, source, destination
-        self.pieces = []            # the bytes after the plan
+        self.pieces = []            # bytes that are not taken; the plan's
+        self.size = 0               # with the first call; how many
         self.defaults = None        # from the first call on
         self.to_come = 0            # words of a burst that are still to come
 
+    def put(self, data):
+        self.pieces.append(data)
+        self.size += len(data)
+
+    def taken(self):
+        """The bytes so far that were not taken before."""
+        data = b"".join(self.pieces)
+        self.pieces, self.size = [], 0
+        return data
+
     def data(self):
-        """The bytes of all lines."""
+        """The bytes of all lines that were not taken before."""
         if self.to_come:
             raise TextError("the text ends, and the burst before lacks %d of "
                             "its words" % self.to_come)
-        plan = b""
-        if self.numbers is not None:
-            plan = plan_bytes(self.numbers, self.flows)
-        return plan + b"".join(self.pieces)
+        if self.defaults is None and self.numbers is not None:
+            self.put(plan_bytes(self.numbers, self.flows))
+        return self.taken()
+
+    def read_next(self, line):
+        """Reads the next line; a TextError names it."""
+        self.lines += 1
+        try:
+            self.read(line)
+        except TextError as wrong:
+            raise TextError("line %d: %s" % (self.lines, wrong)) from None
 
     def read(self, line):
         words = line.partition("#")[0].split()
@@ -123,6 +142,8 @@ class TextReader:
             raise TextError("the first line has to be a plan, as in plan F=4 "
                             "W=2 N=4")
         if self.defaults is None:
+            if self.numbers is not None:
+                self.put(plan_bytes(self.numbers, self.flows))
             frame, window, _ = self.numbers or (0, 0, 0)
             self.defaults = Defaults(frame * window,
                                      [flow[3] for flow in self.flows])
@@ -183,15 +204,15 @@ class TextReader:
         """A request, or a burst's next word."""
         if self.to_come:
             self.to_come -= 1
-            self.pieces.append(struct.pack("<I", value))
+            self.put(struct.pack("<I", value))
         else:
-            self.pieces.append(struct.pack("<BI", 1, value))
+            self.put(struct.pack("<BI", 1, value))
 
     def credit(self, words):
         if len(words) != 2:
             raise TextError("a credit names a flow and a position, as in "
                             "credit 0 4")
-        self.pieces.append(struct.pack(
+        self.put(struct.pack(
             "<BBHB", 2, number_of(words[0], 255, "the flow"),
             number_of(words[1], 65535, "the position"), 0))
 
@@ -204,33 +225,33 @@ class TextReader:
             raise TextError("a tick takes at most how many there are, from 1 "
                             "to %d, as in tick 5" % MOST_TICKS)
         self.defaults.ticks += count
-        self.pieces.append(bytes([3, 0, 0, 0, 0]) * count)
+        self.put(bytes([3, 0, 0, 0, 0]) * count)
 
     def bytes(self, words):
         if not words or any(len(word) != 2 for word in words):
             raise TextError("bytes are pairs of hexadecimal digits, as in "
                             "bytes 01 FF")
-        self.pieces.append(bytes(number_of("0x" + word, 255, "a byte")
+        self.put(bytes(number_of("0x" + word, 255, "a byte")
                                  for word in words))
 
     # ---- calls of allcalls
 
     def lend(self, words):
         flows = {number_of(word, 15, "the flow") for word in words}
-        self.pieces.append(struct.pack("<BHH", 4,
+        self.put(struct.pack("<BHH", 4,
                                        sum(1 << flow for flow in flows), 0))
 
     def reset(self, words):
         if words:
             raise TextError("a reset stands alone")
-        self.pieces.append(bytes([5, 0, 0, 0, 0]))
+        self.put(bytes([5, 0, 0, 0, 0]))
 
     def burst(self, words):
         if len(words) != 1:
             raise TextError("a burst says how many words follow, as in "
                             "burst 2")
         self.to_come = number_of(words[0], BURST_WORDS, "the count")
-        self.pieces.append(bytes([6, self.to_come, 0, 0, 0]))
+        self.put(bytes([6, self.to_come, 0, 0, 0]))
 
 
 def is_text(data):
@@ -245,10 +266,6 @@ def is_text(data):
 def bytes_of(text, all_calls=False):
     """The bytes of a text; a TextError names the line."""
     reader = TextReader(all_calls)
-    lines = text.split("\n")
-    for number, line in enumerate(lines, 1):
-        try:
-            reader.read(line)
-        except TextError as wrong:
-            raise TextError("line %d: %s" % (number, wrong)) from None
+    for line in text.split("\n"):
+        reader.read_next(line)
     return reader.data()

@@ -1,11 +1,14 @@
 """tools/calls: call files as text, there and back."""
 
+import signal
 import sys
 
 import call_file
-from call_text import TextError, bytes_of, is_text
-from ends import read_file, stop, write_output
-from text_lines import text_of
+from call_stream import PIECE, begin, is_a_text, made_of_text, pieces_of
+from call_text import TextError, TextReader
+from ends import open_file, stop, write_output
+from following import CountingLine
+from text_lines import writer_for
 
 HELP = """\
 tools/calls TEXT >FILE         makes a call file of a text
@@ -47,37 +50,83 @@ def say(status, text):
     stop("calls", status, text)
 
 
-def make_bytes(data, name, all_calls):
-    try:
-        return bytes_of(data.decode("utf-8", "replace"), all_calls)
-    except TextError as wrong:
-        say(1, "%s, %s" % (name, wrong))
-
-
-def is_call_file(data):
+def is_call_file(begun):
     """Whether a file begins with the bytes of a plan."""
     try:
-        call_file.read(data, True)
+        call_file.split(begun)
     except call_file.NoPlan:
         return False
     return True
 
 
-def made(options, path):
-    """What is written."""
-    data = read_file("calls", path)
-    all_calls = "--allcalls" in options
-    name = "standard input" if path == "-" else "'%s'" % path
-    if "--back" in options and is_text(data):
-        say(1, "%s is a text already; without --back a call file is made of "
-            "it" % name)
-    if "--back" in options:
-        return text_of(data, all_calls).encode()
-    if "--bytes" in options and not is_text(data):
-        return data
-    if is_call_file(data):
-        say(1, "%s is a call file already; --back makes a text of it" % name)
-    return make_bytes(data, name, all_calls)
+class Made:
+    """What is written of a file, in pieces."""
+
+    def __init__(self, options, path, name):
+        self.all_calls = "--allcalls" in options
+        self.back = "--back" in options
+        self.either = "--bytes" in options
+        self.source, self.name = open_file("calls", path), name
+        self.counts = None              # counts in words what is read
+
+    def pieces(self):
+        begun = begin(self.source, True)
+        text = is_a_text(begun)
+        if self.back:
+            if text:
+                say(1, "%s is a text already; without --back a call file is "
+                    "made of it" % self.name)
+            yield from self.text(begun)
+        elif self.either and not text:
+            yield from pieces_of(begun, self.source)
+        else:
+            if is_call_file(begun):
+                say(1, "%s is a call file already; --back makes a text of it"
+                    % self.name)
+            yield from self.bytes(begun)
+
+    def text(self, begun):
+        writer = writer_for(begun, self.all_calls)
+        self.counts = lambda: "call %d" % writer.calls
+        for piece in pieces_of(begun, self.source):
+            yield writer.write(piece).encode()
+        yield writer.end().encode()
+
+    def bytes(self, begun):
+        reader = TextReader(self.all_calls)
+        self.counts = lambda: "line %d" % reader.lines
+        made = made_of_text(reader, pieces_of(begun, self.source))
+        yield from iter(lambda: made.read(PIECE), b"")
+
+    def counted(self):
+        """How far it is, in words."""
+        return self.counts() if self.counts else "the beginning"
+
+
+def write_all(made, to_terminal):
+    """Writes the pieces; where they are bytes, not to a terminal."""
+    line = CountingLine(lambda: "calls: " + made.counted())
+    line.shown = line.shown and not to_terminal
+    line.start()
+    try:
+        for piece in made.pieces():
+            if to_terminal and not made.back:
+                say(2, "a call file is bytes, and standard output is a "
+                    "terminal: send it to a file, as in tools/calls FILE "
+                    ">OUT")
+            write_output("calls", piece)
+    except TextError as wrong:
+        line.end()
+        say(1, "%s, %s" % (made.name, wrong))
+    except OSError as wrong:
+        line.end()
+        say(2, "%s can't be read, or its call file kept: %s" % (
+            made.name, wrong.strerror))
+    except KeyboardInterrupt:
+        line.end()
+        say(3, "broken off after %s" % made.counted())
+    finally:
+        line.end()
 
 
 def options_of(words):
@@ -103,11 +152,11 @@ def main(words):
     if len(words) != 1:
         say(2, "one file is read, and %d are named; tools/calls --help says "
             "more" % len(words))
-    output = made(options, words[0])
-    if "--back" not in options and sys.stdout and sys.stdout.isatty():
-        say(2, "a call file is bytes, and standard output is a terminal: send "
-            "it to a file, as in tools/calls %s >FILE" % words[0])
-    write_output("calls", output)
+    signal.signal(signal.SIGINT, signal.default_int_handler)
+    name = "standard input" if words[0] == "-" else "'%s'" % words[0]
+    write_all(Made(options, words[0], name),
+              bool(sys.stdout) and sys.stdout.isatty())
+    write_output("calls", b"")
 
 
 if __name__ == "__main__":

@@ -18,13 +18,21 @@ def stop(script, status, text):
 
 def read_file(script, path):
     """A file's bytes; - is standard input."""
+    source = open_file(script, path)
     try:
-        if path == "-":
-            return sys.stdin.buffer.read()
-        with open(path, "rb") as source:
-            return source.read()
-    except AttributeError:
-        stop(script, 2, "standard input is closed, and - stands for it")
+        return b"".join(iter(lambda: os.read(source, 1 << 16), b""))
+    except OSError as wrong:
+        stop(script, 2, "'%s' can't be read: %s" % (path, wrong.strerror))
+
+
+def open_file(script, path):
+    """The file descriptor of a file; - is standard input."""
+    if path == "-":
+        if sys.stdin is None:
+            stop(script, 2, "standard input is closed, and - stands for it")
+        return sys.stdin.fileno()
+    try:
+        return os.open(path, os.O_RDONLY)
     except OSError as wrong:
         stop(script, 2, "'%s' can't be read: %s" % (path, wrong.strerror))
 

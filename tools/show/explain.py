@@ -1,90 +1,152 @@
-"""python3 explain.py [--allcalls] FILE LISTING: each call of a call file with
-its answer in words, and a summary.  ./play --explain starts it.
+"""python3 explain.py [--summary] [--allcalls] PROGRAM NAME: each call of the
+file that standard input has, with its answer in words as they come, and a
+summary; with --summary the summary alone.  PROGRAM is dometrace, and NAME is
+what sentences call the input.  ./play --explain and --summary start it.
 
-Exit status: 0, or 1 where the plan is refused; 2 where the listing is not that
-of the file; 3 where the output is not whole.
+Exit status: 0, or 1 where the plan is refused; 2 where nothing was played; 3
+where the output is not whole.
 """
 
 import sys
-import textwrap
 
-import call_file
-from ends import read_file, stop, write_output
-from refusals import refusal, rows
-from replay import ListingError, Replay
+from ends import write_output
+from following import follow
+from refusals import rows
 from summary import Summary
-from words import Words
+from trace_words import listing_line
+from words import Words, plan_words, refused_with
 
 WIDTH, INDENT = 80, 8
+OPTIONS = ("--summary", "--allcalls")
 
 
-def paragraph(head, text, further=INDENT):
+# ---- lines of at most 80 characters
+
+def paragraph(head, text):
+    line = head.ljust(INDENT) + text
+    if len(line) <= WIDTH:
+        return line + "\n"
+    return filled(head.ljust(INDENT), text, INDENT)
+
+
+def filled(head, text, further):
     """Words behind a head, in lines of at most 80 characters, those after the
     first further in."""
-    return textwrap.fill(text, WIDTH, initial_indent=head.ljust(INDENT),
-                         subsequent_indent=" " * further,
-                         break_long_words=False, break_on_hyphens=False)
+    line = head + text
+    return (line if len(line) <= WIDTH else wrapped(
+        line, len(head) + 1, further)) + "\n"
 
 
-def of_step(words, step):
-    yield paragraph("%5d" % step.number, words.of_call(step.call))
-    for text, answer in zip(words.of_answers(step), step.answers):
-        yield paragraph("  " + answer.line, " " * (
-            len(answer.line) > INDENT - 3) + text)
+def wrapped(line, least, further):
+    """A line cut at blanks that stand behind its first so many letters; what
+    has no blank stays whole."""
+    cut, lines = cut_of(line, least), []
+    while cut > 0:
+        lines.append(line[:cut])
+        line = " " * further + line[cut + 1:]
+        cut = cut_of(line, further + 1)
+    return "\n".join([*lines, line])
 
 
-def pages(replay):
-    """The lines of a play, one paragraph after the other."""
-    words = Words(replay)
-    plan, *flows = words.of_plan()
-    yield paragraph("  P %d" % replay.refusal, plan)
-    for flow in flows:
-        yield paragraph("", flow)
-    if replay.refusal:
-        return
-    yield ""
-    for step in replay.steps:
-        yield from of_step(words, step)
-    yield ""
-    yield "Summary"
-    for line in Summary(replay).lines():
-        deep = INDENT + 4 * line.startswith(" ")
-        yield paragraph(" " * deep, line.lstrip(), deep + 4)
+def cut_of(line, least):
+    """The blank at which a line is cut; 0 or less for none."""
+    if len(line) <= WIDTH:
+        return 0
+    cut = line.rfind(" ", least, WIDTH + 1)
+    return cut if cut > 0 else line.find(" ", WIDTH)
 
 
-def without_plan(listing):
-    """The line for a file that begins with no plan."""
-    if listing != "P 1\n":
-        raise ListingError("the file begins with no plan, and the listing "
-                           "doesn't say so")
-    row = refusal(1, "plan", rows())
-    return paragraph("  P 1", "the plan is refused with 1: %s; what to do: %s; "
-                     "a text for tools/calls begins with the word plan"
-                     % (row.when, row.what_to_do)) + "\n"
+# ---- a play in words
+
+class Telling:
+    """Says each call as its lines come, and writes it by `write`."""
+
+    over = False
+
+    def __init__(self, plan, write):
+        self.words = Words(plan)
+        self.summary = Summary(plan)
+        self.write = write
+        write(plan_page(plan) + "\n")
+
+    @property
+    def calls(self):
+        return self.summary.calls
+
+    @property
+    def slot(self):
+        return self.summary.slot
+
+    def add(self, lines):
+        said, take, say = [], self.summary.take, self.said
+        for line in lines:
+            words = line.split()
+            take(words)
+            if words[0] != "F":
+                said.append(say(words))
+        self.write("".join(said))
+
+    def said(self, words):
+        """A line's paragraphs: a burst has a call, and its words answers."""
+        summary, say, letter = self.summary, self.words, words[0]
+        say.slot = summary.kept.slot
+        if letter == "B":
+            return self.answered(words, say.of_burst(words))
+        called = paragraph("%5d" % summary.kept.calls,
+                           say.calls[letter](words))
+        if letter == "W":
+            return called
+        return called + self.answered(words, say.of_answer(words,
+                                                           summary.pair))
+
+    @staticmethod
+    def answered(words, text):
+        answer = listing_line(words)
+        if len(answer) > INDENT - 3:
+            text = " " + text
+        return paragraph("  " + answer, text)
 
 
-def explained(data, listing, all_calls):
-    """The text, and the refusal of the plan."""
-    try:
-        calls = call_file.read(data, all_calls)
-    except call_file.NoPlan:
-        return without_plan(listing), 1
-    replay = Replay(calls, listing)
-    return "".join(line + "\n" for line in pages(replay)), replay.refusal
+def plan_page(plan):
+    first, *flows = plan_words(plan)
+    return paragraph("  P 0", first) + "".join(
+        paragraph("", flow) for flow in flows)
+
+
+def refused_page(number):
+    """The paragraph for a plan that is refused."""
+    more = "; a text for tools/calls begins with the word plan"
+    return paragraph("  P %d" % number, "the plan is %s%s" % (
+        refused_with(number, "plan", rows()), more if number == 1 else ""))
+
+
+def summary_page(summary, indent=INDENT):
+    """The lines of a summary."""
+    said = ""
+    for line in summary.lines():
+        deep = indent + 4 * line.startswith(" ")
+        said += filled(" " * deep, line.lstrip(), deep + 4)
+    return said
 
 
 def main(words):
-    all_calls = words[:1] == ["--allcalls"]
-    if len(words) != 2 + all_calls:
-        stop("explain", 2, "a call file and its listing are asked for")
-    data, listing = (read_file("explain", path) for path in words[-2:])
-    try:
-        text, refused = explained(data, listing.decode("ascii", "replace"),
-                                  all_calls)
-    except ListingError as wrong:
-        stop("play", 2, "the listing doesn't fit the file: %s" % wrong)
-    write_output("play", text.encode())
-    sys.exit(1 if refused else 0)
+    options = {word for word in words if word in OPTIONS}
+    program, name = [word for word in words if word not in OPTIONS]
+    all_calls = "--allcalls" in options
+
+    def write(text):
+        write_output("play", text.encode())
+
+    def refused(_, number):
+        write(refused_page(number))
+        sys.exit(1)
+    if "--summary" in options:
+        summary = follow(program, name, all_calls, Summary, refused)
+        write(summary_page(summary, 0))
+        return
+    told = follow(program, name, all_calls, lambda plan: Telling(plan, write),
+                  refused, bool(sys.stdout) and sys.stdout.isatty())
+    write("\nSummary\n" + summary_page(told.summary))
 
 
 if __name__ == "__main__":

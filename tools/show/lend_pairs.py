@@ -2,21 +2,21 @@
 credit of the flow that it was answered with, dated a slot that this flow has
 booked.  Whether the tile had come, and whether it left, stands in no call."""
 
-
-def pair_of(replay, step):
-    """Of a credit that makes a pair with the lend before it: the booked slot,
-    and the one in which its tile may leave.  Else None."""
-    before = replay.steps[step.number - 2] if step.number > 1 else step
-    if step.call.kind != "credit" or before.call.kind != "lend":
-        return None
-    answer, state = step.answers[0], replay.states[step.number]
-    if (answer.refusal or before.answers[0].flow != answer.flow
-            or state.owners[answer.slot - state.slots[0]] != answer.flow):
-        return None
-    return answer.slot, state.ticks
+from trace_words import AHEAD, FLOW, OWNER, VALUE
 
 
-def pairs(replay):
-    """All of them, by the number of the credit."""
-    found = ((step.number, pair_of(replay, step)) for step in replay.steps)
-    return {number: pair for number, pair in found if pair}
+class Pairs:
+    """Looks at the lines of a trace that begin calls, one after the other."""
+
+    def __init__(self):
+        self.lent_to = None     # by the call before
+
+    def of_line(self, words, slot):
+        """Of a credit that makes a pair with the lend before it: the booked
+        slot, and the current one, in which its tile may leave.  Else None."""
+        lent_to = self.lent_to
+        self.lent_to = words[VALUE] if words[0] == "L" else None
+        if (words[0] != "C" or lent_to is None
+                or not words[FLOW] == words[OWNER] == lent_to):
+            return None
+        return slot + int(words[AHEAD]), slot

@@ -1,20 +1,10 @@
 """One HTML page of a call file's play, which needs no network.
 
-The page has the plan, and each call with its answer, as JSON; the script of
-page_replay.js counts from them what the window and the holdings are, that of
-page_words.js says them, and that of page_view.js draws.  A call is a list: its
-kind, its numbers, and last its answer.
-
-    1, flow, quantum number, departure, destination, position granted
-    2, flow, position, 0                    a credit
-    3, flow whose slot came up, or -1       a tick
-    4, mask, flow lent to                   a lend
-    5, 0                                    a reset
-    6, list of [flow, quantum number, departure, destination, answer]
-    0                                       a record that is no call
-
-A negative answer is a refusal; null is a burst's word past the 16th.  Why it is
-one stands beside the calls, by the call's number, as ./play --explain says it.
+The page has the plan, the link before its first call, and the lines of the
+trace that follow (rules 26.4 to 26.9), as JSON; the script of page_trace.js
+keeps the window by them (rule 26.10), that of page_words.js says them, and
+that of page_view.js draws.  Why a call is refused stands beside them, by the
+call's number, as ./play --explain says it.
 """
 
 import html
@@ -24,82 +14,99 @@ from pathlib import Path
 
 import colours
 import refusals
-from lend_pairs import pairs
-from words import Words
+from kept import Kept
+from lend_pairs import Pairs
+from words import Words, refusal_of
 
 HERE = Path(__file__).resolve().parent
+MOST = 50000                    # calls of a page
 
 
-def answer_of(call, answer):
-    """An answer as a number."""
-    if answer.kind == "untouched":
-        return None
-    if answer.refusal:
-        return -answer.refusal
-    if answer.kind == "granted":
-        return answer.booking.position
-    if call.kind in ("tick", "lend"):
-        return -1 if answer.flow is None else answer.flow
-    return 0
+class Flight:
+    """The lines of a stretch of a trace, and what is said of them.  It begins
+    before the tick with which its first slot comes up."""
 
+    def __init__(self, plan, first=0, last=None):
+        self.plan = plan
+        self.first, self.last = first, last     # slots
+        self.kept = Kept(plan)
+        self.start = None if first else self.kept.copy()
+        self.over = False               # the stretch has gone by
+        self.full = False               # it has more calls than a page
+        self.lines = []
+        self.words = Words(plan)
+        self.pairs, self.found_pairs = Pairs(), {}      # by call
+        self.reasons, self.refusals = {}, {}            # by call, by number
 
-def word_fields(word):
-    return [word.flow, word.quantum, word.departure, word.destination]
+    @property
+    def calls(self):
+        return self.kept.calls
 
+    @property
+    def slot(self):
+        return self.kept.slot
 
-def row_of(step):
-    """A call and its answer as a list."""
-    call = step.call
-    if call.kind == "burst":
-        return [6, [word_fields(word) + [answer_of(call, answer)]
-                    for word, answer in zip(call.words, step.answers)]]
-    numbers = {
-        "request": lambda: [1, *word_fields(call.word)],
-        "credit": lambda: [2, call.flow, call.position],
-        "tick": lambda: [3],
-        "lend": lambda: [4, call.mask],
-        "reset": lambda: [5],
-        "none": lambda: [0],
-    }[call.kind]()
-    return numbers + [answer_of(call, step.answers[0])]
+    def add(self, lines):
+        for line in lines:
+            words = line.split()
+            if words[0] not in "FB":
+                self.begin_call(words)
+                if self.over:
+                    return
+            self.kept.take(words)
+            pair = words[0] not in "FB" and self.pairs.of_line(
+                words, self.kept.slot)
+            if self.start:
+                self.lines.append(line)
+                self.note(words, pair)
 
+    def begin_call(self, words):
+        """Looks whether the stretch begins or ends with a call."""
+        slot = self.kept.slot + (words[0] == "T")
+        if not self.start and slot == self.first:
+            self.start = self.kept.copy()
+        self.full = bool(self.start) and (
+            self.kept.calls - self.start.calls == MOST)
+        self.over = self.full or self.last is not None and slot > self.last
 
-def refusals_of(replay):
-    """Each refusal that comes up: when it is given, and what to do."""
-    known = refusals.rows()
-    said = {}
-    for step in replay.steps:
-        for answer in step.answers:
-            if answer.refusal and answer.refusal not in said:
-                row = refusals.refusal(answer.refusal, step.call.kind, known)
-                said[answer.refusal] = [row.when, row.what_to_do]
-    return dict(sorted(said.items()))
+    def note(self, words, pair):
+        """What is said of a line besides its own words."""
+        if pair:
+            self.found_pairs[self.kept.calls] = pair
+        if words[0] == "F" or words[0] == "W":
+            return
+        number, kind = refusal_of(words)
+        here = self.words.here(words) if number else ""
+        if words[0] == "B" or here:
+            self.reasons.setdefault(self.kept.calls, []).append(here)
+        if number and number not in self.refusals:
+            row = refusals.refusal(number, kind, self.words.known)
+            self.refusals[number] = [row.when, row.what_to_do]
 
+    # ---- what the page's scripts read
 
-def reasons_of(replay):
-    """What holds here of each refusal, by the number of its call: a sentence
-    for each answer, and "" where the refusal's own row says it all."""
-    words = Words(replay)
-    said = ((step.number, words.reasons(step)) for step in replay.steps)
-    return {number: reasons for number, reasons in said if any(reasons)}
-
-
-def flight(replay, name):
-    """What the page's scripts read, but for the calls."""
-    plan = replay.plan
-    return {
-        "name": name,
-        "F": plan.frame_slots, "W": plan.window_frames, "N": plan.buffer,
-        "flows": [{"share": flow.share, "cells": flow.cells,
-                   "source": flow.source, "destination": flow.destination,
-                   "fill": colours.fill(flow.number),
-                   "ink": colours.ink(flow.number),
-                   "barred": colours.barred(flow.number)}
-                  for flow in plan.flows],
-        "refusals": refusals_of(replay),
-        "reasons": reasons_of(replay),
-        "pairs": pairs(replay),
-    }
+    def facts(self, name):
+        """All but the lines."""
+        plan, start = self.plan, self.start
+        return {
+            "name": name,
+            "F": plan.frame_slots, "W": plan.window_frames, "N": plan.buffer,
+            "flows": [{"share": flow.share, "cells": flow.cells,
+                       "source": flow.source, "destination": flow.destination,
+                       "fill": colours.fill(flow.number),
+                       "ink": colours.ink(flow.number),
+                       "barred": colours.barred(flow.number)}
+                      for flow in plan.flows],
+            "start": {"calls": start.calls, "slot": start.slot,
+                      "first": start.first, "lent": start.lent,
+                      "owners": start.owners, "granted": start.granted,
+                      "holdings": [list(held) for held in start.holdings]},
+            "whole": not (start.calls or self.over),
+            "refusals": dict(sorted(self.refusals.items())),
+            "reasons": {call: reasons for call, reasons
+                        in self.reasons.items() if any(reasons)},
+            "pairs": self.found_pairs,
+        }
 
 
 def in_html(value):
@@ -107,11 +114,11 @@ def in_html(value):
     return json.dumps(value, separators=(",", ":")).replace("<", "\\u003c")
 
 
-def flight_in_html(replay, name):
-    """The flight with its calls, a call a line."""
-    calls = ",\n".join(in_html(row_of(step)) for step in replay.steps)
-    return '%s,"calls":[\n%s\n]}' % (
-        in_html(flight(replay, name))[:-1], calls)
+def flight_in_html(flight, name):
+    """The flight with its trace, a line a line."""
+    lines = ",\n".join('"%s"' % line for line in flight.lines)
+    return '%s,"trace":[\n%s\n]}' % (
+        in_html(flight.facts(name))[:-1], lines)
 
 
 def beside(name):
@@ -119,13 +126,13 @@ def beside(name):
     return (HERE / name).read_text(encoding="utf-8")
 
 
-def page(replay, name):
+def page(flight, name):
     """The whole page."""
     parts = {
         "NAME": html.escape(name),
         "STYLE": beside("page.css"),
-        "FLIGHT": flight_in_html(replay, name),
-        "REPLAY": beside("page_replay.js"),
+        "FLIGHT": flight_in_html(flight, name),
+        "TRACE": beside("page_trace.js"),
         "WORDS": beside("page_words.js"),
         "VIEW": beside("page_view.js"),
     }

@@ -2,13 +2,16 @@
 // Draws the link after a call, with the call and its answer in words.
 
 const flight = JSON.parse(document.getElementById("flight").textContent);
+flight.calls = callsOf(flight.trace);
 const stateAfter = player(flight);
 const SLOTS = flight.F * flight.W;
 const SVG = "http://www.w3.org/2000/svg";
 const HIGH = 40; // a curve's height in its own units
-const COMES = [0]; // by slot: the number of the call with which it comes up
-flight.calls.forEach((call, place) => (call[0] === 3 ? COMES.push(place + 1) : 0));
-let shown = 0; // the number of the call that is shown
+const FIRST = flight.start.calls, LAST = lastCall(flight); // calls; the first is the one before the page's own
+const COMES = [FIRST]; // by slot, from the start's on: the number of the call with which it comes up
+flight.calls.forEach(([line], place) => (line[0] === "T" ? COMES.push(FIRST + place + 1) : 0));
+const LAST_SLOT = flight.start.slot + COMES.length - 1;
+let shown = FIRST; // the number of the call that is shown
 
 const byId = (name) => document.getElementById(name);
 
@@ -30,24 +33,28 @@ function wordsOf(number) {
   if (number === 0) {
     return ["The fresh link, before the first call.", "Nothing is booked, and nothing is held."];
   }
-  const [asked, answered] = callWords(flight, flight.calls[number - 1], stateAfter(number - 1), reasonsOf(flight, number));
+  if (number === FIRST) {
+    return [`The link after call ${FIRST}.`, "With the next call this page begins."];
+  }
+  const [asked, answered] = callWords(flight, callAt(flight, number), stateAfter(number - 1), reasonsOf(flight, number));
   return [asked, answered + pairWords(flight, number)];
 }
 
-// The slots of the window that a call is about, by their place in it.
+// The lines of the call that is shown; none where the page begins.
+function linesAt(number) {
+  return number === FIRST ? [] : callAt(flight, number);
+}
+
+// The slots of the window that a call is about, by their place in it: those that are granted, or that a taken credit is dated.
 function touched(number, state) {
-  const call = number ? flight.calls[number - 1] : [3, -1];
-  const positions = call[0] === 1 ? [call[5]] : call[0] === 2 && call[3] === 0 ? [call[2]] :
-    call[0] === 6 ? call[1].map((word) => word[4]) : [];
-  return positions.filter((position) => position !== null && position >= 0)
-    .map((position) => slotOf(flight, state, position) - firstSlot(flight, state));
+  return linesAt(number).filter(([letter, refusal]) => "GBC".includes(letter) && refusal === 0)
+    .map((line) => slotOf(state, line) - state.first);
 }
 
 // The flows that a call is about: that ask or give back, whose slot has come up, or that are lent to.
 function flowsAbout(number) {
-  const call = number ? flight.calls[number - 1] : [5, 0];
-  return call[0] === 6 ? call[1].map((word) => word[0]) : call[0] === 4 ? [call[2]] :
-    call[0] >= 1 && call[0] <= 3 ? [call[1]] : [];
+  return linesAt(number).filter(([letter, , , kind]) => "GRCTLB".includes(letter) && kind !== 5)
+    .map((line) => ("TL".includes(line[0]) ? line[VALUE] : line[KIND] === 4 ? NOBODY : line[FLOW]));
 }
 
 // ---- what is built once
@@ -101,7 +108,7 @@ function dress(slot, flow) {
 }
 
 function drawWindow(number, state) {
-  const first = firstSlot(flight, state), about = touched(number, state);
+  const first = state.first, about = touched(number, state);
   parts.labels.forEach((label, frame) => {
     const from = (first + frame * flight.F) % SLOTS;
     const name = frame === 0 ? "Head frame" : frame === flight.W - 1 ? "Newest frame" : "Frame";
@@ -109,16 +116,16 @@ function drawWindow(number, state) {
     label.textContent = `${name} ${first / flight.F + frame}: ${places}`;
   });
   parts.slots.forEach((slot, place) => {
-    const current = first + place === state.ticks;
+    const current = first + place === state.slot;
     const owner = current && state.lent !== null ? state.lent : state.owners[place];
     dress(slot, owner);
     slot.textContent = owner === null ? "" : owner;
-    slot.className = "slot" + (first + place < state.ticks ? " gone" : "") +
+    slot.className = "slot" + (first + place < state.slot ? " gone" : "") +
       (current ? " cp" : "") + (about.includes(place) ? " new" : "");
   });
-  const booked = state.owners.filter((owner, place) => owner !== null && first + place > state.ticks).length;
+  const booked = state.owners.filter((owner, place) => owner !== null && first + place > state.slot).length;
   const lent = state.lent === null ? "" : ` It is lent to flow ${state.lent}.`;
-  const where = `Current position CP = ${state.ticks % SLOTS}, slot ${state.ticks}.${lent} Booked and still to come: ${booked} of the window's ${SLOTS} slots.`;
+  const where = `Current position CP = ${state.slot % SLOTS}, slot ${state.slot}.${lent} Booked and still to come: ${booked} of the window's ${SLOTS} slots.`;
   byId("where").textContent = where;
   byId("window").setAttribute("aria-label", `The window's slots and the flows that booked them. ${where}`);
 }
@@ -143,13 +150,13 @@ function noneLeft(flow, state) {
 
 // What a flow holds; the words begin behind "holds".
 function heldWords(flow, state) {
-  const coming = state.holdings[flow].slice(state.ticks % flight.F);
+  const coming = state.holdings[flow].slice(state.slot % flight.F);
   const none = noneLeft(flow, state) ? ": none left to book with" : "";
   return `${coming[0]} of ${flight.flows[flow].cells} now, at most ${Math.max(...coming)}${none}. Granted so far: ${state.granted[flow]}.`;
 }
 
 function drawCurve(curve, flow, state) {
-  const now = state.ticks % flight.F;
+  const now = state.slot % flight.F;
   curve.area.setAttribute("d", areaPath(state.holdings[flow], flight.flows[flow].cells));
   curve.current.setAttribute("d", `M${now + 0.5} 0V${HIGH}`);
   curve.words.textContent = `Holds ${heldWords(flow, state)}`;
@@ -176,13 +183,13 @@ function drawCurves(number, state) {
 // The call and the slot that are shown, wherever they can be set.
 function drawControls(state) {
   byId("slider").value = shown;
-  byId("slider").setAttribute("aria-valuetext", `call ${shown} of ${flight.calls.length}`);
+  byId("slider").setAttribute("aria-valuetext", `call ${shown} of ${LAST}`);
   byId("at-call").value = shown;
-  byId("at-slot").value = state.ticks;
+  byId("at-slot").value = state.slot;
 }
 
 function drawWords(number) {
-  const [asked, answered] = wordsOf(number), refused = number ? refusalsOf(flight.calls[number - 1]) : [];
+  const [asked, answered] = wordsOf(number), refused = number > FIRST ? refusalsOf(callAt(flight, number)) : [];
   byId("call").textContent = asked;
   byId("answer").textContent = answered;
   byId("advice").textContent = refused.length ? advice(flight, refused[0]) : "";
@@ -200,7 +207,7 @@ function follow(address) {
 }
 
 function show(number, address) {
-  shown = Math.max(0, Math.min(number, flight.calls.length));
+  shown = Math.max(FIRST, Math.min(number, LAST));
   const state = stateAfter(shown);
   drawControls(state);
   drawWords(shown);
@@ -217,7 +224,7 @@ function meant(kind, digits) {
     return undefined;
   }
   const number = Number(digits);
-  return kind === "slot" ? COMES[number] : number <= flight.calls.length ? number : undefined;
+  return kind === "slot" ? COMES[number - flight.start.slot] : number >= FIRST && number <= LAST ? number : undefined;
 }
 
 // Goes to what a field says; where there is no such call or slot, it is said, and the page stays.
@@ -229,7 +236,8 @@ function goByField(kind) {
   }
   drawControls(stateAfter(shown));
   byId("advice").textContent = `'${words}' is no ` + (kind === "slot" ?
-    `slot that has come up: the last is slot ${COMES.length - 1}.` : `call: the last is call ${flight.calls.length}.`);
+    `slot that has come up: ${flight.whole ? "" : `the first here is slot ${flight.start.slot}, and `}the last is slot ${LAST_SLOT}.` :
+    `call: ${flight.whole ? "" : `the first here is call ${FIRST}, and `}the last is call ${LAST}.`);
 }
 
 // Goes to what the address says, #call=17, #17 or #slot=40; a bad one is ignored.
@@ -267,7 +275,7 @@ function fillSought() {
 const KEYS = {
   ArrowRight: () => show(shown + 1), ArrowLeft: () => show(shown - 1),
   PageDown: () => show(shown + 10), PageUp: () => show(shown - 10),
-  Home: () => show(0), End: () => show(flight.calls.length),
+  Home: () => show(FIRST), End: () => show(LAST),
   n: () => seek(1), p: () => seek(-1),
 };
 
@@ -282,12 +290,14 @@ function onKey(event) {
 
 function begin() {
   const facts = [`Frames of F = ${counted(flight.F, "slot")}`, `a window of W = ${flight.W} frames`,
-    `a buffer of N = ${counted(flight.N, "cell")}`, counted(flight.flows.length, "flow"), counted(flight.calls.length, "call")];
+    `a buffer of N = ${counted(flight.N, "cell")}`, counted(flight.flows.length, "flow"),
+    flight.whole ? counted(LAST, "call") : `calls ${FIRST + 1} to ${LAST} of the file, slots ${flight.start.slot + (FIRST ? 1 : 0)} to ${LAST_SLOT}`];
   const pairs = Object.keys(flight.pairs).length;
   byId("plan").textContent = `${facts.join(", ")}${pairs ? `, ${counted(pairs, "pair")} of a lend and a credit to leave ahead` : ""}.`;
-  byId("slider").max = flight.calls.length;
-  byId("calls").textContent = `of ${flight.calls.length}`;
-  byId("slots").textContent = `of ${COMES.length - 1}`;
+  byId("slider").min = FIRST;
+  byId("slider").max = LAST;
+  byId("calls").textContent = `of ${LAST}`;
+  byId("slots").textContent = `of ${LAST_SLOT}`;
   ["call", "slot"].forEach((kind) => byId(`at-${kind}`).addEventListener("change", () => goByField(kind)));
   byId("slider").addEventListener("input", () => show(Number(byId("slider").value)));
   [["first", "Home"], ["back", "ArrowLeft"], ["next", "ArrowRight"], ["last", "End"],

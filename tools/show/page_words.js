@@ -34,22 +34,19 @@ function reasonsOf(flight, number) {
   return flight.reasons[number] || [];
 }
 
-function requestWords(flight, call, before, reasons) {
-  const [, flow, number, departure, , answer] = call;
-  const asked = `Flow ${flow} asks for a slot: quantum ${number}, departure ${departure}.`;
-  if (answer < 0) {
-    return [asked, refusedWith(flight, -answer, reasons[0])];
+function requestWords(flight, [line], before, reasons) {
+  const asked = `Flow ${line[FLOW]} asks for a slot: quantum ${line[NUMBER]}, departure ${line[DEPARTURE]}.`;
+  if (line[REFUSAL]) {
+    return [asked, refusedWith(flight, line[REFUSAL], reasons[0])];
   }
-  const slot = slotOf(flight, before, answer), away = slot - before.ticks;
-  const when = away === 1 ? "with the next tick" : `in ${away} ticks`;
-  return [asked, `Granted ${place(flight, slot)}, which comes up ${when}.`];
+  const when = line[AHEAD] === 1 ? "with the next tick" : `in ${line[AHEAD]} ticks`;
+  return [asked, `Granted ${place(flight, slotOf(before, line))}, which comes up ${when}.`];
 }
 
-function creditWords(flight, call, before, reasons) {
-  const [, flow, position, answer] = call;
-  return [`Flow ${flow} gives a cell back, dated position ${position}.`,
-    answer < 0 ? refusedWith(flight, -answer, reasons[0]) :
-      `Taken: it holds one less from ${place(flight, slotOf(flight, before, position))} on.`];
+function creditWords(flight, [line], before, reasons) {
+  return [`Flow ${line[FLOW]} gives a cell back, dated position ${line[POSITION]}.`,
+    line[REFUSAL] ? refusedWith(flight, line[REFUSAL], reasons[0]) :
+      `Taken: it holds one less from ${place(flight, slotOf(before, line))} on.`];
 }
 
 // What a credit and the lend before it let a tile do, where they are a pair.
@@ -58,12 +55,12 @@ function pairWords(flight, number) {
   return pair ? ` With the lend before it the tile of slot ${pair[0]} may leave ahead, in slot ${pair[1]}.` : "";
 }
 
-function tickWords(flight, call, before) {
-  const now = before.ticks + 1, frame = now / flight.F;
-  const change = now % flight.F ? "" :
-    ` A frame change: frame ${frame} is head now, and frame ${frame + flight.W - 1} the newest.`;
+function tickWords(flight, [line], before) {
+  const now = before.slot + 1, frame = now / flight.F;
+  const change = line[CHANGE] ?
+    ` A frame change: frame ${frame} is head now, and frame ${frame + flight.W - 1} the newest.` : "";
   return [`A tick: ${place(flight, now)} has come up.`,
-    (call[1] < 0 ? "Nobody booked it." : `It is flow ${call[1]}'s.`) + change];
+    (line[VALUE] === NOBODY ? "Nobody booked it." : `It is flow ${line[VALUE]}'s.`) + change];
 }
 
 function flowsOf(mask) {
@@ -71,36 +68,37 @@ function flowsOf(mask) {
   return flows.length ? flows.join(", ") : "none";
 }
 
-function lendWords(flight, call) {
-  return [`The current slot is to be lent; flows that wait: ${flowsOf(call[1])}.`,
-    call[2] < 0 ? refusedWith(flight, -call[2]) : `Lent to flow ${call[2]}.`];
+function lendWords(flight, [line]) {
+  return [`The current slot is to be lent; flows that wait: ${flowsOf(line[MASK])}.`,
+    line[REFUSAL] ? refusedWith(flight, line[REFUSAL]) : `Lent to flow ${line[VALUE]}.`];
 }
 
-function resetWords(flight, call) {
+function resetWords(flight, [line]) {
   return ["The link is to be reset.",
-    call[1] < 0 ? refusedWith(flight, -call[1]) : "Reset: every flow starts again in the head frame."];
+    line[REFUSAL] ? refusedWith(flight, line[REFUSAL]) : "Reset: every flow starts again in the head frame."];
 }
 
-function wordAnswer(answer) {
-  if (answer === null) {
+function wordAnswer(line) {
+  if (line[REFUSAL] === UNTOUCHED) {
     return "not looked at";
   }
-  return answer < 0 ? `refused with ${-answer}` : `position ${answer}`;
+  return line[REFUSAL] ? `refused with ${line[REFUSAL]}` : `position ${line[VALUE]}`;
 }
 
-function burstWords(flight, call, before, reasons) {
-  const answers = call[1].map((word, place) => `flow ${word[0]} ${wordAnswer(word[4])}` +
+function burstWords(flight, [line, ...lines], before, reasons) {
+  const answers = lines.map((word, place) => `flow ${word[FLOW]} ${wordAnswer(word)}` +
     (reasons[place] ? ` (${reasons[place]})` : ""));
-  return [`A burst of ${counted(call[1].length, "request")}.`, answers.length ? `Answers: ${answers.join("; ")}.` : ""];
+  return [`A burst of ${counted(line[BURST], "request")}.`, answers.length ? `Answers: ${answers.join("; ")}.` : ""];
 }
 
-function noCallWords(flight, call) {
-  return ["A record that is no call.", refusedWith(flight, -call[1])];
+function noCallWords(flight, [line]) {
+  return ["A record that is no call.", refusedWith(flight, line[REFUSAL])];
 }
 
+// By the call's kind (rule 26.5); bytes that are no call have 0.
 const WORDS = [noCallWords, requestWords, creditWords, tickWords, lendWords, resetWords, burstWords];
 
 // What a call asks, and its answer; `before` is the state before it, and `reasons` has why each answer refuses.
 function callWords(flight, call, before, reasons) {
-  return WORDS[call[0]](flight, call, before, reasons);
+  return WORDS[kindOf(call)](flight, call, before, reasons);
 }

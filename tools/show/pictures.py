@@ -1,41 +1,45 @@
-"""Pictures of a call file, from the file and its listing.
+"""Pictures of a call file, from its trace.
 
-    pictures.py --window [--svg OUT] FILE LISTING [CALL]
-    pictures.py --svg OUT FILE LISTING [CALL]
-    pictures.py --timeline OUT FILE LISTING
-    pictures.py --page OUT FILE LISTING
+    pictures.py --window [--svg OUT] PROGRAM FILE [CALL]
+    pictures.py --svg OUT PROGRAM FILE [CALL]
+    pictures.py --timeline OUT [--from SLOT] [--to SLOT] PROGRAM FILE
+    pictures.py --page OUT [--from SLOT] [--to SLOT] PROGRAM FILE
 
---window draws the window after call number CALL in the terminal, --svg OUT
-writes it as SVG; CALL is the last call where it is missing, and 0 the fresh
-link.  --timeline OUT writes an SVG of the booked, lent and idle slots of the
-whole file by flow, and of its refusals.  --page OUT writes one HTML page that
+PROGRAM is dometrace, standard input has the calls or their text, and FILE is
+what they are called.  --window draws the window after call number CALL in the
+terminal, --svg OUT writes it as SVG; CALL is the last call where it is
+missing, and 0 the fresh link.  --timeline OUT writes an SVG of the booked,
+lent and idle slots by flow, and of refusals; --page OUT one HTML page that
 needs no network: the window and the holdings call by call; its address may
-end in #call=17 or #slot=40.  With --name NAME pictures name the
-file so; with --allcalls FILE and LISTING are those of allcalls, which has
-lends, resets and bursts too.  OUT may be -, standard output; of a file it is
-said on standard error that it is written.
+end in #call=17 or #slot=40.  Both are of the slots from --from to --to, and of
+the whole file where these are missing; but a timeline has at most 16,384
+slots, and a page 50,000 calls, and where the file goes on it is said.  With
+--allcalls FILE has lends, resets and bursts too.  OUT may be -, standard
+output; of a file it is said on standard error that it is written.
 
-Exit status: 0 the pictures are whole; 2 nothing was drawn; 3 a picture could
-not be written.
+Exit status: 0 the pictures are whole; 1 the plan is refused; 2 nothing was
+drawn; 3 a picture could not be written.
 """
 
 import os
 import stat
 import sys
 
-import call_file
 import page
 import svg
 import timeline
 import window
-from replay import ListingError, Replay
+from following import follow
+from kept import Kept
 from words import plural
 
 NOTHING_DRAWN, NOT_WRITTEN = 2, 3
 FLAGS = ("--window", "--allcalls")
-VALUED = ("--svg", "--timeline", "--page", "--name")
+STRETCH = ("--from", "--to")
+VALUED = ("--svg", "--timeline", "--page", *STRETCH)
 OUTPUTS = ("--svg", "--timeline", "--page")
 PICTURES = ("--window", *OUTPUTS)
+DIGITS = 15                     # of a number that is looked at
 
 
 class Wrong(Exception):
@@ -90,14 +94,36 @@ def check(options, others):
         raise Wrong("no picture is asked for; there are %s"
                     % ", ".join(PICTURES))
     if len(others) < 2:
-        raise Wrong("a call file and its listing have to be named")
+        raise Wrong("a program and a call file have to be named")
     if len(others) > 3:
-        raise Wrong("a file, its listing and a call number are all that can "
+        raise Wrong("a program, a file and a call number are all that can "
                     "be named, and there are %d words" % len(others))
     if len(others) == 3 and not ("--window" in options or "--svg" in options):
         raise Wrong("a call number goes with --window or --svg alone, and "
                     "'%s' is one word too many" % others[2])
+    check_stretch(options)
     check_outputs(options, others[:2])
+
+
+def slot_of(options, option):
+    """The slot of --from or --to, or None."""
+    text = options.get(option)
+    if text is None:
+        return None
+    if not (text.isascii() and text.isdigit() and len(text) <= DIGITS):
+        raise Wrong("%s takes a slot, as in %s 40, and not '%s'" % (
+            option, option, text))
+    return int(text)
+
+
+def check_stretch(options):
+    first, last = (slot_of(options, option) for option in STRETCH)
+    given = [option for option in STRETCH if option in options]
+    if given and not ("--timeline" in options or "--page" in options):
+        raise Wrong("%s goes with --timeline or --page alone" % given[0])
+    if last is not None and last < (first or 0):
+        raise Wrong("a stretch from slot %d to slot %d has no slots" % (
+            first or 0, last))
 
 
 def same_file(one, other):
@@ -125,30 +151,6 @@ def check_outputs(options, inputs):
 
 
 # ---- reading and writing
-
-def bytes_of(path):
-    try:
-        with open(path, "rb") as source:
-            return source.read()
-    except OSError as error:
-        raise Wrong("'%s' can't be read: %s" % (path, error.strerror))
-
-
-def replay_of(path, listing_path, all_calls):
-    data, listing = bytes_of(path), bytes_of(listing_path)
-    try:
-        replay = Replay(call_file.read(data, all_calls),
-                        listing.decode("ascii", "replace"))
-    except call_file.NoPlan as error:
-        raise Wrong("'%s' is no file of calls: %s" % (path, error))
-    except ListingError as error:
-        raise Wrong("the listing doesn't fit '%s': %s" % (path, error))
-    if replay.refusal:
-        raise Wrong("the plan of '%s' is refused with %d, so that there is no "
-                    "window; docs/REFUSALS.md says why" % (
-                        path, replay.refusal))
-    return replay
-
 
 def write(path, content):
     """Writes a picture to a file, and says so, or to standard output for
@@ -192,23 +194,131 @@ def printable(name):
     return "".join(letter if letter.isprintable() else "?" for letter in name)
 
 
+class Wanted:
+    """The window after a call, or after the last one for None; and how many
+    calls there are."""
+
+    over = False
+
+    def __init__(self, plan, number):
+        self.kept = Kept(plan)
+        self.number = number
+        self.found = False          # the window is the one that is wanted
+        self.more = 0               # calls after it
+
+    @property
+    def slot(self):
+        return self.kept.slot
+
+    @property
+    def calls(self):
+        return self.kept.calls + self.more
+
+    def add(self, lines):
+        for line in lines:
+            begins = line[0] not in "FB"
+            self.found = self.found or (
+                begins and self.kept.calls == self.number)
+            if self.found:
+                self.more += begins
+            else:
+                self.kept.take(line.split())
+
+
+class Several:
+    """Readers of one trace, by the option that asks for each."""
+
+    def __init__(self, readers):
+        self.readers = readers
+
+    def add(self, lines):
+        for reader in self.readers.values():
+            if not reader.over:
+                reader.add(lines)
+
+    @property
+    def over(self):
+        return all(reader.over for reader in self.readers.values())
+
+    @property
+    def calls(self):
+        return max(reader.calls for reader in self.readers.values())
+
+    @property
+    def slot(self):
+        return max(reader.slot for reader in self.readers.values())
+
+
+def readers_of(plan, options, number):
+    """What reads for each picture."""
+    first, last = (slot_of(options, option) for option in STRETCH)
+    readers = {}
+    if "--window" in options or "--svg" in options:
+        readers["--window"] = Wanted(plan, number)
+    if "--timeline" in options:
+        readers["--timeline"] = timeline.Ledger(plan, first or 0, last)
+    if "--page" in options:
+        readers["--page"] = page.Flight(plan, first or 0, last)
+    return Several(readers)
+
+
+def number_of(text):
+    """A call's number, as far as it is one."""
+    known = text and text.isascii() and text.isdigit()
+    return int(text) if known and len(text) <= DIGITS else None
+
+
+def check_slots(reader):
+    """The stretch has to begin with a slot that came up."""
+    if reader.slot < reader.first:
+        raise Wrong("slot %d has not come up: the last is slot %d" % (
+            reader.first, reader.slot))
+
+
 def draw(words):
     options, others = options_of(words)
     check(options, others)
-    replay = replay_of(others[0], others[1], "--allcalls" in options)
-    name = printable(options.get("--name", os.path.basename(others[0])))
-    last = len(replay.steps)
-    state = replay.state_after(
-        call_number(others[2] if len(others) == 3 else None, last))
+    program, path, number = (others + [None])[:3]
+    name = "standard input" if path == "-" else os.path.basename(path)
+    several = follow(
+        program, name if path == "-" else "'%s'" % path,
+        "--allcalls" in options,
+        lambda plan: readers_of(plan, options, number_of(number)))
+    for reader in (several.readers.get("--timeline"),
+                   several.readers.get("--page")):
+        if reader:
+            check_slots(reader)
+    draw_window(several.readers.get("--window"), options, number,
+                printable(name))
+    draw_stretches(several.readers, options, printable(name))
+
+
+def draw_window(wanted, options, number, name):
+    if not wanted:
+        return
+    call_number(number, wanted.calls)
     if "--svg" in options:
-        write(options["--svg"], svg.window(state, last, name))
-    if "--timeline" in options:
-        write(options["--timeline"], timeline.timeline(replay, name))
-    if "--page" in options:
-        write(options["--page"], page.page(replay, name))
+        write(options["--svg"], svg.window(wanted.kept, wanted.calls, name))
     if "--window" in options:
         show("\n".join(line.rstrip() for line in window.drawing(
-            state, last, marks())) + "\n")
+            wanted.kept, wanted.calls, marks())) + "\n")
+
+
+def draw_stretches(readers, options, name):
+    if "--timeline" in options:
+        ledger = readers["--timeline"]
+        write(options["--timeline"], timeline.timeline(ledger, name))
+        if ledger.over and ledger.last == ledger.first + timeline.MOST - 1:
+            say("the file goes on after slot %d, and a timeline has at most "
+                "%d slots: --from %d draws the next" % (
+                    ledger.last, timeline.MOST, ledger.last + 1))
+    if "--page" in options:
+        flight = readers["--page"]
+        write(options["--page"], page.page(flight, name))
+        if flight.full:
+            say("the file goes on after call %d, and a page has at most %d "
+                "calls: --from %d shows what follows" % (
+                    flight.calls, page.MOST, flight.slot))
 
 
 def say(sentence):

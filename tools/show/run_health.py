@@ -4,27 +4,27 @@ flow as they come, and none is kept.  Nothing is scheduled here."""
 from collections import Counter
 
 from flow_health import FlowHealth
+from trace_words import (
+    AHEAD, CHANGE, CREDIT, FLOW, KIND, LEND, NO_CALL, REFUSAL, REQUEST,
+    UNTOUCHED, VALUE)
 
-REQUEST, CREDIT, LEND = b"1", b"2", b"4"        # kinds of calls
-CALL, FLOW, AHEAD = 3, 4, 14            # words of a line: the call's kind, its
-                                        # flow, how far the position is ahead
-UNTOUCHED = b"255"                      # a burst's word past the sixteenth
-NO_CALL = 16                            # the refusal of bytes that are no call
 
 
 class RunHealth:
-    def __init__(self, frame_slots, window_frames, entries):
-        self.frame_slots = frame_slots
-        self.window = frame_slots * window_frames
-        self.flows = [FlowHealth(number, share, cells, self.window)
-                      for number, (share, cells) in enumerate(entries)]
+    over = False
+
+    def __init__(self, plan):
+        self.frame_slots = plan.frame_slots
+        self.window = plan.positions
+        self.flows = [FlowHealth(flow.number, flow.share, flow.cells,
+                                 self.window) for flow in plan.flows]
         self.calls = self.slot = 0
         self.others = Counter()         # refusals of calls that no flow made
         self.first_other = {}           # by number: a call, and its kind
-        self.takes = {b"T": self.tick, b"G": self.grant, b"C": self.credit,
-                      b"R": self.refusal, b"X": self.no_call, b"L": self.lend,
-                      b"W": self.one_call, b"Z": self.one_call,
-                      b"B": self.word, b"F": self.skip}
+        self.takes = {"T": self.tick, "G": self.grant, "C": self.credit,
+                      "R": self.refusal, "X": self.no_call, "L": self.lend,
+                      "W": self.one_call, "Z": self.one_call,
+                      "B": self.word, "F": self.skip}
 
     def frames(self):
         """That have begun."""
@@ -41,7 +41,7 @@ class RunHealth:
     def tick(self, words):
         self.calls += 1
         self.slot += 1
-        if words[FLOW] == b"1":         # with a frame change
+        if words[CHANGE] == "1":
             for flow in self.flows:
                 flow.frame_change()
 
@@ -55,11 +55,11 @@ class RunHealth:
 
     def lend(self, words):
         self.calls += 1
-        self.flows[int(words[2])].lend(self.slot)
+        self.flows[int(words[VALUE])].lend(self.slot)
 
     def refusal(self, words):
         self.calls += 1
-        number, kind, flow = int(words[1]), words[CALL], int(words[FLOW])
+        number, kind, flow = int(words[REFUSAL]), words[KIND], int(words[FLOW])
         if kind not in (REQUEST, CREDIT) or flow >= len(self.flows):
             self.of_no_flow(number, "lend" if kind == LEND else "request")
         elif kind == REQUEST:
@@ -69,19 +69,19 @@ class RunHealth:
 
     def word(self, words):
         """Of a burst, whose line was counted."""
-        result, flow = words[1], int(words[FLOW])
+        result, flow = words[REFUSAL], int(words[FLOW])
         if result == UNTOUCHED:
             return
         if flow >= len(self.flows):
             self.of_no_flow(int(result))
-        elif result == b"0":
+        elif result == "0":
             self.flows[flow].grant(int(words[AHEAD]), self.slot)
         else:
             self.flows[flow].refuse(int(result), self.calls, self.slot)
 
     def no_call(self, words):
         self.calls += 1
-        self.of_no_flow(NO_CALL)
+        self.of_no_flow(int(NO_CALL))
 
     def one_call(self, words):
         self.calls += 1

@@ -3,7 +3,10 @@ held, and the slots that came up."""
 
 from collections import Counter
 
-from lend_pairs import pairs
+from kept import Kept
+from lend_pairs import Pairs
+from trace_words import (
+    CREDIT, FLOW, KIND, NO_CALL, NOBODY, REFUSAL, REQUEST, UNTOUCHED, VALUE)
 from words import plural
 
 
@@ -19,59 +22,101 @@ class FlowSummary:
                                             # leave ahead
         self.most = 0                       # held, at any slot after any call
 
+    def look(self, held, place):
+        """What is held from a place on has risen by one, and is never above
+        the cells."""
+        if self.most < self.flow.cells:
+            self.most += held.find(self.most + 1, place) >= 0
+
 
 class Summary:
-    def __init__(self, replay):
-        self.flows = [FlowSummary(flow) for flow in replay.plan.flows]
+    """Counts the lines of a trace; `pair` is that of the last line."""
+
+    over = False
+
+    def __init__(self, plan):
+        self.kept = Kept(plan)
+        self.flows = [FlowSummary(flow) for flow in plan.flows]
+        self.pairs = Pairs()
+        self.pair = None
         self.others = Counter()     # refusals of calls that no flow made
         self.untouched = 0          # a burst's words past the 16th
-        self.ticks = self.booked = self.idle = 0
-        for step in replay.steps:
-            self.add(step)
-            self.look(replay.states[step.number], step)
-        # Slots that came up, which nobody had booked, and that were lent then.
-        self.lent = sum(booking.lent and booking.slot > 0
-                        for booking in replay.bookings)
-        self.idle -= self.lent
-        for number in pairs(replay):
-            self.flows[replay.steps[number - 1].call.flow].pairs += 1
+        self.booked = self.idle = 0
+        self.lent = 0               # of the idle ones, but for slot 0
+        self.counts = {"G": self.grant, "C": self.credit, "T": self.tick,
+                       "L": self.lend, "R": self.refuse, "X": self.no_call,
+                       "B": self.word}
 
-    def add(self, step):
-        words = step.call.words or [step.call.word] * len(step.answers)
-        for word, answer in zip(words, step.answers):
-            self.count(step.call, word, answer)
+    @property
+    def calls(self):
+        return self.kept.calls
 
-    def count(self, call, word, answer):
-        if answer.kind == "refused":
-            self.refusals_of(call, word)[answer.refusal] += 1
-        elif answer.kind == "granted":
-            self.flows[answer.flow].granted += 1
-        elif answer.kind == "credited":
-            self.flows[answer.flow].credits += 1
-        elif answer.kind == "lent":
-            self.flows[answer.flow].lent += 1
-        elif answer.kind == "untouched":
+    @property
+    def slot(self):
+        return self.kept.slot
+
+    def add(self, lines):
+        for line in lines:
+            self.take(line.split())
+
+    def take(self, words):
+        """A line, split."""
+        letter = words[0]
+        self.kept.takes[letter](words)
+        if letter not in "FB":
+            self.pair = self.pairs.of_line(words, self.kept.slot)
+        if letter in self.counts:
+            self.counts[letter](words)
+
+    # ---- lines
+
+    def grant(self, words):
+        flow = self.flows[int(words[FLOW])]
+        flow.granted += 1
+        flow.look(self.kept.holdings[flow.flow.number],
+                  self.kept.place(words))
+
+    def credit(self, words):
+        flow = self.flows[int(words[FLOW])]
+        flow.credits += 1
+        flow.pairs += self.pair is not None
+
+    def tick(self, words):
+        if words[VALUE] == NOBODY:
+            self.idle += 1
+        else:
+            self.booked += 1
+
+    def lend(self, words):
+        flow = self.flows[int(words[VALUE])]
+        flow.lent += 1
+        flow.look(self.kept.holdings[flow.flow.number],
+                  self.kept.slot - self.kept.first)
+        self.lent += self.kept.slot > 0
+
+    def word(self, words):
+        if words[REFUSAL] == "0":
+            self.grant(words)
+        elif words[REFUSAL] == UNTOUCHED:
             self.untouched += 1
-        elif answer.kind == "tick":
-            self.ticks += 1
-            self.booked += answer.flow is not None
-            self.idle += answer.flow is None
+        else:
+            self.refusals_of(words, True)[int(words[REFUSAL])] += 1
 
-    def refusals_of(self, call, word):
+    def refuse(self, words):
+        self.refusals_of(words, words[KIND] == REQUEST)[
+            int(words[REFUSAL])] += 1
+
+    def no_call(self, words):
+        self.others[int(NO_CALL)] += 1
+
+    def refusals_of(self, words, asks):
         """Where a refusal is counted."""
-        flow = word.flow if word else call.flow
-        if flow is None or flow >= len(self.flows):
+        if not asks and words[KIND] != CREDIT:
             return self.others
-        if call.kind == "credit":
-            return self.flows[flow].refused_credits
-        return self.flows[flow].refused
-
-    def look(self, state, step):
-        """The most that is held rises with grants and lends alone."""
-        for answer in step.answers:
-            if answer.booking:
-                flow = self.flows[answer.flow]
-                flow.most = max(flow.most, *state.holdings[answer.flow])
+        if not self.kept.plan.has(words[FLOW]):
+            return self.others
+        flow = self.flows[int(words[FLOW])]
+        return flow.refused if asks else flow.refused_credits
 
     # ---- in words
 
@@ -91,7 +136,8 @@ class Summary:
                 plural(count, "pair"), "a tile" if count == 1 else "tiles")
         lent = ", %d lent" % self.lent if self.lent else ""
         yield "%s came up: %d booked%s, %d idle" % (
-            plural(self.ticks, "slot"), self.booked, lent, self.idle)
+            plural(self.slot, "slot"), self.booked, lent,
+            self.idle - self.lent)
 
     @staticmethod
     def flow_lines(flow):

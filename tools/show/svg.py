@@ -150,7 +150,7 @@ def window_words(state):
     plan = state.plan
     return ["F = %d, W = %d, T = %d, N = %d; slot %d is current." % (
         plan.frame_slots, plan.window_frames, plan.positions, plan.buffer,
-        state.ticks),
+        state.slot),
         "A number is the flow that booked; in a curve the dashed line is its "
         "cells, the upright one CP."]
 
@@ -168,7 +168,7 @@ def window(state, last, name):
     """The SVG of a state; `last` is the number of the last call."""
     plan = state.plan
     width = max(slot_width(plan) * plan.frame_slots, 640)
-    rest = " after call %d of %d" % (state.call, last)
+    rest = " after call %d of %d" % (state.calls, last)
     whole = LABEL + width + GAP
     parts = [heading(name, rest, whole)]
     parts += [text(GAP, 40 + 16 * line, words)

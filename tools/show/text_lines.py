@@ -1,7 +1,7 @@
 """The bytes of a call file to text, whose bytes are the same again."""
 
 import call_file
-from call_text import Defaults, plan_bytes
+from call_text import MOST_TICKS, Defaults, plan_bytes
 
 BYTES_A_LINE = 16
 
@@ -27,11 +27,17 @@ class TextWriter:
         getattr(self, call.kind)(call)
 
     def end_ticks(self):
-        if self.ticks:
-            self.lines.append("tick" if self.ticks == 1
-                              else "tick %d" % self.ticks)
         self.defaults.ticks += self.ticks
-        self.ticks = 0
+        while self.ticks:
+            count = min(self.ticks, MOST_TICKS)
+            self.lines.append("tick" if count == 1 else "tick %d" % count)
+            self.ticks -= count
+
+    def taken(self):
+        """The lines that were not taken before, as a text."""
+        text = "".join([line + "\n" for line in self.lines])
+        self.lines = []
+        return text
 
     def ask(self, word):
         """An ask, which says only what it would not have without it."""
@@ -67,12 +73,12 @@ class TextWriter:
         self.lines += ["  " + self.ask(word) for word in call.words]
 
     def none(self, call):
-        self.lines += lines_of_bytes(call.record)
+        self.lines += lines_of_bytes(call.record).splitlines()
 
 
 def lines_of_bytes(data):
-    return ["bytes " + data[place:place + BYTES_A_LINE].hex(" ")
-            for place in range(0, len(data), BYTES_A_LINE)]
+    return "".join(["bytes %s\n" % data[place:place + BYTES_A_LINE].hex(" ")
+                    for place in range(0, len(data), BYTES_A_LINE)])
 
 
 def plain_plan(plan):
@@ -83,17 +89,67 @@ def plain_plan(plan):
          for flow in plan.flows])
 
 
-def text_of(data, all_calls=False):
-    """The text of a call file.  Bytes that begin with no plan, or with one
-    whose counts are wrong, stay bytes: a program reads nothing behind it."""
+class BytesWriter:
+    """Lines of bytes, of a call file that begins with no plan, or with one
+    whose counts are wrong: a program reads nothing behind it."""
+
+    calls = 0
+
+    def __init__(self):
+        self.rest = b""
+
+    def write(self, data):
+        data = self.rest + data
+        whole = len(data) - len(data) % BYTES_A_LINE
+        self.rest = data[whole:]
+        return lines_of_bytes(data[:whole])
+
+    def end(self):
+        return lines_of_bytes(self.rest)
+
+
+class CallsWriter:
+    """The text of a call file that begins with a good plan."""
+
+    def __init__(self, plan, all_calls):
+        self.text = TextWriter(plan)
+        self.kinds = (call_file.ALLCALLS if all_calls
+                      else call_file.DOMELINK)
+        self.skip = len(plan.data)      # bytes of the plan that are to come
+        self.rest = b""
+        self.calls = 0
+
+    def write(self, data):
+        self.rest += data[self.skip:]
+        self.skip = max(0, self.skip - len(data))
+        start = 0
+        for record in call_file.whole_records(self.rest, self.kinds):
+            start += len(record)
+            self.put(record)
+        self.rest = self.rest[start:]
+        return self.text.taken()
+
+    def put(self, record):
+        self.calls += 1
+        self.text.write(call_file.call_of(record, self.kinds))
+
+    def end(self):
+        if self.rest:
+            self.put(self.rest)
+        self.text.end_ticks()
+        return self.text.taken()
+
+
+def writer_for(begun, all_calls=False):
+    """What makes text of a call file, by its first bytes."""
     try:
-        calls = call_file.read(data, all_calls)
+        plan = call_file.Plan(call_file.split(begun)[0])
     except call_file.NoPlan:
-        calls = None
-    if calls is None or not plain_plan(calls.plan):
-        return "".join(line + "\n" for line in lines_of_bytes(data))
-    writer = TextWriter(calls.plan)
-    for call in calls.calls:
-        writer.write(call)
-    writer.end_ticks()
-    return "".join(line + "\n" for line in writer.lines)
+        return BytesWriter()
+    return CallsWriter(plan, all_calls) if plain_plan(plan) else BytesWriter()
+
+
+def text_of(data, all_calls=False):
+    """The text of a call file."""
+    writer = writer_for(data, all_calls)
+    return writer.write(data) + writer.end()

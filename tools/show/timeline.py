@@ -1,10 +1,15 @@
-"""Booked, lent and idle slots of a whole call file, and its refusals, by flow,
-as SVG."""
+"""Booked, lent and idle slots of a call file or of a stretch of it, and its
+refusals, by flow, as SVG."""
+
+from collections import Counter
 
 import colours
 from svg import GAP, LETTER, document, heading, rect, text
+from trace_words import (
+    AHEAD, FLOW, KIND, LEND, NOBODY, REFUSAL, RESET, UNTOUCHED, VALUE)
 from words import plural
 
+MOST = 16384                    # slots of a picture
 BAND, WIDE = 256, 1024          # slots in a band, and the width of a full one
 BROAD, ROW = 24, 14             # the most that a slot is wide, a row's height
 LABEL, LEAST = 70, 560          # the room for labels, and the least width
@@ -16,38 +21,83 @@ STEPS = (1, 2, 5, 10, 20, 50, 100)      # slots between two numbers of an axis
 
 
 class Ledger:
-    """Whose each slot was, and in which slots calls were refused, counted
-    from the replay."""
+    """Whose each slot of a stretch was, and in which of them calls were
+    refused, from the lines of a trace; None is a flow that the plan has not,
+    or a call that is no flow's."""
 
-    def __init__(self, replay):
-        self.ticks = replay.states[-1].ticks
-        self.flows = len(replay.plan.flows)
+    def __init__(self, plan, first=0, last=None):
+        self.plan = plan
+        self.first = first              # slot of the stretch
+        self.last = first + MOST - 1    # of it, at most
+        if last is not None:
+            self.last = min(last, self.last)
+        self.asked = first > 0 or last is not None      # for a stretch
+        self.calls = self.slot = 0
+        self.over = False               # the stretch has gone by
+        self.flows = len(plan.flows)
         self.booked, self.lent = {}, {}         # slot -> flow
-        for booking in replay.bookings:
-            side = self.lent if booking.lent else self.booked
-            side[booking.slot] = booking.flow
-        self.idle = {slot for slot in range(1, self.ticks + 1)
-                     if slot not in self.booked and slot not in self.lent}
-        self.end = max([self.ticks, *self.booked])      # the last slot drawn
-        self.refused = [refusal for step in replay.steps
-                        for refusal in self.refusals(replay, step)]
+        self.refused = Counter()                # by slot and flow
+        self.takes = {"G": self.grant, "L": self.lend, "R": self.refuse,
+                      "X": self.no_call, "B": self.word, "T": self.tick,
+                      "C": None, "Z": None, "W": None, "F": None}
 
-    def refusals(self, replay, step):
-        """The slot and the flow of each refusal of a call; None is a flow
-        that the plan has not, or a call that is no flow's."""
-        slot = replay.states[step.number].ticks
-        words = step.call.words or [step.call.word] * len(step.answers)
-        for word, answer in zip(words, step.answers):
-            if answer.refusal:
-                flow = word.flow if word else step.call.flow
-                known = flow is not None and flow < self.flows
-                yield slot, flow if known else None
+    def add(self, lines):
+        for line in lines:
+            words = line.split()
+            take = self.takes[words[0]]
+            if take:
+                take(words)
+                if self.over:
+                    return
+            self.calls += words[0] not in "FB"
+
+    # ---- lines
+
+    def tick(self, words):
+        self.over = self.slot == self.last
+        self.slot += not self.over
+
+    def grant(self, words):
+        slot = self.slot + int(words[AHEAD])
+        if self.first <= slot <= self.last:
+            self.booked[slot] = self.plan.flows[int(words[FLOW])].number
+
+    def lend(self, words):
+        if self.first <= self.slot:
+            self.lent[self.slot] = self.plan.flows[int(words[VALUE])].number
+
+    def word(self, words):
+        if words[REFUSAL] == "0":
+            self.grant(words)
+        elif words[REFUSAL] != UNTOUCHED:
+            self.refuse(words)
+
+    def refuse(self, words):
+        flow = words[FLOW] if words[KIND] not in (LEND, RESET) else NOBODY
+        self.no_call(words, int(flow) if self.plan.has(flow) else None)
+
+    def no_call(self, words, flow=None):
+        if self.first <= self.slot:
+            self.refused[self.slot, flow] += 1
+
+    # ---- what it comes to
+
+    @property
+    def end(self):
+        """The last slot drawn."""
+        return max([self.slot, *self.booked])
+
+    @property
+    def idle(self):
+        return {slot for slot in range(max(self.first, 1), self.slot + 1)
+                if slot not in self.booked and slot not in self.lent}
 
     def count(self, side, flow):
         return sum(owner == flow for owner in side.values())
 
     def refused_of(self, flow):
-        return sum(refused == flow for _, refused in self.refused)
+        return sum(count for (_, refused), count in self.refused.items()
+                   if refused == flow)
 
     @property
     def rows(self):
@@ -115,7 +165,7 @@ def wedge(x, y):
 
 def slots_across(ledger):
     """The slots of the longest band."""
-    return min(BAND, ledger.end + 1)
+    return min(BAND, ledger.end + 1 - ledger.first)
 
 
 def slot_width(ledger):
@@ -175,16 +225,16 @@ def axis(ledger, band):
 def band_parts(ledger, plan, band):
     """A band's rows, the marks of its slots, and its axis."""
     parts = row_labels(ledger, band) + frame_lines(plan, band)
-    slots = range(band.first, band.last)
-    parts += [band.mark(slot, ledger.booked[slot], slot > ledger.ticks)
+    slots, idle = range(band.first, band.last), ledger.idle
+    parts += [band.mark(slot, ledger.booked[slot], slot > ledger.slot)
               for slot in slots if slot in ledger.booked]
     parts += [band.lent_mark(slot, ledger.lent[slot])
               for slot in slots if slot in ledger.lent]
     parts += [rect(*band.place(slot, ledger.flows), band.slot, ROW - 1, IDLE)
-              for slot in slots if slot in ledger.idle]
+              for slot in slots if slot in idle]
     # Of several refusals in a slot one is drawn.
     parts += [band.refused_mark(slot, ledger.row(flow))
-              for slot, flow in dict.fromkeys(ledger.refused)
+              for slot, flow in ledger.refused
               if band.has(slot)]
     return parts + axis(ledger, band)
 
@@ -192,8 +242,8 @@ def band_parts(ledger, plan, band):
 # ---- the whole
 
 def legend(ledger, y):
-    """What the marks mean, with the counts of the whole file."""
-    came = sum(slot <= ledger.ticks for slot in ledger.booked)
+    """What the marks mean, with the counts of the picture."""
+    came = sum(slot <= ledger.slot for slot in ledger.booked)
     parts, x = [], GAP
     for shape, words in (
             (flow_mark(0, 0, 0, 10, 9), "booked: %d" % came),
@@ -201,7 +251,7 @@ def legend(ledger, y):
              "booked, still to come: %d" % (len(ledger.booked) - came)),
             (flow_mark(0, 0, 4, 10, 5), "lent: %d" % len(ledger.lent)),
             (rect(0, 0, 10, 9, IDLE), "idle: %d" % len(ledger.idle)),
-            (wedge(5, 2), "refused: %d" % len(ledger.refused))):
+            (wedge(5, 2), "refused: %d" % sum(ledger.refused.values()))):
         parts.append("<g transform='translate(%d %d)'>%s</g>" % (
             x, y, shape))
         parts.append(text(x + 14, y + 9, words, SMALL))
@@ -219,16 +269,23 @@ def description(ledger):
         if ledger.refused_of(None) else "") + "; idle: %d" % len(ledger.idle)
 
 
-def timeline(replay, name):
-    """The SVG of a whole file."""
-    plan, ledger = replay.plan, Ledger(replay)
+def stretch(ledger):
+    """The slots of a stretch in words, and "" for the whole file."""
+    if not ledger.asked and not ledger.over:
+        return ""
+    return "slots %d to %d" % (ledger.first, ledger.end)
+
+
+def timeline(ledger, name):
+    """The SVG of a file, or of a stretch."""
     height = ledger.rows * ROW + AXIS + 26
     width = max(LEAST, LABEL + slot_width(ledger) * slots_across(ledger) + GAP)
-    rest = ": %s came up" % plural(ledger.ticks, "slot")
+    part = stretch(ledger)
+    rest = ": " + (part or "%s came up" % plural(ledger.slot, "slot"))
     parts = [heading(name, rest, width), *legend(ledger, 30)]
     top = 64
-    for first in range(0, ledger.end + 1, BAND):
-        parts += band_parts(ledger, plan, Band(first, ledger, top))
+    for first in range(ledger.first, ledger.end + 1, BAND):
+        parts += band_parts(ledger, ledger.plan, Band(first, ledger, top))
         top += height
-    return document(width, top - 10, "Slots of %s by flow" % name,
-                    description(ledger), parts)
+    return document(width, top - 10, "%s of %s by flow" % (
+        part.capitalize() or "Slots", name), description(ledger), parts)

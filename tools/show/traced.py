@@ -1,14 +1,12 @@
 """The lines that dometrace writes of a call file, as they come: the file is
 handed on in pieces, and never kept."""
 
-import os
 import subprocess
 import threading
 
-from call_text import TextError, bytes_of, is_text
-
-PEEK = 1 << 16          # bytes by which a text is told from a call file
-MOST_TEXT = 1 << 26     # bytes of a text: the whole of it is read
+from call_stream import PIECE, begin, is_a_text, pieces_of, pieces_of_text
+from call_text import TextError
+from trace_words import TracedPlan
 
 
 class Trouble(Exception):
@@ -20,74 +18,92 @@ class Trouble(Exception):
         self.status = status
 
 
-def read_on(source, data, most):
-    """What is read so far and what follows, up to so many bytes."""
-    while len(data) < most:
-        piece = os.read(source, min(PEEK, most - len(data)))
-        if not piece:
-            break
-        data += piece
-    return data
+class RefusedPlan(Exception):
+    """The plan is refused with a number."""
+
+    def __init__(self, number):
+        super().__init__("the plan is refused with %d" % number)
+        self.number = number
 
 
-def begin(source):
-    """So much that a text can be told; of what has a 0 as its second byte, as
-    plans have and texts don't, what is there."""
-    data = bytearray()
-    while len(data) < 2:
-        piece = os.read(source, PEEK)
-        if not piece:
-            break
-        data += piece
-    return data if 0 in data[1:2] else read_on(source, data, PEEK)
-
-
-def of_text(begun, source, all_calls, name):
-    """The bytes of a text of which the first part is read."""
-    data = read_on(source, begun, MOST_TEXT + 1)
-    if len(data) > MOST_TEXT:
-        raise Trouble(2, "%s is a text of more than %d bytes: make a call file "
-                      "of it first" % (name, MOST_TEXT))
+def calls_of(source, all_calls, name):
+    """The pieces of the call file that stands at a file descriptor, itself or
+    as a text."""
     try:
-        return bytes_of(data.decode("utf-8", "replace"), all_calls)
+        begun = begin(source)
+        if not is_a_text(begun):
+            return pieces_of(begun, source)
+        return pieces_of_text(begun, source, all_calls)
     except TextError as wrong:
         raise Trouble(2, "%s, %s" % (name, wrong)) from None
+    except OSError as wrong:
+        raise Trouble(2, "%s can't be read, or its call file kept: %s" % (
+            name, wrong.strerror)) from None
 
 
-def hand_on(begun, source, target):
-    """Copies to the program what was read and, where there is a source, what
-    follows; until one of the two ends."""
+def hand_on(pieces, target):
+    """Copies pieces to the program, until one of the two ends."""
     try:
-        while begun:
-            target.write(begun)
-            begun = os.read(source, PEEK) if source is not None else b""
+        for piece in pieces:
+            target.write(piece)
         target.close()
-    except OSError:
+    except (OSError, ValueError):
         pass                    # the program has read enough
 
+
+# ---- the program
 
 class Traced:
     """A program that traces what stands at a file descriptor."""
 
     def __init__(self, program, source, all_calls, name):
-        self.name = name
-        begun, more = begin(source), source
-        if 0 not in begun[1:2] and is_text(begun):
-            begun, more = of_text(begun, source, all_calls, name), None
+        pieces = calls_of(source, all_calls, name)
         self.process = subprocess.Popen(
             [program, *["--allcalls"] * all_calls], stdin=subprocess.PIPE,
-            stdout=subprocess.PIPE, stderr=subprocess.PIPE, bufsize=PEEK)
-        self.lines = self.process.stdout        # those that are still to come
+            stdout=subprocess.PIPE, stderr=subprocess.PIPE, bufsize=0)
+        self.lines = []         # read, and not handed out
+        self.rest = ""          # of a line that is not whole
         threading.Thread(target=hand_on, daemon=True, args=(
-            begun, more, self.process.stdin)).start()
+            pieces, self.process.stdin)).start()
 
-    def plan_line(self):
+    def read(self):
+        """Reads once; whether something has come."""
+        piece = self.process.stdout.read(PIECE).decode("ascii", "replace")
+        self.lines += (self.rest + piece).split("\n")
+        self.rest = self.lines.pop()
+        if not piece and self.rest:
+            self.lines.append(self.rest)        # it broke off
+            self.rest = ""
+        return bool(piece)
+
+    def line(self):
         """The words of a line on the plan."""
-        line = self.lines.readline()
-        if not line:
+        while not self.lines:
+            if not self.read() and not self.lines:
+                self.end()
+                raise Trouble(3, "dometrace broke off: it says nothing")
+        return self.lines.pop(0).split()
+
+    def plan(self):
+        """The plan, from the first lines."""
+        try:
+            first = self.line()
+            if first[1] != "0":
+                raise RefusedPlan(int(first[1]))
+            return TracedPlan(first, [self.line()
+                                      for _ in range(int(first[5]))])
+        except (LookupError, ValueError, TypeError):
             self.end()
-            raise Trouble(3, "dometrace broke off: it says nothing")
-        return line.split()
+            raise Trouble(3, "after call 0 dometrace writes a line that is "
+                          "none of a trace") from None
+
+    def pieces(self):
+        """Lists of the lines after the plan, as they come."""
+        more = True
+        while more or self.lines:
+            lines, self.lines = self.lines, []
+            yield lines
+            more = self.read()
 
     def end(self):
         """Waits for the program, whose lines are read; they may have broken
@@ -96,3 +112,8 @@ class Traced:
         if self.process.wait() or said:
             raise Trouble(3, said or "dometrace broke off: the trace is not "
                           "whole")
+
+    def leave(self):
+        """Reads no more."""
+        self.process.kill()
+        self.process.wait()

@@ -26,15 +26,15 @@ def owner_letter(owner):
 
 
 def current_place(state):
-    return state.ticks % state.plan.frame_slots
+    return state.slot % state.plan.frame_slots
 
 
 def headline(state, last):
     """Where the link stands, in words."""
     plan = state.plan
     return ["after call %d of %d: current position CP = %d, slot %d, in "
-            "frame %d" % (state.call, last, state.current_position,
-                          state.ticks, state.head_frame),
+            "frame %d" % (state.calls, last, state.current_position,
+                          state.slot, state.head_frame),
             "F = %d, W = %d, T = %d, N = %d; a letter or digit is the flow "
             "that booked" % (plan.frame_slots, plan.window_frames,
                              plan.positions, plan.buffer)]

@@ -1,8 +1,15 @@
-"""A call and its answer in words.  A sentence has no capital and no full stop
-of its own, so that it can stand in a line."""
+"""A line of a trace in words: a call, and its answer.  A sentence has no
+capital and no full stop of its own, so that it can stand in a line."""
 
-from lend_pairs import pair_of
 from refusals import refusal, rows
+from trace_words import (
+    AHEAD, CHANGE, CREDIT, DEPARTURE, EXPECTED, FLOW, HELD, KIND, LAST, LEND,
+    MASK, NOBODY, NUMBER, POSITION, REFUSAL, REQUEST, RESET, TO, UNTOUCHED,
+    VALUE, WORDS)
+
+NO_CALL = 16                    # the refusal of bytes that are no call
+KINDS = {REQUEST: "request", CREDIT: "credit", "3": "tick", LEND: "lend",
+         RESET: "reset", "6": "word"}
 
 
 def plural(count, name, more=None):
@@ -32,146 +39,176 @@ def no_position(held, cells):
             else "all of its %d cells are held" % cells)
 
 
+def plan_words(plan):
+    """The lines for an accepted plan: its numbers and its flows."""
+    return ["the plan is accepted: F = %s to a frame, W = %d frames in "
+            "the window, T = %d positions, N = %s in the buffer" % (
+                plural(plan.frame_slots, "slot"), plan.window_frames,
+                plan.positions, plural(plan.buffer, "place"))] + [
+        "flow %d: from node %d to node %d, share %d, %s" % (
+            flow.number, flow.source, flow.destination, flow.share,
+            plural(flow.cells, "cell")) for flow in plan.flows]
+
+
+def refused_with(number, kind, known, reason=""):
+    """A refusal with its row of docs/REFUSALS.md, out of what rows() gave."""
+    row = refusal(number, kind, known)
+    to_do = "; what to do: " + row.what_to_do if row.what_to_do else ""
+    return "refused with %d: %s%s%s" % (number, row.when, reason, to_do)
+
+
+def lends_to(mask):
+    """The flows of a lend's mask."""
+    return [flow for flow in range(16) if mask >> flow & 1]
+
+
 class Words:
-    """The words for the steps of a replay."""
+    """The words for the lines of a trace, which come one after the other;
+    `slot` is the current one."""
 
-    def __init__(self, replay):
-        self.replay = replay
-        self.plan = replay.plan
+    def __init__(self, plan):
+        self.plan = plan
+        self.slot = 0
         self.known = rows()
-
-    # ---- the plan
-
-    def of_plan(self):
-        """The lines for the plan: its numbers and its flows, or why it is
-        refused."""
-        if self.replay.refusal:
-            return ["the plan is " + self.refused(self.replay.refusal, "plan")]
-        plan = self.plan
-        return ["the plan is accepted: F = %s to a frame, W = %d frames in "
-                "the window, T = %d positions, N = %s in the buffer" % (
-                    plural(plan.frame_slots, "slot"), plan.window_frames,
-                    plan.positions, plural(plan.buffer, "place"))] + [
-            "flow %d: from node %d to node %d, share %d, %s" % (
-                flow.number, flow.source, flow.destination, flow.share,
-                plural(flow.cells, "cell")) for flow in plan.flows]
+        self.refusals = {}              # sentences that were said before
+        self.goes_to = {str(flow.number): str(flow.destination)
+                        for flow in plan.flows}
+        self.cells = {str(flow.number): plural(flow.cells, "cell")
+                      for flow in plan.flows}
+        self.kinds = {REQUEST: self.of_word, CREDIT: self.of_credit,
+                      LEND: self.of_lend, RESET: self.a_reset}
+        # What is asked, and what is answered, by a line's letter.
+        self.calls = {"G": self.of_word, "C": self.of_credit,
+                      "T": self.a_tick, "L": self.of_lend, "Z": self.a_reset,
+                      "R": self.of_refused_call, "X": self.no_call,
+                      "W": self.a_burst}
+        self.answers = {"G": self.granted, "C": self.credited, "T": self.tick,
+                        "L": self.lent, "Z": self.reset, "R": self.refused,
+                        "X": self.refused}
 
     # ---- calls
 
-    def of_call(self, call):
-        if call.kind == "request":
-            return self.of_word(call.word)
-        if call.kind == "credit":
-            return "flow %d gives a cell back, dated position %d" % (
-                call.flow, call.position)
-        if call.kind == "tick":
-            return "a tick"
-        if call.kind == "lend":
-            flows = [flow for flow in range(16) if call.mask >> flow & 1]
-            return "the current slot is to be lent to %s" % (
-                "flow " + listed(flows) if flows else "no flow at all")
-        if call.kind == "reset":
-            return "a local reset"
-        if call.kind == "burst":
-            return "a burst of %s" % plural(len(call.words), "request")
-        return "%s no call: %s" % (
-            plural(len(call.record), "byte that is", "bytes that are"),
-            call.record.hex(" "))
+    def of_refused_call(self, words):
+        return self.kinds[words[KIND]](words)
 
-    def of_word(self, word):
-        flows = self.plan.flows
-        to = ""
-        if (word.flow >= len(flows)
-                or flows[word.flow].destination != word.destination):
-            to = ", to node %d" % word.destination
-        return "flow %d asks for a slot: quantum %d, departure %d%s" % (
-            word.flow, word.quantum, word.departure, to)
+    @staticmethod
+    def a_tick(words):
+        return "a tick"
+
+    @staticmethod
+    def a_reset(words):
+        return "a local reset"
+
+    @staticmethod
+    def of_credit(words):
+        return "flow %s gives a cell back, dated position %s" % (
+            words[FLOW], words[POSITION])
+
+    @staticmethod
+    def of_lend(words):
+        flows = lends_to(int(words[MASK]))
+        return "the current slot is to be lent to %s" % (
+            "flow " + listed(flows) if flows else "no flow at all")
+
+    @staticmethod
+    def a_burst(words):
+        return "a burst of %s" % plural(int(words[WORDS]), "request")
+
+    def of_word(self, words):
+        flow, to = words[FLOW], words[TO]
+        other = "" if self.goes_to.get(flow) == to else ", to node " + to
+        return "flow %s asks for a slot: quantum %s, departure %s%s" % (
+            flow, words[NUMBER], words[DEPARTURE], other)
+
+    @staticmethod
+    def no_call(words):
+        record = bytes.fromhex(words[1])
+        return "%s no call: %s" % (
+            plural(len(record), "byte that is", "bytes that are"),
+            record.hex(" "))
 
     # ---- answers
 
-    def of_answers(self, step):
-        """Each answer of a step; before a burst's stand their words."""
-        if step.call.kind != "burst":
-            return [self.of_answer(step, step.answers[0], step.call.word)]
-        return ["%s: %s" % (self.of_word(word),
-                            self.of_answer(step, answer, word))
-                for word, answer in zip(step.call.words, step.answers)]
+    def of_answer(self, words, pair=None):
+        """What is answered; for a credit, the pair that it makes with the
+        lend before it, or None."""
+        if pair:
+            return self.credited(words) + self.sent_ahead(pair)
+        return self.answers[words[0]](words)
 
-    def of_answer(self, step, answer, word=None):
-        if answer.kind == "refused":
-            return self.refused(answer.refusal, step.call.kind,
-                                self.reason(step, answer, word))
-        return getattr(self, answer.kind)(step, answer)
+    def place(self, slot):
+        return place(slot, self.plan)
 
-    def granted(self, step, answer):
-        said = "granted %s" % place(answer.booking.slot, self.plan)
-        if step.call.kind == "burst":
-            return said
-        state = self.replay.states[step.number]
-        return "%s; there it holds %d of its %s" % (
-            said, state.holdings[answer.flow][
-                answer.booking.slot - state.slots[0]],
-            plural(self.plan.flows[answer.flow].cells, "cell"))
+    def granted(self, words):
+        return "granted %s; there it holds %s of its %s" % (
+            place(self.slot + int(words[AHEAD]), self.plan), words[HELD],
+            self.cells[words[FLOW]])
 
-    def credited(self, step, answer):
-        return "taken: from %s on flow %d holds one less%s" % (
-            place(answer.slot, self.plan), answer.flow,
-            self.sent_ahead(step))
+    def credited(self, words):
+        return "taken: from %s on flow %s holds one less" % (
+            self.place(self.slot + int(words[AHEAD])), words[FLOW])
 
-    def sent_ahead(self, step):
+    @staticmethod
+    def sent_ahead(pair):
         """What a credit and the lend before it let a tile do."""
-        pair = pair_of(self.replay, step)
         return "; with the lend before it the tile of slot %d may leave " \
-            "ahead, in slot %d" % pair if pair else ""
+            "ahead, in slot %d" % pair
 
-    def tick(self, step, answer):
-        whose = ("nobody booked it" if answer.flow is None
-                 else "it is flow %d's" % answer.flow)
-        change = ""
-        if answer.slot % self.plan.frame_slots == 0:
-            change = ", with a frame change"
+    def tick(self, words):
         return "%s has come up%s: %s" % (
-            place(answer.slot, self.plan), change, whose)
+            self.place(self.slot),
+            ", with a frame change" if words[CHANGE] == "1" else "",
+            "nobody booked it" if words[VALUE] == NOBODY
+            else "it is flow %s's" % words[VALUE])
 
-    def lent(self, step, answer):
-        return "lent to flow %d: %s" % (
-            answer.flow, place(answer.booking.slot, self.plan))
+    def lent(self, words):
+        return "lent to flow %s: %s" % (words[VALUE], self.place(self.slot))
 
-    def reset(self, step, answer):
+    def reset(self, words):
         return "done: every flow starts again in frame %d" % (
-            self.replay.states[step.number].head_frame)
+            self.slot // self.plan.frame_slots)
 
-    def untouched(self, step, answer):
-        return "not looked at, since a burst makes 16 requests at most"
+    def of_burst(self, words):
+        """Before the answer to a word of a burst stands the word."""
+        if words[REFUSAL] == UNTOUCHED:
+            said = "not looked at, since a burst makes 16 requests at most"
+        elif words[REFUSAL] == "0":
+            said = "granted " + self.place(self.slot + int(words[AHEAD]))
+        else:
+            said = self.refused(words)
+        return "%s: %s" % (self.of_word(words), said)
 
-    def refused(self, number, kind, reason=""):
-        row = refusal(number, kind, self.known)
-        to_do = "; what to do: " + row.what_to_do if row.what_to_do else ""
-        return "refused with %d: %s%s%s" % (number, row.when, reason, to_do)
+    def refused(self, words):
+        """With what the line says of it besides, in brackets."""
+        here = self.here(words)
+        number, kind = refusal_of(words)
+        key = number, kind, here
+        if key not in self.refusals:
+            self.refusals[key] = refused_with(
+                number, kind, self.known, " (here %s)" % here if here else "")
+        return self.refusals[key]
 
-    def reason(self, step, answer, word):
-        """What the state says of a refused call besides, in brackets."""
-        here = self.here(step, answer, word)
-        return " (here %s)" % here if here else ""
-
-    def reasons(self, step):
-        """What the state says of each answer of a step, "" for nothing."""
-        words = step.call.words or [step.call.word]
-        return [self.here(step, answer, word)
-                for word, answer in zip(words, step.answers)]
-
-    def here(self, step, answer, word):
+    def here(self, words):
         """Why a request is refused: what holds here of what the refusal's row
         says, or ""."""
-        if word is None or word.flow >= len(self.plan.flows):
+        number, kind = refusal_of(words)
+        if kind not in ("request", "word") or not self.plan.has(words[FLOW]):
             return ""
-        state, flow = self.replay.states[step.number], self.plan.flows[word.flow]
-        if answer.refusal == 9:
+        flow = self.plan.flows[int(words[FLOW])]
+        if number == 9:
             return "it goes to node %d" % flow.destination
-        if answer.refusal == 11:
+        if number == 11:
             return "its share is %s to a frame" % plural(flow.share, "slot")
-        if answer.refusal == 12:
-            return no_position(state.holdings[word.flow][-1], flow.cells)
-        if answer.refusal == 24 and step.call.kind == "request":
-            return "%d is expected" % (state.granted[word.flow] % 1024)
+        if number == 12:
+            return no_position(int(words[LAST]), flow.cells)
+        if number == 24 and kind == "request":
+            return "%s is expected" % words[EXPECTED]
         return ""
+
+
+def refusal_of(words):
+    """The refusal of a line, 0 for none, and what is refused."""
+    if words[0] == "X":
+        return NO_CALL, "none"
+    number = 0 if words[REFUSAL] == UNTOUCHED else int(words[REFUSAL])
+    return number, KINDS[words[KIND]]

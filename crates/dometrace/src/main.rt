@@ -130,5 +130,9 @@ fn main() {
     let all = 1 < os::arg_count();
     let mut space = [0u8; 65536];
     let mut out = [0u8; 131075];
+    if input::is_lost() {
+        output::input_lost();
+        return;
+    }
     begin(all, &mut space, &mut out);
 }
