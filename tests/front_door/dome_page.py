@@ -9,7 +9,7 @@ import stat
 import subprocess
 
 from front_door.command import LIMIT, trouble
-from front_door.dome_tree import DONE, NOT_DONE, SMALL, in_trees
+from front_door.dome_tree import DONE, NOT_DONE, SMALL, in_trees, rows
 
 # A document as far as the script uses one; then the user's keys, and after
 # each what is drawn: boxes, lines and those of them on the way, the streams
@@ -98,9 +98,9 @@ def what_is_in_it(tree):
     data = json.loads(re.search(r"const dome = (.*);\n", text).group(1))
     ended = tree.start("play", tree.file, "--slots", "200", "--greedy",
                        "comet")
-    rows = [line.split() for line in ended.output.decode().splitlines()[3:]]
     wanted = [(r[0], int(r[1]), int(r[2]), int(r[3]), int(r[5]),
-               None if r[6] == "-" else int(r[6])) for r in rows]
+               None if r[6] == "-" else int(r[6]))
+              for r in rows(ended).values()]
     found = [(s["name"], s["asked"], s["granted"], s["arrived"],
               s["greatest"], s["bound"]) for s in data["streams"]]
     counted = [sum(count for _, count in s["delays"]) for s in data["streams"]]

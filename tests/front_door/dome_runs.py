@@ -5,7 +5,7 @@ import sys
 from collections import Counter
 
 from front_door.command import ROOT, start, trouble
-from front_door.dome_tree import DONE, in_trees
+from front_door.dome_tree import DONE, in_trees, rows
 from shows.comparison import compare
 
 SHOWS = 300             # compared in the gate
@@ -48,12 +48,6 @@ QUESTIONS = (
     (b"show 4 2 8" + 3991 * b" ", b"? the question has more than 4,000 "
      b"bytes\n"),
 )
-
-
-def rows(ended):
-    """Each stream's columns, of what play printed."""
-    lines = ended.output.decode().splitlines()[3:]
-    return {line.split()[0]: line.split() for line in lines}
 
 
 def in_bounds(found, kept):
@@ -127,7 +121,7 @@ def the_flights(tree):
 # 15 slots it isn't passed, and after 16 it is.
 WAITS = """
 from types import SimpleNamespace as Any
-from dome.play import passed
+from dome.told import passed
 one = Any(stream=Any(name="a"), flows=[Any(waiting=[3])], delays=[1],
           bound=Any(slots=11), keeps=lambda: True)
 for slots in 15, 16:

@@ -24,7 +24,8 @@ def link_data(planned):
 def stream_data(played, way):
     s = played.stream
     delays = played.delays
-    return {"name": s.name, "way": [s.source] + [to for _, to in way],
+    return {"ahead": played.ahead, "gained": sum(played.gains),
+            "name": s.name, "way": [s.source] + [to for _, to in way],
             "share": s.share, "cells": s.cells, "last": s.last_cells,
             "asked": played.asked, "granted": played.flows[0].granted,
             "arrived": len(delays),

@@ -16,13 +16,14 @@ def stop(script, status, text):
     sys.exit(status)
 
 
-def read_file(script, path):
-    """A file's bytes; - is standard input."""
+def read_file(script, path, most=-1):
+    """A file's bytes, the first so many where a number is given; - is
+    standard input."""
     try:
         if path == "-":
-            return sys.stdin.buffer.read()
+            return sys.stdin.buffer.read(most)
         with open(path, "rb") as source:
-            return source.read()
+            return source.read(most)
     except AttributeError:
         stop(script, 2, "standard input is closed, and - stands for it")
     except OSError as wrong:
