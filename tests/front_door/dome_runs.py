@@ -105,7 +105,10 @@ def the_flights(tree):
     """Each passes, and no bound is passed, greedy neighbours or not."""
     for name, greedy in (("ten", ("comet", "titles")),
                          ("case-study", ("south", "corner")),
-                         ("hotspot", ("s3", "s8"))):
+                         ("case-study-2", ("grey3", "grey5")),
+                         ("hotspot", ("s3", "s8")),
+                         ("hotspot-quarters", ("q1-3", "q4-60")),
+                         ("hotspot-halves", ("q2-5", "q3-41"))):
         words = [word for one in greedy for word in ("--greedy", one)]
         for more in ((), words):
             ended = tree.start("play", ROOT / "flights" / (name + ".dome"),
@@ -114,6 +117,24 @@ def the_flights(tree):
             kept = {one for one, row in found.items() if row[6] != "-"}
             if not found or kept != set(found) - set(greedy if more else ()):
                 return "%s %s: %s" % (name, more, ended.errors or kept)
+    return None
+
+
+def reserved_and_no_more(tree):
+    """Rules 22.7 and 22.8: streams that always have tiles are granted their
+    share in each of 20 frames, and a tile arrives at most a frame for each hop
+    and one more after the frame in which it is asked for."""
+    for name in ("case-study-2", "hotspot", "hotspot-quarters",
+                 "hotspot-halves"):
+        show = ROOT / "flights" / (name + ".dome")
+        checked = tree.start("check", show).output.decode().split("\n\n")[1]
+        ended = tree.start("play", show, "--slots", "1280", "--rate", "1")
+        for line in checked.splitlines()[1:]:
+            one, _, _, hops, share, *_ = line.split()
+            granted, arrived = map(int, rows(ended)[one][2:4])
+            least = int(share) * (20 - int(hops) - 1)
+            if granted != 20 * int(share) or not least <= arrived <= granted:
+                return "%s, %s: %s" % (name, one, rows(ended)[one])
     return None
 
 
@@ -160,5 +181,5 @@ def tests(programs):
     return in_trees((
         whoever_is_greedy_or_late, one_seed_one_run,
         a_late_board_costs_its_own_stream, a_tile_that_never_arrives,
-        the_flights, questions_by_hand,
+        the_flights, reserved_and_no_more, questions_by_hand,
         shows_by_chance), programs)
