@@ -27,7 +27,7 @@ class Element {
   all() { return [this].concat(...this.children.map((c) => c.all())); }
 }
 const byId = {};
-for (const id of ["dome", "mesh", "streams", "chosen"]) {
+for (const id of ["dome", "mesh", "links", "streams", "chosen"]) {
   byId[id] = new Element("div");
 }
 const document = new Element("document");
@@ -44,7 +44,8 @@ function seen() {
   return [of(mesh, "rect"), of(mesh, "rect", true), of(mesh, "line"),
     of(mesh, "line", true),
     byId.streams.children.map((b) => b.values["aria-pressed"] === "true"),
-    of(shown, "rect"), of(shown, "line")];
+    of(shown, "rect"), of(shown, "line"), of(mesh, "polygon"),
+    byId.links.children.length];
 }
 const found = [seen()];
 for (const key of ["j", "j", "j", "k", "Escape", "k"]) {
@@ -57,9 +58,9 @@ console.log(JSON.stringify(found));
 """
 BARS = 60
 # SMALL has main over boards 0, 1 and 9, comet over 1 and 9, and two links.
-NONE = [64, 0, 2, 0, [False, False], 0, 0]
-MAIN = [64, 3, 2, 2, [True, False], BARS, 1]
-COMET = [64, 2, 2, 1, [False, True], BARS, 1]
+NONE = [64, 0, 2, 0, [False, False], 0, 0, 2, 2]
+MAIN = [64, 3, 2, 2, [True, False], BARS, 1, 2, 2]
+COMET = [64, 2, 2, 1, [False, True], BARS, 1, 2, 2]
 SEEN = [NONE, MAIN, COMET, MAIN, COMET, NONE, COMET, NONE]
 
 

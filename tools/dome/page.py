@@ -38,7 +38,7 @@ def stream_data(played, way):
 def text(planned, dome, options):
     """The page of a dome after its run."""
     data = dict(planned.dome, slots=options.slots, seed=str(options.seed),
-                links=link_data(planned),
+                ahead=options.ahead, links=link_data(planned),
                 streams=[stream_data(played, way) for played, way in zip(
                     dome.streams, planned.ways)])
     fill = {"NAME": html.escape(Path(options.path).name),
