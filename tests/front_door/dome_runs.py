@@ -7,8 +7,11 @@ from collections import Counter
 from front_door.command import ROOT, start, trouble
 from front_door.dome_tree import DONE, in_trees, rows
 from shows.comparison import compare
+from shows.file_comparison import compare_files, run
 
 SHOWS = 300             # compared in the gate
+FILES = 200             # show files likewise
+RUNS = 60               # shows of seeds that are played if they pass
 REFUSALS = {"ok", "R 2", "R 3", "R 4", "R 5", "R 7", "R 25"}
 THREE = """\
 dome F=8 W=4 N=255
@@ -177,9 +180,59 @@ def shows_by_chance(tree):
     return set(came) != REFUSALS and "only %s came up" % sorted(came)
 
 
+def show_files_by_chance(tree):
+    """The same plan files and index as the second simulator's, or refused with
+    the same number."""
+    came = Counter()
+    for seed in range(1, FILES + 1):
+        wrong, first = compare_files(seed)
+        came[first] += 1
+        if wrong:
+            return wrong
+    return set(came) != REFUSALS and "only %s came up" % sorted(came)
+
+
+def runs_by_chance(tree):
+    """Rule 25.5: no bound is passed, whoever is greedy or late, with tiles
+    sent ahead or without."""
+    kept = 0
+    for seed in range(1, RUNS + 1):
+        wrong, count = run(seed)
+        kept += count
+        if wrong:
+            return wrong
+    return not kept and "no stream kept its premises"
+
+
+# A run of four slots on a terminal, each of which takes 0.4 seconds: it is
+# told after 0.8 and 1.6 seconds where the run is, and at the end the line is
+# blank.
+COUNTS = """
+import io, sys
+from types import SimpleNamespace as Any
+from dome import play
+clock = [0.0]
+play.time = Any(time=lambda: clock[0])
+sys.stderr = terminal = io.StringIO()
+terminal.isatty = lambda: True
+def slot(number):
+    clock[0] += 0.4
+play.run(Any(play_slot=slot), 4)
+print(repr(terminal.getvalue()))
+"""
+COUNTED = repr("\rdome: slot 1 of 4, 0 s \rdome: slot 3 of 4, 1 s \r"
+               + 60 * " " + "\r") + "\n"
+
+
+def a_line_that_counts(tree):
+    return trouble(start([sys.executable, "-B", "-c", COUNTS],
+                         cwd=ROOT / "tools"), DONE, COUNTED.encode())
+
+
 def tests(programs):
     return in_trees((
         whoever_is_greedy_or_late, one_seed_one_run,
         a_late_board_costs_its_own_stream, a_tile_that_never_arrives,
         the_flights, reserved_and_no_more, questions_by_hand,
-        shows_by_chance), programs)
+        shows_by_chance, show_files_by_chance, runs_by_chance,
+        a_line_that_counts), programs)
