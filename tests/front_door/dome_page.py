@@ -10,7 +10,7 @@ import subprocess
 
 from driver.left_out import leave_out
 from front_door.command import LIMIT, trouble
-from front_door.dome_tree import DONE, NOT_DONE, SMALL, in_trees
+from front_door.dome_tree import DONE, NOT_DONE, SMALL, in_trees, rows
 
 # A document as far as the script uses one; then the user's keys, and after
 # each what is drawn: boxes, lines and those of them on the way, the streams
@@ -28,7 +28,7 @@ class Element {
   all() { return [this].concat(...this.children.map((c) => c.all())); }
 }
 const byId = {};
-for (const id of ["dome", "mesh", "streams", "chosen"]) {
+for (const id of ["dome", "mesh", "links", "streams", "chosen"]) {
   byId[id] = new Element("div");
 }
 const document = new Element("document");
@@ -45,7 +45,8 @@ function seen() {
   return [of(mesh, "rect"), of(mesh, "rect", true), of(mesh, "line"),
     of(mesh, "line", true),
     byId.streams.children.map((b) => b.values["aria-pressed"] === "true"),
-    of(shown, "rect"), of(shown, "line")];
+    of(shown, "rect"), of(shown, "line"), of(mesh, "polygon"),
+    byId.links.children.length];
 }
 const found = [seen()];
 for (const key of ["j", "j", "j", "k", "Escape", "k"]) {
@@ -58,9 +59,9 @@ console.log(JSON.stringify(found));
 """
 BARS = 60
 # SMALL has main over boards 0, 1 and 9, comet over 1 and 9, and two links.
-NONE = [64, 0, 2, 0, [False, False], 0, 0]
-MAIN = [64, 3, 2, 2, [True, False], BARS, 1]
-COMET = [64, 2, 2, 1, [False, True], BARS, 1]
+NONE = [64, 0, 2, 0, [False, False], 0, 0, 2, 2]
+MAIN = [64, 3, 2, 2, [True, False], BARS, 1, 2, 2]
+COMET = [64, 2, 2, 1, [False, True], BARS, 1, 2, 2]
 SEEN = [NONE, MAIN, COMET, MAIN, COMET, NONE, COMET, NONE]
 
 
@@ -97,9 +98,9 @@ def what_is_in_it(tree):
     data = json.loads(re.search(r"const dome = (.*);\n", text).group(1))
     ended = tree.start("play", tree.file, "--slots", "200", "--greedy",
                        "comet")
-    rows = [line.split() for line in ended.output.decode().splitlines()[3:]]
     wanted = [(r[0], int(r[1]), int(r[2]), int(r[3]), int(r[5]),
-               None if r[6] == "-" else int(r[6])) for r in rows]
+               None if r[6] == "-" else int(r[6]))
+              for r in rows(ended).values()]
     found = [(s["name"], s["asked"], s["granted"], s["arrived"],
               s["greatest"], s["bound"]) for s in data["streams"]]
     counted = [sum(count for _, count in s["delays"]) for s in data["streams"]]

@@ -5,10 +5,13 @@ import sys
 from collections import Counter
 
 from front_door.command import ROOT, start, trouble
-from front_door.dome_tree import DONE, in_trees
+from front_door.dome_tree import DONE, in_trees, rows
 from shows.comparison import compare
+from shows.file_comparison import compare_files, run
 
 SHOWS = 300             # compared in the gate
+FILES = 200             # show files likewise
+RUNS = 60               # shows of seeds that are played if they pass
 REFUSALS = {"ok", "R 2", "R 3", "R 4", "R 5", "R 7", "R 25"}
 THREE = """\
 dome F=8 W=4 N=255
@@ -48,12 +51,6 @@ QUESTIONS = (
     (b"show 4 2 8" + 3991 * b" ", b"? the question has more than 4,000 "
      b"bytes\n"),
 )
-
-
-def rows(ended):
-    """Each stream's columns, of what play printed."""
-    lines = ended.output.decode().splitlines()[3:]
-    return {line.split()[0]: line.split() for line in lines}
 
 
 def in_bounds(found, kept):
@@ -111,7 +108,10 @@ def the_flights(tree):
     """Each passes, and no bound is passed, greedy neighbours or not."""
     for name, greedy in (("ten", ("comet", "titles")),
                          ("case-study", ("south", "corner")),
-                         ("hotspot", ("s3", "s8"))):
+                         ("case-study-2", ("grey3", "grey5")),
+                         ("hotspot", ("s3", "s8")),
+                         ("hotspot-quarters", ("q1-3", "q4-60")),
+                         ("hotspot-halves", ("q2-5", "q3-41"))):
         words = [word for one in greedy for word in ("--greedy", one)]
         for more in ((), words):
             ended = tree.start("play", ROOT / "flights" / (name + ".dome"),
@@ -123,11 +123,29 @@ def the_flights(tree):
     return None
 
 
+def reserved_and_no_more(tree):
+    """Rules 22.7 and 22.8: streams that always have tiles are granted their
+    share in each of 20 frames, and a tile arrives at most a frame for each hop
+    and one more after the frame in which it is asked for."""
+    for name in ("case-study-2", "hotspot", "hotspot-quarters",
+                 "hotspot-halves"):
+        show = ROOT / "flights" / (name + ".dome")
+        checked = tree.start("check", show).output.decode().split("\n\n")[1]
+        ended = tree.start("play", show, "--slots", "1280", "--rate", "1")
+        for line in checked.splitlines()[1:]:
+            one, _, _, hops, share, *_ = line.split()
+            granted, arrived = map(int, rows(ended)[one][2:4])
+            least = int(share) * (20 - int(hops) - 1)
+            if granted != 20 * int(share) or not least <= arrived <= granted:
+                return "%s, %s: %s" % (name, one, rows(ended)[one])
+    return None
+
+
 # A tile that came in slot 3 and waits still, with a bound of 11 slots: after
 # 15 slots it isn't passed, and after 16 it is.
 WAITS = """
 from types import SimpleNamespace as Any
-from dome.play import passed
+from dome.told import passed
 one = Any(stream=Any(name="a"), flows=[Any(waiting=[3])], delays=[1],
           bound=Any(slots=11), keeps=lambda: True)
 for slots in 15, 16:
@@ -162,9 +180,59 @@ def shows_by_chance(tree):
     return set(came) != REFUSALS and "only %s came up" % sorted(came)
 
 
+def show_files_by_chance(tree):
+    """The same plan files and index as the second simulator's, or refused with
+    the same number."""
+    came = Counter()
+    for seed in range(1, FILES + 1):
+        wrong, first = compare_files(seed)
+        came[first] += 1
+        if wrong:
+            return wrong
+    return set(came) != REFUSALS and "only %s came up" % sorted(came)
+
+
+def runs_by_chance(tree):
+    """Rule 25.5: no bound is passed, whoever is greedy or late, with tiles
+    sent ahead or without."""
+    kept = 0
+    for seed in range(1, RUNS + 1):
+        wrong, count = run(seed)
+        kept += count
+        if wrong:
+            return wrong
+    return not kept and "no stream kept its premises"
+
+
+# A run of four slots on a terminal, each of which takes 0.4 seconds: it is
+# told after 0.8 and 1.6 seconds where the run is, and at the end the line is
+# blank.
+COUNTS = """
+import io, sys
+from types import SimpleNamespace as Any
+from dome import play
+clock = [0.0]
+play.time = Any(time=lambda: clock[0])
+sys.stderr = terminal = io.StringIO()
+terminal.isatty = lambda: True
+def slot(number):
+    clock[0] += 0.4
+play.run(Any(play_slot=slot), 4)
+print(repr(terminal.getvalue()))
+"""
+COUNTED = repr("\rdome: slot 1 of 4, 0 s \rdome: slot 3 of 4, 1 s \r"
+               + 60 * " " + "\r") + "\n"
+
+
+def a_line_that_counts(tree):
+    return trouble(start([sys.executable, "-B", "-c", COUNTS],
+                         cwd=ROOT / "tools"), DONE, COUNTED.encode())
+
+
 def tests(programs):
     return in_trees((
         whoever_is_greedy_or_late, one_seed_one_run,
         a_late_board_costs_its_own_stream, a_tile_that_never_arrives,
-        the_flights, questions_by_hand,
-        shows_by_chance), programs)
+        the_flights, reserved_and_no_more, questions_by_hand,
+        shows_by_chance, show_files_by_chance, runs_by_chance,
+        a_line_that_counts), programs)

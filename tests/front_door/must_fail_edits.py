@@ -29,13 +29,14 @@ CRATES = {
     "programmewords": "root", "mesh": "root", "shares": "root",
     "extras": "root", "programme": "root", "delay": "root",
     "delaywords": "root", "questions": "root", "show": "root",
-    "showwords": "root", "trace": "root"}
+    "showwords": "root", "showinput": "root", "trace": "root"}
 
 # Public functions that others are built from.
 HELPERS = {
     "burst": {"burst_first"},           # a burst on an array, for callers
     "program": {"start"},               # the state before any input
     "questions": {"start"},             # likewise
+    "showinput": {"start"},             # likewise
     "mesh": {"any_over", "link_from", "link_to"}}
 
 # What the table above has to find, whatever else it finds.
@@ -49,7 +50,8 @@ KNOWN = {
     "mesh": "admit measure", "shares": "count", "extras": "choose",
     "programme": "plan_at", "delay": "delay", "delaywords": "delay",
     "questions": "feed finish", "show": "write link_refusal refusal",
-    "showwords": "show", "trace": "step write_burst write_plan"}
+    "showwords": "show", "showinput": "feed finish",
+    "trace": "step write_burst write_plan"}
 
 
 def sources(crate):

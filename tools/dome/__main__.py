@@ -5,7 +5,9 @@ a bound was passed; 2 neither, and a sentence says why."""
 import sys
 from pathlib import Path
 
-from dome import check, page, planned, plans, play, proved, show_file
+from dome import (
+    check, page, planned, plans, play, proved, refused, run_options, show_file,
+    told)
 
 sys.path.insert(0, str(proved.BIN.parents[1] / "tools/show"))
 from ends import read_file, stop, write_output  # noqa: E402
@@ -13,27 +15,33 @@ from ends import read_file, stop, write_output  # noqa: E402
 MOST_SENTENCES = 100
 
 
-def say_all(path, found, status):
-    """Ends with a sentence for each fault."""
+def say(text):
+    print("dome: " + text, file=sys.stderr)
+
+
+def say_all(path, found):
+    """A sentence for each pair of a line's number, 0 for none, and a text."""
     for line, text in found[:MOST_SENTENCES]:
-        where = "line %d: " % line if line else ""
-        print("dome: %s: %s%s" % (path, where, text), file=sys.stderr)
+        say("%s: %s%s" % (path, "line %d: " % line if line else "", text))
     if len(found) > MOST_SENTENCES:
-        print("dome: %s: and %d more faults" % (
-            path, len(found) - MOST_SENTENCES), file=sys.stderr)
-    sys.exit(status)
+        say("%s: and %d more faults" % (path, len(found) - MOST_SENTENCES))
 
 
 def take(path):
     """The show of a file with its plans, or the end."""
-    show, faults = show_file.read(read_file("dome", path))
+    show, faults = show_file.read(
+        read_file("dome", path, show_file.MOST_BYTES + 1))
     name = "standard input" if path == "-" else "'%s'" % path
     if faults:
-        say_all(name, faults, 2)
+        say_all(name, faults)
+        sys.exit(2)
     answers = planned.Planned(show)
-    found = planned.refused(answers)
+    found = refused.faults(answers)
     if found:
-        say_all(name, found, 1)
+        say_all(name, [(fault.line, fault.text) for fault in found])
+        for text in refused.to_do(found):
+            say(text)
+        sys.exit(1)
     return answers
 
 
@@ -54,8 +62,15 @@ def do_plans(words):
     except OSError as wrong:
         stop("dome", 2, "'%s' can't be written: %s" % (
             words[1], wrong.strerror))
-    print("dome: %d plan%s and index.txt are written to '%s'" % (
-        count, "s"[count == 1:], words[1]), file=sys.stderr)
+    say("%d plan%s and index.txt are written to '%s'" % (
+        count, "s"[count == 1:], words[1]))
+    others = plans.of_no_link(answers, words[1])
+    if others:
+        say("'%s' has %s of links that this show doesn't use: %s; %s left "
+            "alone, and a board that is given one plays another show" % (
+                words[1], "a plan" if len(others) == 1 else "plans",
+                show_file.few(others), "it is" if len(others) == 1 else
+                "they are"))
 
 
 def over_itself(options):
@@ -70,11 +85,11 @@ def over_itself(options):
 
 def take_run(words, files):
     """The options, and a show and its dome after the run."""
-    options = play.options(words, files)
+    options = run_options.read(words, files)
     if isinstance(options, str):
         stop("dome", 2, options)
     answers = take(options.path)
-    wrong = play.unknown(options, answers) or over_itself(options)
+    wrong = run_options.unknown(options, answers) or over_itself(options)
     if wrong:
         stop("dome", 2, wrong)
     return options, answers, play.played(answers, options)
@@ -82,15 +97,15 @@ def take_run(words, files):
 
 def end(dome, options):
     """Ends with 1 where a bound was passed."""
-    found = play.passed(dome, options.slots)
+    found = told.passed(dome, options.slots)
     for text in found:
-        print("dome: " + text, file=sys.stderr)
+        say(text)
     sys.exit(1 if found else 0)
 
 
 def do_play(words):
     options, _, dome = take_run(words, 1)
-    write_output("dome", ("\n".join(play.lines(dome, options)) + "\n")
+    write_output("dome", ("\n".join(told.lines(dome, options)) + "\n")
                  .encode())
     end(dome, options)
 
@@ -116,7 +131,7 @@ def do_page(words):
         put_page(out, data)
     except OSError as wrong:
         stop("dome", 2, "'%s' can't be written: %s" % (out, wrong.strerror))
-    print("dome: '%s' is written" % out, file=sys.stderr)
+    say("'%s' is written" % out)
     end(dome, options)
 
 

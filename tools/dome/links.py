@@ -1,5 +1,6 @@
-"""The links of a dome, each a domelink that plays its plan.  Calls are kept
-until an answer is needed, and then written at once."""
+"""The links of a dome, each a domelink that plays its plan, or a dometrace
+where slots are lent.  Calls are kept until an answer is needed, and then
+written at once."""
 
 import os
 import subprocess
@@ -8,17 +9,33 @@ from dome.proved import BIN, Broken
 
 TICK = b"\x03\0\0\0\0"
 ENOUGH = 4000           # records that are kept at most: a pipe takes them
+NOBODY = b"16"          # no owner, in a trace
+MORE = (b"E", b"F")     # lines of a trace that answer no call
+
+
+def as_listed(line):
+    """A line of a trace as domelink's listing has it."""
+    letter, refusal, value = line.split(b" ", 3)[:3]
+    if letter in (b"R", b"P"):
+        return letter + b" " + refusal
+    if letter == b"C":
+        return letter
+    if letter == b"T" and value == NOBODY:
+        return b"T -"
+    return letter + b" " + value
 
 
 class Link:
     """A link after `ticks` ticks; `booked` has the flow of each slot that is
     to come up, by which each tick's answer is compared."""
 
-    def __init__(self, plan):
+    def __init__(self, plan, lends=False):
         self.plan = plan
         self.slots = plan[6] + 256 * plan[7]
         self.positions = self.slots * (plan[8] + 256 * plan[9])
+        self.traced = lends
         self.program = subprocess.Popen(
+            [str(BIN / "dometrace"), "all"] if lends else
             [str(BIN / "domelink")], stdin=subprocess.PIPE,
             stdout=subprocess.PIPE, bufsize=0)
         self.into = self.program.stdin.fileno()
@@ -27,7 +44,8 @@ class Link:
         self.booked = {}
         self.kept = [plan]
         self.asked = ["P"]      # what each line that is to come answers
-        self.rest = b""
+        self.lines = []         # that have come, and are not looked at yet
+        self.rest = b""         # of a line that has not come whole
         self.read_on(self.flush())
 
     def advance(self, slot):
@@ -51,6 +69,12 @@ class Link:
         self.kept.append(b"\x01" + word.to_bytes(4, "little"))
         self.asked.append("G")
 
+    def lend(self, flows):
+        """Offers the current slot to these flows."""
+        mask = sum(1 << flow for flow in flows)
+        self.kept.append(bytes((4, mask & 255, mask >> 8, 0, 0)))
+        self.asked.append("L")
+
     def flush(self):
         """Writes what is kept; how many lines are to come."""
         count = len(self.kept)
@@ -60,28 +84,35 @@ class Link:
             data = data[os.write(self.into, data):]
         return count
 
+    def more_lines(self):
+        """The lines of the next piece that comes."""
+        piece = os.read(self.out, 65536)
+        if not piece:
+            raise Broken("%s ended early" % (
+                "dometrace" if self.traced else "domelink"))
+        *lines, self.rest = (self.rest + piece).split(b"\n")
+        if self.traced:
+            return [as_listed(line) for line in lines if line[:1] not in MORE]
+        return lines
+
     def read_on(self, count):
-        """Reads so many lines: the slots granted to the requests among them,
-        None for one that is refused."""
-        lines = self.rest.split(b"\n")
-        parts = [self.rest]
-        while len(lines) <= count:
-            piece = os.read(self.out, 65536)
-            if not piece:
-                raise Broken("domelink ended early")
-            parts.append(piece)
-            lines = b"".join(parts).split(b"\n")
-        self.rest = b"\n".join(lines[count:])
+        """Reads so many lines: what is answered to the requests and lends
+        among them, None for one that is refused."""
+        while len(self.lines) < count:
+            self.lines += self.more_lines()
+        lines, self.lines = self.lines[:count], self.lines[count:]
         asked, self.asked = self.asked[:count], self.asked[count:]
         return [found for found in map(self.answered, asked, lines)
                 if found is not False]
 
     def answered(self, asked, line):
-        """The slot of a grant, None for a request that is refused; False for
-        any other call."""
-        if asked == "G":
+        """The slot of a grant, the flow of a lend, None for either that is
+        refused; False for any other call."""
+        if asked in ("G", "L"):
             if line[:1] == b"R":
                 return None
+            if asked == "L":
+                return int(line[2:])
             ahead = (int(line[2:]) - self.ticks) % self.positions
             return self.ticks + (ahead or self.positions)
         if isinstance(asked, int):
@@ -90,7 +121,7 @@ class Link:
         else:
             expected = b"P 0" if asked == "P" else b"C"
         if line != expected:
-            raise Broken("domelink answered %r where %r was booked" % (
+            raise Broken("a link answered %r where %r was booked" % (
                 line, expected))
         return False
 

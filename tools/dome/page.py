@@ -24,7 +24,8 @@ def link_data(planned):
 def stream_data(played, way):
     s = played.stream
     delays = played.delays
-    return {"name": s.name, "way": [s.source] + [to for _, to in way],
+    return {"ahead": played.ahead, "gained": sum(played.gains),
+            "name": s.name, "way": [s.source] + [to for _, to in way],
             "share": s.share, "cells": s.cells, "last": s.last_cells,
             "asked": played.asked, "granted": played.flows[0].granted,
             "arrived": len(delays),
@@ -37,7 +38,7 @@ def stream_data(played, way):
 def text(planned, dome, options):
     """The page of a dome after its run."""
     data = dict(planned.dome, slots=options.slots, seed=str(options.seed),
-                links=link_data(planned),
+                ahead=options.ahead, links=link_data(planned),
                 streams=[stream_data(played, way) for played, way in zip(
                     dome.streams, planned.ways)])
     fill = {"NAME": html.escape(Path(options.path).name),

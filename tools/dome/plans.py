@@ -3,7 +3,10 @@ bytes are there; each file is written whole beside its place and then put
 there."""
 
 import os
+import re
 from pathlib import Path
+
+NAME = re.compile(r"[0-9]+-[0-9]+\.plan\Z")
 
 
 def index_text(planned):
@@ -44,3 +47,11 @@ def write(planned, folder):
     for name, data in files(planned).items():
         put(target / name, data)
     return len(planned.answer.plans)
+
+
+def of_no_link(planned, folder):
+    """The plan files in a folder that are not of this show."""
+    there = [path.name for path in Path(folder).iterdir()
+             if NAME.match(path.name)]
+    return sorted({*there} - {*files(planned)}, key=lambda name: [
+        int(board) for board in name[:-len(".plan")].split("-")])

@@ -5,112 +5,11 @@ import random
 import sys
 import time
 
-from dome.check import cells_missing, table
+from dome.check import cells_missing
 from dome.links import Link
+from dome.source import Source
 
 LATE_FRAMES = 2         # how much later a late board credits
-
-
-class Options:
-    def __init__(self):
-        self.path = None        # the first of the files
-        self.files = []
-        self.slots = 1000
-        self.seed = 1
-        self.rates = {}
-        self.greedy = set()
-        self.late = set()
-
-
-def number(text, most):
-    return int(text) if text.isdigit() and len(text) < 10 and (
-        0 < int(text) <= most) else None
-
-
-def take_rate(found, value):
-    name, equals, rate = value.partition("=")
-    try:
-        found.rates[name] = float(rate)
-    except ValueError:
-        return "--rate takes NAME=R, as in main=0.25, and has '%s'" % value
-    if not equals or not 0 <= found.rates[name] <= 1:
-        return "--rate takes a rate of 0 to 1, and has '%s'" % value
-    return None
-
-
-def take_option(found, word, value):
-    """What is wrong with an option, or None."""
-    if value is None:
-        return "%s takes a word after it" % word
-    if word == "--slots":
-        found.slots = number(value, 10000000)
-        return None if found.slots else (
-            "--slots takes a number from 1 to 10,000,000")
-    if word == "--seed":
-        found.seed = value
-        return None
-    if word == "--rate":
-        return take_rate(found, value)
-    {"--greedy": found.greedy, "--late": found.late}[word].add(value)
-    return None
-
-
-def options(words, files):
-    """The options of a line, and so many files in it; or a sentence."""
-    found = Options()
-    left = list(words)
-    while left:
-        word = left.pop(0)
-        if word in ("--slots", "--seed", "--rate", "--greedy", "--late"):
-            wrong = take_option(found, word, left.pop(0) if left else None)
-            if wrong:
-                return wrong
-        elif word.startswith("--") or len(found.files) == files:
-            return "'%s' is no option; ./dome --help has them" % word
-        else:
-            found.files.append(word)
-    found.path = found.files[0] if found.files else None
-    return found if len(found.files) == files else (
-        "a show file is missing" if files == 1 else
-        "page takes a show file and the page's own")
-
-
-def unknown(found, planned):
-    """The sentence of a name that the show has not, or None."""
-    names = {s.name for s in planned.show.streams}
-    for name in sorted({*found.rates, *found.greedy, *found.late} - names):
-        return "the show has no stream %s" % name
-    return None
-
-
-class Source:
-    """Tiles of a stream as they come: by chance, and within its share and its
-    burst unless a rate is given for it."""
-
-    def __init__(self, stream, slots, options):
-        self.share = stream.share
-        self.burst = stream.burst
-        self.slots = slots
-        self.free = stream.name in options.rates
-        self.rate = options.rates.get(stream.name, stream.share / slots)
-        self.chance = random.Random("%s %s" % (options.seed, stream.name))
-        self.level = 0          # tiles past the share, frame by frame
-        self.count = 0          # tiles that came in this frame
-        self.kept = True        # share and burst were not passed so far
-
-    def comes(self, slot):
-        """How many tiles come in a slot: none or one."""
-        if slot % self.slots == 0:
-            self.level = max(0, self.level + self.count - self.share)
-            self.count = 0
-        come = self.chance.random() < self.rate
-        room = self.share + self.burst - self.level - self.count
-        if come and not self.free and room <= 0:
-            come = False
-        self.count += come
-        self.kept = self.kept and self.level + self.count <= (
-            self.share + self.burst)
-        return int(come)
 
 
 class Flow:
@@ -122,6 +21,7 @@ class Flow:
         self.destination = destination
         self.granted = 0
         self.waiting = []       # tiles at the board before, the oldest first
+        self.to_leave = {}      # by slot: the tile that is booked there
 
 
 class Played:
@@ -138,12 +38,21 @@ class Played:
         self.asked = 0
         self.frame_asked = 0
         self.delays = []
+        self.ahead = 0          # times that a tile left before its slot
+        self.gains = []         # of each that so arrived, in slots
+
+    def has_room(self):
+        """Whether it has a cell free at each of its requests, by its own
+        calls and its boards' credits (rules 22.8 and 24.6)."""
+        return (self.bound is not None and not self.greedy and not self.late
+                and not cells_missing(self.stream, self.bound, len(self.flows)))
 
     def keeps(self):
         """Whether it kept what the bound asks for."""
-        return (self.bound is not None and not self.greedy and not self.late
-                and self.source.kept
-                and not cells_missing(self.stream, self.bound, len(self.flows)))
+        return self.has_room() and self.source.kept
+
+    def is_last(self, hop):
+        return hop + 1 == len(self.flows)
 
     def mark(self):
         """Why it has a bound, or has none, in a word or two."""
@@ -159,7 +68,7 @@ class Dome:
 
     def __init__(self, planned, options):
         self.slots = planned.dome["F"]
-        self.links = {link: Link(plan)
+        self.links = {link: Link(plan, options.ahead)
                       for link, plan in planned.answer.plans.items()}
         self.streams = []
         for s, way, bound in zip(planned.show.streams, planned.ways,
@@ -171,6 +80,8 @@ class Dome:
         self.chance = random.Random("%s boards" % options.seed)
         self.come_up = {}       # by slot: stream, hop and tile
         self.credits = {}       # by slot: flow of a link
+        self.senders = [one for one in self.streams
+                        if options.ahead and one.has_room()]
 
     def close(self):
         for link in self.links.values():
@@ -181,7 +92,8 @@ class Dome:
     def play_slot(self, slot):
         for flow in self.credits.pop(slot, ()):
             self.credit(flow, slot, slot + 1)
-        for played, hop, tile in self.come_up.pop(slot, ()):
+        coming = self.come_up.pop(slot, ())
+        for played, hop, tile in coming:
             self.arrive(played, hop, tile, slot)
         for played in self.streams:
             self.source(played, slot)
@@ -193,11 +105,17 @@ class Dome:
                 for (played, hop), granted in zip(askers, link.read_on(count)):
                     self.answer(played, hop, slot, granted)
             asking = self.ask_again(slot)
+        if self.senders:
+            self.send_ahead(slot, {one.flows[hop].link
+                                   for one, hop, _ in coming})
 
     def arrive(self, played, hop, tile, slot):
-        """A tile comes up on a link of its way."""
-        if hop + 1 == len(played.flows):
-            played.delays.append(slot - tile)
+        """A tile's slot comes up on a link of its way.  If it was sent ahead
+        it is there already; all that follows goes by this slot."""
+        here = played.flows[hop].to_leave.pop(slot, None) is None
+        if played.is_last(hop):
+            if not here:
+                played.delays.append(slot - tile)
             frame = slot // self.slots + 1
             shown = self.chance.randint(slot + 1, (frame + 1) * self.slots - 1)
             if played.late:
@@ -259,6 +177,7 @@ class Dome:
         tile = flow.waiting.pop(0)
         flow.granted += 1
         flow.link.booked[granted] = flow.number
+        flow.to_leave[granted] = tile
         self.come_up.setdefault(granted, []).append((played, hop, tile))
         self.granted.add((played, hop))
         if hop and played.late:
@@ -270,6 +189,39 @@ class Dome:
     def credit(self, flow, slot, dated):
         flow.link.advance(slot)
         flow.link.credit(flow.number, dated)
+
+    # ---- tiles sent ahead: rules 24.1 and 24.2
+
+    def send_ahead(self, slot, used):
+        """On each link whose slot nobody booked, one stream sends the tile of
+        its next slot, which has come; the link says which stream."""
+        lending = {}
+        for played in self.senders:
+            for hop, flow in enumerate(played.flows):
+                if flow.to_leave and flow.link not in used:
+                    lending.setdefault(flow.link, {})[flow.number] = (
+                        played, hop)
+        counts = {}
+        for link, flows in lending.items():
+            link.advance(slot)
+            link.lend(flows)
+            counts[link] = link.flush()
+        for link, flows in lending.items():
+            lent, = link.read_on(counts[link])
+            if lent is not None:
+                self.leave_ahead(*flows[lent], slot)
+
+    def leave_ahead(self, played, hop, slot):
+        """A tile leaves in the slot that was lent, and the call after the
+        lend is the credit dated its own."""
+        flow = played.flows[hop]
+        booked = min(flow.to_leave)
+        tile = flow.to_leave.pop(booked)
+        flow.link.credit(flow.number, booked)
+        played.ahead += 1
+        if played.is_last(hop):
+            played.delays.append(slot - tile)
+            played.gains.append(booked - slot)
 
 
 def count_up(done, slots, begun):
@@ -291,23 +243,6 @@ def run(dome, slots):
         sys.stderr.write("\r%60s\r" % "")
 
 
-def row(played, slots):
-    name = played.stream.name
-    delays = played.delays
-    return [name, str(played.asked), str(played.flows[0].granted),
-            str(len(delays)),
-            "%.1f" % (sum(delays) / len(delays)) if delays else "-",
-            str(max(delays)) if delays else "-",
-            str(played.bound.slots) if played.keeps() else "-",
-            "%.3f" % (len(delays) / slots),
-            "%.3f" % (played.stream.share / played.source.slots),
-            played.mark()]
-
-
-HEAD = ["stream", "asked", "granted", "arrived", "mean", "greatest", "bound",
-        "rate", "share", "kept"]
-
-
 def played(planned, options):
     """A dome after its run."""
     dome = Dome(planned, options)
@@ -318,34 +253,3 @@ def played(planned, options):
     return dome
 
 
-def still_on_the_way(dome, played):
-    """The tiles of a stream that wait at a board, or are granted a slot to
-    come."""
-    return [tile for flow in played.flows for tile in flow.waiting] + [
-        tile for coming in dome.come_up.values()
-        for one, _, tile in coming if one is played]
-
-
-def longest(dome, played, slots):
-    """The most slots that a tile took or takes so far, -1 where none came."""
-    return max([-1, *played.delays, *(
-        slots - 1 - tile for tile in still_on_the_way(dome, played))])
-
-
-def passed(dome, slots):
-    """A sentence for each bound that was passed, by tiles that have not
-    arrived too."""
-    found = [(one, longest(dome, one, slots))
-             for one in dome.streams if one.keeps()]
-    return ["stream %s passed its bound: a tile took %d slots, and the bound "
-            "is %d" % (one.stream.name, most, one.bound.slots)
-            for one, most in found if most > one.bound.slots]
-
-
-def lines(dome, options):
-    """The lines of a run."""
-    said = ["%d slots, seed %s" % (options.slots, options.seed), ""]
-    if dome.streams:
-        said += table([HEAD] + [row(one, options.slots)
-                                for one in dome.streams])
-    return said

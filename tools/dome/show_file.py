@@ -43,7 +43,16 @@ def quoted(word):
 
 def listed(words):
     """Words with commas, and an 'and' before the last."""
+    if not words:
+        return "none"
     return " and ".join(filter(None, [", ".join(words[:-1]), words[-1]]))
+
+
+def few(words, most=10):
+    """The first of these words, and how many more there are."""
+    if len(words) <= most:
+        return listed(words)
+    return "%s and %d more" % (", ".join(words[:most]), len(words) - most)
 
 
 def numbers_in(words, needed, more, say):
@@ -56,7 +65,7 @@ def numbers_in(words, needed, more, say):
             say("%s is none of %s" % (quoted(word), listed(
                 [k + "=NUMBER" for k in needed + more])))
         elif key in found:
-            say("%s= is given twice" % key)
+            say("%s= is given twice: leave one out" % key)
         elif not NUMBER.match(value):
             say("%s= takes a number of one to nine digits, and has %s"
                 % (key, quoted(value)))
@@ -67,8 +76,8 @@ def numbers_in(words, needed, more, say):
         wrong = True
     missing = [key + "=" for key in needed if key not in found]
     if missing:
-        say("%s missing" % (listed(missing) + (
-            " is" if len(missing) == 1 else " are")))
+        say("%s missing: write each with a number after it" % (
+            listed(missing) + (" is" if len(missing) == 1 else " are")))
     return None if wrong or missing else found
 
 
@@ -93,14 +102,14 @@ class Reader:
         elif words[0] == "stream":
             self.take_stream(line, words[1:])
         else:
-            self.fault(line, "a line begins with dome or stream, and this "
+            self.fault(line, "a line begins with dome, stream or #, and this "
                        "one with %s" % quoted(words[0]))
 
     def take_dome(self, line, words):
         show = self.show
         if show.dome_line:
-            self.fault(line, "the dome stands on line %d already"
-                       % show.dome_line)
+            self.fault(line, "the dome stands on line %d already: leave one "
+                       "out" % show.dome_line)
             return
         show.dome_line = line
         show.dome = numbers_in(words, DOME, (),
@@ -110,17 +119,18 @@ class Reader:
         self.streams += 1
         if self.streams == MOST_STREAMS + 1:
             self.fault(line, "a show has at most %d streams, and this is one "
-                       "more" % MOST_STREAMS)
+                       "more: leave some out" % MOST_STREAMS)
         if not words or "=" in words[0]:
-            self.fault(line, "a stream has a name before its numbers")
+            self.fault(line, "a stream has a name before its numbers, as in "
+                       "stream main from=0 to=63 share=4")
             return
         name, rest = words[0], words[1:]
         if not NAME.match(name):
             self.fault(line, "a name has letters, digits, - and _, and this "
                        "is %s" % quoted(name))
         elif name in self.names:
-            self.fault(line, "the name %s stands on line %d already"
-                       % (name, self.names[name]))
+            self.fault(line, "the name %s stands on line %d already: give "
+                       "each stream its own" % (name, self.names[name]))
         else:
             self.names[name] = line
         numbers = numbers_in(rest, STREAM, MORE,
@@ -130,19 +140,20 @@ class Reader:
 
 
 def read(data):
-    """The show of a file's bytes, and its faults: pairs of a line's number,
-    0 for the whole file, and a sentence."""
+    """The show of a file's bytes, of which one more than a show has are
+    enough; and its faults: pairs of a line's number and a sentence."""
     reader = Reader()
     if len(data) > MOST_BYTES:
-        reader.fault(0, "it has more than %s bytes, and a show has at most "
-                     "these" % format(MOST_BYTES, ","))
+        reader.fault(data.count(b"\n") + 1, "here the file has more than %s "
+                     "bytes, and a show has at most these: is it one?"
+                     % format(MOST_BYTES, ","))
         return reader.show, reader.faults
     for line, raw in enumerate(data.split(b"\n"), 1):
         try:
             reader.take(line, raw.decode("utf-8"))
         except UnicodeDecodeError:
-            reader.fault(line, "it is no text")
+            reader.fault(line, "it is no text in UTF-8: is it a show?")
     if not reader.show.dome_line:
-        reader.fault(0, "it has no line that begins with dome, as in "
-                     "dome F=16 W=4 N=255")
-    return reader.show, reader.faults
+        reader.fault(1, "the file has no line that begins with dome: write "
+                     "one, as in dome F=16 W=4 N=255")
+    return reader.show, sorted(reader.faults, key=lambda fault: fault[0])

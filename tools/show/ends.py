@@ -16,11 +16,13 @@ def stop(script, status, text):
     sys.exit(status)
 
 
-def read_file(script, path):
-    """A file's bytes; - is standard input."""
+def read_file(script, path, most=-1):
+    """A file's bytes, the first so many where a number is given; - is
+    standard input."""
     source = open_file(script, path)
     try:
-        return b"".join(iter(lambda: os.read(source, 1 << 16), b""))
+        with os.fdopen(source, "rb", closefd=path != "-") as file:
+            return file.read(most)
     except OSError as wrong:
         stop(script, 2, "'%s' can't be read: %s" % (path, wrong.strerror))
 

@@ -1,68 +1,55 @@
-// Answers the numbers of a show: one question on standard input, its lines on standard output.
+// Answers the numbers of a show: what standard input brings is fed to `showinput`, and what that hands back at the end is written to standard output.
 mod output;
 
 ghost use Prim.Native.Nat.{_≤_};
 ghost use lib.ListN.{length};
 ghost use Rattle.showwords.specs.Links.{room};
-use tokens::Found;
+ghost use Rattle.showinput.specs.Promises.{Regular};
+use showinput::KEPT;
+use showinput::State;
 
-// The most bytes of a question.
-const LONGEST: usize = 4000;
-
-// Where the question ends in so many bytes: a newline after it is no part of it.
-fn question_end(input: &[u8], got: usize) -> usize
-    requires { ⌜ got ≤ length (now input) ⌝ }
-    ensures { λ r. ⌜ r ≤ got ⌝ }
-{
-    if got == 0 {
-        return 0;
-    }
-    if input[got - 1] == b'\n' {
-        return got - 1;
-    }
-    got
+// Where a piece of the input leaves the program.
+struct Round {
+    state: State,
+    // more is to be read
+    more: bool,
 }
 
-// Answers the first numbers of those that are kept.
-fn answer_first(kept: &[usize], count: usize, out: &mut [u8]) -> usize
+// RULES 25.6: reads once, and feeds what was read. Input that can't be read is taken as ended.
+fn round_once(state: State, space: &mut [u8]) -> Round
+    requires { ⌜ Regular state ⌝ }
+    ensures { λ r. ⌜ Regular (r .state) ⌝ }
+{
+    let got = libc::read(libc::STDIN_FILENO, space);
+    if got <= 0 {
+        return Round { state, more: false };
+    }
+    let have = io::count(got, space);
+    let state = showinput::feed(state, &space[..have]);
+    let more = state.count < KEPT;
+    Round { state, more }
+}
+
+// Reads to the end of the input, or until more can't change the answer, and writes that. A proved loop has to end, and nothing says that the input does:
+// it counts its rounds down from a number that is never used up.
+fn rounds(space: &mut [u8], out: &mut [u8])
     requires { ⌜ room ≤ length (now out) ⌝ }
-    ensures { λ r. ⌜ r ≤ length (now (out .entry)) ⌝ }
 {
-    if kept.len() < count {
-        return replies::say(b"? the question has more than 2,000 numbers\n", out);
+    let mut left = u64::MAX;
+    let mut now = Round {
+        state: showinput::start(),
+        more: true,
+    };
+    while now.more && 0 < left {
+        now = round_once(now.state, space);
+        left -= 1;
     }
-    showwords::show(&kept[..count], out)
-}
-
-// Reads a question's numbers, and answers them.
-fn read_and_answer(question: &[u8], out: &mut [u8]) -> usize
-    requires { ⌜ room ≤ length (now out) ⌝ }
-    ensures { λ r. ⌜ r ≤ length (now (out .entry)) ⌝ }
-{
-    let mut kept = [0usize; 2000];
-    let found = tokens::read_numbers(question, &mut kept);
-    match found {
-        Found::Wrong(fault) => replies::say_fault(fault, out),
-        Found::Count(count) => answer_first(&kept, count, out),
-    }
-}
-
-// Answers the input, of which so many bytes were read.
-fn answer(input: &[u8], got: usize, out: &mut [u8]) -> usize
-    requires { ⌜ (got ≤ length (now input)) × (room ≤ length (now out)) ⌝ }
-    ensures { λ r. ⌜ r ≤ length (now (out .entry)) ⌝ }
-{
-    let end = question_end(input, got);
-    if LONGEST < end {
-        return replies::say(b"? the question has more than 4,000 bytes\n", out);
-    }
-    read_and_answer(&input[..end], out)
+    let end = showinput::finish(now.state, out);
+    output::write(out, end);
 }
 
 fn main() {
-    let mut input = [0u8; 4002];
+    let mut space = [0u8; 4096];
     let mut out = [0u8; 51207];
-    let got = io::read_full(libc::STDIN_FILENO, &mut input);
-    let end = answer(&input, got, &mut out);
-    output::write(&out, end);
+    rounds(&mut space, &mut out);
 }

@@ -1,0 +1,4 @@
+pub mod Fed
+pub mod Question
+pub mod AnyPieces
+pub mod Edges
