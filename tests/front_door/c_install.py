@@ -180,7 +180,7 @@ def declarations(installed):
     header = " ".join(page("include/nazgolv.h").split())
     for path in sorted((installed.prefix / "share/man/man3").iterdir()):
         text = plain(path.read_text()).partition(".SH SYNOPSIS\n")[2]
-        lines = re.findall(r"^\.B (.*)$", text.partition(".fi")[0],
+        lines = re.findall(r'^\.B "?([^"\n]*)', text.partition(".fi")[0],
                            re.MULTILINE)
         for words in re.findall(r"\w[^;>]*nazgolv_\w+\([^;]*;",
                                 " ".join(lines)):
