@@ -3,6 +3,7 @@
 is no such number, and no byte past the buffer.
 """
 
+import struct
 from functools import partial
 
 from generator.dice import Dice
@@ -126,7 +127,29 @@ def wrong_ones():
         yield bytes(image)
 
 
+def at_the_end(command):
+    """A header that leads to the last bytes of a buffer: a field is seen if
+    both of its bytes are there."""
+    script, wanted = Script(), []
+    for length in (18, 19, 40):
+        for at in range(length - 4, length + 2):
+            header = struct.pack("<9H", length, at, at, 2, at, 2, 0, 0, 0)
+            script.buffer(header + bytes(length - len(header)))
+            for name, place in (("owner", at), ("injection frame", at),
+                                ("remainder", at + 2), ("buffer cells",
+                                                        at + 10)):
+                script.see(name)
+                wanted.append((name, place, place + 2 <= length))
+    answers, wrong = run(command, script)
+    return wrong or next((
+        "%s at %d is %#x" % (name, place, found)
+        for (name, place, there), found in zip(wanted, answers)
+        if (found != NONE) != there), None)
+
+
 def tests(command):
+    yield ("image: what is seen at the end of a buffer",
+           partial(at_the_end, command))
     yield ("image: what is seen in images by hand",
            lambda: in_taken(command, taken_by_hand()))
     yield ("image: what is seen in images by chance",
@@ -140,4 +163,4 @@ def tests(command):
 def all_looks(command):
     """One run for tools that watch memory."""
     return (in_taken(command, taken_by_hand()[::3]) or in_any(
-        command, [*cut_off(), *wrong_ones()]))
+        command, [*cut_off(), *wrong_ones()]) or at_the_end(command))
