@@ -165,7 +165,10 @@ def manual(installed):
     """Each page is one, or leads to one that has its name and synopsis."""
     folder = installed.prefix / "share/man"
     for name in functions():
-        text = (folder / ("man3/%s.3" % name)).read_text()
+        path = folder / ("man3/%s.3" % name)
+        if not path.exists():
+            return "%s has no page" % name
+        text = path.read_text()
         if text.startswith(".so "):
             text = (folder / text[4:].strip()).read_text()
         names, synopsis = (plain(text).split(".SH %s\n" % title)[1].split(
