@@ -7,19 +7,50 @@
  * written. So calls on different images may run at once.
  *
  *     static uint8_t image[NAZGOLV_IMAGE_MAX];
- *     uint64_t made = nazgolv_fresh(plan, plan_length, image, sizeof image);
- *     uint64_t got = nazgolv_request(image, sizeof image, NAZGOLV_WORD(9, 0, 0, 0));
- *     if (!NAZGOLV_REFUSAL(made) && !NAZGOLV_REFUSAL(got))
+ *     uint64_t got = nazgolv_fresh(plan, sizeof plan, image, sizeof image);
+ *     if (!NAZGOLV_REFUSAL(got))
+ *         got = nazgolv_request(image, sizeof image, NAZGOLV_WORD(
+ *             nazgolv_destination(image, sizeof image, 0), 0,
+ *             nazgolv_number(image, sizeof image, 0), NAZGOLV_CURRENT(image)));
+ *     if (NAZGOLV_REFUSAL(got))
+ *         puts(nazgolv_why(NAZGOLV_REFUSAL(got)));
+ *     else
  *         printf("position %u\n", (unsigned)NAZGOLV_POSITION(NAZGOLV_VALUE(got)));
  *
- * The library is an archive for x86-64: `rt staticlib image` makes
- * target/staticlib/libimage.a. What each call does is proved; docs/REFUSALS.md
- * explains each refusal.
+ * Flow 0 asks for a tile that has come: its departure is CP, the current
+ * position, also after ticks. A departure that lies behind CP in an earlier
+ * frame is read as one to come, and may be refused with 20.
  *
- * What a caller owes: each pointer has the stated number of bytes behind it,
- * which may be 0, and is not NULL; the plan's bytes and the image don't overlap;
- * two calls on one image don't run at once. The archive needs memcpy and memset,
- * and a call up to 12,500 bytes of stack.
+ * player/build makes the library, for x86-64. What each call of it does is
+ * proved; what it has besides (to look into an image, why and version) is plain
+ * C and is tested. docs/C.md has an example in C, Rust and Python,
+ * docs/REFUSALS.md explains each refusal.
+ *
+ * What a caller owes:
+ *
+ *   pointers    each has the stated number of bytes behind it, and none is NULL,
+ *               not even with a length of 0; the plan's bytes and the image
+ *               don't overlap
+ *   one image   what a call left is given to the next one, whole and unchanged.
+ *               An image that was changed, or that was gone back to, may be
+ *               taken too; then nothing is promised of the whole list of calls
+ *   threads     two calls on one image don't run at once: there is no lock.
+ *               Calls on different images may
+ *   being cut off   a call that ends while it writes, by a signal that doesn't
+ *               come back, a kill or a power cut, may leave bytes that are no
+ *               image, or an image that is taken and wrong. Where that can
+ *               happen keep two: copy, call on the copy, then switch to it
+ *   stack       where there is too little of it the process ends by a signal.
+ *               Bytes below the caller, measured on flights/sparse:
+ *
+ *                   nazgolv_fresh     11,200
+ *                   nazgolv_request    7,500
+ *                   nazgolv_credit     7,300
+ *                   nazgolv_tick       7,400
+ *                   nazgolv_lend       7,400
+ *                   nazgolv_reset      7,500
+ *
+ * Of the C library memcpy and memset are needed, and no other thing.
  */
 #ifndef NAZGOLV_H
 #define NAZGOLV_H
@@ -37,6 +68,21 @@ extern "C" {
 #define NAZGOLV_VERSION_MAJOR 4
 #define NAZGOLV_VERSION_MINOR 8
 #define NAZGOLV_VERSION_PATCH 0
+
+/*
+ * The library has a symbol whose name ends with the first number, and what is
+ * compiled with this header asks for it: a library with other images isn't linked.
+ */
+#define NAZGOLV_PASTED(name, number) name##number
+#define NAZGOLV_NUMBERED(name, number) NAZGOLV_PASTED(name, number)
+#define NAZGOLV_IMAGES NAZGOLV_NUMBERED(nazgolv_images_, NAZGOLV_VERSION_MAJOR)
+void NAZGOLV_IMAGES(void);
+#ifdef __GNUC__
+static void (*const nazgolv_images)(void) __attribute__((used)) = NAZGOLV_IMAGES;
+#endif
+
+/* The version of the library that is linked, as NAZGOLV_VERSION. */
+const char *nazgolv_version(void);
 
 /* ---- the image
  *
@@ -86,6 +132,12 @@ extern "C" {
     ((uint32_t)(destination) << 26 | (uint32_t)(flow) << 20 \
      | (uint32_t)(quantum) << 10 | (uint32_t)(departure))
 
+/*
+ * CP, the current position: the departure of a tile that has come. The image has
+ * at least its header's bytes; see nazgolv_current for one that may be shorter.
+ */
+#define NAZGOLV_CURRENT(image) ((uint32_t)(image)[12] | (uint32_t)(image)[13] << 8)
+
 /* The departure of a word: of a granted one, the position that is booked. */
 #define NAZGOLV_POSITION(word) ((uint32_t)(word) & 1023u)
 
@@ -125,6 +177,51 @@ extern "C" {
 #define NAZGOLV_REFUSED_NOT_QUIET 23        /* reset: a later slot is booked, or a cell held */
 #define NAZGOLV_REFUSED_NUMBER 24           /* request: not the flow's next quantum number */
 
+/*
+ * When a number is given, and what to do: a sentence of docs/REFUSALS.md, whole
+ * and never NULL, also for 0 and for a number that is no refusal.
+ */
+const char *nazgolv_why(uint32_t number);
+
+/* ---- to look into an image
+ *
+ * Each of these reads one number out of an image and writes nothing. None reads
+ * past the length that it is given, whatever the bytes, the flow and the
+ * position: where the image has no such number the answer is NAZGOLV_NONE. In a
+ * word that is a flow which no plan has, so that a request is refused with 8.
+ */
+#define NAZGOLV_NONE 0xFFFFFFFFu
+
+/* CP, the current position. */
+uint32_t nazgolv_current(const uint8_t *image, size_t image_length);
+
+/* Of the plan: F, W, N and the number of flows. */
+uint32_t nazgolv_frame_slots(const uint8_t *image, size_t image_length);
+uint32_t nazgolv_window_frames(const uint8_t *image, size_t image_length);
+uint32_t nazgolv_buffer_cells(const uint8_t *image, size_t image_length);
+uint32_t nazgolv_flows(const uint8_t *image, size_t image_length);
+
+/* Of the plan's entry of a flow. */
+uint32_t nazgolv_share(const uint8_t *image, size_t image_length, size_t flow);
+uint32_t nazgolv_cells(const uint8_t *image, size_t image_length, size_t flow);
+uint32_t nazgolv_source(const uint8_t *image, size_t image_length, size_t flow);
+uint32_t nazgolv_destination(const uint8_t *image, size_t image_length, size_t flow);
+
+/* The flow that booked a position, or NAZGOLV_IDLE where nobody did. */
+uint32_t nazgolv_owner(const uint8_t *image, size_t image_length, size_t position);
+
+/* How many cells a flow holds at a position. */
+uint32_t nazgolv_held(const uint8_t *image, size_t image_length,
+                      size_t flow, size_t position);
+
+/*
+ * Of a flow: IF, the frame that it books in, from 0 to W - 1; C, what is left of
+ * its share there; and the quantum number that its next word has to carry.
+ */
+uint32_t nazgolv_injection_frame(const uint8_t *image, size_t image_length, size_t flow);
+uint32_t nazgolv_remainder(const uint8_t *image, size_t image_length, size_t flow);
+uint32_t nazgolv_number(const uint8_t *image, size_t image_length, size_t flow);
+
 /* ---- calls */
 
 /*
@@ -142,6 +239,10 @@ uint64_t nazgolv_fresh(const uint8_t *plan, size_t plan_length,
  * with it. Both leave the buffer as it came, and no other refusal comes before
  * them. An image that fresh made, that calls alone have changed, and that is
  * handed over whole is never refused so.
+ *
+ * Of the other refusals 11, 12 and 20 change the image: the flow's IF is then the
+ * newest frame, and C what is left there. 8 to 10, 13 to 15, 17, 18, 23 and 24
+ * leave it as it was.
  */
 
 /*
@@ -179,8 +280,8 @@ uint64_t nazgolv_lend(uint8_t *image, size_t image_length, uint16_t mask);
 /*
  * Lets every flow start again in the head frame with its whole share, empties
  * all positions, and lets the next lend look from flow 0. CP, what was held
- * before it, and the quantum numbers stay. A current slot that was booked or marked taken is marked until
- * the next tick. 0, or 23 where the link is not quiet: a position later than CP
+ * before it, and the quantum numbers stay. A current slot that was booked or
+ * marked taken is marked until the next tick. 0, or 23 where the link is not quiet: a position later than CP
  * is booked, or some flow holds a cell at CP or at a later position. 23 changes
  * nothing.
  */

@@ -1,6 +1,7 @@
 """The C side: the header, the player, and a host for tests, built over a
-library of the exports.  Where a tool that watches memory is there, the player
-and the host are run under it too.
+library of the exports, and the library as it is installed, with its wrappers
+for Rust and Python.  Where a tool that watches memory is there, the player and
+the host are run under it too.
 """
 
 import shutil
@@ -8,7 +9,6 @@ import subprocess
 from functools import partial
 from itertools import chain
 from pathlib import Path
-from textwrap import dedent
 
 from driver.formats import ALLCALLS
 from driver.image_suite import ImageSuite
@@ -17,13 +17,15 @@ from driver.plain_rust import trouble
 from driver.suite import Suite, first_difference
 from edges import bursts, lends, numbers, resets, turns
 from edges.all_edges import EDGES
-from front_door import c_ahead, c_player
-from front_door.pages import page
-from images import export_tests, stack_use
+from front_door import (
+    c_ahead, c_bindings, c_install, c_library, c_pages, c_player)
+from front_door.c_tree import Installed
+from images import export_tests, spoilt, stack_use, views
 
 ROOT = Path(__file__).resolve().parents[2]
 HEADER = ROOT / "include"
 PLAYER = ROOT / "player/player.c"
+BESIDE = [str(ROOT / "player" / name) for name in ("nazgolv.c", "why.c")]
 IMAGES = ROOT / "tests/images"
 HOST = IMAGES / "host.c"
 STRICT = ["-Wall", "-Wextra", "-pedantic", "-Werror", "-I", str(HEADER)]
@@ -58,7 +60,13 @@ class Builder:
         """The path of a program, and what went wrong or None."""
         path = str(self.folder / name)
         return path, trouble(self.compiler, *C99, *STRICT, *options,
-                             str(source), self.library, "-o", path)
+                             str(source), *BESIDE, self.library, "-o", path)
+
+    def of_text(self, name, text):
+        """The same of a source that stands on a page."""
+        source = self.folder / (name + ".c")
+        source.write_text(text)
+        return self.program(name, source)
 
     def sanitises(self):
         """Whether its programs can have the address sanitiser."""
@@ -81,38 +89,13 @@ def header_tests(builder):
         yield ("C: the header as " + standard, partial(
             builder.alone, standard, sizes, "-x", "c++", "-std=" + standard,
             "-Wno-long-long", compiler=plus))
-    yield "C: the example of docs/C.md", partial(example, builder)
     yield "C: the stack of each call", partial(stack, builder)
-
-
-def example(builder):
-    """The program on the page prints what stands below it."""
-    text = page("docs/C.md").partition("## An example")[2]
-    program, _, rest = text.partition("\nIt prints:\n")
-    source = builder.folder / "example.c"
-    source.write_text(block(program))
-    path, wrong = builder.program("example", source)
-    return wrong or driven([path], block(rest.partition("\n## ")[0]))
-
-
-def block(text):
-    """The indented code of a text, as it stands."""
-    lines = [line for line in text.splitlines()
-             if not line or line.startswith("    ")]
-    return dedent("\n".join(lines)).strip("\n") + "\n"
 
 
 def stack(builder):
     """It is what docs/PROVED.md and the header have."""
     path, wrong = builder.program("stack", stack_use.SOURCE, "-pthread")
     return wrong or stack_use.wrong_figures(path)
-
-
-def driven(command, right):
-    """What is wrong with what a program writes, or None."""
-    done = subprocess.run(command, capture_output=True)
-    return first_difference(right.encode(), done.stdout) or (
-        (done.returncode or done.stderr) and "status %d" % done.returncode)
 
 
 # ---- under a tool that watches memory
@@ -154,8 +137,9 @@ class Watcher:
         """Without guards, so that a buffer ends where its memory does."""
         path, wrong = builder.program("host under " + self.name, HOST,
                                       "-DGUARD=0", *self.options)
-        return wrong or export_tests.all_trials(
-            [*self.command, path], WATCHED_IMAGES)
+        command = [*self.command, path]
+        return (wrong or export_tests.all_trials(command, WATCHED_IMAGES)
+                or views.all_looks(command) or spoilt.some_trials(command))
 
 
 def watchers(builder):
@@ -201,14 +185,24 @@ class CSide:
         """Names and tests, which need no file of calls."""
         self.build(self.player, PLAYER)
         self.build(self.exports, HOST)
+        installed = Installed(self.builder.folder, self.builder.library)
         tests = [watched_tests(self.builder), header_tests(self.builder),
-                 c_player.build_tests(self.builder.library)]
+                 c_player.build_tests(installed),
+                 c_pages.tests(self.builder.of_text)]
+        if not installed.wrong:
+            c_install.says_what_is_left_out()
+            c_bindings.says_what_is_left_out()
+            tests += [c_library.tests(installed),
+                      c_install.tests(installed, self.builder.library),
+                      c_bindings.tests(installed, self.builder.folder)]
         if self.player.command:
             tests.append(c_player.tests(*self.player.command))
             tests.append(c_ahead.tests(*self.player.command))
         if self.exports.command:
             tests.append(export_tests.tests(
                 self.exports.command, IMAGES_EACH * count, seed))
+            tests.append(views.tests(self.exports.command))
+            tests.append(spoilt.tests(self.exports.command))
         return chain.from_iterable(tests)
 
 

@@ -2,22 +2,16 @@
 it ends."""
 
 import os
-import shutil
 import tempfile
 from functools import partial
 from pathlib import Path
 
 from edges.from_the_paper import EDGES
-from front_door.command import ROOT, redirected, start, trouble
+from front_door.c_tree import PROVES_NOTHING, CTree
+from front_door.command import redirected, start, trouble
 
 NOT_WHOLE = 1
 LISTING = EDGES[0]              # rule 13.6's
-HANDS_OUT = """\
-[ "$*" = "staticlib image" ] || exit 2
-mkdir -p target/staticlib
-cp "%s" target/staticlib/libimage.a
-"""
-PROVES_NOTHING = "exit 1\n"
 
 
 def plays_listing(player):
@@ -27,30 +21,16 @@ def plays_listing(player):
 
 # ---- player/build, in a tree where a script stands in for rt
 
-def build(root, script):
-    for part in ("include", "player"):
-        shutil.copytree(ROOT / part, root / part)
-    rt = root / "bin/rt"
-    rt.parent.mkdir()
-    rt.write_text("#!/bin/sh\n" + script)
-    rt.chmod(0o755)
-    path = os.pathsep.join([str(rt.parent), os.environ["PATH"]])
-    return start([root / "player/build"], cwd=os.sep,
-                 env=dict(os.environ, PATH=path))
-
-
-def built(library):
-    with tempfile.TemporaryDirectory() as folder:
-        root = Path(folder)
-        return (trouble(build(root, HANDS_OUT % library))
-                or plays_listing(root / "target/c/player"))
+def built(installed):
+    return installed.wrong or plays_listing(
+        installed.tree.root / "target/c/player")
 
 
 def not_proved():
     with tempfile.TemporaryDirectory() as folder:
-        root = Path(folder)
-        return (trouble(build(root, PROVES_NOTHING), status=1)
-                or (root / "target/c/player").exists() and "it is built")
+        tree = CTree(Path(folder) / "tree", PROVES_NOTHING)
+        return (trouble(tree.build(), status=1)
+                or (tree.root / "target/c/player").exists() and "it is built")
 
 
 # ---- how it ends
@@ -77,8 +57,8 @@ def full_disk(player):
                    "the listing is not whole")
 
 
-def build_tests(library):
-    yield "C: player/build", partial(built, library)
+def build_tests(installed):
+    yield "C: player/build", partial(built, installed)
     yield "C: player/build where the proof fails", not_proved
 
 

@@ -10,8 +10,8 @@ from front_door.command import ROOT
 
 PAGES = ("README.md", "CONTRIBUTING.md", "tests/README.md",
          "docs/src/README.md")              # and docs/*.md
-SOURCES = ("crates", "tests", "tools", "include", "player", "bench",
-           "docs/src", ".ci")
+SOURCES = ("crates", "tests", "tools", "include", "player", "bindings",
+           "bench", "docs/src", ".ci")
 COMMANDS = ("play", "plan", "dome", "check-log", "crates.txt")
 LEFT_OUT = {"must-fail", "__pycache__"}     # edits name what isn't there
 ENDINGS = ("antt", "rt", "md", "py", "rs", "c", "h", "sh", "js", "css",

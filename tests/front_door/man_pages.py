@@ -56,10 +56,10 @@ def complete(name):
     return wanted != list(SECTIONS) and "sections %s" % found
 
 
-def laid_out(name):
+def laid_out(name, section=1):
     """Without a warning."""
     done = subprocess.run(["groff", "-man", "-Tutf8", "-ww", "-z",
-                           ROOT / "docs/man" / (name + ".1")],
+                           ROOT / "docs/man" / ("%s.%d" % (name, section))],
                           capture_output=True, text=True)
     return done.stderr[:300] or done.returncode and "groff failed"
 
@@ -142,6 +142,10 @@ def tests(programs):
         for test in each:
             yield ("man %s: %s" % (name, test.__name__.replace("_", " ")),
                    lambda name=name, test=test: test(name))
+    for path in sorted((ROOT / "docs/man").glob("*.3")):
+        if laid_out in each:
+            yield ("man %s: laid out" % path.stem,
+                   lambda name=path.stem: laid_out(name, 3))
     yield "man domeplan: questions", questions
     for test in (examples_of_domelink, examples_of_domeplan):
         yield ("man: " + test.__name__.replace("_", " "),

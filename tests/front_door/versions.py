@@ -69,7 +69,7 @@ def landings():
 
 def man_pages():
     """The first line of each page."""
-    pages = sorted((ROOT / "docs/man").glob("*.1"))
+    pages = sorted((ROOT / "docs/man").glob("*.[13]"))
     wrong = [page.name for page in pages if '"Nazgolv %s"' % version()
              not in page.read_text().split("\n")[0]]
     return (wrong or not pages) and "another version: %s" % wrong

@@ -2,7 +2,7 @@
 and images that try it.
 
 An image is compared with the simulator's byte by byte, and what stands in the
-buffer past it has to stay.  The tests are of four sorts:
+buffer past it has to stay.  The tests are of six sorts:
 
 - call files: every file that goes through allcalls goes through the exports
   too, with the image compared at the end, and after each call where the file
@@ -21,7 +21,14 @@ buffer past it has to stay.  The tests are of four sorts:
   more are quiet or nearly so, with a reset on each; as many have a free slot,
   with a lend on each; and as many have a well-formed request on each;
 - fresh, from plans of all sorts into buffers of several lengths, one byte too
-  short and just long enough among them.
+  short and just long enough among them;
+- small images spoilt in every place: at each length from 0 on, and with each
+  byte changed, with calls on all of them;
+- what is seen in images of all these sorts by the functions that look into
+  one, at flows and positions that are there and at others.
+
+The first host is in C.  Two more make the same calls by the wrappers for Rust
+and for Python, on the images by hand and on some by chance.
 
 That acceptance.py is right is tested with no library: on the images by hand,
 on every image that some generated files lead to, on what calls make of taken

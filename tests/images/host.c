@@ -11,6 +11,7 @@
  *   t                              tick
  *   l  mask (2)                    lend
  *   z                              reset
+ *   s  which (1), flow (8), position (8)   a look into the buffer
  *   g                              writes the length (4) and the bytes of the buffer
  *
  * Each call's result is written as 8 bytes. On both sides of a buffer and of a
@@ -113,6 +114,33 @@ static uint64_t credit(void)
     return nazgolv_credit(buffer.start, buffer.length, (size_t)flow, (size_t)position);
 }
 
+/* What is seen, by its place in the table of tests/images/host.py. */
+static uint64_t see(void)
+{
+    const uint8_t *image = buffer.start;
+    size_t length = buffer.length;
+    unsigned which = (unsigned)number(1);
+    size_t flow = (size_t)number(8), position = (size_t)number(8);
+    switch (which) {
+    case 0: return nazgolv_current(image, length);
+    case 1: return nazgolv_frame_slots(image, length);
+    case 2: return nazgolv_window_frames(image, length);
+    case 3: return nazgolv_buffer_cells(image, length);
+    case 4: return nazgolv_flows(image, length);
+    case 5: return nazgolv_share(image, length, flow);
+    case 6: return nazgolv_cells(image, length, flow);
+    case 7: return nazgolv_source(image, length, flow);
+    case 8: return nazgolv_destination(image, length, flow);
+    case 9: return nazgolv_injection_frame(image, length, flow);
+    case 10: return nazgolv_remainder(image, length, flow);
+    case 11: return nazgolv_number(image, length, flow);
+    case 12: return nazgolv_owner(image, length, position);
+    case 13: return nazgolv_held(image, length, flow, position);
+    }
+    stop("it can't be seen");
+    return 0;
+}
+
 static uint64_t call(int letter)
 {
     switch (letter) {
@@ -128,6 +156,8 @@ static uint64_t call(int letter)
         return nazgolv_lend(buffer.start, buffer.length, (uint16_t)number(2));
     case 'z':
         return nazgolv_reset(buffer.start, buffer.length);
+    case 's':
+        return see();
     }
     stop("an unknown command");
     return 0;

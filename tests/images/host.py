@@ -1,4 +1,6 @@
-"""The C host of host.c: what it is told to do, and what came of it."""
+"""A host: what it is told to do, and what came of it.  host.c says the
+commands; host.rs and python_host.py take the same, through the wrappers.
+"""
 
 import struct
 import subprocess
@@ -11,6 +13,15 @@ CALLS = {
     "tick": lambda: b"t",
     "lend": lambda mask: b"l" + struct.pack("<H", mask),
     "reset": lambda: b"z",
+}
+# What can be seen in an image, and of what: nothing, a flow, a position, both.
+ALONE, FLOW, POSITION, BOTH = "", "f", "p", "fp"
+SEEN = {
+    "current": ALONE, "frame slots": ALONE, "window frames": ALONE,
+    "buffer cells": ALONE, "flows": ALONE,
+    "share": FLOW, "cells": FLOW, "source": FLOW, "destination": FLOW,
+    "injection frame": FLOW, "remainder": FLOW, "number": FLOW,
+    "owner": POSITION, "held": BOTH,
 }
 RESULT, BUFFER = "result", "buffer"
 
@@ -37,6 +48,11 @@ class Script:
         """A call by its name and arguments, as the simulator has it."""
         name, *arguments = call
         self.commands.append(CALLS[name](*arguments))
+        self.written.append(RESULT)
+
+    def see(self, name, flow=0, position=0):
+        self.commands.append(b"s" + struct.pack(
+            "<BQQ", list(SEEN).index(name), flow, position))
         self.written.append(RESULT)
 
     def get(self):

@@ -10,6 +10,7 @@ SOURCE = ROOT / "tests/images/stack.c"
 FLIGHT = ROOT / "flights/sparse"        # it makes calls of every sort
 SLACK = 200                             # bytes that a figure may be too high
 AT_MOST = re.compile(r"a call up to ([\d,]+) bytes of stack")
+IN_HEADER = re.compile(r"^ \*  +(nazgolv_\w+) +([\d,]+)$", re.MULTILINE)
 
 
 def number(text):
@@ -40,9 +41,11 @@ def wrong_figures(program):
     wrong = ["%s takes %d bytes" % (name, size)
              for name, size in taken.items()
              if not size <= page_has[name] <= size + SLACK]
-    most = AT_MOST.findall(" ".join(page("include/nazgolv.h").split("\n * ")))
-    for text, name in ((most, "the header"), (AT_MOST.findall(
-            page("docs/C.md")), "docs/C.md")):
-        if [number(each) for each in text] != [max(page_has.values())]:
-            wrong.append("%s has %s" % (name, text))
+    header_has = {name: number(size) for name, size
+                  in IN_HEADER.findall(page("include/nazgolv.h"))}
+    if header_has != page_has:
+        wrong.append("the header has %s" % header_has)
+    most = AT_MOST.findall(page("docs/C.md"))
+    if [number(each) for each in most] != [max(page_has.values())]:
+        wrong.append("docs/C.md has %s" % most)
     return "; ".join(wrong) or None
