@@ -1,0 +1,10 @@
+-- What is proved of crossings. Assumes nothing.
+pub mod OneLink
+pub mod Kept
+pub mod Tiles
+pub mod Board
+pub mod Crosses
+-- worked examples, and boards that are sent back
+pub mod Unfoldings
+pub mod Edges
+pub mod BadBoards
