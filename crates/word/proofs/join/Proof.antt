@@ -16,11 +16,18 @@ returns-2 c = rw (lt-ltb _ _ (c .before .before .if1 .left), le-ltb _ _ (c .if2 
 
 returns-3 : tie.Need-returns-3
 unfolding joinedOf fits
-returns-3 c = rw (lt-ltb _ _ (c .before .before .before .before .if1 .left), lt-ltb _ _ (c .before .before .if2 .left), le-ltb _ _ (c .if3 .taken))
+returns-3 c =
+    let second = c .before .before in
+    let first = second .before .before in
+    rw (lt-ltb _ _ (first .if1 .left), lt-ltb _ _ (second .if2 .left), le-ltb _ _ (c .if3 .taken))
 
 returns-4 : tie.Need-returns-4
 unfolding joinedOf fits
-returns-4 c = rw (lt-ltb _ _ (c .before .before .before .before .before .before .if1 .left), lt-ltb _ _ (c .before .before .before .before .if2 .left), lt-ltb _ _ (c .before .before .if3 .left), le-ltb _ _ (c .if4 .taken))
+returns-4 c =
+    let third = c .before .before in
+    let second = third .before .before in
+    let first = second .before .before in
+    rw (lt-ltb _ _ (first .if1 .left), lt-ltb _ _ (second .if2 .left), lt-ltb _ _ (third .if3 .left), le-ltb _ _ (c .if4 .taken))
 
 cast-high : tie.Need-cast-high
 cast-high c = search needs
@@ -54,7 +61,12 @@ add-t8 c = search needs
 
 returns-5 : tie.Need-returns-5
 unfolding joinedOf fits
-returns-5 c = rw (lt-ltb _ _ (c .before .before .before .before .before .before .before .before .before .before .if1 .left), lt-ltb _ _ (c .before .before .before .before .before .before .before .before .if2 .left), lt-ltb _ _ (c .before .before .before .before .before .before .if3 .left), lt-ltb _ _ (c .before .before .before .before .if4 .left))
+returns-5 c =
+    let fourth = c .before .before .before .before in
+    let third = fourth .before .before in
+    let second = third .before .before in
+    let first = second .before .before in
+    rw (lt-ltb _ _ (first .if1 .left), lt-ltb _ _ (second .if2 .left), lt-ltb _ _ (third .if3 .left), lt-ltb _ _ (fourth .if4 .left))
 
 pub join-spec : {M : Type 1} → statement M
 join-spec =
