@@ -3,7 +3,6 @@
 -- ---- a lend and a credit
 -- a lend and a credit: taken, and what they come to
 pub mod Ahead
-
 -- ---- two runs
 -- a history played again: each answer is that link's
 pub mod Replays
@@ -21,7 +20,6 @@ pub mod CloseResets
 pub mod AheadRuns
 -- the same of flows in turn
 pub mod AheadInTurn
-
 -- ---- what leaves
 -- what leaves: never early or late, never over, one to a slot
 pub mod Sendings
@@ -37,7 +35,6 @@ pub mod AheadInOrder
 pub mod AheadByOrder
 -- room with tiles sent ahead is room without
 pub mod InTurnWithout
-
 -- ---- what is needed, examples, and sendings that are told
 -- what is asked of those who send ahead is decided
 pub mod AheadDecided

@@ -16,8 +16,9 @@ use Rattle.model.specs.Card.{paper}
 use Rattle.model.specs.PlanBytes.{plan1, plan2}
 use Rattle.arrival.specs.Delay.{AsksAt}
 use Rattle.ahead.specs.AheadRuns.{WithAhead, start, both-tick, both-request, both-credit, both-lend, first-refused, second-refused, both-reset, sent-ahead}
-use Rattle.ahead.specs.SameCalls.{SameCalls, no-call, same-tick, same-request, same-credit, same-lend, same-reset, lent-besides, credited-besides}
-use Rattle.ahead.specs.SameCalls.{SameLoan, LendsAlike, AtOnceAfter, AtOnce, SameIsAhead, Plain, SameGrantsIf}
+use Rattle.ahead.specs.SameCalls.{SameCalls, no-call, same-tick, same-request, same-credit, same-lend, same-reset, refused-first, refused-second, lent-besides}
+use Rattle.ahead.specs.SameCalls.{credited-besides}
+use Rattle.ahead.specs.SameCalls.{SameLoan, LendsAlike, AtOnceAfter, AtOnce, SameIsAhead, AheadIsSame, Plain, SameGrantsIf}
 use Rattle.model.proofs.Decidable.{proved}
 use Rattle.arrival.proofs.DelayDecided.{room}
 use Rattle.ahead.proofs.AheadDecided.{all-ask, ahead-computes}
@@ -44,6 +45,8 @@ both none (same-request w x) alike once = both-request w (both none x alike once
 both none (same-credit j p x) alike once = both-credit j p (both none x alike once)
 both none (same-lend {a₁ = a₁} {a₂ = a₂} m₁ m₂ x) alike once = one-lend m₁ m₂ a₁ a₂ (alike .0) (both none x (alike .1) once)
 both none (same-reset x) alike once = both-reset (both none x alike once)
+both none (refused-first x) alike once = first-refused (both none x alike once)
+both none (refused-second x) alike once = second-refused (both none x alike once)
 both none (lent-besides m j x) alike once = absurd once
 both none (credited-besides i p x) alike once = both (some i) x alike once p
 both (some i) no-call alike once = absurd once
@@ -52,12 +55,42 @@ both (some i) (same-request w x) alike once = absurd once
 both (some i) (same-credit j p x) alike once = absurd once
 both (some i) (same-lend m₁ m₂ x) alike once = absurd once
 both (some i) (same-reset x) alike once = absurd once
+both (some i) (refused-first x) alike once = absurd once
+both (some i) (refused-second x) alike once = absurd once
 both (some i) {h₁} (lent-besides {h₂ = h₂} m j x) alike once =
     λ p. subst (λ k. WithAhead h₁ (credited i p (accepted tt) ∷ lent m (accepted k) ∷ h₂)) (sym (once .0)) (sent-ahead i p (both none x alike (once .1)))
 both (some i) (credited-besides j p x) alike once = absurd once
 
 pub same-is-ahead : SameIsAhead
 same-is-ahead h₁ h₂ x alike once = both none x alike once
+
+-- the other way round
+pub ahead-is-same : AheadIsSame
+ahead-is-same h₁ h₂ start = record { same = no-call; lends-alike = tt; at-once = tt }
+ahead-is-same h₁ h₂ (both-tick {h₁ = k₁} {h₂ = k₂} x) =
+    let y = ahead-is-same k₁ k₂ x in
+    record { same = same-tick (y .same); lends-alike = y .lends-alike; at-once = y .at-once }
+ahead-is-same h₁ h₂ (both-request {h₁ = k₁} {h₂ = k₂} w x) =
+    let y = ahead-is-same k₁ k₂ x in
+    record { same = same-request w (y .same); lends-alike = y .lends-alike; at-once = y .at-once }
+ahead-is-same h₁ h₂ (both-credit {h₁ = k₁} {h₂ = k₂} j p x) =
+    let y = ahead-is-same k₁ k₂ x in
+    record { same = same-credit j p (y .same); lends-alike = y .lends-alike; at-once = y .at-once }
+ahead-is-same h₁ h₂ (both-lend {h₁ = k₁} {h₂ = k₂} {m₁ = m₁} {m₂ = m₂} j x) =
+    let y = ahead-is-same k₁ k₂ x in
+    record { same = same-lend m₁ m₂ (y .same); lends-alike = (refl, y .lends-alike); at-once = y .at-once }
+ahead-is-same h₁ h₂ (first-refused {h₁ = k₁} {h₂ = k₂} x) =
+    let y = ahead-is-same k₁ k₂ x in
+    record { same = refused-first (y .same); lends-alike = y .lends-alike; at-once = y .at-once }
+ahead-is-same h₁ h₂ (second-refused {h₁ = k₁} {h₂ = k₂} x) =
+    let y = ahead-is-same k₁ k₂ x in
+    record { same = refused-second (y .same); lends-alike = y .lends-alike; at-once = y .at-once }
+ahead-is-same h₁ h₂ (both-reset {h₁ = k₁} {h₂ = k₂} x) =
+    let y = ahead-is-same k₁ k₂ x in
+    record { same = same-reset (y .same); lends-alike = y .lends-alike; at-once = y .at-once }
+ahead-is-same h₁ h₂ (sent-ahead {h₁ = k₁} {h₂ = k₂} {m = m} i p x) =
+    let y = ahead-is-same k₁ k₂ x in
+    record { same = credited-besides i p (lent-besides m i (y .same)); lends-alike = y .lends-alike; at-once = (refl, y .at-once) }
 
 -- ---- without lends that are answered alike
 

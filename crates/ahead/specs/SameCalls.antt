@@ -18,8 +18,8 @@ use Rattle.ahead.specs.AheadRuns.{WithAhead}
 
 -- ---- the same calls
 
--- RULES 24.4: they make the same calls in the same places, whatever the answers are; and the second has lends that are answered and credits that are taken
--- besides, at any place. As in a history, the newest event is first.
+-- RULES 24.4: they make the same calls in the same places, whatever the answers are, but that refused lends may stand in one alone; and the second has lends
+-- that are answered and credits that are taken besides, at any place. As in a history, the newest event is first.
 pub data SameCalls : (h₁ h₂ : History) → Type 0 where
   no-call : SameCalls [] []
   same-tick : {h₁ h₂ : History} {x₁ x₂ : Turn} → SameCalls h₁ h₂ → SameCalls (ticked x₁ ∷ h₁) (ticked x₂ ∷ h₂)
@@ -27,6 +27,8 @@ pub data SameCalls : (h₁ h₂ : History) → Type 0 where
   same-credit : {h₁ h₂ : History} {a₁ a₂ : Receipt} (j p : ℕ) → SameCalls h₁ h₂ → SameCalls (credited j p a₁ ∷ h₁) (credited j p a₂ ∷ h₂)
   same-lend : {h₁ h₂ : History} {a₁ a₂ : Loan} (m₁ m₂ : ℕ) → SameCalls h₁ h₂ → SameCalls (lent m₁ a₁ ∷ h₁) (lent m₂ a₂ ∷ h₂)
   same-reset : {h₁ h₂ : History} {a₁ a₂ : Renewal} → SameCalls h₁ h₂ → SameCalls (Event.reset a₁ ∷ h₁) (Event.reset a₂ ∷ h₂)
+  refused-first : {h₁ h₂ : History} {m r : ℕ} → SameCalls h₁ h₂ → SameCalls (lent m (refused r) ∷ h₁) h₂
+  refused-second : {h₁ h₂ : History} {m r : ℕ} → SameCalls h₁ h₂ → SameCalls h₁ (lent m (refused r) ∷ h₂)
   lent-besides : {h₁ h₂ : History} (m i : ℕ) → SameCalls h₁ h₂ → SameCalls h₁ (lent m (accepted i) ∷ h₂)
   credited-besides : {h₁ h₂ : History} (i p : ℕ) → SameCalls h₁ h₂ → SameCalls h₁ (credited i p (accepted tt) ∷ h₂)
 
@@ -47,6 +49,8 @@ LendsAlike (same-request w x) = LendsAlike x
 LendsAlike (same-credit j p x) = LendsAlike x
 LendsAlike (same-lend {a₁ = a₁} {a₂ = a₂} m₁ m₂ x) = SameLoan a₁ a₂ × LendsAlike x
 LendsAlike (same-reset x) = LendsAlike x
+LendsAlike (refused-first x) = LendsAlike x
+LendsAlike (refused-second x) = LendsAlike x
 LendsAlike (lent-besides m i x) = LendsAlike x
 LendsAlike (credited-besides i p x) = LendsAlike x
 
@@ -68,6 +72,8 @@ AtOnceAfter o (same-request w x) = NoneWaits o (AtOnceAfter none x)
 AtOnceAfter o (same-credit j p x) = NoneWaits o (AtOnceAfter none x)
 AtOnceAfter o (same-lend m₁ m₂ x) = NoneWaits o (AtOnceAfter none x)
 AtOnceAfter o (same-reset x) = NoneWaits o (AtOnceAfter none x)
+AtOnceAfter o (refused-first x) = NoneWaits o (AtOnceAfter none x)
+AtOnceAfter o (refused-second x) = NoneWaits o (AtOnceAfter none x)
 AtOnceAfter o (lent-besides m j x) = WaitsFor o j (AtOnceAfter none x)
 AtOnceAfter o (credited-besides i p x) = NoneWaits o (AtOnceAfter (some i) x)
 
@@ -77,6 +83,15 @@ AtOnce x = AtOnceAfter none x
 -- Then the second run is one with tiles sent ahead. That it is so is `same-is-ahead`, in proofs/SameCalls.antt.
 abbrev pub SameIsAhead : Type 0
 SameIsAhead = (h₁ h₂ : History) (x : SameCalls h₁ h₂) → LendsAlike x → AtOnce x → WithAhead h₁ h₂
+
+-- and each run with tiles sent ahead is one: `ahead-is-same`, there
+pub record SameButAhead (h₁ h₂ : History) : Type 0 where
+  pub same : SameCalls h₁ h₂
+  pub lends-alike : LendsAlike same
+  pub at-once : AtOnce same
+
+abbrev pub AheadIsSame : Type 0
+AheadIsSame = (h₁ h₂ : History) → WithAhead h₁ h₂ → SameButAhead h₁ h₂
 
 -- ---- what each is for
 

@@ -49,4 +49,4 @@ refuses-resets granted =
 
 pub grants-resets : ResetGranted grantsResets → ⊥
 unfolding delays-compute
-grants-resets granted = let x = granted listing refl (Call.request 0x24000000 ∷ Call.reset ∷ []) .0 .0 tt in omega (arith, x .none-booked 1 (lit< tt))
+grants-resets granted = let x = granted listing refl (Call.request 0x24000000 ∷ Call.reset ∷ []) .0 .0 tt in omega (arith, x .none-booked 1 (omega arith))

@@ -25,7 +25,6 @@ pub mod RequestsInTime
 pub mod Soon
 -- and for tiles that have come
 pub mod SoonOnArrival
-
 -- ---- several links
 -- the slots of tiles, by number
 pub mod TileSlots
@@ -35,7 +34,6 @@ pub mod GrantsInOrder
 pub mod NextLink
 -- any number of them
 pub mod SeveralLinks
-
 -- ---- cells
 -- room in every slot
 pub mod EnoughCells
@@ -51,7 +49,6 @@ pub mod CellsAtOnce
 pub mod SharesAhead
 -- several links with these cells
 pub mod LinksOnArrival
-
 -- ---- bursts, and credits at the next board's grants
 -- bursts are asked for soon
 pub mod Source
@@ -61,13 +58,11 @@ pub mod FromSource
 pub mod CreditedByNext
 -- every tile arrives
 pub mod AllArrive
-
 -- ---- slots in order
 -- with room, slots are granted in the order of due tiles
 pub mod BooksInOrder
 -- so is one with its shares of cells
 pub mod SharesInOrder
-
 -- ---- what is needed, examples, and cards that are sent back
 -- whether a flow is modest is decided
 pub mod DelayDecided
