@@ -17,15 +17,20 @@ from trace_words import listing_line
 from words import Words, plan_words, refused_with
 
 WIDTH, INDENT = 80, 8
+BLANK = " " * INDENT
 OPTIONS = ("--summary", "--allcalls")
 
 
 # ---- lines of at most 80 characters
 
 def paragraph(head, text):
+    """Words behind a head; most fit one line or two."""
     line = head.ljust(INDENT) + text
     if len(line) <= WIDTH:
         return line + "\n"
+    cut = line.rfind(" ", max(len(head), INDENT) + 1, WIDTH + 1)
+    if cut > 0 and len(line) - cut <= WIDTH - INDENT:
+        return "%s\n%s%s\n" % (line[:cut], BLANK, line[cut + 1:])
     return filled(head.ljust(INDENT), text, INDENT)
 
 
@@ -91,20 +96,23 @@ class Telling:
         summary, say, letter = self.summary, self.words, words[0]
         say.slot = summary.kept.slot
         if letter == "B":
-            return self.answered(words, say.of_burst(words))
+            return answered(words, say.of_burst(words))
         called = paragraph("%5d" % summary.kept.calls,
                            say.calls[letter](words))
         if letter == "W":
             return called
-        return called + self.answered(words, say.of_answer(words,
-                                                           summary.pair))
+        text = say.answers[letter](words)
+        if summary.pair:
+            text += say.sent_ahead(summary.pair)
+        return called + answered(words, text)
 
-    @staticmethod
-    def answered(words, text):
-        answer = listing_line(words)
-        if len(answer) > INDENT - 3:
-            text = " " + text
-        return paragraph("  " + answer, text)
+
+def answered(words, text):
+    """The paragraph of an answer, behind its line of the listing."""
+    answer = listing_line(words)
+    if len(answer) > INDENT - 3:
+        text = " " + text
+    return paragraph("  " + answer, text)
 
 
 def plan_page(plan):

@@ -308,7 +308,7 @@ def draw_stretches(readers, options, name):
     if "--timeline" in options:
         ledger = readers["--timeline"]
         write(options["--timeline"], timeline.timeline(ledger, name))
-        if ledger.over and ledger.last == ledger.first + timeline.MOST - 1:
+        if ledger.over and ledger.cut:
             say("the file goes on after slot %d, and a timeline has at most "
                 "%d slots: --from %d draws the next" % (
                     ledger.last, timeline.MOST, ledger.last + 1))

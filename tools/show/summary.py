@@ -63,7 +63,7 @@ class Summary:
         """A line, split."""
         letter = words[0]
         self.kept.takes[letter](words)
-        if letter not in "FB":
+        if letter == "L" or self.pairs.lent_to or self.pair:
             self.pair = self.pairs.of_line(words, self.kept.slot)
         if letter in self.counts:
             self.counts[letter](words)

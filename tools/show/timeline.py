@@ -29,8 +29,9 @@ class Ledger:
         self.plan = plan
         self.first = first              # slot of the stretch
         self.last = first + MOST - 1    # of it, at most
-        if last is not None:
-            self.last = min(last, self.last)
+        self.cut = last is None or last > self.last     # by that
+        if not self.cut:
+            self.last = last
         self.asked = first > 0 or last is not None      # for a stretch
         self.calls = self.slot = 0
         self.over = False               # the stretch has gone by

@@ -129,13 +129,6 @@ class Words:
 
     # ---- answers
 
-    def of_answer(self, words, pair=None):
-        """What is answered; for a credit, the pair that it makes with the
-        lend before it, or None."""
-        if pair:
-            return self.credited(words) + self.sent_ahead(pair)
-        return self.answers[words[0]](words)
-
     def place(self, slot):
         return place(slot, self.plan)
 
