@@ -29,7 +29,7 @@ CRATES = {
     "programmewords": "root", "mesh": "root", "shares": "root",
     "extras": "root", "programme": "root", "delay": "root",
     "delaywords": "root", "questions": "root", "show": "root",
-    "showwords": "root", "trace": "root"}
+    "showwords": "root", "trace": "root", "crossing": "root"}
 
 # Public functions that others are built from.
 HELPERS = {
@@ -49,7 +49,8 @@ KNOWN = {
     "mesh": "admit measure", "shares": "count", "extras": "choose",
     "programme": "plan_at", "delay": "delay", "delaywords": "delay",
     "questions": "feed finish", "show": "write link_refusal refusal",
-    "showwords": "show", "trace": "step write_burst write_plan"}
+    "showwords": "show", "trace": "step write_burst write_plan",
+    "crossing": "serve cross shown"}
 
 
 def sources(crate):
