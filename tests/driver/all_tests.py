@@ -28,7 +28,7 @@ from edges.all_edges import ALLCALLS_EDGES, EDGES
 from images import self_tests
 from mutants import all_mutants
 from pairs import wrong_pairs
-from ways import wrong_ways
+from ways import crossings, wrong_ways
 
 
 def found(package):
@@ -70,6 +70,12 @@ def ways():
         yield "way: " + name, trouble
 
 
+def crossed():
+    """Crossings on the second simulator, and boards that are not ours."""
+    for name, trouble in crossings.missed():
+        yield "crossing: " + name, trouble
+
+
 def sendings():
     """The check of runs with sending ahead sends back what it has to."""
     for name, trouble in wrong_sendings.missed():
@@ -97,8 +103,8 @@ def tables():
 def without_program(only):
     """The suite of what the tests themselves have to be."""
     suite = Suite("tests")
-    tests = itertools.chain(listings(), pairs(), ways(), sendings(), answers(),
-                            tables())
+    tests = itertools.chain(listings(), pairs(), ways(), crossed(), sendings(),
+                            answers(), tables())
     for name, trouble in counted(suite.name, wanted(tests, only)):
         suite.test(name, trouble)
     test_all(suite, self_tests.tests(), only)

@@ -26,6 +26,11 @@ ONE_LINK = ("link/proofs/OneState.antt", "one-link", "SoundLink")
 # For each definition the theorem after which it leaves one answer, its file,
 # and what it has to be about.
 SETTLED = {
+    # some crossing is read of any two states
+    "crossing/Reading Comes": (
+        "crossing/proofs/OneAnswer.antt", "one-outcome", "Comes"),
+    "crossing/Reading Passes": (
+        "crossing/proofs/OneAnswer.antt", "one-pass", "Passes"),
     "extras/Best Best": ("extras/proofs/Promises.antt", "one-best", "Best"),
     # a link that is sound and reads as given: each byte but the bounds
     "link/Sound Sound": ONE_LINK,

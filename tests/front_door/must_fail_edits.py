@@ -29,7 +29,8 @@ CRATES = {
     "programmewords": "root", "mesh": "root", "shares": "root",
     "extras": "root", "programme": "root", "delay": "root",
     "delaywords": "root", "questions": "root", "show": "root",
-    "showwords": "root", "showinput": "root", "trace": "root"}
+    "showwords": "root", "showinput": "root", "trace": "root",
+    "crossing": "root"}
 
 # Public functions that others are built from.
 HELPERS = {
@@ -51,7 +52,8 @@ KNOWN = {
     "programme": "plan_at", "delay": "delay", "delaywords": "delay",
     "questions": "feed finish", "show": "write link_refusal refusal",
     "showwords": "show", "showinput": "feed finish",
-    "trace": "step write_burst write_plan"}
+    "trace": "step write_burst write_plan",
+    "crossing": "serve cross shown"}
 
 
 def sources(crate):

@@ -61,7 +61,13 @@ module _ {p : Plan} {w : Window} {s : List ℕ} (o : StateIn p w s) {j : ℕ} (b
 
   fields-are : fieldsOf asked ≡ word.split (asking (readIn p s) j)
   fields-are =
-      sym (split-join _ (record { destination = destination-few; flow = omega (arith, flow-few); quantum = number-few; departure = omega (arith, current-few) }))
+      sym (split-join _ (record {
+        destination = destination-few;
+        flow = omega (arith, flow-few);
+        quantum = number-few;
+        departure = omega
+            (arith, current-few);
+      }))
       ∙ ap word.split (λ k. word.join (record {
         destination = sym destination-is k;
         flow = j;

@@ -4,3 +4,7 @@ pub mod OneTile
 pub mod Tiles
 -- both links' ticks
 pub mod Ticks
+-- contracts leave one answer
+pub mod OneAnswer
+-- a crossing that the code plays
+pub mod CodeCrosses

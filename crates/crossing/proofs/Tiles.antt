@@ -36,7 +36,8 @@ pub going-first : {x : Crossing} {w : Window} {step rest : paper.Crossing → pa
     → ((p : paper.Crossing) → Reads p x a b k → step p ≡ rest p) → Going x w step rest a b k a b k
 going-first o same = record { in-step = o; left = λ p r. record { now = p; reads = r; comes = same p r } }
 
-pub going-done : {x : Crossing} {w : Window} {step rest : paper.Crossing → paper.Crossing} {a₀ b₀ k₀ a b k : List ℕ} → Going x w step rest a₀ b₀ k₀ a b k
+pub going-done : {x : Crossing} {w : Window} {step rest : paper.Crossing → paper.Crossing} {a₀ b₀ k₀ a b k : List ℕ}
+    → Going x w step rest a₀ b₀ k₀ a b k
     → ((p : paper.Crossing) → rest p ≡ p) → Comes x step a₀ b₀ k₀ a b k
 going-done {x} {a = a} {b} {k} g ends p r =
     let y = g .left p r in
@@ -45,8 +46,10 @@ going-done {x} {a = a} {b} {k} g ends p r =
 -- ---- the tiles of one flow
 
 module _ {x : Crossing} {w : Window} {i j : ℕ} {step : paper.Crossing → paper.Crossing} {a₀ b₀ k₀ a b k a' b' k' : List ℕ} {granted : Bool} (m n : ℕ)
-    (one-more : m ≡ suc n) (g : Going x w step (paper.passOn m i j) a₀ b₀ k₀ a b k) (o : BoardIn x w a' b') (passes : Passes x i j a b k a' b' k' granted) where
-  one-left : (l : ℕ) → ((q : paper.Crossing) → PassedOne x i j q a' b' k' granted → paper.passOn (suc n) i j q ≡ paper.passOn l i j (passedOnce i j q))
+    (one-more : m ≡ suc n) (g : Going x w step (paper.passOn m i j) a₀ b₀ k₀ a b k) (o : BoardIn x w a' b')
+    (passes : Passes x i j a b k a' b' k' granted) where
+  one-left : (l : ℕ) → ((q : paper.Crossing) → PassedOne x i j q a' b' k' granted
+      → paper.passOn (suc n) i j q ≡ paper.passOn l i j (passedOnce i j q))
       → Going x w step (paper.passOn l i j) a₀ b₀ k₀ a' b' k'
   one-left l same = record {
     in-step = o;
@@ -102,7 +105,8 @@ module _ (x : Crossing) (i : ℕ) (few : i < 16) where
     -- the tiles of flow i that wait, by where it goes on
     pub flow-passed : {a' b' k' : List ℕ} → getD (x .onward) i 0 < x .leaving .count
         → Reads (paper.passOn (paper.waits p i) i (getD (x .onward) i 0) p) x a' b' k' → Reads (paper.passFlow i p) x a' b' k'
-    flow-passed {a'} {b'} {k'} below there = subst (λ (o : Option ℕ). Reads (paper.passAs o (paper.waits p i) i p) x a' b' k') (sym (goes-on below)) there
+    flow-passed {a'} {b'} {k'} below there = subst (λ (o : Option ℕ). Reads (paper.passAs o (paper.waits p i) i p) x a' b' k')
+        (sym (goes-on below)) there
 
     pub flow-kept : x .leaving .count ≤ getD (x .onward) i 0 → Reads (paper.passFlow i p) x a b k
     flow-kept past = subst (λ (o : Option ℕ). Reads (paper.passAs o (paper.waits p i) i p) x a b k) (sym (goes-elsewhere past)) reads
@@ -157,7 +161,8 @@ module _ {x : Crossing} {w : Window} {a₀ b₀ k₀ a b k : List ℕ} {i : ℕ}
   pub walked-few : i < x .arriving .count → i < 16
   walked-few below = omega (arith, flows-most (partsIn (x .arriving) a) (g .in-step .arriving .sound .parts))
 
-  pub walked-more : {a' b' k' : List ℕ} → i < x .arriving .count → Comes x (paper.passFlow i) a b k a' b' k' → BoardIn x w a' b' → Walked x w a₀ b₀ k₀ a' b' k' (i + 1)
+  pub walked-more : {a' b' k' : List ℕ} → i < x .arriving .count → Comes x (paper.passFlow i) a b k a' b' k' → BoardIn x w a' b'
+      → Walked x w a₀ b₀ k₀ a' b' k' (i + 1)
   unfolding paper.passWaiting
   walked-more {a'} {b'} {k'} below passed o =
       let next : suc i ≡ i + 1 = omega arith in

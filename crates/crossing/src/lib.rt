@@ -58,7 +58,8 @@ fn one_less(k: u8) -> u8
     k - 1
 }
 
-// Asks for the first tile of flow i that waits, as flow j; where a position is granted, its cell of the in-link is credited, dated that position, and it waits
+// Asks for the first tile of flow i that waits, as flow j; where a position is granted, its cell of the in-link is credited, dated that position,
+// and it waits
 // no more. Whether it was granted.
 fn pass(
     a: &mut State,

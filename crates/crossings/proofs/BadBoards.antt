@@ -47,7 +47,8 @@ quietSlot = record { before = []; after = [] }
 
 abbrev fullOut : List Slot
 fullOut =
-    record { before = []; after = onArriving (Call.request 0x24000401) ∷ [] } ∷ record { before = []; after = onArriving (Call.request 0x24000802) ∷ [] }
+    record { before = []; after = onArriving (Call.request 0x24000401) ∷ [] }
+    ∷ record { before = []; after = onArriving (Call.request 0x24000802) ∷ [] }
     ∷ quietSlot ∷ quietSlot ∷ []
 
 -- ---- the boards

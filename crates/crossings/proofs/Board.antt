@@ -23,8 +23,10 @@ use Rattle.model.proofs.Plan.{accepted as accepted-plan}
 use Rattle.model.proofs.HistoryCounts.{raises-are}
 use Rattle.arrival.proofs.TileSlots.{count-slots}
 use Rattle.model.proofs.AfterCalls.{Known}
-use Rattle.crossings.specs.Crossing.{Crossing, crossingWith, goesOnAs, waits, passOn, passAs, passFlow, passWaiting, queued, comes, arrives, served}
-use Rattle.crossings.specs.Playing.{Other, onArriving, onLeaving, isFlow, isNone, goesOnto, theirsArriving, theirsLeaving, another, others, Slot, bothTick, turnOf, inSlot, inSlots, begun}
+use Rattle.crossings.specs.Crossing.{Crossing, crossingWith, goesOnAs, waits, passOn, passAs, passFlow, passWaiting, queued, comes, arrives}
+use Rattle.crossings.specs.Crossing.{served}
+use Rattle.crossings.specs.Playing.{Other, onArriving, onLeaving, isFlow, isNone, goesOnto, theirsArriving, theirsLeaving, another, others}
+use Rattle.crossings.specs.Playing.{Slot, bothTick, turnOf, inSlot, inSlots, begun}
 use Rattle.crossings.specs.Claim.{AsksNow, Onward, refusedThen, Crosses, CrossesWell}
 use Rattle.crossings.proofs.OneLink.{Reached, reached-start, reached-more, known, within-held, up-to-most, up-to-slots, isTurn, tick-adds}
 use Rattle.crossings.proofs.Kept.{NotGiven, NoGrant, FlowKept, Kept, by-arriving, by-leaving, refused-more}
@@ -80,7 +82,8 @@ module _ {P Q : Plan} {onward : List (Option ℕ)} (ok-P : Accepted P) (ok-Q : A
 
     walk-flow : Walked extra (suc i) (passFlow i y)
     walk-flow =
-        subst (λ o. Walked extra (suc i) (passAs o (waits y i) i y)) (sym (ap (λ o. getD o i none) (z .kept .onward-is))) (go (getD onward i none) refl)
+        subst (λ o. Walked extra (suc i) (passAs o (waits y i) i y)) (sym (ap (λ o. getD o i none) (z .kept .onward-is)))
+        (go (getD onward i none) refl)
       where
         go : (o : Option ℕ) → getD onward i none ≡ o → Walked extra (suc i) (passAs o (waits y i) i y)
         go none e = walk-none e
@@ -144,7 +147,8 @@ module _ {P Q : Plan} {onward : List (Option ℕ)} (ok-P : Accepted P) (ok-Q : A
           )
         where
           holds-within : (i : ℕ) → i < flowCount P → (s : ℕ)
-              → grantedUpTo P (x .arriving .history) i s + lentUpTo (x .arriving .history) i s ≤ creditedUpTo P (x .arriving .history) i s + entry P i .cells
+              → grantedUpTo P (x .arriving .history) i s + lentUpTo (x .arriving .history) i s ≤ creditedUpTo P
+              (x .arriving .history) i s + entry P i .cells
           holds-within = within-held ok-P (z .kept .arriving)
 
       waits-more : waits (queued i x) i ≡ waits x i + 1
@@ -229,6 +233,7 @@ module _ {P Q : Plan} {onward : List (Option ℕ)} (ok-P : Accepted P) (ok-Q : A
       let count = ap flowCount (known ok-P (k .arriving) .plan-is) in
       subst (λ n. Full (arrives turn (passWaiting n x))) (sym count) (go turn (walk (flowCount P) x k))
     where
-      go : (turn : Turn) → Walked (λ i. bit (isTurn turn i)) (flowCount P) (passWaiting (flowCount P) x) → Full (arrives turn (passWaiting (flowCount P) x))
+      go : (turn : Turn) → Walked (λ i. bit (isTurn turn i)) (flowCount P) (passWaiting (flowCount P) x)
+          → Full (arrives turn (passWaiting (flowCount P) x))
       go none z = record { kept = z .kept; tried = all-tried z }
       go (some i) z = comes-full i (passWaiting (flowCount P) x) z

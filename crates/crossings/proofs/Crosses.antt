@@ -21,7 +21,8 @@ use Rattle.model.proofs.Tests.{any-hit}
 use Rattle.model.proofs.Plan.{accepted as accepted-plan}
 use Rattle.arrival.proofs.TileSlots.{count-slots}
 use Rattle.crossings.specs.Crossing.{Crossing, crossingWith, goesOnAs, waits, served}
-use Rattle.crossings.specs.Playing.{Other, onArriving, onLeaving, isFlow, isNone, goesOnto, theirsArriving, theirsLeaving, another, others, Slot, bothTick, turnOf, inSlot, inSlots, begun}
+use Rattle.crossings.specs.Playing.{Other, onArriving, onLeaving, isFlow, isNone, goesOnto, theirsArriving, theirsLeaving, another, others}
+use Rattle.crossings.specs.Playing.{Slot, bothTick, turnOf, inSlot, inSlots, begun}
 use Rattle.crossings.specs.Claim.{Onward, refusedThen, Crosses, CrossesWell}
 use Rattle.crossings.proofs.OneLink.{Reached, reached-start, reached-more, within-held, up-to-slots, isTurn, tick-adds}
 use Rattle.crossings.proofs.Kept.{NoGrant, FlowKept, Kept, by-arriving, by-leaving, ticks-requested, ticks-credited, refused-more}
@@ -67,7 +68,8 @@ module _ {P Q : Plan} {onward : List (Option ℕ)} (ok-P : Accepted P) (ok-Q : A
     goes-here i j goes = ap (λ o. getD o i none) (k .onward-is) ∙ goes
 
     -- on the in-link
-    arriving-kept : (c : Call) → theirsArriving x c ≡ true → Kept P Q onward extra (crossingWith x (step paper (x .arriving) c) (x .leaving) (x .waiting))
+    arriving-kept : (c : Call) → theirsArriving x c ≡ true
+        → Kept P Q onward extra (crossingWith x (step paper (x .arriving) c) (x .leaving) (x .waiting))
     unfolding ticks
     arriving-kept (Call.request w) e = by-arriving k _ _ refl (reached-more (Call.request w) (k .arriving)) refl (λ i j goes. tt)
     arriving-kept (Call.credit n p) e =
@@ -88,14 +90,16 @@ module _ {P Q : Plan} {onward : List (Option ℕ)} (ok-P : Accepted P) (ok-Q : A
     request-kept : (w : ℕ) (a : Grant) → paper .request (x .leaving .state) w .1 ≡ a → not (goesOnto x (flowOf w)) ≡ true
         → Kept P Q onward extra (crossingWith x (x .arriving) (step paper (x .leaving) (Call.request w)) (x .waiting))
     request-kept w a is e =
-        by-leaving k (requested w a) _ (ap (λ b. requested w b ∷ x .leaving .history) is) (reached-more (Call.request w) (k .leaving)) (ticks-requested w a _)
+        by-leaving k (requested w a) _ (ap (λ b. requested w b ∷ x .leaving .history) is) (reached-more (Call.request w) (k .leaving))
+        (ticks-requested w a _)
         (λ i j goes. (none-granted a i j goes, λ same. absurd (not-theirs w e i j goes same)))
       where
         none-granted : (a : Grant) (i j : ℕ) → getD onward i none ≡ some j → NoGrant j (requested w a)
         none-granted (accepted v) i j goes = not-theirs w e i j goes
         none-granted (refused r) i j goes = tt
 
-    leaving-kept : (c : Call) → theirsLeaving x c ≡ true → Kept P Q onward extra (crossingWith x (x .arriving) (step paper (x .leaving) c) (x .waiting))
+    leaving-kept : (c : Call) → theirsLeaving x c ≡ true
+        → Kept P Q onward extra (crossingWith x (x .arriving) (step paper (x .leaving) c) (x .waiting))
     unfolding ticks
     leaving-kept (Call.request w) e = request-kept w _ refl e
     leaving-kept (Call.credit n p) e = by-leaving k _ _ refl (reached-more (Call.credit n p) (k .leaving)) refl (λ i j goes. (tt, tt))
@@ -103,7 +107,8 @@ module _ {P Q : Plan} {onward : List (Option ℕ)} (ok-P : Accepted P) (ok-Q : A
     leaving-kept (Call.lend m) e = by-leaving k _ _ refl (reached-more (Call.lend m) (k .leaving)) refl (λ i j goes. (tt, tt))
     leaving-kept Call.reset e = by-leaving k _ _ refl (reached-more Call.reset (k .leaving)) refl (λ i j goes. (tt, tt))
 
-  leaving-stays : (x : Crossing) (c : Call) → theirsLeaving x c ≡ true → Stays Q x (crossingWith x (x .arriving) (step paper (x .leaving) c) (x .waiting))
+  leaving-stays : (x : Crossing) (c : Call) → theirsLeaving x c ≡ true
+      → Stays Q x (crossingWith x (x .arriving) (step paper (x .leaving) c) (x .waiting))
   unfolding ticks
   leaving-stays x (Call.request w) e = record { waiting = refl; same-time = refl; refused-still = λ j t. refused-more Q j t _ (x .leaving .history) }
   leaving-stays x (Call.credit n p) e = record { waiting = refl; same-time = refl; refused-still = λ j t. refused-more Q j t _ (x .leaving .history) }
@@ -114,16 +119,19 @@ module _ {P Q : Plan} {onward : List (Option ℕ)} (ok-P : Accepted P) (ok-Q : A
   other-kept : {extra : ℕ → ℕ} (o : Other) (x : Crossing) → Kept P Q onward extra x → Kept P Q onward extra (another o x) × Stays Q x (another o x)
   other-kept {extra} (onArriving c) x k = go (theirsArriving x c) refl
     where
-      go : (b : Bool) → theirsArriving x c ≡ b → (let y = cond b (crossingWith x (step paper (x .arriving) c) (x .leaving) (x .waiting)) x in Kept P Q onward extra y × Stays Q x y)
+      go : (b : Bool) → theirsArriving x c ≡ b
+          → (let y = cond b (crossingWith x (step paper (x .arriving) c) (x .leaving) (x .waiting)) x in Kept P Q onward extra y × Stays Q x y)
       go true e = (arriving-kept k c e, record { waiting = refl; same-time = refl; refused-still = λ j t. omega arith })
       go false e = (k, stays-same x)
   other-kept {extra} (onLeaving c) x k = go (theirsLeaving x c) refl
     where
-      go : (b : Bool) → theirsLeaving x c ≡ b → (let y = cond b (crossingWith x (x .arriving) (step paper (x .leaving) c) (x .waiting)) x in Kept P Q onward extra y × Stays Q x y)
+      go : (b : Bool) → theirsLeaving x c ≡ b
+          → (let y = cond b (crossingWith x (x .arriving) (step paper (x .leaving) c) (x .waiting)) x in Kept P Q onward extra y × Stays Q x y)
       go true e = (leaving-kept k c e, leaving-stays x c e)
       go false e = (k, stays-same x)
 
-  others-kept : {extra : ℕ → ℕ} (os : List Other) (x : Crossing) → Kept P Q onward extra x → Kept P Q onward extra (others os x) × Stays Q x (others os x)
+  others-kept : {extra : ℕ → ℕ} (os : List Other) (x : Crossing) → Kept P Q onward extra x
+      → Kept P Q onward extra (others os x) × Stays Q x (others os x)
   unfolding others
   others-kept [] x k = (k, stays-same x)
   others-kept (o ∷ os) x k =
@@ -134,16 +142,20 @@ module _ {P Q : Plan} {onward : List (Option ℕ)} (ok-P : Accepted P) (ok-Q : A
   abbrev FullHere : Crossing → Type 0
   FullHere = Full ok-P ok-Q in-step goes-on
 
+  -- what was tried stays so
+  full-stays : {x y : Crossing} → ((i j : ℕ) → getD onward i none ≡ some j → Tried ok-P ok-Q in-step goes-on i j x) → Kept P Q onward (λ i. 0) y
+      → Stays Q x y → FullHere y
+  full-stays {x} {y} tried kept stays = record {
+    kept = kept;
+    tried = λ i j goes some-wait.
+        let t = ticks (x .leaving .history) in
+        let before = tried i j goes (subst (λ ks. 0 < getD ks i 0) (stays .waiting) some-wait) in
+        let after : 0 < refusedThen Q j t (y .leaving .history) = omega (arith, before, stays .refused-still j t) in
+        subst (λ n. 0 < refusedThen Q j n (y .leaving .history)) (sym (stays .same-time)) after;
+  }
+
   others-full : (os : List Other) (x : Crossing) → FullHere x → FullHere (others os x)
-  others-full os x z =
-      let (kept, stays) = others-kept os x (z .kept) in
-      record {
-        kept = kept;
-        tried = λ i j goes some-wait.
-            let before : 0 < refusedThen Q j (ticks (x .leaving .history)) (x .leaving .history) = z .tried i j goes (subst (λ ks. 0 < getD ks i 0) (stays .waiting) some-wait) in
-            let then : 0 < refusedThen Q j (ticks (x .leaving .history)) (others os x .leaving .history) = omega (arith, before, stays .refused-still j (ticks (x .leaving .history))) in
-            subst (λ t. 0 < refusedThen Q j t (others os x .leaving .history)) (sym (stays .same-time)) then;
-      }
+  others-full os x z = let (kept, stays) = others-kept os x (z .kept) in full-stays (z .tried) kept stays
 
   -- ---- a slot
 
@@ -170,12 +182,24 @@ module _ {P Q : Plan} {onward : List (Option ℕ)} (ok-P : Accepted P) (ok-Q : A
       let (kept, _) = others-kept (s .before) (bothTick x) (tick-kept x (z .kept)) in
       others-full (s .after) _ (served-full ok-P ok-Q in-step goes-on (turnOf x) (others (s .before) (bothTick x)) kept)
 
+  -- one call of others, and a slot in which they ask nothing
+  pub arriving-full : (c : Call) (x : Crossing) → FullHere x → theirsArriving x c ≡ true
+      → FullHere (crossingWith x (step paper (x .arriving) c) (x .leaving) (x .waiting))
+  arriving-full c x z theirs = record { kept = arriving-kept (z .kept) c theirs; tried = z .tried }
+
+  pub leaving-full : (c : Call) (x : Crossing) → FullHere x → theirsLeaving x c ≡ true
+      → FullHere (crossingWith x (x .arriving) (step paper (x .leaving) c) (x .waiting))
+  leaving-full c x z theirs = full-stays (z .tried) (leaving-kept (z .kept) c theirs) (leaving-stays x c theirs)
+
+  pub slot-alone-full : (x : Crossing) → FullHere x → FullHere (served (turnOf x) (bothTick x))
+  slot-alone-full x z = served-full ok-P ok-Q in-step goes-on (turnOf x) (bothTick x) (tick-kept x (z .kept))
+
   slots-full : (ss : List Slot) (x : Crossing) → FullHere x → FullHere (inSlots served ss x)
   unfolding inSlots
   slots-full [] x z = z
   slots-full (s ∷ ss) x z = slots-full ss (inSlot served s x) (slot-full s x z)
 
-  begun-full : FullHere (begun P Q onward)
+  pub begun-full : FullHere (begun P Q onward)
   unfolding ticks grants credits slotsOf tally
   begun-full = record {
     kept = record {
@@ -191,7 +215,7 @@ module _ {P Q : Plan} {onward : List (Option ℕ)} (ok-P : Accepted P) (ok-Q : A
 
   -- ---- what is claimed
 
-  crosses : {x : Crossing} → FullHere x → (i j : ℕ) → getD onward i none ≡ some j → Crosses P Q i j x
+  pub crosses : {x : Crossing} → FullHere x → (i j : ℕ) → getD onward i none ≡ some j → Crosses P Q i j x
   crosses {x} z i j goes =
       let f = z .kept .flows i j goes in
       let h₁ = x .arriving .history in

@@ -17,7 +17,8 @@ use Rattle.model.specs.Plan.{Plan, positions, flowCount, entry, Accepted}
 use Rattle.model.specs.Calls.{Call, Grant, Receipt, Turn, Event, History, requested, credited, ticked, lent, accepted, refused}
 use Rattle.model.specs.Link.{Link, flow}
 use Rattle.model.specs.Card.{Played, paper, step}
-use Rattle.model.specs.History.{Mark, marksOf, refusalAt, atSlot, ticks, slotAfter, hasCome, wellFormed, grants, credits, ofFlow, grantedUpTo, lentUpTo, creditedUpTo, grantedInAll, expectedNumber}
+use Rattle.model.specs.History.{Mark, marksOf, refusalAt, atSlot, ticks, slotAfter, hasCome, wellFormed, grants, credits, ofFlow, grantedUpTo}
+use Rattle.model.specs.History.{lentUpTo, creditedUpTo, grantedInAll, expectedNumber}
 use Rattle.model.specs.Claim.{Each, AtRequest}
 use Rattle.arrival.specs.TakenCredits.{AtCredit, IsTaken, GivesBackFrom}
 use Rattle.model.specs.TwoHops.{InStep}
@@ -59,7 +60,13 @@ same-arriving P i (requested w (accepted v)) h n = record {
   taken = tt;
 }
 same-arriving P i (requested w (refused r)) h n = record { now = refl; dated = refl; came = refl; taken = tt }
-same-arriving P i (credited k p (accepted u)) h n = record { now = refl; dated = slots-skip i _ (credits P h) n; came = refl; taken = λ z. absurd (n z) }
+same-arriving P i (credited k p (accepted u)) h n = record {
+  now = refl;
+  dated = slots-skip i _ (credits P h) n;
+  came = refl;
+  taken = λ z. absurd
+      (n z);
+}
 same-arriving P i (credited k p (refused r)) h n = record { now = refl; dated = refl; came = refl; taken = λ z. absurd (n z) }
 same-arriving P i (ticked x) h n = absurd n
 same-arriving P i (lent m a) h n = record { now = refl; dated = refl; came = refl; taken = tt }
@@ -109,7 +116,8 @@ pub record Kept (P Q : Plan) (onward : List (Option ℕ)) (extra : ℕ → ℕ) 
 
 module _ {P Q : Plan} {onward : List (Option ℕ)} {extra : ℕ → ℕ} {x : Crossing} (k : Kept P Q onward extra x) where
   -- a call of others on the in-link
-  pub by-arriving : (e : Event) (r : Played paper) → r .history ≡ e ∷ x .arriving .history → Reached P r → ticks (e ∷ x .arriving .history) ≡ ticks (x .arriving .history)
+  pub by-arriving : (e : Event) (r : Played paper) → r .history ≡ e ∷ x .arriving .history → Reached P r
+      → ticks (e ∷ x .arriving .history) ≡ ticks (x .arriving .history)
       → ((i j : ℕ) → getD onward i none ≡ some j → NotGiven i e) → Kept P Q onward extra (crossingWith x r (x .leaving) (x .waiting))
   by-arriving e r is reached still theirs = record {
     arriving = reached;
@@ -130,7 +138,8 @@ module _ {P Q : Plan} {onward : List (Option ℕ)} {extra : ℕ → ℕ} {x : Cr
   }
 
   -- a call on the out-link that grants nothing to a flow that goes on here
-  pub by-leaving : (e : Event) (r : Played paper) → r .history ≡ e ∷ x .leaving .history → Reached Q r → ticks (e ∷ x .leaving .history) ≡ ticks (x .leaving .history)
+  pub by-leaving : (e : Event) (r : Played paper) → r .history ≡ e ∷ x .leaving .history → Reached Q r
+      → ticks (e ∷ x .leaving .history) ≡ ticks (x .leaving .history)
       → ((i j : ℕ) → getD onward i none ≡ some j → NoGrant j e × AtRequest (λ w h. flowOf w ≡ j → AsksNow Q j w h) e (x .leaving .history))
       → Kept P Q onward extra (crossingWith x (x .arriving) r (x .waiting))
   by-leaving e r is reached still theirs = record {
@@ -165,7 +174,8 @@ module _ {P Q : Plan} (step : InStep P Q) where
   pub same-come : (t p : ℕ) → hasCome P t p ≡ hasCome Q t p
   same-come t p = λ k. eqb (p / step .slots k) (t / step .slots k % step .frames k) && leb p (t % (step .slots k * step .frames k))
 
-module _ {P Q : Plan} {onward : List (Option ℕ)} {extra : ℕ → ℕ} (ok-P : Accepted P) (ok-Q : Accepted Q) (in-step : InStep P Q) (goes-on : Onward P Q onward)
+module _ {P Q : Plan} {onward : List (Option ℕ)} {extra : ℕ → ℕ} (ok-P : Accepted P) (ok-Q : Accepted Q) (in-step : InStep P Q)
+    (goes-on : Onward P Q onward)
     {x : Crossing} (k : Kept P Q onward extra x) (i j : ℕ) (goes : getD onward i none ≡ some j) (some-wait : 0 < waits x i) where
   abbrev t : ℕ
   t = ticks (x .arriving .history)
@@ -188,18 +198,21 @@ module _ {P Q : Plan} {onward : List (Option ℕ)} {extra : ℕ → ℕ} (ok-P :
   }
 
 -- the credit of a flow that is taken adds its date
-pub credit-dated : (P : Plan) (i p : ℕ) (a : Receipt) (h : History) → IsTaken a → slotsOf i (credits P (credited i p a ∷ h)) ≡ slotAfter P (ticks h) p ∷ slotsOf i (credits P h)
+pub credit-dated : (P : Plan) (i p : ℕ) (a : Receipt) (h : History) → IsTaken a
+    → slotsOf i (credits P (credited i p a ∷ h)) ≡ slotAfter P (ticks h) p ∷ slotsOf i (credits P h)
 unfolding credits
 credit-dated P i p (accepted u) h is = slots-hit i _ (credits P h) refl
 credit-dated P i p (refused r) h is = absurd is
 
 -- a grant adds its slot
-pub grant-slot : (Q : Plan) (j w v : ℕ) (h : History) → flowOf w ≡ j → slotsOf j (grants Q (requested w (accepted v) ∷ h)) ≡ slotAfter Q (ticks h) (departureOf v) ∷ slotsOf j (grants Q h)
+pub grant-slot : (Q : Plan) (j w v : ℕ) (h : History) → flowOf w ≡ j
+    → slotsOf j (grants Q (requested w (accepted v) ∷ h)) ≡ slotAfter Q (ticks h) (departureOf v) ∷ slotsOf j (grants Q h)
 unfolding grants
 grant-slot Q j w v h e = slots-hit j _ (grants Q h) e
 
 -- no credit changes what came
-pub credit-came : (P : Plan) (i k p : ℕ) (a : Receipt) (h : History) → grantedUpTo P (credited k p a ∷ h) i (ticks (credited k p a ∷ h)) ≡ grantedUpTo P h i (ticks h)
+pub credit-came : (P : Plan) (i k p : ℕ) (a : Receipt) (h : History)
+    → grantedUpTo P (credited k p a ∷ h) i (ticks (credited k p a ∷ h)) ≡ grantedUpTo P h i (ticks h)
 unfolding grants ticks
 credit-came P i k p a h = refl
 
@@ -218,7 +231,8 @@ pub record AskedAs (Q : Plan) (j w : ℕ) (h : History) : Type 0 where
   pub well : wellFormed Q w ≡ true
   pub now : AsksNow Q j w h
 
-well-formed : (Q : Plan) (w j : ℕ) → j < flowCount Q → flowOf w ≡ j → destinationOf w ≡ entry Q j .destination → departureOf w < positions Q → wellFormed Q w ≡ true
+well-formed : (Q : Plan) (w j : ℕ) → j < flowCount Q → flowOf w ≡ j → destinationOf w ≡ entry Q j .destination → departureOf w < positions Q
+    → wellFormed Q w ≡ true
 unfolding wellFormed
 well-formed Q w j below flow destination departure =
     rw (
@@ -266,7 +280,8 @@ pub refused-more : (Q : Plan) (j t : ℕ) (e : Event) (h : History) → refusedT
 unfolding marksOf
 refused-more Q j t e h = omega (arith, tally-append (λ m. ofFlow j m && atSlot t m) (refusalAt Q e h) (marksOf (refusalAt Q) h))
 
-pub refused-now : (Q : Plan) (j w r : ℕ) (h : History) → wellFormed Q w ≡ true → flowOf w ≡ j → 0 < refusedThen Q j (ticks h) (requested w (refused r) ∷ h)
+pub refused-now : (Q : Plan) (j w r : ℕ) (h : History) → wellFormed Q w ≡ true → flowOf w ≡ j
+    → 0 < refusedThen Q j (ticks h) (requested w (refused r) ∷ h)
 unfolding marksOf tally
 refused-now Q j w r h well flow =
     rw (well, eq-eqb (flowOf w) j flow, eq-eqb (ticks h) (ticks h) refl) (omega arith)

@@ -14,7 +14,8 @@ use Rattle.model.specs.Word.{flowOf, quantumOf, departureOf}
 use Rattle.model.specs.Plan.{Plan, positions, flowCount, entry, Accepted}
 use Rattle.model.specs.Calls.{Call, Turn, Event, History, requested, credited, ticked, lent, accepted, refused}
 use Rattle.model.specs.Card.{Played, paper, step, play, started, run}
-use Rattle.model.specs.History.{Mark, ticks, slotAfter, hasCome, marksOf, refusalAt, grants, credits, grantsSince, ofFlow, atSlot, upTo, grantedUpTo, lentUpTo, creditedUpTo}
+use Rattle.model.specs.History.{Mark, ticks, slotAfter, hasCome, marksOf, refusalAt, grants, credits, grantsSince, ofFlow, atSlot, upTo, grantedUpTo}
+use Rattle.model.specs.History.{lentUpTo, creditedUpTo}
 use Rattle.model.specs.Holding.{InWindow, frameStart}
 use Rattle.model.specs.Claim.{Each}
 use Rattle.arrival.specs.TakenCredits.{CreditTakenAt, HoldsFrom, GivesBackFrom, IsTaken}
@@ -59,11 +60,13 @@ module _ {P : Plan} (ok : Accepted P) {r : Played paper} (x : Reached P r) where
   credits-by-holding = subst (λ (r : Played paper). Each (CreditTakenAt P) (r .history)) (x .played) (credits-taken-accepted P ok (x .calls))
 
   -- what a flow holds is at most its cells
-  pub within-held : (i : ℕ) → i < flowCount P → (s : ℕ) → grantedUpTo P (r .history) i s + lentUpTo (r .history) i s ≤ creditedUpTo P (r .history) i s + entry P i .cells
+  pub within-held : (i : ℕ) → i < flowCount P → (s : ℕ)
+      → grantedUpTo P (r .history) i s + lentUpTo (r .history) i s ≤ creditedUpTo P (r .history) i s + entry P i .cells
   within-held i below s =
       let g = known in
-      let x = subst (λ Q. i < flowCount Q → HoldsAt Q (ticks (r .history)) (raises P (r .history)) (credits P (r .history)) i (flow (r .state) i .held) s)
-          (g .plan-is) (λ q. g .invariant .holds i q s) below in
+      let x = subst (λ Q. i < flowCount Q
+      → HoldsAt Q (ticks (r .history)) (raises P (r .history)) (credits P (r .history)) i (flow (r .state) i .held) s)
+      (g .plan-is) (λ q. g .invariant .holds i q s) below in
       omega (arith, x .within, raises-are P (upTo i s) (r .history))
 
 -- ---- counts
@@ -104,7 +107,8 @@ unfolding tally slotsOf
 up-to-most i s [] = omega arith
 up-to-most i s (m ∷ ms) = go (eqb (m .flow) i) (leb (m .slot) s) (up-to-most i s ms)
   where
-    go : (b c : Bool) → tally (upTo i s) ms ≤ length (slotsOf i ms) → bit (b && c) + tally (upTo i s) ms ≤ length (cond b (m .slot ∷ slotsOf i ms) (slotsOf i ms))
+    go : (b c : Bool) → tally (upTo i s) ms ≤ length (slotsOf i ms)
+        → bit (b && c) + tally (upTo i s) ms ≤ length (cond b (m .slot ∷ slotsOf i ms) (slotsOf i ms))
     go true true rest = omega (arith, rest)
     go true false rest = omega (arith, rest)
     go false c rest = omega (arith, rest)
@@ -146,7 +150,8 @@ module _ {P : Plan} (ok : Accepted P) {r : Played paper} (x : Reached P r) where
       one =
           omega (
             arith,
-            tally-le (λ m. ofFlow i m && atSlot (suc (ticks h)) m) (atSlot (suc (ticks h))) (λ m e. and-true (ofFlow i m) (atSlot (suc (ticks h)) m) e .1) (grants P h),
+            tally-le (λ m. ofFlow i m && atSlot (suc (ticks h)) m) (atSlot (suc (ticks h)))
+                (λ m e. and-true (ofFlow i m) (atSlot (suc (ticks h)) m) e .1) (grants P h),
             raises-are P (atSlot (suc (ticks h))) h,
             known ok x .invariant .owned .one-owner (suc (ticks h)),
           )
@@ -162,7 +167,8 @@ module _ {P : Plan} (ok : Accepted P) {r : Played paper} (x : Reached P r) where
         where
           go : Dec (0 < count) → count ≡ 0
           go (yes some-there) =
-              absurd (other (now .events .0 .comes-up i .1 (subst (λ s. 0 < tally (λ m. ofFlow i m && atSlot s m) (grants P h)) (sym next) some-there)))
+              absurd (other (now .events .0 .comes-up i .1 (subst (λ s. 0 < tally (λ m. ofFlow i m && atSlot s m) (grants P h))
+              (sym next) some-there)))
           go (no none-there) = omega arith
 
       comes : (y : Turn) → turn ≡ y → count ≡ bit (isTurn y i)
@@ -175,7 +181,8 @@ module _ {P : Plan} (ok : Accepted P) {r : Played paper} (x : Reached P r) where
 
 -- ---- a grant
 
-module _ {P : Plan} (ok : Accepted P) {r : Played paper} (w v : ℕ) (x : Reached P (record { state = r .state; history = requested w (accepted v) ∷ r .history })) where
+module _ {P : Plan} (ok : Accepted P) {r : Played paper} (w v : ℕ)
+    (x : Reached P (record { state = r .state; history = requested w (accepted v) ∷ r .history })) where
   abbrev t : ℕ
   t = ticks (r .history)
 

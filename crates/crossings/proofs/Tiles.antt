@@ -21,11 +21,15 @@ use Rattle.arrival.specs.TakenCredits.{AtCredit, IsTaken}
 use Rattle.model.specs.TwoHops.{InStep}
 use Rattle.arrival.specs.SeveralLinks.{slotsOf}
 use Rattle.model.proofs.HistoryCounts.{raises-are}
-use Rattle.crossings.specs.Crossing.{Crossing, crossingWith, goesOnAs, waits, asking, answerFor, askedFor, leaves, onGrant, passOn, passAs, passFlow, passWaiting, queued, comes, arrives, served}
+use Rattle.crossings.specs.Crossing.{Crossing, crossingWith, goesOnAs, waits, asking, answerFor, askedFor, leaves, onGrant, passOn, passAs}
+use Rattle.crossings.specs.Crossing.{passFlow, passWaiting, queued, comes, arrives, served}
 use Rattle.crossings.specs.Claim.{AsksNow, Onward, refusedThen}
-use Rattle.crossings.proofs.OneLink.{Reached, reached-more, known, credits-by-holding, up-to-most, slot-to-come, granted-position, granted-later, isTurn}
-use Rattle.crossings.proofs.Kept.{NotGiven, NoGrant, same-arriving, same-leaving, FlowKept, Kept, by-leaving, same-positions, same-slot, gives-back}
-use Rattle.crossings.proofs.Kept.{credit-dated, grant-slot, credit-came, ticks-credited, ticks-requested, AskedAs, asks-so, refused-more, refused-now}
+use Rattle.crossings.proofs.OneLink.{Reached, reached-more, known, credits-by-holding, up-to-most, slot-to-come, granted-position}
+use Rattle.crossings.proofs.OneLink.{granted-later, isTurn}
+use Rattle.crossings.proofs.Kept.{NotGiven, NoGrant, same-arriving, same-leaving, FlowKept, Kept, by-leaving, same-positions, same-slot}
+use Rattle.crossings.proofs.Kept.{gives-back}
+use Rattle.crossings.proofs.Kept.{credit-dated, grant-slot, credit-came, ticks-credited, ticks-requested, AskedAs, asks-so, refused-more}
+use Rattle.crossings.proofs.Kept.{refused-now}
 
 module _ {P Q : Plan} {onward : List (Option ℕ)} (ok-P : Accepted P) (ok-Q : Accepted Q) (in-step : InStep P Q) (goes-on : Onward P Q onward) where
   -- ---- one tile
@@ -86,7 +90,8 @@ module _ {P Q : Plan} {onward : List (Option ℕ)} (ok-P : Accepted P) (ok-Q : A
       later = granted-later ok-Q {r = record { state = y .leaving .state; history = h₂ }} w v reached-out
 
       is-taken : IsTaken receipt
-      is-taken = credits-by-holding ok-P (reached-more (Call.credit i p) (k .arriving)) .0 .1 (gives-back ok-P ok-Q in-step goes-on k i j goes some-wait p below later)
+      is-taken = credits-by-holding ok-P (reached-more (Call.credit i p) (k .arriving)) .0 .1
+          (gives-back ok-P ok-Q in-step goes-on k i j goes some-wait p below later)
 
       few : i < length (x .waiting)
       few = omega (arith, k .long, goes-on .known i j goes .0, ok-P .flows-most)
@@ -164,7 +169,8 @@ module _ {P Q : Plan} {onward : List (Option ℕ)} (ok-P : Accepted P) (ok-Q : A
   pub tried-still : {extra : ℕ → ℕ} {i : ℕ} {x y : Crossing} → PassedOn extra i x y → (i' j' : ℕ) → (i' ≡ i → ⊥) → Tried i' j' x → Tried i' j' y
   tried-still {x = x} {y} z i' j' d tried some-wait =
       let before = tried (omega (arith, z .others-wait i' d)) in
-      let then : 0 < refusedThen Q j' (ticks (x .leaving .history)) (y .leaving .history) = omega (arith, before, z .refused-still j' (ticks (x .leaving .history))) in
+      let then : 0 < refusedThen Q j' (ticks (x .leaving .history)) (y .leaving .history) = omega
+      (arith, before, z .refused-still j' (ticks (x .leaving .history))) in
       subst (λ t. 0 < refusedThen Q j' t (y .leaving .history)) (sym (z .same-time)) then
 
   pub passed-none : {extra : ℕ → ℕ} {x : Crossing} (i : ℕ) → Kept P Q onward extra x → PassedOn extra i x x
@@ -185,10 +191,10 @@ module _ {P Q : Plan} {onward : List (Option ℕ)} (ok-P : Accepted P) (ok-Q : A
       h₂ : History
       h₂ = x .leaving .history
 
-      granted : Again → (v : ℕ) → answerFor j x ≡ accepted v → (let y = passOn n i j (leaves i (departureOf v) (askedFor j x)) in PassedOn extra i x y × Tried i j y)
+      granted : Again → (v : ℕ) → answerFor j x ≡ accepted v
+          → (let y = passOn n i j (leaves i (departureOf v) (askedFor j x)) in PassedOn extra i x y × Tried i j y)
       granted again v e =
-          let (z, tried) = again _ (tile-granted k i j goes (omega arith) v e) (omega (arith, one-fewer k i j goes (omega arith) v e)) in
-          (
+          let (z, tried) = again _ (tile-granted k i j goes (omega arith) v e) (omega (arith, one-fewer k i j goes (omega arith) v e)) in (
             record {
               kept = z .kept;
               others-wait = λ i' d. z .others-wait i' d ∙ getD-set-other (x .waiting) i i' (waits x i - 1) 0 d;

@@ -94,7 +94,13 @@ cameAt i n (lent m a ∷ h) = cameAt i n h
 cameAt i n (Event.reset a ∷ h) = cameAt i n h
 
 abbrev pub askingThen : Link → (j s : ℕ) → ℕ
-askingThen l j s = join (record { destination = entry (l .plan) j .destination; flow = j; quantum = flow l j .number; departure = s % positions (l .plan) })
+askingThen l j s = join (record {
+  destination = entry (l .plan) j .destination;
+  flow = j;
+  quantum = flow l j .number;
+  departure = s % positions
+      (l .plan);
+})
 
 -- of the tiles that wait, the first came before the others
 abbrev pub asCame : Habits

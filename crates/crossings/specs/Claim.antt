@@ -1,4 +1,5 @@
--- What a board keeps at a crossing, whatever the others ask of the two links. RULES 27.7 to 27.10. By calls, answers and tiles that wait. Assumes nothing.
+-- What a board keeps at a crossing, whatever the others ask of the two links. RULES 27.7 to 27.10. By calls, answers and tiles that wait. Assumes
+-- nothing.
 use Prim.Native.Nat.{ℕ, _+_, _≤_, _<_}
 use mathlib.Core.Path.{_≡_}
 use mathlib.Core.List.{List}
@@ -9,7 +10,8 @@ use Rattle.model.specs.Tables.{tally}
 use Rattle.model.specs.Word.{flowOf, quantumOf, departureOf}
 use Rattle.model.specs.Plan.{Plan, flowCount, entry, planOf, refusal}
 use Rattle.model.specs.Calls.{History}
-use Rattle.model.specs.History.{ticks, hasCome, marksOf, refusalAt, grants, credits, ofFlow, atSlot, grantedUpTo, lentUpTo, grantedInAll, expectedNumber}
+use Rattle.model.specs.History.{ticks, hasCome, marksOf, refusalAt, grants, credits, ofFlow, atSlot, grantedUpTo, lentUpTo, grantedInAll}
+use Rattle.model.specs.History.{expectedNumber}
 use Rattle.model.specs.Claim.{Each, AtRequest}
 use Rattle.arrival.specs.TakenCredits.{AtCredit, IsTaken}
 use Rattle.model.specs.TwoHops.{InStep}
@@ -37,7 +39,8 @@ pub record Crosses (P Q : Plan) (i j : ℕ) (x : Crossing) : Type 0 where
   pub taken : Each (AtCredit (λ k p a h. k ≡ i → IsTaken a)) (x .arriving .history)
   -- RULES 27.7: there is one for each tile that was granted a slot, dated that slot, in which it leaves
   pub dated : slotsOf i (credits P (x .arriving .history)) ≡ slotsOf j (grants Q (x .leaving .history))
-  -- RULES 27.8: in no slot are there more of its tiles in their cells than it has cells: those that came up to that slot, less those that left up to it
+  -- RULES 27.8: in no slot are there more of its tiles in their cells than it has cells: those that came up to that slot, less those that left up to
+  -- it
   pub within-cells : (s : ℕ)
       → grantedUpTo P (x .arriving .history) i s + lentUpTo (x .arriving .history) i s ≤ grantedUpTo Q (x .leaving .history) j s + entry P i .cells
   -- RULES 27.9: each tile that came waits or was granted a slot

@@ -39,7 +39,8 @@ slotsOne =
     ∷ record { before = []; after = [] }
     ∷ []
 
--- RULES 27.3: the tile of slot 1 is granted slot 2. That of slot 2 is refused, and waits: its cell is full, so that the in-link refuses the third. In slot 3 it is
+-- RULES 27.3: the tile of slot 1 is granted slot 2. That of slot 2 is refused, and waits: its cell is full, so that the in-link refuses the third.
+-- In slot 3 it is
 -- granted slot 4, and its cell is credited, dated that slot.
 abbrev pub outcomeOne : Outcome
 outcomeOne = record {
@@ -59,4 +60,5 @@ crossesOne b slots = played b (planOf oneCell) (planOf oneCell) onOne askFirst s
 
 -- RULES 27.8: tiles that come up to slot s + more, less those that left up to slot s
 abbrev pub WithinCellsOf : (more : ℕ) → Plan → Plan → (i j : ℕ) → Crossing → Type 0
-WithinCellsOf more P Q i j x = (s : ℕ) → grantedUpTo P (x .arriving .history) i (s + more) ≤ grantedUpTo Q (x .leaving .history) j s + entry P i .cells
+WithinCellsOf more P Q i j x = (s : ℕ)
+    → grantedUpTo P (x .arriving .history) i (s + more) ≤ grantedUpTo Q (x .leaving .history) j s + entry P i .cells

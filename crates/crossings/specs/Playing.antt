@@ -34,7 +34,8 @@ isNone (some j) = false
 abbrev pub goesOnto : Crossing → ℕ → Bool
 goesOnto x j = any (length (x .onward)) (λ i. isFlow j (goesOnAs x i))
 
--- RULES 27.6: on the in-link the board alone credits the flows that go on here, and on the out-link it alone asks for the flows that they go on as; ticks are
+-- RULES 27.6: on the in-link the board alone credits the flows that go on here, and on the out-link it alone asks for the flows that they go on as;
+-- ticks are
 -- made on both at once
 abbrev pub theirsArriving : Crossing → Call → Bool
 theirsArriving x (Call.request w) = true

@@ -27,8 +27,7 @@ returns c =
     let only = c .before .before .before .before in
     let m = only .before in
     let t = m .before .before in
-    let s = t .before .before in
-    (
+    let s = t .before .before in (
       λ p r. comes-alone _ (s .args .i) (s .pre .1) r (t .if1 .taken) (only .if2 .taken)
           (c .pass .ensures .0 _ (reads-queued _ (s .args .i) (s .pre .1) r (m .one-more .ensures))),
       c .pass .ensures .1,

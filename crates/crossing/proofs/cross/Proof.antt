@@ -26,10 +26,10 @@ serve-requires c κs =
 returns : tie.Need-returns
 returns c =
     let two = c .before .before .before .before .before .before in
-    let one = two .before .before in
-    (
-      crossed (one .before .before .pre) (one .tick .ensures .0) (one .tick .ensures .1) (two .tick2 .ensures .0) (two .tick2 .ensures .1) _ (c .serve .ensures .0)
-      refl,
+    let one = two .before .before in (
+      crossed (one .before .before .pre) (one .tick .ensures .0) (one .tick .ensures .1) (two .tick2 .ensures .0) (two .tick2 .ensures .1) _
+          (c .serve .ensures .0)
+          refl,
       c .serve .ensures .1,
     )
 

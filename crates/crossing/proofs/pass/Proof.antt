@@ -37,8 +37,7 @@ returns-2 c =
     let asked = e .before .before in
     let s = asked .before .before in
     let o = s .pre .0 in
-    let went = asked .ask .ensures in
-    (
+    let went = asked .ask .ensures in (
       λ p r. granted-one o _ _ went r (k .credit .ensures) (c .one-less .ensures) (e .if1 .left),
       credited-in-step o (s .args .i) (s .args .j) went _ (k .credit .ensures),
     )
