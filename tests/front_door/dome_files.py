@@ -261,5 +261,5 @@ def tests(programs):
         each_bad_file, each_refused_show, noise_without_end,
         a_window_that_no_link_has, what_is_printed,
         no_bound_is_told, a_show_without_streams, the_plan_files,
-        plans_of_another_show, nothing_is_written_of_a_refused_show, no_permission, wrong_words),
-        programs)
+        plans_of_another_show, nothing_is_written_of_a_refused_show,
+        no_permission, wrong_words), programs)

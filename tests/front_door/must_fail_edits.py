@@ -34,7 +34,8 @@ CRATES = {
 
 # Public functions that others are built from.
 HELPERS = {
-    "burst": {"burst_first"},           # a burst on an array, for callers
+    # a burst on an array, for callers, and one of its requests
+    "burst": {"burst_first", "reply_to"},
     "program": {"start"},               # the state before any input
     "questions": {"start"},             # likewise
     "showinput": {"start"},             # likewise

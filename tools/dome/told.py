@@ -55,9 +55,9 @@ def gained(dome):
     ahead = sum(one.ahead for one in dome.streams)
     last = sum(len(one.gains) for one in dome.streams)
     return ("%d times a tile left a link ahead of its slot, %d of them on its "
-            "last link, where it came sooner: by %d slots in all. On the links "
-            "before nothing is gained, since the next board asks by the slot "
-            "that was booked; so no booking moves." % (
+            "last link, where it came sooner: by %d slots in all. On the "
+            "links before nothing is gained, since the next board asks by the "
+            "slot that was booked; so no booking moves." % (
                 ahead, last, sum(sum(one.gains) for one in dome.streams)))
 
 

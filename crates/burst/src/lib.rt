@@ -38,7 +38,7 @@ fn window_of(link: Link) -> Window
 }
 
 // What a word's request comes to, on a state of a plan in its window.
-fn reply_to(s: &mut State, plan: Plan, w: Window, word: u32) -> Reply
+pub fn reply_to(s: &mut State, plan: Plan, w: Window, word: u32) -> Reply
     requires { ⌜ StateIn plan w (now s) ⌝ }
     ensures { λ r. ⌜ Went replyOf (paper.request (readIn plan (now (s .entry))) word) plan (now (s .exit)) r ⌝ }
 {

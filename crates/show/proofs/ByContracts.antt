@@ -20,6 +20,7 @@ use Rattle.model.proofs.WriteRefusals.{refused-writes, by-number}
 use Rattle.mesh.specs.Mesh.{Link}
 use Rattle.mesh.proofs.Admitted.{none-kept}
 use Rattle.show.specs.Show.{Show, ShowStream, usesLink, entryOn, linkPlan, used, refusal}
+use Rattle.show.specs.Promises.{Wrote}
 use Rattle.show.proofs.Claim.{planned}
 
 -- a plan without a flow
@@ -36,11 +37,6 @@ pub unused-written : (show : Show) (l : Link) (out : List ℕ) → used show l �
 unused-written show l out u =
     let P = linkPlan show l in
     refused-writes P out 2 (omega arith) (by-number P out 2 (omega arith) (no-flow P (unused-plan show l u)))
-
--- what the contract of `write` says, for a link and a buffer
-pub record Wrote (show : Show) (l : Link) (before : List ℕ) (r : Written) (after : List ℕ) : Type 0 where
-  pub answered : r ≡ answerFor (writer.written (linkPlan show l) before .answer)
-  pub left : after ≡ writer.written (linkPlan show l) before .out
 
 module _ {show : Show} {l : Link} {before after : List ℕ} {r : Written} (w : Wrote show l before r after) where
   -- a link that is used, and 76 bytes of room: its plan is written, and the reader accepts it

@@ -21,7 +21,7 @@ use Rattle.mesh.specs.Mesh.{Link}
 use Rattle.mesh.specs.Way.{In, way}
 use Rattle.show.specs.Show.{Show, showStream, flowOn, refusal}
 use Rattle.show.specs.Delay.{PassedAlong, EnoughCells, InTime, AllInTime}
-use Rattle.show.proofs.ByContracts.{Wrote}
+use Rattle.show.specs.Promises.{Wrote}
 
 -- What the code did with a link: `show::write` left its plan in a buffer, `plan::read` accepted that, `Link::fresh` made a link of it, and calls on it have
 -- these events, with no reset granted. What each handed back is as its contract says.

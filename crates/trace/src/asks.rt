@@ -10,29 +10,15 @@ ghost use mathlib.Core.Path.{_≡_};
 ghost use mathlib.Core.Bool.{cond};
 ghost use lib.Dec.{eqb};
 ghost use Rattle.model.specs.Word.{flowOf, quantumOf, departureOf, destinationOf};
-ghost use Rattle.model.specs.Request as model;
-ghost use Rattle.link.specs.Steps.{Went, replyOf};
 use crate::told::Line;
 use crate::told::Named;
 use crate::told::answer_of;
 use crate::told::put_answer;
+use burst::reply_to;
 use link::request::Reply;
-use link::request::placed;
-use link::request::request;
 use plan::Plan;
 use state::State;
 use window::Window;
-
-// What a word's request comes to.
-fn reply_to(s: &mut State, plan: Plan, w: Window, word: u32) -> Reply
-    requires { ⌜ StateIn plan w (now s) ⌝ }
-    ensures { λ r. ⌜ Went replyOf (model.request (readIn plan (now (s .entry))) word) plan (now (s .exit)) r ⌝ }
-{
-    let fields = word::split(word);
-    let i = placed(plan.count, fields.flow as usize);
-    let e = plan.entries[i];
-    request(s, plan.count, e, w, fields)
-}
 
 // The numbers of a word.
 fn word_of(kind: usize, word: u32) -> Named

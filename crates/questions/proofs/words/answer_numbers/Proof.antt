@@ -1,10 +1,19 @@
 -- `questions::words::answer_numbers` meets its contract: each word is answered by its own function. Assumes nothing.
-use mathlib.Core.Path.{sym, ap}
+use Prim.Native.Nat.{ℕ}
+use mathlib.Core.Path.{_≡_, sym, ap}
+use mathlib.Core.List.{List}
 use borrow.Author.Needs.{needs}
+use Rattle.replies.specs.Lines.{Says}
 use Rattle.replies.proofs.PutOn.{says-same}
+use Rattle.questions.specs.declared.words.NumberWord.{NumberWord}
 use Rattle.questions.specs.Answers.{answerToNumbers}
 use Rattle.questions.proofs.words.answer_numbers.Statement.{statement}
 use Rattle.questions.proofs.words.answer_numbers.Tie as tie
+
+-- where a word is told to be another, the answer to that one is its own
+as-told : {word told : NumberWord} (numbers : List ℕ) {out out′ : List ℕ} {count : ℕ} → word ≡ told → Says (answerToNumbers told numbers) out out′ count
+    → Says (answerToNumbers word numbers) out out′ count
+as-told numbers e = says-same (ap (λ w. answerToNumbers w numbers) (sym e))
 
 enum-told : tie.Need-enum-told
 enum-told c = search needs
@@ -60,9 +69,8 @@ same-length c = search needs
 returns : tie.Need-returns
 unfolding answerToNumbers
 returns c =
-    let said = c .before .before in
-    let told = said .before .before in
-    says-same (ap (λ w. answerToNumbers w (told .before .before .before .before .args .numbers .now)) (sym (told .enum-told .given .1))) (said .plan .ensures)
+    let told = c .before .before .before .before in
+    as-told _ (told .enum-told .given .1) (c .before .before .plan .ensures)
 
 same-length-2 : tie.Need-same-length-2
 same-length-2 c = search needs
@@ -70,9 +78,8 @@ same-length-2 c = search needs
 returns-2 : tie.Need-returns-2
 unfolding answerToNumbers
 returns-2 c =
-    let said = c .before .before in
-    let told = said .before .before in
-    says-same (ap (λ w. answerToNumbers w (told .before .before .before .before .args .numbers .now)) (sym (told .enum-told2 .given .1))) (said .room .ensures)
+    let told = c .before .before .before .before in
+    as-told _ (told .enum-told2 .given .1) (c .before .before .room .ensures)
 
 same-length-3 : tie.Need-same-length-3
 same-length-3 c = search needs
@@ -80,9 +87,8 @@ same-length-3 c = search needs
 returns-3 : tie.Need-returns-3
 unfolding answerToNumbers
 returns-3 c =
-    let said = c .before .before in
-    let told = said .before .before in
-    says-same (ap (λ w. answerToNumbers w (told .before .before .before .before .args .numbers .now)) (sym (told .enum-told3 .given .1))) (said .mesh .ensures)
+    let told = c .before .before .before .before in
+    as-told _ (told .enum-told3 .given .1) (c .before .before .mesh .ensures)
 
 same-length-4 : tie.Need-same-length-4
 same-length-4 c = search needs
@@ -90,9 +96,8 @@ same-length-4 c = search needs
 returns-4 : tie.Need-returns-4
 unfolding answerToNumbers
 returns-4 c =
-    let said = c .before .before in
-    let told = said .before .before in
-    says-same (ap (λ w. answerToNumbers w (told .before .before .before .before .args .numbers .now)) (sym (told .enum-told4 .given .1))) (said .mesh-over .ensures)
+    let told = c .before .before .before .before in
+    as-told _ (told .enum-told4 .given .1) (c .before .before .mesh-over .ensures)
 
 same-length-5 : tie.Need-same-length-5
 same-length-5 c = search needs
@@ -100,9 +105,8 @@ same-length-5 c = search needs
 returns-5 : tie.Need-returns-5
 unfolding answerToNumbers
 returns-5 c =
-    let said = c .before .before in
-    let told = said .before .before in
-    says-same (ap (λ w. answerToNumbers w (told .before .before .before .before .args .numbers .now)) (sym (told .enum-told5 .given .1))) (said .count .ensures)
+    let told = c .before .before .before .before in
+    as-told _ (told .enum-told5 .given .1) (c .before .before .count .ensures)
 
 same-length-6 : tie.Need-same-length-6
 same-length-6 c = search needs
@@ -110,9 +114,8 @@ same-length-6 c = search needs
 returns-6 : tie.Need-returns-6
 unfolding answerToNumbers
 returns-6 c =
-    let said = c .before .before in
-    let told = said .before .before in
-    says-same (ap (λ w. answerToNumbers w (told .before .before .before .before .args .numbers .now)) (sym (told .enum-told6 .given .1))) (said .extras .ensures)
+    let told = c .before .before .before .before in
+    as-told _ (told .enum-told6 .given .1) (c .before .before .extras .ensures)
 
 same-length-7 : tie.Need-same-length-7
 same-length-7 c = search needs
@@ -120,9 +123,8 @@ same-length-7 c = search needs
 returns-7 : tie.Need-returns-7
 unfolding answerToNumbers
 returns-7 c =
-    let said = c .before .before in
-    let told = said .before .before in
-    says-same (ap (λ w. answerToNumbers w (told .before .before .before .before .args .numbers .now)) (sym (told .enum-told7 .given .1))) (said .programme .ensures)
+    let told = c .before .before .before .before in
+    as-told _ (told .enum-told7 .given .1) (c .before .before .programme .ensures)
 
 same-length-8 : tie.Need-same-length-8
 same-length-8 c = search needs
@@ -130,9 +132,8 @@ same-length-8 c = search needs
 returns-8 : tie.Need-returns-8
 unfolding answerToNumbers
 returns-8 c =
-    let said = c .before .before in
-    let told = said .before .before in
-    says-same (ap (λ w. answerToNumbers w (told .before .before .before .before .args .numbers .now)) (sym (told .enum-told8 .given .1))) (said .delay .ensures)
+    let told = c .before .before .before .before in
+    as-told _ (told .enum-told8 .given .1) (c .before .before .delay .ensures)
 
 pub answer-numbers-spec : {M : Type 1} → statement M
 answer-numbers-spec =
