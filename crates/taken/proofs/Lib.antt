@@ -6,6 +6,7 @@ pub mod Layouts
 pub mod PlanParts
 -- a flow
 pub mod LaterPositions
+pub mod StraightRuns
 pub mod FlowFields
 pub mod FlowParts
 -- a link

@@ -1,12 +1,13 @@
 -- Loops over the numbers below a bound: a test of each that is left at the first that fails, and a sum. Assumes nothing.
-use Prim.Native.Nat.{ℕ, _+_, _≤_, _<_}
+use Prim.Native.Nat.{ℕ, zero, suc, _+_, _≤_, _<_}
 use mathlib.Core.Path.{_≡_, refl, sym, ap, _∙_}
-use mathlib.Core.Bool.{Bool, true, false, not}
+use mathlib.Core.Bool.{Bool, true, false, not, _&&_}
 use native.Mathlib.Decide.{ℕ-discrete}
 use native.Mathlib.Numerals.{add-one}
 use native.Mathlib.Omega.{arith}
-use borrow.Author.Tests.{not-true, not-false}
-use Rattle.model.specs.Tables.{every, sum}
+use lib.Dec.{eqb}
+use borrow.Author.Tests.{eq-eqb, ne-eqb, not-true, not-false}
+use Rattle.model.specs.Tables.{every, sum, bit}
 use Rattle.window.proofs.Tabulated.{every-intro, every-miss}
 
 -- ---- a test: the first k of n numbers pass
@@ -62,3 +63,33 @@ module _ {f : ℕ → ℕ} {n : ℕ} where
 
     pub counting-done : n ≤ k → (total ≡ sum n f) × (total ≤ n)
     counting-done h = let z : k ≡ n = omega (arith, v .to) in (v .is ∙ ap (λ m. sum m f) z, omega (arith, v .most))
+
+-- ---- a count of those that pass a test is the bound exactly if all do
+
+bits-most : (n : ℕ) (t : ℕ → Bool) → sum n (λ k. bit (t k)) ≤ n
+unfolding sum
+bits-most zero t = omega arith
+bits-most (suc n) t = go (t n) (bits-most n t)
+  where
+    go : (b : Bool) → sum n (λ k. bit (t k)) ≤ n → bit b + sum n (λ k. bit (t k)) ≤ suc n
+    go true h = omega arith
+    go false h = omega arith
+
+bits-all : (n : ℕ) (t : ℕ → Bool) → eqb (sum n (λ k. bit (t k))) n ≡ every n t
+unfolding sum every
+bits-all zero t = refl
+bits-all (suc n) t = go (t n) (bits-all n t)
+  where
+    s : ℕ
+    s = sum n (λ k. bit (t k))
+
+    both : Dec (s ≡ n) → eqb (1 + s) (suc n) ≡ eqb s n
+    both (yes e) = eq-eqb (1 + s) (suc n) (omega arith) ∙ sym (eq-eqb s n e)
+    both (no d) = ne-eqb (1 + s) (suc n) (λ z. d (omega arith)) ∙ sym (ne-eqb s n d)
+
+    go : (b : Bool) → eqb s n ≡ every n t → eqb (bit b + s) (suc n) ≡ b && every n t
+    go true e = both (ℕ-discrete s n) ∙ e
+    go false e = ne-eqb (0 + s) (suc n) (λ z. omega (arith, bits-most n t))
+
+pub counted-all : (t : ℕ → Bool) {n k total : ℕ} → Counting (λ j. bit (t j)) n k total → n ≤ k → eqb total n ≡ every n t
+counted-all t {n} v h = ap (λ x. eqb x n) (counting-done v h .0) ∙ bits-all n t

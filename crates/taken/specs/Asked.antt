@@ -53,3 +53,11 @@ pub record FramesOn (w : Window) (j k : ℕ) : Type 0 where
 pub record HeldOn (b : List ℕ) (owners held : ℕ) (w : Window) (i : ℕ) : Type 0 where
   pub on : OwnersOn b owners w i
   pub holdings-there : held + 2 * sizeOf w ≤ length b
+
+-- so many positions of flow i, of which the first has one before it
+pub record RunOn (b : List ℕ) (owners held count i : ℕ) : Type 0 where
+  pub flow : i < 16
+  pub few : count ≤ 256
+  pub one-before : 2 ≤ held
+  pub owners-there : owners + 2 * count ≤ length b
+  pub holdings-there : held + 2 * count ≤ length b

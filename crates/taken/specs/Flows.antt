@@ -1,5 +1,5 @@
 -- The conditions on a flow, by the places of its fields. Assumes nothing.
-use Prim.Native.Nat.{ℕ, _+_, _*_}
+use Prim.Native.Nat.{ℕ, _+_, _-_, _*_}
 use mathlib.Core.List.{List}
 use mathlib.Core.Bool.{Bool, not, _&&_, _||_}
 use lib.Dec.{leb, ltb, eqb}
@@ -27,6 +27,10 @@ frameKept b owners w i share frame j =
 abbrev pub growsAt : List ℕ → (owners held : ℕ) → Window → (i p : ℕ) → Bool
 growsAt b owners held w i p =
     not (later w p (w .current)) || leb (fieldAt b held p) (fieldAt b held (before w p) + bookingAt b i (owners + 2 * p))
+
+-- RULES 12.3: the same at the k-th of the positions whose owners and holdings stand from these places on, and which have one before them
+abbrev pub growsOn : List ℕ → (owners held i k : ℕ) → Bool
+growsOn b owners held i k = leb (fieldAt b held k) (field16 b (held + 2 * k - 2) + bookingAt b i (owners + 2 * k))
 
 -- flow i's injection frame and remainder, which stand at a place, fit its bookings
 abbrev pub spendsWell : List ℕ → (owners at : ℕ) → Window → (i share : ℕ) → Bool

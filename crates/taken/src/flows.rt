@@ -2,16 +2,16 @@
 ghost use mathlib.Core.Path.{_≡_};
 ghost use Prim.Native.Nat.{_+_, _*_, _≤_, _<_};
 ghost use lib.ListN.{length};
-ghost use lib.Dec.{leb};
 ghost use Rattle.model.specs.Tables as model;
 ghost use Rattle.plan.specs.Reading.{planFor};
 ghost use Rattle.window.specs.Window.{windowOf};
-ghost use Rattle.images.specs.Image.{fieldAt};
 ghost use Rattle.taken.specs.Flows.{frameKept, growsAt, spendsWell, holdsWell, flowKept};
 ghost use Rattle.taken.specs.Asked.{OwnersOn, FramesOn, HeldOn, PartOn, PartsOn};
 use crate::bookings::booking;
 use crate::bookings::bookings;
 use crate::layout::Layout;
+use crate::straight::at_most;
+use crate::straight::growing;
 use fields::field;
 use plan::Plan;
 use window::Window;
@@ -60,21 +60,6 @@ fn frames_kept(image: &[u8], owners: usize, w: Window, i: usize, share: usize, f
     true
 }
 
-// Whether none of so many fields from a place on is above a number.
-fn at_most(image: &[u8], at: usize, count: usize, most: usize) -> bool
-    requires { ⌜ at + 2 * count ≤ length (now image) ⌝ }
-    ensures { λ r. ⌜ r ≡ model.every count (λ p. leb (fieldAt (now (image .entry)) at p) most) ⌝ }
-{
-    let mut p = 0;
-    while p < count {
-        if most < field(image, at + 2 * p) {
-            return false;
-        }
-        p += 1;
-    }
-    true
-}
-
 // RULES 12.3: whether, where position p is later than CP, flow i holds no more there than before it, or one more if it booked p.
 fn grows_at(image: &[u8], owners: usize, held: usize, w: Window, i: usize, p: usize) -> bool
     requires { ⌜ HeldOn (now image) owners held w i × (p < w .slots * w .frames) ⌝ }
@@ -88,20 +73,25 @@ fn grows_at(image: &[u8], owners: usize, held: usize, w: Window, i: usize, p: us
     field(image, held + 2 * p) <= last + booking(image, owners + 2 * p, i)
 }
 
-// The same at every position.
+// The same at every position: of those later than CP, the ones behind it up to the last, position 0, and those up to the head frame.
 fn grows(image: &[u8], owners: usize, held: usize, w: Window, i: usize) -> bool
-    requires { ⌜ HeldOn (now image) owners held w i ⌝ }
+    requires { ⌜ HeldOn (now image) owners held w i × (2 ≤ held) ⌝ }
     ensures { λ r. ⌜ r ≡ model.every (w .slots * w .frames) (growsAt (now (image .entry)) owners held (windowOf w) i) ⌝ }
 {
     let size = w.slots * w.frames;
-    let mut p = 0;
-    while p < size {
-        if !grows_at(image, owners, held, w, i, p) {
-            return false;
-        }
-        p += 1;
+    let base = w.head * w.slots;
+    let next = w.current + 1;
+    let flow = i as u16;
+    if !growing(image, owners + 2 * next, held + 2 * next, size - next, flow) {
+        return false;
     }
-    true
+    if base == 0 {
+        return true;
+    }
+    if !grows_at(image, owners, held, w, i, 0) {
+        return false;
+    }
+    growing(image, owners + 2, held + 2, base - 1, flow)
 }
 
 // Whether the injection frame and remainder of flow i, which stand at a place, fit its bookings.
@@ -121,8 +111,8 @@ fn spends_well(image: &[u8], owners: usize, at: usize, w: Window, i: usize, shar
 }
 
 // Whether the holdings of flow i, from a place on, fit its cells and its bookings.
-fn holds_well(image: &[u8], owners: usize, held: usize, w: Window, i: usize, cells: usize) -> bool
-    requires { ⌜ HeldOn (now image) owners held w i ⌝ }
+fn holds_well(image: &[u8], owners: usize, held: usize, w: Window, i: usize, cells: u16) -> bool
+    requires { ⌜ HeldOn (now image) owners held w i × (2 ≤ held) ⌝ }
     ensures { λ r. ⌜ r ≡ holdsWell (now (image .entry)) owners held (windowOf w) i cells ⌝ }
 {
     if !at_most(image, held, w.slots * w.frames, cells) {
@@ -141,7 +131,7 @@ fn flow_kept(image: &[u8], l: Layout, plan: Plan, w: Window, i: usize) -> bool
     if !spends_well(image, l.positions, at, w, i, e.share as usize) {
         return false;
     }
-    if !holds_well(image, l.positions, at + 4, w, i, e.cells as usize) {
+    if !holds_well(image, l.positions, at + 4, w, i, e.cells as u16) {
         return false;
     }
     field(image, at + 4 + 2 * l.size) < NUMBERS

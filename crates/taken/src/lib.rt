@@ -8,6 +8,7 @@ mod flows; // the conditions on a flow
 pub mod layout; // where the parts of an image stand
 mod links; // the conditions on a link
 pub mod plans; // the plan of an image
+mod straight; // straight passes over fields
 
 use fields::field;
 use layout::HEADER;

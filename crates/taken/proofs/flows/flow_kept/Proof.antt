@@ -73,7 +73,7 @@ holds-well-requires : tie.Need-holds-well-requires
 holds-well-requires c κs =
     let f = c .before .before .before .before in
     let s = entered f in
-    held-on (s .pre .parts) _ (s .pre .flow) (f .flow .result) (f .flow .ensures .1)
+    (held-on (s .pre .parts) _ (s .pre .flow) (f .flow .result) (f .flow .ensures .1), omega arith)
 
 -- ---- after the test of what is held
 
