@@ -41,7 +41,7 @@ HELPERS = {
 # What the table above has to find, whatever else it finds.
 KNOWN = {
     "link": "fresh request credit tick lend reset",
-    "image": "fresh request credit tick lend reset",
+    "image": "fresh check request credit tick lend reset play",
     "plan": "read write", "burst": "burst", "playback": "play",
     "program": "feed finish", "planwords": "plan room read",
     "meshwords": "mesh mesh_over", "sharewords": "count",

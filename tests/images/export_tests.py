@@ -10,7 +10,7 @@ from edges import refusals_page
 from generator import burst_seeds, lend_seeds, number_seeds
 from generator.dice import Dice
 from images import (
-    by_hand, fresh_calls, numbers_by_hand, old_versions, random_lends,
+    by_hand, fresh_calls, numbers_by_hand, old_versions, plays, random_lends,
     random_numbers, random_resets, resets_by_hand)
 from images.acceptance import refusal_of, tables_of
 from images.call_files import buffer_of, difference, images_after, play
@@ -131,6 +131,12 @@ def by_chance(command, trial, seeds):
     return first(troubles(command, [trial(seed) for seed in seeds]))
 
 
+def played(command, seeds):
+    """Records, against single calls in the simulator, one after another: rules
+    12.8 and 12.10."""
+    return first(plays.troubles(command, [plays.some_play(seed) for seed in seeds]))
+
+
 def all_trials(command, count):
     """One run of the host: calls on all images by hand, and on some by
     chance."""
@@ -190,6 +196,10 @@ def tests(command, count, seed):
     for name, *given in numbers_by_hand.CALLS:
         yield "image: number, " + name, partial(one_call, command, *given)
     yield from fresh_calls.tests(command)
+    yield "image: play, by hand", partial(plays.by_hand, command)
+    yield "image: play, no room", partial(plays.no_room, command)
+    yield ("image: check of each by hand", partial(
+        plays.checked, command, [image for _, image in images_by_hand()]))
     for start in range(seed, seed + count, BATCH):
         seeds = range(start, min(start + BATCH, seed + count))
         yield ("image: calls on images by chance, from %d on" % start,
@@ -200,6 +210,11 @@ def tests(command, count, seed):
                partial(by_chance, command, random_lend, seeds))
         yield ("image: requests on images by chance, from %d on" % start,
                partial(by_chance, command, random_number, seeds))
+        yield ("image: plays on images by chance, from %d on" % start,
+               partial(played, command, seeds))
+        yield ("image: checks of images by chance, from %d on" % start,
+               partial(plays.checked, command,
+                       [any_image(Dice(each)) for each in seeds]))
     for name, family, kinds, files in LONG_RUNS:
         for number in islice(seeds_of(family, kinds, seed), files):
             yield ("image: after each call of %s, seed %d" % (name, number),

@@ -12,6 +12,10 @@
  *   l  mask (2)                    lend
  *   z                              reset
  *   s  which (1), flow (8), position (8)   a look into the buffer
+ *   k                              check
+ *   p  length (4), records, length (4), bytes
+ *                                  play; after its result, the length (4) and the
+ *                                  bytes of the second buffer are written
  *   g                              writes the length (4) and the bytes of the buffer
  *
  * Each call's result is written as 8 bytes. On both sides of a buffer and of a
@@ -108,6 +112,48 @@ static uint64_t fresh(void)
     return result;
 }
 
+static void put_bytes(struct bytes made)
+{
+    put_number(made.length, 4);
+    fwrite(made.start, 1, made.length, stdout);
+}
+
+/* nazgolv_result reads what stands there, and 16 where nothing does. */
+static void check_results(struct bytes out)
+{
+    size_t record, i;
+    for (record = 0; record < out.length / 8; record++) {
+        uint64_t result = nazgolv_result(out.start, out.length, record);
+        for (i = 0; i < 8; i++)
+            if ((result >> 8 * i & 255) != out.start[8 * record + i])
+                stop("a result is read as another");
+    }
+    if (nazgolv_result(out.start, out.length, record) != (uint64_t)16 << 32
+        || nazgolv_result(out.start, out.length, (size_t)-1) != (uint64_t)16 << 32)
+        stop("a result is read that isn't there");
+}
+
+/* A play: its result, and the numbers that it leaves. */
+static void play(void)
+{
+    struct bytes records = make(), out = make();
+    uint8_t *copy = malloc(records.length + 1);
+    if (!copy)
+        stop("no memory");
+    memcpy(copy, records.start, records.length);
+    put_number(nazgolv_play(buffer.start, buffer.length, records.start, records.length, out.start, out.length), 8);
+    put_bytes(out);
+    check_results(out);
+    if (memcmp(copy, records.start, records.length) != 0)
+        stop("the records were written");
+    check_guards(buffer);
+    check_guards(records);
+    check_guards(out);
+    free(copy);
+    free(records.memory);
+    free(out.memory);
+}
+
 static uint64_t credit(void)
 {
     uint64_t flow = number(8), position = number(8);
@@ -158,6 +204,8 @@ static uint64_t call(int letter)
         return nazgolv_reset(buffer.start, buffer.length);
     case 's':
         return see();
+    case 'k':
+        return nazgolv_check(buffer.start, buffer.length);
     }
     stop("an unknown command");
     return 0;
@@ -171,8 +219,9 @@ int main(void)
             free(buffer.memory);
             buffer = make();
         } else if (letter == 'g') {
-            put_number(buffer.length, 4);
-            fwrite(buffer.start, 1, buffer.length, stdout);
+            put_bytes(buffer);
+        } else if (letter == 'p') {
+            play();
         } else {
             put_number(call(letter), 8);
             check_guards(buffer);

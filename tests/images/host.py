@@ -55,6 +55,15 @@ class Script:
             "<BQQ", list(SEEN).index(name), flow, position))
         self.written.append(RESULT)
 
+    def check(self):
+        self.commands.append(b"k")
+        self.written.append(RESULT)
+
+    def play(self, records, out):
+        """The result, and then what it leaves in `out`."""
+        self.commands.append(b"p" + with_length(records) + with_length(out))
+        self.written += [RESULT, BUFFER]
+
     def get(self):
         self.commands.append(b"g")
         self.written.append(BUFFER)

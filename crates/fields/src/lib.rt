@@ -2,8 +2,9 @@
 ghost use mathlib.Core.Path.{_≡_};
 ghost use mathlib.Core.List.{_∷_, []};
 ghost use Prim.Native.Nat.{_+_, _*_, _≤_, _<_};
-ghost use lib.ListN.{length};
+ghost use lib.ListN.{length, getD};
 ghost use Rattle.model.specs.Plan.{field16};
+ghost use Rattle.model.specs.WrittenPlan.{AllBytes};
 ghost use Rattle.calls.specs.Lines.{Puts};
 ghost use Rattle.window.specs.Ranges.{inRange, replaced};
 ghost use Rattle.state.specs.Parts.{part};
@@ -16,6 +17,15 @@ fn wide(byte: u8) -> usize
     ensures { λ r. ⌜ (r ≡ byte) × (r < 256) ⌝ }
 {
     byte as usize
+}
+
+// The byte at a place. That each one is below 256 is so by their type; it is stated so that callers find it.
+pub fn byte(bytes: &[u8], at: usize) -> usize
+    requires { ⌜ at < length (now bytes) ⌝ }
+    ensures is { λ r. ⌜ r ≡ getD (now (bytes .entry)) at 0 ⌝ }
+    ensures all { λ r. ⌜ AllBytes (now (bytes .entry)) ⌝ }
+{
+    bytes[at] as usize
 }
 
 // The field at a place.

@@ -35,7 +35,7 @@ module _ (plan : List ℕ) where
   has Q runs {h} x =
       let made = chained plan x in
       let f = chain-follows plan (made .chain) in
-      let link-is = ap linkIn (f .image-is) ∙ read-image (kept-run P (accepted plan (f .plan-passes)) (made .calls) .kept) in
+      let link-is = ap linkIn (made .same ∙ f .image-is) ∙ read-image (kept-run P (accepted plan (f .plan-passes)) (made .calls) .kept) in
       subst (λ l. Q l h) (sym link-is) (subst (Q (run paper P (made .calls) .state)) (sym (f .history-is)) (runs (f .plan-passes) (made .calls)))
 
   -- all streams together hold at most N, in every slot

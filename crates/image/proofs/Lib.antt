@@ -1,7 +1,10 @@
--- a buffer that is turned back, and a call that is made
+-- a buffer that is turned back, a call that is made, and records that are played
 pub mod TurnedBack
 pub mod Stepping
 pub mod FreshImages
+pub mod PlayRecords
+pub mod Playing
+pub mod PlayedImages
 -- demand 3 of a host's calls, sending ahead, the next board
 pub mod Demand3
 pub mod SendingAhead

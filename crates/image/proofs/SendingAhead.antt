@@ -84,7 +84,7 @@ module _ (plan : List ℕ) where
       let l = run paper P calls .state in
       let one = calledOn c (Call.lend mask) .result in
       let two = calledOn d (Call.credit i p) .result in
-      let f = chain-follows plan (goes-on (goes-on (chained plan x .chain) c same (Call.lend mask)) d (again ∙ ap imageIn (lends .1)) (Call.credit i p)) in
+      let f = chain-follows plan (goes-on (goes-on (chained plan x .chain) c (same ∙ chained plan x .same) (Call.lend mask)) d (again ∙ ap imageIn (lends .1)) (Call.credit i p)) in
       let are = told i p mask (answerOf tt two) (credit (lend l mask .link) i p .answer) (answerOf one one) (lend l mask .answer) h (run paper P calls .history)
       (f .history-is ∙ ap (λ (q : Played paper). q .history) (two-more P calls (Call.lend mask) (Call.credit i p))) in
       let loan : lend l mask .answer ≡ accepted i = sym (are .loan) ∙ ap (λ n. answerOf n n) (sym (lends .0)) ∙ answer in

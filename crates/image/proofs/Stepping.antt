@@ -1,4 +1,5 @@
--- A call on the link of a taken image: there is room for what it hands back, and that is the exported call's. Assumes nothing.
+-- A rule on the state of a link is the call; on the link of a taken image there is room for what that leaves, and it is the exported call's.
+-- Assumes nothing.
 use Prim.Native.Nat.{ℕ, _≤_}
 use mathlib.Core.Path.{_≡_, refl, sym, ap, _∙_, subst}
 use mathlib.Core.List.{List}
@@ -22,19 +23,20 @@ use Rattle.plan.specs.declared.Plan.{Plan}
 use Rattle.link.specs.declared.request.Reply.{Reply}
 use Rattle.window.specs.declared.Window.{Window}
 use Rattle.link.specs.Given.{StateIn}
-use Rattle.link.specs.Sound.{SoundState}
 use Rattle.link.specs.Steps.{readIn, Went, numberOf, replyOf, creditAnswer, requestAnswer}
 use Rattle.link.proofs.Told.{request-told, credit-told}
+use Rattle.link.proofs.Stays.{request-current, credit-current, lend-current, reset-current, still-in}
 use Rattle.images.specs.Image.{imageLength, planIn, linkIn}
 use Rattle.images.specs.Consistent.{Keepable}
 use Rattle.images.specs.Taken.{refusalOf, Taken}
-use Rattle.images.specs.Exports.{Called, HandsBack, refusalNumber, grantNumber, receiptNumber, turnNumber, loanNumber, renewalNumber, onLink, writtenTo, handedBack, calledOn}
+use Rattle.images.specs.Exports.{Called, HandsBack, refusalNumber, grantNumber, receiptNumber, turnNumber, loanNumber, renewalNumber, done, onLink, writtenTo, handedBack, calledOn}
 use Rattle.images.proofs.Taken.{taken}
 use Rattle.images.proofs.ImageTaken.{read-kept}
 use Rattle.images.proofs.Closed.{KeptAfter}
 use Rattle.images.proofs.Exports.{done-kept}
 use Rattle.imagebytes.specs.Asked.{Writable}
 use Rattle.image.specs.Numbers.{numberFor}
+use Rattle.image.specs.Steps.{StepsTo}
 
 -- ---- the numbers of answers
 
@@ -66,50 +68,56 @@ credit-number k = go (eqb k 0) refl
     go true e = rw (eqb-true k 0 e)
     go false e = refl
 
--- ---- a rule on the state of the link in b is the call c: the state that it leaves, and its answer
+-- ---- a rule on a state is the call on its link
 
-pub record Steps (b : List ℕ) (c : Call) (p : Plan) (s : List ℕ) (a : Answer) : Type 0 where
-  pub link-is : readIn p s ≡ onLink (linkIn b) c .link
-  pub number-is : numberFor a ≡ onLink (linkIn b) c .number
-  pub sound : SoundState p s
-
-module _ {b : List ℕ} {p : Plan} {w : Window} {s₀ : List ℕ} (o : StateIn p w s₀) (e : readIn p s₀ ≡ linkIn b) where
-  stepped : {A : Type 0} {toAnswer : A → Answer} (number : A → ℕ) → ((a : A) → numberFor (toAnswer a) ≡ number a) → (call : model.Link → model.Step A)
-      → (c : Call) → onLink (linkIn b) c ≡ record { link = call (linkIn b) .link; number = number (call (linkIn b) .answer) }
-      → {s : List ℕ} {a : Answer} → Went toAnswer (call (readIn p s₀)) p s a → Steps b c p s a
-  stepped {toAnswer = toAnswer} number same call c is v = record {
-    link-is = v .link-is ∙ ap (λ x. call x .link) e ∙ ap (λ x. x .link) (sym is);
-    number-is =
-        ap numberFor (v .answer-is ∙ ap (λ x. toAnswer (call x .answer)) e) ∙ same (call (linkIn b) .answer) ∙ ap (λ x. x .number) (sym is);
-    sound = v .sound;
+module _ {p : Plan} {w : Window} {s₀ : List ℕ} (o : StateIn p w s₀) where
+  stepped : {A : Type 0} {toAnswer : A → Answer} (number : A → ℕ) → ((a : A) → numberFor (toAnswer a) ≡ number a) → (m : model.Step A)
+      → {v : Window} {s : List ℕ} {a : Answer} {r : ℕ} → Went toAnswer m p s a → StateIn p v s → r ≡ numberFor a → StepsTo (done number m) p v s r
+  stepped number same m went hand is = record {
+    link-is = went .link-is;
+    number-is = is ∙ ap numberFor (went .answer-is) ∙ same (m .answer);
+    hand = hand;
   }
 
-  pub steps-request : (x : ℕ) {s : List ℕ} {r : Reply} → Went replyOf (request.request (readIn p s₀) x) p s r
-      → Steps b (Call.request x) p s (requestAnswer x r)
-  steps-request x v = stepped grantNumber grant-number (λ l. request.request l x) (Call.request x) refl (request-told (o .sound) x v)
+  pub steps-request : (x : ℕ) {s : List ℕ} {a : Reply} {r : ℕ} → Went replyOf (request.request (readIn p s₀) x) p s a
+      → r ≡ numberFor (requestAnswer x a) → StepsTo (onLink (readIn p s₀) (Call.request x)) p w s r
+  steps-request x went =
+      stepped grantNumber grant-number (request.request (readIn p s₀) x) (request-told (o .sound) x went) (still-in o went (request-current (readIn p s₀) x))
 
-  pub steps-credit : (i q : ℕ) {s : List ℕ} {k : ℕ} → Went numberOf (credit.credit (readIn p s₀) i q) p s k → Steps b (Call.credit i q) p s (creditAnswer k)
-  steps-credit i q v = stepped receiptNumber receipt-number (λ x. credit.credit x i q) (Call.credit i q) refl (credit-told (readIn p s₀) i q v)
+  pub steps-credit : (i q : ℕ) {s : List ℕ} {k r : ℕ} → Went numberOf (credit.credit (readIn p s₀) i q) p s k
+      → r ≡ refusalNumber k → StepsTo (onLink (readIn p s₀) (Call.credit i q)) p w s r
+  steps-credit i q {k = k} went is =
+      stepped receiptNumber receipt-number (credit.credit (readIn p s₀) i q) (credit-told (readIn p s₀) i q went)
+      (still-in o went (credit-current (readIn p s₀) i q)) (is ∙ credit-number k)
 
-  pub steps-tick : {s : List ℕ} {a : Answer} → Went answerToTick (tick.tick (readIn p s₀)) p s a → Steps b Call.tick p s a
-  steps-tick = stepped turnNumber turn-number tick.tick Call.tick refl
+  pub steps-tick : {v : Window} {s : List ℕ} {a : Answer} {r : ℕ} → Went answerToTick (tick.tick (readIn p s₀)) p s a → StateIn p v s
+      → r ≡ numberFor a → StepsTo (onLink (readIn p s₀) Call.tick) p v s r
+  steps-tick = stepped turnNumber turn-number (tick.tick (readIn p s₀))
 
-  pub steps-lend : (mask : ℕ) {s : List ℕ} {a : Answer} → Went answerToLend (lend.lend (readIn p s₀) mask) p s a → Steps b (Call.lend mask) p s a
-  steps-lend mask = stepped loanNumber loan-number (λ x. lend.lend x mask) (Call.lend mask) refl
+  pub steps-lend : (mask : ℕ) {s : List ℕ} {a : Answer} {r : ℕ} → Went answerToLend (lend.lend (readIn p s₀) mask) p s a
+      → r ≡ numberFor a → StepsTo (onLink (readIn p s₀) (Call.lend mask)) p w s r
+  steps-lend mask went =
+      stepped loanNumber loan-number (lend.lend (readIn p s₀) mask) went (still-in o went (lend-current (readIn p s₀) mask))
 
-  pub steps-reset : {s : List ℕ} {a : Answer} → Went answerToReset (reset.reset (readIn p s₀)) p s a → Steps b Call.reset p s a
-  steps-reset = stepped renewalNumber renewal-number reset.reset Call.reset refl
+  pub steps-reset : {s : List ℕ} {a : Answer} {r : ℕ} → Went answerToReset (reset.reset (readIn p s₀)) p s a
+      → r ≡ numberFor a → StepsTo (onLink (readIn p s₀) Call.reset) p w s r
+  steps-reset went = stepped renewalNumber renewal-number (reset.reset (readIn p s₀)) went (still-in o went (reset-current (readIn p s₀)))
 
 -- ---- on an image that is taken
 
-module _ {b : List ℕ} (t : Taken b) {c : Call} {p : Plan} {s : List ℕ} {a : Answer} (v : Steps b c p s a) where
+-- the link that was read is the image's
+pub on-read : {l k : model.Link} → l ≡ k → (c : Call) {p : Plan} {w : Window} {s : List ℕ} {r : ℕ} → StepsTo (onLink l c) p w s r
+    → StepsTo (onLink k c) p w s r
+on-read e c {p} {w} {s} {r} v = subst (λ l. StepsTo (onLink l c) p w s r) e v
+
+module _ {b : List ℕ} (t : Taken b) (c : Call) {p : Plan} {w : Window} {s : List ℕ} {r : ℕ} (v : StepsTo (onLink (linkIn b) c) p w s r) where
   kept : KeptAfter (linkIn b) (readIn p s)
   kept = subst (KeptAfter (linkIn b)) (sym (v .link-is)) (done-kept (read-kept b t) c)
 
   pub writable : Writable p s b
   unfolding linkIn
   writable = record {
-    sound = v .sound;
+    sound = v .hand .sound;
     keepable = kept .kept;
     there = omega (arith, ap imageLength (kept .same-plan), t .total-is, t .image-there);
   }
@@ -118,9 +126,9 @@ module _ {b : List ℕ} (t : Taken b) {c : Call} {p : Plan} {s : List ℕ} {a : 
   unfolding calledOn handedBack
   called = ap (λ q. handedBack q b (onLink (linkIn b) c)) (taken b .1 t)
 
-  pub comes-to : {r : ℕ} {after : List ℕ} → r ≡ numberFor a → after ≡ writtenTo b (readIn p s) → HandsBack (calledOn b c) r after
-  comes-to number written =
+  pub comes-to : {after : List ℕ} → after ≡ writtenTo b (readIn p s) → HandsBack (calledOn b c) r after
+  comes-to written =
       let x = sym called in (
-        number ∙ v .number-is ∙ ap (λ (y : Called). y .result) x,
+        v .number-is ∙ ap (λ (y : Called). y .result) x,
         written ∙ ap (writtenTo b) (v .link-is) ∙ ap (λ (y : Called). y .buffer) x,
       )

@@ -2,9 +2,12 @@
 use Prim.Native.Nat.{ℕ}
 use mathlib.Core.Path.{_≡_}
 use mathlib.Core.List.{List, _∷_, []}
+use lib.ListN.{length}
+use Rattle.model.specs.Record.{records}
 use Rattle.model.specs.Calls.{Event, History, requested, credited, ticked, lent}
 use Rattle.images.specs.Exports.{HandsBack, freshOn, requestOn, creditOn, tickOn, lendOn, resetOn}
 use Rattle.images.specs.Chain.{answerOf, turnOf, imageIn}
+use Rattle.images.specs.Play.{PlaysBack, playOn, numbersIn, eventsOf}
 
 -- RULES 12.7: this buffer is in hand after a host's calls with the events h, of which the newest is first. Each case has what the contract of that
 -- export ensures of its number r and of the buffer after it; the event has the answer that r stands for. The next call gets any buffer with the same
@@ -21,3 +24,6 @@ pub data Hosted (plan : List ℕ) : History → List ℕ → Type 0 where
       → HandsBack (lendOn c mask) r after → Hosted plan (lent mask (answerOf r r) ∷ h) after
   by-reset : {h : History} {b : List ℕ} → Hosted plan h b → (c : List ℕ) → imageIn c ≡ imageIn b → (r : ℕ) {after : List ℕ}
       → HandsBack (resetOn c) r after → Hosted plan (Event.reset (answerOf tt r) ∷ h) after
+  -- RULES 12.10: a play is the calls that its records make, and their numbers stand in `out`
+  by-play : {h : History} {b : List ℕ} → Hosted plan h b → (c : List ℕ) → imageIn c ≡ imageIn b → (stream out : List ℕ) {after out′ : List ℕ}
+      → PlaysBack (playOn c stream out) 0 after out′ → Hosted plan (eventsOf (records stream) (numbersIn out′ (length (records stream))) h) after

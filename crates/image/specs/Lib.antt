@@ -1,2 +1,4 @@
 pub mod Numbers
+pub mod Calls
+pub mod Steps
 pub mod Hosted

@@ -1,78 +1,38 @@
 // The calls for a host in C, which keeps the link as an image in its own bytes. A number below 2 to the power 32 is what a call is
 // answered; else it is a refusal times that power.
 ghost use mathlib.Core.Path.{_≡_};
-ghost use Rattle.link.specs.Steps.{requestAnswer};
-ghost use Rattle.images.specs.Exports.{HandsBack, refusalNumber, freshOn, requestOn, creditOn, tickOn, lendOn, resetOn};
-ghost use Rattle.image.specs.Numbers.{numberFor};
-use calls::Answer;
+ghost use Rattle.images.specs.Taken.{refusalOf};
+ghost use Rattle.images.specs.Exports.{HandsBack, freshOn, requestOn, creditOn, tickOn, lendOn, resetOn};
+ghost use Rattle.images.specs.Play.{PlaysBack, playOn};
+
+mod called; // a call on an image
+mod numbers; // the number of an answer
+mod played; // the records of a play, on a state
+mod records; // a record of a play
+mod steps; // a call on a state
+
+use called::called;
 use imagebytes::read;
 use imagebytes::write;
 use link::Link;
-use link::credit::credit;
-use link::lend::lend;
-use link::request::Reply;
-use link::request::placed;
-use link::request::request;
-use link::reset::reset;
 use link::resume::empty;
-use link::tick::tick;
-use link::tick::turn;
+use numbers::refused;
+use numbers::wide;
 use plan::Verdict;
-use state::OWNERS;
+use played::play_all;
 use taken::layout::layout_of;
 use taken::refusal;
 
-fn wide(byte: u8) -> u64
-    ensures { λ r. ⌜ r ≡ byte ⌝ }
-{
-    byte as u64
-}
-
-// The number of a refusal.
-fn refused(number: u8) -> u64
-    ensures { λ r. ⌜ r ≡ refusalNumber number ⌝ }
-{
-    wide(number) * 4294967296
-}
-
-// The number of an answer.
-fn number_of(answer: Answer) -> u64
-    ensures { λ r. ⌜ r ≡ numberFor answer ⌝ }
-{
-    match answer {
-        Answer::Granted(word) => {
-            return word as u64;
-        }
-        Answer::Taken => {
-            return 0;
-        }
-        Answer::Turn(flow) => {
-            return wide(flow);
-        }
-        Answer::Idle => {
-            return 16;
-        }
-        Answer::Lent(flow) => {
-            return wide(flow);
-        }
-        Answer::Reset => {
-            return 0;
-        }
-        Answer::Refused(number) => {
-            return refused(number);
-        }
-    }
-}
-
-// The number of what a request of a word comes to.
-fn number_of_reply(word: u32, reply: Reply) -> u64
-    ensures { λ r. ⌜ r ≡ numberFor (requestAnswer word reply) ⌝ }
-{
-    let number = reply.number;
-    if number != 0 {
-        return refused(number);
-    }
-    word::depart(word, reply.position) as u64
+// A call on a link.
+pub enum Call {
+    // A request has a word.
+    Request(u32),
+    // A credit has a flow and a position.
+    Credit(usize, usize),
+    Tick,
+    // A lend has a mask.
+    Lend(u16),
+    Reset,
 }
 
 // The image of a plan's fresh link.
@@ -100,24 +60,20 @@ pub extern "C" fn nazgolv_fresh(plan: &[u8], image: &mut [u8]) -> u64
     }
 }
 
+// The refusal that a call on these bytes would give before its own tests, and 0 where they are an image that is taken: the number itself.
+#[no_mangle]
+pub extern "C" fn nazgolv_check(image: &[u8]) -> u64
+    ensures { λ r. ⌜ r ≡ refusalOf (now (image .entry)) ⌝ }
+{
+    wide(refusal(image))
+}
+
 // A word asks for a slot.
 #[no_mangle]
 pub extern "C" fn nazgolv_request(image: &mut [u8], word: u32) -> u64
     ensures { λ r. ⌜ HandsBack (requestOn (now (image .entry)) word) r (now (image .exit)) ⌝ }
 {
-    let number = refusal(image);
-    if number != 0 {
-        return refused(number);
-    }
-    let mut state = empty();
-    let kept = read(&mut state, image);
-    let plan = kept.plan;
-    let fields = word::split(word);
-    let i = placed(plan.count, fields.flow as usize);
-    let e = plan.entries[i];
-    let reply = request(&mut state, plan.count, e, kept.window, fields);
-    write(plan, &state, image);
-    number_of_reply(word, reply)
+    called(image, Call::Request(word))
 }
 
 // A flow's cell falls free from a position on.
@@ -125,16 +81,7 @@ pub extern "C" fn nazgolv_request(image: &mut [u8], word: u32) -> u64
 pub extern "C" fn nazgolv_credit(image: &mut [u8], flow: usize, position: usize) -> u64
     ensures { λ r. ⌜ HandsBack (creditOn (now (image .entry)) flow position) r (now (image .exit)) ⌝ }
 {
-    let number = refusal(image);
-    if number != 0 {
-        return refused(number);
-    }
-    let mut state = empty();
-    let kept = read(&mut state, image);
-    let plan = kept.plan;
-    let number = credit(&mut state, plan, kept.window, flow, position);
-    write(plan, &state, image);
-    refused(number)
+    called(image, Call::Credit(flow, position))
 }
 
 // The current position goes on by one.
@@ -142,18 +89,7 @@ pub extern "C" fn nazgolv_credit(image: &mut [u8], flow: usize, position: usize)
 pub extern "C" fn nazgolv_tick(image: &mut [u8]) -> u64
     ensures { λ r. ⌜ HandsBack (tickOn (now (image .entry))) r (now (image .exit)) ⌝ }
 {
-    let number = refusal(image);
-    if number != 0 {
-        return refused(number);
-    }
-    let mut state = empty();
-    let kept = read(&mut state, image);
-    let plan = kept.plan;
-    let on = tick(&mut state, plan, kept.window);
-    let next = on.current;
-    let owner = state[OWNERS + next];
-    write(plan, &state, image);
-    number_of(turn(owner))
+    called(image, Call::Tick)
 }
 
 // The current slot, when nobody booked it, goes in turn to a flow of a mask that has a quantum ready.
@@ -161,16 +97,7 @@ pub extern "C" fn nazgolv_tick(image: &mut [u8]) -> u64
 pub extern "C" fn nazgolv_lend(image: &mut [u8], mask: u16) -> u64
     ensures { λ r. ⌜ HandsBack (lendOn (now (image .entry)) mask) r (now (image .exit)) ⌝ }
 {
-    let number = refusal(image);
-    if number != 0 {
-        return refused(number);
-    }
-    let mut state = empty();
-    let kept = read(&mut state, image);
-    let plan = kept.plan;
-    let answer = lend(&mut state, plan, kept.window, mask);
-    write(plan, &state, image);
-    number_of(answer)
+    called(image, Call::Lend(mask))
 }
 
 // Every frame is recycled, when the link is quiet.
@@ -178,14 +105,25 @@ pub extern "C" fn nazgolv_lend(image: &mut [u8], mask: u16) -> u64
 pub extern "C" fn nazgolv_reset(image: &mut [u8]) -> u64
     ensures { λ r. ⌜ HandsBack (resetOn (now (image .entry))) r (now (image .exit)) ⌝ }
 {
+    called(image, Call::Reset)
+}
+
+// Records one after another: the image is tested once and written once, and each record's number goes to `out`.
+#[no_mangle]
+pub extern "C" fn nazgolv_play(image: &mut [u8], records: &[u8], out: &mut [u8]) -> u64
+    ensures { λ r. ⌜ PlaysBack (playOn (now (image .entry)) (now (records .entry)) (now (out .entry))) r (now (image .exit)) (now (out .exit)) ⌝ }
+{
     let number = refusal(image);
     if number != 0 {
         return refused(number);
     }
+    if out.len() / 8 < (records.len() + 4) / 5 {
+        return refused(19);
+    }
     let mut state = empty();
     let kept = read(&mut state, image);
     let plan = kept.plan;
-    let answer = reset(&mut state, plan, kept.window);
+    play_all(&mut state, plan, kept.window, records, out);
     write(plan, &state, image);
-    number_of(answer)
+    0
 }

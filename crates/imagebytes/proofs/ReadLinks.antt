@@ -209,6 +209,10 @@ module _ {b : List ℕ} (t : Taken b) (p : Plan) (v : Valid p) (is : planFor p �
   pub turn-most : field16 b 16 < 256
   turn-most = omega (arith, met .look-from-below, count-is p, count-few p v)
 
+  -- the latter by its low byte
+  pub turn-byte : getD b 16 0 ≡ field16 b 16
+  turn-byte = omega (arith, turn-most)
+
   -- ---- how it is read
 
   row-is : (i : ℕ) → i < p .count → (q : ℕ) → q < T → getD (rowFrom b y i) q 0 ≡ flowField b P i (2 + q)

@@ -1,5 +1,6 @@
 // A taken image read as a link.
 ghost use mathlib.Core.Path.{_≡_};
+ghost use Rattle.model.specs.WrittenPlan.{AllBytes};
 ghost use Rattle.link.specs.Given.{StateIn};
 ghost use Rattle.link.specs.Resumed.{empty};
 ghost use Rattle.link.specs.Steps.{readIn};
@@ -7,6 +8,7 @@ ghost use Rattle.images.specs.Image.{linkIn};
 ghost use Rattle.images.specs.Taken.{Taken};
 use crate::flows::read_flows;
 use crate::flows::read_held;
+use fields::byte;
 use fields::field;
 use fields::read_table;
 use link::resume::resume;
@@ -23,11 +25,12 @@ pub struct Kept {
     pub window: Window,
 }
 
-// The link of a taken image, stored to an empty state.
+// The link of a taken image, stored to an empty state. That each of its bytes is below 256 is stated so that callers find it.
 pub fn read(s: &mut State, image: &[u8]) -> Kept
     requires { ⌜ Taken (now image) × (now s ≡ empty) ⌝ }
     ensures link { λ r. ⌜ readIn (r .plan) (now (s .exit)) ≡ linkIn (now (image .entry)) ⌝ }
     ensures there { λ r. ⌜ StateIn (r .plan) (r .window) (now (s .exit)) ⌝ }
+    ensures bytes { λ r. ⌜ AllBytes (now (image .entry)) ⌝ }
 {
     let outcome = plan_in(image);
     let plan = outcome.plan;
@@ -37,7 +40,7 @@ pub fn read(s: &mut State, image: &[u8]) -> Kept
     let owner = read_table(image, l.positions, l.size, 16);
     let w = window(plan.slots, plan.frames, field(image, 12));
     let mark = field(image, 14);
-    let turn = field(image, 16);
+    let turn = byte(image, 16);
     resume(s, w, owner, mark as u8, turn as u8);
     Kept { plan, window: w }
 }

@@ -53,7 +53,7 @@ use Rattle.images.proofs.Exports.{image-in, CalledAs, called-as}
 -- ---- fresh
 
 -- a line whose number is a refusal, where there is one
-line-of-refusal : (r : ℕ) (rest : List Line) → firstOf (r when not (eqb r 0) ∷ rest) ≡ 0 → (r ≡ 0) × (firstOf rest ≡ 0)
+pub line-of-refusal : (r : ℕ) (rest : List Line) → firstOf (r when not (eqb r 0) ∷ rest) ≡ 0 → (r ≡ 0) × (firstOf rest ≡ 0)
 unfolding firstOf
 line-of-refusal zero rest e = (refl, e)
 line-of-refusal (suc r) rest e =

@@ -33,5 +33,6 @@ pub mod Answers
 pub mod Exports
 pub mod Results
 pub mod Chain
+pub mod Play
 -- edges
 pub mod ImageEdges

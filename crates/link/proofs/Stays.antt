@@ -1,7 +1,8 @@
--- A request and a credit leave the current position, and so the window of a state. Assumes nothing.
+-- A call that is no tick leaves the current position, and so the window of a state. Assumes nothing.
 use Prim.Native.Nat.{ℕ, zero, suc}
 use mathlib.Core.Path.{_≡_, refl, sym, ap, _∙_}
 use mathlib.Core.List.{List}
+use mathlib.Core.Option.{Option, some, none}
 use lib.ListN.{getD}
 use Rattle.model.specs.Window as seen
 use Rattle.model.specs.Link as model
@@ -9,6 +10,8 @@ use Rattle.model.specs.Refusals.{firstOf}
 use Rattle.model.specs.Word.{flowOf, departureOf}
 use Rattle.model.specs.Request.{Found, found, nowhere, requestTests, sought, booked, refusedAtNewest, answered, requestAfter, request}
 use Rattle.model.specs.Credit.{creditTests, lowered, creditAfter, credit}
+use Rattle.model.specs.Lend.{lend, lendAfter, lentAfter, lentTo, lendTests, firstInTurn}
+use Rattle.model.specs.Reset.{reset, resetAfter, renewed, resetTests}
 use Rattle.plan.specs.declared.Plan.{Plan}
 use Rattle.window.specs.declared.Window.{Window}
 use Rattle.window.specs.Window.{windowOf}
@@ -33,6 +36,26 @@ unfolding credit creditAfter lowered
 credit-current l i p = go (firstOf (creditTests l i p))
   where
     go : (n : ℕ) → creditAfter n l i p .link .current ≡ l .current
+    go zero = refl
+    go (suc n) = refl
+
+pub lend-current : (l : model.Link) (mask : ℕ) → lend l mask .link .current ≡ l .current
+unfolding lend lendAfter lentAfter lentTo
+lend-current l mask = go (firstOf (lendTests l mask))
+  where
+    found : (k : Option ℕ) → lentAfter l k .link .current ≡ l .current
+    found (some k) = refl
+    found none = refl
+
+    go : (n : ℕ) → lendAfter n l mask .link .current ≡ l .current
+    go zero = found (firstInTurn l mask)
+    go (suc n) = refl
+
+pub reset-current : (l : model.Link) → reset l .link .current ≡ l .current
+unfolding reset resetAfter renewed
+reset-current l = go (firstOf (resetTests l))
+  where
+    go : (n : ℕ) → resetAfter n l .link .current ≡ l .current
     go zero = refl
     go (suc n) = refl
 

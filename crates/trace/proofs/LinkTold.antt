@@ -2,7 +2,6 @@
 use Prim.Native.Nat.{ℕ, zero, suc, _+_, _-_, _*_, _%_, _≤_, _<_}
 use mathlib.Core.Path.{_≡_, refl, sym, ap, _∙_}
 use mathlib.Core.List.{List, _∷_, [], _++_, append-nil}
-use mathlib.Core.Option.{Option, some, none}
 use mathlib.Core.Bool.{Bool, true, false, not, cond}
 use native.Mathlib.Decide.{ℕ-discrete}
 use native.Mathlib.Nat.{mod-lt}
@@ -17,8 +16,6 @@ use Rattle.model.specs.Link as model
 use Rattle.model.specs.Refusals.{firstOf}
 use Rattle.model.specs.Credit.{creditTests, credit, creditAfter}
 use Rattle.model.specs.Tick.{nextPosition}
-use Rattle.model.specs.Lend.{lend, lendAfter, lentAfter, lentTo, lendTests, firstInTurn}
-use Rattle.model.specs.Reset.{reset, resetAfter, renewed, resetTests}
 use Rattle.model.proofs.Tests.{line-passed}
 use Rattle.plan.specs.declared.Plan.{Plan}
 use Rattle.plan.specs.Reading.{Valid, planFor, entryFor, noEntry}
@@ -71,28 +68,6 @@ line-told letter number value kind a b c d l i p e = ap (λ (xs : List ℕ). lin
 pub answered-as : (l : model.Link) {a a′ : Said} {c c′ : Named} {i i′ p p′ : ℕ} → a ≡ a′ → c ≡ c′ → i ≡ i′ → p ≡ p′
     → answered (a .letter) (a .number) (a .value) (namedNumbers c) l i p ≡ answered (a′ .letter) (a′ .number) (a′ .value) (namedNumbers c′) l i′ p′
 answered-as l e f g h = λ k. answered (e k .letter) (e k .number) (e k .value) (namedNumbers (f k)) l (g k) (h k)
-
--- ---- CP after a lend and a reset
-
-pub lend-current : (l : model.Link) (mask : ℕ) → lend l mask .link .current ≡ l .current
-unfolding lend lendAfter lentAfter lentTo
-lend-current l mask = go (firstOf (lendTests l mask))
-  where
-    found : (k : Option ℕ) → lentAfter l k .link .current ≡ l .current
-    found (some k) = refl
-    found none = refl
-
-    go : (n : ℕ) → lendAfter n l mask .link .current ≡ l .current
-    go zero = found (firstInTurn l mask)
-    go (suc n) = refl
-
-pub reset-current : (l : model.Link) → reset l .link .current ≡ l .current
-unfolding reset resetAfter renewed
-reset-current l = go (firstOf (resetTests l))
-  where
-    go : (n : ℕ) → resetAfter n l .link .current ≡ l .current
-    go zero = refl
-    go (suc n) = refl
 
 -- ---- a credit that is taken is dated a position
 

@@ -8,7 +8,7 @@ use Rattle.plan.specs.Reading.{planFor, Valid}
 use Rattle.images.specs.Image.{planIn}
 use Rattle.link.proofs.Resumed.{whole-empty}
 use Rattle.taken.proofs.Refusals.{is-accepted, plan-is}
-use Rattle.imagebytes.proofs.ReadLinks.{owners-on, flows-on, holdings-on, measures-read, mark-most, turn-most, whole-flows, nothing-yet, whole-held, made-link, made-in}
+use Rattle.imagebytes.proofs.ReadLinks.{owners-on, flows-on, holdings-on, measures-read, mark-most, turn-byte, whole-flows, nothing-yet, whole-held, made-link, made-in}
 use Rattle.imagebytes.proofs.reading.read.Statement.{statement}
 use Rattle.imagebytes.proofs.reading.read.Tie as tie
 
@@ -29,7 +29,7 @@ flows-at c = c .before .before
 abbrev held-at : tie.After-field → tie.After-read-held
 held-at c = c .before .before
 
-abbrev current-at : tie.After-field3 → tie.After-field
+abbrev current-at : tie.After-byte → tie.After-field
 current-at c = c .before .before .before
 
 module _ (c : tie.After-plan-in) where
@@ -82,8 +82,8 @@ window-requires c κs =
 field-requires-2 : tie.Need-field-requires-2
 field-requires-2 c κs = search needs
 
-field-requires-3 : tie.Need-field-requires-3
-field-requires-3 c κs = search needs
+byte-requires : tie.Need-byte-requires
+byte-requires c κs = search needs
 
 cast-resume : tie.Need-cast-resume
 cast-resume c =
@@ -95,9 +95,7 @@ cast-resume c =
 cast-resume-2 : tie.Need-cast-resume-2
 cast-resume-2 c =
     let t = c .before in
-    let y = laid-at (flows-at (held-at (current-at t))) in
-    let r = read-at y in
-    omega (arith, t .field3 .ensures .0, turn-most (entered r .pre .0) (plan-at r) (valid-at r) (plan-here r) _ (y .layout-of .ensures))
+    omega (arith, t .byte .ensures .0, t .byte .ensures .1 .byte 16)
 
 resume-requires : tie.Need-resume-requires
 resume-requires c κs =
@@ -118,11 +116,15 @@ returns c =
     let f = flows-at h in
     let y = laid-at f in
     let r = read-at y in
-    let w = t .before .before in (
+    let w = t .before .before in
+    let turn = t .byte .ensures .0 ∙ turn-byte (entered r .pre .0) (plan-at r) (valid-at r) (plan-here r) _ (y .layout-of .ensures) in (
       made-link (entered r .pre .0) (plan-at r) (valid-at r) (plan-here r) _ (y .layout-of .ensures) (entered r .pre .1) (f .read-flows .ensures) (h .read-held .ensures)
-          (k .field .ensures .0) (w .window .ensures .0) (k .before .read-table .ensures) (t .before .field2 .ensures .0) (t .field3 .ensures .0) (c .resume .ensures),
-      made-in (entered r .pre .0) (plan-at r) (valid-at r) (plan-here r) _ (y .layout-of .ensures) (entered r .pre .1) (f .read-flows .ensures) (h .read-held .ensures)
-          (k .field .ensures .0) (w .window .ensures .0) (k .before .read-table .ensures) (t .before .field2 .ensures .0) (t .field3 .ensures .0) (c .resume .ensures) (w .window .ensures .1),
+          (k .field .ensures .0) (w .window .ensures .0) (k .before .read-table .ensures) (t .before .field2 .ensures .0) turn (c .resume .ensures),
+      (
+        made-in (entered r .pre .0) (plan-at r) (valid-at r) (plan-here r) _ (y .layout-of .ensures) (entered r .pre .1) (f .read-flows .ensures) (h .read-held .ensures)
+            (k .field .ensures .0) (w .window .ensures .0) (k .before .read-table .ensures) (t .before .field2 .ensures .0) turn (c .resume .ensures) (w .window .ensures .1),
+        t .byte .ensures .1,
+      ),
     )
 
 pub read-spec : {M : Type 1} → statement M
@@ -137,7 +139,7 @@ read-spec =
     field-requires
     window-requires
     field-requires-2
-    field-requires-3
+    byte-requires
     cast-resume
     cast-resume-2
     resume-requires

@@ -4,10 +4,10 @@ use native.Mathlib.Omega.{arith}
 use mathlib.Core.Path.{_≡_, refl, sym, ap, _∙_}
 use mathlib.Core.Bool.{cond}
 use lib.Dec.{eqb}
-use Rattle.link.proofs.Stays.{still-in}
+use Rattle.link.proofs.Stays.{lend-current, still-in}
 use Rattle.trace.specs.Trace.{tracedLend, lendLine}
 use Rattle.trace.proofs.Numbers.{lines-as}
-use Rattle.trace.proofs.LinkTold.{current-few, answered-as, count-told, current-told, lend-current}
+use Rattle.trace.proofs.LinkTold.{current-few, answered-as, count-told, current-told}
 use Rattle.trace.proofs.lends.hand_on.Statement.{statement}
 use Rattle.trace.proofs.lends.hand_on.Tie as tie
 

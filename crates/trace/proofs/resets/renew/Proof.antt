@@ -2,10 +2,10 @@
 use borrow.Author.Needs.{needs}
 use native.Mathlib.Omega.{arith}
 use mathlib.Core.Path.{_≡_, refl, sym, ap, _∙_}
-use Rattle.link.proofs.Stays.{still-in}
+use Rattle.link.proofs.Stays.{reset-current, still-in}
 use Rattle.trace.specs.Trace.{resetLines, tracedReset}
 use Rattle.trace.proofs.Numbers.{lines-as, lines-then}
-use Rattle.trace.proofs.LinkTold.{current-few, answered-as, count-told, current-told, reset-current, reset-alone, reset-all}
+use Rattle.trace.proofs.LinkTold.{current-few, answered-as, count-told, current-told, reset-alone, reset-all}
 use Rattle.trace.proofs.resets.renew.Statement.{statement}
 use Rattle.trace.proofs.resets.renew.Tie as tie
 

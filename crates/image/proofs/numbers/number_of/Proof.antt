@@ -1,9 +1,9 @@
--- `image::number_of` meets its contract, arm by arm. Assumes nothing.
+-- `image::numbers::number_of` meets its contract, arm by arm. Assumes nothing.
 use borrow.Author.Needs.{needs}
 use mathlib.Core.Path.{sym, ap, _∙_}
 use Rattle.image.specs.Numbers.{numberFor}
-use Rattle.image.proofs.number_of.Statement.{statement}
-use Rattle.image.proofs.number_of.Tie as tie
+use Rattle.image.proofs.numbers.number_of.Statement.{statement}
+use Rattle.image.proofs.numbers.number_of.Tie as tie
 
 enum-known-answer : tie.Need-enum-known-answer
 enum-known-answer c = search needs

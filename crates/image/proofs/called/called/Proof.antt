@@ -1,14 +1,11 @@
--- `image::nazgolv_credit` meets its contract. Assumes nothing.
+-- `image::called::called` meets its contract. Assumes nothing.
 use borrow.Author.Needs.{needs}
-use mathlib.Core.Path.{_∙_}
-use Rattle.model.specs.Calls.{Call}
 use Rattle.images.specs.Taken.{Taken}
+use Rattle.image.specs.Calls.{callFor}
 use Rattle.image.proofs.TurnedBack.{turned, is-taken}
-use Rattle.image.proofs.Stepping.{credit-number, steps-credit, writable, comes-to}
-use Rattle.image.proofs.nazgolv_credit.Statement.{statement}
-use Rattle.image.proofs.nazgolv_credit.Tie as tie
-
--- ---- the places of its code
+use Rattle.image.proofs.Stepping.{on-read, writable, comes-to}
+use Rattle.image.proofs.called.called.Statement.{statement}
+use Rattle.image.proofs.called.called.Tie as tie
 
 -- where the function is entered, where the buffer was tested, and where the image was read
 abbrev entered : tie.After-refusal → tie.Start
@@ -17,13 +14,11 @@ entered c = c .before .before .before
 abbrev tested-at : tie.After-read → tie.Else1
 tested-at c = c .before .before .before .before
 
-abbrev read-at : tie.After-credit → tie.After-read
+abbrev read-at : tie.After-step → tie.After-read
 read-at c = c .before .before .before
 
 taken-at : (c : tie.Else1) → Taken (entered (c .before) .args .image .now)
 taken-at c = is-taken (c .before .refusal .ensures) (c .if1 .left)
-
--- ---- the needs
 
 refusal-requires : tie.Need-refusal-requires
 refusal-requires c κs = search needs
@@ -37,8 +32,7 @@ same-length c = search needs
 returns : tie.Need-returns
 returns c =
     let t = c .before in
-    let s = entered (t .before) .args in
-    turned (t .before .refusal .ensures) (Call.credit (s .flow) (s .position)) (t .if1 .taken) (c .refused .ensures)
+    turned (t .before .refusal .ensures) (callFor (entered (t .before) .args .call)) (t .if1 .taken) (c .refused .ensures)
 
 empty-requires : tie.Need-empty-requires
 empty-requires c κs = search needs
@@ -46,32 +40,29 @@ empty-requires c κs = search needs
 read-requires : tie.Need-read-requires
 read-requires c κs = let e = c .before .before in (taken-at (e .before), e .empty .ensures)
 
-credit-requires : tie.Need-credit-requires
-credit-requires c κs = c .before .before .read .ensures .1
+step-requires : tie.Need-step-requires
+step-requires c κs = c .before .before .read .ensures .1 .0
 
 write-requires : tie.Need-write-requires
 write-requires c κs =
     let x = c .before .before in
     let r = read-at x in
-    let s = entered (tested-at r .before) .args in
-    writable (taken-at (tested-at r)) (steps-credit (r .read .ensures .1) (r .read .ensures .0) (s .flow) (s .position) (x .credit .ensures))
-
-refused-requires-2 : tie.Need-refused-requires-2
-refused-requires-2 c κs = search needs
+    let call = callFor (entered (tested-at r .before) .args .call) in
+    writable (taken-at (tested-at r)) call (on-read (r .read .ensures .0) call (x .step .ensures))
 
 same-length-2 : tie.Need-same-length-2
 same-length-2 c = search needs
 
 returns-2 : tie.Need-returns-2
 returns-2 c =
-    let w = c .before .before .before in
+    let w = c .before .before in
     let x = w .before .before .before in
     let r = read-at x in
-    let s = entered (tested-at r .before) .args in
-    comes-to (taken-at (tested-at r)) (steps-credit (r .read .ensures .1) (r .read .ensures .0) (s .flow) (s .position) (x .credit .ensures)) (c .refused2 .ensures ∙ credit-number (x .credit .result)) (w .write .ensures)
+    let call = callFor (entered (tested-at r .before) .args .call) in
+    comes-to (taken-at (tested-at r)) call (on-read (r .read .ensures .0) call (x .step .ensures)) (w .write .ensures)
 
-pub nazgolv-credit-spec : {M : Type 1} → statement M
-nazgolv-credit-spec =
+pub called-spec : {M : Type 1} → statement M
+called-spec =
     tie.close
     (tie.spec
     refusal-requires
@@ -80,8 +71,7 @@ nazgolv-credit-spec =
     returns
     empty-requires
     read-requires
-    credit-requires
+    step-requires
     write-requires
-    refused-requires-2
     same-length-2
     returns-2)

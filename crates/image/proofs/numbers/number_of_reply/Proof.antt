@@ -1,8 +1,8 @@
--- `image::number_of_reply` meets its contract. Assumes nothing.
+-- `image::numbers::number_of_reply` meets its contract. Assumes nothing.
 use borrow.Author.Needs.{needs}
 use borrow.Author.Tests.{eq-eqb, ne-eqb}
-use Rattle.image.proofs.number_of_reply.Statement.{statement}
-use Rattle.image.proofs.number_of_reply.Tie as tie
+use Rattle.image.proofs.numbers.number_of_reply.Statement.{statement}
+use Rattle.image.proofs.numbers.number_of_reply.Tie as tie
 
 refused-requires : tie.Need-refused-requires
 refused-requires c κs = search needs

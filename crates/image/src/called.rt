@@ -1,0 +1,26 @@
+// A call on an image: the same for each export.
+ghost use Rattle.images.specs.Exports.{HandsBack, calledOn};
+ghost use Rattle.image.specs.Calls.{callFor};
+use crate::Call;
+use crate::numbers::refused;
+use crate::steps::step;
+use imagebytes::read;
+use imagebytes::write;
+use link::resume::empty;
+use taken::refusal;
+
+// Reads a taken image, makes the call on its link, and writes what that leaves.
+pub(crate) fn called(image: &mut [u8], call: Call) -> u64
+    ensures { λ r. ⌜ HandsBack (calledOn (now (image .entry)) (callFor call)) r (now (image .exit)) ⌝ }
+{
+    let number = refusal(image);
+    if number != 0 {
+        return refused(number);
+    }
+    let mut state = empty();
+    let kept = read(&mut state, image);
+    let plan = kept.plan;
+    let moved = step(&mut state, plan, kept.window, call);
+    write(plan, &state, image);
+    moved.number
+}

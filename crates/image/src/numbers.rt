@@ -1,0 +1,60 @@
+// The number that stands for an answer.
+ghost use mathlib.Core.Path.{_≡_};
+ghost use Rattle.link.specs.Steps.{requestAnswer};
+ghost use Rattle.images.specs.Exports.{refusalNumber};
+ghost use Rattle.image.specs.Numbers.{numberFor};
+use calls::Answer;
+use link::request::Reply;
+
+pub(crate) fn wide(byte: u8) -> u64
+    ensures { λ r. ⌜ r ≡ byte ⌝ }
+{
+    byte as u64
+}
+
+// The number of a refusal.
+pub(crate) fn refused(number: u8) -> u64
+    ensures { λ r. ⌜ r ≡ refusalNumber number ⌝ }
+{
+    wide(number) * 4294967296
+}
+
+// The number of an answer.
+pub(crate) fn number_of(answer: Answer) -> u64
+    ensures { λ r. ⌜ r ≡ numberFor answer ⌝ }
+{
+    match answer {
+        Answer::Granted(word) => {
+            return word as u64;
+        }
+        Answer::Taken => {
+            return 0;
+        }
+        Answer::Turn(flow) => {
+            return wide(flow);
+        }
+        Answer::Idle => {
+            return 16;
+        }
+        Answer::Lent(flow) => {
+            return wide(flow);
+        }
+        Answer::Reset => {
+            return 0;
+        }
+        Answer::Refused(number) => {
+            return refused(number);
+        }
+    }
+}
+
+// The number of what a request of a word comes to.
+pub(crate) fn number_of_reply(word: u32, reply: Reply) -> u64
+    ensures { λ r. ⌜ r ≡ numberFor (requestAnswer word reply) ⌝ }
+{
+    let number = reply.number;
+    if number != 0 {
+        return refused(number);
+    }
+    word::depart(word, reply.position) as u64
+}
