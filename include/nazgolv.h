@@ -29,8 +29,8 @@
  * What a caller owes:
  *
  *   pointers    each has the stated number of bytes behind it, and none is NULL,
- *               not even with a length of 0; the plan's bytes and the image
- *               don't overlap
+ *               not even with a length of 0; the buffers of one call don't
+ *               overlap
  *   one image   what a call left is given to the next one, whole and unchanged.
  *               An image that was changed, or that was gone back to, may be
  *               taken too; then nothing is promised of the whole list of calls
@@ -44,11 +44,13 @@
  *               Bytes below the caller, measured on flights/sparse:
  *
  *                   nazgolv_fresh     11,200
- *                   nazgolv_request    7,500
+ *                   nazgolv_request    7,300
  *                   nazgolv_credit     7,300
- *                   nazgolv_tick       7,400
- *                   nazgolv_lend       7,400
- *                   nazgolv_reset      7,500
+ *                   nazgolv_tick       7,300
+ *                   nazgolv_lend       7,300
+ *                   nazgolv_reset      7,300
+ *                   nazgolv_play       7,400
+ *                   nazgolv_check      1,900
  *
  * Of the C library memcpy and memset are needed, and no other thing.
  */
@@ -145,7 +147,8 @@ const char *nazgolv_version(void);
 
 /*
  * A result is a refusal, times 2 to the power 32, or else the call's value: 0
- * for fresh, credit and reset, the word for request, the flow for tick and lend.
+ * for fresh, credit, reset and play, the word for request, the flow for tick and
+ * lend. A check's number is no result.
  */
 #define NAZGOLV_REFUSAL(result) ((uint32_t)((result) >> 32))
 #define NAZGOLV_VALUE(result) ((uint32_t)((result) & 0xFFFFFFFFu))
@@ -169,8 +172,10 @@ const char *nazgolv_version(void);
 #define NAZGOLV_REFUSED_POSITION 13         /* credit: the position is none */
 #define NAZGOLV_REFUSED_PASSED 14           /* credit: the position is not to come */
 #define NAZGOLV_REFUSED_HOLDING 15          /* credit: 0 is held there or at some later position */
+#define NAZGOLV_REFUSED_RECORD 16           /* play: the record makes no call */
 #define NAZGOLV_REFUSED_TAKEN 17            /* lend: the slot is booked or marked taken */
 #define NAZGOLV_REFUSED_TAKERS 18           /* lend: no flow of the mask can take it */
+#define NAZGOLV_REFUSED_ROOM 19             /* play: no eight bytes for each record */
 #define NAZGOLV_REFUSED_NOT_COME 20         /* request: no position after the departure */
 #define NAZGOLV_REFUSED_SHORT 21            /* the buffer is shorter than the image */
 #define NAZGOLV_REFUSED_IMAGE 22            /* the bytes are no image of a link */
@@ -241,9 +246,16 @@ uint64_t nazgolv_fresh(const uint8_t *plan, size_t plan_length,
  * handed over whole is never refused so.
  *
  * Of the other refusals 11, 12 and 20 change the image: the flow's IF is then the
- * newest frame, and C what is left there. 8 to 10, 13 to 15, 17, 18, 23 and 24
- * leave it as it was.
+ * newest frame, and C what is left there. 8 to 10, 13 to 19, 23 and 24 leave it
+ * as it was.
  */
+
+/*
+ * Whether bytes are an image that the other calls take: 0, 21 or 22. It is the
+ * number itself, and no result: hand it to nazgolv_why as it is. The bytes are
+ * read alone, and may be where nothing can be written.
+ */
+uint64_t nazgolv_check(const uint8_t *image, size_t image_length);
 
 /*
  * Asks for a slot. The word with the position that is booked as its departure,
@@ -286,6 +298,37 @@ uint64_t nazgolv_lend(uint8_t *image, size_t image_length, uint16_t mask);
  * nothing.
  */
 uint64_t nazgolv_reset(uint8_t *image, size_t image_length);
+
+/*
+ * Many calls by one: records of five bytes, numbers with their low byte first.
+ *
+ *   1, a word                                  request
+ *   2, a flow, a position in two bytes, 0      credit
+ *   3, 0, 0, 0, 0                              tick
+ *   4, a mask in two bytes, 0, 0               lend
+ *   5, 0, 0, 0, 0                              reset
+ *
+ * The image is read and tested once, and written once. Results and bytes are
+ * those of the single calls, one after another: out gets the result of each
+ * record, NAZGOLV_RESULT bytes, the low one first, which nazgolv_result reads.
+ * A record that makes no call has refusal 16 there: one of another kind, with a
+ * filler that isn't 0, or a last one of fewer than five bytes.
+ *
+ * 0 where all records were played, or 21 or 22, or 19 where out is shorter than
+ * NAZGOLV_PLAY_LENGTH(records_length); then nothing is played, and nothing is
+ * written. Bytes of out past the results keep their values. The three buffers
+ * don't overlap.
+ */
+#define NAZGOLV_RECORD 5
+#define NAZGOLV_RESULT 8
+#define NAZGOLV_PLAY_LENGTH(records_length) \
+    (NAZGOLV_RESULT * (((size_t)(records_length) + NAZGOLV_RECORD - 1) / NAZGOLV_RECORD))
+uint64_t nazgolv_play(uint8_t *image, size_t image_length,
+                      const uint8_t *records, size_t records_length,
+                      uint8_t *out, size_t out_length);
+
+/* The result of a record, counted from 0 on; 16 as a refusal where out has none. */
+uint64_t nazgolv_result(const uint8_t *out, size_t out_length, size_t record);
 
 #ifdef __cplusplus
 }

@@ -1,6 +1,7 @@
 /*
  * What the library has besides the proved calls: the version, the symbol by which
- * a header of other images isn't linked, and a look into an image.
+ * a header of other images isn't linked, and a look into an image and into what
+ * a play leaves.
  *
  * An image's header says where its parts are and how many positions and flows
  * there are. What is read lies below the total length that it states, and that
@@ -67,6 +68,18 @@ static uint32_t of_flow(const uint8_t *image, size_t length, size_t flow, size_t
         return NAZGOLV_NONE;
     return field(image, length, two_bytes(image + PARTS)
                  + 2 * (flow * (3 + (size_t)two_bytes(image + POSITION_COUNT)) + place));
+}
+
+/* ---- a play's results */
+
+uint64_t nazgolv_result(const uint8_t *out, size_t out_length, size_t record)
+{
+    const uint8_t *at;
+    if (record >= out_length / NAZGOLV_RESULT)
+        return (uint64_t)NAZGOLV_REFUSED_RECORD << 32;
+    at = out + record * NAZGOLV_RESULT;
+    return two_bytes(at) | (uint64_t)two_bytes(at + 2) << 16
+        | (uint64_t)two_bytes(at + 4) << 32 | (uint64_t)two_bytes(at + 6) << 48;
 }
 
 /* ---- the link and its plan */

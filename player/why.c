@@ -54,8 +54,9 @@ static const char *const sentences[] = {
     "no flow of the lend's mask can take the slot: each holds all of its cells at the current or a later "
     "position, or the mask is empty; what to do: wait for credits",
     /* 19 */
-    "the buffer that is to take the plan is shorter than the plan, which has 12 + 4n bytes; what to do: "
-    "lend a buffer of 76 bytes, which takes any plan",
+    "the buffer that is to take the plan is shorter than the plan, which has 12 + 4n bytes; of "
+    "nazgolv_play, the buffer for its numbers has fewer than eight bytes for each record; what to do: "
+    "lend a buffer of 76 bytes, which takes any plan; for a play, eight bytes for each record",
     /* 20 */
     "the tile is still to come: the word's departure is later than the current position, and the newest "
     "frame has positions that would be valid, but none of them later than it; what to do: ask again in "

@@ -12,12 +12,15 @@ IMAGES = 4                      # the version of the images
 NAME = "libnazgolv.so.%d" % IMAGES
 IMAGE_MAX = 8894
 IDLE, NONE = 16, 0xFFFFFFFF
+RECORD, RESULT = 5, 8           # bytes
 RESULTS = {                     # of each call, and the types of what follows the image
     "request": (c_uint64, [c_uint32]),
     "credit": (c_uint64, [c_size_t, c_size_t]),
     "tick": (c_uint64, []),
     "lend": (c_uint64, [c_uint16]),
     "reset": (c_uint64, []),
+    "check": (c_uint64, []),
+    "play": (c_uint64, [c_char_p, c_size_t, c_char_p, c_size_t]),
     "current": (c_uint32, []),
     "destination": (c_uint32, [c_size_t]),
     "number": (c_uint32, [c_size_t]),
@@ -87,11 +90,11 @@ class Link:
     """One link.  Two threads don't call on one link at once."""
 
     def __init__(self, image):
-        """Of an image that was stored or sent; a tick on a copy tells whether
-        it is taken."""
-        for buffer in range(2):
-            self.buffer = create_string_buffer(bytes(image), len(image))
-            buffer or self.tick()
+        """Of an image that was stored or sent."""
+        self.buffer = create_string_buffer(bytes(image), len(image))
+        refusal = self._call("check")
+        if refusal:
+            raise Refused(refusal)
 
     @classmethod
     def fresh(cls, plan):
@@ -136,6 +139,17 @@ class Link:
     def reset(self):
         """Lets every flow start again, where the link is quiet."""
         value(self._call("reset"))
+
+    def play(self, records):
+        """Many calls by one, as records of five bytes: the value of each, and
+        for one that is refused a Refused, which is not raised."""
+        out = create_string_buffer(RESULT * -(-len(records) // RECORD))
+        value(LIBRARY.nazgolv_play(self.buffer, len(self.buffer),
+                                   bytes(records), len(records), out, len(out)))
+        results = [int.from_bytes(out.raw[at:at + RESULT], "little")
+                   for at in range(0, len(out), RESULT)]
+        return [Refused(result >> 32) if result >> 32 else result
+                for result in results]
 
     def current(self):
         """CP, the current position: the departure of a tile that has come."""

@@ -17,6 +17,11 @@ extern "C" {
     fn nazgolv_tick(image: *mut u8, length: usize) -> u64;
     fn nazgolv_lend(image: *mut u8, length: usize, mask: u16) -> u64;
     fn nazgolv_reset(image: *mut u8, length: usize) -> u64;
+    fn nazgolv_check(image: *const u8, length: usize) -> u64;
+    fn nazgolv_play(
+        image: *mut u8, length: usize, records: *const u8, records_length: usize,
+        out: *mut u8, out_length: usize,
+    ) -> u64;
     fn nazgolv_current(image: *const u8, length: usize) -> u32;
     fn nazgolv_destination(image: *const u8, length: usize, flow: usize) -> u32;
     fn nazgolv_number(image: *const u8, length: usize, flow: usize) -> u32;
@@ -29,6 +34,8 @@ extern "C" {
 static IMAGES: unsafe extern "C" fn() = nazgolv_images_4;
 
 const IMAGE_MAX: usize = 8894;
+const RECORD: usize = 5;
+const RESULT: usize = 8;
 const IDLE: u32 = 16;
 const NONE: u32 = u32::MAX;
 
@@ -37,19 +44,19 @@ const NONE: u32 = u32::MAX;
 pub enum Refusal {
     PlanLength, PlanCounts, PlanFrame, PlanEntry, PlanPair, PlanShares, PlanCells,
     Flow, Destination, Departure, Share, Full, Position, Passed, Holding,
-    Record, Taken, Takers, NotCome, Short, Image, NotQuiet, Number,
+    Record, Taken, Takers, Room, NotCome, Short, Image, NotQuiet, Number,
     Other(u32),
 }
 
-const REFUSALS: [(u32, Refusal); 23] = [
+const REFUSALS: [(u32, Refusal); 24] = [
     (1, Refusal::PlanLength), (2, Refusal::PlanCounts), (3, Refusal::PlanFrame),
     (4, Refusal::PlanEntry), (5, Refusal::PlanPair), (6, Refusal::PlanShares),
     (7, Refusal::PlanCells), (8, Refusal::Flow), (9, Refusal::Destination),
     (10, Refusal::Departure), (11, Refusal::Share), (12, Refusal::Full),
     (13, Refusal::Position), (14, Refusal::Passed), (15, Refusal::Holding),
     (16, Refusal::Record), (17, Refusal::Taken), (18, Refusal::Takers),
-    (20, Refusal::NotCome), (21, Refusal::Short), (22, Refusal::Image),
-    (23, Refusal::NotQuiet), (24, Refusal::Number),
+    (19, Refusal::Room), (20, Refusal::NotCome), (21, Refusal::Short),
+    (22, Refusal::Image), (23, Refusal::NotQuiet), (24, Refusal::Number),
 ];
 
 impl Refusal {
@@ -119,11 +126,12 @@ impl Link {
         Ok(Link { image })
     }
 
-    /// The link of an image that was stored or sent. A tick on a copy tells whether it is taken.
+    /// The link of an image that was stored or sent.
     pub fn from_image(image: &[u8]) -> Result<Link, Refusal> {
-        let image = image.to_vec();
-        Link { image: image.clone() }.tick()?;
-        Ok(Link { image })
+        match unsafe { nazgolv_check(image.as_ptr(), image.len()) } {
+            0 => Ok(Link { image: image.to_vec() }),
+            number => Err(Refusal::of(number as u32)),
+        }
     }
 
     /// Its bytes, to store or to send.
@@ -157,6 +165,18 @@ impl Link {
     /// Lets every flow start again, where the link is quiet.
     pub fn reset(&mut self) -> Result<(), Refusal> {
         value(unsafe { nazgolv_reset(self.image.as_mut_ptr(), self.image.len()) }).map(drop)
+    }
+
+    /// Many calls by one, as records of five bytes: the value of each, or its refusal.
+    pub fn play(&mut self, records: &[u8]) -> Result<Vec<Result<u32, Refusal>>, Refusal> {
+        let mut out = vec![0; RESULT * records.len().div_ceil(RECORD)];
+        let (image, results) = (self.image.as_mut_ptr(), out.as_mut_ptr());
+        let played = unsafe {
+            nazgolv_play(image, self.image.len(), records.as_ptr(), records.len(), results, out.len())
+        };
+        value(played)?;
+        let result = |bytes: &[u8]| bytes.iter().rev().fold(0, |sum, &byte| sum << 8 | byte as u64);
+        Ok(out.chunks(RESULT).map(|bytes| value(result(bytes))).collect())
     }
 
     /// CP, the current position: the departure of a tile that has come.

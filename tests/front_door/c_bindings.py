@@ -10,7 +10,7 @@ from itertools import islice
 from driver.plain_rust import trouble as rust_trouble
 from front_door.c_pages import EXAMPLES, printed
 from front_door.command import ROOT, start, trouble
-from images import export_tests, views
+from images import export_tests, spoilt, views
 
 IMAGES = 60                     # by chance, of each sort
 HOSTS = {"Rust": ROOT / "tests/images/host.rs",
@@ -101,6 +101,7 @@ class Wrapper:
         fresh, which a wrapper makes itself."""
         command, wrong = self.command(HOSTS[self.name])
         return (wrong or export_tests.all_trials(command, IMAGES)
+                or spoilt.wrong_check(command) or spoilt.in_wrapper(command)
                 or self.looks(command) or self.long_runs(command))
 
     def looks(self, command):

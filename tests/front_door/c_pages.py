@@ -8,6 +8,7 @@ from textwrap import dedent, indent
 from front_door.command import ROOT, start, trouble
 from front_door.man_pages import plain
 from front_door.pages import page
+from images import plays
 
 EXAMPLES = {"C": ROOT / "player/example.c",
             "Rust": ROOT / "bindings/rust/example.rs",
@@ -23,6 +24,30 @@ static const uint8_t plan[] = {
 int main(void)
 {
 %s    return 0;
+}
+"""
+PLAYED = """\
+#include <stdio.h>
+#include "nazgolv.h"
+
+static const uint8_t plan[] = {
+    20, 0, 2, 0, 12, 0, 4, 0, 2, 0, 4, 0, 2, 2, 1, 9, 2, 2, 2, 9};
+static const uint8_t records[] = {%s};
+static uint8_t image[NAZGOLV_IMAGE_MAX];
+
+static void answer(uint64_t result)
+{
+    printf("%%u %%#x\\n", (unsigned)NAZGOLV_REFUSAL(result),
+           (unsigned)NAZGOLV_VALUE(result));
+}
+
+int main(void)
+{
+    size_t i;
+    nazgolv_fresh(plan, sizeof plan, image, sizeof image);
+    {
+%s    }
+    return 0;
 }
 """
 
@@ -82,7 +107,20 @@ def sending_ahead(build):
         1].encode())
 
 
+def many_calls(build):
+    """The lines on the page, with README's calls and results that were worked
+    out by hand: rules 12.8 and 13.6."""
+    calls, count = plays.CALLS[:35], 7
+    text = PLAYED % (", ".join(map(str, calls)), indent(
+        blocks(under("Many calls by one"))[0], "        "))
+    output = "".join("%d %s\n" % (result >> 32, hex(result & 0xFFFFFFFF)
+                                  if result & 0xFFFFFFFF else "0")
+                     for result in plays.RESULTS[:count])
+    return prints(build, "many_calls", text, output.encode())
+
+
 def tests(build):
+    yield "C: the lines on many calls", partial(many_calls, build)
     for name in EXAMPLES:
         yield ("C: docs/C.md has the example, " + name,
                partial(as_in_the_tree, name))

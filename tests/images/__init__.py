@@ -23,7 +23,8 @@ buffer past it has to stay.  The tests are of six sorts:
 - fresh, from plans of all sorts into buffers of several lengths, one byte too
   short and just long enough among them;
 - small images spoilt in every place: at each length from 0 on, and with each
-  byte changed, with calls on all of them;
+  byte changed, with calls and a check on all of them; plays by hand, by
+  chance, and one that is spoilt so, its records and its room too;
 - what is seen in images of all these sorts by the functions that look into
   one, at flows and positions that are there and at others.
 

@@ -28,10 +28,6 @@
 
 #include "nazgolv.h"
 
-uint64_t nazgolv_check(const uint8_t *image, size_t image_length);
-uint64_t nazgolv_play(uint8_t *image, size_t image_length, const uint8_t *records, size_t records_length,
-                      uint8_t *out, size_t out_length);
-
 #ifndef GUARD
 #define GUARD 64
 #endif
@@ -122,6 +118,21 @@ static void put_bytes(struct bytes made)
     fwrite(made.start, 1, made.length, stdout);
 }
 
+/* nazgolv_result reads what stands there, and 16 where nothing does. */
+static void check_results(struct bytes out)
+{
+    size_t record, i;
+    for (record = 0; record < out.length / 8; record++) {
+        uint64_t result = nazgolv_result(out.start, out.length, record);
+        for (i = 0; i < 8; i++)
+            if ((result >> 8 * i & 255) != out.start[8 * record + i])
+                stop("a result is read as another");
+    }
+    if (nazgolv_result(out.start, out.length, record) != (uint64_t)16 << 32
+        || nazgolv_result(out.start, out.length, (size_t)-1) != (uint64_t)16 << 32)
+        stop("a result is read that isn't there");
+}
+
 /* A play: its result, and the numbers that it leaves. */
 static void play(void)
 {
@@ -132,6 +143,7 @@ static void play(void)
     memcpy(copy, records.start, records.length);
     put_number(nazgolv_play(buffer.start, buffer.length, records.start, records.length, out.start, out.length), 8);
     put_bytes(out);
+    check_results(out);
     if (memcmp(copy, records.start, records.length) != 0)
         stop("the records were written");
     check_guards(buffer);

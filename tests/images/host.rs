@@ -36,6 +36,9 @@ fn call(letter: u8, commands: &mut Commands, buffer: &mut [u8]) -> Result<u64, R
         b's' => vec![commands.number(1), commands.number(8), commands.number(8)],
         _ => vec![],
     };
+    if letter == b'k' {
+        return Ok(Link::from_image(buffer).map_or_else(|refusal| refusal.number() as u64, |_| 0));
+    }
     if letter == b'f' {
         let link = Link::fresh(&commands.bytes())?;
         buffer[..link.image().len()].copy_from_slice(link.image());
@@ -53,6 +56,22 @@ fn call(letter: u8, commands: &mut Commands, buffer: &mut [u8]) -> Result<u64, R
     };
     buffer.copy_from_slice(link.image());
     result
+}
+
+/// The result of a play, and its second buffer, in which there has to be room.
+fn play(commands: &mut Commands, buffer: &mut [u8]) -> Vec<u8> {
+    let (records, mut out) = (commands.bytes(), commands.bytes());
+    let played = Link::from_image(buffer).and_then(|mut link| {
+        let results = link.play(&records)?;
+        buffer.copy_from_slice(link.image());
+        let numbers = results.into_iter().map(|result| result.map_or_else(refused, u64::from));
+        out.splice(..8 * numbers.len(), numbers.flat_map(u64::to_le_bytes));
+        Ok(0)
+    });
+    let mut written = played.unwrap_or_else(refused).to_le_bytes().to_vec();
+    written.extend((out.len() as u32).to_le_bytes());
+    written.extend(out);
+    written
 }
 
 fn see(link: &Link, which: u64, flow: usize, position: usize) -> u64 {
@@ -77,6 +96,7 @@ fn main() -> std::io::Result<()> {
                 written.extend((buffer.len() as u32).to_le_bytes());
                 written.extend(&buffer);
             }
+            b'p' => written.extend(play(&mut commands, &mut buffer)),
             letter => {
                 let result = call(letter, &mut commands, &mut buffer);
                 written.extend(result.unwrap_or_else(refused).to_le_bytes());

@@ -64,8 +64,35 @@ class Host:
         finally:
             self.buffer = link.image
 
+    def check(self):
+        try:
+            Link(self.buffer)
+            return 0
+        except Refused as refused:
+            return refused.number
+
+    def play(self):
+        """A play's result, and its second buffer, in which there has to be
+        room."""
+        records, out, played = self.bytes(), self.bytes(), 0
+        try:
+            link = Link(self.buffer)
+            results = b"".join(
+                struct.pack("<Q", result.number << 32
+                            if isinstance(result, Refused) else result)
+                for result in link.play(records))
+            out = results + out[len(results):]
+            self.buffer = link.image
+        except Refused as refused:
+            played = refused.number << 32
+        return struct.pack("<QI", played, len(out)) + out
+
     def answer(self, letter):
         """What a command has to write."""
+        if letter == b"p":
+            return self.play()
+        if letter == b"k":
+            return struct.pack("<Q", self.check())
         if letter == b"b":
             self.buffer = self.bytes()
             return b""

@@ -21,6 +21,10 @@ SAME(refusal, NAZGOLV_REFUSAL((uint64_t)NAZGOLV_REFUSED_IMAGE << 32), 22);
 SAME(not_quiet, NAZGOLV_REFUSED_NOT_QUIET, 23);
 SAME(number, NAZGOLV_REFUSED_NUMBER, 24);
 SAME(value, NAZGOLV_VALUE((uint64_t)0x24100803), 0x24100803);
+SAME(no_results, NAZGOLV_PLAY_LENGTH(0), 0);
+SAME(a_cut_off_record, NAZGOLV_PLAY_LENGTH(1), 8);
+SAME(a_record, NAZGOLV_PLAY_LENGTH(5), 8);
+SAME(two_records, NAZGOLV_PLAY_LENGTH(6), 16);
 SAME(of_no_flow, NAZGOLV_WORD(9, 1, NAZGOLV_NONE, 3) >> 20 & 63, 63);
 SAME(of_no_flow_either, NAZGOLV_WORD(9, 1, 2, NAZGOLV_NONE) >> 20 & 63, 63);
 
@@ -34,7 +38,9 @@ uint64_t uses(const uint8_t *plan, uint8_t *image)
         + nazgolv_credit(image, length, (size_t)0, (size_t)0)
         + nazgolv_tick(image, length)
         + nazgolv_lend(image, length, (uint16_t)0)
-        + nazgolv_reset(image, length);
+        + nazgolv_reset(image, length)
+        + nazgolv_check(plan, NAZGOLV_PLAN_MAX)
+        + nazgolv_play(image, length, plan, NAZGOLV_PLAN_MAX, image, length);
 }
 
 /* What looks into an image takes one that can't be written. */
@@ -44,5 +50,5 @@ uint32_t sees(const uint8_t *image, size_t flow, size_t position)
     size_t length = NAZGOLV_IMAGE_MAX;
     return NAZGOLV_CURRENT(image) + nazgolv_current(image, length)
         + nazgolv_owner(image, length, position) + nazgolv_held(image, length, flow, position)
-        + (uint32_t)*nazgolv_why(8) + (uint32_t)*nazgolv_version();
+        + (uint32_t)nazgolv_result(image, length, 0) + (uint32_t)*nazgolv_why(8) + (uint32_t)*nazgolv_version();
 }

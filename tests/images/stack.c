@@ -1,7 +1,8 @@
 /*
  * How much stack each export takes: a file of calls on standard input is made
- * on images, each call by a thread of its own on painted bytes, with a lend and
- * a reset after each tick on copies of the image. Writes a line for each export:
+ * on images, each call by a thread of its own on painted bytes, with a lend, a
+ * reset, a check and a play of 64 records after each tick, on copies of the
+ * image. Writes a line for each export:
  * its name, and the most bytes that one of its calls wrote below its caller.
  */
 #define _XOPEN_SOURCE 700       /* pthread_attr_setstack */
@@ -15,11 +16,13 @@
 #define STACK ((size_t)1 << 18)
 #define PAGE 4096
 
-enum { NONE, FRESH, REQUEST, CREDIT, TICK, LEND, RESET, KINDS };
+enum { NONE, FRESH, REQUEST, CREDIT, TICK, LEND, RESET, CHECK, PLAY, KINDS };
+
+#define RECORDS 64              /* that a play has at most */
 
 static const char *const names[KINDS] = {
     "", "nazgolv_fresh", "nazgolv_request", "nazgolv_credit", "nazgolv_tick",
-    "nazgolv_lend", "nazgolv_reset"};
+    "nazgolv_lend", "nazgolv_reset", "nazgolv_check", "nazgolv_play"};
 static uint8_t file[1 << 20];
 static uint8_t room[STACK + PAGE];
 static uint8_t image[NAZGOLV_IMAGE_MAX];
@@ -29,6 +32,8 @@ static size_t most[KINDS];
 static size_t below;            /* where the caller's own bytes begin */
 static int kind;
 static const uint8_t *record;
+static size_t behind;           /* bytes from the record on */
+static uint8_t out[RECORDS * NAZGOLV_RESULT];
 
 static size_t two_bytes(const uint8_t *at)
 {
@@ -59,6 +64,12 @@ static void *call(void *nothing)
         break;
     case RESET:
         nazgolv_reset(image, sizeof image);
+        break;
+    case CHECK:
+        nazgolv_check(image, sizeof image);
+        break;
+    case PLAY:
+        nazgolv_play(image, sizeof image, record, behind, out, sizeof out);
         break;
     }
     return nothing;
@@ -104,9 +115,10 @@ int main(void)
     good = make(FRESH) && try(LEND) && try(RESET);
     for (; good && at + 5 <= length; at += 5) {
         record = file + at;
+        behind = length - at < RECORDS * NAZGOLV_RECORD ? length - at : RECORDS * NAZGOLV_RECORD;
         good = record[0] >= 1 && record[0] <= 3 && make(record[0] + FRESH);
         if (good && record[0] == 3)
-            good = try(LEND) && try(RESET);
+            good = try(LEND) && try(RESET) && try(CHECK) && try(PLAY);
     }
     for (kind = FRESH; good && kind < KINDS; kind++)
         printf("%s %lu\n", names[kind], (unsigned long)most[kind]);
