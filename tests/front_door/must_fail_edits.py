@@ -30,7 +30,7 @@ CRATES = {
     "extras": "root", "programme": "root", "delay": "root",
     "delaywords": "root", "questions": "root", "show": "root",
     "showwords": "root", "showinput": "root", "trace": "root",
-    "crossing": "root"}
+    "crossing": "root", "faults": "root", "faultwords": "root"}
 
 # Public functions that others are built from.
 HELPERS = {
@@ -54,7 +54,8 @@ KNOWN = {
     "questions": "feed finish", "show": "write link_refusal refusal",
     "showwords": "show", "showinput": "feed finish",
     "trace": "step write_burst write_plan",
-    "crossing": "serve cross shown"}
+    "crossing": "serve cross shown",
+    "faults": "tell_if say", "faultwords": "faults"}
 
 
 def sources(crate):
