@@ -8,13 +8,19 @@ from driver.suite import Outcome, Suite
 from simulator.questions import NO_QUESTION
 
 REASON = re.compile(r"\? [ -~]{3,150}")         # short, and in plain letters
+FAULT = re.compile(r"(\d+) (\d+) (\d+)(?: |$)")
+
+# Of a fault, which of its two other numbers says what the limit is of.
+LIMITS = {3: 1, 4: 2}
 
 # Each word, and what has to have come up for it: 0 is an answer, and an answer
-# that is a word by itself stands here as that word.
+# that is a word by itself stands here as that word; of faults each limit.
 WAYS = {"plan": {0, 2, 3, 4, 5, 6, 7}, "room": {0, 2, 3, 4, 5, 6, 7, 19},
         "read": {0, 1, 2, 3, 4, 5, 6, 7},
         "mesh": {"ok", 3, 4, 25}, "mesh-over": {0, "ok", 3, 4, 25},
-        "count": {0, 26}, "extras": {0, 27}, "programme": {0, "dark", 28, 29}}
+        "count": {0, 26}, "extras": {0, 27}, "programme": {0, "dark", 28, 29},
+        "faults": {"ok", (2,), *((3, k) for k in range(4)),
+                   *((4, k) for k in range(5)), (5,), (6,), (7,)}}
 
 
 def is_right(expected, answer):
@@ -43,14 +49,27 @@ def first_difference(case, output):
     return None
 
 
-def way(line, answer):
-    """How a question was answered: its word, and the refusal or 0."""
+def limits(answer):
+    """The limits that are told, three numbers for each fault."""
+    for fault in FAULT.findall(answer):
+        number = int(fault[0])
+        which = LIMITS.get(number)
+        yield (number, int(fault[which])) if which else (number,)
+
+
+def ways(line, answer):
+    """How a question was answered: its word, and the refusal, 0, or each
+    limit that is told."""
     if answer.startswith("?"):
-        return "?"
+        return {"?"}
     word = line.split(b" ")[0].decode("latin-1")
     if answer.startswith("R ") and answer[2:].isdecimal():
-        return word, int(answer[2:])
-    return word, answer if answer.isalpha() else 0
+        return {(word, int(answer[2:]))}
+    if answer.isalpha():
+        return {(word, answer)}
+    if word == "faults":
+        return {(word, limit) for limit in limits(answer)}
+    return {(word, 0)}
 
 
 class QuestionSuite(Suite):
@@ -61,7 +80,8 @@ class QuestionSuite(Suite):
         played = self.start(case)
         answers = played.output.decode("latin-1").splitlines()
         return Outcome([case.trouble, first_difference(case, played.output),
-                        played.trouble], set(map(way, case.lines, answers)))
+                        played.trouble],
+                       set().union(*map(ways, case.lines, answers)))
 
     def answers(self, lines):
         """Its answers to some lines."""

@@ -29,7 +29,8 @@ CRATES = {
     "programmewords": "root", "mesh": "root", "shares": "root",
     "extras": "root", "programme": "root", "delay": "root",
     "delaywords": "root", "questions": "root", "show": "root",
-    "showwords": "root", "trace": "root"}
+    "showwords": "root", "trace": "root", "faults": "root",
+    "faultwords": "root"}
 
 # Public functions that others are built from.
 HELPERS = {
@@ -49,7 +50,8 @@ KNOWN = {
     "mesh": "admit measure", "shares": "count", "extras": "choose",
     "programme": "plan_at", "delay": "delay", "delaywords": "delay",
     "questions": "feed finish", "show": "write link_refusal refusal",
-    "showwords": "show", "trace": "step write_burst write_plan"}
+    "showwords": "show", "trace": "step write_burst write_plan",
+    "faults": "tell_if say", "faultwords": "faults"}
 
 
 def sources(crate):

@@ -48,9 +48,9 @@ PRINTED = [
 
 # Numbers beside the refusal that rule 19.2 gives them, and the entry or the
 # entries that are named.
-NOT_BEFORE = "a showing's start is not before its end; here entry %d is from "
-OUTSIDE = ("a showing lies outside the week, which ends at minute 10,080; here "
-           "entry %d is from ")
+NOT_BEFORE = OUTSIDE = (
+    "a showing's start is not before its end, or it lies outside the week, "
+    "which ends at minute 10,080; here entry %d is from ")
 SHARED = ("two entries of the programme share a minute, whichever minute is "
           "asked about; here entries ")
 REFUSALS = [
@@ -68,7 +68,7 @@ REFUSALS = [
     ("10 20 1  0 9 2  20 30 3  29 40 4", 29, SHARED + "3 and 4"),
 ]
 
-# Numbers beside all that is told of them: rule 19.4.
+# Numbers beside all that is told of them.
 WITH, THEN = "the programme is refused with 28: ", "and then with "
 SEVERAL = [
     ("0 10 5  5 20 6  30 30 7",
@@ -77,11 +77,11 @@ SEVERAL = [
     ("10 20 1  0 10 2  20 30 3  9 11 4  25 40 5",
      ["the programme is refused with 29: " + SHARED + "1 and 4",
       THEN + "29: " + SHARED + "3 and 5"]),
-    ("20000 10081 7  10079 10081 8  10079 10080 9",
+    # An entry that is wrong by itself shares no minute.
+    ("20000 10081 7  10079 10081 8  10079 10080 9  0 10080 9",
      [WITH + NOT_BEFORE % 1 + "20000 to 10081",
-      THEN + "28: " + OUTSIDE % 1 + "20000 to 10081",
       THEN + "28: " + OUTSIDE % 2 + "10079 to 10081",
-      THEN + "29: " + SHARED + "2 and 3"]),
+      THEN + "29: " + SHARED + "3 and 4"]),
     # Of 65 the first 64 are looked at: 63 share the minute with the first.
     ("0 1 7 " * 65,
      [WITH + "the programme has more than 64 entries; here there are 65",

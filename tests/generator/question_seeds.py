@@ -1,7 +1,7 @@
 """A seed to the lines of its file for domeplan, and to their kind."""
 
 from generator import (
-    asked_delays, asked_extras, asked_plans, asked_programmes,
+    asked_delays, asked_extras, asked_faults, asked_plans, asked_programmes,
     counted_frames, mesh_streams, odd_lines, plan_hex)
 from generator.dice import Dice
 
@@ -63,7 +63,11 @@ def delay(dice):
     return question(dice, b"delay", asked_delays.numbers(dice))
 
 
-QUESTIONS = [plan, room, read, mesh, count, extras, programme, delay]
+def faults(dice):
+    return question(dice, b"faults", asked_faults.numbers(dice))
+
+
+QUESTIONS = [plan, room, read, mesh, count, extras, programme, delay, faults]
 
 
 def odd(dice):
@@ -76,7 +80,8 @@ def mixed(dice):
 
 KINDS = {"plans": plan, "too wide": wide_plan, "rooms": room, "reads": read,
          "meshes": mesh, "counts": count, "extras": extras,
-         "programmes": programme, "delays": delay, "odd lines": odd, "mixed": mixed}
+         "programmes": programme, "delays": delay, "faults": faults,
+         "odd lines": odd, "mixed": mixed}
 ORDER = tuple(KINDS)            # the kinds of seeds 0, 1, 2 and so on
 
 

@@ -7,12 +7,12 @@ bytes; `mesh`, F and three numbers for each stream whether they are admitted,
 `mesh-over` which links are over; `count`, F and n how many share lists fit;
 `extras`, slots left, a budget, and share and worth of each layer which to
 switch on; `programme`, a minute and three numbers for each entry what runs
-then.  A line that is no question is answered `?` alone: the reason behind it
-is the program's."""
+then; `faults` and the numbers of `plan` which limits these break.  A line that
+is no question is answered `?` alone: the reason behind it is the program's."""
 
 import re
 
-from simulator import delay, mesh, share_counts
+from simulator import delay, faults, mesh, share_counts
 from simulator.extras import Extras, Layer, choose
 from simulator.plan import read_plan
 from simulator.plan_writer import Asked, write_plan
@@ -37,11 +37,20 @@ def refused(number):
     return "R %d" % number
 
 
+def is_plan(numbers):
+    return len(numbers) >= 3 and len(numbers) % 4 == 3
+
+
+def entries_of(numbers, start, width):
+    """So many numbers for each entry, from a place on."""
+    return [numbers[i:i + width] for i in range(start, len(numbers), width)]
+
+
 def written(numbers, room):
     """F, W, N and four numbers for each flow, in a buffer of `room` bytes."""
-    if len(numbers) < 3 or len(numbers) % 4 != 3:
+    if not is_plan(numbers):
         return NO_QUESTION
-    entries = [numbers[i:i + 4] for i in range(3, len(numbers), 4)]
+    entries = entries_of(numbers, 3, 4)
     refusal, data = write_plan(Asked(*numbers[:3], entries), room)
     return refused(refusal) if refusal else data.hex()
 
@@ -124,7 +133,7 @@ def to_programme(fields):
     numbers = numbers_of(fields)
     if not numbers or len(numbers) % 3 != 1:
         return NO_QUESTION
-    entries = [numbers[i:i + 3] for i in range(1, len(numbers), 3)]
+    entries = entries_of(numbers, 1, 3)
     if any(plan > LAST_PLAN for _, _, plan in entries):
         return NO_QUESTION
     refusal, plan = plan_at(numbers[0], entries)
@@ -144,10 +153,23 @@ def to_delay(fields):
     return refused(refusal) if refusal else "%d %d %d" % bounds
 
 
+def told(found):
+    """Three numbers for each fault, or the word for none."""
+    return " ".join("%d %d %d" % fault for fault in found) or "ok"
+
+
+def to_faults(fields):
+    """The fields of `plan`."""
+    numbers = numbers_of(fields)
+    if numbers is None or not is_plan(numbers):
+        return NO_QUESTION
+    return told(faults.of_plan(*numbers[:3], entries_of(numbers, 3, 4)))
+
+
 WORDS = {b"plan": to_plan, b"room": to_room, b"read": to_read,
          b"mesh": to_mesh, b"mesh-over": to_mesh_over, b"count": to_count,
          b"extras": to_extras, b"programme": to_programme,
-         b"delay": to_delay}
+         b"delay": to_delay, b"faults": to_faults}
 
 
 def answer(line):

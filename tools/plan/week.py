@@ -6,10 +6,9 @@ from plan.ends import (
 from plan.report import Report, verdict
 
 BAD_ENTRY, SHARED = 28, 29
-# Of an entry, in domeplan's order: when it is refused; the next is their
-# number.
-OF_ENTRY = ("a showing's start is not before its end",
-            "a showing lies outside the week, which ends at minute 10,080")
+OF_ENTRY = ("a showing's start is not before its end, or it lies outside the "
+            "week, which ends at minute 10,080")
+LOOKED_AT = 64          # entries, where there are more
 TOO_MANY = "the programme has more than 64 entries"
 OTHER_DAY = " (an end on another day names it: sat 23:00-sun 01:00)"
 NO_MINUTE = "it is not 0 to 10,079"
@@ -39,8 +38,7 @@ class Week:
         try:
             program.ask(program.line("programme 0", self.numbers()), running)
         except program.Refused as refusal:
-            self.faults = program.ask_all([program.line(
-                "week-faults", self.numbers())], self.told)[0]
+            self.faults = self.looked_for(refusal.number)
             if not self.faults or self.faults[0].number != refusal.number:
                 raise program.odd("R %d" % refusal.number) from None
         if self.text:
@@ -48,31 +46,52 @@ class Week:
 
     # ---- what is wrong
 
-    def told(self, answer):
-        try:
-            return [self.fault(*three) for three in program.threes(answer)]
-        except IndexError:
-            raise ValueError(answer) from None
+    def refused_with(self, number, groups):
+        """Those groups of places whose entries alone are refused with this
+        number."""
+        answers = program.ask_all([program.line("programme 0", [
+            number for place in group for number in (
+                self.entries[place].start, self.entries[place].end, 0)])
+            for group in groups], program.or_refused(running))
+        return [group for group, answer in zip(groups, answers)
+                if isinstance(answer, program.Refused)
+                and answer.number == number]
+
+    def looked_for(self, number):
+        """What is wrong with a programme that is refused with this number:
+        each entry by itself, how many there are, and each later entry with
+        the first that shares a minute with it."""
+        places = range(len(self.entries))
+        bad = {place for place, in self.refused_with(
+            BAD_ENTRY, [(place,) for place in places])}
+        found = [self.bad_entry(place) for place in sorted(bad)]
+        if number == BAD_ENTRY and not bad:
+            found.append(faults.Fault(BAD_ENTRY, TOO_MANY, "there are %d"
+                                      % len(self.entries)))
+        pairs = [(first, second) for second in places[:LOOKED_AT]
+                 for first in places[:second] if not {first, second} & bad]
+        earlier = {}
+        for first, second in self.refused_with(SHARED, pairs):
+            earlier.setdefault(second, first)
+        return found + [self.shared(first, second)
+                        for second, first in earlier.items()]
 
     def place(self, number):
         """An entry by its line, or counted from 1."""
         return self.entries[number].line if self.text else number + 1
 
-    def fault(self, number, first, second):
-        if number == SHARED:
-            return faults.Fault(
-                SHARED, faults.refusals_page(SHARED).when, "%s %d and %d" % (
-                    "lines" if self.text else "entries", self.place(first),
-                    self.place(second)))
-        if number != BAD_ENTRY:
-            raise IndexError(number)
-        if second == len(OF_ENTRY):
-            return faults.Fault(BAD_ENTRY, TOO_MANY, "there are %d" % first)
-        entry = self.entries[first]
-        return faults.Fault(BAD_ENTRY, OF_ENTRY[second], (
+    def shared(self, first, second):
+        return faults.Fault(
+            SHARED, faults.refusals_page(SHARED).when, "%s %d and %d" % (
+                "lines" if self.text else "entries", self.place(first),
+                self.place(second)))
+
+    def bad_entry(self, place):
+        entry = self.entries[place]
+        return faults.Fault(BAD_ENTRY, OF_ENTRY, (
             "line %d is %s%s" % (entry.line, entry.span(), OTHER_DAY)
             if self.text else "entry %d is from %d to %d" % (
-                first + 1, entry.start, entry.end)))
+                place + 1, entry.start, entry.end)))
 
     def errors(self):
         """What is said where it is refused, or one of its plans."""

@@ -1,6 +1,6 @@
 // Entries: test 4, test 5, and the sums of tests 6 and 7.
 use crate::Wanted;
-use crate::ranges::inside;
+use crate::ranges;
 ghost use mathlib.Core.Path.{_≡_};
 ghost use mathlib.Core.Bool.{not};
 ghost use Prim.Native.Nat.{_≤_, _<_};
@@ -19,16 +19,16 @@ pub(crate) struct Sums {
 fn fits(e: Wanted, slots: usize) -> bool
     ensures { λ r. ⌜ r ≡ entryFits slots (wantedFor e) ⌝ }
 {
-    if !inside(1, slots, e.share) {
+    if !ranges::share_fits(slots, e.share) {
         return false;
     }
-    if !inside(1, 255, e.cells) {
+    if !ranges::cells_fit(e.cells) {
         return false;
     }
-    if !inside(0, 63, e.source) {
+    if !ranges::node_fits(e.source) {
         return false;
     }
-    if !inside(0, 63, e.destination) {
+    if !ranges::node_fits(e.destination) {
         return false;
     }
     e.source != e.destination

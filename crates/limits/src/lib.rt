@@ -2,6 +2,13 @@
 mod entries;
 mod ranges;
 
+pub use ranges::buffer_fits;
+pub use ranges::cells_fit;
+pub use ranges::frames_fit;
+pub use ranges::many_positions;
+pub use ranges::node_fits;
+pub use ranges::share_fits;
+pub use ranges::slots_fit;
 ghost use mathlib.Core.Path.{_≡_};
 ghost use mathlib.Core.Bool.{not};
 ghost use Rattle.model.specs.Tables.{within};

@@ -1,8 +1,8 @@
-// Ranges: a number between two limits, and test 3.
+// Ranges: a number between two limits, the limits one by one, and test 3.
 ghost use mathlib.Core.Path.{_≡_};
 ghost use Rattle.model.specs.Tables.{within};
 ghost use Rattle.model.specs.Refusals.{condition};
-ghost use Rattle.model.specs.Plan.{frameTest};
+ghost use Rattle.model.specs.Plan as model;
 
 // Whether x lies within low to high.
 pub(crate) fn inside(low: usize, high: usize, x: usize) -> bool
@@ -14,18 +14,67 @@ pub(crate) fn inside(low: usize, high: usize, x: usize) -> bool
     x <= high
 }
 
+// Whether F keeps its limits.
+pub fn slots_fit(slots: usize) -> bool
+    ensures { λ r. ⌜ r ≡ model.slotsFit slots ⌝ }
+{
+    inside(1, 64, slots)
+}
+
+// Whether W keeps its limits.
+pub fn frames_fit(frames: usize) -> bool
+    ensures { λ r. ⌜ r ≡ model.framesFit frames ⌝ }
+{
+    inside(2, 8, frames)
+}
+
+// Whether N keeps its limits.
+pub fn buffer_fits(buffer: usize) -> bool
+    ensures { λ r. ⌜ r ≡ model.bufferFits buffer ⌝ }
+{
+    inside(1, 4095, buffer)
+}
+
+// Whether T is above its limit.
+pub fn many_positions(positions: usize) -> bool
+    ensures { λ r. ⌜ r ≡ model.manyPositions positions ⌝ }
+{
+    256 < positions
+}
+
+// Whether a share keeps its limits in frames of so many slots.
+pub fn share_fits(slots: usize, share: usize) -> bool
+    ensures { λ r. ⌜ r ≡ model.shareFits slots share ⌝ }
+{
+    inside(1, slots, share)
+}
+
+// Whether a flow's cells keep their limits.
+pub fn cells_fit(cells: usize) -> bool
+    ensures { λ r. ⌜ r ≡ model.cellsFit cells ⌝ }
+{
+    inside(1, 255, cells)
+}
+
+// Whether there is a node of this number.
+pub fn node_fits(node: usize) -> bool
+    ensures { λ r. ⌜ r ≡ model.nodeFits node ⌝ }
+{
+    inside(0, 63, node)
+}
+
 // RULES 2.3: test 3, on F, W and N, and on T.
 pub(crate) fn misframes(slots: usize, frames: usize, buffer: usize) -> bool
-    ensures { λ r. ⌜ r ≡ condition (frameTest slots frames buffer) ⌝ }
+    ensures { λ r. ⌜ r ≡ condition (model.frameTest slots frames buffer) ⌝ }
 {
-    if !inside(1, 64, slots) {
+    if !slots_fit(slots) {
         return true;
     }
-    if !inside(2, 8, frames) {
+    if !frames_fit(frames) {
         return true;
     }
-    if !inside(1, 4095, buffer) {
+    if !buffer_fits(buffer) {
         return true;
     }
-    256 < slots * frames
+    many_positions(slots * frames)
 }

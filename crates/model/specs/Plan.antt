@@ -85,13 +85,41 @@ planWith h es = record { slots = h .slots; frames = h .frames; buffer = h .buffe
 abbrev pub planOf : List ℕ → Plan
 planOf b = planWith (headerOf b) (entriesOf (headerOf b .count) (drop 12 b))
 
+-- ---- the limits, one by one. RULES 2.3
+
+abbrev pub countFits : (n : ℕ) → Bool
+countFits n = within 1 16 n
+
+abbrev pub slotsFit : (F : ℕ) → Bool
+slotsFit F = within 1 64 F
+
+abbrev pub framesFit : (W : ℕ) → Bool
+framesFit W = within 2 8 W
+
+abbrev pub bufferFits : (N : ℕ) → Bool
+bufferFits N = within 1 4095 N
+
+abbrev pub manyPositions : (T : ℕ) → Bool
+manyPositions T = ltb 256 T
+
+abbrev pub shareFits : (F share : ℕ) → Bool
+shareFits F share = within 1 F share
+
+abbrev pub cellsFit : (cells : ℕ) → Bool
+cellsFit cells = within 1 255 cells
+
+abbrev pub nodeFits : (node : ℕ) → Bool
+nodeFits node = within 0 63 node
+
+-- the two nodes of an entry are equal
+abbrev pub sameNodes : Entry → Bool
+sameNodes e = eqb (e .source) (e .destination)
+
 -- ---- the refusals
 
 -- RULES 2.3: what test 4 asks of one entry
 unfoldable pub entryFits : ℕ → Entry → Bool
-entryFits F e =
-    within 1 F (e .share) && within 1 255 (e .cells) && within 0 63 (e .source) && within 0 63 (e .destination)
-    && not (eqb (e .source) (e .destination))
+entryFits F e = shareFits F (e .share) && cellsFit (e .cells) && nodeFits (e .source) && nodeFits (e .destination) && not (sameNodes e)
 
 -- RULES 2.3: the two entries of test 5
 abbrev pub samePair : Entry → Entry → Bool
@@ -101,11 +129,11 @@ samePair a b = eqb (a .source) (b .source) && eqb (a .destination) (b .destinati
 
 -- RULES 2.3: test 2, on the header alone
 abbrev pub countTest : Header → Line
-countTest h = 2 when (not (within 1 16 (h .count)) || not (eqb (h .offset) 12) || not (eqb (h .total) (12 + 4 * h .count)))
+countTest h = 2 when (not (countFits (h .count)) || not (eqb (h .offset) 12) || not (eqb (h .total) (12 + 4 * h .count)))
 
 -- RULES 2.3: test 3, on F, W, N and T
 abbrev pub frameTest : ℕ → ℕ → ℕ → Line
-frameTest F W N = 3 when (not (within 1 64 F) || not (within 2 8 W) || not (within 1 4095 N) || ltb 256 (F * W))
+frameTest F W N = 3 when (not (slotsFit F) || not (framesFit W) || not (bufferFits N) || manyPositions (F * W))
 
 -- RULES 2.3: tests 3 to 7
 abbrev pub limitTests : Plan → List Line

@@ -31,11 +31,22 @@ entry entries i = getD entries i noEntry
 abbrev pub runs : Entry → ℕ → Bool
 runs e minute = leb (e .start) minute && ltb minute (e .end)
 
+-- ---- the limits, one by one. RULES 19.2
+
+abbrev pub startsFirst : Entry → Bool
+startsFirst e = ltb (e .start) (e .end)
+
+abbrev pub inWeek : (minute : ℕ) → Bool
+inWeek minute = within 0 week minute
+
+abbrev pub manyEntries : (count : ℕ) → Bool
+manyEntries count = ltb 64 count
+
 -- ---- the refusals
 
 -- the start is before the end, and both are 0 to 10,080
 unfoldable pub keepsLimits : Entry → Bool
-keepsLimits e = ltb (e .start) (e .end) && within 0 week (e .start) && within 0 week (e .end)
+keepsLimits e = startsFirst e && inWeek (e .start) && inWeek (e .end)
 
 -- some entry doesn't start before it ends, or lies outside the week
 abbrev pub someBreaksLimits : List Entry → Bool
@@ -52,7 +63,7 @@ someShared entries = any (length entries) (λ i. any i (λ j. shareMinute (entry
 -- RULES 19.2: the refusal of a programme and a minute, and 0 where there is none: every reason for 28 is tested before 29
 unfoldable pub refusal : List Entry → ℕ → ℕ
 refusal entries minute = firstOf (
-    28 when (someBreaksLimits entries || ltb 64 (length entries) || not (ltb minute week))
+    28 when (someBreaksLimits entries || manyEntries (length entries) || not (ltb minute week))
     ∷ 29 when someShared entries
     ∷ [])
 

@@ -8,10 +8,10 @@ ghost use Rattle.programme.specs.Week.{planAt, refusal};
 ghost use Rattle.programme.specs.Reading.{entriesOf, answerFor};
 
 // The minutes of a week.
-const WEEK: usize = 10080;
+pub const WEEK: usize = 10080;
 
 // The most entries of a programme.
-const MOST: usize = 64;
+pub const MOST: usize = 64;
 
 // An entry: a showing's start and end in minutes of the week, and its plan. It runs at its start and up to the minute before its end.
 pub struct Entry {

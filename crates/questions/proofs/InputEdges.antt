@@ -1,7 +1,7 @@
 -- Every edge of whole inputs comes out as expected. Assumes nothing.
 use mathlib.Core.Path.{refl}
 use mathlib.Core.List.{flatMap}
-use Rattle.model.specs.Tables.{any, sum}
+use Rattle.model.specs.Tables.{any, sum, firstFrom}
 use Rattle.model.specs.Refusals.{firstOf}
 use Rattle.model.specs.Listing.{digits, decimal}
 use Rattle.model.specs.Plan.{entryFits, refusal}
@@ -22,10 +22,12 @@ use Rattle.extrawords.specs.ExtrasWord.{answerToExtras}
 use Rattle.programmewords.specs.Programmes.{answerToProgramme}
 use Rattle.delay.specs.Bounds.{noQuestion, refusalOf, delayed, answerFor}
 use Rattle.delaywords.specs.DelayWord.{answerToDelay}
+use Rattle.faultwords.specs.PlanFaults.{faultsOf}
+use Rattle.faultwords.specs.FaultsWord.{answerToFaults}
 use Rattle.questions.specs.Answers.{sameText, words, rowNamed, answerToNumbers, answerTo, answerOf}
 use Rattle.questions.specs.Input.{linesOf, answersTo}
 use Rattle.questions.specs.InputEdges.{Pass, inputEdges}
 
 pub inputs-hold : Pass inputEdges
-unfolding any sum firstOf digits decimal entryFits refusal bytesOf writeRefusal writtenAfter written pieces pieceLength each valueFrom numberOf numbersIn foundIn hexDigit foundBytes hex faultLine inRoom answerToRoom planNumbers question readLine digitsLine keep someOf links uses load streamFits refusalBeforeLinks meshRefusal overLinks meshAnswer counted answerToCount answerToExtras answerToProgramme noQuestion refusalOf delayed answerFor answerToDelay sameText words rowNamed answerToNumbers answerTo answerOf linesOf answersTo flatMap inputEdges
+unfolding any sum firstFrom firstOf digits decimal entryFits refusal bytesOf writeRefusal writtenAfter written pieces pieceLength each valueFrom numberOf numbersIn foundIn hexDigit foundBytes hex faultLine inRoom answerToRoom planNumbers question readLine digitsLine keep someOf links uses load streamFits refusalBeforeLinks meshRefusal overLinks meshAnswer counted answerToCount answerToExtras answerToProgramme noQuestion refusalOf delayed answerFor answerToDelay faultsOf answerToFaults sameText words rowNamed answerToNumbers answerTo answerOf linesOf answersTo flatMap inputEdges
 inputs-hold = refl

@@ -15,7 +15,7 @@ abbrev writes : (input output : String) → Case
 writes input output = record { input = text input; output = output }
 
 abbrev unknown : String
-unknown = "? the first word is none of plan, room, read, mesh, mesh-over, count, extras, programme and delay\n"
+unknown = "? the first word is none of plan, room, read, mesh, mesh-over, count, extras, programme, delay and faults\n"
 
 -- Every output comes out as expected.
 abbrev pub Pass : List Case → Type 0
@@ -40,6 +40,7 @@ inputEdges =
     ∷ writes "extras 1\n" "? the slots or the budget is missing\n"
     ∷ writes "programme\n" "? the minute is missing\n"
     ∷ writes "delay 4 2 2 3\n" "19 4 6\n"
+    ∷ writes "faults 4 2 8 5 1 1 9\n" "4 0 0 6 5 4\n"
     -- small letters alone, no more and no fewer of them, and nothing in front
     ∷ writes "PLAN 4 2 4\n" unknown
     ∷ writes "Read\n" unknown

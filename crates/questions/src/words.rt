@@ -15,6 +15,7 @@ pub(crate) enum NumberWord {
     Extras,
     Programme,
     Delay,
+    Faults,
 }
 
 pub(crate) enum Word {
@@ -54,6 +55,9 @@ pub(crate) fn named(text: &[u8]) -> Word
     if check::same(text, b"delay") {
         return Word::OfNumbers(NumberWord::Delay);
     }
+    if check::same(text, b"faults") {
+        return Word::OfNumbers(NumberWord::Faults);
+    }
     Word::Unknown
 }
 
@@ -71,5 +75,6 @@ pub(crate) fn answer_numbers(word: NumberWord, numbers: &[usize], out: &mut [u8]
         NumberWord::Extras => extrawords::extras(numbers, out),
         NumberWord::Programme => programmewords::programme(numbers, out),
         NumberWord::Delay => delaywords::delay(numbers, out),
+        NumberWord::Faults => faultwords::faults(numbers, out),
     }
 }

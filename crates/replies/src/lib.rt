@@ -3,6 +3,7 @@ mod lines;
 
 pub use lines::put;
 pub use lines::put_decimal;
+pub use lines::put_first;
 pub use lines::put_hex;
 pub use lines::put_number;
 pub use lines::say;

@@ -45,7 +45,7 @@ pub fn put_number(n: usize, out: &mut [u8], at: usize) -> usize
 }
 
 // Stores a number at the start of a line, for which 20 bytes suffice.
-fn put_first(n: usize, out: &mut [u8]) -> usize
+pub fn put_first(n: usize, out: &mut [u8]) -> usize
     requires { ⌜ 20 ≤ length (now out) ⌝ }
     ensures put { λ r. ⌜ Puts (decimal n) (now (out .entry)) (now (out .exit)) 0 r ⌝ }
     ensures most { λ r. ⌜ r ≤ 20 ⌝ }

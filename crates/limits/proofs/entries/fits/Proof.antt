@@ -23,46 +23,46 @@ before-4 c = c .before .before
 
 -- what is known after each test that is passed
 share-passed : (c : tie.Else1) → within 1 (before-1 c .args .slots) (before-1 c .args .e .share) ≡ true
-share-passed c = is-true (c .before .inside .ensures) (c .if1 .left)
+share-passed c = is-true (c .before .share-fits .ensures) (c .if1 .left)
 
 cells-passed : (c : tie.Else2) → within 1 255 (before-1 (before-2 c) .args .e .cells) ≡ true
-cells-passed c = is-true (c .before .inside2 .ensures) (c .if2 .left)
+cells-passed c = is-true (c .before .cells-fit .ensures) (c .if2 .left)
 
 source-passed : (c : tie.Else3) → within 0 63 (before-1 (before-2 (before-3 c)) .args .e .source) ≡ true
-source-passed c = is-true (c .before .inside3 .ensures) (c .if3 .left)
+source-passed c = is-true (c .before .node-fits .ensures) (c .if3 .left)
 
-inside-requires : tie.Need-inside-requires
-inside-requires c κs = search needs
+share-fits-requires : tie.Need-share-fits-requires
+share-fits-requires c κs = search needs
 
 returns : tie.Need-returns
 unfolding entryFits
-returns c = rw (is-false (c .before .inside .ensures) (c .if1 .taken))
+returns c = rw (is-false (c .before .share-fits .ensures) (c .if1 .taken))
 
-inside-requires-2 : tie.Need-inside-requires-2
-inside-requires-2 c κs = search needs
+cells-fit-requires : tie.Need-cells-fit-requires
+cells-fit-requires c κs = search needs
 
 returns-2 : tie.Need-returns-2
 unfolding entryFits
-returns-2 c = rw (share-passed (c .before .before), is-false (c .before .inside2 .ensures) (c .if2 .taken))
+returns-2 c = rw (share-passed (c .before .before), is-false (c .before .cells-fit .ensures) (c .if2 .taken))
 
-inside-requires-3 : tie.Need-inside-requires-3
-inside-requires-3 c κs = search needs
+node-fits-requires : tie.Need-node-fits-requires
+node-fits-requires c κs = search needs
 
 returns-3 : tie.Need-returns-3
 unfolding entryFits
 returns-3 c =
     let cells = c .before .before in
-    rw (share-passed (before-2 cells), cells-passed cells, is-false (c .before .inside3 .ensures) (c .if3 .taken))
+    rw (share-passed (before-2 cells), cells-passed cells, is-false (c .before .node-fits .ensures) (c .if3 .taken))
 
-inside-requires-4 : tie.Need-inside-requires-4
-inside-requires-4 c κs = search needs
+node-fits-requires-2 : tie.Need-node-fits-requires-2
+node-fits-requires-2 c κs = search needs
 
 returns-4 : tie.Need-returns-4
 unfolding entryFits
 returns-4 c =
     let source = c .before .before in
     let cells = before-3 source in
-    rw (share-passed (before-2 cells), cells-passed cells, source-passed source, is-false (c .before .inside4 .ensures) (c .if4 .taken))
+    rw (share-passed (before-2 cells), cells-passed cells, source-passed source, is-false (c .before .node-fits2 .ensures) (c .if4 .taken))
 
 returns-5 : tie.Need-returns-5
 unfolding entryFits
@@ -74,19 +74,19 @@ returns-5 c =
       share-passed (before-2 cells),
       cells-passed cells,
       source-passed source,
-      is-true (destination .before .inside4 .ensures) (destination .if4 .left),
+      is-true (destination .before .node-fits2 .ensures) (destination .if4 .left),
     )
 
 pub fits-spec : {M : Type 1} → statement M
 fits-spec =
     tie.close
     (tie.spec
-    inside-requires
+    share-fits-requires
     returns
-    inside-requires-2
+    cells-fit-requires
     returns-2
-    inside-requires-3
+    node-fits-requires
     returns-3
-    inside-requires-4
+    node-fits-requires-2
     returns-4
     returns-5)

@@ -22,53 +22,62 @@ before-3 c = c .before .before
 
 -- what is known after each test that is passed
 slots-passed : (c : tie.Else1) → within 1 64 (before-1 c .args .slots) ≡ true
-slots-passed c = is-true (c .before .inside .ensures) (c .if1 .left)
+slots-passed c = is-true (c .before .slots-fit .ensures) (c .if1 .left)
 
 frames-passed : (c : tie.Else2) → within 2 8 (before-1 (before-2 c) .args .frames) ≡ true
-frames-passed c = is-true (c .before .inside2 .ensures) (c .if2 .left)
+frames-passed c = is-true (c .before .frames-fit .ensures) (c .if2 .left)
 
-inside-requires : tie.Need-inside-requires
-inside-requires c κs = search needs
+slots-fit-requires : tie.Need-slots-fit-requires
+slots-fit-requires c κs = search needs
 
 returns : tie.Need-returns
-returns c = rw (is-false (c .before .inside .ensures) (c .if1 .taken))
+returns c = rw (is-false (c .before .slots-fit .ensures) (c .if1 .taken))
 
-inside-requires-2 : tie.Need-inside-requires-2
-inside-requires-2 c κs = search needs
+frames-fit-requires : tie.Need-frames-fit-requires
+frames-fit-requires c κs = search needs
 
 returns-2 : tie.Need-returns-2
-returns-2 c = rw (slots-passed (c .before .before), is-false (c .before .inside2 .ensures) (c .if2 .taken))
+returns-2 c = rw (slots-passed (c .before .before), is-false (c .before .frames-fit .ensures) (c .if2 .taken))
 
-inside-requires-3 : tie.Need-inside-requires-3
-inside-requires-3 c κs = search needs
+buffer-fits-requires : tie.Need-buffer-fits-requires
+buffer-fits-requires c κs = search needs
 
 returns-3 : tie.Need-returns-3
 returns-3 c =
     let frames = c .before .before in
-    rw (slots-passed (before-2 frames), frames-passed frames, is-false (c .before .inside3 .ensures) (c .if3 .taken))
+    rw (slots-passed (before-2 frames), frames-passed frames, is-false (c .before .buffer-fits .ensures) (c .if3 .taken))
 
-mul-result : tie.Need-mul-result
-mul-result c =
+mul-many-positions : tie.Need-mul-many-positions
+mul-many-positions c =
     let frames = before-3 c in
     let slots = before-2 frames in
     let few = within-true 1 64 (before-1 slots .args .slots) (slots-passed slots) in
     let short = within-true 2 8 (before-1 slots .args .frames) (frames-passed frames) in
     omega (arith, mul-le-mul (few .1) (short .1))
 
+many-positions-requires : tie.Need-many-positions-requires
+many-positions-requires c κs = search needs
+
 returns-4 : tie.Need-returns-4
 returns-4 c =
-    let frames = before-3 c in
-    rw (slots-passed (before-2 frames), frames-passed frames, is-true (c .before .inside3 .ensures) (c .if3 .left))
+    let buffer = c .before in
+    let frames = before-3 buffer in
+    rw (
+      slots-passed (before-2 frames),
+      frames-passed frames,
+      is-true (buffer .before .buffer-fits .ensures) (buffer .if3 .left),
+    ) (c .many-positions .ensures)
 
 pub misframes-spec : {M : Type 1} → statement M
 misframes-spec =
     tie.close
     (tie.spec
-    inside-requires
+    slots-fit-requires
     returns
-    inside-requires-2
+    frames-fit-requires
     returns-2
-    inside-requires-3
+    buffer-fits-requires
     returns-3
-    mul-result
+    mul-many-positions
+    many-positions-requires
     returns-4)

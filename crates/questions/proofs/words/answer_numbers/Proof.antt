@@ -54,6 +54,12 @@ enum-told-8 c = search needs
 delay-requires : tie.Need-delay-requires
 delay-requires c κs = search needs
 
+enum-told-9 : tie.Need-enum-told-9
+enum-told-9 c = search needs
+
+faults-requires : tie.Need-faults-requires
+faults-requires c κs = search needs
+
 same-length : tie.Need-same-length
 same-length c = search needs
 
@@ -134,6 +140,16 @@ returns-8 c =
     let told = said .before .before in
     says-same (ap (λ w. answerToNumbers w (told .before .before .before .before .args .numbers .now)) (sym (told .enum-told8 .given .1))) (said .delay .ensures)
 
+same-length-9 : tie.Need-same-length-9
+same-length-9 c = search needs
+
+returns-9 : tie.Need-returns-9
+unfolding answerToNumbers
+returns-9 c =
+    let said = c .before .before in
+    let told = said .before .before in
+    says-same (ap (λ w. answerToNumbers w (told .before .before .before .before .args .numbers .now)) (sym (told .enum-told9 .given .1))) (said .faults .ensures)
+
 pub answer-numbers-spec : {M : Type 1} → statement M
 answer-numbers-spec =
     tie.close
@@ -154,6 +170,8 @@ answer-numbers-spec =
     programme-requires
     enum-told-8
     delay-requires
+    enum-told-9
+    faults-requires
     same-length
     returns
     same-length-2
@@ -169,4 +187,6 @@ answer-numbers-spec =
     same-length-7
     returns-7
     same-length-8
-    returns-8)
+    returns-8
+    same-length-9
+    returns-9)

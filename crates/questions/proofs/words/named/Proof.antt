@@ -74,6 +74,13 @@ past-9 : (c : tie.Else9) → rowNamed (text-9 c) (drop 9 words) ≡ wordFor (tex
 unfolding words
 past-9 c = row-is-not _ _ _ (c .before .same9 .ensures) (c .if9 .left) ∙ past-8 (c .before .before .before)
 
+abbrev text-10 : tie.Else10 → List ℕ
+text-10 c = text-9 (c .before .before .before)
+
+past-10 : (c : tie.Else10) → rowNamed (text-10 c) (drop 10 words) ≡ wordFor (text-10 c)
+unfolding words
+past-10 c = row-is-not _ _ _ (c .before .same10 .ensures) (c .if10 .left) ∙ past-9 (c .before .before .before)
+
 slice-aggregate-same : tie.Need-slice-aggregate-same
 slice-aggregate-same c = search needs
 
@@ -164,9 +171,19 @@ returns-9 : tie.Need-returns-9
 unfolding words
 returns-9 c = row-is _ _ _ (c .before .same9 .ensures) (c .if9 .taken) ∙ past-8 (c .before .before .before)
 
+slice-aggregate-same-10 : tie.Need-slice-aggregate-same-10
+slice-aggregate-same-10 c = search needs
+
+same-requires-10 : tie.Need-same-requires-10
+same-requires-10 c κs = search needs
+
 returns-10 : tie.Need-returns-10
+unfolding words
+returns-10 c = row-is _ _ _ (c .before .same10 .ensures) (c .if10 .taken) ∙ past-9 (c .before .before .before)
+
+returns-11 : tie.Need-returns-11
 unfolding words rowNamed
-returns-10 c = past-9 c
+returns-11 c = past-10 c
 
 pub named-spec : {M : Type 1} → statement M
 named-spec =
@@ -199,4 +216,7 @@ named-spec =
     slice-aggregate-same-9
     same-requires-9
     returns-9
-    returns-10)
+    slice-aggregate-same-10
+    same-requires-10
+    returns-10
+    returns-11)

@@ -1,0 +1,4 @@
+pub mod AskedFlows
+pub mod FaultsFollow
+pub mod FaultsLines
+pub mod FaultsWordEdges

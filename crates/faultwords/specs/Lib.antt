@@ -1,0 +1,4 @@
+pub mod PlanFaults
+pub mod FaultsWord
+pub mod Asked
+pub mod FaultsWordEdges
