@@ -4,7 +4,7 @@ page shows."""
 import shlex
 
 from front_door.command import ROOT, start, trouble
-from front_door.pages import code_lines, help_lacks, inline_code, page, table
+from front_door.pages import help_lacks, inline_code, page, table
 from front_door.plan_tree import PlanTree, DONE, REFUSED
 from front_door.progress import crates_below
 from front_door.tree import in_a_tree
@@ -25,25 +25,46 @@ def answers(domeplan):
         start([domeplan], input=asked), output=right)
 
 
+def blocks():
+    """The lines of each block of code."""
+    found = []
+    for line in page(PAGE).splitlines() + [""]:
+        if line.startswith("    "):
+            found.append(line.strip())
+        elif found:
+            yield found
+            found = []
+
+
+def files():
+    """The texts that the page shows, by the names on their first lines."""
+    return {block[0][2:].partition(":")[0]: "\n".join(block) + "\n"
+            for block in blocks() if block[0].startswith("# ")}
+
+
 def commands():
     """Each command of ./plan, with the lines that it says on the page."""
     found = []
-    for line in code_lines(page(PAGE)):
-        if line.startswith("./plan "):
-            found.append((line.partition("#")[0].strip(), []))
-        else:
-            found[-1][1].append(line)
+    for block in blocks():
+        for line in block if not block[0].startswith("# ") else ():
+            if line.startswith("./plan "):
+                found.append((line.partition("#")[0].strip(), []))
+            else:
+                found[-1][1].append(line)
     return found
 
 
 def commands_as_written(tree):
     """One after the other in one folder, as a reader starts them."""
+    for name, text in files().items():
+        tree.write(name, text)
     for command, said in commands():
         ended = start(["sh", "-c", command], cwd=tree.root)
-        status = REFUSED if said else DONE
+        status = REFUSED if "refused with" in "".join(said) else DONE
         if ended.status != status or ended.errors.splitlines() != said:
             return "%s: status %d: %s" % (command, ended.status, ended.errors)
-    return len(commands()) < 5 and "only %d" % len(commands())
+    return (len(files()), len(commands()) > 12) != (3, True) and (
+        "%d texts, %d commands" % (len(files()), len(commands())))
 
 
 def options_are_in_the_help():

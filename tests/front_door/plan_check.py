@@ -8,7 +8,8 @@ from edges import refusals_page
 from edges.edge_maker import BASE
 from front_door.command import ROOT, redirected, start, trouble
 from front_door.plan_delays import HEAD, WORDS
-from front_door.plan_read import PRINTED, ROOMY, ROOMY_PRINTED
+from front_door.plan_read import (
+    OF_THE_PAGE, PRINTED, ROOMY, ROOMY_PRINTED)
 from front_door.plan_tree import NOT_DONE, REFUSED, in_trees
 from front_door.remedies import what_to_do
 
@@ -135,16 +136,16 @@ def check_with_the_usual_tools(tree):
 # ---- plans that are refused
 
 def check_refusals(tree):
-    """Status 1, the words of docs/REFUSALS.md, and what to do about a plan,
-    which but for 1 is all."""
-    when = refusals_page.sentences()
+    """Status 1, what is refused and here, and what to do about a plan, which
+    but for 1 is all."""
     for number, data, last in refusals_page.examples():
         if last.startswith("P"):
             ended = tree.start("--check", "-", input=data)
             wrong = trouble(
                 ended, REFUSED, b"" if number < 3 else None,
                 "plan: standard input is refused with %d: %s"
-                % (number, when[number]), "plan: " + what_to_do(number)) or (
+                % (number, OF_THE_PAGE[number]),
+                "plan: " + what_to_do(number)) or (
                 number > 1 and not ended.errors.endswith(
                     what_to_do(number) + "\n") and ended.errors)
             if wrong:
@@ -157,8 +158,10 @@ def check_numbers_as_they_stand(tree):
         ended = tree.start("--check", "-", input=data)
         printed = ended.output.decode().splitlines()
         missing = [line for line in lines if line not in printed]
-        wrong = trouble(ended, REFUSED, None, "refused with %d: " % number,
-                        what_to_do(number)) or (
+        said = ended.errors.splitlines()
+        wrong = (ended.status != REFUSED or "refused with %d: " % number
+                 not in said[0] or what_to_do(number) not in said[-1]) and (
+            ended.errors) or (
             (missing or not printed[0].startswith("refused; ")
              or "passes" in ended.output.decode()) and "%s" % printed)
         if wrong:

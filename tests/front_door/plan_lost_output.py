@@ -2,9 +2,12 @@
 
 import os
 import pty
+import signal
+import subprocess
+import time
 
 from edges.edge_maker import BASE
-from front_door.command import redirected, start, trouble
+from front_door.command import LIMIT, redirected, start, trouble
 from front_door.plan_tree import NOT_DONE, NUMBERS, in_trees
 
 
@@ -13,9 +16,17 @@ def all_ways(tree):
     return NUMBERS, ["--read", tree.file], ["--week", "1200", "1275", "7"]
 
 
-def each(tree, ends, says):
+def all_output(tree):
+    """The same, and words of all other ways that write to standard output."""
+    return [*all_ways(tree), *([option, tree.file] for option in (
+        "--check", "--fits", "--text")), ["--json", "--check", tree.file],
+        *map(str.split, ("--mesh 2 0 9 1", "--at 0 0 5 7",
+                         "--extras 4 8 3 40", "--count 4 2"))]
+
+
+def each(tree, ends, says, ways=all_ways):
     """What is wrong where each has to end with status 2, or None."""
-    for words in all_ways(tree):
+    for words in ways(tree):
         wrong = trouble(ends(words), NOT_DONE, says=says)
         if wrong:
             return "%s: %s" % (words[0], wrong)
@@ -26,14 +37,16 @@ def each(tree, ends, says):
 
 def closed_output(tree):
     return each(tree, lambda words: start(
-        redirected(">&-", tree.command, *words)), "standard output is closed")
+        redirected(">&-", tree.command, *words)), "standard output is closed",
+        all_output)
 
 
 def full_disk(tree):
     if not os.path.exists("/dev/full"):
         return None
     return each(tree, lambda words: start(
-        redirected(">/dev/full", tree.command, *words)), "output was lost")
+        redirected(">/dev/full", tree.command, *words)), "output was lost",
+        all_output)
 
 
 def reader_has_gone(tree):
@@ -97,8 +110,33 @@ def takes_no_such_question(tree):
                 "domeplan doesn't take this: because of this")
 
 
+def can_not_be_started(tree):
+    tree.program.write_text("no program\n")
+    return each(tree, lambda words: tree.start(*words),
+                "domeplan can't be started: ")
+
+
+def is_broken_off(tree):
+    """By a key, while domeplan takes its time: one line."""
+    tree.instead("echo >started\nexec sleep %d\n" % LIMIT)
+    process = subprocess.Popen(
+        [tree.command, *NUMBERS], cwd=tree.root, stdin=subprocess.DEVNULL,
+        stdout=subprocess.PIPE, stderr=subprocess.PIPE,
+        start_new_session=True)
+    for _ in range(10 * LIMIT):
+        if (tree.root / "started").exists():
+            break
+        time.sleep(0.1)
+    os.killpg(process.pid, signal.SIGINT)
+    output, errors = process.communicate(timeout=LIMIT)
+    return (process.returncode, output, errors) != (
+        NOT_DONE, b"", b"plan: broken off\n") and "status %d, %r, %r" % (
+            process.returncode, output, errors)
+
+
 TESTS = (closed_output, full_disk, reader_has_gone, terminal, breaks_off,
-         answers_nonsense, takes_no_such_question)
+         answers_nonsense, takes_no_such_question, can_not_be_started,
+         is_broken_off)
 
 
 def tests(programs):

@@ -180,8 +180,9 @@ def output_is_lost(tree):
 
 def no_python(tree):
     tree.only_tools()
+    (tree.root / "bin/python3").unlink()
     return trouble(tree.mesh(EXAMPLE), NOT_DONE, b"",
-                   "python3, which --mesh needs, is not on the path")
+                   "python3, which this needs, is not on the path")
 
 
 TESTS = (example, fits, several_links, each_sign, refused, sixty_four,

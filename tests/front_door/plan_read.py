@@ -35,6 +35,20 @@ left     14   3827  of F and of N
 
 to make it again: ./plan 64 4 4095  9 255 0 63  40 1 63 0  1 12 5 6
 """
+# What is said of the inputs of docs/REFUSALS.md that are no plan.
+OF_THE_PAGE = {
+    1: "the plan has fewer than 12 bytes or another length than it states; at "
+       "the start of a call file, also where that is not 12 to 76; here it "
+       "has 2 bytes and states 11",
+    2: "n is not 1 to 16, the offset is not 12, or the length is not 12 + 4n; "
+       "here n is 0, the offset 12 and the length 12",
+    3: "W is not 2 to 8; here W is 9",
+    4: "a flow's cells are 0 or above 255; here flow 0 has 0 cells",
+    5: "two flows have the same source and the same destination; here flows 0 "
+       "and 1",
+    6: "the shares add to more than F; here they add to 5, and F is 4",
+    7: "the cells add to more than N; here they add to 4, and N is 3",
+}
 SIXTEEN = call_bytes.plan(64, 4, 4095, [(4, 255, place, 63)
                                         for place in range(16)])
 
@@ -85,13 +99,13 @@ def no_tools_but_the_usual(tree):
 # ---- files that are refused
 
 def refused_files(tree):
-    """Status 1, the words of docs/REFUSALS.md, and what to do."""
-    when = refusals_page.sentences()
+    """Status 1, what is refused and here, and what to do."""
     for number, data, last in refusals_page.examples():
         if last.startswith("P"):
             wrong = trouble(tree.start("--read", "-", input=data), REFUSED,
                             b"", "plan: standard input is refused with %d: %s"
-                            % (number, when[number]), what_to_do(number))
+                            % (number, OF_THE_PAGE[number]),
+                            what_to_do(number))
             if wrong:
                 return "refusal %d: %s" % (number, wrong)
     return None

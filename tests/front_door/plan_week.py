@@ -1,6 +1,5 @@
 """./plan --week: a programme printed for people, and what is refused."""
 
-from edges import refusals_page
 from front_door.command import redirected, start, trouble
 from front_door.plan_tree import NOT_DONE, REFUSED, in_trees
 from front_door.remedies import what_to_do
@@ -49,22 +48,45 @@ PRINTED = [
 
 # Numbers beside the refusal that rule 19.2 gives them, and the entry or the
 # entries that are named.
+NOT_BEFORE = OUTSIDE = (
+    "a showing's start is not before its end, or it lies outside the week, "
+    "which ends at minute 10,080; here entry %d is from ")
+SHARED = ("two entries of the programme share a minute, whichever minute is "
+          "asked about; here entries ")
 REFUSALS = [
-    ("10 10 7", 28, "entry 1 is from 10 to 10"),
-    ("20 10 7", 28, "entry 1 is from 20 to 10"),
-    ("0 10081 7", 28, "entry 1 is from 0 to 10081"),
-    ("10000 100 7", 28, "entry 1 is from 10000 to 100"),
-    ("0 999999999 7", 28, "entry 1 is from 0 to 999999999"),
-    ("0 1 7 " * 65, 28, "there are 65"),    # before 29
-    ("0 10 5  5 20 6  30 30 7", 28, "entry 3 is from 30 to 30"),
-    ("0 08 5  010 0009 6", 28, "entry 2 is from 10 to 9"),
-    ("0 10 5  5 20 6", 29, "entries 1 and 2"),
-    ("0 10 5  0 10 5", 29, "entries 1 and 2"),
-    ("0 100 5  40 50 6", 29, "entries 1 and 2"),
-    ("40 50 6  0 100 5", 29, "entries 1 and 2"),
-    ("10 20 1  0 10 2  20 30 3  9 11 4", 29, "entries 1 and 4"),
-    ("10 20 1  0 10 2  20 30 3  9 10 4", 29, "entries 2 and 4"),
-    ("10 20 1  0 9 2  20 30 3  29 40 4", 29, "entries 3 and 4"),
+    ("10 10 7", 28, NOT_BEFORE % 1 + "10 to 10"),
+    ("20 10 7", 28, NOT_BEFORE % 1 + "20 to 10"),
+    ("0 10081 7", 28, OUTSIDE % 1 + "0 to 10081"),
+    ("10000 100 7", 28, NOT_BEFORE % 1 + "10000 to 100"),
+    ("0 999999999 7", 28, OUTSIDE % 1 + "0 to 999999999"),
+    ("0 08 5  010 0009 6", 28, NOT_BEFORE % 2 + "10 to 9"),
+    ("0 10 5  5 20 6", 29, SHARED + "1 and 2"),
+    ("0 10 5  0 10 5", 29, SHARED + "1 and 2"),
+    ("0 100 5  40 50 6", 29, SHARED + "1 and 2"),
+    ("40 50 6  0 100 5", 29, SHARED + "1 and 2"),
+    ("10 20 1  0 10 2  20 30 3  9 10 4", 29, SHARED + "2 and 4"),
+    ("10 20 1  0 9 2  20 30 3  29 40 4", 29, SHARED + "3 and 4"),
+]
+
+# Numbers beside all that is told of them.
+WITH, THEN = "the programme is refused with 28: ", "and then with "
+SEVERAL = [
+    ("0 10 5  5 20 6  30 30 7",
+     [WITH + NOT_BEFORE % 3 + "30 to 30", THEN + "29: " + SHARED + "1 and 2"]),
+    # The first entry that shares a minute.
+    ("10 20 1  0 10 2  20 30 3  9 11 4  25 40 5",
+     ["the programme is refused with 29: " + SHARED + "1 and 4",
+      THEN + "29: " + SHARED + "3 and 5"]),
+    # An entry that is wrong by itself shares no minute.
+    ("20000 10081 7  10079 10081 8  10079 10080 9  0 10080 9",
+     [WITH + NOT_BEFORE % 1 + "20000 to 10081",
+      THEN + "28: " + OUTSIDE % 2 + "10079 to 10081",
+      THEN + "29: " + SHARED + "3 and 4"]),
+    # Of 65 the first 64 are looked at: 63 share the minute with the first.
+    ("0 1 7 " * 65,
+     [WITH + "the programme has more than 64 entries; here there are 65",
+      *(THEN + "29: " + SHARED + "1 and %d" % entry
+        for entry in range(2, 22)), "and 43 more"]),
 ]
 
 COUNT = ("the numbers of a programme are a start, an end and a plan for each "
@@ -75,7 +97,7 @@ WRONG = [
     (["1"], COUNT % "1 is"),
     (["1", "2"], COUNT % "2 are"),
     (["1", "2", "3", "4"], COUNT % "4 are"),
-    ([""], "'' is no number"),
+    ([""], "'' is no number, and there is no file of that name"),
     (["mon", "2", "3"], "'mon' is no number"),
     (["20:00", "21:15", "7"], "'20:00' is no number"),
     (["1", "2", "-3"], "'-3' is no number"),
@@ -161,16 +183,6 @@ def no_tools_but_the_usual(tree):
     return trouble(tree.start(*words_of(numbers)), output=lines(printed))
 
 
-def sort_is_missing(tree):
-    """The order is not guessed."""
-    tree.only_tools()
-    (tree.root / "bin/sort").unlink()
-    ended = tree.start(*words_of(PRINTED[0][0]))
-    return (ended.status != NOT_DONE or ended.output
-            or "can't be put in order" not in ended.errors) and (
-                "status %d, %r" % (ended.status, ended.errors))
-
-
 def closed_input_not_needed(tree):
     numbers, printed = PRINTED[0]
     return trouble(start(redirected("<&-", tree.command, *words_of(numbers))),
@@ -180,15 +192,26 @@ def closed_input_not_needed(tree):
 # ---- programmes that are refused, and words that are none
 
 def refused_programmes(tree):
-    """Status 1, no line, the words of docs/REFUSALS.md, which entry it is,
-    and what to do."""
-    when = refusals_page.sentences()
+    """Status 1, no line, what is refused, which entry it is, and what to
+    do."""
     for numbers, refusal, here in REFUSALS:
         wrong = trouble(tree.start(*words_of(numbers)), REFUSED, b"",
-                        "plan: the programme is refused with %d: %s; here %s"
-                        % (refusal, when[refusal], here), what_to_do(refusal))
+                        "plan: the programme is refused with %d: %s"
+                        % (refusal, here), what_to_do(refusal))
         if wrong:
             return "%s: %s" % (numbers[:40], wrong)
+    return None
+
+
+def all_at_once(tree):
+    """The last line is what to do about each number."""
+    for numbers, lines in SEVERAL:
+        ended = tree.start(*words_of(numbers))
+        *told, last = ended.errors.splitlines()
+        if (ended.status, ended.output) != (REFUSED, b"") or told != [
+                "plan: " + line for line in lines] or (
+                not last.startswith("plan: what to do: ")):
+            return "%s: %s" % (numbers[:40], ended.errors)
     return None
 
 
@@ -201,7 +224,7 @@ def wrong_programme_words(tree):
 
 
 TESTS = (by_hand, sixty_four_showings, by_chance, no_tools_but_the_usual,
-         sort_is_missing, closed_input_not_needed, refused_programmes,
+         closed_input_not_needed, refused_programmes, all_at_once,
          wrong_programme_words)
 
 
