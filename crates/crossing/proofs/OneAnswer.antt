@@ -33,13 +33,12 @@ alike r s = record {
   waiting = sym (r .waiting-is) ∙ s .waiting-is;
 }
 
-pub one-outcome : {x : Crossing} {step : paper.Crossing → paper.Crossing} {a b k a' b' k' a″ b″ k″ : List ℕ}
-    → Comes x step a b k a' b' k' → Comes x step a b k a″ b″ k″ → Alike x a' b' k' a″ b″ k″
-one-outcome {x} {a = a} {b} {k} first second = alike (first _ (is-read x a b k)) (second _ (is-read x a b k))
+module _ {x : Crossing} {a b k a' b' k' a″ b″ k″ : List ℕ} where
+  pub one-outcome : {step : paper.Crossing → paper.Crossing} → Comes x step a b k a' b' k' → Comes x step a b k a″ b″ k″ → Alike x a' b' k' a″ b″ k″
+  one-outcome first second = alike (first _ (is-read x a b k)) (second _ (is-read x a b k))
 
-pub one-pass : {x : Crossing} {i j : ℕ} {a b k a' b' k' a″ b″ k″ : List ℕ} {granted granted' : Bool}
-    → Passes x i j a b k a' b' k' granted → Passes x i j a b k a″ b″ k″ granted' → Alike x a' b' k' a″ b″ k″ × (granted ≡ granted')
-one-pass {x} {a = a} {b} {k} first second =
-    let r = first _ (is-read x a b k) in
-    let s = second _ (is-read x a b k) in
-    (alike (r .reads) (s .reads), r .granted-is ∙ sym (s .granted-is))
+  pub one-pass : {i j : ℕ} {g g' : Bool} → Passes x i j a b k a' b' k' g → Passes x i j a b k a″ b″ k″ g' → Alike x a' b' k' a″ b″ k″ × (g ≡ g')
+  one-pass first second =
+      let r = first _ (is-read x a b k) in
+      let s = second _ (is-read x a b k) in
+      (alike (r .reads) (s .reads), r .granted-is ∙ sym (s .granted-is))
