@@ -19,7 +19,7 @@
  * What a caller owes: each pointer has the stated number of bytes behind it,
  * which may be 0, and is not NULL; the plan's bytes and the image don't overlap;
  * two calls on one image don't run at once. The archive needs memcpy and memset,
- * and a call up to 12,500 bytes of stack.
+ * and a call up to 11,200 bytes of stack.
  */
 #ifndef NAZGOLV_H
 #define NAZGOLV_H
