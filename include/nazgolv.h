@@ -50,7 +50,7 @@
  *                   nazgolv_lend       7,300
  *                   nazgolv_reset      7,300
  *                   nazgolv_play       7,400
- *                   nazgolv_check      1,900
+ *                   nazgolv_check      2,100
  *
  * Of the C library memcpy and memset are needed, and no other thing.
  */

@@ -135,7 +135,8 @@ def of_no_text(tree):
                        input=b"flow share=1 cells=1 from=1\n")
     return wrong_object(ended, {
         "verdict": "not read", "status": NOT_DONE, "lines": [
-            {"line": 1, "says": "to= is missing"},
+            {"line": 1,
+             "says": "to= is missing: write each with a number after it"},
             {"line": None, "says": "it has no line that begins with plan, as "
              "in plan F=4 W=2 N=4"}]})
 

@@ -37,12 +37,13 @@ to make it again: ./plan 4 2 4  2 2 1 9  2 2 2 9
 """
 FLOW = "flow a share=1 cells=1 from=1 to=9\n"
 NONE_OF = "is none of share=NUMBER, cells=NUMBER, from=NUMBER and to=NUMBER"
+EACH = ": write each with a number after it"
 NO_PLAN = "it has no line that begins with plan, as in plan F=4 W=2 N=4"
 
 # Texts, and what is said of each: sentences behind the file's name.
 WRONG = [
-    ("plan F=4 W=2\n" + FLOW, ["line 1: N= is missing"]),
-    ("plan\n", ["line 1: F=, W= and N= are missing"]),
+    ("plan F=4 W=2\n" + FLOW, ["line 1: N= is missing" + EACH]),
+    ("plan\n", ["line 1: F=, W= and N= are missing" + EACH]),
     (FLOW, [NO_PLAN]),
     ("# nothing\n", [NO_PLAN]),
     ("paln F=4 W=2 N=4\n", [
@@ -53,9 +54,9 @@ WRONG = [
     ("plan F=4 W=2 N=4\n" + FLOW + "ask 0\n", [
         "line 3: a line begins with plan or flow, and this one with 'ask'"]),
     ("plan F=4 W=2 N=4\nflow a shar=1 cells=1 from=1 to=9\n",
-     ["line 2: 'shar=1' " + NONE_OF, "line 2: share= is missing"]),
+     ["line 2: 'shar=1' " + NONE_OF, "line 2: share= is missing" + EACH]),
     ("plan F=4 W=2 N=4\nflow a share=1 cells=1 from=1 to=9 to=9\n",
-     ["line 2: to= is given twice"]),
+     ["line 2: to= is given twice: leave one out"]),
     ("plan F=4 W=2 N=4\nflow a share=-1 cells=1 from=1 to=1000000000\n",
      ["line 2: share= takes a number of one to nine digits, and has '-1'",
       "line 2: to= takes a number of one to nine digits, and has "
@@ -74,7 +75,7 @@ WRONG = [
      ["line 1: W is not 2 to 8; here W is 9 (line 1)",
       "line 2: a flow's cells are 0 or above 255; here flow a (line 2) has 300 "
       "cells",
-      "line 3: share=, cells=, from= and to= are missing",
+      "line 3: share=, cells=, from= and to= are missing" + EACH,
       "line 4: two flows have the same source and the same destination; here "
       "flows a (line 2) and c (line 4)"]),
 ]
