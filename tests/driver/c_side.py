@@ -37,7 +37,7 @@ WATCHED_IMAGES = 100        # of them under a tool that watches
 WATCHED_FILES = 3           # edges of each sort, through the player
 WATCHED_TESTS = 2           # under each tool that watches
 PLUS = ("c++98", "c++17")   # standards of the header
-OWN_TESTS = 0               # besides files of calls, where all tools are there
+OWN_TESTS = 788             # besides files of calls, with 400 of each sort
 
 
 def found(*names):
