@@ -64,7 +64,8 @@ in-hand-reads (InHand.by-slot {p} before h first second comes) =
 in-hand-reads (InHand.by-cross {p} h comes) = comes p (in-hand-reads h)
 
 module _ {x : Crossing} (ok-P : Accepted (planFor (x .arriving))) (ok-Q : Accepted (planFor (x .leaving)))
-    (in-step : InStep (planFor (x .arriving)) (planFor (x .leaving))) (goes-on : Onward (planFor (x .arriving)) (planFor (x .leaving)) (onwardOf x)) where
+    (in-step : InStep (planFor (x .arriving)) (planFor (x .leaving)))
+    (goes-on : Onward (planFor (x .arriving)) (planFor (x .leaving)) (onwardOf x)) where
   full : {p : crossings.Crossing} {a b k : List ℕ} → InHand x p a b k → Full ok-P ok-Q in-step goes-on p
   full (InHand.by-fresh first second) = begun-full ok-P ok-Q in-step goes-on
   full (InHand.by-others {p} calls h first second) = others-full ok-P ok-Q in-step goes-on calls p (full h)

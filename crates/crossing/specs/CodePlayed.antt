@@ -1,5 +1,5 @@
--- A crossing that the code plays: what its contracts, and those of the calls of others, say of two states and of the tiles that wait. RULES 27.2, 27.6. Assumes
--- nothing.
+-- A crossing that the code plays: what its contracts, and those of the calls of others, say of two states and of the tiles that wait. RULES 27.2 and
+-- 27.6. Assumes nothing.
 use Prim.Native.Nat.{ℕ}
 use mathlib.Core.Path.{_≡_}
 use mathlib.Core.List.{List}

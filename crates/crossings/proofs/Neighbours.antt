@@ -17,7 +17,8 @@ use Rattle.crossings.specs.Playing.{Other, onArriving, onLeaving, anothe
 -- ---- what a request on the out-link, a credit on the in-link and a count of tiles keep, a board's part keeps
 
 module _ {Keeps : Crossing → Type 0} (asked : (j : ℕ) (x : Crossing) → Keeps x → Keeps (askedFor j x))
-    (left : (i p : ℕ) (x : Crossing) → Keeps x → Keeps (leaves i p x)) (counted : (i k : ℕ) (x : Crossing) → Keeps x → Keeps (withWaiting x i k)) where
+    (left : (i p : ℕ) (x : Crossing) → Keeps x → Keeps (leaves i p x))
+    (counted : (i k : ℕ) (x : Crossing) → Keeps x → Keeps (withWaiting x i k)) where
   grant-keeps : (i : ℕ) (a : Grant) {rest : Crossing → Crossing} → ((x : Crossing) → Keeps x → Keeps (rest x)) → (x : Crossing) → Keeps x
       → Keeps (onGrant i a rest x)
   grant-keeps i (accepted v) rest-keeps x z = rest-keeps (leaves i (departureOf v) x) (left i (departureOf v) x z)
