@@ -154,7 +154,7 @@ module _ {P Q : Plan} {onward : List (Option ℕ)} (ok-P : Accepted P) (ok-Q : A
         subst (λ n. 0 < refusedThen Q j n (y .leaving .history)) (sym (stays .same-time)) after;
   }
 
-  others-full : (os : List Other) (x : Crossing) → FullHere x → FullHere (others os x)
+  pub others-full : (os : List Other) (x : Crossing) → FullHere x → FullHere (others os x)
   others-full os x z = let (kept, stays) = others-kept os x (z .kept) in full-stays (z .tried) kept stays
 
   -- ---- a slot
@@ -177,22 +177,18 @@ module _ {P Q : Plan} {onward : List (Option ℕ)} (ok-P : Accepted P) (ok-Q : A
         };
   }
 
-  slot-full : (s : Slot) (x : Crossing) → FullHere x → FullHere (inSlot served s x)
-  slot-full s x z =
-      let (kept, _) = others-kept (s .before) (bothTick x) (tick-kept x (z .kept)) in
-      others-full (s .after) _ (served-full ok-P ok-Q in-step goes-on (turnOf x) (others (s .before) (bothTick x)) kept)
-
-  -- one call of others, and a slot in which they ask nothing
-  pub arriving-full : (c : Call) (x : Crossing) → FullHere x → theirsArriving x c ≡ true
-      → FullHere (crossingWith x (step paper (x .arriving) c) (x .leaving) (x .waiting))
-  arriving-full c x z theirs = record { kept = arriving-kept (z .kept) c theirs; tried = z .tried }
-
-  pub leaving-full : (c : Call) (x : Crossing) → FullHere x → theirsLeaving x c ≡ true
-      → FullHere (crossingWith x (x .arriving) (step paper (x .leaving) c) (x .waiting))
-  leaving-full c x z theirs = full-stays (z .tried) (leaving-kept (z .kept) c theirs) (leaving-stays x c theirs)
+  -- the board's part of a slot, after the ticks and what others ask before it; and where they ask nothing
+  pub part-full : (before : List Other) (x : Crossing) → FullHere x → FullHere (served (turnOf x) (others before (bothTick x)))
+  part-full before x z =
+      let (kept, _) = others-kept before (bothTick x) (tick-kept x (z .kept)) in
+      served-full ok-P ok-Q in-step goes-on (turnOf x) (others before (bothTick x)) kept
 
   pub slot-alone-full : (x : Crossing) → FullHere x → FullHere (served (turnOf x) (bothTick x))
-  slot-alone-full x z = served-full ok-P ok-Q in-step goes-on (turnOf x) (bothTick x) (tick-kept x (z .kept))
+  unfolding others
+  slot-alone-full x z = part-full [] x z
+
+  slot-full : (s : Slot) (x : Crossing) → FullHere x → FullHere (inSlot served s x)
+  slot-full s x z = others-full (s .after) _ (part-full (s .before) x z)
 
   slots-full : (ss : List Slot) (x : Crossing) → FullHere x → FullHere (inSlots served ss x)
   unfolding inSlots

@@ -4,6 +4,8 @@ pub mod Kept
 pub mod Tiles
 pub mod Board
 pub mod Crosses
+-- a link between two boards
+pub mod Neighbours
 -- worked examples, and boards that are sent back
 pub mod Unfoldings
 pub mod Edges
