@@ -94,6 +94,7 @@ def of_the_week(options):
 
 def at_a_time(options):
     minute = week_asked.minute_of(options.words)
+    week_asked.some_week(options.words)
     asked = week_asked.taken(options.words)
     build()
     asked.look()

@@ -31,15 +31,17 @@ RESULTS = {                     # of each call, and the types of what follows th
 
 def load():
     """The library; a sentence where there is none, or one of other images."""
-    built = Path(__file__).resolve().parents[2] / "target/c" / NAME
+    built = Path(__file__).resolve().parent / "../../target/c" / NAME
     path = os.environ.get("NAZGOLV_LIBRARY") or (
         str(built) if built.exists() else NAME)
     try:
         library = CDLL(path)
         getattr(library, "nazgolv_images_%d" % IMAGES)
     except (OSError, AttributeError) as error:
-        raise ImportError("%s is no library of Nazgolv with images of version "
-                          "%d: %s" % (path, IMAGES, error)) from None
+        raise ImportError(
+            "%s is no library of Nazgolv with images of version %d: %s; "
+            "player/build makes one, and NAZGOLV_LIBRARY names it"
+            % (path, IMAGES, error)) from None
     for name, (result, types) in RESULTS.items():
         call = getattr(library, "nazgolv_" + name)
         call.restype, call.argtypes = result, [c_char_p, c_size_t, *types]

@@ -62,6 +62,15 @@ def no_other_library(installed):
     return None
 
 
+def copied_anywhere(installed):
+    """Right below the root too."""
+    program = "exec(open(%r).read(), {'__name__': 'nazgolv', '__file__': %r})"
+    source = EXAMPLES["Python"].parent / "nazgolv.py"
+    return trouble(start(
+        [sys.executable, "-B", "-c", program % (str(source), "/nazgolv.py")],
+        env=environment(installed)), output=b"")
+
+
 def own_of_python(installed):
     """Numbers that are too wide, and bytes that are no image."""
     program = "import sys; sys.path.insert(0, %r)\n%s" % (
@@ -136,3 +145,5 @@ def tests(installed, folder):
            partial(own_of_python, installed))
     yield ("C: Python and another library",
            partial(no_other_library, installed))
+    yield ("C: installed, Python wherever it is copied",
+           partial(copied_anywhere, installed))

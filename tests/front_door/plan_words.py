@@ -117,6 +117,8 @@ WRONG = [
     ("--at moon 20:00", NO_TIME + "and 'moon 20:00' is none"),
     ("--at week.txt", NO_TIME + "and 'week.txt' is none"),
     ("--at mon 20:00 1200 1275", "a start, an end and a plan for each"),
+    ("--at sat 23:30", "--at asks about a week, and none is named: give its "
+     "file, or a start, an end and a plan for each showing"),
     ("--fits", "--fits takes one file, and 0 are named"),
 ]
 

@@ -27,6 +27,14 @@ def taken(words):
                  for place in range(0, len(numbers), 3)])
 
 
+def some_week(words):
+    """A week has to be named where one minute of it is asked about."""
+    if not words:
+        raise Trouble("--at asks about a week, and none is named: give its "
+                      "file, or a start, an end and a plan for each showing"
+                      + MORE)
+
+
 def minute_of(words):
     """The minute that --at is asked about, taken off the words: a number, or
     a day and a time in one word or two."""
