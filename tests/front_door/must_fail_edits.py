@@ -30,7 +30,7 @@ CRATES = {
     "extras": "root", "programme": "root", "delay": "root",
     "delaywords": "root", "questions": "root", "show": "root",
     "showwords": "root", "trace": "root", "faults": "root",
-    "faultwords": "root"}
+    "faultwords": "root", "weekwords": "root"}
 
 # Public functions that others are built from.
 HELPERS = {
@@ -51,7 +51,8 @@ KNOWN = {
     "programme": "plan_at", "delay": "delay", "delaywords": "delay",
     "questions": "feed finish", "show": "write link_refusal refusal",
     "showwords": "show", "trace": "step write_burst write_plan",
-    "faults": "tell_if say", "faultwords": "faults"}
+    "faults": "tell_if say", "faultwords": "faults",
+    "weekwords": "week_faults"}
 
 
 def sources(crate):
