@@ -63,7 +63,6 @@ no set that fits is worth more
     ("--at tue 20:30  1200 1275 7  2640 2715 7",
      "tue 20:30: plan 7 runs, from tue 20:00 to tue 21:15\n"),
     ("--at sun 23:59  1200 1275 7", "sun 23:59: dark until the week ends\n"),
-    ("--at 0", "mon 00:00: dark until the week ends\n"),
 ]
 
 MEND = "what to do: mend that number; a layer that takes more than the slots " \
@@ -119,6 +118,7 @@ WRONG = [
     ("--at mon 20:00 1200 1275", "a start, an end and a plan for each"),
     ("--at sat 23:30", "--at asks about a week, and none is named: give its "
      "file, or a start, an end and a plan for each showing"),
+    ("--at 0", "--at asks about a week, and none is named"),
     ("--fits", "--fits takes one file, and 0 are named"),
 ]
 
