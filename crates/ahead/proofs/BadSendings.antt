@@ -69,7 +69,8 @@ lent-only (event _ (event _ (event _ (event _ (event _ (event _ (event _ (event 
 -- and flow 1's tile in slot 6
 pub other-credited : (x : Sending otherCredited) → HasTile P x 1 6 3 → ⊥
 unfolding counts-compute dueSlot
-other-credited (event _ (event _ (event _ (event _ (event _ (event _ (event _ (event _ (event _ (event _ (event _ (event _ (event _ nothing))))))))))))) has = omega arith
+other-credited (event _ (event _ (event _ (event _ (event _ (event _ (event _ (event _ (event _ (event _ (event _ (event _ (event _ nothing))))))))))))) has =
+    omega arith
 
 -- ---- no tile is ready
 

@@ -103,6 +103,6 @@ after-slot a b joined y alike only well n below =
 
 pub leave-after : KeptAfter paper
 leave-after a b joined h₁ h₂ x y alike₁ only₁ alike₂ only₂ well = record {
-  after-slot = after-slot a b joined y alike₂ only₂ well;
+  after-slot = λ n below. omega (arith, after-slot a b joined y alike₂ only₂ well n below);
   after-leaving = λ n below. omega (arith, leaves-by-slot a x alike₁ only₁ n, after-slot a b joined y alike₂ only₂ well n below);
 }

@@ -14,7 +14,7 @@ use Rattle.model.specs.PlanBytes.{plan1}
 use Rattle.arrival.specs.Delay.{RoomFrom}
 use Rattle.arrival.specs.SeveralLinks.{slotsOf, tile, Board, planOn, sentOn, Joined}
 use Rattle.arrival.specs.SeveralLinks as links
-use Rattle.ahead.specs.AheadRuns.{WithAhead, start, both-tick, both-request, sent-ahead, BookedAlike}
+use Rattle.ahead.specs.AheadRuns.{WithAhead, start, both-tick, both-request, sent-ahead, AnsweredAlike, BookedAlike}
 use Rattle.ahead.specs.Sendings.{SentWell, sendingOf, LentOnlyAhead}
 use Rattle.ahead.specs.AheadOverLinks.{leavesOf, leftOn}
 use Rattle.ahead.specs.LessAhead.{AfterButReady}
@@ -27,6 +27,10 @@ use Rattle.ahead.proofs.LessAhead.{after}
 bit-most : (b : Bool) → bit b ≤ 1
 bit-most true = lit≤ tt
 bit-most false = lit≤ tt
+
+-- a request that is granted with one word in two runs
+one-answer : {t b : ℕ} (v : ℕ) → AnsweredAlike t b (accepted v) (accepted v)
+one-answer v = record { same-grant = refl; same-answer = λ le. refl }
 
 -- ---- in the slot after it comes
 
@@ -109,16 +113,14 @@ sent-on = sent-ahead 0 8 (both-tick (both-tick (both-tick (both-tick (both-tick 
 alike-first : BookedAlike (planOn first) as-booked
 unfolding ahead-computes first as-booked
 alike-first = record {
-  unmoved =
-      (refl, (refl, (refl, (refl, (refl, (record { same-grant = refl; same-answer = λ le. refl }, (record { same-grant = refl; same-answer = λ le. refl }, tt)))))));
+  unmoved = (refl, (refl, (refl, (refl, (refl, (one-answer _, (one-answer _, tt)))))));
   same-grants = refl;
 }
 
 alike-next : BookedAlike (planOn next) sent-on
 unfolding ahead-computes next sent-on
 alike-next = record {
-  unmoved =
-      (refl, (refl, (refl, (refl, (refl, (record { same-grant = refl; same-answer = λ le. refl }, (record { same-grant = refl; same-answer = λ le. refl }, tt)))))));
+  unmoved = (refl, (refl, (refl, (refl, (refl, (one-answer _, (one-answer _, tt)))))));
   same-grants = refl;
 }
 
@@ -145,8 +147,8 @@ after-it-came = leave-after first next joined _ _ as-booked sent-on alike-first 
 
 -- ---- in the very slot
 
--- F = 4, W = 2, share 1, 2 cells, on both. The first board grants slot 1. In slot 1 the second is asked with that as the departure, grants slot 2, and sends the
--- tile ahead: it leaves both in slot 1.
+-- F = 4, W = 2, share 1, 2 cells, on both. The first board grants slot 1. In slot 1 the second is asked with that as the departure, grants slot 2, and sends
+-- the tile ahead: it leaves both in slot 1.
 abbrev two : List ℕ
 two = plan1 4 2 8 1 2
 
@@ -158,7 +160,15 @@ atOnce sent = Call.tick ∷ Call.request 0x24000001 ∷ sent
 
 unfoldable one : Board paper
 unfolding ahead-computes
-one = record { bytes = two; passes = refl; events = after two oneCall; ran = record { calls = oneCall; is = refl }; no-reset = refl; stream = 0; known = lit< tt }
+one = record {
+  bytes = two;
+  passes = refl;
+  events = after two oneCall;
+  ran = record { calls = oneCall; is = refl };
+  no-reset = refl;
+  stream = 0;
+  known = lit< tt;
+}
 
 unfoldable other : Board paper
 unfolding ahead-computes
@@ -200,6 +210,6 @@ pub after-not-without-ready : AfterButReady paper → ⊥
 unfolding ahead-computes one other none-sent at-once leavesOf slotsOf tile
 after-not-without-ready kept =
     let x = kept one other joined-too oneCall (atOnce (Call.lend 1 ∷ Call.credit 0 2 ∷ [])) none-sent at-once
-    (record { unmoved = (refl, (record { same-grant = refl; same-answer = λ le. refl }, tt)); same-grants = refl }) (tt, (tt, tt))
-    (record { unmoved = (record { same-grant = refl; same-answer = λ le. refl }, (refl, tt)); same-grants = refl }) (tt, (tt, tt)) (lit< {n = 1} tt, tt) in
+    (record { unmoved = (refl, (one-answer _, tt)); same-grants = refl }) (tt, (tt, tt))
+    (record { unmoved = (one-answer _, (refl, tt)); same-grants = refl }) (tt, (tt, tt)) (lit< {n = 1} tt, tt) in
     omega (arith, x .after-slot 0 (lit< tt))

@@ -215,7 +215,8 @@ unfoldable renewed-alone : WithAhead (after fiveSlots renewed₁) (after fiveSlo
 unfolding calls-compute
 renewed-alone =
     both-request 0x24100807 (both-reset (both-tick (both-credit 1 7 (both-tick (both-tick (both-tick (both-credit 0 4 (sent-ahead 0 5 (both-tick (both-tick
-    (both-tick (both-credit 1 3 (both-credit 0 3 (both-request 0x24100400 (both-request 0x24100000 (both-request 0x24000400 (both-request 0x24000000 start)))))))))))))))))
+    (both-tick (both-credit 1 3 (both-credit 0 3 (both-request 0x24100400 (both-request 0x24100000 (both-request 0x24000400
+    (both-request 0x24000000 start)))))))))))))))))
 
 pub turn-not-without-credits : BookedAlikeIf TurnButCredits paper → ⊥
 unfolding ahead-computes renewed-alone
@@ -355,8 +356,8 @@ sent-well = sends-well paper meets listing refl calls₂ (sendingOf two-runs) ea
 -- the tile with slot 4 leaves in slot 3
 pub tiles-are :
     tiles P (sendingOf two-runs)
-    ≡ record { flow = 0; from = 5; slot = 6; leaves = 6 } ∷ record { flow = 1; from = 4; slot = 5; leaves = 5 } ∷ record { flow = 0; from = 1; slot = 4; leaves = 3 }
-    ∷ record { flow = 0; from = 1; slot = 2; leaves = 2 } ∷ record { flow = 0; from = 1; slot = 1; leaves = 1 } ∷ []
+    ≡ record { flow = 0; from = 5; slot = 6; leaves = 6 } ∷ record { flow = 1; from = 4; slot = 5; leaves = 5 }
+    ∷ record { flow = 0; from = 1; slot = 4; leaves = 3 } ∷ record { flow = 0; from = 1; slot = 2; leaves = 2 } ∷ record { flow = 0; from = 1; slot = 1; leaves = 1 } ∷ []
 unfolding calls-compute counts-compute dueSlot leavesIn two-runs
 tiles-are = refl
 

@@ -110,8 +110,8 @@ abbrev alone : (sent again : List Call) → List Call
 alone sent again =
     Call.request 0x24000000 ∷ Call.request 0x24000400 ∷ Call.request 0x24000800 ∷ Call.credit 0 3 ∷ Call.credit 0 3
     ∷ ticks (sent ++ Call.credit 0 4
-    ∷ ticks (Call.tick ∷ Call.tick ∷ Call.reset ∷ Call.credit 0 9 ∷ Call.request 0x24000C08 ∷ Call.request 0x24001008 ∷ Call.request 0x24001408 ∷ Call.credit 0 1
-    ∷ Call.request 0x24001808 ∷ Call.tick ∷ Call.tick
+    ∷ ticks (Call.tick ∷ Call.tick ∷ Call.reset ∷ Call.credit 0 9 ∷ Call.request 0x24000C08 ∷ Call.request 0x24001008 ∷ Call.request 0x24001408
+    ∷ Call.credit 0 1 ∷ Call.request 0x24001808 ∷ Call.tick ∷ Call.tick
     ∷ ticks (ticks (Call.credit 0 12 ∷ Call.request 0x24001C00 ∷ Call.credit 0 9
     ∷ ticks (ticks (ticks (again ++ Call.credit 0 10 ∷ Call.request 0x24002009 ∷ [])))))))
 
@@ -166,7 +166,8 @@ second₂ = second (Call.lend 1 ∷ Call.credit 0 5 ∷ [])
 unfoldable second-first : WithAhead (after eightCells second₁) (after eightCells second₂)
 unfolding ahead-computes
 second-first =
-    sent-ahead 0 5 (both-tick (both-tick (both-tick (both-request 0x24000C00 (both-request 0x24000800 (both-request 0x24000400 (both-request 0x24000000 start)))))))
+    sent-ahead 0 5 (both-tick (both-tick (both-tick (both-request 0x24000C00 (both-request 0x24000800 (both-request 0x24000400
+    (both-request 0x24000000 start)))))))
 
 pub order-not-without-first : LeaveInOrderIf OrderButFirst paper → ⊥
 unfolding ahead-computes second-first

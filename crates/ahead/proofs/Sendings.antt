@@ -38,6 +38,13 @@ waits-is i s m e =
     let b = and-true (eqb (m .flow) i) (eqb (m .slot) s) (a .0) in
     record { flow = eqb-true (m .flow) i (b .0); slot = eqb-true (m .slot) s (b .1); leaves = eqb-true (m .leaves) s (a .1) }
 
+-- a tile that is ready in slot t waits, and may leave in it
+ready-waits : (i s t : ℕ) (m : Tile) → ready i s t m ≡ true → waits i s m ≡ true
+ready-waits i s t m e = and-true (waits i s m) _ e .0
+
+ready-from : (i s t : ℕ) (m : Tile) → ready i s t m ≡ true → m .from ≤ t
+ready-from i s t m e = leb-true (m .from) t (and-true (waits i s m) (leb (m .from) t) e .1)
+
 -- tiles counted by flow and by the slot in which they leave
 abbrev byLeaving : (ℕ → ℕ → Bool) → Tile → Bool
 byLeaving q m = q (m .flow) (m .leaves)
@@ -190,18 +197,16 @@ module _ (P : Plan) where
   moved-early : (i s t : ℕ) (ms : List Tile) → tally (waits i s) ms ≤ tally (ready i s t) ms → tally early ms ≡ 0 → tally early (leavesIn i s t ms) ≡ 0
   unfolding tally leavesIn
   moved-early i s t [] all none = refl
-  moved-early i s t (m ∷ ms) all none = go (waits i s m) refl (leb (m .from) t) refl (moved-early i s t ms)
+  moved-early i s t (m ∷ ms) all none = go (waits i s m) refl (ready i s t m) refl (moved-early i s t ms)
     where
       fewer : tally (ready i s t) ms ≤ tally (waits i s) ms
-      fewer = tally-le (ready i s t) (waits i s) (λ m e. and-true (waits i s m) (leb (m .from) t) e .0) ms
+      fewer = tally-le (ready i s t) (waits i s) (λ m e. ready-waits i s t m e) ms
 
-      go : (b : Bool) → waits i s m ≡ b → (d : Bool) → leb (m .from) t ≡ d
+      go : (b : Bool) → waits i s m ≡ b → (d : Bool) → ready i s t m ≡ d
           → (tally (waits i s) ms ≤ tally (ready i s t) ms → tally early ms ≡ 0 → tally early (leavesIn i s t ms) ≡ 0)
           → tally early (cond b (record { flow = i; from = m .from; slot = s; leaves = t } ∷ ms) (m ∷ leavesIn i s t ms)) ≡ 0
-      go true e true f rest = rw (le-ltb t (m .from) (leb-true (m .from) t f)) (omega arith)
-      go true e false f rest =
-          let not-come : ready i s t m ≡ false = rw (e, f) refl in
-          absurd (omega (arith, ap bit e, ap bit not-come, fewer))
+      go true e true f rest = rw (le-ltb t (m .from) (ready-from i s t m f)) (omega arith)
+      go true e false f rest = absurd (omega (arith, ap bit e, ap bit f, fewer))
       go false e d f rest =
           let another : ready i s t m ≡ false = rw e refl in
           omega (arith, rest (omega (arith, ap bit e, ap bit another)) (omega arith))
@@ -267,9 +272,7 @@ module _ (P : Plan) where
       (omega (arith, each .0, tally-le (ready i s (ticks h)) (ready i s (suc (ticks h))) (λ m e. on s m e) (tiles P x)), ready-come x (each .1))
     where
       on : (s : ℕ) (m : Tile) → ready i s (ticks h) m ≡ true → ready i s (suc (ticks h)) m ≡ true
-      on s m e =
-          let both = and-true (waits i s m) (leb (m .from) (ticks h)) e in
-          rw (both .0, le-leb (m .from) (suc (ticks h)) (omega (arith, leb-true (m .from) (ticks h) (both .1)))) refl
+      on s m e = rw (ready-waits i s (ticks h) m e, le-leb (m .from) (suc (ticks h)) (omega (arith, ready-from i s (ticks h) m e))) refl
 
   -- ---- by demand 3
 

@@ -18,8 +18,8 @@ use Rattle.arrival.specs.Delay.{dueSlot}
 use Rattle.arrival.specs.BooksInOrder.{GrantedSince, AfterThoseAt}
 use Rattle.ahead.specs.AheadRuns.{WithAhead, start, both-tick, both-request, both-credit, both-lend, first-refused, second-refused, both-reset, sent-ahead}
 use Rattle.ahead.specs.AheadRuns.{latest, GrantsAfter, ResetsAfter, NoneTakenAlone, SendersInOrder, SameGrant, Unmoved, BookedAlike}
-use Rattle.ahead.specs.Sendings.{Sending, nothing, event, ahead, Tile, tileAt, waits, ready, leavesIn, tiles, EachReady, EachCome, SentWell, sendingOf, SendersHaveRoom}
-use Rattle.ahead.specs.Sendings.{Ahead}
+use Rattle.ahead.specs.Sendings.{Sending, nothing, event, ahead, Tile, tileAt, waits, ready, leavesIn, tiles, EachReady, EachCome}
+use Rattle.ahead.specs.Sendings.{SentWell, sendingOf, SendersHaveRoom, Ahead}
 use Rattle.model.proofs.Tests.{and-true, and-false}
 use Rattle.model.proofs.Tallies.{tally-append, tally-le}
 use Rattle.model.proofs.Plan.{accepted as accepted-plan}

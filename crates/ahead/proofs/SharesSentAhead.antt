@@ -75,5 +75,6 @@ senders i some = go (ℕ-discrete i 0)
 pub alike-by-shares : BookedAlike P two-runs × SentWell P (sendingOf two-runs)
 unfolding ahead-computes two-runs
 alike-by-shares =
-    let alike = sends-by-order twoShares refl calls₁ calls₂ two-runs (lit< {n = 1} tt, tt) (shares-order-senders twoShares refl calls₁ calls₂ two-runs senders) (tt, (tt, tt)) in
+    let order = shares-order-senders twoShares refl calls₁ calls₂ two-runs senders in
+    let alike = sends-by-order twoShares refl calls₁ calls₂ two-runs (lit< {n = 1} tt, tt) order (tt, (tt, tt)) in
     (alike .0, alike .1 (lit< {n = 1} tt, tt))

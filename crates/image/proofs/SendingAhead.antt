@@ -14,8 +14,8 @@ use Rattle.arrival.specs.Delay.{AsksAt}
 use Rattle.model.specs.TwoRuns.{Aligned, AsksUntil11, SameFrames}
 use Rattle.arrival.specs.BooksInOrder.{InTurn, InOrder}
 use Rattle.ahead.specs.AheadRuns.{WithAhead, GrantsAfter, ResetsAfter, NoneTakenAlone, OfBooked, SendersInTurn, SendersInOrder, BookedAlike}
-use Rattle.ahead.specs.Sendings.{Sending, EachReady, EachCome, SentInTime, SentWell, sendingOf, FirstFirst, LentOnlyAhead, LeaveInOrder, SendersHaveRoom, SendersHaveRoomThere}
-use Rattle.ahead.specs.Sendings.{SendersInTurnThere, SendersHaveShares}
+use Rattle.ahead.specs.Sendings.{Sending, EachReady, EachCome, SentInTime, SentWell, sendingOf, FirstFirst, LentOnlyAhead, LeaveInOrder, SendersHaveRoom}
+use Rattle.ahead.specs.Sendings.{SendersHaveRoomThere, SendersInTurnThere, SendersHaveShares}
 use Rattle.model.proofs.CountedBursts.{play-both}
 use Rattle.model.proofs.Demand3.{meets}
 use Rattle.model.proofs.SameFrames.{same-frames}
@@ -134,7 +134,8 @@ module _ (plan : List ℕ) where
       → EachCome P (sendingOf x) → SendersHaveRoom P x → NoneTakenAlone x → BookedAlike P x × (EachReady P (sendingOf x) → SentWell P (sendingOf x))
   host-sends-ahead =
       both-have
-      (λ h₁ h₂. (x : WithAhead h₁ h₂) → EachCome P (sendingOf x) → SendersHaveRoom P x → NoneTakenAlone x → BookedAlike P x × (EachReady P (sendingOf x) → SentWell P (sendingOf x)))
+      (λ h₁ h₂. (x : WithAhead h₁ h₂) → EachCome P (sendingOf x) → SendersHaveRoom P x → NoneTakenAlone x
+      → BookedAlike P x × (EachReady P (sendingOf x) → SentWell P (sendingOf x)))
       (sends-ahead plan)
 
   -- in order
@@ -158,7 +159,8 @@ module _ (plan : List ℕ) where
       → EachCome P (sendingOf x) → SendersInOrder P x → NoneTakenAlone x → BookedAlike P x × (EachReady P (sendingOf x) → SentWell P (sendingOf x))
   host-sends-by-order =
       both-have
-      (λ h₁ h₂. (x : WithAhead h₁ h₂) → EachCome P (sendingOf x) → SendersInOrder P x → NoneTakenAlone x → BookedAlike P x × (EachReady P (sendingOf x) → SentWell P (sendingOf x)))
+      (λ h₁ h₂. (x : WithAhead h₁ h₂) → EachCome P (sendingOf x) → SendersInOrder P x → NoneTakenAlone x
+      → BookedAlike P x × (EachReady P (sendingOf x) → SentWell P (sendingOf x)))
       (sends-by-order plan)
 
   pub host-leave-by-order : {h₁ h₂ : History} {b₁ b₂ : List ℕ} → Hosted plan h₁ b₁ → Hosted plan h₂ b₂ → (x : WithAhead h₁ h₂)

@@ -19,8 +19,8 @@ use Rattle.arrival.specs.Delay.{AsksAt}
 use Rattle.model.specs.TwoRuns.{Aligned, AsksUntil11, SameFrames}
 use Rattle.arrival.specs.BooksInOrder.{InTurn, InOrder}
 use Rattle.ahead.specs.AheadRuns.{WithAhead, GrantsAfter, ResetsAfter, NoneTakenAlone, OfBooked, SendersInTurn, SendersInOrder, BookedAlike}
-use Rattle.ahead.specs.Sendings.{Sending, EachReady, EachCome, SentInTime, SentWell, sendingOf, FirstFirst, LentOnlyAhead, LeaveInOrder, SendersHaveRoom, SendersHaveRoomThere}
-use Rattle.ahead.specs.Sendings.{SendersInTurnThere, SendersHaveShares}
+use Rattle.ahead.specs.Sendings.{Sending, EachReady, EachCome, SentInTime, SentWell, sendingOf, FirstFirst, LentOnlyAhead, LeaveInOrder, SendersHaveRoom}
+use Rattle.ahead.specs.Sendings.{SendersHaveRoomThere, SendersInTurnThere, SendersHaveShares}
 use Rattle.model.proofs.Demand3.{meets}
 use Rattle.model.proofs.SameFrames.{same-frames}
 use Rattle.ahead.proofs.Ahead.{taken}
@@ -129,7 +129,8 @@ module _ (bytes : List ℕ) (o : Outcome) (is : o ≡ readOf bytes) (valid : o .
       → EachCome P (sendingOf x) → SendersHaveRoom P x → NoneTakenAlone x → BookedAlike P x × (EachReady P (sendingOf x) → SentWell P (sendingOf x))
   code-sends-ahead =
       both-have
-      (λ h₁ h₂. (x : WithAhead h₁ h₂) → EachCome P (sendingOf x) → SendersHaveRoom P x → NoneTakenAlone x → BookedAlike P x × (EachReady P (sendingOf x) → SentWell P (sendingOf x)))
+      (λ h₁ h₂. (x : WithAhead h₁ h₂) → EachCome P (sendingOf x) → SendersHaveRoom P x → NoneTakenAlone x
+      → BookedAlike P x × (EachReady P (sendingOf x) → SentWell P (sendingOf x)))
       (sends-ahead bytes passes)
 
   -- in order
@@ -153,7 +154,8 @@ module _ (bytes : List ℕ) (o : Outcome) (is : o ≡ readOf bytes) (valid : o .
       → EachCome P (sendingOf x) → SendersInOrder P x → NoneTakenAlone x → BookedAlike P x × (EachReady P (sendingOf x) → SentWell P (sendingOf x))
   code-sends-by-order =
       both-have
-      (λ h₁ h₂. (x : WithAhead h₁ h₂) → EachCome P (sendingOf x) → SendersInOrder P x → NoneTakenAlone x → BookedAlike P x × (EachReady P (sendingOf x) → SentWell P (sendingOf x)))
+      (λ h₁ h₂. (x : WithAhead h₁ h₂) → EachCome P (sendingOf x) → SendersInOrder P x → NoneTakenAlone x
+      → BookedAlike P x × (EachReady P (sendingOf x) → SentWell P (sendingOf x)))
       (sends-by-order bytes passes)
 
   pub code-leave-by-order : {h₁ h₂ : History} {l₁ l₂ : Link} → Handed (o .plan) h₁ l₁ → Handed (o .plan) h₂ l₂ → (x : WithAhead h₁ h₂)
