@@ -7,10 +7,10 @@ from front_door.dome_tree import DONE, in_trees, rows
 # hand.  Alone on one link it asks in slots 0, 3, 6 and 9, and is granted the
 # next slot each time: no slot lies between the one in which its tile is due
 # and the tile's own.  Over two links, on the first of which another is greedy
-# and asks first: that one has slots 1, 3, 6 and 9 there, and the stream 2, 4, 7
-# and 10.  On the second it asks in slots 2, 4 and 7 and is granted 3, 6 and 9,
-# since its share of a frame is spent from slot 3 on.  The tiles of slots 6 and
-# 9 leave in slots 5 and 8, in the slots after those in which they are due.
+# and asks first: that one has slots 1, 3, 6 and 9 there, and the stream has 2,
+# 4, 7 and 10.  On the second it asks in slots 2, 4 and 7 and is granted 3, 6
+# and 9, since its share of a frame is spent from slot 3 on.  The tiles of
+# slots 6 and 9 are due in slots 4 and 7, and leave in the slots after them.
 # They came to the source in slots 0, 1 and 2: delays 3, 4, 6 for 3, 5, 7.
 ALONE = """\
 dome F=3 W=2 N=40
