@@ -17,9 +17,9 @@
  *
  * With --ahead it also sends tiles ahead of their booked slots, by a lend and a
  * credit that have no lines: at the end of each slot from slot 1 on that nobody
- * booked and that is not lent, one of a flow whose first tile that waits has
- * come. It knows a tile by the word that asked for it, and takes it to come in
- * the slot of the word's departure. With --ahead FILE it writes to FILE which
+ * booked and that is not lent, one of a flow whose first tile that waits came in
+ * an earlier slot. It knows a tile by the word that asked for it, and takes it to
+ * come in the slot of the word's departure. With --ahead FILE it writes to FILE which
  * flow left in each slot, from slot 1 on, or - where none did: what
  * ./check-log --ahead reads.
  *
@@ -100,14 +100,14 @@ static void note_grant(uint32_t word, unsigned position)
     board.comes[position] = comes_in(word);
 }
 
-/* The position of a flow's first tile that waits, if that has come; else a number past all. */
+/* The position of a flow's first tile that waits, if that came in an earlier slot; else a number past all. */
 static unsigned first_ready(unsigned flow)
 {
     unsigned step;
     for (step = 1; step < board.positions; step++) {
         unsigned position = (unsigned)((board.now + step) % board.positions);
         if (board.waits[position] == flow)
-            return board.comes[position] <= board.now ? position : POSITIONS;
+            return board.comes[position] < board.now ? position : POSITIONS;
     }
     return POSITIONS;
 }

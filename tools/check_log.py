@@ -73,7 +73,8 @@ class Comparison:
             calls and calls.plan.frame_slots) or None
         self.booked = Booked(options.booked, calls, ahead)
         window = min(calls.plan.positions, WINDOW) if calls else WINDOW
-        self.compared = Sending(window) if ahead else SlotBySlot()
+        self.compared = (Sending(window, self.booked.due) if ahead
+                         else SlotBySlot())
         self.slot = 0                   # the last that was compared
 
     def report(self):

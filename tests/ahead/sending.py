@@ -62,6 +62,9 @@ class Sending:
         if tile.due > self.now:
             return "flow %d sends the tile of slot %d before it comes" % (
                 flow, slot)
+        if tile.due == self.now:
+            return ("flow %d sends the tile of slot %d in the slot in which "
+                    "it comes" % (flow, slot))
         tile.left = self.now
         self.latest[flow] = max(self.latest[flow], slot)
         self.gains.append(slot - self.now)

@@ -2,6 +2,8 @@
 
 import os
 
+from edges.edge_maker import ask, edge, plan
+from edges.pairs import ticks
 from front_door.check_log import (
     ALIKE, DEAD, DIFFER, HAD_IT, MOVED_BY_ONE, NOT_COMPARED, SPARSE, LogTree,
     lines)
@@ -190,6 +192,29 @@ WRONG = [
 ]
 
 
+# F = 4, share 1: slots 1 and 4.  With the calls it is known in which slot the
+# second tile is due (rule 22.2): that of its request where its departure has
+# gone by, else its departure's; and it leaves in a later one (rule 24.2).  Of
+# each SENT what is told of a slot, or None.
+EARLY = ("slot 2 (frame 0, its slot 2): flow 0's tile of slot 4 left, and it "
+         "comes in slot %d: it may leave from the next one on")
+COMING = [
+    ([(ask(0), "G 1"), (ask(0), "G 4"), *ticks(0, "-", "-", 0)],
+     (("0 0 - -", None), ("0 - 0 -", None))),
+    ([(ask(0), "G 1"), *ticks(0), (ask(0), "G 4"), *ticks("-", "-", 0)],
+     (("0 0 - -", None), ("0 - - 0", None))),
+    ([(ask(0), "G 1"), *ticks(0, "-"), (ask(0), "G 4"), *ticks("-", 0)],
+     (("0 0 - -", EARLY % 2), ("0 - 0 -", None))),
+    # The tile of slot 1 has gone by in slot 2, and one of slot 3 has not.
+    ([(ask(0), "G 1"), *ticks(0, "-"), (ask(0, departure=1), "G 4"),
+      *ticks("-", 0)], (("0 0 - -", EARLY % 2), ("0 - 0 -", None))),
+    ([(ask(0), "G 1"), (ask(0, departure=2), "G 4"), *ticks(0, "-", "-", 0)],
+     (("0 0 - -", EARLY % 2), ("0 - 0 -", None))),
+    ([(ask(0), "G 1"), (ask(0, departure=3), "G 4"), *ticks(0, "-", "-", 0)],
+     (("0 0 - -", EARLY % 3), ("0 - - 0", None))),
+]
+
+
 class AheadTree(LogTree):
     def compare_ahead(self, booked, sent, *words, granted=0):
         """On a listing of these slots, each of which is granted before, and of
@@ -279,6 +304,24 @@ def slots_to_come(tree):
             "on until each has"]))
 
 
+def before_it_comes(tree):
+    """Told where the calls are named, and only there."""
+    for steps, sendings in COMING:
+        calls = edge("calls", plan(4, 2, (1, 8)), *steps)
+        files = tree.write("booked", "\n".join(calls.lines) + "\n"), "-"
+        words = "--calls", tree.write("calls", calls.data)
+        for sent, told in sendings:
+            data = "\n".join(sent.split()).encode()
+            ended = tree.start("--ahead", *words, *files, input=data)
+            wrong = trouble(ended, DIFFER if told else ALIKE) or (
+                told and told not in ended.output.decode().splitlines()
+                and ended.output.decode()) or trouble(
+                    tree.start("--ahead", *files, input=data), ALIKE)
+            if wrong:
+                return "%s of %s: %s" % (sent, calls.lines, wrong)
+    return None
+
+
 def the_sparse_flight(tree):
     """12 tiles; the last leaves in the idle slot before its own."""
     booked = start([tree.program], input=SPARSE.read_bytes()).output
@@ -334,8 +377,8 @@ def output_is_lost(tree):
 
 TESTS = (
     in_time, bad_histories, none_ahead_is_as_without, without_the_word,
-    twenty_are_told, frames_are_named, slots_to_come, the_sparse_flight,
-    wrong_words, no_listing, output_is_lost,
+    twenty_are_told, frames_are_named, slots_to_come, before_it_comes,
+    the_sparse_flight, wrong_words, no_listing, output_is_lost,
 )
 
 

@@ -74,6 +74,10 @@ FAULTS = {
     "left, 1 slot late": LOG % (
         "sed 's/^0$/x/; 33s/x/-/; 34s/-/0/; s/x/0/' flights/sparse.sent |",
         "--ahead booked -"),
+    # Flow 2 asks in slot 8, and is granted slot 9.
+    "it may leave from the next one on": LOG % (
+        "sed '8s/-/2/; 9s/2/-/' flights/sparse.sent |",
+        "--ahead booked -"),
     "refused": WRONG_NODE + "./check-log other flights/sparse.sent",
     "differ": LOG % ("sed 's/^2$/-/' flights/sparse.sent |", "booked -"),
     "7 calls refused with 15 (flow 5), call 1343 first": LATE_CREDIT

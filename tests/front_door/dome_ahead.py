@@ -3,19 +3,33 @@
 from front_door.command import trouble
 from front_door.dome_tree import DONE, in_trees, rows
 
-# One stream that has a tile in each slot and asks once a frame, rule 24.1 by
-# hand.  Over one link it asks in slots 0, 4 and 8 for the tiles of slots 0, 1
-# and 2, is granted 1, 5 and 9, and sends each in the slot in which it asks:
-# delays 0, 3 and 6 for 1, 4 and 7.  Over two links (rule 24.8) it asks on the
-# second in slots 1, 5 and 9, as without sending ahead, is granted 2, 6 and 10,
-# and arrives in 1, 5 and 9.
-BY_HAND = {
-    1: (["a", "3", "3", "3", "4.0", "7"], ["a", "3", "3", "3", "3.0", "6"],
-        ["3", "1.0"], "3 times a tile left a link ahead of its slot, 3 of them "
-        "on its last link, where it came sooner: by 3 slots in all."),
-    2: (["a", "3", "3", "3", "5.0", "8"], ["a", "3", "3", "3", "4.0", "7"],
-        ["6", "1.0"], "6 times a tile left a link ahead of its slot, 3 of them "
-        "on its last link, where it came sooner: by 3 slots in all.")}
+# A stream that has a tile in each slot and asks once a frame, rule 24.2 by
+# hand.  Alone on one link it asks in slots 0, 3, 6 and 9, and is granted the
+# next slot each time: no slot lies between the one in which its tile is due
+# and the tile's own.  Over two links, on the first of which another is greedy
+# and asks first: that one has slots 1, 3, 6 and 9 there, and the stream has 2,
+# 4, 7 and 10.  On the second it asks in slots 2, 4 and 7 and is granted 3, 6
+# and 9, since its share of a frame is spent from slot 3 on.  The tiles of
+# slots 6 and 9 are due in slots 4 and 7, and leave in the slots after them.
+# They came to the source in slots 0, 1 and 2: delays 3, 4, 6 for 3, 5, 7.
+ALONE = """\
+dome F=3 W=2 N=40
+stream a from=0 to=1 share=1 cells=10
+"""
+GREEDY = """\
+dome F=3 W=2 N=40
+stream b from=0 to=1 share=1 cells=10
+stream a from=0 to=2 share=1 cells=10
+"""
+BY_HAND = (
+    (ALONE, (), ["a", "4", "4", "3", "3.0", "5"],
+     ["a", "4", "4", "3", "3.0", "5"], ["0", "0.0"],
+     "0 times a tile left a link ahead of its slot, 0 of them on its last "
+     "link, where it came sooner: by 0 slots in all."),
+    (GREEDY, ("--greedy", "b"), ["a", "4", "4", "3", "5.0", "7"],
+     ["a", "4", "4", "3", "4.3", "6"], ["2", "0.7"],
+     "2 times a tile left a link ahead of its slot, 2 of them on its last "
+     "link, where it came sooner: by 2 slots in all."))
 SHOW = """\
 dome F=8 W=4 N=255
 stream main from=0 to=63 share=2 burst=3
@@ -28,16 +42,15 @@ AHEAD, SOONER = 9, 10           # columns
 
 
 def gains_by_hand(tree):
-    for links, (before, after, gained, sentence) in BY_HAND.items():
-        show = "dome F=4 W=2 N=40\nstream a from=0 to=%d share=1 cells=10\n"
-        words = ("play", "-", "--slots", "12", "--rate", "a=1")
-        ended = [tree.start(*words, *more, input=(show % links).encode())
+    for show, others, before, after, gained, sentence in BY_HAND:
+        words = ("play", "-", "--slots", "10", "--rate", "a=1", *others)
+        ended = [tree.start(*words, *more, input=show.encode())
                  for more in ((), ("--ahead",))]
         found = [rows(one)["a"][:6] for one in ended]
         columns = rows(ended[1])["a"][AHEAD:SOONER + 1]
         if [*found, columns] != [before, after, gained] or (
                 sentence not in ended[1].output.decode()):
-            return "%d links: %s %s" % (links, found, ended[1].output.decode())
+            return "%s: %s %s" % (show, found, ended[1].output.decode())
     return None
 
 

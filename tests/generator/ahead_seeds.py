@@ -8,9 +8,10 @@ from generator.traffic.over_links import Way
 
 # The most slots of a frame, frames of the window, links and frames played;
 # the fewest cells and how many more, in shares; whether premises are left to
-# chance; and whether links fall quiet and are reset.
+# chance; whether links fall quiet and are reset; and whether a tile may be
+# sent in the very slot in which it comes, which is wrong (rule 24.2).
 Kind = namedtuple("Kind", "most_slots most_frames most_links frames cells "
-                  "careless resets")
+                  "careless resets hasty", defaults=(False,))
 
 KINDS = {
     "one link": Kind(8, 4, 1, 12, (2, 2), False, False),
@@ -30,6 +31,15 @@ ORDER = ("one link", "several links", "few cells", "resets",
 
 def kind_of(seed):
     return ORDER[seed % len(ORDER)]
+
+
+# Not one of them: its runs have to be sent back.
+HASTY = Kind(6, 3, 4, 12, (2, 2), False, False, True)
+
+
+def hasty(seed):
+    """As generate, of boards that are too hasty."""
+    return Way(Dice(seed), HASTY).files()
 
 
 def generate(seed):

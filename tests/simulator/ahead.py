@@ -37,12 +37,13 @@ class Tiles:
         return [tile for tile in self.of[flow]
                 if tile.left is None and tile.slot > now]
 
-    def ready(self, now):
-        """For each flow whose first tile that waits has come, that tile."""
+    def ready(self, now, hasty=False):
+        """For each flow whose first tile that waits came in an earlier slot,
+        that tile (rule 24.2); a hasty board takes this slot for one too."""
         first = {flow: self.waiting(flow, now)[:1]
                  for flow in range(len(self.of))}
         return {flow: tiles[0] for flow, tiles in first.items()
-                if tiles and tiles[0].due <= now}
+                if tiles and tiles[0].due < now + hasty}
 
     def come_up(self, flow, slot):
         """Whether a tile leaves in its slot: it has not left before."""
@@ -86,7 +87,7 @@ def send_ahead(link, ready):
 class Board:
     """A call file played with tiles sent ahead: at the end of each slot from
     slot 1 on, before the tick, where the slot is idle and a flow's first tile
-    that waits has come."""
+    that waits came in an earlier slot."""
 
     def __init__(self, plan):
         self.link = Link(plan)

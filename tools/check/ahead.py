@@ -4,7 +4,8 @@ A stream that leaves in its own slot sends the tile of that slot.  One that
 leaves in a slot that nobody booked sends its first tile that waits, in the
 order of its slots.  A slot is booked less than a window before it comes up, so
 that BOOKED is read so far ahead of SENT and no further; a tile that is more
-than 256 slots late is taken never to leave.
+than 256 slots late is taken never to leave.  With a file of calls it is known
+in which slot a tile is due, and it may leave from the next one on (rule 24.2).
 """
 
 from collections import deque
@@ -71,8 +72,9 @@ class Sending:
 
     good_word = "ahead"
 
-    def __init__(self, window=WINDOW):
+    def __init__(self, window=WINDOW, due=None):
         self.window = window
+        self.due = {} if due is None else due   # by a tile's slot, if known
         self.ends = Ends()
         self.shift = Shift()
         self.faults = Faults()
@@ -119,6 +121,7 @@ class Sending:
             self.stream(flow).leaves(slot)
         if owner is not None:
             self.stream(owner).early.pop(slot, None)
+            self.due.pop(slot, None)
 
     def leave(self, slot, owner, flow):
         stream = self.stream(flow)
@@ -141,12 +144,13 @@ class Sending:
         stream.booked += tile is not None
         if tile is not None and tile > slot:
             stream.early[tile] = slot
-        if tile is not None and owner is None and tile >= slot:
+        due = self.due.get(tile, 0)
+        if tile is not None and owner is None and due < slot <= tile:
             stream.in_time_by(tile - slot)
             return
         stream.elsewhere += 1
         stream.owners[owner] += 1
-        self.faults.add(slot, wrong_leaving(slot, owner, flow, tile))
+        self.faults.add(slot, wrong_leaving(slot, owner, flow, tile, due))
 
     def end(self):
         """What waits at the end has not left at all."""
@@ -211,15 +215,18 @@ class Sending:
                 "most": stream.most}
 
 
-def wrong_leaving(slot, owner, flow, tile):
+def wrong_leaving(slot, owner, flow, tile, due):
     """A sentence: a tile of a flow, or none that is known, leaves in a slot
-    that is another's, or too late."""
+    that is another's, too late, or before the slot after its due one."""
     whose = "" if owner is None else "it was booked for flow %d, and " % owner
     if tile is None:
         return "%sflow %d left, and no tile of it waits that was booked: it " \
             "left twice, or was never booked" % (whose, flow)
     if owner is not None:
         return "%sflow %d's tile of slot %d left in it" % (whose, flow, tile)
+    if slot <= due:
+        return "flow %d's tile of slot %d left, and it comes in slot %d: it " \
+            "may leave from the next one on" % (flow, tile, due)
     return "flow %d's tile of slot %d left, %s late" % (
         flow, tile, plural(slot - tile, "slot"))
 

@@ -54,6 +54,7 @@ class Booked:
         self.granted = Counter()    # by flow, all under None without calls
         self.came_up = Counter()    # slots that were booked, in the same way
         self.refused = {}           # by number
+        self.due = {}               # by slot, with calls: when its tile comes
 
     def owners(self):
         """The flow that each slot is booked for, from slot 1 on; None where
@@ -70,10 +71,16 @@ class Booked:
                 self.came_up[self.calls and value] += value is not None
                 yield value
             elif letter == "G":
-                self.granted[flow] += 1
+                self.grant(value, flow)
             elif letter == "R":
                 self.refuse(value, flow, number)
         self.end(number)
+
+    def grant(self, position, flow):
+        self.granted[flow] += 1
+        if self.ahead and self.calls:
+            slot = self.calls.slot_after(self.slots, position)
+            self.due[slot] = self.calls.due(self.slots)
 
     def refuse(self, refusal, flow, number):
         if self.ahead and refusal == NO_CALL:

@@ -21,7 +21,13 @@ class Flow:
         self.destination = destination
         self.granted = 0
         self.waiting = []       # tiles at the board before, the oldest first
-        self.to_leave = {}      # by slot: the tile that is booked there
+        self.to_leave = {}      # by slot: the tile booked there, and where
+                                # it was asked for
+
+    def is_ready(self, slot):
+        """Whether the tile of its next slot was asked for before this one."""
+        return bool(self.to_leave) and (
+            self.to_leave[min(self.to_leave)][1] < slot)
 
 
 class Played:
@@ -177,7 +183,7 @@ class Dome:
         tile = flow.waiting.pop(0)
         flow.granted += 1
         flow.link.booked[granted] = flow.number
-        flow.to_leave[granted] = tile
+        flow.to_leave[granted] = tile, slot
         self.come_up.setdefault(granted, []).append((played, hop, tile))
         self.granted.add((played, hop))
         if hop and played.late:
@@ -194,11 +200,12 @@ class Dome:
 
     def send_ahead(self, slot, used):
         """On each link whose slot nobody booked, one stream sends the tile of
-        its next slot, which has come; the link says which stream."""
+        its next slot, if that was due in an earlier one: asked for then; the
+        link says which stream."""
         lending = {}
         for played in self.senders:
             for hop, flow in enumerate(played.flows):
-                if flow.to_leave and flow.link not in used:
+                if flow.is_ready(slot) and flow.link not in used:
                     lending.setdefault(flow.link, {})[flow.number] = (
                         played, hop)
         counts = {}
@@ -216,7 +223,7 @@ class Dome:
         lend is the credit dated its own."""
         flow = played.flows[hop]
         booked = min(flow.to_leave)
-        tile = flow.to_leave.pop(booked)
+        tile, _ = flow.to_leave.pop(booked)
         flow.link.credit(flow.number, booked)
         played.ahead += 1
         if played.is_last(hop):

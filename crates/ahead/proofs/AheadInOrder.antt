@@ -1,5 +1,5 @@
 -- The tiles of a flow that has room at each request leave in order, if the first that waits is sent ahead first. Assumes nothing.
-use Prim.Native.Nat.{ℕ, _≤_, _<_}
+use Prim.Native.Nat.{ℕ, suc, _≤_, _<_}
 use mathlib.Core.Path.{_≡_, refl, sym, ap, subst}
 use mathlib.Core.List.{List}
 use mathlib.Core.Bool.{Bool, true, false, _&&_, cond}
@@ -17,7 +17,7 @@ use Rattle.model.specs.Card.{paper, run}
 use Rattle.arrival.specs.Delay.{dueSlot}
 use Rattle.ahead.specs.AheadRuns.{WithAhead, start, both-tick, both-request, both-credit, both-lend, first-refused, second-refused, both-reset, sent-ahead}
 use Rattle.ahead.specs.AheadRuns.{laterOf, latest, GrantFrom, GrantsAfter, ResetsAfter, NoneTakenAlone, SameGrant}
-use Rattle.ahead.specs.Sendings.{Sending, event, Tile, tileAt, tiles, EachReady, HasTile, KeepsOrder, LeaveInOrder, FirstFirst, LentOnlyAhead, sendingOf, AheadInOrder}
+use Rattle.ahead.specs.Sendings.{Sending, event, Tile, tileAt, tiles, EachCome, HasTile, KeepsOrder, LeaveInOrder, FirstFirst, LentOnlyAhead, sendingOf, AheadInOrder}
 use Rattle.model.proofs.Tests.{and-true}
 use Rattle.model.proofs.Tallies.{tally-le}
 use Rattle.model.proofs.Plan.{accepted as accepted-plan}
@@ -30,7 +30,7 @@ use Rattle.ahead.proofs.Replays.{Replayed, replays, linkAfter}
 use Rattle.ahead.proofs.AheadRuns.{follows}
 use Rattle.ahead.proofs.AheadInTurn.{granted-since, Orders}
 use Rattle.ahead.proofs.LeaveInOrder.{is, counted, moved-has, new-tile, new-leaves, split, leave-in-order}
-use Rattle.ahead.proofs.SendsAhead.{has, tiles-granted, Come, room-orders, ready-asked}
+use Rattle.ahead.proofs.SendsAhead.{has, tiles-granted, Come, room-orders, come-asked}
 
 -- ---- a tile that was sent ahead
 
@@ -131,7 +131,7 @@ module _ (P : Plan) (i : ℕ) where
   request-keeps {h₁} {h₂} x so-far w (accepted v₁) (accepted v₂) same one after s new a r tile early =
       let m : Tile = record {
         flow = flowOf w;
-        due = dueSlot P w h₂;
+        from = suc (dueSlot P w h₂);
         slot = slotAfter P (ticks h₂) (departureOf v₂);
         leaves = slotAfter P (ticks h₂) (departureOf v₂);
       } in
@@ -146,7 +146,7 @@ module _ (P : Plan) (i : ℕ) where
   -- a lend to another flow gives it no tile
   of-another : (h : History) (m j s : ℕ) → (j ≡ i → ⊥) → 0 < tally (λ m. eqb (m .flow) i && eqb (m .slot) s) (tileAt P (lent m (accepted j)) h) → ⊥
   of-another h m j s other new =
-      let tile : Tile = record { flow = j; due = ticks h; slot = ticks h; leaves = ticks h } in
+      let tile : Tile = record { flow = j; from = ticks h; slot = ticks h; leaves = ticks h } in
       let is-new = counted (λ m. eqb (m .flow) i && eqb (m .slot) s) tile new in
       other (eqb-true j i (and-true (eqb j i) (eqb (ticks h) s) is-new .0))
 
@@ -182,14 +182,14 @@ module _ (P : Plan) (i : ℕ) where
 
 pub leave-after : (bytes : List ℕ) → refusal bytes ≡ 0 → (calls₁ calls₂ : List Call)
     (x : WithAhead (run paper (planOf bytes) calls₁ .history) (run paper (planOf bytes) calls₂ .history))
-    → EachReady (planOf bytes) (sendingOf x) → Orders (planOf bytes) (Come (planOf bytes)) x → NoneTakenAlone x → (i : ℕ)
+    → EachCome (planOf bytes) (sendingOf x) → Orders (planOf bytes) (Come (planOf bytes)) x → NoneTakenAlone x → (i : ℕ)
     → FirstFirst (planOf bytes) (sendingOf x) i → LentOnlyAhead (sendingOf x) i → LeaveInOrder (planOf bytes) (sendingOf x) i
 leave-after bytes passes calls₁ calls₂ x each order alone i first only =
     let P = planOf bytes in
     let ok = accepted-plan bytes passes in
     let r₁ = replays P ok calls₁ .each in
     let r₂ = replays P ok calls₂ .each in
-    let asked = ready-asked P ok x r₁ r₂ each order alone in
+    let asked = come-asked P ok x r₁ r₂ each order alone in
     leave-in-order P (run paper P calls₂ .history) (sendingOf x) i
     (keeps P i ok x r₁ r₂ (each-earliest P ok calls₁) (asked .grants-after) (asked .resets-after) alone first only)
 

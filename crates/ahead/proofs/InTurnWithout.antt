@@ -20,7 +20,7 @@ use Rattle.model.specs.LessAsked.{HasRoom}
 use Rattle.arrival.specs.BooksInOrder.{InTurn}
 use Rattle.ahead.specs.AheadRuns.{WithAhead, start, both-tick, both-request, both-credit, both-lend, first-refused, second-refused, both-reset, sent-ahead}
 use Rattle.ahead.specs.AheadRuns.{latest, NoneTakenAlone, SameGrant, Unmoved}
-use Rattle.ahead.specs.Sendings.{EachReady, sendingOf, RoomWithout, InTurnWithout}
+use Rattle.ahead.specs.Sendings.{EachCome, sendingOf, RoomWithout, InTurnWithout}
 use Rattle.model.proofs.Plan.{accepted as accepted-plan}
 use Rattle.model.proofs.Slots.{current-in-window}
 use Rattle.model.proofs.Invariant.{Invariant, from-the-window}
@@ -33,7 +33,7 @@ use Rattle.ahead.proofs.Replays.{Replayed, replays, linkAfter}
 use Rattle.ahead.proofs.CloseLinks.{Close, Parts, with, by-base}
 use Rattle.ahead.proofs.AheadRuns.{Follows, follows}
 use Rattle.ahead.proofs.AheadInTurn.{latest-on}
-use Rattle.ahead.proofs.SendsAhead.{same-ticks, due-same, room-orders, ready-asked}
+use Rattle.ahead.proofs.SendsAhead.{same-ticks, due-same, room-orders, come-asked}
 
 -- ---- room
 
@@ -119,7 +119,7 @@ module _ (P : Plan) (ok : Accepted P) where
         go (Event.reset a) one = tt
 
     turns-too : {h₁ h₂ : History} (x : WithAhead h₁ h₂) → ((i : ℕ) → 0 < latest P x i → S i) → Each (Replayed P) h₁ → Each (Replayed P) h₂
-        → Each (EarliestAt P) h₁ → Each (FrameInOrderAt P) h₁ → Each (Happened P) h₁ → EachReady P (sendingOf x) → NoneTakenAlone x
+        → Each (EarliestAt P) h₁ → Each (FrameInOrderAt P) h₁ → Each (Happened P) h₁ → EachCome P (sendingOf x) → NoneTakenAlone x
         → ((i : ℕ) → S i → Each (AsksAt Q P i) h₂) → (i : ℕ) → S i → Each (AsksAt Q P i) h₁
     turns-too start all e₁ e₂ first frames happened each alone turns i some = tt
     turns-too (both-tick x) all e₁ e₂ first frames happened each alone turns i some =
@@ -128,7 +128,7 @@ module _ (P : Plan) (ok : Accepted P) where
         let so-far : (k : ℕ) → S k → Each (AsksAt Q P k) h₁ =
         λ k z. turns-too x all (e₁ .1) (e₂ .1) (first .1) (frames .1) (happened .1) each alone (λ j y. turns j y .1) k z in
         let order = room-orders P ok x (first .1) (frames .1) (happened .1) (λ k z. with-room k h₁ (so-far k (all k z))) in
-        let asked = ready-asked P ok x (e₁ .1) (e₂ .1) each order alone in
+        let asked = come-asked P ok x (e₁ .1) (e₂ .1) each order alone in
         let r = follows P ok x (e₁ .1) (e₂ .1) (asked .grants-after) (asked .resets-after) alone in (
           λ well own. too h₁ h₂ x (e₁ .0 .stands) (e₂ .0 .stands) r i w (subst (_< flowCount P) own (flow-below P w well)) (turns i some .0 well own),
           so-far i some,

@@ -78,15 +78,15 @@ unfolding tally leavesIn
 moved-has k a r i s t [] some old new = absurd (omega arith)
 moved-has {Q} k a r i s t (m ∷ ms) some old new = go (waits i s m) refl (is k a r m) refl some (λ x. moved-has k a r i s t ms x (λ y. old (omega arith)) (λ own at leaves y. new own at leaves (omega arith)))
   where
-    here : waits i s m ≡ true → (d : Bool) → is k a r (record { flow = i; due = m .due; slot = s; leaves = t }) ≡ d → 0 < bit d + tally (is k a r) ms → Q
+    here : waits i s m ≡ true → (d : Bool) → is k a r (record { flow = i; from = m .from; slot = s; leaves = t }) ≡ d → 0 < bit d + tally (is k a r) ms → Q
     here waiting true e some =
-        let x = is-so k a r (record { flow = i; due = m .due; slot = s; leaves = t }) e in
+        let x = is-so k a r (record { flow = i; from = m .from; slot = s; leaves = t }) e in
         new (x .flow) (x .slot) (x .leaves) (rw waiting (omega arith))
     here waiting false e some = old (omega arith)
 
-    go : (b : Bool) → waits i s m ≡ b → (d : Bool) → is k a r m ≡ d → 0 < tally (is k a r) (cond b (record { flow = i; due = m .due; slot = s; leaves = t } ∷ ms) (m ∷ leavesIn i s t ms))
+    go : (b : Bool) → waits i s m ≡ b → (d : Bool) → is k a r m ≡ d → 0 < tally (is k a r) (cond b (record { flow = i; from = m .from; slot = s; leaves = t } ∷ ms) (m ∷ leavesIn i s t ms))
         → (0 < tally (is k a r) (leavesIn i s t ms) → Q) → Q
-    go true waiting d e some rest = here waiting (is k a r (record { flow = i; due = m .due; slot = s; leaves = t })) refl some
+    go true waiting d e some rest = here waiting (is k a r (record { flow = i; from = m .from; slot = s; leaves = t })) refl some
     go false waiting true e some rest = old (rw e (omega arith))
     go false waiting false e some rest = let z = rw e at some in rest (omega arith)
 

@@ -151,73 +151,90 @@ books-not-without-due books =
 
 -- ---- without the credits
 
--- The listing's plan. Flow 1 books slot 1, and flow 0 slot 2, which it sends ahead in slot 0. A credit of it dated 1 is refused in the run without, since it
--- holds nothing in slot 1, and taken in the other. Both grant it slot 3. Then the first refuses, with two cells held, and the second grants slot 4.
+-- F = 5, W = 3, one flow with share 2 and 3 cells. It books slots 1, 2 and 5, and the cells of the first two fall free in slot 3, in which it sends the tile of
+-- slot 5 ahead. A credit dated 4 is refused in the run without, since it holds nothing in slot 4, and taken in the other. Both grant it slots 6 and 10. Then
+-- the first refuses, with three cells held, and the second grants slot 11.
+abbrev pub threeCells : List ℕ
+threeCells = plan1 5 3 8 2 3
+
 abbrev pub credits : List Call → List Call
-credits sent = Call.request 0x24100000 ∷ Call.request 0x24000000 ∷ (sent ++ Call.credit 0 1 ∷ Call.request 0x24000400 ∷ Call.request 0x24000800 ∷ [])
+credits sent =
+    Call.request 0x24000000 ∷ Call.request 0x24000400 ∷ Call.request 0x24000800 ∷ Call.credit 0 3 ∷ Call.credit 0 3 ∷ Call.tick ∷ Call.tick ∷ Call.tick
+    ∷ (sent ++ Call.credit 0 4 ∷ Call.request 0x24000C03 ∷ Call.request 0x24001003 ∷ Call.request 0x24001403 ∷ [])
 
 abbrev pub credits₁ : List Call
 credits₁ = credits []
 
 abbrev pub credits₂ : List Call
-credits₂ = credits (Call.lend 1 ∷ Call.credit 0 2 ∷ [])
+credits₂ = credits (Call.lend 1 ∷ Call.credit 0 5 ∷ [])
 
-unfoldable pub taken-alone : WithAhead (after listing credits₁) (after listing credits₂)
+unfoldable pub taken-alone : WithAhead (after threeCells credits₁) (after threeCells credits₂)
 unfolding calls-compute
-taken-alone = both-request 0x24000800 (both-request 0x24000400 (both-credit 0 1 (sent-ahead 0 2 (both-request 0x24000000 (both-request 0x24100000 start)))))
+taken-alone =
+    both-request 0x24001403 (both-request 0x24001003 (both-request 0x24000C03 (both-credit 0 4 (sent-ahead 0 5 (both-tick (both-tick (both-tick (both-credit 0 3
+    (both-credit 0 3 (both-request 0x24000800 (both-request 0x24000400 (both-request 0x24000000 start))))))))))))
 
 pub not-without-credits : BookedAlikeIf ButCredits paper → ⊥
 unfolding plans-compute calls-compute counts-compute taken-alone
 not-without-credits alike =
-    let x = alike listing refl credits₁ credits₂ taken-alone ((tt, (lit≤ tt, (lit≤ tt, (lit≤ tt, tt)))), tt) in
+    let x = alike threeCells refl credits₁ credits₂ taken-alone ((tt, (lit≤ tt, (lit≤ tt, (lit≤ tt, (lit≤ tt, (lit≤ tt, tt)))))), tt) in
     x .unmoved .0 .same-grant
 
 -- there is room in the second run at each request, and none in the first at the last
 pub room-not-without-credits : RoomIf RoomButCredits paper → ⊥
 unfolding ahead-computes taken-alone
 room-not-without-credits rooms =
-    let P = planOf listing in
-    let there = zero-alone HasRoom P taken-alone (after listing credits₂) 2 (λ i. refl) (proved (all-ask room P 0 (after listing credits₂)) tt) in
-    let x = rooms listing refl credits₁ credits₂ taken-alone ((lit< {n = 1} tt, tt), there) 0 (lit< {n = 2} tt) in
-    let z = x .0 refl refl 3 (lit≤ tt) in
+    let P = planOf threeCells in
+    let there = zero-alone HasRoom P taken-alone (after threeCells credits₂) 5 (λ i. refl) (proved (all-ask room P 0 (after threeCells credits₂)) tt) in
+    let x = rooms threeCells refl credits₁ credits₂ taken-alone ((lit< {n = 1} tt, tt), there) 0 (lit< {n = 5} tt) in
+    let z = x .0 refl refl 10 (lit≤ tt) in
     omega arith
 
 -- ---- without the credits, with room at each request
 
--- F = 4, W = 2, two flows with share 1 and 2 cells
-abbrev oneEach : List ℕ
-oneEach = plan2 4 2 8 1 2 1 2
+-- F = 5, W = 2, two flows with share 1 and 2 cells
+abbrev fiveSlots : List ℕ
+fiveSlots = plan2 5 2 8 1 2 1 2
 
--- The same up to the credit. In slot 2 flow 1's cell has come back, and flow 0's only where the credit was taken: there a reset is granted, and flow 1 then
--- books slot 3; in the first run it is refused, and flow 1 books slot 4.
+-- Flow 0 books slots 1 and 5, and flow 1 slots 2 and 6; the cells of the first two fall free in slot 3, in which flow 0 sends the tile of slot 5 ahead. A
+-- credit of it dated 4 is taken in the second run alone. In slot 7 flow 1's cells have come back, and flow 0's only where that credit was taken: there a reset
+-- is granted, and flow 1 then books slot 8; in the first run it is refused, and flow 1 books slot 10.
 abbrev renewed : List Call → List Call
 renewed sent =
-    Call.request 0x24100000 ∷ Call.request 0x24000000 ∷ (sent ++ Call.credit 0 1 ∷ Call.credit 1 2 ∷ Call.tick ∷ Call.tick ∷ Call.reset ∷ Call.request 0x24100400 ∷ [])
+    Call.request 0x24000000 ∷ Call.request 0x24000400 ∷ Call.request 0x24100000 ∷ Call.request 0x24100400 ∷ Call.credit 0 3 ∷ Call.credit 1 3
+    ∷ Call.tick ∷ Call.tick ∷ Call.tick ∷ (sent ++ Call.credit 0 4 ∷ Call.tick ∷ Call.tick ∷ Call.tick ∷ Call.credit 1 7 ∷ Call.tick ∷ Call.reset
+    ∷ Call.request 0x24100807 ∷ [])
 
 abbrev renewed₁ : List Call
 renewed₁ = renewed []
 
 abbrev renewed₂ : List Call
-renewed₂ = renewed (Call.lend 1 ∷ Call.credit 0 2 ∷ [])
+renewed₂ = renewed (Call.lend 1 ∷ Call.credit 0 5 ∷ [])
 
-unfoldable renewed-alone : WithAhead (after oneEach renewed₁) (after oneEach renewed₂)
+unfoldable renewed-alone : WithAhead (after fiveSlots renewed₁) (after fiveSlots renewed₂)
 unfolding calls-compute
 renewed-alone =
-    both-request 0x24100400 (both-reset (both-tick (both-tick (both-credit 1 2 (both-credit 0 1 (sent-ahead 0 2 (both-request 0x24000000 (both-request 0x24100000 start))))))))
+    both-request 0x24100807 (both-reset (both-tick (both-credit 1 7 (both-tick (both-tick (both-tick (both-credit 0 4 (sent-ahead 0 5 (both-tick (both-tick
+    (both-tick (both-credit 1 3 (both-credit 0 3 (both-request 0x24100400 (both-request 0x24100000 (both-request 0x24000400
+    (both-request 0x24000000 start)))))))))))))))))
 
 pub turn-not-without-credits : BookedAlikeIf TurnButCredits paper → ⊥
 unfolding ahead-computes renewed-alone
 turn-not-without-credits alike =
-    let P = planOf oneEach in
+    let P = planOf fiveSlots in
     let turns =
-    zero-alone InTurn P renewed-alone (after oneEach renewed₁) 2 (λ i. refl) (proved (all-ask in-turn P 0 (after oneEach renewed₁)) tt) in
-    let x = alike oneEach refl renewed₁ renewed₂ renewed-alone ((lit< {n = 1} tt, tt), (turns, (lit< {n = 1} tt, tt))) in
-    let z = ap (tally (atSlot 3)) (x .same-grants) in
+    zero-alone InTurn P renewed-alone (after fiveSlots renewed₁) 5 (λ i. refl) (proved (all-ask in-turn P 0 (after fiveSlots renewed₁)) tt) in
+    let x = alike fiveSlots refl renewed₁ renewed₂ renewed-alone ((lit< {n = 1} tt, tt), (turns, (lit< {n = 1} tt, tt))) in
+    let z = ap (tally (atSlot 8)) (x .same-grants) in
     omega arith
 
 -- ---- without the order of resets
 
--- The same plan. Flow 1 books slot 1, whose cell falls free in slot 2. In slot 2 flow 0 sends slot 3 ahead, which is nobody's, and holds a cell in slot 2: a
+-- F = 4, W = 2, two flows with share 1 and 2 cells
+abbrev oneEach : List ℕ
+oneEach = plan2 4 2 8 1 2 1 2
+
+-- Flow 1 books slot 1, whose cell falls free in slot 2. In slot 2 flow 0 sends slot 3 ahead, which is nobody's, and holds a cell in slot 2: a
 -- reset is granted in the run without, and refused in the other. Flow 1 then books slot 3, and slot 4.
 abbrev resets : List Call → List Call
 resets sent = Call.request 0x24100000 ∷ Call.credit 1 2 ∷ Call.tick ∷ Call.tick ∷ (sent ++ Call.reset ∷ Call.request 0x24100400 ∷ [])
@@ -295,16 +312,18 @@ another-number = (refl, refl)
 
 -- ---- two runs that meet what is asked
 
--- The listing's plan. Flow 0 books slots 1 and 2, and sends the first tile ahead in slot 0; flow 1 books slot 3; and then flow 0 slot 4.
+-- The listing's plan. Flow 0 books slots 1, 2 and 4, with cells that fall free in slots 3 and 4, and sends the last tile ahead in slot 3; flow 1 books slot 5;
+-- and then flow 0 slot 6.
+abbrev calls : List Call → List Call
+calls sent =
+    Call.request 0x24000000 ∷ Call.request 0x24000400 ∷ Call.credit 0 3 ∷ Call.request 0x24000800 ∷ Call.credit 0 4 ∷ Call.tick ∷ Call.tick ∷ Call.tick
+    ∷ (sent ++ Call.request 0x24100003 ∷ Call.tick ∷ Call.credit 0 5 ∷ Call.request 0x24000C04 ∷ Call.tick ∷ Call.tick ∷ [])
+
 abbrev calls₁ : List Call
-calls₁ =
-    Call.request 0x24000000 ∷ Call.request 0x24000400 ∷ Call.credit 0 1 ∷ Call.request 0x24100000 ∷ Call.tick ∷ Call.credit 0 2 ∷ Call.request 0x24000801
-    ∷ Call.tick ∷ Call.tick ∷ Call.tick ∷ []
+calls₁ = calls []
 
 abbrev calls₂ : List Call
-calls₂ =
-    Call.request 0x24000000 ∷ Call.request 0x24000400 ∷ Call.credit 0 1 ∷ Call.lend 1 ∷ Call.credit 0 1 ∷ Call.request 0x24100000 ∷ Call.tick ∷ Call.credit 0 2
-    ∷ Call.request 0x24000801 ∷ Call.tick ∷ Call.tick ∷ Call.tick ∷ []
+calls₂ = calls (Call.lend 1 ∷ Call.credit 0 4 ∷ [])
 
 abbrev P : Plan
 P = planOf listing
@@ -318,8 +337,8 @@ h₂ = run paper P calls₂ .history
 unfoldable pub two-runs : WithAhead h₁ h₂
 unfolding calls-compute
 two-runs =
-    both-tick (both-tick (both-tick (both-request 0x24000801 (both-credit 0 2 (both-tick (both-request 0x24100000 (sent-ahead 0 1
-    (both-credit 0 1 (both-request 0x24000400 (both-request 0x24000000 start))))))))))
+    both-tick (both-tick (both-request 0x24000C04 (both-credit 0 5 (both-tick (both-request 0x24100003 (sent-ahead 0 4 (both-tick (both-tick (both-tick
+    (both-credit 0 4 (both-request 0x24000800 (both-credit 0 3 (both-request 0x24000400 (both-request 0x24000000 start))))))))))))))
 
 pub each-ready : EachReady P (sendingOf two-runs)
 unfolding calls-compute counts-compute dueSlot two-runs
@@ -327,45 +346,49 @@ each-ready = (lit< tt, tt)
 
 pub booked-alike : BookedAlike P two-runs
 unfolding plans-compute calls-compute counts-compute two-runs
-booked-alike = nobody-moves listing refl calls₁ calls₂ two-runs (lit≤ tt, (lit≤ tt, (lit≤ tt, (lit≤ tt, tt)))) tt (tt, (tt, tt))
+booked-alike =
+    nobody-moves listing refl calls₁ calls₂ two-runs (lit≤ tt, (lit≤ tt, (lit≤ tt, (lit≤ tt, (lit≤ tt, tt))))) tt (tt, (tt, (tt, tt)))
 
 pub sent-well : SentWell P (sendingOf two-runs)
 unfolding plans-compute
 sent-well = sends-well paper meets listing refl calls₂ (sendingOf two-runs) each-ready
 
--- the tile with slot 1 leaves in slot 0
+-- the tile with slot 4 leaves in slot 3
 pub tiles-are :
     tiles P (sendingOf two-runs)
-    ≡ record { flow = 0; due = 1; slot = 4; leaves = 4 } ∷ record { flow = 1; due = 0; slot = 3; leaves = 3 } ∷ record { flow = 0; due = 0; slot = 2; leaves = 2 }
-    ∷ record { flow = 0; due = 0; slot = 1; leaves = 0 } ∷ []
+    ≡ record { flow = 0; from = 5; slot = 6; leaves = 6 } ∷ record { flow = 1; from = 4; slot = 5; leaves = 5 }
+    ∷ record { flow = 0; from = 1; slot = 4; leaves = 3 } ∷ record { flow = 0; from = 1; slot = 2; leaves = 2 } ∷ record { flow = 0; from = 1; slot = 1; leaves = 1 } ∷ []
 unfolding calls-compute counts-compute dueSlot leavesIn two-runs
 tiles-are = refl
 
 -- ---- the same, with a reset
 
--- Flow 0's one tile leaves in slot 0; in slot 2 its cell has come back, and a reset is granted in both. Then it books slot 3.
+-- F = 4, W = 2, one flow with share 1 and two cells. It books slots 1 and 4, and sends the second tile in slot 2; in slot 5 both cells have come back, and a
+-- reset is granted in both. Then it books slot 6.
 abbrev afresh : List Call → List Call
 afresh sent =
-    Call.request 0x24000000 ∷ (sent ++ Call.credit 0 2 ∷ Call.tick ∷ Call.tick ∷ Call.reset ∷ Call.request 0x24000402 ∷ Call.tick ∷ [])
+    Call.request 0x24000000 ∷ Call.request 0x24000400 ∷ Call.credit 0 2 ∷ Call.tick ∷ Call.tick
+    ∷ (sent ++ Call.credit 0 5 ∷ Call.tick ∷ Call.tick ∷ Call.tick ∷ Call.reset ∷ Call.request 0x24000805 ∷ Call.tick ∷ [])
 
 abbrev afresh₁ : List Call
 afresh₁ = afresh []
 
 abbrev afresh₂ : List Call
-afresh₂ = afresh (Call.lend 1 ∷ Call.credit 0 1 ∷ [])
+afresh₂ = afresh (Call.lend 1 ∷ Call.credit 0 4 ∷ [])
 
-unfoldable pub with-reset : WithAhead (after listing afresh₁) (after listing afresh₂)
+unfoldable pub with-reset : WithAhead (after oneFlow afresh₁) (after oneFlow afresh₂)
 unfolding calls-compute
 with-reset =
-    both-tick (both-request 0x24000402 (both-reset (both-tick (both-tick (both-credit 0 2 (sent-ahead 0 1 (both-request 0x24000000 start)))))))
+    both-tick (both-request 0x24000805 (both-reset (both-tick (both-tick (both-tick (both-credit 0 5 (sent-ahead 0 4 (both-tick (both-tick (both-credit 0 2
+    (both-request 0x24000400 (both-request 0x24000000 start))))))))))))
 
-pub reset-in-both : BookedAlike P with-reset
+pub reset-in-both : BookedAlike (planOf oneFlow) with-reset
 unfolding plans-compute calls-compute counts-compute with-reset
-reset-in-both = nobody-moves listing refl afresh₁ afresh₂ with-reset (lit≤ tt, (lit≤ tt, tt)) (come-up, tt) (tt, tt)
+reset-in-both = nobody-moves oneFlow refl afresh₁ afresh₂ with-reset (lit≤ tt, (lit≤ tt, (lit≤ tt, tt))) (come-up, tt) (tt, (tt, tt))
   where
-    come-up : (j : ℕ) → latest P with-reset j ≤ 2
+    come-up : (j : ℕ) → latest (planOf oneFlow) with-reset j ≤ 5
     come-up j = go (eqb j 0)
       where
-        go : (b : Bool) → cond b 1 0 ≤ 2
+        go : (b : Bool) → cond b 4 0 ≤ 5
         go true = lit≤ tt
         go false = lit≤ tt

@@ -1,5 +1,5 @@
 -- What each premise on tiles that leave in order is for, and on those that leave within the bounds of a way: without it they do not. Assumes nothing.
-use Prim.Native.Nat.{ℕ}
+use Prim.Native.Nat.{ℕ, suc}
 use mathlib.Core.Path.{_≡_, refl}
 use mathlib.Core.List.{List, _∷_, [], _++_}
 use mathlib.Core.Bool.{Bool, true, false, cond}
@@ -9,7 +9,7 @@ use Rattle.model.specs.Plan.{planOf}
 use Rattle.model.specs.Calls.{Call}
 use Rattle.model.specs.LessAsked.{HasRoom}
 use Rattle.model.specs.Card.{paper}
-use Rattle.model.specs.PlanBytes.{plan1, plan2, listing}
+use Rattle.model.specs.PlanBytes.{plan1, listing}
 use Rattle.arrival.specs.SeveralLinks.{slotsOf, tile, Board, sentOn}
 use Rattle.ahead.specs.AheadRuns.{WithAhead, start, both-tick, both-request, both-credit, both-lend, both-reset, sent-ahead, laterOf}
 use Rattle.ahead.specs.Sendings.{Tile, sendingOf, FirstFirst}
@@ -18,18 +18,15 @@ use Rattle.ahead.specs.LessAhead.{LeaveInOrderIf, OrderButReady, OrderBu
 use Rattle.model.proofs.Decidable.{proved}
 use Rattle.arrival.proofs.DelayDecided.{room}
 use Rattle.ahead.proofs.AheadDecided.{all-ask, zero-alone, lent-only, all-left, ahead-computes}
-use Rattle.ahead.proofs.LessAhead.{after, twoCells, credits₁, credits₂, taken-alone}
+use Rattle.ahead.proofs.LessAhead.{after, twoCells, threeCells, credits₁, credits₂, taken-alone}
 
 -- flow 0's tile with slot s, which came in slot 0 and waits
 abbrev waiting : ℕ → Tile
-waiting s = record { flow = 0; due = 0; slot = s; leaves = s }
+waiting s = record { flow = 0; from = 1; slot = s; leaves = s }
 
--- one that came in slot d and leaves in slot r; and flow 1's tile of slot 1
-abbrev own : (d s r : ℕ) → Tile
-own d s r = record { flow = 0; due = d; slot = s; leaves = r }
-
-abbrev neighbour : Tile
-neighbour = record { flow = 1; due = 0; slot = 1; leaves = 1 }
+-- one that came in slot d, has slot s and leaves in slot r
+abbrev came : (d s r : ℕ) → Tile
+came d s r = record { flow = 0; from = suc d; slot = s; leaves = r }
 
 -- ---- without tiles that are ready
 
@@ -98,39 +95,43 @@ order-not-without-room leave =
 
 -- ---- without the credits
 
--- F = 8, W = 2; flow 0 with share 2 and 3 cells, flow 1 with share 1 and 2 cells. Up to slot 2 as in `turn-not-without-credits`: the second run alone takes a
--- credit of flow 0, and is granted a reset. Flow 0 then asks four times: the first run grants slots 3, 8 and 9 and refuses with 11, the second grants slots
--- 3, 4, 8 and 9. So its next words carry numbers that the first run does not expect, and it has room there all along. In the second run it holds all of its
--- cells: in slot 8 it is granted slot 20, in which one falls free. In slot 17 it sends the tile of slot 20 ahead, and then is granted slot 18.
+-- F = 8, W = 2, one flow with share 2 and 3 cells. It books slots 1, 2 and 8, and the cells of the first two fall free in slot 3, in which it sends the tile of
+-- slot 8 ahead. The second run alone takes a credit dated 4, and is granted a reset in slot 8. The flow then asks four times: the first run grants slots 9, 16
+-- and 17 and refuses with 11, the second grants slots 9, 10, 16 and 17. So its next words carry numbers that the first run does not expect, and it has room
+-- there all along. In the second run it holds all of its cells: in slot 16 it is granted slot 28, in which one falls free. In slot 25 it sends the tile of
+-- slot 28 ahead, and then is granted slot 26.
 abbrev unlike : List ℕ
-unlike = plan2 8 2 8 2 3 1 2
+unlike = plan1 8 2 8 2 3
 
 abbrev ticks : List Call → List Call
 ticks rest = Call.tick ∷ Call.tick ∷ Call.tick ∷ rest
 
 abbrev alone : (sent again : List Call) → List Call
 alone sent again =
-    Call.request 0x24100000 ∷ Call.request 0x24000000 ∷ (sent ++ Call.credit 0 1 ∷ Call.credit 1 2 ∷ Call.tick ∷ Call.tick ∷ Call.reset ∷ Call.credit 0 3
-    ∷ Call.request 0x24000402 ∷ Call.request 0x24000802 ∷ Call.request 0x24000C02 ∷ Call.credit 0 9 ∷ Call.request 0x24001002
-    ∷ ticks (ticks (Call.credit 0 4 ∷ Call.request 0x24001408 ∷ Call.credit 0 1
-    ∷ ticks (ticks (ticks (again ++ Call.credit 0 2 ∷ Call.request 0x24001801 ∷ []))))))
+    Call.request 0x24000000 ∷ Call.request 0x24000400 ∷ Call.request 0x24000800 ∷ Call.credit 0 3 ∷ Call.credit 0 3
+    ∷ ticks (sent ++ Call.credit 0 4
+    ∷ ticks (Call.tick ∷ Call.tick ∷ Call.reset ∷ Call.credit 0 9 ∷ Call.request 0x24000C08 ∷ Call.request 0x24001008 ∷ Call.request 0x24001408
+    ∷ Call.credit 0 1 ∷ Call.request 0x24001808 ∷ Call.tick ∷ Call.tick
+    ∷ ticks (ticks (Call.credit 0 12 ∷ Call.request 0x24001C00 ∷ Call.credit 0 9
+    ∷ ticks (ticks (ticks (again ++ Call.credit 0 10 ∷ Call.request 0x24002009 ∷ [])))))))
 
 abbrev alone₁ : List Call
 alone₁ = alone [] []
 
 abbrev alone₂ : List Call
-alone₂ = alone (Call.lend 1 ∷ Call.credit 0 2 ∷ []) (Call.lend 1 ∷ Call.credit 0 4 ∷ [])
+alone₂ = alone (Call.lend 1 ∷ Call.credit 0 8 ∷ []) (Call.lend 1 ∷ Call.credit 0 12 ∷ [])
 
 unfoldable renewed-alone : WithAhead (after unlike alone₁) (after unlike alone₂)
 unfolding ahead-computes
 renewed-alone =
-    both-request 0x24001801 (both-credit 0 2 (sent-ahead 0 4 (both-tick (both-tick (both-tick (both-tick (both-tick (both-tick (both-tick (both-tick
-    (both-tick (both-credit 0 1 (both-request 0x24001408 (both-credit 0 4 (both-tick (both-tick (both-tick (both-tick (both-tick (both-tick (both-request
-    0x24001002 (both-credit 0 9 (both-request 0x24000C02 (both-request 0x24000802 (both-request 0x24000402 (both-credit 0 3 (both-reset (both-tick
-    (both-tick (both-credit 1 2 (both-credit 0 1 (sent-ahead 0 2 (both-request 0x24000000 (both-request 0x24100000 start))))))))))))))))))))))))))))))))))
+    both-request 0x24002009 (both-credit 0 10 (sent-ahead 0 12 (both-tick (both-tick (both-tick (both-tick (both-tick (both-tick (both-tick (both-tick
+    (both-tick (both-credit 0 9 (both-request 0x24001C00 (both-credit 0 12 (both-tick (both-tick (both-tick (both-tick (both-tick (both-tick (both-tick
+    (both-tick (both-request 0x24001808 (both-credit 0 1 (both-request 0x24001408 (both-request 0x24001008 (both-request 0x24000C08 (both-credit 0 9 (both-reset
+    (both-tick (both-tick (both-tick (both-tick (both-tick (both-credit 0 4 (sent-ahead 0 8 (both-tick (both-tick (both-tick (both-credit 0 3 (both-credit 0 3
+    (both-request 0x24000800 (both-request 0x24000400 (both-request 0x24000000 start))))))))))))))))))))))))))))))))))))))))))))
 
--- the latest of slots 20 and 2
-later : (b : Bool) → cond b (laterOf 20 (cond b 2 0)) (cond b 2 0) ≡ cond b 20 0
+-- the latest of slots 28 and 8
+later : (b : Bool) → cond b (laterOf 28 (cond b 8 0)) (cond b 8 0) ≡ cond b 28 0
 later true = refl
 later false = refl
 
@@ -138,37 +139,43 @@ pub order-not-without-credits : LeaveInOrderIf OrderButCredits paper → ⊥
 unfolding ahead-computes renewed-alone
 order-not-without-credits leave =
     let P = planOf unlike in
-    let rooms = zero-alone HasRoom P renewed-alone (after unlike alone₁) 20 (λ i. later (eqb i 0)) (proved (all-ask room P 0 (after unlike alone₁)) tt) in
-    let before = own 8 20 20 ∷ own 2 9 9 ∷ own 2 8 8 ∷ own 2 4 4 ∷ own 2 3 3 ∷ own 0 2 0 ∷ neighbour ∷ [] in
+    let rooms = zero-alone HasRoom P renewed-alone (after unlike alone₁) 28 (λ i. later (eqb i 0)) (proved (all-ask room P 0 (after unlike alone₁)) tt) in
+    let before = came 16 28 28 ∷ came 8 17 17 ∷ came 8 16 16 ∷ came 8 10 10 ∷ came 8 9 9 ∷ came 0 8 3 ∷ waiting 2 ∷ waiting 1 ∷ [] in
     let first : FirstFirst P (sendingOf renewed-alone) 0 =
-    (λ same a r. all-left 0 20 17 before refl a r, (λ same a r. all-left 0 2 0 (waiting 2 ∷ neighbour ∷ []) refl a r, tt)) in
+    (λ same a r. all-left 0 28 25 before refl a r, (λ same a r. all-left 0 8 3 (waiting 8 ∷ waiting 2 ∷ waiting 1 ∷ []) refl a r, tt)) in
     let x = leave unlike refl alone₁ alone₂ renewed-alone ((lit< {n = 1} tt, (lit< {n = 1} tt, tt)), (rooms, (first, proved (lent-only (sendingOf renewed-alone) 0) tt))) in
-    let z = x 18 18 20 17 (lit< tt) (lit< tt) (lit< tt) in
+    let z = x 26 26 28 25 (lit< tt) (lit< tt) (lit< tt) in
     omega arith
 
 -- ---- without the order of tiles
 
--- The listing's plan. The flow books slots 1 and 2, and sends the tile of slot 2 ahead in slot 0.
+-- F = 4, W = 2, one flow with share 2 and 8 cells. It books slots 1, 2, 4 and 5, and sends the tile of slot 5 ahead in slot 3.
+abbrev eightCells : List ℕ
+eightCells = plan1 4 2 8 2 8
+
 abbrev second : List Call → List Call
-second sent = Call.request 0x24000000 ∷ Call.request 0x24000400 ∷ Call.credit 0 1 ∷ sent
+second sent =
+    Call.request 0x24000000 ∷ Call.request 0x24000400 ∷ Call.request 0x24000800 ∷ Call.request 0x24000C00 ∷ Call.tick ∷ Call.tick ∷ Call.tick ∷ sent
 
 abbrev second₁ : List Call
 second₁ = second []
 
 abbrev second₂ : List Call
-second₂ = second (Call.lend 1 ∷ Call.credit 0 2 ∷ [])
+second₂ = second (Call.lend 1 ∷ Call.credit 0 5 ∷ [])
 
-unfoldable second-first : WithAhead (after listing second₁) (after listing second₂)
+unfoldable second-first : WithAhead (after eightCells second₁) (after eightCells second₂)
 unfolding ahead-computes
-second-first = sent-ahead 0 2 (both-credit 0 1 (both-request 0x24000400 (both-request 0x24000000 start)))
+second-first =
+    sent-ahead 0 5 (both-tick (both-tick (both-tick (both-request 0x24000C00 (both-request 0x24000800 (both-request 0x24000400
+    (both-request 0x24000000 start)))))))
 
 pub order-not-without-first : LeaveInOrderIf OrderButFirst paper → ⊥
 unfolding ahead-computes second-first
 order-not-without-first leave =
-    let P = planOf listing in
-    let rooms = zero-alone HasRoom P second-first (after listing second₁) 2 (λ i. refl) (proved (all-ask room P 0 (after listing second₁)) tt) in
-    let x = leave listing refl second₁ second₂ second-first ((lit< {n = 1} tt, tt), ((rooms, (tt, tt)), proved (lent-only (sendingOf second-first) 0) tt)) in
-    let z = x 1 1 2 0 (lit< tt) (lit< tt) (lit< tt) in
+    let P = planOf eightCells in
+    let rooms = zero-alone HasRoom P second-first (after eightCells second₁) 5 (λ i. refl) (proved (all-ask room P 0 (after eightCells second₁)) tt) in
+    let x = leave eightCells refl second₁ second₂ second-first ((lit< {n = 1} tt, tt), ((rooms, tt), proved (lent-only (sendingOf second-first) 0) tt)) in
+    let z = x 4 4 5 3 (lit< tt) (lit< tt) (lit< tt) in
     omega arith
 
 -- ---- with a slot that is lent for another tile
@@ -229,9 +236,9 @@ within-not-without-lent kept =
 unfoldable credits-board : Board paper
 unfolding ahead-computes
 credits-board = record {
-  bytes = listing;
+  bytes = threeCells;
   passes = refl;
-  events = after listing credits₁;
+  events = after threeCells credits₁;
   ran = record { calls = credits₁; is = refl };
   no-reset = refl;
   stream = 0;
@@ -241,7 +248,7 @@ credits-board = record {
 pub within-not-without-alike : WithinButAlike paper → ⊥
 unfolding ahead-computes taken-alone credits-board leavesOf slotsOf tile
 within-not-without-alike kept =
-    let x = kept 0 (planOf listing) (sentOn credits-board) credits-board
+    let x = kept 0 (planOf threeCells) (sentOn credits-board) credits-board
     (record { frames-later = λ n below. omega arith; slots-later = λ n below. omega arith }) credits₂ taken-alone
     (proved (lent-only (sendingOf taken-alone) 0) tt) in
     omega (arith, x .as-many)

@@ -27,8 +27,12 @@ pub mod Sendings
 pub mod LeaveInOrder
 -- bookings alike and sent well, in one
 pub mod SendsAhead
+-- the slots of a flow's tiles
+pub mod TileFields
 -- bounds over several links are kept
 pub mod AheadOverLinks
+-- on the next link tiles leave after their slots on the one before
+pub mod LeaveAfter
 -- in order, of flows with room
 pub mod AheadInOrder
 -- in order by slots that are granted in order, and by shares of cells
@@ -44,7 +48,9 @@ pub mod LessAhead
 pub mod LessInOrder
 -- the two premises in `the same calls`, and what each is for
 pub mod SameCalls
+-- two links, and a tile sent ahead on the second: after it came, and in the very slot in which it comes
+pub mod LeaveAfterExamples
 -- two shares of cells, and a tile sent ahead
 pub mod SharesSentAhead
--- of no tile, twice, too early, out of order
+-- of no tile, twice, too early, as it comes, out of order
 pub mod BadSendings

@@ -15,8 +15,8 @@ use Rattle.model.specs.Claim.{Each, HeldAt, AfterDepartureAt, GrantedWordAt, De
 use Rattle.model.specs.Claim as claim
 use Rattle.model.specs.Card.{Card, Meets}
 use Rattle.arrival.specs.Delay.{dueSlot}
-use Rattle.ahead.specs.Sendings.{Sending, nothing, event, ahead, Tile, tileAt, waits, ready, leavesIn, tiles, givenBack, EachReady, SentWell}
-use Rattle.ahead.specs.Sendings.{SendsWell}
+use Rattle.ahead.specs.Sendings.{Sending, nothing, event, ahead, Tile, tileAt, waits, ready, leavesIn, tiles, givenBack, EachReady, EachCome}
+use Rattle.ahead.specs.Sendings.{SentInTime, SentWell, SendsInTime, SendsWell}
 use Rattle.model.proofs.Tests.{and-true}
 use Rattle.model.proofs.Plan.{accepted as accepted-plan}
 use Rattle.model.proofs.Tallies.{tally-append, tally-le}
@@ -38,6 +38,13 @@ waits-is i s m e =
     let b = and-true (eqb (m .flow) i) (eqb (m .slot) s) (a .0) in
     record { flow = eqb-true (m .flow) i (b .0); slot = eqb-true (m .slot) s (b .1); leaves = eqb-true (m .leaves) s (a .1) }
 
+-- a tile that is ready in slot t waits, and may leave in it
+ready-waits : (i s t : ℕ) (m : Tile) → ready i s t m ≡ true → waits i s m ≡ true
+ready-waits i s t m e = and-true (waits i s m) _ e .0
+
+ready-from : (i s t : ℕ) (m : Tile) → ready i s t m ≡ true → m .from ≤ t
+ready-from i s t m e = leb-true (m .from) t (and-true (waits i s m) (leb (m .from) t) e .1)
+
 -- tiles counted by flow and by the slot in which they leave
 abbrev byLeaving : (ℕ → ℕ → Bool) → Tile → Bool
 byLeaving q m = q (m .flow) (m .leaves)
@@ -54,7 +61,7 @@ moved-count q i s t (m ∷ ms) some = go (waits i s m) refl some (moved-count q 
   where
     go : (b : Bool) → waits i s m ≡ b → 0 < bit b + tally (waits i s) ms
         → (0 < tally (waits i s) ms → tally (byLeaving q) (leavesIn i s t ms) + bit (q i s) ≡ tally (byLeaving q) ms + bit (q i t))
-        → tally (byLeaving q) (cond b (record { flow = i; due = m .due; slot = s; leaves = t } ∷ ms) (m ∷ leavesIn i s t ms)) + bit (q i s)
+        → tally (byLeaving q) (cond b (record { flow = i; from = m .from; slot = s; leaves = t } ∷ ms) (m ∷ leavesIn i s t ms)) + bit (q i s)
         ≡ bit (q (m .flow) (m .leaves)) + tally (byLeaving q) ms + bit (q i t)
     go true e some rest = let w = waits-is i s m e in rw (w .flow, w .leaves) (omega arith)
     go false e some rest = omega (arith, rest (omega arith))
@@ -66,7 +73,7 @@ none-moved i s t [] none = refl
 none-moved i s t (m ∷ ms) none = go (waits i s m) none (none-moved i s t ms)
   where
     go : (b : Bool) → bit b + tally (waits i s) ms ≡ 0 → (tally (waits i s) ms ≡ 0 → leavesIn i s t ms ≡ ms)
-        → cond b (record { flow = i; due = m .due; slot = s; leaves = t } ∷ ms) (m ∷ leavesIn i s t ms) ≡ m ∷ ms
+        → cond b (record { flow = i; from = m .from; slot = s; leaves = t } ∷ ms) (m ∷ leavesIn i s t ms) ≡ m ∷ ms
     go true none rest = absurd (omega arith)
     go false none rest = ap (m ∷_) (rest (omega arith))
 
@@ -160,7 +167,7 @@ module _ (P : Plan) where
   moved-late i s t (m ∷ ms) le none = go (waits i s m) (moved-late i s t ms le)
     where
       go : (b : Bool) → (tally late ms ≡ 0 → tally late (leavesIn i s t ms) ≡ 0)
-          → tally late (cond b (record { flow = i; due = m .due; slot = s; leaves = t } ∷ ms) (m ∷ leavesIn i s t ms)) ≡ 0
+          → tally late (cond b (record { flow = i; from = m .from; slot = s; leaves = t } ∷ ms) (m ∷ leavesIn i s t ms)) ≡ 0
       go true rest = rw (le-ltb s t le) (omega arith)
       go false rest = omega (arith, rest (omega arith))
 
@@ -184,41 +191,39 @@ module _ (P : Plan) where
   -- ---- never early
 
   abbrev early : Tile → Bool
-  early m = ltb (m .leaves) (m .due)
+  early m = ltb (m .leaves) (m .from)
 
-  -- each tile that waits for slot s has come, if as many are ready as wait
+  -- each tile that waits for slot s is ready, if as many are as wait
   moved-early : (i s t : ℕ) (ms : List Tile) → tally (waits i s) ms ≤ tally (ready i s t) ms → tally early ms ≡ 0 → tally early (leavesIn i s t ms) ≡ 0
   unfolding tally leavesIn
   moved-early i s t [] all none = refl
-  moved-early i s t (m ∷ ms) all none = go (waits i s m) refl (leb (m .due) t) refl (moved-early i s t ms)
+  moved-early i s t (m ∷ ms) all none = go (waits i s m) refl (ready i s t m) refl (moved-early i s t ms)
     where
       fewer : tally (ready i s t) ms ≤ tally (waits i s) ms
-      fewer = tally-le (ready i s t) (waits i s) (λ m e. and-true (waits i s m) (leb (m .due) t) e .0) ms
+      fewer = tally-le (ready i s t) (waits i s) (λ m e. ready-waits i s t m e) ms
 
-      go : (b : Bool) → waits i s m ≡ b → (d : Bool) → leb (m .due) t ≡ d
+      go : (b : Bool) → waits i s m ≡ b → (d : Bool) → ready i s t m ≡ d
           → (tally (waits i s) ms ≤ tally (ready i s t) ms → tally early ms ≡ 0 → tally early (leavesIn i s t ms) ≡ 0)
-          → tally early (cond b (record { flow = i; due = m .due; slot = s; leaves = t } ∷ ms) (m ∷ leavesIn i s t ms)) ≡ 0
-      go true e true f rest = rw (le-ltb t (m .due) (leb-true (m .due) t f)) (omega arith)
-      go true e false f rest =
-          let not-come : ready i s t m ≡ false = rw (e, f) refl in
-          absurd (omega (arith, ap bit e, ap bit not-come, fewer))
+          → tally early (cond b (record { flow = i; from = m .from; slot = s; leaves = t } ∷ ms) (m ∷ leavesIn i s t ms)) ≡ 0
+      go true e true f rest = rw (le-ltb t (m .from) (ready-from i s t m f)) (omega arith)
+      go true e false f rest = absurd (omega (arith, ap bit e, ap bit f, fewer))
       go false e d f rest =
           let another : ready i s t m ≡ false = rw e refl in
           omega (arith, rest (omega (arith, ap bit e, ap bit another)) (omega arith))
 
   -- a granted slot comes after the tile is due
   granted-later : (w v : ℕ) (h : History) → AfterDepartureAt P (requested w (accepted v)) h → GrantedWordAt P (requested w (accepted v)) h
-      → dueSlot P w h ≤ slotAfter P (ticks h) (departureOf v)
+      → dueSlot P w h < slotAfter P (ticks h) (departureOf v)
   granted-later w v h after word = go (hasCome P (ticks h) (departureOf w)) refl
     where
-      go : (b : Bool) → hasCome P (ticks h) (departureOf w) ≡ b → dueSlot P w h ≤ slotAfter P (ticks h) (departureOf v)
+      go : (b : Bool) → hasCome P (ticks h) (departureOf w) ≡ b → dueSlot P w h < slotAfter P (ticks h) (departureOf v)
       go true e = omega (arith, due-if-come P w h e, slot-to-come P (ticks h) (departureOf v))
       go false e = omega (arith, due-if-not P w h e, after (word .asked-well-formed) e)
 
   new-early : (e : Event) (h : History) → AfterDepartureAt P e h → GrantedWordAt P e h → tally early (tileAt P e h) ≡ 0
   unfolding tally
   new-early (requested w (accepted v)) h after word =
-      rw (le-ltb (slotAfter P (ticks h) (departureOf v)) (dueSlot P w h) (granted-later w v h after word)) refl
+      rw (le-ltb (slotAfter P (ticks h) (departureOf v)) (suc (dueSlot P w h)) (granted-later w v h after word)) refl
   new-early (requested w (refused r)) h after word = refl
   new-early (credited i p a) h after word = refl
   new-early (ticked x) h after word = refl
@@ -258,6 +263,17 @@ module _ (P : Plan) where
       let s = slotAfter P (ticks h) p in
       moved-early i s (ticks h) (tiles P x) (omega (arith, one-waits i s x before, each .0)) (none-early x (each .1) before (after .1 .1) (word .1 .1))
 
+  -- a tile that came before a slot has come in it
+  pub ready-come : {h : History} (x : Sending h) → EachReady P x → EachCome P x
+  ready-come nothing each = tt
+  ready-come (event e x) each = ready-come x each
+  ready-come (ahead {h = h} i p x) each =
+      let s = slotAfter P (ticks h) p in
+      (omega (arith, each .0, tally-le (ready i s (ticks h)) (ready i s (suc (ticks h))) (λ m e. on s m e) (tiles P x)), ready-come x (each .1))
+    where
+      on : (s : ℕ) (m : Tile) → ready i s (ticks h) m ≡ true → ready i s (suc (ticks h)) m ≡ true
+      on s m e = rw (ready-waits i s (ticks h) m e, le-leb (m .from) (suc (ticks h)) (omega (arith, ready-from i s (ticks h) m e))) refl
+
   -- ---- by demand 3
 
   within-cells : (i s : ℕ) (h : History) → Each (HeldAt P i) h
@@ -275,11 +291,8 @@ module _ (P : Plan) where
       go true true e = rw (le-leb t s (omega (arith, leb-true r s e))) (omega arith)
       go true false e = omega arith
 
-  pub sent-well : {h : History} (x : Sending h) → EachReady P x → 0 < flowCount P → ((i : ℕ) → i < flowCount P → Demand3 P i h) → SentWell P x
-  sent-well {h} x each some-flow claims = record {
-    never-early =
-        none-early x each (claims 0 some-flow claim.Clause.one-owner) (claims 0 some-flow claim.Clause.after-departure)
-        (claims 0 some-flow claim.Clause.granted-words);
+  pub sent-in-time : {h : History} (x : Sending h) → 0 < flowCount P → ((i : ℕ) → i < flowCount P → Demand3 P i h) → SentInTime P x
+  sent-in-time {h} x some-flow claims = record {
     never-late = none-late x;
     never-over = λ i s known.
         omega (
@@ -290,6 +303,17 @@ module _ (P : Plan) where
         );
     one-to-a-slot = λ s. omega (arith, tile-most (λ j r. eqb r s) x, claims 0 some-flow claim.Clause.one-owner s);
   }
+
+  pub sent-well : {h : History} (x : Sending h) → EachReady P x → 0 < flowCount P → ((i : ℕ) → i < flowCount P → Demand3 P i h) → SentWell P x
+  sent-well x each some-flow claims = record {
+    never-early =
+        none-early x each (claims 0 some-flow claim.Clause.one-owner) (claims 0 some-flow claim.Clause.after-departure)
+        (claims 0 some-flow claim.Clause.granted-words);
+    in-time = sent-in-time x some-flow claims;
+  }
+
+pub sends-in-time : (c : Card) → Meets c → SendsInTime c
+sends-in-time c meets bytes passes calls x = sent-in-time (planOf bytes) x (accepted-plan bytes passes .some-flow) (meets bytes passes calls)
 
 pub sends-well : (c : Card) → Meets c → SendsWell c
 sends-well c meets bytes passes calls x each =

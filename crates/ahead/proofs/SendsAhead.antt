@@ -18,7 +18,8 @@ use Rattle.arrival.specs.Delay.{dueSlot}
 use Rattle.arrival.specs.BooksInOrder.{GrantedSince, AfterThoseAt}
 use Rattle.ahead.specs.AheadRuns.{WithAhead, start, both-tick, both-request, both-credit, both-lend, first-refused, second-refused, both-reset, sent-ahead}
 use Rattle.ahead.specs.AheadRuns.{latest, GrantsAfter, ResetsAfter, NoneTakenAlone, SendersInOrder, SameGrant, Unmoved, BookedAlike}
-use Rattle.ahead.specs.Sendings.{Sending, nothing, event, ahead, Tile, tileAt, waits, ready, leavesIn, tiles, EachReady, SentWell, sendingOf, SendersHaveRoom, Ahead}
+use Rattle.ahead.specs.Sendings.{Sending, nothing, event, ahead, Tile, tileAt, waits, ready, leavesIn, tiles, EachReady, EachCome}
+use Rattle.ahead.specs.Sendings.{SentWell, sendingOf, SendersHaveRoom, Ahead}
 use Rattle.model.proofs.Tests.{and-true, and-false}
 use Rattle.model.proofs.Tallies.{tally-append, tally-le}
 use Rattle.model.proofs.Plan.{accepted as accepted-plan}
@@ -58,22 +59,22 @@ due-same P w h₁ h₂ same = ap (λ t. cond (hasCome P t (departureOf w)) t (sl
 abbrev pub has : (i s : ℕ) → Tile → Bool
 has i s m = eqb (m .flow) i && eqb (m .slot) s
 
--- and due by slot c
+-- and due by slot c, so that it may leave in the next
 abbrev come : (i s c : ℕ) → Tile → Bool
-come i s c m = has i s m && leb (m .due) c
+come i s c m = has i s m && leb (m .from) (suc c)
 
 -- tiles counted by all but the slot in which they leave
-moved-same : (q : (flow due slot : ℕ) → Bool) (j d t : ℕ) (ms : List Tile)
-    → tally (λ m. q (m .flow) (m .due) (m .slot)) (leavesIn j d t ms) ≡ tally (λ m. q (m .flow) (m .due) (m .slot)) ms
+moved-same : (q : (flow from slot : ℕ) → Bool) (j d t : ℕ) (ms : List Tile)
+    → tally (λ m. q (m .flow) (m .from) (m .slot)) (leavesIn j d t ms) ≡ tally (λ m. q (m .flow) (m .from) (m .slot)) ms
 unfolding tally leavesIn
 moved-same q j d t [] = refl
 moved-same q j d t (m ∷ ms) = go (waits j d m) refl (moved-same q j d t ms)
   where
     counts : Tile → Bool
-    counts m = q (m .flow) (m .due) (m .slot)
+    counts m = q (m .flow) (m .from) (m .slot)
 
     go : (b : Bool) → waits j d m ≡ b → tally counts (leavesIn j d t ms) ≡ tally counts ms
-        → tally counts (cond b (record { flow = j; due = m .due; slot = d; leaves = t } ∷ ms) (m ∷ leavesIn j d t ms)) ≡ bit (counts m) + tally counts ms
+        → tally counts (cond b (record { flow = j; from = m .from; slot = d; leaves = t } ∷ ms) (m ∷ leavesIn j d t ms)) ≡ bit (counts m) + tally counts ms
     go true e rest = let w = waits-is j d m e in rw (w .flow, w .slot) refl
     go false e rest = ap (bit (counts m) +_) rest
 
@@ -118,24 +119,24 @@ module _ (P : Plan) (i s c : ℕ) where
   same-request w (accepted v₁) (accepted v₂) h₁ h₂ ms same at-once rest some =
       let d = dueSlot P w h₂ in
       let at = slotAfter P (ticks h₂) (departureOf v₂) in
-      some-split (come i s c) (record { flow = flowOf w; due = d; slot = at; leaves = at }) ms some
+      some-split (come i s c) (record { flow = flowOf w; from = suc d; slot = at; leaves = at }) ms some
       (λ old. one-older P i s (requested w (accepted v₁)) refl (rest old))
       (λ new.
-      let both = and-true (eqb (flowOf w) i && eqb at s) (leb d c) new in
+      let both = and-true (eqb (flowOf w) i && eqb at s) (leb (suc d) (suc c)) new in
       let place = and-true (eqb (flowOf w) i) (eqb at s) (both .0) in
       record {
         due = d;
-        by = leb-true d c (both .1);
+        by = omega (arith, leb-true (suc d) (suc c) (both .1));
         booked =
             newest w v₁ (eqb-true (flowOf w) i (place .0)) (due-same P w h₁ h₂ at-once)
             (ap₂ (λ t v. slotAfter P t (departureOf v)) at-once same ∙ eqb-true at s (place .1));
       })
 
-  not-lent : (j : ℕ) (h : History) (ms : List Tile) → ticks h < s → 0 < tally (come i s c) (record { flow = j; due = ticks h; slot = ticks h; leaves = ticks h } ∷ ms)
+  not-lent : (j : ℕ) (h : History) (ms : List Tile) → ticks h < s → 0 < tally (come i s c) (record { flow = j; from = ticks h; slot = ticks h; leaves = ticks h } ∷ ms)
       → 0 < tally (come i s c) ms
   not-lent j h ms to-come some =
-      some-split (come i s c) (record { flow = j; due = ticks h; slot = ticks h; leaves = ticks h }) ms some (λ old. old) (λ new.
-      let place = and-true (eqb j i) (eqb (ticks h) s) (and-true (eqb j i && eqb (ticks h) s) (leb (ticks h) c) new .0) in
+      some-split (come i s c) (record { flow = j; from = ticks h; slot = ticks h; leaves = ticks h }) ms some (λ old. old) (λ new.
+      let place = and-true (eqb j i) (eqb (ticks h) s) (and-true (eqb j i && eqb (ticks h) s) (leb (ticks h) (suc c)) new .0) in
       absurd (omega (arith, eqb-true (ticks h) s (place .1))))
 
   at-reset : {l : Link} (a : Renewal) (h : History) → After P l (Event.reset a ∷ h) → ticks h < s → BookedBy P i s c h → BookedBy P i s c (Event.reset a ∷ h)
@@ -159,9 +160,9 @@ module _ (P : Plan) (i s c : ℕ) where
       at-reset a₁ h₁ (e .0 .then-stands) to-come (tile-booked x (e .1) (unmoved .1) to-come some)
   tile-booked (sent-ahead {h₂ = h₂} j p x) e unmoved to-come some =
       tile-booked x e unmoved to-come
-      (omega (arith, moved-same (λ f d r. eqb f i && eqb r s && leb d c) j (slotAfter P (ticks h₂) p) (ticks h₂) (tiles P (sendingOf x))))
+      (omega (arith, moved-same (λ f d r. eqb f i && eqb r s && leb d (suc c)) j (slotAfter P (ticks h₂) p) (ticks h₂) (tiles P (sendingOf x))))
 
--- ---- flows with room, and tiles that are ready
+-- ---- flows with room, and tiles that have come
 
 module _ (P : Plan) where
   abbrev pub Come : History → (j s : ℕ) → Type 0
@@ -213,13 +214,13 @@ module _ (P : Plan) where
 
   module _ (ok : Accepted P) where
     -- if each slot that is sent ahead is of a tile that has come, grants and granted resets come after it
-    come-asked : {h₁ h₂ : History} (x : WithAhead h₁ h₂) → Each (Replayed P) h₁ → Orders P Come x → EachSent P Come x → Asked x
-    come-asked x e₁ order sent = record {
+    sent-asked : {h₁ h₂ : History} (x : WithAhead h₁ h₂) → Each (Replayed P) h₁ → Orders P Come x → EachSent P Come x → Asked x
+    sent-asked x e₁ order sent = record {
       grants-after = grants-after P Come still-come come-granted x e₁ sent order;
       resets-after = resets-after P Come still-come come-granted x e₁ sent;
     }
 
-    each-come : {h₁ h₂ : History} (x : WithAhead h₁ h₂) → Each (Replayed P) h₁ → Each (Replayed P) h₂ → EachReady P (sendingOf x) → Orders P Come x
+    each-come : {h₁ h₂ : History} (x : WithAhead h₁ h₂) → Each (Replayed P) h₁ → Each (Replayed P) h₂ → EachCome P (sendingOf x) → Orders P Come x
         → NoneTakenAlone x → EachSent P Come x
     each-come start e₁ e₂ each order alone = tt
     each-come (both-tick x) e₁ e₂ each order alone = each-come x (e₁ .1) (e₂ .1) each (λ i some. order i some .1) alone
@@ -232,35 +233,35 @@ module _ (P : Plan) where
     each-come (sent-ahead {h₁ = h₁} {h₂ = h₂} k p x) e₁ e₂ each order alone =
         let order′ : Orders P Come x = λ i some. order i (latest-on (slotAfter P (ticks h₁) p) (latest P x i) (eqb i k) some) in
         let sent = each-come x e₁ (e₂ .1 .1) (each .1) order′ alone in
-        let asked = come-asked x e₁ order′ sent in
+        let asked = sent-asked x e₁ order′ sent in
         let r = follows P ok x e₁ (e₂ .1 .1) (asked .grants-after) (asked .resets-after) alone in
         let s = slotAfter P (ticks h₂) p in
         let some : 0 < tally (come k s (ticks h₂)) (tiles P (sendingOf x)) =
         omega (
           arith,
           each .0,
-          tally-le (ready k s (ticks h₂)) (come k s (ticks h₂)) (λ m y.
-              let both = and-true (waits k s m) (leb (m .due) (ticks h₂)) y in
+          tally-le (ready k s (suc (ticks h₂))) (come k s (ticks h₂)) (λ m y.
+              let both = and-true (waits k s m) (leb (m .from) (suc (ticks h₂))) y in
               rw (and-true (has k s m) (eqb (m .leaves) s) (both .0) .0, both .1) refl) (tiles P (sendingOf x)),
         ) in
         let was = tile-booked P k s (ticks h₂) x e₁ (r .unmoved) (omega (arith, r .same-ticks, slot-to-come P (ticks h₂) p)) some in
         (subst (λ t. BookedBy P k (slotAfter P t p) t h₁) (sym (r .same-ticks)) was, sent)
 
-    pub ready-asked : {h₁ h₂ : History} (x : WithAhead h₁ h₂) → Each (Replayed P) h₁ → Each (Replayed P) h₂ → EachReady P (sendingOf x) → Orders P Come x
+    pub come-asked : {h₁ h₂ : History} (x : WithAhead h₁ h₂) → Each (Replayed P) h₁ → Each (Replayed P) h₂ → EachCome P (sendingOf x) → Orders P Come x
         → NoneTakenAlone x → Asked x
-    ready-asked x e₁ e₂ each order alone = come-asked x e₁ order (each-come x e₁ e₂ each order alone)
+    come-asked x e₁ e₂ each order alone = sent-asked x e₁ order (each-come x e₁ e₂ each order alone)
 
 -- two runs in which each grant comes after the slots of tiles that have come
 pub sends-after : (bytes : List ℕ) → refusal bytes ≡ 0 → (calls₁ calls₂ : List Call)
     (x : WithAhead (run paper (planOf bytes) calls₁ .history) (run paper (planOf bytes) calls₂ .history))
-    → EachReady (planOf bytes) (sendingOf x) → Orders (planOf bytes) (Come (planOf bytes)) x → NoneTakenAlone x
-    → BookedAlike (planOf bytes) x × SentWell (planOf bytes) (sendingOf x)
+    → EachCome (planOf bytes) (sendingOf x) → Orders (planOf bytes) (Come (planOf bytes)) x → NoneTakenAlone x
+    → BookedAlike (planOf bytes) x × (EachReady (planOf bytes) (sendingOf x) → SentWell (planOf bytes) (sendingOf x))
 sends-after bytes passes calls₁ calls₂ x each order alone =
     let P = planOf bytes in
     let ok = accepted-plan bytes passes in
-    let asked = ready-asked P ok x (replays P ok calls₁ .each) (replays P ok calls₂ .each) each order alone in (
+    let asked = come-asked P ok x (replays P ok calls₁ .each) (replays P ok calls₂ .each) each order alone in (
       nobody-moves bytes passes calls₁ calls₂ x (asked .grants-after) (asked .resets-after) alone,
-      sends-well paper meets bytes passes calls₂ (sendingOf x) each,
+      sends-well paper meets bytes passes calls₂ (sendingOf x),
     )
 
 pub sends-ahead : Ahead paper

@@ -27,17 +27,19 @@ use Rattle.ahead.proofs.LessAhead.{after}
 abbrev twoShares : List ℕ
 twoShares = plan1 2 2 8 1 2
 
--- In slot 1 slot 2 is granted, whose cell is credited in slot 2, dated slot 5; in slot 3 slot 4 is granted. In slot 4 both cells are held, and slot 6 is granted.
+-- In slot 1 slot 2 is granted, whose cell is credited in slot 2, dated slot 3; and then slot 4, whose cell is credited in slot 4, dated slot 7. There slot 6 is
+-- granted. In slot 6 both cells are held, and slot 8 is granted.
 abbrev calls : List Call → List Call
 calls sent =
-    Call.tick ∷ Call.request 0x24000001 ∷ (sent ++ Call.tick ∷ Call.credit 0 1 ∷ Call.tick ∷ Call.request 0x24000403 ∷ Call.tick ∷ Call.request 0x24000800 ∷ [])
+    Call.tick ∷ Call.request 0x24000001 ∷ Call.tick ∷ Call.credit 0 3 ∷ Call.request 0x24000402 ∷ Call.tick
+    ∷ (sent ++ Call.tick ∷ Call.credit 0 3 ∷ Call.request 0x24000800 ∷ Call.tick ∷ Call.tick ∷ Call.request 0x24000C02 ∷ [])
 
 abbrev calls₁ : List Call
 calls₁ = calls []
 
--- the tile of slot 2 leaves in slot 1
+-- the tile of slot 4, which comes in slot 2, leaves in slot 3
 abbrev calls₂ : List Call
-calls₂ = calls (Call.lend 1 ∷ Call.credit 0 2 ∷ [])
+calls₂ = calls (Call.lend 1 ∷ Call.credit 0 0 ∷ [])
 
 abbrev P : Plan
 P = planOf twoShares
@@ -48,7 +50,8 @@ h₁ = after twoShares calls₁
 unfoldable pub two-runs : WithAhead h₁ (after twoShares calls₂)
 unfolding ahead-computes
 two-runs =
-    both-request 0x24000800 (both-tick (both-request 0x24000403 (both-tick (both-credit 0 1 (both-tick (sent-ahead 0 2 (both-request 0x24000001 (both-tick start))))))))
+    both-request 0x24000C02 (both-tick (both-tick (both-request 0x24000800 (both-credit 0 3 (both-tick (sent-ahead 0 0 (both-tick (both-request 0x24000402
+    (both-credit 0 3 (both-tick (both-request 0x24000001 (both-tick start))))))))))))
 
 pub shares-are-kept : KeepsShares 0 0 P 0 h₁
 unfolding ahead-computes given-back keeps-shares
@@ -56,20 +59,22 @@ shares-are-kept = proved (keeps-shares 0 0 P (lit< tt) 0 h₁) tt
 
 pub no-room-there : Each (AsksAt HasRoom P 0) h₁ → ⊥
 unfolding ahead-computes
-no-room-there room = omega (arith, room .0 refl refl 4 (lit≤ tt))
+no-room-there room = omega (arith, room .0 refl refl 6 (lit≤ tt))
 
 senders : SendersHaveShares P two-runs
 unfolding ahead-computes two-runs
 senders i some = go (ℕ-discrete i 0)
   where
-    latest-is : latest P two-runs i ≡ cond (eqb i 0) 2 0
+    latest-is : latest P two-runs i ≡ cond (eqb i 0) 4 0
     latest-is = refl
 
     go : Dec (i ≡ 0) → HasShares P i h₁
     go (yes e) = rw e (record { known = lit< tt; late = 0; keeps = shares-are-kept })
-    go (no d) = absurd (omega (arith, latest-is ∙ ap (λ b. cond b 2 0) (ne-eqb i 0 d)))
+    go (no d) = absurd (omega (arith, latest-is ∙ ap (λ b. cond b 4 0) (ne-eqb i 0 d)))
 
 pub alike-by-shares : BookedAlike P two-runs × SentWell P (sendingOf two-runs)
 unfolding ahead-computes two-runs
 alike-by-shares =
-    sends-by-order twoShares refl calls₁ calls₂ two-runs (lit< tt, tt) (shares-order-senders twoShares refl calls₁ calls₂ two-runs senders) (tt, tt)
+    let order = shares-order-senders twoShares refl calls₁ calls₂ two-runs senders in
+    let alike = sends-by-order twoShares refl calls₁ calls₂ two-runs (lit< {n = 1} tt, tt) order (tt, (tt, tt)) in
+    (alike .0, alike .1 (lit< {n = 1} tt, tt))

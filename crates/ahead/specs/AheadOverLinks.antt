@@ -1,9 +1,10 @@
--- Sending ahead on the boards of a stream's way: its tiles leave within the bounds that their bookings have. It names no link, only calls and answers.
--- Assumes nothing.
+-- Sending ahead on the boards of a stream's way: its tiles leave within the bounds that their bookings have, and no link sends a tile on before it has come
+-- on the link before. It names no link, only calls and answers. Assumes nothing.
 --
 -- A board's run with tiles sent ahead is set beside its run without any, which the bounds are of (SeveralLinks.antt). Since nobody's bookings move, the
 -- stream's tiles have the same slots in both; and each leaves in its slot or before it. The next board asks by the slot that was booked, as it does without
--- any sending ahead: its calls are the same.
+-- any sending ahead: its calls are the same. So a tile is due there in the slot that was booked on the link before, and it leaves in a later one; if it was
+-- sent ahead on both, it left the link before still earlier.
 use Prim.Native.Nat.{ℕ, _+_, _*_, _≤_, _<_}
 use mathlib.Core.Path.{_≡_}
 use mathlib.Core.List.{List, _∷_, []}
@@ -14,9 +15,9 @@ use Rattle.model.specs.Plan.{Plan}
 use Rattle.model.specs.Calls.{History}
 use Rattle.model.specs.History.{frameOf}
 use Rattle.model.specs.Card.{Card}
-use Rattle.arrival.specs.SeveralLinks.{tile, Board, planOn, sentOn, Within}
+use Rattle.arrival.specs.SeveralLinks.{tile, Board, planOn, sentOn, Joined, Within}
 use Rattle.ahead.specs.AheadRuns.{WithAhead, BookedAlike}
-use Rattle.ahead.specs.Sendings.{Tile, tiles, sendingOf, LentOnlyAhead}
+use Rattle.ahead.specs.Sendings.{Tile, tiles, SentWell, sendingOf, LentOnlyAhead}
 
 -- the slots in which flow i's tiles leave, in the order of the list
 unfoldable pub leavesOf : ℕ → List Tile → List ℕ
@@ -36,3 +37,22 @@ abbrev pub KeptWithin : Card → Type 0
 KeptWithin c =
     (k : ℕ) (P : Plan) (from : List ℕ) (b : Board c) → Within k P from b → (h₂ : History) (x : WithAhead (b .events) h₂) → BookedAlike (planOn b) x
     → LentOnlyAhead (sendingOf x) (b .stream) → LeaveWithin k P from b x
+
+-- ---- after the link before
+
+-- the slots in which board b's stream leaves, where b's run is set beside one with tiles sent ahead
+abbrev pub leftOn : {c : Card} (b : Board c) {h₂ : History} → WithAhead (b .events) h₂ → List ℕ
+leftOn b x = leavesOf (b .stream) (tiles (planOn b) (sendingOf x))
+
+-- RULES 24.8: board b is the next after a. No tile leaves b in or before the slot that was booked for it on a, nor in or before the one in which it left a.
+pub record LeaveAfter {c : Card} (a b : Board c) {h₁ h₂ : History} (x : WithAhead (a .events) h₁) (y : WithAhead (b .events) h₂) : Type 0 where
+  pub after-slot : (n : ℕ) → n < length (sentOn b) → tile n (sentOn a) < tile n (leftOn b y)
+  pub after-leaving : (n : ℕ) → n < length (sentOn b) → tile n (leftOn a x) < tile n (leftOn b y)
+
+-- Bookings are alike on both, the stream is lent slots only to send ahead, and on b tiles are sent well. That the paper's boards keep it is `leave-after`, in
+-- proofs/LeaveAfter.antt.
+abbrev pub KeptAfter : Card → Type 0
+KeptAfter c =
+    (a b : Board c) → Joined a b → (h₁ h₂ : History) (x : WithAhead (a .events) h₁) (y : WithAhead (b .events) h₂)
+    → BookedAlike (planOn a) x → LentOnlyAhead (sendingOf x) (a .stream)
+    → BookedAlike (planOn b) y → LentOnlyAhead (sendingOf y) (b .stream) → SentWell (planOn b) (sendingOf y) → LeaveAfter a b x y

@@ -9,11 +9,11 @@ use Rattle.model.specs.Claim.{Each, EachSince}
 use Rattle.model.specs.Card.{Card, run}
 use Rattle.model.specs.OtherPremises.{Premise}
 use Rattle.arrival.specs.Delay.{dueSlot, AsksAt}
-use Rattle.arrival.specs.SeveralLinks.{Board, planOn, Within}
+use Rattle.arrival.specs.SeveralLinks.{Board, planOn, Joined, Within}
 use Rattle.arrival.specs.BooksInOrder.{NoneDueAfter, InOrder}
 use Rattle.ahead.specs.AheadRuns.{WithAhead, latest, GrantsAfter, ResetsAfter, NoneTakenAlone, BookedAlike, OfBooked, SendersInTurn}
-use Rattle.ahead.specs.Sendings.{EachReady, sendingOf, SendersHaveRoom, SendersHaveRoomThere, FirstFirst, LentOnlyAhead, LeaveInOrder}
-use Rattle.ahead.specs.AheadOverLinks.{LeaveWithin}
+use Rattle.ahead.specs.Sendings.{EachReady, EachCome, sendingOf, SendersHaveRoom, SendersHaveRoomThere, FirstFirst, LentOnlyAhead, LeaveInOrder}
+use Rattle.ahead.specs.AheadOverLinks.{LeaveWithin, LeaveAfter}
 
 -- what may be asked of two runs, and what may follow
 abbrev pub Asked : Type 1
@@ -64,7 +64,7 @@ TurnButDue P h₁ h₂ x = OfBooked P x × (SendersHaveRoom P x × NoneTakenAlon
 abbrev pub TurnButCredits : Asked
 TurnButCredits P h₁ h₂ x = OfBooked P x × (SendersInTurn P x × EachReady P (sendingOf x))
 
--- `Ahead` without tiles that are ready, and without room
+-- `Ahead` without tiles that have come, and without room
 abbrev pub AheadButReady : Asked
 AheadButReady P h₁ h₂ x = SendersHaveRoom P x × NoneTakenAlone x
 
@@ -80,7 +80,7 @@ LeaveInOrderIf Q = FollowsIf Q (λ P h₁ h₂ x. LeaveInOrder P (sendingOf x) 0
 abbrev pub Order : Asked
 Order P h₁ h₂ x = FirstFirst P (sendingOf x) 0 × LentOnlyAhead (sendingOf x) 0
 
--- `AheadInOrder` without tiles that are ready, without room, without the credits, and without each part of the order
+-- `AheadInOrder` without tiles that have come, without room, without the credits, and without each part of the order
 abbrev pub OrderButReady : Asked
 OrderButReady P h₁ h₂ x = AheadButReady P h₁ h₂ x × Order P h₁ h₂ x
 
@@ -101,7 +101,7 @@ OrderButLent P h₁ h₂ x = EachReady P (sendingOf x) × (AheadButReady P h₁ 
 abbrev pub RoomIf : Asked → Card → Type 0
 RoomIf Q = FollowsIf Q (λ P h₁ h₂ x. SendersHaveRoom P x)
 
--- `RoomWithout` without tiles that are ready, and without the credits
+-- `RoomWithout` without tiles that have come, and without the credits
 abbrev pub RoomButReady : Asked
 RoomButReady P h₁ h₂ x = NoneTakenAlone x × SendersHaveRoomThere P x
 
@@ -120,6 +120,14 @@ abbrev pub WithinButLent : Card → Type 0
 WithinButLent c =
     (k : ℕ) (P : Plan) (from : List ℕ) (b : Board c) → Within k P from b → (calls₂ : List Call) (x : WithAhead (b .events) (run c (planOn b) calls₂ .history))
     → BookedAlike (planOn b) x → LeaveWithin k P from b x
+
+-- `KeptAfter` with tiles that may come in the very slot in which they are sent, in the place of those that are sent well
+abbrev pub AfterButReady : Card → Type 0
+AfterButReady c =
+    (a b : Board c) → Joined a b → (calls₁ calls₂ : List Call)
+    (x : WithAhead (a .events) (run c (planOn a) calls₁ .history)) (y : WithAhead (b .events) (run c (planOn b) calls₂ .history))
+    → BookedAlike (planOn a) x → LentOnlyAhead (sendingOf x) (a .stream)
+    → BookedAlike (planOn b) y → LentOnlyAhead (sendingOf y) (b .stream) → EachCome (planOn b) (sendingOf y) → LeaveAfter a b x y
 
 -- ---- a flow that books in order
 

@@ -1,11 +1,12 @@
 -- What leaves in which slot, where tiles are sent ahead of their booked slots. It names no link, only calls and answers. Assumes nothing.
 --
 -- A sending is a history in which some pairs of a lend and a credit send a tile ahead. A pair sends the tile of its flow that waits for the slot of its
--- date, whether or not it has come; where none waits, no tile leaves. That there is one, and that it has come, is asked of each pair. Then no tile leaves
--- before it has come, or after its slot; no two leave in one slot; and the tiles of a flow that have left, less the cells given back, are at most its cells,
--- in every slot. Every card that meets demand 3 keeps these, since they count what demand 3 counts.
+-- date, whether or not it has come; where none waits, no tile leaves. That there is one, and that it came before the current slot, is asked of each pair.
+-- Then each booked tile leaves after the slot in which it comes, and none after its own slot; no two leave in one slot; and the tiles of a flow that have
+-- left, less the cells given back, are at most its cells, in every slot. Every card that meets demand 3 keeps these, since they count what demand 3 counts.
+-- That bookings stay, and the order of what leaves, hold of tiles that come in the very slot in which they are sent too.
 -- The tiles of a flow leave in order, if each is sent ahead when those with earlier slots have left, and each new slot comes after those sent ahead.
-use Prim.Native.Nat.{ℕ, _+_, _≤_, _<_}
+use Prim.Native.Nat.{ℕ, suc, _+_, _≤_, _<_}
 use mathlib.Core.Path.{_≡_}
 use mathlib.Core.List.{List, _∷_, [], _++_}
 use mathlib.Core.Bool.{Bool, _&&_, cond}
@@ -33,26 +34,27 @@ pub data Sending : History → Type 0 where
   event : {h : History} (e : Event) → Sending h → Sending (e ∷ h)
   ahead : {h : History} {m : ℕ} (i p : ℕ) → Sending h → Sending (credited i p (accepted tt) ∷ lent m (accepted i) ∷ h)
 
--- A tile of a flow: the slot in which it comes, the one that is booked for it, or lent to it, and the one in which it leaves.
+-- A tile of a flow: the first slot in which it may leave, the one that is booked for it, or lent to it, and the one in which it leaves.
 pub record Tile : Type 0 where
   pub flow : ℕ
-  pub due : ℕ
+  pub from : ℕ
   pub slot : ℕ
   pub leaves : ℕ
 
--- a grant and a lend give a tile a slot, and it leaves in it
+-- A grant and a lend give a tile a slot, and it leaves in it. RULES 24.2: a granted tile comes in the slot in which it is due (22.2). It has come when that
+-- slot is over, and may leave from the next one on; so it is booked (6.2, 6.3). Nothing tells when a lent tile came: it leaves at once.
 abbrev pub tileAt : Plan → Event → History → List Tile
 tileAt P (requested w (accepted v)) h =
     record {
       flow = flowOf w;
-      due = dueSlot P w h;
+      from = suc (dueSlot P w h);
       slot = slotAfter P (ticks h) (departureOf v);
       leaves = slotAfter P (ticks h) (departureOf v);
     } ∷ []
 tileAt P (requested w (refused r)) h = []
 tileAt P (credited i p a) h = []
 tileAt P (ticked x) h = []
-tileAt P (lent m (accepted i)) h = record { flow = i; due = ticks h; slot = ticks h; leaves = ticks h } ∷ []
+tileAt P (lent m (accepted i)) h = record { flow = i; from = ticks h; slot = ticks h; leaves = ticks h } ∷ []
 tileAt P (lent m (refused r)) h = []
 tileAt P (Event.reset a) h = []
 
@@ -60,14 +62,14 @@ tileAt P (Event.reset a) h = []
 abbrev pub waits : (i s : ℕ) → Tile → Bool
 waits i s m = eqb (m .flow) i && eqb (m .slot) s && eqb (m .leaves) s
 
--- RULES 24.2: and it has come in slot t
+-- RULES 24.2: and it came before slot t
 abbrev pub ready : (i s t : ℕ) → Tile → Bool
-ready i s t m = waits i s m && leb (m .due) t
+ready i s t m = waits i s m && leb (m .from) t
 
 -- the tile of flow i that waits for slot s leaves in slot t
 unfoldable pub leavesIn : (i s t : ℕ) → List Tile → List Tile
 leavesIn i s t [] = []
-leavesIn i s t (m ∷ ms) = cond (waits i s m) (record { flow = i; due = m .due; slot = s; leaves = t } ∷ ms) (m ∷ leavesIn i s t ms)
+leavesIn i s t (m ∷ ms) = cond (waits i s m) (record { flow = i; from = m .from; slot = s; leaves = t } ∷ ms) (m ∷ leavesIn i s t ms)
 
 module _ (P : Plan) where
   -- the tiles, the newest slot given first
@@ -82,11 +84,18 @@ module _ (P : Plan) where
   givenBack (event {h = h} e x) = creditAt P e h ++ givenBack x
   givenBack (ahead i p x) = givenBack x
 
-  -- Each tile that is sent ahead has come, and waits for a slot of its own.
+  -- RULES 24.2: each tile that is sent ahead came before the slot in which it is sent, and waits for a slot of its own.
   abbrev pub EachReady : {h : History} → Sending h → Type 0
   EachReady nothing = Unit {0}
   EachReady (event e x) = EachReady x
   EachReady (ahead {h = h} i p x) = (0 < tally (ready i (slotAfter P (ticks h) p) (ticks h)) (tiles x)) × EachReady x
+
+  -- RULES 24.6: the same, but that it may come in that very slot: it is ready in the next. For the bookings this is enough (`ready-come`, in
+  -- proofs/Sendings.antt).
+  abbrev pub EachCome : {h : History} → Sending h → Type 0
+  EachCome nothing = Unit {0}
+  EachCome (event e x) = EachCome x
+  EachCome (ahead {h = h} i p x) = (0 < tally (ready i (slotAfter P (ticks h) p) (suc (ticks h))) (tiles x)) × EachCome x
 
   -- ---- never early, never late, never over, one to a slot
 
@@ -94,11 +103,16 @@ module _ (P : Plan) where
   abbrev pub leftUpTo : {h : History} → Sending h → (i s : ℕ) → ℕ
   leftUpTo x i s = tally (λ m. eqb (m .flow) i && leb (m .leaves) s) (tiles x)
 
-  pub record SentWell {h : History} (x : Sending h) : Type 0 where
-    pub never-early : tally (λ m. ltb (m .leaves) (m .due)) (tiles x) ≡ 0
+  -- RULES 24.7: of every sending, whether or not its tiles have come
+  pub record SentInTime {h : History} (x : Sending h) : Type 0 where
     pub never-late : tally (λ m. ltb (m .slot) (m .leaves)) (tiles x) ≡ 0
     pub never-over : (i s : ℕ) → i < flowCount P → leftUpTo x i s ≤ tally (upTo i s) (givenBack x) + entry P i .cells
     pub one-to-a-slot : (s : ℕ) → tally (λ m. eqb (m .leaves) s) (tiles x) ≤ 1
+
+  -- and where each tile that is sent ahead came before
+  pub record SentWell {h : History} (x : Sending h) : Type 0 where
+    pub never-early : tally (λ m. ltb (m .leaves) (m .from)) (tiles x) ≡ 0
+    pub in-time : SentInTime x
 
   -- ---- in order
 
@@ -124,8 +138,12 @@ InOrder = (P : Plan) (h : History) (x : Sending h) (i : ℕ) → KeepsOrder P x 
 
 -- ---- of a card
 
--- RULES 24.7: sent well in each list of calls, for the bytes of every accepted plan, if each pair sends a tile that is ready. That a card that meets
--- demand 3 keeps it is `sends-well`, in proofs/Sendings.antt.
+-- RULES 24.7: sent in time in each list of calls, for the bytes of every accepted plan, whatever its pairs send; and sent well, if each pair sends a tile
+-- that is ready. That a card that meets demand 3 keeps both is `sends-in-time` and `sends-well`, in proofs/Sendings.antt.
+abbrev pub SendsInTime : Card → Type 0
+SendsInTime c =
+    (bytes : List ℕ) → refusal bytes ≡ 0 → (calls : List Call) (x : Sending (run c (planOf bytes) calls .history)) → SentInTime (planOf bytes) x
+
 abbrev pub SendsWell : Card → Type 0
 SendsWell c =
     (bytes : List ℕ) → refusal bytes ≡ 0 → (calls : List Call) (x : Sending (run c (planOf bytes) calls .history)) → EachReady (planOf bytes) x
@@ -149,11 +167,11 @@ sendingOf (sent-ahead i p x) = ahead i p (sendingOf x)
 abbrev pub SendersHaveRoom : Plan → {h₁ h₂ : History} → WithAhead h₁ h₂ → Type 0
 SendersHaveRoom P {h₁} x = (i : ℕ) → 0 < latest P x i → Each (AsksAt HasRoom P i) h₁
 
--- They send ahead tiles that have come and wait for their slots: nobody's bookings move, and the tiles are sent well.
+-- They send ahead tiles that have come and wait for their slots: nobody's bookings move; and if each came before, the tiles are sent well.
 abbrev pub AheadOn : Card → Plan → Type 0
 AheadOn c P =
     (calls₁ calls₂ : List Call) (x : WithAhead (run c P calls₁ .history) (run c P calls₂ .history))
-    → EachReady P (sendingOf x) → SendersHaveRoom P x → NoneTakenAlone x → BookedAlike P x × SentWell P (sendingOf x)
+    → EachCome P (sendingOf x) → SendersHaveRoom P x → NoneTakenAlone x → BookedAlike P x × (EachReady P (sendingOf x) → SentWell P (sendingOf x))
 
 -- That the paper's card keeps it is `sends-ahead`, in proofs/SendsAhead.antt.
 abbrev pub Ahead : Card → Type 0
@@ -176,7 +194,7 @@ LentOnlyAhead (ahead j p x) i = LentOnlyAhead x i
 abbrev pub AheadInOrderOn : Card → Plan → Type 0
 AheadInOrderOn c P =
     (calls₁ calls₂ : List Call) (x : WithAhead (run c P calls₁ .history) (run c P calls₂ .history))
-    → EachReady P (sendingOf x) → SendersHaveRoom P x → NoneTakenAlone x → (i : ℕ) → FirstFirst P (sendingOf x) i
+    → EachCome P (sendingOf x) → SendersHaveRoom P x → NoneTakenAlone x → (i : ℕ) → FirstFirst P (sendingOf x) i
     → LentOnlyAhead (sendingOf x) i → LeaveInOrder P (sendingOf x) i
 
 -- That the paper's card keeps it is `ahead-in-order`, in proofs/AheadInOrder.antt.
@@ -196,7 +214,7 @@ SendersInTurnThere P {h₁} {h₂} x = (i : ℕ) → 0 < latest P x i → Each (
 abbrev pub RoomWithoutOn : Card → Plan → Type 0
 RoomWithoutOn c P =
     (calls₁ calls₂ : List Call) (x : WithAhead (run c P calls₁ .history) (run c P calls₂ .history))
-    → EachReady P (sendingOf x) → NoneTakenAlone x → SendersHaveRoomThere P x → SendersHaveRoom P x
+    → EachCome P (sendingOf x) → NoneTakenAlone x → SendersHaveRoomThere P x → SendersHaveRoom P x
 
 abbrev pub RoomWithout : Card → Type 0
 RoomWithout c = (bytes : List ℕ) → refusal bytes ≡ 0 → RoomWithoutOn c (planOf bytes)
@@ -204,7 +222,7 @@ RoomWithout c = (bytes : List ℕ) → refusal bytes ≡ 0 → RoomWithoutOn c (
 abbrev pub InTurnWithoutOn : Card → Plan → Type 0
 InTurnWithoutOn c P =
     (calls₁ calls₂ : List Call) (x : WithAhead (run c P calls₁ .history) (run c P calls₂ .history))
-    → EachReady P (sendingOf x) → NoneTakenAlone x → SendersInTurnThere P x → SendersInTurn P x
+    → EachCome P (sendingOf x) → NoneTakenAlone x → SendersInTurnThere P x → SendersInTurn P x
 
 abbrev pub InTurnWithout : Card → Type 0
 InTurnWithout c = (bytes : List ℕ) → refusal bytes ≡ 0 → InTurnWithoutOn c (planOf bytes)
@@ -216,7 +234,7 @@ InTurnWithout c = (bytes : List ℕ) → refusal bytes ≡ 0 → InTurnWithoutOn
 abbrev pub AheadByOrderOn : Card → Plan → Type 0
 AheadByOrderOn c P =
     (calls₁ calls₂ : List Call) (x : WithAhead (run c P calls₁ .history) (run c P calls₂ .history))
-    → EachReady P (sendingOf x) → SendersInOrder P x → NoneTakenAlone x → BookedAlike P x × SentWell P (sendingOf x)
+    → EachCome P (sendingOf x) → SendersInOrder P x → NoneTakenAlone x → BookedAlike P x × (EachReady P (sendingOf x) → SentWell P (sendingOf x))
 
 abbrev pub AheadByOrder : Card → Type 0
 AheadByOrder c = (bytes : List ℕ) → refusal bytes ≡ 0 → AheadByOrderOn c (planOf bytes)
@@ -224,7 +242,7 @@ AheadByOrder c = (bytes : List ℕ) → refusal bytes ≡ 0 → AheadByOrderOn c
 abbrev pub LeaveByOrderOn : Card → Plan → Type 0
 LeaveByOrderOn c P =
     (calls₁ calls₂ : List Call) (x : WithAhead (run c P calls₁ .history) (run c P calls₂ .history))
-    → EachReady P (sendingOf x) → SendersInOrder P x → NoneTakenAlone x → (i : ℕ) → FirstFirst P (sendingOf x) i
+    → EachCome P (sendingOf x) → SendersInOrder P x → NoneTakenAlone x → (i : ℕ) → FirstFirst P (sendingOf x) i
     → LentOnlyAhead (sendingOf x) i → LeaveInOrder P (sendingOf x) i
 
 abbrev pub LeaveByOrder : Card → Type 0

@@ -14,8 +14,8 @@ use Rattle.arrival.specs.Delay.{AsksAt}
 use Rattle.model.specs.TwoRuns.{Aligned, AsksUntil11, SameFrames}
 use Rattle.arrival.specs.BooksInOrder.{InTurn, InOrder}
 use Rattle.ahead.specs.AheadRuns.{WithAhead, GrantsAfter, ResetsAfter, NoneTakenAlone, OfBooked, SendersInTurn, SendersInOrder, BookedAlike}
-use Rattle.ahead.specs.Sendings.{Sending, EachReady, SentWell, sendingOf, FirstFirst, LentOnlyAhead, LeaveInOrder, SendersHaveRoom, SendersHaveRoomThere, SendersInTurnThere}
-use Rattle.ahead.specs.Sendings.{SendersHaveShares}
+use Rattle.ahead.specs.Sendings.{Sending, EachReady, EachCome, SentInTime, SentWell, sendingOf, FirstFirst, LentOnlyAhead, LeaveInOrder, SendersHaveRoom}
+use Rattle.ahead.specs.Sendings.{SendersHaveRoomThere, SendersInTurnThere, SendersHaveShares}
 use Rattle.model.proofs.CountedBursts.{play-both}
 use Rattle.model.proofs.Demand3.{meets}
 use Rattle.model.proofs.SameFrames.{same-frames}
@@ -23,7 +23,7 @@ use Rattle.ahead.proofs.Ahead.{taken}
 use Rattle.arrival.proofs.BooksInOrder.{books-in-order, ready-in-order}
 use Rattle.ahead.proofs.AheadRuns.{nobody-moves}
 use Rattle.ahead.proofs.AheadInTurn.{in-turn-nobody-moves, in-order-nobody-moves}
-use Rattle.ahead.proofs.Sendings.{sends-well}
+use Rattle.ahead.proofs.Sendings.{sends-in-time, sends-well}
 use Rattle.ahead.proofs.SendsAhead.{sends-ahead}
 use Rattle.ahead.proofs.AheadInOrder.{ahead-in-order}
 use Rattle.ahead.proofs.AheadByOrder.{sends-by-order, leave-by-order, shares-order-senders}
@@ -98,7 +98,10 @@ module _ (plan : List ℕ) where
       → EachSince (AsksAt InTurn P i) h
   host-ready-in-order = has (λ h. (i : ℕ) → i < flowCount P → EachSince (ReadyAt P i) h → EachSince (AsksAt InTurn P i) h) (ready-in-order plan)
 
-  -- never early, never late, never over, one to a slot
+  -- never late, never over, one to a slot; and never early
+  pub host-sends-in-time : {h : History} {b : List ℕ} → Hosted plan h b → (x : Sending h) → SentInTime P x
+  host-sends-in-time = has (λ h. (x : Sending h) → SentInTime P x) (sends-in-time paper meets plan)
+
   pub host-sends-well : {h : History} {b : List ℕ} → Hosted plan h b → (x : Sending h) → EachReady P x → SentWell P x
   host-sends-well = has (λ h. (x : Sending h) → EachReady P x → SentWell P x) (sends-well paper meets plan)
 
@@ -115,32 +118,33 @@ module _ (plan : List ℕ) where
 
   -- it is enough that they have room, or are in turn, in the run with tiles sent ahead
   pub host-room-without : {h₁ h₂ : History} {b₁ b₂ : List ℕ} → Hosted plan h₁ b₁ → Hosted plan h₂ b₂ → (x : WithAhead h₁ h₂)
-      → EachReady P (sendingOf x) → NoneTakenAlone x → SendersHaveRoomThere P x → SendersHaveRoom P x
+      → EachCome P (sendingOf x) → NoneTakenAlone x → SendersHaveRoomThere P x → SendersHaveRoom P x
   host-room-without =
-      both-have (λ h₁ h₂. (x : WithAhead h₁ h₂) → EachReady P (sendingOf x) → NoneTakenAlone x → SendersHaveRoomThere P x → SendersHaveRoom P x)
+      both-have (λ h₁ h₂. (x : WithAhead h₁ h₂) → EachCome P (sendingOf x) → NoneTakenAlone x → SendersHaveRoomThere P x → SendersHaveRoom P x)
       (room-without plan)
 
   pub host-in-turn-without : {h₁ h₂ : History} {b₁ b₂ : List ℕ} → Hosted plan h₁ b₁ → Hosted plan h₂ b₂ → (x : WithAhead h₁ h₂)
-      → EachReady P (sendingOf x) → NoneTakenAlone x → SendersInTurnThere P x → SendersInTurn P x
+      → EachCome P (sendingOf x) → NoneTakenAlone x → SendersInTurnThere P x → SendersInTurn P x
   host-in-turn-without =
-      both-have (λ h₁ h₂. (x : WithAhead h₁ h₂) → EachReady P (sendingOf x) → NoneTakenAlone x → SendersInTurnThere P x → SendersInTurn P x)
+      both-have (λ h₁ h₂. (x : WithAhead h₁ h₂) → EachCome P (sendingOf x) → NoneTakenAlone x → SendersInTurnThere P x → SendersInTurn P x)
       (in-turn-without plan)
 
-  -- bookings alike, and sent well
+  -- bookings alike; and sent well, if each tile came before
   pub host-sends-ahead : {h₁ h₂ : History} {b₁ b₂ : List ℕ} → Hosted plan h₁ b₁ → Hosted plan h₂ b₂ → (x : WithAhead h₁ h₂)
-      → EachReady P (sendingOf x) → SendersHaveRoom P x → NoneTakenAlone x → BookedAlike P x × SentWell P (sendingOf x)
+      → EachCome P (sendingOf x) → SendersHaveRoom P x → NoneTakenAlone x → BookedAlike P x × (EachReady P (sendingOf x) → SentWell P (sendingOf x))
   host-sends-ahead =
       both-have
-      (λ h₁ h₂. (x : WithAhead h₁ h₂) → EachReady P (sendingOf x) → SendersHaveRoom P x → NoneTakenAlone x → BookedAlike P x × SentWell P (sendingOf x))
+      (λ h₁ h₂. (x : WithAhead h₁ h₂) → EachCome P (sendingOf x) → SendersHaveRoom P x → NoneTakenAlone x
+      → BookedAlike P x × (EachReady P (sendingOf x) → SentWell P (sendingOf x)))
       (sends-ahead plan)
 
   -- in order
   pub host-ahead-in-order : {h₁ h₂ : History} {b₁ b₂ : List ℕ} → Hosted plan h₁ b₁ → Hosted plan h₂ b₂ → (x : WithAhead h₁ h₂)
-      → EachReady P (sendingOf x) → SendersHaveRoom P x → NoneTakenAlone x → (i : ℕ) → FirstFirst P (sendingOf x) i
+      → EachCome P (sendingOf x) → SendersHaveRoom P x → NoneTakenAlone x → (i : ℕ) → FirstFirst P (sendingOf x) i
       → LentOnlyAhead (sendingOf x) i → LeaveInOrder P (sendingOf x) i
   host-ahead-in-order =
       both-have
-      (λ h₁ h₂. (x : WithAhead h₁ h₂) → EachReady P (sendingOf x) → SendersHaveRoom P x → NoneTakenAlone x → (i : ℕ) → FirstFirst P (sendingOf x) i
+      (λ h₁ h₂. (x : WithAhead h₁ h₂) → EachCome P (sendingOf x) → SendersHaveRoom P x → NoneTakenAlone x → (i : ℕ) → FirstFirst P (sendingOf x) i
       → LentOnlyAhead (sendingOf x) i → LeaveInOrder P (sendingOf x) i)
       (ahead-in-order plan)
 
@@ -152,18 +156,19 @@ module _ (plan : List ℕ) where
       both-have (λ h₁ h₂. (x : WithAhead h₁ h₂) → OfBooked P x → SendersInOrder P x → NoneTakenAlone x → BookedAlike P x) (in-order-nobody-moves plan)
 
   pub host-sends-by-order : {h₁ h₂ : History} {b₁ b₂ : List ℕ} → Hosted plan h₁ b₁ → Hosted plan h₂ b₂ → (x : WithAhead h₁ h₂)
-      → EachReady P (sendingOf x) → SendersInOrder P x → NoneTakenAlone x → BookedAlike P x × SentWell P (sendingOf x)
+      → EachCome P (sendingOf x) → SendersInOrder P x → NoneTakenAlone x → BookedAlike P x × (EachReady P (sendingOf x) → SentWell P (sendingOf x))
   host-sends-by-order =
       both-have
-      (λ h₁ h₂. (x : WithAhead h₁ h₂) → EachReady P (sendingOf x) → SendersInOrder P x → NoneTakenAlone x → BookedAlike P x × SentWell P (sendingOf x))
+      (λ h₁ h₂. (x : WithAhead h₁ h₂) → EachCome P (sendingOf x) → SendersInOrder P x → NoneTakenAlone x
+      → BookedAlike P x × (EachReady P (sendingOf x) → SentWell P (sendingOf x)))
       (sends-by-order plan)
 
   pub host-leave-by-order : {h₁ h₂ : History} {b₁ b₂ : List ℕ} → Hosted plan h₁ b₁ → Hosted plan h₂ b₂ → (x : WithAhead h₁ h₂)
-      → EachReady P (sendingOf x) → SendersInOrder P x → NoneTakenAlone x → (i : ℕ) → FirstFirst P (sendingOf x) i
+      → EachCome P (sendingOf x) → SendersInOrder P x → NoneTakenAlone x → (i : ℕ) → FirstFirst P (sendingOf x) i
       → LentOnlyAhead (sendingOf x) i → LeaveInOrder P (sendingOf x) i
   host-leave-by-order =
       both-have
-      (λ h₁ h₂. (x : WithAhead h₁ h₂) → EachReady P (sendingOf x) → SendersInOrder P x → NoneTakenAlone x → (i : ℕ) → FirstFirst P (sendingOf x) i
+      (λ h₁ h₂. (x : WithAhead h₁ h₂) → EachCome P (sendingOf x) → SendersInOrder P x → NoneTakenAlone x → (i : ℕ) → FirstFirst P (sendingOf x) i
       → LentOnlyAhead (sendingOf x) i → LeaveInOrder P (sendingOf x) i)
       (leave-by-order plan)
 

@@ -19,15 +19,15 @@ use Rattle.arrival.specs.Delay.{AsksAt}
 use Rattle.model.specs.TwoRuns.{Aligned, AsksUntil11, SameFrames}
 use Rattle.arrival.specs.BooksInOrder.{InTurn, InOrder}
 use Rattle.ahead.specs.AheadRuns.{WithAhead, GrantsAfter, ResetsAfter, NoneTakenAlone, OfBooked, SendersInTurn, SendersInOrder, BookedAlike}
-use Rattle.ahead.specs.Sendings.{Sending, EachReady, SentWell, sendingOf, FirstFirst, LentOnlyAhead, LeaveInOrder, SendersHaveRoom, SendersHaveRoomThere, SendersInTurnThere}
-use Rattle.ahead.specs.Sendings.{SendersHaveShares}
+use Rattle.ahead.specs.Sendings.{Sending, EachReady, EachCome, SentInTime, SentWell, sendingOf, FirstFirst, LentOnlyAhead, LeaveInOrder, SendersHaveRoom}
+use Rattle.ahead.specs.Sendings.{SendersHaveRoomThere, SendersInTurnThere, SendersHaveShares}
 use Rattle.model.proofs.Demand3.{meets}
 use Rattle.model.proofs.SameFrames.{same-frames}
 use Rattle.ahead.proofs.Ahead.{taken}
 use Rattle.arrival.proofs.BooksInOrder.{books-in-order, ready-in-order}
 use Rattle.ahead.proofs.AheadRuns.{nobody-moves}
 use Rattle.ahead.proofs.AheadInTurn.{in-turn-nobody-moves, in-order-nobody-moves}
-use Rattle.ahead.proofs.Sendings.{sends-well}
+use Rattle.ahead.proofs.Sendings.{sends-in-time, sends-well}
 use Rattle.ahead.proofs.SendsAhead.{sends-ahead}
 use Rattle.ahead.proofs.AheadInOrder.{ahead-in-order}
 use Rattle.ahead.proofs.AheadByOrder.{sends-by-order, leave-by-order, shares-order-senders}
@@ -92,7 +92,10 @@ module _ (bytes : List ℕ) (o : Outcome) (is : o ≡ readOf bytes) (valid : o .
   code-ready-in-order =
       has (λ h. (i : ℕ) → i < model.flowCount P → EachSince (ReadyAt P i) h → EachSince (AsksAt InTurn P i) h) (ready-in-order bytes passes)
 
-  -- never early, never late, never over, one to a slot
+  -- never late, never over, one to a slot; and never early
+  pub code-sends-in-time : {h : History} {l : Link} → Handed (o .plan) h l → (x : Sending h) → SentInTime P x
+  code-sends-in-time = has (λ h. (x : Sending h) → SentInTime P x) (sends-in-time paper meets bytes passes)
+
   pub code-sends-well : {h : History} {l : Link} → Handed (o .plan) h l → (x : Sending h) → EachReady P x → SentWell P x
   code-sends-well = has (λ h. (x : Sending h) → EachReady P x → SentWell P x) (sends-well paper meets bytes passes)
 
@@ -110,32 +113,33 @@ module _ (bytes : List ℕ) (o : Outcome) (is : o ≡ readOf bytes) (valid : o .
 
   -- it is enough that they have room, or are in turn, in the run with tiles sent ahead
   pub code-room-without : {h₁ h₂ : History} {l₁ l₂ : Link} → Handed (o .plan) h₁ l₁ → Handed (o .plan) h₂ l₂ → (x : WithAhead h₁ h₂)
-      → EachReady P (sendingOf x) → NoneTakenAlone x → SendersHaveRoomThere P x → SendersHaveRoom P x
+      → EachCome P (sendingOf x) → NoneTakenAlone x → SendersHaveRoomThere P x → SendersHaveRoom P x
   code-room-without =
-      both-have (λ h₁ h₂. (x : WithAhead h₁ h₂) → EachReady P (sendingOf x) → NoneTakenAlone x → SendersHaveRoomThere P x → SendersHaveRoom P x)
+      both-have (λ h₁ h₂. (x : WithAhead h₁ h₂) → EachCome P (sendingOf x) → NoneTakenAlone x → SendersHaveRoomThere P x → SendersHaveRoom P x)
       (room-without bytes passes)
 
   pub code-in-turn-without : {h₁ h₂ : History} {l₁ l₂ : Link} → Handed (o .plan) h₁ l₁ → Handed (o .plan) h₂ l₂ → (x : WithAhead h₁ h₂)
-      → EachReady P (sendingOf x) → NoneTakenAlone x → SendersInTurnThere P x → SendersInTurn P x
+      → EachCome P (sendingOf x) → NoneTakenAlone x → SendersInTurnThere P x → SendersInTurn P x
   code-in-turn-without =
-      both-have (λ h₁ h₂. (x : WithAhead h₁ h₂) → EachReady P (sendingOf x) → NoneTakenAlone x → SendersInTurnThere P x → SendersInTurn P x)
+      both-have (λ h₁ h₂. (x : WithAhead h₁ h₂) → EachCome P (sendingOf x) → NoneTakenAlone x → SendersInTurnThere P x → SendersInTurn P x)
       (in-turn-without bytes passes)
 
-  -- bookings alike, and sent well
+  -- bookings alike; and sent well, if each tile came before
   pub code-sends-ahead : {h₁ h₂ : History} {l₁ l₂ : Link} → Handed (o .plan) h₁ l₁ → Handed (o .plan) h₂ l₂ → (x : WithAhead h₁ h₂)
-      → EachReady P (sendingOf x) → SendersHaveRoom P x → NoneTakenAlone x → BookedAlike P x × SentWell P (sendingOf x)
+      → EachCome P (sendingOf x) → SendersHaveRoom P x → NoneTakenAlone x → BookedAlike P x × (EachReady P (sendingOf x) → SentWell P (sendingOf x))
   code-sends-ahead =
       both-have
-      (λ h₁ h₂. (x : WithAhead h₁ h₂) → EachReady P (sendingOf x) → SendersHaveRoom P x → NoneTakenAlone x → BookedAlike P x × SentWell P (sendingOf x))
+      (λ h₁ h₂. (x : WithAhead h₁ h₂) → EachCome P (sendingOf x) → SendersHaveRoom P x → NoneTakenAlone x
+      → BookedAlike P x × (EachReady P (sendingOf x) → SentWell P (sendingOf x)))
       (sends-ahead bytes passes)
 
   -- in order
   pub code-ahead-in-order : {h₁ h₂ : History} {l₁ l₂ : Link} → Handed (o .plan) h₁ l₁ → Handed (o .plan) h₂ l₂ → (x : WithAhead h₁ h₂)
-      → EachReady P (sendingOf x) → SendersHaveRoom P x → NoneTakenAlone x → (i : ℕ) → FirstFirst P (sendingOf x) i
+      → EachCome P (sendingOf x) → SendersHaveRoom P x → NoneTakenAlone x → (i : ℕ) → FirstFirst P (sendingOf x) i
       → LentOnlyAhead (sendingOf x) i → LeaveInOrder P (sendingOf x) i
   code-ahead-in-order =
       both-have
-      (λ h₁ h₂. (x : WithAhead h₁ h₂) → EachReady P (sendingOf x) → SendersHaveRoom P x → NoneTakenAlone x → (i : ℕ) → FirstFirst P (sendingOf x) i
+      (λ h₁ h₂. (x : WithAhead h₁ h₂) → EachCome P (sendingOf x) → SendersHaveRoom P x → NoneTakenAlone x → (i : ℕ) → FirstFirst P (sendingOf x) i
       → LentOnlyAhead (sendingOf x) i → LeaveInOrder P (sendingOf x) i)
       (ahead-in-order bytes passes)
 
@@ -147,18 +151,19 @@ module _ (bytes : List ℕ) (o : Outcome) (is : o ≡ readOf bytes) (valid : o .
       both-have (λ h₁ h₂. (x : WithAhead h₁ h₂) → OfBooked P x → SendersInOrder P x → NoneTakenAlone x → BookedAlike P x) (in-order-nobody-moves bytes passes)
 
   pub code-sends-by-order : {h₁ h₂ : History} {l₁ l₂ : Link} → Handed (o .plan) h₁ l₁ → Handed (o .plan) h₂ l₂ → (x : WithAhead h₁ h₂)
-      → EachReady P (sendingOf x) → SendersInOrder P x → NoneTakenAlone x → BookedAlike P x × SentWell P (sendingOf x)
+      → EachCome P (sendingOf x) → SendersInOrder P x → NoneTakenAlone x → BookedAlike P x × (EachReady P (sendingOf x) → SentWell P (sendingOf x))
   code-sends-by-order =
       both-have
-      (λ h₁ h₂. (x : WithAhead h₁ h₂) → EachReady P (sendingOf x) → SendersInOrder P x → NoneTakenAlone x → BookedAlike P x × SentWell P (sendingOf x))
+      (λ h₁ h₂. (x : WithAhead h₁ h₂) → EachCome P (sendingOf x) → SendersInOrder P x → NoneTakenAlone x
+      → BookedAlike P x × (EachReady P (sendingOf x) → SentWell P (sendingOf x)))
       (sends-by-order bytes passes)
 
   pub code-leave-by-order : {h₁ h₂ : History} {l₁ l₂ : Link} → Handed (o .plan) h₁ l₁ → Handed (o .plan) h₂ l₂ → (x : WithAhead h₁ h₂)
-      → EachReady P (sendingOf x) → SendersInOrder P x → NoneTakenAlone x → (i : ℕ) → FirstFirst P (sendingOf x) i
+      → EachCome P (sendingOf x) → SendersInOrder P x → NoneTakenAlone x → (i : ℕ) → FirstFirst P (sendingOf x) i
       → LentOnlyAhead (sendingOf x) i → LeaveInOrder P (sendingOf x) i
   code-leave-by-order =
       both-have
-      (λ h₁ h₂. (x : WithAhead h₁ h₂) → EachReady P (sendingOf x) → SendersInOrder P x → NoneTakenAlone x → (i : ℕ) → FirstFirst P (sendingOf x) i
+      (λ h₁ h₂. (x : WithAhead h₁ h₂) → EachCome P (sendingOf x) → SendersInOrder P x → NoneTakenAlone x → (i : ℕ) → FirstFirst P (sendingOf x) i
       → LentOnlyAhead (sendingOf x) i → LeaveInOrder P (sendingOf x) i)
       (leave-by-order bytes passes)
 

@@ -6,9 +6,10 @@
 -- Demand 3 cannot see what follows; the rules of each call say it:
 -- - which number a refusal has, and what C and IF are after it;
 -- - which of a frame's valid positions is granted, as long as the counts come out; and in which frame, to a stream that asks for less than its share: a card
---   that sends one to the newest frame meets demand 3 (`sends-to-newest-meets`). `Soon` and `SoonAhead` in Delay.antt of the crate arrival see the frame,
---   and what is built on them sees when a tile comes up on several links (SeveralLinks.antt) and from a source (Source.antt); the files that follow are
---   there too;
+--   that sends one to the newest frame meets demand 3 (`sends-to-newest-meets`). `Soon` and `SoonAhead` in Delay.antt of the crate arrival see that a modest
+--   stream's slot is in the frame in which its tile is due or in the next one, and not in which of the two: a card that never books in the current frame
+--   can pass them. What is built on them sees by when a tile comes up on several links (SeveralLinks.antt) and from a source (Source.antt); the files that
+--   follow are there too;
 -- - that a stream's slots come in the order of its requests: `BooksInOrder` and `SharesInOrder` (SharesOfCells.antt) say when they do;
 -- - credits refused that should be taken, and credits taken that should be refused with 8, 13 or 14 (of a position p of T or more it counts p
 --   modulo T). A card that refuses every credit meets demand 3, and is prompt and soon (`keeping-meets`). `CreditTaken` in TakenCredits.antt sees both;

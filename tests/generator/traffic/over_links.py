@@ -84,15 +84,16 @@ class Twice:
             if letter == "L":
                 self.lent = self.now()
 
-    def send_ahead(self, dice, careless):
-        """A pair in the second run, of a flow whose first tile that waits has
-        come; a careless one may be any that has come."""
+    def send_ahead(self, dice, kind):
+        """A pair in the second run, of a flow whose first tile that waits came
+        before; a careless one may be any that did, and a hasty one may come
+        in this very slot, against rule 24.2."""
         now = self.now()
-        ready = self.tiles.ready(now)
-        if careless and dice.chance(50):
+        ready = self.tiles.ready(now, kind.hasty)
+        if kind.careless and dice.chance(50):
             ready = {flow: dice.pick(come) for flow in range(self.flows)
                      for come in [[tile for tile in self.tiles.waiting(
-                         flow, now) if tile.due <= now]] if come}
+                         flow, now) if tile.due < now]] if come}
         if dice.chance(50) and len(ready) > 1:
             flow = dice.pick(sorted(ready))
             ready = {flow: ready[flow]}
@@ -117,8 +118,8 @@ class Way:
                       for _ in range(dice.between(1, kind.most_links))]
         self.coming = [[] for _ in self.links]      # slots that tiles come in
         self.manner = dice.below(4)
-        self.dense = dice.pick([15, 40, 80])        # of a hundred slots
-        self.often = dice.pick([30, 60, 100])       # pairs, of idle slots
+        self.dense = dice.pick([40, 80, 100])       # of a hundred slots
+        self.often = dice.pick([60, 80, 100])       # pairs, of idle slots
 
     def draft(self, frame_slots, window_frames, share):
         """A plan whose flow 0 has this share; the others what is left."""
@@ -203,7 +204,7 @@ class Way:
                 else:
                     act(link)
                 if self.dice.chance(self.often):
-                    link.send_ahead(self.dice, self.kind.careless)
+                    link.send_ahead(self.dice, self.kind)
         for link in self.links:
             link.tick()
 
@@ -217,7 +218,7 @@ class Way:
             if dice.chance(20):
                 link.reset()
             if dice.chance(self.often):
-                link.send_ahead(dice, self.kind.careless)
+                link.send_ahead(dice, self.kind)
             if dice.chance(30):
                 link.reset()
         for link in self.links:
