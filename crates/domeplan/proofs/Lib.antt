@@ -1,0 +1,3 @@
+pub mod BytesMoved
+pub mod Taking
+pub mod AllAnswered
