@@ -2,8 +2,8 @@
 use Prim.Native.Nat.{ℕ}
 use mathlib.Core.Path.{_≡_, refl, sym, ap, _∙_}
 use mathlib.Core.List.{List, [], _++_}
-use mathlib.Core.Bool.{true}
-use lib.ListN.{take}
+use mathlib.Core.Bool.{true, cond}
+use lib.ListN.{length, take}
 use lib.Seq.{take-all}
 use native.Mathlib.Omega.{arith}
 use Rattle.tokens.proofs.NumbersCounted.{kept-first}
@@ -24,7 +24,9 @@ record After (line input : List ℕ) (handed : List (List ℕ)) (t : State) : Ty
 -- a piece after which more is to be read is fed whole
 module _ {line piece out out′ : List ℕ} {r : Round} (takes : Takes line piece out r out′) (more : r .more ≡ true) where
   fed-whole : take (takes .fed) piece ≡ piece
-  fed-whole = take-all (takes .fed) piece (omega (arith, takes .whole more))
+  fed-whole =
+      let all : takes .fed ≡ length piece = ap (λ b. cond b (takes .fed) (length piece)) (sym more) ∙ takes .whole in
+      take-all (takes .fed) piece (omega arith)
 
   line-then : lineOf (r .state) ≡ lineFed line piece
   line-then = takes .stands .line-is ∙ ap (lineFed line) fed-whole

@@ -1,7 +1,7 @@
 -- What `read` and `write` answer, as a number of bytes. Assumes nothing.
 use Prim.Native.Nat.{ℕ, zero, suc, _<_, zero-le}
 use mathlib.Core.Path.{_≡_, refl, sym, ap, subst, _∙_}
-use mathlib.Core.Bool.{false, not}
+use mathlib.Core.Bool.{Bool, true, false, not, cond}
 use native.Mathlib.Nat.{min-eq-left}
 use native.Mathlib.Omega.{arith}
 use lib.IntN.{ℤ, pos, negsuc}
@@ -13,6 +13,10 @@ use mir.Facts.{toZ-ofZ}
 use borrow.Author.Tests.{eqb-true, not-false}
 use Rattle.libc.specs.Io.{Moved}
 use Rattle.io.specs.Counts.{clamped}
+
+pub none-or-more : {n : ℕ} (more : Bool) → (more ≡ false → n ≡ 0) → cond more 0 n ≡ 0
+none-or-more true none = refl
+none-or-more false none = none refl
 
 by-sign : (got : ℤ) (most : ℕ) → ltZ got (pos 0) ≡ false → (ofZ w64 got ≡ 0 → ⊥) → Moved most got → 0 < clamped got most
 by-sign (pos zero) most not-failed not-ended moved = absurd (not-ended refl)

@@ -1,8 +1,8 @@
 -- A piece that is taken part by part: what has been fed and handed on before a place of it, and one part more. Assumes nothing.
-use Prim.Native.Nat.{ℕ, _+_, _-_, _≤_, _<_}
+use Prim.Native.Nat.{ℕ, zero, suc, _+_, _-_, _≤_, _<_}
 use mathlib.Core.Path.{_≡_, refl, sym, ap, subst, _∙_}
 use mathlib.Core.List.{List, _∷_, [], _++_, append-assoc, append-nil}
-use mathlib.Core.Bool.{Bool, true, false}
+use mathlib.Core.Bool.{Bool, true, false, cond}
 use native.Mathlib.Omega.{arith}
 use lib.ListN.{length, take, drop, length-append, length-drop}
 use lib.Seq.{sets, take-all, take-add}
@@ -13,7 +13,7 @@ use Rattle.questions.specs.Feeding.{lineFed, saidFed}
 use Rattle.questions.specs.Promises.{lineOf, Regular, Stands, FedPiece, joined}
 use Rattle.questions.proofs.FedBytes.{stands-regular, partOf, line-append, said-append, taken-most}
 use Rattle.domeplan.specs.declared.Round.{Round}
-use Rattle.domeplan.specs.Rounds.{putEach, Takes, Goes, ended, came}
+use Rattle.domeplan.specs.Rounds.{putEach, Takes, Came, Goes}
 
 -- ---- texts one after the other
 
@@ -28,6 +28,20 @@ put-one-more : (out : List ℕ) (texts : List (List ℕ)) (text : List ℕ) → 
 unfolding putEach
 put-one-more out [] text = refl
 put-one-more out (t ∷ rest) text = put-one-more (sets out 0 t) rest text
+
+-- ---- by whether more is to be read
+
+by-more : {x y : ℕ} (more : Bool) → (more ≡ true → x ≡ y) → cond more x y ≡ y
+by-more true whole = whole refl
+by-more false whole = refl
+
+some-or-more : {n : ℕ} (more : Bool) → (more ≡ false → 0 < n) → 0 < cond more 1 n
+some-or-more true lost = omega arith
+some-or-more false lost = lost refl
+
+pub some-lost : {n : ℕ} (more : Bool) → 0 < cond more 1 n → more ≡ false → 0 < n
+some-lost true some e = let z : _≡_ {A = ℕ} 0 1 = cc in absurd (omega arith)
+some-lost false some e = some
 
 -- ---- before a place of the piece
 
@@ -59,11 +73,11 @@ module _ {line piece out₀ out : List ℕ} {at : ℕ} {now : Round} (t : TakenT
     fed = at;
     most = t .most;
     stands = t .stands;
-    whole = whole;
+    whole = by-more (now .more) whole;
     handed = t .handed;
     said = t .said;
     out-is = t .out-is;
-    lost = t .lost;
+    lost = some-or-more (now .more) (t .lost);
     goes-on = t .goes-on;
   }
 
@@ -116,7 +130,15 @@ module _ {line piece out₀ out : List ℕ} {at : ℕ} {now : Round} (t : TakenT
 
 -- ---- a round
 
--- the state after it is regular
-pub goes-regular : {s : State} {out space out′ : List ℕ} {r : Round} → Regular s → Goes s out space r out′ → Regular (r .state)
-goes-regular regular (ended same no-more out-same) = subst Regular (sym same) regular
-goes-regular regular (came have some there takes) = stands-regular (takes .stands)
+module _ (s : State) (out space : List ℕ) (r : Round) (out′ : List ℕ) where
+  pub some-came : (have : ℕ) → 0 < have → Takes (lineOf s) (take have space) out r out′ → Came have s out space r out′
+  some-came zero some takes = absurd (omega arith)
+  some-came (suc k) some takes = takes
+
+  came-regular : (have : ℕ) → Regular s → Came have s out space r out′ → Regular (r .state)
+  came-regular zero regular came = subst Regular (sym (came .0)) regular
+  came-regular (suc k) regular takes = stands-regular (takes .stands)
+
+  -- the state after it is regular
+  pub goes-regular : Regular s → Goes s out space r out′ → Regular (r .state)
+  goes-regular regular goes = came-regular (goes .have) regular (goes .taken)

@@ -1,8 +1,8 @@
 -- What `domeplan` does with what it has read, and a run of its rounds. RULES 20.1. Assumes nothing.
-use Prim.Native.Nat.{ℕ, _≤_, _<_}
+use Prim.Native.Nat.{ℕ, zero, suc, _≤_, _<_}
 use mathlib.Core.Path.{_≡_}
 use mathlib.Core.List.{List, _∷_, [], _++_}
-use mathlib.Core.Bool.{true, false}
+use mathlib.Core.Bool.{true, false, cond}
 use lib.ListN.{length, take}
 use lib.Seq.{sets}
 use Rattle.replies.specs.Lines.{Says}
@@ -24,21 +24,27 @@ pub record Takes (line piece out : List ℕ) (r : Round) (out′ : List ℕ) : T
   pub fed : ℕ
   pub most : fed ≤ length piece
   pub stands : Stands (r .state) (lineFed line (take fed piece))
-  pub whole : r .more ≡ true → fed ≡ length piece
+  pub whole : cond (r .more) fed (length piece) ≡ length piece
   -- what is handed on to be written, each text from the start of `out`: together the answers to the lines that end in these bytes, in their order
   pub handed : List (List ℕ)
   pub said : joined handed ≡ saidFed line (take fed piece)
   pub out-is : out′ ≡ putEach out handed
-  -- it ends early only where some answer was to be written
-  pub lost : r .more ≡ false → 0 < length (joined handed)
+  -- nothing more is to be read only where some answer was to be written
+  pub lost : 0 < cond (r .more) 1 (length (joined handed))
   pub goes-on : r .finish ≡ false
 
 -- ---- a round
 
--- Nothing more could be read, and all stays as it was; or some bytes were, the first of `space`, and they are taken.
-pub data Goes (s : State) (out space : List ℕ) (r : Round) (out′ : List ℕ) : Type 0 where
-  ended : r .state ≡ s → r .more ≡ false → out′ ≡ out → Goes s out space r out′
-  came : (have : ℕ) → 0 < have → have ≤ length space → Takes (lineOf s) (take have space) out r out′ → Goes s out space r out′
+-- after a read that brought so many bytes, the first of `space`: where there are none all stays as it was, and nothing more is to be read
+abbrev pub Came : (have : ℕ) → (s : State) (out space : List ℕ) (r : Round) (out′ : List ℕ) → Type 0
+Came zero s out space r out′ = (r .state ≡ s) × (r .more ≡ false) × (out′ ≡ out)
+Came (suc k) s out space r out′ = Takes (lineOf s) (take (suc k) space) out r out′
+
+-- A round: something is read into `space`, and taken.
+pub record Goes (s : State) (out space : List ℕ) (r : Round) (out′ : List ℕ) : Type 0 where
+  pub have : ℕ
+  pub there : have ≤ length space
+  pub taken : Came have s out space r out′
 
 -- ---- a run
 

@@ -1,11 +1,12 @@
 -- `domeplan::round_once` meets its contract. Assumes nothing.
+use Prim.Native.Nat.{zero-le}
 use mathlib.Core.Path.{refl, ap, _∙_}
 use mir.Syntax.{w64}
 use mir.Val.{toZ, ofZ}
 use borrow.Author.Needs.{needs, sfits-of}
 use Rattle.io.specs.Counts.{clamped}
-use Rattle.domeplan.specs.Rounds.{ended, came}
 use Rattle.domeplan.proofs.BytesMoved.{some-moved}
+use Rattle.domeplan.proofs.Taking.{some-came}
 use Rattle.domeplan.proofs.round_once.Statement.{statement}
 use Rattle.domeplan.proofs.round_once.Tie as tie
 
@@ -19,13 +20,13 @@ same-length : tie.Need-same-length
 same-length c = search needs
 
 returns : tie.Need-returns
-returns c = ended refl refl refl
+returns c = record { have = 0; there = zero-le; taken = (refl, refl, refl) }
 
 same-length-2 : tie.Need-same-length-2
 same-length-2 c = search needs
 
 returns-2 : tie.Need-returns-2
-returns-2 c = ended refl refl refl
+returns-2 c = record { have = 0; there = zero-le; taken = (refl, refl, refl) }
 
 count-requires : tie.Need-count-requires
 count-requires c κs = search needs
@@ -55,7 +56,7 @@ returns-3 c =
     let fits = sfits-of (read .ok) in
     let is = count .ensures .1 ∙ ap (clamped (toZ w64 (ofZ w64 (read .result)))) (read .kept .1 .0) in
     let some = some-moved (read .result) fits _ (count .result) (not-failed .if1 .left) (not-ended .if2 .left) (read .ensures) is in
-    came (count .result) some (count .ensures .0 .0) (c .before .before .take .ensures)
+    record { have = count .result; there = count .ensures .0 .0; taken = some-came _ _ _ _ _ (count .result) some (c .before .before .take .ensures) }
 
 pub round-once-spec : {M : Type 1} → statement M
 round-once-spec =

@@ -45,7 +45,7 @@ loop-again : tie.Need-loop-again Inv-loop μ-loop
 loop-again c =
     let t = c .before .before .before .before in
     let i = t .before .before .before .before .before .loop .inv in
-    (goes-regular (i .0) (t .round-once .ensures), t .round-once .kept .1 .0 ∙ i .1, t .round-once .kept .1 .1 .0 ∙ i .2)
+    (goes-regular _ _ _ _ _ (i .0) (t .round-once .ensures), t .round-once .kept .1 .0 ∙ i .1, t .round-once .kept .1 .1 .0 ∙ i .2)
 
 finish-requires : tie.Need-finish-requires Inv-loop μ-loop
 finish-requires c κs =

@@ -1,8 +1,7 @@
 -- `domeplan::take` meets its contract, and ends: each part that is fed uses up some of the piece. Assumes nothing.
 use Prim.Native.Nat.{ℕ, _+_, _-_, _≤_, _<_}
-use mathlib.Core.Path.{_≡_, refl, sym, _∙_}
+use mathlib.Core.Path.{_≡_, refl, _∙_}
 use mathlib.Core.List.{List}
-use mathlib.Core.Bool.{true, false}
 use native.Mathlib.Omega.{arith}
 use lib.ListN.{length, length-drop}
 use lib.Seq.{length-take-le}
@@ -10,7 +9,7 @@ use borrow.Author.Tests.{ltb-true, ltb-false}
 use Rattle.replies.specs.Lines.{room}
 use Rattle.questions.specs.Promises.{lineOf}
 use Rattle.questions.proofs.FedBytes.{stands-regular, partOf, some-taken}
-use Rattle.domeplan.proofs.Taking.{TakenTo, none-taken, all-taken, fed-most, one-part}
+use Rattle.domeplan.proofs.Taking.{some-lost, TakenTo, none-taken, all-taken, fed-most, one-part}
 use Rattle.domeplan.proofs.take.Statement.{statement}
 use Rattle.domeplan.proofs.take.Tie as tie
 
@@ -89,7 +88,7 @@ loop-again : tie.Need-loop-again Inv-loop μ-loop
 loop-again c =
     let fed = fed-at c in
     let inv = loop-at (turn-at fed) .loop .inv in
-    (one-part (inv .0) (fed .feed .ensures) (c .write .ensures), fed .feed .kept .1 .1 .0 ∙ inv .1)
+    (one-part (inv .0) (fed .feed .ensures) (some-lost (c .write .result) (c .write .ensures)), fed .feed .kept .1 .1 .0 ∙ inv .1)
 
 same-length : tie.Need-same-length Inv-loop μ-loop
 same-length c = c .before .before .loop .inv .1
