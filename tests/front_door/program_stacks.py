@@ -7,7 +7,11 @@ from front_door.command import ROOT, start
 from front_door.pages import page, table
 
 ABOVE, BELOW = 16, 32           # KB with which it has to suffice, or not
-QUESTION = b"count 4 2\n"
+QUESTIONS = {"domeplan": b"count 4 2\n",
+             "domeshow": b"show 4 2 8 0 1 1 2 3\n"}
+# Programs that tests/run is not started with.
+OTHERS = {name: ROOT / "target/bin" / name for name in ("domeshow",
+                                                        "dometrace")}
 LOST = re.compile(r"under `ulimit -s (\d+)` it ends by a signal and has "
                   r"written nothing$")
 
@@ -23,9 +27,7 @@ def told():
 
 
 def input_of(name):
-    if name == "domeplan":
-        return QUESTION
-    return (ROOT / "flights/listing").read_bytes()
+    return QUESTIONS.get(name) or (ROOT / "flights/listing").read_bytes()
 
 
 def with_stack(program, kilobytes, data):
@@ -62,6 +64,7 @@ def all_programs(programs):
 
 
 def tests(programs):
+    programs = {**programs, **OTHERS}
     yield "docs: proved, the stack of all programs", (
         lambda: all_programs(programs))
     yield ("docs: proved, a program with too little stack ends as told",

@@ -5,7 +5,8 @@ mod waiting;
 ghost use Prim.Native.Nat.{_≤_};
 ghost use lib.ListN.{length};
 ghost use Rattle.replies.specs.Lines.{room};
-ghost use Rattle.questions.specs.Promises.{Regular};
+ghost use Rattle.questions.specs.Promises.{lineOf, Regular};
+ghost use Rattle.domeplan.specs.Rounds.{Takes, Goes};
 use questions::State;
 
 // Where some input leaves the program. Neither holds where a read failed, or the output took no more.
@@ -20,7 +21,7 @@ struct Round {
 // Takes a piece of the input, and writes the answers to the lines that end in it, as many at once as `out` has room for.
 fn take(state: State, piece: &[u8], out: &mut [u8]) -> Round
     requires { ⌜ Regular state × (room ≤ length (now out)) ⌝ }
-    ensures { λ r. ⌜ Regular (r .state) ⌝ }
+    ensures { λ r. ⌜ Takes (lineOf state) (now (piece .entry)) (now (out .entry)) r (now (out .exit)) ⌝ }
 {
     let mut now = Round {
         state,
@@ -44,7 +45,7 @@ fn take(state: State, piece: &[u8], out: &mut [u8]) -> Round
 // RULES 20.1: reads once, and takes what was read.
 fn round_once(state: State, space: &mut [u8], out: &mut [u8]) -> Round
     requires { ⌜ Regular state × (room ≤ length (now out)) ⌝ }
-    ensures { λ r. ⌜ Regular (r .state) ⌝ }
+    ensures { λ r. ⌜ Goes state (now (out .entry)) (now (space .exit)) r (now (out .exit)) ⌝ }
 {
     let got = libc::read(libc::STDIN_FILENO, space);
     if got < 0 {

@@ -1,5 +1,7 @@
 // Standard output, and what is said on standard error where something was lost.
-ghost use Prim.Native.Nat.{_≤_};
+ghost use Prim.Native.Nat.{_≤_, _<_};
+ghost use mathlib.Core.Path.{_≡_};
+ghost use mathlib.Core.Bool.{cond};
 ghost use lib.ListN.{length};
 use crate::waiting::may_go_on;
 
@@ -11,7 +13,8 @@ struct Wrote {
 
 // Writes once. Where the output takes nothing for now, it waits a moment.
 fn write_once(bytes: &[u8]) -> Wrote
-    ensures { λ r. ⌜ r .count ≤ length (now (bytes .entry)) ⌝ }
+    ensures few { λ r. ⌜ r .count ≤ length (now (bytes .entry)) ⌝ }
+    ensures none { λ r. ⌜ cond (r .more) 0 (r .count) ≡ 0 ⌝ }
 {
     let got = libc::write(libc::STDOUT_FILENO, bytes);
     if got < 0 {
@@ -30,6 +33,7 @@ fn write_once(bytes: &[u8]) -> Wrote
 // number that is never used up.
 fn write_all(out: &[u8], end: usize) -> usize
     requires { ⌜ end ≤ length (now out) ⌝ }
+    ensures { λ r. ⌜ r ≤ end ⌝ }
 {
     let mut left = u64::MAX;
     let mut done = 0;
@@ -46,6 +50,7 @@ fn write_all(out: &[u8], end: usize) -> usize
 // Writes the first bytes of a slice. Where the output takes no more it says so and answers false.
 pub(crate) fn write(out: &[u8], end: usize) -> bool
     requires { ⌜ end ≤ length (now out) ⌝ }
+    ensures { λ r. ⌜ 0 < cond r 1 end ⌝ }
 {
     if write_all(out, end) == end {
         return true;

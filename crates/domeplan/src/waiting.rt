@@ -1,4 +1,6 @@
 // Waiting for an output that takes nothing for now.
+ghost use mathlib.Core.Path.{_≡_};
+ghost use Rattle.domeplan.specs.Waiting.{mayGoOn};
 use libc::types::timespec;
 
 // Waits for a millisecond.
@@ -15,7 +17,9 @@ fn pause() {
 }
 
 // Whether a write that failed for this reason may be made again: a signal came first, or the output takes nothing for now, which is waited for.
-pub(crate) fn may_go_on(reason: i32) -> bool {
+pub(crate) fn may_go_on(reason: i32) -> bool
+    ensures { λ r. ⌜ r ≡ mayGoOn reason ⌝ }
+{
     if reason == libc::EINTR {
         return true;
     }

@@ -4,3 +4,6 @@ pub mod DraftsAsked
 pub mod FileLines
 pub mod PlanLineEdges
 pub mod RoundTrip
+pub mod DecimalRead
+pub mod FieldsRead
+pub mod PlanLines

@@ -32,7 +32,7 @@ sixteen : table 16 (λ d. hexDigit (hexGlyph d)) ≡ table 16 (λ d. d)
 unfolding hexDigit
 sixteen = refl
 
-digit-back : (d : ℕ) → d < 16 → hexDigit (hexGlyph d) ≡ d
+pub digit-back : (d : ℕ) → d < 16 → hexDigit (hexGlyph d) ≡ d
 digit-back d h =
     sym (getD-table 16 (λ k. hexDigit (hexGlyph k)) d 0 h) ∙ ap (λ l. getD l d 0) sixteen ∙ getD-table 16 (λ k. k) d 0 h
 
@@ -151,7 +151,7 @@ none-refused P out count e = go (writeRefusal P out) e
     go (suc r) p = let z : _≡_ {A = ℕ} 0 1 = cc in absurd (omega arith)
 
 -- the digits of a plan that is accepted are read as its question
-plan-read : (P : Plan) (out : List ℕ) → writeRefusal P out ≡ 0 → each isHexDigit (hex (writer.bytesOf P)) ≡ true → digitsLine (hex (writer.bytesOf P)) ≡ question P
+pub plan-read : (P : Plan) (out : List ℕ) → writeRefusal P out ≡ 0 → each isHexDigit (hex (writer.bytesOf P)) ≡ true → digitsLine (hex (writer.bytesOf P)) ≡ question P
 unfolding digitsLine foundBytes readLine
 plan-read P out passed all =
     let b = writer.bytesOf P in

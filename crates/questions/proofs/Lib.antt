@@ -3,3 +3,4 @@ pub mod LineAnswers
 pub mod FedBytes
 pub mod AnyPieces
 pub mod InputEdges
+pub mod PlanLines

@@ -6,6 +6,7 @@ use borrow.Author.Needs.{needs}
 use borrow.Author.Tests.{ltb-true}
 use Rattle.questions.specs.Promises.{Regular}
 use Rattle.questions.proofs.FedBytes.{stands-regular}
+use Rattle.domeplan.proofs.Taking.{goes-regular}
 use Rattle.domeplan.proofs.rounds.Statement.{statement}
 use Rattle.domeplan.proofs.rounds.Tie as tie
 
@@ -44,7 +45,7 @@ loop-again : tie.Need-loop-again Inv-loop μ-loop
 loop-again c =
     let t = c .before .before .before .before in
     let i = t .before .before .before .before .before .loop .inv in
-    (t .round-once .ensures, t .round-once .kept .1 .0 ∙ i .1, t .round-once .kept .1 .1 .0 ∙ i .2)
+    (goes-regular _ _ _ _ _ (i .0) (t .round-once .ensures), t .round-once .kept .1 .0 ∙ i .1, t .round-once .kept .1 .1 .0 ∙ i .2)
 
 finish-requires : tie.Need-finish-requires Inv-loop μ-loop
 finish-requires c κs =

@@ -1,0 +1,4 @@
+pub mod FailedWrites
+pub mod BytesMoved
+pub mod Taking
+pub mod AllAnswered
