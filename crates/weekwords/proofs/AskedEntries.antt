@@ -1,8 +1,8 @@
 -- Entries of the week that is asked about. Assumes nothing.
 use Prim.Native.Nat.{ℕ, _+_, _-_, _*_, _/_, _≤_, _<_, min}
-use mathlib.Core.Path.{_≡_, refl, sym, ap, _∙_}
+use mathlib.Core.Path.{_≡_, refl, ap, _∙_}
 use mathlib.Core.List.{List, _∷_, _++_}
-use mathlib.Core.Bool.{Bool, not, _&&_}
+use mathlib.Core.Bool.{not}
 use native.Mathlib.Decide.{decLt}
 use native.Mathlib.Numerals.{one-add}
 use native.Mathlib.Omega.{arith}
@@ -15,7 +15,7 @@ use Rattle.model.proofs.Tests.{any-same}
 use Rattle.programme.specs.Week.{Entry, week, entry, noEntry, startsFirst, inWeek}
 use Rattle.programmewords.specs.Programmes.{entriesAsked, entryAsked, programmeAsked, widePlan}
 use Rattle.faults.specs.Told.{eachBelow}
-use Rattle.weekwords.specs.WeekFaults.{entriesSeen, entryFaults, countFaults, sharedFaults, faultsOf}
+use Rattle.weekwords.specs.WeekFaults.{entriesSeen, entriesFaults, countFaults, sharedFaults, faultsOf}
 use Rattle.weekwords.specs.WeekWord.{weekAsked}
 
 -- entry i by its three numbers
@@ -73,10 +73,9 @@ past-week minute = go (decLt week minute)
 -- ---- all that is told
 
 pub all-found : (numbers : List ℕ) (count first : ℕ) → length numbers ≡ 3 * count → first ≡ min count 64
-    → eachBelow first (λ i. entryFaults (entry (weekAsked numbers) i) i) ++ countFaults count ++ eachBelow first (sharedFaults (weekAsked numbers))
-    ≡ faultsOf (weekAsked numbers)
+    → entriesFaults (weekAsked numbers) first ++ countFaults count ++ eachBelow first (sharedFaults (weekAsked numbers)) ≡ faultsOf (weekAsked numbers)
 unfolding faultsOf
 all-found numbers count first long seen =
     let many : count ≡ length (weekAsked numbers) = omega (arith, long, count-is numbers) in
     let all : first ≡ entriesSeen (weekAsked numbers) = seen ∙ ap (λ n. min n 64) many in
-    λ t. eachBelow (all t) (λ i. entryFaults (entry (weekAsked numbers) i) i) ++ countFaults (many t) ++ eachBelow (all t) (sharedFaults (weekAsked numbers))
+    λ t. entriesFaults (weekAsked numbers) (all t) ++ countFaults (many t) ++ eachBelow (all t) (sharedFaults (weekAsked numbers))

@@ -11,11 +11,13 @@ use borrow.Author.Tests.{lt-ltb, le-ltb}
 use Rattle.model.specs.Tables.{any}
 use Rattle.model.specs.Refusals.{Line, _when_, firstOf}
 use Rattle.model.proofs.Tests.{or-true}
-use Rattle.programme.specs.Week.{Entry, week, entry, startsFirst, inWeek, manyEntries, keepsLimits, shareMinute, someBreaksLimits, someShared, refusal}
+use Rattle.programme.specs.Week.{Entry, week, entry, startsFirst, inWeek, manyEntries, keepsLimits}
+use Rattle.programme.specs.Week.{shareMinute, someBreaksLimits, someShared, refusal}
 use Rattle.programme.proofs.OneEntry.{ends-first, limits-by-end}
 use Rattle.faults.specs.Told.{eachBelow}
-use Rattle.faults.proofs.Tells.{Tells, tells-same, tells-one, tells-both, tells-each, tells-first, Follows, follows-none, follows-first, follows-more, follows-same}
-use Rattle.weekwords.specs.WeekFaults.{entriesSeen, entryFaults, countFaults, sharedFaults, faultsOf}
+use Rattle.faults.proofs.Tells.{Tells, tells-same, tells-one, tells-both, tells-each, tells-first}
+use Rattle.faults.proofs.Tells.{Follows, follows-none, follows-first, follows-more, follows-same}
+use Rattle.weekwords.specs.WeekFaults.{entriesSeen, entryFaults, entriesFaults, countFaults, sharedFaults, faultsOf}
 
 or-nothing : (b : Bool) → b || false ≡ b
 or-nothing true = refl
@@ -54,7 +56,7 @@ module _ (entries : List Entry) where
   shared j = any j (λ i. shareMinute (entry entries i) (entry entries j))
 
   abbrev first-told : List ℕ
-  first-told = eachBelow (entriesSeen entries) (λ i. entryFaults (entry entries i) i) ++ countFaults n
+  first-told = entriesFaults entries (entriesSeen entries) ++ countFaults n
 
   abbrev second-told : List ℕ
   second-told = eachBelow (entriesSeen entries) (sharedFaults entries)

@@ -1,8 +1,8 @@
 -- The answers to numbers, by the tests on the way, and how they begin. Assumes nothing.
-use Prim.Native.Nat.{ℕ, zero, suc, _+_, _-_, _*_, _/_, _%_, _≤_, _<_}
+use Prim.Native.Nat.{ℕ, zero, suc, _+_, _-_, _*_, _/_, _%_, _<_}
 use mathlib.Core.Path.{_≡_, refl, sym, ap, _∙_}
-use mathlib.Core.List.{List, _∷_, [], _++_, flatMap}
-use mathlib.Core.Bool.{Bool, true, false}
+use mathlib.Core.List.{List, _∷_, _++_, flatMap}
+use mathlib.Core.Bool.{true, false}
 use native.Mathlib.Omega.{arith}
 use lib.ListN.{length, getD}
 use lib.Dec.{ltb}
@@ -12,7 +12,7 @@ use Rattle.model.specs.Listing.{text, decimal, refusalLine}
 use Rattle.model.specs.Refusals.{firstOf}
 use Rattle.replies.specs.Lines.{cannot, spaced}
 use Rattle.programme.specs.Week.{week, refusal, running, planOrDark, answered, planAt}
-use Rattle.programmewords.specs.Programmes.{programmeAsked, widePlan, programmeLine, answerToProgramme}
+use Rattle.programmewords.specs.Programmes.{programmeAsked, programmeLine, answerToProgramme}
 use Rattle.faults.specs.Told.{faultsLine}
 use Rattle.faults.proofs.LinesBegin.{begins-line, not-ok}
 use Rattle.weekwords.specs.WeekFaults.{faultsOf}
@@ -55,7 +55,8 @@ module _ (numbers : List ℕ) (h : Narrow numbers) where
       let whole : (length (minute ∷ numbers) - 1) % 3 ≡ 0 = omega (arith, h .threes) in
       let some : length (minute ∷ numbers) ≡ 0 → ⊥ = λ z. omega arith in
       let same : programmeAsked (minute ∷ numbers) ≡ weekAsked numbers = week-is minute numbers ∙ sym (week-is 0 numbers) in
-      let number : refusal (programmeAsked (minute ∷ numbers)) minute ≡ suc r = ap (λ es. refusal es minute) same ∙ tests-are (weekAsked numbers) minute in-week ∙ e in
+      let number : refusal (programmeAsked (minute ∷ numbers)) minute ≡ suc r =
+      ap (λ es. refusal es minute) same ∙ tests-are (weekAsked numbers) minute in-week ∙ e in
       rw (ne-eqb (length (minute ∷ numbers)) 0 some, eq-eqb ((length (minute ∷ numbers) - 1) % 3) 0 whole, wide-is minute numbers ∙ h .narrow)
       (ap (λ q. programmeLine (answered q (planOrDark (running (programmeAsked (minute ∷ numbers)) minute)))) number)
 

@@ -15,6 +15,10 @@ entriesSeen entries = min (length entries) 64
 abbrev pub entryFaults : (e : Entry) → (i : ℕ) → List ℕ
 entryFaults e i = told (not (startsFirst e)) 28 i 0 ++ told (not (inWeek (e .end))) 28 i 1
 
+-- RULES 19.4: of so many entries, each by itself
+abbrev pub entriesFaults : List Entry → (n : ℕ) → List ℕ
+entriesFaults entries n = eachBelow n (λ i. entryFaults (entry entries i) i)
+
 -- RULES 19.4: how many there are
 abbrev pub countFaults : (count : ℕ) → List ℕ
 countFaults count = told (manyEntries count) 28 count 2
@@ -26,4 +30,4 @@ sharedFaults entries j = firstTold 29 (firstFrom j 0 (λ i. shareMinute (entry e
 -- RULES 19.4: all faults, by the tests' numbers and then by place
 unfoldable pub faultsOf : List Entry → List ℕ
 faultsOf entries =
-    eachBelow (entriesSeen entries) (λ i. entryFaults (entry entries i) i) ++ countFaults (length entries) ++ eachBelow (entriesSeen entries) (sharedFaults entries)
+    entriesFaults entries (entriesSeen entries) ++ countFaults (length entries) ++ eachBelow (entriesSeen entries) (sharedFaults entries)

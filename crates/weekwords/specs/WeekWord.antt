@@ -16,12 +16,16 @@ use Rattle.weekwords.specs.WeekFaults.{faultsOf}
 abbrev pub weekAsked : (numbers : List ℕ) → List Entry
 weekAsked numbers = programmeAsked (0 ∷ numbers)
 
--- RULES 20.4: the faults of the entries. RULES 20.6: why the numbers are no question
-unfoldable pub answerToWeekFaults : (numbers : List ℕ) → List ℕ
-answerToWeekFaults numbers =
+-- RULES 20.6: the line for numbers and faults: a reason why the numbers are no question, or else the faults' line
+abbrev pub lineOn : (numbers faults : List ℕ) → List ℕ
+lineOn numbers faults =
     cond (not (eqb (length numbers % 3) 0)) (cannot "each entry has a start, an end and a plan: the numbers are no multiple of three")
     (cond (widePlan (0 ∷ numbers)) (cannot "a plan's number is above 65,535")
-    (faultsLine (faultsOf (weekAsked numbers))))
+    (faultsLine faults))
+
+-- RULES 20.4: the faults of the entries
+unfoldable pub answerToWeekFaults : (numbers : List ℕ) → List ℕ
+answerToWeekFaults numbers = lineOn numbers (faultsOf (weekAsked numbers))
 
 -- The answer begins with the number of the refusal that `programme` is answered with, whichever minute of the week it asks about.
 pub record BeginsWith (numbers : List ℕ) (refusal : ℕ) : Type 0 where

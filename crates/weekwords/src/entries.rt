@@ -1,11 +1,11 @@
 // The limits of a week's entries: of each by itself, and of two.
-ghost use Prim.Native.Nat.{ℕ, _+_, _*_, _≤_, _<_, max};
+ghost use Prim.Native.Nat.{_+_, _*_, _≤_, _<_, max};
 ghost use mathlib.Core.Path.{_≡_};
 ghost use lib.ListN.{length};
 ghost use Rattle.calls.specs.Lines.{Puts};
 ghost use Rattle.programme.specs.Week.{entry, shareMinute};
 ghost use Rattle.faults.specs.Told.{eachBelow};
-ghost use Rattle.weekwords.specs.WeekFaults.{entryFaults, sharedFaults};
+ghost use Rattle.weekwords.specs.WeekFaults.{entryFaults, entriesFaults, sharedFaults};
 ghost use Rattle.weekwords.specs.WeekWord.{weekAsked};
 
 // Tells which limits of entry i are broken.
@@ -23,7 +23,7 @@ fn tell_entry(numbers: &[usize], i: usize, found: &mut [usize], at: usize) -> us
 // The same of each of so many entries.
 pub(crate) fn tell_entries(numbers: &[usize], count: usize, found: &mut [usize], at: usize) -> usize
     requires { ⌜ (count ≤ 64) × (3 * count ≤ length (now numbers)) × (at + 384 ≤ length (now found)) ⌝ }
-    ensures put { λ r. ⌜ Puts (eachBelow count (λ i. entryFaults (entry (weekAsked (now (numbers .entry))) i) i)) (now (found .entry)) (now (found .exit)) at r ⌝ }
+    ensures put { λ r. ⌜ Puts (entriesFaults (weekAsked (now (numbers .entry))) count) (now (found .entry)) (now (found .exit)) at r ⌝ }
     ensures most { λ r. ⌜ r ≤ at + 384 ⌝ }
 {
     let mut next = at;

@@ -1,6 +1,6 @@
 -- `weekwords::entries::share_minute` meets its contract: each return goes by the tests on the way. Assumes nothing.
 use mathlib.Core.Path.{_≡_, sym, _∙_}
-use Prim.Native.Nat.{ℕ, max}
+use Prim.Native.Nat.{ℕ}
 use mathlib.Core.List.{List}
 use Rattle.programme.specs.Week.{Entry, entry, shareMinute}
 use Rattle.weekwords.specs.WeekWord.{weekAsked}

@@ -1,6 +1,5 @@
 -- `weekwords::entries::tell_entry` meets its contract: two faults one after the other. Assumes nothing.
-use mathlib.Core.Path.{sym, ap, _∙_}
-use mathlib.Core.List.{_++_}
+use mathlib.Core.Path.{sym, ap}
 use Rattle.calls.proofs.Stores.{puts-then, puts-same}
 use Rattle.faults.specs.Told.{told}
 use Rattle.weekwords.specs.WeekFaults.{entryFaults}

@@ -1,11 +1,15 @@
 -- `weekwords::words::week_faults` meets its contract. Assumes nothing.
 use mathlib.Core.Path.{sym, _∙_}
 use Rattle.replies.proofs.PutOn.{says-same}
-use Rattle.weekwords.proofs.WeekLines.{no-threes, too-wide, faults-said}
+use Rattle.weekwords.proofs.WeekLines.{Narrow, no-threes, too-wide, faults-said}
 use borrow.Author.Needs.{needs}
 use native.Mathlib.Omega.{arith}
 use Rattle.weekwords.proofs.words.week_faults.Statement.{statement}
 use Rattle.weekwords.proofs.words.week_faults.Tie as tie
+
+-- where the numbers pass both tests
+narrow-plans : (c : tie.Else2) → Narrow (c .before .before .before .before .before .args .numbers .now)
+narrow-plans c = record { threes = c .before .before .if1 .left; narrow = sym (c .before .some-wide .ensures) ∙ c .if2 .left }
 
 slice-aggregate-say : tie.Need-slice-aggregate-say
 slice-aggregate-say c = search needs
@@ -50,8 +54,7 @@ returns-3 : tie.Need-returns-3
 returns-3 c =
     let said = c .before .before in
     let narrow : tie.Else2 = said .before .before in
-    let whole : tie.Else1 = narrow .before .before in
-    says-same (faults-said _ (record { threes = whole .if1 .left; narrow = sym (narrow .before .some-wide .ensures) ∙ narrow .if2 .left })) (said .say-found .ensures)
+    says-same (faults-said _ (narrow-plans narrow)) (said .say-found .ensures)
 
 pub week-faults-spec : {M : Type 1} → statement M
 week-faults-spec =
