@@ -230,9 +230,21 @@ def wrong_programme_words(tree):
     return None
 
 
+def odd_answers(tree):
+    """What domeplan never answers of one entry is told as it is."""
+    for answer in ("", "nothing", "ok ok", "R 28", "28 0", "28 0 3", "28 1 0",
+                   "29 0 1", "30 0 0"):
+        tree.instead("cat >/dev/null\nprintf '%s\\n'\n" % answer)
+        wrong = trouble(tree.start("--week", "0", "5", "7"), NOT_DONE, b"",
+                        "plan: domeplan answered '%s'" % answer)
+        if wrong:
+            return "%r: %s" % (answer, wrong)
+    return None
+
+
 TESTS = (by_hand, sixty_four_showings, by_chance, no_tools_but_the_usual,
          closed_input_not_needed, refused_programmes, all_at_once,
-         wrong_programme_words)
+         wrong_programme_words, odd_answers)
 
 
 def tests(programs):
