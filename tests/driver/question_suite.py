@@ -11,7 +11,7 @@ REASON = re.compile(r"\? [ -~]{3,150}")         # short, and in plain letters
 FAULT = re.compile(r"(\d+) (\d+) (\d+)(?: |$)")
 
 # Of a fault, which of its two other numbers says what the limit is of.
-LIMITS = {3: 1, 4: 2}
+LIMITS = {3: 1, 4: 2, 28: 2}
 
 # Each word, and what has to have come up for it: 0 is an answer, and an answer
 # that is a word by itself stands here as that word; of faults each limit.
@@ -20,7 +20,8 @@ WAYS = {"plan": {0, 2, 3, 4, 5, 6, 7}, "room": {0, 2, 3, 4, 5, 6, 7, 19},
         "mesh": {"ok", 3, 4, 25}, "mesh-over": {0, "ok", 3, 4, 25},
         "count": {0, 26}, "extras": {0, 27}, "programme": {0, "dark", 28, 29},
         "faults": {"ok", (2,), *((3, k) for k in range(4)),
-                   *((4, k) for k in range(5)), (5,), (6,), (7,)}}
+                   *((4, k) for k in range(5)), (5,), (6,), (7,)},
+        "week-faults": {"ok", *((28, k) for k in range(3)), (29,)}}
 
 
 def is_right(expected, answer):
@@ -67,7 +68,7 @@ def ways(line, answer):
         return {(word, int(answer[2:]))}
     if answer.isalpha():
         return {(word, answer)}
-    if word == "faults":
+    if word in ("faults", "week-faults"):
         return {(word, limit) for limit in limits(answer)}
     return {(word, 0)}
 

@@ -9,7 +9,7 @@ import struct
 
 from edges import (
     count_questions, delay_questions, extras_questions, fault_questions,
-    mesh_questions, plan_limits, programme_questions)
+    mesh_questions, plan_limits, programme_questions, week_questions)
 from edges.edge_maker import BASE
 
 NO_QUESTION = "?"               # stands for this and any reason
@@ -259,12 +259,14 @@ EDGES = [
                         ("extras", extras_questions.EXTRAS),
                         ("programme", programme_questions.ROWS),
                         ("faults", fault_questions.FAULTS),
+                        ("week-faults", week_questions.FAULTS),
                         ("long", LENGTHS))
     for name, line, answer in table]
 EDGES += [Question("no question: " + name, line, NO_QUESTION)
           for name, line in FAULTS + mesh_questions.FAULTS
           + count_questions.FAULTS + delay_questions.FAULTS
-          + extras_questions.FAULTS + fault_questions.NO_QUESTIONS]
+          + extras_questions.FAULTS + fault_questions.NO_QUESTIONS
+          + week_questions.NO_QUESTIONS]
 EDGES += [to_read(*row) for row in read_edges()]
 EDGES += [to_plan(*row) for row in written_edges()]
 EDGES += [Question("no question: programme, " + name, line, NO_QUESTION)

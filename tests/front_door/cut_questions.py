@@ -13,12 +13,14 @@ from driver.starting import LIMIT, feed, play, play_in_pieces
 # newline ends.
 FILE = b"plan 4 2 13 3 11 5 9\n\nread 1\ncount 4 2"
 NONE = (b"? the first word is none of plan, room, read, mesh, mesh-over, "
-        b"count, extras, programme, delay and faults\n")
+        b"count, extras, programme, delay, faults and "
+        b"week-faults\n")
 ANSWERS = (b"100001000c00040002000d00030b0509\n" + NONE
            + b"? the number of hexadecimal digits is odd\n" + b"6 10\n")
 
 WORDS = (b"plan", b"room", b"read", b"mesh", b"mesh-over", b"count",
-         b"extras", b"programme", b"delay", b"faults")
+         b"extras", b"programme", b"delay", b"faults",
+         b"week-faults")
 
 # 4,000 bytes are a question; the others lie beside that, beside what is read
 # at once, and far past both.

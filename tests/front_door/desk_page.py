@@ -11,7 +11,7 @@ from front_door.tree import in_a_tree
 
 PAGE = "docs/DESK.md"
 WORDS = ("plan", "room", "read", "mesh", "mesh-over", "count", "extras",
-         "programme", "delay", "faults")
+         "programme", "delay", "faults", "week-faults")
 
 
 def answers(domeplan):

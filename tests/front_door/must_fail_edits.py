@@ -30,7 +30,8 @@ CRATES = {
     "extras": "root", "programme": "root", "delay": "root",
     "delaywords": "root", "questions": "root", "show": "root",
     "showwords": "root", "showinput": "root", "trace": "root",
-    "crossing": "root", "faults": "root", "faultwords": "root"}
+    "crossing": "root", "faults": "root", "faultwords": "root",
+    "weekwords": "root"}
 
 # Public functions that others are built from.
 HELPERS = {
@@ -55,7 +56,8 @@ KNOWN = {
     "showwords": "show", "showinput": "feed finish",
     "trace": "step write_burst write_plan",
     "crossing": "serve cross shown",
-    "faults": "tell_if say", "faultwords": "faults"}
+    "faults": "tell_if say", "faultwords": "faults",
+    "weekwords": "week_faults"}
 
 
 def sources(crate):

@@ -69,9 +69,8 @@ OBJECTS = [
                       "runs": None}),
     ("--week 5 5 7", {
         "verdict": "refused", "status": REFUSED, "faults": [
-            {"number": 28, "says": "a showing's start is not before its end, "
-             "or it lies outside the week, which ends at minute 10,080; here "
-             "entry 1 is from 5 to 5"}]}),
+            {"number": 28, "says": "a showing's start is not before its end; "
+             "here entry 1 is from 5 to 5"}]}),
     ("--mesh 2 0 9 2 1 9 1", {
         "verdict": "refused", "status": REFUSED, "refusal": 25, "faults": [
             {"number": 25, "says": "on some link of the mesh the streams' "

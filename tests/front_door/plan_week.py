@@ -48,9 +48,9 @@ PRINTED = [
 
 # Numbers beside the refusal that rule 19.2 gives them, and the entry or the
 # entries that are named.
-NOT_BEFORE = OUTSIDE = (
-    "a showing's start is not before its end, or it lies outside the week, "
-    "which ends at minute 10,080; here entry %d is from ")
+NOT_BEFORE = "a showing's start is not before its end; here entry %d is from "
+OUTSIDE = ("a showing ends after the week, which ends at minute 10,080; here "
+           "entry %d is from ")
 SHARED = ("two entries of the programme share a minute, whichever minute is "
           "asked about; here entries ")
 REFUSALS = [
@@ -77,11 +77,18 @@ SEVERAL = [
     ("10 20 1  0 10 2  20 30 3  9 11 4  25 40 5",
      ["the programme is refused with 29: " + SHARED + "1 and 4",
       THEN + "29: " + SHARED + "3 and 5"]),
-    # An entry that is wrong by itself shares no minute.
+    # An entry that is wrong by itself shares the minutes of the week in which
+    # it runs.
     ("20000 10081 7  10079 10081 8  10079 10080 9  0 10080 9",
      [WITH + NOT_BEFORE % 1 + "20000 to 10081",
+      THEN + "28: " + OUTSIDE % 1 + "20000 to 10081",
       THEN + "28: " + OUTSIDE % 2 + "10079 to 10081",
-      THEN + "29: " + SHARED + "3 and 4"]),
+      THEN + "29: " + SHARED + "2 and 3", THEN + "29: " + SHARED + "2 and 4"]),
+    # Too many is told with what is wrong by itself.
+    ("5 5 7 " + "".join("%d %d 7 " % (minute, minute + 1)
+                        for minute in range(64)),
+     [WITH + NOT_BEFORE % 1 + "5 to 5",
+      THEN + "28: the programme has more than 64 entries; here there are 65"]),
     # Of 65 the first 64 are looked at: 63 share the minute with the first.
     ("0 1 7 " * 65,
      [WITH + "the programme has more than 64 entries; here there are 65",
@@ -223,9 +230,21 @@ def wrong_programme_words(tree):
     return None
 
 
+def odd_answers(tree):
+    """What domeplan never answers of one entry is told as it is."""
+    for answer in ("", "nothing", "ok ok", "R 28", "28 0", "28 0 3", "28 1 0",
+                   "29 0 1", "30 0 0"):
+        tree.instead("cat >/dev/null\nprintf '%s\\n'\n" % answer)
+        wrong = trouble(tree.start("--week", "0", "5", "7"), NOT_DONE, b"",
+                        "plan: domeplan answered '%s'" % answer)
+        if wrong:
+            return "%r: %s" % (answer, wrong)
+    return None
+
+
 TESTS = (by_hand, sixty_four_showings, by_chance, no_tools_but_the_usual,
          closed_input_not_needed, refused_programmes, all_at_once,
-         wrong_programme_words)
+         wrong_programme_words, odd_answers)
 
 
 def tests(programs):

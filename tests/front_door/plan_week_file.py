@@ -40,9 +40,8 @@ NO_SHOWING = [
     ("mon 20:00-21:15 evening.plan late.txt", "'mon 20:00-21:15 even..'"),
 ]
 DAY = " (an end on another day names it: sat 23:00-sun 01:00)"
-MIDNIGHT = ("a showing's start is not before its end, or it lies outside the "
-            "week, which ends at minute 10,080; here line %d is from mon 23:00 "
-            "to mon 01:00" + DAY)
+MIDNIGHT = ("a showing's start is not before its end; here line %d is from mon "
+            "23:00 to mon 01:00" + DAY)
 OVERLAP = ("two entries of the programme share a minute, whichever minute is "
            "asked about; here lines %d and %d")
 BOTH = ("what to do: mend that entry, or the minute; a showing over the end "

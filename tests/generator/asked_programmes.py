@@ -167,3 +167,12 @@ def numbers(dice):
     entries = dice.pick(KINDS)(dice)
     return [minute(dice, entries),
             *(number for entry in entries for number in entry)]
+
+
+def week(dice):
+    """Entries without a minute, often of two kinds, so that they break several
+    limits."""
+    entries = dice.pick(KINDS)(dice)
+    if dice.chance(40):
+        entries += dice.pick(KINDS)(dice)
+    return [number for entry in entries for number in entry]

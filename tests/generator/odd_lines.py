@@ -3,7 +3,8 @@
 WORDS = (b"", b"plan", b"room", b"read", b"PLAN", b"Read", b"rooms", b"p",
          b"write", b"mesh", b"mesh-over", b"meshes", b"mesh-", b"count",
          b"counts", b"extras", b"extra", b"programme", b"program",
-         b"programmes", b"faults", b"fault", b"plan\t", b"\xef\xbb\xbfplan")
+         b"programmes", b"faults", b"fault", b"week-faults", b"week-",
+         b"week_faults", b"plan\t", b"\xef\xbb\xbfplan")
 FIELDS = (b"", b" ", b"+1", b"-1", b"1.5", b"0x1", b"1e3", b"one", b"1,000",
           b"1000000000", b"0000000000", b"18446744073709551617", b"9" * 40,
           b"\t1", b"1\r", b"\x00", b"\xb2", b"/", b":", b"000000001",

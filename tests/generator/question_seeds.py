@@ -67,7 +67,12 @@ def faults(dice):
     return question(dice, b"faults", asked_faults.numbers(dice))
 
 
-QUESTIONS = [plan, room, read, mesh, count, extras, programme, delay, faults]
+def week_faults(dice):
+    return question(dice, b"week-faults", asked_programmes.week(dice))
+
+
+QUESTIONS = [plan, room, read, mesh, count, extras, programme, delay, faults,
+             week_faults]
 
 
 def odd(dice):
@@ -81,6 +86,7 @@ def mixed(dice):
 KINDS = {"plans": plan, "too wide": wide_plan, "rooms": room, "reads": read,
          "meshes": mesh, "counts": count, "extras": extras,
          "programmes": programme, "delays": delay, "faults": faults,
+         "weeks": week_faults,
          "odd lines": odd, "mixed": mixed}
 ORDER = tuple(KINDS)            # the kinds of seeds 0, 1, 2 and so on
 

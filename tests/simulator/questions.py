@@ -7,12 +7,14 @@ bytes; `mesh`, F and three numbers for each stream whether they are admitted,
 `mesh-over` which links are over; `count`, F and n how many share lists fit;
 `extras`, slots left, a budget, and share and worth of each layer which to
 switch on; `programme`, a minute and three numbers for each entry what runs
-then; `faults` and the numbers of `plan` which limits these break.  A line that
-is no question is answered `?` alone: the reason behind it is the program's."""
+then; `faults` and the numbers of `plan` which limits these break, and
+`week-faults` and those of `programme`, without the minute, likewise.  A line
+that is no question is answered `?` alone: the reason behind it is the
+program's."""
 
 import re
 
-from simulator import delay, faults, mesh, share_counts
+from simulator import delay, faults, mesh, share_counts, week_faults
 from simulator.extras import Extras, Layer, choose
 from simulator.plan import read_plan
 from simulator.plan_writer import Asked, write_plan
@@ -128,13 +130,17 @@ def to_extras(fields):
     return refused(refusal) if refusal else "%d %d %d" % chosen
 
 
+def wide(entries):
+    return any(plan > LAST_PLAN for _, _, plan in entries)
+
+
 def to_programme(fields):
     """The minute, and three numbers for each entry."""
     numbers = numbers_of(fields)
     if not numbers or len(numbers) % 3 != 1:
         return NO_QUESTION
     entries = entries_of(numbers, 1, 3)
-    if any(plan > LAST_PLAN for _, _, plan in entries):
+    if wide(entries):
         return NO_QUESTION
     refusal, plan = plan_at(numbers[0], entries)
     if refusal:
@@ -166,10 +172,20 @@ def to_faults(fields):
     return told(faults.of_plan(*numbers[:3], entries_of(numbers, 3, 4)))
 
 
+def to_week_faults(fields):
+    """Three numbers for each entry, and no minute."""
+    numbers = numbers_of(fields)
+    if numbers is None or len(numbers) % 3:
+        return NO_QUESTION
+    entries = entries_of(numbers, 0, 3)
+    return NO_QUESTION if wide(entries) else told(week_faults.of_week(entries))
+
+
 WORDS = {b"plan": to_plan, b"room": to_room, b"read": to_read,
          b"mesh": to_mesh, b"mesh-over": to_mesh_over, b"count": to_count,
          b"extras": to_extras, b"programme": to_programme,
-         b"delay": to_delay, b"faults": to_faults}
+         b"delay": to_delay, b"faults": to_faults,
+         b"week-faults": to_week_faults}
 
 
 def answer(line):

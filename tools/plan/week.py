@@ -5,10 +5,11 @@ from plan.ends import (
     DONE, REFUSED, called, first_ones, lines_object, shown)
 from plan.report import Report, verdict
 
-BAD_ENTRY, SHARED = 28, 29
-OF_ENTRY = ("a showing's start is not before its end, or it lies outside the "
-            "week, which ends at minute 10,080")
-LOOKED_AT = 64          # entries, where there are more
+BAD_WEEK, SHARED = 28, 29
+# Of a showing's start and end, in domeplan's order.
+OF_ENTRY = ("a showing's start is not before its end",
+            "a showing ends after the week, which ends at minute 10,080")
+COUNT = 2                       # a fault of 28 about no showing
 TOO_MANY = "the programme has more than 64 entries"
 OTHER_DAY = " (an end on another day names it: sat 23:00-sun 01:00)"
 NO_MINUTE = "it is not 0 to 10,079"
@@ -34,51 +35,30 @@ class Week:
         return shown(entry.what) if self.text else "plan %d" % entry.what
 
     def look(self):
-        """Asks whether it passes, and if not what is wrong."""
-        try:
-            program.ask(program.line("programme 0", self.numbers()), running)
-        except program.Refused as refusal:
-            self.faults = self.looked_for(refusal.number)
-            if not self.faults or self.faults[0].number != refusal.number:
-                raise program.odd("R %d" % refusal.number) from None
+        """Asks what is wrong with it."""
+        self.faults = program.ask_all(
+            [program.line("week-faults", self.numbers())], self.told)[0]
         if self.text:
             self.text.check_plans()
 
     # ---- what is wrong
 
-    def refused_with(self, number, groups):
-        """Those groups of places whose entries alone are refused with this
-        number."""
-        answers = program.ask_all([program.line("programme 0", [
-            number for place in group for number in (
-                self.entries[place].start, self.entries[place].end, 0)])
-            for group in groups], program.or_refused(running))
-        return [group for group, answer in zip(groups, answers)
-                if isinstance(answer, program.Refused)
-                and answer.number == number]
+    def told(self, text):
+        """domeplan's triples, put into words."""
+        try:
+            return [self.fault(*three) for three in program.threes(text)]
+        except (KeyError, IndexError):
+            raise ValueError(text) from None
 
-    def looked_for(self, number):
-        """What is wrong with a programme that is refused with this number:
-        each entry by itself, how many there are, and each later entry with
-        the first that shares a minute with it."""
-        places = range(len(self.entries))
-        bad = {place for place, in self.refused_with(
-            BAD_ENTRY, [(place,) for place in places])}
-        found = [self.bad_entry(place) for place in sorted(bad)]
-        if number == BAD_ENTRY and not bad:
-            found.append(faults.Fault(BAD_ENTRY, TOO_MANY, "there are %d"
-                                      % len(self.entries)))
-        pairs = [(first, second) for second in places[:LOOKED_AT]
-                 for first in places[:second] if not {first, second} & bad]
-        earlier = {}
-        for first, second in self.refused_with(SHARED, pairs):
-            earlier.setdefault(second, first)
-        return found + [self.shared(first, second)
-                        for second, first in earlier.items()]
+    def fault(self, number, first, second):
+        if (number, second) == (BAD_WEEK, COUNT):
+            return faults.Fault(number, TOO_MANY, "there are %d" % first)
+        return {BAD_WEEK: self.bad_entry, SHARED: self.shared}[number](
+            first, second)
 
     def place(self, number):
         """An entry by its line, or counted from 1."""
-        return self.entries[number].line if self.text else number + 1
+        return self.entries[number].line or number + 1
 
     def shared(self, first, second):
         return faults.Fault(
@@ -86,9 +66,10 @@ class Week:
                 "lines" if self.text else "entries", self.place(first),
                 self.place(second)))
 
-    def bad_entry(self, place):
+    def bad_entry(self, place, which):
+        """The times of a text end with the week."""
         entry = self.entries[place]
-        return faults.Fault(BAD_ENTRY, OF_ENTRY, (
+        return faults.Fault(BAD_WEEK, OF_ENTRY[which], (
             "line %d is %s%s" % (entry.line, entry.span(), OTHER_DAY)
             if self.text else "entry %d is from %d to %d" % (
                 place + 1, entry.start, entry.end)))

@@ -24,10 +24,12 @@ use Rattle.delay.specs.Bounds.{noQuestion, refusalOf, delayed, answerFor}
 use Rattle.delaywords.specs.DelayWord.{answerToDelay}
 use Rattle.faultwords.specs.PlanFaults.{faultsOf}
 use Rattle.faultwords.specs.FaultsWord.{answerToFaults}
+use Rattle.weekwords.specs.WeekFaults.{faultsOf as weekFaultsOf}
+use Rattle.weekwords.specs.WeekWord.{answerToWeekFaults}
 use Rattle.questions.specs.Answers.{sameText, words, rowNamed, answerToNumbers, answerTo, answerOf}
 use Rattle.questions.specs.Input.{linesOf, answersTo}
 use Rattle.questions.specs.InputEdges.{Pass, inputEdges}
 
 pub inputs-hold : Pass inputEdges
-unfolding any sum firstFrom firstOf digits decimal entryFits refusal bytesOf writeRefusal writtenAfter written pieces pieceLength each valueFrom numberOf numbersIn foundIn hexDigit foundBytes hex faultLine inRoom answerToRoom planNumbers question readLine digitsLine keep someOf links uses load streamFits refusalBeforeLinks meshRefusal overLinks meshAnswer counted answerToCount answerToExtras answerToProgramme noQuestion refusalOf delayed answerFor answerToDelay faultsOf answerToFaults sameText words rowNamed answerToNumbers answerTo answerOf linesOf answersTo flatMap inputEdges
+unfolding any sum firstFrom firstOf digits decimal entryFits refusal bytesOf writeRefusal writtenAfter written pieces pieceLength each valueFrom numberOf numbersIn foundIn hexDigit foundBytes hex faultLine inRoom answerToRoom planNumbers question readLine digitsLine keep someOf links uses load streamFits refusalBeforeLinks meshRefusal overLinks meshAnswer counted answerToCount answerToExtras answerToProgramme noQuestion refusalOf delayed answerFor answerToDelay faultsOf answerToFaults weekFaultsOf answerToWeekFaults sameText words rowNamed answerToNumbers answerTo answerOf linesOf answersTo flatMap inputEdges
 inputs-hold = refl

@@ -18,6 +18,7 @@ use Rattle.extrawords.specs.ExtrasWord.{answerToExtras}
 use Rattle.programmewords.specs.Programmes.{answerToProgramme}
 use Rattle.delaywords.specs.DelayWord.{answerToDelay}
 use Rattle.faultwords.specs.FaultsWord.{answerToFaults}
+use Rattle.weekwords.specs.WeekWord.{answerToWeekFaults}
 use Rattle.questions.specs.declared.words.NumberWord.{NumberWord}
 use Rattle.questions.specs.declared.words.Word.{Word}
 use Rattle.questions.specs.declared.words.Word.the-variants.{OfNumbers, Read, Unknown}
@@ -29,7 +30,7 @@ sameText [] (y ∷ ys) = false
 sameText (x ∷ xs) [] = false
 sameText (x ∷ xs) (y ∷ ys) = eqb x y && sameText xs ys
 
--- ---- the words. RULES 20.2: "one of the ten of 20.4, in small letters"
+-- ---- the words. RULES 20.2: "one of the eleven of 20.4, in small letters"
 
 pub record Row : Type 0 where
   pub name : String
@@ -50,6 +51,7 @@ words =
     ∷ row "programme" NumberWord.Programme
     ∷ row "delay" NumberWord.Delay
     ∷ row "faults" NumberWord.Faults
+    ∷ row "week-faults" NumberWord.WeekFaults
     ∷ []
 
 -- the word of the first row with this name
@@ -72,6 +74,7 @@ answerToNumbers NumberWord.Extras numbers = answerToExtras numbers
 answerToNumbers NumberWord.Programme numbers = answerToProgramme numbers
 answerToNumbers NumberWord.Delay numbers = answerToDelay numbers
 answerToNumbers NumberWord.Faults numbers = answerToFaults numbers
+answerToNumbers NumberWord.WeekFaults numbers = answerToWeekFaults numbers
 
 -- RULES 20.6.3: the first field that is no number comes before what the word asks for
 abbrev pub numbersLine : Found → NumberWord → (numbers : List ℕ) → List ℕ
@@ -81,7 +84,7 @@ numbersLine (Found.Wrong fault) word numbers = faultLine fault
 unfoldable pub answerTo : Word → (line : List ℕ) → List ℕ
 answerTo (OfNumbers word) line = numbersLine (foundIn (fieldsOf line)) word (numbersIn (fieldsOf line))
 answerTo Read line = digitsLine (afterWord line)
-answerTo Unknown line = cannot "the first word is none of plan, room, read, mesh, mesh-over, count, extras, programme, delay and faults"
+answerTo Unknown line = cannot "the first word is none of plan, room, read, mesh, mesh-over, count, extras, programme, delay, faults and week-faults"
 
 -- the answer to a line. RULES 20.6.1
 unfoldable pub answerOf : (line : List ℕ) → List ℕ

@@ -15,7 +15,7 @@ abbrev writes : (input output : String) → Case
 writes input output = record { input = text input; output = output }
 
 abbrev unknown : String
-unknown = "? the first word is none of plan, room, read, mesh, mesh-over, count, extras, programme, delay and faults\n"
+unknown = "? the first word is none of plan, room, read, mesh, mesh-over, count, extras, programme, delay, faults and week-faults\n"
 
 -- Every output comes out as expected.
 abbrev pub Pass : List Case → Type 0
@@ -41,6 +41,7 @@ inputEdges =
     ∷ writes "programme\n" "? the minute is missing\n"
     ∷ writes "delay 4 2 2 3\n" "19 4 6\n"
     ∷ writes "faults 4 2 8 5 1 1 9\n" "4 0 0 6 5 4\n"
+    ∷ writes "week-faults 10 10 7\n" "28 0 0\n"
     -- small letters alone, no more and no fewer of them, and nothing in front
     ∷ writes "PLAN 4 2 4\n" unknown
     ∷ writes "Read\n" unknown

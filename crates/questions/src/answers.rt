@@ -34,7 +34,7 @@ fn answer_short(line: &[u8], out: &mut [u8]) -> usize
         Word::OfNumbers(number_word) => answer_counted(number_word, line, out),
         Word::Read => planwords::read(line, out),
         Word::Unknown => replies::say(
-            b"? the first word is none of plan, room, read, mesh, mesh-over, count, extras, programme, delay and faults\n",
+            b"? the first word is none of plan, room, read, mesh, mesh-over, count, extras, programme, delay, faults and week-faults\n",
             out,
         ),
     }

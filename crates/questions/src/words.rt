@@ -16,6 +16,7 @@ pub(crate) enum NumberWord {
     Programme,
     Delay,
     Faults,
+    WeekFaults,
 }
 
 pub(crate) enum Word {
@@ -58,6 +59,9 @@ pub(crate) fn named(text: &[u8]) -> Word
     if check::same(text, b"faults") {
         return Word::OfNumbers(NumberWord::Faults);
     }
+    if check::same(text, b"week-faults") {
+        return Word::OfNumbers(NumberWord::WeekFaults);
+    }
     Word::Unknown
 }
 
@@ -76,5 +80,6 @@ pub(crate) fn answer_numbers(word: NumberWord, numbers: &[usize], out: &mut [u8]
         NumberWord::Programme => programmewords::programme(numbers, out),
         NumberWord::Delay => delaywords::delay(numbers, out),
         NumberWord::Faults => faultwords::faults(numbers, out),
+        NumberWord::WeekFaults => weekwords::week_faults(numbers, out),
     }
 }

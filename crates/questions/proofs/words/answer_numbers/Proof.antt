@@ -69,6 +69,12 @@ enum-told-9 c = search needs
 faults-requires : tie.Need-faults-requires
 faults-requires c κs = search needs
 
+enum-told-10 : tie.Need-enum-told-10
+enum-told-10 c = search needs
+
+week-faults-requires : tie.Need-week-faults-requires
+week-faults-requires c κs = search needs
+
 same-length : tie.Need-same-length
 same-length c = search needs
 
@@ -151,6 +157,16 @@ returns-9 c =
     let told = said .before .before in
     says-same (ap (λ w. answerToNumbers w (told .before .before .before .before .args .numbers .now)) (sym (told .enum-told9 .given .1))) (said .faults .ensures)
 
+same-length-10 : tie.Need-same-length-10
+same-length-10 c = search needs
+
+returns-10 : tie.Need-returns-10
+unfolding answerToNumbers
+returns-10 c =
+    let said = c .before .before in
+    let told = said .before .before in
+    says-same (ap (λ w. answerToNumbers w (told .before .before .before .before .args .numbers .now)) (sym (told .enum-told10 .given .1))) (said .week-faults .ensures)
+
 pub answer-numbers-spec : {M : Type 1} → statement M
 answer-numbers-spec =
     tie.close
@@ -173,6 +189,8 @@ answer-numbers-spec =
     delay-requires
     enum-told-9
     faults-requires
+    enum-told-10
+    week-faults-requires
     same-length
     returns
     same-length-2
@@ -190,4 +208,6 @@ answer-numbers-spec =
     same-length-8
     returns-8
     same-length-9
-    returns-9)
+    returns-9
+    same-length-10
+    returns-10)

@@ -81,6 +81,13 @@ past-10 : (c : tie.Else10) → rowNamed (text-10 c) (drop 10 words) ≡ wordFor 
 unfolding words
 past-10 c = row-is-not _ _ _ (c .before .same10 .ensures) (c .if10 .left) ∙ past-9 (c .before .before .before)
 
+abbrev text-11 : tie.Else11 → List ℕ
+text-11 c = text-10 (c .before .before .before)
+
+past-11 : (c : tie.Else11) → rowNamed (text-11 c) (drop 11 words) ≡ wordFor (text-11 c)
+unfolding words
+past-11 c = row-is-not _ _ _ (c .before .same11 .ensures) (c .if11 .left) ∙ past-10 (c .before .before .before)
+
 slice-aggregate-same : tie.Need-slice-aggregate-same
 slice-aggregate-same c = search needs
 
@@ -181,9 +188,19 @@ returns-10 : tie.Need-returns-10
 unfolding words
 returns-10 c = row-is _ _ _ (c .before .same10 .ensures) (c .if10 .taken) ∙ past-9 (c .before .before .before)
 
+slice-aggregate-same-11 : tie.Need-slice-aggregate-same-11
+slice-aggregate-same-11 c = search needs
+
+same-requires-11 : tie.Need-same-requires-11
+same-requires-11 c κs = search needs
+
 returns-11 : tie.Need-returns-11
+unfolding words
+returns-11 c = row-is _ _ _ (c .before .same11 .ensures) (c .if11 .taken) ∙ past-10 (c .before .before .before)
+
+returns-12 : tie.Need-returns-12
 unfolding words rowNamed
-returns-11 c = past-10 c
+returns-12 c = past-11 c
 
 pub named-spec : {M : Type 1} → statement M
 named-spec =
@@ -219,4 +236,7 @@ named-spec =
     slice-aggregate-same-10
     same-requires-10
     returns-10
-    returns-11)
+    slice-aggregate-same-11
+    same-requires-11
+    returns-11
+    returns-12)

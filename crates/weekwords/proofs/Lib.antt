@@ -1,0 +1,5 @@
+pub mod AskedEntries
+pub mod SharedMinutes
+pub mod WeekFollows
+pub mod WeekLines
+pub mod WeekWordEdges

@@ -1,0 +1,3 @@
+pub mod WeekFaults
+pub mod WeekWord
+pub mod WeekWordEdges
