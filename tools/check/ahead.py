@@ -9,7 +9,7 @@ than 256 slots late is taken never to leave.
 
 from collections import deque
 
-from check.ends import ENDED, Ends, Shift
+from check.ends import ENDED, Ends, Numbering, Shift
 from check.flows import Flow, takers
 from check.words import Faults, plural
 
@@ -75,6 +75,7 @@ class Sending:
         self.window = window
         self.ends = Ends()
         self.shift = Shift()
+        self.numbering = Numbering()
         self.faults = Faults()
         self.flows = {}
 
@@ -112,6 +113,7 @@ class Sending:
     def add(self, slot, owner, flow):
         self.ends.add(owner, flow)
         self.shift.add(owner, flow)
+        self.numbering.add(owner, flow)
         if ENDED in (owner, flow):
             return
         if flow is not None:
