@@ -20,7 +20,7 @@ def stop(script, status, text):
         for_programs.clear()
         write_output(script, (json.dumps({
             "verdict": VERDICTS[status], "status": status,
-            "error": text.replace("\n%s: " % script, "\n")}, indent=1)
+            "error": str(text).replace("\n%s: " % script, "\n")}, indent=1)
             + "\n").encode())
     sys.exit(status)
 
