@@ -8,7 +8,7 @@ the window reaches it, and what stands behind it, laid out by where it begins.
 from paragraphs import INDENT, laid_out, paragraph
 from summary import Summary
 from trace_words import (
-    CHANGE, FLOW, HELD, KIND, NOBODY, POSITION, REQUEST, VALUE, listing_line)
+    CHANGE, FLOW, HELD, KIND, NOBODY, REQUEST, VALUE, listing_line)
 from words import Words, came_up, place, plan_words
 
 GRANTED, TAKEN = "granted ", "  C     taken: from "
@@ -146,11 +146,15 @@ class Telling:
         words = line.split(" ")
         where = self.places.texts[self.summary.credit(words)]
         tail = self.less[words[FLOW]]
-        if self.summary.pair:
-            tail += self.words.sent_ahead(self.summary.pair)
-        return (f"{numbered(self.summary.calls)}flow {words[FLOW]} gives a "
-                f"cell back, dated position {words[POSITION]}\n{TAKEN}{where}"
-                f"{self.tails[len(TAKEN) + len(where)][tail]}")
+        if self.summary.pair:           # of two slots, and never kept
+            line = TAKEN + where + tail + self.words.sent_ahead(
+                self.summary.pair)
+            answer = laid_out(line) + "\n"
+        else:
+            answer = (f"{TAKEN}{where}"
+                      f"{self.tails[len(TAKEN) + len(where)][tail]}")
+        return (f"{numbered(self.summary.calls)}{self.words.of_credit(words)}"
+                f"\n{answer}")
 
     def refusal(self, line):
         words = line.split(" ")
