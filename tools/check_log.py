@@ -3,6 +3,7 @@ left.  ./check-log --help says how both are written; the folder check/ has what
 is compared."""
 
 import itertools
+import json
 import os
 import sys
 
@@ -107,12 +108,24 @@ def main(words):
     return report.status
 
 
+def stop(text, as_json):
+    """Ends with a sentence on standard error, and for programs an object."""
+    print("check-log: %s" % text, file=sys.stderr)
+    if as_json:
+        try:
+            print(json.dumps({"verdict": "not compared",
+                              "status": NOT_COMPARED, "error": text},
+                             indent=1), flush=True)
+        except OSError:
+            os.dup2(os.open(os.devnull, os.O_WRONLY), 1)
+    sys.exit(NOT_COMPARED)
+
+
 if __name__ == "__main__":
+    AS_JSON = "--json" in sys.argv[1:]
     try:
         sys.exit(main(sys.argv[1:]))
     except Trouble as trouble:
-        print("check-log: %s" % trouble, file=sys.stderr)
-        sys.exit(NOT_COMPARED)
+        stop(str(trouble), AS_JSON)
     except KeyboardInterrupt:
-        print("check-log: broken off", file=sys.stderr)
-        sys.exit(NOT_COMPARED)
+        stop("broken off", AS_JSON)

@@ -3,11 +3,12 @@
 program=$here/target/bin/$crate
 log=$here/target/build.log  # what rt said when it built a program last
 
-# Ends with an exit status and a sentence on standard error.
+# Ends with an exit status and a sentence on standard error; where a script has set $json, also with an object, which its show_error prints.
 stop() {
     status=$1
     shift
     printf '%s: %s\n' "$script" "$*" >&2
+    [ -z "${json-}" ] || show_error "$*" 2>/dev/null
     exit "$status"
 }
 

@@ -11,7 +11,7 @@ from plan import (
 from plan.ends import (
     MORE, NOT_DONE, Trouble, Unread, called, keep_standard, lines_object, say,
     shown, write_output)
-from plan.program import build
+from plan.program import Unbuilt, build
 from plan.report import Report, verdict
 from plan.words import Options, given, numbers_of
 
@@ -180,12 +180,32 @@ def main(words):
     return printed(options)
 
 
-if __name__ == "__main__":
+def show_error(sentences, status):
+    """An object in place of the one that was asked for."""
+    data = json.dumps(verdict(status, error="\n".join(sentences)), indent=1)
     try:
-        sys.exit(main(sys.argv[1:]))
+        write_output(data.encode() + b"\n", "")
+    except Trouble:
+        pass                            # standard output takes nothing
+
+
+def ended(words):
+    """The exit status; where nothing is done a sentence says why, and for
+    programs an object too."""
+    try:
+        return main(words)
+    except Unbuilt as trouble:
+        sentences, status = trouble.sentences, trouble.status
     except Trouble as trouble:
-        say(trouble.sentences)
-        sys.exit(trouble.status)
+        sentences, status = trouble.sentences, trouble.status
+        say(sentences)
     except KeyboardInterrupt:
-        say(["broken off"])
-        sys.exit(NOT_DONE)
+        sentences, status = ["broken off"], NOT_DONE
+        say(sentences)
+    if "--json" in words and not PRINTS.keys().isdisjoint(words):
+        show_error(sentences, status)
+    return status
+
+
+if __name__ == "__main__":
+    sys.exit(ended(sys.argv[1:]))

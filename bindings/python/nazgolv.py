@@ -144,7 +144,9 @@ class Link:
 
     def play(self, records):
         """Many calls by one, as records of five bytes: the value of each, and
-        for one that is refused a Refused, which is not raised."""
+        for one that is refused a Refused, which is not raised.  Values are
+        those of the library: a request's is its word, whose low ten bits are
+        the position, and a tick's is IDLE where nobody booked the slot."""
         out = create_string_buffer(RESULT * -(-len(records) // RECORD))
         value(LIBRARY.nazgolv_play(self.buffer, len(self.buffer),
                                    bytes(records), len(records), out, len(out)))

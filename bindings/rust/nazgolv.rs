@@ -167,7 +167,9 @@ impl Link {
         value(unsafe { nazgolv_reset(self.image.as_mut_ptr(), self.image.len()) }).map(drop)
     }
 
-    /// Many calls by one, as records of five bytes: the value of each, or its refusal.
+    /// Many calls by one, as records of five bytes: the value of each as the library has it, or its
+    /// refusal. A request's value is its word, whose low ten bits are the position, and a tick's is 16
+    /// where nobody booked the slot.
     pub fn play(&mut self, records: &[u8]) -> Result<Vec<Result<u32, Refusal>>, Refusal> {
         let mut out = vec![0; RESULT * records.len().div_ceil(RECORD)];
         let (image, results) = (self.image.as_mut_ptr(), out.as_mut_ptr());

@@ -17,6 +17,8 @@ WELL = ["flow 0: 5 booked, all left in their slots",
 TITLE_SLOTS = (7, 9, 16, 24)        # flow 2
 REFUSED = ("1 call refused with 12 (flow 2), call 17: wait for credits or the "
            "next frame")
+FROM_1 = ("with each number one less SENT agrees: does it number the flows "
+          "from 1 on? flow 0 is the plan's first")
 DIFFERING = "differ: %d of 40 slots agree; BOOKED has 40 and SENT has 40"
 
 
@@ -144,17 +146,30 @@ def empty_list(tree):
 
 
 def numbers_from_one(tree):
-    """The log counts its streams from 1 on."""
-    ended = tree.sparse([flow if flow == "-" else int(flow) + 1
-                         for flow in sparse_sent()])
+    """The log counts its streams from 1 on: that is said, and no flow is
+    blamed for it."""
+    sent = [flow if flow == "-" else int(flow) + 1 for flow in sparse_sent()]
+    ended = tree.sparse(sent)
     said = ended.output.decode().splitlines()
-    end = "slots: look at which stream has which number"
-    return trouble(ended, DIFFER) or said[1:5] != [
-        "flow 0: 5 booked, none left: look at its cable",
-        "flow 1: 3 booked, 5 left elsewhere: all in flow 0's " + end,
-        "flow 2: 4 booked, 3 left elsewhere, 1 never: all in flow 1's " + end,
-        "flow 3: none booked, 4 left elsewhere: all in flow 2's " + end
-    ] and said
+    ahead = tree.sent(SPARSE.read_bytes(), sent, "--ahead")
+    return trouble(ended, DIFFER) or said[1:6] != [
+        FROM_1, "flow 0: 5 booked, none left",
+        "flow 1: 3 booked, 5 left elsewhere",
+        "flow 2: 4 booked, 3 left elsewhere, 1 never",
+        "flow 3: none booked, 4 left elsewhere"] and said or (
+        FROM_1 not in ahead.output.decode().splitlines()
+        and ahead.output.decode())
+
+
+def numbers_that_are_not_from_one(tree):
+    """Two streams are too few to tell, one that is otherwise is enough, and so
+    is an idle slot in which something left."""
+    for booked, sent in (("0 1", "1 2"), ("0 1 2 3", "1 2 3 3"),
+                         ("0 1 2 -", "1 2 3 4"), ("0 1 2 3", "1 2 3 -")):
+        said = tree.compare(booked, sent).output.decode()
+        if FROM_1 in said:
+            return "%s, %s: %s" % (booked, sent, said)
+    return None
 
 
 def log_begins_late(tree):
@@ -240,9 +255,8 @@ def one_late_return(tree):
 TESTS = (
     dead_flow, dead_link, cable_comes_off, cables_change_places,
     cables_change_places_ahead, one_booking_never_sent, empty_list,
-    numbers_from_one,
-    log_begins_late, log_breaks_off, wrong_destination, bookings_never_sent,
-    one_late_return,
+    numbers_from_one, numbers_that_are_not_from_one, log_begins_late,
+    log_breaks_off, wrong_destination, bookings_never_sent, one_late_return,
 )
 
 

@@ -178,7 +178,8 @@ NO_LIST = [
     (b"0 1\n", "line 1 of standard input is '0 1'"),
     (b"-1\n", "line 1 of standard input is '-1'"),
     (b"16\n", "line 1 of standard input is '16', and has to be a flow's "
-     "number, 0 to 15, or -"),
+     "number, 0 to 15, or -: does it number the flows from 1 on?"),
+    (b"17\n", "has to be a flow's number, 0 to 15, or -; ./check-log"),
     (b"--\n", "line 1 of standard input is '--'"),
     (b"\xd9\xa3\n", "line 1 of standard input is '??'"),
     (b"1" * 5000, "line 1 of standard input is '1111"),

@@ -20,6 +20,7 @@ OBJECTS = [
         "verdict": "differ", "status": DIFFER, "booked_slots": 4,
         "sent_slots": 4, "agree": 1, "idle": 0, "dead_link": False,
         "first_line_is_slot": None,
+        "flows_from_1": False,
         "flows": [
             {"flow": 0, "booked": 1, "in_slot": 1, "elsewhere": 0, "never": 0,
              "says": "flow 0: 1 booked, left in its slot"},
@@ -36,6 +37,7 @@ OBJECTS = [
         "verdict": "ahead", "status": ALIKE, "booked_slots": 3,
         "sent_slots": 3, "tiles": 2, "in_time": 2, "ahead": 1, "gained": 1,
         "dead_link": False, "first_line_is_slot": None,
+        "flows_from_1": False,
         "flows": [
             {"flow": 0, "booked": 2, "in_time": 2, "elsewhere": 0, "never": 0,
              "ahead": 1, "gained": 1, "most": 1, "says": "flow 0: 2 tiles, 1 "
@@ -46,6 +48,7 @@ OBJECTS = [
         "verdict": "differ", "status": DIFFER, "booked_slots": 1,
         "sent_slots": 1, "tiles": 1, "in_time": 0, "ahead": 0, "gained": 0,
         "dead_link": True, "first_line_is_slot": None,
+        "flows_from_1": False,
         "flows": [
             {"flow": 0, "booked": 1, "in_time": 0, "elsewhere": 0, "never": 1,
              "ahead": 0, "gained": 0, "most": 0,
@@ -106,10 +109,22 @@ def moved(tree):
     return found["first_line_is_slot"] != 2 and found
 
 
-def no_object(tree):
-    """A sentence, as without --json."""
-    return trouble(tree.start("--json", "nowhere", "-"), NOT_COMPARED, b"",
-                   "there is no file 'nowhere'")
+def without_files(tree):
+    """A sentence, as without --json, and an object with it."""
+    for words, says in (
+            (["nowhere", "-"], "there is no file 'nowhere'"),
+            (["-", tree.root], "'%s' is a directory, not a list of streams"
+             % tree.root),
+            (["one"], "two files are compared, BOOKED and SENT, and 1 is "
+             "named; ./check-log --help says more")):
+        ended = tree.start("--json", *words, input=b"P 0\nT -\n")
+        wrong = trouble(ended, NOT_COMPARED, None, "check-log: " + says) or (
+            json.loads(ended.output) != {
+                "verdict": "not compared", "status": NOT_COMPARED,
+                "error": says} and ended.output)
+        if wrong:
+            return "%s: %s" % (words, wrong)
+    return None
 
 
 # ---- long files
@@ -159,7 +174,7 @@ def broken_off(tree):
 
 
 TESTS = (objects, members_are_on_the_man_page, object_of_refusals, moved,
-         no_object, constant_memory, broken_off)
+         without_files, constant_memory, broken_off)
 
 
 def tests(programs):

@@ -72,19 +72,62 @@ REFUSALS = {
         "to 64"], [3]),
     "the window": (
         "dome F=64 W=8 N=255\nstream a from=0 to=1 share=1\n",
-        ["line 1: the dome, with F=64 W=8 N=255, is refused with 3"], [3]),
+        ["line 1: the dome, with F=64 W=8 N=255, is refused with 3: the "
+         "window has more than 256 positions; here it has 512\n"], [3]),
+    "each of the dome's numbers": (
+        "dome F=65 W=9 N=4096\nstream a from=0 to=1 share=1\n",
+        ["is refused with 3: F is not 1 to 64; here F is 65\n",
+         "is refused with 3: W is not 2 to 8; here W is 9\n",
+         "is refused with 3: the window has more than 256 positions; here it "
+         "has 585\n",
+         "is refused with 3: N is not 1 to 4,095; here N is 4096\n"], [3]),
     "dome and stream at once": (
         "dome F=16 W=1 N=255\nstream a from=0 to=0 share=1\n",
-        ["line 1: the dome, with F=16 W=1 N=255, is refused with 3",
+        ["line 1: the dome, with F=16 W=1 N=255, is refused with 3: W is not "
+         "2 to 8; here W is 1\n",
          "line 2: stream a, with from=0 to=0 share=1 and 2 cells, 3 on the "
-         "last link, is refused with 4"], [3, 4]),
+         "last link, is refused with 4: it ends where it starts\n"], [3, 4]),
+    # F could be 64 at most: with that share 65 is wrong, and 33 and 32 are
+    # over on the link that both take.
+    "a dome, streams and a link at once": (
+        "dome F=65 W=4 N=255\nstream a from=0 to=1 share=65 cells=1\n"
+        "stream b from=0 to=2 share=33 cells=9\n"
+        "stream c from=0 to=64 share=1\nstream d from=0 to=3 share=32 cells=9"
+        "\n",
+        ["line 1: the dome, with F=65 W=4 N=255, is refused with 3: F is not "
+         "1 to 64; here F is 65\n",
+         "line 2: stream a, with from=0 to=1 share=65 and 1 cell, 1 on the "
+         "last link, is refused with 4: its share is not 1 to F, which is 64 "
+         "at most\n",
+         "line 4: stream c, with from=0 to=64 share=1 and 2 cells, 3 on the "
+         "last link, is refused with 4: the board that it goes to is above 63",
+         "the link from 0 to 1 is refused with 6: the shares add to more than "
+         "F; on it meet b of line 3 and d of line 5, with 65 of 64 slots and "
+         "18 of 255 cells"], [3, 4, 6]),
+    "a stream and a link at once": (
+        HEAD + "stream a from=0 to=2 share=9\nstream b from=0 to=3 share=8\n"
+        "stream c from=5 to=5 share=1\n",
+        ["line 4: stream c, with from=5 to=5 share=1 and 2 cells, 3 on the "
+         "last link, is refused with 4: it ends where it starts\n",
+         "the link from 0 to 1 is refused with 6: the shares add to more than "
+         "F; on it meet a of line 2 and b of line 3"], [4, 6]),
     "a stream to itself": (HEAD + "stream a from=7 to=7 share=1\n", [
-        "line 2: stream a, with from=7 to=7 "], [4]),
+        "line 2: stream a, with from=7 to=7 share=1 and 2 cells, 3 on the "
+        "last link, is refused with 4: it ends where it starts\n"], [4]),
     "a board that is none": (HEAD + "stream a from=0 to=64 share=1\n", [
-        "line 2: stream a, with from=0 to=64 "], [4]),
+        "line 2: stream a, with from=0 to=64 share=1 and 2 cells, 3 on the "
+        "last link, is refused with 4: the board that it goes to is above 63"
+        "\n"], [4]),
     "too many cells": (HEAD + "stream a from=0 to=1 share=1 cells=256\n", [
         "line 2: stream a, with from=0 to=1 share=1 and 256 cells, 256 on the "
-        "last link, is refused with 4"], [4]),
+        "last link, is refused with 4: its cells are not 1 to 255\n",
+        "is refused with 7: the cells add to more than N\n"], [4, 7]),
+    "all that a stream can have": (
+        HEAD + "stream a from=99 to=99 share=0 cells=0\n",
+        ["is refused with 4: its share is not 1 to F, which is 16, and its "
+         "cells are not 1 to 255, and the board that it comes from is above "
+         "63, and the board that it goes to is above 63, and it ends where it "
+         "starts\n"], [4]),
     "two streams that are wrong": (
         HEAD + "stream a from=0 to=1 share=17\nstream b from=0 to=1 share=0\n",
         ["line 2: stream a, with from=0 to=1 share=17 ",
@@ -170,6 +213,23 @@ def what_is_printed(tree):
     return trouble(ended, DONE)
 
 
+def links_that_are_as_full(tree):
+    """Five links are listed; of others that are as full as the last it is said
+    how many there are."""
+    for boards, more in ((5, ""), (6, "and 1 more link is as full as the last "
+                                      "of these\n"),
+                         (7, "and 2 more links are as full as the last of "
+                             "these\n")):
+        ended = tree.check(HEAD + "stream a from=0 to=%d share=4\n" % boards
+                           + "stream b from=8 to=9 share=3\n")
+        found = ended.output.decode().partition("the fullest links\n")[2]
+        listed, _, rest = found.partition("\n\n")
+        if (len(listed.splitlines()), more in listed + "\n") != (
+                6 + bool(more), True) or not rest:
+            return "%d: %s" % (boards, found)
+    return None
+
+
 def no_bound_is_told(tree):
     """Of a burst that domeplan takes no question about, and of a stream over
     one link with fewer cells than three shares."""
@@ -247,19 +307,25 @@ def wrong_words(tree):
                   ("play", tree.file, "--greedy", "nobody"),
                   ("play", tree.file, "--rate", "main=2"),
                   ("play", tree.file, "--rate", "=0.5"),
+                  ("play", tree.file, "--seed", "abc"),
+                  ("play", tree.file, "--seed", "-1"),
+                  ("page", tree.file, "out", "--seed", ""),
                   ("play", tree.file, "--rate", "nan")):
         ended = tree.start(*words)
         wrong = trouble(ended, NOT_DONE, b"", "dome: ")
         if wrong:
             return "%s: %s" % (words, wrong)
     return trouble(tree.start("play", tree.file, "--late", "nobody"), NOT_DONE,
-                   b"", "no stream nobody: its streams are main and comet")
+                   b"", "no stream nobody: its streams are main and comet"
+                   ) or trouble(
+        tree.start("play", tree.file, "--seed", "abc"), NOT_DONE, b"", "dome: "
+        "--seed takes a number of one to nine digits, and has 'abc'")
 
 
 def tests(programs):
     return in_trees((
         each_bad_file, each_refused_show, noise_without_end,
-        a_window_that_no_link_has, what_is_printed,
+        a_window_that_no_link_has, what_is_printed, links_that_are_as_full,
         no_bound_is_told, a_show_without_streams, the_plan_files,
         plans_of_another_show, nothing_is_written_of_a_refused_show,
         no_permission, wrong_words), programs)

@@ -1,11 +1,16 @@
 """./dome play: runs in which no bound is passed, whoever is greedy or late;
 and shows by chance beside the second simulator."""
 
+import os
+import re
+import select
+import signal
+import subprocess
 import sys
 from collections import Counter
 
-from front_door.command import ROOT, start, trouble
-from front_door.dome_tree import DONE, in_trees, rows
+from front_door.command import LIMIT, ROOT, start, trouble
+from front_door.dome_tree import DONE, NOT_DONE, in_trees, rows
 from shows.comparison import compare
 from shows.file_comparison import compare_files, run
 
@@ -87,6 +92,36 @@ def whoever_is_greedy_or_late(tree):
             if wrong:
                 return "%s, seed %s: %s" % (words, seed, wrong)
     return None
+
+
+def broken_off(tree):
+    """A break of the whole group, as a terminal sends it, says how far the run
+    came, and leaves no link behind."""
+    terminal, errors = os.openpty()
+    process = subprocess.Popen(
+        [tree.command, "play", "-", "--slots", "10000000"], stderr=errors,
+        stdin=subprocess.PIPE, stdout=subprocess.PIPE, start_new_session=True)
+    os.close(errors)
+    process.stdin.write(THREE.encode())
+    process.stdin.close()
+    heard = b""
+    while b": slot " not in heard and select.select([terminal], [], [],
+                                                    LIMIT)[0]:
+        heard += os.read(terminal, 4096)
+    os.killpg(process.pid, signal.SIGINT)
+    output = process.stdout.read()
+    status = process.wait(timeout=LIMIT)
+    while select.select([terminal], [], [], 0.5)[0]:
+        try:
+            heard += os.read(terminal, 4096)
+        except OSError:
+            break                       # nobody has its other end
+    os.close(terminal)
+    process.stdout.close()
+    last = heard.decode().replace("\r", "\n").rstrip().splitlines()[-1]
+    return (status != NOT_DONE or output or not re.fullmatch(
+        r"dome: broken off in slot \d+ of 10000000: nothing is printed", last)
+            ) and "status %d, %r, %r" % (status, output, heard[-200:])
 
 
 def one_seed_one_run(tree):
@@ -231,7 +266,7 @@ def a_line_that_counts(tree):
 
 def tests(programs):
     return in_trees((
-        whoever_is_greedy_or_late, one_seed_one_run,
+        whoever_is_greedy_or_late, one_seed_one_run, broken_off,
         a_late_board_costs_its_own_stream, a_tile_that_never_arrives,
         the_flights, reserved_and_no_more, questions_by_hand,
         shows_by_chance, show_files_by_chance, runs_by_chance,

@@ -4,7 +4,7 @@ from front_door.command import ROOT, start, trouble
 
 LINES, COLUMNS = 40, 80
 COMMANDS = ("play", "plan", "dome", "check-log", "tools/calls", "tests/run",
-            "bench/run")
+            "bench/run", "bench/console")
 
 
 def fits(name):

@@ -55,6 +55,17 @@ SEVERAL = [
     # Rule 15.4: of more than 16 flows the first 16 are looked at.
     ("64 2 15" + "".join("  1 1 %d 63" % node for node in range(17)),
      ["2: n is 17", "7: those of the first 16 flows add to 16, and N is 15"]),
+    # Of the others each is told, flow by flow, and the first with its nodes.
+    ("64 2 4095" + "".join("  1 1 %d 63" % node for node in range(16))
+     + "  65 0 3 63  1 1 64 64  1 1 3 63",
+     ["2: n is 19", "4: flow 16 has share 65", "4: flow 16 has 0 cells",
+      "5: flows 3 and 16", "4: flow 17 comes from node 64",
+      "4: flow 17 goes to node 64", "4: flow 17 goes from node 64 to 64",
+      "5: flows 3 and 18"]),
+    # More than a question of 4,000 bytes takes.
+    ("64 2 4095" + "".join("  1 1 %d %d" % (flow // 50, 13 + flow % 50)
+                           for flow in range(600)) + "  0 1 1 13",
+     ["2: n is 601", "4: flow 600 has share 0", "5: flows 50 and 600"]),
 ]
 HERE = re.compile(r"plan: (?:the plan is refused|and then) with (\d+): "
                   r"[^;]*; here (.*)")

@@ -168,15 +168,48 @@ def a_week_of_files(tree):
 
 
 def where_it_does_not_go(tree):
-    """A file that is made is no object; what can't be done is a sentence."""
+    """A file that is made is no object."""
     return trouble(tree.start("--json", *NUMBERS), NOT_DONE, b"", "--json "
-                   "goes with what is printed, and here a file is made") or (
-        trouble(tree.start("--json", "--check", "nowhere"), NOT_DONE, b"",
-                "there is no file 'nowhere'"))
+                   "goes with what is printed, and here a file is made")
 
 
-TESTS = (of_a_text, of_a_file, of_no_text, of_questions, what_would_fit, a_week_of_files,
-         where_it_does_not_go)
+# Commands that can't be done, each with its sentence.
+NOTHING_DONE = (
+    (["--check", "nowhere"], "there is no file 'nowhere'"),
+    (["--read", "."], "'.' is a directory, not a plan file"),
+    (["--week", 'no "such"'], "'no \"such\"' is no number, and there is no "
+     "file of that name; ./plan --help says more"),
+    (["--count", "4"], "--count takes F and how many flows there are, and 1 "
+     "is given; ./plan --help says more"))
+
+
+def where_nothing_is_done(tree):
+    """The sentence on standard error, and an object with it."""
+    for words, says in NOTHING_DONE:
+        ended = tree.start("--json", *words, cwd=tree.root)
+        wrong = trouble(ended, NOT_DONE, None, "plan: " + says) or (
+            json.loads(ended.output) != {
+                "verdict": "not read", "status": NOT_DONE, "error": says}
+            and ended.output)
+        if wrong:
+            return "%s: %s" % (words, wrong)
+    return None
+
+
+def where_domeplan_is_not_there(tree):
+    """What sh says of it stays on standard error."""
+    tree.program.unlink()
+    tree.only_tools()
+    ended = tree.start("--json", "--check", tree.file)
+    return trouble(ended, NOT_DONE, None, "target/bin/domeplan is missing") or (
+        json.loads(ended.output) != {
+            "verdict": "not read", "status": NOT_DONE,
+            "error": "domeplan is not built"} and ended.output)
+
+
+TESTS = (of_a_text, of_a_file, of_no_text, of_questions, what_would_fit,
+         a_week_of_files, where_it_does_not_go, where_nothing_is_done,
+         where_domeplan_is_not_there)
 
 
 def tests(programs):

@@ -232,7 +232,29 @@ def odd_words(tree):
     return None
 
 
-TESTS = (in_words, a_time_in_one_word, refused_words, wrong_question_words,
+# Limits that --help tells, with words on both sides of each.
+OF_HELP = (
+    "--count takes F of 1 to 16 and 1 to 8 FLOWS; --extras up to 64 slots "
+    "LEFT, 1 or more SETS to look at, and up to 12 layers with a SHARE of 1 to "
+    "64 and a WORTH of up to 1,000.")
+WITHIN = ("--count 1 1", "--count 16 8", "--extras 64 1", "--extras 0 1 64 1000",
+          "--extras 0 1 1 0", "--extras 64 1" + 12 * " 1 1")
+BEYOND = ("--count 0 1", "--count 17 8", "--count 16 0", "--count 16 9",
+          "--extras 65 1", "--extras 64 0", "--extras 0 1 0 1",
+          "--extras 0 1 65 1", "--extras 0 1 1 1001",
+          "--extras 64 1" + 13 * " 1 1")
+
+
+def limits_of_the_help(tree):
+    said = " ".join(tree.start("--help").output.decode().split())
+    wrong = [words for words, status in (
+        *((words, DONE) for words in WITHIN),
+        *((words, REFUSED) for words in BEYOND))
+        if tree.start(*words.split()).status != status]
+    return OF_HELP not in said and said or wrong
+
+
+TESTS = (in_words, limits_of_the_help, a_time_in_one_word, refused_words, wrong_question_words,
          what_would_fit, what_fits_passes, what_is_no_plan, odd_words)
 
 

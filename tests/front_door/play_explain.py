@@ -13,7 +13,8 @@ from front_door.command import (
 from front_door.play_tree import (
     NOT_PLAYED, NOT_WHOLE, PLAYED, REFUSED, in_traced_trees)
 from front_door.remedies import what_to_do
-from front_door.show_tools import explained
+from front_door.show_tools import (
+    explain, explained, paragraph, plan_and_lines)
 
 LISTING = b"P 0\nG 1\nG 2\nR 12\nC\nG 4\nG 3\nT 0\n"    # by rule 13.6
 
@@ -213,6 +214,47 @@ def long_lines_of_the_summary():
     return None if wanted in said else said[-400:]
 
 
+def numbers_of_calls():
+    """A number stands to the right up to five digits, and however long it is a
+    blank stands behind it."""
+    plan, lines = plan_and_lines(BASE + 2 * call_bytes.TICK)
+    for calls, right in ((0, ["    1   a", "    2   a"]),
+                         (9998, [" 9999   a", "10000   a"]),
+                         (99998, ["99999   a", "100000  a"]),
+                         (999998, ["999999  a", "1000000 a"]),
+                         (9999998, ["9999999 a", "10000000 a"])):
+        said = []
+        telling = explain.Telling(plan, said.append)
+        telling.summary.calls = calls
+        telling.add(lines)
+        found = [line[:line.index(" tick")] for line in
+                 said[-1].splitlines()[::2]]
+        if found != right:
+            return "%s for %s" % (found, right)
+    return None
+
+
+def cut_behind_a_slot():
+    """A sentence on a slot is cut as every other is, wherever its number
+    ends."""
+    plan, lines = plan_and_lines(BASE + call_bytes.request(9, 0)
+                                 + call_bytes.credit(0, 2) + call_bytes.TICK)
+    for digits in range(1, 20):
+        said = []
+        telling = explain.Telling(plan, said.append)
+        telling.places.texts = ["slot " + "1" * digits] * 8
+        telling.add(lines)
+        for line, words in zip(("  G 1   granted ", "  C     taken: from ",
+                                "  T 0   "),
+                               ("; there it holds 1 of its 2 cells",
+                                " on flow 0 holds one less",
+                                " has come up: it is flow 0's")):
+            head, text = line[:8], line[8:] + "slot " + "1" * digits + words
+            if paragraph(head, text) not in said[-1]:
+                return "%r not in %s" % (paragraph(head, text), said[-1])
+    return None
+
+
 # ---- refusals
 
 def plain(text):
@@ -378,4 +420,6 @@ TESTS = (
 def tests(programs):
     yield "./play: every refusal in words", every_refusal
     yield "./play: long lines of the summary", long_lines_of_the_summary
+    yield "./play: numbers of calls", numbers_of_calls
+    yield "./play: sentences cut behind a slot", cut_behind_a_slot
     yield from in_traced_trees(TESTS)

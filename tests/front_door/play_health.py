@@ -236,11 +236,39 @@ def objects(tree):
     return trouble(ended, FAILS) or found != OBJECT and "%s" % found
 
 
+# What ends otherwise, with its words: the status, the verdict, and how the
+# error begins.
+OTHER_ENDS = (
+    (["nowhere"], NOT_PLAYED, "not played", "there is no file 'nowhere'"),
+    (["a \"b\" c\\d\n"], NOT_PLAYED, "not played",
+     "there is no file 'a \"b\" c\\d?'"),
+    (["."], NOT_PLAYED, "not played", "'.' is a directory, not a file of"),
+    (["one", "two"], NOT_PLAYED, "not played", "one file is played at a time"),
+    (["wrong"], NOT_PLAYED, "not played", "'wrong', line 2: 'aks' is none of"),
+    (["refused"], FAILS, "refused", "'refused' is refused with 7: the cells "
+     "add to more than N\nwhat to do: "))
+
+
+def objects_of_other_ends(tree):
+    """The sentence stands on standard error, and in an object."""
+    tree.write("wrong", "plan F=4 W=2 N=4\naks\n")
+    tree.write("refused", ONE % 9)
+    for words, status, verdict, begins in OTHER_ENDS:
+        ended = tree.start("--health", "--json", *words, cwd=tree.root)
+        found = json.loads(ended.output)
+        if (ended.status, found["verdict"], found["status"]) != (
+                status, verdict, status) or not (
+                found["error"].startswith(begins)
+                and ended.errors.startswith("play: " + begins[:12])):
+            return "%s: %s, %s" % (words, found, ended.errors)
+    return None
+
+
 def members_are_on_the_man_page(tree):
     bold = set(re.findall(r"\w+", " ".join(re.findall(
         r"^\.BR? (.*)$", (ROOT / "docs/man/play.1").read_text(),
         re.MULTILINE))))
-    members = {*OBJECT, *OBJECT["flows"][0], "sort", "says"}
+    members = {*OBJECT, *OBJECT["flows"][0], "sort", "says", "error"}
     return members - bold and "not named: %s" % sorted(members - bold)
 
 
@@ -397,7 +425,8 @@ def constant_memory(tree):
 
 
 TESTS = (by_hand, lends_bursts_and_what_is_no_call, flights_are_good,
-         late_return_in_a_dense_field, objects, members_are_on_the_man_page,
+         late_return_in_a_dense_field, objects, objects_of_other_ends,
+         members_are_on_the_man_page,
          without_a_file, wrong_words, refused_at_the_plan, lost_output,
          program_breaks_off, built_where_it_is_missing, broken_off,
          constant_memory)

@@ -1,6 +1,7 @@
 """./play in words and as pictures on a long file: what it keeps in memory,
 and how many calls it takes in a second of the processor."""
 
+import itertools
 import sys
 
 import call_bytes
@@ -25,21 +26,25 @@ WAYS = ((["--explain"], []), (["--summary"], []), (["--health"], []),
         (["--page", "/dev/null"], ["--from", "19900"]))
 
 
+def frame_calls(frame):
+    """The calls in a frame of 64 slots: each of 16 flows asks for four tiles
+    at its beginning, and a cell of it is given back in four slots of the
+    next."""
+    first = 64 * frame
+    for tile in range(4):
+        number = (4 * frame + tile) % 1024
+        for flow in range(16):
+            yield call_bytes.request(40 + flow, flow, number, first % 256)
+    for slot in range(first + 1, first + 65):
+        yield call_bytes.TICK
+        if slot > 64:
+            yield call_bytes.credit(slot % 16, (slot + 1) % 256)
+
+
 def dense_calls(count):
-    """Frames of 64 slots: each of 16 flows asks for four tiles at a frame's
-    beginning, and a cell of it is given back in four slots of the next."""
-    data, slot = [PLAN], 0
-    while len(data) <= count:
-        number = slot // 16 % 1024
-        data += [call_bytes.request(40 + flow, flow, (number + tile) % 1024,
-                                    slot % 256)
-                 for tile in range(4) for flow in range(16)]
-        for _ in range(64):
-            slot += 1
-            data.append(call_bytes.TICK)
-            if slot > 64:
-                data.append(call_bytes.credit(slot % 16, (slot + 1) % 256))
-    return b"".join(data[:count + 1])
+    """A file of so many calls, frame by frame."""
+    calls = itertools.chain.from_iterable(map(frame_calls, itertools.count()))
+    return PLAN + b"".join(itertools.islice(calls, count))
 
 
 def measured(tree, words):

@@ -2,7 +2,8 @@
 against the second simulator's link: rule 26.10."""
 
 from edges.all_edges import ALLCALLS_EDGES, EDGES
-from front_door.show_tools import Refused, kept, plan_and_lines
+from front_door.show_tools import (
+    Refused, kept, plan_and_lines, summary)
 from generator import burst_seeds, lend_seeds, reset_seeds, seeds
 from simulator.listing import steps
 from simulator.records import ALLCALLS, DOMELINK
@@ -47,7 +48,33 @@ def differs(data, all_calls):
     return at != len(links) - 1 and "%d of %d lines" % (at, len(links) - 1)
 
 
-def first_trouble(files):
+def held_otherwise(data, all_calls):
+    """What the summary keeps of holdings, against the window after each line,
+    as long as it follows a flow; and the most that stood in any of them."""
+    try:
+        plan, lines = plan_and_lines(data, all_calls)
+    except Refused:
+        return None
+    state, counted = kept.Kept(plan), summary.Summary(plan)
+    most = [0] * len(plan.flows)
+    for line in lines:
+        words = line.split()
+        state.take(words)
+        counted.takes[words[0]](words)
+        if line[0] == "T" and words[4] == "1":
+            continue                    # its lines F follow
+        for number, flow in enumerate(counted.flows):
+            held = list(state.holdings[number])
+            most[number] = max(most[number], *held)
+            if flow.held.most != most[number] or (
+                    most[number] < flow.flow.cells and line[0] != "F"
+                    and state.calls % 8 == 1 and flow.held.held() != held):
+                return "flow %d after call %d: %s" % (number, state.calls,
+                                                      flow.held.held())
+    return None
+
+
+def first_trouble(files, differs=differs):
     for name, data, all_calls in files:
         wrong = differs(data, all_calls)
         if wrong:
@@ -55,21 +82,32 @@ def first_trouble(files):
     return None
 
 
+def edge_files():
+    return [(edge.name, edge.data, all_calls)
+            for edges, all_calls in ((EDGES, False), (ALLCALLS_EDGES, True))
+            for edge in edges if len(edge.data) <= MOST_BYTES]
+
+
+def generated_files():
+    return [("%s, seed %d" % (name, seed), sort.generate(seed)[:MOST_BYTES],
+             all_calls)
+            for name, sort, all_calls in SORTS for seed in range(12)
+            if "long" not in sort.kind_of(seed)]
+
+
 def states_of_edges():
-    return first_trouble(
-        (edge.name, edge.data, all_calls)
-        for edges, all_calls in ((EDGES, False), (ALLCALLS_EDGES, True))
-        for edge in edges if len(edge.data) <= MOST_BYTES)
+    return first_trouble(edge_files())
 
 
 def states_of_generated_files():
-    return first_trouble(
-        ("%s, seed %d" % (name, seed), sort.generate(seed)[:MOST_BYTES],
-         all_calls)
-        for name, sort, all_calls in SORTS for seed in range(12)
-        if "long" not in sort.kind_of(seed))
+    return first_trouble(generated_files())
+
+
+def the_most_that_is_held():
+    return first_trouble(edge_files() + generated_files(), held_otherwise)
 
 
 def tests(programs):
-    for test in (states_of_edges, states_of_generated_files):
+    for test in (states_of_edges, states_of_generated_files,
+                 the_most_that_is_held):
         yield "./play: " + test.__name__.replace("_", " "), test

@@ -13,11 +13,14 @@ import call_file        # noqa: E402, F401
 import call_text        # noqa: E402, F401
 import explain          # noqa: E402, F401
 import kept             # noqa: E402, F401
+import most_held        # noqa: E402, F401
 import page             # noqa: E402, F401
 import run_health       # noqa: E402, F401
 import text_lines       # noqa: E402, F401
 import timeline         # noqa: E402, F401
+import summary          # noqa: E402, F401
 import trace_words      # noqa: E402, F401
+from paragraphs import paragraph    # noqa: E402, F401
 
 
 class Refused(Exception):

@@ -10,7 +10,7 @@ in which slot a tile is due, and it may leave from the next one on (rule 24.2).
 
 from collections import deque
 
-from check.ends import ENDED, Ends, Shift
+from check.ends import ENDED, Ends, Numbering, Shift
 from check.flows import Flow, takers
 from check.words import Faults, plural
 
@@ -77,6 +77,7 @@ class Sending:
         self.due = {} if due is None else due   # by a tile's slot, if known
         self.ends = Ends()
         self.shift = Shift()
+        self.numbering = Numbering()
         self.faults = Faults()
         self.flows = {}
 
@@ -114,6 +115,7 @@ class Sending:
     def add(self, slot, owner, flow):
         self.ends.add(owner, flow)
         self.shift.add(owner, flow)
+        self.numbering.add(owner, flow)
         if ENDED in (owner, flow):
             return
         if flow is not None:

@@ -1,4 +1,5 @@
-"""How long BOOKED and SENT are, and whether SENT seems to be moved."""
+"""How long BOOKED and SENT are, and whether SENT seems to be moved, or to
+number its flows from 1 on."""
 
 from check.words import plural
 
@@ -84,3 +85,27 @@ class Shift:
         if first is not None:
             yield "moved by one slot SENT agrees: is its first line slot " \
                 "%d? it has to be slot 1" % first
+
+
+class Numbering:
+    """Whether SENT seems to number the flows from 1 on: each stream that left
+    is then the one that was booked, and there are several."""
+
+    def __init__(self):
+        self.agrees = True
+        self.streams = 0
+
+    def add(self, owner, flow):
+        if ENDED in (owner, flow) or owner is flow is None:
+            return
+        if None in (owner, flow) or flow != owner + 1:
+            self.agrees = False
+        self.streams += 1
+
+    def from_one(self):
+        return self.agrees and self.streams > FEWEST
+
+    def lines(self):
+        if self.from_one():
+            yield "with each number one less SENT agrees: does it number the " \
+                "flows from 1 on? flow 0 is the plan's first"

@@ -55,8 +55,8 @@ class Report:
 
     def explained(self):
         """Whether what is wrong is no flow's own: nothing left at all, or SENT
-        seems to be moved by a slot."""
-        return (self.link_is_dead()
+        seems to be moved by a slot or to count from 1 on."""
+        return (self.link_is_dead() or self.compared.numbering.from_one()
                 or self.compared.shift.first_slot() is not None)
 
     # ---- lines
@@ -69,6 +69,7 @@ class Report:
                 "power, or at where SENT was taken"
         yield from compared.ends.lines()
         yield from compared.shift.lines()
+        yield from compared.numbering.lines()
         for _, line in sorted([*compared.flow_lines(self.explained()),
                                *self.lines_without_grants()]):
             yield line
@@ -129,6 +130,7 @@ class Report:
             "booked_slots": ends.booked, "sent_slots": ends.sent,
             **compared.numbers(), "dead_link": self.link_is_dead(),
             "first_line_is_slot": compared.shift.first_slot(),
+            "flows_from_1": compared.numbering.from_one(),
             "flows": [dict(compared.flow_numbers(compared.flows[number]),
                            flow=number, says=line) for number, line in
                       compared.flow_lines(self.explained())],

@@ -7,12 +7,14 @@ from check.files import MORE, Trouble, called, lines_of, shown
 
 FLOWS = 16                      # the most that a plan has
 NUMBER = re.compile(r"[0-9]{1,9}")
+FROM_1 = ": does it number the flows from 1 on?"
 
 
 def no_stream(number, line, name):
     return Trouble("line %d of %s is '%s', and has to be a flow's number, 0 "
-                   "to %d, or -%s" % (number, called(name), shown(line),
-                                      FLOWS - 1, MORE))
+                   "to %d, or -%s%s" % (number, called(name), shown(line),
+                                        FLOWS - 1, FROM_1 if line == str(FLOWS)
+                                        else "", MORE))
 
 
 @lru_cache(maxsize=1024)

@@ -1,7 +1,7 @@
 """The slots compared one by one: each stream leaves in its slot and in no
 other."""
 
-from check.ends import ENDED, Ends, Shift
+from check.ends import ENDED, Ends, Numbering, Shift
 from check.flows import Flow, takers
 from check.words import Faults, plural
 
@@ -23,6 +23,7 @@ class SlotBySlot:
     def __init__(self):
         self.ends = Ends()
         self.shift = Shift()
+        self.numbering = Numbering()
         self.faults = Faults()
         self.flows = {}
         self.agree = self.idle = 0
@@ -40,6 +41,7 @@ class SlotBySlot:
     def add(self, slot, owner, flow):
         self.ends.add(owner, flow)
         self.shift.add(owner, flow)
+        self.numbering.add(owner, flow)
         if ENDED in (owner, flow):
             return
         if owner is not None:

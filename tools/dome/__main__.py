@@ -2,6 +2,7 @@
 file.  Exit status: 0 the show passes, and all is written; 1 it is refused, or
 a bound was passed; 2 neither, and a sentence says why."""
 
+import signal
 import sys
 from pathlib import Path
 
@@ -144,10 +145,15 @@ def main(words):
         stop("dome", 2, "the first word is none of check, plans, play and "
              "page; "
              "./dome --help says more")
+    signal.signal(signal.SIGINT, signal.default_int_handler)
     try:
         DO[words[0]](words[1:])
     except proved.Broken as wrong:
         stop("dome", 2, str(wrong))
+    except play.BrokenOff as broken:
+        stop("dome", 2, str(broken))
+    except KeyboardInterrupt:
+        stop("dome", 2, "broken off")
 
 
 if __name__ == "__main__":

@@ -68,7 +68,7 @@ def way_lines(planned):
         for s, way in zip(planned.show.streams, planned.ways)]
 
 
-def link_rows(planned):
+def link_lines(planned):
     slots, places = planned.dome["F"], planned.dome["N"]
     rows = [["link", "slots", "left", "cells", "left", "streams"]]
     full = []
@@ -82,7 +82,16 @@ def link_rows(planned):
                      str(slots - shares), "%d/%d" % (cells, places),
                      str(places - cells),
                      " ".join(s.name for s in planned.streams_on(link))])
-    return rows
+    return table(rows) + as_full([shares for shares, _, _ in full])
+
+
+def as_full(shares):
+    """A line on links that are as full as the last of those listed, by the
+    shares of all in order."""
+    more = sum(each == shares[FULLEST - 1] for each in shares[FULLEST:])
+    return ["and %s as full as the last of these" % (
+        "1 more link is" if more == 1 else "%d more links are" % more)] * (
+            more > 0)
 
 
 def lines(planned):
@@ -92,7 +101,7 @@ def lines(planned):
     if planned.show.streams:
         said += table(stream_rows(planned))
         said += ["", "ways, board by board"] + way_lines(planned)
-        said += ["", "the fullest links"] + table(link_rows(planned)) + [""]
+        said += ["", "the fullest links"] + link_lines(planned) + [""]
     links = len(planned.answer.plans)
     return said + ["the show passes: %d stream%s, %d link%s used" % (
         len(planned.show.streams), "s"[len(planned.show.streams) == 1:],

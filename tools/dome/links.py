@@ -37,7 +37,7 @@ class Link:
         self.program = subprocess.Popen(
             [str(BIN / "dometrace"), "all"] if lends else
             [str(BIN / "domelink")], stdin=subprocess.PIPE,
-            stdout=subprocess.PIPE, bufsize=0)
+            stdout=subprocess.PIPE, bufsize=0, start_new_session=True)
         self.into = self.program.stdin.fileno()
         self.out = self.program.stdout.fileno()
         self.ticks = 0

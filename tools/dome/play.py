@@ -237,17 +237,27 @@ def count_up(done, slots, begun):
     sys.stderr.flush()
 
 
+class BrokenOff(Exception):
+    """A break, with the sentence that says how far it came."""
+
+
 def run(dome, slots):
     """Plays so many slots, with a line that counts on a terminal."""
     begun = shown = time.time()
     counting = sys.stderr is not None and sys.stderr.isatty()
-    for slot in range(slots):
-        dome.play_slot(slot)
-        if counting and time.time() - shown > 0.5:
-            shown = time.time()
-            count_up(slot, slots, begun)
-    if counting:
-        sys.stderr.write("\r%60s\r" % "")
+    slot = 0
+    try:
+        for slot in range(slots):
+            dome.play_slot(slot)
+            if counting and time.time() - shown > 0.5:
+                shown = time.time()
+                count_up(slot, slots, begun)
+    except KeyboardInterrupt:
+        raise BrokenOff("broken off in slot %d of %d: nothing is printed" % (
+            slot, slots)) from None
+    finally:
+        if counting:
+            sys.stderr.write("\r%60s\r" % "")
 
 
 def played(planned, options):

@@ -68,12 +68,23 @@ def ask_show(dome, streams):
     return answer
 
 
-def ask_dome(dome):
-    """The refusal of F, W and N, 0 where they pass: that of a plan with one
-    flow that is within its limits, whatever they are."""
-    lines = ask("domeplan", "plan %d %d %d 1 1 0 1\n" % (
-        dome["F"], dome["W"], dome["N"]))
-    return number_after("R", lines[0].split()) or 0
+def ask_faults(dome, flows):
+    """What is wrong with each plan of the dome and one of these flows: three
+    numbers for each fault, as rule 15.4 has them."""
+    lines = ask("domeplan", "".join("faults %d %d %d %d %d %d %d\n" % (
+        dome["F"], dome["W"], dome["N"], *flow) for flow in flows),
+        len(flows)) if flows else []
+    return [threes(line) for line in lines]
+
+
+def threes(line):
+    if line == "ok":
+        return []
+    words = line.split()
+    if len(words) % 3 or not all(word.isdigit() for word in words):
+        raise Broken("domeplan answered %r" % line[:60])
+    numbers = [int(word) for word in words]
+    return list(zip(numbers[::3], numbers[1::3], numbers[2::3]))
 
 
 class Bound:

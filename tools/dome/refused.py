@@ -4,6 +4,7 @@ and what to do about each number."""
 import sys
 from pathlib import Path
 
+from dome.planned import OF_DOME, OF_STREAM
 from dome.show_file import listed
 
 sys.path.insert(0, str(Path(__file__).resolve().parents[1] / "show"))
@@ -12,8 +13,8 @@ import refusals  # noqa: E402 (beside the pictures, which read the same page)
 ELSEWHERE = "send a stream from another board or to another one"
 TO_DO = {
     2: "%s, so that at most 16 meet on a link" % ELSEWHERE,
-    3: "choose F, W and N from these ranges, and a smaller frame or window "
-       "where there are too many positions",
+    3: "choose F from 1 to 64, W from 2 to 8, N from 1 to 4,095, and a "
+       "smaller frame or window where there are too many positions",
     4: "give that stream two boards of 0 to 63 that differ, a share of 1 to F "
        "and cells of 1 to 255; cells= sets them",
     5: "make them one stream, or %s" % ELSEWHERE,
@@ -21,6 +22,16 @@ TO_DO = {
     7: "lower a share or its cells=, or choose a larger N",
     25: "lower a share, or %s" % ELSEWHERE,
 }
+
+
+# Of a dome's fault and of a stream's, by its number in rule 15.4.
+DOME = ("F is not 1 to 64; here F is %d", "W is not 2 to 8; here W is %d",
+        "the window has more than 256 positions; here it has %d",
+        "N is not 1 to 4,095; here N is %d")
+STREAM = ("its share is not 1 to F, which is {F}",
+          "its cells are not 1 to 255",
+          "the board that it comes from is above 63",
+          "the board that it goes to is above 63", "it ends where it starts")
 
 
 class Fault:
@@ -37,20 +48,36 @@ def why(number, known):
     return refusals.refusal(number, "plan", known).when
 
 
-def said_of_dome(planned, known):
-    number = planned.dome_refusal
-    return Fault(planned.show.dome_line, number, (
-        "the dome, with F=%d W=%d N=%d, is refused with %d: %s" % (
-            *(planned.dome[key] for key in "FWN"), number,
-            why(number, known))))
+def said_of_dome(planned):
+    """A fault for each number that is wrong."""
+    for which, value in planned.dome_faults:
+        yield Fault(planned.show.dome_line, OF_DOME, (
+            "the dome, with F=%d W=%d N=%d, is refused with %d: %s" % (
+                *(planned.dome[key] for key in "FWN"), OF_DOME,
+                DOME[which] % value)))
 
 
-def said_of_stream(s, number, known):
-    return Fault(s.line, number, (
-        "stream %s, with from=%d to=%d share=%d and %d cells, %d on the last "
-        "link, is refused with %d: %s" % (
-            s.name, s.source, s.destination, s.share, s.cells, s.last_cells,
-            number, why(number, known))))
+def most_slots(planned):
+    """F in words, also where it is none."""
+    most = planned.limits["F"]
+    return "%d%s" % (most, "" if most == planned.dome["F"] else " at most")
+
+
+def said_of_stream(planned, s, number, known):
+    """A stream that is refused alone, by what is wrong with it."""
+    found = planned.faults_of_stream(s)
+    if number not in [fault for fault, _ in found]:
+        found = [(number, 0)]
+    for fault in dict.fromkeys(fault for fault, _ in found):
+        causes = [STREAM[which] for each, which in found
+                  if each == fault == OF_STREAM]
+        yield Fault(s.line, fault, (
+            "stream %s, with from=%d to=%d share=%d and %d cell%s, %d on the "
+            "last link, is refused with %d: %s" % (
+                s.name, s.source, s.destination, s.share, s.cells,
+                "s"[s.cells == 1:], s.last_cells, fault, ", and ".join(
+                    cause.format(F=most_slots(planned)) for cause in causes)
+                or why(fault, known))))
 
 
 def said_of_link(planned, link, number, known):
@@ -64,28 +91,27 @@ def said_of_link(planned, link, number, known):
             *link, number, why(number, known),
             "is" if len(streams) == 1 else "meet",
             listed(["%s of line %d" % (s.name, s.line) for s in streams]),
-            sum(s.share for s in streams), planned.dome["F"],
-            cells, planned.dome["N"])))
+            sum(s.share for s in streams), planned.limits["F"],
+            cells, planned.limits["N"])))
 
 
 def faults(planned):
-    """What is refused: the dome, each stream that is by itself, and if none
-    of them is the links."""
-    known = refusals.rows()
-    found = []
-    if planned.dome_refusal:
-        found.append(said_of_dome(planned, known))
-    found += [said_of_stream(s, number, known)
-              for s, number in zip(planned.show.streams, planned.alone)
-              if number and number != planned.dome_refusal]
-    if not found:
-        found = [said_of_link(planned, link, number, known)
-                 for link, number in sorted(planned.answer.refusals.items())]
+    """What is refused: the dome, each stream that is by itself, and the links
+    on which the others meet."""
     number = planned.answer.refusal
-    if not found and number:
+    if not number:
+        return []
+    known = refusals.rows()
+    found = list(said_of_dome(planned))
+    for s, refusal in zip(planned.show.streams, planned.alone):
+        if refusal:
+            found += said_of_stream(planned, s, refusal, known)
+    found += [said_of_link(planned, link, refusal, known)
+              for link, refusal in sorted(planned.refused_links().items())]
+    if not found:
         found = [Fault(0, number, "the show is refused with %d: %s" % (
             number, why(number, known)))]
-    return sorted(found, key=lambda fault: fault.line)
+    return sorted(found, key=lambda fault: fault.line or float("inf"))
 
 
 def to_do(found):

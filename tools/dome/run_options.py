@@ -1,6 +1,6 @@
 """The words after ./dome play and ./dome page."""
 
-from dome.show_file import few, listed
+from dome.show_file import NUMBER as SEED, few, listed, quoted
 
 
 class Options:
@@ -47,7 +47,9 @@ def take_option(found, word, value):
             "--slots takes a number from 1 to 10,000,000")
     if word == "--seed":
         found.seed = value
-        return None
+        return None if SEED.match(value) else (
+            "--seed takes a number of one to nine digits, and has %s"
+            % quoted(value))
     if word == "--rate":
         return take_rate(found, value)
     {"--greedy": found.greedy, "--late": found.late}[word].add(value)

@@ -25,6 +25,7 @@ OF_FLOW = (
      "%s goes from node %d to %d"),
 )
 LOOKED_AT = 16          # flows, where there are more
+SUMS = 6, 7             # faults of all flows together
 
 
 class Fault:
@@ -72,7 +73,8 @@ class Told:
     def fault(self, number, first, second):
         return getattr(self, "fault_%d" % number)(first, second)
 
-    def fault_2(self, count, _):
+    def fault_2(self, _, __):
+        count = len(self.plan.flows)
         return Fault(2, "n is not 1 to 16", "n is %d" % count, (), "n", count)
 
     def fault_3(self, which, value):
@@ -116,14 +118,41 @@ def refusals_page(number):
 
 
 def of_plan(plan):
-    """Each fault of a plan that domeplan refuses."""
-    def form(text):
-        try:
-            return [Told(plan).fault(*three) for three in
-                    program.threes(text)]
-        except (AttributeError, IndexError):
-            raise ValueError(text) from None
-    return program.ask_all([plan.question("faults")], form)[0]
+    """Each fault of a plan that domeplan refuses.  It looks at the first
+    flows; of the others each is asked about alone, and with the first flow
+    that has its nodes."""
+    asked = program.ask_all([plan.question("faults")], program.threes)[0]
+    sums = [three for three in asked if three[0] in SUMS]
+    threes = [three for three in asked if three not in sums]
+    try:
+        return [Told(plan).fault(*three)
+                for three in threes + later_ones(plan) + sums]
+    except (AttributeError, IndexError):
+        raise program.odd(" ".join(str(number) for three in asked
+                                   for number in three)) from None
+
+
+def later_ones(plan):
+    """The faults of the flows that domeplan doesn't look at, flow by flow."""
+    first = {}
+    for number, flow in enumerate(plan.flows):
+        first.setdefault((flow.source, flow.destination), number)
+    later = range(LOOKED_AT, len(plan.flows))
+    if not later:
+        return []
+    pairs = [(first[flow.source, flow.destination], number) for number, flow
+             in enumerate(plan.flows[LOOKED_AT:], LOOKED_AT)]
+    answers = program.ask_all(
+        [plan.of_flows(group).question("faults")
+         for group in [*zip(later), *pairs]], program.threes)
+    alone, together = answers[:len(later)], answers[len(later):]
+    found = []
+    for pair, of_one, of_two in zip(pairs, alone, together):
+        found += [(4, pair[1], which) for number, _, which in of_one
+                  if number == 4]
+        found += [(5, *pair) for number, *_ in of_two
+                  if number == 5 and pair[0] < pair[1]]
+    return found
 
 
 # ---- told

@@ -5,6 +5,7 @@ import struct
 from plan import program
 
 HEADER = 12             # bytes before the flows
+MOST_FLOWS = 64         # that are asked about: 16 are looked at
 FIELDS = ("share", "cells", "from", "to")
 
 
@@ -36,7 +37,14 @@ class Plan:
                 *(number for flow in self.flows for number in flow.numbers())]
 
     def question(self, word):
-        return program.line(word, self.numbers())
+        """With no more flows than a line of a question takes."""
+        return program.line(word, self.of_flows(
+            range(min(len(self.flows), MOST_FLOWS))).numbers())
+
+    def of_flows(self, numbers):
+        """The plan of some of its flows."""
+        return Plan(self.frame_slots, self.window_frames, self.buffer,
+                    [self.flows[number] for number in numbers])
 
     def slots_left(self):
         return self.frame_slots - sum(flow.share for flow in self.flows)

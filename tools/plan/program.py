@@ -2,10 +2,9 @@
 
 import re
 import subprocess
-import sys
 from pathlib import Path
 
-from plan.ends import NOT_DONE, Trouble, shown
+from plan.ends import Trouble, shown
 
 ROOT = Path(__file__).resolve().parents[2]
 PROGRAM = ROOT / "target/bin/domeplan"
@@ -21,13 +20,17 @@ class Refused(Exception):
         self.number = number
 
 
+class Unbuilt(Trouble):
+    """There is no program to ask; that was said."""
+
+
 def build():
     """Proves and builds domeplan where that is needed, as all commands do; it
     says itself what went wrong."""
     done = subprocess.run(["sh", str(ROOT / "tools/build"), "plan",
                            "domeplan"], check=False)
     if done.returncode:
-        sys.exit(NOT_DONE)
+        raise Unbuilt("domeplan is not built")
 
 
 def odd(answer):

@@ -1,10 +1,13 @@
 """How a command for people reads its files, writes its output and ends."""
 
+import json
 import os
 import signal
 import sys
 
 signal.signal(signal.SIGINT, signal.SIG_DFL)    # a break ends it without words
+VERDICTS = {1: "refused", 2: "not played", 3: "not whole"}   # by exit status
+for_programs = []       # has something where an end is to print an object, too
 
 
 def stop(script, status, text):
@@ -13,6 +16,12 @@ def stop(script, status, text):
         print("%s: %s" % (script, text), file=sys.stderr, flush=True)
     except (OSError, AttributeError):
         pass                    # standard error takes nothing
+    if for_programs:
+        for_programs.clear()
+        write_output(script, (json.dumps({
+            "verdict": VERDICTS[status], "status": status,
+            "error": str(text).replace("\n%s: " % script, "\n")}, indent=1)
+            + "\n").encode())
     sys.exit(status)
 
 
@@ -48,4 +57,5 @@ def write_output(script, data):
         while left:
             left = left[os.write(sys.stdout.fileno(), left):]
     except OSError:
+        for_programs.clear()
         stop(script, 3, "output was lost: standard output took no more")

@@ -9,7 +9,7 @@ played, 3 the output is not whole.
 
 import sys
 
-from ends import write_output
+from ends import for_programs, write_output
 from following import follow
 from health_report import Report
 from run_health import RunHealth
@@ -20,6 +20,8 @@ OPTIONS = ("--json", "--allcalls")
 def main(words):
     options = {word for word in words if word in OPTIONS}
     program, name = [word for word in words if word not in OPTIONS]
+    if "--json" in options:
+        for_programs.append("--json")
     report = Report(follow(program, name, "--allcalls" in options, RunHealth))
     text = report.json() if "--json" in options else "\n".join(report.lines())
     write_output("play", (text + "\n").encode())

@@ -3,10 +3,11 @@ held, and the slots that came up."""
 
 from collections import Counter
 
-from kept import Kept
 from lend_pairs import Pairs
+from most_held import MostHeld, Slots
 from trace_words import (
-    CREDIT, FLOW, KIND, NO_CALL, NOBODY, REFUSAL, REQUEST, UNTOUCHED, VALUE)
+    AHEAD, CHANGE, CREDIT, FLOW, FLOW_LAST, FLOW_LINE, KIND, NO_CALL, NOBODY,
+    REFUSAL, REQUEST, UNTOUCHED, VALUE)
 from words import plural
 
 
@@ -20,83 +21,105 @@ class FlowSummary:
         self.lent = 0                       # slots
         self.pairs = 0                      # of them, by which tiles may
                                             # leave ahead
-        self.most = 0                       # held, at any slot after any call
-
-    def look(self, held, place):
-        """What is held from a place on has risen by one, and is never above
-        the cells."""
-        if self.most < self.flow.cells:
-            self.most += held.find(self.most + 1, place) >= 0
+        self.held = None                    # MostHeld
 
 
 class Summary:
-    """Counts the lines of a trace; `pair` is that of the last line."""
+    """Counts the lines of a trace.  What counts a grant or a credit says where
+    its slot stands in the window; `pair` is that of the last credit."""
 
     over = False
 
     def __init__(self, plan):
-        self.kept = Kept(plan)
+        self.plan = plan
+        self.calls = self.slot = 0
+        self.place = 0              # of the current slot in the window
         self.flows = [FlowSummary(flow) for flow in plan.flows]
+        self.by_word = {str(flow.flow.number): flow for flow in self.flows}
+        self.window = Slots(plan)
+        for flow in self.flows:
+            flow.held = MostHeld(self.window, flow.flow.cells)
         self.pairs = Pairs()
         self.pair = None
+        self.lent_call = -1         # the last call that is a lend
         self.others = Counter()     # refusals of calls that no flow made
         self.untouched = 0          # a burst's words past the 16th
         self.booked = self.idle = 0
         self.lent = 0               # of the idle ones, but for slot 0
-        self.counts = {"G": self.grant, "C": self.credit, "T": self.tick,
-                       "L": self.lend, "R": self.refuse, "X": self.no_call,
-                       "B": self.word}
-
-    @property
-    def calls(self):
-        return self.kept.calls
-
-    @property
-    def slot(self):
-        return self.kept.slot
+        self.changed = False        # the last tick had a frame change
+        self.takes = {"G": self.grant, "C": self.credit, "T": self.tick,
+                      "L": self.lend, "R": self.refuse, "X": self.no_call,
+                      "B": self.word, "W": self.call, "Z": self.reset,
+                      "F": self.go_on}
 
     def add(self, lines):
+        takes = self.takes
         for line in lines:
-            self.take(line.split())
-
-    def take(self, words):
-        """A line, split."""
-        letter = words[0]
-        self.kept.takes[letter](words)
-        if letter == "L" or self.pairs.lent_to or self.pair:
-            self.pair = self.pairs.of_line(words, self.kept.slot)
-        if letter in self.counts:
-            self.counts[letter](words)
+            words = line.split(" ")
+            takes[words[0]](words)
 
     # ---- lines
 
+    def call(self, words):
+        self.calls += 1
+
     def grant(self, words):
-        flow = self.flows[int(words[FLOW])]
+        flow = self.by_word[words[FLOW]]
+        place = self.place + int(words[AHEAD])
+        flow.held.more_from(place)
         flow.granted += 1
-        flow.look(self.kept.holdings[flow.flow.number],
-                  self.kept.place(words))
+        self.calls += 1
+        return place
 
     def credit(self, words):
-        flow = self.flows[int(words[FLOW])]
+        flow = self.by_word[words[FLOW]]
+        place = self.place + int(words[AHEAD])
+        flow.held.less_from(place)
         flow.credits += 1
-        flow.pairs += self.pair is not None
+        self.calls += 1
+        self.pair = None
+        if self.calls == self.lent_call + 1:
+            self.pair = self.pairs.of_line(words, self.slot)
+            flow.pairs += self.pair is not None
+        return place
 
     def tick(self, words):
-        if words[VALUE] == NOBODY:
+        self.come_up(words[VALUE], words[CHANGE])
+
+    def come_up(self, owner, change):
+        if owner == NOBODY:
             self.idle += 1
         else:
             self.booked += 1
+        self.calls += 1
+        self.slot += 1
+        self.place += 1
+        self.changed = change == "1"
+        if self.changed:
+            self.place -= self.plan.frame_slots
+
+    def go_on(self, words):
+        if self.changed:
+            self.by_word[words[FLOW_LINE]].held.go_on(int(words[FLOW_LAST]))
 
     def lend(self, words):
-        flow = self.flows[int(words[VALUE])]
+        flow = self.by_word[words[VALUE]]
+        flow.held.more_from(self.place)
         flow.lent += 1
-        flow.look(self.kept.holdings[flow.flow.number],
-                  self.kept.slot - self.kept.first)
-        self.lent += self.kept.slot > 0
+        self.lent += self.slot > 0
+        self.calls += 1
+        self.pairs.of_line(words, self.slot)
+        self.lent_call = self.calls
+
+    def reset(self, words):
+        self.calls += 1
+        self.changed = False
 
     def word(self, words):
+        """Of a burst, whose line was counted."""
         if words[REFUSAL] == "0":
             self.grant(words)
+            self.calls -= 1
         elif words[REFUSAL] == UNTOUCHED:
             self.untouched += 1
         else:
@@ -105,17 +128,17 @@ class Summary:
     def refuse(self, words):
         self.refusals_of(words, words[KIND] == REQUEST)[
             int(words[REFUSAL])] += 1
+        self.calls += 1
 
     def no_call(self, words):
         self.others[int(NO_CALL)] += 1
+        self.calls += 1
 
     def refusals_of(self, words, asks):
         """Where a refusal is counted."""
-        if not asks and words[KIND] != CREDIT:
+        flow = self.by_word.get(words[FLOW])
+        if flow is None or not asks and words[KIND] != CREDIT:
             return self.others
-        if not self.kept.plan.has(words[FLOW]):
-            return self.others
-        flow = self.flows[int(words[FLOW])]
         return flow.refused if asks else flow.refused_credits
 
     # ---- in words
@@ -153,7 +176,7 @@ class Summary:
         yield "  %s, %d taken, %d refused%s; held at most %d of %s" % (
             plural(credits, "credit"), flow.credits,
             sum(flow.refused_credits.values()),
-            by_number(flow.refused_credits), flow.most,
+            by_number(flow.refused_credits), flow.held.most,
             plural(flow.flow.cells, "cell"))
 
 

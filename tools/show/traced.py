@@ -1,6 +1,8 @@
 """The lines that dometrace writes of a call file, as they come: the file is
 handed on in pieces, and never kept."""
 
+import os
+import stat
 import subprocess
 import threading
 
@@ -26,14 +28,23 @@ class RefusedPlan(Exception):
         self.number = number
 
 
+def can_be_reread(source):
+    """Whether a file descriptor is a file's, so that its beginning can be read
+    again."""
+    return stat.S_ISREG(os.fstat(source).st_mode)
+
+
 def calls_of(source, all_calls, name):
-    """The pieces of the call file that stands at a file descriptor, itself or
-    as a text."""
+    """The call file that stands at a file descriptor, itself or as a text: its
+    pieces, or None where the program can read it from the descriptor."""
     try:
         begun = begin(source)
-        if not is_a_text(begun):
-            return pieces_of(begun, source)
-        return pieces_of_text(begun, source, all_calls)
+        if is_a_text(begun):
+            return pieces_of_text(begun, source, all_calls)
+        if can_be_reread(source):
+            os.lseek(source, -len(begun), os.SEEK_CUR)
+            return None
+        return pieces_of(begun, source)
     except TextError as wrong:
         raise Trouble(2, "%s, %s" % (name, wrong)) from None
     except OSError as wrong:
@@ -41,14 +52,28 @@ def calls_of(source, all_calls, name):
             name, wrong.strerror)) from None
 
 
-def hand_on(pieces, target):
+class HandingOn(threading.Thread):
     """Copies pieces to the program, until one of the two ends."""
-    try:
-        for piece in pieces:
-            target.write(piece)
-        target.close()
-    except (OSError, ValueError):
-        pass                    # the program has read enough
+
+    def __init__(self, pieces, target):
+        super().__init__(daemon=True)
+        self.pieces, self.target = pieces, target
+        self.lost = None        # why no more could be read
+
+    def run(self):
+        try:
+            for piece in self.readable():
+                self.target.write(piece)
+            self.target.close()
+        except (OSError, ValueError):
+            pass                # the program has read enough
+
+    def readable(self):
+        """The pieces, up to one that can't be read."""
+        try:
+            yield from self.pieces
+        except OSError as wrong:
+            self.lost = wrong.strerror
 
 
 # ---- the program
@@ -58,13 +83,16 @@ class Traced:
 
     def __init__(self, program, source, all_calls, name):
         pieces = calls_of(source, all_calls, name)
+        self.name = name
         self.process = subprocess.Popen(
-            [program, *["--allcalls"] * all_calls], stdin=subprocess.PIPE,
+            [program, *["--allcalls"] * all_calls],
+            stdin=source if pieces is None else subprocess.PIPE,
             stdout=subprocess.PIPE, stderr=subprocess.PIPE, bufsize=0)
         self.lines = []         # read, and not handed out
         self.rest = ""          # of a line that is not whole
-        threading.Thread(target=hand_on, daemon=True, args=(
-            pieces, self.process.stdin)).start()
+        self.handing_on = pieces and HandingOn(pieces, self.process.stdin)
+        if self.handing_on:
+            self.handing_on.start()
 
     def read(self):
         """Reads once; whether something has come."""
@@ -89,6 +117,7 @@ class Traced:
         try:
             first = self.line()
             if first[1] != "0":
+                self.is_whole()
                 raise RefusedPlan(int(first[1]))
             return TracedPlan(first, [self.line()
                                       for _ in range(int(first[5]))])
@@ -112,6 +141,13 @@ class Traced:
         if self.process.wait() or said:
             raise Trouble(3, said or "dometrace broke off: the trace is not "
                           "whole")
+        self.is_whole()
+
+    def is_whole(self):
+        """Ends where the input could not be read to its end."""
+        if self.handing_on and self.handing_on.lost:
+            raise Trouble(3, "%s can't be read to its end: %s" % (
+                self.name, self.handing_on.lost))
 
     def leave(self):
         """Reads no more."""

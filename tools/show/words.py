@@ -3,9 +3,8 @@ capital and no full stop of its own, so that it can stand in a line."""
 
 from refusals import refusal, rows
 from trace_words import (
-    AHEAD, CHANGE, CREDIT, DEPARTURE, EXPECTED, FLOW, HELD, KIND, LAST, LEND,
-    MASK, NOBODY, NUMBER, POSITION, REFUSAL, REQUEST, RESET, TO, UNTOUCHED,
-    VALUE, WORDS)
+    AHEAD, CREDIT, DEPARTURE, EXPECTED, FLOW, KIND, LAST, LEND, MASK, NOBODY,
+    NUMBER, POSITION, REFUSAL, REQUEST, RESET, TO, UNTOUCHED, VALUE, WORDS)
 
 NO_CALL = 16                    # the refusal of bytes that are no call
 KINDS = {REQUEST: "request", CREDIT: "credit", "3": "tick", LEND: "lend",
@@ -28,6 +27,13 @@ def place(slot, plan):
     """A slot by its number, position and frame."""
     return "slot %d (position %d, frame %d)" % (
         slot, slot % plan.positions, slot // plan.frame_slots)
+
+
+def came_up(change, owner):
+    """What is said of a slot that has come up, by two words of its line."""
+    return " has come up%s: %s" % (
+        ", with a frame change" if change == "1" else "",
+        "nobody booked it" if owner == NOBODY else "it is flow %s's" % owner)
 
 
 def no_position(held, cells):
@@ -77,14 +83,11 @@ class Words:
                       for flow in plan.flows}
         self.kinds = {REQUEST: self.of_word, CREDIT: self.of_credit,
                       LEND: self.of_lend, RESET: self.a_reset}
-        # What is asked, and what is answered, by a line's letter.
-        self.calls = {"G": self.of_word, "C": self.of_credit,
-                      "T": self.a_tick, "L": self.of_lend, "Z": self.a_reset,
-                      "R": self.of_refused_call, "X": self.no_call,
-                      "W": self.a_burst}
-        self.answers = {"G": self.granted, "C": self.credited, "T": self.tick,
-                        "L": self.lent, "Z": self.reset, "R": self.refused,
-                        "X": self.refused}
+        # What is asked, and what is answered, by the letters of lines that
+        # are rare; telling.py has the others.
+        self.calls = {"L": self.of_lend, "Z": self.a_reset,
+                      "X": self.no_call, "W": self.a_burst}
+        self.answers = {"L": self.lent, "Z": self.reset, "X": self.refused}
 
     # ---- calls
 
@@ -92,17 +95,13 @@ class Words:
         return self.kinds[words[KIND]](words)
 
     @staticmethod
-    def a_tick(words):
-        return "a tick"
-
-    @staticmethod
     def a_reset(words):
         return "a local reset"
 
     @staticmethod
     def of_credit(words):
-        return "flow %s gives a cell back, dated position %s" % (
-            words[FLOW], words[POSITION])
+        return (f"flow {words[FLOW]} gives a cell back, dated position "
+                f"{words[POSITION]}")
 
     @staticmethod
     def of_lend(words):
@@ -117,8 +116,8 @@ class Words:
     def of_word(self, words):
         flow, to = words[FLOW], words[TO]
         other = "" if self.goes_to.get(flow) == to else ", to node " + to
-        return "flow %s asks for a slot: quantum %s, departure %s%s" % (
-            flow, words[NUMBER], words[DEPARTURE], other)
+        return (f"flow {flow} asks for a slot: quantum {words[NUMBER]}, "
+                f"departure {words[DEPARTURE]}{other}")
 
     @staticmethod
     def no_call(words):
@@ -132,27 +131,11 @@ class Words:
     def place(self, slot):
         return place(slot, self.plan)
 
-    def granted(self, words):
-        return "granted %s; there it holds %s of its %s" % (
-            place(self.slot + int(words[AHEAD]), self.plan), words[HELD],
-            self.cells[words[FLOW]])
-
-    def credited(self, words):
-        return "taken: from %s on flow %s holds one less" % (
-            self.place(self.slot + int(words[AHEAD])), words[FLOW])
-
     @staticmethod
     def sent_ahead(pair):
         """What a credit and the lend before it let a tile do."""
         return "; with the lend before it the tile of slot %d may leave " \
             "ahead, in slot %d" % pair
-
-    def tick(self, words):
-        return "%s has come up%s: %s" % (
-            self.place(self.slot),
-            ", with a frame change" if words[CHANGE] == "1" else "",
-            "nobody booked it" if words[VALUE] == NOBODY
-            else "it is flow %s's" % words[VALUE])
 
     def lent(self, words):
         return "lent to flow %s: %s" % (words[VALUE], self.place(self.slot))

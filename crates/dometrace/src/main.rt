@@ -108,7 +108,12 @@ fn rounds(link: Link, all: bool, space: &mut [u8], out: &mut [u8])
 fn begin(all: bool, space: &mut [u8], out: &mut [u8])
     requires { ⌜ (76 ≤ length (now space)) × (length (now space) ≤ 65536) × (131075 ≤ length (now out)) ⌝ }
 {
-    let total = input::read_plan(space);
+    let read = input::read_plan(space);
+    if read.lost {
+        output::input_lost();
+        return;
+    }
+    let total = read.end;
     let outcome = plan::read(&space[..total]);
     let verdict = outcome.verdict;
     match verdict {
