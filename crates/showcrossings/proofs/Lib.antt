@@ -1,0 +1,10 @@
+-- What is proved of ways of crossings. Assumes nothing.
+pub mod Growing
+pub mod States
+pub mod Still
+pub mod InOrder
+pub mod Pairs
+pub mod Passed
+pub mod Slots
+pub mod TwoLinks
+pub mod Ways

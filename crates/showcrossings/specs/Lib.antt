@@ -1,0 +1,2 @@
+-- A stream's way of links with a crossing between each two, and the ways of a show.
+pub mod Ways

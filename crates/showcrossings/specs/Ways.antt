@@ -1,0 +1,69 @@
+-- A stream's way of links, with a crossing between each two, and what follows of it. RULES 27.11. By calls, answers and tiles that wait. Assumes
+-- nothing.
+use Prim.Native.Nat.{ℕ, _*_, _≤_}
+use mathlib.Core.Path.{_≡_}
+use mathlib.Core.List.{List, _∷_, []}
+use mathlib.Core.Option.{Option, some, none}
+use lib.ListN.{getD}
+use Rattle.model.specs.Tables.{tally}
+use Rattle.model.specs.Plan.{entry}
+use Rattle.model.specs.History.{lends, ofFlow}
+use Rattle.model.specs.Card.{paper}
+use Rattle.model.specs.TwoHops.{InStep}
+use Rattle.arrival.specs.SeveralLinks.{Board, planOn}
+use Rattle.arrival.specs.CreditedByNext.{Last, WayByCredits, ModestFirst}
+use Rattle.arrival.specs.AllArrive.{AllAskedAlong}
+use Rattle.crossings.specs.Crossing.{Crossing, waits}
+use Rattle.crossings.specs.Playing as playing
+use Rattle.crossings.specs.Playing.{Other, Slot, played}
+use Rattle.crossings.specs.Claim.{Onward}
+
+-- ---- a crossing between two links
+
+-- RULES 27.11: between a and b lies a crossing that `board` plays: a's events are those of its in-link, and b's those of its out-link. The stream of a goes on
+-- as that of b, and is lent no slot there. What others ask of the two links is open; that of the crossings before and after this one is among it.
+pub record Crossed (board : playing.Board) (a b : Board paper) : Type 0 where
+  pub onward : List (Option ℕ)
+  pub goes-on : Onward (planOn a) (planOn b) onward
+  pub stream-goes-on : getD onward (a .stream) none ≡ some (b .stream)
+  pub begin : List Other
+  pub slots : List Slot
+  pub arriving-is : played board (planOn a) (planOn b) onward begin slots .arriving .history ≡ a .events
+  pub leaving-is : played board (planOn a) (planOn b) onward begin slots .leaving .history ≡ b .events
+  pub not-lent : tally (ofFlow (b .stream)) (lends (b .events)) ≡ 0
+
+abbrev pub crossingOf : {board : playing.Board} {a b : Board paper} → Crossed board a b → Crossing
+crossingOf {board} {a} {b} x = played board (planOn a) (planOn b) (x .onward) (x .begin) (x .slots)
+
+-- ---- the way
+
+-- b is the next link after a, on which the stream has two shares of cells
+pub record JoinedByCrossing (board : playing.Board) (a b : Board paper) : Type 0 where
+  pub in-step : InStep (planOn a) (planOn b)
+  pub share-kept : entry (planOn a) (a .stream) .share ≤ entry (planOn b) (b .stream) .share
+  pub two-shares : 2 * entry (planOn a) (a .stream) .share ≤ entry (planOn a) (a .stream) .cells
+  pub crossed : Crossed board a b
+
+-- RULES 27.11: so from link to link, up to the last one, on which cells are given back `late` frames late
+abbrev pub WayOfCrossings : playing.Board → (late : ℕ) → Board paper → List (Board paper) → Type 0
+WayOfCrossings board late a [] = Last late a
+WayOfCrossings board late a (b ∷ rest) = JoinedByCrossing board a b × WayOfCrossings board late b rest
+
+-- ---- what follows
+
+-- RULES 27.12: no tile of the stream waits at any of the crossings
+abbrev pub NoneWaits : (board : playing.Board) (late : ℕ) (a : Board paper) (rest : List (Board paper)) → WayOfCrossings board late a rest → Type 0
+NoneWaits board late a [] way = Unit {0}
+NoneWaits board late a (b ∷ rest) way = (waits (crossingOf (way .0 .crossed)) (a .stream) ≡ 0) × NoneWaits board late b rest (way .1)
+
+-- RULES 27.12: where the source is modest, the stream's requests and credits on each link are those that the theorems on arrival ask for
+pub record PassedAlong (board : playing.Board) (late : ℕ) (a : Board paper) (rest : List (Board paper)) (way : WayOfCrossings board late a rest) : Type 0 where
+  pub none-waits : NoneWaits board late a rest way
+  pub by-credits : WayByCredits late a rest
+  pub all-asked : AllAskedAlong a rest
+
+-- That our board keeps it is `passes-along`, in proofs/Ways.antt.
+abbrev pub PassesAlong : playing.Board → Type 0
+PassesAlong board =
+    (late : ℕ) (a : Board paper) (rest : List (Board paper)) → (way : WayOfCrossings board late a rest) → ModestFirst (planOn a) (a .stream) (a .events)
+    → PassedAlong board late a rest way
