@@ -8,3 +8,4 @@ pub mod Passed
 pub mod Slots
 pub mod TwoLinks
 pub mod Ways
+pub mod Dome

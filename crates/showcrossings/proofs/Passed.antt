@@ -44,9 +44,12 @@ unfolding passes
 granted-now Q j t s w v a h is own now there =
     subst (λ a. grantedThen Q j t s (requested w a ∷ h) ≡ true) (sym is)
     (lt-ltb 0 (tally (λ g. eqb (g .flow) j && eqb (g .made) t && eqb (g .slot) s) (passes Q (requested w (accepted v) ∷ h)))
-    (omega (arith, tally-hit (λ g. eqb (g .flow) j && eqb (g .made) t && eqb (g .slot) s)
-    (record { flow = flowOf w; made = ticks h; slot = slotAfter Q (ticks h) (departureOf v) }) (passes Q h)
-    (rw (eq-eqb (flowOf w) j own, eq-eqb (ticks h) t now, eq-eqb (slotAfter Q (ticks h) (departureOf v)) s there)))))
+    (omega (
+      arith,
+      tally-hit (λ g. eqb (g .flow) j && eqb (g .made) t && eqb (g .slot) s)
+          (record { flow = flowOf w; made = ticks h; slot = slotAfter Q (ticks h) (departureOf v) }) (passes Q h)
+          (rw (eq-eqb (flowOf w) j own, eq-eqb (ticks h) t now, eq-eqb (slotAfter Q (ticks h) (departureOf v)) s there)),
+    )))
 
 returned-now : (P : Plan) (i p : ℕ) (r : Receipt) (h : History) (test : Return → Bool) → IsTaken r
     → test (record { flow = i; made = ticks h; dated = slotAfter P (ticks h) p }) ≡ true → 0 < tally test (returns P (credited i p r ∷ h))

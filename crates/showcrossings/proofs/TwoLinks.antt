@@ -35,7 +35,7 @@ use Rattle.arrival.proofs.CreditedByNext.{each-tile-at-each, credited-each-tile
 use Rattle.crossings.specs.Crossing.{Crossing, waits, served}
 use Rattle.crossings.specs.Playing.{others, begun}
 use Rattle.crossings.proofs.OneLink.{Reached}
-use Rattle.showcrossings.specs.Ways.{Crossed, crossingOf, JoinedByCrossing}
+use Rattle.showcrossings.specs.Ways.{Crossed, crossingOf, PlansJoin}
 use Rattle.showcrossings.proofs.Growing.{GoesOn, SinceTick, at-tick, after-tick, ticks-alone, each-before, no-reset-before, not-lent-before, cut, cut-before, cut-next}
 use Rattle.showcrossings.proofs.States.{others-arriving, others-leaving, arriving-since, leaving-since, stateAt, NextState, over, by-slot, next-state, last-state, state-is}
 use Rattle.showcrossings.proofs.InOrder.{upToSlot, Descends, sent-descends, tile-past}
@@ -116,7 +116,7 @@ module _ (P Q : Plan) (i j late : ℕ) where
 
 -- ---- two links, with a crossing between them
 
-module _ (a b : Board paper) (x : JoinedByCrossing served a b) (late : ℕ)
+module _ (a b : Board paper) (plans : PlansJoin a b) (x : Crossed served a b) (late : ℕ)
     (enough : (late + 2) * entry (planOn b) (b .stream) .share ≤ entry (planOn b) (b .stream) .cells) where
   abbrev P : Plan
   P = planOn a
@@ -131,32 +131,32 @@ module _ (a b : Board paper) (x : JoinedByCrossing served a b) (late : ℕ)
   j = b .stream
 
   abbrev pub first-state : Crossing
-  first-state = others (x .crossed .begin) (begun P Q (x .crossed .onward))
+  first-state = others (x .begin) (begun P Q (x .onward))
 
   abbrev pub state : ℕ → Crossing
-  state n = stateAt (x .crossed .slots) n first-state
+  state n = stateAt (x .slots) n first-state
 
   abbrev pub PassingIn : Crossing → Type 0
-  PassingIn = Passing a b (x .in-step) (x .share-kept) late enough (x .crossed .goes-on) (x .crossed .stream-goes-on)
+  PassingIn = Passing a b (plans .in-step) (plans .share-kept) late enough (x .goes-on) (x .stream-goes-on)
 
   abbrev pub AllowedIn : (h₁ h₂ : History) → Type 0
-  AllowedIn = Allowed a b (x .in-step) (x .share-kept) late enough
+  AllowedIn = Allowed a b (plans .in-step) (plans .share-kept) late enough
 
   starts₁ : ticks (first-state .arriving .history) ≡ 0
   unfolding ticks
-  starts₁ = others-arriving (λ h. ticks h ≡ 0) (λ e alone h z. ticks-alone e alone h ∙ z) (x .crossed .begin) (begun P Q (x .crossed .onward)) refl
+  starts₁ = others-arriving (λ h. ticks h ≡ 0) (λ e alone h z. ticks-alone e alone h ∙ z) (x .begin) (begun P Q (x .onward)) refl
 
   starts₂ : ticks (first-state .leaving .history) ≡ 0
   unfolding ticks
-  starts₂ = others-leaving (λ h. ticks h ≡ 0) (λ e alone h z. ticks-alone e alone h ∙ z) (x .crossed .begin) (begun P Q (x .crossed .onward)) refl
+  starts₂ = others-leaving (λ h. ticks h ≡ 0) (λ e alone h z. ticks-alone e alone h ∙ z) (x .begin) (begun P Q (x .onward)) refl
 
   pub arriving-at : (n : ℕ) → state n .arriving .history ≡ cut n (a .events)
   arriving-at n =
-      sym (state-is (λ y. y .arriving .history) arriving-since (x .crossed .slots) n first-state starts₁) ∙ ap (cut n) (x .crossed .arriving-is)
+      sym (state-is (λ y. y .arriving .history) arriving-since (x .slots) n first-state starts₁) ∙ ap (cut n) (x .arriving-is)
 
   pub leaving-at : (n : ℕ) → state n .leaving .history ≡ cut n (b .events)
   leaving-at n =
-      sym (state-is (λ y. y .leaving .history) leaving-since (x .crossed .slots) n first-state starts₂) ∙ ap (cut n) (x .crossed .leaving-is)
+      sym (state-is (λ y. y .leaving .history) leaving-since (x .slots) n first-state starts₂) ∙ ap (cut n) (x .leaving-is)
 
   -- what is asked of the events at the end of slot n, where cells of b were given back until then
   pub allowed-at : (n : ℕ) → Each (AsksAt (λ P i w h. GivenBack late P i h) Q j) (cut n (b .events))
@@ -165,7 +165,7 @@ module _ (a b : Board paper) (x : JoinedByCrossing served a b) (late : ℕ)
       subst (λ h. AllowedIn h (state n .leaving .history)) (sym (arriving-at n)) (subst (AllowedIn (cut n (a .events))) (sym (leaving-at n)) (record {
         none₁ = no-reset-before (cut-before n (a .events)) (a .no-reset);
         none₂ = no-reset-before (cut-before n (b .events)) (b .no-reset);
-        not-lent = not-lent-before j (cut-before n (b .events)) (x .crossed .not-lent);
+        not-lent = not-lent-before j (cut-before n (b .events)) (x .not-lent);
         back = back;
       }))
 
@@ -173,13 +173,13 @@ module _ (a b : Board paper) (x : JoinedByCrossing served a b) (late : ℕ)
       → AllowedIn (y' .arriving .history) (y' .leaving .history) → PassingIn y'
   next-passing over z down allowed = z
   next-passing {y} (by-slot s) z down allowed =
-      slot-passes a b (x .in-step) (x .share-kept) late enough (x .crossed .goes-on) (x .crossed .stream-goes-on) y z down s allowed
+      slot-passes a b (plans .in-step) (plans .share-kept) late enough (x .goes-on) (x .stream-goes-on) y z down s allowed
 
   -- a slot more
   pub passing-next : (n : ℕ) → PassingIn (state n) → Descends (sentSlots P (cut n (a .events)) i)
       → Each (AsksAt (λ P i w h. GivenBack late P i h) Q j) (cut (suc n) (b .events)) → PassingIn (state (suc n))
   passing-next n z down back =
-      next-passing (next-state (x .crossed .slots) n first-state) z (subst (λ h. Descends (sentSlots P h i)) (sym (arriving-at n)) down)
+      next-passing (next-state (x .slots) n first-state) z (subst (λ h. Descends (sentSlots P h i)) (sym (arriving-at n)) down)
       (allowed-at (suc n) back)
 
   -- the cells of a are given back, one slot longer
@@ -195,8 +195,8 @@ module _ (a b : Board paper) (x : JoinedByCrossing served a b) (late : ℕ)
 
     each-tile : (h : History) → ((t : ℕ) → t < ticks h → CreditedIn P Q i j t h h₂) → CreditsEachTile P i h
     each-tile h credits =
-        credited-each-tile-by (ok b) (x .in-step) i j h h₂
-        (soon-on-next _ _ (joined-at a b (x .in-step) (x .share-kept) late enough (z .still .reached₁) (z .still .reached₂) pair allowed)) credits
+        credited-each-tile-by (ok b) (plans .in-step) i j h h₂
+        (soon-on-next _ _ (joined-at a b (plans .in-step) (plans .share-kept) late enough (z .still .reached₁) (z .still .reached₂) pair allowed)) credits
 
     credits-next : {y : Crossing} → NextState (state n) y → CreditsEachTile P i (y .arriving .history)
     unfolding ticks
@@ -209,7 +209,7 @@ module _ (a b : Board paper) (x : JoinedByCrossing served a b) (late : ℕ)
     back-next =
         subst (Each (AsksAt (λ P i w h. GivenBack 0 P i h) P i)) (arriving-at (suc n))
         (each-map (λ e h. CreditsEachTile P i h) (AsksAt (λ P i w h. GivenBack 0 P i h) P i) one (state (suc n) .arriving .history)
-        (each-tile-at-each P i (state (suc n) .arriving .history) (credits-next (next-state (x .crossed .slots) n first-state))))
+        (each-tile-at-each P i (state (suc n) .arriving .history) (credits-next (next-state (x .slots) n first-state))))
       where
         one : (e : Event) (h : History) → CreditsEachTile P i h → AsksAt (λ P i w h. GivenBack 0 P i h) P i e h
         one (requested w r) h each = λ well own. given-back-by (ok a) i h (each-tile-by (ok a) i h each)
@@ -239,30 +239,30 @@ module _ (a b : Board paper) (x : JoinedByCrossing served a b) (late : ℕ)
 
   -- at the end
   abbrev pub done : ℕ
-  done = length (x .crossed .slots)
+  done = length (x .slots)
 
   pub whole₁ : state done .arriving .history ≡ a .events
-  whole₁ = ap (λ (y : Crossing). y .arriving .history) (last-state (x .crossed .slots) first-state) ∙ x .crossed .arriving-is
+  whole₁ = ap (λ (y : Crossing). y .arriving .history) (last-state (x .slots) first-state) ∙ x .arriving-is
 
   pub whole₂ : state done .leaving .history ≡ b .events
-  whole₂ = ap (λ (y : Crossing). y .leaving .history) (last-state (x .crossed .slots) first-state) ∙ x .crossed .leaving-is
+  whole₂ = ap (λ (y : Crossing). y .leaving .history) (last-state (x .slots) first-state) ∙ x .leaving-is
 
   module _ (z : PassingIn (state done)) where
-    pub waits-none : waits (crossingOf (x .crossed)) i ≡ 0
-    waits-none = ap (λ (y : Crossing). waits y i) (sym (last-state (x .crossed .slots) first-state)) ∙ z .still .none-waits
+    pub waits-none : waits (crossingOf x) i ≡ 0
+    waits-none = ap (λ (y : Crossing). waits y i) (sym (last-state (x .slots) first-state)) ∙ z .still .none-waits
 
     pair-whole : AllPassed P Q i j late (a .events) (b .events)
     pair-whole =
         subst (λ h. AllPassed P Q i j late h (b .events)) whole₁ (subst (AllPassed P Q i j late (state done .arriving .history)) whole₂ (z .still .holds))
 
-    pub joins : 2 * entry P i .share ≤ entry P i .cells → JoinedByCredits a b
-    joins cells = record {
-      in-step = x .in-step;
-      share-kept = x .share-kept;
+    pub joins : JoinedByCredits a b
+    joins = record {
+      in-step = plans .in-step;
+      share-kept = plans .share-kept;
       together = as-asked P Q i j late (pair-whole .together);
       credits = λ t lt. pair-whole .credited t (omega arith);
-      two-shares = cells;
-      not-lent = x .crossed .not-lent;
+      two-shares = plans .two-shares;
+      not-lent = x .not-lent;
     }
 
     pub asks-all : Descends (sentOn a) → AllAsked a b
@@ -272,7 +272,7 @@ module _ (a b : Board paper) (x : JoinedByCrossing served a b) (late : ℕ)
         as-many =
             subst (λ h. upToSlot (ticks h) (sentSlots P h i) ≡ grantedInAll Q (b .events) j) whole₁
             (subst (λ h. upToSlot (ticks (state done .arriving .history)) (sentSlots P (state done .arriving .history) i) ≡ grantedInAll Q h j) whole₂
-            (came a b (x .in-step) (x .share-kept) late enough (x .crossed .goes-on) (x .crossed .stream-goes-on) (state done) z))
+            (came a b (plans .in-step) (plans .share-kept) late enough (x .goes-on) (x .stream-goes-on) (state done) z))
 
         go : Dec (n < upToSlot (ticks (a .events)) (sentOn a)) → n < askedFor Q (b .events) j
         go (yes there) = omega (arith, there, as-many, granted-asked Q j (b .events) (words b))

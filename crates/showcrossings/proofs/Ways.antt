@@ -12,7 +12,7 @@ use Rattle.arrival.specs.SeveralLinks.{sentSlots, Board, planOn, sentOn}
 use Rattle.arrival.specs.SharesOfCells.{GivenBack}
 use Rattle.arrival.specs.CreditedByNext.{WayByCredits, ModestFirst}
 use Rattle.crossings.specs.Crossing.{served}
-use Rattle.showcrossings.specs.Ways.{WayOfCrossings, NoneWaits, PassedAlong, PassesAlong}
+use Rattle.showcrossings.specs.Ways.{CrossedAlong, PlansFit, PassedAlong, PassesAlong}
 use Rattle.showcrossings.proofs.Growing.{each-before, cut, cut-before, cut-next}
 use Rattle.showcrossings.proofs.InOrder.{Descends}
 use Rattle.showcrossings.proofs.Slots.{starts-passing}
@@ -26,19 +26,19 @@ abbrev lateOn : ℕ → List (Board paper) → ℕ
 lateOn late [] = late
 lateOn late (b ∷ rest) = 0
 
-cells-on : (late : ℕ) (a : Board paper) (rest : List (Board paper)) → WayOfCrossings served late a rest
+cells-on : (late : ℕ) (a : Board paper) (rest : List (Board paper)) → PlansFit late a rest
     → (lateOn late rest + 2) * entry (planOn a) (a .stream) .share ≤ entry (planOn a) (a .stream) .cells
-cells-on late a [] way = way .enough-cells
-cells-on late a (b ∷ rest) way = omega (arith, way .0 .two-shares)
+cells-on late a [] fits = fits
+cells-on late a (b ∷ rest) fits = omega (arith, fits .0 .two-shares)
 
 -- after slot n, at the first crossing, and at each
-abbrev PassingAt : (n late : ℕ) (a b : Board paper) (rest : List (Board paper)) → WayOfCrossings served late a (b ∷ rest) → Type 0
-PassingAt n late a b rest way =
-    PassingIn a b (way .0) (lateOn late rest) (cells-on late b rest (way .1)) (state a b (way .0) (lateOn late rest) (cells-on late b rest (way .1)) n)
+abbrev PassingAt : (n late : ℕ) (a b : Board paper) (rest : List (Board paper)) → PlansFit late a (b ∷ rest) → CrossedAlong served late a (b ∷ rest) → Type 0
+PassingAt n late a b rest fits way =
+    PassingIn a b (fits .0) (way .0) (lateOn late rest) (cells-on late b rest (fits .1)) (state a b (fits .0) (way .0) (lateOn late rest) (cells-on late b rest (fits .1)) n)
 
-abbrev PassedBy : (n late : ℕ) (a : Board paper) (rest : List (Board paper)) → WayOfCrossings served late a rest → Type 0
-PassedBy n late a [] way = Unit {0}
-PassedBy n late a (b ∷ rest) way = PassingAt n late a b rest way × PassedBy n late b rest (way .1)
+abbrev PassedBy : (n late : ℕ) (a : Board paper) (rest : List (Board paper)) → PlansFit late a rest → CrossedAlong served late a rest → Type 0
+PassedBy n late a [] fits way = Unit {0}
+PassedBy n late a (b ∷ rest) fits way = PassingAt n late a b rest fits way × PassedBy n late b rest (fits .1) (way .1)
 
 -- cells are given back up to slot n
 abbrev BackBy : (n late : ℕ) (a : Board paper) (rest : List (Board paper)) → Type 0
@@ -48,80 +48,80 @@ back-before : (n late : ℕ) (a : Board paper) (rest : List (Board paper)) → B
 back-before n late a rest = each-before (AsksAt (λ P i w h. GivenBack (lateOn late rest) P i h) (planOn a) (a .stream)) (cut-next n (a .events))
 
 -- on each link, one slot longer than tiles were passed on
-back-by : (n late : ℕ) (a : Board paper) (rest : List (Board paper)) → (way : WayOfCrossings served late a rest) → PassedBy n late a rest way
+back-by : (n late : ℕ) (a : Board paper) (rest : List (Board paper)) (fits : PlansFit late a rest) (way : CrossedAlong served late a rest) → PassedBy n late a rest fits way
     → BackBy (suc n) late a rest
-back-by n late a [] way passed =
-    each-before (AsksAt (λ P i w h. GivenBack late P i h) (planOn a) (a .stream)) (cut-before (suc n) (a .events)) (way .given-back)
-back-by n late a (b ∷ rest) way passed =
+back-by n late a [] fits way passed =
+    each-before (AsksAt (λ P i w h. GivenBack late P i h) (planOn a) (a .stream)) (cut-before (suc n) (a .events)) way
+back-by n late a (b ∷ rest) fits way passed =
     let L = lateOn late rest in
-    let enough = cells-on late b rest (way .1) in
-    back-next a b (way .0) L enough n (passed .0)
-    (allowed-at a b (way .0) L enough n (back-before n late b rest (back-by n late b rest (way .1) (passed .1))))
+    let enough = cells-on late b rest (fits .1) in
+    back-next a b (fits .0) (way .0) L enough n (passed .0)
+    (allowed-at a b (fits .0) (way .0) L enough n (back-before n late b rest (back-by n late b rest (fits .1) (way .1) (passed .1))))
 
 -- a slot more
-step-by : (n late : ℕ) (a : Board paper) (rest : List (Board paper)) → (way : WayOfCrossings served late a rest)
-    → Descends (sentSlots (planOn a) (cut n (a .events)) (a .stream)) → PassedBy n late a rest way → PassedBy (suc n) late a rest way
-step-by n late a [] way down passed = tt
-step-by n late a (b ∷ rest) way down passed =
+step-by : (n late : ℕ) (a : Board paper) (rest : List (Board paper)) (fits : PlansFit late a rest) (way : CrossedAlong served late a rest)
+    → Descends (sentSlots (planOn a) (cut n (a .events)) (a .stream)) → PassedBy n late a rest fits way → PassedBy (suc n) late a rest fits way
+step-by n late a [] fits way down passed = tt
+step-by n late a (b ∷ rest) fits way down passed =
     let L = lateOn late rest in
-    let enough = cells-on late b rest (way .1) in
-    let back = back-by n late b rest (way .1) (passed .1) in
-    let order = order-next a b (way .0) L enough n (passed .0) (allowed-at a b (way .0) L enough n (back-before n late b rest back)) in
-    (passing-next a b (way .0) L enough n (passed .0) down back, step-by n late b rest (way .1) order (passed .1))
+    let enough = cells-on late b rest (fits .1) in
+    let back = back-by n late b rest (fits .1) (way .1) (passed .1) in
+    let order = order-next a b (fits .0) (way .0) L enough n (passed .0) (allowed-at a b (fits .0) (way .0) L enough n (back-before n late b rest back)) in
+    (passing-next a b (fits .0) (way .0) L enough n (passed .0) down back, step-by n late b rest (fits .1) (way .1) order (passed .1))
 
-starts-by : (late : ℕ) (a : Board paper) (rest : List (Board paper)) → (way : WayOfCrossings served late a rest) → PassedBy 0 late a rest way
-starts-by late a [] way = tt
-starts-by late a (b ∷ rest) way = (
-  starts-passing a b (way .0 .in-step) (way .0 .share-kept) (lateOn late rest) (cells-on late b rest (way .1)) (way .0 .crossed .goes-on)
-      (way .0 .crossed .stream-goes-on) (way .0 .crossed .begin),
-  starts-by late b rest (way .1),
+starts-by : (late : ℕ) (a : Board paper) (rest : List (Board paper)) (fits : PlansFit late a rest) (way : CrossedAlong served late a rest) → PassedBy 0 late a rest fits way
+starts-by late a [] fits way = tt
+starts-by late a (b ∷ rest) fits way = (
+  starts-passing a b (fits .0 .in-step) (fits .0 .share-kept) (lateOn late rest) (cells-on late b rest (fits .1)) (way .0 .goes-on)
+      (way .0 .stream-goes-on) (way .0 .begin),
+  starts-by late b rest (fits .1) (way .1),
 )
 
-module _ (late : ℕ) (a b : Board paper) (rest : List (Board paper)) (way : WayOfCrossings served late a (b ∷ rest))
+module _ (late : ℕ) (a b : Board paper) (rest : List (Board paper)) (fits : PlansFit late a (b ∷ rest)) (way : CrossedAlong served late a (b ∷ rest))
     (modest : ModestFirst (planOn a) (a .stream) (a .events)) where
   -- on the first link
-  first-order : (n : ℕ) → PassedBy n late a (b ∷ rest) way → Descends (sentSlots (planOn a) (cut n (a .events)) (a .stream))
+  first-order : (n : ℕ) → PassedBy n late a (b ∷ rest) fits way → Descends (sentSlots (planOn a) (cut n (a .events)) (a .stream))
   first-order n passed =
       let L = lateOn late rest in
-      let enough = cells-on late b rest (way .1) in
-      let next = back-before n late b rest (back-by n late b rest (way .1) (passed .1)) in
-      order-first a b (way .0) L enough n (passed .0) (allowed-at a b (way .0) L enough n next) 0 (cells-on late a (b ∷ rest) way) modest
-      (back-before n late a (b ∷ rest) (back-by n late a (b ∷ rest) way passed))
+      let enough = cells-on late b rest (fits .1) in
+      let next = back-before n late b rest (back-by n late b rest (fits .1) (way .1) (passed .1)) in
+      order-first a b (fits .0) (way .0) L enough n (passed .0) (allowed-at a b (fits .0) (way .0) L enough n next) 0 (cells-on late a (b ∷ rest) fits) modest
+      (back-before n late a (b ∷ rest) (back-by n late a (b ∷ rest) fits way passed))
 
   -- slot after slot
-  all-by : (n : ℕ) → PassedBy n late a (b ∷ rest) way
-  all-by zero = starts-by late a (b ∷ rest) way
-  all-by (suc n) = let passed = all-by n in step-by n late a (b ∷ rest) way (first-order n passed) passed
+  all-by : (n : ℕ) → PassedBy n late a (b ∷ rest) fits way
+  all-by zero = starts-by late a (b ∷ rest) fits way
+  all-by (suc n) = let passed = all-by n in step-by n late a (b ∷ rest) fits way (first-order n passed) passed
 
   whole-order : Descends (sentOn a)
   whole-order =
       let L = lateOn late rest in
-      let enough = cells-on late b rest (way .1) in
-      let n = done a b (way .0) L enough in
-      subst (λ h. Descends (sentSlots (planOn a) h (a .stream))) (sym (arriving-at a b (way .0) L enough n) ∙ whole₁ a b (way .0) L enough)
+      let enough = cells-on late b rest (fits .1) in
+      let n = done a b (fits .0) (way .0) L enough in
+      subst (λ h. Descends (sentSlots (planOn a) h (a .stream))) (sym (arriving-at a b (fits .0) (way .0) L enough n) ∙ whole₁ a b (fits .0) (way .0) L enough)
       (first-order n (all-by n))
 
 -- so of the whole, from link to link
-along : (late : ℕ) (a : Board paper) (rest : List (Board paper)) → (way : WayOfCrossings served late a rest) → ((n : ℕ) → PassedBy n late a rest way)
+along : (late : ℕ) (a : Board paper) (rest : List (Board paper)) (fits : PlansFit late a rest) (way : CrossedAlong served late a rest) → ((n : ℕ) → PassedBy n late a rest fits way)
     → Descends (sentOn a) → PassedAlong served late a rest way
-along late a [] way all down = record { none-waits = tt; by-credits = way; all-asked = tt }
-along late a (b ∷ rest) way all down =
+along late a [] fits way all down = record { none-waits = tt; by-credits = record { given-back = way; enough-cells = fits }; all-asked = tt }
+along late a (b ∷ rest) fits way all down =
     let L = lateOn late rest in
-    let enough = cells-on late b rest (way .1) in
-    let n = done a b (way .0) L enough in
+    let enough = cells-on late b rest (fits .1) in
+    let n = done a b (fits .0) (way .0) L enough in
     let passed = all n in
-    let back = back-before n late b rest (back-by n late b rest (way .1) (passed .1)) in
-    let order = order-next a b (way .0) L enough n (passed .0) (allowed-at a b (way .0) L enough n back) in
-    let down-next = subst (λ h. Descends (sentSlots (planOn b) h (b .stream))) (sym (leaving-at a b (way .0) L enough n) ∙ whole₂ a b (way .0) L enough) order in
-    let next = along late b rest (way .1) (λ n. all n .1) down-next in
+    let back = back-before n late b rest (back-by n late b rest (fits .1) (way .1) (passed .1)) in
+    let order = order-next a b (fits .0) (way .0) L enough n (passed .0) (allowed-at a b (fits .0) (way .0) L enough n back) in
+    let down-next = subst (λ h. Descends (sentSlots (planOn b) h (b .stream))) (sym (leaving-at a b (fits .0) (way .0) L enough n) ∙ whole₂ a b (fits .0) (way .0) L enough) order in
+    let next = along late b rest (fits .1) (way .1) (λ n. all n .1) down-next in
     record {
-      none-waits = (waits-none a b (way .0) L enough (passed .0), next .none-waits);
-      by-credits = (joins a b (way .0) L enough (passed .0) (way .0 .two-shares), next .by-credits);
-      all-asked = (asks-all a b (way .0) L enough (passed .0) down, next .all-asked);
+      none-waits = (waits-none a b (fits .0) (way .0) L enough (passed .0), next .none-waits);
+      by-credits = (joins a b (fits .0) (way .0) L enough (passed .0), next .by-credits);
+      all-asked = (asks-all a b (fits .0) (way .0) L enough (passed .0) down, next .all-asked);
     }
 
 -- RULES 27.12: our board keeps it.
 pub passes-along : PassesAlong served
-passes-along late a [] way modest = record { none-waits = tt; by-credits = way; all-asked = tt }
-passes-along late a (b ∷ rest) way modest =
-    along late a (b ∷ rest) way (all-by late a b rest way modest) (whole-order late a b rest way modest)
+passes-along late a [] fits modest way = record { none-waits = tt; by-credits = record { given-back = way; enough-cells = fits }; all-asked = tt }
+passes-along late a (b ∷ rest) fits modest way =
+    along late a (b ∷ rest) fits way (all-by late a b rest fits way modest) (whole-order late a b rest fits way modest)

@@ -1,2 +1,3 @@
 -- A stream's way of links with a crossing between each two, and the ways of a show.
 pub mod Ways
+pub mod Dome

@@ -1,17 +1,21 @@
 -- A stream's way of links, with a crossing between each two, and what follows of it. RULES 27.11. By calls, answers and tiles that wait. Assumes
 -- nothing.
-use Prim.Native.Nat.{ℕ, _*_, _≤_}
+use Prim.Native.Nat.{ℕ, _+_, _*_, _≤_}
 use mathlib.Core.Path.{_≡_}
 use mathlib.Core.List.{List, _∷_, []}
 use mathlib.Core.Option.{Option, some, none}
+use mathlib.Core.Bool.{true}
 use lib.ListN.{getD}
 use Rattle.model.specs.Tables.{tally}
+use Rattle.model.specs.Word.{flowOf}
 use Rattle.model.specs.Plan.{entry}
-use Rattle.model.specs.History.{lends, ofFlow}
+use Rattle.model.specs.History.{wellFormed, lends, ofFlow}
+use Rattle.model.specs.Claim.{Each, AtRequest}
 use Rattle.model.specs.Card.{paper}
 use Rattle.model.specs.TwoHops.{InStep}
 use Rattle.arrival.specs.SeveralLinks.{Board, planOn}
-use Rattle.arrival.specs.CreditedByNext.{Last, WayByCredits, ModestFirst}
+use Rattle.arrival.specs.SharesOfCells.{GivenBack}
+use Rattle.arrival.specs.CreditedByNext.{WayByCredits, ModestFirst}
 use Rattle.arrival.specs.AllArrive.{AllAskedAlong}
 use Rattle.crossings.specs.Crossing.{Crossing, waits}
 use Rattle.crossings.specs.Playing as playing
@@ -35,35 +39,40 @@ pub record Crossed (board : playing.Board) (a b : Board paper) : Type 0 where
 abbrev pub crossingOf : {board : playing.Board} {a b : Board paper} → Crossed board a b → Crossing
 crossingOf {board} {a} {b} x = played board (planOn a) (planOn b) (x .onward) (x .begin) (x .slots)
 
--- ---- the way
+-- RULES 27.11: so from link to link, up to the last one, on which cells are given back `late` frames late
+abbrev pub CrossedAlong : playing.Board → (late : ℕ) → Board paper → List (Board paper) → Type 0
+CrossedAlong board late a [] =
+    Each (AtRequest (λ w h. wellFormed (planOn a) w ≡ true → flowOf w ≡ a .stream → GivenBack late (planOn a) (a .stream) h)) (a .events)
+CrossedAlong board late a (b ∷ rest) = Crossed board a b × CrossedAlong board late b rest
 
--- b is the next link after a, on which the stream has two shares of cells
-pub record JoinedByCrossing (board : playing.Board) (a b : Board paper) : Type 0 where
+-- ---- the plans
+
+-- b is the next link after a: F and W are equal, the stream's share is no smaller on b, and it has two shares of cells on a
+pub record PlansJoin (a b : Board paper) : Type 0 where
   pub in-step : InStep (planOn a) (planOn b)
   pub share-kept : entry (planOn a) (a .stream) .share ≤ entry (planOn b) (b .stream) .share
   pub two-shares : 2 * entry (planOn a) (a .stream) .share ≤ entry (planOn a) (a .stream) .cells
-  pub crossed : Crossed board a b
 
--- RULES 27.11: so from link to link, up to the last one, on which cells are given back `late` frames late
-abbrev pub WayOfCrossings : playing.Board → (late : ℕ) → Board paper → List (Board paper) → Type 0
-WayOfCrossings board late a [] = Last late a
-WayOfCrossings board late a (b ∷ rest) = JoinedByCrossing board a b × WayOfCrossings board late b rest
+-- so from link to link, with late + 2 shares of cells on the last. RULES 22.8.
+abbrev pub PlansFit : (late : ℕ) → Board paper → List (Board paper) → Type 0
+PlansFit late a [] = (late + 2) * entry (planOn a) (a .stream) .share ≤ entry (planOn a) (a .stream) .cells
+PlansFit late a (b ∷ rest) = PlansJoin a b × PlansFit late b rest
 
 -- ---- what follows
 
 -- RULES 27.12: no tile of the stream waits at any of the crossings
-abbrev pub NoneWaits : (board : playing.Board) (late : ℕ) (a : Board paper) (rest : List (Board paper)) → WayOfCrossings board late a rest → Type 0
-NoneWaits board late a [] way = Unit {0}
-NoneWaits board late a (b ∷ rest) way = (waits (crossingOf (way .0 .crossed)) (a .stream) ≡ 0) × NoneWaits board late b rest (way .1)
+abbrev pub NoneWaits : (board : playing.Board) (late : ℕ) (a : Board paper) (rest : List (Board paper)) → CrossedAlong board late a rest → Type 0
+NoneWaits board late a [] crossed = Unit {0}
+NoneWaits board late a (b ∷ rest) crossed = (waits (crossingOf (crossed .0)) (a .stream) ≡ 0) × NoneWaits board late b rest (crossed .1)
 
--- RULES 27.12: where the source is modest, the stream's requests and credits on each link are those that the theorems on arrival ask for
-pub record PassedAlong (board : playing.Board) (late : ℕ) (a : Board paper) (rest : List (Board paper)) (way : WayOfCrossings board late a rest) : Type 0 where
-  pub none-waits : NoneWaits board late a rest way
+-- RULES 27.12: and its requests and credits on each link are those that the theorems on arrival ask for
+pub record PassedAlong (board : playing.Board) (late : ℕ) (a : Board paper) (rest : List (Board paper)) (crossed : CrossedAlong board late a rest) : Type 0 where
+  pub none-waits : NoneWaits board late a rest crossed
   pub by-credits : WayByCredits late a rest
   pub all-asked : AllAskedAlong a rest
 
--- That our board keeps it is `passes-along`, in proofs/Ways.antt.
+-- So it is where the source is modest: `passes-along`, in proofs/Ways.antt, of our board.
 abbrev pub PassesAlong : playing.Board → Type 0
 PassesAlong board =
-    (late : ℕ) (a : Board paper) (rest : List (Board paper)) → (way : WayOfCrossings board late a rest) → ModestFirst (planOn a) (a .stream) (a .events)
-    → PassedAlong board late a rest way
+    (late : ℕ) (a : Board paper) (rest : List (Board paper)) → PlansFit late a rest → ModestFirst (planOn a) (a .stream) (a .events)
+    → (crossed : CrossedAlong board late a rest) → PassedAlong board late a rest crossed
