@@ -46,11 +46,11 @@ passed-on late a (b ∷ rest) way =
     (record { together = way .0 .together; credits = way .0 .credits; not-lent = way .0 .not-lent }, passed-on late b rest (way .1))
 
 pub dome-arrives : DomeArrives served
-dome-arrives show none i below late enough a rest on modest crossed =
+dome-arrives show none i below late enough a rest on modest ends crossed =
     let ls = way (showStream show i .stream) in
     let fits = plans-fit show i late enough 0 a rest (omega (arith, as-many show i ls (a ∷ rest) on))
     (each-fits show i 0 ls (a ∷ rest) (there-all show i none below) on) in
-    let x = passes-along late a rest fits modest crossed in
+    let x = passes-along late a rest fits modest ends crossed in
     let passed = passed-on late a rest (x .by-credits) in
     record {
       none-waits = x .none-waits;

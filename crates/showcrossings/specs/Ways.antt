@@ -17,6 +17,7 @@ use Rattle.arrival.specs.SeveralLinks.{Board, planOn}
 use Rattle.arrival.specs.SharesOfCells.{GivenBack}
 use Rattle.arrival.specs.CreditedByNext.{WayByCredits, ModestFirst}
 use Rattle.arrival.specs.AllArrive.{AllAskedAlong}
+use Rattle.delay.specs.Promised.{lastBoard}
 use Rattle.crossings.specs.Crossing.{Crossing, waits}
 use Rattle.crossings.specs.Playing as playing
 use Rattle.crossings.specs.Playing.{Other, Slot, played}
@@ -39,11 +40,15 @@ pub record Crossed (board : playing.Board) (a b : Board paper) : Type 0 where
 abbrev pub crossingOf : {board : playing.Board} {a b : Board paper} → Crossed board a b → Crossing
 crossingOf {board} {a} {b} x = played board (planOn a) (planOn b) (x .onward) (x .begin) (x .slots)
 
--- RULES 27.11: so from link to link, up to the last one, on which cells are given back `late` frames late
-abbrev pub CrossedAlong : playing.Board → (late : ℕ) → Board paper → List (Board paper) → Type 0
-CrossedAlong board late a [] =
-    Each (AtRequest (λ w h. wellFormed (planOn a) w ≡ true → flowOf w ≡ a .stream → GivenBack late (planOn a) (a .stream) h)) (a .events)
-CrossedAlong board late a (b ∷ rest) = Crossed board a b × CrossedAlong board late b rest
+-- RULES 27.11: so from link to link
+abbrev pub CrossedAlong : playing.Board → Board paper → List (Board paper) → Type 0
+CrossedAlong board a [] = Unit {0}
+CrossedAlong board a (b ∷ rest) = Crossed board a b × CrossedAlong board b rest
+
+-- RULES 27.11: where the stream ends, its cells are given back `late` frames late
+abbrev pub GivesBack : (late : ℕ) → Board paper → Type 0
+GivesBack late b =
+    Each (AtRequest (λ w h. wellFormed (planOn b) w ≡ true → flowOf w ≡ b .stream → GivenBack late (planOn b) (b .stream) h)) (b .events)
 
 -- ---- the plans
 
@@ -61,13 +66,13 @@ PlansFit late a (b ∷ rest) = PlansJoin a b × PlansFit late b rest
 -- ---- what follows
 
 -- RULES 27.12: no tile of the stream waits at any of the crossings
-abbrev pub NoneWaits : (board : playing.Board) (late : ℕ) (a : Board paper) (rest : List (Board paper)) → CrossedAlong board late a rest → Type 0
-NoneWaits board late a [] crossed = Unit {0}
-NoneWaits board late a (b ∷ rest) crossed = (waits (crossingOf (crossed .0)) (a .stream) ≡ 0) × NoneWaits board late b rest (crossed .1)
+abbrev pub NoneWaits : (board : playing.Board) (a : Board paper) (rest : List (Board paper)) → CrossedAlong board a rest → Type 0
+NoneWaits board a [] crossed = Unit {0}
+NoneWaits board a (b ∷ rest) crossed = (waits (crossingOf (crossed .0)) (a .stream) ≡ 0) × NoneWaits board b rest (crossed .1)
 
 -- RULES 27.12: and its requests and credits on each link are those that the theorems on arrival ask for
-pub record PassedAlong (board : playing.Board) (late : ℕ) (a : Board paper) (rest : List (Board paper)) (crossed : CrossedAlong board late a rest) : Type 0 where
-  pub none-waits : NoneWaits board late a rest crossed
+pub record PassedAlong (board : playing.Board) (late : ℕ) (a : Board paper) (rest : List (Board paper)) (crossed : CrossedAlong board a rest) : Type 0 where
+  pub none-waits : NoneWaits board a rest crossed
   pub by-credits : WayByCredits late a rest
   pub all-asked : AllAskedAlong a rest
 
@@ -75,4 +80,4 @@ pub record PassedAlong (board : playing.Board) (late : ℕ) (a : Board paper) (r
 abbrev pub PassesAlong : playing.Board → Type 0
 PassesAlong board =
     (late : ℕ) (a : Board paper) (rest : List (Board paper)) → PlansFit late a rest → ModestFirst (planOn a) (a .stream) (a .events)
-    → (crossed : CrossedAlong board late a rest) → PassedAlong board late a rest crossed
+    → GivesBack late (lastBoard a rest) → (crossed : CrossedAlong board a rest) → PassedAlong board late a rest crossed
