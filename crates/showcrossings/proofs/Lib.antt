@@ -9,3 +9,5 @@ pub mod Slots
 pub mod TwoLinks
 pub mod Ways
 pub mod Dome
+-- a worked example
+pub mod Edges

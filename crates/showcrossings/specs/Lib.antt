@@ -1,3 +1,5 @@
 -- A stream's way of links with a crossing between each two, and the ways of a show.
 pub mod Ways
 pub mod Dome
+-- a worked example, and boards that are sent back
+pub mod Edges
