@@ -1,6 +1,6 @@
 -- The example of the longest way comes out as it stands there, all that `dome-arrives` asks holds of it, and its bound is attained. Assumes nothing.
 use Prim.Native.Nat.{ℕ, zero, suc, _+_, _-_, _*_, _<_}
-use mathlib.Core.Path.{_≡_, refl}
+use mathlib.Core.Path.{_≡_, refl, ap}
 use mathlib.Core.List.{List, _∷_, [], reverse, flatMap}
 use mathlib.Core.Option.{some, none}
 use mathlib.Core.Bool.{true}
@@ -13,9 +13,10 @@ use Rattle.model.specs.Refusals.{firstOf}
 use Rattle.model.specs.Word.{flowOf}
 use Rattle.model.specs.Plan.{planOf, entryFits, refusal}
 use Rattle.model.specs.WrittenPlan.{bytesOf}
+use Rattle.model.specs.Calls.{History}
 use Rattle.model.specs.History.{wellFormed, renews, lends, ofFlow}
 use Rattle.model.specs.Claim.{Each, AtRequest}
-use Rattle.model.specs.Card.{paper}
+use Rattle.model.specs.Card.{paper, run}
 use Rattle.model.proofs.Decidable.{implies, is-true, proved}
 use Rattle.model.proofs.ClaimDecided.{at-request, each}
 use Rattle.arrival.specs.SeveralLinks.{Ran, Board, sentOn, dueOn, tile}
@@ -62,6 +63,57 @@ pub record Comes (r : Run) : Type 0 where
   pub none₁ : tally renews (reverse (r .first)) ≡ 0
   pub none₂ : tally renews (reverse (r .last)) ≡ 0
   pub not-lent : tally (ofFlow 0) (lends (reverse (r .last))) ≡ 0
+
+-- all of it in one equation
+pub record Figures : Type 0 where
+  pub refusal₁ : ℕ
+  pub refusal₂ : ℕ
+  pub first : History
+  pub last : History
+  pub ran₁ : History
+  pub ran₂ : History
+  pub resets₁ : ℕ
+  pub resets₂ : ℕ
+  pub lent : ℕ
+
+abbrev pub figures : Run → Figures
+figures r = record {
+  refusal₁ = refusal (firstBytes (r .cells));
+  refusal₂ = refusal (lastBytes (r .lastCells));
+  first = crosses r .arriving .history;
+  last = crosses r .leaving .history;
+  ran₁ = run paper (planOf (firstBytes (r .cells))) (callsOf (reverse (r .first))) .history;
+  ran₂ = run paper (planOf (lastBytes (r .lastCells))) (callsOf (reverse (r .last))) .history;
+  resets₁ = tally renews (reverse (r .first));
+  resets₂ = tally renews (reverse (r .last));
+  lent = tally (ofFlow 0) (lends (reverse (r .last)));
+}
+
+abbrev pub expected : Run → Figures
+expected r = record {
+  refusal₁ = 0;
+  refusal₂ = 0;
+  first = reverse (r .first);
+  last = reverse (r .last);
+  ran₁ = reverse (r .first);
+  ran₂ = reverse (r .last);
+  resets₁ = 0;
+  resets₂ = 0;
+  lent = 0;
+}
+
+pub comes : (r : Run) → figures r ≡ expected r → Comes r
+comes r e = record {
+  passes₁ = ap (λ (f : Figures). f .refusal₁) e;
+  passes₂ = ap (λ (f : Figures). f .refusal₂) e;
+  first-is = ap (λ (f : Figures). f .first) e;
+  last-is = ap (λ (f : Figures). f .last) e;
+  ran₁ = record { calls = callsOf (reverse (r .first)); is = ap (λ (f : Figures). f .ran₁) e };
+  ran₂ = record { calls = callsOf (reverse (r .last)); is = ap (λ (f : Figures). f .ran₂) e };
+  none₁ = ap (λ (f : Figures). f .resets₁) e;
+  none₂ = ap (λ (f : Figures). f .resets₂) e;
+  not-lent = ap (λ (f : Figures). f .lent) e;
+}
 
 module _ {r : Run} (x : Comes r) where
   abbrev pub firstLink : Board paper
@@ -130,17 +182,7 @@ runs-compute = tt
 
 pub long-comes : Comes long
 unfolding runs-compute
-long-comes = record {
-  passes₁ = refl;
-  passes₂ = refl;
-  first-is = refl;
-  last-is = refl;
-  ran₁ = record { calls = callsOf (reverse (long .first)); is = refl };
-  ran₂ = record { calls = callsOf (reverse (long .last)); is = refl };
-  none₁ = refl;
-  none₂ = refl;
-  not-lent = refl;
-}
+long-comes = comes long refl
 
 pub no-refusal : shows.refusal (threeStreams 2 3) ≡ 0
 unfolding shows.refusal firstNumber used linkPlan admission.refusal admission.streamFits keep someOf links uses load any sum firstOf entryFits flatMap

@@ -9,5 +9,6 @@ pub mod Slots
 pub mod TwoLinks
 pub mod Ways
 pub mod Dome
--- a worked example
+-- a worked example, and boards that are sent back
 pub mod Edges
+pub mod BadBoards

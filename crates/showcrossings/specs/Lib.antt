@@ -3,3 +3,4 @@ pub mod Ways
 pub mod Dome
 -- a worked example, and boards that are sent back
 pub mod Edges
+pub mod BadBoards
