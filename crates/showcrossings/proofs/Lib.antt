@@ -9,6 +9,9 @@ pub mod Slots
 pub mod TwoLinks
 pub mod Ways
 pub mod Dome
+-- links in a row, played all together
+pub mod PlayedAs
+pub mod Rows
 -- a worked example, and boards that are sent back
 pub mod Edges
 pub mod BadBoards
