@@ -12,6 +12,8 @@ pub mod Dome
 -- links in a row, played all together
 pub mod PlayedAs
 pub mod Rows
+-- crossings that the code plays
+pub mod OfCode
 -- a worked example, and boards that are sent back
 pub mod Edges
 pub mod BadBoards
