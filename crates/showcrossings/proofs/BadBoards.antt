@@ -25,7 +25,8 @@ use Rattle.showcrossings.specs.Dome.{Arrives, DomeArrivesBy, DomeArrives
 use Rattle.showcrossings.specs.Edges.{threeStreams, firstBytes, Run}
 use Rattle.showcrossings.specs.BadBoards.{creditsNone, asksNone, numbersNone, slotLater, cellsFull, neverAsked, sameNumber, threeAtOnce, oneCellFirst}
 use Rattle.showcrossings.specs.BadBoards.{twoCellsLast, notGivenBack, ShortCells}
-use Rattle.showcrossings.proofs.Edges.{Comes, comes, firstLink, lastLink, crossed, showOf, on-links, source-of, EndsOf, ends-of, runs-compute, no-refusal}
+use Rattle.showcrossings.proofs.Edges.{Comes, comes, firstLink, lastLink, crossed, showOf, on-links, source-of, EndsOf, ends-of, runs-compute}
+use Rattle.showcrossings.proofs.Edges.{no-refusal}
 
 -- ---- what is claimed, of one run
 

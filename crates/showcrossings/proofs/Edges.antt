@@ -164,8 +164,9 @@ unfolding modest-first
 source-of r = modest-first (planOf (firstBytes (r .cells))) 0 (reverse (r .first))
 
 abbrev pub EndsOf : Run → Type 0
-EndsOf r = Each (AtRequest (λ w h. wellFormed (planOf (lastBytes (r .lastCells))) w ≡ true → flowOf w ≡ 0 → GivenBack 1 (planOf (lastBytes (r .lastCells))) 0 h))
-    (reverse (r .last))
+EndsOf r =
+    let Q = planOf (lastBytes (r .lastCells)) in
+    Each (AtRequest (λ w h. wellFormed Q w ≡ true → flowOf w ≡ 0 → GivenBack 1 Q 0 h)) (reverse (r .last))
 
 unfoldable pub ends-of : (r : Run) → Dec (EndsOf r)
 unfolding given-back

@@ -50,13 +50,15 @@ module _ {a b : Board paper} (x : CodeCrossed a b) where
 
   as-waiting : waits (crossingOf as-crossed) (a .stream) ≡ 0 → getD (x .waiting) (a .stream) 0 ≡ 0
   as-waiting none =
-      ap (λ ks. getD ks (a .stream) 0) (sym (in-hand-reads (x .in-hand) .waiting-is)) ∙ ap (λ (p : crossings.Crossing). waits p (a .stream)) (sym (as-played .is)) ∙ none
+      ap (λ ks. getD ks (a .stream) 0) (sym (in-hand-reads (x .in-hand) .waiting-is))
+      ∙ ap (λ (p : crossings.Crossing). waits p (a .stream)) (sym (as-played .is)) ∙ none
 
 abbrev crossed-along : (a : Board paper) (rest : List (Board paper)) → CodeCrossedAlong a rest → CrossedAlong served a rest
 crossed-along a [] x = tt
 crossed-along a (b ∷ rest) x = (as-crossed (x .0), crossed-along b rest (x .1))
 
-none-along : (a : Board paper) (rest : List (Board paper)) (x : CodeCrossedAlong a rest) → NoneWaits served a rest (crossed-along a rest x) → NoneWaiting a rest x
+none-along : (a : Board paper) (rest : List (Board paper)) (x : CodeCrossedAlong a rest) → NoneWaits served a rest (crossed-along a rest x)
+    → NoneWaiting a rest x
 none-along a [] x none = tt
 none-along a (b ∷ rest) x none = (as-waiting (x .0) (none .0), none-along b rest (x .1) (none .1))
 

@@ -17,7 +17,8 @@ use Rattle.crossings.specs.Crossing.{Crossing, crossingWith, served}
 use Rattle.crossings.specs.Playing.{Other, onArriving, onLeaving, theirsArriving, theirsLeaving, another, others, Slot, bothTick, turnOf, inSlot, inSlots}
 use Rattle.crossings.proofs.Neighbours.{served-keeps, CallsArriving, CallsLeaving, part-before, part-after}
 use Rattle.showcrossings.specs.Ways.{Crossed, CrossedAlong}
-use Rattle.showcrossings.specs.Rows.{Row, instead, Act, part, call, crossingAt, withPart, theirs, withCall, act, acts, allTick, rowSlot, rowSlots, rowPlayed}
+use Rattle.showcrossings.specs.Rows.{Row, instead, Act, part, call, crossingAt, withPart, theirs, withCall, act, acts, allTick, rowSlot, rowSlots}
+use Rattle.showcrossings.specs.Rows.{rowPlayed}
 use Rattle.showcrossings.specs.Rows.{NotPart, NoPart, OnePart, InEachSlot, OnRow, CrossedThere, AlongRow, RowsCross}
 use Rattle.showcrossings.proofs.PlayedAs.{others-then, PlayedAs, calls-more, slot-more}
 
@@ -136,7 +137,8 @@ module _ (onward : ℕ → List (Option ℕ)) where
       let first = instead (row .link) j (x .arriving) in
       as-same (same-crossing (onward k)
       (sym (instead-other first (suc j) (x .leaving) k (λ z. not-before (sym z)) ∙ instead-other (row .link) j (x .arriving) k (λ z. not-here (sym z))))
-      (sym (instead-other first (suc j) (x .leaving) (suc k) (λ z. not-here (omega (arith, z))) ∙ instead-other (row .link) j (x .arriving) (suc k) (λ z. not-after (sym z))))
+      (sym (instead-other first (suc j) (x .leaving) (suc k) (λ z. not-here (omega (arith, z)))
+      ∙ instead-other (row .link) j (x .arriving) (suc k) (λ z. not-after (sym z))))
       (sym (instead-other (row .waiting) j (x .waiting) k (λ z. not-here (sym z)))))
 
   part-as-others : (turns : ℕ → Turn) (k j : ℕ) (row : Row) → (j ≡ k → ⊥)
@@ -144,14 +146,16 @@ module _ (onward : ℕ → List (Option ℕ)) where
   part-as-others turns k j row other = go (ℕ-discrete (suc j) k) (ℕ-discrete j (suc k))
     where
       go : Dec (suc j ≡ k) → Dec (j ≡ suc k) → AsOthers (crossingAt onward k row) (crossingAt onward k (withPart onward (turns j) j row))
-      go (yes same) d = subst (λ k. AsOthers (crossingAt onward k row) (crossingAt onward k (withPart onward (turns j) j row))) same (before-part (turns j) j row)
+      go (yes same) d =
+          subst (λ k. AsOthers (crossingAt onward k row) (crossingAt onward k (withPart onward (turns j) j row))) same (before-part (turns j) j row)
       go (no d) (yes same) =
           subst (λ j. AsOthers (crossingAt onward k row) (crossingAt onward k (withPart onward (turns j) j row))) (sym same) (after-part (turns (suc k)) k row)
       go (no d) (no d') = far-part (turns j) k j row other d d'
 
   -- ---- several
 
-  act-as-others : (turns : ℕ → Turn) (k : ℕ) (a : Act) (row : Row) → NotPart k a → AsOthers (crossingAt onward k row) (crossingAt onward k (act onward turns a row))
+  act-as-others : (turns : ℕ → Turn) (k : ℕ) (a : Act) (row : Row) → NotPart k a
+      → AsOthers (crossingAt onward k row) (crossingAt onward k (act onward turns a row))
   act-as-others turns k (part j) row other = part-as-others turns k j row other
   act-as-others turns k (call j c) row other = call-as-others k j c row
 
@@ -188,7 +192,8 @@ module _ (onward : ℕ → List (Option ℕ)) where
       let row₁ = acts onward turns (one .before) (allTick onward row) in
       let row₂ = withPart onward (turns k) k row₁ in
       let late = acts-as-others turns k (one .after) row₂ (one .none-after) in
-      let split = ap (λ list. acts onward turns list (allTick onward row)) (one .is) ∙ acts-then turns (one .before) (part k ∷ one .after) (allTick onward row) in
+      let split = ap (λ list. acts onward turns list (allTick onward row)) (one .is)
+      ∙ acts-then turns (one .before) (part k ∷ one .after) (allTick onward row) in
       let served-there = ap (served (turns k)) (early .come-to) ∙ own-part (turns k) k row₁ in
       let is = ap (others (late .calls)) served-there ∙ late .come-to ∙ sym (ap (crossingAt onward k) split) in
       subst (PlayedAs P Q (onward k)) is (slot-more played (record { before = early .calls; after = late .calls }))
@@ -236,4 +241,5 @@ on-first k a (b ∷ rest) x = x .0
 pub rows-cross : RowsCross
 rows-cross onward plans begin slots k a [] x = tt
 rows-cross onward plans begin slots k a (b ∷ rest) x =
-    (two-crossed onward plans begin slots k a b (x .0) (on-first (suc k) b rest (x .1 .1)) (x .1 .0), rows-cross onward plans begin slots (suc k) b rest (x .1 .1))
+    let on-next = on-first (suc k) b rest (x .1 .1) in
+    (two-crossed onward plans begin slots k a b (x .0) on-next (x .1 .0), rows-cross onward plans begin slots (suc k) b rest (x .1 .1))

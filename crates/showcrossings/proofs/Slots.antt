@@ -33,7 +33,8 @@ use Rattle.showcrossings.proofs.Growing.{GoesOn, here, one-more, ticks-
 use Rattle.showcrossings.proofs.States.{others-arriving, others-leaving}
 use Rattle.showcrossings.proofs.Still.{NoAsk, Still, waiting-still, comes-still, others-still}
 use Rattle.showcrossings.proofs.InOrder.{upToSlot, Descends, up-to-length, tile-up-to, tile-past}
-use Rattle.showcrossings.proofs.Pairs.{given-alone, CreditedIn, credited-first, credited-second, Pair, pair-first, pair-second, Pending, pending-first, pending-second}
+use Rattle.showcrossings.proofs.Pairs.{given-alone, CreditedIn, credited-first, credited-second, Pair, pair-first, pair-second, Pending}
+use Rattle.showcrossings.proofs.Pairs.{pending-first, pending-second}
 use Rattle.showcrossings.proofs.Passed.{Allowed, allowed-before, is-granted, pair-more}
 
 -- ---- with its tile of this slot passed on, and with that one still to ask for
@@ -129,19 +130,32 @@ module _ (a b : Board paper) (in-step : InStep (planOn a) (planOn b)) (share-kep
   abbrev AllowedAt : Crossing → Type 0
   AllowedAt x = Allowed a b in-step share-kept late enough (x .arriving .history) (x .leaving .history)
 
+  -- ---- tiles that wait, and calls of others
+
+  all-waiting : (n : ℕ) (y : Crossing) → AllStill y → AllStill (passWaiting n y)
+  all-waiting = waiting-still (ok a) (ok b) in-step goes-on i j goes (AllPassed P Q i j late) (all-first P Q i j late) (all-second P Q i j late)
+
+  one-waiting : (n : ℕ) (y : Crossing) → OneStill y → OneStill (passWaiting n y)
+  one-waiting = waiting-still (ok a) (ok b) in-step goes-on i j goes (OneComes P Q i j late) (one-first P Q i j late) (one-second P Q i j late)
+
+  all-others : (calls : List Other) (y : Crossing) → AllStill y → AllStill (others calls y)
+  all-others = others-still (ok a) (ok b) in-step goes-on i j goes (AllPassed P Q i j late) (all-first P Q i j late) (all-second P Q i j late)
+
+  one-others : (calls : List Other) (y : Crossing) → OneStill y → OneStill (others calls y)
+  one-others = others-still (ok a) (ok b) in-step goes-on i j goes (OneComes P Q i j late) (one-first P Q i j late) (one-second P Q i j late)
+
   -- ---- the board's part
 
   -- another flow's tile comes, or none
   part-others : (turn : Turn) → isTurn turn i ≡ false → (y : Crossing) → AllStill y → AllStill (served turn y)
   unfolding served
   part-others none d y z =
-      waiting-still (ok a) (ok b) in-step goes-on i j goes (AllPassed P Q i j late) (all-first P Q i j late) (all-second P Q i j late)
-      (flowCount (y .arriving .state .plan)) y z
+      all-waiting (flowCount (y .arriving .state .plan)) y z
   part-others (some k) d y z =
       let n = flowCount (y .arriving .state .plan) in
-      comes-still (ok a) (ok b) in-step goes-on i j goes (AllPassed P Q i j late) (all-first P Q i j late) (all-second P Q i j late)
-      k (eqb-false k i d) (passWaiting n y)
-      (waiting-still (ok a) (ok b) in-step goes-on i j goes (AllPassed P Q i j late) (all-first P Q i j late) (all-second P Q i j late) n y z)
+      comes-still (ok a) (ok b) in-step goes-on i j goes (AllPassed P Q i j late) (all-first P Q i j late) (all-second P Q i j late) k
+      (eqb-false k i d) (passWaiting n y)
+      (all-waiting n y z)
 
   -- the stream's tile comes
   module _ (q : Crossing) (z : OneStill q) where
@@ -196,7 +210,7 @@ module _ (a b : Board paper) (in-step : InStep (planOn a) (planOn b)) (share-kep
   part-ours y z =
       let n = flowCount (y .arriving .state .plan) in
       it-comes (passWaiting n y)
-      (waiting-still (ok a) (ok b) in-step goes-on i j goes (OneComes P Q i j late) (one-first P Q i j late) (one-second P Q i j late) n y z)
+      (one-waiting n y z)
 
   -- ---- a slot
 
@@ -276,14 +290,13 @@ module _ (a b : Board paper) (in-step : InStep (planOn a) (planOn b)) (share-kep
             let same = eqb-true k i own in
             subst (λ k. FullHere (served (some k) (others before (bothTick x))) → AllowedAt (served (some k) (others before (bothTick x)))
             → AllStill (served (some k) (others before (bothTick x)))) (sym same)
-            (part-ours (others before (bothTick x)) (others-still (ok a) (ok b) in-step goes-on i j goes (OneComes P Q i j late) (one-first P Q i j late)
-            (one-second P Q i j late) before (bothTick x) (tick-ours (ap (λ o. isTurn o i) is ∙ own)))) full allowed
+            (part-ours (others before (bothTick x)) (one-others before (bothTick x) (tick-ours (ap (λ o. isTurn o i) is ∙ own)))) full allowed
 
         go : (c : Bool) → isTurn turn i ≡ c → AllStill (served turn (others before (bothTick x)))
         go true own = ours turn own is full allowed
         go false other =
             part-others turn other (others before (bothTick x))
-            (others-still (ok a) (ok b) in-step goes-on i j goes (AllPassed P Q i j late) (all-first P Q i j late) (all-second P Q i j late) before (bothTick x)
+            (all-others before (bothTick x)
             (tick-others (ap (λ o. isTurn o i) is ∙ other)))
 
     pub slot-passes : (s : Slot) → AllowedAt (inSlot served s x) → Passing (inSlot served s x)
@@ -295,7 +308,7 @@ module _ (a b : Board paper) (in-step : InStep (planOn a) (planOn b)) (share-kep
         let done = part (s .before) (turnOf x) refl full (allowed-before a b in-step share-kept late enough first second allowed) in
         record {
           full = others-full (ok a) (ok b) in-step goes-on (s .after) y full;
-          still = others-still (ok a) (ok b) in-step goes-on i j goes (AllPassed P Q i j late) (all-first P Q i j late) (all-second P Q i j late) (s .after) y done;
+          still = all-others (s .after) y done;
         }
 
   -- ---- the start
@@ -304,7 +317,7 @@ module _ (a b : Board paper) (in-step : InStep (planOn a) (planOn b)) (share-kep
   unfolding ticks grants slotsOf returns tally
   starts-passing begin = record {
     full = others-full (ok a) (ok b) in-step goes-on begin (begun P Q onward) (begun-full (ok a) (ok b) in-step goes-on);
-    still = others-still (ok a) (ok b) in-step goes-on i j goes (AllPassed P Q i j late) (all-first P Q i j late) (all-second P Q i j late) begin
+    still = all-others begin
         (begun P Q onward) (record {
           reached₁ = reached-start P;
           reached₂ = reached-start Q;

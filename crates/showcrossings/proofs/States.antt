@@ -12,13 +12,15 @@ use Rattle.arrival.specs.SeveralLinks.{Alone}
 use Rattle.crossings.specs.Crossing.{Crossing, crossingWith, served}
 use Rattle.crossings.specs.Playing.{Other, onArriving, onLeaving, theirsArriving, theirsLeaving, another, others, Slot, bothTick, turnOf, inSlot, inSlots}
 use Rattle.crossings.proofs.Neighbours.{served-keeps}
-use Rattle.showcrossings.proofs.Growing.{GoesOn, here, one-more, SinceTick, at-tick, after-tick, since-ticks, since-goes, goes-then, cut, cut-all, cut-slot}
+use Rattle.showcrossings.proofs.Growing.{GoesOn, here, one-more, SinceTick, at-tick, after-tick, since-ticks, since-goes, goes-then, cut, cut-all}
+use Rattle.showcrossings.proofs.Growing.{cut-slot}
 
 -- ---- calls of others
 
 module _ {Keeps : Crossing → Type 0}
     (first : (c : Call) (x : Crossing) → theirsArriving x c ≡ true → Keeps x → Keeps (crossingWith x (step paper (x .arriving) c) (x .leaving) (x .waiting)))
-    (second : (c : Call) (x : Crossing) → theirsLeaving x c ≡ true → Keeps x → Keeps (crossingWith x (x .arriving) (step paper (x .leaving) c) (x .waiting))) where
+    (second : (c : Call) (x : Crossing) → theirsLeaving x c ≡ true → Keeps x
+    → Keeps (crossingWith x (x .arriving) (step paper (x .leaving) c) (x .waiting))) where
   another-keeps : (o : Other) (x : Crossing) → Keeps x → Keeps (another o x)
   another-keeps (onArriving c) x z = go (theirsArriving x c) refl
     where

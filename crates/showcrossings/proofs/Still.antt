@@ -17,7 +17,8 @@ use Rattle.model.specs.Calls.{Call, Grant, Event, History, requested, credited,
 use Rattle.model.specs.Card.{Played, paper, step}
 use Rattle.model.specs.TwoHops.{InStep}
 use Rattle.model.proofs.Tests.{any-hit}
-use Rattle.crossings.specs.Crossing.{Crossing, crossingWith, goesOnAs, waits, withWaiting, asking, answerFor, askedFor, leaves, onGrant, passOn, passAs, passFlow}
+use Rattle.crossings.specs.Crossing.{Crossing, crossingWith, goesOnAs, waits, withWaiting, asking, answerFor, askedFor, leaves, onGrant, passOn, passAs}
+use Rattle.crossings.specs.Crossing.{passFlow}
 use Rattle.crossings.specs.Crossing.{passWaiting, queued, comes}
 use Rattle.crossings.specs.Playing.{Other, onArriving, onLeaving, isFlow, isNone, goesOnto, theirsArriving, theirsLeaving, another, others}
 use Rattle.crossings.specs.Claim.{Onward}
@@ -142,7 +143,8 @@ module _ {P Q : Plan} {onward : List (Option ℕ)} (ok-P : Accepted P) (ok-Q : A
       (rw (z .onward-is) (listed ok-P ok-Q in-step goes-on i j goes)) hit in
       true≢false (sym theirs ∙ ap not all)
 
-  arriving-still : (c : Call) (x : Crossing) → theirsArriving x c ≡ true → Still x → Still (crossingWith x (step paper (x .arriving) c) (x .leaving) (x .waiting))
+  arriving-still : (c : Call) (x : Crossing) → theirsArriving x c ≡ true → Still x
+      → Still (crossingWith x (step paper (x .arriving) c) (x .leaving) (x .waiting))
   arriving-still c x theirs z = record {
     reached₁ = reached-more c (z .reached₁);
     reached₂ = z .reached₂;
@@ -158,7 +160,8 @@ module _ {P Q : Plan} {onward : List (Option ℕ)} (ok-P : Accepted P) (ok-Q : A
       one (Call.lend m) e = first _ tt _ _ (z .holds)
       one Call.reset e = first _ tt _ _ (z .holds)
 
-  leaving-still : (c : Call) (x : Crossing) → theirsLeaving x c ≡ true → Still x → Still (crossingWith x (x .arriving) (step paper (x .leaving) c) (x .waiting))
+  leaving-still : (c : Call) (x : Crossing) → theirsLeaving x c ≡ true → Still x
+      → Still (crossingWith x (x .arriving) (step paper (x .leaving) c) (x .waiting))
   leaving-still c x theirs z = record {
     reached₁ = z .reached₁;
     reached₂ = reached-more c (z .reached₂);

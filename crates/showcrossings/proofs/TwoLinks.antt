@@ -36,8 +36,10 @@ use Rattle.crossings.specs.Crossing.{Crossing, waits, served}
 use Rattle.crossings.specs.Playing.{others, begun}
 use Rattle.crossings.proofs.OneLink.{Reached}
 use Rattle.showcrossings.specs.Ways.{Crossed, crossingOf, PlansJoin}
-use Rattle.showcrossings.proofs.Growing.{GoesOn, SinceTick, at-tick, after-tick, ticks-alone, each-before, no-reset-before, not-lent-before, cut, cut-before, cut-next}
-use Rattle.showcrossings.proofs.States.{others-arriving, others-leaving, arriving-since, leaving-since, stateAt, NextState, over, by-slot, next-state, last-state, state-is}
+use Rattle.showcrossings.proofs.Growing.{GoesOn, SinceTick, at-tick, after-tick, ticks-alone, each-before, no-reset-before, not-lent-before, cut}
+use Rattle.showcrossings.proofs.Growing.{cut-before, cut-next}
+use Rattle.showcrossings.proofs.States.{others-arriving, others-leaving, arriving-since, leaving-since, stateAt, NextState, over, by-slot}
+use Rattle.showcrossings.proofs.States.{next-state, last-state, state-is}
 use Rattle.showcrossings.proofs.InOrder.{upToSlot, Descends, sent-descends, tile-past}
 use Rattle.showcrossings.proofs.Pairs.{at-slot-stays, CreditedIn, credited-first, Pair}
 use Rattle.showcrossings.proofs.Passed.{Allowed, boardAt, joined-at, allowed-before}

@@ -17,7 +17,8 @@ use Rattle.showcrossings.specs.Ways.{CrossedAlong, GivesBack, PlansFit, 
 use Rattle.showcrossings.proofs.Growing.{each-before, cut, cut-before, cut-next}
 use Rattle.showcrossings.proofs.InOrder.{Descends}
 use Rattle.showcrossings.proofs.Slots.{starts-passing}
-use Rattle.showcrossings.proofs.TwoLinks.{PassingIn, state, done, arriving-at, leaving-at, allowed-at, passing-next, back-next, order-next, order-first, whole₁}
+use Rattle.showcrossings.proofs.TwoLinks.{PassingIn, state, done, arriving-at, leaving-at, allowed-at, passing-next, back-next, order-next}
+use Rattle.showcrossings.proofs.TwoLinks.{order-first, whole₁}
 use Rattle.showcrossings.proofs.TwoLinks.{whole₂, waits-none, joins, asks-all}
 
 -- ---- from link to link
@@ -35,7 +36,9 @@ cells-on late a (b ∷ rest) fits = omega (arith, fits .0 .two-shares)
 -- after slot n, at the first crossing, and at each
 abbrev PassingAt : (n late : ℕ) (a b : Board paper) (rest : List (Board paper)) → PlansFit late a (b ∷ rest) → CrossedAlong served a (b ∷ rest) → Type 0
 PassingAt n late a b rest fits way =
-    PassingIn a b (fits .0) (way .0) (lateOn late rest) (cells-on late b rest (fits .1)) (state a b (fits .0) (way .0) (lateOn late rest) (cells-on late b rest (fits .1)) n)
+    let L = lateOn late rest in
+    let enough = cells-on late b rest (fits .1) in
+    PassingIn a b (fits .0) (way .0) L enough (state a b (fits .0) (way .0) L enough n)
 
 abbrev PassedBy : (n late : ℕ) (a : Board paper) (rest : List (Board paper)) → PlansFit late a rest → CrossedAlong served a rest → Type 0
 PassedBy n late a [] fits way = Unit {0}
@@ -62,7 +65,8 @@ back-by n late a (b ∷ rest) fits way ends passed =
 
 -- a slot more
 step-by : (n late : ℕ) (a : Board paper) (rest : List (Board paper)) (fits : PlansFit late a rest) (way : CrossedAlong served a rest)
-    → GivesBack late (lastBoard a rest) → Descends (sentSlots (planOn a) (cut n (a .events)) (a .stream)) → PassedBy n late a rest fits way → PassedBy (suc n) late a rest fits way
+    → GivesBack late (lastBoard a rest) → Descends (sentSlots (planOn a) (cut n (a .events)) (a .stream)) → PassedBy n late a rest fits way
+    → PassedBy (suc n) late a rest fits way
 step-by n late a [] fits way ends down passed = tt
 step-by n late a (b ∷ rest) fits way ends down passed =
     let L = lateOn late rest in
@@ -71,7 +75,8 @@ step-by n late a (b ∷ rest) fits way ends down passed =
     let order = order-next a b (fits .0) (way .0) L enough n (passed .0) (allowed-at a b (fits .0) (way .0) L enough n (back-before n late b rest back)) in
     (passing-next a b (fits .0) (way .0) L enough n (passed .0) down back, step-by n late b rest (fits .1) (way .1) ends order (passed .1))
 
-starts-by : (late : ℕ) (a : Board paper) (rest : List (Board paper)) (fits : PlansFit late a rest) (way : CrossedAlong served a rest) → PassedBy 0 late a rest fits way
+starts-by : (late : ℕ) (a : Board paper) (rest : List (Board paper)) (fits : PlansFit late a rest) (way : CrossedAlong served a rest)
+    → PassedBy 0 late a rest fits way
 starts-by late a [] fits way = tt
 starts-by late a (b ∷ rest) fits way = (
   starts-passing a b (fits .0 .in-step) (fits .0 .share-kept) (lateOn late rest) (cells-on late b rest (fits .1)) (way .0 .goes-on)
@@ -104,8 +109,8 @@ module _ (late : ℕ) (a b : Board paper) (rest : List (Board paper)) (fits : Pl
       (first-order n (all-by n))
 
 -- so of the whole, from link to link
-along : (late : ℕ) (a : Board paper) (rest : List (Board paper)) (fits : PlansFit late a rest) (way : CrossedAlong served a rest) → GivesBack late (lastBoard a rest)
-    → ((n : ℕ) → PassedBy n late a rest fits way) → Descends (sentOn a) → PassedAlong served late a rest way
+along : (late : ℕ) (a : Board paper) (rest : List (Board paper)) (fits : PlansFit late a rest) (way : CrossedAlong served a rest)
+    → GivesBack late (lastBoard a rest) → ((n : ℕ) → PassedBy n late a rest fits way) → Descends (sentOn a) → PassedAlong served late a rest way
 along late a [] fits way ends all down = record { none-waits = tt; by-credits = record { given-back = ends; enough-cells = fits }; all-asked = tt }
 along late a (b ∷ rest) fits way ends all down =
     let L = lateOn late rest in
@@ -114,7 +119,8 @@ along late a (b ∷ rest) fits way ends all down =
     let passed = all n in
     let back = back-before n late b rest (back-by n late b rest (fits .1) (way .1) ends (passed .1)) in
     let order = order-next a b (fits .0) (way .0) L enough n (passed .0) (allowed-at a b (fits .0) (way .0) L enough n back) in
-    let down-next = subst (λ h. Descends (sentSlots (planOn b) h (b .stream))) (sym (leaving-at a b (fits .0) (way .0) L enough n) ∙ whole₂ a b (fits .0) (way .0) L enough) order in
+    let whole = sym (leaving-at a b (fits .0) (way .0) L enough n) ∙ whole₂ a b (fits .0) (way .0) L enough in
+    let down-next = subst (λ h. Descends (sentSlots (planOn b) h (b .stream))) whole order in
     let next = along late b rest (fits .1) (way .1) ends (λ n. all n .1) down-next in
     record {
       none-waits = (waits-none a b (fits .0) (way .0) L enough (passed .0), next .none-waits);

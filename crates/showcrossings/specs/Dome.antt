@@ -21,7 +21,8 @@ use Rattle.crossings.specs.Playing as playing
 use Rattle.showcrossings.specs.Ways.{CrossedAlong, GivesBack, NoneWaits}
 
 -- RULES 27.13: of one stream and its links
-pub record Arrives (board : playing.Board) (show : Show) (i : ℕ) (a : Board paper) (rest : List (Board paper)) (crossed : CrossedAlong board a rest) : Type 0 where
+pub record Arrives (board : playing.Board) (show : Show) (i : ℕ) (a : Board paper) (rest : List (Board paper)) (crossed : CrossedAlong board a rest)
+    : Type 0 where
   -- no tile waits at a crossing
   pub none-waits : NoneWaits board a rest crossed
   -- every request is granted, and a tile that comes up on the last link does so within its bound

@@ -58,8 +58,8 @@ asksLast w = onLeaving (Call.request w)
 
 -- ---- the longest way
 
--- In slot 0 the neighbour on the first link is granted slots 1 and 2, and the stream's tile, which has come, slot 3. In slot 3 the neighbour on the last link is
--- granted slot 4 before the crossing's part, so that the tile is granted slot 5: 3 × F - 1 slots after it was due.
+-- In slot 0 the neighbour on the first link is granted slots 1 and 2, and the stream's tile, which has come, slot 3. In slot 3 the neighbour on the
+-- last link is granted slot 4 before the crossing's part, so that the tile is granted slot 5: 3 × F - 1 slots after it was due.
 abbrev pub longBegin : List Other
 longBegin = asksFirst 0x04100000 ∷ asksFirst 0x04100400 ∷ asksFirst 0x24000000 ∷ []
 

@@ -21,8 +21,8 @@ use Rattle.crossing.specs.Reading.{onwardOf}
 use Rattle.crossing.specs.CodePlayed.{InHand}
 use Rattle.showcrossings.specs.Ways.{GivesBack}
 
--- Between a and b lies a crossing that the code plays, by `serve` or `cross`: its two states and the tiles that wait are in hand, as contracts say, and what was
--- asked of its links are the events of a and of b.
+-- Between a and b lies a crossing that the code plays, by `serve` or `cross`: its two states and the tiles that wait are in hand, as contracts say, and
+-- what was asked of its links are the events of a and of b.
 pub record CodeCrossed (a b : Board paper) : Type 0 where
   pub crossing : Crossing
   pub so-far : crossings.Crossing
@@ -58,4 +58,5 @@ abbrev pub CodeDomeArrives : Type 0
 CodeDomeArrives =
     (show : Show) → refusal show ≡ 0 → (i : ℕ) → i < length (show .streams) → (late : ℕ) → EnoughCells show late i
     → (a : Board paper) (rest : List (Board paper)) → OnLinks show i (way (showStream show i .stream)) (a ∷ rest)
-    → ModestFirst (planOn a) (a .stream) (a .events) → GivesBack late (lastBoard a rest) → (crossed : CodeCrossedAlong a rest) → CodeArrives show i a rest crossed
+    → ModestFirst (planOn a) (a .stream) (a .events) → GivesBack late (lastBoard a rest) → (crossed : CodeCrossedAlong a rest)
+    → CodeArrives show i a rest crossed
