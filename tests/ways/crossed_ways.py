@@ -91,7 +91,8 @@ class Way:
                 yield "the source is refused"
 
     def end(self, turn):
-        """A tile is shown `late` frames later at the latest (rule 27.11)."""
+        """A tile is shown `late` frames later at the latest, and its cell is
+        credited (rules 27.11 and 27.14)."""
         last = self.links[-1]
         if turn == 0:
             self.up.append(last.ticks)

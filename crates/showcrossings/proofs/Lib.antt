@@ -9,6 +9,8 @@ pub mod Slots
 pub mod TwoLinks
 pub mod Ways
 pub mod Dome
+-- where a stream ends
+pub mod Ends
 -- links in a row, played all together
 pub mod PlayedAs
 pub mod Rows
