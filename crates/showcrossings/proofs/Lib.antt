@@ -14,6 +14,8 @@ pub mod Ends
 -- links in a row, played all together
 pub mod PlayedAs
 pub mod Rows
+-- two crossings with one in-link
+pub mod Beside
 -- crossings that the code plays
 pub mod OfCode
 -- a worked example, and boards that are sent back

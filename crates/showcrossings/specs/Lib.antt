@@ -7,6 +7,8 @@ pub mod Ends
 pub mod OfCode
 -- links in a row, played all together
 pub mod Rows
+-- two crossings with one in-link
+pub mod Beside
 -- a worked example, and boards that are sent back
 pub mod Edges
 pub mod BadBoards
