@@ -14,7 +14,7 @@ pub mod Ends
 -- links in a row, played all together
 pub mod PlayedAs
 pub mod Rows
--- two crossings with one in-link
+-- two crossings with a link in common
 pub mod Beside
 -- crossings that the code plays
 pub mod OfCode

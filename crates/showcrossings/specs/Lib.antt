@@ -7,7 +7,7 @@ pub mod Ends
 pub mod OfCode
 -- links in a row, played all together
 pub mod Rows
--- two crossings with one in-link
+-- two crossings with a link in common
 pub mod Beside
 -- a worked example, and boards that are sent back
 pub mod Edges
