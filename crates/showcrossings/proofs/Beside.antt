@@ -84,7 +84,8 @@ unfolding others
 credit-more {y} {link} i p free z = record {
   calls = z .calls ++ (onArriving (Call.credit i p) ∷ []);
   come-to = others-then (z .calls) (onArriving (Call.credit i p) ∷ []) y ∙ ap (another (onArriving (Call.credit i p))) (z .come-to)
-      ∙ ap (λ o. cond (isNone o) (crossingWith y (step paper link (Call.credit i p)) (y .leaving) (y .waiting)) (crossingWith y link (y .leaving) (y .waiting))) free;
+      ∙ ap (λ o. cond (isNone o) (crossingWith y (step paper link (Call.credit i p)) (y .leaving) (y .waiting))
+      (crossingWith y link (y .leaving) (y .waiting))) free;
 }
 
 pub part-beside : BesideArriving
@@ -110,7 +111,8 @@ unfolding others
 request-more {y} {link} w free z = record {
   calls = z .calls ++ (onLeaving (Call.request w) ∷ []);
   come-to = others-then (z .calls) (onLeaving (Call.request w) ∷ []) y ∙ ap (another (onLeaving (Call.request w))) (z .come-to)
-      ∙ ap (λ b. cond (not b) (crossingWith y (y .arriving) (step paper link (Call.request w)) (y .waiting)) (crossingWith y (y .arriving) link (y .waiting))) free;
+      ∙ ap (λ b. cond (not b) (crossingWith y (y .arriving) (step paper link (Call.request w)) (y .waiting))
+      (crossingWith y (y .arriving) link (y .waiting))) free;
 }
 
 record Leaves (Q : Plan) (y z : Crossing) : Type 0 where
