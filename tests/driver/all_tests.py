@@ -28,7 +28,7 @@ from edges.all_edges import ALLCALLS_EDGES, EDGES
 from images import self_tests
 from mutants import all_mutants
 from pairs import wrong_pairs
-from ways import crossings, wrong_ways
+from ways import crossed_ways, crossings, wrong_ways
 
 
 def found(package):
@@ -72,8 +72,9 @@ def ways():
 
 def crossed():
     """Crossings on the second simulator, and boards that are not ours."""
-    for name, trouble in crossings.missed():
-        yield "crossing: " + name, trouble
+    for part in (crossings, crossed_ways):
+        for name, trouble in part.missed():
+            yield "crossing: " + name, trouble
 
 
 def sendings():

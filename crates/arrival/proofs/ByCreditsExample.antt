@@ -32,7 +32,7 @@ on-arrival P Q i j h₁ w h₂ =
     (λ x. (x .sent, (x .departs, (x .comes-now, x .number))))
     (Dec·and (decLt _ _) (Dec·and (ℕ-discrete _ _) (Dec·and (ℕ-discrete _ _) (ℕ-discrete _ _))))
 
-unfoldable modest-first : (P : Plan) (i : ℕ) (h : History) → Dec (ModestFirst P i h)
+unfoldable pub modest-first : (P : Plan) (i : ℕ) (h : History) → Dec (ModestFirst P i h)
 modest-first P i h =
     same (λ r. record { asks = r .0; not-lent = r .1 }) (λ x. (x .asks, x .not-lent))
     (Dec·and

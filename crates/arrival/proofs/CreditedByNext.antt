@@ -62,7 +62,7 @@ each-tile-before P i e h each t gone =
       none-made P i t e h gone,
     )
 
-each-tile-at-each : (P : Plan) (i : ℕ) (h : History) → CreditsEachTile P i h → Each (λ e h. CreditsEachTile P i h) h
+pub each-tile-at-each : (P : Plan) (i : ℕ) (h : History) → CreditsEachTile P i h → Each (λ e h. CreditsEachTile P i h) h
 each-tile-at-each P i [] each = tt
 each-tile-at-each P i (e ∷ h) each = let before = each-tile-before P i e h each in (before, each-tile-at-each P i h before)
 
@@ -105,7 +105,7 @@ module _ {Q : Plan} (ok₂ : Accepted Q) (j : ℕ) where
           omega (arith, dated (eqb-true (g .flow) j (first .0)), made-then, eqb-true (g .slot) s (all .1))
 
 module _ {P Q : Plan} (ok₂ : Accepted Q) (step : InStep P Q) (i j : ℕ) (h₁ h₂ : History) (soon : Each (GrantedSoonAt Q j) h₂) where
-  credited-each-tile-by : CreditedByNext P Q i j h₁ h₂ → CreditsEachTile P i h₁
+  pub credited-each-tile-by : CreditedByNext P Q i j h₁ h₂ → CreditsEachTile P i h₁
   credited-each-tile-by by t gone =
       omega (
         arith,

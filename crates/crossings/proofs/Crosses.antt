@@ -31,7 +31,7 @@ use Rattle.crossings.proofs.Board.{Full, served-full}
 
 -- ---- what others ask changes neither the tiles that wait nor the slot, and no refusal is taken back
 
-zeros : (n i : ℕ) → _≡_ {A = ℕ} (getD (replicate n 0) i 0) 0
+pub zeros : (n i : ℕ) → _≡_ {A = ℕ} (getD (replicate n 0) i 0) 0
 zeros zero i = refl
 zeros (suc n) zero = refl
 zeros (suc n) (suc i) = zeros n i
@@ -53,7 +53,7 @@ stays-then a b = record {
 
 module _ {P Q : Plan} {onward : List (Option ℕ)} (ok-P : Accepted P) (ok-Q : Accepted Q) (in-step : InStep P Q) (goes-on : Onward P Q onward) where
   -- a flow that goes on here is one of the list
-  listed : (i j : ℕ) → getD onward i none ≡ some j → i < length onward
+  pub listed : (i j : ℕ) → getD onward i none ≡ some j → i < length onward
   listed i j goes = go (decLt i (length onward))
     where
       go : Dec (i < length onward) → i < length onward

@@ -230,6 +230,7 @@ pub record AskedAs (Q : Plan) (j w : ℕ) (h : History) : Type 0 where
   pub flow : flowOf w ≡ j
   pub well : wellFormed Q w ≡ true
   pub now : AsksNow Q j w h
+  pub departs : departureOf w ≡ ticks h % positions Q
 
 well-formed : (Q : Plan) (w j : ℕ) → j < flowCount Q → flowOf w ≡ j → destinationOf w ≡ entry Q j .destination → departureOf w < positions Q
     → wellFormed Q w ≡ true
@@ -268,6 +269,7 @@ asks-here l h j g ok below =
             ∙ come-at (g .invariant .current) t (current-in-window ok t) ∙ le-leb t t (omega arith);
         number = ap (λ (f : Fields). f .quantum) parts ∙ number;
       };
+      departs = ap (λ (f : Fields). f .departure) parts ∙ current;
     }
 
 pub asks-so : {Q : Plan} {l : Link} {h : History} (j : ℕ) → After Q l h → Accepted Q → j < flowCount Q → AskedAs Q j (asking l j) h

@@ -51,7 +51,7 @@ module _ {Keeps : Crossing → Type 0} (asked : (j : ℕ) (x : Crossing) → Kee
       go true = pass-on-keeps 1 i j (queued i x) one-more
       go false = one-more
 
-  served-keeps : (turn : Turn) (x : Crossing) → Keeps x → Keeps (served turn x)
+  pub served-keeps : (turn : Turn) (x : Crossing) → Keeps x → Keeps (served turn x)
   unfolding served
   served-keeps none x z = pass-waiting-keeps (flowCount (x .arriving .state .plan)) x z
   served-keeps (some i) x z =

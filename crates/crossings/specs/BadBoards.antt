@@ -43,7 +43,7 @@ module _ (b : Habits) where
   passWaitingBy zero x = x
   passWaitingBy (suc i) x = let y = passWaitingBy i x in passFlowBy (goesOnAs y i) i y
 
-  abbrev comesBy : Option ℕ → (i : ℕ) → Crossing → Crossing
+  abbrev pub comesBy : Option ℕ → (i : ℕ) → Crossing → Crossing
   comesBy none i x = x
   comesBy (some j) i x = cond (eqb (waits x i) 0) (passBy 1 i j (queued i x)) (queued i x)
 

@@ -28,19 +28,19 @@ use Rattle.show.proofs.Claim.{all-the-way}
 -- ---- what a show says of a board on the way
 
 -- its frame, and the stream's share there
-record Fits (show : Show) (s : ShowStream) (b : Board paper) : Type 0 where
-  slots-are : planOn b .slots ≡ show .slots
-  frames-are : planOn b .frames ≡ show .frames
-  share-is : shareOn b ≡ s .stream .share
+pub record Fits (show : Show) (s : ShowStream) (b : Board paper) : Type 0 where
+  pub slots-are : planOn b .slots ≡ show .slots
+  pub frames-are : planOn b .frames ≡ show .frames
+  pub share-is : shareOn b ≡ s .stream .share
 
 -- and its cells, before the last link and on it
-record FitsAt (show : Show) (s : ShowStream) (p m : ℕ) (b : Board paper) : Type 0 where
-  fits-there : Fits show s b
-  before-last : suc p < m → plan.entry (planOn b) (b .stream) .cells ≡ s .cells
-  at-last : suc p ≡ m → plan.entry (planOn b) (b .stream) .cells ≡ s .lastCells
+pub record FitsAt (show : Show) (s : ShowStream) (p m : ℕ) (b : Board paper) : Type 0 where
+  pub fits-there : Fits show s b
+  pub before-last : suc p < m → plan.entry (planOn b) (b .stream) .cells ≡ s .cells
+  pub at-last : suc p ≡ m → plan.entry (planOn b) (b .stream) .cells ≡ s .lastCells
 
 -- so of boards one after the other, from link number p of m on
-abbrev EachFits : Show → ShowStream → (p m : ℕ) → List (Board paper) → Type 0
+abbrev pub EachFits : Show → ShowStream → (p m : ℕ) → List (Board paper) → Type 0
 EachFits show s p m [] = Unit {0}
 EachFits show s p m (b ∷ bs) = FitsAt show s p m b × EachFits show s (suc p) m bs
 
@@ -72,7 +72,7 @@ module _ (show : Show) (i : ℕ) where
   abbrev There : (p : ℕ) → List Link → Type 0
   There p ls = (l : Link) (on : In l ls) (b : Board paper) → OnLink show i l b → FitsAt show s (p + on .place) m b
 
-  there-all : refusal show ≡ 0 → i < length (show .streams) → There 0 (way (s .stream))
+  pub there-all : refusal show ≡ 0 → i < length (show .streams) → There 0 (way (s .stream))
   there-all none below l here b at =
       let same : here .place ≡ 0 + here .place = omega arith in
       subst (λ q. FitsAt show s q m b) same (fits-at (all-the-way show none .flows i below l here) at)
@@ -82,7 +82,7 @@ module _ (show : Show) (i : ℕ) where
       let same : p + suc (on .place) ≡ suc p + on .place = omega arith in
       subst (λ q. FitsAt show s q m b) same (each k (record { place = suc (on .place); within = omega (arith, on .within); there = on .there }) b at)
 
-  each-fits : (p : ℕ) (ls : List Link) (bs : List (Board paper)) → There p ls → OnLinks show i ls bs → EachFits show s p m bs
+  pub each-fits : (p : ℕ) (ls : List Link) (bs : List (Board paper)) → There p ls → OnLinks show i ls bs → EachFits show s p m bs
   each-fits p [] [] each on = tt
   each-fits p [] (b ∷ bs) each on = absurd on
   each-fits p (l ∷ ls) [] each on = absurd on
@@ -92,7 +92,7 @@ module _ (show : Show) (i : ℕ) where
         each-fits (suc p) ls bs (there-after p l ls each) (on .1),
       )
 
-  as-many : (ls : List Link) (bs : List (Board paper)) → OnLinks show i ls bs → length bs ≡ length ls
+  pub as-many : (ls : List Link) (bs : List (Board paper)) → OnLinks show i ls bs → length bs ≡ length ls
   as-many [] [] on = refl
   as-many [] (b ∷ bs) on = absurd on
   as-many (l ∷ ls) [] on = absurd on
