@@ -97,7 +97,11 @@ pub unsafe extern "C" fn nazgolv_credit(
     position: usize,
 ) -> u64 {
     // Safety: the caller's promise.
-    unsafe { called(image, length, |view| view.credit(flow, position).map(|()| 0)) }
+    unsafe {
+        called(image, length, |view| {
+            view.credit(flow, position).map(|()| 0)
+        })
+    }
 }
 
 /// # Safety
@@ -117,7 +121,11 @@ fn ticked(view: &mut View) -> u64 {
 #[no_mangle]
 pub unsafe extern "C" fn nazgolv_lend(image: *mut u8, length: usize, mask: u16) -> u64 {
     // Safety: the caller's promise.
-    unsafe { called(image, length, |view| view.lend(mask).map(|flow| flow as u64)) }
+    unsafe {
+        called(image, length, |view| {
+            view.lend(mask).map(|flow| flow as u64)
+        })
+    }
 }
 
 /// # Safety

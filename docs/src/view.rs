@@ -92,7 +92,14 @@ impl Places {
     /// The first six fields of the header.
     fn header(&self) -> [usize; 6] {
         let plan = self.plan.count;
-        [self.total(), HEADER, self.owners, self.size, self.flows, plan]
+        [
+            self.total(),
+            HEADER,
+            self.owners,
+            self.size,
+            self.flows,
+            plan,
+        ]
     }
 
     fn flow(&self, flow: usize) -> usize {
@@ -170,13 +177,13 @@ fn count(owners: &[u8], slots: usize) -> [[u8; OWNERS]; MOST_FRAMES] {
 /// By how much a run breaks the conditions on holdings, if it does: above the
 /// cells, or grown without a booking.
 fn excess(held: &[u8], before: &[u8], owners: &[u8], flow: u16, cells: u16) -> u16 {
-    fields(held)
-        .zip(fields(before))
-        .zip(fields(owners))
-        .fold(0, |found, ((held, before), owner)| {
+    fields(held).zip(fields(before)).zip(fields(owners)).fold(
+        0,
+        |found, ((held, before), owner)| {
             let booked = u16::from(owner == flow);
             found | held.saturating_sub(cells) | held.saturating_sub(before).saturating_sub(booked)
-        })
+        },
+    )
 }
 
 /// The same above the cells alone.
@@ -250,7 +257,8 @@ pub fn test(bytes: &[u8]) -> Result<Places, u8> {
     let unknown = |counts: &[u8; OWNERS]| {
         counts[OWNERS - 1] > 0 || counts[plan.count..MOST_FLOWS].iter().any(|&n| n > 0)
     };
-    if counts.iter().any(unknown) || !(0..plan.count).all(|flow| at.flow_good(bytes, &counts, flow)) {
+    if counts.iter().any(unknown) || !(0..plan.count).all(|flow| at.flow_good(bytes, &counts, flow))
+    {
         return Err(IMAGE);
     }
     Ok(at)
@@ -377,7 +385,11 @@ impl<'a> View<'a> {
         let start = clear.max(at.place(departure) + 1);
         let newest = at.plan.frames - 1;
         loop {
-            let found = if left > 0 { self.free_in(frame, start) } else { None };
+            let found = if left > 0 {
+                self.free_in(frame, start)
+            } else {
+                None
+            };
             if let Some(position) = found {
                 put(self.bytes, part, frame);
                 put(self.bytes, part + 2, left - 1);
@@ -398,7 +410,11 @@ impl<'a> View<'a> {
         if left == 0 {
             return Err(11);
         }
-        Err(if self.free_in(frame, clear).is_some() { 20 } else { 12 })
+        Err(if self.free_in(frame, clear).is_some() {
+            20
+        } else {
+            12
+        })
     }
 
     pub fn credit(&mut self, flow: usize, position: usize) -> Result<(), u8> {
@@ -425,7 +441,11 @@ impl<'a> View<'a> {
 
     pub fn tick(&mut self) -> Option<usize> {
         let at = self.at;
-        let next = if at.current + 1 < at.size { at.current + 1 } else { 0 };
+        let next = if at.current + 1 < at.size {
+            at.current + 1
+        } else {
+            0
+        };
         put(self.bytes, CURRENT, next);
         if self.bytes[MARK] != 0 {
             put(self.bytes, MARK, 0);
@@ -470,9 +490,8 @@ impl<'a> View<'a> {
         }
         let turn = field(self.bytes, TURN);
         let mut flows = (turn..at.plan.count).chain(0..turn);
-        let can_take = |&flow: &usize| {
-            mask >> flow & 1 == 1 && self.last_full(flow, at.current).is_none()
-        };
+        let can_take =
+            |&flow: &usize| mask >> flow & 1 == 1 && self.last_full(flow, at.current).is_none();
         let flow = flows.find(can_take).ok_or(18)?;
         self.change_from(flow, at.current, |held| held + 1);
         put(self.bytes, MARK, 1);
@@ -488,9 +507,9 @@ impl<'a> View<'a> {
         };
         let owners = &self.bytes[at.owners..at.flows];
         // The current position is the first of those from it on.
-        let later = fields(owners).enumerate().any(|(position, owner)| {
-            owner != NOBODY && at.place(position) > at.place(at.current)
-        });
+        let later = fields(owners)
+            .enumerate()
+            .any(|(position, owner)| owner != NOBODY && at.place(position) > at.place(at.current));
         if later || (0..at.plan.count).any(|flow| some(self.held(flow), at.current, 0)) {
             return Err(23);
         }
