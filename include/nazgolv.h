@@ -247,7 +247,9 @@ uint64_t nazgolv_fresh(const uint8_t *plan, size_t plan_length,
  *
  * Of the other refusals 11, 12 and 20 change the image: the flow's IF is then the
  * newest frame, and C what is left there. 8 to 10, 13 to 19, 23 and 24 leave it
- * as it was.
+ * as it was. A single call that is refused with one of these, or with 21 or 22,
+ * stores nothing, so that an image in memory that can't be written may be asked;
+ * there a call that isn't refused so, and any play, ends by a signal.
  */
 
 /*

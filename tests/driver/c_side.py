@@ -38,7 +38,7 @@ WATCHED_IMAGES = 100        # of them under a tool that watches
 WATCHED_FILES = 3           # edges of each sort, through the player
 WATCHED_TESTS = 2           # under each tool that watches
 PLUS = ("c++98", "c++17")   # standards of the header
-OWN_TESTS = 794             # besides files of calls, with 400 of each sort
+OWN_TESTS = 795             # besides files of calls, with 400 of each sort
 
 
 def found(*names):
@@ -95,12 +95,19 @@ def header_tests(builder):
             builder.alone, standard, sizes, "-x", "c++", "-std=" + standard,
             "-Wno-long-long", compiler=plus))
     yield "C: the stack of each call", partial(stack, builder)
+    yield "C: refused, and nothing stored", partial(read_only, builder)
 
 
 def stack(builder):
     """It is what docs/PROVED.md and the header have."""
     path, wrong = builder.program("stack", stack_use.SOURCE, "-pthread")
     return wrong or stack_use.wrong_figures(path)
+
+
+def read_only(builder):
+    """An image that can't be written is asked: rule 12.4."""
+    path, wrong = builder.program("read only", IMAGES / "read_only.c")
+    return wrong or trouble(path)
 
 
 # ---- under a tool that watches memory
