@@ -10,7 +10,7 @@ from typing import NamedTuple, Optional
 import counts
 import extras
 import files
-import images
+import hosted
 import meshes
 import programs
 import single
@@ -52,14 +52,14 @@ ROWS = (
         ratio=2.0),
     Row("mixed, nearly full", "word of a burst, mixed, nearly full",
         "{:.1f} ns", ratio=2.0),
-    Row("image, dense", "a call on an image, dense", "{:,.0f} ns",
-        ratio=images.MARK),
-    Row("image, ticks", "a call on an image, ticks", "{:,.0f} ns",
-        ratio=images.MARK),
-    Row("image, small", "a call on an image, small", "{:,.0f} ns",
-        ratio=images.MARK),
-    Row("image, play", "a record of a play of 256, dense", "{:.1f} ns",
-        ratio=images.MARK),
+    Row("image, dense", "image call, dense", "{:,.0f} ns",
+        ratio=hosted.MARK),
+    Row("image, ticks", "image call, ticks", "{:,.0f} ns",
+        ratio=hosted.MARK),
+    Row("image, small", "image call, small", "{:,.0f} ns",
+        ratio=hosted.MARK),
+    Row("image, play", "record of a play, dense", "{:.1f} ns",
+        ratio=hosted.MARK),
     Row("admitted", "64 streams over the mesh, admitted", "{:,.0f} ns",
         most=10_000),
     Row("refused", "64 streams over the mesh, refused", "{:,.0f} ns",
@@ -91,7 +91,7 @@ def bursts(folder, _, rounds):
 
 
 def host_images(folder, _, rounds):
-    for key, ours, theirs in images.measure(folder, rounds):
+    for key, ours, theirs in hosted.measure(folder, rounds):
         yield "image, " + key, Figure(ours, theirs)
 
 
