@@ -10,6 +10,7 @@ from typing import NamedTuple, Optional
 import counts
 import extras
 import files
+import hosted
 import meshes
 import programs
 import single
@@ -51,6 +52,14 @@ ROWS = (
         ratio=2.0),
     Row("mixed, nearly full", "word of a burst, mixed, nearly full",
         "{:.1f} ns", ratio=2.0),
+    Row("image, dense", "image call, dense", "{:,.0f} ns",
+        ratio=hosted.MARK),
+    Row("image, ticks", "image call, ticks", "{:,.0f} ns",
+        ratio=hosted.MARK),
+    Row("image, small", "image call, small", "{:,.0f} ns",
+        ratio=hosted.MARK),
+    Row("image, play", "record of a play, dense", "{:.1f} ns",
+        ratio=hosted.MARK),
     Row("admitted", "64 streams over the mesh, admitted", "{:,.0f} ns",
         most=10_000),
     Row("refused", "64 streams over the mesh, refused", "{:,.0f} ns",
@@ -81,6 +90,11 @@ def bursts(folder, _, rounds):
                Figure(ours["burst"], theirs["burst"], ours["floor"]))
 
 
+def host_images(folder, _, rounds):
+    for key, ours, theirs in hosted.measure(folder, rounds):
+        yield "image, " + key, Figure(ours, theirs)
+
+
 def mesh_checks(folder, _, rounds):
     for kind in meshes.SLOTS:
         yield kind, Figure(*meshes.measure(kind, folder, rounds))
@@ -91,7 +105,8 @@ def questions(_, __, rounds):
     yield "extras", Figure(extras.measure(rounds)[0])
 
 
-SUBJECTS = (whole_files, single_calls, bursts, mesh_checks, questions)
+SUBJECTS = (whole_files, single_calls, bursts, host_images, mesh_checks,
+            questions)
 
 
 def measure(folder, count, rounds):

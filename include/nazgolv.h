@@ -44,12 +44,12 @@
  *               Bytes below the caller, measured on flights/sparse:
  *
  *                   nazgolv_fresh     11,200
- *                   nazgolv_request    7,300
- *                   nazgolv_credit     7,300
- *                   nazgolv_tick       7,300
- *                   nazgolv_lend       7,300
- *                   nazgolv_reset      7,300
- *                   nazgolv_play       7,400
+ *                   nazgolv_request    6,900
+ *                   nazgolv_credit     6,900
+ *                   nazgolv_tick       6,900
+ *                   nazgolv_lend       6,900
+ *                   nazgolv_reset      6,900
+ *                   nazgolv_play       7,000
  *                   nazgolv_check      2,100
  *
  * Of the C library memcpy and memset are needed, and no other thing.
@@ -247,7 +247,9 @@ uint64_t nazgolv_fresh(const uint8_t *plan, size_t plan_length,
  *
  * Of the other refusals 11, 12 and 20 change the image: the flow's IF is then the
  * newest frame, and C what is left there. 8 to 10, 13 to 19, 23 and 24 leave it
- * as it was.
+ * as it was. A single call that is refused with one of these, or with 21 or 22,
+ * stores nothing, so that an image in memory that can't be written may be asked;
+ * there a call that isn't refused so, and any play, ends by a signal.
  */
 
 /*

@@ -10,10 +10,11 @@ from functools import partial
 from itertools import chain
 from pathlib import Path
 
+from driver import plain_images
 from driver.formats import ALLCALLS
 from driver.image_suite import ImageSuite
 from driver.left_out import leave_out
-from driver.plain_rust import trouble
+from driver.plain_rust import has_rustc, trouble
 from driver.suite import Suite, first_difference
 from edges import bursts, lends, numbers, resets, turns
 from edges.all_edges import EDGES
@@ -37,7 +38,7 @@ WATCHED_IMAGES = 100        # of them under a tool that watches
 WATCHED_FILES = 3           # edges of each sort, through the player
 WATCHED_TESTS = 2           # under each tool that watches
 PLUS = ("c++98", "c++17")   # standards of the header
-OWN_TESTS = 788             # besides files of calls, with 400 of each sort
+OWN_TESTS = 795             # besides files of calls, with 400 of each sort
 
 
 def found(*names):
@@ -50,6 +51,10 @@ class Builder:
         self.compiler = compiler
         self.library = str(library)
         self.folder = Path(folder)
+
+    def over(self, library):
+        """The same over another library."""
+        return Builder(self.compiler, library, self.folder)
 
     def alone(self, name, source, *options, compiler=None):
         """What is wrong with a source that is compiled alone, or None."""
@@ -90,12 +95,19 @@ def header_tests(builder):
             builder.alone, standard, sizes, "-x", "c++", "-std=" + standard,
             "-Wno-long-long", compiler=plus))
     yield "C: the stack of each call", partial(stack, builder)
+    yield "C: refused, and nothing stored", partial(read_only, builder)
 
 
 def stack(builder):
     """It is what docs/PROVED.md and the header have."""
     path, wrong = builder.program("stack", stack_use.SOURCE, "-pthread")
     return wrong or stack_use.wrong_figures(path)
+
+
+def read_only(builder):
+    """An image that can't be written is asked: rule 12.4."""
+    path, wrong = builder.program("read only", IMAGES / "read_only.c")
+    return wrong or trouble(path)
 
 
 # ---- under a tool that watches memory
@@ -195,6 +207,10 @@ class CSide:
             tests += [c_library.tests(installed),
                       c_install.tests(installed, self.builder.library),
                       c_bindings.tests(installed, self.builder.folder)]
+        if has_rustc():
+            tests.append(plain_images.tests(self.builder, HOST))
+        else:
+            leave_out("rustc", "images in plain Rust", plain_images.OWN_TESTS)
         if self.player.command:
             tests.append(c_player.tests(*self.player.command))
             tests.append(c_ahead.tests(*self.player.command))

@@ -1,5 +1,6 @@
 -- a buffer that is turned back, a call that is made, and records that are played
 pub mod TurnedBack
+pub mod Unmoved
 pub mod Stepping
 pub mod FreshImages
 pub mod PlayRecords

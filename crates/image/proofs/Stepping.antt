@@ -11,6 +11,7 @@ use lib.Dec.{eqb}
 use borrow.Author.Tests.{eqb-true}
 use Rattle.model.specs.Calls.{Call, Grant, Receipt, Turn, Loan, Renewal, accepted, refused}
 use Rattle.model.specs.Link as model
+use Rattle.model.specs.WrittenPlan.{AllBytes}
 use Rattle.model.specs.Request as request
 use Rattle.model.specs.Credit as credit
 use Rattle.model.specs.Tick as tick
@@ -33,10 +34,11 @@ use Rattle.images.specs.Exports.{Called, HandsBack, refusalNumber, grantNumber,
 use Rattle.images.proofs.Taken.{taken}
 use Rattle.images.proofs.ImageTaken.{read-kept}
 use Rattle.images.proofs.Closed.{KeptAfter}
-use Rattle.images.proofs.Exports.{done-kept}
+use Rattle.images.proofs.Exports.{done-kept, same-buffer}
 use Rattle.imagebytes.specs.Asked.{Writable}
-use Rattle.image.specs.Numbers.{numberFor}
+use Rattle.image.specs.Numbers.{numberFor, leavesAll}
 use Rattle.image.specs.Steps.{StepsTo}
+use Rattle.image.proofs.Unmoved.{unmoved}
 
 -- ---- the numbers of answers
 
@@ -121,6 +123,12 @@ module _ {b : List ℕ} (t : Taken b) (c : Call) {p : Plan} {w : Window} {s : Li
     keepable = kept .kept;
     there = omega (arith, ap imageLength (kept .same-plan), t .total-is, t .image-there);
   }
+
+  -- a refusal that leaves all as it was: the image is the next link's as it stands
+  pub stays : AllBytes b → leavesAll r ≡ true → b ≡ writtenTo b (readIn p s)
+  stays bytes h =
+      let same = unmoved (read-kept b t) c (ap leavesAll (sym (v .number-is)) ∙ h) in
+      sym (same-buffer t bytes) ∙ ap (writtenTo b) (sym (v .link-is ∙ same))
 
   called : calledOn b c ≡ record { buffer = writtenTo b (onLink (linkIn b) c .link); result = onLink (linkIn b) c .number }
   unfolding calledOn handedBack

@@ -2,6 +2,7 @@
 ghost use Rattle.images.specs.Exports.{HandsBack, calledOn};
 ghost use Rattle.image.specs.Calls.{callFor};
 use crate::Call;
+use crate::numbers::leaves_all;
 use crate::numbers::refused;
 use crate::steps::step;
 use imagebytes::read;
@@ -9,7 +10,8 @@ use imagebytes::write;
 use link::resume::empty;
 use taken::refusal;
 
-// Reads a taken image, makes the call on its link, and writes what that leaves.
+// Reads a taken image, makes the call on its link, and writes what that leaves. Where a refusal leaves all as it was nothing is stored, so that
+// the image may stand where nothing can be written.
 pub(crate) fn called(image: &mut [u8], call: Call) -> u64
     ensures { λ r. ⌜ HandsBack (calledOn (now (image .entry)) (callFor call)) r (now (image .exit)) ⌝ }
 {
@@ -21,6 +23,10 @@ pub(crate) fn called(image: &mut [u8], call: Call) -> u64
     let kept = read(&mut state, image);
     let plan = kept.plan;
     let moved = step(&mut state, plan, kept.window, call);
+    let result = moved.number;
+    if leaves_all(result) {
+        return result;
+    }
     write(plan, &state, image);
-    moved.number
+    result
 }

@@ -2,7 +2,7 @@
 ghost use mathlib.Core.Path.{_≡_};
 ghost use Rattle.link.specs.Steps.{requestAnswer};
 ghost use Rattle.images.specs.Exports.{refusalNumber};
-ghost use Rattle.image.specs.Numbers.{numberFor};
+ghost use Rattle.image.specs.Numbers.{numberFor, leavesAll};
 use calls::Answer;
 use link::request::Reply;
 
@@ -17,6 +17,23 @@ pub(crate) fn refused(number: u8) -> u64
     ensures { λ r. ⌜ r ≡ refusalNumber number ⌝ }
 {
     wide(number) * 4294967296
+}
+
+// Whether a number is that of a refusal that leaves the image as it was.
+pub(crate) fn leaves_all(number: u64) -> bool
+    ensures { λ r. ⌜ r ≡ leavesAll number ⌝ }
+{
+    let refusal = number / 4294967296;
+    if refusal == 0 {
+        return false;
+    }
+    if refusal == 11 {
+        return false;
+    }
+    if refusal == 12 {
+        return false;
+    }
+    refusal != 20
 }
 
 // The number of an answer.

@@ -30,6 +30,12 @@ module _ {b : List ℕ} {y : Layout} {p : Plan} (v : PlanOn b y p) where
   pub owners-there : y .positions + 2 * y .size ≤ length b
   owners-there = omega (arith, positions-at (v .laid), size-is (v .laid), v .there)
 
+  pub few-positions : y .size ≤ 256
+  few-positions = omega (arith, size-is (v .laid), v .valid .accepted .positions-most)
+
+  pub few-flows : y .count ≤ 16
+  few-flows = omega (arith, flows-are (v .laid), v .valid .accepted .flows-most)
+
   pub measures : (current : ℕ) → current < y .size → Measures (p .slots) (p .frames) current
   measures current h = let a = v .valid .accepted in record {
     some-slot = a .some-slot;

@@ -16,7 +16,7 @@ fn narrow(byte: u8) -> u16
 }
 
 // The field at a place.
-fn short(image: &[u8], at: usize) -> u16
+pub(crate) fn short(image: &[u8], at: usize) -> u16
     requires { ⌜ at + 1 < length (now image) ⌝ }
     ensures { λ r. ⌜ r ≡ field16 (now (image .entry)) at ⌝ }
 {
@@ -34,7 +34,7 @@ fn fits(a: u16, b: u16) -> u16
 }
 
 // 1 where two numbers are the same, else 0.
-fn same(a: u16, b: u16) -> u16
+pub(crate) fn same(a: u16, b: u16) -> u16
     ensures { λ r. ⌜ (r ≡ bit (eqb a b)) × (r ≤ 1) ⌝ }
 {
     if a == b {

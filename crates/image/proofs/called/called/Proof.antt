@@ -1,9 +1,10 @@
 -- `image::called::called` meets its contract. Assumes nothing.
 use borrow.Author.Needs.{needs}
+use mathlib.Core.Path.{sym, _∙_}
 use Rattle.images.specs.Taken.{Taken}
 use Rattle.image.specs.Calls.{callFor}
 use Rattle.image.proofs.TurnedBack.{turned, is-taken}
-use Rattle.image.proofs.Stepping.{on-read, writable, comes-to}
+use Rattle.image.proofs.Stepping.{on-read, writable, stays, comes-to}
 use Rattle.image.proofs.called.called.Statement.{statement}
 use Rattle.image.proofs.called.called.Tie as tie
 
@@ -43,20 +44,37 @@ read-requires c κs = let e = c .before .before in (taken-at (e .before), e .emp
 step-requires : tie.Need-step-requires
 step-requires c κs = c .before .before .read .ensures .1 .0
 
-write-requires : tie.Need-write-requires
-write-requires c κs =
-    let x = c .before .before in
-    let r = read-at x in
-    let call = callFor (entered (tested-at r .before) .args .call) in
-    writable (taken-at (tested-at r)) call (on-read (r .read .ensures .0) call (x .step .ensures))
+leaves-all-requires : tie.Need-leaves-all-requires
+leaves-all-requires c κs = search needs
 
 same-length-2 : tie.Need-same-length-2
 same-length-2 c = search needs
 
+-- a refusal that leaves all as it was: nothing is written
 returns-2 : tie.Need-returns-2
 returns-2 c =
+    let a = c .before in
+    let x = a .before in
+    let r = read-at x in
+    let t = taken-at (tested-at r) in
+    let call = callFor (entered (tested-at r .before) .args .call) in
+    let went = on-read (r .read .ensures .0) call (x .step .ensures) in
+    comes-to t call went (stays t call went (r .read .ensures .1 .1) (sym (a .leaves-all .ensures) ∙ c .if2 .taken))
+
+write-requires : tie.Need-write-requires
+write-requires c κs =
+    let x = c .before .before .before .before in
+    let r = read-at x in
+    let call = callFor (entered (tested-at r .before) .args .call) in
+    writable (taken-at (tested-at r)) call (on-read (r .read .ensures .0) call (x .step .ensures))
+
+same-length-3 : tie.Need-same-length-3
+same-length-3 c = search needs
+
+returns-3 : tie.Need-returns-3
+returns-3 c =
     let w = c .before .before in
-    let x = w .before .before .before in
+    let x = w .before .before .before .before .before in
     let r = read-at x in
     let call = callFor (entered (tested-at r .before) .args .call) in
     comes-to (taken-at (tested-at r)) call (on-read (r .read .ensures .0) call (x .step .ensures)) (w .write .ensures)
@@ -72,6 +90,9 @@ called-spec =
     empty-requires
     read-requires
     step-requires
-    write-requires
+    leaves-all-requires
     same-length-2
-    returns-2)
+    returns-2
+    write-requires
+    same-length-3
+    returns-3)

@@ -1,29 +1,39 @@
 -- `taken::bookings::bookings` meets its contract. Assumes nothing.
 use borrow.Author.Needs.{needs}
 use Prim.Native.Nat.{_+_, _-_, _*_}
+use mathlib.Core.Path.{sym, ap, _∙_}
 use native.Mathlib.Omega.{arith}
+use lib.Dec.{eqb}
+use Rattle.model.specs.Tables.{bit}
 use Rattle.taken.specs.Flows.{bookingAt}
+use Rattle.taken.proofs.Owners.{booked-in}
 use Rattle.taken.proofs.TestLoops.{Counting, counting-none, counting-more, counting-done}
 use Rattle.taken.proofs.bookings.bookings.Statement.{statement}
 use Rattle.taken.proofs.bookings.bookings.Tie as tie
 
 abbrev Inv-loop : tie.InvT-loop
-Inv-loop image at slots i n₀ x₀ n x = Counting (λ k. bookingAt image i (at + 2 * k)) slots x n
+Inv-loop image at slots i flow n₀ x₀ n x = Counting (λ k. bookingAt image i (at + 2 * k)) slots x n
 
 abbrev μ-loop : tie.MeasureT-loop
-μ-loop image at slots i n₀ x₀ n x = slots - x
+μ-loop image at slots i flow n₀ x₀ n x = slots - x
+
+cast-flow : tie.Need-cast-flow Inv-loop μ-loop
+cast-flow c = search needs
 
 loop-holds : tie.Need-loop-holds Inv-loop μ-loop
 loop-holds c = counting-none
 
-mul-booking : tie.Need-mul-booking Inv-loop μ-loop
-mul-booking c = search needs
+mul-short : tie.Need-mul-short Inv-loop μ-loop
+mul-short c = search needs
 
-add-booking : tie.Need-add-booking Inv-loop μ-loop
-add-booking c = search needs
+add-short : tie.Need-add-short Inv-loop μ-loop
+add-short c = search needs
 
-booking-requires : tie.Need-booking-requires Inv-loop μ-loop
-booking-requires c κs = search needs
+short-requires : tie.Need-short-requires Inv-loop μ-loop
+short-requires c κs = search needs
+
+same-requires : tie.Need-same-requires Inv-loop μ-loop
+same-requires c κs = search needs
 
 add-n : tie.Need-add-n Inv-loop μ-loop
 add-n c = search needs
@@ -35,7 +45,16 @@ loop-less : tie.Need-loop-less Inv-loop μ-loop
 loop-less c = search needs
 
 loop-again : tie.Need-loop-again Inv-loop μ-loop
-loop-again c = let l = c .before .before in counting-more (l .loop .inv) (c .before .loop-test .taken) (c .booking .ensures .0) (c .booking .ensures .1)
+loop-again c =
+    let s = c .before in
+    let t = s .before in
+    let e = t .before .before .before in
+    let i = e .args .i in
+    counting-more (t .before .loop .inv) (t .loop-test .taken)
+    (c .same .ensures .0 ∙ ap (λ v. bit (eqb v i)) (s .short .ensures) ∙ ap bit (sym (booked-in i _ (e .pre .2)))) (c .same .ensures .1)
+
+cast-result : tie.Need-cast-result Inv-loop μ-loop
+cast-result c = search needs
 
 returns : tie.Need-returns Inv-loop μ-loop
 returns c = counting-done (c .before .loop .inv) (omega arith)
@@ -46,12 +65,15 @@ bookings-spec =
     (tie.spec
     Inv-loop
     μ-loop
+    cast-flow
     loop-holds
-    mul-booking
-    add-booking
-    booking-requires
+    mul-short
+    add-short
+    short-requires
+    same-requires
     add-n
     add-x
     loop-less
     loop-again
+    cast-result
     returns)

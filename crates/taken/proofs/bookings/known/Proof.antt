@@ -1,40 +1,41 @@
--- `taken::bookings::known` meets its contract. Assumes nothing.
+-- `taken::bookings::known` meets its contract: it counts the owners that are. Assumes nothing.
 use borrow.Author.Needs.{needs}
 use Prim.Native.Nat.{_-_}
+use mathlib.Core.Path.{ap, _∙_}
 use native.Mathlib.Omega.{arith}
+use Rattle.model.specs.Tables.{bit}
 use Rattle.images.specs.Image.{fieldAt, ownerIn}
 use Rattle.images.specs.Consistent as images
-use Rattle.taken.proofs.TestLoops.{Passing, passing-none, passing-yes, passing-no, passing-all}
+use Rattle.taken.proofs.TestLoops.{Counting, counting-none, counting-more, counted-all}
 use Rattle.taken.proofs.bookings.known.Statement.{statement}
 use Rattle.taken.proofs.bookings.known.Tie as tie
 
 abbrev Inv-loop : tie.InvT-loop
-Inv-loop image at size count p₀ p = Passing (λ k. images.known count (ownerIn (fieldAt image at k))) size p
+Inv-loop image at size count flows n₀ p₀ n p = Counting (λ k. bit (images.known flows (ownerIn (fieldAt image at k)))) size p n
 
 abbrev μ-loop : tie.MeasureT-loop
-μ-loop image at size count p₀ p = size - p
+μ-loop image at size count flows n₀ p₀ n p = size - p
+
+cast-flows : tie.Need-cast-flows Inv-loop μ-loop
+cast-flows c = search needs
 
 loop-holds : tie.Need-loop-holds Inv-loop μ-loop
-loop-holds c = passing-none
+loop-holds c = counting-none
 
-mul-field : tie.Need-mul-field Inv-loop μ-loop
-mul-field c = search needs
+mul-short : tie.Need-mul-short Inv-loop μ-loop
+mul-short c = search needs
 
-add-field : tie.Need-add-field Inv-loop μ-loop
-add-field c = search needs
+add-short : tie.Need-add-short Inv-loop μ-loop
+add-short c = search needs
 
-field-requires : tie.Need-field-requires Inv-loop μ-loop
-field-requires c κs = search needs
+short-requires : tie.Need-short-requires Inv-loop μ-loop
+short-requires c κs = search needs
 
 is-known-requires : tie.Need-is-known-requires Inv-loop μ-loop
 is-known-requires c κs = search needs
 
-returns : tie.Need-returns Inv-loop μ-loop
-returns c =
-    let k = c .before in
-    let f = k .before in
-    let says = rw (f .field .ensures .0) at (k .is-known .ensures) in
-    passing-no (f .before .before .loop .inv) (f .before .loop-test .taken) says (c .if1 .taken)
+add-n : tie.Need-add-n Inv-loop μ-loop
+add-n c = search needs
 
 add-p : tie.Need-add-p Inv-loop μ-loop
 add-p c = search needs
@@ -44,13 +45,17 @@ loop-less c = search needs
 
 loop-again : tie.Need-loop-again Inv-loop μ-loop
 loop-again c =
-    let k = c .before in
-    let f = k .before in
-    let says = rw (f .field .ensures .0) at (k .is-known .ensures) in
-    passing-yes (f .before .before .loop .inv) (f .before .loop-test .taken) says (c .if1 .left)
+    let s = c .before in
+    let t = s .before in
+    let count = t .before .before .before .args .count in
+    counting-more (t .before .loop .inv) (t .loop-test .taken)
+    (c .is-known .ensures .0 ∙ ap (λ v. bit (images.known count (ownerIn v))) (s .short .ensures)) (c .is-known .ensures .1)
 
-returns-2 : tie.Need-returns-2 Inv-loop μ-loop
-returns-2 c = passing-all (c .before .loop .inv) (omega arith)
+cast-result : tie.Need-cast-result Inv-loop μ-loop
+cast-result c = search needs
+
+returns : tie.Need-returns Inv-loop μ-loop
+returns c = counted-all _ (c .before .loop .inv) (omega arith)
 
 pub known-spec : {M : Type 1} → statement M
 known-spec =
@@ -58,13 +63,15 @@ known-spec =
     (tie.spec
     Inv-loop
     μ-loop
+    cast-flows
     loop-holds
-    mul-field
-    add-field
-    field-requires
+    mul-short
+    add-short
+    short-requires
     is-known-requires
-    returns
+    add-n
     add-p
     loop-less
     loop-again
-    returns-2)
+    cast-result
+    returns)

@@ -39,7 +39,7 @@ add-bookings : tie.Need-add-bookings
 add-bookings c = omega (arith, inside c)
 
 bookings-requires : tie.Need-bookings-requires
-bookings-requires c κs = (omega (arith, inside c), entered c .pre .0 .flow)
+bookings-requires c κs = let v = entered c .pre .0 in (omega (arith, inside c), v .proper .measures .slots-most, v .flow)
 
 returns : tie.Need-returns
 returns c = rw (← c .before .bookings .ensures .0, lt-leb _ _ (c .if1 .taken))

@@ -48,7 +48,7 @@ add-bookings : tie.Need-add-bookings
 add-bookings c = omega (arith, inside c)
 
 bookings-requires : tie.Need-bookings-requires
-bookings-requires c κs = (omega (arith, inside c), entered (found-at (c .before)) .pre .0 .flow)
+bookings-requires c κs = let v = entered (found-at (c .before)) .pre .0 in (omega (arith, inside c), v .proper .measures .slots-most, v .flow)
 
 add-field : tie.Need-add-field
 add-field c = search needs

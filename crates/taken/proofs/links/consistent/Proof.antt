@@ -8,7 +8,7 @@ use Rattle.model.specs.Tables.{every}
 use Rattle.model.specs.Window.{Window}
 use Rattle.plan.specs.Reading.{planFor}
 use Rattle.taken.specs.Flows.{flowKept}
-use Rattle.taken.proofs.LinkFields.{owners-there, measures, parts-on, link-by-fields}
+use Rattle.taken.proofs.LinkFields.{owners-there, few-positions, few-flows, measures, parts-on, link-by-fields}
 use Rattle.taken.proofs.links.consistent.Statement.{statement}
 use Rattle.taken.proofs.links.consistent.Tie as tie
 
@@ -42,7 +42,9 @@ returns-2 c =
     rw (link-by-fields (entered f .pre) _ _ (f .field .ensures .0) (look .field2 .ensures .0), lt-ltb _ _ (e .if1 .left), le-ltb _ _ (c .if2 .taken))
 
 known-requires : tie.Need-known-requires
-known-requires c κs = owners-there (entered (current-at (look-at c .before)) .pre)
+known-requires c κs =
+    let v = entered (current-at (look-at c .before)) .pre in
+    (owners-there v, few-positions v, few-flows v)
 
 returns-3 : tie.Need-returns-3
 returns-3 c =
