@@ -25,6 +25,7 @@ from driver.tally import (
 from driver.way_suite import WaySuite
 from edges import questions, refusals_page
 from edges.all_edges import ALLCALLS_EDGES, EDGES
+from generator import seeds
 from images import self_tests
 from mutants import all_mutants
 from pairs import wrong_pairs
@@ -144,15 +145,16 @@ def play_files(suites, only, count, seed):
     play_cases("edges", suites, cases.edges(), only)
     play_cases("docs/REFUSALS.md", suites, cases.page(), only)
     play_cases("files in pieces", suites, cases.in_pieces(seed), only)
-    play_cases("call files", suites, cases.seeds(count, seed), only, tally)
+    play_cases("call files", suites,
+               cases.generated(seeds.ANY, count, seed), only, tally)
     return tally
 
 
 def play_departures(suites, only, count, seed):
     """Files with departures of all kinds.  Their tally."""
     tally = DepartureTally()
-    play_cases("departures", suites, cases.departures(count, seed), only,
-               tally)
+    play_cases("departures", suites,
+               cases.generated(seeds.DEPARTURES, count, seed), only, tally)
     for suite in suites:
         if not only:
             suite.test("the files with departures come to 20 often",
@@ -163,7 +165,8 @@ def play_departures(suites, only, count, seed):
 def play_numbers(suites, only, count, seed):
     """Files with quantum numbers of all kinds.  Their tally."""
     tally = NumberTally()
-    play_cases("numbers", suites, cases.numbers(count, seed), only, tally)
+    play_cases("numbers", suites,
+               cases.generated(seeds.NUMBERS, count, seed), only, tally)
     for suite in suites:
         if not only:
             suite.test("the files with numbers come to 24 often",
@@ -177,14 +180,16 @@ def play_lends(suites, only, count, seed):
     play_cases("edges", suites, cases.allcalls_edges(), only)
     play_cases("docs/REFUSALS.md", suites, cases.page(ALLCALLS), only)
     play_cases("files in pieces", suites, cases.others_in_pieces(seed), only)
-    play_cases("lends", suites, cases.lends(count, seed), only, tally)
+    play_cases("lends", suites,
+               cases.generated(seeds.LENDS, count, seed), only, tally)
     return tally
 
 
 def play_resets(suites, only, count, seed):
     """Files with resets.  Their tally."""
     tally = ResetTally()
-    play_cases("resets", suites, cases.resets(count, seed), only, tally)
+    play_cases("resets", suites,
+               cases.generated(seeds.RESETS, count, seed), only, tally)
     return tally
 
 
@@ -192,7 +197,8 @@ def play_bursts(suites, only, count, seed):
     """Files with bursts.  The tally of the generated ones."""
     tally = BurstTally()
     play_cases("files in pieces", suites, cases.bursts_in_pieces(seed), only)
-    play_cases("bursts", suites, cases.bursts(count, seed), only, tally)
+    play_cases("bursts", suites,
+               cases.generated(seeds.BURSTS, count, seed), only, tally)
     for suite in suites:
         if not only:
             suite.test("bursts of every length, and every answer in them",
