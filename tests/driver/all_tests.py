@@ -53,40 +53,17 @@ def test_all(suite, tests, only):
         suite.test(name, trouble)
 
 
-def listings():
-    """The check of demand 3 sends back what it has to."""
-    for name, trouble in wrong_listings.missed():
-        yield "listing: " + name, trouble
+# The checks of listings, pairs, ways, crossings, runs with sending ahead and
+# answers: each sends back what it has to.
+SENT_BACK = (("listing", wrong_listings), ("pair", wrong_pairs),
+             ("way", wrong_ways), ("crossing", crossings),
+             ("sending", wrong_sendings), ("answers", wrong_answers))
 
 
-def pairs():
-    """The check of pairs of runs sends back what it has to."""
-    for name, trouble in wrong_pairs.missed():
-        yield "pair: " + name, trouble
-
-
-def ways():
-    """The check of ways sends back what it has to."""
-    for name, trouble in wrong_ways.missed():
-        yield "way: " + name, trouble
-
-
-def crossed():
-    """Crossings on the second simulator, and boards that are not ours."""
-    for name, trouble in crossings.missed():
-        yield "crossing: " + name, trouble
-
-
-def sendings():
-    """The check of runs with sending ahead sends back what it has to."""
-    for name, trouble in wrong_sendings.missed():
-        yield "sending: " + name, trouble
-
-
-def answers():
-    """Wrong answers of domeplan are told."""
-    for name, trouble in wrong_answers.missed():
-        yield "answers: " + name, trouble
+def sent_back():
+    for sort, check in SENT_BACK:
+        for name, trouble in check.missed():
+            yield "%s: %s" % (sort, name), trouble
 
 
 def tables():
@@ -104,8 +81,7 @@ def tables():
 def without_program(only):
     """The suite of what the tests themselves have to be."""
     suite = Suite("tests")
-    tests = itertools.chain(listings(), pairs(), ways(), crossed(), sendings(),
-                            answers(), tables())
+    tests = itertools.chain(sent_back(), tables())
     for name, trouble in counted(suite.name, wanted(tests, only)):
         suite.test(name, trouble)
     test_all(suite, self_tests.tests(), only)
@@ -223,38 +199,35 @@ def play_programs(suites, only, count, seed):
     return tallies
 
 
-def play_pairs(suites, only, count, seed):
-    """Pairs of runs through each program that reads allcalls' records, and
-    the totals if nothing is left out.  Their suites."""
-    suites = [PairSuite(suite) for suite in suites
+def play_judged(make, sort, names, suites, only):
+    """Cases that are judged from listings alone, through each program that
+    reads allcalls' records, and the totals if nothing is left out.  Their
+    suites."""
+    suites = [make(suite) for suite in suites
               if suite.form is ALLCALLS and suite.command]
-    play_cases("pairs", suites, pair_suite.seeds(count, seed), only)
+    play_cases(sort, suites, names, only)
     for suite in suites:
         if not only:
             suite.totals()
     return suites
+
+
+def play_pairs(suites, only, count, seed):
+    """Pairs of runs."""
+    return play_judged(PairSuite, "pairs", pair_suite.seeds(count, seed),
+                       suites, only)
 
 
 def play_ways(suites, only, count, seed):
-    """Ways over several links, likewise."""
-    suites = [WaySuite(suite) for suite in suites
-              if suite.form is ALLCALLS and suite.command]
-    play_cases("ways", suites, way_suite.cases(count, seed), only)
-    for suite in suites:
-        if not only:
-            suite.totals()
-    return suites
+    """Ways over several links."""
+    return play_judged(WaySuite, "ways", way_suite.cases(count, seed),
+                       suites, only)
 
 
 def play_ahead(suites, only, count, seed):
-    """The same of runs without and with tiles sent ahead."""
-    suites = [AheadSuite(suite) for suite in suites
-              if suite.form is ALLCALLS and suite.command]
-    play_cases("sent ahead", suites, ahead_suite.seeds(count, seed), only)
-    for suite in suites:
-        if not only:
-            suite.totals()
-    return suites
+    """Runs without and with tiles sent ahead."""
+    return play_judged(AheadSuite, "sent ahead",
+                       ahead_suite.seeds(count, seed), suites, only)
 
 
 def play_questions(suite, only, count, seed):
