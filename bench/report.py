@@ -4,6 +4,7 @@ its mark.
 Another row is a line of ROWS, with its key among the figures that a function
 of SUBJECTS gives."""
 
+import sys
 from datetime import date
 from typing import NamedTuple, Optional
 
@@ -14,6 +15,7 @@ import hosted
 import meshes
 import programs
 import single
+import slower
 
 PAGE = programs.ROOT / "docs/PERFORMANCE.md"
 BEGINS = "<!-- bench/run --report begins -->"
@@ -202,8 +204,21 @@ def write(text):
                     encoding="utf-8")
 
 
+def compare(text):
+    """Says which ratios are worse than the page's; 1 where one is."""
+    said, lost = slower.sentence(
+        inside(PAGE.read_text(encoding="utf-8")).splitlines(),
+        text.splitlines())
+    print("bench/run: " + said, file=sys.stderr)
+    return 1 if lost else 0
+
+
 def show(folder, count, rounds, seconds, to_page):
+    """Prints the table, says which speeds are lost, and writes the page if
+    that is asked for.  The exit status."""
     text = made(folder, count, rounds, seconds)
     print(text, end="", flush=True)
+    status = compare(text)
     if to_page:
         write(text)
+    return status

@@ -25,6 +25,7 @@ from driver.tally import (
 from driver.way_suite import WaySuite
 from edges import questions, refusals_page
 from edges.all_edges import ALLCALLS_EDGES, EDGES
+from generator import seeds
 from images import self_tests
 from mutants import all_mutants
 from pairs import wrong_pairs
@@ -52,41 +53,18 @@ def test_all(suite, tests, only):
         suite.test(name, trouble)
 
 
-def listings():
-    """The check of demand 3 sends back what it has to."""
-    for name, trouble in wrong_listings.missed():
-        yield "listing: " + name, trouble
+# The checks of listings, pairs, ways, crossings, runs with sending ahead and
+# answers: each sends back what it has to.
+SENT_BACK = (("listing", wrong_listings), ("pair", wrong_pairs),
+             ("way", wrong_ways), ("crossing", crossings),
+             ("crossing", crossed_ways),
+             ("sending", wrong_sendings), ("answers", wrong_answers))
 
 
-def pairs():
-    """The check of pairs of runs sends back what it has to."""
-    for name, trouble in wrong_pairs.missed():
-        yield "pair: " + name, trouble
-
-
-def ways():
-    """The check of ways sends back what it has to."""
-    for name, trouble in wrong_ways.missed():
-        yield "way: " + name, trouble
-
-
-def crossed():
-    """Crossings on the second simulator, and boards that are not ours."""
-    for part in (crossings, crossed_ways):
-        for name, trouble in part.missed():
-            yield "crossing: " + name, trouble
-
-
-def sendings():
-    """The check of runs with sending ahead sends back what it has to."""
-    for name, trouble in wrong_sendings.missed():
-        yield "sending: " + name, trouble
-
-
-def answers():
-    """Wrong answers of domeplan are told."""
-    for name, trouble in wrong_answers.missed():
-        yield "answers: " + name, trouble
+def sent_back():
+    for sort, check in SENT_BACK:
+        for name, trouble in check.missed():
+            yield "%s: %s" % (sort, name), trouble
 
 
 def tables():
@@ -104,8 +82,7 @@ def tables():
 def without_program(only):
     """The suite of what the tests themselves have to be."""
     suite = Suite("tests")
-    tests = itertools.chain(listings(), pairs(), ways(), crossed(), sendings(),
-                            answers(), tables())
+    tests = itertools.chain(sent_back(), tables())
     for name, trouble in counted(suite.name, wanted(tests, only)):
         suite.test(name, trouble)
     test_all(suite, self_tests.tests(), only)
@@ -145,15 +122,16 @@ def play_files(suites, only, count, seed):
     play_cases("edges", suites, cases.edges(), only)
     play_cases("docs/REFUSALS.md", suites, cases.page(), only)
     play_cases("files in pieces", suites, cases.in_pieces(seed), only)
-    play_cases("call files", suites, cases.seeds(count, seed), only, tally)
+    play_cases("call files", suites,
+               cases.generated(seeds.ANY, count, seed), only, tally)
     return tally
 
 
 def play_departures(suites, only, count, seed):
     """Files with departures of all kinds.  Their tally."""
     tally = DepartureTally()
-    play_cases("departures", suites, cases.departures(count, seed), only,
-               tally)
+    play_cases("departures", suites,
+               cases.generated(seeds.DEPARTURES, count, seed), only, tally)
     for suite in suites:
         if not only:
             suite.test("the files with departures come to 20 often",
@@ -164,7 +142,8 @@ def play_departures(suites, only, count, seed):
 def play_numbers(suites, only, count, seed):
     """Files with quantum numbers of all kinds.  Their tally."""
     tally = NumberTally()
-    play_cases("numbers", suites, cases.numbers(count, seed), only, tally)
+    play_cases("numbers", suites,
+               cases.generated(seeds.NUMBERS, count, seed), only, tally)
     for suite in suites:
         if not only:
             suite.test("the files with numbers come to 24 often",
@@ -178,14 +157,16 @@ def play_lends(suites, only, count, seed):
     play_cases("edges", suites, cases.allcalls_edges(), only)
     play_cases("docs/REFUSALS.md", suites, cases.page(ALLCALLS), only)
     play_cases("files in pieces", suites, cases.others_in_pieces(seed), only)
-    play_cases("lends", suites, cases.lends(count, seed), only, tally)
+    play_cases("lends", suites,
+               cases.generated(seeds.LENDS, count, seed), only, tally)
     return tally
 
 
 def play_resets(suites, only, count, seed):
     """Files with resets.  Their tally."""
     tally = ResetTally()
-    play_cases("resets", suites, cases.resets(count, seed), only, tally)
+    play_cases("resets", suites,
+               cases.generated(seeds.RESETS, count, seed), only, tally)
     return tally
 
 
@@ -193,7 +174,8 @@ def play_bursts(suites, only, count, seed):
     """Files with bursts.  The tally of the generated ones."""
     tally = BurstTally()
     play_cases("files in pieces", suites, cases.bursts_in_pieces(seed), only)
-    play_cases("bursts", suites, cases.bursts(count, seed), only, tally)
+    play_cases("bursts", suites,
+               cases.generated(seeds.BURSTS, count, seed), only, tally)
     for suite in suites:
         if not only:
             suite.test("bursts of every length, and every answer in them",
@@ -218,38 +200,35 @@ def play_programs(suites, only, count, seed):
     return tallies
 
 
-def play_pairs(suites, only, count, seed):
-    """Pairs of runs through each program that reads allcalls' records, and
-    the totals if nothing is left out.  Their suites."""
-    suites = [PairSuite(suite) for suite in suites
+def play_judged(make, sort, names, suites, only):
+    """Cases that are judged from listings alone, through each program that
+    reads allcalls' records, and the totals if nothing is left out.  Their
+    suites."""
+    suites = [make(suite) for suite in suites
               if suite.form is ALLCALLS and suite.command]
-    play_cases("pairs", suites, pair_suite.seeds(count, seed), only)
+    play_cases(sort, suites, names, only)
     for suite in suites:
         if not only:
             suite.totals()
     return suites
+
+
+def play_pairs(suites, only, count, seed):
+    """Pairs of runs."""
+    return play_judged(PairSuite, "pairs", pair_suite.seeds(count, seed),
+                       suites, only)
 
 
 def play_ways(suites, only, count, seed):
-    """Ways over several links, likewise."""
-    suites = [WaySuite(suite) for suite in suites
-              if suite.form is ALLCALLS and suite.command]
-    play_cases("ways", suites, way_suite.cases(count, seed), only)
-    for suite in suites:
-        if not only:
-            suite.totals()
-    return suites
+    """Ways over several links."""
+    return play_judged(WaySuite, "ways", way_suite.cases(count, seed),
+                       suites, only)
 
 
 def play_ahead(suites, only, count, seed):
-    """The same of runs without and with tiles sent ahead."""
-    suites = [AheadSuite(suite) for suite in suites
-              if suite.form is ALLCALLS and suite.command]
-    play_cases("sent ahead", suites, ahead_suite.seeds(count, seed), only)
-    for suite in suites:
-        if not only:
-            suite.totals()
-    return suites
+    """Runs without and with tiles sent ahead."""
+    return play_judged(AheadSuite, "sent ahead",
+                       ahead_suite.seeds(count, seed), suites, only)
 
 
 def play_questions(suite, only, count, seed):

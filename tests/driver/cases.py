@@ -10,9 +10,7 @@ from demand3.check import check
 from driver.formats import ALLCALLS, DOMELINK, has_other_calls
 from edges import refusals_page
 from edges.all_edges import ALLCALLS_EDGES, EDGES
-from generator import (
-    burst_seeds, departure_seeds, lend_seeds, number_seeds, reset_seeds)
-from generator.seeds import generate, kind_of
+from generator.seeds import ANY, BURSTS, LENDS
 from simulator.image import image_of
 from simulator.listing import steps
 
@@ -92,14 +90,6 @@ def page(form=DOMELINK):
                lambda data=data, last=last: from_page(data, last, form))
 
 
-def small_seeds(seed):
-    """Seeds of files with a good plan that are short enough for pieces."""
-    while True:
-        if kind_of(seed) != "wrong plan" and 100 <= len(generate(seed)) <= FEW:
-            yield seed
-        seed += 1
-
-
 def edges_in_pieces(names, edges, form):
     named = {edge.name: edge for edge in edges}
     for size in PIECES:
@@ -109,49 +99,39 @@ def edges_in_pieces(names, edges, form):
                    from_edge(edge, size, form))
 
 
+# ---- generated files
+
+def form_of(sort):
+    """How its records are read."""
+    return ALLCALLS if sort.other_calls else DOMELINK
+
+
+def from_seed(sort, seed, size=None):
+    data, form = sort.generate(seed), form_of(sort)
+    return Case(data, simulated(data, form), size, form=form)
+
+
+def named(sort, seed):
+    return "%sseed %d" % (sort.name and sort.name + ", ", seed)
+
+
+def generated(sort, count, seed):
+    for number in range(seed, seed + count):
+        yield ("%s (%s)" % (named(sort, number), sort.kind_of(number)),
+               lambda number=number: from_seed(sort, number))
+
+
+def cut_up(sort, seed):
+    """Small files of a sort in pieces."""
+    for size, number in zip(PIECES, sort.small(seed, FEW)):
+        yield ("%s in pieces of %d" % (named(sort, number), size),
+               lambda number=number, size=size: from_seed(sort, number, size))
+
+
 def in_pieces(seed):
     """Some edges and some small generated files."""
     yield from edges_in_pieces(IN_PIECES, EDGES, DOMELINK)
-    for size, number in zip(PIECES, small_seeds(seed)):
-        yield ("seed %d in pieces of %d" % (number, size),
-               lambda number=number, size=size: from_seed(number, size))
-
-
-def from_seed(seed, size=None):
-    data = generate(seed)
-    return Case(data, simulated(data, DOMELINK), size)
-
-
-def seeds(count, seed):
-    for number in range(seed, seed + count):
-        yield ("seed %d (%s)" % (number, kind_of(number)),
-               lambda number=number: from_seed(number))
-
-
-def from_departure_seed(seed):
-    data = departure_seeds.generate(seed)
-    return Case(data, simulated(data, DOMELINK))
-
-
-def departures(count, seed):
-    """Words with departures of all kinds."""
-    for number in range(seed, seed + count):
-        yield ("departures, seed %d (%s)"
-               % (number, departure_seeds.kind_of(number)),
-               lambda number=number: from_departure_seed(number))
-
-
-def from_number_seed(seed):
-    data = number_seeds.generate(seed)
-    return Case(data, simulated(data, DOMELINK))
-
-
-def numbers(count, seed):
-    """Words with quantum numbers of all kinds."""
-    for number in range(seed, seed + count):
-        yield ("numbers, seed %d (%s)"
-               % (number, number_seeds.kind_of(number)),
-               lambda number=number: from_number_seed(number))
+    yield from cut_up(ANY, seed)
 
 
 # ---- files with lends, resets and bursts
@@ -164,45 +144,8 @@ def allcalls_edges():
 
 def others_in_pieces(seed):
     yield from edges_in_pieces(OTHERS_IN_PIECES, ALLCALLS_EDGES, ALLCALLS)
-    for size, number in zip(PIECES, lend_seeds.small(seed, FEW)):
-        yield ("lends, seed %d in pieces of %d" % (number, size),
-               lambda number=number, size=size: from_lend_seed(number, size))
-
-
-def from_lend_seed(seed, size=None):
-    data = lend_seeds.generate(seed)
-    return Case(data, simulated(data, ALLCALLS), size, form=ALLCALLS)
-
-
-def lends(count, seed):
-    for number in range(seed, seed + count):
-        yield ("lends, seed %d (%s)" % (number, lend_seeds.kind_of(number)),
-               lambda number=number: from_lend_seed(number))
-
-
-def from_reset_seed(seed):
-    data = reset_seeds.generate(seed)
-    return Case(data, simulated(data, ALLCALLS), form=ALLCALLS)
-
-
-def resets(count, seed):
-    for number in range(seed, seed + count):
-        yield ("resets, seed %d (%s)" % (number, reset_seeds.kind_of(number)),
-               lambda number=number: from_reset_seed(number))
+    yield from cut_up(LENDS, seed)
 
 
 def bursts_in_pieces(seed):
-    for size, number in zip(PIECES, burst_seeds.small(seed, FEW)):
-        yield ("bursts, seed %d in pieces of %d" % (number, size),
-               lambda number=number, size=size: from_burst_seed(number, size))
-
-
-def from_burst_seed(seed, size=None):
-    data = burst_seeds.generate(seed)
-    return Case(data, simulated(data, ALLCALLS), size, form=ALLCALLS)
-
-
-def bursts(count, seed):
-    for number in range(seed, seed + count):
-        yield ("bursts, seed %d (%s)" % (number, burst_seeds.kind_of(number)),
-               lambda number=number: from_burst_seed(number))
+    yield from cut_up(BURSTS, seed)

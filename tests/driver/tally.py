@@ -6,7 +6,7 @@ from demand3 import departure_ways, number_ways, turns
 from demand3.delays import PROMPT, SOON
 from demand3.lend_ways import BITS, LENT, NO_FLOW, TAKEN
 from demand3.reset_ways import GRANTED, REFUSED
-from generator import burst_seeds, departure_seeds, number_seeds
+from generator.seeds import BURSTS, DEPARTURES, NUMBERS
 from simulator.records import ALLCALLS, read_record, split
 
 # What can stand in a burst's record as its result.
@@ -83,7 +83,7 @@ class DepartureTally(WordTally):
     title = "the place of the departure"
     places = departure_ways.PLACES
     refusal = "20"
-    kinds = departure_seeds.ORDER
+    kinds = DEPARTURES.order
 
 
 class NumberTally(WordTally):
@@ -91,7 +91,7 @@ class NumberTally(WordTally):
     title = "the quantum number"
     places = number_ways.PLACES
     refusal = "24"
-    kinds = number_seeds.ORDER
+    kinds = NUMBERS.order
 
 
 class WaysTally(Tally):
@@ -173,7 +173,7 @@ class BurstTally(Tally):
 
     def trouble(self):
         """What never came up, once each kind of file was there."""
-        if self.files < 10 * len(burst_seeds.ORDER):
+        if self.files < 10 * len(BURSTS.order):
             return None
         missing = [length for length in range(21) if not self.lengths[length]]
         never = [result for result in BURST_RESULTS

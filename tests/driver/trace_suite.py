@@ -1,21 +1,17 @@
 """The trace of a program, line for line against the simulator's, on edges and
 on generated files of every sort, with domelink's records and with allcalls'."""
 
+from driver.cases import form_of
 from driver.formats import ALLCALLS, DOMELINK
 from driver.starting import play, play_in_pieces
 from driver.suite import Outcome, Suite, first_difference
 from driver.trace_reader import window_trouble
 from edges.all_edges import ALLCALLS_EDGES, EDGES
-from generator import (
-    burst_seeds, departure_seeds, lend_seeds, number_seeds, reset_seeds, seeds)
+from generator.seeds import SORTS
 from simulator.listing import simulate
 from simulator.trace import listing_of, trace
 
 ALL = "all"                     # the argument with which all records are read
-SORTS = (("any calls", seeds, DOMELINK), ("departures", departure_seeds,
-                                          DOMELINK),
-         ("numbers", number_seeds, DOMELINK), ("lends", lend_seeds, ALLCALLS),
-         ("resets", reset_seeds, ALLCALLS), ("bursts", burst_seeds, ALLCALLS))
 FEW = 3                         # files of a seed's sort that are cut in pieces
 SIZES = (1, 7, 64)              # bytes at a time
 LETTERS = "PEGRCTLZBWXF"
@@ -44,22 +40,25 @@ def edges():
                lambda edge=edge: TraceCase(edge.data, ALLCALLS))
 
 
+def traced(sort, seed):
+    return "trace of %s, seed %d" % (sort.name or "any calls", seed)
+
+
 def generated(count, seed):
     """A quarter of the files of each sort."""
-    for sort, maker, form in SORTS:
+    for sort in SORTS:
         for number in range(seed, seed + (count + 3) // 4):
-            yield ("trace of %s, seed %d" % (sort, number),
-                   lambda maker=maker, form=form, number=number:
-                   TraceCase(maker.generate(number), form))
+            yield (traced(sort, number),
+                   lambda sort=sort, number=number:
+                   TraceCase(sort.generate(number), form_of(sort)))
 
 
 def in_pieces(seed):
-    for sort, maker, form in SORTS:
+    for sort in SORTS:
         for number, size in zip(range(seed, seed + FEW), SIZES):
-            yield ("trace of %s, seed %d in pieces of %d" % (
-                sort, number, size),
-                lambda maker=maker, form=form, number=number, size=size:
-                TraceCase(maker.generate(number)[:2000], form, size))
+            yield ("%s in pieces of %d" % (traced(sort, number), size),
+                   lambda sort=sort, number=number, size=size: TraceCase(
+                       sort.generate(number)[:2000], form_of(sort), size))
 
 
 class TraceSuite(Suite):

@@ -10,8 +10,7 @@ from edges import ahead
 from edges.all_edges import ALLCALLS_EDGES, EDGES
 from edges.edge_maker import TICK
 from front_door.command import ROOT, redirected, start, trouble
-from generator import (
-    burst_seeds, departure_seeds, lend_seeds, reset_seeds, seeds)
+from generator.seeds import ANY, BURSTS, DEPARTURES, LENDS, RESETS
 from simulator.ahead import play_ahead
 
 NOT_WHOLE, WRONG_WORDS = 1, 2
@@ -52,9 +51,9 @@ def edges(player):
 
 def generated_files(player):
     return on_files(player, (
-        ("%s %d" % (sort.__name__, seed), sort.generate(seed))
-        for sort in (seeds, departure_seeds, lend_seeds, reset_seeds,
-                     burst_seeds) for seed in range(1, SEEDS + 1)))
+        ("%s %d" % (sort.name, seed), sort.generate(seed))
+        for sort in (ANY, DEPARTURES, LENDS, RESETS, BURSTS)
+        for seed in range(1, SEEDS + 1)))
 
 
 def flight(name):

@@ -12,7 +12,7 @@ from front_door.command import LIMIT, redirected, start, trouble
 from front_door.play_tree import SHOW
 from front_door.show_tools import call_text, text_lines
 from front_door.tree import Tree, named
-from generator import burst_seeds, number_seeds, seeds
+from generator.seeds import ANY, BURSTS, NUMBERS
 
 WRITTEN, WRONG_TEXT, NOT_READ, NOT_WHOLE = range(4)     # exit statuses
 LISTING = from_the_paper.EDGES[0].data
@@ -130,7 +130,7 @@ def wrong_wholes():
 def there_and_back():
     """Every file's text has its bytes, whichever records are calls."""
     files = [edge.data for edge in EDGES + ALLCALLS_EDGES]
-    for sort in (seeds, number_seeds, burst_seeds):
+    for sort in (ANY, NUMBERS, BURSTS):
         files += [sort.generate(seed) for seed in range(12)
                   if "long" not in sort.kind_of(seed)]
     for data in (file[:2000] for file in files):

@@ -1,18 +1,20 @@
-"""Each public entry point has two must-fail edits of its own.
+"""Each public entry point has two slips of its own that must be refused.
 
 Entry points are what CRATES names: the public methods of the link, the exports
 for C, and the functions that a library offers at its root, but for HELPERS.
-In a crate with one entry point all edits are its own.  In one with several an
-edit's name begins with the entry point's, without `nazgolv_`; where two names
-would do, the longer one has it: `mesh_over_as_mesh` is of `mesh_over`.  Edits
+In a crate with one entry point all slips are its own.  In one with several a
+slip's name begins with the entry point's, without `nazgolv_`; where two names
+would do, the longer one has it: `mesh_over_as_mesh` is of `mesh_over`.  Slips
 with other names are of the crate's definitions or of what its entry points
-share.
+share.  One of the two may stand in a crate below that BELOW names, where its
+fact is decided and a check is quicker.
 
-That each edit is refused is tried by `rt must-fail`; here its lines are read,
-and its old text has to stand once in its file."""
+That an edit is refused is tried by `rt must-fail`, and that each of its slips
+is by `tests/slips`; here their lines are read."""
 
 import re
 
+from front_door import slips
 from front_door.command import ROOT
 
 TWO = 2
@@ -32,6 +34,9 @@ CRATES = {
     "showwords": "root", "showinput": "root", "trace": "root",
     "crossing": "root", "faults": "root", "faultwords": "root",
     "weekwords": "root"}
+
+# Where the second slip of an entry point may stand.
+BELOW = {"link": ("tables",), "image": ("images", "link")}
 
 # Public functions that others are built from.
 HELPERS = {
@@ -78,8 +83,8 @@ def found(crate):
             if name not in HELPERS.get(crate, ())]
 
 
-def edits(crate):
-    return sorted((ROOT / "crates" / crate / "must-fail").glob("*.edit"))
+def slips_of(crate):
+    return [slip for path in slips.edits(crate) for slip in slips.slips(path)]
 
 
 def owner(names, label):
@@ -90,16 +95,26 @@ def owner(names, label):
     return max(fitting, key=len, default=None)
 
 
-def own_edits(crate):
-    """How many edits each entry point of a crate has."""
-    names = found(crate)
-    owners = [owner(names, path.stem) for path in edits(crate)]
+def own_slips(crate, names, where):
+    """How many slips of a crate each entry point has."""
+    owners = [owner(names, slip.name) for slip in slips_of(where)]
     return {name: owners.count(name) for name in names}
 
 
+def counted(crate):
+    """Of each entry point its slips: in its crate, and one at most below."""
+    names = found(crate)
+    here = own_slips(crate, names, crate)
+    under = [own_slips(crate, names, where) for where in BELOW.get(crate, ())]
+    return {name: (here[name], min(1, sum(each[name] for each in under)))
+            for name in names}
+
+
 def two_each():
-    few = ["%s::%s has %d" % (crate, name, count) for crate in CRATES
-           for name, count in own_edits(crate).items() if count < TWO]
+    few = ["%s::%s has %d, and below %d" % (crate, name, own, under)
+           for crate in CRATES
+           for name, (own, under) in counted(crate).items()
+           if own < 1 or own + under < TWO]
     return ", ".join(few) or None
 
 
@@ -110,44 +125,29 @@ def all_found():
     return lost and "not found: " + ", ".join(lost)
 
 
-def replacements(path):
-    """The file, the old and the new text of each replacement of an edit."""
-    name = old = None
-    for line in path.read_text().splitlines():
-        word, _, text = line.partition(": ")
-        if word == "file":
-            name = text
-        elif word == "old":
-            old = text
-        elif line.startswith("new:"):
-            yield name, old, text
-
-
-def misfit(path):
+def wrong_edit(path):
     """What is wrong with an edit, or None."""
-    steps = list(replacements(path))
-    if not path.read_text().startswith("# ") or not steps:
-        return "it doesn't say what it breaks, or changes nothing"
-    texts = {}
-    for name, old, new in steps:
-        place = path.parents[1] / name
-        if not place.is_file() or not name.startswith(("src/", "specs/")):
-            return "no file %s of src/ or specs/" % name
-        text = texts.get(name, place.read_text())
-        if text.count(old) != 1 or old == new:
-            return "%r stands %d times in %s" % (old, text.count(old), name)
-        texts[name] = text.replace(old, new)
-    return None
+    found = slips.slips(path)
+    if not all(slip.words and slip.steps for slip in found):
+        return "a slip doesn't say what it breaks, or changes nothing"
+    steps = [step for slip in found for step in slip.steps]
+    return slips.misfit(path.parts[-3], steps) or slips.unfit(path)
 
 
 def all_fit():
-    wrong = ["%s/%s: %s" % (path.parts[-3], path.stem, misfit(path))
-             for path in sorted(ROOT.glob("crates/*/must-fail/*.edit"))
-             if misfit(path)]
+    wrong = ["%s/%s: %s" % (path.parts[-3], path.stem, wrong_edit(path))
+             for path in slips.edits() if wrong_edit(path)]
     return "; ".join(wrong) or None
+
+
+def no_name_twice():
+    names = ["%s/%s" % (slip.crate, slip.name)
+             for path in slips.edits() for slip in slips.slips(path)]
+    return ", ".join({name for name in names if names.count(name) > 1}) or None
 
 
 def tests(_):
     yield "must-fail: each entry point is found", all_found
-    yield "must-fail: each entry point has two edits of its own", two_each
-    yield "must-fail: each edit fits its file", all_fit
+    yield "must-fail: each entry point has two slips of its own", two_each
+    yield "must-fail: each edit fits its file, each slip by itself", all_fit
+    yield "must-fail: no slip's name stands twice", no_name_twice

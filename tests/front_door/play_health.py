@@ -19,7 +19,7 @@ from front_door.play_explain import ALL_CALLS
 from front_door.play_tree import NOT_PLAYED, NOT_WHOLE, in_traced_trees
 from front_door.remedies import what_to_do
 from front_door.show_tools import plan_and_lines, run_health
-from generator import burst_seeds, lend_seeds, reset_seeds
+from generator.seeds import BURSTS, LENDS, RESETS
 
 PASSES, FAILS = 0, 1
 HEAD = "flow  asked  granted  promised  refused  longest wait  overdue\n"
@@ -283,8 +283,8 @@ def cells_out_are_those_held():
     """Rule 26.10: after each line as many cells are out as the trace says
     that the flow holds at the last position of the window."""
     files = [edge.data for edge in ALLCALLS_EDGES if edge.lines[0] == "P 0"]
-    files += [seeds.generate(seed) for seed in range(3)
-              for seeds in (lend_seeds, reset_seeds, burst_seeds)]
+    files += [sort.generate(seed) for seed in range(3)
+              for sort in (LENDS, RESETS, BURSTS)]
     for data in files:
         wrong = held_otherwise(*plan_and_lines(data, True))
         if wrong:

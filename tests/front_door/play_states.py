@@ -4,12 +4,11 @@ against the second simulator's link: rule 26.10."""
 from edges.all_edges import ALLCALLS_EDGES, EDGES
 from front_door.show_tools import (
     Refused, kept, plan_and_lines, summary)
-from generator import burst_seeds, lend_seeds, reset_seeds, seeds
+from generator.seeds import ANY, BURSTS, LENDS, RESETS
 from simulator.listing import steps
 from simulator.records import ALLCALLS, DOMELINK
 
-SORTS = (("any calls", seeds, False), ("lends", lend_seeds, True),
-         ("resets", reset_seeds, True), ("bursts", burst_seeds, True))
+SORTS = (ANY, LENDS, RESETS, BURSTS)
 MOST_BYTES = 1500       # of a file: the rest is cut off
 
 
@@ -89,9 +88,9 @@ def edge_files():
 
 
 def generated_files():
-    return [("%s, seed %d" % (name, seed), sort.generate(seed)[:MOST_BYTES],
-             all_calls)
-            for name, sort, all_calls in SORTS for seed in range(12)
+    return [("%s, seed %d" % (sort.name, seed),
+             sort.generate(seed)[:MOST_BYTES], sort.other_calls)
+            for sort in SORTS for seed in range(12)
             if "long" not in sort.kind_of(seed)]
 
 

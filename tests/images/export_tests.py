@@ -7,8 +7,8 @@ from functools import partial
 from itertools import islice
 
 from edges import refusals_page
-from generator import burst_seeds, lend_seeds, number_seeds
 from generator.dice import Dice
+from generator.seeds import BURSTS, LENDS, NUMBERS
 from images import (
     by_hand, fresh_calls, numbers_by_hand, old_versions, plays, random_lends,
     random_numbers, random_resets, resets_by_hand)
@@ -152,25 +152,25 @@ def all_trials(command, count):
 # ---- long runs: of lends over changing masks, and of numbers that go round
 
 LONG_RUNS = (
-    ("lends", lend_seeds, ("in turn", "sixteen in turn"), IN_TURN),
-    ("numbers", number_seeds, ("round",), ROUND),
-    ("numbers of two flows", number_seeds, ("two round",), 1),
-    ("bursts", burst_seeds, ("round",), ROUND),
+    ("lends", LENDS, ("in turn", "sixteen in turn"), IN_TURN),
+    ("numbers", NUMBERS, ("round",), ROUND),
+    ("numbers of two flows", NUMBERS, ("two round",), 1),
+    ("bursts", BURSTS, ("round",), ROUND),
 )
 
 
-def seeds_of(family, kinds, seed):
+def seeds_of(sort, kinds, seed):
     """Seeds of files of these kinds."""
     while True:
-        if family.kind_of(seed) in kinds:
+        if sort.kind_of(seed) in kinds:
             yield seed
         seed += 1
 
 
-def each_image(command, family, seed):
+def each_image(command, sort, seed):
     """The answers of a file, and the image after each of its calls, which gets
     the one that the call before left: rule 12.7."""
-    data = family.generate(seed)
+    data = sort.generate(seed)
     images = images_after(data)
     length = len(images[-1])
     played = play(command, data, length, each=True)
@@ -215,7 +215,7 @@ def tests(command, count, seed):
         yield ("image: checks of images by chance, from %d on" % start,
                partial(plays.checked, command,
                        [any_image(Dice(each)) for each in seeds]))
-    for name, family, kinds, files in LONG_RUNS:
-        for number in islice(seeds_of(family, kinds, seed), files):
+    for name, sort, kinds, files in LONG_RUNS:
+        for number in islice(seeds_of(sort, kinds, seed), files):
             yield ("image: after each call of %s, seed %d" % (name, number),
-                   partial(each_image, command, family, number))
+                   partial(each_image, command, sort, number))

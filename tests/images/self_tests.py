@@ -6,9 +6,8 @@ None.
 from collections import Counter
 from functools import partial
 
-from generator import (
-    burst_seeds, departure_seeds, lend_seeds, number_seeds, reset_seeds)
 from generator.dice import Dice
+from generator.seeds import BURSTS, DEPARTURES, LENDS, NUMBERS, RESETS
 from images import (
     by_hand, fresh_calls, numbers_by_hand, old_versions, random_lends,
     random_numbers, random_resets, resets_by_hand)
@@ -24,7 +23,7 @@ from simulator.listing import steps
 from simulator.records import ALLCALLS
 
 CONDITIONS = sorted({condition for condition, _, _ in by_hand.BROKEN})
-FILES = 6               # of each family, looked at after each call
+FILES = 6               # of each sort, looked at after each call
 FEW = 1500              # bytes of each
 TAKEN_IMAGES = 60       # by chance, with calls on each
 IMAGES = 1000           # by chance, of which half are not taken
@@ -60,9 +59,9 @@ def refused(number, image):
     return refusal_of(image) != number and "%d is given" % refusal_of(image)
 
 
-def reached(family, seed):
+def reached(sort, seed):
     """Every image that calls lead to is taken."""
-    data = family.generate(seed)[:FEW]
+    data = sort.generate(seed)[:FEW]
     return next(("one breaks %r" % broken(image)
                  for image in images_after(data) if refusal_of(image)),
                 None)
@@ -187,12 +186,10 @@ def tests():
     for name, *given in numbers_by_hand.CALLS:
         yield "image: number, " + name, partial(called, *given)
     yield from fresh_calls.self_tests()
-    for family in (lend_seeds, departure_seeds, reset_seeds, number_seeds,
-                   burst_seeds):
+    for sort in (LENDS, DEPARTURES, RESETS, NUMBERS, BURSTS):
         for seed in range(FILES):
-            yield ("image: taken after each call, %s %d" % (
-                       family.__name__.split(".")[-1], seed),
-                   partial(reached, family, seed))
+            yield ("image: taken after each call, %s %d"
+                   % (sort.name, seed), partial(reached, sort, seed))
     yield "image: calls leave taken images taken", all_kept
     yield "image: each condition is broken by chance, it alone", each_broken
     yield "image: resets of images by chance meet everything", each_reset
