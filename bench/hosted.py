@@ -12,7 +12,7 @@ import single
 KINDS = ("dense", "small", "ticks")
 PLAY = "play"
 MARK = 2.0
-LIBRARY = programs.ROOT / "target/staticlib/libimage.a"
+LIBRARY = programs.ROOT / "target/staticlib/libnazgolv.a"
 SOURCES = programs.ROOT / "docs/src"
 BESIDE = programs.ROOT / "player/nazgolv.c"     # has the header's version
 LINE = re.compile(r"^(calls|play|check) ([0-9.]+) ns, (results .+)$",
@@ -33,7 +33,7 @@ def build(folder):
     done = subprocess.run(["rt", "staticlib", "image"], cwd=programs.ROOT,
                           stdout=subprocess.DEVNULL, stderr=subprocess.DEVNULL)
     if done.returncode != 0:
-        programs.stop("rt staticlib image failed: nothing is measured")
+        programs.stop("rt staticlib nazgolv failed: nothing is measured")
     plain = folder / "libimages.a"
     made([*programs.RUSTC, "-C", "panic=abort", SOURCES / "images.rs",
           "-o", plain], "docs/src/images.rs")

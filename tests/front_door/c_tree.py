@@ -8,9 +8,9 @@ from pathlib import Path
 from front_door.command import ROOT, start, trouble
 
 HANDS_OUT = """\
-[ "$*" = "staticlib image" ] || exit 2
+[ "$*" = "staticlib nazgolv" ] || exit 2
 mkdir -p target/staticlib
-cp "%s" target/staticlib/libimage.a
+cp "%s" target/staticlib/libnazgolv.a
 """
 PROVES_NOTHING = "exit 1\n"
 

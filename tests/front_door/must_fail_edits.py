@@ -25,18 +25,18 @@ OF_LINK = re.compile(r"^impl Link \{\n(.*?)^\}", re.MULTILINE | re.DOTALL)
 
 # How the entry points of each crate are found.
 CRATES = {
-    "link": "methods", "image": "exports", "plan": "root", "burst": "root",
+    "link": "methods", "nazgolv": "exports", "plan": "root", "burst": "root",
     "playback": "root", "program": "root", "planwords": "root",
     "meshwords": "root", "sharewords": "root", "extrawords": "root",
     "programmewords": "root", "mesh": "root", "shares": "root",
-    "extras": "root", "programme": "root", "delay": "root",
+    "extras": "root", "week": "root", "delay": "root",
     "delaywords": "root", "questions": "root", "show": "root",
     "showwords": "root", "showinput": "root", "trace": "root",
     "crossing": "root", "faults": "root", "faultwords": "root",
     "weekwords": "root"}
 
 # Where the second slip of an entry point may stand.
-BELOW = {"link": ("tables",), "image": ("images", "link")}
+BELOW = {"link": ("tables",), "nazgolv": ("imagemodel", "link")}
 
 # Public functions that others are built from.
 HELPERS = {
@@ -50,13 +50,13 @@ HELPERS = {
 # What the table above has to find, whatever else it finds.
 KNOWN = {
     "link": "fresh request credit tick lend reset",
-    "image": "fresh check request credit tick lend reset play",
+    "nazgolv": "fresh check request credit tick lend reset play",
     "plan": "read write", "burst": "burst", "playback": "play",
     "program": "feed finish", "planwords": "plan room read",
     "meshwords": "mesh mesh_over", "sharewords": "count",
     "extrawords": "extras", "programmewords": "programme",
     "mesh": "admit measure", "shares": "count", "extras": "choose",
-    "programme": "plan_at", "delay": "delay", "delaywords": "delay",
+    "week": "plan_at", "delay": "delay", "delaywords": "delay",
     "questions": "feed finish", "show": "write link_refusal refusal",
     "showwords": "show", "showinput": "feed finish",
     "trace": "step write_burst write_plan",

@@ -12,7 +12,8 @@ PROGRAMS = "rt check domelink allcalls domeplan domeshow dometrace"
 BUILT = {                     # what tests/run needs, and what makes it
     "bin/domelink": PROGRAMS, "bin/allcalls": PROGRAMS,
     "bin/domeplan": PROGRAMS, "bin/domeshow": PROGRAMS,
-    "bin/dometrace": PROGRAMS, "staticlib/libimage.a": "rt staticlib image"}
+    "bin/dometrace": PROGRAMS,
+    "staticlib/libnazgolv.a": "rt staticlib nazgolv"}
 MISSING = os.path.join(os.sep, "nowhere", "calls")
 
 # Arguments of tests/run, and words of the sentence.

@@ -16,8 +16,8 @@ use Rattle.model.specs.Credit.{lowered, credit}
 use Rattle.model.specs.Lend.{lentTo, lend}
 use Rattle.model.specs.History.{ticks, hasCome}
 use Rattle.model.specs.Holding.{InWindow}
-use Rattle.model.specs.Card.{paper}
-use Rattle.ahead.specs.Ahead.{heldUntil, sentAhead, ComesTo, Taken}
+use Rattle.model.specs.Scheduler.{reference}
+use Rattle.ahead.specs.Ahead.{heldUntil, sentAhead, ComesTo, AheadAccepted}
 use Rattle.model.proofs.Plan.{accepted as accepted-plan}
 use Rattle.model.proofs.Tables.{table-same}
 use Rattle.model.proofs.Slots.{some-position, slotAt, slotAt-in-window, slotAt-position, current-in-window}
@@ -27,7 +27,7 @@ use Rattle.model.proofs.LinkUpdates.{flow-same, flow-other, heldFrom-at}
 use Rattle.model.proofs.CreditKeeps.{CreditPasses}
 use Rattle.model.proofs.AfterHistory.{After}
 use Rattle.model.proofs.AfterCalls.{after-run}
-use Rattle.arrival.proofs.TakenCredits.{credit-taken}
+use Rattle.arrival.proofs.AcceptedCredits.{credit-accepted}
 use Rattle.arrival.proofs.AnsweredLends.{lend-answered}
 
 -- ---- the two calls
@@ -129,13 +129,13 @@ comes-to l ok inside mask i p a below to-come =
     let now : Current (l .plan) (l .current) (l .current) = record { accepted = ok; current-is = sym (mod-eq-of-lt inside) } in
     let loan = lend-answered l mask i (ok .some-flow) a in
     ap (λ s. credit (s .link) i p) (loan .gets)
-    ∙ credit-taken (lentTo l i) i p (passes-after-lend l now (loan .known) below to-come)
+    ∙ credit-accepted (lentTo l i) i p (passes-after-lend l now (loan .known) below to-come)
     ∙ ap (λ k. record { link = k; answer = accepted tt }) (lowered-is l now (loan .known) below to-come)
 
--- ---- taken, of the paper's card
+-- ---- taken, of the reference scheduler
 
-pub taken : Taken paper
-taken bytes passes calls mask i p =
+pub ahead-accepted : AheadAccepted reference
+ahead-accepted bytes passes calls mask i p =
     after-run
     (λ P l h. lend l mask .answer ≡ accepted i → p < positions P → hasCome P (ticks h) p ≡ false → credit (lend l mask .link) i p .answer ≡ accepted tt)
     (λ l h g a below yet. after l h g a below yet)

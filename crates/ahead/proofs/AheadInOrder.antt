@@ -13,10 +13,10 @@ use Rattle.model.specs.Plan.{Plan, Accepted, planOf, refusal}
 use Rattle.model.specs.Calls.{Call, Grant, Event, History, requested, credited, ticked, lent, accepted, refused}
 use Rattle.model.specs.History.{ticks, slotAfter, grants, grantsSince, ofFlow, atSlot, WasGranted}
 use Rattle.model.specs.Claim.{Each}
-use Rattle.model.specs.Card.{paper, run}
+use Rattle.model.specs.Scheduler.{reference, run}
 use Rattle.arrival.specs.Delay.{dueSlot}
 use Rattle.ahead.specs.AheadRuns.{WithAhead, start, both-tick, both-request, both-credit, both-lend, first-refused, second-refused, both-reset, sent-ahead}
-use Rattle.ahead.specs.AheadRuns.{laterOf, latest, GrantFrom, GrantsAfter, ResetsAfter, NoneTakenAlone, SameGrant}
+use Rattle.ahead.specs.AheadRuns.{laterOf, latest, GrantFrom, GrantsAfter, ResetsAfter, NoneAcceptedAlone, SameGrant}
 use Rattle.ahead.specs.Sendings.{Sending, event, Tile, tileAt, tiles, EachCome, HasTile, KeepsOrder, LeaveInOrder, FirstFirst, LentOnlyAhead, sendingOf, AheadInOrder}
 use Rattle.model.proofs.Tests.{and-true}
 use Rattle.model.proofs.Tallies.{tally-le}
@@ -154,7 +154,7 @@ module _ (P : Plan) (i : ℕ) where
 
   module _ (ok : Accepted P) where
     keeps : {h₁ h₂ : History} (x : WithAhead h₁ h₂) → Each (Replayed P) h₁ → Each (Replayed P) h₂ → Each (EarliestAt P) h₁ → GrantsAfter P x → ResetsAfter P x
-        → NoneTakenAlone x → FirstFirst P (sendingOf x) i → LentOnlyAhead (sendingOf x) i → KeepsOrder P (sendingOf x) i
+        → NoneAcceptedAlone x → FirstFirst P (sendingOf x) i → LentOnlyAhead (sendingOf x) i → KeepsOrder P (sendingOf x) i
     unfolding tally
     keeps start e₁ e₂ earliest after resets alone first only = tt
     keeps (both-tick x) e₁ e₂ earliest after resets alone first only =
@@ -181,8 +181,8 @@ module _ (P : Plan) (i : ℕ) where
         (first .0, keeps x e₁ (e₂ .1 .1) earliest after resets alone (first .1) only)
 
 pub leave-after : (bytes : List ℕ) → refusal bytes ≡ 0 → (calls₁ calls₂ : List Call)
-    (x : WithAhead (run paper (planOf bytes) calls₁ .history) (run paper (planOf bytes) calls₂ .history))
-    → EachCome (planOf bytes) (sendingOf x) → Orders (planOf bytes) (Come (planOf bytes)) x → NoneTakenAlone x → (i : ℕ)
+    (x : WithAhead (run reference (planOf bytes) calls₁ .history) (run reference (planOf bytes) calls₂ .history))
+    → EachCome (planOf bytes) (sendingOf x) → Orders (planOf bytes) (Come (planOf bytes)) x → NoneAcceptedAlone x → (i : ℕ)
     → FirstFirst (planOf bytes) (sendingOf x) i → LentOnlyAhead (sendingOf x) i → LeaveInOrder (planOf bytes) (sendingOf x) i
 leave-after bytes passes calls₁ calls₂ x each order alone i first only =
     let P = planOf bytes in
@@ -190,10 +190,10 @@ leave-after bytes passes calls₁ calls₂ x each order alone i first only =
     let r₁ = replays P ok calls₁ .each in
     let r₂ = replays P ok calls₂ .each in
     let asked = come-asked P ok x r₁ r₂ each order alone in
-    leave-in-order P (run paper P calls₂ .history) (sendingOf x) i
+    leave-in-order P (run reference P calls₂ .history) (sendingOf x) i
     (keeps P i ok x r₁ r₂ (each-earliest P ok calls₁) (asked .grants-after) (asked .resets-after) alone first only)
 
-pub ahead-in-order : AheadInOrder paper
+pub ahead-in-order : AheadInOrder reference
 ahead-in-order bytes passes calls₁ calls₂ x each room =
     let P = planOf bytes in
     let ok = accepted-plan bytes passes in

@@ -10,14 +10,14 @@ use borrow.Author.Tests.{leb-false, eqb-true}
 use Rattle.model.specs.Tables.{tally}
 use Rattle.model.specs.Word.{flowOf, departureOf}
 use Rattle.model.specs.Plan.{Plan, Accepted, planOf}
-use Rattle.model.specs.Calls.{Grant, Renewal, Event, History, requested, accepted, refused}
+use Rattle.model.specs.Calls.{Grant, ResetAnswer, Event, History, requested, accepted, refused}
 use Rattle.model.specs.Link.{Link}
-use Rattle.model.specs.History.{ticks, slotAfter, renews, marksOf, grantAt, grants, grantsSince, ofFlow, atSlot, WasGranted}
+use Rattle.model.specs.History.{ticks, slotAfter, isGrantedReset, marksOf, grantAt, grants, grantsSince, ofFlow, atSlot, WasGranted}
 use Rattle.model.specs.Claim.{Each, AtGrant}
-use Rattle.model.specs.Card.{paper, run}
+use Rattle.model.specs.Scheduler.{reference, run}
 use Rattle.arrival.specs.BooksInOrder.{GrantedSince}
 use Rattle.ahead.specs.AheadRuns.{WithAhead, start, both-tick, both-request, both-credit, both-lend, first-refused, second-refused, both-reset, sent-ahead}
-use Rattle.ahead.specs.AheadRuns.{laterOf, latest, GrantFrom, RenewedFrom, GrantsAfter, ResetsAfter, OfBooked, InTurnNobodyMoves, InOrderNobodyMoves}
+use Rattle.ahead.specs.AheadRuns.{laterOf, latest, GrantFrom, ResetFrom, GrantsAfter, ResetsAfter, OfBooked, InTurnNobodyMoves, InOrderNobodyMoves}
 use Rattle.model.proofs.Plan.{accepted as accepted-plan}
 use Rattle.model.proofs.Tests.{and-true}
 use Rattle.model.proofs.Tallies.{tally-append, tally-le}
@@ -82,7 +82,7 @@ latest-on a b true some = go (leb a b) refl
     go false e = omega (arith, leb-false a b e)
 latest-on a b false some = some
 
-module _ (P : Plan) (B : History → (j s : ℕ) → Type 0) (on : (e : Event) (h : History) (j s : ℕ) → renews e ≡ false → B h j s → B (e ∷ h) j s)
+module _ (P : Plan) (B : History → (j s : ℕ) → Type 0) (on : (e : Event) (h : History) (j s : ℕ) → isGrantedReset e ≡ false → B h j s → B (e ∷ h) j s)
     (granted : (h : History) (j s : ℕ) → B h j s → GrantedSince P h j s) where
   -- ---- the latest slot that a flow has sent ahead, where it is to come
 
@@ -94,7 +94,7 @@ module _ (P : Plan) (B : History → (j s : ℕ) → Type 0) (on : (e : Event) (
       go true to-come = qb to-come
       go false to-come = qa
 
-  after-reset : {l : Link} (a : Renewal) (h : History) (j s : ℕ) → After P l (Event.reset a ∷ h) → ticks h < s → B h j s → B (Event.reset a ∷ h) j s
+  after-reset : {l : Link} (a : ResetAnswer) (h : History) (j s : ℕ) → After P l (Event.reset a ∷ h) → ticks h < s → B h j s → B (Event.reset a ∷ h) j s
   after-reset (accepted u) h j s g to-come was = absurd (none-left P u h j s g to-come (granted h j s was))
   after-reset (refused r) h j s g to-come was = on (Event.reset (refused r)) h j s refl was
 
@@ -149,8 +149,8 @@ module _ (P : Plan) (B : History → (j s : ℕ) → Type 0) (on : (e : Event) (
 
   -- ---- and so do granted resets
 
-  one-reset : {l : Link} (a : Renewal) (h : History) (b : ℕ → ℕ) → After P l (Event.reset a ∷ h) → ((j : ℕ) → ticks h < b j → B h j (b j))
-      → RenewedFrom (ticks h) b a
+  one-reset : {l : Link} (a : ResetAnswer) (h : History) (b : ℕ → ℕ) → After P l (Event.reset a ∷ h) → ((j : ℕ) → ticks h < b j → B h j (b j))
+      → ResetFrom (ticks h) b a
   one-reset (refused r) h b g was = tt
   one-reset (accepted u) h b g was = λ j. go j (decLe (b j) (ticks h))
     where
@@ -176,7 +176,7 @@ module _ (P : Plan) (ok : Accepted P) where
   abbrev Granted : History → (j s : ℕ) → Type 0
   Granted h j s = GrantedSince P h j s
 
-  still-granted : (e : Event) (h : History) (j s : ℕ) → renews e ≡ false → GrantedSince P h j s → GrantedSince P (e ∷ h) j s
+  still-granted : (e : Event) (h : History) (j s : ℕ) → isGrantedReset e ≡ false → GrantedSince P h j s → GrantedSince P (e ∷ h) j s
   unfolding grantsSince
   still-granted e h j s keeps was = rw keeps (omega (arith, tally-append (λ m. ofFlow j m && atSlot s m) (grantAt P e h) (grantsSince P h)))
 
@@ -195,7 +195,7 @@ module _ (P : Plan) (ok : Accepted P) where
   )
 
 -- what is granted in order comes after what is sent ahead
-pub in-order-nobody-moves : InOrderNobodyMoves paper
+pub in-order-nobody-moves : InOrderNobodyMoves reference
 in-order-nobody-moves bytes passes calls₁ calls₂ x booked order alone =
     let P = planOf bytes in
     let ok = accepted-plan bytes passes in
@@ -206,10 +206,10 @@ in-order-nobody-moves bytes passes calls₁ calls₂ x booked order alone =
     (resets-after P (Granted P ok) (still-granted P ok) (λ h j s was. was) x each sent) alone
 
 -- flows in turn are granted their slots in order
-pub in-turn-nobody-moves : InTurnNobodyMoves paper
+pub in-turn-nobody-moves : InTurnNobodyMoves reference
 in-turn-nobody-moves bytes passes calls₁ calls₂ x booked turns alone =
     let P = planOf bytes in
     let ok = accepted-plan bytes passes in
     in-order-nobody-moves bytes passes calls₁ calls₂ x booked
-    (λ i some. all-in-order P ok i (run paper P calls₁ .history) (each-earliest P ok calls₁) (frames-in-order P ok calls₁) (each-happened P ok calls₁) (turns i some))
+    (λ i some. all-in-order P ok i (run reference P calls₁ .history) (each-earliest P ok calls₁) (frames-in-order P ok calls₁) (each-happened P ok calls₁) (turns i some))
     alone

@@ -9,7 +9,7 @@ use Rattle.model.specs.Plan.{Plan}
 use Rattle.model.specs.Calls.{Event, History, requested, credited, ticked, lent, accepted, refused}
 use Rattle.model.specs.History.{ticks, slotAfter, marksOf, grantAt, grants}
 use Rattle.model.specs.Claim.{AtLoan}
-use Rattle.model.specs.Card.{Card}
+use Rattle.model.specs.Scheduler.{Scheduler}
 use Rattle.arrival.specs.SeveralLinks.{slotsOf, tile, Board, planOn, sentOn}
 use Rattle.ahead.specs.AheadRuns.{WithAhead, BookedAlike}
 use Rattle.ahead.specs.Sendings.{Sending, nothing, event, ahead, Tile, tileAt, tiles, sendingOf, LentOnlyAhead}
@@ -41,7 +41,7 @@ module _ (P : Plan) (i : ℕ) where
 
 -- ---- no tile leaves after its slot
 
-module _ {c : Card} (b : Board c) {h₂ : History} (x : WithAhead (b .events) h₂) (alike : BookedAlike (planOn b) x)
+module _ {c : Scheduler} (b : Board c) {h₂ : History} (x : WithAhead (b .events) h₂) (alike : BookedAlike (planOn b) x)
     (only : LentOnlyAhead (sendingOf x) (b .stream)) where
   abbrev sent : List Tile
   sent = tiles (planOn b) (sendingOf x)
@@ -61,7 +61,7 @@ module _ {c : Card} (b : Board c) {h₂ : History} (x : WithAhead (b .events) h�
         ap (tile n) same,
       )
 
-pub leave-within : {c : Card} → KeptWithin c
+pub leave-within : {c : Scheduler} → KeptWithin c
 leave-within {c} k P from b within h₂ x alike only = record {
   as-many = as-many-leave b x alike only;
   frames-later = λ n below.

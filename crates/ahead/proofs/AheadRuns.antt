@@ -16,14 +16,14 @@ use Rattle.model.specs.Credit.{credit}
 use Rattle.model.specs.Lend.{lentTo, lend}
 use Rattle.model.specs.History.{ticks, slotAfter, marksOf, grants}
 use Rattle.model.specs.Claim.{Each}
-use Rattle.model.specs.Card.{paper}
+use Rattle.model.specs.Scheduler.{reference}
 use Rattle.ahead.specs.Ahead.{sentAhead}
 use Rattle.ahead.specs.AheadRuns.{WithAhead, start, both-tick, both-request, both-credit, both-lend, first-refused, second-refused, both-reset, sent-ahead}
-use Rattle.ahead.specs.AheadRuns.{latest, GrantFrom, RenewedFrom, RefusedToo, GrantsAfter, ResetsAfter, NoneTakenAlone, SameGrant, AnsweredAlike, TakenToo, Unmoved, NobodyMoves}
+use Rattle.ahead.specs.AheadRuns.{latest, GrantFrom, ResetFrom, RefusedToo, GrantsAfter, ResetsAfter, NoneAcceptedAlone, SameGrant, AnsweredAlike, AcceptedToo, Unmoved, NobodyMoves}
 use Rattle.model.proofs.Plan.{accepted as accepted-plan}
 use Rattle.model.proofs.Slots.{some-position}
 use Rattle.model.proofs.AfterHistory.{After}
-use Rattle.arrival.proofs.TakenCredits.{credit-was-taken}
+use Rattle.arrival.proofs.AcceptedCredits.{credit-was-accepted}
 use Rattle.arrival.proofs.AnsweredLends.{lend-answered, lend-refused}
 use Rattle.ahead.proofs.Ahead.{comes-to}
 use Rattle.ahead.proofs.Replays.{linkAfter, Replayed, replays, stands-after}
@@ -42,10 +42,10 @@ pub record SentAhead (l : Link) (m i p : ℕ) : Type 0 where
 sent : {P : Plan} {l : Link} {h : History} → After P l h → (m i p : ℕ) → lend l m .answer ≡ accepted i
     → credit (lend l m .link) i p .answer ≡ accepted tt → SentAhead l m i p
 unfolding lentTo
-sent {P} {l} {h} g m i p loan taken =
+sent {P} {l} {h} g m i p loan accepts =
     let ok = g .invariant .current .accepted in
     let x = lend-answered l m i (ok .some-flow) loan in
-    let passes = credit-was-taken (lentTo l i) i p (sym (ap (λ s. credit (s .link) i p .answer) (x .gets)) ∙ taken) in
+    let passes = credit-was-accepted (lentTo l i) i p (sym (ap (λ s. credit (s .link) i p .answer) (x .gets)) ∙ accepts) in
     let inside : l .current < positions (l .plan) = rw (g .invariant .current .current-is) (mod-lt (ticks h) (some-position ok)) in
     record {
       known = x .known;
@@ -75,7 +75,7 @@ module _ (P : Plan) (plan-ok : Accepted P) where
   one-more w (refused r₁) (refused r₂) h₁ h₂ same at-once before = before
 
   pub follows : {h₁ h₂ : History} (x : WithAhead h₁ h₂) → Each (Replayed P) h₁ → Each (Replayed P) h₂ → GrantsAfter P x → ResetsAfter P x
-      → NoneTakenAlone x → Follows x
+      → NoneAcceptedAlone x → Follows x
   unfolding ticks linkAfter grants marksOf fresh
   follows start e₁ e₂ order resets alone = record {
     same-ticks = refl;
@@ -119,7 +119,7 @@ module _ (P : Plan) (plan-ok : Accepted P) where
       record {
         same-ticks = r .same-ticks;
         close = both .1;
-        unmoved = (subst (λ a. TakenToo a a₂) (e₁ .0 .answer) (subst (TakenToo (credit (linkAfter P h₁) j p .answer)) (e₂ .0 .answer) (both .0)), r .unmoved);
+        unmoved = (subst (λ a. AcceptedToo a a₂) (e₁ .0 .answer) (subst (AcceptedToo (credit (linkAfter P h₁) j p .answer)) (e₂ .0 .answer) (both .0)), r .unmoved);
         same-grants = r .same-grants;
       }
   follows (both-lend {h₁ = h₁} {h₂ = h₂} {m₁ = m₁} {m₂ = m₂} j x) e₁ e₂ order resets alone =
@@ -157,7 +157,7 @@ module _ (P : Plan) (plan-ok : Accepted P) where
   follows (both-reset {h₁ = h₁} x) e₁ e₂ order resets alone =
       let r = follows x (e₁ .1) (e₂ .1) order (resets .1) alone in
       let both =
-      close-reset (e₁ .0 .stands .invariant) (r .close) (subst (RenewedFrom (ticks h₁) (λ j. latest P x j)) (sym (e₁ .0 .answer)) (resets .0)) in
+      close-reset (e₁ .0 .stands .invariant) (r .close) (subst (ResetFrom (ticks h₁) (λ j. latest P x j)) (sym (e₁ .0 .answer)) (resets .0)) in
       record {
         same-ticks = r .same-ticks;
         close = both .1;
@@ -176,7 +176,7 @@ module _ (P : Plan) (plan-ok : Accepted P) where
         same-grants = r .same-grants;
       }
 
-pub nobody-moves : NobodyMoves paper
+pub nobody-moves : NobodyMoves reference
 nobody-moves bytes passes calls₁ calls₂ x order resets alone =
     let P = planOf bytes in
     let ok = accepted-plan bytes passes in

@@ -12,16 +12,16 @@ use lib.ListN.{getD}
 use borrow.Author.Tests.{ltb-true, leb-true, leb-false, le-leb, lt-ltb, eqb-true, eqb-false, eq-eqb, ne-eqb}
 use Rattle.model.specs.Refusals.{firstOf}
 use Rattle.model.specs.Plan.{Plan, positions, flowCount}
-use Rattle.model.specs.Calls.{Receipt, accepted}
+use Rattle.model.specs.Calls.{CreditAnswer, accepted}
 use Rattle.model.specs.Window.{Window, head, next, passed, fromOn, everyFrom, inHead}
-use Rattle.model.specs.Link.{Link, Flow, Step, window, flow, holding, share, withCurrent, withTaken, movedTo, withHeld, heldFrom}
+use Rattle.model.specs.Link.{Link, Flow, Step, window, flow, holding, share, withCurrent, withMark, movedTo, withHeld, heldFrom}
 use Rattle.model.specs.Credit.{creditTests, lowered, creditAfter, credit}
 use Rattle.model.specs.Tick.{leftHead, carriedOn, recycled, nextPosition, advanced, tick}
 use Rattle.model.specs.Lend.{lentTo}
 use Rattle.model.specs.History.{frameOf, slotAfter}
 use Rattle.model.specs.Holding.{frameStart, InWindow}
 use Rattle.ahead.specs.Ahead.{heldUntil, sentAhead}
-use Rattle.ahead.specs.AheadRuns.{laterOf, RefusedToo, TakenToo}
+use Rattle.ahead.specs.AheadRuns.{laterOf, RefusedToo, AcceptedToo}
 use Rattle.model.proofs.Slots.{some-position, frame-stays, frames-go-on, slotAt, slotAt-in-window, slotAt-position, slotAfter-is}
 use Rattle.model.proofs.Slots.{current-in-window, last-in-window, place-of-position}
 use Rattle.model.proofs.Window.{Current, passed-is, fromOn-is, everyFrom-at, everyFrom-intro, last-is}
@@ -31,7 +31,7 @@ use Rattle.model.proofs.Invariant.{Ledger, Invariant}
 use Rattle.model.proofs.CreditKeeps.{CreditPasses, credit-passes}
 use Rattle.model.proofs.NextSlot.{next-position}
 use Rattle.model.proofs.FrameChangeKeeps.{kept, added, before}
-use Rattle.arrival.proofs.TakenCredits.{credit-taken}
+use Rattle.arrival.proofs.AcceptedCredits.{credit-accepted}
 use Rattle.ahead.proofs.CloseLinks.{CloseFlow, Close, Parts, with, by-base, raised, each-close}
 
 -- a holding that fell by one from some position on, in both
@@ -126,21 +126,21 @@ module _ (base : Link) (x y : Parts) {L : Ledger} (v : Invariant (with base x) L
       begun = c .begun;
     }
 
-    abbrev Taken : Step Receipt → Step Receipt → Type 0
-    Taken s s′ = RefusedToo (s .answer) (s′ .answer) → TakenToo (s .answer) (s′ .answer) × Close P t b (s .link) (s′ .link)
+    abbrev AcceptedAlike : Step CreditAnswer → Step CreditAnswer → Type 0
+    AcceptedAlike s s′ = RefusedToo (s .answer) (s′ .answer) → AcceptedToo (s .answer) (s′ .answer) × Close P t b (s .link) (s′ .link)
 
-    credit-close : Taken (credit k i p) (credit l i p)
+    credit-close : AcceptedAlike (credit k i p) (credit l i p)
     unfolding credit creditAfter
     credit-close = first (firstOf (creditTests k i p)) refl
       where
-        second : (r r′ : ℕ) → Taken (creditAfter (suc r) k i p) (creditAfter r′ l i p)
+        second : (r r′ : ℕ) → AcceptedAlike (creditAfter (suc r) k i p) (creditAfter r′ l i p)
         second r zero both = absurd both
         second r (suc r′) both = (tt, c)
 
-        first : (r : ℕ) → firstOf (creditTests k i p) ≡ r → Taken (creditAfter r k i p) (credit l i p)
+        first : (r : ℕ) → firstOf (creditTests k i p) ≡ r → AcceptedAlike (creditAfter r k i p) (credit l i p)
         first zero e =
             let a = credit-passes k i p e in
-            subst (Taken (creditAfter 0 k i p)) (sym (credit-taken l i p (passes-too a))) (λ both. (refl, lowered-close a))
+            subst (AcceptedAlike (creditAfter 0 k i p)) (sym (credit-accepted l i p (passes-too a))) (λ both. (refl, lowered-close a))
         first (suc r) e = second r (firstOf (creditTests l i p))
 
   -- ---- a lend to one flow in both
@@ -255,7 +255,7 @@ module _ (base : Link) (x y : Parts) {L : Ledger} (v : Invariant (with base x) L
 
   -- in the same frame
   in-frame : (suc t % P .slots ≡ 0 → ⊥)
-      → Close P (suc t) b (withTaken (withCurrent k (nextPosition base)) false) (withTaken (withCurrent l (nextPosition base)) false)
+      → Close P (suc t) b (withMark (withCurrent k (nextPosition base)) false) (withMark (withCurrent l (nextPosition base)) false)
   in-frame d = record {
     plan-first = refl;
     plan-second = refl;
@@ -328,7 +328,7 @@ module _ (base : Link) (x y : Parts) {L : Ledger} (v : Invariant (with base x) L
             ∙ c .flows j known .same-from (end - 1) (last-in-window ok t) (omega (arith, current-in-window ok t .high)) (omega (arith, c .begun j known))
             ∙ sym (carried-last y j (leftHead l j) s w-s (omega arith))
 
-    recycled-close : Close P (suc t) b (withTaken (withCurrent (recycled k) (nextPosition base)) false) (withTaken (withCurrent (recycled l) (nextPosition base)) false)
+    recycled-close : Close P (suc t) b (withMark (withCurrent (recycled k) (nextPosition base)) false) (withMark (withCurrent (recycled l) (nextPosition base)) false)
     unfolding recycled
     recycled-close = record {
       plan-first = refl;
@@ -344,8 +344,8 @@ module _ (base : Link) (x y : Parts) {L : Ledger} (v : Invariant (with base x) L
   tick-close = go (eqb (nextPosition base % P .slots) 0) refl
     where
       go : (e : Bool) → eqb (nextPosition base % P .slots) 0 ≡ e
-          → Close P (suc t) b (withTaken (withCurrent (cond e (recycled k) k) (nextPosition base)) false)
-          (withTaken (withCurrent (cond e (recycled l) l) (nextPosition base)) false)
+          → Close P (suc t) b (withMark (withCurrent (cond e (recycled k) k) (nextPosition base)) false)
+          (withMark (withCurrent (cond e (recycled l) l) (nextPosition base)) false)
       go true e = recycled-close (sym place ∙ eqb-true (nextPosition base % P .slots) 0 e)
       go false e = in-frame (λ z. eqb-false (nextPosition base % P .slots) 0 e (place ∙ z))
 
@@ -365,11 +365,11 @@ module _ {P : Plan} {k l : Link} {L : Ledger} {b : ℕ → ℕ} (v : Invariant k
       by-base (λ Q m n. Invariant m L → Close Q t b m n → X Q m n) all P k l (c .plan-first) (c .plan-second) (c .current) v c
 
   pub close-credit : (i p : ℕ) → RefusedToo (credit k i p .answer) (credit l i p .answer)
-      → TakenToo (credit k i p .answer) (credit l i p .answer) × Close P t b (credit k i p .link) (credit l i p .link)
+      → AcceptedToo (credit k i p .answer) (credit l i p .answer) × Close P t b (credit k i p .link) (credit l i p .link)
   close-credit i p =
       of-both
       (λ Q m n. RefusedToo (credit m i p .answer) (credit n i p .answer)
-      → TakenToo (credit m i p .answer) (credit n i p .answer) × Close Q t b (credit m i p .link) (credit n i p .link))
+      → AcceptedToo (credit m i p .answer) (credit n i p .answer) × Close Q t b (credit m i p .link) (credit n i p .link))
       (λ base x y v c. credit-close base x y v c i p)
 
   pub close-lend : (i : ℕ) → i < flowCount (k .plan) → Close P t b (lentTo k i) (lentTo l i)

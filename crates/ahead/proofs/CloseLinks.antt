@@ -37,14 +37,14 @@ pub record Close (P : Plan) (t : ℕ) (b : ℕ → ℕ) (k l : Link) : Type 0 wh
 pub record Parts : Type 0 where
   pub owners : List (Option ℕ)
   pub flows : List Flow
-  pub taken : Bool
-  pub lookFrom : ℕ
+  pub marked : Bool
+  pub turn : ℕ
 
 abbrev pub with : Link → Parts → Link
-with base x = linkWith base (base .current) (x .owners) (x .flows) (x .taken) (x .lookFrom)
+with base x = linkWith base (base .current) (x .owners) (x .flows) (x .marked) (x .turn)
 
 abbrev pub parts : Link → Parts
-parts l = record { owners = l .owners; flows = l .flows; taken = l .taken; lookFrom = l .lookFrom }
+parts l = record { owners = l .owners; flows = l .flows; marked = l .marked; turn = l .turn }
 
 -- What holds of all such links holds of links that are close.
 pub by-base : (X : Plan → Link → Link → Type 0) → ((base : Link) (x y : Parts) → X (base .plan) (with base x) (with base y))
@@ -53,7 +53,7 @@ by-base X all P k l first second current = subst (λ Q. X Q k l) first (subst (X
   where
     same : with k (parts l) ≡ l
     same =
-        ap₂ (λ Q c. record { plan = Q; current = c; owners = l .owners; flows = l .flows; taken = l .taken; lookFrom = l .lookFrom })
+        ap₂ (λ Q c. record { plan = Q; current = c; owners = l .owners; flows = l .flows; marked = l .marked; turn = l .turn })
         (first ∙ sym second) current
 
 -- a holding that rose by one from some position on, in both

@@ -8,13 +8,13 @@ use native.Mathlib.Omega.{arith}
 use lib.Dec.{eqb}
 use borrow.Author.Tests.{eqb-true, eq-eqb}
 use Rattle.model.specs.Plan.{Plan, positions, flowCount}
-use Rattle.model.specs.Calls.{Renewal}
+use Rattle.model.specs.Calls.{ResetAnswer}
 use Rattle.model.specs.Window.{Window, later, everyFrom}
 use Rattle.model.specs.Link.{Link, Step, window, owner, holding}
 use Rattle.model.specs.Request.{unbooked}
-use Rattle.model.specs.Reset.{noneBooked, noneHeld, quiet, fromHead, renewed, reset}
+use Rattle.model.specs.Reset.{noneBooked, noneHeld, quiet, fromHead, resetLink, reset}
 use Rattle.model.specs.Holding.{InWindow}
-use Rattle.ahead.specs.AheadRuns.{RenewedFrom}
+use Rattle.ahead.specs.AheadRuns.{ResetFrom}
 use Rattle.model.proofs.Tables.{every-at, every-intro}
 use Rattle.model.proofs.Slots.{current-in-window}
 use Rattle.model.proofs.Window.{Current, everyFrom-at, everyFrom-intro}
@@ -83,9 +83,9 @@ module _ (base : Link) (x y : Parts) {L : Ledger} (v : Invariant (with base x) L
         held-too base x y (v .current) (λ j s known w-s le. omega (arith, c .flows j known .same-from s w-s le (omega (arith, come j)))) (q .none-held),
       ) refl
 
-  renewed-close : Close P t b (renewed k) (renewed l)
-  unfolding renewed
-  renewed-close = record {
+  links-reset-close : Close P t b (resetLink k) (resetLink l)
+  unfolding resetLink
+  links-reset-close = record {
     plan-first = refl;
     plan-second = refl;
     current = refl;
@@ -100,23 +100,23 @@ module _ (base : Link) (x y : Parts) {L : Ledger} (v : Invariant (with base x) L
     begun = c .begun;
   }
 
-  abbrev Alike : Step Renewal → Step Renewal → Type 0
-  Alike s s′ = RenewedFrom t b (s .answer) → (s .answer ≡ s′ .answer) × Close P t b (s .link) (s′ .link)
+  abbrev Alike : Step ResetAnswer → Step ResetAnswer → Type 0
+  Alike s s′ = ResetFrom t b (s .answer) → (s .answer ≡ s′ .answer) × Close P t b (s .link) (s′ .link)
 
   reset-close : Alike (reset k) (reset l)
   reset-close = rw (reset-is k, reset-is l) (go (quiet k) refl (quiet l) refl)
     where
       go : (p : Bool) → quiet k ≡ p → (q : Bool) → quiet l ≡ q → Alike (cond p (granted k) (notGranted k)) (cond q (granted l) (notGranted l))
-      go true e true f come = (refl, renewed-close)
+      go true e true f come = (refl, links-reset-close)
       go true e false f come = let on = quiet-on (λ j. omega (arith, come j)) e in let no : _≡_ {A = ℕ} 0 1 = cc in absurd (omega arith)
       go false e true f come = let back = quiet-back f in let no : _≡_ {A = ℕ} 0 1 = cc in absurd (omega arith)
       go false e false f come = (refl, c)
 
 -- of any two links that are close
-pub close-reset : {P : Plan} {k l : Link} {L : Ledger} {b : ℕ → ℕ} → Invariant k L → Close P (L .now) b k l → RenewedFrom (L .now) b (reset k .answer)
+pub close-reset : {P : Plan} {k l : Link} {L : Ledger} {b : ℕ → ℕ} → Invariant k L → Close P (L .now) b k l → ResetFrom (L .now) b (reset k .answer)
     → (reset k .answer ≡ reset l .answer) × Close P (L .now) b (reset k .link) (reset l .link)
 close-reset {P} {k} {l} {L} {b} v c =
     by-base
-    (λ Q m n. Invariant m L → Close Q (L .now) b m n → RenewedFrom (L .now) b (reset m .answer)
+    (λ Q m n. Invariant m L → Close Q (L .now) b m n → ResetFrom (L .now) b (reset m .answer)
     → (reset m .answer ≡ reset n .answer) × Close Q (L .now) b (reset m .link) (reset n .link))
     (λ base x y v c. reset-close base x y v c) P k l (c .plan-first) (c .plan-second) (c .current) v c

@@ -8,18 +8,18 @@ use native.Mathlib.Omega.{arith}
 use lib.Dec.{eqb}
 use Rattle.model.specs.Word.{flowOf}
 use Rattle.model.specs.Plan.{Plan, Accepted, flowCount, planOf, entry}
-use Rattle.model.specs.Calls.{Grant, Renewal, Event, History, requested, credited, ticked, lent, accepted, refused}
+use Rattle.model.specs.Calls.{Grant, ResetAnswer, Event, History, requested, credited, ticked, lent, accepted, refused}
 use Rattle.model.specs.Link.{Link}
-use Rattle.model.specs.History.{ticks, slotAfter, renews, upTo}
+use Rattle.model.specs.History.{ticks, slotAfter, isGrantedReset, upTo}
 use Rattle.model.specs.Holding.{InWindow}
 use Rattle.model.specs.Claim.{Each}
 use Rattle.model.specs.Claim as claim
-use Rattle.model.specs.Card.{paper}
+use Rattle.model.specs.Scheduler.{reference}
 use Rattle.arrival.specs.Delay.{dueSince, AsksAt}
 use Rattle.model.specs.LessAsked.{HasRoom}
 use Rattle.arrival.specs.BooksInOrder.{InTurn}
 use Rattle.ahead.specs.AheadRuns.{WithAhead, start, both-tick, both-request, both-credit, both-lend, first-refused, second-refused, both-reset, sent-ahead}
-use Rattle.ahead.specs.AheadRuns.{latest, NoneTakenAlone, SameGrant, Unmoved}
+use Rattle.ahead.specs.AheadRuns.{latest, NoneAcceptedAlone, SameGrant, Unmoved}
 use Rattle.ahead.specs.Sendings.{EachCome, sendingOf, RoomWithout, InTurnWithout}
 use Rattle.model.proofs.Plan.{accepted as accepted-plan}
 use Rattle.model.proofs.Slots.{current-in-window}
@@ -66,9 +66,9 @@ module _ (P : Plan) where
   one-due w (refused r₁) (accepted v₂) h₁ h₂ same at-once before = absurd same
   one-due w (refused r₁) (refused r₂) h₁ h₂ same at-once before = before
 
-  one-reset : (a₁ a₂ : Renewal) (h₁ h₂ : History) → a₁ ≡ a₂ → dueSince P h₁ ≡ dueSince P h₂ → dueSince P (Event.reset a₁ ∷ h₁) ≡ dueSince P (Event.reset a₂ ∷ h₂)
+  one-reset : (a₁ a₂ : ResetAnswer) (h₁ h₂ : History) → a₁ ≡ a₂ → dueSince P h₁ ≡ dueSince P h₂ → dueSince P (Event.reset a₁ ∷ h₁) ≡ dueSince P (Event.reset a₂ ∷ h₂)
   unfolding dueSince
-  one-reset a₁ a₂ h₁ h₂ same before = ap₂ (λ a rest. cond (renews (Event.reset a)) [] rest) same before
+  one-reset a₁ a₂ h₁ h₂ same before = ap₂ (λ a rest. cond (isGrantedReset (Event.reset a)) [] rest) same before
 
   dues-same : {h₁ h₂ : History} (x : WithAhead h₁ h₂) → Unmoved P x → dueSince P h₁ ≡ dueSince P h₂
   unfolding dueSince
@@ -119,7 +119,7 @@ module _ (P : Plan) (ok : Accepted P) where
         go (Event.reset a) one = tt
 
     turns-too : {h₁ h₂ : History} (x : WithAhead h₁ h₂) → ((i : ℕ) → 0 < latest P x i → S i) → Each (Replayed P) h₁ → Each (Replayed P) h₂
-        → Each (EarliestAt P) h₁ → Each (FrameInOrderAt P) h₁ → Each (Happened P) h₁ → EachCome P (sendingOf x) → NoneTakenAlone x
+        → Each (EarliestAt P) h₁ → Each (FrameInOrderAt P) h₁ → Each (Happened P) h₁ → EachCome P (sendingOf x) → NoneAcceptedAlone x
         → ((i : ℕ) → S i → Each (AsksAt Q P i) h₂) → (i : ℕ) → S i → Each (AsksAt Q P i) h₁
     turns-too start all e₁ e₂ first frames happened each alone turns i some = tt
     turns-too (both-tick x) all e₁ e₂ first frames happened each alone turns i some =
@@ -147,14 +147,14 @@ module _ (P : Plan) (ok : Accepted P) where
         turns-too x (λ k z. all k (latest-on (slotAfter P (ticks h₁) p) (latest P x k) (eqb k j) z)) e₁ (e₂ .1 .1) first frames happened (each .1) alone
         (λ k z. turns k z .1 .1) i some
 
-pub room-without : RoomWithout paper
+pub room-without : RoomWithout reference
 room-without bytes passes calls₁ calls₂ x each alone room =
     let P = planOf bytes in
     let ok = accepted-plan bytes passes in
     turns-too P ok HasRoom (has-room-too P ok) (λ i w h y. y) (λ i. 0 < latest P x i) x (λ i some. some) (replays P ok calls₁ .each) (replays P ok calls₂ .each)
     (each-earliest P ok calls₁) (frames-in-order P ok calls₁) (each-happened P ok calls₁) each alone room
 
-pub in-turn-without : InTurnWithout paper
+pub in-turn-without : InTurnWithout reference
 in-turn-without bytes passes calls₁ calls₂ x each alone turns =
     let P = planOf bytes in
     let ok = accepted-plan bytes passes in

@@ -12,7 +12,7 @@ use Rattle.model.specs.Word.{flowOf}
 use Rattle.model.specs.Plan.{Plan}
 use Rattle.model.specs.Calls.{Grant, History, requested, accepted, refused}
 use Rattle.model.specs.History.{ticks, slotAfter, marksOf}
-use Rattle.model.specs.Card.{paper}
+use Rattle.model.specs.Scheduler.{reference}
 use Rattle.arrival.specs.Delay.{dueSlot}
 use Rattle.arrival.specs.SeveralLinks.{slotsOf, dues, dueSlots, tile, Board, planOn, sentOn, dueOn, Joined}
 use Rattle.ahead.specs.AheadRuns.{WithAhead, start, both-tick, both-request, both-credit, both-lend, first-refused, second-refused, both-reset, sent-ahead}
@@ -86,7 +86,7 @@ module _ (P : Plan) (i : ℕ) where
 -- ---- two boards
 
 -- a tile is due on the second in its slot on the first
-after-slot : (a b : Board paper) → Joined a b → {h₂ : History} (y : WithAhead (b .events) h₂) → BookedAlike (planOn b) y
+after-slot : (a b : Board reference) → Joined a b → {h₂ : History} (y : WithAhead (b .events) h₂) → BookedAlike (planOn b) y
     → LentOnlyAhead (sendingOf y) (b .stream) → SentWell (planOn b) (sendingOf y) → (n : ℕ) → n < length (sentOn b)
     → tile n (sentOn a) < tile n (leftOn b y)
 after-slot a b joined y alike only well n below =
@@ -101,7 +101,7 @@ after-slot a b joined y alike only well n below =
       ap (tile n) (leaves-are (b .stream) sent),
     )
 
-pub leave-after : KeptAfter paper
+pub leave-after : KeptAfter reference
 leave-after a b joined h₁ h₂ x y alike₁ only₁ alike₂ only₂ well = record {
   after-slot = λ n below. omega (arith, after-slot a b joined y alike₂ only₂ well n below);
   after-leaving = λ n below. omega (arith, leaves-by-slot a x alike₁ only₁ n, after-slot a b joined y alike₂ only₂ well n below);

@@ -9,7 +9,7 @@ use lib.Dec.{lit<, lit≤, leb}
 use Rattle.model.specs.Tables.{bit}
 use Rattle.model.specs.Plan.{planOf}
 use Rattle.model.specs.Calls.{Call, requested, accepted}
-use Rattle.model.specs.Card.{paper}
+use Rattle.model.specs.Scheduler.{reference}
 use Rattle.model.specs.PlanBytes.{plan1}
 use Rattle.arrival.specs.Delay.{RoomFrom}
 use Rattle.arrival.specs.SeveralLinks.{slotsOf, tile, Board, planOn, sentOn, Joined}
@@ -48,7 +48,7 @@ firstCalls = Call.request 0x24000002 ∷ Call.request 0x24000403 ∷ fiveTicks [
 abbrev pub nextCalls : List Call → List Call
 nextCalls sent = Call.request 0x24000003 ∷ Call.request 0x24000404 ∷ fiveTicks sent
 
-unfoldable pub first : Board paper
+unfoldable pub first : Board reference
 unfolding ahead-computes
 first = record {
   bytes = three;
@@ -60,7 +60,7 @@ first = record {
   known = lit< tt;
 }
 
-unfoldable pub next : Board paper
+unfoldable pub next : Board reference
 unfolding ahead-computes
 next = record {
   bytes = three;
@@ -134,7 +134,7 @@ only-next = (tt, (tt, (tt, (tt, (tt, (tt, (tt, tt)))))))
 
 sent-well : SentWell (planOn next) (sendingOf sent-on)
 unfolding ahead-computes next sent-on
-sent-well = sends-well paper meets three refl (nextCalls (Call.lend 1 ∷ Call.credit 0 8 ∷ [])) (sendingOf sent-on) (lit< {n = 1} tt, tt)
+sent-well = sends-well reference meets three refl (nextCalls (Call.lend 1 ∷ Call.credit 0 8 ∷ [])) (sendingOf sent-on) (lit< {n = 1} tt, tt)
 
 -- so it leaves the second in a later slot than the first: in slot 5, and slot 4
 pub leaves-after : (tile 1 (sentOn first) ≡ 4) × (tile 1 (leftOn next sent-on) ≡ 5)
@@ -158,7 +158,7 @@ oneCall = Call.request 0x24000000 ∷ Call.tick ∷ []
 abbrev atOnce : List Call → List Call
 atOnce sent = Call.tick ∷ Call.request 0x24000001 ∷ sent
 
-unfoldable one : Board paper
+unfoldable one : Board reference
 unfolding ahead-computes
 one = record {
   bytes = two;
@@ -170,7 +170,7 @@ one = record {
   known = lit< tt;
 }
 
-unfoldable other : Board paper
+unfoldable other : Board reference
 unfolding ahead-computes
 other = record {
   bytes = two;
@@ -206,7 +206,7 @@ unfoldable at-once : WithAhead (other .events) (after two (atOnce (Call.lend 1 �
 unfolding ahead-computes other
 at-once = sent-ahead 0 2 (both-request 0x24000001 (both-tick start))
 
-pub after-not-without-ready : AfterButReady paper → ⊥
+pub after-not-without-ready : AfterButReady reference → ⊥
 unfolding ahead-computes one other none-sent at-once leavesOf slotsOf tile
 after-not-without-ready kept =
     let x = kept one other joined-too oneCall (atOnce (Call.lend 1 ∷ Call.credit 0 2 ∷ [])) none-sent at-once

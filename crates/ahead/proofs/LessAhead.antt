@@ -10,7 +10,7 @@ use Rattle.model.specs.Plan.{Plan, planOf}
 use Rattle.model.specs.Calls.{Call, Event, History, requested, refused}
 use Rattle.model.specs.History.{atSlot}
 use Rattle.model.specs.LessAsked.{HasRoom}
-use Rattle.model.specs.Card.{run, paper}
+use Rattle.model.specs.Scheduler.{run, reference}
 use Rattle.model.specs.PlanBytes.{plan1, plan2, listing}
 use Rattle.arrival.specs.BooksInOrder.{InTurn}
 use Rattle.ahead.specs.AheadRuns.{WithAhead, start, both-tick, both-request, both-credit, both-reset, sent-ahead, latest, BookedAlike}
@@ -27,7 +27,7 @@ use Rattle.arrival.proofs.DelayDecided.{room}
 use Rattle.ahead.proofs.AheadDecided.{due-in-turn, in-turn, all-ask, ask-since, zero-alone, ahead-computes}
 
 abbrev pub after : List ℕ → List Call → History
-after bytes calls = run paper (planOf bytes) calls .history
+after bytes calls = run reference (planOf bytes) calls .history
 
 -- ---- without the order of grants, and without room
 
@@ -56,24 +56,24 @@ slot-3-moves : BookedAlike (planOf longFrames) no-order → ⊥
 unfolding calls-compute counts-compute no-order
 slot-3-moves x = let z = ap (tally (atSlot 3)) (x .same-grants) in omega arith
 
-pub not-without-order : BookedAlikeIf ButOrder paper → ⊥
+pub not-without-order : BookedAlikeIf ButOrder reference → ⊥
 unfolding plans-compute calls-compute counts-compute no-order
 not-without-order alike = slot-3-moves (alike longFrames refl order₁ order₂ no-order (tt, (tt, (tt, tt))))
 
 -- It has no room when it asks for slot 5. Its tiles are due in order; and the tile of slot 5 is ready.
-pub turn-not-without-room : BookedAlikeIf TurnButRoom paper → ⊥
+pub turn-not-without-room : BookedAlikeIf TurnButRoom reference → ⊥
 unfolding ahead-computes no-order
 turn-not-without-room alike =
     let P = planOf longFrames in
     let due = zero-alone DueInTurn P no-order (after longFrames order₁) 5 (λ i. refl) (proved (all-ask due-in-turn P 0 (after longFrames order₁)) tt) in
     slot-3-moves (alike longFrames refl order₁ order₂ no-order ((lit< tt, tt), (due, (tt, (tt, tt)))))
 
-pub ahead-not-without-room : BookedAlikeIf AheadButRoom paper → ⊥
+pub ahead-not-without-room : BookedAlikeIf AheadButRoom reference → ⊥
 unfolding ahead-computes no-order
 ahead-not-without-room alike = slot-3-moves (alike longFrames refl order₁ order₂ no-order ((lit< tt, tt), (tt, (tt, tt))))
 
 -- and it does not book in order
-pub books-not-without-room : BooksInOrderBy DueInTurn paper → ⊥
+pub books-not-without-room : BooksInOrderBy DueInTurn reference → ⊥
 unfolding ahead-computes
 books-not-without-room books =
     let P = planOf longFrames in
@@ -98,14 +98,14 @@ slot-1-moves : BookedAlike (planOf longFrames) not-booked → ⊥
 unfolding calls-compute counts-compute not-booked
 slot-1-moves x = let z = ap (tally (atSlot 1)) (x .same-grants) in omega arith
 
-pub turn-not-without-booked : BookedAlikeIf TurnButBooked paper → ⊥
+pub turn-not-without-booked : BookedAlikeIf TurnButBooked reference → ⊥
 unfolding ahead-computes not-booked
 turn-not-without-booked alike =
     let P = planOf longFrames in
     let turns = zero-alone InTurn P not-booked (after longFrames unbooked₁) 5 (λ i. refl) (proved (all-ask in-turn P 0 (after longFrames unbooked₁)) tt) in
     slot-1-moves (alike longFrames refl unbooked₁ unbooked₂ not-booked (turns, tt))
 
-pub ahead-not-without-ready : BookedAlikeIf AheadButReady paper → ⊥
+pub ahead-not-without-ready : BookedAlikeIf AheadButReady reference → ⊥
 unfolding ahead-computes not-booked
 ahead-not-without-ready alike =
     let P = planOf longFrames in
@@ -132,7 +132,7 @@ unfoldable not-due : WithAhead (after twoCells due₁) (after twoCells due₂)
 unfolding calls-compute
 not-due = both-request 0x24000800 (sent-ahead 0 5 (both-request 0x24000404 (both-credit 0 5 (both-request 0x24000000 start))))
 
-pub turn-not-without-due : BookedAlikeIf TurnButDue paper → ⊥
+pub turn-not-without-due : BookedAlikeIf TurnButDue reference → ⊥
 unfolding ahead-computes not-due
 turn-not-without-due alike =
     let P = planOf twoCells in
@@ -141,7 +141,7 @@ turn-not-without-due alike =
     let z = ap (tally (atSlot 2)) (x .same-grants) in
     omega arith
 
-pub books-not-without-due : BooksInOrderBy HasRoom paper → ⊥
+pub books-not-without-due : BooksInOrderBy HasRoom reference → ⊥
 unfolding ahead-computes
 books-not-without-due books =
     let P = planOf twoCells in
@@ -168,25 +168,25 @@ credits₁ = credits []
 abbrev pub credits₂ : List Call
 credits₂ = credits (Call.lend 1 ∷ Call.credit 0 5 ∷ [])
 
-unfoldable pub taken-alone : WithAhead (after threeCells credits₁) (after threeCells credits₂)
+unfoldable pub accepted-alone : WithAhead (after threeCells credits₁) (after threeCells credits₂)
 unfolding calls-compute
-taken-alone =
+accepted-alone =
     both-request 0x24001403 (both-request 0x24001003 (both-request 0x24000C03 (both-credit 0 4 (sent-ahead 0 5 (both-tick (both-tick (both-tick (both-credit 0 3
     (both-credit 0 3 (both-request 0x24000800 (both-request 0x24000400 (both-request 0x24000000 start))))))))))))
 
-pub not-without-credits : BookedAlikeIf ButCredits paper → ⊥
-unfolding plans-compute calls-compute counts-compute taken-alone
+pub not-without-credits : BookedAlikeIf ButCredits reference → ⊥
+unfolding plans-compute calls-compute counts-compute accepted-alone
 not-without-credits alike =
-    let x = alike threeCells refl credits₁ credits₂ taken-alone ((tt, (lit≤ tt, (lit≤ tt, (lit≤ tt, (lit≤ tt, (lit≤ tt, tt)))))), tt) in
+    let x = alike threeCells refl credits₁ credits₂ accepted-alone ((tt, (lit≤ tt, (lit≤ tt, (lit≤ tt, (lit≤ tt, (lit≤ tt, tt)))))), tt) in
     x .unmoved .0 .same-grant
 
 -- there is room in the second run at each request, and none in the first at the last
-pub room-not-without-credits : RoomIf RoomButCredits paper → ⊥
-unfolding ahead-computes taken-alone
+pub room-not-without-credits : RoomIf RoomButCredits reference → ⊥
+unfolding ahead-computes accepted-alone
 room-not-without-credits rooms =
     let P = planOf threeCells in
-    let there = zero-alone HasRoom P taken-alone (after threeCells credits₂) 5 (λ i. refl) (proved (all-ask room P 0 (after threeCells credits₂)) tt) in
-    let x = rooms threeCells refl credits₁ credits₂ taken-alone ((lit< {n = 1} tt, tt), there) 0 (lit< {n = 5} tt) in
+    let there = zero-alone HasRoom P accepted-alone (after threeCells credits₂) 5 (λ i. refl) (proved (all-ask room P 0 (after threeCells credits₂)) tt) in
+    let x = rooms threeCells refl credits₁ credits₂ accepted-alone ((lit< {n = 1} tt, tt), there) 0 (lit< {n = 5} tt) in
     let z = x .0 refl refl 10 (lit≤ tt) in
     omega arith
 
@@ -199,32 +199,32 @@ fiveSlots = plan2 5 2 8 1 2 1 2
 -- Flow 0 books slots 1 and 5, and flow 1 slots 2 and 6; the cells of the first two fall free in slot 3, in which flow 0 sends the tile of slot 5 ahead. A
 -- credit of it dated 4 is taken in the second run alone. In slot 7 flow 1's cells have come back, and flow 0's only where that credit was taken: there a reset
 -- is granted, and flow 1 then books slot 8; in the first run it is refused, and flow 1 books slot 10.
-abbrev renewed : List Call → List Call
-renewed sent =
+abbrev resetCalls : List Call → List Call
+resetCalls sent =
     Call.request 0x24000000 ∷ Call.request 0x24000400 ∷ Call.request 0x24100000 ∷ Call.request 0x24100400 ∷ Call.credit 0 3 ∷ Call.credit 1 3
     ∷ Call.tick ∷ Call.tick ∷ Call.tick ∷ (sent ++ Call.credit 0 4 ∷ Call.tick ∷ Call.tick ∷ Call.tick ∷ Call.credit 1 7 ∷ Call.tick ∷ Call.reset
     ∷ Call.request 0x24100807 ∷ [])
 
-abbrev renewed₁ : List Call
-renewed₁ = renewed []
+abbrev resetCalls₁ : List Call
+resetCalls₁ = resetCalls []
 
-abbrev renewed₂ : List Call
-renewed₂ = renewed (Call.lend 1 ∷ Call.credit 0 5 ∷ [])
+abbrev resetCalls₂ : List Call
+resetCalls₂ = resetCalls (Call.lend 1 ∷ Call.credit 0 5 ∷ [])
 
-unfoldable renewed-alone : WithAhead (after fiveSlots renewed₁) (after fiveSlots renewed₂)
+unfoldable reset-alone : WithAhead (after fiveSlots resetCalls₁) (after fiveSlots resetCalls₂)
 unfolding calls-compute
-renewed-alone =
+reset-alone =
     both-request 0x24100807 (both-reset (both-tick (both-credit 1 7 (both-tick (both-tick (both-tick (both-credit 0 4 (sent-ahead 0 5 (both-tick (both-tick
     (both-tick (both-credit 1 3 (both-credit 0 3 (both-request 0x24100400 (both-request 0x24100000 (both-request 0x24000400
     (both-request 0x24000000 start)))))))))))))))))
 
-pub turn-not-without-credits : BookedAlikeIf TurnButCredits paper → ⊥
-unfolding ahead-computes renewed-alone
+pub turn-not-without-credits : BookedAlikeIf TurnButCredits reference → ⊥
+unfolding ahead-computes reset-alone
 turn-not-without-credits alike =
     let P = planOf fiveSlots in
     let turns =
-    zero-alone InTurn P renewed-alone (after fiveSlots renewed₁) 5 (λ i. refl) (proved (all-ask in-turn P 0 (after fiveSlots renewed₁)) tt) in
-    let x = alike fiveSlots refl renewed₁ renewed₂ renewed-alone ((lit< {n = 1} tt, tt), (turns, (lit< {n = 1} tt, tt))) in
+    zero-alone InTurn P reset-alone (after fiveSlots resetCalls₁) 5 (λ i. refl) (proved (all-ask in-turn P 0 (after fiveSlots resetCalls₁)) tt) in
+    let x = alike fiveSlots refl resetCalls₁ resetCalls₂ reset-alone ((lit< {n = 1} tt, tt), (turns, (lit< {n = 1} tt, tt))) in
     let z = ap (tally (atSlot 8)) (x .same-grants) in
     omega arith
 
@@ -249,7 +249,7 @@ unfoldable no-resets : WithAhead (after oneEach resets₁) (after oneEach resets
 unfolding calls-compute
 no-resets = both-request 0x24100400 (both-reset (sent-ahead 0 3 (both-tick (both-tick (both-credit 1 2 (both-request 0x24100000 start))))))
 
-pub not-without-resets : BookedAlikeIf ButResets paper → ⊥
+pub not-without-resets : BookedAlikeIf ButResets reference → ⊥
 unfolding plans-compute calls-compute counts-compute no-resets
 not-without-resets alike =
     let x = alike oneEach refl resets₁ resets₂ no-resets ((lit≤ tt, (lit≤ tt, tt)), (tt, tt)) in
@@ -277,7 +277,7 @@ unfolding calls-compute
 no-room =
     both-request 0x24000C00 (both-request 0x24000800 (both-request 0x24000400 (both-reset (sent-ahead 0 3 (both-tick (both-tick (both-credit 0 2 (both-request 0x24000000 start))))))))
 
-pub room-not-without-ready : RoomIf RoomButReady paper → ⊥
+pub room-not-without-ready : RoomIf RoomButReady reference → ⊥
 unfolding ahead-computes no-room
 room-not-without-ready has =
     let P = planOf oneFlow in
@@ -302,7 +302,7 @@ numbers sent =
 
 -- the newest event
 abbrev newest : List Call → List Event
-newest calls = take 1 (run paper (planOf oneAndEight) calls .history)
+newest calls = take 1 (run reference (planOf oneAndEight) calls .history)
 
 pub another-number :
     (newest (numbers []) ≡ requested 0x24000807 (refused 20) ∷ [])
@@ -329,10 +329,10 @@ abbrev P : Plan
 P = planOf listing
 
 abbrev h₁ : History
-h₁ = run paper P calls₁ .history
+h₁ = run reference P calls₁ .history
 
 abbrev h₂ : History
-h₂ = run paper P calls₂ .history
+h₂ = run reference P calls₂ .history
 
 unfoldable pub two-runs : WithAhead h₁ h₂
 unfolding calls-compute
@@ -351,7 +351,7 @@ booked-alike =
 
 pub sent-well : SentWell P (sendingOf two-runs)
 unfolding plans-compute
-sent-well = sends-well paper meets listing refl calls₂ (sendingOf two-runs) each-ready
+sent-well = sends-well reference meets listing refl calls₂ (sendingOf two-runs) each-ready
 
 -- the tile with slot 4 leaves in slot 3
 pub tiles-are :
@@ -365,18 +365,18 @@ tiles-are = refl
 
 -- F = 4, W = 2, one flow with share 1 and two cells. It books slots 1 and 4, and sends the second tile in slot 2; in slot 5 both cells have come back, and a
 -- reset is granted in both. Then it books slot 6.
-abbrev afresh : List Call → List Call
-afresh sent =
+abbrev resetAfterSending : List Call → List Call
+resetAfterSending sent =
     Call.request 0x24000000 ∷ Call.request 0x24000400 ∷ Call.credit 0 2 ∷ Call.tick ∷ Call.tick
     ∷ (sent ++ Call.credit 0 5 ∷ Call.tick ∷ Call.tick ∷ Call.tick ∷ Call.reset ∷ Call.request 0x24000805 ∷ Call.tick ∷ [])
 
-abbrev afresh₁ : List Call
-afresh₁ = afresh []
+abbrev resetAfterSending₁ : List Call
+resetAfterSending₁ = resetAfterSending []
 
-abbrev afresh₂ : List Call
-afresh₂ = afresh (Call.lend 1 ∷ Call.credit 0 4 ∷ [])
+abbrev resetAfterSending₂ : List Call
+resetAfterSending₂ = resetAfterSending (Call.lend 1 ∷ Call.credit 0 4 ∷ [])
 
-unfoldable pub with-reset : WithAhead (after oneFlow afresh₁) (after oneFlow afresh₂)
+unfoldable pub with-reset : WithAhead (after oneFlow resetAfterSending₁) (after oneFlow resetAfterSending₂)
 unfolding calls-compute
 with-reset =
     both-tick (both-request 0x24000805 (both-reset (both-tick (both-tick (both-tick (both-credit 0 5 (sent-ahead 0 4 (both-tick (both-tick (both-credit 0 2
@@ -384,7 +384,7 @@ with-reset =
 
 pub reset-in-both : BookedAlike (planOf oneFlow) with-reset
 unfolding plans-compute calls-compute counts-compute with-reset
-reset-in-both = nobody-moves oneFlow refl afresh₁ afresh₂ with-reset (lit≤ tt, (lit≤ tt, (lit≤ tt, tt))) (come-up, tt) (tt, (tt, tt))
+reset-in-both = nobody-moves oneFlow refl resetAfterSending₁ resetAfterSending₂ with-reset (lit≤ tt, (lit≤ tt, (lit≤ tt, tt))) (come-up, tt) (tt, (tt, tt))
   where
     come-up : (j : ℕ) → latest (planOf oneFlow) with-reset j ≤ 5
     come-up j = go (eqb j 0)

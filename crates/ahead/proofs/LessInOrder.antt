@@ -8,7 +8,7 @@ use lib.Dec.{lit<, eqb}
 use Rattle.model.specs.Plan.{planOf}
 use Rattle.model.specs.Calls.{Call}
 use Rattle.model.specs.LessAsked.{HasRoom}
-use Rattle.model.specs.Card.{paper}
+use Rattle.model.specs.Scheduler.{reference}
 use Rattle.model.specs.PlanBytes.{plan1, listing}
 use Rattle.arrival.specs.SeveralLinks.{slotsOf, tile, Board, sentOn}
 use Rattle.ahead.specs.AheadRuns.{WithAhead, start, both-tick, both-request, both-credit, both-lend, both-reset, sent-ahead, laterOf}
@@ -18,7 +18,7 @@ use Rattle.ahead.specs.LessAhead.{LeaveInOrderIf, OrderButReady, OrderBu
 use Rattle.model.proofs.Decidable.{proved}
 use Rattle.arrival.proofs.DelayDecided.{room}
 use Rattle.ahead.proofs.AheadDecided.{all-ask, zero-alone, lent-only, all-left, ahead-computes}
-use Rattle.ahead.proofs.LessAhead.{after, twoCells, threeCells, credits₁, credits₂, taken-alone}
+use Rattle.ahead.proofs.LessAhead.{after, twoCells, threeCells, credits₁, credits₂, accepted-alone}
 
 -- flow 0's tile with slot s, which came in slot 0 and waits
 abbrev waiting : ℕ → Tile
@@ -52,7 +52,7 @@ twice : (b : Bool) → cond b (laterOf 5 (cond b 5 0)) (cond b 5 0) ≡ cond b 5
 twice true = refl
 twice false = refl
 
-pub order-not-without-ready : LeaveInOrderIf OrderButReady paper → ⊥
+pub order-not-without-ready : LeaveInOrderIf OrderButReady reference → ⊥
 unfolding ahead-computes not-ready
 order-not-without-ready leave =
     let P = planOf twoCells in
@@ -84,7 +84,7 @@ no-room =
     both-request 0x24000C00 (both-credit 0 4 (sent-ahead 0 5 (both-tick (both-tick (both-tick (both-credit 0 3 (both-request 0x24000800 (both-credit 0 5
     (both-request 0x24000400 (both-request 0x24000000 start))))))))))
 
-pub order-not-without-room : LeaveInOrderIf OrderButRoom paper → ⊥
+pub order-not-without-room : LeaveInOrderIf OrderButRoom reference → ⊥
 unfolding ahead-computes no-room
 order-not-without-room leave =
     let first : FirstFirst (planOf twoCells) (sendingOf no-room) 0 = (λ own a r. all-left 0 5 3 (waiting 5 ∷ waiting 2 ∷ waiting 1 ∷ []) refl a r, tt) in
@@ -121,9 +121,9 @@ alone₁ = alone [] []
 abbrev alone₂ : List Call
 alone₂ = alone (Call.lend 1 ∷ Call.credit 0 8 ∷ []) (Call.lend 1 ∷ Call.credit 0 12 ∷ [])
 
-unfoldable renewed-alone : WithAhead (after unlike alone₁) (after unlike alone₂)
+unfoldable reset-alone : WithAhead (after unlike alone₁) (after unlike alone₂)
 unfolding ahead-computes
-renewed-alone =
+reset-alone =
     both-request 0x24002009 (both-credit 0 10 (sent-ahead 0 12 (both-tick (both-tick (both-tick (both-tick (both-tick (both-tick (both-tick (both-tick
     (both-tick (both-credit 0 9 (both-request 0x24001C00 (both-credit 0 12 (both-tick (both-tick (both-tick (both-tick (both-tick (both-tick (both-tick
     (both-tick (both-request 0x24001808 (both-credit 0 1 (both-request 0x24001408 (both-request 0x24001008 (both-request 0x24000C08 (both-credit 0 9 (both-reset
@@ -135,15 +135,15 @@ later : (b : Bool) → cond b (laterOf 28 (cond b 8 0)) (cond b 8 0) ≡ cond b 
 later true = refl
 later false = refl
 
-pub order-not-without-credits : LeaveInOrderIf OrderButCredits paper → ⊥
-unfolding ahead-computes renewed-alone
+pub order-not-without-credits : LeaveInOrderIf OrderButCredits reference → ⊥
+unfolding ahead-computes reset-alone
 order-not-without-credits leave =
     let P = planOf unlike in
-    let rooms = zero-alone HasRoom P renewed-alone (after unlike alone₁) 28 (λ i. later (eqb i 0)) (proved (all-ask room P 0 (after unlike alone₁)) tt) in
+    let rooms = zero-alone HasRoom P reset-alone (after unlike alone₁) 28 (λ i. later (eqb i 0)) (proved (all-ask room P 0 (after unlike alone₁)) tt) in
     let before = came 16 28 28 ∷ came 8 17 17 ∷ came 8 16 16 ∷ came 8 10 10 ∷ came 8 9 9 ∷ came 0 8 3 ∷ waiting 2 ∷ waiting 1 ∷ [] in
-    let first : FirstFirst P (sendingOf renewed-alone) 0 =
+    let first : FirstFirst P (sendingOf reset-alone) 0 =
     (λ same a r. all-left 0 28 25 before refl a r, (λ same a r. all-left 0 8 3 (waiting 8 ∷ waiting 2 ∷ waiting 1 ∷ []) refl a r, tt)) in
-    let x = leave unlike refl alone₁ alone₂ renewed-alone ((lit< {n = 1} tt, (lit< {n = 1} tt, tt)), (rooms, (first, proved (lent-only (sendingOf renewed-alone) 0) tt))) in
+    let x = leave unlike refl alone₁ alone₂ reset-alone ((lit< {n = 1} tt, (lit< {n = 1} tt, tt)), (rooms, (first, proved (lent-only (sendingOf reset-alone) 0) tt))) in
     let z = x 26 26 28 25 (lit< tt) (lit< tt) (lit< tt) in
     omega arith
 
@@ -169,7 +169,7 @@ second-first =
     sent-ahead 0 5 (both-tick (both-tick (both-tick (both-request 0x24000C00 (both-request 0x24000800 (both-request 0x24000400
     (both-request 0x24000000 start)))))))
 
-pub order-not-without-first : LeaveInOrderIf OrderButFirst paper → ⊥
+pub order-not-without-first : LeaveInOrderIf OrderButFirst reference → ⊥
 unfolding ahead-computes second-first
 order-not-without-first leave =
     let P = planOf eightCells in
@@ -197,7 +197,7 @@ unfoldable lent-after : WithAhead (after oneShare lent₁) (after oneShare lent�
 unfolding ahead-computes
 lent-after = both-lend 0 (both-tick (sent-ahead 0 4 (both-tick (both-tick (both-request 0x24000400 (both-request 0x24000000 start))))))
 
-pub order-not-without-lent : LeaveInOrderIf OrderButLent paper → ⊥
+pub order-not-without-lent : LeaveInOrderIf OrderButLent reference → ⊥
 unfolding ahead-computes lent-after
 order-not-without-lent leave =
     let P = planOf oneShare in
@@ -213,7 +213,7 @@ order-not-without-lent leave =
 abbrev lentOnly : List Call
 lentOnly = Call.lend 1 ∷ []
 
-unfoldable lent-board : Board paper
+unfoldable lent-board : Board reference
 unfolding ahead-computes
 lent-board = record {
   bytes = listing;
@@ -225,7 +225,7 @@ lent-board = record {
   known = lit< tt;
 }
 
-pub within-not-without-lent : WithinButLent paper → ⊥
+pub within-not-without-lent : WithinButLent reference → ⊥
 unfolding ahead-computes lent-board leavesOf slotsOf tile
 within-not-without-lent kept =
     let x = kept 0 (planOf listing) [] lent-board (record { frames-later = λ n below. absurd (omega arith); slots-later = λ n below. absurd (omega arith) }) lentOnly
@@ -233,7 +233,7 @@ within-not-without-lent kept =
     omega (arith, x .as-many)
 
 -- The runs of `not-without-credits`: the second has a tile more.
-unfoldable credits-board : Board paper
+unfoldable credits-board : Board reference
 unfolding ahead-computes
 credits-board = record {
   bytes = threeCells;
@@ -245,10 +245,10 @@ credits-board = record {
   known = lit< tt;
 }
 
-pub within-not-without-alike : WithinButAlike paper → ⊥
-unfolding ahead-computes taken-alone credits-board leavesOf slotsOf tile
+pub within-not-without-alike : WithinButAlike reference → ⊥
+unfolding ahead-computes accepted-alone credits-board leavesOf slotsOf tile
 within-not-without-alike kept =
     let x = kept 0 (planOf threeCells) (sentOn credits-board) credits-board
-    (record { frames-later = λ n below. omega arith; slots-later = λ n below. omega arith }) credits₂ taken-alone
-    (proved (lent-only (sendingOf taken-alone) 0) tt) in
+    (record { frames-later = λ n below. omega arith; slots-later = λ n below. omega arith }) credits₂ accepted-alone
+    (proved (lent-only (sendingOf accepted-alone) 0) tt) in
     omega (arith, x .as-many)

@@ -53,4 +53,4 @@ pub mod LeaveAfterExamples
 -- two shares of cells, and a tile sent ahead
 pub mod SharesSentAhead
 -- of no tile, twice, too early, as it comes, out of order
-pub mod BadSendings
+pub mod WrongSendings

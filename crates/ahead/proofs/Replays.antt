@@ -1,4 +1,4 @@
--- A history played again on the paper's card: the link after each event, and the answer that it gave. Assumes nothing.
+-- A history played again on the reference scheduler: the link after each event, and the answer that it gave. Assumes nothing.
 use mathlib.Core.Path.{_≡_, refl, sym, ap, subst}
 use mathlib.Core.List.{List, [], _∷_}
 use Rattle.model.specs.Plan.{Plan, Accepted}
@@ -11,7 +11,7 @@ use Rattle.model.specs.Tick as tick
 use Rattle.model.specs.Lend as lend
 use Rattle.model.specs.Reset as reset
 use Rattle.model.specs.Claim.{Each}
-use Rattle.model.specs.Card.{Played, paper, step, run}
+use Rattle.model.specs.Scheduler.{Played, reference, step, run}
 use Rattle.model.proofs.AfterHistory.{After}
 use Rattle.model.proofs.AfterCalls.{Known, after-step, after-fresh}
 use Rattle.model.proofs.EventsOfRuns.{Happened, by-calls}
@@ -40,12 +40,12 @@ pub record Replayed (P : Plan) (e : Event) (h : History) : Type 0 where
   pub answer : AnsweredBy (linkAfter P h) e
 
 -- so of each event, and the link is the one after them
-pub record Replays (P : Plan) (r : Played paper) : Type 0 where
+pub record Replays (P : Plan) (r : Played reference) : Type 0 where
   pub link-is : r .state ≡ linkAfter P (r .history)
   pub each : Each (Replayed P) (r .history)
 
 module _ {P : Plan} where
-  one-more : (r : Played paper) (c : Call) → Known P r → Each (Happened P) (r .history) → Replays P r → Replays P (step paper r c)
+  one-more : (r : Played reference) (c : Call) → Known P r → Each (Happened P) (r .history) → Replays P r → Replays P (step reference r c)
   unfolding linkAfter
   one-more r c g happened x = go c
     where
@@ -55,7 +55,7 @@ module _ {P : Plan} where
       stands : After P l (r .history)
       stands = subst (λ k. After P k (r .history)) (x .link-is) g
 
-      -- one event more, where the card's next link is next l
+      -- one event more, where the scheduler's next link is next l
       more : (e : Event) (k : Link) → k ≡ linkAfter P (e ∷ r .history) → After P k (e ∷ r .history) → AnsweredBy l e
           → Replays P (record { state = k; history = e ∷ r .history })
       more e k is then answer = record {
@@ -63,7 +63,7 @@ module _ {P : Plan} where
         each = (record { stands = stands; then-stands = subst (λ k. After P k (e ∷ r .history)) is then; answer = answer }, x .each);
       }
 
-      go : (c : Call) → Replays P (step paper r c)
+      go : (c : Call) → Replays P (step reference r c)
       go (Call.request w) =
           more _ _ (ap (λ k. request.request k w .link) (x .link-is)) (after-step r (Call.request w) g) (ap (λ k. request.request k w .answer) (sym (x .link-is)))
       go (Call.credit i p) =
@@ -74,7 +74,7 @@ module _ {P : Plan} where
           more _ _ (ap (λ k. lend.lend k m .link) (x .link-is)) (after-step r (Call.lend m) g) (ap (λ k. lend.lend k m .answer) (sym (x .link-is)))
       go Call.reset = more _ _ (ap (λ k. reset.reset k .link) (x .link-is)) (after-step r Call.reset g) (ap (λ k. reset.reset k .answer) (sym (x .link-is)))
 
-pub replays : (P : Plan) → Accepted P → (calls : List Call) → Replays P (run paper P calls)
+pub replays : (P : Plan) → Accepted P → (calls : List Call) → Replays P (run reference P calls)
 unfolding linkAfter
 replays P ok calls = by-calls ok (Replays P) one-more (record { link-is = refl; each = tt }) calls
 

@@ -8,11 +8,11 @@ use native.Mathlib.Omega.{arith}
 use native.Mathlib.Decide.{ℕ-discrete}
 use Rattle.model.specs.Tables.{tally}
 use Rattle.model.specs.Plan.{Plan, flowCount, planOf}
-use Rattle.model.specs.Calls.{Call, Loan, History, credited, lent, accepted, refused}
+use Rattle.model.specs.Calls.{Call, LendAnswer, History, credited, lent, accepted, refused}
 use Rattle.model.specs.History.{atSlot}
 use Rattle.model.specs.Claim.{Each}
 use Rattle.model.specs.LessAsked.{HasRoom}
-use Rattle.model.specs.Card.{paper}
+use Rattle.model.specs.Scheduler.{reference}
 use Rattle.model.specs.PlanBytes.{plan1, plan2}
 use Rattle.arrival.specs.Delay.{AsksAt}
 use Rattle.ahead.specs.AheadRuns.{WithAhead, start, both-tick, both-request, both-credit, both-lend, first-refused, second-refused, both-reset, sent-ahead}
@@ -31,7 +31,7 @@ abbrev So : Option ℕ → (h₁ h₂ : History) → Type 0
 So none h₁ h₂ = WithAhead h₁ h₂
 So (some i) h₁ h₂ = (p : ℕ) → WithAhead h₁ (credited i p (accepted tt) ∷ h₂)
 
-one-lend : {h₁ h₂ : History} (m₁ m₂ : ℕ) (a₁ a₂ : Loan) → SameLoan a₁ a₂ → WithAhead h₁ h₂ → WithAhead (lent m₁ a₁ ∷ h₁) (lent m₂ a₂ ∷ h₂)
+one-lend : {h₁ h₂ : History} (m₁ m₂ : ℕ) (a₁ a₂ : LendAnswer) → SameLoan a₁ a₂ → WithAhead h₁ h₂ → WithAhead (lent m₁ a₁ ∷ h₁) (lent m₂ a₂ ∷ h₂)
 one-lend {h₁} {h₂} m₁ m₂ (accepted i) (accepted j) same x =
     subst (λ k. WithAhead (lent m₁ (accepted i) ∷ h₁) (lent m₂ (accepted k) ∷ h₂)) same (both-lend i x)
 one-lend m₁ m₂ (accepted i) (refused s) same x = absurd same
@@ -123,14 +123,14 @@ each-of-two P h two first second i known = go (ℕ-discrete i 0)
     go (yes e) = rw e first
     go (no d) = let z : i ≡ 1 = omega arith in rw z second
 
-pub not-without-alike : SameGrantsIf (λ h₁ h₂ x. AtOnce x) paper → ⊥
+pub not-without-alike : SameGrantsIf (λ h₁ h₂ x. AtOnce x) reference → ⊥
 unfolding ahead-computes other-turn
 not-without-alike same =
     let P = planOf threeAndOne in
     let h₁ = after threeAndOne turned₁ in
     let plain : Plain P h₁ = record {
       room = each-of-two P h₁ refl (proved (all-ask room P 0 h₁) tt) (proved (all-ask room P 1 h₁) tt);
-      credits-taken = (tt, (tt, (tt, (tt, (tt, tt)))));
+      credits-accepted = (tt, (tt, (tt, (tt, (tt, tt)))));
       no-reset = (tt, (tt, (tt, (tt, (tt, tt)))));
     } in
     let z = ap (tally (atSlot 3)) (same threeAndOne refl turned₁ turned₂ other-turn plain (refl, tt)) in
@@ -157,14 +157,14 @@ unfoldable one-between : SameCalls (after twoOfTwo between₁) (after twoOfTwo b
 unfolding ahead-computes
 one-between = credited-besides 0 1 (same-request 0x24000400 (lent-besides 1 0 (same-request 0x24000000 no-call)))
 
-pub not-without-at-once : SameGrantsIf (λ h₁ h₂ x. LendsAlike x) paper → ⊥
+pub not-without-at-once : SameGrantsIf (λ h₁ h₂ x. LendsAlike x) reference → ⊥
 unfolding ahead-computes one-between
 not-without-at-once same =
     let P = planOf twoOfTwo in
     let h₁ = after twoOfTwo between₁ in
     let plain : Plain P h₁ = record {
       room = λ i known. let z : i ≡ 0 = omega arith in rw z (proved (all-ask room P 0 h₁) tt);
-      credits-taken = (tt, (tt, tt));
+      credits-accepted = (tt, (tt, tt));
       no-reset = (tt, (tt, tt));
     } in
     let z = ap (tally (atSlot 2)) (same twoOfTwo refl between₁ between₂ one-between plain tt) in

@@ -13,7 +13,7 @@ use Rattle.model.specs.Calls.{Event, History, requested, credited, ticked, lent
 use Rattle.model.specs.History.{Mark, ticks, slotAfter, hasCome, marksOf, grantAt, creditAt, lendAt, grants, credits, lends, upTo, ownersOf}
 use Rattle.model.specs.Claim.{Each, HeldAt, AfterDepartureAt, GrantedWordAt, Demand3}
 use Rattle.model.specs.Claim as claim
-use Rattle.model.specs.Card.{Card, Meets}
+use Rattle.model.specs.Scheduler.{Scheduler, Meets}
 use Rattle.arrival.specs.Delay.{dueSlot}
 use Rattle.ahead.specs.Sendings.{Sending, nothing, event, ahead, Tile, tileAt, waits, ready, leavesIn, tiles, givenBack, EachReady, EachCome}
 use Rattle.ahead.specs.Sendings.{SentInTime, SentWell, SendsInTime, SendsWell}
@@ -312,9 +312,9 @@ module _ (P : Plan) where
     in-time = sent-in-time x some-flow claims;
   }
 
-pub sends-in-time : (c : Card) → Meets c → SendsInTime c
+pub sends-in-time : (c : Scheduler) → Meets c → SendsInTime c
 sends-in-time c meets bytes passes calls x = sent-in-time (planOf bytes) x (accepted-plan bytes passes .some-flow) (meets bytes passes calls)
 
-pub sends-well : (c : Card) → Meets c → SendsWell c
+pub sends-well : (c : Scheduler) → Meets c → SendsWell c
 sends-well c meets bytes passes calls x each =
     sent-well (planOf bytes) x each (accepted-plan bytes passes .some-flow) (meets bytes passes calls)

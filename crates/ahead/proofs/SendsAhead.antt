@@ -9,15 +9,15 @@ use borrow.Author.Tests.{leb-true, eqb-true, ne-eqb}
 use Rattle.model.specs.Tables.{bit, tally}
 use Rattle.model.specs.Word.{flowOf, departureOf}
 use Rattle.model.specs.Plan.{Plan, Accepted, planOf, refusal}
-use Rattle.model.specs.Calls.{Call, Grant, Renewal, Event, History, requested, credited, ticked, lent, accepted, refused}
+use Rattle.model.specs.Calls.{Call, Grant, ResetAnswer, Event, History, requested, credited, ticked, lent, accepted, refused}
 use Rattle.model.specs.Link.{Link}
-use Rattle.model.specs.History.{Mark, ticks, slotAfter, hasCome, renews, marksOf, grantAt, grants, ofFlow, atSlot}
+use Rattle.model.specs.History.{Mark, ticks, slotAfter, hasCome, isGrantedReset, marksOf, grantAt, grants, ofFlow, atSlot}
 use Rattle.model.specs.Claim.{Each}
-use Rattle.model.specs.Card.{paper, run}
+use Rattle.model.specs.Scheduler.{reference, run}
 use Rattle.arrival.specs.Delay.{dueSlot}
 use Rattle.arrival.specs.BooksInOrder.{GrantedSince, AfterThoseAt}
 use Rattle.ahead.specs.AheadRuns.{WithAhead, start, both-tick, both-request, both-credit, both-lend, first-refused, second-refused, both-reset, sent-ahead}
-use Rattle.ahead.specs.AheadRuns.{latest, GrantsAfter, ResetsAfter, NoneTakenAlone, SendersInOrder, SameGrant, Unmoved, BookedAlike}
+use Rattle.ahead.specs.AheadRuns.{latest, GrantsAfter, ResetsAfter, NoneAcceptedAlone, SendersInOrder, SameGrant, Unmoved, BookedAlike}
 use Rattle.ahead.specs.Sendings.{Sending, nothing, event, ahead, Tile, tileAt, waits, ready, leavesIn, tiles, EachReady, EachCome}
 use Rattle.ahead.specs.Sendings.{SentWell, sendingOf, SendersHaveRoom, Ahead}
 use Rattle.model.proofs.Tests.{and-true, and-false}
@@ -139,7 +139,7 @@ module _ (P : Plan) (i s c : ℕ) where
       let place = and-true (eqb j i) (eqb (ticks h) s) (and-true (eqb j i && eqb (ticks h) s) (leb (ticks h) (suc c)) new .0) in
       absurd (omega (arith, eqb-true (ticks h) s (place .1))))
 
-  at-reset : {l : Link} (a : Renewal) (h : History) → After P l (Event.reset a ∷ h) → ticks h < s → BookedBy P i s c h → BookedBy P i s c (Event.reset a ∷ h)
+  at-reset : {l : Link} (a : ResetAnswer) (h : History) → After P l (Event.reset a ∷ h) → ticks h < s → BookedBy P i s c h → BookedBy P i s c (Event.reset a ∷ h)
   at-reset (accepted u) h g to-come was = absurd (none-left P u h i s g to-come (granted-too P i s (was .booked)))
   at-reset (refused r) h g to-come was = one-older P i s (Event.reset (refused r)) refl was
 
@@ -168,7 +168,7 @@ module _ (P : Plan) where
   abbrev pub Come : History → (j s : ℕ) → Type 0
   Come h j s = BookedBy P j s (ticks h) h
 
-  still-come : (e : Event) (h : History) (j s : ℕ) → renews e ≡ false → Come h j s → Come (e ∷ h) j s
+  still-come : (e : Event) (h : History) (j s : ℕ) → isGrantedReset e ≡ false → Come h j s → Come (e ∷ h) j s
   still-come e h j s keeps x = record { due = x .due; by = omega (arith, x .by, ticks-go-on e h); booked = older e keeps (x .booked) }
 
   come-granted : (h : History) (j s : ℕ) → Come h j s → GrantedSince P h j s
@@ -221,7 +221,7 @@ module _ (P : Plan) where
     }
 
     each-come : {h₁ h₂ : History} (x : WithAhead h₁ h₂) → Each (Replayed P) h₁ → Each (Replayed P) h₂ → EachCome P (sendingOf x) → Orders P Come x
-        → NoneTakenAlone x → EachSent P Come x
+        → NoneAcceptedAlone x → EachSent P Come x
     each-come start e₁ e₂ each order alone = tt
     each-come (both-tick x) e₁ e₂ each order alone = each-come x (e₁ .1) (e₂ .1) each (λ i some. order i some .1) alone
     each-come (both-request w x) e₁ e₂ each order alone = each-come x (e₁ .1) (e₂ .1) each (λ i some. order i some .1) alone
@@ -248,23 +248,23 @@ module _ (P : Plan) where
         (subst (λ t. BookedBy P k (slotAfter P t p) t h₁) (sym (r .same-ticks)) was, sent)
 
     pub come-asked : {h₁ h₂ : History} (x : WithAhead h₁ h₂) → Each (Replayed P) h₁ → Each (Replayed P) h₂ → EachCome P (sendingOf x) → Orders P Come x
-        → NoneTakenAlone x → Asked x
+        → NoneAcceptedAlone x → Asked x
     come-asked x e₁ e₂ each order alone = sent-asked x e₁ order (each-come x e₁ e₂ each order alone)
 
 -- two runs in which each grant comes after the slots of tiles that have come
 pub sends-after : (bytes : List ℕ) → refusal bytes ≡ 0 → (calls₁ calls₂ : List Call)
-    (x : WithAhead (run paper (planOf bytes) calls₁ .history) (run paper (planOf bytes) calls₂ .history))
-    → EachCome (planOf bytes) (sendingOf x) → Orders (planOf bytes) (Come (planOf bytes)) x → NoneTakenAlone x
+    (x : WithAhead (run reference (planOf bytes) calls₁ .history) (run reference (planOf bytes) calls₂ .history))
+    → EachCome (planOf bytes) (sendingOf x) → Orders (planOf bytes) (Come (planOf bytes)) x → NoneAcceptedAlone x
     → BookedAlike (planOf bytes) x × (EachReady (planOf bytes) (sendingOf x) → SentWell (planOf bytes) (sendingOf x))
 sends-after bytes passes calls₁ calls₂ x each order alone =
     let P = planOf bytes in
     let ok = accepted-plan bytes passes in
     let asked = come-asked P ok x (replays P ok calls₁ .each) (replays P ok calls₂ .each) each order alone in (
       nobody-moves bytes passes calls₁ calls₂ x (asked .grants-after) (asked .resets-after) alone,
-      sends-well paper meets bytes passes calls₂ (sendingOf x),
+      sends-well reference meets bytes passes calls₂ (sendingOf x),
     )
 
-pub sends-ahead : Ahead paper
+pub sends-ahead : Ahead reference
 sends-ahead bytes passes calls₁ calls₂ x each room =
     let P = planOf bytes in
     let ok = accepted-plan bytes passes in

@@ -16,10 +16,10 @@ use mathlib.Core.Bool.{cond}
 use lib.Dec.{leb, eqb}
 use Rattle.model.specs.Word.{flowOf, departureOf}
 use Rattle.model.specs.Plan.{Plan, planOf, refusal}
-use Rattle.model.specs.Calls.{Call, Grant, Receipt, Turn, Renewal, Event, History, requested, credited, ticked, lent, accepted, refused}
+use Rattle.model.specs.Calls.{Call, Grant, CreditAnswer, TickAnswer, ResetAnswer, Event, History, requested, credited, ticked, lent, accepted, refused}
 use Rattle.model.specs.History.{ticks, slotAfter, grants, WasGranted}
 use Rattle.model.specs.Claim.{Each}
-use Rattle.model.specs.Card.{Card, run}
+use Rattle.model.specs.Scheduler.{Scheduler, run}
 use Rattle.arrival.specs.Delay.{AsksAt}
 use Rattle.arrival.specs.BooksInOrder.{InTurn, AfterThoseAt}
 
@@ -29,13 +29,13 @@ use Rattle.arrival.specs.BooksInOrder.{InTurn, AfterThoseAt}
 -- history, the newest event is first.
 pub data WithAhead : (h₁ h₂ : History) → Type 0 where
   start : WithAhead [] []
-  both-tick : {h₁ h₂ : History} {x₁ x₂ : Turn} → WithAhead h₁ h₂ → WithAhead (ticked x₁ ∷ h₁) (ticked x₂ ∷ h₂)
+  both-tick : {h₁ h₂ : History} {x₁ x₂ : TickAnswer} → WithAhead h₁ h₂ → WithAhead (ticked x₁ ∷ h₁) (ticked x₂ ∷ h₂)
   both-request : {h₁ h₂ : History} {a₁ a₂ : Grant} (w : ℕ) → WithAhead h₁ h₂ → WithAhead (requested w a₁ ∷ h₁) (requested w a₂ ∷ h₂)
-  both-credit : {h₁ h₂ : History} {a₁ a₂ : Receipt} (j p : ℕ) → WithAhead h₁ h₂ → WithAhead (credited j p a₁ ∷ h₁) (credited j p a₂ ∷ h₂)
+  both-credit : {h₁ h₂ : History} {a₁ a₂ : CreditAnswer} (j p : ℕ) → WithAhead h₁ h₂ → WithAhead (credited j p a₁ ∷ h₁) (credited j p a₂ ∷ h₂)
   both-lend : {h₁ h₂ : History} {m₁ m₂ : ℕ} (j : ℕ) → WithAhead h₁ h₂ → WithAhead (lent m₁ (accepted j) ∷ h₁) (lent m₂ (accepted j) ∷ h₂)
   first-refused : {h₁ h₂ : History} {m r : ℕ} → WithAhead h₁ h₂ → WithAhead (lent m (refused r) ∷ h₁) h₂
   second-refused : {h₁ h₂ : History} {m r : ℕ} → WithAhead h₁ h₂ → WithAhead h₁ (lent m (refused r) ∷ h₂)
-  both-reset : {h₁ h₂ : History} {a₁ a₂ : Renewal} → WithAhead h₁ h₂ → WithAhead (Event.reset a₁ ∷ h₁) (Event.reset a₂ ∷ h₂)
+  both-reset : {h₁ h₂ : History} {a₁ a₂ : ResetAnswer} → WithAhead h₁ h₂ → WithAhead (Event.reset a₁ ∷ h₁) (Event.reset a₂ ∷ h₂)
   -- A tile of flow i leaves in the current slot, ahead of position p. Since the credit is taken, p is later than CP.
   sent-ahead : {h₁ h₂ : History} {m : ℕ} (i p : ℕ) → WithAhead h₁ h₂ → WithAhead h₁ (credited i p (accepted tt) ∷ lent m (accepted i) ∷ h₂)
 
@@ -63,12 +63,12 @@ GrantFrom P t b (accepted v) = b ≤ slotAfter P t (departureOf v)
 GrantFrom P t b (refused r) = Unit {0}
 
 -- The answer to a reset, where slot t is current: if it is granted, slot b j of each flow j has come up.
-abbrev pub RenewedFrom : (t : ℕ) (b : ℕ → ℕ) → Renewal → Type 0
-RenewedFrom t b (accepted u) = (j : ℕ) → b j ≤ t
-RenewedFrom t b (refused r) = Unit {0}
+abbrev pub ResetFrom : (t : ℕ) (b : ℕ → ℕ) → ResetAnswer → Type 0
+ResetFrom t b (accepted u) = (j : ℕ) → b j ≤ t
+ResetFrom t b (refused r) = Unit {0}
 
 -- a credit that is refused in the first run is refused in the second
-abbrev pub RefusedToo : Receipt → Receipt → Type 0
+abbrev pub RefusedToo : CreditAnswer → CreditAnswer → Type 0
 RefusedToo (accepted u₁) a₂ = Unit {0}
 RefusedToo (refused r₁) (accepted u₂) = ⊥
 RefusedToo (refused r₁) (refused r₂) = Unit {0}
@@ -94,20 +94,20 @@ ResetsAfter P (both-credit j p x) = ResetsAfter P x
 ResetsAfter P (both-lend j x) = ResetsAfter P x
 ResetsAfter P (first-refused x) = ResetsAfter P x
 ResetsAfter P (second-refused x) = ResetsAfter P x
-ResetsAfter P (both-reset {h₁ = h₁} {a₁ = a₁} x) = RenewedFrom (ticks h₁) (λ j. latest P x j) a₁ × ResetsAfter P x
+ResetsAfter P (both-reset {h₁ = h₁} {a₁ = a₁} x) = ResetFrom (ticks h₁) (λ j. latest P x j) a₁ × ResetsAfter P x
 ResetsAfter P (sent-ahead i p x) = ResetsAfter P x
 
 -- RULES 24.5: no credit that both make is taken in the second run alone.
-abbrev pub NoneTakenAlone : {h₁ h₂ : History} → WithAhead h₁ h₂ → Type 0
-NoneTakenAlone start = Unit {0}
-NoneTakenAlone (both-tick x) = NoneTakenAlone x
-NoneTakenAlone (both-request w x) = NoneTakenAlone x
-NoneTakenAlone (both-credit {a₁ = a₁} {a₂ = a₂} j p x) = RefusedToo a₁ a₂ × NoneTakenAlone x
-NoneTakenAlone (both-lend j x) = NoneTakenAlone x
-NoneTakenAlone (first-refused x) = NoneTakenAlone x
-NoneTakenAlone (second-refused x) = NoneTakenAlone x
-NoneTakenAlone (both-reset x) = NoneTakenAlone x
-NoneTakenAlone (sent-ahead i p x) = NoneTakenAlone x
+abbrev pub NoneAcceptedAlone : {h₁ h₂ : History} → WithAhead h₁ h₂ → Type 0
+NoneAcceptedAlone start = Unit {0}
+NoneAcceptedAlone (both-tick x) = NoneAcceptedAlone x
+NoneAcceptedAlone (both-request w x) = NoneAcceptedAlone x
+NoneAcceptedAlone (both-credit {a₁ = a₁} {a₂ = a₂} j p x) = RefusedToo a₁ a₂ × NoneAcceptedAlone x
+NoneAcceptedAlone (both-lend j x) = NoneAcceptedAlone x
+NoneAcceptedAlone (first-refused x) = NoneAcceptedAlone x
+NoneAcceptedAlone (second-refused x) = NoneAcceptedAlone x
+NoneAcceptedAlone (both-reset x) = NoneAcceptedAlone x
+NoneAcceptedAlone (sent-ahead i p x) = NoneAcceptedAlone x
 
 -- ---- what follows
 
@@ -125,16 +125,16 @@ pub record AnsweredAlike (t b : ℕ) (a₁ a₂ : Grant) : Type 0 where
   pub same-answer : b ≤ t → a₁ ≡ a₂
 
 -- a credit that is taken in the first run is taken in the second
-abbrev pub TakenToo : Receipt → Receipt → Type 0
-TakenToo (accepted u₁) a₂ = a₂ ≡ accepted tt
-TakenToo (refused r₁) a₂ = Unit {0}
+abbrev pub AcceptedToo : CreditAnswer → CreditAnswer → Type 0
+AcceptedToo (accepted u₁) a₂ = a₂ ≡ accepted tt
+AcceptedToo (refused r₁) a₂ = Unit {0}
 
 -- so of each call that both make
 abbrev pub Unmoved : Plan → {h₁ h₂ : History} → WithAhead h₁ h₂ → Type 0
 Unmoved P start = Unit {0}
 Unmoved P (both-tick {x₁ = x₁} {x₂ = x₂} x) = (x₁ ≡ x₂) × Unmoved P x
 Unmoved P (both-request {h₁ = h₁} {a₁ = a₁} {a₂ = a₂} w x) = AnsweredAlike (ticks h₁) (latest P x (flowOf w)) a₁ a₂ × Unmoved P x
-Unmoved P (both-credit {a₁ = a₁} {a₂ = a₂} j p x) = TakenToo a₁ a₂ × Unmoved P x
+Unmoved P (both-credit {a₁ = a₁} {a₂ = a₂} j p x) = AcceptedToo a₁ a₂ × Unmoved P x
 Unmoved P (both-lend j x) = Unmoved P x
 Unmoved P (first-refused x) = Unmoved P x
 Unmoved P (second-refused x) = Unmoved P x
@@ -146,14 +146,14 @@ pub record BookedAlike (P : Plan) {h₁ h₂ : History} (x : WithAhead h₁ h₂
   pub unmoved : Unmoved P x
   pub same-grants : grants P h₁ ≡ grants P h₂
 
--- RULES 24.5: two lists of calls on a card, from one plan.
-abbrev pub NobodyMovesOn : Card → Plan → Type 0
+-- RULES 24.5: two lists of calls on a scheduler, from one plan.
+abbrev pub NobodyMovesOn : Scheduler → Plan → Type 0
 NobodyMovesOn c P =
     (calls₁ calls₂ : List Call) (x : WithAhead (run c P calls₁ .history) (run c P calls₂ .history))
-    → GrantsAfter P x → ResetsAfter P x → NoneTakenAlone x → BookedAlike P x
+    → GrantsAfter P x → ResetsAfter P x → NoneAcceptedAlone x → BookedAlike P x
 
--- for the bytes of every accepted plan. That the paper's card keeps it is `nobody-moves`, in proofs/AheadRuns.antt.
-abbrev pub NobodyMoves : Card → Type 0
+-- for the bytes of every accepted plan. That the reference scheduler keeps it is `nobody-moves`, in proofs/AheadRuns.antt.
+abbrev pub NobodyMoves : Scheduler → Type 0
 NobodyMoves c = (bytes : List ℕ) → refusal bytes ≡ 0 → NobodyMovesOn c (planOf bytes)
 
 -- ---- a flow that is in turn at each request may send ahead what it has booked
@@ -174,13 +174,13 @@ OfBooked P (sent-ahead {h₁ = h₁} i p x) = WasGranted P h₁ i (slotAfter P (
 abbrev pub SendersInTurn : Plan → {h₁ h₂ : History} → WithAhead h₁ h₂ → Type 0
 SendersInTurn P {h₁} x = (i : ℕ) → 0 < latest P x i → Each (AsksAt InTurn P i) h₁
 
-abbrev pub InTurnNobodyMovesOn : Card → Plan → Type 0
+abbrev pub InTurnNobodyMovesOn : Scheduler → Plan → Type 0
 InTurnNobodyMovesOn c P =
     (calls₁ calls₂ : List Call) (x : WithAhead (run c P calls₁ .history) (run c P calls₂ .history))
-    → OfBooked P x → SendersInTurn P x → NoneTakenAlone x → BookedAlike P x
+    → OfBooked P x → SendersInTurn P x → NoneAcceptedAlone x → BookedAlike P x
 
--- That the paper's card keeps it is `in-turn-nobody-moves`, in proofs/AheadInTurn.antt.
-abbrev pub InTurnNobodyMoves : Card → Type 0
+-- That the reference scheduler keeps it is `in-turn-nobody-moves`, in proofs/AheadInTurn.antt.
+abbrev pub InTurnNobodyMoves : Scheduler → Type 0
 InTurnNobodyMoves c = (bytes : List ℕ) → refusal bytes ≡ 0 → InTurnNobodyMovesOn c (planOf bytes)
 
 -- ---- so may one that is granted its slots in order
@@ -190,11 +190,11 @@ InTurnNobodyMoves c = (bytes : List ℕ) → refusal bytes ≡ 0 → InTurnNobod
 abbrev pub SendersInOrder : Plan → {h₁ h₂ : History} → WithAhead h₁ h₂ → Type 0
 SendersInOrder P {h₁} x = (i : ℕ) → 0 < latest P x i → Each (AfterThoseAt P i) h₁
 
-abbrev pub InOrderNobodyMovesOn : Card → Plan → Type 0
+abbrev pub InOrderNobodyMovesOn : Scheduler → Plan → Type 0
 InOrderNobodyMovesOn c P =
     (calls₁ calls₂ : List Call) (x : WithAhead (run c P calls₁ .history) (run c P calls₂ .history))
-    → OfBooked P x → SendersInOrder P x → NoneTakenAlone x → BookedAlike P x
+    → OfBooked P x → SendersInOrder P x → NoneAcceptedAlone x → BookedAlike P x
 
--- That the paper's card keeps it is `in-order-nobody-moves`, in proofs/AheadInTurn.antt.
-abbrev pub InOrderNobodyMoves : Card → Type 0
+-- That the reference scheduler keeps it is `in-order-nobody-moves`, in proofs/AheadInTurn.antt.
+abbrev pub InOrderNobodyMoves : Scheduler → Type 0
 InOrderNobodyMoves c = (bytes : List ℕ) → refusal bytes ≡ 0 → InOrderNobodyMovesOn c (planOf bytes)

@@ -6,4 +6,4 @@ pub mod Sendings
 pub mod AheadOverLinks
 pub mod LessAhead
 -- sendings that are told
-pub mod BadSendings
+pub mod WrongSendings

@@ -6,12 +6,12 @@ use mathlib.Core.Path.{_≡_}
 use mathlib.Core.List.{List, _∷_, []}
 use mathlib.Core.Option.{Option, some, none}
 use Rattle.model.specs.Plan.{Plan, flowCount, planOf, refusal}
-use Rattle.model.specs.Calls.{Call, Grant, Receipt, Turn, Loan, Renewal, Event, History, requested, credited, ticked, lent, accepted, refused}
+use Rattle.model.specs.Calls.{Call, Grant, CreditAnswer, TickAnswer, LendAnswer, ResetAnswer, Event, History, requested, credited, ticked, lent, accepted, refused}
 use Rattle.model.specs.History.{grants}
 use Rattle.model.specs.Claim.{Each}
-use Rattle.model.specs.Card.{Card, run}
+use Rattle.model.specs.Scheduler.{Scheduler, run}
 use Rattle.model.specs.LessAsked.{HasRoom}
-use Rattle.arrival.specs.TakenCredits.{AtCredit, IsTaken}
+use Rattle.arrival.specs.AcceptedCredits.{AtCredit, IsAccepted}
 use Rattle.arrival.specs.AnsweredLends.{AtReset}
 use Rattle.arrival.specs.Delay.{AsksAt}
 use Rattle.ahead.specs.AheadRuns.{WithAhead}
@@ -22,11 +22,11 @@ use Rattle.ahead.specs.AheadRuns.{WithAhead}
 -- that are answered and credits that are taken besides, at any place. As in a history, the newest event is first.
 pub data SameCalls : (h₁ h₂ : History) → Type 0 where
   no-call : SameCalls [] []
-  same-tick : {h₁ h₂ : History} {x₁ x₂ : Turn} → SameCalls h₁ h₂ → SameCalls (ticked x₁ ∷ h₁) (ticked x₂ ∷ h₂)
+  same-tick : {h₁ h₂ : History} {x₁ x₂ : TickAnswer} → SameCalls h₁ h₂ → SameCalls (ticked x₁ ∷ h₁) (ticked x₂ ∷ h₂)
   same-request : {h₁ h₂ : History} {a₁ a₂ : Grant} (w : ℕ) → SameCalls h₁ h₂ → SameCalls (requested w a₁ ∷ h₁) (requested w a₂ ∷ h₂)
-  same-credit : {h₁ h₂ : History} {a₁ a₂ : Receipt} (j p : ℕ) → SameCalls h₁ h₂ → SameCalls (credited j p a₁ ∷ h₁) (credited j p a₂ ∷ h₂)
-  same-lend : {h₁ h₂ : History} {a₁ a₂ : Loan} (m₁ m₂ : ℕ) → SameCalls h₁ h₂ → SameCalls (lent m₁ a₁ ∷ h₁) (lent m₂ a₂ ∷ h₂)
-  same-reset : {h₁ h₂ : History} {a₁ a₂ : Renewal} → SameCalls h₁ h₂ → SameCalls (Event.reset a₁ ∷ h₁) (Event.reset a₂ ∷ h₂)
+  same-credit : {h₁ h₂ : History} {a₁ a₂ : CreditAnswer} (j p : ℕ) → SameCalls h₁ h₂ → SameCalls (credited j p a₁ ∷ h₁) (credited j p a₂ ∷ h₂)
+  same-lend : {h₁ h₂ : History} {a₁ a₂ : LendAnswer} (m₁ m₂ : ℕ) → SameCalls h₁ h₂ → SameCalls (lent m₁ a₁ ∷ h₁) (lent m₂ a₂ ∷ h₂)
+  same-reset : {h₁ h₂ : History} {a₁ a₂ : ResetAnswer} → SameCalls h₁ h₂ → SameCalls (Event.reset a₁ ∷ h₁) (Event.reset a₂ ∷ h₂)
   refused-first : {h₁ h₂ : History} {m r : ℕ} → SameCalls h₁ h₂ → SameCalls (lent m (refused r) ∷ h₁) h₂
   refused-second : {h₁ h₂ : History} {m r : ℕ} → SameCalls h₁ h₂ → SameCalls h₁ (lent m (refused r) ∷ h₂)
   lent-besides : {h₁ h₂ : History} (m i : ℕ) → SameCalls h₁ h₂ → SameCalls h₁ (lent m (accepted i) ∷ h₂)
@@ -35,7 +35,7 @@ pub data SameCalls : (h₁ h₂ : History) → Type 0 where
 -- ---- the two premises
 
 -- answered with one flow, or refused in both
-abbrev pub SameLoan : Loan → Loan → Type 0
+abbrev pub SameLoan : LendAnswer → LendAnswer → Type 0
 SameLoan (accepted i) (accepted j) = i ≡ j
 SameLoan (accepted i) (refused s) = ⊥
 SameLoan (refused r) (accepted j) = ⊥
@@ -98,12 +98,12 @@ AheadIsSame = (h₁ h₂ : History) → WithAhead h₁ h₂ → SameButAhead h�
 -- in the first run each flow has room at each request, each credit is taken, and there is no reset
 pub record Plain (P : Plan) (h : History) : Type 0 where
   pub room : (i : ℕ) → i < flowCount P → Each (AsksAt HasRoom P i) h
-  pub credits-taken : Each (AtCredit (λ i p a h. IsTaken a)) h
+  pub credits-accepted : Each (AtCredit (λ i p a h. IsAccepted a)) h
   pub no-reset : Each (AtReset (λ a h. ⊥)) h
 
 -- RULES 24.9: the same slots are granted, if the calls are as Q says. With one of the two premises alone that is false: `not-without-alike` and
 -- `not-without-at-once`, in proofs/SameCalls.antt.
-abbrev pub SameGrantsIf : ((h₁ h₂ : History) → SameCalls h₁ h₂ → Type 0) → Card → Type 0
+abbrev pub SameGrantsIf : ((h₁ h₂ : History) → SameCalls h₁ h₂ → Type 0) → Scheduler → Type 0
 SameGrantsIf Q c =
     (bytes : List ℕ) → refusal bytes ≡ 0 → (calls₁ calls₂ : List Call)
     (x : SameCalls (run c (planOf bytes) calls₁ .history) (run c (planOf bytes) calls₂ .history)) → Plain (planOf bytes) (run c (planOf bytes) calls₁ .history)

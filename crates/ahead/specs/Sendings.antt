@@ -3,8 +3,8 @@
 -- A sending is a history in which some pairs of a lend and a credit send a tile ahead. A pair sends the tile of its flow that waits for the slot of its
 -- date, whether or not it has come; where none waits, no tile leaves. That there is one, and that it came before the current slot, is asked of each pair.
 -- Then each booked tile leaves after the slot in which it comes, and none after its own slot; no two leave in one slot; and the tiles of a flow that have
--- left, less the cells given back, are at most its cells, in every slot. Every card that meets demand 3 keeps these, since they count what demand 3 counts.
--- That bookings stay, and the order of what leaves, hold of tiles that come in the very slot in which they are sent too.
+-- left, less the cells given back, are at most its cells, in every slot. Every scheduler that meets demand 3 keeps these, since they count what demand 3
+-- counts. That bookings stay, and the order of what leaves, hold of tiles that come in the very slot in which they are sent too.
 -- The tiles of a flow leave in order, if each is sent ahead when those with earlier slots have left, and each new slot comes after those sent ahead.
 use Prim.Native.Nat.{ℕ, suc, _+_, _≤_, _<_}
 use mathlib.Core.Path.{_≡_}
@@ -17,13 +17,13 @@ use Rattle.model.specs.Plan.{Plan, flowCount, entry, planOf, refusal}
 use Rattle.model.specs.Calls.{Call, Event, History, requested, credited, ticked, lent, accepted, refused}
 use Rattle.model.specs.History.{ticks, slotAfter, Mark, creditAt, upTo}
 use Rattle.model.specs.Claim.{Each, AtLoan}
-use Rattle.model.specs.Card.{Card, run}
+use Rattle.model.specs.Scheduler.{Scheduler, run}
 use Rattle.arrival.specs.Delay.{dueSlot, AsksAt}
 use Rattle.model.specs.LessAsked.{HasRoom}
 use Rattle.arrival.specs.SharesOfCells.{KeepsShares}
 use Rattle.arrival.specs.BooksInOrder.{InTurn}
 use Rattle.ahead.specs.AheadRuns.{WithAhead, start, both-tick, both-request, both-credit, both-lend, first-refused, second-refused, both-reset, sent-ahead}
-use Rattle.ahead.specs.AheadRuns.{latest, NoneTakenAlone, SendersInTurn, SendersInOrder, BookedAlike}
+use Rattle.ahead.specs.AheadRuns.{latest, NoneAcceptedAlone, SendersInTurn, SendersInOrder, BookedAlike}
 
 -- ---- a sending
 
@@ -136,15 +136,15 @@ module _ (P : Plan) where
 abbrev pub InOrder : Type 0
 InOrder = (P : Plan) (h : History) (x : Sending h) (i : ℕ) → KeepsOrder P x i → LeaveInOrder P x i
 
--- ---- of a card
+-- ---- of a scheduler
 
 -- RULES 24.7: sent in time in each list of calls, for the bytes of every accepted plan, whatever its pairs send; and sent well, if each pair sends a tile
--- that is ready. That a card that meets demand 3 keeps both is `sends-in-time` and `sends-well`, in proofs/Sendings.antt.
-abbrev pub SendsInTime : Card → Type 0
+-- that is ready. That a scheduler that meets demand 3 keeps both is `sends-in-time` and `sends-well`, in proofs/Sendings.antt.
+abbrev pub SendsInTime : Scheduler → Type 0
 SendsInTime c =
     (bytes : List ℕ) → refusal bytes ≡ 0 → (calls : List Call) (x : Sending (run c (planOf bytes) calls .history)) → SentInTime (planOf bytes) x
 
-abbrev pub SendsWell : Card → Type 0
+abbrev pub SendsWell : Scheduler → Type 0
 SendsWell c =
     (bytes : List ℕ) → refusal bytes ≡ 0 → (calls : List Call) (x : Sending (run c (planOf bytes) calls .history)) → EachReady (planOf bytes) x
     → SentWell (planOf bytes) x
@@ -168,13 +168,13 @@ abbrev pub SendersHaveRoom : Plan → {h₁ h₂ : History} → WithAhead h₁ h
 SendersHaveRoom P {h₁} x = (i : ℕ) → 0 < latest P x i → Each (AsksAt HasRoom P i) h₁
 
 -- They send ahead tiles that have come and wait for their slots: nobody's bookings move; and if each came before, the tiles are sent well.
-abbrev pub AheadOn : Card → Plan → Type 0
+abbrev pub AheadOn : Scheduler → Plan → Type 0
 AheadOn c P =
     (calls₁ calls₂ : List Call) (x : WithAhead (run c P calls₁ .history) (run c P calls₂ .history))
-    → EachCome P (sendingOf x) → SendersHaveRoom P x → NoneTakenAlone x → BookedAlike P x × (EachReady P (sendingOf x) → SentWell P (sendingOf x))
+    → EachCome P (sendingOf x) → SendersHaveRoom P x → NoneAcceptedAlone x → BookedAlike P x × (EachReady P (sendingOf x) → SentWell P (sendingOf x))
 
--- That the paper's card keeps it is `sends-ahead`, in proofs/SendsAhead.antt.
-abbrev pub Ahead : Card → Type 0
+-- That the reference scheduler keeps it is `sends-ahead`, in proofs/SendsAhead.antt.
+abbrev pub Ahead : Scheduler → Type 0
 Ahead c = (bytes : List ℕ) → refusal bytes ≡ 0 → AheadOn c (planOf bytes)
 
 -- ---- in order, beside a run without any
@@ -191,14 +191,14 @@ LentOnlyAhead nothing i = Unit {0}
 LentOnlyAhead (event {h = h} e x) i = AtLoan (λ m j. j ≡ i → ⊥) e h × LentOnlyAhead x i
 LentOnlyAhead (ahead j p x) i = LentOnlyAhead x i
 
-abbrev pub AheadInOrderOn : Card → Plan → Type 0
+abbrev pub AheadInOrderOn : Scheduler → Plan → Type 0
 AheadInOrderOn c P =
     (calls₁ calls₂ : List Call) (x : WithAhead (run c P calls₁ .history) (run c P calls₂ .history))
-    → EachCome P (sendingOf x) → SendersHaveRoom P x → NoneTakenAlone x → (i : ℕ) → FirstFirst P (sendingOf x) i
+    → EachCome P (sendingOf x) → SendersHaveRoom P x → NoneAcceptedAlone x → (i : ℕ) → FirstFirst P (sendingOf x) i
     → LentOnlyAhead (sendingOf x) i → LeaveInOrder P (sendingOf x) i
 
--- That the paper's card keeps it is `ahead-in-order`, in proofs/AheadInOrder.antt.
-abbrev pub AheadInOrder : Card → Type 0
+-- That the reference scheduler keeps it is `ahead-in-order`, in proofs/AheadInOrder.antt.
+abbrev pub AheadInOrder : Scheduler → Type 0
 AheadInOrder c = (bytes : List ℕ) → refusal bytes ≡ 0 → AheadInOrderOn c (planOf bytes)
 
 -- ---- by the run with sending ahead alone
@@ -210,42 +210,42 @@ SendersHaveRoomThere P {h₁} {h₂} x = (i : ℕ) → 0 < latest P x i → Each
 abbrev pub SendersInTurnThere : Plan → {h₁ h₂ : History} → WithAhead h₁ h₂ → Type 0
 SendersInTurnThere P {h₁} {h₂} x = (i : ℕ) → 0 < latest P x i → Each (AsksAt InTurn P i) h₂
 
--- Then it was so in the first run too. On the paper's card that is `room-without` and `in-turn-without`, in proofs/InTurnWithout.antt.
-abbrev pub RoomWithoutOn : Card → Plan → Type 0
+-- Then it was so in the first run too. On the reference scheduler that is `room-without` and `in-turn-without`, in proofs/InTurnWithout.antt.
+abbrev pub RoomWithoutOn : Scheduler → Plan → Type 0
 RoomWithoutOn c P =
     (calls₁ calls₂ : List Call) (x : WithAhead (run c P calls₁ .history) (run c P calls₂ .history))
-    → EachCome P (sendingOf x) → NoneTakenAlone x → SendersHaveRoomThere P x → SendersHaveRoom P x
+    → EachCome P (sendingOf x) → NoneAcceptedAlone x → SendersHaveRoomThere P x → SendersHaveRoom P x
 
-abbrev pub RoomWithout : Card → Type 0
+abbrev pub RoomWithout : Scheduler → Type 0
 RoomWithout c = (bytes : List ℕ) → refusal bytes ≡ 0 → RoomWithoutOn c (planOf bytes)
 
-abbrev pub InTurnWithoutOn : Card → Plan → Type 0
+abbrev pub InTurnWithoutOn : Scheduler → Plan → Type 0
 InTurnWithoutOn c P =
     (calls₁ calls₂ : List Call) (x : WithAhead (run c P calls₁ .history) (run c P calls₂ .history))
-    → EachCome P (sendingOf x) → NoneTakenAlone x → SendersInTurnThere P x → SendersInTurn P x
+    → EachCome P (sendingOf x) → NoneAcceptedAlone x → SendersInTurnThere P x → SendersInTurn P x
 
-abbrev pub InTurnWithout : Card → Type 0
+abbrev pub InTurnWithout : Scheduler → Type 0
 InTurnWithout c = (bytes : List ℕ) → refusal bytes ≡ 0 → InTurnWithoutOn c (planOf bytes)
 
 -- ---- by slots that are granted in order
 
--- RULES 24.6: the promises above, of flows that are granted their slots in order, whether or not they have room. That the paper's card keeps both is
+-- RULES 24.6: the promises above, of flows that are granted their slots in order, whether or not they have room. That the reference scheduler keeps both is
 -- `sends-by-order` and `leave-by-order`, in proofs/AheadByOrder.antt.
-abbrev pub AheadByOrderOn : Card → Plan → Type 0
+abbrev pub AheadByOrderOn : Scheduler → Plan → Type 0
 AheadByOrderOn c P =
     (calls₁ calls₂ : List Call) (x : WithAhead (run c P calls₁ .history) (run c P calls₂ .history))
-    → EachCome P (sendingOf x) → SendersInOrder P x → NoneTakenAlone x → BookedAlike P x × (EachReady P (sendingOf x) → SentWell P (sendingOf x))
+    → EachCome P (sendingOf x) → SendersInOrder P x → NoneAcceptedAlone x → BookedAlike P x × (EachReady P (sendingOf x) → SentWell P (sendingOf x))
 
-abbrev pub AheadByOrder : Card → Type 0
+abbrev pub AheadByOrder : Scheduler → Type 0
 AheadByOrder c = (bytes : List ℕ) → refusal bytes ≡ 0 → AheadByOrderOn c (planOf bytes)
 
-abbrev pub LeaveByOrderOn : Card → Plan → Type 0
+abbrev pub LeaveByOrderOn : Scheduler → Plan → Type 0
 LeaveByOrderOn c P =
     (calls₁ calls₂ : List Call) (x : WithAhead (run c P calls₁ .history) (run c P calls₂ .history))
-    → EachCome P (sendingOf x) → SendersInOrder P x → NoneTakenAlone x → (i : ℕ) → FirstFirst P (sendingOf x) i
+    → EachCome P (sendingOf x) → SendersInOrder P x → NoneAcceptedAlone x → (i : ℕ) → FirstFirst P (sendingOf x) i
     → LentOnlyAhead (sendingOf x) i → LeaveInOrder P (sendingOf x) i
 
-abbrev pub LeaveByOrder : Card → Type 0
+abbrev pub LeaveByOrder : Scheduler → Type 0
 LeaveByOrder c = (bytes : List ℕ) → refusal bytes ≡ 0 → LeaveByOrderOn c (planOf bytes)
 
 -- ---- by shares of cells
@@ -259,10 +259,10 @@ pub record HasShares (P : Plan) (i : ℕ) (h : History) : Type 0 where
 abbrev pub SendersHaveShares : Plan → {h₁ h₂ : History} → WithAhead h₁ h₂ → Type 0
 SendersHaveShares P {h₁} x = (i : ℕ) → 0 < latest P x i → HasShares P i h₁
 
-abbrev pub SharesInOrderOn : Card → Plan → Type 0
+abbrev pub SharesInOrderOn : Scheduler → Plan → Type 0
 SharesInOrderOn c P =
     (calls₁ calls₂ : List Call) (x : WithAhead (run c P calls₁ .history) (run c P calls₂ .history)) → SendersHaveShares P x → SendersInOrder P x
 
--- Then it is granted its slots in order. On the paper's card that is `shares-order-senders`, in proofs/AheadByOrder.antt.
-abbrev pub SharesOrderSenders : Card → Type 0
+-- Then it is granted its slots in order. On the reference scheduler that is `shares-order-senders`, in proofs/AheadByOrder.antt.
+abbrev pub SharesOrderSenders : Scheduler → Type 0
 SharesOrderSenders c = (bytes : List ℕ) → refusal bytes ≡ 0 → SharesInOrderOn c (planOf bytes)

@@ -14,7 +14,7 @@ use Rattle.model.specs.Plan.{Plan, entry}
 use Rattle.model.specs.Calls.{Grant, Event, History, requested, credited, ticked, lent, accepted, refused}
 use Rattle.model.specs.History.{ticks, frameOf, wellFormed, marksOf, grantAt, grants, ofFlow}
 use Rattle.model.specs.Claim.{Each}
-use Rattle.model.specs.Card.{Card, paper}
+use Rattle.model.specs.Scheduler.{Scheduler, reference}
 use Rattle.arrival.specs.Delay.{AtAnswer, IsGranted}
 use Rattle.arrival.specs.SeveralLinks.{tile, Board, planOn, sentOn, dueOn, Way, EachWithin, AllGranted, EachGranted}
 use Rattle.arrival.specs.Source.{upToFrame, Source, Bursts, burstFrames, EachCameWithin}
@@ -66,18 +66,18 @@ module _ (P : Plan) (i : ℕ) where
   asked-granted (lent m a ∷ h) each = asked-granted h (each .1)
   asked-granted (Event.reset a ∷ h) each = asked-granted h (each .1)
 
-asked-sent : {c : Card} (b : Board c) → AllGranted b → askedFor (planOn b) (b .events) (b .stream) ≤ length (sentOn b)
+asked-sent : {c : Scheduler} (b : Board c) → AllGranted b → askedFor (planOn b) (b .events) (b .stream) ≤ length (sentOn b)
 asked-sent b granted =
     omega (arith, asked-granted (planOn b) (b .stream) (b .events) granted, count-slots (b .stream) (grants (planOn b) (b .events)))
 
 -- ---- from board to board
 
 -- where tile n has a slot on a board, it is before the bound; so board by board
-abbrev BoundAlong : (n x k : ℕ) → List (Board paper) → Type 0
+abbrev BoundAlong : (n x k : ℕ) → List (Board reference) → Type 0
 BoundAlong n x k [] = Unit {0}
 BoundAlong n x k (b ∷ rest) = (n < length (sentOn b) → tile n (sentOn b) < x + (k + 1) * planOn b .slots) × BoundAlong n x (k + 1) rest
 
-up-along : (n x k : ℕ) (a : Board paper) (rest : List (Board paper)) → Way a rest → AllAskedAlong a rest → EachGranted rest → BoundAlong n x k (a ∷ rest)
+up-along : (n x k : ℕ) (a : Board reference) (rest : List (Board reference)) → Way a rest → AllAskedAlong a rest → EachGranted rest → BoundAlong n x k (a ∷ rest)
     → (x + (k + 1) * planOn a .slots ≤ ticks (a .events) → n < length (sentOn a)) → UpAlong n x k (a ∷ rest)
 up-along n x k a [] way all granted bound there = (λ over. record { granted = there over; gone = omega (arith, bound .0 (there over)) }, tt)
 up-along n x k a (b ∷ rest) way all granted bound there =
@@ -94,26 +94,26 @@ up-along n x k a (b ∷ rest) way all granted bound there =
 
 -- ---- by the slots in which tiles are due
 
-within-bound : (n k : ℕ) (P : Plan) (from : List ℕ) (boards : List (Board paper)) → EachWithin k P from boards → BoundAlong n (tile n from) k boards
+within-bound : (n k : ℕ) (P : Plan) (from : List ℕ) (boards : List (Board reference)) → EachWithin k P from boards → BoundAlong n (tile n from) k boards
 within-bound n k P from [] within = tt
 within-bound n k P from (b ∷ rest) within = (within .0 .slots-later n, within-bound n (k + 1) P from rest (within .1))
 
-pub all-arrive : AllArrive paper
+pub all-arrive : AllArrive reference
 all-arrive a rest way all modest n due =
     let on-time = over-links a rest way in
     up-along n (tile n (dueOn a)) 1 a rest way all (on-time .granted) (within-bound n 1 (planOn a) (dueOn a) (a ∷ rest) (on-time .from-due modest))
     (λ over. omega (arith, as-many (planOn a) (a .stream) (a .events)))
 
-pub all-arrive-on-arrival : AllArriveOnArrival paper
+pub all-arrive-on-arrival : AllArriveOnArrival reference
 all-arrive-on-arrival late a rest way all keeps = all-arrive a rest (way-with-room a rest way) all (modest-first late a keeps)
 
-pub all-arrive-by-credits : AllArriveByCredits paper
+pub all-arrive-by-credits : AllArriveByCredits reference
 all-arrive-by-credits late a rest way all modest =
     all-arrive a rest (way-by-credits late a rest way) all (modest-by-credits late a rest way modest)
 
 -- ---- by the slots in which they came to the source
 
-came-bound : (n x k : ℕ) (comes : ℕ → ℕ) (a : Board paper) (rest : List (Board paper)) → Way a rest → EachCameWithin k comes (a ∷ rest)
+came-bound : (n x k : ℕ) (comes : ℕ → ℕ) (a : Board reference) (rest : List (Board reference)) → Way a rest → EachCameWithin k comes (a ∷ rest)
     → n < upToFrame comes (frameOf (planOn a) x) → BoundAlong n x k (a ∷ rest)
 came-bound n x k comes a [] way within came = (λ there. within .0 .slots-later n x there came, tt)
 came-bound n x k comes a (b ∷ rest) way within came =
@@ -121,7 +121,7 @@ came-bound n x k comes a (b ∷ rest) way within came =
     (λ there. within .0 .slots-later n x there came, came-bound n x (k + 1) comes b rest (way .1) (within .1) (omega (arith, same-frame)))
 
 -- a tile that came to the source is granted on the first board, once the frame is over by which it is asked for
-module _ (a : Board paper) (burst : ℕ) (comes asks : ℕ → ℕ) (source : Source (entry (planOn a) (a .stream) .share) comes asks)
+module _ (a : Board reference) (burst : ℕ) (comes asks : ℕ → ℕ) (source : Source (entry (planOn a) (a .stream) .share) comes asks)
     (bursts : Bursts (entry (planOn a) (a .stream) .share) burst comes) (on : AsksOn asks (planOn a) (a .stream) (a .events)) where
   abbrev P : Plan
   P = planOn a
@@ -146,16 +146,16 @@ module _ (a : Board paper) (burst : ℕ) (comes asks : ℕ → ℕ) (source : So
         as-many P (a .stream) (a .events),
       )
 
-pub all-from-source : AllFromSource paper
+pub all-from-source : AllFromSource reference
 all-from-source a rest way all modest burst comes asks source bursts so on n x came =
     let on-time = over-links a rest way in
     let k = burstFrames (entry (planOn a) (a .stream) .share) burst + 1 in
     let within = in-time a rest modest (on-time .from-due modest) burst comes asks source bursts so in
     up-along n x k a rest way all (on-time .granted) (came-bound n x k comes a rest way within came) (granted-there a burst comes asks source bursts on n x came)
 
-pub all-from-source-on-arrival : AllFromSourceOnArrival paper
+pub all-from-source-on-arrival : AllFromSourceOnArrival reference
 all-from-source-on-arrival late a rest way all keeps = all-from-source a rest (way-with-room a rest way) all (modest-first late a keeps)
 
-pub all-from-source-by-credits : AllFromSourceByCredits paper
+pub all-from-source-by-credits : AllFromSourceByCredits reference
 all-from-source-by-credits late a rest way all modest =
     all-from-source a rest (way-by-credits late a rest way) all (modest-by-credits late a rest way modest)

@@ -7,8 +7,8 @@ use lib.Dec.{lit<, lit≤}
 use Rattle.model.specs.Tables.{tally}
 use Rattle.model.specs.Plan.{planOf}
 use Rattle.model.specs.Calls.{Call, History, requested, credited, ticked, accepted}
-use Rattle.model.specs.History.{renews}
-use Rattle.model.specs.Card.{paper}
+use Rattle.model.specs.History.{isGrantedReset}
+use Rattle.model.specs.Scheduler.{reference}
 use Rattle.arrival.specs.SeveralLinks.{slotsOf, dues, tile, start, both-tick, first-alone, second-alone, Ran, Board, EachWithin, planOn, dueOn}
 use Rattle.arrival.specs.SharesOfCells.{KeepsShares}
 use Rattle.arrival.specs.LinksOnArrival.{WayOnArrival}
@@ -26,33 +26,33 @@ events₁ =
     ticked none ∷ ticked none ∷ ticked none ∷ ticked none ∷ ticked none ∷ credited 0 2 (accepted tt) ∷ ticked (some 0)
     ∷ requested 0x24000000 (accepted 0x24000001) ∷ []
 
-pub ran₁ : Ran paper (planOf bytes) events₁
+pub ran₁ : Ran reference (planOf bytes) events₁
 unfolding delays-compute
 ran₁ = record {
   calls = Call.request 0x24000000 ∷ Call.tick ∷ Call.credit 0 2 ∷ Call.tick ∷ Call.tick ∷ Call.tick ∷ Call.tick ∷ Call.tick ∷ [];
   is = refl;
 }
 
-pub none₁ : tally renews events₁ ≡ 0
+pub none₁ : tally isGrantedReset events₁ ≡ 0
 unfolding tally
 none₁ = refl
 
-abbrev pub first : Board paper
+abbrev pub first : Board reference
 first = record { bytes = bytes; passes = passes; events = events₁; ran = ran₁; no-reset = none₁; stream = 0; known = known }
 
 abbrev pub events₂ : History
 events₂ =
     ticked none ∷ ticked none ∷ ticked none ∷ ticked none ∷ ticked (some 0) ∷ requested 0x24000001 (accepted 0x24000002) ∷ ticked none ∷ []
 
-pub ran₂ : Ran paper (planOf bytes) events₂
+pub ran₂ : Ran reference (planOf bytes) events₂
 unfolding delays-compute
 ran₂ = record { calls = Call.tick ∷ Call.request 0x24000001 ∷ Call.tick ∷ Call.tick ∷ Call.tick ∷ Call.tick ∷ Call.tick ∷ []; is = refl }
 
-pub none₂ : tally renews events₂ ≡ 0
+pub none₂ : tally isGrantedReset events₂ ≡ 0
 unfolding tally
 none₂ = refl
 
-abbrev pub second : Board paper
+abbrev pub second : Board reference
 second = record { bytes = bytes; passes = passes; events = events₂; ran = ran₂; no-reset = none₂; stream = 0; known = known }
 
 way-there : WayOnArrival first (second ∷ [])
@@ -97,15 +97,15 @@ arrives = all-arrive-on-arrival 0 first (second ∷ []) way-there (each-is-asked
 abbrev pub silentEvents : History
 silentEvents = ticked none ∷ ticked none ∷ ticked none ∷ ticked none ∷ ticked none ∷ ticked none ∷ []
 
-pub ran-silent : Ran paper (planOf bytes) silentEvents
+pub ran-silent : Ran reference (planOf bytes) silentEvents
 unfolding delays-compute
 ran-silent = record { calls = Call.tick ∷ Call.tick ∷ Call.tick ∷ Call.tick ∷ Call.tick ∷ Call.tick ∷ []; is = refl }
 
-pub none-silent : tally renews silentEvents ≡ 0
+pub none-silent : tally isGrantedReset silentEvents ≡ 0
 unfolding tally
 none-silent = refl
 
-abbrev pub silent : Board paper
+abbrev pub silent : Board reference
 silent = record { bytes = bytes; passes = passes; events = silentEvents; ran = ran-silent; no-reset = none-silent; stream = 0; known = known }
 
 silent-way : WayOnArrival first (silent ∷ [])

@@ -1,4 +1,4 @@
--- The paper's card answers a lend with a flow where some flow of the mask can take the slot, and nowhere else. Assumes nothing.
+-- The reference scheduler answers a lend with a flow where some flow of the mask can take the slot, and nowhere else. Assumes nothing.
 use Prim.Native.Nat.{ℕ, zero, suc, _+_, _%_, _^_, _≤_, _<_}
 use mathlib.Core.Path.{_≡_, refl, sym, ap, _∙_, subst}
 use mathlib.Core.List.{List, [], _∷_}
@@ -11,17 +11,17 @@ use Rattle.model.specs.Tables.{tally}
 use Rattle.model.specs.Refusals.{firstOf}
 use Rattle.model.specs.Word.{flowOf, departureOf}
 use Rattle.model.specs.Plan.{Plan, Accepted, flowCount, planOf}
-use Rattle.model.specs.Calls.{Call, Loan, Event, History, requested, credited, lent, accepted, refused}
+use Rattle.model.specs.Calls.{Call, LendAnswer, Event, History, requested, credited, lent, accepted, refused}
 use Rattle.model.specs.Link.{Link, flow, owner}
 use Rattle.model.specs.Request.{Found, found, nowhere, requestTests, unbooked, sought, booked, refusedAtNewest, answered, requestAfter, request}
 use Rattle.model.specs.Credit.{creditTests, lowered, creditAfter, credit}
 use Rattle.model.specs.Tick.{advanced, tick}
 use Rattle.model.specs.Lend.{takes, lendTests, lentTo, firstInTurn, lentAfter, lendAfter, lend}
-use Rattle.model.specs.Reset.{quiet, renewed, reset}
+use Rattle.model.specs.Reset.{quiet, resetLink, reset}
 use Rattle.model.specs.Fresh.{fresh}
 use Rattle.model.specs.History.{ticks, grantAt, lendAt, grants, lends, grantsSince, atSlot, ownersOf}
 use Rattle.model.specs.Claim.{Each}
-use Rattle.model.specs.Card.{Played, paper, step, started, run}
+use Rattle.model.specs.Scheduler.{Played, reference, step, started, run}
 use Rattle.arrival.specs.AnsweredLends.{Lendable, IsLent, LendAnsweredAt, LendAnswered}
 use Rattle.model.proofs.Tables.{firstFrom-some}
 use Rattle.model.proofs.Tallies.{tally-append, tally-hit}
@@ -61,7 +61,7 @@ lend-answered l mask i some-flow a = tested (firstOf (lendTests l mask)) refl a
         subst (LentTo l mask) z (record {
           passes = e;
           known = mod-lt k some-flow;
-          can = firstFrom-some n (l .lookFrom) (λ j. takes l mask (j % n)) k f .passes;
+          can = firstFrom-some n (l .turn) (λ j. takes l mask (j % n)) k f .passes;
           gets = lend-is l mask e ∙ ap (lentAfter l) f;
         })
 
@@ -90,27 +90,27 @@ owners-more P e h s = omega (arith, tally-append (atSlot s) (grantAt P e h) (gra
 
 -- ---- the mark is on only where the current slot has an owner
 
-request-marks : (l : Link) (w : ℕ) → request l w .link .taken ≡ l .taken
+request-marks : (l : Link) (w : ℕ) → request l w .link .marked ≡ l .marked
 unfolding request requestAfter answered booked refusedAtNewest
 request-marks l w = go (firstOf (requestTests (l .plan) (flow l (flowOf w) .number) w))
   where
-    at-found : (f : Found) → answered l w f .link .taken ≡ l .taken
+    at-found : (f : Found) → answered l w f .link .marked ≡ l .marked
     at-found (found j c p) = refl
     at-found (nowhere c) = refl
 
-    go : (r : ℕ) → requestAfter r l w .link .taken ≡ l .taken
+    go : (r : ℕ) → requestAfter r l w .link .marked ≡ l .marked
     go zero = at-found (sought l (flowOf w) (departureOf w))
     go (suc r) = refl
 
-credit-marks : (l : Link) (i p : ℕ) → credit l i p .link .taken ≡ l .taken
+credit-marks : (l : Link) (i p : ℕ) → credit l i p .link .marked ≡ l .marked
 unfolding credit creditAfter lowered
 credit-marks l i p = go (firstOf (creditTests l i p))
   where
-    go : (r : ℕ) → creditAfter r l i p .link .taken ≡ l .taken
+    go : (r : ℕ) → creditAfter r l i p .link .marked ≡ l .marked
     go zero = refl
     go (suc r) = refl
 
-tick-unmarks : (l : Link) → tick l .link .taken ≡ false
+tick-unmarks : (l : Link) → tick l .link .marked ≡ false
 unfolding tick advanced
 tick-unmarks l = refl
 
@@ -146,24 +146,24 @@ module _ {l : Link} {h : History} (g : After (l .plan) l h) where
 
   -- where the mark is on, the current slot has an owner by the counts
   abbrev MarkedNow : Type 0
-  MarkedNow = l .taken ≡ true → 0 < ownersOf P h t
+  MarkedNow = l .marked ≡ true → 0 < ownersOf P h t
 
-  renewed-marked : MarkedNow → renewed l .taken ≡ true → 0 < ownersOf P h t
-  unfolding renewed
-  renewed-marked before = go (unbooked (owner l (l .current))) refl
+  resetLink-marked : MarkedNow → resetLink l .marked ≡ true → 0 < ownersOf P h t
+  unfolding resetLink
+  resetLink-marked before = go (unbooked (owner l (l .current))) refl
     where
-      go : (b : Bool) → unbooked (owner l (l .current)) ≡ b → not b || l .taken ≡ true → 0 < ownersOf P h t
+      go : (b : Bool) → unbooked (owner l (l .current)) ≡ b → not b || l .marked ≡ true → 0 < ownersOf P h t
       go true free e = before e
       go false booked e = owner-if-booked booked
 
-  reset-marked : MarkedNow → reset l .link .taken ≡ true → 0 < ownersOf P h t
+  reset-marked : MarkedNow → reset l .link .marked ≡ true → 0 < ownersOf P h t
   reset-marked before = rw (reset-is l) (go (quiet l))
     where
-      go : (b : Bool) → (cond b (granted l) (notGranted l)) .link .taken ≡ true → 0 < ownersOf P h t
-      go true = renewed-marked before
+      go : (b : Bool) → (cond b (granted l) (notGranted l)) .link .marked ≡ true → 0 < ownersOf P h t
+      go true = resetLink-marked before
       go false = before
 
-  lend-marked : MarkedNow → (mask : ℕ) (a : Loan) → lend l mask .answer ≡ a → lend l mask .link .taken ≡ true → 0 < ownersOf P (lent mask a ∷ h) t
+  lend-marked : MarkedNow → (mask : ℕ) (a : LendAnswer) → lend l mask .answer ≡ a → lend l mask .link .marked ≡ true → 0 < ownersOf P (lent mask a ∷ h) t
   unfolding tally
   lend-marked before mask (accepted i) e marked =
       omega (arith, owners-more P (lent mask (accepted i)) h t, tally-hit (atSlot t) (mark i t) [] (eq-eqb t t refl))
@@ -171,7 +171,7 @@ module _ {l : Link} {h : History} (g : After (l .plan) l h) where
       omega (
         arith,
         owners-more P (lent mask (refused r)) h t,
-        before (ap (λ k. k .taken) (sym (lend-refused l mask r e)) ∙ marked),
+        before (ap (λ k. k .marked) (sym (lend-refused l mask r e)) ∙ marked),
       )
 
   -- ---- a lend
@@ -188,10 +188,10 @@ module _ {l : Link} {h : History} (g : After (l .plan) l h) where
           waits = taking-waits g i mask (x .known) (x .can);
         }
 
-    not-marked : ownersOf P h t ≡ 0 → l .taken ≡ false
-    not-marked idle = go (l .taken) refl
+    not-marked : ownersOf P h t ≡ 0 → l .marked ≡ false
+    not-marked idle = go (l .marked) refl
       where
-        go : (b : Bool) → l .taken ≡ b → b ≡ false
+        go : (b : Bool) → l .marked ≡ b → b ≡ false
         go true e = absurd (omega (arith, before e))
         go false e = refl
 
@@ -209,18 +209,18 @@ module _ {l : Link} {h : History} (g : After (l .plan) l h) where
           subst IsLent (sym (ap (λ s. s .answer) (taker .gets))) tt,
     )
       where
-        answered-with : (a : Loan) → lend l mask .answer ≡ a → IsLent a → Lendable P mask h
+        answered-with : (a : LendAnswer) → lend l mask .answer ≡ a → IsLent a → Lendable P mask h
         answered-with (accepted i) e is = lendable i (lend-answered l mask i (ok .some-flow) e)
         answered-with (refused r) e is = absurd is
 
 -- ---- a list of calls
 
 -- after the calls so far: what the mark says, and which lends were answered
-record Stands (P : Plan) (r : Played paper) : Type 0 where
-  marked : r .state .taken ≡ true → 0 < ownersOf P (r .history) (ticks (r .history))
+record Stands (P : Plan) (r : Played reference) : Type 0 where
+  marked : r .state .marked ≡ true → 0 < ownersOf P (r .history) (ticks (r .history))
   each : Each (LendAnsweredAt P) (r .history)
 
-one-more : (r : Played paper) (c : Call) → Known (r .state .plan) r → Stands (r .state .plan) r → Stands (r .state .plan) (step paper r c)
+one-more : (r : Played reference) (c : Call) → Known (r .state .plan) r → Stands (r .state .plan) r → Stands (r .state .plan) (step reference r c)
 unfolding ticks tally
 one-more r (Call.request w) g x = record {
   marked = λ e.
@@ -258,19 +258,19 @@ one-more r Call.reset g x = record {
   each = (tt, x .each);
 }
 
-fresh-unmarked : (P : Plan) → fresh P .taken ≡ false
+fresh-unmarked : (P : Plan) → fresh P .marked ≡ false
 unfolding fresh
 fresh-unmarked P = refl
 
 -- on any plan that keeps the limits, and so on the plan of any bytes that are accepted
-pub lends-answered-accepted : (P : Plan) → Accepted P → (calls : List Call) → Each (LendAnsweredAt P) (run paper P calls .history)
+pub lends-answered-accepted : (P : Plan) → Accepted P → (calls : List Call) → Each (LendAnsweredAt P) (run reference P calls .history)
 lends-answered-accepted P ok calls = by-calls ok (Stands P) more first calls .each
   where
-    first : Stands P (started paper P)
+    first : Stands P (started reference P)
     first = record { marked = λ e. let off = fresh-unmarked P in let z : _≡_ {A = ℕ} 0 1 = cc in absurd (omega arith); each = tt }
 
-    more : (r : Played paper) (c : Call) → Known P r → Each (Happened P) (r .history) → Stands P r → Stands P (step paper r c)
-    more r c g happened = subst (λ Q. Known Q r → Stands Q r → Stands Q (step paper r c)) (g .plan-is) (one-more r c) g
+    more : (r : Played reference) (c : Call) → Known P r → Each (Happened P) (r .history) → Stands P r → Stands P (step reference r c)
+    more r c g happened = subst (λ Q. Known Q r → Stands Q r → Stands Q (step reference r c)) (g .plan-is) (one-more r c) g
 
-pub lends-answered : LendAnswered paper
+pub lends-answered : LendAnswered reference
 lends-answered bytes passes = lends-answered-accepted (planOf bytes) (plan.accepted bytes passes)

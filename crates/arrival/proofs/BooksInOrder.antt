@@ -14,11 +14,11 @@ use Rattle.model.specs.Plan.{Plan, Accepted, positions, planOf}
 use Rattle.model.specs.Calls.{Call, Grant, Event, History, requested, credited, ticked, lent, accepted, refused}
 use Rattle.model.specs.Link.{Link, Step, window}
 use Rattle.model.specs.Request.{Found, found, nowhere, canLeave, validFor, sought, answered, request}
-use Rattle.model.specs.History.{ticks, slotAfter, frameOf, wellFormed, hasCome, renews, Mark, grantAt, grantsSince, ofFlow, atSlot, inFrame, upTo, grantedIn}
+use Rattle.model.specs.History.{ticks, slotAfter, frameOf, wellFormed, hasCome, isGrantedReset, Mark, grantAt, grantsSince, ofFlow, atSlot, inFrame, upTo, grantedIn}
 use Rattle.model.specs.Holding.{InWindow}
 use Rattle.model.specs.Claim.{Each, EachSince, AtGrant, Ready, ReadyAt}
 use Rattle.model.specs.Claim as claim
-use Rattle.model.specs.Card.{Played, paper, step, run}
+use Rattle.model.specs.Scheduler.{Played, reference, step, run}
 use Rattle.arrival.specs.Delay.{dueSlot, dueSince, RoomFrom, AsksAt}
 use Rattle.model.specs.LessAsked.{HasRoom}
 use Rattle.arrival.specs.BooksInOrder.{GrantedSince, NoneDueAfter, InTurn, AfterThoseAt, InOrder, BooksInOrder, ReadyInOrder}
@@ -140,21 +140,21 @@ module _ {l : Link} {h : History} (g : After (l .plan) l h) (w : ℕ) where
       go (searched passes) =
           of-search (passes .well) (sought l (flowOf w) (departureOf w)) (request-searched v (known g w (passes .well)) (departureOf w) none)
 
-earliest-more : (r : Played paper) (c : Call) → Known (r .state .plan) r → Each (EarliestAt (r .state .plan)) (r .history)
-    → Each (EarliestAt (r .state .plan)) (step paper r c .history)
+earliest-more : (r : Played reference) (c : Call) → Known (r .state .plan) r → Each (EarliestAt (r .state .plan)) (r .history)
+    → Each (EarliestAt (r .state .plan)) (step reference r c .history)
 earliest-more r (Call.request w) g x = (request-earliest g w, x)
 earliest-more r (Call.credit i p) g x = (tt, x)
 earliest-more r Call.tick g x = (tt, x)
 earliest-more r (Call.lend m) g x = (tt, x)
 earliest-more r Call.reset g x = (tt, x)
 
-pub each-earliest : (P : Plan) → Accepted P → (calls : List Call) → Each (EarliestAt P) (run paper P calls .history)
+pub each-earliest : (P : Plan) → Accepted P → (calls : List Call) → Each (EarliestAt P) (run reference P calls .history)
 each-earliest P ok = by-calls ok (λ r. Each (EarliestAt P) (r .history)) more tt
   where
-    more : (r : Played paper) (c : Call) → Known P r → Each (Happened P) (r .history) → Each (EarliestAt P) (r .history)
-        → Each (EarliestAt P) (step paper r c .history)
+    more : (r : Played reference) (c : Call) → Known P r → Each (Happened P) (r .history) → Each (EarliestAt P) (r .history)
+        → Each (EarliestAt P) (step reference r c .history)
     more r c g happened =
-        subst (λ Q. Known Q r → Each (EarliestAt Q) (r .history) → Each (EarliestAt Q) (step paper r c .history)) (g .plan-is) (earliest-more r c) g
+        subst (λ Q. Known Q r → Each (EarliestAt Q) (r .history) → Each (EarliestAt Q) (step reference r c .history)) (g .plan-is) (earliest-more r c) g
 
 -- ---- one event more, and one mark
 
@@ -195,7 +195,7 @@ module _ {A : Type 0} (f : A → Bool) (m : A) (ms : List A) where
 -- Since the last granted reset flow i was granted slot g, for a tile that is due in slot d.
 pub data Booked (P : Plan) (i d g : ℕ) : History → Type 0 where
   newest : {h : History} (w v : ℕ) → flowOf w ≡ i → dueSlot P w h ≡ d → slotAfter P (ticks h) (departureOf v) ≡ g → Booked P i d g (requested w (accepted v) ∷ h)
-  older : {h : History} (e : Event) → renews e ≡ false → Booked P i d g h → Booked P i d g (e ∷ h)
+  older : {h : History} (e : Event) → isGrantedReset e ≡ false → Booked P i d g h → Booked P i d g (e ∷ h)
 
 -- for one that is due by slot b
 pub record BookedBy (P : Plan) (i g b : ℕ) (h : History) : Type 0 where
@@ -212,7 +212,7 @@ module _ (P : Plan) (i g : ℕ) where
   granted-too (newest w v own due at) = rw (eq-eqb (flowOf w) i own, eq-eqb _ g at) (omega arith)
   granted-too (older {h = h} e keeps b) = rw keeps (omega (arith, tally-append slot-g (grantAt P e h) (grantsSince P h), granted-too b))
 
-  pub one-older : {c : ℕ} {h : History} (e : Event) → renews e ≡ false → BookedBy P i g c h → BookedBy P i g c (e ∷ h)
+  pub one-older : {c : ℕ} {h : History} (e : Event) → isGrantedReset e ≡ false → BookedBy P i g c h → BookedBy P i g c (e ∷ h)
   one-older e keeps x = record { due = x .due; by = x .by; booked = older e keeps (x .booked) }
 
   -- each granted slot is one of a tile; where none is due after slot c, it is due by then
@@ -337,7 +337,7 @@ module _ (P : Plan) (ok : Accepted P) (i : ℕ) where
 
   in-order-since : (h : History) → Each (EarliestAt P) h → Each (FrameInOrderAt P) h → EachSince (CloseAt P i) h → EachSince (DueInOrderAt P i) h → InOrder P i h
   in-order-since [] first frames closes dues = tt
-  in-order-since (e ∷ h) first frames closes dues = go (renews e) closes dues (in-order-since h (first .1) (frames .1))
+  in-order-since (e ∷ h) first frames closes dues = go (isGrantedReset e) closes dues (in-order-since h (first .1) (frames .1))
     where
       go : (b : Bool) → cond b (Unit {0}) (CloseAt P i e h × EachSince (CloseAt P i) h) → cond b (Unit {0}) (DueInOrderAt P i e h × EachSince (DueInOrderAt P i) h)
           → (EachSince (CloseAt P i) h → EachSince (DueInOrderAt P i) h → InOrder P i h) → cond b (Unit {0}) (AfterThoseAt P i e h × InOrder P i h)
@@ -403,7 +403,7 @@ module _ (P : Plan) (ok : Accepted P) (i : ℕ) where
 
     turns-have-since : (h : History) → Each (EarliestAt P) h → Each (Happened P) h → EachSince (AsksAt InTurn P i) h → EachSince Q h
     turns-have-since [] first happened asks = tt
-    turns-have-since (e ∷ h) first happened asks = go (renews e) asks (turns-have-since h (first .1) (happened .1))
+    turns-have-since (e ∷ h) first happened asks = go (isGrantedReset e) asks (turns-have-since h (first .1) (happened .1))
       where
         go : (b : Bool) → cond b (Unit {0}) (AsksAt InTurn P i e h × EachSince (AsksAt InTurn P i) h) → (EachSince (AsksAt InTurn P i) h → EachSince Q h)
             → cond b (Unit {0}) (Q e h × EachSince Q h)
@@ -420,11 +420,11 @@ module _ (P : Plan) (ok : Accepted P) (i : ℕ) where
       all-in-order-if-close h first frames (turns-have (CloseAt P i) turn-close h first happened asks)
       (turns-have (DueInOrderAt P i) turn-ordered h first happened asks)
 
-pub books-in-order : BooksInOrder paper
+pub books-in-order : BooksInOrder reference
 books-in-order bytes passes calls i known asks =
     let P = planOf bytes in
     let ok = accepted-plan bytes passes in
-    in-order P ok i (run paper P calls .history) (each-earliest P ok calls) (frames-in-order P ok calls) (each-happened P ok calls) asks
+    in-order P ok i (run reference P calls .history) (each-earliest P ok calls) (frames-in-order P ok calls) (each-happened P ok calls) asks
 
 -- ---- a flow that is ready at each request
 
@@ -482,7 +482,7 @@ module _ (P : Plan) (i : ℕ) where
   ready-asks (Event.reset (accepted u) ∷ h) happened ready = tt
   ready-asks (Event.reset (refused x) ∷ h) happened ready = (tt, ready-asks h (happened .1) (ready .1))
 
-pub ready-in-order : ReadyInOrder paper
+pub ready-in-order : ReadyInOrder reference
 ready-in-order bytes passes calls i known ready =
     let P = planOf bytes in
-    ready-asks P i (run paper P calls .history) (each-happened P (accepted-plan bytes passes) calls) ready
+    ready-asks P i (run reference P calls .history) (each-happened P (accepted-plan bytes passes) calls) ready

@@ -10,8 +10,8 @@ use Rattle.model.specs.Tables.{tally}
 use Rattle.model.specs.Word.{flowOf, quantumOf, departureOf}
 use Rattle.model.specs.Plan.{Plan, entry, flowCount, planOf, refusal}
 use Rattle.model.specs.Calls.{History, requested, credited, accepted}
-use Rattle.model.specs.History.{ticks, wellFormed, hasCome, renews, lends, ofFlow, expectedNumber}
-use Rattle.model.specs.Card.{paper}
+use Rattle.model.specs.History.{ticks, wellFormed, hasCome, isGrantedReset, lends, ofFlow, expectedNumber}
+use Rattle.model.specs.Scheduler.{reference}
 use Rattle.model.specs.PlanBytes as planBytes
 use Rattle.arrival.specs.Delay.{currentFrame, madeIn}
 use Rattle.arrival.specs.SeveralLinks.{Ran, Board, planOn, dueOn, EachWithin}
@@ -66,26 +66,26 @@ pub passes₂ : refusal (bytes 6) ≡ 0
 unfolding joins-compute
 passes₂ = refl
 
-pub ran₁ : Ran paper (planOf (bytes 4)) (firsts moves)
+pub ran₁ : Ran reference (planOf (bytes 4)) (firsts moves)
 unfolding joins-compute
 ran₁ = record { calls = callsOf (firsts moves); is = refl }
 
-pub ran₂ : Ran paper (planOf (bytes 6)) (seconds moves)
+pub ran₂ : Ran reference (planOf (bytes 6)) (seconds moves)
 unfolding joins-compute
 ran₂ = record { calls = callsOf (seconds moves); is = refl }
 
-pub none₁ : tally renews (firsts moves) ≡ 0
+pub none₁ : tally isGrantedReset (firsts moves) ≡ 0
 unfolding joins-compute
 none₁ = refl
 
-pub none₂ : tally renews (seconds moves) ≡ 0
+pub none₂ : tally isGrantedReset (seconds moves) ≡ 0
 unfolding joins-compute
 none₂ = refl
 
-abbrev pub board₁ : Board paper
+abbrev pub board₁ : Board reference
 board₁ = record { bytes = bytes 4; passes = passes₁; events = firsts moves; ran = ran₁; no-reset = none₁; stream = 0; known = lit< tt }
 
-abbrev pub board₂ : Board paper
+abbrev pub board₂ : Board reference
 board₂ = record { bytes = bytes 6; passes = passes₂; events = seconds moves; ran = ran₂; no-reset = none₂; stream = 0; known = lit< tt }
 
 pub way-there : WayByCredits 1 board₁ (board₂ ∷ [])

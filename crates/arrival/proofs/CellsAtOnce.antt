@@ -1,5 +1,5 @@
--- On the paper's card a stream that asks ahead, with more than two shares of cells that are credited at the grants, has room in every slot at each request.
--- Assumes nothing.
+-- On the reference scheduler a stream that asks ahead, with more than two shares of cells that are credited at the grants, has room in every slot at each
+-- request. Assumes nothing.
 use Prim.Native.Nat.{ℕ, _+_, _-_, _*_, _≤_, _<_}
 use mathlib.Core.Path.{_≡_, ap, subst}
 use mathlib.Core.List.{List, [], _∷_}
@@ -13,7 +13,7 @@ use Rattle.model.specs.Calls.{Call, Event, History, requested, credited, ticked
 use Rattle.model.specs.History.{Mark, ticks, frameOf, lendAt, grants, credits, lends, ofFlow, inFrame, upTo, grantedUpTo, lentUpTo, creditedUpTo}
 use Rattle.model.specs.Holding.{frameStart}
 use Rattle.model.specs.Claim.{Each}
-use Rattle.model.specs.Card.{paper, run}
+use Rattle.model.specs.Scheduler.{reference, run}
 use Rattle.arrival.specs.Delay.{newestFrame, RoomFrom, AsksAt}
 use Rattle.arrival.specs.EnoughCells.{lastOf, CreditedAtOnce, GivesBackAtOnce, EnoughAtOnce}
 use Rattle.model.proofs.Plan as plan
@@ -131,10 +131,10 @@ module _ {P : Plan} (ok : Accepted P) (i : ℕ) (known : i < flowCount P) where
 
 -- on any plan that keeps the limits, and so on the plan of any bytes that are accepted
 pub enough-at-once-accepted : (P : Plan) → Accepted P → (calls : List Call) (i : ℕ) → i < flowCount P
-    → GivesBackAtOnce 0 P i (run paper P calls .history) → Each (AsksAt (λ P i w h. RoomFrom P i 0 h) P i) (run paper P calls .history)
+    → GivesBackAtOnce 0 P i (run reference P calls .history) → Each (AsksAt (λ P i w h. RoomFrom P i 0 h) P i) (run reference P calls .history)
 enough-at-once-accepted P ok calls i known x =
-    let h = run paper P calls .history in
+    let h = run reference P calls .history in
     room-at-each ok i known h (none-granted h (x .no-reset)) (each-happened P ok calls) (x .asks) (x .not-lent) (omega (arith, x .cells-at-once))
 
-pub enough-at-once : EnoughAtOnce paper
+pub enough-at-once : EnoughAtOnce reference
 enough-at-once bytes passes = enough-at-once-accepted (planOf bytes) (plan.accepted bytes passes)

@@ -14,7 +14,7 @@ use Rattle.model.specs.Word.{flowOf, quantumOf, departureOf}
 use Rattle.model.specs.Plan.{Plan, entry, planOf, Accepted}
 use Rattle.model.specs.Calls.{Call, History, requested, credited, ticked, accepted}
 use Rattle.model.specs.History.{ticks, frameOf, wellFormed, hasCome, expectedNumber, grantedUpTo, creditedUpTo}
-use Rattle.model.specs.Card.{run, paper}
+use Rattle.model.specs.Scheduler.{run, reference}
 use Rattle.model.specs.PlanBytes.{plan1, plan2}
 use Rattle.arrival.specs.Delay.{currentFrame, dueFrame, madeSince, madeIn, dueIn}
 use Rattle.arrival.specs.EnoughCells.{lastOf, returns, AsksInTurn, GivesBack, EnoughCellsBy, CreditedAtOnce, GivesBackAtOnce, EnoughAtOnceBy}
@@ -59,7 +59,7 @@ calls =
     ∷ Call.credit 0 5 ∷ Call.tick ∷ Call.request 0x24000804 ∷ []
 
 abbrev events : (cells : ℕ) → History
-events cells = run paper (planOf (bytes cells)) calls .history
+events cells = run reference (planOf (bytes cells)) calls .history
 
 pub come-to :
     reverse (events 2)
@@ -70,7 +70,7 @@ unfolding delays-compute
 come-to = refl
 
 -- with two cells it holds both in slot 4 when it asks in slot 4
-pub not-two-shares : EnoughCellsBy 1 paper → ⊥
+pub not-two-shares : EnoughCellsBy 1 reference → ⊥
 unfolding delays-compute in-turn gives-back
 not-two-shares enough =
     let ready = enough (bytes 2) refl calls 0 (lit< tt) (proved (gives-back 1 (planOf (bytes 2)) 0 (events 2)) tt) in
@@ -109,9 +109,9 @@ abbrev onceCalls : List Call
 onceCalls = Call.request 0x24000000 ∷ Call.credit 0 3 ∷ Call.request 0x24000400 ∷ Call.credit 0 5 ∷ Call.request 0x24000800 ∷ []
 
 -- with three cells there is room
-pub once-are-kept : GivesBackAtOnce 0 (planOf (onceBytes 3)) 0 (run paper (planOf (onceBytes 3)) onceCalls .history)
+pub once-are-kept : GivesBackAtOnce 0 (planOf (onceBytes 3)) 0 (run reference (planOf (onceBytes 3)) onceCalls .history)
 unfolding delays-compute at-once gives-back-at-once
-once-are-kept = proved (gives-back-at-once 0 (accepted-plan (onceBytes 3) refl) 0 (run paper (planOf (onceBytes 3)) onceCalls .history)) tt
+once-are-kept = proved (gives-back-at-once 0 (accepted-plan (onceBytes 3) refl) 0 (run reference (planOf (onceBytes 3)) onceCalls .history)) tt
 
 -- The third is granted slot 4, of the newest frame, and its cell is not credited yet. At a fourth request all is as asked; it would not be, were it asked of
 -- slots of the newest frame too.
@@ -119,7 +119,7 @@ abbrev newestCalls : List Call
 newestCalls = Call.request 0x24000000 ∷ Call.credit 0 3 ∷ Call.request 0x24000400 ∷ Call.credit 0 5 ∷ Call.request 0x24000800 ∷ Call.request 0x24000C00 ∷ []
 
 abbrev newestEvents : History
-newestEvents = run paper (planOf (onceBytes 3)) newestCalls .history
+newestEvents = run reference (planOf (onceBytes 3)) newestCalls .history
 
 pub newest-are-held : GivesBackAtOnce 0 (planOf (onceBytes 3)) 0 newestEvents
 unfolding delays-compute at-once gives-back-at-once
@@ -131,10 +131,10 @@ unfolding delays-compute
 newest-not-credited le = omega arith
 
 -- with two both are held in slot 2
-pub not-two-at-once : EnoughAtOnceBy 1 paper → ⊥
+pub not-two-at-once : EnoughAtOnceBy 1 reference → ⊥
 unfolding delays-compute at-once gives-back-at-once
 not-two-at-once enough =
-    let h = run paper (planOf (onceBytes 2)) onceCalls .history in
+    let h = run reference (planOf (onceBytes 2)) onceCalls .history in
     let room = enough (onceBytes 2) refl onceCalls 0 (lit< tt) (proved (gives-back-at-once 1 (accepted-plan (onceBytes 2) refl) 0 h) tt) in
     omega (arith, room .0 refl refl 2 (lit≤ tt))
 
@@ -166,24 +166,24 @@ unfolding delays-compute given-back keeps-shares
 two-are-kept = proved (keeps-shares 0 0 (planOf (bytes 2)) (lit< tt) 0 (events 2)) tt
 
 -- with one cell, which is held from slot 3 on, the tile that is asked for in slot 2 is refused
-pub not-fewer : SharesOfCellsBy 0 1 paper → ⊥
+pub not-fewer : SharesOfCellsBy 0 1 reference → ⊥
 unfolding delays-compute given-back keeps-shares
 not-fewer two =
     let calls = Call.request 0x24100000 ∷ Call.request 0x24100400 ∷ Call.request 0x24000000 ∷ Call.tick ∷ Call.tick ∷ Call.request 0x24000402 ∷ [] in
-    let h = run paper (planOf (bytes 1)) calls .history in
+    let h = run reference (planOf (bytes 1)) calls .history in
     two (bytes 1) refl calls 0 (lit< tt) (proved (keeps-shares 0 1 (planOf (bytes 1)) (lit< tt) 0 h) tt) .0 refl refl
 
 -- ---- slots out of order, with two cells fewer: F = 4, W = 2, one flow with share 2 and two cells
 
 -- Slots 1 and 2 are granted, and their cells credited as the tiles come up, both dated slot 6. In slot 4 slot 6 is granted; a credit dated slot 5 frees a
 -- cell, and slot 5 is granted.
-pub not-in-order : SharesInOrderBy 0 2 paper → ⊥
+pub not-in-order : SharesInOrderBy 0 2 reference → ⊥
 unfolding delays-compute given-back keeps-shares
 not-in-order order =
     let bytes = plan1 4 2 8 2 2 in
     let calls = Call.request 0x24000000 ∷ Call.request 0x24000400 ∷ Call.tick ∷ Call.credit 0 6 ∷ Call.tick ∷ Call.credit 0 6 ∷ Call.tick ∷ Call.tick
     ∷ Call.request 0x24000804 ∷ Call.credit 0 5 ∷ Call.request 0x24000C04 ∷ [] in
-    let h = run paper (planOf bytes) calls .history in
+    let h = run reference (planOf bytes) calls .history in
     omega (arith, order bytes refl calls 0 (lit< tt) (proved (keeps-shares 0 2 (planOf bytes) (lit< tt) 0 h) tt) .0 refl 6 (lit< tt))
 
 -- ---- three shares, where a cell is credited when its tile was shown, and one cell fewer: F = 2, W = 2, one flow with share 2 and the given number of cells
@@ -202,7 +202,7 @@ abbrev eight : List Call
 eight = six ++ (Call.tick ∷ Call.credit 0 2 ∷ Call.credit 0 2 ∷ Call.tick ∷ Call.request 0x24001802 ∷ Call.request 0x24001C02 ∷ [])
 
 abbrev shownEvents : History
-shownEvents = run paper (planOf (shown 6)) eight .history
+shownEvents = run reference (planOf (shown 6)) eight .history
 
 pub shown-come-to :
     reverse shownEvents
@@ -229,10 +229,10 @@ credited-when-shown = record {
 }
 
 -- with five the second tile that is asked for in slot 4 is refused: the five of slots 2 to 6 are held
-pub not-fewer-shown : SharesOfCellsBy 1 1 paper → ⊥
+pub not-fewer-shown : SharesOfCellsBy 1 1 reference → ⊥
 unfolding delays-compute given-back keeps-shares
 not-fewer-shown three =
-    let h = run paper (planOf (shown 5)) six .history in
+    let h = run reference (planOf (shown 5)) six .history in
     three (shown 5) refl six 0 (lit< tt) (proved (keeps-shares 1 1 (planOf (shown 5)) (lit< tt) 0 h) tt) .0 refl refl
 
 -- ---- a share more for each frame ahead, and one cell fewer: F = 1, W = 4, one flow with share 1 and the given number of cells, one frame ahead
@@ -258,19 +258,19 @@ aheadCalls = Call.request 0x24000000 ∷ Call.request 0x24000401 ∷ Call.tick �
 
 -- with three cells it is granted slot 3
 pub ahead-come-to :
-    reverse (run paper (planOf (aheadBytes 3)) aheadCalls .history)
+    reverse (run reference (planOf (aheadBytes 3)) aheadCalls .history)
     ≡ requested 0x24000000 (accepted 0x24000001) ∷ requested 0x24000401 (accepted 0x24000402) ∷ ticked (some 0)
     ∷ requested 0x24000802 (accepted 0x24000803) ∷ []
 unfolding delays-compute
 ahead-come-to = refl
 
-pub ahead-are-kept : KeepsSharesAhead 1 0 0 (planOf (aheadBytes 3)) 0 (run paper (planOf (aheadBytes 3)) aheadCalls .history)
+pub ahead-are-kept : KeepsSharesAhead 1 0 0 (planOf (aheadBytes 3)) 0 (run reference (planOf (aheadBytes 3)) aheadCalls .history)
 unfolding delays-compute given-back keeps-ahead
-ahead-are-kept = proved (keeps-ahead 1 0 0 (planOf (aheadBytes 3)) (lit< tt) 0 (run paper (planOf (aheadBytes 3)) aheadCalls .history)) tt
+ahead-are-kept = proved (keeps-ahead 1 0 0 (planOf (aheadBytes 3)) (lit< tt) 0 (run reference (planOf (aheadBytes 3)) aheadCalls .history)) tt
 
 -- with two it is refused
-pub not-fewer-ahead : SharesAheadBy 1 0 1 paper → ⊥
+pub not-fewer-ahead : SharesAheadBy 1 0 1 reference → ⊥
 unfolding delays-compute given-back keeps-ahead
 not-fewer-ahead shares =
-    let h = run paper (planOf (aheadBytes 2)) aheadCalls .history in
+    let h = run reference (planOf (aheadBytes 2)) aheadCalls .history in
     shares (aheadBytes 2) refl aheadCalls 0 (lit< tt) (proved (keeps-ahead 1 0 1 (planOf (aheadBytes 2)) (lit< tt) 0 h) tt) .0 refl refl

@@ -1,4 +1,4 @@
--- The paper's card over several links on which each board credits the one before it at its own grant. Assumes nothing.
+-- The reference scheduler over several links on which each board credits the one before it at its own grant. Assumes nothing.
 use Prim.Native.Nat.{ℕ, suc, _+_, _-_, _*_, _/_, _≤_, _<_}
 use mathlib.Core.Path.{_≡_, refl, sym, ap, subst}
 use mathlib.Core.List.{List, [], _∷_, _++_}
@@ -12,7 +12,7 @@ use Rattle.model.specs.Plan.{Plan, entry, Accepted}
 use Rattle.model.specs.Calls.{Event, History, requested, credited, ticked, lent, accepted, refused}
 use Rattle.model.specs.History.{ticks, slotAfter, frameOf, wellFormed, grantAt, grants, ofFlow, atSlot}
 use Rattle.model.specs.Claim.{Each, AtRequest}
-use Rattle.model.specs.Card.{paper}
+use Rattle.model.specs.Scheduler.{reference}
 use Rattle.model.specs.TwoHops.{InStep}
 use Rattle.arrival.specs.Delay.{TimelyInOrder, Modest, GrantedSoonAt}
 use Rattle.arrival.specs.SeveralLinks.{AskedAt, Together, start, both-tick, first-alone, second-alone, Board, planOn, Way}
@@ -138,7 +138,7 @@ module _ (P : Plan) (i : ℕ) {R S T : ℕ → History → Type 0} (f : (w : ℕ
   both-at-requests (Event.reset a ∷ h) r s = (tt, both-at-requests h (r .1) (s .1))
 
 -- the cells of board a are given back so late, and there are enough of them
-record Back (a : Board paper) : Type 0 where
+record Back (a : Board reference) : Type 0 where
   late : ℕ
   back : AtRequestsOf (planOn a) (a .stream) (λ w h. GivenBack late (planOn a) (a .stream) h) (a .events)
   enough : (late + 2) * entry (planOn a) (a .stream) .share ≤ entry (planOn a) (a .stream) .cells
@@ -163,7 +163,7 @@ module _ (P Q : Plan) (i j late : ℕ) where
       one (lent m a) x y = tt
       one (Event.reset a) x y = tt
 
-joined-with-back : (a b : Board paper) → JoinedByCredits a b → Back b → JoinedOnArrival a b
+joined-with-back : (a b : Board reference) → JoinedByCredits a b → Back b → JoinedOnArrival a b
 joined-with-back a b x y = record {
   in-step = x .in-step;
   share-kept = x .share-kept;
@@ -174,7 +174,7 @@ joined-with-back a b x y = record {
 }
 
 -- and then its grants are soon, so that they are given back on a too
-back-before : (a b : Board paper) → JoinedByCredits a b → Back b → Back a
+back-before : (a b : Board reference) → JoinedByCredits a b → Back b → Back a
 back-before a b x y = record { late = 0; back = each-map _ _ one (a .events) at-each; enough = omega (arith, x .two-shares) }
   where
     P : Plan
@@ -193,11 +193,11 @@ back-before a b x y = record { late = 0; back = each-map _ _ one (a .events) at-
     one (lent m r) h each = tt
     one (Event.reset r) h each = tt
 
-record Along (a : Board paper) (rest : List (Board paper)) : Type 0 where
+record Along (a : Board reference) (rest : List (Board reference)) : Type 0 where
   way : WayOnArrival a rest
   back : Back a
 
-along : (late : ℕ) (a : Board paper) (rest : List (Board paper)) → WayByCredits late a rest → Along a rest
+along : (late : ℕ) (a : Board reference) (rest : List (Board reference)) → WayByCredits late a rest → Along a rest
 along late a [] x = record { way = tt; back = record { late = late; back = x .given-back; enough = x .enough-cells } }
 along late a (b ∷ rest) x =
     let y = along late b rest (x .1) in
@@ -205,7 +205,7 @@ along late a (b ∷ rest) x =
 
 -- ---- the first board
 
-shares-there : (a : Board paper) (x : Back a) → ModestFirst (planOn a) (a .stream) (a .events) → KeepsShares (x .late) 0 (planOn a) (a .stream) (a .events)
+shares-there : (a : Board reference) (x : Back a) → ModestFirst (planOn a) (a .stream) (a .events) → KeepsShares (x .late) 0 (planOn a) (a .stream) (a .events)
 shares-there a x m = record {
   asks = both-at-requests (planOn a) (a .stream) with-cells (a .events) (m .asks) (x .back);
   enough-cells = omega (arith, x .enough);
@@ -217,18 +217,18 @@ shares-there a x m = record {
         → AsksWithinShare (x .late) (planOn a) (a .stream) w h
     with-cells w h y back = record { come = y .come; number = y .number; given-back = back; few = y .few }
 
-modest-there : (a : Board paper) → Back a → ModestFirst (planOn a) (a .stream) (a .events) → Modest TimelyInOrder 0 (planOn a) (a .stream) (a .events)
+modest-there : (a : Board reference) → Back a → ModestFirst (planOn a) (a .stream) (a .events) → Modest TimelyInOrder 0 (planOn a) (a .stream) (a .events)
 modest-there a x m = modest-first (x .late) a (shares-there a x m)
 
 -- so it is a way with room at each request, and the stream is modest on the first board
-pub way-by-credits : (late : ℕ) (a : Board paper) (rest : List (Board paper)) → WayByCredits late a rest → Way a rest
+pub way-by-credits : (late : ℕ) (a : Board reference) (rest : List (Board reference)) → WayByCredits late a rest → Way a rest
 way-by-credits late a rest way = way-with-room a rest (along late a rest way .way)
 
-pub modest-by-credits : (late : ℕ) (a : Board paper) (rest : List (Board paper)) → WayByCredits late a rest → ModestFirst (planOn a) (a .stream) (a .events)
+pub modest-by-credits : (late : ℕ) (a : Board reference) (rest : List (Board reference)) → WayByCredits late a rest → ModestFirst (planOn a) (a .stream) (a .events)
     → Modest TimelyInOrder 0 (planOn a) (a .stream) (a .events)
 modest-by-credits late a rest way = modest-there a (along late a rest way .back)
 
-pub over-links-by-credits : OverLinksByCredits paper
+pub over-links-by-credits : OverLinksByCredits reference
 over-links-by-credits late a rest way =
     let x = along late a rest way in
     let y = over-links a rest (way-with-room a rest (x .way)) in
@@ -239,13 +239,13 @@ over-links-by-credits late a rest way =
       from-due = λ m. y .from-due (modest-there a (x .back) m);
     }
 
-pub from-source-by-credits : FromSourceByCredits paper
+pub from-source-by-credits : FromSourceByCredits reference
 from-source-by-credits late a rest way m =
     let x = along late a rest way in
     let modest = modest-there a (x .back) m in
     in-time a rest modest (over-links a rest (way-with-room a rest (x .way)) .from-due modest)
 
-pub granted-by-credits : GrantedByCredits paper
+pub granted-by-credits : GrantedByCredits reference
 granted-by-credits late a rest way m =
     let back = along late a rest way .back in
     let i = a .stream in

@@ -1,4 +1,4 @@
--- On the paper's card a stream that asks on arrival and gives its cells back in time has room at every request, with more than two shares of cells.
+-- On the reference scheduler a stream that asks on arrival and gives its cells back in time has room at every request, with more than two shares of cells.
 -- Assumes nothing.
 use Prim.Native.Nat.{ℕ, zero, suc, _+_, _-_, _*_, _≤_, _<_}
 use mathlib.Core.Path.{_≡_, refl, ap, _∙_, subst}
@@ -13,9 +13,9 @@ use Rattle.model.specs.Tables.{bit, tally}
 use Rattle.model.specs.Word.{flowOf}
 use Rattle.model.specs.Plan.{Plan, flowCount, entry, planOf, Accepted}
 use Rattle.model.specs.Calls.{Call, Event, History, requested, credited, ticked, lent, accepted, refused}
-use Rattle.model.specs.History.{Mark, ticks, frameOf, wellFormed, renews, lendAt, grants, credits, lends, ofFlow, inFrame, upTo, grantedUpTo, creditedUpTo, lentUpTo}
+use Rattle.model.specs.History.{Mark, ticks, frameOf, wellFormed, isGrantedReset, lendAt, grants, credits, lends, ofFlow, inFrame, upTo, grantedUpTo, creditedUpTo, lentUpTo}
 use Rattle.model.specs.Claim.{Each, EachSince, AtRequest, ReadyAt, Room}
-use Rattle.model.specs.Card.{Played, paper, step, play, started, run}
+use Rattle.model.specs.Scheduler.{Played, reference, step, play, started, run}
 use Rattle.arrival.specs.Delay.{currentFrame, grantBy, madeSince, madeIn, GrantedSoonAt, ModestOnArrival}
 use Rattle.arrival.specs.SeveralLinks.{Ran}
 use Rattle.arrival.specs.EnoughCells.{lastOf, CreditedInTime, AsksInTurn, GivesBack, EnoughCells}
@@ -188,32 +188,32 @@ module _ {P : Plan} (ok : Accepted P) (i : ℕ) (known : i < flowCount P) where
 
 -- what is before each event of a run is a run
 abbrev pub BeginningsRan : Plan → History → Type 0
-BeginningsRan P = Each (λ e h. Ran paper P h)
+BeginningsRan P = Each (λ e h. Ran reference P h)
 
-record RanTo (P : Plan) (r : Played paper) : Type 0 where
+record RanTo (P : Plan) (r : Played reference) : Type 0 where
   calls : List Call
-  is : run paper P calls ≡ r
+  is : run reference P calls ≡ r
   beginnings : BeginningsRan P (r .history)
 
-ran-more : {P : Plan} (r : Played paper) (c : Call) → RanTo P r → RanTo P (step paper r c)
+ran-more : {P : Plan} (r : Played reference) (c : Call) → RanTo P r → RanTo P (step reference r c)
 unfolding play
 ran-more {P} r c x = record {
   calls = x .calls ++ (c ∷ []);
-  is = play-both (started paper P) (x .calls) (c ∷ []) ∙ ap (λ r. step paper r c) (x .is);
+  is = play-both (started reference P) (x .calls) (c ∷ []) ∙ ap (λ r. step reference r c) (x .is);
   beginnings = behind c;
 }
   where
-    before : Ran paper P (r .history)
+    before : Ran reference P (r .history)
     before = record { calls = x .calls; is = ap (λ r. r .history) (x .is) }
 
-    behind : (c : Call) → BeginningsRan P (step paper r c .history)
+    behind : (c : Call) → BeginningsRan P (step reference r c .history)
     behind (Call.request w) = (before, x .beginnings)
     behind (Call.credit i p) = (before, x .beginnings)
     behind Call.tick = (before, x .beginnings)
     behind (Call.lend m) = (before, x .beginnings)
     behind Call.reset = (before, x .beginnings)
 
-pub beginnings-ran : (P : Plan) → Accepted P → (calls : List Call) → BeginningsRan P (run paper P calls .history)
+pub beginnings-ran : (P : Plan) → Accepted P → (calls : List Call) → BeginningsRan P (run reference P calls .history)
 unfolding play
 beginnings-ran P ok calls = by-calls ok (RanTo P) (λ r c g happened x. ran-more r c x) (record { calls = []; is = refl; beginnings = tt }) calls .beginnings
 
@@ -230,14 +230,14 @@ module _ {P : Plan} (ok : Accepted P) (i : ℕ) (known : i < flowCount P) where
   }
     where
       made-before : (f : ℕ) → madeIn P h i f ≤ madeIn P (e ∷ h) i f
-      made-before f = go (renews e) refl
+      made-before f = go (isGrantedReset e) refl
         where
-          go : (b : Bool) → renews e ≡ b → madeIn P h i f ≤ madeIn P (e ∷ h) i f
+          go : (b : Bool) → isGrantedReset e ≡ b → madeIn P h i f ≤ madeIn P (e ∷ h) i f
           go true r = absurd (omega (arith, ap bit r, x .no-reset))
           go false r = rw r (omega (arith, tally-append (inFrame P i f) (grantBy (λ w h. ticks h) e h) (madeSince h)))
 
   -- it is ready at a request, if it was at those before it
-  ready-next : (e : Event) (h : History) → Ran paper P h → Each (Happened P) h → GivesBack 0 P i (e ∷ h) → Each (ReadyAt P i) h → ReadyAt P i e h
+  ready-next : (e : Event) (h : History) → Ran reference P h → Each (Happened P) h → GivesBack 0 P i (e ∷ h) → Each (ReadyAt P i) h → ReadyAt P i e h
   ready-next e h ran happened x rest = one e (x .asks .0)
     where
       so-far : GivesBack 0 P i h
@@ -269,10 +269,10 @@ module _ {P : Plan} (ok : Accepted P) (i : ℕ) (known : i < flowCount P) where
       (ready-next e h (ran .0) (happened .1) x rest, rest)
 
 -- on any plan that keeps the limits, and so on the plan of any bytes that are accepted
-pub enough-cells-accepted : (P : Plan) → Accepted P → (calls : List Call) (i : ℕ) → i < flowCount P → GivesBack 0 P i (run paper P calls .history)
-    → Each (ReadyAt P i) (run paper P calls .history)
+pub enough-cells-accepted : (P : Plan) → Accepted P → (calls : List Call) (i : ℕ) → i < flowCount P → GivesBack 0 P i (run reference P calls .history)
+    → Each (ReadyAt P i) (run reference P calls .history)
 enough-cells-accepted P ok calls i known =
-    ready-at-each ok i known (run paper P calls .history) (beginnings-ran P ok calls) (each-happened P ok calls)
+    ready-at-each ok i known (run reference P calls .history) (beginnings-ran P ok calls) (each-happened P ok calls)
 
-pub enough-cells : EnoughCells paper
+pub enough-cells : EnoughCells reference
 enough-cells bytes passes = enough-cells-accepted (planOf bytes) (plan.accepted bytes passes)

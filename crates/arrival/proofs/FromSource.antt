@@ -1,4 +1,4 @@
--- The paper's card over several links, from the frame in which a tile comes to its source. Assumes nothing.
+-- The reference scheduler over several links, from the frame in which a tile comes to its source. Assumes nothing.
 use Prim.Native.Nat.{ℕ, zero, suc, _+_, _-_, _*_, _/_, _≤_, _<_}
 use mathlib.Core.Path.{_≡_, refl, sym, ap, _∙_, subst}
 use mathlib.Core.List.{List, [], _∷_}
@@ -15,7 +15,7 @@ use Rattle.model.specs.Plan.{Plan, entry, Accepted}
 use Rattle.model.specs.Calls.{Event, History, requested, credited, ticked, lent, accepted, refused}
 use Rattle.model.specs.History.{frameOf}
 use Rattle.model.specs.Claim.{Each, GrantedWordAt}
-use Rattle.model.specs.Card.{paper}
+use Rattle.model.specs.Scheduler.{reference}
 use Rattle.arrival.specs.Delay.{dueSlot, dueIn, TimelyInOrder, AsksAt, Modest}
 use Rattle.arrival.specs.SeveralLinks.{slotsOf, dues, dueSlots, tile, Board, planOn, sentOn, dueOn, Within, EachWithin, Way}
 use Rattle.arrival.specs.SharesOfCells.{KeepsShares}
@@ -116,7 +116,7 @@ due-descending P i (Event.reset a ∷ h) none words asks = due-descending P i h 
 
 -- ---- the first board
 
-module _ (a : Board paper) (modest : Modest TimelyInOrder 0 (planOn a) (a .stream) (a .events)) (asks : ℕ → ℕ)
+module _ (a : Board reference) (modest : Modest TimelyInOrder 0 (planOn a) (a .stream) (a .events)) (asks : ℕ → ℕ)
     (asked : AsksAs asks (planOn a) (a .stream) (a .events)) where
   abbrev P : Plan
   P = planOn a
@@ -171,7 +171,7 @@ module _ (a : Board paper) (modest : Modest TimelyInOrder 0 (planOn a) (a .strea
       came-by : (n f : ℕ) → n < upToFrame comes f → frameOf P (tile n xs) ≤ f + cost
       came-by n f came = due-by n (f + cost) (asked-soon (entry P (a .stream) .share) burst some-share comes asks source bursts n f came)
 
-      came-within : (k : ℕ) (b : Board paper) → Within k P xs b → CameWithin (cost + k) comes b
+      came-within : (k : ℕ) (b : Board reference) → Within k P xs b → CameWithin (cost + k) comes b
       came-within k b within = record {
         frames-later = λ n f lt came. omega (arith, within .frames-later n lt, came-by n f came);
         slots-later = λ n x lt came.
@@ -183,20 +183,20 @@ module _ (a : Board paper) (modest : Modest TimelyInOrder 0 (planOn a) (a .strea
             omega (arith, frame-ends (ok b) s, frame-begins (ok b) x);
       }
 
-      each-came : (k j : ℕ) → k ≡ cost + j → (boards : List (Board paper)) → EachWithin j P xs boards → EachCameWithin k comes boards
+      each-came : (k j : ℕ) → k ≡ cost + j → (boards : List (Board reference)) → EachWithin j P xs boards → EachCameWithin k comes boards
       each-came k j is [] within = tt
       each-came k j is (b ∷ rest) within =
           (rw is (came-within j b (within .0)), each-came (k + 1) (j + 1) (omega (arith, is)) rest (within .1))
 
-pub in-time : (a : Board paper) (rest : List (Board paper)) → Modest TimelyInOrder 0 (planOn a) (a .stream) (a .events)
+pub in-time : (a : Board reference) (rest : List (Board reference)) → Modest TimelyInOrder 0 (planOn a) (a .stream) (a .events)
     → EachWithin 1 (planOn a) (dueOn a) (a ∷ rest) → InTimeFromSource a rest
 in-time a rest modest within burst comes asks source bursts asked =
     each-came a modest asks asked burst comes source bursts (burstFrames (entry (planOn a) (a .stream) .share) burst + 1) 1 refl (a ∷ rest) within
 
-pub from-source : FromSource paper
+pub from-source : FromSource reference
 from-source a rest way modest = in-time a rest modest (over-links a rest way .from-due modest)
 
-pub from-source-on-arrival : FromSourceOnArrival paper
+pub from-source-on-arrival : FromSourceOnArrival reference
 from-source-on-arrival late a rest way keeps =
     let modest = modest-first late a keeps in
     in-time a rest modest (over-links a rest (way-with-room a rest way) .from-due modest)

@@ -13,14 +13,14 @@ use borrow.Author.Tests.{eqb-false}
 use Rattle.model.specs.Tables.{tally}
 use Rattle.model.specs.Refusals.{firstOf}
 use Rattle.model.specs.Plan.{Plan, flowCount, Accepted}
-use Rattle.model.specs.Calls.{Turn, Event, History, Renewal, credited, ticked, lent, accepted, refused}
+use Rattle.model.specs.Calls.{TickAnswer, Event, History, ResetAnswer, credited, ticked, lent, accepted, refused}
 use Rattle.model.specs.Window.{head, next}
 use Rattle.model.specs.Link.{Link, Step, window, flow, share, movedTo, withHeld, heldFrom}
 use Rattle.model.specs.Fresh.{fresh}
 use Rattle.model.specs.Credit.{creditTests, lowered, creditAfter, credit}
 use Rattle.model.specs.Tick.{advanced, tick}
 use Rattle.model.specs.Lend.{lendTests, lentTo, firstInTurn, lentAfter, lendAfter, lend}
-use Rattle.model.specs.Reset.{quiet, fromHead, renewed, reset}
+use Rattle.model.specs.Reset.{quiet, fromHead, resetLink, reset}
 use Rattle.model.specs.History.{ticks, frameOf, grantsSince}
 use Rattle.arrival.specs.Delay.{currentFrame, dueSince}
 use Rattle.model.proofs.Round.{mod-unique}
@@ -101,7 +101,7 @@ module _ {l : Link} {h : History} (g : After (l .plan) l h) {q : ℕ} (known : q
 
   -- ---- the tick
 
-  front-ticked : (x : Turn) → Front P q (flow l q .injection) h → Front P q (flow (advanced l) q .injection) (ticked x ∷ h)
+  front-ticked : (x : TickAnswer) → Front P q (flow l q .injection) h → Front P q (flow (advanced l) q .injection) (ticked x ∷ h)
   unfolding ticks grantsSince dueSince
   front-ticked x y = go (ℕ-discrete (suc (ticks h) % P .slots) 0)
     where
@@ -173,9 +173,9 @@ module _ {l : Link} {h : History} (g : After (l .plan) l h) {q : ℕ} (known : q
 
   -- ---- the reset
 
-  front-renewed : Front P q (flow (renewed l) q .injection) (Event.reset (accepted tt) ∷ h)
-  unfolding ticks grantsSince dueSince tally renewed
-  front-renewed = record {
+  front-reset : Front P q (flow (resetLink l) q .injection) (Event.reset (accepted tt) ∷ h)
+  unfolding ticks grantsSince dueSince tally resetLink
+  front-reset = record {
     front = currentFrame P h;
     from-now = omega arith;
     last-due = λ f low none. low;
@@ -191,11 +191,11 @@ module _ {l : Link} {h : History} (g : After (l .plan) l h) {q : ℕ} (known : q
   unfolding ticks grantsSince dueSince
   reset-kept kept = rw (reset-is l) (go (quiet l))
     where
-      handed : Bool → Step Renewal
+      handed : Bool → Step ResetAnswer
       handed b = cond b (granted l) (notGranted l)
 
       go : (b : Bool) → Kept P (Event.reset (handed b .answer) ∷ h) q (flow (handed b .link) q .injection)
-      go true m = record { front = front-renewed; served = tt }
+      go true m = record { front = front-reset; served = tt }
       go false m =
           let so-far = kept (record { asks = m .asks .1; within-share = m .within-share }) in
           record { front = front-same P q refl refl refl refl (so-far .front); served = (tt, so-far .served) }

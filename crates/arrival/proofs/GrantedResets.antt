@@ -1,4 +1,4 @@
--- The paper's card grants a reset where nothing is booked to come and nothing is held, and nowhere else. Assumes nothing.
+-- The reference scheduler grants a reset where nothing is booked to come and nothing is held, and nowhere else. Assumes nothing.
 use Prim.Native.Nat.{ℕ, _%_, _≤_, _<_}
 use mathlib.Core.Path.{_≡_, refl, sym, ap, _∙_, subst}
 use mathlib.Core.Logic.{_↔_}
@@ -17,8 +17,8 @@ use Rattle.model.specs.Reset.{noneBooked, noneHeld, quiet, reset}
 use Rattle.model.specs.History.{ticks, grantAt, grants, grantsSince, atSlot, upTo}
 use Rattle.model.specs.Holding.{InWindow}
 use Rattle.model.specs.Claim.{Each}
-use Rattle.model.specs.Card.{Played, paper, step, run}
-use Rattle.arrival.specs.AnsweredLends.{AtRest, IsRenewed, ResetGrantedAt, ResetGranted}
+use Rattle.model.specs.Scheduler.{Played, reference, step, run}
+use Rattle.arrival.specs.AnsweredLends.{AtRest, IsReset, ResetGrantedAt, ResetGranted}
 use Rattle.model.proofs.Plan as plan
 use Rattle.model.proofs.Tables.{every-at, every-intro}
 use Rattle.model.proofs.Slots.{slotAt, slotAt-in-window, slotAt-position, current-in-window}
@@ -103,14 +103,14 @@ module _ {l : Link} {h : History} (g : After (l .plan) l h) where
   granted-at : ResetGrantedAt P (Event.reset (reset l .answer)) h
   granted-at = rw (reset-is l) (go (quiet l) refl)
     where
-      go : (b : Bool) → quiet l ≡ b → IsRenewed ((cond b (granted l) (notGranted l)) .answer) ↔ AtRest P h
+      go : (b : Bool) → quiet l ≡ b → IsReset ((cond b (granted l) (notGranted l)) .answer) ↔ AtRest P h
       go true e = (λ is. rests-if-quiet e, λ x. tt)
       go false e = (λ is. absurd is, λ x. let on = quiet-if-rests x in let z : _≡_ {A = ℕ} 0 1 = cc in absurd (omega arith))
 
 -- ---- a list of calls
 
-one-more : (r : Played paper) (c : Call) → Known (r .state .plan) r → Each (ResetGrantedAt (r .state .plan)) (r .history)
-    → Each (ResetGrantedAt (r .state .plan)) (step paper r c .history)
+one-more : (r : Played reference) (c : Call) → Known (r .state .plan) r → Each (ResetGrantedAt (r .state .plan)) (r .history)
+    → Each (ResetGrantedAt (r .state .plan)) (step reference r c .history)
 one-more r (Call.request w) g x = (tt, x)
 one-more r (Call.credit i p) g x = (tt, x)
 one-more r Call.tick g x = (tt, x)
@@ -118,13 +118,13 @@ one-more r (Call.lend m) g x = (tt, x)
 one-more r Call.reset g x = (granted-at g, x)
 
 -- on any plan that keeps the limits, and so on the plan of any bytes that are accepted
-pub resets-granted-accepted : (P : Plan) → Accepted P → (calls : List Call) → Each (ResetGrantedAt P) (run paper P calls .history)
+pub resets-granted-accepted : (P : Plan) → Accepted P → (calls : List Call) → Each (ResetGrantedAt P) (run reference P calls .history)
 resets-granted-accepted P ok = by-calls ok (λ r. Each (ResetGrantedAt P) (r .history)) more tt
   where
-    more : (r : Played paper) (c : Call) → Known P r → Each (Happened P) (r .history) → Each (ResetGrantedAt P) (r .history)
-        → Each (ResetGrantedAt P) (step paper r c .history)
+    more : (r : Played reference) (c : Call) → Known P r → Each (Happened P) (r .history) → Each (ResetGrantedAt P) (r .history)
+        → Each (ResetGrantedAt P) (step reference r c .history)
     more r c g happened =
-        subst (λ Q. Known Q r → Each (ResetGrantedAt Q) (r .history) → Each (ResetGrantedAt Q) (step paper r c .history)) (g .plan-is) (one-more r c) g
+        subst (λ Q. Known Q r → Each (ResetGrantedAt Q) (r .history) → Each (ResetGrantedAt Q) (step reference r c .history)) (g .plan-is) (one-more r c) g
 
-pub resets-granted : ResetGranted paper
+pub resets-granted : ResetGranted reference
 resets-granted bytes passes = resets-granted-accepted (planOf bytes) (plan.accepted bytes passes)

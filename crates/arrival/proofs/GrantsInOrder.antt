@@ -11,7 +11,7 @@ use Rattle.model.specs.Link.{Link, Step}
 use Rattle.model.specs.Request.{Found, found, nowhere, sought, answered, request}
 use Rattle.model.specs.History.{ticks, slotAfter, frameOf, wellFormed, grantedIn}
 use Rattle.model.specs.Claim.{Each, AtGrant}
-use Rattle.model.specs.Card.{Played, paper, step, run}
+use Rattle.model.specs.Scheduler.{Played, reference, step, run}
 use Rattle.model.proofs.Word.{departure-depart}
 use Rattle.model.proofs.Slots.{some-frame}
 use Rattle.model.proofs.Window.{Current}
@@ -56,18 +56,18 @@ module _ {l : Link} {h : History} (g : After (l .plan) l h) (w : ℕ) where
       go (searched passes) =
           searched-in-order (passes .well) (sought l (flowOf w) (departureOf w)) (request-searched v (known g w (passes .well)) (departureOf w) none)
 
-one-more : (r : Played paper) (c : Call) → Known (r .state .plan) r → Each (FrameInOrderAt (r .state .plan)) (r .history)
-    → Each (FrameInOrderAt (r .state .plan)) (step paper r c .history)
+one-more : (r : Played reference) (c : Call) → Known (r .state .plan) r → Each (FrameInOrderAt (r .state .plan)) (r .history)
+    → Each (FrameInOrderAt (r .state .plan)) (step reference r c .history)
 one-more r (Call.request w) g x = (request-in-order g w, x)
 one-more r (Call.credit i p) g x = (tt, x)
 one-more r Call.tick g x = (tt, x)
 one-more r (Call.lend m) g x = (tt, x)
 one-more r Call.reset g x = (tt, x)
 
-pub frames-in-order : (P : Plan) → Accepted P → (calls : List Call) → Each (FrameInOrderAt P) (run paper P calls .history)
+pub frames-in-order : (P : Plan) → Accepted P → (calls : List Call) → Each (FrameInOrderAt P) (run reference P calls .history)
 frames-in-order P ok = by-calls ok (λ r. Each (FrameInOrderAt P) (r .history)) more tt
   where
-    more : (r : Played paper) (c : Call) → Known P r → Each (Happened P) (r .history) → Each (FrameInOrderAt P) (r .history)
-        → Each (FrameInOrderAt P) (step paper r c .history)
+    more : (r : Played reference) (c : Call) → Known P r → Each (Happened P) (r .history) → Each (FrameInOrderAt P) (r .history)
+        → Each (FrameInOrderAt P) (step reference r c .history)
     more r c g happened =
-        subst (λ Q. Known Q r → Each (FrameInOrderAt Q) (r .history) → Each (FrameInOrderAt Q) (step paper r c .history)) (g .plan-is) (one-more r c) g
+        subst (λ Q. Known Q r → Each (FrameInOrderAt Q) (r .history) → Each (FrameInOrderAt Q) (step reference r c .history)) (g .plan-is) (one-more r c) g

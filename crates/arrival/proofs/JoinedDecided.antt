@@ -6,7 +6,7 @@ use native.Mathlib.Decide.{decLe, decLt, ℕ-discrete}
 use Rattle.model.specs.Tables.{any}
 use Rattle.model.specs.Word.{flowOf}
 use Rattle.model.specs.Plan.{Plan}
-use Rattle.model.specs.Calls.{Call, Turn, Event, History, requested, credited, ticked, lent}
+use Rattle.model.specs.Calls.{Call, TickAnswer, Event, History, requested, credited, ticked, lent}
 use Rattle.model.specs.History.{wellFormed, marksOf}
 use Rattle.arrival.specs.SeveralLinks.{slotsOf, dues, tile, Alone, AskedAt, Together, start, both-tick, first-alone, second-alone}
 use Rattle.arrival.specs.LessJoined.{Joining, And, Numbered, Leaving, NamesNext, NamesOne, NotLate, BeforeNewest, RoomAfter, AllAsked}
@@ -63,7 +63,7 @@ module _ (left : Leaving) where
 
 -- both tick, or one board is called
 pub data Move : Type 0 where
-  both : (x₁ x₂ : Turn) → Move
+  both : (x₁ x₂ : TickAnswer) → Move
   first : Event → Move
   second : Event → Move
 

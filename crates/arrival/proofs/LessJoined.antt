@@ -1,5 +1,5 @@
--- What each premise of `OverLinks` is for: without it the paper's card does not keep what follows on the next board, by two short lists of calls. Assumes
--- nothing.
+-- What each premise of `OverLinks` is for: without it the reference scheduler does not keep what follows on the next board, by two short lists of calls.
+-- Assumes nothing.
 use Prim.Native.Nat.{ℕ, _≤_}
 use mathlib.Core.Path.{_≡_, refl}
 use mathlib.Core.List.{_∷_, [], reverse}
@@ -8,7 +8,7 @@ use native.Mathlib.Omega.{arith}
 use lib.Dec.{lit<, lit≤}
 use Rattle.model.specs.Plan.{Plan, planOf}
 use Rattle.model.specs.Calls.{Call, Event, History, requested, credited, ticked, lent, accepted, refused}
-use Rattle.model.specs.Card.{paper, run}
+use Rattle.model.specs.Scheduler.{reference, run}
 use Rattle.model.specs.PlanBytes.{plan1, plan2}
 use Rattle.model.specs.TwoHops.{InStep}
 use Rattle.arrival.specs.SeveralLinks.{sentSlots, AsksForNext, AskedAt, Together, start, both-tick, first-alone, second-alone, Board}
@@ -36,10 +36,10 @@ together-map P Q i j {A} {B} f (second-alone {h₁ = h₁} {h₂ = h₂} e alone
     one (lent m a) x = tt
     one (Event.reset a) x = tt
 
-pub two-boards : TwoBoards paper
+pub two-boards : TwoBoards reference
 two-boards bytes₁ bytes₂ passes₁ passes₂ step i j known₁ known₂ kept h₁ h₂ ran₁ ran₂ none₁ none₂ together =
-    let a : Board paper = record { bytes = bytes₁; passes = passes₁; events = h₁; ran = ran₁; no-reset = none₁; stream = i; known = known₁ } in
-    let b : Board paper = record { bytes = bytes₂; passes = passes₂; events = h₂; ran = ran₂; no-reset = none₂; stream = j; known = known₂ } in
+    let a : Board reference = record { bytes = bytes₁; passes = passes₁; events = h₁; ran = ran₁; no-reset = none₁; stream = i; known = known₁ } in
+    let b : Board reference = record { bytes = bytes₂; passes = passes₂; events = h₂; ran = ran₂; no-reset = none₂; stream = j; known = known₂ } in
     let x = over-links a (b ∷ []) (record { in-step = step; share-kept = kept; together = together-map P Q i j as-asked together }, tt) in
     record { granted = x .granted .0; frames-later = x .from-first .0 .frames-later }
   where
@@ -61,7 +61,7 @@ two-boards bytes₁ bytes₂ passes₁ passes₂ step i j known₁ known₂ kept
 
 -- F = 3, W = 2, and a neighbour with share 2 on the second board. The first is reset in slot 4, and grants slots 3 and 5, both of frame 1: the second refuses
 -- the tile of slot 5 with 11.
-pub not-with-a-reset : TwoBoardsBy InStep SharesKept (λ h. Unit {0}) sentSlots (AllAsked sentSlots) paper → ⊥
+pub not-with-a-reset : TwoBoardsBy InStep SharesKept (λ h. Unit {0}) sentSlots (AllAsked sentSlots) reference → ⊥
 unfolding joins-compute
 not-with-a-reset two =
     let ms =
@@ -78,7 +78,7 @@ not-with-a-reset two =
     x .granted .0 refl refl
 
 -- F = 2, W = 2. The first board grants slot 2 and lends slot 3, both of frame 1: the second refuses the tile of slot 3 with 11.
-pub not-with-a-lent-slot : TwoBoardsBy InStep SharesKept NoReset withLent (AllAsked withLent) paper → ⊥
+pub not-with-a-lent-slot : TwoBoardsBy InStep SharesKept NoReset withLent (AllAsked withLent) reference → ⊥
 unfolding joins-compute
 not-with-a-lent-slot two =
     let ms =
@@ -94,7 +94,7 @@ not-with-a-lent-slot two =
     x .granted .0 refl refl
 
 -- F = 2, W = 2, share 2 on the first board and 1 on the second. Slots 1, 2 and 3 are granted on the first: the second refuses the tile of slot 3 with 11.
-pub not-with-a-smaller-share : TwoBoardsBy InStep (λ share₁ share₂. Unit {0}) NoReset sentSlots (AllAsked sentSlots) paper → ⊥
+pub not-with-a-smaller-share : TwoBoardsBy InStep (λ share₁ share₂. Unit {0}) NoReset sentSlots (AllAsked sentSlots) reference → ⊥
 unfolding joins-compute
 not-with-a-smaller-share two =
     let ms =
@@ -111,7 +111,7 @@ not-with-a-smaller-share two =
 
 -- F = 1 and W = 4 on the first board, F = 2 and W = 2 on the second. Slots 1, 2 and 3 are granted on the first, each of another frame; on the second the last
 -- two are of one frame, and the tile of slot 3 is refused with 11.
-pub not-with-other-frames : TwoBoardsBy (λ P Q. Unit {0}) SharesKept NoReset sentSlots (AllAsked sentSlots) paper → ⊥
+pub not-with-other-frames : TwoBoardsBy (λ P Q. Unit {0}) SharesKept NoReset sentSlots (AllAsked sentSlots) reference → ⊥
 unfolding joins-compute
 not-with-other-frames two =
     let ms =
@@ -128,7 +128,7 @@ not-with-other-frames two =
 
 -- F = 1, W = 5. Slots 1 and 2 are granted on the first board. The tile of slot 2 is asked for first on the second, and granted slot 3; the other then slot 4,
 -- three frames after it came. By number, the first grant on the second board is two frames after the first on the first.
-pub not-out-of-order : TwoBoardsBy InStep SharesKept NoReset sentSlots (AllButOrder sentSlots) paper → ⊥
+pub not-out-of-order : TwoBoardsBy InStep SharesKept NoReset sentSlots (AllButOrder sentSlots) reference → ⊥
 unfolding joins-compute
 not-out-of-order two =
     let ms =
@@ -142,7 +142,7 @@ not-out-of-order two =
     omega (arith, x .frames-later 0 (lit< tt))
 
 -- F = 1, W = 3. The tile of slot 1 is asked for in slot 2, where its departure is the newest frame's: 20.
-pub not-when-late : TwoBoardsBy InStep SharesKept NoReset sentSlots (AllButLate sentSlots) paper → ⊥
+pub not-when-late : TwoBoardsBy InStep SharesKept NoReset sentSlots (AllButLate sentSlots) reference → ⊥
 unfolding joins-compute
 not-when-late two =
     let ms =
@@ -156,7 +156,7 @@ not-when-late two =
     x .granted .0 refl refl
 
 -- F = 1, W = 2. The tile of slot 1 is asked for in slot 0, where frame 1 is the newest: 20.
-pub not-in-the-newest-frame : TwoBoardsBy InStep SharesKept NoReset sentSlots (AllButNewest sentSlots) paper → ⊥
+pub not-in-the-newest-frame : TwoBoardsBy InStep SharesKept NoReset sentSlots (AllButNewest sentSlots) reference → ⊥
 unfolding joins-compute
 not-in-the-newest-frame two =
     let ms =
@@ -169,7 +169,7 @@ not-in-the-newest-frame two =
     x .granted .0 refl refl
 
 -- F = 2, W = 3, one cell on the second board, which the first tile holds from slot 2 on: the next gets 12.
-pub not-without-room : TwoBoardsBy InStep SharesKept NoReset sentSlots (AllButRoom sentSlots) paper → ⊥
+pub not-without-room : TwoBoardsBy InStep SharesKept NoReset sentSlots (AllButRoom sentSlots) reference → ⊥
 unfolding joins-compute
 not-without-room two =
     let ms =
@@ -183,7 +183,7 @@ not-without-room two =
     x .granted .0 refl refl
 
 -- number 1 on a fresh board: 24
-pub not-without-number : TwoBoardsBy InStep SharesKept NoReset sentSlots (AllButNumber sentSlots) paper → ⊥
+pub not-without-number : TwoBoardsBy InStep SharesKept NoReset sentSlots (AllButNumber sentSlots) reference → ⊥
 unfolding joins-compute
 not-without-number two =
     let ms =
@@ -199,7 +199,7 @@ not-without-number two =
 
 -- F = 4, W = 2, share 3, two cells. Credits are dated slots 5 and 3, in this order; the third tile is granted slot 5, and the fourth slot 4.
 pub slots-out-of-order :
-    reverse (run paper (planOf (plan1 4 2 8 3 2)) (Call.request 0x24000000 ∷ Call.request 0x24000400 ∷ Call.tick ∷ Call.credit 0 5 ∷ Call.request 0x24000801
+    reverse (run reference (planOf (plan1 4 2 8 3 2)) (Call.request 0x24000000 ∷ Call.request 0x24000400 ∷ Call.tick ∷ Call.credit 0 5 ∷ Call.request 0x24000801
     ∷ Call.tick ∷ Call.credit 0 3 ∷ Call.request 0x24000C02 ∷ []) .history)
     ≡ requested 0x24000000 (accepted 0x24000001) ∷ requested 0x24000400 (accepted 0x24000402) ∷ ticked (some 0) ∷ credited 0 5 (accepted tt)
     ∷ requested 0x24000801 (accepted 0x24000805) ∷ ticked (some 0) ∷ credited 0 3 (accepted tt) ∷ requested 0x24000C02 (accepted 0x24000C04) ∷ []
@@ -209,7 +209,7 @@ slots-out-of-order = refl
 -- F = 2, W = 3, share 1, one cell. A tile that waits for a cell and is asked for again in the next frame gets 20 with its old departure, and is granted slot 6
 -- with the current position.
 pub waits-with-its-departure :
-    reverse (run paper (planOf (plan1 2 3 8 1 1)) (Call.request 0x24000000 ∷ Call.tick ∷ Call.request 0x24000401 ∷ Call.tick ∷ Call.credit 0 3
+    reverse (run reference (planOf (plan1 2 3 8 1 1)) (Call.request 0x24000000 ∷ Call.tick ∷ Call.request 0x24000401 ∷ Call.tick ∷ Call.credit 0 3
     ∷ Call.request 0x24000401 ∷ Call.request 0x24000402 ∷ []) .history)
     ≡ requested 0x24000000 (accepted 0x24000001) ∷ ticked (some 0) ∷ requested 0x24000401 (refused 12) ∷ ticked none ∷ credited 0 3 (accepted tt)
     ∷ requested 0x24000401 (refused 20) ∷ requested 0x24000402 (accepted 0x24000400) ∷ []

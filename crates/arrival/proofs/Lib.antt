@@ -2,7 +2,7 @@
 
 -- ---- one link
 -- which credits are taken
-pub mod TakenCredits
+pub mod AcceptedCredits
 -- which lends are answered with a flow
 pub mod AnsweredLends
 -- which resets are granted
@@ -13,7 +13,7 @@ pub mod AnsweredRequests
 pub mod GrantsInNewest
 -- when a tile is due, and where the search fails
 pub mod TimelyRequests
--- the paper's card is prompt
+-- the reference scheduler is prompt
 pub mod Prompt
 -- how far a modest flow's injection frame has got
 pub mod Fronts
@@ -63,7 +63,7 @@ pub mod AllArrive
 pub mod BooksInOrder
 -- so is one with its shares of cells
 pub mod SharesInOrder
--- ---- what is needed, examples, and cards that are sent back
+-- ---- what is needed, examples, and schedulers that are sent back
 -- whether a flow is modest is decided
 pub mod DelayDecided
 -- prompt and soon are false without each premise
@@ -76,16 +76,16 @@ pub mod JoinedDecided
 pub mod LessJoined
 -- a cell fewer is too few
 pub mod CellsNeeded
--- cards that make a flow wait, or mix up its slots
-pub mod BadDelays
+-- schedulers that make a flow wait, or mix up its slots
+pub mod WrongDelays
 -- two of them meet demand 3
-pub mod SlowCards
--- cards that refuse credits
-pub mod BadCredits
+pub mod SlowSchedulers
+-- schedulers that refuse credits
+pub mod WrongCredits
 -- they meet demand 3, prompt and soon
 pub mod KeptCells
--- cards that refuse lends or resets
-pub mod BadAnswers
+-- schedulers that refuse lends or resets
+pub mod WrongAnswers
 -- two links, asked on arrival
 pub mod OnArrivalExample
 -- a tile that arrives, and a board that stops asking

@@ -1,4 +1,4 @@
--- The paper's card over several links on which the stream asks on arrival: with its cells it has room at each request on each link. Assumes nothing.
+-- The reference scheduler over several links on which the stream asks on arrival: with its cells it has room at each request on each link. Assumes nothing.
 use Prim.Native.Nat.{ℕ, _%_, _<_}
 use mathlib.Core.Path.{_≡_, refl, ap, _∙_, subst}
 use mathlib.Core.List.{List, [], _∷_}
@@ -11,7 +11,7 @@ use Rattle.model.specs.Plan.{Plan, positions, entry}
 use Rattle.model.specs.Calls.{Event, History, requested, credited, ticked, lent}
 use Rattle.model.specs.History.{ticks, frameOf, hasCome, lendAt, lends, ofFlow}
 use Rattle.model.specs.Claim.{Each, EachSince, GrantedWordAt}
-use Rattle.model.specs.Card.{paper}
+use Rattle.model.specs.Scheduler.{reference}
 use Rattle.arrival.specs.Delay.{currentFrame, madeIn, dueIn, GrantedSoonAt, TimelyInOrder, Modest, ServedAt}
 use Rattle.arrival.specs.SeveralLinks.{ForNext, AsksForNext, Alone, AskedAt, Together, start, both-tick, first-alone, second-alone}
 use Rattle.arrival.specs.SeveralLinks.{Ran, Board, planOn, Joined, Way}
@@ -32,7 +32,7 @@ use Rattle.arrival.proofs.EnoughCells.{BeginningsRan, beginnings-ran}
 use Rattle.arrival.proofs.HeldByFrames.{room-next}
 use Rattle.arrival.proofs.SharesOfCells.{modest-of, timely-at-each, shares-of-cells-accepted}
 
-module _ (a b : Board paper) (joined : JoinedOnArrival a b) where
+module _ (a b : Board reference) (joined : JoinedOnArrival a b) where
   abbrev P : Plan
   P = planOn a
 
@@ -88,7 +88,7 @@ module _ (a b : Board paper) (joined : JoinedOnArrival a b) where
 
   -- ---- a request on arrival
 
-  module _ (h₁ h₂ : History) (k : Known h₁ h₂) (ran : Ran paper Q h₂) (s : SoFar h₁ h₂) (w : ℕ) (x : AsksOnArrival (GivenBack (joined .late)) P Q i j h₁ w h₂) where
+  module _ (h₁ h₂ : History) (k : Known h₁ h₂) (ran : Ran reference Q h₂) (s : SoFar h₁ h₂) (w : ℕ) (x : AsksOnArrival (GivenBack (joined .late)) P Q i j h₁ w h₂) where
     for-next : ForNext P Q i j h₁ w h₂
     for-next = record { sent = x .sent; departs = x .departs; not-late = omega (arith, x .comes-now) }
 
@@ -176,24 +176,24 @@ module _ (a b : Board paper) (joined : JoinedOnArrival a b) where
       since-all (GrantedSoonAt Q j) (b .events) (none b) (served-on-arrival (ok b) j (b .events) (words b) (each-since (ComeAt Q j) (b .events) (so-far .come))
       (each-since (ServedAt Q j) (b .events) (served b (next-modest a b joined-with-room))))
 
-pub way-with-room : (a : Board paper) (rest : List (Board paper)) → WayOnArrival a rest → Way a rest
+pub way-with-room : (a : Board reference) (rest : List (Board reference)) → WayOnArrival a rest → Way a rest
 way-with-room a [] way = tt
 way-with-room a (b ∷ rest) way = (joined-with-room a b (way .0), way-with-room b rest (way .1))
 
 -- on the first board it is modest
-pub modest-first : (late : ℕ) (a : Board paper) → KeepsShares late 0 (planOn a) (a .stream) (a .events) → Modest TimelyInOrder 0 (planOn a) (a .stream) (a .events)
+pub modest-first : (late : ℕ) (a : Board reference) → KeepsShares late 0 (planOn a) (a .stream) (a .events) → Modest TimelyInOrder 0 (planOn a) (a .stream) (a .events)
 modest-first late a x =
     let ran = runs-have a (BeginningsRan (planOn a)) (beginnings-ran (planOn a) (ok a)) in
     modest-of (ok a) (a .stream) (a .known) late (a .events) (words a) (none a) (x .asks)
     (timely-at-each (ok a) (a .stream) (a .known) late (a .events) (words a) (none a) (x .asks) ran (happened a) (x .not-lent) (x .enough-cells))
 
 -- and each request there is granted
-pub granted-first : (late : ℕ) (a : Board paper) → KeepsShares late 0 (planOn a) (a .stream) (a .events) → EachGrantedNow (planOn a) (a .stream) (a .events)
+pub granted-first : (late : ℕ) (a : Board reference) → KeepsShares late 0 (planOn a) (a .stream) (a .events) → EachGrantedNow (planOn a) (a .stream) (a .events)
 granted-first late a =
     runs-have a (λ h. KeepsShares late 0 (planOn a) (a .stream) h → EachGrantedNow (planOn a) (a .stream) h)
     (λ calls. shares-of-cells-accepted late (planOn a) (ok a) calls (a .stream) (a .known))
 
-pub over-links-on-arrival : OverLinksOnArrival paper
+pub over-links-on-arrival : OverLinksOnArrival reference
 over-links-on-arrival late a rest way =
     let x = over-links a rest (way-with-room a rest way) in
     record {

@@ -12,7 +12,7 @@ use Rattle.model.specs.Tables.{tally}
 use Rattle.model.specs.Word.{flowOf, departureOf}
 use Rattle.model.specs.Plan.{Plan, positions, flowCount, entry, Accepted}
 use Rattle.model.specs.Calls.{Event, History, requested, credited, ticked, lent, accepted, refused}
-use Rattle.model.specs.History.{ticks, slotAfter, frameOf, hasCome, renews, grants, grantsSince, grantedIn, inFrame}
+use Rattle.model.specs.History.{ticks, slotAfter, frameOf, hasCome, isGrantedReset, grants, grantsSince, grantedIn, inFrame}
 use Rattle.model.specs.Holding.{frameStart, InWindow}
 use Rattle.model.specs.Claim.{Each, EachSince, GrantedWordAt}
 use Rattle.model.specs.TwoHops.{InStep}
@@ -51,7 +51,7 @@ module _ (P : Plan) (h : History) (none : NoneGranted h) where
 -- what holds of each event holds of each since the last granted reset; and the other way round, where there is none
 pub each-since : (R : Event → History → Type 0) (h : History) → Each R h → EachSince R h
 each-since R [] a = tt
-each-since R (e ∷ h) a = go (renews e) (each-since R h (a .1))
+each-since R (e ∷ h) a = go (isGrantedReset e) (each-since R h (a .1))
   where
     go : (b : Bool) → EachSince R h → cond b (Unit {0}) (R e h × EachSince R h)
     go true rest = tt

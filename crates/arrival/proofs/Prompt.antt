@@ -1,5 +1,5 @@
--- The paper's card is prompt: a flow with fewer than its share of grants made in this frame is granted its next request that fits the newest frame. Assumes
--- nothing.
+-- The reference scheduler is prompt: a flow with fewer than its share of grants made in this frame is granted its next request that fits the newest frame.
+-- Assumes nothing.
 use Prim.Native.Nat.{ℕ, _≤_, _<_}
 use mathlib.Core.Path.{_≡_, sym, _∙_, subst}
 use mathlib.Core.List.{List}
@@ -13,7 +13,7 @@ use Rattle.model.specs.Link.{Link, Step}
 use Rattle.model.specs.Request.{Found, found, nowhere, sought, answered, request}
 use Rattle.model.specs.History.{ticks, wellFormed, marksOf, inFrame}
 use Rattle.model.specs.Claim.{Each, Ready}
-use Rattle.model.specs.Card.{Played, paper, step, run}
+use Rattle.model.specs.Scheduler.{Played, reference, step, run}
 use Rattle.arrival.specs.Delay.{currentFrame, newestFrame, grantBy, madeSince, madeIn, Timely, FitsNewest, IsGranted, PromptAt, PromptOn, PromptBy, Prompt}
 use Rattle.model.proofs.Plan as plan
 use Rattle.model.proofs.Slots.{some-frame}
@@ -53,25 +53,25 @@ module _ {l : Link} {h : History} (g : After (l .plan) l h) (happened : Each (Ha
       go (searched passes) =
           found-if-few well x (omega arith) (sought l i (departureOf w)) (request-searched v (known g w well) (departureOf w) (λ f. 0))
 
-one-more : (r : Played paper) (c : Call) → Known (r .state .plan) r → Each (Happened (r .state .plan)) (r .history)
-    → PromptOn FitsNewest 0 (r .state .plan) (r .history) → PromptOn FitsNewest 0 (r .state .plan) (step paper r c .history)
+one-more : (r : Played reference) (c : Call) → Known (r .state .plan) r → Each (Happened (r .state .plan)) (r .history)
+    → PromptOn FitsNewest 0 (r .state .plan) (r .history) → PromptOn FitsNewest 0 (r .state .plan) (step reference r c .history)
 one-more r (Call.request w) g happened x = (prompt-at g happened w, x)
 one-more r (Call.credit i p) g happened x = (tt, x)
 one-more r Call.tick g happened x = (tt, x)
 one-more r (Call.lend m) g happened x = (tt, x)
 one-more r Call.reset g happened x = (tt, x)
 
-pub prompt-more : {P : Plan} (r : Played paper) (c : Call) → Known P r → Each (Happened P) (r .history) → PromptOn FitsNewest 0 P (r .history)
-    → PromptOn FitsNewest 0 P (step paper r c .history)
+pub prompt-more : {P : Plan} (r : Played reference) (c : Call) → Known P r → Each (Happened P) (r .history) → PromptOn FitsNewest 0 P (r .history)
+    → PromptOn FitsNewest 0 P (step reference r c .history)
 prompt-more r c g =
-    subst (λ Q. Known Q r → Each (Happened Q) (r .history) → PromptOn FitsNewest 0 Q (r .history) → PromptOn FitsNewest 0 Q (step paper r c .history))
+    subst (λ Q. Known Q r → Each (Happened Q) (r .history) → PromptOn FitsNewest 0 Q (r .history) → PromptOn FitsNewest 0 Q (step reference r c .history))
     (g .plan-is) (one-more r c) g
 
 -- on any plan that keeps the limits, and so on the plan of any bytes that are accepted
-pub prompt-accepted : (P : Plan) → Accepted P → (calls : List Call) → PromptOn FitsNewest 0 P (run paper P calls .history)
+pub prompt-accepted : (P : Plan) → Accepted P → (calls : List Call) → PromptOn FitsNewest 0 P (run reference P calls .history)
 prompt-accepted P ok = by-calls ok (λ r. PromptOn FitsNewest 0 P (r .history)) prompt-more tt
 
-pub prompt : Prompt paper
+pub prompt : Prompt reference
 prompt bytes passes = prompt-accepted (planOf bytes) (plan.accepted bytes passes)
 
 -- ---- requests that are timely, asked on arrival, and counted over the whole list
@@ -88,14 +88,14 @@ weaker Q R P implies h = each-map (PromptAt Q 0 P) (PromptAt R 0 P) one h
     one (lent m a) h x = tt
     one (Event.reset a) h x = tt
 
-pub prompt-if-timely : PromptBy Timely 0 paper
+pub prompt-if-timely : PromptBy Timely 0 reference
 prompt-if-timely bytes passes calls =
-    weaker FitsNewest Timely (planOf bytes) (timely-fits (plan.accepted bytes passes)) (run paper (planOf bytes) calls .history) (prompt bytes passes calls)
+    weaker FitsNewest Timely (planOf bytes) (timely-fits (plan.accepted bytes passes)) (run reference (planOf bytes) calls .history) (prompt bytes passes calls)
 
 -- A tile that has come is timely.
-pub prompt-if-ready : PromptBy Ready 0 paper
+pub prompt-if-ready : PromptBy Ready 0 reference
 prompt-if-ready bytes passes calls =
-    weaker Timely Ready (planOf bytes) (ready-timely (plan.accepted bytes passes)) (run paper (planOf bytes) calls .history) (prompt-if-timely bytes passes calls)
+    weaker Timely Ready (planOf bytes) (ready-timely (plan.accepted bytes passes)) (run reference (planOf bytes) calls .history) (prompt-if-timely bytes passes calls)
 
 -- Grants since the last granted reset are among those of the whole list: if fewer than the share of these were made in the frame, so were of those.
 pub made-in-all : (P : Plan) (h : History) (i f : ℕ) → madeIn P h i f ≤ tally (inFrame P i f) (marksOf (grantBy (λ w h. ticks h)) h)

@@ -1,4 +1,4 @@
--- The paper's card over several links: a tile comes up on link m in the m-th frame after the one in which it is due on the first, at the latest. Assumes
+-- The reference scheduler over several links: a tile comes up on link m in the m-th frame after the one in which it is due on the first, at the latest. Assumes
 -- nothing.
 use Prim.Native.Nat.{ℕ, _+_, _*_, _/_, _≤_, _<_}
 use mathlib.Core.Path.{_≡_, refl, sym, ap, _∙_, subst}
@@ -12,9 +12,9 @@ use Rattle.model.specs.Tables.{bit, tally}
 use Rattle.model.specs.Word.{flowOf, departureOf}
 use Rattle.model.specs.Plan.{Plan, entry, Accepted}
 use Rattle.model.specs.Calls.{Call, Event, History, requested, credited, ticked, lent, accepted, refused}
-use Rattle.model.specs.History.{ticks, slotAfter, frameOf, wellFormed, renews, grants}
+use Rattle.model.specs.History.{ticks, slotAfter, frameOf, wellFormed, isGrantedReset, grants}
 use Rattle.model.specs.Claim.{Each, GrantedWordAt}
-use Rattle.model.specs.Card.{paper, run}
+use Rattle.model.specs.Scheduler.{reference, run}
 use Rattle.arrival.specs.Delay.{dueSlot, dueFrame, dueIn, AtAnswer, IsGranted, TimelyInOrder, AsksAt, Modest, ServedAt, SoonOn}
 use Rattle.arrival.specs.SeveralLinks.{slotsOf, sentSlots, dues, dueSlots, tile, Board, planOn, sentOn, dueOn, Joined, Way, Within, AllGranted, EachGranted}
 use Rattle.arrival.specs.SeveralLinks.{EachWithin, OverLinks}
@@ -69,16 +69,16 @@ module _ (P : Plan) (i : ℕ) where
 
 -- ---- a board
 
-pub none-granted : (h : History) → tally renews h ≡ 0 → NoneGranted h
+pub none-granted : (h : History) → tally isGrantedReset h ≡ 0 → NoneGranted h
 unfolding tally
 none-granted [] e = tt
-none-granted (x ∷ h) e = go (renews x) refl (none-granted h (omega arith))
+none-granted (x ∷ h) e = go (isGrantedReset x) refl (none-granted h (omega arith))
   where
-    go : (b : Bool) → renews x ≡ b → NoneGranted h → (renews x ≡ false) × NoneGranted h
+    go : (b : Bool) → isGrantedReset x ≡ b → NoneGranted h → (isGrantedReset x ≡ false) × NoneGranted h
     go true r rest = absurd (omega (arith, ap bit r))
     go false r rest = (r, rest)
 
-module _ (b : Board paper) where
+module _ (b : Board reference) where
   pub ok : Accepted (planOn b)
   ok = plan.accepted (b .bytes) (b .passes)
 
@@ -86,7 +86,7 @@ module _ (b : Board paper) where
   none = none-granted (b .events) (b .no-reset)
 
   -- what holds of every run
-  pub runs-have : (R : History → Type 0) → ((calls : List Call) → R (run paper (planOn b) calls .history)) → R (b .events)
+  pub runs-have : (R : History → Type 0) → ((calls : List Call) → R (run reference (planOn b) calls .history)) → R (b .events)
   runs-have R all = subst R (b .ran .is) (all (b .ran .calls))
 
   pub happened : Each (Happened (planOn b)) (b .events)
@@ -107,7 +107,7 @@ module _ (b : Board paper) where
 
 -- ---- two boards
 
-module _ (a b : Board paper) (joined : Joined a b) where
+module _ (a b : Board reference) (joined : Joined a b) where
   pub both : Shared (ok a) (ok b) (joined .in-step) (a .stream) (b .stream) (a .known) (joined .share-kept) (a .events) (b .events)
   both =
       shared (ok a) (ok b) (joined .in-step) (a .stream) (b .stream) (a .known) (joined .share-kept) (joined .together) (happened a)
@@ -136,12 +136,12 @@ module _ (a b : Board paper) (joined : Joined a b) where
 
 -- ---- the way
 
-abbrev FramesLater : (k : ℕ) (P : Plan) (from : List ℕ) → Board paper → Type 0
+abbrev FramesLater : (k : ℕ) (P : Plan) (from : List ℕ) → Board reference → Type 0
 FramesLater k P from b = (n : ℕ) → n < length (sentOn b) → frameOf (planOn b) (tile n (sentOn b)) ≤ frameOf P (tile n from) + k
 
 module _ {P : Plan} (accepted-plan : Accepted P) (from : List ℕ) where
   -- frames and slots; the plans have the same F
-  within : (k : ℕ) (b : Board paper) → P .slots ≡ planOn b .slots → FramesLater k P from b → Within k P from b
+  within : (k : ℕ) (b : Board reference) → P .slots ≡ planOn b .slots → FramesLater k P from b → Within k P from b
   within k b same later = record {
     frames-later = later;
     slots-later = λ n lt.
@@ -154,7 +154,7 @@ module _ {P : Plan} (accepted-plan : Accepted P) (from : List ℕ) where
   }
 
   -- the next board adds a frame
-  later-still : (k : ℕ) (b next : Board paper) → Joined b next → FramesLater k P from b → FramesLater (k + 1) P from next
+  later-still : (k : ℕ) (b next : Board reference) → Joined b next → FramesLater k P from b → FramesLater (k + 1) P from next
   later-still k b next joined later n lt =
       let x = both b next joined in
       let due-below : n < length (dueOn next) = omega (arith, as-many (planOn next) (next .stream) (next .events)) in
@@ -164,7 +164,7 @@ module _ {P : Plan} (accepted-plan : Accepted P) (from : List ℕ) where
       ap (frameOf (planOn b)) same-tile ∙ ap (λ F. tile n (dueOn next) / F) (joined .in-step .slots) in
       omega (arith, one-frame next (next-modest b next joined) n lt)
 
-  each-within : (k : ℕ) (b : Board paper) (rest : List (Board paper)) → P .slots ≡ planOn b .slots → FramesLater k P from b → Way b rest
+  each-within : (k : ℕ) (b : Board reference) (rest : List (Board reference)) → P .slots ≡ planOn b .slots → FramesLater k P from b → Way b rest
       → EachWithin (k + 1) P from rest
   each-within k b [] same later way = tt
   each-within k b (next ∷ rest) same later way =
@@ -172,11 +172,11 @@ module _ {P : Plan} (accepted-plan : Accepted P) (from : List ℕ) where
       let more = later-still k b next (way .0) later in
       (within (k + 1) next same-too more, each-within (k + 1) next rest same-too more (way .1))
 
-each-granted : (b : Board paper) (rest : List (Board paper)) → Way b rest → EachGranted rest
+each-granted : (b : Board reference) (rest : List (Board reference)) → Way b rest → EachGranted rest
 each-granted b [] way = tt
 each-granted b (next ∷ rest) way = (all-granted b next (way .0), each-granted next rest (way .1))
 
-pub over-links : OverLinks paper
+pub over-links : OverLinks reference
 over-links a rest way = record {
   granted = each-granted a rest way;
   served = served a;

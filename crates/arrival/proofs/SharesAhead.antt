@@ -1,5 +1,5 @@
--- On the paper's card a stream whose words run up to `ahead` frames ahead of their tiles, with ahead + late + 2 shares of cells that are given back `late`
--- frames late, is granted each request in the frame in which its tile is due or the next. Assumes nothing.
+-- On the reference scheduler a stream whose words run up to `ahead` frames ahead of their tiles, with ahead + late + 2 shares of cells that are given back
+-- `late` frames late, is granted each request in the frame in which its tile is due or the next. Assumes nothing.
 use Prim.Native.Nat.{ℕ, suc, _+_, _-_, _*_, _≤_, _<_}
 use mathlib.Core.Path.{_≡_, refl, ap, subst}
 use mathlib.Core.List.{List, [], _∷_}
@@ -14,7 +14,7 @@ use Rattle.model.specs.Plan.{Plan, flowCount, entry, planOf, Accepted}
 use Rattle.model.specs.Calls.{Call, Event, History, requested, credited, ticked, lent, accepted, refused}
 use Rattle.model.specs.History.{Mark, ticks, slotAfter, frameOf, wellFormed, lendAt, grants, lends, ofFlow, inFrame, upTo}
 use Rattle.model.specs.Claim.{Each, EachSince, GrantedWordAt}
-use Rattle.model.specs.Card.{paper, run}
+use Rattle.model.specs.Scheduler.{reference, run}
 use Rattle.arrival.specs.Delay.{currentFrame, dueSlot, dueFrame, dueSince, dueIn, RoomFrom, nextFrameOf, TimelyInOrder, AsksAt, Modest, AtAnswer, ServedAt}
 use Rattle.arrival.specs.SeveralLinks.{Ran}
 use Rattle.arrival.specs.SharesOfCells.{GivenBack}
@@ -180,7 +180,7 @@ module _ {P : Plan} (ok : Accepted P) (i : ℕ) (known : i < flowCount P) (ahead
 
   -- ---- each request is timely
 
-  module _ (h : History) (words : Each (GrantedWordAt P) h) (asks : Each Asked h) (so-far : Each (AsksAt TimelyInOrder P i) h) (ran : Ran paper P h) where
+  module _ (h : History) (words : Each (GrantedWordAt P) h) (asks : Each Asked h) (so-far : Each (AsksAt TimelyInOrder P i) h) (ran : Ran reference P h) where
     served-of : EachSince (ServedAt P i) h
     served-of =
         subst (λ k. Modest TimelyInOrder 0 P i k → EachSince (ServedAt P i) k) (ran .is) (soon-accepted P ok (ran .calls) i known) (record {
@@ -227,9 +227,9 @@ module _ {P : Plan} (ok : Accepted P) (i : ℕ) (known : i < flowCount P) (ahead
 
 -- on any plan that keeps the limits, and so on the plan of any bytes that are accepted
 pub shares-ahead-accepted : (ahead late : ℕ) (P : Plan) → Accepted P → (calls : List Call) (i : ℕ) → i < flowCount P
-    → KeepsSharesAhead ahead late 0 P i (run paper P calls .history) → EachGrantedInTime P i (run paper P calls .history)
+    → KeepsSharesAhead ahead late 0 P i (run reference P calls .history) → EachGrantedInTime P i (run reference P calls .history)
 shares-ahead-accepted ahead late P ok calls i known x =
-    let h = run paper P calls .history in
+    let h = run reference P calls .history in
     let happened = each-happened P ok calls in
     let words = each-map _ (GrantedWordAt P) (λ e h x. x .word) h happened in
     let none = none-granted h (x .no-reset) in
@@ -237,5 +237,5 @@ shares-ahead-accepted ahead late P ok calls i known x =
     let served = served-of ok i known ahead late h words (x .asks) timely (record { calls = calls; is = refl }) in
     all-granted ok i known ahead late h (x .asks) (since-all (ServedAt P i) h none served)
 
-pub shares-ahead : SharesAhead paper
+pub shares-ahead : SharesAhead reference
 shares-ahead ahead late bytes passes = shares-ahead-accepted ahead late (planOf bytes) (plan.accepted bytes passes)

@@ -1,4 +1,4 @@
--- On the paper's card a stream that asks within its share, with late + 2 shares of cells that are given back `late` frames late, is granted its slots in
+-- On the reference scheduler a stream that asks within its share, with late + 2 shares of cells that are given back `late` frames late, is granted its slots in
 -- order. Assumes nothing.
 use Prim.Native.Nat.{ℕ, _+_, _*_, _≤_, _<_}
 use mathlib.Core.Path.{_≡_, sym, ap, _∙_, subst}
@@ -12,7 +12,7 @@ use Rattle.model.specs.Plan.{Plan, flowCount, entry, planOf, Accepted}
 use Rattle.model.specs.Calls.{Call, Event, History, requested, credited, ticked, lent, accepted, refused}
 use Rattle.model.specs.History.{ticks, slotAfter, frameOf, grantsSince, lendAt, grants, lends, ofFlow, inFrame, grantedUpTo, lentUpTo, creditedUpTo}
 use Rattle.model.specs.Claim.{Each, EachSince, GrantedWordAt}
-use Rattle.model.specs.Card.{paper, run}
+use Rattle.model.specs.Scheduler.{reference, run}
 use Rattle.arrival.specs.Delay.{currentFrame, dueSlot, RoomFrom, TimelyInOrder, AsksAt, GrantedSoonAt}
 use Rattle.arrival.specs.BooksInOrder.{AfterThoseAt, NoneDueAfter}
 use Rattle.arrival.specs.SharesOfCells.{AsksWithinShare, KeepsShares, SharesInOrder}
@@ -124,9 +124,9 @@ module _ {P : Plan} (ok : Accepted P) (i : ℕ) (known : i < flowCount P) (late 
 
 -- on any plan that keeps the limits, and so on the plan of any bytes that are accepted
 pub shares-in-order-accepted : (late : ℕ) (P : Plan) → Accepted P → (calls : List Call) (i : ℕ) → i < flowCount P
-    → KeepsShares late 0 P i (run paper P calls .history) → Each (AfterThoseAt P i) (run paper P calls .history)
+    → KeepsShares late 0 P i (run reference P calls .history) → Each (AfterThoseAt P i) (run reference P calls .history)
 shares-in-order-accepted late P ok calls i known x =
-    let h = run paper P calls .history in
+    let h = run reference P calls .history in
     let happened = each-happened P ok calls in
     let words = each-map _ (GrantedWordAt P) (λ e h x. x .word) h happened in
     let none = none-granted h (x .no-reset) in
@@ -138,5 +138,5 @@ shares-in-order-accepted late P ok calls i known x =
     all-in-order-if-close P ok i h first (frames-in-order P ok calls) (each-map _ (CloseAt P i) (λ e h x. x .closes) h all)
     (each-map _ (DueInOrderAt P i) (λ e h x. x .ordered) h all)
 
-pub shares-in-order : SharesInOrder paper
+pub shares-in-order : SharesInOrder reference
 shares-in-order late bytes passes = shares-in-order-accepted late (planOf bytes) (plan.accepted bytes passes)

@@ -1,4 +1,4 @@
--- On the paper's card a stream that asks within its share, with late + 2 shares of cells that are given back `late` frames late, is granted each request
+-- On the reference scheduler a stream that asks within its share, with late + 2 shares of cells that are given back `late` frames late, is granted each request
 -- in its frame or the next. Assumes nothing.
 use Prim.Native.Nat.{ℕ, _+_, _*_, _≤_, _<_}
 use mathlib.Core.Path.{_≡_, refl, ap, _∙_, subst}
@@ -12,7 +12,7 @@ use Rattle.model.specs.Plan.{Plan, flowCount, entry, planOf, Accepted}
 use Rattle.model.specs.Calls.{Call, Event, History, requested, credited, ticked, lent, accepted, refused}
 use Rattle.model.specs.History.{ticks, frameOf, wellFormed, lendAt, lends, ofFlow, inFrame}
 use Rattle.model.specs.Claim.{Each, EachSince, GrantedWordAt}
-use Rattle.model.specs.Card.{paper, run}
+use Rattle.model.specs.Scheduler.{reference, run}
 use Rattle.arrival.specs.Delay.{currentFrame, dueFrame, madeSince, madeIn, dueIn, TimelyInOrder, AsksAt, Modest}
 use Rattle.arrival.specs.Delay.{ServedAt, AtAnswer, GrantedSoonAt}
 use Rattle.arrival.specs.SeveralLinks.{Ran}
@@ -75,7 +75,7 @@ module _ {P : Plan} (ok : Accepted P) (i : ℕ) (known : i < flowCount P) (late 
       within-share = λ f. omega (arith, due-when-made ok i f h words (come-of h asks), made-within h words asks f);
     }
 
-    module _ (ran : Ran paper P h) where
+    module _ (ran : Ran reference P h) where
       served-of : EachSince (ServedAt P i) h
       served-of = subst (λ k. Modest TimelyInOrder 0 P i k → EachSince (ServedAt P i) k) (ran .is) (soon-accepted P ok (ran .calls) i known) modest-of
 
@@ -98,7 +98,7 @@ module _ {P : Plan} (ok : Accepted P) (i : ℕ) (known : i < flowCount P) (late 
 
   -- ---- a list of calls
 
-  timely-at : (e : Event) (h : History) → Each (GrantedWordAt P) h → NoneGranted h → Each Asked h → Each (AsksAt TimelyInOrder P i) h → Ran paper P h
+  timely-at : (e : Event) (h : History) → Each (GrantedWordAt P) h → NoneGranted h → Each Asked h → Each (AsksAt TimelyInOrder P i) h → Ran reference P h
       → Each (Happened P) h → tally (ofFlow i) (lends h) ≡ 0 → (late + 2) * entry P i .share ≤ entry P i .cells + 0 → Asked e h → AsksAt TimelyInOrder P i e h
   timely-at (requested w a) h words none asks so-far ran happened not-lent enough x =
       λ well own. timely-next h words none asks so-far ran happened not-lent enough w (x well own)
@@ -140,9 +140,9 @@ module _ {P : Plan} (ok : Accepted P) (i : ℕ) (known : i < flowCount P) (late 
 
 -- on any plan that keeps the limits, and so on the plan of any bytes that are accepted
 pub shares-of-cells-accepted : (late : ℕ) (P : Plan) → Accepted P → (calls : List Call) (i : ℕ) → i < flowCount P
-    → KeepsShares late 0 P i (run paper P calls .history) → EachGrantedNow P i (run paper P calls .history)
+    → KeepsShares late 0 P i (run reference P calls .history) → EachGrantedNow P i (run reference P calls .history)
 shares-of-cells-accepted late P ok calls i known x =
-    let h = run paper P calls .history in
+    let h = run reference P calls .history in
     let happened = each-happened P ok calls in
     let words = each-map _ (GrantedWordAt P) (λ e h x. x .word) h happened in
     let none = none-granted h (x .no-reset) in
@@ -150,11 +150,11 @@ shares-of-cells-accepted late P ok calls i known x =
     all-granted ok i known late h words (x .asks)
     (served-of ok i known late h words none (x .asks) timely (record { calls = calls; is = refl })) none
 
-pub shares-of-cells : SharesOfCells paper
+pub shares-of-cells : SharesOfCells reference
 shares-of-cells late bytes passes = shares-of-cells-accepted late (planOf bytes) (plan.accepted bytes passes)
 
-pub two-shares : TwoShares paper
+pub two-shares : TwoShares reference
 two-shares = shares-of-cells 0
 
-pub three-shares : ThreeShares paper
+pub three-shares : ThreeShares reference
 three-shares = shares-of-cells 1

@@ -1,4 +1,4 @@
--- The paper's card serves a modest flow soon: its grants fall in the frame in which the tile is due, or in the next one. Assumes nothing.
+-- The reference scheduler serves a modest flow soon: its grants fall in the frame in which the tile is due, or in the next one. Assumes nothing.
 use Prim.Native.Nat.{ℕ, _<_}
 use mathlib.Core.Path.{_≡_, refl, sym, ap, _∙_, subst}
 use mathlib.Core.List.{List, _∷_}
@@ -13,7 +13,7 @@ use Rattle.model.specs.Link.{Link, Step, window, flow, share, movedTo}
 use Rattle.model.specs.Request.{Found, found, nowhere, validFor, sought, newestTests, wouldBeValid, bookedFlow, booked, refusedAtNewest, answered, request}
 use Rattle.model.specs.History.{ticks, slotAfter, wellFormed, expectedNumber, grantsSince}
 use Rattle.model.specs.Claim.{Each}
-use Rattle.model.specs.Card.{Played, paper, step, run}
+use Rattle.model.specs.Scheduler.{Played, reference, step, run}
 use Rattle.arrival.specs.Delay.{newestFrame, dueSlot, dueFrame, dueSince, dueIn, Timely, TimelyInOrder, InTime, SoonOn, SoonAhead}
 use Rattle.model.proofs.Plan as plan
 use Rattle.model.proofs.LinkUpdates.{each-flow}
@@ -126,22 +126,22 @@ module _ {l : Link} {h : History} (g : After (l .plan) l h) (w : ℕ)
 
 -- ---- a list of calls
 
-abbrev pub KeptAfter : Plan → Played paper → Type 0
+abbrev pub KeptAfter : Plan → Played reference → Type 0
 KeptAfter P r = (q : ℕ) → q < flowCount P → Kept P (r .history) q (flow (r .state) q .injection)
 
-call-kept : (r : Played paper) (c : Call) → Known (r .state .plan) r → KeptAfter (r .state .plan) r → KeptAfter (r .state .plan) (step paper r c)
+call-kept : (r : Played reference) (c : Call) → Known (r .state .plan) r → KeptAfter (r .state .plan) r → KeptAfter (r .state .plan) (step reference r c)
 call-kept r (Call.request w) g kept = request-kept g w kept
 call-kept r (Call.credit i p) g kept = λ q below. credit-kept g below i p (kept q below)
 call-kept r Call.tick g kept = λ q below. tick-kept g below (kept q below)
 call-kept r (Call.lend mask) g kept = λ q below. lend-kept g below mask (kept q below)
 call-kept r Call.reset g kept = λ q below. reset-kept g below (kept q below)
 
-pub kept-more : {P : Plan} (r : Played paper) (c : Call) → Known P r → Each (Happened P) (r .history) → KeptAfter P r → KeptAfter P (step paper r c)
-kept-more r c g happened = subst (λ Q. Known Q r → KeptAfter Q r → KeptAfter Q (step paper r c)) (g .plan-is) (call-kept r c) g
+pub kept-more : {P : Plan} (r : Played reference) (c : Call) → Known P r → Each (Happened P) (r .history) → KeptAfter P r → KeptAfter P (step reference r c)
+kept-more r c g happened = subst (λ Q. Known Q r → KeptAfter Q r → KeptAfter Q (step reference r c)) (g .plan-is) (call-kept r c) g
 
 -- on any plan that keeps the limits, and so on the plan of any bytes that are accepted
-pub soon-accepted : (P : Plan) → Accepted P → (calls : List Call) (i : ℕ) → i < flowCount P → SoonOn TimelyInOrder 0 P i (run paper P calls .history)
+pub soon-accepted : (P : Plan) → Accepted P → (calls : List Call) (i : ℕ) → i < flowCount P → SoonOn TimelyInOrder 0 P i (run reference P calls .history)
 soon-accepted P ok calls i known m = by-calls ok (KeptAfter P) kept-more (fresh-kept ok) calls i known m .served
 
-pub soon-ahead : SoonAhead paper
+pub soon-ahead : SoonAhead reference
 soon-ahead bytes passes = soon-accepted (planOf bytes) (plan.accepted bytes passes)

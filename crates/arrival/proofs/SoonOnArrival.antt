@@ -1,4 +1,4 @@
--- The paper's card serves a flow soon that asks on arrival: its grants fall in the frame in which they are made, or in the next one. Assumes nothing.
+-- The reference scheduler serves a flow soon that asks on arrival: its grants fall in the frame in which they are made, or in the next one. Assumes nothing.
 use Prim.Native.Nat.{ℕ, _<_}
 use mathlib.Core.Path.{_≡_, refl, sym, ap, _∙_}
 use mathlib.Core.List.{List, [], _∷_}
@@ -11,7 +11,7 @@ use Rattle.model.specs.Plan.{Plan, flowCount, planOf, Accepted}
 use Rattle.model.specs.Calls.{Call, Event, History, requested, credited, ticked, lent, accepted, refused}
 use Rattle.model.specs.History.{ticks, frameOf, wellFormed, hasCome, inFrame}
 use Rattle.model.specs.Claim.{Each, EachSince, AtRequest, ReadyAt, GrantedWordAt}
-use Rattle.model.specs.Card.{paper, run}
+use Rattle.model.specs.Scheduler.{reference, run}
 use Rattle.arrival.specs.Delay.{currentFrame, dueSlot, madeSince, madeIn, dueSince, dueIn, TimelyInOrder, AsksAt, SoonOn, ServedAt, GrantedSoonAt}
 use Rattle.arrival.specs.Delay.{SoonOnArrivalOn, Soon}
 use Rattle.model.proofs.Plan as plan
@@ -114,11 +114,11 @@ soon-if-ready {P} ok i h words served m =
     }))
 
 -- on any plan that keeps the limits, and so on the plan of any bytes that are accepted
-pub soon-on-arrival : (P : Plan) → Accepted P → (calls : List Call) (i : ℕ) → i < flowCount P → SoonOnArrivalOn P i (run paper P calls .history)
+pub soon-on-arrival : (P : Plan) → Accepted P → (calls : List Call) (i : ℕ) → i < flowCount P → SoonOnArrivalOn P i (run reference P calls .history)
 soon-on-arrival P ok calls i known =
-    let h = run paper P calls .history in
+    let h = run reference P calls .history in
     let words = each-map _ (GrantedWordAt P) (λ e h x. x .word) h (each-happened P ok calls) in
     soon-if-ready ok i h words (soon-accepted P ok calls i known)
 
-pub soon : Soon paper
+pub soon : Soon reference
 soon bytes passes = soon-on-arrival (planOf bytes) (plan.accepted bytes passes)

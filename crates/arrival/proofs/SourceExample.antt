@@ -11,8 +11,8 @@ use lib.Dec.{lit<, lit≤}
 use Rattle.model.specs.Tables.{sum, tally}
 use Rattle.model.specs.Plan.{Plan, flowCount, planOf, refusal}
 use Rattle.model.specs.Calls.{Call, History, requested, ticked, accepted}
-use Rattle.model.specs.History.{frameOf, renews}
-use Rattle.model.specs.Card.{paper}
+use Rattle.model.specs.History.{frameOf, isGrantedReset}
+use Rattle.model.specs.Scheduler.{reference}
 use Rattle.model.specs.PlanBytes.{plan1}
 use Rattle.arrival.specs.Delay.{dueSince, dueIn}
 use Rattle.arrival.specs.SeveralLinks.{slotsOf, dues, tile, start, both-tick, first-alone, second-alone, Ran, Board, planOn, sentOn}
@@ -96,15 +96,15 @@ known = lit< tt
 abbrev pub events₁ : History
 events₁ = ticked (some 0) ∷ requested 0x24000401 (accepted 0x24000400) ∷ ticked (some 0) ∷ requested 0x24000000 (accepted 0x24000001) ∷ []
 
-pub ran₁ : Ran paper (planOf bytes) events₁
+pub ran₁ : Ran reference (planOf bytes) events₁
 unfolding delays-compute
 ran₁ = record { calls = Call.request 0x24000000 ∷ Call.tick ∷ Call.request 0x24000401 ∷ Call.tick ∷ []; is = refl }
 
-pub none₁ : tally renews events₁ ≡ 0
+pub none₁ : tally isGrantedReset events₁ ≡ 0
 unfolding tally
 none₁ = refl
 
-abbrev pub first : Board paper
+abbrev pub first : Board reference
 first = record { bytes = bytes; passes = passes; events = events₁; ran = ran₁; no-reset = none₁; stream = 0; known = known }
 
 -- On the second they are asked for in slots 1 and 2, and granted slots 2 and 3.
@@ -114,15 +114,15 @@ before₂ = ticked (some 0) ∷ requested 0x24000001 (accepted 0x24000000) ∷ t
 abbrev pub events₂ : History
 events₂ = requested 0x24000400 (accepted 0x24000401) ∷ before₂
 
-pub ran₂ : Ran paper (planOf bytes) events₂
+pub ran₂ : Ran reference (planOf bytes) events₂
 unfolding delays-compute
 ran₂ = record { calls = Call.tick ∷ Call.request 0x24000001 ∷ Call.tick ∷ Call.request 0x24000400 ∷ []; is = refl }
 
-pub none₂ : tally renews events₂ ≡ 0
+pub none₂ : tally isGrantedReset events₂ ≡ 0
 unfolding tally
 none₂ = refl
 
-abbrev pub second : Board paper
+abbrev pub second : Board reference
 second = record { bytes = bytes; passes = passes; events = events₂; ran = ran₂; no-reset = none₂; stream = 0; known = known }
 
 -- ---- the premises

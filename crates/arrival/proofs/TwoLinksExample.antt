@@ -7,8 +7,8 @@ use lib.Dec.{lit<, lit≤}
 use Rattle.model.specs.Tables.{tally}
 use Rattle.model.specs.Plan.{flowCount, planOf, refusal}
 use Rattle.model.specs.Calls.{Call, History, requested, accepted}
-use Rattle.model.specs.History.{renews}
-use Rattle.model.specs.Card.{paper}
+use Rattle.model.specs.History.{isGrantedReset}
+use Rattle.model.specs.Scheduler.{reference}
 use Rattle.model.specs.PlanBytes.{plan2}
 use Rattle.arrival.specs.Delay.{TimelyInOrder, Modest}
 use Rattle.arrival.specs.SeveralLinks.{slotsOf, dues, tile, start, first-alone, second-alone, Ran, Board, planOn, sentOn, dueOn, Way, EachWithin}
@@ -33,15 +33,15 @@ known = lit< tt
 abbrev pub events₁ : History
 events₁ = requested 0x24000000 (accepted 0x24000003) ∷ requested 0x24100400 (accepted 0x24100402) ∷ requested 0x24100000 (accepted 0x24100001) ∷ []
 
-pub ran₁ : Ran paper (planOf bytes) events₁
+pub ran₁ : Ran reference (planOf bytes) events₁
 unfolding delays-compute
 ran₁ = record { calls = Call.request 0x24100000 ∷ Call.request 0x24100400 ∷ Call.request 0x24000000 ∷ []; is = refl }
 
-pub none₁ : tally renews events₁ ≡ 0
+pub none₁ : tally isGrantedReset events₁ ≡ 0
 unfolding tally
 none₁ = refl
 
-abbrev pub first : Board paper
+abbrev pub first : Board reference
 first = record { bytes = bytes; passes = passes; events = events₁; ran = ran₁; no-reset = none₁; stream = 0; known = known }
 
 -- ---- the second: flow 1 takes slots 1, 2 and 4, and the tile, which departs in slot 3, is granted slot 5
@@ -52,15 +52,15 @@ before = requested 0x24100800 (accepted 0x24100804) ∷ requested 0x24100400 (ac
 abbrev pub events₂ : History
 events₂ = requested 0x24000003 (accepted 0x24000005) ∷ before
 
-pub ran₂ : Ran paper (planOf bytes) events₂
+pub ran₂ : Ran reference (planOf bytes) events₂
 unfolding delays-compute
 ran₂ = record { calls = Call.request 0x24100000 ∷ Call.request 0x24100400 ∷ Call.request 0x24100800 ∷ Call.request 0x24000003 ∷ []; is = refl }
 
-pub none₂ : tally renews events₂ ≡ 0
+pub none₂ : tally isGrantedReset events₂ ≡ 0
 unfolding tally
 none₂ = refl
 
-abbrev pub second : Board paper
+abbrev pub second : Board reference
 second = record { bytes = bytes; passes = passes; events = events₂; ran = ran₂; no-reset = none₂; stream = 0; known = known }
 
 -- ---- the premises

@@ -14,7 +14,7 @@ use Rattle.model.specs.Plan.{Plan, flowCount, planOf, refusal}
 use Rattle.model.specs.Calls.{Call, Event, History}
 use Rattle.model.specs.History.{ticks, slotAfter, grantsSince, ofFlow, atSlot}
 use Rattle.model.specs.Claim.{EachSince, AtGrant, Room, ReadyAt}
-use Rattle.model.specs.Card.{Card, run}
+use Rattle.model.specs.Scheduler.{Scheduler, run}
 use Rattle.arrival.specs.Delay.{dueSlot, dueSince, AsksAt}
 
 -- Flow i was granted slot s.
@@ -37,16 +37,16 @@ AfterThoseAt P i = AtGrant (λ w v h. flowOf w ≡ i → (s : ℕ) → GrantedSi
 abbrev pub InOrder : Plan → ℕ → History → Type 0
 InOrder P i = EachSince (AfterThoseAt P i)
 
-abbrev pub BooksInOrderOn : Card → Plan → Type 0
+abbrev pub BooksInOrderOn : Scheduler → Plan → Type 0
 BooksInOrderOn c P =
     (calls : List Call) (i : ℕ) → i < flowCount P → EachSince (AsksAt InTurn P i) (run c P calls .history) → InOrder P i (run c P calls .history)
 
--- for the bytes of every accepted plan. That the paper's card keeps it is `books-in-order`, in proofs/BooksInOrder.antt.
-abbrev pub BooksInOrder : Card → Type 0
+-- for the bytes of every accepted plan. That the reference scheduler keeps it is `books-in-order`, in proofs/BooksInOrder.antt.
+abbrev pub BooksInOrder : Scheduler → Type 0
 BooksInOrder c = (bytes : List ℕ) → refusal bytes ≡ 0 → BooksInOrderOn c (planOf bytes)
 
--- A flow that is ready at each request is in turn at each. That it is so on the paper's card is `ready-in-order`, in proofs/BooksInOrder.antt.
-abbrev pub ReadyInOrder : Card → Type 0
+-- A flow that is ready at each request is in turn at each. That it is so on the reference scheduler is `ready-in-order`, in proofs/BooksInOrder.antt.
+abbrev pub ReadyInOrder : Scheduler → Type 0
 ReadyInOrder c =
     (bytes : List ℕ) → refusal bytes ≡ 0 → (calls : List Call) (i : ℕ) → i < flowCount (planOf bytes)
     → EachSince (ReadyAt (planOf bytes) i) (run c (planOf bytes) calls .history)

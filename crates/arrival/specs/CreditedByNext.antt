@@ -12,7 +12,7 @@ use Rattle.model.specs.Plan.{Plan, entry}
 use Rattle.model.specs.Calls.{Event, History, requested, credited, ticked, lent, accepted, refused}
 use Rattle.model.specs.History.{ticks, slotAfter, wellFormed, hasCome, grants, lends, ofFlow, atSlot, expectedNumber}
 use Rattle.model.specs.Claim.{Each, AtRequest}
-use Rattle.model.specs.Card.{Card}
+use Rattle.model.specs.Scheduler.{Scheduler}
 use Rattle.model.specs.TwoHops.{InStep}
 use Rattle.arrival.specs.Delay.{currentFrame, madeIn}
 use Rattle.arrival.specs.SeveralLinks.{Together, Board, planOn, OnTime}
@@ -55,7 +55,7 @@ CreditedByNext P Q i j h₁ h₂ =
 -- ---- the way
 
 -- b is the next board after a, which has two shares of cells
-pub record JoinedByCredits {c : Card} (a b : Board c) : Type 0 where
+pub record JoinedByCredits {c : Scheduler} (a b : Board c) : Type 0 where
   pub in-step : InStep (planOn a) (planOn b)
   pub share-kept : entry (planOn a) (a .stream) .share ≤ entry (planOn b) (b .stream) .share
   pub together :
@@ -66,11 +66,11 @@ pub record JoinedByCredits {c : Card} (a b : Board c) : Type 0 where
   pub not-lent : tally (ofFlow (b .stream)) (lends (b .events)) ≡ 0
 
 -- the last board gives its cells back `late` frames late
-pub record Last {c : Card} (late : ℕ) (a : Board c) : Type 0 where
+pub record Last {c : Scheduler} (late : ℕ) (a : Board c) : Type 0 where
   pub given-back : Each (AtRequest (λ w h. wellFormed (planOn a) w ≡ true → flowOf w ≡ a .stream → GivenBack late (planOn a) (a .stream) h)) (a .events)
   pub enough-cells : (late + 2) * entry (planOn a) (a .stream) .share ≤ entry (planOn a) (a .stream) .cells
 
-abbrev pub WayByCredits : {c : Card} → (late : ℕ) → Board c → List (Board c) → Type 0
+abbrev pub WayByCredits : {c : Scheduler} → (late : ℕ) → Board c → List (Board c) → Type 0
 WayByCredits late a [] = Last late a
 WayByCredits late a (b ∷ rest) = JoinedByCredits a b × WayByCredits late b rest
 
@@ -86,18 +86,18 @@ pub record ModestFirst (P : Plan) (i : ℕ) (h : History) : Type 0 where
   pub asks : Each (AtRequest (λ w h. wellFormed P w ≡ true → flowOf w ≡ i → AsksModestly P i w h)) h
   pub not-lent : tally (ofFlow i) (lends h) ≡ 0
 
--- RULES 22.8: that the paper's card keeps both is `over-links-by-credits` and `from-source-by-credits`, in proofs/CreditedByNext.antt.
-abbrev pub OverLinksByCredits : Card → Type 0
+-- RULES 22.8: that the reference scheduler keeps both is `over-links-by-credits` and `from-source-by-credits`, in proofs/CreditedByNext.antt.
+abbrev pub OverLinksByCredits : Scheduler → Type 0
 OverLinksByCredits c =
     (late : ℕ) (a : Board c) (rest : List (Board c)) → WayByCredits late a rest
     → OnTime (ModestFirst (planOn a) (a .stream) (a .events)) (EachGrantedNow (planOn a) (a .stream) (a .events)) a rest
 
-abbrev pub FromSourceByCredits : Card → Type 0
+abbrev pub FromSourceByCredits : Scheduler → Type 0
 FromSourceByCredits c =
     (late : ℕ) (a : Board c) (rest : List (Board c)) → WayByCredits late a rest → ModestFirst (planOn a) (a .stream) (a .events) → InTimeFromSource a rest
 
 -- On the first board too each request is granted, in its frame or the next: `granted-by-credits`, there.
-abbrev pub GrantedByCredits : Card → Type 0
+abbrev pub GrantedByCredits : Scheduler → Type 0
 GrantedByCredits c =
     (late : ℕ) (a : Board c) (rest : List (Board c)) → WayByCredits late a rest → ModestFirst (planOn a) (a .stream) (a .events)
     → EachGrantedNow (planOn a) (a .stream) (a .events)

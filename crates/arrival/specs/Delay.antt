@@ -14,7 +14,7 @@
 --   stays as long as the flow asks for its share in each frame (`stays-late`).
 -- - Which slot of the frame is granted is not said, nor that slots come in the order of the requests: BooksInOrder.antt and SharesOfCells.antt say when.
 -- - Room is a premise. EnoughCells.antt says how many cells give it, and SeveralLinks.antt what follows over several links.
--- - That a credit is taken, so that a cell falls free, is said in TakenCredits.antt.
+-- - That a credit is taken, so that a cell falls free, is said in AcceptedCredits.antt.
 use Prim.Native.Nat.{ℕ, _+_, _-_, _*_, _≤_, _<_}
 use mathlib.Core.Path.{_≡_}
 use mathlib.Core.List.{List, _∷_, []}
@@ -26,7 +26,7 @@ use Rattle.model.specs.Calls.{Call, Grant, Event, History, requested, credited,
 use Rattle.model.specs.History.{ticks, slotAfter, frameOf, wellFormed, hasCome, Mark, marksSince, inFrame, grantedUpTo, lentUpTo, creditedUpTo}
 use Rattle.model.specs.History.{expectedNumber}
 use Rattle.model.specs.Claim.{Each, EachSince, AtRequest, AtGrant, ReadyAt}
-use Rattle.model.specs.Card.{Card, run}
+use Rattle.model.specs.Scheduler.{Scheduler, run}
 
 -- ---- when a tile is due
 
@@ -118,12 +118,12 @@ PromptAt Q more P =
 abbrev pub PromptOn : (Q : Plan → (i w : ℕ) → History → Type 0) (more : ℕ) → Plan → History → Type 0
 PromptOn Q more P = Each (PromptAt Q more P)
 
--- of a card, for the bytes of every accepted plan
-abbrev pub PromptBy : (Q : Plan → (i w : ℕ) → History → Type 0) (more : ℕ) → Card → Type 0
+-- of a scheduler, for the bytes of every accepted plan
+abbrev pub PromptBy : (Q : Plan → (i w : ℕ) → History → Type 0) (more : ℕ) → Scheduler → Type 0
 PromptBy Q more c = (bytes : List ℕ) → refusal bytes ≡ 0 → (calls : List Call) → PromptOn Q more (planOf bytes) (run c (planOf bytes) calls .history)
 
--- RULES 22.3: that the paper's card is prompt is `prompt`, in proofs/Prompt.antt.
-abbrev pub Prompt : Card → Type 0
+-- RULES 22.3: that the reference scheduler is prompt is `prompt`, in proofs/Prompt.antt.
+abbrev pub Prompt : Scheduler → Type 0
 Prompt = PromptBy FitsNewest 0
 
 -- ---- soon
@@ -164,15 +164,15 @@ ServedAt P i = AtAnswer (λ w a h. wellFormed P w ≡ true → flowOf w ≡ i �
 abbrev pub SoonOn : (Q : Plan → (i w : ℕ) → History → Type 0) (more : ℕ) → Plan → ℕ → History → Type 0
 SoonOn Q more P i h = Modest Q more P i h → EachSince (ServedAt P i) h
 
--- of a card, for the bytes of every accepted plan
-abbrev pub SoonBy : (Q : Plan → (i w : ℕ) → History → Type 0) (more : ℕ) → Card → Type 0
+-- of a scheduler, for the bytes of every accepted plan
+abbrev pub SoonBy : (Q : Plan → (i w : ℕ) → History → Type 0) (more : ℕ) → Scheduler → Type 0
 SoonBy Q more c =
     (bytes : List ℕ) → refusal bytes ≡ 0 → (calls : List Call) (i : ℕ) → i < flowCount (planOf bytes)
     → SoonOn Q more (planOf bytes) i (run c (planOf bytes) calls .history)
 
 -- RULES 22.5: a word may run ahead of its tile; where each tile has come, it is due in the slot of its request, and this is all that is said of those
--- too. That the paper's card keeps it is `soon-ahead`, in proofs/Soon.antt.
-abbrev pub SoonAhead : Card → Type 0
+-- too. That the reference scheduler keeps it is `soon-ahead`, in proofs/Soon.antt.
+abbrev pub SoonAhead : Scheduler → Type 0
 SoonAhead = SoonBy TimelyInOrder 0
 
 -- ---- soon, where the flow asks on arrival
@@ -194,9 +194,9 @@ abbrev pub SoonOnArrivalOn : Plan → ℕ → History → Type 0
 SoonOnArrivalOn P i h = ModestOnArrival P i h → EachSince (GrantedSoonAt P i) h
 
 -- RULES 22.5: it asks more than `SoonAhead` does of a flow whose tiles have come: room from the current slot on at each request, as the least count
--- asks, where `SoonAhead` asks for room from the next frame on. That the paper's card keeps it is `soon`, in proofs/SoonOnArrival.antt. Its requests
+-- asks, where `SoonAhead` asks for room from the next frame on. That the reference scheduler keeps it is `soon`, in proofs/SoonOnArrival.antt. Its requests
 -- that are refused are those made after its share in their frame, since it is prompt.
-abbrev pub Soon : Card → Type 0
+abbrev pub Soon : Scheduler → Type 0
 Soon c =
     (bytes : List ℕ) → refusal bytes ≡ 0 → (calls : List Call) (i : ℕ) → i < flowCount (planOf bytes)
     → SoonOnArrivalOn (planOf bytes) i (run c (planOf bytes) calls .history)

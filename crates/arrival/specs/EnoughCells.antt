@@ -14,10 +14,10 @@ use Rattle.model.specs.Tables.{tally}
 use Rattle.model.specs.Word.{flowOf, quantumOf, departureOf}
 use Rattle.model.specs.Plan.{Plan, flowCount, entry, planOf, refusal}
 use Rattle.model.specs.Calls.{Call, Event, History, requested, credited, ticked, lent, accepted, refused}
-use Rattle.model.specs.History.{ticks, slotAfter, frameOf, wellFormed, hasCome, renews, grants, lends, ofFlow, atSlot, grantedUpTo, creditedUpTo}
+use Rattle.model.specs.History.{ticks, slotAfter, frameOf, wellFormed, hasCome, isGrantedReset, grants, lends, ofFlow, atSlot, grantedUpTo, creditedUpTo}
 use Rattle.model.specs.History.{expectedNumber}
 use Rattle.model.specs.Claim.{Each, AtRequest, ReadyAt}
-use Rattle.model.specs.Card.{Card, run}
+use Rattle.model.specs.Scheduler.{Scheduler, run}
 use Rattle.arrival.specs.Delay.{newestFrame, madeIn, RoomFrom, AsksAt}
 
 -- the last slot of frame f
@@ -70,16 +70,16 @@ pub record GivesBack (short : ℕ) (P : Plan) (i : ℕ) (h : History) : Type 0 w
   pub within-share : (f : ℕ) → madeIn P h i f ≤ entry P i .share
   pub enough-cells : 2 * entry P i .share < entry P i .cells + short
   pub not-lent : tally (ofFlow i) (lends h) ≡ 0
-  pub no-reset : tally renews h ≡ 0
+  pub no-reset : tally isGrantedReset h ≡ 0
 
 -- Then it is ready at each request: room need not be asked, and it is served promptly and soon.
-abbrev pub EnoughCellsBy : (short : ℕ) → Card → Type 0
+abbrev pub EnoughCellsBy : (short : ℕ) → Scheduler → Type 0
 EnoughCellsBy short c =
     (bytes : List ℕ) → refusal bytes ≡ 0 → (calls : List Call) (i : ℕ) → i < flowCount (planOf bytes)
     → GivesBack short (planOf bytes) i (run c (planOf bytes) calls .history) → Each (ReadyAt (planOf bytes) i) (run c (planOf bytes) calls .history)
 
--- RULES 22.8: that the paper's card keeps it is `enough-cells`, in proofs/EnoughCells.antt.
-abbrev pub EnoughCells : Card → Type 0
+-- RULES 22.8: that the reference scheduler keeps it is `enough-cells`, in proofs/EnoughCells.antt.
+abbrev pub EnoughCells : Scheduler → Type 0
 EnoughCells = EnoughCellsBy 0
 
 -- ---- where each cell is credited at the grant
@@ -95,15 +95,15 @@ pub record GivesBackAtOnce (short : ℕ) (P : Plan) (i : ℕ) (h : History) : Ty
   pub asks : Each (AtRequest (λ w h. wellFormed P w ≡ true → flowOf w ≡ i → CreditedAtOnce P i h)) h
   pub cells-at-once : 2 * entry P i .share < entry P i .cells + short
   pub not-lent : tally (ofFlow i) (lends h) ≡ 0
-  pub no-reset : tally renews h ≡ 0
+  pub no-reset : tally isGrantedReset h ≡ 0
 
 -- RULES 22.13: then it has room in every slot at each request, which is what prompt and soon ask of it.
-abbrev pub EnoughAtOnceBy : (short : ℕ) → Card → Type 0
+abbrev pub EnoughAtOnceBy : (short : ℕ) → Scheduler → Type 0
 EnoughAtOnceBy short c =
     (bytes : List ℕ) → refusal bytes ≡ 0 → (calls : List Call) (i : ℕ) → i < flowCount (planOf bytes)
     → GivesBackAtOnce short (planOf bytes) i (run c (planOf bytes) calls .history)
     → Each (AsksAt (λ P i w h. RoomFrom P i 0 h) (planOf bytes) i) (run c (planOf bytes) calls .history)
 
--- That the paper's card keeps it is `enough-at-once`, in proofs/CellsAtOnce.antt.
-abbrev pub EnoughAtOnce : Card → Type 0
+-- That the reference scheduler keeps it is `enough-at-once`, in proofs/CellsAtOnce.antt.
+abbrev pub EnoughAtOnce : Scheduler → Type 0
 EnoughAtOnce = EnoughAtOnceBy 0

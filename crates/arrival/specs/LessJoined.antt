@@ -10,9 +10,9 @@ use Rattle.model.specs.Tables.{any, tally}
 use Rattle.model.specs.Word.{flowOf, quantumOf, departureOf}
 use Rattle.model.specs.Plan.{Plan, positions, flowCount, entry, planOf, refusal}
 use Rattle.model.specs.Calls.{History}
-use Rattle.model.specs.History.{ticks, frameOf, wellFormed, renews, marksOf, grantAt, lendAt, expectedNumber}
+use Rattle.model.specs.History.{ticks, frameOf, wellFormed, isGrantedReset, marksOf, grantAt, lendAt, expectedNumber}
 use Rattle.model.specs.Claim.{Each}
-use Rattle.model.specs.Card.{Card}
+use Rattle.model.specs.Scheduler.{Scheduler}
 use Rattle.model.specs.TwoHops.{InStep}
 use Rattle.arrival.specs.Delay.{newestFrame, RoomFrom, nextFrameOf, AtAnswer, IsGranted}
 use Rattle.arrival.specs.SeveralLinks.{slotsOf, sentSlots, tile, nextTile, Together, Ran}
@@ -89,16 +89,16 @@ abbrev pub SharesKept : (share₁ share₂ : ℕ) → Type 0
 SharesKept share₁ share₂ = share₁ ≤ share₂
 
 abbrev pub NoReset : History → Type 0
-NoReset h = tally renews h ≡ 0
+NoReset h = tally isGrantedReset h ≡ 0
 
 -- RULES 22.11: of any two boards whose plans are as I says, whose shares are as S says and whose events are as N says, and on which the stream asks
--- as A says. That the paper's card keeps it with nothing left out is `two-boards`, in proofs/LessJoined.antt.
-abbrev pub TwoBoardsBy : (I : (P Q : Plan) → Type 0) (S : (share₁ share₂ : ℕ) → Type 0) (N : History → Type 0) (left : Leaving) (A : Joining) → Card → Type 0
+-- as A says. That the reference scheduler keeps it with nothing left out is `two-boards`, in proofs/LessJoined.antt.
+abbrev pub TwoBoardsBy : (I : (P Q : Plan) → Type 0) (S : (share₁ share₂ : ℕ) → Type 0) (N : History → Type 0) (left : Leaving) (A : Joining) → Scheduler → Type 0
 TwoBoardsBy I S N left A c =
     (bytes₁ bytes₂ : List ℕ) → refusal bytes₁ ≡ 0 → refusal bytes₂ ≡ 0 → I (planOf bytes₁) (planOf bytes₂)
     → (i j : ℕ) → i < flowCount (planOf bytes₁) → j < flowCount (planOf bytes₂) → S (entry (planOf bytes₁) i .share) (entry (planOf bytes₂) j .share)
     → (h₁ h₂ : History) → Ran c (planOf bytes₁) h₁ → Ran c (planOf bytes₂) h₂ → N h₁ → N h₂
     → Together (planOf bytes₁) (planOf bytes₂) i j (A (planOf bytes₁) (planOf bytes₂) i j) h₁ h₂ → NextInTime left (planOf bytes₁) (planOf bytes₂) i j h₁ h₂
 
-abbrev pub TwoBoards : Card → Type 0
+abbrev pub TwoBoards : Scheduler → Type 0
 TwoBoards = TwoBoardsBy InStep SharesKept NoReset sentSlots (AllAsked sentSlots)

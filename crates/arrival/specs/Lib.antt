@@ -1,5 +1,5 @@
 -- When a tile arrives, over one link and over several, and how many cells it takes. RULES 22.1 to 22.13.
-pub mod TakenCredits
+pub mod AcceptedCredits
 pub mod AnsweredLends
 pub mod Delay
 pub mod LessTimely
@@ -13,7 +13,7 @@ pub mod LinksOnArrival
 pub mod Source
 pub mod CreditedByNext
 pub mod AllArrive
--- cards that are sent back
-pub mod BadDelays
-pub mod BadCredits
-pub mod BadAnswers
+-- schedulers that are sent back
+pub mod WrongDelays
+pub mod WrongCredits
+pub mod WrongAnswers

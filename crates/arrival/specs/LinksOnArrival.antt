@@ -9,7 +9,7 @@ use Rattle.model.specs.Word.{quantumOf, departureOf}
 use Rattle.model.specs.Plan.{Plan, positions, entry}
 use Rattle.model.specs.Calls.{History}
 use Rattle.model.specs.History.{ticks, lends, ofFlow, expectedNumber}
-use Rattle.model.specs.Card.{Card}
+use Rattle.model.specs.Scheduler.{Scheduler}
 use Rattle.model.specs.TwoHops.{InStep}
 use Rattle.arrival.specs.SeveralLinks.{sentSlots, nextTile, nextSlot, Together, Board, planOn, OnTime}
 use Rattle.arrival.specs.SharesOfCells.{GivenBack, KeepsShares, EachGrantedNow}
@@ -24,7 +24,7 @@ pub record AsksOnArrival (G : Plan → ℕ → History → Type 0) (P Q : Plan) 
   pub given-back : G Q j h₂
 
 -- b is the next board after a
-pub record JoinedOnArrival {c : Card} (a b : Board c) : Type 0 where
+pub record JoinedOnArrival {c : Scheduler} (a b : Board c) : Type 0 where
   pub in-step : InStep (planOn a) (planOn b)
   pub share-kept : entry (planOn a) (a .stream) .share ≤ entry (planOn b) (b .stream) .share
   -- how late cells are given back on b
@@ -35,13 +35,13 @@ pub record JoinedOnArrival {c : Card} (a b : Board c) : Type 0 where
   pub enough-cells : (late + 2) * entry (planOn b) (b .stream) .share ≤ entry (planOn b) (b .stream) .cells
   pub not-lent : tally (ofFlow (b .stream)) (lends (b .events)) ≡ 0
 
-abbrev pub WayOnArrival : {c : Card} → Board c → List (Board c) → Type 0
+abbrev pub WayOnArrival : {c : Scheduler} → Board c → List (Board c) → Type 0
 WayOnArrival a [] = Unit {0}
 WayOnArrival a (b ∷ rest) = JoinedOnArrival a b × WayOnArrival b rest
 
 -- RULES 22.8: where the stream keeps such shares of cells on the first board too, it is modest there, and each request there is granted too. That the
--- paper's card keeps it is `over-links-on-arrival`, in proofs/LinksOnArrival.antt.
-abbrev pub OverLinksOnArrival : Card → Type 0
+-- reference scheduler keeps it is `over-links-on-arrival`, in proofs/LinksOnArrival.antt.
+abbrev pub OverLinksOnArrival : Scheduler → Type 0
 OverLinksOnArrival c =
     (late : ℕ) (a : Board c) (rest : List (Board c)) → WayOnArrival a rest
     → OnTime (KeepsShares late 0 (planOn a) (a .stream) (a .events)) (EachGrantedNow (planOn a) (a .stream) (a .events)) a rest

@@ -18,10 +18,10 @@ use lib.ListN.{length}
 use Rattle.model.specs.Tables.{tally}
 use Rattle.model.specs.Word.{flowOf, quantumOf, departureOf}
 use Rattle.model.specs.Plan.{Plan, positions, flowCount, entry, planOf, refusal}
-use Rattle.model.specs.Calls.{Call, Turn, Event, History, requested, credited, ticked, lent}
-use Rattle.model.specs.History.{ticks, frameOf, wellFormed, renews, Mark, marksOf, grants, ofFlow, grantedInAll, expectedNumber}
+use Rattle.model.specs.Calls.{Call, TickAnswer, Event, History, requested, credited, ticked, lent}
+use Rattle.model.specs.History.{ticks, frameOf, wellFormed, isGrantedReset, Mark, marksOf, grants, ofFlow, grantedInAll, expectedNumber}
 use Rattle.model.specs.Claim.{Each, AtRequest}
-use Rattle.model.specs.Card.{Card, run}
+use Rattle.model.specs.Scheduler.{Scheduler, run}
 use Rattle.model.specs.TwoHops.{InStep}
 use Rattle.arrival.specs.Delay.{newestFrame, dueSlot, grantBy, RoomFrom, nextFrameOf, AtAnswer, IsGranted, TimelyInOrder, Modest, ServedAt}
 
@@ -90,45 +90,45 @@ module _ (P Q : Plan) (i j : ℕ) where
   -- The two boards tick in step, and on the second flow j asks as A says. As in a history, the newest event is first.
   pub data Together (A : Asking) : (h₁ h₂ : History) → Type 0 where
     start : Together A [] []
-    both-tick : {h₁ h₂ : History} {x₁ x₂ : Turn} → Together A h₁ h₂ → Together A (ticked x₁ ∷ h₁) (ticked x₂ ∷ h₂)
+    both-tick : {h₁ h₂ : History} {x₁ x₂ : TickAnswer} → Together A h₁ h₂ → Together A (ticked x₁ ∷ h₁) (ticked x₂ ∷ h₂)
     first-alone : {h₁ h₂ : History} (e : Event) → Alone e → Together A h₁ h₂ → Together A (e ∷ h₁) h₂
     second-alone : {h₁ h₂ : History} (e : Event) → Alone e → AskedAt A h₁ e h₂ → Together A h₁ h₂ → Together A h₁ (e ∷ h₂)
 
 -- ---- a stream's way over several boards
 
--- some calls on card c from plan P come to the events h
-pub record Ran (c : Card) (P : Plan) (h : History) : Type 0 where
+-- some calls on scheduler c from plan P come to the events h
+pub record Ran (c : Scheduler) (P : Plan) (h : History) : Type 0 where
   pub calls : List Call
   pub is : run c P calls .history ≡ h
 
--- RULES 22.6: the events of a list of calls on card c from an accepted plan, with no reset granted; and the flow that is the stream
-pub record Board (c : Card) : Type 0 where
+-- RULES 22.6: the events of a list of calls on scheduler c from an accepted plan, with no reset granted; and the flow that is the stream
+pub record Board (c : Scheduler) : Type 0 where
   pub bytes : List ℕ
   pub passes : refusal bytes ≡ 0
   pub events : History
   pub ran : Ran c (planOf bytes) events
-  pub no-reset : tally renews events ≡ 0
+  pub no-reset : tally isGrantedReset events ≡ 0
   pub stream : ℕ
   pub known : stream < flowCount (planOf bytes)
 
-abbrev pub planOn : {c : Card} → Board c → Plan
+abbrev pub planOn : {c : Scheduler} → Board c → Plan
 planOn b = planOf (b .bytes)
 
-abbrev pub sentOn : {c : Card} → Board c → List ℕ
+abbrev pub sentOn : {c : Scheduler} → Board c → List ℕ
 sentOn b = sentSlots (planOn b) (b .events) (b .stream)
 
-abbrev pub dueOn : {c : Card} → Board c → List ℕ
+abbrev pub dueOn : {c : Scheduler} → Board c → List ℕ
 dueOn b = dueSlots (planOn b) (b .events) (b .stream)
 
 -- RULES 22.6: b is the next board after a
-pub record Joined {c : Card} (a b : Board c) : Type 0 where
+pub record Joined {c : Scheduler} (a b : Board c) : Type 0 where
   pub in-step : InStep (planOn a) (planOn b)
   pub share-kept : entry (planOn a) (a .stream) .share ≤ entry (planOn b) (b .stream) .share
   pub together :
       Together (planOn a) (planOn b) (a .stream) (b .stream) (AsksForNext (planOn a) (planOn b) (a .stream) (b .stream)) (a .events) (b .events)
 
 -- RULES 22.6: a stream's way, from a board on
-abbrev pub Way : {c : Card} → Board c → List (Board c) → Type 0
+abbrev pub Way : {c : Scheduler} → Board c → List (Board c) → Type 0
 Way a [] = Unit {0}
 Way a (b ∷ rest) = Joined a b × Way b rest
 
@@ -136,25 +136,25 @@ Way a (b ∷ rest) = Joined a b × Way b rest
 
 -- RULES 22.7: each of the stream's tiles comes up on board b at the latest k frames after the frame of its slot in `from`, a slot of a board with
 -- plan P for each tile.
-pub record Within {c : Card} (k : ℕ) (P : Plan) (from : List ℕ) (b : Board c) : Type 0 where
+pub record Within {c : Scheduler} (k : ℕ) (P : Plan) (from : List ℕ) (b : Board c) : Type 0 where
   pub frames-later : (n : ℕ) → n < length (sentOn b) → frameOf (planOn b) (tile n (sentOn b)) ≤ frameOf P (tile n from) + k
   pub slots-later : (n : ℕ) → n < length (sentOn b) → tile n (sentOn b) < tile n from + (k + 1) * planOn b .slots
 
 -- so of boards one after the other, with a frame more on each
-abbrev pub EachWithin : {c : Card} → (k : ℕ) (P : Plan) (from : List ℕ) → List (Board c) → Type 0
+abbrev pub EachWithin : {c : Scheduler} → (k : ℕ) (P : Plan) (from : List ℕ) → List (Board c) → Type 0
 EachWithin k P from [] = Unit {0}
 EachWithin k P from (b ∷ rest) = Within k P from b × EachWithin (k + 1) P from rest
 
 -- every request of the stream on board b is granted; and so on each of several boards
-abbrev pub AllGranted : {c : Card} → Board c → Type 0
+abbrev pub AllGranted : {c : Scheduler} → Board c → Type 0
 AllGranted b = Each (AtAnswer (λ w x h. wellFormed (planOn b) w ≡ true → flowOf w ≡ b .stream → IsGranted x)) (b .events)
 
-abbrev pub EachGranted : {c : Card} → List (Board c) → Type 0
+abbrev pub EachGranted : {c : Scheduler} → List (Board c) → Type 0
 EachGranted [] = Unit {0}
 EachGranted (b ∷ rest) = AllGranted b × EachGranted rest
 
 -- RULES 22.7: the stream is on time on its way from board a; M says that it is modest there, and S how its requests are then served there.
-pub record OnTime {c : Card} (M S : Type 0) (a : Board c) (rest : List (Board c)) : Type 0 where
+pub record OnTime {c : Scheduler} (M S : Type 0) (a : Board c) (rest : List (Board c)) : Type 0 where
   pub granted : EachGranted rest
   pub served : M → S
   -- a link adds a frame to the one in which a tile comes up on the first, whatever the stream does there
@@ -163,8 +163,8 @@ pub record OnTime {c : Card} (M S : Type 0) (a : Board c) (rest : List (Board c)
   pub from-due : M → EachWithin 1 (planOn a) (dueOn a) (a ∷ rest)
 
 -- RULES 22.7: each request on the first board is granted in time, unless the whole share is due already in the frame in which its tile is. That the
--- paper's card keeps it is `over-links`, in proofs/SeveralLinks.antt.
-abbrev pub OverLinks : Card → Type 0
+-- reference scheduler keeps it is `over-links`, in proofs/SeveralLinks.antt.
+abbrev pub OverLinks : Scheduler → Type 0
 OverLinks c =
     (a : Board c) (rest : List (Board c)) → Way a rest
     → OnTime (Modest TimelyInOrder 0 (planOn a) (a .stream) (a .events)) (Each (ServedAt (planOn a) (a .stream)) (a .events)) a rest

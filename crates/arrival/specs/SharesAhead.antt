@@ -11,9 +11,9 @@ use Rattle.model.specs.Tables.{tally}
 use Rattle.model.specs.Word.{flowOf, quantumOf, departureOf}
 use Rattle.model.specs.Plan.{Plan, flowCount, entry, planOf, refusal}
 use Rattle.model.specs.Calls.{Call, Grant, History, accepted, refused}
-use Rattle.model.specs.History.{ticks, slotAfter, wellFormed, renews, lends, ofFlow, expectedNumber}
+use Rattle.model.specs.History.{ticks, slotAfter, wellFormed, isGrantedReset, lends, ofFlow, expectedNumber}
 use Rattle.model.specs.Claim.{Each}
-use Rattle.model.specs.Card.{Card, run}
+use Rattle.model.specs.Scheduler.{Scheduler, run}
 use Rattle.arrival.specs.Delay.{currentFrame, newestFrame, dueFrame, dueIn, AtAnswer, DueInOrder, AsksAt, InTime}
 use Rattle.arrival.specs.SharesOfCells.{GivenBack}
 
@@ -32,7 +32,7 @@ pub record KeepsSharesAhead (ahead late short : ℕ) (P : Plan) (i : ℕ) (h : H
   pub asks : Each (AsksAt (AsksAhead ahead late) P i) h
   pub enough-cells : (ahead + late + 2) * entry P i .share ≤ entry P i .cells + short
   pub not-lent : tally (ofFlow i) (lends h) ≡ 0
-  pub no-reset : tally renews h ≡ 0
+  pub no-reset : tally isGrantedReset h ≡ 0
 
 -- the request is granted, in the frame in which its tile is due or the next
 abbrev pub GrantedInTime : Plan → (w : ℕ) → Grant → History → Type 0
@@ -42,12 +42,12 @@ GrantedInTime P w (refused r) h = ⊥
 abbrev pub EachGrantedInTime : Plan → ℕ → History → Type 0
 EachGrantedInTime P i = Each (AtAnswer (λ w a h. wellFormed P w ≡ true → flowOf w ≡ i → GrantedInTime P w a h))
 
-abbrev pub SharesAheadBy : (ahead late short : ℕ) → Card → Type 0
+abbrev pub SharesAheadBy : (ahead late short : ℕ) → Scheduler → Type 0
 SharesAheadBy ahead late short c =
     (bytes : List ℕ) → refusal bytes ≡ 0 → (calls : List Call) (i : ℕ) → i < flowCount (planOf bytes)
     → KeepsSharesAhead ahead late short (planOf bytes) i (run c (planOf bytes) calls .history)
     → EachGrantedInTime (planOf bytes) i (run c (planOf bytes) calls .history)
 
--- RULES 22.9: that the paper's card keeps it, however far ahead and however late, is `shares-ahead`, in proofs/SharesAhead.antt.
-abbrev pub SharesAhead : Card → Type 0
+-- RULES 22.9: that the reference scheduler keeps it, however far ahead and however late, is `shares-ahead`, in proofs/SharesAhead.antt.
+abbrev pub SharesAhead : Scheduler → Type 0
 SharesAhead c = (ahead late : ℕ) → SharesAheadBy ahead late 0 c

@@ -16,9 +16,9 @@ use Rattle.model.specs.Tables.{tally}
 use Rattle.model.specs.Word.{flowOf, quantumOf, departureOf}
 use Rattle.model.specs.Plan.{Plan, flowCount, entry, planOf, refusal}
 use Rattle.model.specs.Calls.{Call, Grant, History, accepted, refused}
-use Rattle.model.specs.History.{ticks, slotAfter, frameOf, wellFormed, hasCome, renews, grants, lends, ofFlow, grantedUpTo, creditedUpTo, expectedNumber}
+use Rattle.model.specs.History.{ticks, slotAfter, frameOf, wellFormed, hasCome, isGrantedReset, grants, lends, ofFlow, grantedUpTo, creditedUpTo, expectedNumber}
 use Rattle.model.specs.Claim.{Each, AtRequest}
-use Rattle.model.specs.Card.{Card, run}
+use Rattle.model.specs.Scheduler.{Scheduler, run}
 use Rattle.arrival.specs.Delay.{currentFrame, madeIn, AtAnswer, GrantedSoon}
 use Rattle.arrival.specs.EnoughCells.{lastOf, returns, inSlot}
 use Rattle.arrival.specs.BooksInOrder.{AfterThoseAt}
@@ -54,7 +54,7 @@ pub record KeepsShares (late short : ℕ) (P : Plan) (i : ℕ) (h : History) : T
   pub asks : Each (AtRequest (λ w h. wellFormed P w ≡ true → flowOf w ≡ i → AsksWithinShare late P i w h)) h
   pub enough-cells : (late + 2) * entry P i .share ≤ entry P i .cells + short
   pub not-lent : tally (ofFlow i) (lends h) ≡ 0
-  pub no-reset : tally renews h ≡ 0
+  pub no-reset : tally isGrantedReset h ≡ 0
 
 -- ---- what follows
 
@@ -66,34 +66,34 @@ GrantedNow P (refused r) h = ⊥
 abbrev pub EachGrantedNow : Plan → ℕ → History → Type 0
 EachGrantedNow P i = Each (AtAnswer (λ w a h. wellFormed P w ≡ true → flowOf w ≡ i → GrantedNow P a h))
 
--- RULES 22.8: room may be missing in slots of the current frame, and still each request is granted so. That the paper's card keeps it, however late,
+-- RULES 22.8: room may be missing in slots of the current frame, and still each request is granted so. That the reference scheduler keeps it, however late,
 -- is `shares-of-cells`, in proofs/SharesOfCells.antt.
-abbrev pub SharesOfCellsBy : (late short : ℕ) → Card → Type 0
+abbrev pub SharesOfCellsBy : (late short : ℕ) → Scheduler → Type 0
 SharesOfCellsBy late short c =
     (bytes : List ℕ) → refusal bytes ≡ 0 → (calls : List Call) (i : ℕ) → i < flowCount (planOf bytes)
     → KeepsShares late short (planOf bytes) i (run c (planOf bytes) calls .history)
     → EachGrantedNow (planOf bytes) i (run c (planOf bytes) calls .history)
 
-abbrev pub SharesOfCells : Card → Type 0
+abbrev pub SharesOfCells : Scheduler → Type 0
 SharesOfCells c = (late : ℕ) → SharesOfCellsBy late 0 c
 
 -- each cell is credited as its tile comes up, and when its tile was shown
-abbrev pub TwoShares : Card → Type 0
+abbrev pub TwoShares : Scheduler → Type 0
 TwoShares = SharesOfCellsBy 0 0
 
-abbrev pub ThreeShares : Card → Type 0
+abbrev pub ThreeShares : Scheduler → Type 0
 ThreeShares = SharesOfCellsBy 1 0
 
 -- ---- and in order
 
 -- Each slot that the stream is granted comes after those that it was granted before, so that its tiles come up in the order in which it asked for them. Room
--- may be missing only in a frame of which the stream has its whole share. That the paper's card keeps it, however late, is `shares-in-order`, in
+-- may be missing only in a frame of which the stream has its whole share. That the reference scheduler keeps it, however late, is `shares-in-order`, in
 -- proofs/SharesInOrder.antt.
-abbrev pub SharesInOrderBy : (late short : ℕ) → Card → Type 0
+abbrev pub SharesInOrderBy : (late short : ℕ) → Scheduler → Type 0
 SharesInOrderBy late short c =
     (bytes : List ℕ) → refusal bytes ≡ 0 → (calls : List Call) (i : ℕ) → i < flowCount (planOf bytes)
     → KeepsShares late short (planOf bytes) i (run c (planOf bytes) calls .history)
     → Each (AfterThoseAt (planOf bytes) i) (run c (planOf bytes) calls .history)
 
-abbrev pub SharesInOrder : Card → Type 0
+abbrev pub SharesInOrder : Scheduler → Type 0
 SharesInOrder c = (late : ℕ) → SharesInOrderBy late 0 c

@@ -14,7 +14,7 @@ use Rattle.model.specs.Tables.{sum}
 use Rattle.model.specs.Plan.{Plan, entry}
 use Rattle.model.specs.Calls.{History}
 use Rattle.model.specs.History.{frameOf}
-use Rattle.model.specs.Card.{Card}
+use Rattle.model.specs.Scheduler.{Scheduler}
 use Rattle.arrival.specs.Delay.{dueIn, TimelyInOrder, Modest}
 use Rattle.arrival.specs.SeveralLinks.{tile, Board, planOn, sentOn, Way}
 use Rattle.arrival.specs.SharesOfCells.{KeepsShares}
@@ -60,28 +60,28 @@ abbrev pub AsksAs : (asks : ℕ → ℕ) → Plan → ℕ → History → Type 0
 AsksAs asks P i h = (g : ℕ) → 0 < dueIn P h i g → (f : ℕ) → f < g → dueIn P h i f ≡ asks f
 
 -- Each of the stream's tiles comes up on board b at the latest k frames after the frame in which it came to the source; x is the slot in which it came.
-pub record CameWithin {c : Card} (k : ℕ) (comes : ℕ → ℕ) (b : Board c) : Type 0 where
+pub record CameWithin {c : Scheduler} (k : ℕ) (comes : ℕ → ℕ) (b : Board c) : Type 0 where
   pub frames-later : (n f : ℕ) → n < length (sentOn b) → n < upToFrame comes f → frameOf (planOn b) (tile n (sentOn b)) ≤ f + k
   pub slots-later : (n x : ℕ) → n < length (sentOn b) → n < upToFrame comes (frameOf (planOn b) x) → tile n (sentOn b) < x + (k + 1) * planOn b .slots
 
 -- so of boards one after the other, with a frame more on each
-abbrev pub EachCameWithin : {c : Card} → (k : ℕ) (comes : ℕ → ℕ) → List (Board c) → Type 0
+abbrev pub EachCameWithin : {c : Scheduler} → (k : ℕ) (comes : ℕ → ℕ) → List (Board c) → Type 0
 EachCameWithin k comes [] = Unit {0}
 EachCameWithin k comes (b ∷ rest) = CameWithin k comes b × EachCameWithin (k + 1) comes rest
 
 -- Where the source asks on the first board, each tile comes up on board m within m frames and those of the burst.
-abbrev pub InTimeFromSource : {c : Card} → Board c → List (Board c) → Type 0
+abbrev pub InTimeFromSource : {c : Scheduler} → Board c → List (Board c) → Type 0
 InTimeFromSource a rest =
     (burst : ℕ) (comes asks : ℕ → ℕ) → Source (entry (planOn a) (a .stream) .share) comes asks → Bursts (entry (planOn a) (a .stream) .share) burst comes
     → AsksAs asks (planOn a) (a .stream) (a .events) → EachCameWithin (burstFrames (entry (planOn a) (a .stream) .share) burst + 1) comes (a ∷ rest)
 
--- RULES 22.10: so it is for a stream that is modest on the first board, and for one that asks on arrival with its shares of cells. That the paper's
--- card keeps both is `from-source` and `from-source-on-arrival`, in proofs/FromSource.antt.
-abbrev pub FromSource : Card → Type 0
+-- RULES 22.10: so it is for a stream that is modest on the first board, and for one that asks on arrival with its shares of cells. That the reference
+-- scheduler keeps both is `from-source` and `from-source-on-arrival`, in proofs/FromSource.antt.
+abbrev pub FromSource : Scheduler → Type 0
 FromSource c =
     (a : Board c) (rest : List (Board c)) → Way a rest → Modest TimelyInOrder 0 (planOn a) (a .stream) (a .events) → InTimeFromSource a rest
 
-abbrev pub FromSourceOnArrival : Card → Type 0
+abbrev pub FromSourceOnArrival : Scheduler → Type 0
 FromSourceOnArrival c =
     (late : ℕ) (a : Board c) (rest : List (Board c)) → WayOnArrival a rest → KeepsShares late 0 (planOn a) (a .stream) (a .events)
     → InTimeFromSource a rest

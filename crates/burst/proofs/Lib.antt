@@ -1,5 +1,5 @@
 pub mod Front
 pub mod Lent
 pub mod Locals
-pub mod Turns
+pub mod Passes
 pub mod Values

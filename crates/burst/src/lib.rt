@@ -2,7 +2,7 @@
 ghost use mathlib.Core.Path.{_≡_};
 ghost use Prim.Native.Nat.{_≤_, min};
 ghost use Rattle.model.specs.Burst as model;
-ghost use Rattle.model.specs.Request as paper;
+ghost use Rattle.model.specs.Request as reference;
 ghost use Rattle.link.specs.Steps.{readIn, readOf, Went, replyOf};
 ghost use Rattle.link.specs.Given.{StateIn};
 ghost use Rattle.link.specs.Sound.{SoundLink};
@@ -11,7 +11,7 @@ ghost use Rattle.burst.specs.Reading.{asksOf};
 ghost use Rattle.burst.specs.First.{burstOfFirst};
 use link::Link;
 use link::request::Reply;
-use link::request::placed;
+use link::request::flow_or_zero;
 use link::request::request;
 use plan::Plan;
 use state::CURRENT;
@@ -21,7 +21,7 @@ use window::numbers::smaller;
 use window::positions::window;
 
 // A word, and what its request comes to: 0 and the position granted, or the refusal and 0.
-pub struct Ask {
+pub struct BurstRecord {
     pub word: u32,
     pub result: u8,
     pub position: u8,
@@ -33,30 +33,33 @@ fn window_of(link: Link) -> Window
     ensures { λ r. ⌜ StateIn (link .plan) r (link .state) ⌝ }
 {
     let plan = link.plan;
-    let cp = link.state[CURRENT];
-    window(plan.slots, plan.frames, cp as usize)
+    let current = link.state[CURRENT];
+    window(plan.slots, plan.frames, current as usize)
 }
 
 // What a word's request comes to, on a state of a plan in its window.
 pub fn reply_to(s: &mut State, plan: Plan, w: Window, word: u32) -> Reply
     requires { ⌜ StateIn plan w (now s) ⌝ }
-    ensures { λ r. ⌜ Went replyOf (paper.request (readIn plan (now (s .entry))) word) plan (now (s .exit)) r ⌝ }
+    ensures { λ r. ⌜ Went replyOf (reference.request (readIn plan (now (s .entry))) word) plan (now (s .exit)) r ⌝ }
 {
     let fields = word::split(word);
-    let i = placed(plan.count, fields.flow as usize);
+    let i = flow_or_zero(plan.count, fields.flow as usize);
     let e = plan.entries[i];
     request(s, plan.count, e, w, fields)
 }
+
+// The most records that a burst handles.
+const MOST: usize = 16;
 
 // How many of n records a burst handles: all of them, or the first 16.
 fn handled(n: usize) -> usize
     ensures { λ r. ⌜ r ≡ min n 16 ⌝ }
 {
-    smaller(n, 16)
+    smaller(n, MOST)
 }
 
 // The requests of the first 16 records, in order: their answers are filled in, and all else of the slice stays.
-pub fn burst(link: Link, records: &mut [Ask]) -> Link
+pub fn burst(link: Link, records: &mut [BurstRecord]) -> Link
     requires { ⌜ SoundLink link ⌝ }
     ensures { λ r. ⌜ Bursted (model.burst (readOf link) (asksOf (now (records .entry)))) r (asksOf (now (records .exit))) ⌝ }
 {
@@ -78,10 +81,10 @@ pub fn burst(link: Link, records: &mut [Ask]) -> Link
 // A link after a burst, and the array whose first records it was lent.
 pub struct HandedBack {
     pub link: Link,
-    pub records: [Ask; 20],
+    pub records: [BurstRecord; 20],
 }
 
-fn lend_first(link: Link, records: [Ask; 20], count: usize) -> HandedBack
+fn lend_first(link: Link, records: [BurstRecord; 20], count: usize) -> HandedBack
     requires { ⌜ SoundLink link × (count ≤ 20) ⌝ }
     ensures { λ r. ⌜ Bursted (burstOfFirst count (readOf link) (asksOf records)) (r .link) (asksOf (r .records)) ⌝ }
 {
@@ -94,7 +97,7 @@ fn lend_first(link: Link, records: [Ask; 20], count: usize) -> HandedBack
 }
 
 // A burst of the first records of an array, at most 20. No reference stands in the signature.
-pub fn burst_first(link: Link, records: [Ask; 20], count: usize) -> HandedBack
+pub fn burst_first(link: Link, records: [BurstRecord; 20], count: usize) -> HandedBack
     requires { ⌜ SoundLink link ⌝ }
     ensures { λ r. ⌜ Bursted (burstOfFirst (min count 20) (readOf link) (asksOf records)) (r .link) (asksOf (r .records)) ⌝ }
 {

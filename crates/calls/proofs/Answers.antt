@@ -18,18 +18,18 @@ pub line-of-request : (a : model.Grant) → lineFor (answerToRequest a) ≡ requ
 line-of-request (accepted word) = refl
 line-of-request (refused number) = refl
 
-pub line-of-credit : (a : model.Receipt) → lineFor (answerToCredit a) ≡ creditLine a
+pub line-of-credit : (a : model.CreditAnswer) → lineFor (answerToCredit a) ≡ creditLine a
 line-of-credit (accepted _) = refl
 line-of-credit (refused number) = refl
 
-pub line-of-tick : (a : model.Turn) → lineFor (answerToTick a) ≡ tickLine a
+pub line-of-tick : (a : model.TickAnswer) → lineFor (answerToTick a) ≡ tickLine a
 line-of-tick (some flow) = refl
 line-of-tick none = refl
 
-pub line-of-lend : (a : model.Loan) → lineFor (answerToLend a) ≡ lendLine a
+pub line-of-lend : (a : model.LendAnswer) → lineFor (answerToLend a) ≡ lendLine a
 line-of-lend (accepted flow) = refl
 line-of-lend (refused number) = refl
 
-pub line-of-reset : (a : model.Renewal) → lineFor (answerToReset a) ≡ resetLine a
+pub line-of-reset : (a : model.ResetAnswer) → lineFor (answerToReset a) ≡ resetLine a
 line-of-reset (accepted _) = refl
 line-of-reset (refused number) = refl

@@ -1,4 +1,4 @@
--- The crate's calls, records and answers, from the paper's: this paper's number and values for each case. Assumes nothing.
+-- The crate's calls, records and answers, from the model's: the model's number and values for each case. Assumes nothing.
 use Prim.Native.Nat.{ℕ}
 use mathlib.Core.List.{List}
 use mathlib.Core.Option.{Option, some, none}
@@ -7,7 +7,7 @@ use Rattle.calls.specs.declared.Call.the-variants.{Request, Credit, Tick
 use Rattle.calls.specs.declared.Record.{Record}
 use Rattle.calls.specs.declared.Record.the-variants.{NoCall}
 use Rattle.calls.specs.declared.Answer.{Answer}
-use Rattle.calls.specs.declared.Answer.the-variants.{Granted, Taken, Turn, Idle, Lent, Reset, Refused}
+use Rattle.calls.specs.declared.Answer.the-variants.{Granted, Accepted, Booked, Idle, Lent, Reset, Refused}
 use Rattle.model.specs.Calls as model
 use Rattle.model.specs.Calls.{accepted, refused}
 use Rattle.model.specs.Record.{RecordCall}
@@ -25,14 +25,14 @@ abbrev pub recordFor : Option RecordCall → Record
 recordFor (some call) = Record.Call (callFor call)
 recordFor none = NoCall
 
--- the paper's call of a record
+-- the model's call of a record
 abbrev pub callIn : Record → Option RecordCall
 callIn (Record.Call (Request word)) = some (RecordCall.request word)
 callIn (Record.Call (Credit flow position)) = some (RecordCall.credit flow position)
 callIn (Record.Call Tick) = some RecordCall.tick
 callIn NoCall = none
 
--- this paper's number for each case of a record: 0 where it makes a call, and the refusal where it makes none
+-- the model's number for each case of a record: 0 where it makes a call, and the refusal where it makes none
 abbrev pub numberOf : Record → ℕ
 numberOf (Record.Call call) = 0
 numberOf NoCall = 16
@@ -50,30 +50,30 @@ answerToRequest (accepted word) = Granted word
 answerToRequest (refused number) = Refused number
 
 -- a credit: taken, or the number of the refusal
-abbrev pub answerToCredit : model.Receipt → Answer
-answerToCredit (accepted _) = Taken
+abbrev pub answerToCredit : model.CreditAnswer → Answer
+answerToCredit (accepted _) = Accepted
 answerToCredit (refused number) = Refused number
 
 -- a tick: the flow booked at the new current position, or idle
-abbrev pub answerToTick : model.Turn → Answer
-answerToTick (some flow) = Turn flow
+abbrev pub answerToTick : model.TickAnswer → Answer
+answerToTick (some flow) = Booked flow
 answerToTick none = Idle
 
 -- a lend: the flow that the current slot is lent to, or the number of the refusal
-abbrev pub answerToLend : model.Loan → Answer
+abbrev pub answerToLend : model.LendAnswer → Answer
 answerToLend (accepted flow) = Lent flow
 answerToLend (refused number) = Refused number
 
 -- a reset: granted, or the number of the refusal
-abbrev pub answerToReset : model.Renewal → Answer
+abbrev pub answerToReset : model.ResetAnswer → Answer
 answerToReset (accepted _) = Reset
 answerToReset (refused number) = Refused number
 
 -- the line of an answer
 abbrev pub lineFor : Answer → List ℕ
 lineFor (Granted word) = requestLine (accepted word)
-lineFor Taken = creditLine (accepted tt)
-lineFor (Turn flow) = tickLine (some flow)
+lineFor Accepted = creditLine (accepted tt)
+lineFor (Booked flow) = tickLine (some flow)
 lineFor Idle = tickLine none
 lineFor (Lent flow) = lendLine (accepted flow)
 lineFor Reset = resetLine (accepted tt)

@@ -1,13 +1,13 @@
 // Calls and their answers as bytes: call records are read, and a line is written for each answer.
-mod lines;
 mod records;
+mod render;
 
-pub use lines::has_room;
-pub use lines::write;
-pub use lines::write_plan;
-pub use lines::write_refusal;
 pub use records::read;
 pub use records::wide;
+pub use render::has_room;
+pub use render::write;
+pub use render::write_plan;
+pub use render::write_refusal;
 
 // The bytes of a call record.
 pub const RECORD: usize = 5;
@@ -35,9 +35,9 @@ pub enum Answer {
     // A request is granted: the word with its position as departure.
     Granted(u32),
     // A credit is taken.
-    Taken,
+    Accepted,
     // The flow that is booked at a tick's new position.
-    Turn(u8),
+    Booked(u8),
     // No flow is booked there.
     Idle,
     // The current slot is lent to a flow.

@@ -1,4 +1,4 @@
--- The fields with which the code asks for a tile are those of the paper's word. Assumes nothing.
+-- The fields with which the code asks for a tile are those of the model's word. Assumes nothing.
 use Prim.Native.Nat.{ℕ, _<_}
 use mathlib.Core.Path.{_≡_, sym, ap, _∙_}
 use mathlib.Core.List.{List}
@@ -6,7 +6,7 @@ use native.Mathlib.Omega.{arith}
 use lib.ListN.{getD}
 use borrow.Author.Tests.{lt-ltb}
 use Rattle.model.specs.Word as word
-use Rattle.model.specs.Plan as paper
+use Rattle.model.specs.Plan as reference
 use Rattle.model.specs.Link as model
 use Rattle.model.specs.Window as seen
 use Rattle.model.proofs.Word.{Fitting, split-join}
@@ -19,7 +19,7 @@ use Rattle.link.specs.declared.Flow.{Flow}
 use Rattle.link.specs.Parts.{Parts, partsIn, flowRead}
 use Rattle.link.specs.Reading.{linkOf}
 use Rattle.link.specs.Steps.{readIn}
-use Rattle.link.specs.Given.{StateIn, RequestIn, placed}
+use Rattle.link.specs.Given.{StateIn, RequestIn, flowOrZero}
 use Rattle.link.proofs.Readings.{read-entry, read-flow, read-count, flows-most, size-most}
 use Rattle.link.proofs.FlowBytes.{flows-at}
 use Rattle.link.proofs.Given.{request-in}
@@ -36,8 +36,8 @@ module _ {p : Plan} {w : Window} {s : List ℕ} (o : StateIn p w s) {j : ℕ} (b
   current-few = omega (arith, o .proper .measures .current-below, o .proper .measures .positions-most)
 
   -- what is read of the state
-  destination-is : paper.entry (readIn p s .plan) j .destination ≡ getD (p .entries) j noEntry .destination
-  destination-is = ap (λ (e : paper.Entry). e .destination) (read-entry parts j below)
+  destination-is : reference.entry (readIn p s .plan) j .destination ≡ getD (p .entries) j noEntry .destination
+  destination-is = ap (λ (e : reference.Entry). e .destination) (read-entry parts j below)
 
   number-is : model.flow (readIn p s) j .number ≡ flowRead s j .number
   number-is = ap (λ (f : model.Flow). f .number) (read-flow parts j below) ∙ ap (λ (f : Flow). f .number) (flows-at s j flow-few)
@@ -48,7 +48,7 @@ module _ {p : Plan} {w : Window} {s : List ℕ} (o : StateIn p w s) {j : ℕ} (b
   pub number-few : flowRead s j .number < 1024
   number-few = rw (← ap (λ (f : Flow). f .number) (flows-at s j flow-few)) (o .sound .parts .flows j below .number)
 
-  entry-fits : paper.FittingEntry (readIn p s .plan) (paper.entry (readIn p s .plan) j)
+  entry-fits : reference.FittingEntry (readIn p s .plan) (reference.entry (readIn p s .plan) j)
   unfolding linkOf
   entry-fits = o .sound .parts .plan .accepted .entries-fit j (omega (arith, read-count parts))
 
@@ -75,7 +75,7 @@ module _ {p : Plan} {w : Window} {s : List ℕ} (o : StateIn p w s) {j : ℕ} (b
         departure = sym current-is k;
       }))
 
-  in-place : j ≡ placed (p .count) j
+  in-place : j ≡ flowOrZero (p .count) j
   in-place = rw (lt-ltb j (p .count) below)
 
   -- the request is one with this word, where the flow is the one that is read

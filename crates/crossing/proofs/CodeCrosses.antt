@@ -6,7 +6,7 @@ use mathlib.Core.Option.{some, none}
 use mathlib.Core.Bool.{Bool, true, false, cond}
 use lib.ListN.{getD}
 use Rattle.model.specs.Plan.{Accepted}
-use Rattle.model.specs.Card.{paper, step}
+use Rattle.model.specs.Scheduler.{reference, step}
 use Rattle.model.specs.TwoHops.{InStep}
 use Rattle.plan.specs.Reading.{planFor}
 use Rattle.link.specs.Steps.{readIn}
@@ -28,12 +28,12 @@ record LeftAlone (p q : crossings.Crossing) : Type 0 where
 alone-another : (o : Other) (p : crossings.Crossing) → LeftAlone p (another o p)
 alone-another (onArriving c) p = go (theirsArriving p c)
   where
-    go : (b : Bool) → LeftAlone p (cond b (crossings.crossingWith p (step paper (p .arriving) c) (p .leaving) (p .waiting)) p)
+    go : (b : Bool) → LeftAlone p (cond b (crossings.crossingWith p (step reference (p .arriving) c) (p .leaving) (p .waiting)) p)
     go true = record { onward = refl; waiting = refl }
     go false = record { onward = refl; waiting = refl }
 alone-another (onLeaving c) p = go (theirsLeaving p c)
   where
-    go : (b : Bool) → LeftAlone p (cond b (crossings.crossingWith p (p .arriving) (step paper (p .leaving) c) (p .waiting)) p)
+    go : (b : Bool) → LeftAlone p (cond b (crossings.crossingWith p (p .arriving) (step reference (p .leaving) c) (p .waiting)) p)
     go true = record { onward = refl; waiting = refl }
     go false = record { onward = refl; waiting = refl }
 

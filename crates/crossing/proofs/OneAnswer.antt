@@ -4,12 +4,12 @@ use mathlib.Core.List.{List, []}
 use mathlib.Core.Bool.{Bool}
 use Prim.Native.Nat.{ℕ}
 use Rattle.link.specs.Steps.{readIn}
-use Rattle.crossings.specs.Crossing as paper
+use Rattle.crossings.specs.Crossing as reference
 use Rattle.crossing.specs.declared.Crossing.{Crossing}
 use Rattle.crossing.specs.Reading.{onwardOf, Reads, Comes, Passes}
 
 -- with no calls so far
-abbrev read : Crossing → (a b waiting : List ℕ) → paper.Crossing
+abbrev read : Crossing → (a b waiting : List ℕ) → reference.Crossing
 read x a b waiting = record {
   arriving = record { state = readIn (x .arriving) a; history = [] };
   leaving = record { state = readIn (x .leaving) b; history = [] };
@@ -26,7 +26,7 @@ pub record Alike (x : Crossing) (a b k a' b' k' : List ℕ) : Type 0 where
   pub leaving : readIn (x .leaving) b ≡ readIn (x .leaving) b'
   pub waiting : k ≡ k'
 
-alike : {x : Crossing} {p : paper.Crossing} {a b k a' b' k' : List ℕ} → Reads p x a b k → Reads p x a' b' k' → Alike x a b k a' b' k'
+alike : {x : Crossing} {p : reference.Crossing} {a b k a' b' k' : List ℕ} → Reads p x a b k → Reads p x a' b' k' → Alike x a b k a' b' k'
 alike r s = record {
   arriving = sym (r .arriving-is) ∙ s .arriving-is;
   leaving = sym (r .leaving-is) ∙ s .leaving-is;
@@ -34,7 +34,7 @@ alike r s = record {
 }
 
 module _ {x : Crossing} {a b k a' b' k' a″ b″ k″ : List ℕ} where
-  pub one-outcome : {step : paper.Crossing → paper.Crossing} → Comes x step a b k a' b' k' → Comes x step a b k a″ b″ k″ → Alike x a' b' k' a″ b″ k″
+  pub one-outcome : {step : reference.Crossing → reference.Crossing} → Comes x step a b k a' b' k' → Comes x step a b k a″ b″ k″ → Alike x a' b' k' a″ b″ k″
   one-outcome first second = alike (first _ (is-read x a b k)) (second _ (is-read x a b k))
 
   pub one-pass : {i j : ℕ} {g g' : Bool} → Passes x i j a b k a' b' k' g → Passes x i j a b k a″ b″ k″ g' → Alike x a' b' k' a″ b″ k″ × (g ≡ g')

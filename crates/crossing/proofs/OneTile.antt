@@ -18,7 +18,7 @@ use Rattle.link.specs.Given.{StateIn}
 use Rattle.link.specs.Steps.{readIn, Went, numberOf, replyOf, requestAnswer}
 use Rattle.link.proofs.Told.{request-told}
 use Rattle.link.proofs.Stays.{request-current, credit-current, still-in}
-use Rattle.crossings.specs.Crossing as paper
+use Rattle.crossings.specs.Crossing as reference
 use Rattle.crossing.specs.declared.Crossing.{Crossing}
 use Rattle.crossing.specs.Reading.{BoardIn, Reads, isGranted, passedOnce, PassedOne}
 
@@ -30,7 +30,7 @@ module _ {x : Crossing} {w : Window} {a b : List ℕ} (o : BoardIn x w a b) (i j
   link = readIn (x .leaving) b
 
   abbrev word : ℕ
-  word = paper.asking link j
+  word = reference.asking link j
 
   module _ {b' : List ℕ} {r : Reply} (went : Went replyOf (request link word) (x .leaving) b' r) where
     pub asked-in-step : BoardIn x w a b'
@@ -48,32 +48,32 @@ module _ {x : Crossing} {w : Window} {a b : List ℕ} (o : BoardIn x w a b) (i j
         told : requestAnswer word r ≡ answerToRequest (refused n)
         told = request-told (o .leaving .sound) word went .answer-is ∙ ap answerToRequest e
 
-    module _ {p : paper.Crossing} {k : List ℕ} (reads : Reads p x a b k) where
-      answer-is : paper.answerFor j p ≡ request link word .answer
-      answer-is = ap (λ (l : model.Link). request l (paper.asking l j) .answer) (reads .leaving-is)
+    module _ {p : reference.Crossing} {k : List ℕ} (reads : Reads p x a b k) where
+      answer-is : reference.answerFor j p ≡ request link word .answer
+      answer-is = ap (λ (l : model.Link). request l (reference.asking l j) .answer) (reads .leaving-is)
 
-      reads-asked : Reads (paper.askedFor j p) x a b' k
+      reads-asked : Reads (reference.askedFor j p) x a b' k
       reads-asked = record {
         arriving-is = reads .arriving-is;
-        leaving-is = ap (λ (l : model.Link). request l (paper.asking l j) .link) (reads .leaving-is) ∙ sym (went .link-is);
+        leaving-is = ap (λ (l : model.Link). request l (reference.asking l j) .link) (reads .leaving-is) ∙ sym (went .link-is);
         onward-is = reads .onward-is;
         waiting-is = reads .waiting-is;
       }
 
       -- refused: it waits on
-      reads-refused : (g : Grant) → isGranted g ≡ false → Reads (paper.onGrant i g (λ q. q) (paper.askedFor j p)) x a b' k
+      reads-refused : (g : Grant) → isGranted g ≡ false → Reads (reference.onGrant i g (λ q. q) (reference.askedFor j p)) x a b' k
       reads-refused (accepted v) e = absurd (true≢false e)
       reads-refused (refused n) e = reads-asked
 
       pub refused-one : (r .number ≡ 0 → ⊥) → PassedOne x i j p a b' k false
       refused-one nonzero =
-          let none = not-granted (paper.answerFor j p) (sym answer-is) nonzero in
-          record { reads = reads-refused (paper.answerFor j p) none; granted-is = sym none }
+          let none = not-granted (reference.answerFor j p) (sym answer-is) nonzero in
+          record { reads = reads-refused (reference.answerFor j p) none; granted-is = sym none }
 
       -- granted: its cell is credited
       module _ {a' : List ℕ} {n : ℕ} (credited : Went numberOf (credit (readIn (x .arriving) a) i (r .position)) (x .arriving) a' n) where
-        reads-granted : (g : Grant) → paper.answerFor j p ≡ g → isGranted g ≡ true
-            → Reads (paper.onGrant i g (λ q. q) (paper.askedFor j p)) x a' b' (set k i (getD k i 0 - 1))
+        reads-granted : (g : Grant) → reference.answerFor j p ≡ g → isGranted g ≡ true
+            → Reads (reference.onGrant i g (λ q. q) (reference.askedFor j p)) x a' b' (set k i (getD k i 0 - 1))
         reads-granted (accepted v) e is =
             let at : r .position ≡ departureOf v = ap (λ (y : Reply). y .position) (went .answer-is ∙ ap replyOf (sym answer-is ∙ e)) in
             record {
@@ -86,8 +86,8 @@ module _ {x : Crossing} {w : Window} {a b : List ℕ} (o : BoardIn x w a b) (i j
 
         pub granted-one : {fewer : ℕ} → fewer ≡ getD k i 0 - 1 → r .number ≡ 0 → PassedOne x i j p a' b' (set k i fewer) true
         granted-one e zero =
-            let some = is-granted (paper.answerFor j p) (sym answer-is) zero in
-            rw e (record { reads = reads-granted (paper.answerFor j p) refl some; granted-is = sym some })
+            let some = is-granted (reference.answerFor j p) (sym answer-is) zero in
+            rw e (record { reads = reads-granted (reference.answerFor j p) refl some; granted-is = sym some })
 
     pub credited-in-step : {a' : List ℕ} {n : ℕ} (q : ℕ) → Went numberOf (credit (readIn (x .arriving) a) i q) (x .arriving) a' n → BoardIn x w a' b'
     credited-in-step q credited = record { arriving = still-in (o .arriving) credited (credit-current _ _ _); leaving = asked-in-step .leaving }

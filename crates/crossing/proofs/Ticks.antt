@@ -6,7 +6,7 @@ use mathlib.Core.Option.{some, none}
 use mathlib.Core.Bool.{Bool, true, false, cond}
 use lib.ListN.{getD}
 use lib.Dec.{eqb}
-use Rattle.model.specs.Calls.{Turn}
+use Rattle.model.specs.Calls.{TickAnswer}
 use Rattle.model.specs.Window as seen
 use Rattle.model.specs.Link as model
 use Rattle.model.specs.Credit.{credit}
@@ -18,8 +18,8 @@ use Rattle.window.specs.declared.Window.{Window}
 use Rattle.window.specs.Window.{windowOf}
 use Rattle.link.specs.Given.{StateIn}
 use Rattle.link.specs.Steps.{readIn, Went, numberOf}
-use Rattle.crossings.specs.Crossing as paper
-use Rattle.crossings.specs.Playing.{bothTick, turnOf}
+use Rattle.crossings.specs.Crossing as reference
+use Rattle.crossings.specs.Playing.{bothTick, tickAnswerOf}
 use Rattle.crossing.specs.declared.Crossing.{Crossing}
 use Rattle.crossing.specs.Reading.{BoardIn, Reads, Comes}
 
@@ -42,15 +42,15 @@ tick-window : (l : model.Link) → model.window (tick l .link) ≡ ticked (model
 unfolding tick advanced recycled
 tick-window l = go (eqb (nextPosition l % l .plan .slots) 0)
   where
-    go : (b : Bool) → model.window (model.withTaken (model.withCurrent (cond b (recycled l) l) (nextPosition l)) false) ≡ ticked (model.window l)
+    go : (b : Bool) → model.window (model.withMark (model.withCurrent (cond b (recycled l) l) (nextPosition l)) false) ≡ ticked (model.window l)
     go true = refl
     go false = refl
 
-one-turn : (a b : Turn) → answerToTick a ≡ answerToTick b → a ≡ b
-one-turn (some i) (some j) e = cc
-one-turn (some i) none e = cc
-one-turn none (some j) e = cc
-one-turn none none e = refl
+one-tick-answer : (a b : TickAnswer) → answerToTick a ≡ answerToTick b → a ≡ b
+one-tick-answer (some i) (some j) e = cc
+one-tick-answer (some i) none e = cc
+one-tick-answer none (some j) e = cc
+one-tick-answer none none e = refl
 
 -- the window of a state after a tick
 window-on : {p : Plan} {w : Window} {s t : List ℕ} {r : Answer} → StateIn p w s → Went answerToTick (tick (readIn p s)) p t r
@@ -71,7 +71,7 @@ module _ {x : Crossing} {w on there : Window} {a b a' b' : List ℕ} {r₁ r₂ 
     };
   }
 
-  ticked-reads : {k : List ℕ} {p : paper.Crossing} → Reads p x a b k → Reads (bothTick p) x a' b' k
+  ticked-reads : {k : List ℕ} {p : reference.Crossing} → Reads p x a b k → Reads (bothTick p) x a' b' k
   ticked-reads r = record {
     arriving-is = ap (λ (l : model.Link). tick l .link) (r .arriving-is) ∙ sym (first .link-is);
     leaving-is = ap (λ (l : model.Link). tick l .link) (r .leaving-is) ∙ sym (second .link-is);
@@ -80,8 +80,8 @@ module _ {x : Crossing} {w on there : Window} {a b a' b' : List ℕ} {r₁ r₂ 
   }
 
   -- what is done after the ticks
-  pub crossed : {k a″ b″ k″ : List ℕ} (turn : Turn) → Comes x (paper.served turn) a' b' k a″ b″ k″ → r₁ ≡ answerToTick turn
-      → Comes x (λ p. paper.served (turnOf p) (bothTick p)) a b k a″ b″ k″
-  crossed {a″ = a″} {b″} {k″} turn served e p r =
-      let is = one-turn turn _ (sym e ∙ first .answer-is) ∙ sym (ap (λ (l : model.Link). tick l .answer) (r .arriving-is)) in
-      subst (λ (t : Turn). Reads (paper.served t (bothTick p)) x a″ b″ k″) is (served (bothTick p) (ticked-reads r))
+  pub crossed : {k a″ b″ k″ : List ℕ} (owner : TickAnswer) → Comes x (reference.served owner) a' b' k a″ b″ k″ → r₁ ≡ answerToTick owner
+      → Comes x (λ p. reference.served (tickAnswerOf p) (bothTick p)) a b k a″ b″ k″
+  crossed {a″ = a″} {b″} {k″} owner served e p r =
+      let is = one-tick-answer owner _ (sym e ∙ first .answer-is) ∙ sym (ap (λ (l : model.Link). tick l .answer) (r .arriving-is)) in
+      subst (λ (t : TickAnswer). Reads (reference.served t (bothTick p)) x a″ b″ k″) is (served (bothTick p) (ticked-reads r))

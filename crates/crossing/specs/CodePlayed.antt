@@ -8,7 +8,7 @@ use Rattle.model.specs.Fresh.{fresh}
 use Rattle.plan.specs.Reading.{planFor}
 use Rattle.link.specs.Steps.{readIn}
 use Rattle.crossings.specs.Crossing as crossings
-use Rattle.crossings.specs.Playing.{Other, others, bothTick, turnOf, begun}
+use Rattle.crossings.specs.Playing.{Other, others, bothTick, tickAnswerOf, begun}
 use Rattle.crossing.specs.declared.Crossing.{Crossing}
 use Rattle.crossing.specs.Reading.{onwardOf, Comes}
 
@@ -25,8 +25,8 @@ pub data InHand (x : Crossing) : (p : crossings.Crossing) → (a b waiting : Lis
   -- a slot: both links tick, others call them, and then `serve`, with what the in-link's tick answered
   by-slot : {p : crossings.Crossing} {a b k a' b' a″ b″ k″ : List ℕ} (before : List Other) → InHand x p a b k
       → readIn (x .arriving) a' ≡ others before (bothTick p) .arriving .state → readIn (x .leaving) b' ≡ others before (bothTick p) .leaving .state
-      → Comes x (crossings.served (turnOf p)) a' b' k a″ b″ k″
-      → InHand x (crossings.served (turnOf p) (others before (bothTick p))) a″ b″ k″
+      → Comes x (crossings.served (tickAnswerOf p)) a' b' k a″ b″ k″
+      → InHand x (crossings.served (tickAnswerOf p) (others before (bothTick p))) a″ b″ k″
   -- a slot of two links alone: `cross`
   by-cross : {p : crossings.Crossing} {a b k a' b' k' : List ℕ} → InHand x p a b k
-      → Comes x (λ q. crossings.served (turnOf q) (bothTick q)) a b k a' b' k' → InHand x (crossings.served (turnOf p) (bothTick p)) a' b' k'
+      → Comes x (λ q. crossings.served (tickAnswerOf q) (bothTick q)) a b k a' b' k' → InHand x (crossings.served (tickAnswerOf p) (bothTick p)) a' b' k'

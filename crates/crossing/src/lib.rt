@@ -7,8 +7,8 @@ ghost use Rattle.model.specs.Tick.{nextPosition};
 ghost use Rattle.tables.specs.Owners.{ownerOf};
 ghost use Rattle.link.specs.Given.{StateIn};
 ghost use Rattle.link.specs.Steps.{readIn, Went, numberOf, replyOf};
-ghost use Rattle.crossings.specs.Crossing as paper;
-ghost use Rattle.crossings.specs.Playing.{bothTick, turnOf};
+ghost use Rattle.crossings.specs.Crossing as reference;
+ghost use Rattle.crossings.specs.Playing.{bothTick, tickAnswerOf};
 ghost use Rattle.crossing.specs.Reading.{BoardIn, Reads, Passes, Comes};
 use link::credit::credit;
 use link::flows::flow_at;
@@ -19,7 +19,7 @@ use plan::Plan;
 use state::OWNERS;
 use state::State;
 use window::Window;
-use window::numbers::one_more;
+use window::numbers::saturating_inc;
 use window::positions::next;
 use word::Fields;
 
@@ -34,7 +34,7 @@ pub struct Crossing {
 // Asks for a tile of flow j on the out-link: the current position is its departure, and it has the expected number.
 fn ask(b: &mut State, plan: Plan, w: Window, j: usize) -> Reply
     requires { ⌜ StateIn plan w (now b) × (j < plan .count) ⌝ }
-    ensures { λ r. ⌜ Went replyOf (request.request (readIn plan (now (b .entry))) (paper.asking (readIn plan (now (b .entry))) j))
+    ensures { λ r. ⌜ Went replyOf (request.request (readIn plan (now (b .entry))) (reference.asking (readIn plan (now (b .entry))) j))
         plan (now (b .exit)) r ⌝ }
 {
     let flow = flow_at(b, j);
@@ -95,7 +95,7 @@ fn pass_on(
     j: usize,
 )
     requires { ⌜ BoardIn x w (now a) (now b) × (i < 16) × (j < x .leaving .count) ⌝ }
-    ensures is { λ r. ⌜ Comes x (λ p. paper.passOn (paper.waits p i) i j p) (now (a .entry)) (now (b .entry)) (now (waiting .entry))
+    ensures is { λ r. ⌜ Comes x (λ p. reference.passOn (reference.waits p i) i j p) (now (a .entry)) (now (b .entry)) (now (waiting .entry))
         (now (a .exit)) (now (b .exit)) (now (waiting .exit)) ⌝ }
     ensures there { λ r. ⌜ BoardIn x w (now (a .exit)) (now (b .exit)) ⌝ }
 {
@@ -111,7 +111,7 @@ fn pass_on(
 // The tiles of flow i that wait, where it goes on here.
 fn pass_flow(a: &mut State, b: &mut State, waiting: &mut [u8; 16], x: Crossing, w: Window, i: usize)
     requires { ⌜ BoardIn x w (now a) (now b) × (i < 16) ⌝ }
-    ensures is { λ r. ⌜ Comes x (paper.passFlow i) (now (a .entry)) (now (b .entry)) (now (waiting .entry))
+    ensures is { λ r. ⌜ Comes x (reference.passFlow i) (now (a .entry)) (now (b .entry)) (now (waiting .entry))
         (now (a .exit)) (now (b .exit)) (now (waiting .exit)) ⌝ }
     ensures there { λ r. ⌜ BoardIn x w (now (a .exit)) (now (b .exit)) ⌝ }
 {
@@ -124,7 +124,7 @@ fn pass_flow(a: &mut State, b: &mut State, waiting: &mut [u8; 16], x: Crossing, 
 // The tiles that wait, flow by flow.
 fn pass_waiting(a: &mut State, b: &mut State, waiting: &mut [u8; 16], x: Crossing, w: Window)
     requires { ⌜ BoardIn x w (now a) (now b) ⌝ }
-    ensures is { λ r. ⌜ Comes x (paper.passWaiting (x .arriving .count)) (now (a .entry)) (now (b .entry)) (now (waiting .entry))
+    ensures is { λ r. ⌜ Comes x (reference.passWaiting (x .arriving .count)) (now (a .entry)) (now (b .entry)) (now (waiting .entry))
         (now (a .exit)) (now (b .exit)) (now (waiting .exit)) ⌝ }
     ensures there { λ r. ⌜ BoardIn x w (now (a .exit)) (now (b .exit)) ⌝ }
 {
@@ -138,44 +138,51 @@ fn pass_waiting(a: &mut State, b: &mut State, waiting: &mut [u8; 16], x: Crossin
 // A tile of flow i has just come: it is the last of its flow that waits, and is asked for if it is the only one.
 fn come(a: &mut State, b: &mut State, waiting: &mut [u8; 16], x: Crossing, w: Window, i: usize)
     requires { ⌜ BoardIn x w (now a) (now b) × (i < 16) ⌝ }
-    ensures is { λ r. ⌜ Comes x (λ p. paper.comes (paper.goesOnAs p i) i p) (now (a .entry)) (now (b .entry)) (now (waiting .entry))
+    ensures is { λ r. ⌜ Comes x (λ p. reference.comes (reference.goesOnAs p i) i p) (now (a .entry)) (now (b .entry)) (now (waiting .entry))
         (now (a .exit)) (now (b .exit)) (now (waiting .exit)) ⌝ }
     ensures there { λ r. ⌜ BoardIn x w (now (a .exit)) (now (b .exit)) ⌝ }
 {
     let j = x.onward[i] as usize;
     if j < x.leaving.count {
         let k = waiting[i];
-        waiting[i] = one_more(k);
+        waiting[i] = saturating_inc(k);
         if k == 0 {
             pass(a, b, waiting, x, w, i, j);
         }
     }
 }
 
-// The board's part of a slot, after the ticks: `turn` is the owner of the in-link's slot, and 16 where it has none.
-pub fn serve(a: &mut State, b: &mut State, waiting: &mut [u8; 16], x: Crossing, w: Window, turn: u8)
+// The board's part of a slot, after the ticks: `owner` is the owner of the in-link's slot, and 16 where it has none.
+pub fn serve(
+    a: &mut State,
+    b: &mut State,
+    waiting: &mut [u8; 16],
+    x: Crossing,
+    w: Window,
+    owner: u8,
+)
     requires { ⌜ BoardIn x w (now a) (now b) ⌝ }
-    ensures is { λ r. ⌜ Comes x (paper.served (ownerOf turn)) (now (a .entry)) (now (b .entry)) (now (waiting .entry))
+    ensures is { λ r. ⌜ Comes x (reference.served (ownerOf owner)) (now (a .entry)) (now (b .entry)) (now (waiting .entry))
         (now (a .exit)) (now (b .exit)) (now (waiting .exit)) ⌝ }
     ensures there { λ r. ⌜ BoardIn x w (now (a .exit)) (now (b .exit)) ⌝ }
 {
     pass_waiting(a, b, waiting, x, w);
-    if turn < 16 {
-        come(a, b, waiting, x, w, turn as usize);
+    if owner < 16 {
+        come(a, b, waiting, x, w, owner as usize);
     }
 }
 
 // One slot: both links tick, and the board does its part. The window there.
 pub fn cross(a: &mut State, b: &mut State, waiting: &mut [u8; 16], x: Crossing, w: Window) -> Window
     requires { ⌜ BoardIn x w (now a) (now b) ⌝ }
-    ensures is { λ r. ⌜ Comes x (λ p. paper.served (turnOf p) (bothTick p)) (now (a .entry)) (now (b .entry)) (now (waiting .entry))
+    ensures is { λ r. ⌜ Comes x (λ p. reference.served (tickAnswerOf p) (bothTick p)) (now (a .entry)) (now (b .entry)) (now (waiting .entry))
         (now (a .exit)) (now (b .exit)) (now (waiting .exit)) ⌝ }
     ensures there { λ r. ⌜ BoardIn x r (now (a .exit)) (now (b .exit)) ⌝ }
 {
     let on = tick(a, x.arriving, w);
     tick(b, x.leaving, w);
-    let turn = a[OWNERS + on.current];
-    serve(a, b, waiting, x, on, turn);
+    let owner = a[OWNERS + on.current];
+    serve(a, b, waiting, x, on, owner);
     on
 }
 

@@ -13,8 +13,8 @@ use borrow.Author.Tests.{eqb-true, eqb-false, eq-eqb, ne-eqb}
 use Rattle.model.specs.Tables.{bit, tally, any}
 use Rattle.model.specs.Word.{flowOf}
 use Rattle.model.specs.Plan.{Plan, flowCount, entry, planOf, Accepted}
-use Rattle.model.specs.Calls.{Call, Grant, Turn, Event, History, requested, credited, ticked, lent, accepted, refused}
-use Rattle.model.specs.Card.{Played, paper, step, started}
+use Rattle.model.specs.Calls.{Call, Grant, TickAnswer, Event, History, requested, credited, ticked, lent, accepted, refused}
+use Rattle.model.specs.Scheduler.{Played, reference, step, started}
 use Rattle.model.specs.History.{ticks, grants, credits, lends, upTo, grantedUpTo, lentUpTo, creditedUpTo}
 use Rattle.model.specs.Claim.{AtRequest}
 use Rattle.model.specs.TwoHops.{InStep}
@@ -26,9 +26,9 @@ use Rattle.model.proofs.AfterCalls.{Known}
 use Rattle.crossings.specs.Crossing.{Crossing, crossingWith, goesOnAs, waits, passOn, passAs, passFlow, passWaiting, queued, comes, arrives}
 use Rattle.crossings.specs.Crossing.{served}
 use Rattle.crossings.specs.Playing.{Other, onArriving, onLeaving, isFlow, isNone, goesOnto, theirsArriving, theirsLeaving, another, others}
-use Rattle.crossings.specs.Playing.{Slot, bothTick, turnOf, inSlot, inSlots, begun}
+use Rattle.crossings.specs.Playing.{Slot, bothTick, tickAnswerOf, inSlot, inSlots, begun}
 use Rattle.crossings.specs.Claim.{AsksNow, Onward, refusedThen, Crosses, CrossesWell}
-use Rattle.crossings.proofs.OneLink.{Reached, reached-start, reached-more, known, within-held, up-to-most, up-to-slots, isTurn, tick-adds}
+use Rattle.crossings.proofs.OneLink.{Reached, reached-start, reached-more, known, within-held, up-to-most, up-to-slots, isOwner, tick-adds}
 use Rattle.crossings.proofs.Kept.{NotGiven, NoGrant, FlowKept, Kept, by-arriving, by-leaving, refused-more}
 use Rattle.crossings.proofs.Tiles.{Tried, PassedOn, tried-still, pass-on}
 
@@ -159,7 +159,7 @@ module _ {P Q : Plan} {onward : List (Option ℕ)} (ok-P : Accepted P) (ok-Q : A
 
       its-queued : (j' : ℕ) → Goes i j' → FlowKept P Q i j' 0 (queued i x)
       its-queued j' goes' = subst (λ m. FlowKept P Q i m 0 (queued i x)) (same-goes i i j j' refl goes' goes) (record {
-        taken = f .taken;
+        all-accepted = f .all-accepted;
         dated = f .dated;
         none-lost = omega (arith, f .none-lost, waits-more);
         asks-now = f .asks-now;
@@ -169,7 +169,7 @@ module _ {P Q : Plan} {onward : List (Option ℕ)} (ok-P : Accepted P) (ok-Q : A
       other-queued i' j' goes' d =
           let g = other-kept i' j' goes' d in
           record {
-            taken = g .taken;
+            all-accepted = g .all-accepted;
             dated = g .dated;
             none-lost = omega (arith, g .none-lost, getD-set-other (x .waiting) i i' (min (waits x i + 1) 255) 0 d);
             asks-now = g .asks-now;
@@ -227,13 +227,13 @@ module _ {P Q : Plan} {onward : List (Option ℕ)} (ok-P : Accepted P) (ok-Q : A
         go (some j) e = one-comes j e
 
   -- the board's part of a slot
-  pub served-full : (turn : Turn) (x : Crossing) → Kept P Q onward (λ i. bit (isTurn turn i)) x → Full (served turn x)
+  pub served-full : (owner : TickAnswer) (x : Crossing) → Kept P Q onward (λ i. bit (isOwner owner i)) x → Full (served owner x)
   unfolding served
-  served-full turn x k =
+  served-full owner x k =
       let count = ap flowCount (known ok-P (k .arriving) .plan-is) in
-      subst (λ n. Full (arrives turn (passWaiting n x))) (sym count) (go turn (walk (flowCount P) x k))
+      subst (λ n. Full (arrives owner (passWaiting n x))) (sym count) (go owner (walk (flowCount P) x k))
     where
-      go : (turn : Turn) → Walked (λ i. bit (isTurn turn i)) (flowCount P) (passWaiting (flowCount P) x)
-          → Full (arrives turn (passWaiting (flowCount P) x))
+      go : (owner : TickAnswer) → Walked (λ i. bit (isOwner owner i)) (flowCount P) (passWaiting (flowCount P) x)
+          → Full (arrives owner (passWaiting (flowCount P) x))
       go none z = record { kept = z .kept; tried = all-tried z }
       go (some i) z = comes-full i (passWaiting (flowCount P) x) z

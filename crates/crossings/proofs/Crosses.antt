@@ -12,8 +12,8 @@ use borrow.Author.Tests.{eq-eqb}
 use Rattle.model.specs.Tables.{bit, tally, any}
 use Rattle.model.specs.Word.{flowOf}
 use Rattle.model.specs.Plan.{Plan, planOf, Accepted}
-use Rattle.model.specs.Calls.{Call, Grant, Turn, Event, History, requested, credited, ticked, lent, accepted, refused}
-use Rattle.model.specs.Card.{Played, paper, step, started}
+use Rattle.model.specs.Calls.{Call, Grant, TickAnswer, Event, History, requested, credited, ticked, lent, accepted, refused}
+use Rattle.model.specs.Scheduler.{Played, reference, step, started}
 use Rattle.model.specs.History.{ticks, grants, credits, upTo, grantedUpTo}
 use Rattle.model.specs.TwoHops.{InStep}
 use Rattle.arrival.specs.SeveralLinks.{slotsOf}
@@ -22,9 +22,9 @@ use Rattle.model.proofs.Plan.{accepted as accepted-plan}
 use Rattle.arrival.proofs.TileSlots.{count-slots}
 use Rattle.crossings.specs.Crossing.{Crossing, crossingWith, goesOnAs, waits, served}
 use Rattle.crossings.specs.Playing.{Other, onArriving, onLeaving, isFlow, isNone, goesOnto, theirsArriving, theirsLeaving, another, others}
-use Rattle.crossings.specs.Playing.{Slot, bothTick, turnOf, inSlot, inSlots, begun}
+use Rattle.crossings.specs.Playing.{Slot, bothTick, tickAnswerOf, inSlot, inSlots, begun}
 use Rattle.crossings.specs.Claim.{Onward, refusedThen, Crosses, CrossesWell}
-use Rattle.crossings.proofs.OneLink.{Reached, reached-start, reached-more, within-held, up-to-slots, isTurn, tick-adds}
+use Rattle.crossings.proofs.OneLink.{Reached, reached-start, reached-more, within-held, up-to-slots, isOwner, tick-adds}
 use Rattle.crossings.proofs.Kept.{NoGrant, FlowKept, Kept, by-arriving, by-leaving, ticks-requested, ticks-credited, refused-more}
 use Rattle.crossings.proofs.Tiles.{Tried}
 use Rattle.crossings.proofs.Board.{Full, served-full}
@@ -69,7 +69,7 @@ module _ {P Q : Plan} {onward : List (Option ℕ)} (ok-P : Accepted P) (ok-Q : A
 
     -- on the in-link
     arriving-kept : (c : Call) → theirsArriving x c ≡ true
-        → Kept P Q onward extra (crossingWith x (step paper (x .arriving) c) (x .leaving) (x .waiting))
+        → Kept P Q onward extra (crossingWith x (step reference (x .arriving) c) (x .leaving) (x .waiting))
     unfolding ticks
     arriving-kept (Call.request w) e = by-arriving k _ _ refl (reached-more (Call.request w) (k .arriving)) refl (λ i j goes. tt)
     arriving-kept (Call.credit n p) e =
@@ -87,8 +87,8 @@ module _ {P Q : Plan} {onward : List (Option ℕ)} (ok-P : Accepted P) (ok-Q : A
         let all = any-hit (length (x .onward)) (λ n. isFlow (flowOf w) (goesOnAs x n)) i (rw (k .onward-is) (listed i j goes)) hit in
         true≢false (sym e ∙ ap not all)
 
-    request-kept : (w : ℕ) (a : Grant) → paper .request (x .leaving .state) w .1 ≡ a → not (goesOnto x (flowOf w)) ≡ true
-        → Kept P Q onward extra (crossingWith x (x .arriving) (step paper (x .leaving) (Call.request w)) (x .waiting))
+    request-kept : (w : ℕ) (a : Grant) → reference .request (x .leaving .state) w .1 ≡ a → not (goesOnto x (flowOf w)) ≡ true
+        → Kept P Q onward extra (crossingWith x (x .arriving) (step reference (x .leaving) (Call.request w)) (x .waiting))
     request-kept w a is e =
         by-leaving k (requested w a) _ (ap (λ b. requested w b ∷ x .leaving .history) is) (reached-more (Call.request w) (k .leaving))
         (ticks-requested w a _)
@@ -99,7 +99,7 @@ module _ {P Q : Plan} {onward : List (Option ℕ)} (ok-P : Accepted P) (ok-Q : A
         none-granted (refused r) i j goes = tt
 
     leaving-kept : (c : Call) → theirsLeaving x c ≡ true
-        → Kept P Q onward extra (crossingWith x (x .arriving) (step paper (x .leaving) c) (x .waiting))
+        → Kept P Q onward extra (crossingWith x (x .arriving) (step reference (x .leaving) c) (x .waiting))
     unfolding ticks
     leaving-kept (Call.request w) e = request-kept w _ refl e
     leaving-kept (Call.credit n p) e = by-leaving k _ _ refl (reached-more (Call.credit n p) (k .leaving)) refl (λ i j goes. (tt, tt))
@@ -108,7 +108,7 @@ module _ {P Q : Plan} {onward : List (Option ℕ)} (ok-P : Accepted P) (ok-Q : A
     leaving-kept Call.reset e = by-leaving k _ _ refl (reached-more Call.reset (k .leaving)) refl (λ i j goes. (tt, tt))
 
   leaving-stays : (x : Crossing) (c : Call) → theirsLeaving x c ≡ true
-      → Stays Q x (crossingWith x (x .arriving) (step paper (x .leaving) c) (x .waiting))
+      → Stays Q x (crossingWith x (x .arriving) (step reference (x .leaving) c) (x .waiting))
   unfolding ticks
   leaving-stays x (Call.request w) e = record { waiting = refl; same-time = refl; refused-still = λ j t. refused-more Q j t _ (x .leaving .history) }
   leaving-stays x (Call.credit n p) e = record { waiting = refl; same-time = refl; refused-still = λ j t. refused-more Q j t _ (x .leaving .history) }
@@ -120,13 +120,13 @@ module _ {P Q : Plan} {onward : List (Option ℕ)} (ok-P : Accepted P) (ok-Q : A
   other-kept {extra} (onArriving c) x k = go (theirsArriving x c) refl
     where
       go : (b : Bool) → theirsArriving x c ≡ b
-          → (let y = cond b (crossingWith x (step paper (x .arriving) c) (x .leaving) (x .waiting)) x in Kept P Q onward extra y × Stays Q x y)
+          → (let y = cond b (crossingWith x (step reference (x .arriving) c) (x .leaving) (x .waiting)) x in Kept P Q onward extra y × Stays Q x y)
       go true e = (arriving-kept k c e, record { waiting = refl; same-time = refl; refused-still = λ j t. omega arith })
       go false e = (k, stays-same x)
   other-kept {extra} (onLeaving c) x k = go (theirsLeaving x c) refl
     where
       go : (b : Bool) → theirsLeaving x c ≡ b
-          → (let y = cond b (crossingWith x (x .arriving) (step paper (x .leaving) c) (x .waiting)) x in Kept P Q onward extra y × Stays Q x y)
+          → (let y = cond b (crossingWith x (x .arriving) (step reference (x .leaving) c) (x .waiting)) x in Kept P Q onward extra y × Stays Q x y)
       go true e = (leaving-kept k c e, leaving-stays x c e)
       go false e = (k, stays-same x)
 
@@ -159,7 +159,7 @@ module _ {P Q : Plan} {onward : List (Option ℕ)} (ok-P : Accepted P) (ok-Q : A
 
   -- ---- a slot
 
-  tick-kept : (x : Crossing) → Kept P Q onward (λ i. 0) x → Kept P Q onward (λ i. bit (isTurn (turnOf x) i)) (bothTick x)
+  tick-kept : (x : Crossing) → Kept P Q onward (λ i. 0) x → Kept P Q onward (λ i. bit (isOwner (tickAnswerOf x) i)) (bothTick x)
   unfolding ticks grants credits
   tick-kept x k = record {
     arriving = reached-more Call.tick (k .arriving);
@@ -170,7 +170,7 @@ module _ {P Q : Plan} {onward : List (Option ℕ)} (ok-P : Accepted P) (ok-Q : A
     flows = λ i j goes.
         let f = k .flows i j goes in
         record {
-          taken = (tt, f .taken);
+          all-accepted = (tt, f .all-accepted);
           dated = f .dated;
           none-lost = omega (arith, tick-adds ok-P (k .arriving) i, f .none-lost);
           asks-now = (tt, f .asks-now);
@@ -178,12 +178,12 @@ module _ {P Q : Plan} {onward : List (Option ℕ)} (ok-P : Accepted P) (ok-Q : A
   }
 
   -- the board's part of a slot, after the ticks and what others ask before it; and where they ask nothing
-  pub part-full : (before : List Other) (x : Crossing) → FullHere x → FullHere (served (turnOf x) (others before (bothTick x)))
+  pub part-full : (before : List Other) (x : Crossing) → FullHere x → FullHere (served (tickAnswerOf x) (others before (bothTick x)))
   part-full before x z =
       let (kept, _) = others-kept before (bothTick x) (tick-kept x (z .kept)) in
-      served-full ok-P ok-Q in-step goes-on (turnOf x) (others before (bothTick x)) kept
+      served-full ok-P ok-Q in-step goes-on (tickAnswerOf x) (others before (bothTick x)) kept
 
-  pub slot-alone-full : (x : Crossing) → FullHere x → FullHere (served (turnOf x) (bothTick x))
+  pub slot-alone-full : (x : Crossing) → FullHere x → FullHere (served (tickAnswerOf x) (bothTick x))
   unfolding others
   slot-alone-full x z = part-full [] x z
 
@@ -204,7 +204,7 @@ module _ {P Q : Plan} {onward : List (Option ℕ)} (ok-P : Accepted P) (ok-Q : A
       in-step = refl;
       onward-is = refl;
       long = refl;
-      flows = λ i j goes. record { taken = tt; dated = refl; none-lost = omega (arith, zeros 16 i); asks-now = tt };
+      flows = λ i j goes. record { all-accepted = tt; dated = refl; none-lost = omega (arith, zeros 16 i); asks-now = tt };
     };
     tried = λ i j goes some-wait. absurd (omega (arith, zeros 16 i, some-wait));
   }
@@ -217,7 +217,7 @@ module _ {P Q : Plan} {onward : List (Option ℕ)} (ok-P : Accepted P) (ok-Q : A
       let h₁ = x .arriving .history in
       let h₂ = x .leaving .history in
       record {
-        taken = f .taken;
+        all-accepted = f .all-accepted;
         dated = f .dated;
         within-cells = λ s.
             omega (

@@ -14,13 +14,13 @@ use borrow.Author.Tests.{le-leb, lt-leb, lt-ltb, eq-eqb, ne-eqb}
 use Rattle.model.specs.Tables.{ahead, bit, tally, any}
 use Rattle.model.specs.Word.{Fields, flowOf, destinationOf, quantumOf, departureOf}
 use Rattle.model.specs.Plan.{Plan, positions, flowCount, entry, Accepted}
-use Rattle.model.specs.Calls.{Call, Grant, Receipt, Turn, Event, History, requested, credited, ticked, lent, accepted, refused}
+use Rattle.model.specs.Calls.{Call, Grant, CreditAnswer, TickAnswer, Event, History, requested, credited, ticked, lent, accepted, refused}
 use Rattle.model.specs.Link.{Link, flow}
-use Rattle.model.specs.Card.{Played, paper, step}
+use Rattle.model.specs.Scheduler.{Played, reference, step}
 use Rattle.model.specs.History.{Mark, marksOf, refusalAt, atSlot, ticks, slotAfter, hasCome, wellFormed, grants, credits, ofFlow, grantedUpTo}
 use Rattle.model.specs.History.{lentUpTo, creditedUpTo, grantedInAll, expectedNumber}
 use Rattle.model.specs.Claim.{Each, AtRequest}
-use Rattle.arrival.specs.TakenCredits.{AtCredit, IsTaken, GivesBackFrom}
+use Rattle.arrival.specs.AcceptedCredits.{AtCredit, IsAccepted, GivesBackFrom}
 use Rattle.model.specs.TwoHops.{InStep}
 use Rattle.arrival.specs.SeveralLinks.{slotsOf}
 use Rattle.model.proofs.Word.{split-join}
@@ -49,7 +49,7 @@ pub record SameArriving (P : Plan) (i : ℕ) (e : Event) (h : History) : Type 0 
   pub now : ticks (e ∷ h) ≡ ticks h
   pub dated : slotsOf i (credits P (e ∷ h)) ≡ slotsOf i (credits P h)
   pub came : grantedUpTo P (e ∷ h) i (ticks h) ≡ grantedUpTo P h i (ticks h)
-  pub taken : AtCredit (λ k p a h. k ≡ i → IsTaken a) e h
+  pub all-accepted : AtCredit (λ k p a h. k ≡ i → IsAccepted a) e h
 
 pub same-arriving : (P : Plan) (i : ℕ) (e : Event) (h : History) → NotGiven i e → SameArriving P i e h
 unfolding ticks credits grants
@@ -57,20 +57,20 @@ same-arriving P i (requested w (accepted v)) h n = record {
   now = refl;
   dated = refl;
   came = up-to-skip i (ticks h) _ (grants P h) (lt-leb (slotAfter P (ticks h) (departureOf v)) (ticks h) (slot-to-come P (ticks h) (departureOf v)));
-  taken = tt;
+  all-accepted = tt;
 }
-same-arriving P i (requested w (refused r)) h n = record { now = refl; dated = refl; came = refl; taken = tt }
+same-arriving P i (requested w (refused r)) h n = record { now = refl; dated = refl; came = refl; all-accepted = tt }
 same-arriving P i (credited k p (accepted u)) h n = record {
   now = refl;
   dated = slots-skip i _ (credits P h) n;
   came = refl;
-  taken = λ z. absurd
+  all-accepted = λ z. absurd
       (n z);
 }
-same-arriving P i (credited k p (refused r)) h n = record { now = refl; dated = refl; came = refl; taken = λ z. absurd (n z) }
+same-arriving P i (credited k p (refused r)) h n = record { now = refl; dated = refl; came = refl; all-accepted = λ z. absurd (n z) }
 same-arriving P i (ticked x) h n = absurd n
-same-arriving P i (lent m a) h n = record { now = refl; dated = refl; came = refl; taken = tt }
-same-arriving P i (Event.reset a) h n = record { now = refl; dated = refl; came = refl; taken = tt }
+same-arriving P i (lent m a) h n = record { now = refl; dated = refl; came = refl; all-accepted = tt }
+same-arriving P i (Event.reset a) h n = record { now = refl; dated = refl; came = refl; all-accepted = tt }
 
 -- ---- an event more on the out-link
 
@@ -100,7 +100,7 @@ same-leaving Q j (Event.reset a) h n = record { now = refl; dated = refl }
 
 -- Of flow i, which goes on as flow j, `extra` tiles have come that don't wait yet.
 pub record FlowKept (P Q : Plan) (i j extra : ℕ) (x : Crossing) : Type 0 where
-  pub taken : Each (AtCredit (λ k p a h. k ≡ i → IsTaken a)) (x .arriving .history)
+  pub all-accepted : Each (AtCredit (λ k p a h. k ≡ i → IsAccepted a)) (x .arriving .history)
   pub dated : slotsOf i (credits P (x .arriving .history)) ≡ slotsOf j (grants Q (x .leaving .history))
   pub none-lost :
       grantedUpTo P (x .arriving .history) i (ticks (x .arriving .history)) ≡ waits x i + length (slotsOf j (grants Q (x .leaving .history))) + extra
@@ -116,7 +116,7 @@ pub record Kept (P Q : Plan) (onward : List (Option ℕ)) (extra : ℕ → ℕ) 
 
 module _ {P Q : Plan} {onward : List (Option ℕ)} {extra : ℕ → ℕ} {x : Crossing} (k : Kept P Q onward extra x) where
   -- a call of others on the in-link
-  pub by-arriving : (e : Event) (r : Played paper) → r .history ≡ e ∷ x .arriving .history → Reached P r
+  pub by-arriving : (e : Event) (r : Played reference) → r .history ≡ e ∷ x .arriving .history → Reached P r
       → ticks (e ∷ x .arriving .history) ≡ ticks (x .arriving .history)
       → ((i j : ℕ) → getD onward i none ≡ some j → NotGiven i e) → Kept P Q onward extra (crossingWith x r (x .leaving) (x .waiting))
   by-arriving e r is reached still theirs = record {
@@ -129,7 +129,7 @@ module _ {P Q : Plan} {onward : List (Option ℕ)} {extra : ℕ → ℕ} {x : Cr
         let f = k .flows i j goes in
         let s = same-arriving P i e (x .arriving .history) (theirs i j goes) in
         record {
-          taken = subst (Each (AtCredit (λ k p a h. k ≡ i → IsTaken a))) (sym is) (s .taken, f .taken);
+          all-accepted = subst (Each (AtCredit (λ k p a h. k ≡ i → IsAccepted a))) (sym is) (s .all-accepted, f .all-accepted);
           dated = ap (λ h. slotsOf i (credits P h)) is ∙ s .dated ∙ f .dated;
           none-lost =
               ap (λ h. grantedUpTo P h i (ticks h)) is ∙ ap (λ t. grantedUpTo P (e ∷ x .arriving .history) i t) (s .now) ∙ s .came ∙ f .none-lost;
@@ -138,7 +138,7 @@ module _ {P Q : Plan} {onward : List (Option ℕ)} {extra : ℕ → ℕ} {x : Cr
   }
 
   -- a call on the out-link that grants nothing to a flow that goes on here
-  pub by-leaving : (e : Event) (r : Played paper) → r .history ≡ e ∷ x .leaving .history → Reached Q r
+  pub by-leaving : (e : Event) (r : Played reference) → r .history ≡ e ∷ x .leaving .history → Reached Q r
       → ticks (e ∷ x .leaving .history) ≡ ticks (x .leaving .history)
       → ((i j : ℕ) → getD onward i none ≡ some j → NoGrant j e × AtRequest (λ w h. flowOf w ≡ j → AsksNow Q j w h) e (x .leaving .history))
       → Kept P Q onward extra (crossingWith x (x .arriving) r (x .waiting))
@@ -153,7 +153,7 @@ module _ {P Q : Plan} {onward : List (Option ℕ)} {extra : ℕ → ℕ} {x : Cr
         let (none-granted, asks) = theirs i j goes in
         let same = ap (λ h. slotsOf j (grants Q h)) is ∙ same-leaving Q j e (x .leaving .history) none-granted .dated in
         record {
-          taken = f .taken;
+          all-accepted = f .all-accepted;
           dated = f .dated ∙ sym same;
           none-lost = f .none-lost ∙ ap (λ ss. waits x i + length ss + extra i) (sym same);
           asks-now = subst (Each (AtRequest (λ w h. flowOf w ≡ j → AsksNow Q j w h))) (sym is) (asks, f .asks-now);
@@ -198,7 +198,7 @@ module _ {P Q : Plan} {onward : List (Option ℕ)} {extra : ℕ → ℕ} (ok-P :
   }
 
 -- the credit of a flow that is taken adds its date
-pub credit-dated : (P : Plan) (i p : ℕ) (a : Receipt) (h : History) → IsTaken a
+pub credit-dated : (P : Plan) (i p : ℕ) (a : CreditAnswer) (h : History) → IsAccepted a
     → slotsOf i (credits P (credited i p a ∷ h)) ≡ slotAfter P (ticks h) p ∷ slotsOf i (credits P h)
 unfolding credits
 credit-dated P i p (accepted u) h is = slots-hit i _ (credits P h) refl
@@ -211,12 +211,12 @@ unfolding grants
 grant-slot Q j w v h e = slots-hit j _ (grants Q h) e
 
 -- no credit changes what came
-pub credit-came : (P : Plan) (i k p : ℕ) (a : Receipt) (h : History)
+pub credit-came : (P : Plan) (i k p : ℕ) (a : CreditAnswer) (h : History)
     → grantedUpTo P (credited k p a ∷ h) i (ticks (credited k p a ∷ h)) ≡ grantedUpTo P h i (ticks h)
 unfolding grants ticks
 credit-came P i k p a h = refl
 
-pub ticks-credited : (i p : ℕ) (a : Receipt) (h : History) → ticks (credited i p a ∷ h) ≡ ticks h
+pub ticks-credited : (i p : ℕ) (a : CreditAnswer) (h : History) → ticks (credited i p a ∷ h) ≡ ticks h
 unfolding ticks
 ticks-credited i p a h = refl
 

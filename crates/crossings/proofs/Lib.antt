@@ -9,4 +9,4 @@ pub mod Neighbours
 -- worked examples, and boards that are sent back
 pub mod Unfoldings
 pub mod Edges
-pub mod BadBoards
+pub mod WrongBoards

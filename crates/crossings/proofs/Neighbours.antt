@@ -8,8 +8,8 @@ use mathlib.Core.Bool.{Bool, true, false, cond}
 use lib.Dec.{eqb}
 use Rattle.model.specs.Word.{departureOf}
 use Rattle.model.specs.Plan.{flowCount}
-use Rattle.model.specs.Calls.{Call, Grant, Turn, accepted, refused}
-use Rattle.model.specs.Card.{Played, paper, step}
+use Rattle.model.specs.Calls.{Call, Grant, TickAnswer, accepted, refused}
+use Rattle.model.specs.Scheduler.{Played, reference, step}
 use Rattle.crossings.specs.Crossing.{Crossing, crossingWith, goesOnAs, waits, withWaiting, asking, answerFor, askedFor, leaves, onGrant}
 use Rattle.crossings.specs.Crossing.{passOn, passAs, passWaiting, queued, comes, served}
 use Rattle.crossings.specs.Playing.{Other, onArriving, onLeaving, another, others}
@@ -51,7 +51,7 @@ module _ {Keeps : Crossing → Type 0} (asked : (j : ℕ) (x : Crossing) → Kee
       go true = pass-on-keeps 1 i j (queued i x) one-more
       go false = one-more
 
-  pub served-keeps : (turn : Turn) (x : Crossing) → Keeps x → Keeps (served turn x)
+  pub served-keeps : (owner : TickAnswer) (x : Crossing) → Keeps x → Keeps (served owner x)
   unfolding served
   served-keeps none x z = pass-waiting-keeps (flowCount (x .arriving .state .plan)) x z
   served-keeps (some i) x z =
@@ -66,21 +66,21 @@ others-then [] o y = refl
 others-then (first ∷ os) o y = others-then os o (another first y)
 
 -- calls of others after which crossing y has this in-link, and is as it was but for it; and this out-link
-pub record CallsArriving (y : Crossing) (link : Played paper) : Type 0 where
+pub record CallsArriving (y : Crossing) (link : Played reference) : Type 0 where
   pub calls : List Other
   pub come-to : others calls y ≡ crossingWith y link (y .leaving) (y .waiting)
 
-pub record CallsLeaving (y : Crossing) (link : Played paper) : Type 0 where
+pub record CallsLeaving (y : Crossing) (link : Played reference) : Type 0 where
   pub calls : List Other
   pub come-to : others calls y ≡ crossingWith y (y .arriving) link (y .waiting)
 
-request-more : {y : Crossing} {link : Played paper} (w : ℕ) → CallsArriving y link → CallsArriving y (step paper link (Call.request w))
+request-more : {y : Crossing} {link : Played reference} (w : ℕ) → CallsArriving y link → CallsArriving y (step reference link (Call.request w))
 request-more {y} w z = record {
   calls = z .calls ++ (onArriving (Call.request w) ∷ []);
   come-to = others-then (z .calls) (onArriving (Call.request w)) y ∙ ap (another (onArriving (Call.request w))) (z .come-to);
 }
 
-credit-more : {y : Crossing} {link : Played paper} (i p : ℕ) → CallsLeaving y link → CallsLeaving y (step paper link (Call.credit i p))
+credit-more : {y : Crossing} {link : Played reference} (i p : ℕ) → CallsLeaving y link → CallsLeaving y (step reference link (Call.credit i p))
 credit-more {y} i p z = record {
   calls = z .calls ++ (onLeaving (Call.credit i p) ∷ []);
   come-to = others-then (z .calls) (onLeaving (Call.credit i p)) y ∙ ap (another (onLeaving (Call.credit i p))) (z .come-to);
@@ -88,14 +88,14 @@ credit-more {y} i p z = record {
 
 -- ---- a board's part, to the one after it, whose in-link is its out-link; and to the one before it
 
-pub part-before : (turn : Turn) (x y : Crossing) → y .arriving ≡ x .leaving → CallsArriving y (served turn x .leaving)
+pub part-before : (owner : TickAnswer) (x y : Crossing) → y .arriving ≡ x .leaving → CallsArriving y (served owner x .leaving)
 unfolding others
-part-before turn x y same =
-    served-keeps {Keeps = λ z. CallsArriving y (z .leaving)} (λ j z. request-more (asking (z .leaving .state) j)) (λ i p z c. c) (λ i k z c. c) turn x
+part-before owner x y same =
+    served-keeps {Keeps = λ z. CallsArriving y (z .leaving)} (λ j z. request-more (asking (z .leaving .state) j)) (λ i p z c. c) (λ i k z c. c) owner x
     (record { calls = []; come-to = ap (λ link. crossingWith y link (y .leaving) (y .waiting)) same })
 
-pub part-after : (turn : Turn) (x y : Crossing) → y .leaving ≡ x .arriving → CallsLeaving y (served turn x .arriving)
+pub part-after : (owner : TickAnswer) (x y : Crossing) → y .leaving ≡ x .arriving → CallsLeaving y (served owner x .arriving)
 unfolding others
-part-after turn x y same =
-    served-keeps {Keeps = λ z. CallsLeaving y (z .arriving)} (λ j z c. c) (λ i p z. credit-more i p) (λ i k z c. c) turn x
+part-after owner x y same =
+    served-keeps {Keeps = λ z. CallsLeaving y (z .arriving)} (λ j z c. c) (λ i p z. credit-more i p) (λ i k z c. c) owner x
     (record { calls = []; come-to = ap (λ link. crossingWith y (y .arriving) link (y .waiting)) same })

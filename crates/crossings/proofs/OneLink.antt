@@ -12,13 +12,13 @@ use borrow.Author.Tests.{le-leb, lt-leb, eq-eqb, ne-eqb}
 use Rattle.model.specs.Tables.{bit, tally}
 use Rattle.model.specs.Word.{flowOf, quantumOf, departureOf}
 use Rattle.model.specs.Plan.{Plan, positions, flowCount, entry, Accepted}
-use Rattle.model.specs.Calls.{Call, Turn, Event, History, requested, credited, ticked, lent, accepted, refused}
-use Rattle.model.specs.Card.{Played, paper, step, play, started, run}
+use Rattle.model.specs.Calls.{Call, TickAnswer, Event, History, requested, credited, ticked, lent, accepted, refused}
+use Rattle.model.specs.Scheduler.{Played, reference, step, play, started, run}
 use Rattle.model.specs.History.{Mark, ticks, slotAfter, hasCome, marksOf, refusalAt, grants, credits, grantsSince, ofFlow, atSlot, upTo, grantedUpTo}
 use Rattle.model.specs.History.{lentUpTo, creditedUpTo}
 use Rattle.model.specs.Holding.{InWindow, frameStart}
 use Rattle.model.specs.Claim.{Each}
-use Rattle.arrival.specs.TakenCredits.{CreditTakenAt, HoldsFrom, GivesBackFrom, IsTaken}
+use Rattle.arrival.specs.AcceptedCredits.{CreditAcceptedAt, HoldsFrom, GivesBackFrom, IsAccepted}
 use Rattle.arrival.specs.SeveralLinks.{slotsOf}
 use Rattle.model.proofs.Tests.{and-true}
 use Rattle.model.proofs.Tallies.{tally-append, tally-le}
@@ -33,31 +33,31 @@ use Rattle.model.proofs.AfterHistory.{After}
 use Rattle.model.proofs.AfterCalls.{Known, after-calls, after-fresh}
 use Rattle.model.proofs.EventsOfRuns.{counts}
 use Rattle.model.proofs.CountedBursts.{play-both}
-use Rattle.arrival.proofs.TakenCredits.{credits-taken-accepted}
+use Rattle.arrival.proofs.AcceptedCredits.{credits-accepted-on-plan}
 
 -- ---- a link that calls come to
 
-pub record Reached (P : Plan) (r : Played paper) : Type 0 where
+pub record Reached (P : Plan) (r : Played reference) : Type 0 where
   pub calls : List Call
-  pub played : run paper P calls ≡ r
+  pub played : run reference P calls ≡ r
 
-pub reached-start : (P : Plan) → Reached P (started paper P)
+pub reached-start : (P : Plan) → Reached P (started reference P)
 unfolding play
 reached-start P = record { calls = []; played = refl }
 
-pub reached-more : {P : Plan} {r : Played paper} (c : Call) → Reached P r → Reached P (step paper r c)
+pub reached-more : {P : Plan} {r : Played reference} (c : Call) → Reached P r → Reached P (step reference r c)
 unfolding play
 reached-more {P} c x = record {
   calls = x .calls ++ c ∷ [];
-  played = play-both (started paper P) (x .calls) (c ∷ []) ∙ ap (λ r. step paper r c) (x .played);
+  played = play-both (started reference P) (x .calls) (c ∷ []) ∙ ap (λ r. step reference r c) (x .played);
 }
 
-module _ {P : Plan} (ok : Accepted P) {r : Played paper} (x : Reached P r) where
+module _ {P : Plan} (ok : Accepted P) {r : Played reference} (x : Reached P r) where
   pub known : Known P r
-  known = subst (Known P) (x .played) (after-calls (started paper P) (x .calls) (after-fresh ok))
+  known = subst (Known P) (x .played) (after-calls (started reference P) (x .calls) (after-fresh ok))
 
-  pub credits-by-holding : Each (CreditTakenAt P) (r .history)
-  credits-by-holding = subst (λ (r : Played paper). Each (CreditTakenAt P) (r .history)) (x .played) (credits-taken-accepted P ok (x .calls))
+  pub credits-by-holding : Each (CreditAcceptedAt P) (r .history)
+  credits-by-holding = subst (λ (r : Played reference). Each (CreditAcceptedAt P) (r .history)) (x .played) (credits-accepted-on-plan P ok (x .calls))
 
   -- what a flow holds is at most its cells
   pub within-held : (i : ℕ) → i < flowCount P → (s : ℕ)
@@ -116,31 +116,31 @@ up-to-most i s (m ∷ ms) = go (eqb (m .flow) i) (leb (m .slot) s) (up-to-most i
 -- ---- a tick
 
 -- the flow that comes up
-abbrev pub isTurn : Turn → ℕ → Bool
-isTurn none i = false
-isTurn (some k) i = eqb k i
+abbrev pub isOwner : TickAnswer → ℕ → Bool
+isOwner none i = false
+isOwner (some k) i = eqb k i
 
 none-some : {k : ℕ} → none ≡ some k → ⊥
-none-some e = let z : _≡_ {A = ℕ} 0 1 = ap (λ (o : Turn). bit (isSome o)) e in omega arith
+none-some e = let z : _≡_ {A = ℕ} 0 1 = ap (λ (o : TickAnswer). bit (isSome o)) e in omega arith
   where
-    isSome : Turn → Bool
+    isSome : TickAnswer → Bool
     isSome none = false
     isSome (some i) = true
 
 same-flow : {k i : ℕ} → some k ≡ some i → k ≡ i
 same-flow e = cc
 
-module _ {P : Plan} (ok : Accepted P) {r : Played paper} (x : Reached P r) where
+module _ {P : Plan} (ok : Accepted P) {r : Played reference} (x : Reached P r) where
   abbrev h : History
   h = r .history
 
-  abbrev turn : Turn
-  turn = paper .tick (r .state) .1
+  abbrev owner : TickAnswer
+  owner = reference .tick (r .state) .1
 
-  pub tick-adds : (i : ℕ) → grantedUpTo P h i (suc (ticks h)) ≡ grantedUpTo P h i (ticks h) + bit (isTurn turn i)
-  tick-adds i = omega (arith, up-to-next i (ticks h) (grants P h), comes turn refl)
+  pub tick-adds : (i : ℕ) → grantedUpTo P h i (suc (ticks h)) ≡ grantedUpTo P h i (ticks h) + bit (isOwner owner i)
+  tick-adds i = omega (arith, up-to-next i (ticks h) (grants P h), comes owner refl)
     where
-      now : Known P (step paper r Call.tick)
+      now : Known P (step reference r Call.tick)
       now = known ok (reached-more Call.tick x)
 
       count : ℕ
@@ -159,10 +159,10 @@ module _ {P : Plan} (ok : Accepted P) {r : Played paper} (x : Reached P r) where
       next : ticks h + 1 ≡ suc (ticks h)
       next = omega arith
 
-      granted-if : turn ≡ some i → 0 < count
+      granted-if : owner ≡ some i → 0 < count
       granted-if e = subst (λ s. 0 < tally (λ m. ofFlow i m && atSlot s m) (grants P h)) next (now .events .0 .comes-up i .0 e)
 
-      none-if : (turn ≡ some i → ⊥) → count ≡ 0
+      none-if : (owner ≡ some i → ⊥) → count ≡ 0
       none-if other = go (decLt 0 count)
         where
           go : Dec (0 < count) → count ≡ 0
@@ -171,7 +171,7 @@ module _ {P : Plan} (ok : Accepted P) {r : Played paper} (x : Reached P r) where
               (sym next) some-there)))
           go (no none-there) = omega arith
 
-      comes : (y : Turn) → turn ≡ y → count ≡ bit (isTurn y i)
+      comes : (y : TickAnswer) → owner ≡ y → count ≡ bit (isOwner y i)
       comes none e = none-if (λ z. none-some (sym e ∙ z))
       comes (some k) e = go (ℕ-discrete k i)
         where
@@ -181,7 +181,7 @@ module _ {P : Plan} (ok : Accepted P) {r : Played paper} (x : Reached P r) where
 
 -- ---- a grant
 
-module _ {P : Plan} (ok : Accepted P) {r : Played paper} (w v : ℕ)
+module _ {P : Plan} (ok : Accepted P) {r : Played reference} (w v : ℕ)
     (x : Reached P (record { state = r .state; history = requested w (accepted v) ∷ r .history })) where
   abbrev t : ℕ
   t = ticks (r .history)

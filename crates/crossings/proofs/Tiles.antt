@@ -13,11 +13,11 @@ use borrow.Author.Tests.{eqb-true, eqb-false, eq-eqb, ne-eqb}
 use Rattle.model.specs.Tables.{bit}
 use Rattle.model.specs.Word.{flowOf, departureOf}
 use Rattle.model.specs.Plan.{Plan, positions, flowCount, entry, Accepted}
-use Rattle.model.specs.Calls.{Call, Grant, Receipt, Turn, Event, History, requested, credited, accepted, refused}
-use Rattle.model.specs.Card.{Played, paper, step}
+use Rattle.model.specs.Calls.{Call, Grant, CreditAnswer, TickAnswer, Event, History, requested, credited, accepted, refused}
+use Rattle.model.specs.Scheduler.{Played, reference, step}
 use Rattle.model.specs.History.{ticks, slotAfter, hasCome, grants, credits, upTo, grantedUpTo, lentUpTo, creditedUpTo}
 use Rattle.model.specs.Claim.{Each, AtRequest}
-use Rattle.arrival.specs.TakenCredits.{AtCredit, IsTaken}
+use Rattle.arrival.specs.AcceptedCredits.{AtCredit, IsAccepted}
 use Rattle.model.specs.TwoHops.{InStep}
 use Rattle.arrival.specs.SeveralLinks.{slotsOf}
 use Rattle.model.proofs.HistoryCounts.{raises-are}
@@ -25,7 +25,7 @@ use Rattle.crossings.specs.Crossing.{Crossing, crossingWith, goesOnAs, w
 use Rattle.crossings.specs.Crossing.{passFlow, passWaiting, queued, comes, arrives, served}
 use Rattle.crossings.specs.Claim.{AsksNow, Onward, refusedThen}
 use Rattle.crossings.proofs.OneLink.{Reached, reached-more, known, credits-by-holding, up-to-most, slot-to-come, granted-position}
-use Rattle.crossings.proofs.OneLink.{granted-later, isTurn}
+use Rattle.crossings.proofs.OneLink.{granted-later, isOwner}
 use Rattle.crossings.proofs.Kept.{NotGiven, NoGrant, same-arriving, same-leaving, FlowKept, Kept, by-leaving, same-positions, same-slot}
 use Rattle.crossings.proofs.Kept.{gives-back}
 use Rattle.crossings.proofs.Kept.{credit-dated, grant-slot, credit-came, ticks-credited, ticks-requested, AskedAs, asks-so, refused-more}
@@ -63,7 +63,7 @@ module _ {P Q : Plan} {onward : List (Option ℕ)} (ok-P : Accepted P) (ok-Q : A
     -- it is refused
     pub tile-refused : (r : ℕ) → answerFor j x ≡ refused r → Kept P Q onward extra (askedFor j x)
     tile-refused r e =
-        by-leaving k (requested w (refused r)) (step paper (x .leaving) (Call.request w)) (ap (λ a. requested w a ∷ h₂) e)
+        by-leaving k (requested w (refused r)) (step reference (x .leaving) (Call.request w)) (ap (λ a. requested w a ∷ h₂) e)
         (reached-more (Call.request w) (k .leaving)) (ticks-requested w (refused r) h₂) (λ i' j' goes'. (tt, asks-of i' j' goes'))
 
     -- it is granted
@@ -74,8 +74,8 @@ module _ {P Q : Plan} {onward : List (Option ℕ)} (ok-P : Accepted P) (ok-Q : A
       abbrev y : Crossing
       y = leaves i p (askedFor j x)
 
-      abbrev receipt : Receipt
-      receipt = paper .credit (x .arriving .state) i p .1
+      abbrev receipt : CreditAnswer
+      receipt = reference .credit (x .arriving .state) i p .1
 
       out-is : y .leaving .history ≡ requested w (accepted v) ∷ h₂
       out-is = ap (λ a. requested w a ∷ h₂) e
@@ -89,8 +89,8 @@ module _ {P Q : Plan} {onward : List (Option ℕ)} (ok-P : Accepted P) (ok-Q : A
       later : hasCome Q (ticks h₂) p ≡ false
       later = granted-later ok-Q {r = record { state = y .leaving .state; history = h₂ }} w v reached-out
 
-      is-taken : IsTaken receipt
-      is-taken = credits-by-holding ok-P (reached-more (Call.credit i p) (k .arriving)) .0 .1
+      is-accepted : IsAccepted receipt
+      is-accepted = credits-by-holding ok-P (reached-more (Call.credit i p) (k .arriving)) .0 .1
           (gives-back ok-P ok-Q in-step goes-on k i j goes some-wait p below later)
 
       few : i < length (x .waiting)
@@ -103,8 +103,8 @@ module _ {P Q : Plan} {onward : List (Option ℕ)} (ok-P : Accepted P) (ok-Q : A
           let out = ap (λ h. slotsOf j' (grants Q h)) out-is ∙ grant-slot Q j' w v h₂ at in
           let same = same-slot in-step (ticks h₁) p ∙ ap (λ n. slotAfter Q n p) (k .in-step) in
           record {
-            taken = ((λ z. is-taken), f .taken);
-            dated = credit-dated P i p receipt h₁ is-taken ∙ (λ m. same m ∷ f .dated m) ∙ sym out;
+            all-accepted = ((λ z. is-accepted), f .all-accepted);
+            dated = credit-dated P i p receipt h₁ is-accepted ∙ (λ m. same m ∷ f .dated m) ∙ sym out;
             none-lost =
                 omega (
                   arith,
@@ -122,7 +122,7 @@ module _ {P Q : Plan} {onward : List (Option ℕ)} (ok-P : Accepted P) (ok-Q : A
           let a = same-arriving P i' (credited i p receipt) h₁ (λ z. d (sym z)) in
           let out = ap (λ h. slotsOf j' (grants Q h)) out-is ∙ same-leaving Q j' (requested w (accepted v)) h₂ (other-flow i' j' goes' d) .dated in
           record {
-            taken = (a .taken, f .taken);
+            all-accepted = (a .all-accepted, f .all-accepted);
             dated = a .dated ∙ f .dated ∙ sym out;
             none-lost =
                 omega (

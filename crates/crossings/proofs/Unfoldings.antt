@@ -5,7 +5,7 @@ use Rattle.arrival.specs.SeveralLinks.{slotsOf}
 use Rattle.model.proofs.Unfoldings.{calls-compute, counts-compute}
 use Rattle.crossings.specs.Crossing.{passOn, passWaiting, served}
 use Rattle.crossings.specs.Playing.{others, inSlots}
-use Rattle.crossings.specs.BadBoards.{passBy, passWaitingBy, cameAt}
+use Rattle.crossings.specs.WrongBoards.{passBy, passWaitingBy, cameAt}
 
 -- a crossing that is played, and what is counted over its links
 unfoldable pub crossings-compute : Unit {0}

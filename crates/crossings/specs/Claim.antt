@@ -13,7 +13,7 @@ use Rattle.model.specs.Calls.{History}
 use Rattle.model.specs.History.{ticks, hasCome, marksOf, refusalAt, grants, credits, ofFlow, atSlot, grantedUpTo, lentUpTo, grantedInAll}
 use Rattle.model.specs.History.{expectedNumber}
 use Rattle.model.specs.Claim.{Each, AtRequest}
-use Rattle.arrival.specs.TakenCredits.{AtCredit, IsTaken}
+use Rattle.arrival.specs.AcceptedCredits.{AtCredit, IsAccepted}
 use Rattle.model.specs.TwoHops.{InStep}
 use Rattle.arrival.specs.SeveralLinks.{slotsOf}
 use Rattle.crossings.specs.Crossing.{Crossing, waits}
@@ -36,7 +36,7 @@ refusedThen Q j t h = tally (λ m. ofFlow j m && atSlot t m) (marksOf (refusalAt
 -- Flow i of the in-link, with plan P, goes on as flow j of the out-link, with plan Q.
 pub record Crosses (P Q : Plan) (i j : ℕ) (x : Crossing) : Type 0 where
   -- RULES 27.7: each credit of it is taken
-  pub taken : Each (AtCredit (λ k p a h. k ≡ i → IsTaken a)) (x .arriving .history)
+  pub all-accepted : Each (AtCredit (λ k p a h. k ≡ i → IsAccepted a)) (x .arriving .history)
   -- RULES 27.7: there is one for each tile that was granted a slot, dated that slot, in which it leaves
   pub dated : slotsOf i (credits P (x .arriving .history)) ≡ slotsOf j (grants Q (x .leaving .history))
   -- RULES 27.8: in no slot are there more of its tiles in their cells than it has cells: those that came up to that slot, less those that left up to

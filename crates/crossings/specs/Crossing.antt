@@ -1,6 +1,6 @@
 -- A crossing: what a board does with the tiles that come to it on one link and go on by another. RULES 27.1 to 27.5. Assumes nothing.
 --
--- Both links are the paper's, with their calls so far: so what a board asks of them is in their events, with the answers.
+-- Both links are the model's, with their calls so far: so what a board asks of them is in their events, with the answers.
 use Prim.Native.Nat.{ℕ, zero, suc, _+_, _-_, min}
 use mathlib.Core.List.{List}
 use mathlib.Core.Option.{Option, some, none}
@@ -9,20 +9,20 @@ use lib.ListN.{getD, set}
 use lib.Dec.{eqb}
 use Rattle.model.specs.Word.{join, departureOf}
 use Rattle.model.specs.Plan.{flowCount, entry}
-use Rattle.model.specs.Calls.{Call, Grant, Turn, accepted, refused}
+use Rattle.model.specs.Calls.{Call, Grant, TickAnswer, accepted, refused}
 use Rattle.model.specs.Link.{Link, flow}
 use Rattle.model.specs.Tick.{nextPosition}
-use Rattle.model.specs.Card.{Played, paper, step}
+use Rattle.model.specs.Scheduler.{Played, reference, step}
 
 -- RULES 27.1: two links, where each flow of the first goes on, and how many of its tiles wait
 pub record Crossing : Type 0 where
-  pub arriving : Played paper  -- the in-link
-  pub leaving : Played paper  -- the out-link
+  pub arriving : Played reference  -- the in-link
+  pub leaving : Played reference  -- the out-link
   pub onward : List (Option ℕ)  -- for each flow of the in-link, the flow of the out-link that it goes on as
   pub waiting : List ℕ  -- for each flow of the in-link, how many tiles wait
 
 -- Crossing x with these links and tiles; where its flows go on stays.
-abbrev pub crossingWith : Crossing → (arriving leaving : Played paper) → (waiting : List ℕ) → Crossing
+abbrev pub crossingWith : Crossing → (arriving leaving : Played reference) → (waiting : List ℕ) → Crossing
 crossingWith x arriving leaving waiting = record { arriving = arriving; leaving = leaving; onward = x .onward; waiting = waiting }
 
 abbrev pub goesOnAs : Crossing → ℕ → Option ℕ
@@ -43,14 +43,14 @@ asking l j = join (record { destination = entry (l .plan) j .destination; flow =
 
 -- what the out-link answers to it, and the crossing after that
 abbrev pub answerFor : (j : ℕ) → Crossing → Grant
-answerFor j x = paper .request (x .leaving .state) (asking (x .leaving .state) j) .1
+answerFor j x = reference .request (x .leaving .state) (asking (x .leaving .state) j) .1
 
 abbrev pub askedFor : (j : ℕ) → Crossing → Crossing
-askedFor j x = crossingWith x (x .arriving) (step paper (x .leaving) (Call.request (asking (x .leaving .state) j))) (x .waiting)
+askedFor j x = crossingWith x (x .arriving) (step reference (x .leaving) (Call.request (asking (x .leaving .state) j))) (x .waiting)
 
 -- RULES 27.3: where a tile of flow i is granted position p, its cell is credited, dated p, and it waits no more
 abbrev pub leaves : (i p : ℕ) → Crossing → Crossing
-leaves i p x = crossingWith x (step paper (x .arriving) (Call.credit i p)) (x .leaving) (set (x .waiting) i (waits x i - 1))
+leaves i p x = crossingWith x (step reference (x .arriving) (Call.credit i p)) (x .leaving) (set (x .waiting) i (waits x i - 1))
 
 -- RULES 27.3: and a tile that is refused waits on, with those behind it
 abbrev pub onGrant : (i : ℕ) → Grant → (rest : Crossing → Crossing) → Crossing → Crossing
@@ -87,16 +87,16 @@ abbrev pub comes : Option ℕ → (i : ℕ) → Crossing → Crossing
 comes none i x = x
 comes (some j) i x = cond (eqb (waits x i) 0) (passOn 1 i j (queued i x)) (queued i x)
 
-abbrev pub arrives : Turn → Crossing → Crossing
+abbrev pub arrives : TickAnswer → Crossing → Crossing
 arrives none x = x
 arrives (some i) x = comes (goesOnAs x i) i x
 
 -- ---- the board's part of a slot
 
--- RULES 27.2: after the ticks, of which the in-link's answered `turn`
-unfoldable pub served : Turn → Crossing → Crossing
-served turn x = arrives turn (passWaiting (flowCount (x .arriving .state .plan)) x)
+-- RULES 27.2: after the ticks, of which the in-link's answered `owner`
+unfoldable pub served : TickAnswer → Crossing → Crossing
+served owner x = arrives owner (passWaiting (flowCount (x .arriving .state .plan)) x)
 
 -- RULES 27.5: a tile of flow i that ends here was shown, and its cell is free from the next slot on
-unfoldable pub shown : (i : ℕ) → Played paper → Played paper
-shown i r = step paper r (Call.credit i (nextPosition (r .state)))
+unfoldable pub shown : (i : ℕ) → Played reference → Played reference
+shown i r = step reference r (Call.credit i (nextPosition (r .state)))

@@ -4,4 +4,4 @@ pub mod Playing
 pub mod Claim
 -- worked examples, and boards that are sent back
 pub mod Edges
-pub mod BadBoards
+pub mod WrongBoards

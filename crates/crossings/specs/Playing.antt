@@ -8,13 +8,13 @@ use lib.Dec.{eqb}
 use Rattle.model.specs.Tables.{any}
 use Rattle.model.specs.Word.{flowOf}
 use Rattle.model.specs.Plan.{Plan}
-use Rattle.model.specs.Calls.{Call, Turn}
-use Rattle.model.specs.Card.{paper, started, step}
+use Rattle.model.specs.Calls.{Call, TickAnswer}
+use Rattle.model.specs.Scheduler.{reference, started, step}
 use Rattle.crossings.specs.Crossing.{Crossing, crossingWith, goesOnAs}
 
 -- RULES 27.2: what a board does in a slot after the ticks, of which the in-link's answered so. It may look at all calls and answers so far.
 abbrev pub Board : Type 0
-Board = Turn → Crossing → Crossing
+Board = TickAnswer → Crossing → Crossing
 
 -- ---- the others
 
@@ -53,8 +53,8 @@ theirsLeaving x Call.reset = true
 
 -- RULES 27.6: a call that is not theirs to make is left out
 abbrev pub another : Other → Crossing → Crossing
-another (onArriving c) x = cond (theirsArriving x c) (crossingWith x (step paper (x .arriving) c) (x .leaving) (x .waiting)) x
-another (onLeaving c) x = cond (theirsLeaving x c) (crossingWith x (x .arriving) (step paper (x .leaving) c) (x .waiting)) x
+another (onArriving c) x = cond (theirsArriving x c) (crossingWith x (step reference (x .arriving) c) (x .leaving) (x .waiting)) x
+another (onLeaving c) x = cond (theirsLeaving x c) (crossingWith x (x .arriving) (step reference (x .leaving) c) (x .waiting)) x
 
 unfoldable pub others : List Other → Crossing → Crossing
 others [] x = x
@@ -69,15 +69,15 @@ pub record Slot : Type 0 where
 
 -- RULES 27.2: both links tick
 abbrev pub bothTick : Crossing → Crossing
-bothTick x = crossingWith x (step paper (x .arriving) Call.tick) (step paper (x .leaving) Call.tick) (x .waiting)
+bothTick x = crossingWith x (step reference (x .arriving) Call.tick) (step reference (x .leaving) Call.tick) (x .waiting)
 
 -- the flow that comes up on the in-link
-abbrev pub turnOf : Crossing → Turn
-turnOf x = paper .tick (x .arriving .state) .1
+abbrev pub tickAnswerOf : Crossing → TickAnswer
+tickAnswerOf x = reference .tick (x .arriving .state) .1
 
 -- RULES 27.2: one slot
 abbrev pub inSlot : Board → Slot → Crossing → Crossing
-inSlot b s x = others (s .after) (b (turnOf x) (others (s .before) (bothTick x)))
+inSlot b s x = others (s .after) (b (tickAnswerOf x) (others (s .before) (bothTick x)))
 
 unfoldable pub inSlots : Board → List Slot → Crossing → Crossing
 inSlots b [] x = x
@@ -85,7 +85,7 @@ inSlots b (s ∷ ss) x = inSlots b ss (inSlot b s x)
 
 -- RULES 27.1: both links are fresh, and no tile waits
 abbrev pub begun : Plan → Plan → List (Option ℕ) → Crossing
-begun P Q onward = record { arriving = started paper P; leaving = started paper Q; onward = onward; waiting = replicate 16 0 }
+begun P Q onward = record { arriving = started reference P; leaving = started reference Q; onward = onward; waiting = replicate 16 0 }
 
 -- RULES 27.6: a crossing that board b plays: others may ask in slot 0 too
 abbrev pub played : Board → Plan → Plan → List (Option ℕ) → (first : List Other) → List Slot → Crossing

@@ -162,8 +162,8 @@ fn play(mut link: Link, bytes: &[u8], all: bool, out: &mut [u8]) -> Played
     ensures used { λ r. ⌜ r .used ≤ length (now (bytes .entry)) ⌝ }
 {
     let plan = link.plan;
-    let cp = link.state[CURRENT];
-    let mut w = window(plan.slots, plan.frames, cp as usize);
+    let current = link.state[CURRENT];
+    let mut w = window(plan.slots, plan.frames, current as usize);
     let mut end = 0;
     let mut used = 0;
     let mut more = true;
@@ -191,7 +191,7 @@ fn play(mut link: Link, bytes: &[u8], all: bool, out: &mut [u8]) -> Played
     Played { link, used, more }
 }
 
-// The same of the first bytes of a space.
+// Plays the whole records among the first bytes of a space, and writes their lines.
 pub(crate) fn play_first(link: Link, space: &[u8], have: usize, all: bool, out: &mut [u8]) -> Played
     requires { ⌜ SoundLink link × (have ≤ length (now space)) × (43008 ≤ length (now out)) ⌝ }
     ensures sound { λ r. ⌜ SoundLink (r .link) ⌝ }

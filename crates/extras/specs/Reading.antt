@@ -24,7 +24,7 @@ extrasFor x = record { slots = x .slots; budget = x .budget; layers = table (x .
 abbrev pub chosenFor : Chosen → model.Chosen
 chosenFor c = record { mask = c .mask; worth = c .worth; ceiling = c .ceiling }
 
--- each answer with the paper's number and values
+-- each answer with the model's number and values
 abbrev pub answerFor : Choice → Answer model.Chosen
 answerFor (Choice.Best c) = accepted (chosenFor c)
 answerFor (Choice.Refused number) = refused number

@@ -47,7 +47,7 @@ fn tell_entry(numbers: &[usize], i: usize, found: &mut [usize], at: usize) -> us
     faults::tell_if(source == destination, 4, i, 4, found, after_nodes)
 }
 
-// The same of each of so many flows.
+// Tells which limits of each of so many flows are broken.
 pub(crate) fn tell_entries(numbers: &[usize], flows: usize, found: &mut [usize], at: usize) -> usize
     requires { ⌜ FlowsOf (now numbers) flows × (at + 240 ≤ length (now found)) ⌝ }
     ensures put { λ r. ⌜ Puts (eachBelow flows (λ i. entryFaults (getD (now (numbers .entry)) 0 0) (entryAsked (now (numbers .entry)) i) i)) (now (found .entry)) (now (found .exit)) at r ⌝ }
@@ -91,7 +91,7 @@ fn tell_alike(numbers: &[usize], j: usize, found: &mut [usize], at: usize) -> us
     at
 }
 
-// The same of each of so many flows.
+// Tells, for each of so many flows, the first flow before it that has its nodes.
 pub(crate) fn tell_repeats(numbers: &[usize], flows: usize, found: &mut [usize], at: usize) -> usize
     requires { ⌜ FlowsOf (now numbers) flows × (at + 48 ≤ length (now found)) ⌝ }
     ensures put { λ r. ⌜ Puts (eachBelow flows (alikeFaults (planAsked (now (numbers .entry))))) (now (found .entry)) (now (found .exit)) at r ⌝ }

@@ -48,7 +48,7 @@ fn find(numbers: &[usize], found: &mut [usize]) -> usize
 {
     let count = (numbers.len() - 3) / 4;
     let flows = seen(count);
-    let after_count = faults::tell_if(limits::miscounts(count), 2, count, 0, found, 0);
+    let after_count = faults::tell_if(limits::count_out_of_range(count), 2, count, 0, found, 0);
     let after_frame = header::tell_frame(numbers[0], numbers[1], numbers[2], found, after_count);
     let after_entries = flows::tell_entries(numbers, flows, found, after_frame);
     let after_repeats = flows::tell_repeats(numbers, flows, found, after_entries);

@@ -10,8 +10,8 @@ use Rattle.model.specs.WrittenPlan.{field}
 use Rattle.model.proofs.Tables.{table-append, table-getD}
 use Rattle.calls.specs.Lines.{Puts}
 use Rattle.calls.proofs.Stores.{puts-none, puts-then, puts-same}
-use Rattle.images.specs.Image.{fields}
-use Rattle.images.proofs.Fields.{length-fields}
+use Rattle.imagemodel.specs.Image.{fields}
+use Rattle.imagemodel.proofs.Fields.{length-fields}
 use Rattle.fields.specs.Fields.{AllFit}
 
 -- ---- a table with one element more

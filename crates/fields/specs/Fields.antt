@@ -2,7 +2,7 @@
 use Prim.Native.Nat.{ℕ, _+_, _*_, _≤_, _<_}
 use mathlib.Core.List.{List, _∷_, []}
 use lib.ListN.{length}
-use Rattle.images.specs.Image.{fieldAt}
+use Rattle.imagemodel.specs.Image.{fieldAt}
 
 -- each of these numbers fits its 16 bits
 abbrev pub AllFit : List ℕ → Type 0

@@ -9,7 +9,7 @@ ghost use Rattle.calls.specs.Lines.{Puts};
 ghost use Rattle.window.specs.Ranges.{inRange, replaced};
 ghost use Rattle.state.specs.Parts.{part};
 ghost use Rattle.tables.specs.Owners.{everywhere};
-ghost use Rattle.images.specs.Image.{fields, fieldAt};
+ghost use Rattle.imagemodel.specs.Image.{fields, fieldAt};
 ghost use Rattle.fields.specs.Fields.{AllFit, ByteFields};
 use state::State;
 

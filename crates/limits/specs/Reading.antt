@@ -1,4 +1,4 @@
--- A plan as asked for, read as the paper's. Assumes nothing.
+-- A plan as asked for, read as the model's. Assumes nothing.
 use Prim.Native.Nat.{ℕ, _≤_, _<_}
 use mathlib.Core.List.{List}
 use lib.ListN.{getD}

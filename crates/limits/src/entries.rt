@@ -35,7 +35,7 @@ fn fits(e: Wanted, slots: usize) -> bool
 }
 
 // Test 4: some entry breaks its limits.
-pub(crate) fn misfits(entries: [Wanted; 16], count: usize, slots: usize) -> bool
+pub(crate) fn entries_out_of_range(entries: [Wanted; 16], count: usize, slots: usize) -> bool
     requires { ⌜ count ≤ 16 ⌝ }
     ensures { λ r. ⌜ r ≡ any count (λ i. not (entryFits slots (wantedFor (getD entries i noWanted)))) ⌝ }
 {

@@ -16,6 +16,9 @@ ghost use Rattle.model.specs.Refusals.{firstOf};
 ghost use Rattle.model.specs.WrittenPlan.{numberTests};
 ghost use Rattle.limits.specs.Reading.{draftFor};
 
+// The most flows of a plan.
+pub const MOST_FLOWS: usize = 16;
+
 // A flow's entry as asked for: numbers that may be too wide for their fields.
 pub struct Wanted {
     pub share: usize,
@@ -34,24 +37,24 @@ pub struct Draft {
 }
 
 // Whether n is out of range.
-pub fn miscounts(count: usize) -> bool
+pub fn count_out_of_range(count: usize) -> bool
     ensures { λ r. ⌜ r ≡ not (within 1 16 count) ⌝ }
 {
-    !ranges::inside(1, 16, count)
+    !ranges::inside(1, MOST_FLOWS, count)
 }
 
 // Tests 2 to 7: the number of the first that applies, and 0 where none does.
-pub fn broken(d: Draft) -> u8
+pub fn first_refusal(d: Draft) -> u8
     ensures { λ r. ⌜ r ≡ firstOf (numberTests (draftFor d)) ⌝ }
 {
-    if miscounts(d.count) {
+    if count_out_of_range(d.count) {
         return 2;
     }
-    if ranges::misframes(d.slots, d.frames, d.buffer) {
+    if ranges::frames_out_of_range(d.slots, d.frames, d.buffer) {
         return 3;
     }
     let all = d.entries;
-    if entries::misfits(all, d.count, d.slots) {
+    if entries::entries_out_of_range(all, d.count, d.slots) {
         return 4;
     }
     if entries::any_repeats(all, d.count) {

@@ -8,10 +8,10 @@ use Rattle.plan.specs.Reading.{readOf, Valid}
 use Rattle.model.specs.Tables.{tally}
 use Rattle.model.specs.Plan as model
 use Rattle.model.specs.Calls.{History}
-use Rattle.model.specs.History.{renews}
+use Rattle.model.specs.History.{isGrantedReset}
 use Rattle.model.specs.Claim.{Each, ReadyAt}
-use Rattle.model.specs.Card.{paper}
-use Rattle.arrival.specs.TakenCredits.{CreditTakenAt}
+use Rattle.model.specs.Scheduler.{reference}
+use Rattle.arrival.specs.AcceptedCredits.{CreditAcceptedAt}
 use Rattle.arrival.specs.AnsweredLends.{LendAnsweredAt, ResetGrantedAt}
 use Rattle.arrival.specs.Delay.{FitsNewest, PromptOn, RoomFrom, AsksAt, TimelyInOrder, SoonOn, SoonOnArrivalOn}
 use Rattle.arrival.specs.SeveralLinks.{Ran, Board}
@@ -19,7 +19,7 @@ use Rattle.arrival.specs.EnoughCells.{GivesBack, GivesBackAtOnce}
 use Rattle.arrival.specs.SharesOfCells.{KeepsShares, EachGrantedNow}
 use Rattle.arrival.specs.SharesAhead.{KeepsSharesAhead, EachGrantedInTime}
 use Rattle.arrival.specs.BooksInOrder.{AfterThoseAt}
-use Rattle.arrival.proofs.TakenCredits.{credits-taken-accepted}
+use Rattle.arrival.proofs.AcceptedCredits.{credits-accepted-on-plan}
 use Rattle.arrival.proofs.AnsweredLends.{lends-answered-accepted}
 use Rattle.arrival.proofs.GrantedResets.{resets-granted-accepted}
 use Rattle.arrival.proofs.Prompt.{prompt-accepted}
@@ -35,9 +35,9 @@ use Rattle.link.specs.Handed.{Handed}
 use Rattle.link.proofs.Demand3.{passes-of, code-has}
 
 -- it takes those of cells that their flow holds, and no others
-pub code-credits-taken : (bytes : List ℕ) (o : Outcome) → o ≡ readOf bytes → (o .verdict ≡ Accepted → Valid (o .plan)) → o .verdict ≡ Accepted
-    → {h : History} {l : Link} → Handed (o .plan) h l → Each (CreditTakenAt (model.planOf bytes)) h
-code-credits-taken = code-has (λ P. Each (CreditTakenAt P)) credits-taken-accepted
+pub code-credits-accepted : (bytes : List ℕ) (o : Outcome) → o ≡ readOf bytes → (o .verdict ≡ Accepted → Valid (o .plan)) → o .verdict ≡ Accepted
+    → {h : History} {l : Link} → Handed (o .plan) h l → Each (CreditAcceptedAt (model.planOf bytes)) h
+code-credits-accepted = code-has (λ P. Each (CreditAcceptedAt P)) credits-accepted-on-plan
 
 -- it answers a lend with a flow where one can take the slot, and grants a reset where nothing is booked or held, and nowhere else
 pub code-lends-answered : (bytes : List ℕ) (o : Outcome) → o ≡ readOf bytes → (o .verdict ≡ Accepted → Valid (o .plan)) → o .verdict ≡ Accepted
@@ -97,12 +97,12 @@ code-shares-ahead ahead late =
 
 -- and over several links: the calls of the code on one board are such a board, so that `over-links` speaks of any way over boards of the code
 pub code-board : (bytes : List ℕ) (o : Outcome) → o ≡ readOf bytes → (o .verdict ≡ Accepted → Valid (o .plan)) → o .verdict ≡ Accepted
-    → {h : History} {l : Link} → Handed (o .plan) h l → tally renews h ≡ 0 → (i : ℕ) → i < model.flowCount (model.planOf bytes) → Board paper
+    → {h : History} {l : Link} → Handed (o .plan) h l → tally isGrantedReset h ≡ 0 → (i : ℕ) → i < model.flowCount (model.planOf bytes) → Board reference
 code-board bytes o is valid accepts {h} g unreset i known = record {
   bytes = bytes;
   passes = passes-of bytes o is accepts;
   events = h;
-  ran = code-has (Ran paper) (λ P ok calls. record { calls = calls; is = refl }) bytes o is valid accepts g;
+  ran = code-has (Ran reference) (λ P ok calls. record { calls = calls; is = refl }) bytes o is valid accepts g;
   no-reset = unreset;
   stream = i;
   known = known;

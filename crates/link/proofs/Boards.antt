@@ -9,15 +9,15 @@ use Rattle.plan.specs.Reading.{planFor, readOf, Valid}
 use Rattle.plan.proofs.Laws.{is-plan}
 use Rattle.model.specs.Plan as model
 use Rattle.model.specs.Calls.{Call, History}
-use Rattle.model.specs.Link as paper
+use Rattle.model.specs.Link as reference
 use Rattle.model.specs.History.{expectedNumber}
-use Rattle.model.specs.Card.{Played, run}
-use Rattle.model.specs.Card as card
+use Rattle.model.specs.Scheduler.{Played, run}
+use Rattle.model.specs.Scheduler as scheduler
 use Rattle.model.specs.Holding.{HoldingIs}
 use Rattle.model.specs.Buffer.{FitsBuffer}
 use Rattle.model.specs.QuantumNumbers.{expectedOn}
 use Rattle.model.specs.TwoHops.{InStep, LeavesAfter}
-use Rattle.model.proofs.Buffer.{paper-never-overfull}
+use Rattle.model.proofs.Buffer.{reference-never-overfull}
 use Rattle.model.proofs.Holding.{table-is-holding}
 use Rattle.model.proofs.QuantumNumbers.{number-is-count}
 use Rattle.model.proofs.TwoHops.{leaves-after-it-came}
@@ -34,17 +34,17 @@ module _ (bytes : List ℕ) (o : Outcome) (is : o ≡ readOf bytes) (valid : o .
   passes : model.refusal bytes ≡ 0
   passes = passes-of bytes o is accepts
 
-  -- what holds of the link and the events of every run of the paper's card
-  has : (Q : paper.Link → History → Type 0) → ((calls : List Call) → Q (run card.paper P calls .state) (run card.paper P calls .history))
+  -- what holds of the link and the events of every run of the reference scheduler
+  has : (Q : reference.Link → History → Type 0) → ((calls : List Call) → Q (run scheduler.reference P calls .state) (run scheduler.reference P calls .history))
       → {h : History} {l : Link} → Handed (o .plan) h l → Q (linkRead l) h
   has Q runs {h} {l} g =
       let plan-is = ap (λ (x : Outcome). planFor (x .plan)) is ∙ is-plan bytes passes in
       let made = subst (λ R. RunOf R h l) plan-is (run-of (valid accepts .accepted) g) in
-      subst (λ (r : Played card.paper). Q (r .state) (r .history)) (made .played) (runs (made .calls))
+      subst (λ (r : Played scheduler.reference). Q (r .state) (r .history)) (made .played) (runs (made .calls))
 
   -- all streams together hold at most N, in every slot
   pub code-never-overfull : {h : History} {l : Link} → Handed (o .plan) h l → (s : ℕ) → FitsBuffer P h s
-  code-never-overfull = has (λ l h. (s : ℕ) → FitsBuffer P h s) (paper-never-overfull bytes passes)
+  code-never-overfull = has (λ l h. (s : ℕ) → FitsBuffer P h s) (reference-never-overfull bytes passes)
 
   -- the holdings that are read of the link are those that are counted, in every slot of the window
   pub code-table-is-holding : {h : History} {l : Link} → Handed (o .plan) h l → (i : ℕ) → i < model.flowCount P → HoldingIs P (linkRead l) h i
@@ -65,4 +65,4 @@ code-leaves-after-it-came first o₁ is₁ valid₁ accepts₁ second o₂ is₂
     let Q = model.planOf second in
     let leaves = leaves-after-it-came first second (passes-of first o₁ is₁ accepts₁) (passes-of second o₂ is₂ accepts₂) step in
     has first o₁ is₁ valid₁ accepts₁ (λ l h. LeavesAfter P Q h h₂)
-    (λ calls₁. has second o₂ is₂ valid₂ accepts₂ (λ l h. LeavesAfter P Q (run card.paper P calls₁ .history) h) (leaves calls₁) g₂) g₁
+    (λ calls₁. has second o₂ is₂ valid₂ accepts₂ (λ l h. LeavesAfter P Q (run scheduler.reference P calls₁ .history) h) (leaves calls₁) g₂) g₁

@@ -83,9 +83,9 @@ module _ {l : Parts} {plan : Plan} {w : code.Window} (a : AtHand l plan w) (i p 
       go zero none = absurd (none refl)
       go (suc r) none = record { link-is = refl; answer-is = refl; sound = a .sound }
 
-  taken : n ≡ 0 → credit (linkOf l) i p ≡ record { link = lowered (linkOf l) i p; answer = accepted tt }
+  accepts : n ≡ 0 → credit (linkOf l) i p ≡ record { link = lowered (linkOf l) i p; answer = accepted tt }
   unfolding credit creditAfter
-  taken z = rw (← tests, z)
+  accepts z = rw (← tests, z)
 
   module _ (z : n ≡ 0) (c : Creditable (plan .count) w (l .held) i p) where
     flow-below : i < l .plan .count
@@ -109,6 +109,6 @@ module _ {l : Parts} {plan : Plan} {w : code.Window} (a : AtHand l plan w) (i p 
         sound-from l (a .sound) (windowOf w) (a .window-is) i p flow-below (λ x. x - 1) lower lower-is (flowAt l i .flow)
         (a .sound .flows i flow-below .frame) (a .sound .flows i flow-below .number)
 
-    pub credit-taken : {h : List ℕ} → h ≡ shifted (windowOf w) 255 i p (l .held)
+    pub credit-accepted : {h : List ℕ} → h ≡ shifted (windowOf w) 255 i p (l .held)
         → SteppedParts numberOf (credit (linkOf l) i p) (withHoldings l h) 0
-    credit-taken e = rw (taken z, e, same-flow l i lower) (record { link-is = lower-link; answer-is = refl; sound = sound-lower })
+    credit-accepted e = rw (accepts z, e, same-flow l i lower) (record { link-is = lower-link; answer-is = refl; sound = sound-lower })

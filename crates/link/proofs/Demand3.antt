@@ -12,9 +12,9 @@ use Rattle.plan.proofs.Laws.{is-plan}
 use Rattle.calls.specs.declared.Answer.{Answer}
 use Rattle.calls.specs.Reading.{answerToRequest, answerToCredit, answerToTick, answerToLend, answerToReset}
 use Rattle.model.specs.Plan as model
-use Rattle.model.specs.Calls.{Call, Grant, Receipt, Turn, Loan, Renewal, Event, History, accepted, refused, requested, credited, ticked, lent}
+use Rattle.model.specs.Calls.{Call, Grant, CreditAnswer, TickAnswer, LendAnswer, ResetAnswer, Event, History, accepted, refused, requested, credited, ticked, lent}
 use Rattle.model.specs.Claim.{Demand3}
-use Rattle.model.specs.Card.{Played, paper, step, play, started, run}
+use Rattle.model.specs.Scheduler.{Played, reference, step, play, started, run}
 use Rattle.model.specs.Fairness.{FairOn}
 use Rattle.model.specs.QuantumNumbers.{InOrder}
 use Rattle.model.specs.CountedBursts.{several, countsAs, eventsIn}
@@ -27,7 +27,7 @@ use Rattle.link.specs.declared.Link.{Link}
 use Rattle.link.specs.Steps.{readOf as linkRead}
 use Rattle.link.specs.Handed.{Handed}
 
--- ---- an answer of the code is made from one answer of the paper
+-- ---- an answer of the code is made from one answer of the model
 
 one-grant : (a b : Grant) → answerToRequest a ≡ answerToRequest b → a ≡ b
 one-grant (accepted v) (accepted w) e = cc
@@ -35,62 +35,62 @@ one-grant (accepted v) (refused s) e = cc
 one-grant (refused r) (accepted w) e = cc
 one-grant (refused r) (refused s) e = cc
 
-one-receipt : (a b : Receipt) → answerToCredit a ≡ answerToCredit b → a ≡ b
-one-receipt (accepted u) (accepted v) e = refl
-one-receipt (accepted u) (refused s) e = cc
-one-receipt (refused r) (accepted v) e = cc
-one-receipt (refused r) (refused s) e = cc
+one-credit-answer : (a b : CreditAnswer) → answerToCredit a ≡ answerToCredit b → a ≡ b
+one-credit-answer (accepted u) (accepted v) e = refl
+one-credit-answer (accepted u) (refused s) e = cc
+one-credit-answer (refused r) (accepted v) e = cc
+one-credit-answer (refused r) (refused s) e = cc
 
-one-turn : (a b : Turn) → answerToTick a ≡ answerToTick b → a ≡ b
-one-turn (some i) (some j) e = cc
-one-turn (some i) none e = cc
-one-turn none (some j) e = cc
-one-turn none none e = refl
+one-tick-answer : (a b : TickAnswer) → answerToTick a ≡ answerToTick b → a ≡ b
+one-tick-answer (some i) (some j) e = cc
+one-tick-answer (some i) none e = cc
+one-tick-answer none (some j) e = cc
+one-tick-answer none none e = refl
 
-pub one-loan : (a b : Loan) → answerToLend a ≡ answerToLend b → a ≡ b
-one-loan (accepted i) (accepted j) e = cc
-one-loan (accepted i) (refused s) e = cc
-one-loan (refused r) (accepted j) e = cc
-one-loan (refused r) (refused s) e = cc
+pub one-lend-answer : (a b : LendAnswer) → answerToLend a ≡ answerToLend b → a ≡ b
+one-lend-answer (accepted i) (accepted j) e = cc
+one-lend-answer (accepted i) (refused s) e = cc
+one-lend-answer (refused r) (accepted j) e = cc
+one-lend-answer (refused r) (refused s) e = cc
 
-one-renewal : (a b : Renewal) → answerToReset a ≡ answerToReset b → a ≡ b
-one-renewal (accepted u) (accepted v) e = refl
-one-renewal (accepted u) (refused s) e = cc
-one-renewal (refused r) (accepted v) e = cc
-one-renewal (refused r) (refused s) e = cc
+one-reset-answer : (a b : ResetAnswer) → answerToReset a ≡ answerToReset b → a ≡ b
+one-reset-answer (accepted u) (accepted v) e = refl
+one-reset-answer (accepted u) (refused s) e = cc
+one-reset-answer (refused r) (accepted v) e = cc
+one-reset-answer (refused r) (refused s) e = cc
 
--- ---- the calls of the code are a run of the paper's card
+-- ---- the calls of the code are a run of the reference scheduler
 
 -- one call more
-play-more : (r : Played paper) (calls : List Call) (c : Call) → play paper r (calls ++ c ∷ []) ≡ step paper (play paper r calls) c
+play-more : (r : Played reference) (calls : List Call) (c : Call) → play reference r (calls ++ c ∷ []) ≡ step reference (play reference r calls) c
 unfolding play
 play-more r [] c = refl
-play-more r (x ∷ calls) c = play-more (step paper r x) calls c
+play-more r (x ∷ calls) c = play-more (step reference r x) calls c
 
--- the calls that were made, played on the paper's card, come to this link with these events
+-- the calls that were made, played on the reference scheduler, come to this link with these events
 pub record RunOf (P : model.Plan) (h : History) (l : Link) : Type 0 where
   pub calls : List Call
-  pub played : run paper P calls ≡ record { state = linkRead l; history = h }
+  pub played : run reference P calls ≡ record { state = linkRead l; history = h }
 
 module _ {P : model.Plan} {h : History} {l : Link} (made : RunOf P h l) where
-  -- one call more, with the event and the link that the card comes to
-  one-more : (c : Call) (next : History) (k : Link) → step paper (record { state = linkRead l; history = h }) c ≡ record { state = linkRead k; history = next }
+  -- one call more, with the event and the link that the scheduler comes to
+  one-more : (c : Call) (next : History) (k : Link) → step reference (record { state = linkRead l; history = h }) c ≡ record { state = linkRead k; history = next }
       → RunOf P next k
   one-more c next k e = record {
     calls = made .calls ++ c ∷ [];
-    played = play-more (started paper P) (made .calls) c ∙ ap (λ r. step paper r c) (made .played) ∙ e;
+    played = play-more (started reference P) (made .calls) c ∙ ap (λ r. step reference r c) (made .played) ∙ e;
   }
 
   -- several more
   several-more : (cs : List Call) (next : History) (k : Link)
-      → play paper (record { state = linkRead l; history = h }) cs ≡ record { state = linkRead k; history = next } → RunOf P next k
+      → play reference (record { state = linkRead l; history = h }) cs ≡ record { state = linkRead k; history = next } → RunOf P next k
   several-more cs next k e = record {
     calls = made .calls ++ cs;
-    played = play-both (started paper P) (made .calls) cs ∙ ap (λ r. play paper r cs) (made .played) ∙ e;
+    played = play-both (started reference P) (made .calls) cs ∙ ap (λ r. play reference r cs) (made .played) ∙ e;
   }
 
   known-of : model.Accepted P → Known P (record { state = linkRead l; history = h })
-  known-of ok = subst (Known P) (made .played) (after-calls (started paper P) (made .calls) (after-fresh ok))
+  known-of ok = subst (Known P) (made .played) (after-calls (started reference P) (made .calls) (after-fresh ok))
 
 pub run-of : {p : Plan} → model.Accepted (planFor p) → {h : History} {l : Link} → Handed p h l → RunOf (planFor p) h l
 unfolding play
@@ -99,16 +99,16 @@ run-of ok (Handed.by-request {h} {l} g w r a s e) =
     let same = one-grant _ a (sym (s .answer-is) ∙ e) in
     one-more (run-of ok g) (Call.request w) _ (r .link) (λ k. record { state = sym (s .link-is) k; history = requested w (same k) ∷ h })
 run-of ok (Handed.by-credit {h} {l} g i q r a s e) =
-    let same = one-receipt _ a (sym (s .answer-is) ∙ e) in
+    let same = one-credit-answer _ a (sym (s .answer-is) ∙ e) in
     one-more (run-of ok g) (Call.credit i q) _ (r .link) (λ k. record { state = sym (s .link-is) k; history = credited i q (same k) ∷ h })
 run-of ok (Handed.by-tick {h} {l} g r a s e) =
-    let same = one-turn _ a (sym (s .answer-is) ∙ e) in
+    let same = one-tick-answer _ a (sym (s .answer-is) ∙ e) in
     one-more (run-of ok g) Call.tick _ (r .link) (λ k. record { state = sym (s .link-is) k; history = ticked (same k) ∷ h })
 run-of ok (Handed.by-lend {h} {l} g mask r a s e) =
-    let same = one-loan _ a (sym (s .answer-is) ∙ e) in
+    let same = one-lend-answer _ a (sym (s .answer-is) ∙ e) in
     one-more (run-of ok g) (Call.lend mask) _ (r .link) (λ k. record { state = sym (s .link-is) k; history = lent mask (same k) ∷ h })
 run-of ok (Handed.by-reset {h} {l} g r a s e) =
-    let same = one-renewal _ a (sym (s .answer-is) ∙ e) in
+    let same = one-reset-answer _ a (sym (s .answer-is) ∙ e) in
     one-more (run-of ok g) Call.reset _ (r .link) (λ k. record { state = sym (s .link-is) k; history = Event.reset (same k) ∷ h })
 run-of ok (Handed.by-burst {h} {l} g xs ys r b) =
     let made = run-of ok g in
@@ -116,7 +116,7 @@ run-of ok (Handed.by-burst {h} {l} g xs ys r b) =
     (sym (burst-played (record { state = linkRead l; history = h }) (known-of made ok) xs)
     ∙ λ k. record { state = sym (b .link-is) k; history = eventsIn (sym (b .records-are) k) ++ h })
 
--- ---- what holds of every run of the paper's card holds of the code
+-- ---- what holds of every run of the reference scheduler holds of the code
 
 verdict-of : (bytes : List ℕ) → readOf bytes .verdict ≡ verdictFor (model.refusal bytes)
 unfolding readOf
@@ -130,11 +130,11 @@ accepted-passes (suc r) e = cc
 pub passes-of : (bytes : List ℕ) (o : Outcome) → o ≡ readOf bytes → o .verdict ≡ Accepted → model.refusal bytes ≡ 0
 passes-of bytes o is accepts = accepted-passes (model.refusal bytes) (sym (ap (λ (x : Outcome). x .verdict) is ∙ verdict-of bytes) ∙ accepts)
 
-module _ (Q : model.Plan → History → Type 0) (runs : (P : model.Plan) → model.Accepted P → (calls : List Call) → Q P (run paper P calls .history)) where
+module _ (Q : model.Plan → History → Type 0) (runs : (P : model.Plan) → model.Accepted P → (calls : List Call) → Q P (run reference P calls .history)) where
   handed-has : (p : Plan) → Valid p → {h : History} {l : Link} → Handed p h l → Q (planFor p) h
   handed-has p valid g =
       let made = run-of (valid .accepted) g in
-      subst (λ (r : Played paper). Q (planFor p) (r .history)) (made .played) (runs (planFor p) (valid .accepted) (made .calls))
+      subst (λ (r : Played reference). Q (planFor p) (r .history)) (made .played) (runs (planFor p) (valid .accepted) (made .calls))
 
   pub code-has : (bytes : List ℕ) (o : Outcome) → o ≡ readOf bytes → (o .verdict ≡ Accepted → Valid (o .plan)) → o .verdict ≡ Accepted
       → {h : History} {l : Link} → Handed (o .plan) h l → Q (model.planOf bytes) h

@@ -57,12 +57,12 @@ flows-set s i f e h =
     go k l (no d) = flows-at _ k l ∙ flow-other s i f k d ∙ sym (flows-at s k l) ∙ sym (getD-set-other (flowsOf s) i k f noFlow d)
 
 -- what the code reads, and what it stores
-pub flow-read : (s : List ℕ) (i : ℕ) (f : Flow) → f .frame ≡ getD s (4416 + 4 * i) 0 → f .left ≡ getD s (4416 + 4 * i + 1) 0
+pub flow-read : (s : List ℕ) (i : ℕ) (f : Flow) → f .injection ≡ getD s (4416 + 4 * i) 0 → f .remainder ≡ getD s (4416 + 4 * i + 1) 0
     → f .number ≡ getD s (4416 + 4 * i + 2) 0 + 256 * getD s (4416 + 4 * i + 3) 0 → f ≡ flowRead s i
 unfolding flowRead part
 flow-read s i f a b c =
     let first : 4416 + 4 * i + 0 ≡ 4416 + 4 * i = omega arith in
-    rw first (λ k. record { frame = a k; left = b k; number = c k })
+    rw first (λ k. record { injection = a k; remainder = b k; number = c k })
 
 pub flow-stored : (s : List ℕ) (i : ℕ) (f : Flow) → stores s (4416 + 4 * i) (flowBytes f) ≡ withFlowAt s i f
 unfolding withFlowAt

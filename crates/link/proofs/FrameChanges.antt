@@ -11,7 +11,7 @@ use lib.ListN.{getD}
 use lib.Dec.{eqb}
 use borrow.Author.Tests.{eq-eqb, ne-eqb}
 use Rattle.model.specs.Tables.{table}
-use Rattle.model.specs.Plan as paper
+use Rattle.model.specs.Plan as reference
 use Rattle.model.specs.Link as model
 use Rattle.model.specs.Tick as tick
 use Rattle.window.specs.declared.Window.{Window}
@@ -40,11 +40,11 @@ use Rattle.link.proofs.Updated.{sound-with}
 
 -- the window of a call on it
 abbrev pub windowAt : Parts → Window
-windowAt l = record { slots = l .plan .slots; frames = l .plan .frames; current = l .cp; head = l .cp / l .plan .slots }
+windowAt l = record { slots = l .plan .slots; frames = l .plan .frames; current = l .current; head = l .current / l .plan .slots }
 
 -- the position that comes next, and the frame that comes after the head
 abbrev pub nextAt : Parts → ℕ
-nextAt l = (l .cp + 1) % sizeOf l
+nextAt l = (l .current + 1) % sizeOf l
 
 abbrev pub onAt : Parts → ℕ
 onAt l = (windowAt l .head + 1) % l .plan .frames
@@ -128,13 +128,13 @@ module _ (l : Parts) (s : Sound l) where
 
   read-after : (i : ℕ) → i < l .plan .count → flowOf (sizeOf l) (flowAfter l i) ≡ tick.carriedOn (linkOf l) i (tick.leftHead (linkOf l) i)
   unfolding linkOf
-  read-after i h = rw injection (go (eqb (flowAt l i .flow .frame) (windowAt l .head)))
+  read-after i h = rw injection (go (eqb (flowAt l i .flow .injection) (windowAt l .head)))
     where
-      injection : model.flow (linkOf l) i .injection ≡ flowAt l i .flow .frame
+      injection : model.flow (linkOf l) i .injection ≡ flowAt l i .flow .injection
       injection = ap (λ (x : model.Flow). x .injection) (read-flow l i h)
 
       share : model.share (linkOf l) i ≡ entryAt l i .share
-      share = ap (λ (e : paper.Entry). e .share) (read-entry l i h)
+      share = ap (λ (e : reference.Entry). e .share) (read-entry l i h)
 
       left : Bool → Flow
       left b = cond b (movedTo (flowAt l i .flow) (onAt l) (entryAt l i .share)) (flowAt l i .flow)
@@ -148,12 +148,12 @@ module _ (l : Parts) (s : Sound l) where
 
   sound-after : (i : ℕ) → i < l .plan .count → SoundFlow (l .plan) (flowAfter l i)
   sound-after i h = record {
-    frame = go (eqb (flowAt l i .flow .frame) (windowAt l .head));
+    frame = go (eqb (flowAt l i .flow .injection) (windowAt l .head));
     spare = λ q k. replaced-off _ _ (flowAt l i .held) q 0 (past-head q k) ∙ s .flows i h .spare q k;
-    number = same-number (eqb (flowAt l i .flow .frame) (windowAt l .head));
+    number = same-number (eqb (flowAt l i .flow .injection) (windowAt l .head));
   }
     where
-      go : (b : Bool) → cond b (movedTo (flowAt l i .flow) (onAt l) (entryAt l i .share)) (flowAt l i .flow) .frame < l .plan .frames
+      go : (b : Bool) → cond b (movedTo (flowAt l i .flow) (onAt l) (entryAt l i .share)) (flowAt l i .flow) .injection < l .plan .frames
       go true = mod-lt _ (omega (arith, s .plan .accepted .two-frames))
       go false = s .flows i h .frame
 
@@ -163,7 +163,7 @@ module _ (l : Parts) (s : Sound l) where
 
   -- ---- the link
 
-  pub read-recycled : (u : List ℕ) → linkOf (recycled l u) ≡ model.withTaken (model.withCurrent (tick.recycled (linkOf l)) (nextAt l)) false
+  pub read-recycled : (u : List ℕ) → linkOf (recycled l u) ≡ model.withMark (model.withCurrent (tick.recycled (linkOf l)) (nextAt l)) false
   unfolding linkOf tick.recycled
   read-recycled u = cc (owners, flows)
     where
@@ -180,7 +180,7 @@ module _ (l : Parts) (s : Sound l) where
       after : ℕ → model.Flow
       after i = tick.carriedOn (linkOf l) i (tick.leftHead (linkOf l) i)
 
-      flows : table (l .plan .count) (λ i. flowOf (sizeOf l) (flowAt (recycled l u) i)) ≡ table (paper.flowCount (linkOf l .plan)) after
+      flows : table (l .plan .count) (λ i. flowOf (sizeOf l) (flowAt (recycled l u) i)) ≡ table (reference.flowCount (linkOf l .plan)) after
       flows =
           table-same (l .plan .count) _ after (λ i h. ap (flowOf (sizeOf l)) (flow-after u i h) ∙ read-after i h)
           ∙ ap (λ (n : ℕ). table n after) (sym (read-count l))

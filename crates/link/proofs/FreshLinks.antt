@@ -7,7 +7,7 @@ use mathlib.Core.Option.{none}
 use native.Mathlib.Omega.{arith}
 use lib.ListN.{length, getD, replicate}
 use Rattle.model.specs.Tables.{table}
-use Rattle.model.specs.Plan as paper
+use Rattle.model.specs.Plan as reference
 use Rattle.model.specs.Link as model
 use Rattle.model.specs.Fresh.{fresh}
 use Rattle.plan.specs.declared.Plan.{Plan}
@@ -31,13 +31,13 @@ use Rattle.link.proofs.StartedFlows.{no-flow-at, length-no-flows}
 abbrev pub freshLink : Plan → (unbooked : List ℕ) → Parts
 freshLink p u = record {
   plan = p;
-  cp = 0;
+  current = 0;
   owner = everywhere nobody;
   unbooked = u;
   flows = startedFlows 0 (p .entries) (p .count) noFlows;
   held = nothingHeld;
-  taken = false;
-  first = 0;
+  marked = false;
+  turn = 0;
 }
 
 module _ (p : Plan) (v : plan.Valid p) (u : List ℕ) where
@@ -63,9 +63,9 @@ module _ (p : Plan) (v : plan.Valid p) (u : List ℕ) where
       held = table-same T _ _ (λ q b. nothing-at q) ∙ sym (replicate-table T 0)
 
       start : ℕ → model.Flow
-      start i = record { injection = 0; remainder = paper.entry (plan.planFor p) i .share; held = replicate T 0; number = 0 }
+      start i = record { injection = 0; remainder = reference.entry (plan.planFor p) i .share; held = replicate T 0; number = 0 }
 
-      flows : table (p .count) (λ i. flowOf T (flowAt (freshLink p u) i)) ≡ table (paper.flowCount (plan.planFor p)) start
+      flows : table (p .count) (λ i. flowOf T (flowAt (freshLink p u) i)) ≡ table (reference.flowCount (plan.planFor p)) start
       flows =
           table-same (p .count) _ start (λ i h. ap (flowOf T) (flow-at i h) ∙ rw (plan-entry p i h, held))
           ∙ ap (λ (n : ℕ). table n start) (sym (plan-count p))
@@ -86,5 +86,5 @@ module _ (p : Plan) (v : plan.Valid p) (u : List ℕ) where
       number = omega arith;
     });
     spare-flows = λ i h b. rw (started-past 0 (p .entries) (p .count) noFlows i h, no-flow-at i b, row-of-nothing i b);
-    first = rw (plan-count p) at (v .accepted .some-flow);
+    turn = rw (plan-count p) at (v .accepted .some-flow);
   }

@@ -31,7 +31,7 @@ use Rattle.link.specs.Parts.{Parts, partsIn}
 use Rattle.link.specs.Layout.{sizeFor, flowAt}
 use Rattle.link.specs.Reading.{linkOf}
 use Rattle.link.specs.Sound.{Sound, SoundState}
-use Rattle.link.specs.Given.{StateIn, placed, RequestIn, SeekIn}
+use Rattle.link.specs.Given.{StateIn, flowOrZero, RequestIn, SeekIn}
 use Rattle.link.proofs.Plans.{plan-count, count-some, count-most}
 use Rattle.link.proofs.Readings.{read-flow, read-size, read-slots, read-frames, some-flow, flows-most}
 use Rattle.link.proofs.FlowBytes.{flows-at}
@@ -50,13 +50,13 @@ windowFor p current = record { slots = p .slots; frames = p .frames; current = c
 
 -- ---- a link comes to hand, and stays there
 
-pub at-hand : {l : Parts} {w : Window} → Sound l → windowOf w ≡ windowFor (l .plan) (l .cp) → Proper w → AtHand l (l .plan) w
+pub at-hand : {l : Parts} {w : Window} → Sound l → windowOf w ≡ windowFor (l .plan) (l .current) → Proper w → AtHand l (l .plan) w
 unfolding linkOf
 at-hand s is v = record { sound = s; plan-is = refl; window-is = is; proper = v }
 
 module _ {l : Parts} {plan : Plan} {w : Window} (a : AtHand l plan w) {l′ : Parts} (s : Sound l′) (same : l′ .plan ≡ l .plan) where
   -- after a tick
-  pub at-hand-ticked : {on : Window} → Ticked w on → l′ .cp ≡ on .current → AtHand l′ plan on
+  pub at-hand-ticked : {on : Window} → Ticked w on → l′ .current ≡ on .current → AtHand l′ plan on
   unfolding linkOf
   at-hand-ticked {on} t e =
       let slots = ap (λ (x : seen.Window). x .slots) (t .window-is) ∙ ap (λ (x : seen.Window). x .slots) (a .window-is) in
@@ -88,17 +88,17 @@ module _ {p : Plan} {w : Window} {s : List ℕ} (o : StateIn p w s) where
 -- ---- what a request is given
 
 -- the place of a flow is one of the plan's flows
-pub placed-below : (n x : ℕ) → 1 ≤ n → placed n x < n
-placed-below n x h = go (ltb x n) refl
+pub flow-or-zero-below : (n x : ℕ) → 1 ≤ n → flowOrZero n x < n
+flow-or-zero-below n x h = go (ltb x n) refl
   where
     go : (b : Bool) → ltb x n ≡ b → cond b x 0 < n
     go true e = ltb-true x n e
     go false e = omega arith
 
-pub placed-few : {plan : Plan} → Valid plan → {i : ℕ} (x : ℕ) → i ≡ placed (plan .count) x → i < 16
-placed-few {plan} v x e = omega (arith, e, placed-below (plan .count) x (count-some plan v), count-most plan v)
+pub flow-or-zero-few : {plan : Plan} → Valid plan → {i : ℕ} (x : ℕ) → i ≡ flowOrZero (plan .count) x → i < 16
+flow-or-zero-few {plan} v x e = omega (arith, e, flow-or-zero-below (plan .count) x (count-some plan v), count-most plan v)
 
-pub request-in : {p : Plan} {w : Window} {s : List ℕ} → StateIn p w s → {f : Fields} (x : ℕ) → fieldsOf f ≡ split x → {i : ℕ} → i ≡ placed (p .count) (f .flow)
+pub request-in : {p : Plan} {w : Window} {s : List ℕ} → StateIn p w s → {f : Fields} (x : ℕ) → fieldsOf f ≡ split x → {i : ℕ} → i ≡ flowOrZero (p .count) (f .flow)
     → RequestIn p (p .count) (getD (p .entries) i noEntry) w f x s
 request-in {p} o x fields place = record { state = o; count-is = refl; fields-are = fields; entry-is = ap (λ (k : ℕ). getD (p .entries) k noEntry) place }
 
@@ -134,10 +134,10 @@ module _ {p : Plan} {e : Entry} {w : Window} {i : ℕ} {f : Flow} {d : ℕ} {s :
   held-is : row s i ≡ row (heldOf s) i
   held-is = sym (row-held s i seeker-few)
 
-  frame-below : f .frame < w .frames
+  frame-below : f .injection < w .frames
   frame-below = rw (read-frames here (o .state .window-is), stored-is) (sound-here .flows i (o .flow) .frame)
 
-  pub search-from : SearchFrom w d (f .frame) s
+  pub search-from : SearchFrom w d (f .injection) s
   search-from = record { masks = masks-in; departure = o .departure; frame = frame-below }
 
   -- which positions are late enough
@@ -146,11 +146,11 @@ module _ {p : Plan} {e : Entry} {w : Window} {i : ℕ} {f : Flow} {d : ℕ} {s :
 
   module _ {late : ℕ} (x : FromRank w lateHere late) where
     -- what is sought of it
-    pub sought-on : searchFrom (windowOf w) (validAt (ownersOf s) (lateAfter (windowOf w) d (ranksFrom w late))) (e .share) (f .frame) (f .left) ≡ sought (linkOf here) i d
+    pub sought-on : searchFrom (windowOf w) (validAt (ownersOf s) (lateAfter (windowOf w) d (ranksFrom w late))) (e .share) (f .injection) (f .remainder) ≡ sought (linkOf here) i d
     sought-on =
-        search-by-rank (o .state .proper) (ownersOf s) x d (e .share) (f .frame) (f .left) frame-below
+        search-by-rank (o .state .proper) (ownersOf s) x d (e .share) (f .injection) (f .remainder) frame-below
         ∙ (λ k. searchFrom (windowOf w) (validAt (ownersOf s) (lateAfter (windowOf w) d (lateAt (windowOf w) (held-is k) (o .entry-is k .cells))))
-        (o .entry-is k .share) (stored-is k .frame) (stored-is k .left))
+        (o .entry-is k .share) (stored-is k .injection) (stored-is k .remainder))
         ∙ sym (sought-same here sound-here (windowOf w) (o .state .window-is) i (o .flow) d)
 
     -- whether the newest frame has a position that only the departure rules out
@@ -161,19 +161,19 @@ module _ {p : Plan} {e : Entry} {w : Window} {i : ℕ} {f : Flow} {d : ℕ} {s :
         ∙ would-same here sound-here (windowOf w) (o .state .window-is) i (o .flow)
 
   -- the share is spent up to the newest frame
-  pub spent-on : f .frame ≡ newest (windowOf w) → f .left ≡ 0 → nowhere 0 ≡ sought (linkOf here) i d
+  pub spent-on : f .injection ≡ newest (windowOf w) → f .remainder ≡ 0 → nowhere 0 ≡ sought (linkOf here) i d
   spent-on e z =
       spent-at-newest here sound-here (windowOf w) (o .state .window-is) i (o .flow) d
-      (sym (ap (λ (x : Flow). x .frame) stored-is) ∙ e) (sym (ap (λ (x : Flow). x .left) stored-is) ∙ z)
+      (sym (ap (λ (x : Flow). x .injection) stored-is) ∙ e) (sym (ap (λ (x : Flow). x .remainder) stored-is) ∙ z)
 
   -- and only then nothing is left
-  pub unspent : (f .frame ≡ newest (windowOf w) → f .left ≡ 0 → ⊥) → nowhere 0 ≡ sought (linkOf here) i d → ⊥
+  pub unspent : (f .injection ≡ newest (windowOf w) → f .remainder ≡ 0 → ⊥) → nowhere 0 ≡ sought (linkOf here) i d → ⊥
   unfolding linkOf
   unspent not-spent is =
       let hi = o .flow in
       let read = read-flow here i hi in
-      let j = ap (λ (y : model.Flow). y .injection) read ∙ sym (ap (λ (y : Flow). y .frame) stored-is) in
-      let c = ap (λ (y : model.Flow). y .remainder) read ∙ sym (ap (λ (y : Flow). y .left) stored-is) in
+      let j = ap (λ (y : model.Flow). y .injection) read ∙ sym (ap (λ (y : Flow). y .injection) stored-is) in
+      let c = ap (λ (y : model.Flow). y .remainder) read ∙ sym (ap (λ (y : Flow). y .remainder) stored-is) in
       let fits = sound-here .plan .accepted .entries-fit i (rw (plan-count p) hi) in
       let below : model.flow (linkOf here) i .injection < linkOf here .plan .frames = rw j (rw (ap (λ (y : seen.Window). y .frames) (o .state .window-is)) at frame-below) in
       let (last, spent) = sought-spent (linkOf here) i d (omega (arith, fits .some-share)) below is in

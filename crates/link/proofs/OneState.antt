@@ -67,8 +67,8 @@ module _ (s t : List ℕ) (f : Bytes s) (g : Bytes t) where
 
 -- a flow tells its four bytes
 flow-byte : (xs ys : List ℕ) → ((k : ℕ) → getD xs k 0 < 256) → ((k : ℕ) → getD ys k 0 < 256) → flowFrom xs ≡ flowFrom ys → (k : ℕ) → k < 4 → getD xs k 0 ≡ getD ys k 0
-flow-byte xs ys f g e zero l = ap (λ (x : Flow). x .frame) e
-flow-byte xs ys f g e (suc zero) l = ap (λ (x : Flow). x .left) e
+flow-byte xs ys f g e zero l = ap (λ (x : Flow). x .injection) e
+flow-byte xs ys f g e (suc zero) l = ap (λ (x : Flow). x .remainder) e
 flow-byte xs ys f g e (suc (suc zero)) l = omega (arith, ap (λ (x : Flow). x .number) e, f 2, g 2)
 flow-byte xs ys f g e (suc (suc (suc zero))) l = omega (arith, ap (λ (x : Flow). x .number) e, f 2, g 2)
 flow-byte xs ys f g e (suc (suc (suc (suc k)))) l = absurd (omega arith)
@@ -127,10 +127,10 @@ module _ (p : Plan) (s t : List ℕ) (f : Bytes s) (g : Bytes t) (mark-s : getD 
       go (no a) (yes h) _ _ _ _ = at (omega arith) (owner-tells (k - 4096) (omega arith))
       go (no a) (no c) (yes h) _ _ _ = at (omega arith) (mask-tells ((k - 4352) / 8) ((k - 4352) % 8) (omega arith) (omega arith))
       go (no a) (no c) (no d) (yes h) _ _ = at (omega arith) (flow-tells ((k - 4416) / 4) ((k - 4416) % 4) (omega arith) (omega arith))
-      go (no a) (no c) (no d) (no e) (yes h) _ = let low = last (omega arith) in at {a = 4496} (omega arith) (ap (λ (l : Parts). l .cp) same)
+      go (no a) (no c) (no d) (no e) (yes h) _ = let low = last (omega arith) in at {a = 4496} (omega arith) (ap (λ (l : Parts). l .current) same)
       go (no a) (no c) (no d) (no e) (no x) (yes h) =
-          at {a = 4497} (omega arith) (mark-tells (getD s 4497 0) (getD t 4497 0) mark-s mark-t (ap (λ (l : Parts). l .taken) same))
-      go (no a) (no c) (no d) (no e) (no x) (no y) = at {a = 4498} (omega arith) (ap (λ (l : Parts). l .first) same)
+          at {a = 4497} (omega arith) (mark-tells (getD s 4497 0) (getD t 4497 0) mark-s mark-t (ap (λ (l : Parts). l .marked) same))
+      go (no a) (no c) (no d) (no e) (no x) (no y) = at {a = 4498} (omega arith) (ap (λ (l : Parts). l .turn) same)
 
   -- they are one but for the bounds
   pub one-state : Whole s → Whole t → Beside 4480 4496 s t

@@ -4,16 +4,16 @@ use mathlib.Core.Path.{_≡_, sym, ap, _∙_}
 use native.Mathlib.Decide.{decLt}
 use native.Mathlib.Omega.{arith}
 use lib.ListN.{getD}
-use Rattle.model.specs.Plan as paper
+use Rattle.model.specs.Plan as reference
 use Rattle.plan.specs.declared.Plan.{Plan}
 use Rattle.plan.specs.Reading.{entryFor, noEntry, planFor, storedEntry, storedEntries, stored, Valid}
 use Rattle.window.proofs.Tabulated.{getD-table, length-table, table-past, table-of}
 
 module _ (p : Plan) where
-  pub plan-count : paper.flowCount (planFor p) ≡ p .count
+  pub plan-count : reference.flowCount (planFor p) ≡ p .count
   plan-count = length-table (p .count) _
 
-  pub plan-entry : (i : ℕ) → i < p .count → paper.entry (planFor p) i ≡ entryFor (getD (p .entries) i noEntry)
+  pub plan-entry : (i : ℕ) → i < p .count → reference.entry (planFor p) i ≡ entryFor (getD (p .entries) i noEntry)
   plan-entry i h = getD-table (p .count) _ i _ h
 
   module _ (v : Valid p) where
@@ -27,7 +27,7 @@ module _ (p : Plan) where
     unfolding stored storedEntries
     stored-plan = λ k. record { slots = p .slots; frames = p .frames; buffer = p .buffer; count = plan-count k; entries = entries k }
       where
-        go : (i : ℕ) → Dec (i < p .count) → storedEntry (paper.entry (planFor p) i) ≡ getD (p .entries) i noEntry
+        go : (i : ℕ) → Dec (i < p .count) → storedEntry (reference.entry (planFor p) i) ≡ getD (p .entries) i noEntry
         go i (yes h) = ap storedEntry (plan-entry i h)
         go i (no h) = ap storedEntry (table-past (p .count) _ i _ (omega arith)) ∙ sym (v .spare i (omega arith))
 

@@ -2,7 +2,7 @@
 use Prim.Native.Nat.{ℕ, _≤_, _<_}
 use mathlib.Core.Path.{_≡_, ap}
 use lib.ListN.{getD}
-use Rattle.model.specs.Plan as paper
+use Rattle.model.specs.Plan as reference
 use Rattle.model.specs.Window.{Window, size}
 use Rattle.model.specs.Link as model
 use Rattle.plan.specs.Reading.{entryFor}
@@ -18,11 +18,11 @@ use Rattle.link.proofs.Plans.{plan-count, plan-entry, count-some, count
 -- ---- what is read of a link
 
 module _ (l : Parts) where
-  pub read-count : paper.flowCount (linkOf l .plan) ≡ l .plan .count
+  pub read-count : reference.flowCount (linkOf l .plan) ≡ l .plan .count
   unfolding linkOf
   read-count = plan-count (l .plan)
 
-  pub read-entry : (i : ℕ) → i < l .plan .count → paper.entry (linkOf l .plan) i ≡ entryFor (entryAt l i)
+  pub read-entry : (i : ℕ) → i < l .plan .count → reference.entry (linkOf l .plan) i ≡ entryFor (entryAt l i)
   unfolding linkOf
   read-entry i h = plan-entry (l .plan) i h
 
@@ -62,7 +62,7 @@ module _ (l : Parts) (s : Sound l) where
   pub size-most : sizeOf l ≤ 256
   size-most = s .plan .accepted .positions-most
 
-  pub measures : Measures (l .plan .slots) (l .plan .frames) (l .cp)
+  pub measures : Measures (l .plan .slots) (l .plan .frames) (l .current)
   measures = let a = s .plan .accepted in record {
     some-slot = a .some-slot;
     slots-most = a .slots-most;

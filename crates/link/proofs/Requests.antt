@@ -7,7 +7,7 @@ use native.Mathlib.Omega.{arith}
 use lib.ListN.{set}
 use Rattle.model.specs.Word.{flowOf, departureOf}
 use Rattle.model.specs.Window.{newest}
-use Rattle.model.specs.Plan as paper
+use Rattle.model.specs.Plan as reference
 use Rattle.model.specs.Link as model
 use Rattle.model.specs.Refusals.{firstOf}
 use Rattle.model.specs.Request.{found, nowhere, sought, nextNumber, bookedFlow, booked, newestTests, wouldBeValid, refusedAtNewest, request}
@@ -85,7 +85,7 @@ module _ {l : Parts} {plan : Plan} {w : Window} (a : AtHand l plan w) (i : ℕ) 
     cells-most : entryAt l i .cells ≤ 255
     cells-most =
         let fits = a .sound .plan .accepted .entries-fit i (rw (plan-count (l .plan)) hi) in
-        rw (ap (λ (e : paper.Entry). e .cells) (plan-entry (l .plan) i hi)) at (fits .cells-most)
+        rw (ap (λ (e : reference.Entry). e .cells) (plan-entry (l .plan) i hi)) at (fits .cells-most)
 
     raised-is : raised ≡ replaced (fromIn (windowOf w) p) (λ q x. suc x) (row (l .held) i)
     raised-is =
@@ -121,7 +121,7 @@ module _ {l : Parts} {plan : Plan} {w : Window} (a : AtHand l plan w) (i : ℕ) 
         read-with-flow l (a .sound) i hi _ (length-row (l .held) i)
         ∙ (λ k. model.withFlow (linkOf l) i (model.movedTo (sym (read-flow l i hi) k) (newest (model.window (linkOf l))) c))
 
-    newest-there : stopped .frame < l .plan .frames
+    newest-there : stopped .injection < l .plan .frames
     unfolding linkOf
     newest-there = mod-lt _ (omega (arith, a .sound .plan .accepted .two-frames))
 
@@ -150,7 +150,7 @@ module _ {l : Parts} {plan : Plan} {w : Window} (a : AtHand l plan w) (x : ℕ) 
     frames-few = a .sound .plan .accepted .frames-most
 
     -- what is left of the share fits a byte
-    left-few : (d : ℕ) → flowAt l i .flow .left < 256 → leftOf (sought (linkOf l) i d) ≤ 255
+    left-few : (d : ℕ) → flowAt l i .flow .remainder < 256 → leftOf (sought (linkOf l) i d) ≤ 255
     unfolding linkOf
     left-few d h =
         let fits = a .sound .plan .accepted .entries-fit i (rw (plan-count (l .plan)) there) in
@@ -166,10 +166,10 @@ module _ {l : Parts} {plan : Plan} {w : Window} (a : AtHand l plan w) (x : ℕ) 
       pub position-few : p < 256
       position-few = omega (arith, position-below a i there (departureOf x) j c p e, a .proper .measures .positions-most)
 
-      pub granted-fits : flowAt l i .flow .left < 256 → FitsBytes (grantedIn (flowAt l i .flow) j c)
+      pub granted-fits : flowAt l i .flow .remainder < 256 → FitsBytes (grantedIn (flowAt l i .flow) j c)
       granted-fits h = record {
-        frame = omega (arith, granted-in-frame .frame, a .proper .measures .frames-most);
-        left = let most = left-few (departureOf x) h in omega (arith, rw (← e) at most);
+        injection = omega (arith, granted-in-frame .frame, a .proper .measures .frames-most);
+        remainder = let most = left-few (departureOf x) h in omega (arith, rw (← e) at most);
         number = let small : (flowAt l i .flow .number + 1) % 1024 < 1024 = mod-lt _ (omega arith) in omega (arith, small);
       }
 
@@ -185,10 +185,10 @@ module _ {l : Parts} {plan : Plan} {w : Window} (a : AtHand l plan w) (x : ℕ) 
 
     -- it found none
     module _ (c : ℕ) (e : nowhere c ≡ sought (linkOf l) i (departureOf x)) where
-      pub stopped-fits : flowAt l i .flow .left < 256 → FitsBytes (stopped a i there c)
+      pub stopped-fits : flowAt l i .flow .remainder < 256 → FitsBytes (stopped a i there c)
       stopped-fits h = record {
-        frame = omega (arith, newest-there a i there c, frames-few);
-        left = let most = left-few (departureOf x) h in omega (arith, rw (← e) at most);
+        injection = omega (arith, newest-there a i there c, frames-few);
+        remainder = let most = left-few (departureOf x) h in omega (arith, rw (← e) at most);
         number = omega (arith, a .sound .flows i there .number);
       }
 

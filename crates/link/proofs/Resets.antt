@@ -7,12 +7,12 @@ use lib.Dec.{ltb, eqb}
 use lib.ListN.{length, getD}
 use borrow.Author.Tests.{not-true, not-false}
 use Rattle.model.specs.Tables.{table, every}
-use Rattle.model.specs.Plan as paper
+use Rattle.model.specs.Plan as reference
 use Rattle.model.specs.Window as seen
 use Rattle.model.specs.Window.{everyFrom}
 use Rattle.model.specs.Link as model
 use Rattle.model.specs.Request.{unbooked}
-use Rattle.model.specs.Reset.{noneBooked, noneHeld, quiet, fromHead, renewed, reset}
+use Rattle.model.specs.Reset.{noneBooked, noneHeld, quiet, fromHead, resetLink, reset}
 use Rattle.model.proofs.ResetTests.{granted, notGranted, reset-is, none-held-is}
 use Rattle.calls.specs.declared.Answer.the-variants.{Reset, Refused}
 use Rattle.calls.specs.Reading.{answerToReset}
@@ -27,7 +27,7 @@ use Rattle.tables.specs.Holdings.{roomAt}
 use Rattle.link.specs.declared.Flow.{Flow}
 use Rattle.link.specs.Parts.{Parts}
 use Rattle.link.specs.Layout.{FlowRow, sizeOf, entryAt, flowRow, flowIn, ownerAt, noFlow}
-use Rattle.link.specs.Updates.{linkWith, withFirst}
+use Rattle.link.specs.Updates.{linkWith, withTurn}
 use Rattle.link.specs.Reading.{flowOf, linkOf}
 use Rattle.link.specs.Sound.{Sound}
 use Rattle.link.specs.Started.{startedFlow, startedFlows}
@@ -51,7 +51,7 @@ module _ (l : Parts) where
       → everyFrom (model.window (linkOf l)) (linkOf l .current) (λ q. ltb (model.holding (linkOf l) i q) 1)
       ≡ everyFrom (model.window (linkOf l)) (linkOf l .current) (roomAt (row (l .held) i) 1)
   unfolding linkOf
-  row-same i h = everyFrom-same (model.window (linkOf l)) (l .cp) _ _ (λ q b. ap (λ (x : ℕ). ltb x 1) (read-holding l i q h b))
+  row-same i h = everyFrom-same (model.window (linkOf l)) (l .current) _ _ (λ q b. ap (λ (x : ℕ). ltb x 1) (read-holding l i q h b))
 
   none-held-same : noneHeld (linkOf l) ≡ noneHeldIn (model.window (linkOf l)) (l .plan .count) (l .held)
   none-held-same =
@@ -63,11 +63,11 @@ module _ (l : Parts) where
 
 -- nobody owns a position, the flows start in the head frame with their numbers, and the mark is t
 abbrev recycledLink : Parts → (head : ℕ) → (unbooked : List ℕ) → (t : Bool) → Parts
-recycledLink l head u t = linkWith l (l .cp) (everywhere nobody) u (startedFlows head (l .plan .entries) (l .plan .count) (l .flows)) (l .held) t
+recycledLink l head u t = linkWith l (l .current) (everywhere nobody) u (startedFlows head (l .plan .entries) (l .plan .count) (l .flows)) (l .held) t
 
 -- and the next lend looks at flow 0 first
-abbrev renewedLink : Parts → (head : ℕ) → (unbooked : List ℕ) → (t : Bool) → Parts
-renewedLink l head u t = withFirst (recycledLink l head u t) 0
+abbrev resetParts : Parts → (head : ℕ) → (unbooked : List ℕ) → (t : Bool) → Parts
+resetParts l head u t = withTurn (recycledLink l head u t) 0
 
 module _ {l : Parts} {w : Window} (a : AtHand l (l .plan) w) where
   head-is : w .head ≡ seen.head (model.window (linkOf l))
@@ -87,25 +87,25 @@ module _ {l : Parts} {w : Window} (a : AtHand l (l .plan) w) where
 
   read-then : (i : ℕ) → i < l .plan .count → flowOf (sizeOf l) (flowThen i) ≡ fromHead (linkOf l) i
   read-then i h =
-      let share : model.share (linkOf l) i ≡ entryAt l i .share = ap (λ (e : paper.Entry). e .share) (read-entry l i h) in
+      let share : model.share (linkOf l) i ≡ entryAt l i .share = ap (λ (e : reference.Entry). e .share) (read-entry l i h) in
       ap (flowOf (sizeOf l)) (flow-then i h) ∙ (λ k. model.movedTo (sym (read-flow l i h) k) (head-is k) (sym share k))
 
   module _ (u : List ℕ) (t : Bool) where
     -- a current slot with an owner or a mark is marked then
-    read-renewed : t ≡ not (eqb (ownerAt l (l .cp)) nobody) || l .taken → linkOf (renewedLink l (w .head) u t) ≡ renewed (linkOf l)
-    unfolding linkOf renewed
-    read-renewed mark = cc (read-unowned (sizeOf l) (size-most l (a .sound)), flows, taken)
+    read-reset : t ≡ not (eqb (ownerAt l (l .current)) nobody) || l .marked → linkOf (resetParts l (w .head) u t) ≡ resetLink (linkOf l)
+    unfolding linkOf resetLink
+    read-reset mark = cc (read-unowned (sizeOf l) (size-most l (a .sound)), flows, marked)
       where
-        flows : table (l .plan .count) (λ i. flowOf (sizeOf l) (flowThen i)) ≡ table (paper.flowCount (linkOf l .plan)) (fromHead (linkOf l))
+        flows : table (l .plan .count) (λ i. flowOf (sizeOf l) (flowThen i)) ≡ table (reference.flowCount (linkOf l .plan)) (fromHead (linkOf l))
         flows =
             table-same (l .plan .count) _ (fromHead (linkOf l)) read-then
             ∙ ap (λ (n : ℕ). table n (fromHead (linkOf l))) (sym (read-count l))
 
-        taken : t ≡ not (unbooked (model.owner (linkOf l) (l .cp))) || l .taken
-        taken = mark ∙ rw (read-owner l (l .cp) (a .sound .current), unbooked-is (ownerAt l (l .cp)))
+        marked : t ≡ not (unbooked (model.owner (linkOf l) (l .current))) || l .marked
+        marked = mark ∙ rw (read-owner l (l .current) (a .sound .current), unbooked-is (ownerAt l (l .current)))
 
-    sound-renewed : Words (l .plan .slots) (l .plan .frames) (λ q. true) u → Sound (renewedLink l (w .head) u t)
-    sound-renewed words =
+    sound-reset : Words (l .plan .slots) (l .plan .frames) (λ q. true) u → Sound (resetParts l (w .head) u t)
+    sound-reset words =
         let s = a .sound in
         sound-first (recycledLink l (w .head) u t)
         (sound-with l s (s .current) (sound-unowned (l .plan) (s .plan) words) (record {
@@ -134,11 +134,11 @@ module _ {l : Parts} {w : Window} (a : AtHand l (l .plan) w) where
     reset-refused busy = rw (comes-to false (not-true r busy)) (record { link-is = refl; answer-is = refl; sound = a .sound })
 
     pub reset-granted : {o u : List ℕ} {fs : List Flow} {t : Bool} → not r ≡ false
-        → t ≡ not (eqb (ownerAt l (l .cp)) nobody) || l .taken
+        → t ≡ not (eqb (ownerAt l (l .current)) nobody) || l .marked
         → o ≡ everywhere nobody
         → Words (l .plan .slots) (l .plan .frames) (λ q. true) u
         → fs ≡ startedFlows (w .head) (l .plan .entries) (l .plan .count) (l .flows)
-        → SteppedParts answerToReset (reset (linkOf l)) (withFirst (linkWith l (l .cp) o u fs (l .held) t) 0) Reset
+        → SteppedParts answerToReset (reset (linkOf l)) (withTurn (linkWith l (l .current) o u fs (l .held) t) 0) Reset
     reset-granted {u = u} {t = t} still mark owners words flows =
         rw (comes-to true (not-false r still), owners, flows)
-        (record { link-is = read-renewed u t mark; answer-is = refl; sound = sound-renewed u t words })
+        (record { link-is = read-reset u t mark; answer-is = refl; sound = sound-reset u t words })

@@ -47,7 +47,7 @@ flow-empty : (i : ℕ) → flowRead empty i ≡ noFlow
 unfolding flowRead part
 flow-empty i =
     let a = 4416 + 4 * i in
-    λ k. record { frame = empty-at (a + 0) k; left = empty-at (a + 1) k; number = empty-at (a + 2) k + 256 * empty-at (a + 3) k }
+    λ k. record { injection = empty-at (a + 0) k; remainder = empty-at (a + 1) k; number = empty-at (a + 2) k + 256 * empty-at (a + 3) k }
 
 pub flows-empty : flowsOf empty ≡ replicate 16 noFlow
 unfolding flowsOf

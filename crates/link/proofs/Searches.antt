@@ -8,7 +8,7 @@ use native.Mathlib.Omega.{arith}
 use lib.Dec.{ltb}
 use borrow.Author.Tests.{le-ltb}
 use Rattle.model.specs.Tables.{ahead}
-use Rattle.model.specs.Plan as paper
+use Rattle.model.specs.Plan as reference
 use Rattle.model.specs.Window.{Window, start, passed, everyFrom, newest}
 use Rattle.model.specs.Link as model
 use Rattle.model.specs.Request.{unbooked, valid, canLeave, validFor, someInNewest, wouldBeValid, Found, found, nowhere, search, sought}
@@ -47,7 +47,7 @@ module _ (l : Parts) (s : Sound l) (v : Window) (is : v ≡ model.window (linkOf
   room-same p =
       everyFrom-same (model.window (linkOf l)) p (λ q. ltb (model.holding (linkOf l) i q) (model.cells (linkOf l) i))
       (roomAt (flowAt l i .held) (entryAt l i .cells))
-      (λ q b. rw (read-holding l i q hi b, ap (λ (e : paper.Entry). e .cells) (read-entry l i hi)))
+      (λ q b. rw (read-holding l i q hi b, ap (λ (e : reference.Entry). e .cells) (read-entry l i hi)))
 
   valid-same : (p : ℕ) → p < sizeOf l → valid (linkOf l) i p ≡ validHere p
   unfolding valid validAt
@@ -75,7 +75,7 @@ module _ (l : Parts) (s : Sound l) (v : Window) (is : v ≡ model.window (linkOf
       go k (yes h) = ap (ltb k (v .slots) &&_) (sym (same (j * v .slots + k) (fits k h)))
       go k (no h) = rw (le-ltb k (v .slots) (omega arith))
 
-  -- a frame's word of valid slots has the positions that are valid by the paper
+  -- a frame's word of valid slots has the positions that are valid by the model
   pub valid-slots-same : (j word : ℕ) → j < v .frames → ValidSlots v validHere j word → ValidSlots v (valid (linkOf l) i) j word
   valid-slots-same = slots-same validHere (valid (linkOf l) i) valid-same
 
@@ -86,28 +86,28 @@ module _ (l : Parts) (s : Sound l) (v : Window) (is : v ≡ model.window (linkOf
   two : 2 ≤ v .frames
   two = rw (read-frames l is) (s .plan .accepted .two-frames)
 
-  pub frame-there : flowAt l i .flow .frame < v .frames
+  pub frame-there : flowAt l i .flow .injection < v .frames
   frame-there = rw (read-frames l is) (s .flows i hi .frame)
 
-  pub sought-same : (d : ℕ) → sought (linkOf l) i d ≡ searchFrom v (validAfter d) (entryAt l i .share) (flowAt l i .flow .frame) (flowAt l i .flow .left)
+  pub sought-same : (d : ℕ) → sought (linkOf l) i d ≡ searchFrom v (validAfter d) (entryAt l i .share) (flowAt l i .flow .injection) (flowAt l i .flow .remainder)
   unfolding sought
   sought-same d =
       let j = ap (λ (x : model.Flow). x .injection) (read-flow l i hi) in
       let c = ap (λ (x : model.Flow). x .remainder) (read-flow l i hi) in
-      let e = ap (λ (x : paper.Entry). x .share) (read-entry l i hi) in
+      let e = ap (λ (x : reference.Entry). x .share) (read-entry l i hi) in
       rw (j, c, e)
       (ap from-frame (sym is)
       ∙ search-same v two (validFor (linkOf l) i d) (validAfter d) (λ p h. after-same d p (rw (← read-size l is) h)) _ _ _ _ frame-there)
     where
       from-frame : Window → Found
-      from-frame x = searchFrom x (validFor (linkOf l) i d) (entryAt l i .share) (flowAt l i .flow .frame) (flowAt l i .flow .left)
+      from-frame x = searchFrom x (validFor (linkOf l) i d) (entryAt l i .share) (flowAt l i .flow .injection) (flowAt l i .flow .remainder)
 
   -- what is found: a position of the window that is valid
   pub found-at : (d j c p : ℕ) → found j c p ≡ sought (linkOf l) i d → Booking v (validAfter d) j p
   found-at d j c p e = subst (Books v (validAfter d)) (sym (e ∙ sought-same d)) (search-books v two _ _ _ _ _ frame-there)
 
   -- in the newest frame, with nothing left of the share
-  pub spent-at-newest : (d : ℕ) → flowAt l i .flow .frame ≡ newest v → flowAt l i .flow .left ≡ 0 → nowhere 0 ≡ sought (linkOf l) i d
+  pub spent-at-newest : (d : ℕ) → flowAt l i .flow .injection ≡ newest v → flowAt l i .flow .remainder ≡ 0 → nowhere 0 ≡ sought (linkOf l) i d
   unfolding sought search
   spent-at-newest d e z =
       let last = newest (model.window (linkOf l)) in

@@ -1,4 +1,4 @@
--- Two lists of calls of the code from one plan, and sending ahead: what is proved of the paper's card holds of the code. Assumes nothing.
+-- Two lists of calls of the code from one plan, and sending ahead: what is proved of the reference scheduler holds of the code. Assumes nothing.
 use Prim.Native.Nat.{ℕ, _<_}
 use mathlib.Core.Path.{_≡_, sym, ap, _∙_, subst}
 use mathlib.Core.List.{List}
@@ -14,16 +14,16 @@ use Rattle.model.specs.Credit.{credit}
 use Rattle.model.specs.Lend.{lend}
 use Rattle.model.specs.History.{ticks, hasCome}
 use Rattle.model.specs.Claim.{EachSince, ReadyAt}
-use Rattle.model.specs.Card.{Played, paper, run}
+use Rattle.model.specs.Scheduler.{Played, reference, run}
 use Rattle.arrival.specs.Delay.{AsksAt}
 use Rattle.model.specs.TwoRuns.{Aligned, AsksUntil11, SameFrames}
 use Rattle.arrival.specs.BooksInOrder.{InTurn, InOrder}
-use Rattle.ahead.specs.AheadRuns.{WithAhead, GrantsAfter, ResetsAfter, NoneTakenAlone, OfBooked, SendersInTurn, SendersInOrder, BookedAlike}
+use Rattle.ahead.specs.AheadRuns.{WithAhead, GrantsAfter, ResetsAfter, NoneAcceptedAlone, OfBooked, SendersInTurn, SendersInOrder, BookedAlike}
 use Rattle.ahead.specs.Sendings.{Sending, EachReady, EachCome, SentInTime, SentWell, sendingOf, FirstFirst, LentOnlyAhead, LeaveInOrder, SendersHaveRoom}
 use Rattle.ahead.specs.Sendings.{SendersHaveRoomThere, SendersInTurnThere, SendersHaveShares}
 use Rattle.model.proofs.Demand3.{meets}
 use Rattle.model.proofs.SameFrames.{same-frames}
-use Rattle.ahead.proofs.Ahead.{taken}
+use Rattle.ahead.proofs.Ahead.{ahead-accepted}
 use Rattle.arrival.proofs.BooksInOrder.{books-in-order, ready-in-order}
 use Rattle.ahead.proofs.AheadRuns.{nobody-moves}
 use Rattle.ahead.proofs.AheadInTurn.{in-turn-nobody-moves, in-order-nobody-moves}
@@ -36,7 +36,7 @@ use Rattle.link.specs.declared.Link.{Link}
 use Rattle.link.specs.declared.Step.{Step}
 use Rattle.link.specs.Steps.{readOf as linkRead, Stepped}
 use Rattle.link.specs.Handed.{Handed}
-use Rattle.link.proofs.Demand3.{one-loan, RunOf, run-of, passes-of}
+use Rattle.link.proofs.Demand3.{one-lend-answer, RunOf, run-of, passes-of}
 
 -- bytes that `plan::read` accepts
 module _ (bytes : List ℕ) (o : Outcome) (is : o ≡ readOf bytes) (valid : o .verdict ≡ Accepted → Valid (o .plan)) (accepts : o .verdict ≡ Accepted) where
@@ -49,15 +49,15 @@ module _ (bytes : List ℕ) (o : Outcome) (is : o ≡ readOf bytes) (valid : o .
   run-made : {h : History} {l : Link} → Handed (o .plan) h l → RunOf P h l
   run-made {h} {l} g = subst (λ R. RunOf R h l) (ap (λ (x : Outcome). planFor (x .plan)) is ∙ is-plan bytes passes) (run-of (valid accepts .accepted) g)
 
-  -- what holds of every run of the paper's card, and of any two
-  has : (Q : History → Type 0) → ((calls : List Call) → Q (run paper P calls .history)) → {h : History} {l : Link} → Handed (o .plan) h l → Q h
+  -- what holds of every run of the reference scheduler, and of any two
+  has : (Q : History → Type 0) → ((calls : List Call) → Q (run reference P calls .history)) → {h : History} {l : Link} → Handed (o .plan) h l → Q h
   has Q runs g =
       let made = run-made g in
-      subst (λ (r : Played paper). Q (r .history)) (made .played) (runs (made .calls))
+      subst (λ (r : Played reference). Q (r .history)) (made .played) (runs (made .calls))
 
-  both-have : (Q : History → History → Type 0) → ((calls₁ calls₂ : List Call) → Q (run paper P calls₁ .history) (run paper P calls₂ .history))
+  both-have : (Q : History → History → Type 0) → ((calls₁ calls₂ : List Call) → Q (run reference P calls₁ .history) (run reference P calls₂ .history))
       → {h₁ h₂ : History} {l₁ l₂ : Link} → Handed (o .plan) h₁ l₁ → Handed (o .plan) h₂ l₂ → Q h₁ h₂
-  both-have Q runs {h₁} {h₂} g₁ g₂ = has (λ h. Q h h₂) (λ calls. has (Q (run paper P calls .history)) (runs calls) g₂) g₁
+  both-have Q runs {h₁} {h₂} g₁ g₂ = has (λ h. Q h h₂) (λ calls. has (Q (run reference P calls .history)) (runs calls) g₂) g₁
 
   -- RULES 21.11: the neighbours can't move a flow's frames, bursts counted as their requests
   pub code-unmoved : {h₁ h₂ : History} {l₁ l₂ : Link} → Handed (o .plan) h₁ l₁ → Handed (o .plan) h₂ l₂ → (i : ℕ) → i < model.flowCount P
@@ -70,16 +70,16 @@ module _ (bytes : List ℕ) (o : Outcome) (is : o ≡ readOf bytes) (valid : o .
   -- ---- sending ahead
 
   -- A lend of the code hands back r, answered with flow i, and a credit of i on its link hands back s: it is taken, if it is dated a position later than CP.
-  pub code-taken : {h : History} {l : Link} → Handed (o .plan) h l → (mask i p : ℕ) (r s : Step) → Stepped answerToLend (lend (linkRead l) mask) r
+  pub code-ahead-accepted : {h : History} {l : Link} → Handed (o .plan) h l → (mask i p : ℕ) (r s : Step) → Stepped answerToLend (lend (linkRead l) mask) r
       → r .answer ≡ answerToLend (accepted i) → Stepped answerToCredit (credit (linkRead (r .link)) i p) s → p < model.positions P
       → hasCome P (ticks h) p ≡ false → s .answer ≡ answerToCredit (accepted tt)
-  code-taken g mask i p r s lends answer credits below yet =
+  code-ahead-accepted g mask i p r s lends answer credits below yet =
       let made = run-made g in
       let takes = subst
-      (λ (q : Played paper). lend (q .state) mask .answer ≡ accepted i → p < model.positions P → hasCome P (ticks (q .history)) p ≡ false
+      (λ (q : Played reference). lend (q .state) mask .answer ≡ accepted i → p < model.positions P → hasCome P (ticks (q .history)) p ≡ false
       → credit (lend (q .state) mask .link) i p .answer ≡ accepted tt)
-      (made .played) (taken bytes passes (made .calls) mask i p) in
-      let loan = one-loan _ (accepted i) (sym (lends .answer-is) ∙ answer) in
+      (made .played) (ahead-accepted bytes passes (made .calls) mask i p) in
+      let loan = one-lend-answer _ (accepted i) (sym (lends .answer-is) ∙ answer) in
       credits .answer-is ∙ ap answerToCredit (ap (λ k. credit k i p .answer) (lends .link-is) ∙ takes loan below yet)
 
   -- A flow in turn books in order, and one that is ready at each request is in turn.
@@ -94,76 +94,76 @@ module _ (bytes : List ℕ) (o : Outcome) (is : o ≡ readOf bytes) (valid : o .
 
   -- never late, never over, one to a slot; and never early
   pub code-sends-in-time : {h : History} {l : Link} → Handed (o .plan) h l → (x : Sending h) → SentInTime P x
-  code-sends-in-time = has (λ h. (x : Sending h) → SentInTime P x) (sends-in-time paper meets bytes passes)
+  code-sends-in-time = has (λ h. (x : Sending h) → SentInTime P x) (sends-in-time reference meets bytes passes)
 
   pub code-sends-well : {h : History} {l : Link} → Handed (o .plan) h l → (x : Sending h) → EachReady P x → SentWell P x
-  code-sends-well = has (λ h. (x : Sending h) → EachReady P x → SentWell P x) (sends-well paper meets bytes passes)
+  code-sends-well = has (λ h. (x : Sending h) → EachReady P x → SentWell P x) (sends-well reference meets bytes passes)
 
   -- ---- beside a run without any
 
   pub code-nobody-moves : {h₁ h₂ : History} {l₁ l₂ : Link} → Handed (o .plan) h₁ l₁ → Handed (o .plan) h₂ l₂ → (x : WithAhead h₁ h₂)
-      → GrantsAfter P x → ResetsAfter P x → NoneTakenAlone x → BookedAlike P x
+      → GrantsAfter P x → ResetsAfter P x → NoneAcceptedAlone x → BookedAlike P x
   code-nobody-moves =
-      both-have (λ h₁ h₂. (x : WithAhead h₁ h₂) → GrantsAfter P x → ResetsAfter P x → NoneTakenAlone x → BookedAlike P x) (nobody-moves bytes passes)
+      both-have (λ h₁ h₂. (x : WithAhead h₁ h₂) → GrantsAfter P x → ResetsAfter P x → NoneAcceptedAlone x → BookedAlike P x) (nobody-moves bytes passes)
 
   pub code-in-turn-nobody-moves : {h₁ h₂ : History} {l₁ l₂ : Link} → Handed (o .plan) h₁ l₁ → Handed (o .plan) h₂ l₂ → (x : WithAhead h₁ h₂)
-      → OfBooked P x → SendersInTurn P x → NoneTakenAlone x → BookedAlike P x
+      → OfBooked P x → SendersInTurn P x → NoneAcceptedAlone x → BookedAlike P x
   code-in-turn-nobody-moves =
-      both-have (λ h₁ h₂. (x : WithAhead h₁ h₂) → OfBooked P x → SendersInTurn P x → NoneTakenAlone x → BookedAlike P x) (in-turn-nobody-moves bytes passes)
+      both-have (λ h₁ h₂. (x : WithAhead h₁ h₂) → OfBooked P x → SendersInTurn P x → NoneAcceptedAlone x → BookedAlike P x) (in-turn-nobody-moves bytes passes)
 
   -- it is enough that they have room, or are in turn, in the run with tiles sent ahead
   pub code-room-without : {h₁ h₂ : History} {l₁ l₂ : Link} → Handed (o .plan) h₁ l₁ → Handed (o .plan) h₂ l₂ → (x : WithAhead h₁ h₂)
-      → EachCome P (sendingOf x) → NoneTakenAlone x → SendersHaveRoomThere P x → SendersHaveRoom P x
+      → EachCome P (sendingOf x) → NoneAcceptedAlone x → SendersHaveRoomThere P x → SendersHaveRoom P x
   code-room-without =
-      both-have (λ h₁ h₂. (x : WithAhead h₁ h₂) → EachCome P (sendingOf x) → NoneTakenAlone x → SendersHaveRoomThere P x → SendersHaveRoom P x)
+      both-have (λ h₁ h₂. (x : WithAhead h₁ h₂) → EachCome P (sendingOf x) → NoneAcceptedAlone x → SendersHaveRoomThere P x → SendersHaveRoom P x)
       (room-without bytes passes)
 
   pub code-in-turn-without : {h₁ h₂ : History} {l₁ l₂ : Link} → Handed (o .plan) h₁ l₁ → Handed (o .plan) h₂ l₂ → (x : WithAhead h₁ h₂)
-      → EachCome P (sendingOf x) → NoneTakenAlone x → SendersInTurnThere P x → SendersInTurn P x
+      → EachCome P (sendingOf x) → NoneAcceptedAlone x → SendersInTurnThere P x → SendersInTurn P x
   code-in-turn-without =
-      both-have (λ h₁ h₂. (x : WithAhead h₁ h₂) → EachCome P (sendingOf x) → NoneTakenAlone x → SendersInTurnThere P x → SendersInTurn P x)
+      both-have (λ h₁ h₂. (x : WithAhead h₁ h₂) → EachCome P (sendingOf x) → NoneAcceptedAlone x → SendersInTurnThere P x → SendersInTurn P x)
       (in-turn-without bytes passes)
 
   -- bookings alike; and sent well, if each tile came before
   pub code-sends-ahead : {h₁ h₂ : History} {l₁ l₂ : Link} → Handed (o .plan) h₁ l₁ → Handed (o .plan) h₂ l₂ → (x : WithAhead h₁ h₂)
-      → EachCome P (sendingOf x) → SendersHaveRoom P x → NoneTakenAlone x → BookedAlike P x × (EachReady P (sendingOf x) → SentWell P (sendingOf x))
+      → EachCome P (sendingOf x) → SendersHaveRoom P x → NoneAcceptedAlone x → BookedAlike P x × (EachReady P (sendingOf x) → SentWell P (sendingOf x))
   code-sends-ahead =
       both-have
-      (λ h₁ h₂. (x : WithAhead h₁ h₂) → EachCome P (sendingOf x) → SendersHaveRoom P x → NoneTakenAlone x
+      (λ h₁ h₂. (x : WithAhead h₁ h₂) → EachCome P (sendingOf x) → SendersHaveRoom P x → NoneAcceptedAlone x
       → BookedAlike P x × (EachReady P (sendingOf x) → SentWell P (sendingOf x)))
       (sends-ahead bytes passes)
 
   -- in order
   pub code-ahead-in-order : {h₁ h₂ : History} {l₁ l₂ : Link} → Handed (o .plan) h₁ l₁ → Handed (o .plan) h₂ l₂ → (x : WithAhead h₁ h₂)
-      → EachCome P (sendingOf x) → SendersHaveRoom P x → NoneTakenAlone x → (i : ℕ) → FirstFirst P (sendingOf x) i
+      → EachCome P (sendingOf x) → SendersHaveRoom P x → NoneAcceptedAlone x → (i : ℕ) → FirstFirst P (sendingOf x) i
       → LentOnlyAhead (sendingOf x) i → LeaveInOrder P (sendingOf x) i
   code-ahead-in-order =
       both-have
-      (λ h₁ h₂. (x : WithAhead h₁ h₂) → EachCome P (sendingOf x) → SendersHaveRoom P x → NoneTakenAlone x → (i : ℕ) → FirstFirst P (sendingOf x) i
+      (λ h₁ h₂. (x : WithAhead h₁ h₂) → EachCome P (sendingOf x) → SendersHaveRoom P x → NoneAcceptedAlone x → (i : ℕ) → FirstFirst P (sendingOf x) i
       → LentOnlyAhead (sendingOf x) i → LeaveInOrder P (sendingOf x) i)
       (ahead-in-order bytes passes)
 
   -- ---- by slots that are granted in order, and by shares of cells, whether or not there is room
 
   pub code-in-order-nobody-moves : {h₁ h₂ : History} {l₁ l₂ : Link} → Handed (o .plan) h₁ l₁ → Handed (o .plan) h₂ l₂ → (x : WithAhead h₁ h₂)
-      → OfBooked P x → SendersInOrder P x → NoneTakenAlone x → BookedAlike P x
+      → OfBooked P x → SendersInOrder P x → NoneAcceptedAlone x → BookedAlike P x
   code-in-order-nobody-moves =
-      both-have (λ h₁ h₂. (x : WithAhead h₁ h₂) → OfBooked P x → SendersInOrder P x → NoneTakenAlone x → BookedAlike P x) (in-order-nobody-moves bytes passes)
+      both-have (λ h₁ h₂. (x : WithAhead h₁ h₂) → OfBooked P x → SendersInOrder P x → NoneAcceptedAlone x → BookedAlike P x) (in-order-nobody-moves bytes passes)
 
   pub code-sends-by-order : {h₁ h₂ : History} {l₁ l₂ : Link} → Handed (o .plan) h₁ l₁ → Handed (o .plan) h₂ l₂ → (x : WithAhead h₁ h₂)
-      → EachCome P (sendingOf x) → SendersInOrder P x → NoneTakenAlone x → BookedAlike P x × (EachReady P (sendingOf x) → SentWell P (sendingOf x))
+      → EachCome P (sendingOf x) → SendersInOrder P x → NoneAcceptedAlone x → BookedAlike P x × (EachReady P (sendingOf x) → SentWell P (sendingOf x))
   code-sends-by-order =
       both-have
-      (λ h₁ h₂. (x : WithAhead h₁ h₂) → EachCome P (sendingOf x) → SendersInOrder P x → NoneTakenAlone x
+      (λ h₁ h₂. (x : WithAhead h₁ h₂) → EachCome P (sendingOf x) → SendersInOrder P x → NoneAcceptedAlone x
       → BookedAlike P x × (EachReady P (sendingOf x) → SentWell P (sendingOf x)))
       (sends-by-order bytes passes)
 
   pub code-leave-by-order : {h₁ h₂ : History} {l₁ l₂ : Link} → Handed (o .plan) h₁ l₁ → Handed (o .plan) h₂ l₂ → (x : WithAhead h₁ h₂)
-      → EachCome P (sendingOf x) → SendersInOrder P x → NoneTakenAlone x → (i : ℕ) → FirstFirst P (sendingOf x) i
+      → EachCome P (sendingOf x) → SendersInOrder P x → NoneAcceptedAlone x → (i : ℕ) → FirstFirst P (sendingOf x) i
       → LentOnlyAhead (sendingOf x) i → LeaveInOrder P (sendingOf x) i
   code-leave-by-order =
       both-have
-      (λ h₁ h₂. (x : WithAhead h₁ h₂) → EachCome P (sendingOf x) → SendersInOrder P x → NoneTakenAlone x → (i : ℕ) → FirstFirst P (sendingOf x) i
+      (λ h₁ h₂. (x : WithAhead h₁ h₂) → EachCome P (sendingOf x) → SendersInOrder P x → NoneAcceptedAlone x → (i : ℕ) → FirstFirst P (sendingOf x) i
       → LentOnlyAhead (sendingOf x) i → LeaveInOrder P (sendingOf x) i)
       (leave-by-order bytes passes)
 

@@ -32,7 +32,7 @@ use Rattle.tables.specs.Holdings.{roomAt, shifted}
 use Rattle.tables.specs.Bounds.{raised}
 use Rattle.tables.proofs.HeldRows.{row-held}
 use Rattle.tables.proofs.Bounds.{bounds-beside, bounds-raised}
-use Rattle.link.specs.Changes.{FlowsNow, Renewed}
+use Rattle.link.specs.Changes.{FlowsNow, ResetTables}
 use Rattle.link.specs.Given.{StateIn}
 use Rattle.link.specs.Layout.{ownerAt}
 use Rattle.link.specs.Lend.{takesIn, flowFound, firstTaker}
@@ -41,7 +41,7 @@ use Rattle.link.specs.Reading.{linkOf}
 use Rattle.link.specs.Reset.{noneHeldIn, quietIn}
 use Rattle.link.specs.Started.{startedFlows}
 use Rattle.link.specs.Steps.{Went, SteppedParts}
-use Rattle.link.specs.Updates.{linkWith, withFirst, withTaken, withHoldings}
+use Rattle.link.specs.Updates.{linkWith, withTurn, withMark, withHoldings}
 use Rattle.link.proofs.FlowBytes.{flows-beside}
 use Rattle.link.proofs.Given.{bounds-in, bounds-out}
 use Rattle.link.proofs.StateParts.{raised-rest, parts-raised}
@@ -85,20 +85,20 @@ module _ (plan : Plan) (t : List ℕ) (whole : Whole t) (on : ℕ) where
   turn-is : getD lent 4498 0 ≡ on
   turn-is = getD-set-same (set t 4497 1) 4498 on 0 (rw length-set (omega (arith, whole)))
 
-  parts-lent : partsIn plan lent ≡ withFirst (withTaken (partsIn plan t) true) on
+  parts-lent : partsIn plan lent ≡ withTurn (withMark (partsIn plan t) true) on
   parts-lent =
       let owners = owners-beside after (λ k l₁ h₁ l₂ h₂. omega arith) in
       let masks = masks-beside after (λ k l₁ h₁ l₂ h₂. omega arith) in
       let flows = flows-beside after (λ k l₁ h₁ l₂ h₂. omega arith) in
       let held = held-beside after (omega arith) in
-      let cp : getD lent 4496 0 ≡ getD t 4496 0 = after .kept 4496 (λ low _. omega arith) in
-      rw (mark-is, turn-is, owners, masks, flows, held, cp)
+      let current : getD lent 4496 0 ≡ getD t 4496 0 = after .kept 4496 (λ low _. omega arith) in
+      rw (mark-is, turn-is, owners, masks, flows, held, current)
 
 module _ {plan : Plan} {w : Window} {s : List ℕ} (o : StateIn plan w s) where
   -- a flow was lent the slot
   pub went-lent : (i on : ℕ) → i < 16 → {t : List ℕ} → t ≡ raised w i (w .current) s
       → {A B : Type 0} {toAnswer : A → B} {m : model.Step A} {a : B}
-      → SteppedParts toAnswer m (withFirst (withTaken (withHoldings (partsIn plan s) (shifted (windowOf w) 1 i (getD s 4496 0) (heldOf s))) true) on) a
+      → SteppedParts toAnswer m (withTurn (withMark (withHoldings (partsIn plan s) (shifted (windowOf w) 1 i (getD s 4496 0) (heldOf s))) true) on) a
       → Went toAnswer m plan (set (set t 4497 1) 4498 on) a
   went-lent i on few {t} e x =
       let whole = o .sound .whole in
@@ -106,8 +106,8 @@ module _ {plan : Plan} {w : Window} {s : List ℕ} (o : StateIn plan w s) where
       let whole₁ : Whole t = rest .long ∙ whole in
       let is =
       parts-lent plan t whole₁ on
-      ∙ ap (λ (l : Parts). withFirst (withTaken l true) on) (parts-raised plan s whole w i (w .current) few e)
-      ∙ ap (λ (q : ℕ). withFirst (withTaken (withHoldings (partsIn plan s) (shifted (windowOf w) 1 i q (heldOf s))) true) on) (current-of o) in
+      ∙ ap (λ (l : Parts). withTurn (withMark l true) on) (parts-raised plan s whole w i (w .current) few e)
+      ∙ ap (λ (q : ℕ). withTurn (withMark (withHoldings (partsIn plan s) (shifted (windowOf w) 1 i q (heldOf s))) true) on) (current-of o) in
       record {
         link-is = ap linkOf is ∙ x .link-is;
         answer-is = x .answer-is;
@@ -123,36 +123,36 @@ module _ {plan : Plan} {w : Window} {s : List ℕ} (o : StateIn plan w s) where
 
   -- ---- a reset, after the mark
 
-  module _ {t : List ℕ} (marked : Beside 4497 4498 s t) (mark : getD t 4497 0 ≤ 1) {u : List ℕ} (renewed : Renewed plan (w .head) t u) where
+  module _ {t : List ℕ} (marked : Beside 4497 4498 s t) (mark : getD t 4497 0 ≤ 1) {u : List ℕ} (tables-reset : ResetTables plan (w .head) t u) where
     whole₁ : Whole t
     whole₁ = marked .long ∙ o .sound .whole
 
     whole₂ : Whole u
-    whole₂ = renewed .beside .long ∙ whole₁
+    whole₂ = tables-reset .beside .long ∙ whole₁
 
     last : Beside 4498 4499 u (set u 4498 0)
     last = beside-set u 4498 0 4498 4499 (omega arith) (omega arith)
 
     mark-stays : getD (set u 4498 0) 4497 0 ≡ getD t 4497 0
-    mark-stays = last .kept 4497 (λ low _. omega arith) ∙ renewed .beside .kept 4497 (λ _ high. omega arith)
+    mark-stays = last .kept 4497 (λ low _. omega arith) ∙ tables-reset .beside .kept 4497 (λ _ high. omega arith)
 
     parts-reset : partsIn plan (set u 4498 0)
-        ≡ withFirst (linkWith (partsIn plan s) (getD s 4496 0) (ownersOf u) (masksOf u) (flowsOf u) (heldOf s) (not (eqb (getD t 4497 0) 0))) 0
+        ≡ withTurn (linkWith (partsIn plan s) (getD s 4496 0) (ownersOf u) (masksOf u) (flowsOf u) (heldOf s) (not (eqb (getD t 4497 0) 0))) 0
     parts-reset =
         let owners = owners-beside last (λ k l₁ h₁ l₂ h₂. omega arith) in
         let masks = masks-beside last (λ k l₁ h₁ l₂ h₂. omega arith) in
         let flows = flows-beside last (λ k l₁ h₁ l₂ h₂. omega arith) in
-        let held = held-beside last (omega arith) ∙ held-beside (renewed .beside) (omega arith) ∙ held-beside marked (omega arith) in
-        let cp : getD (set u 4498 0) 4496 0 ≡ getD s 4496 0 =
-        last .kept 4496 (λ low _. omega arith) ∙ renewed .beside .kept 4496 (λ _ high. omega arith) ∙ marked .kept 4496 (λ low _. omega arith) in
+        let held = held-beside last (omega arith) ∙ held-beside (tables-reset .beside) (omega arith) ∙ held-beside marked (omega arith) in
+        let current : getD (set u 4498 0) 4496 0 ≡ getD s 4496 0 =
+        last .kept 4496 (λ low _. omega arith) ∙ tables-reset .beside .kept 4496 (λ _ high. omega arith) ∙ marked .kept 4496 (λ low _. omega arith) in
         let turn : getD (set u 4498 0) 4498 0 ≡ 0 = getD-set-same u 4498 0 0 (omega (arith, whole₂)) in
-        rw (mark-stays, turn, owners, masks, flows, held, cp)
+        rw (mark-stays, turn, owners, masks, flows, held, current)
 
-    pub flows-renewed : flowsOf t ≡ flowsOf s
-    flows-renewed = flows-beside marked (λ k l₁ h₁ l₂ h₂. omega arith)
+    pub flows-reset : flowsOf t ≡ flowsOf s
+    flows-reset = flows-beside marked (λ k l₁ h₁ l₂ h₂. omega arith)
 
     pub went-reset : {A B : Type 0} {toAnswer : A → B} {m : model.Step A} {a : B}
-        → SteppedParts toAnswer m (withFirst (linkWith (partsIn plan s) (getD s 4496 0) (ownersOf u) (masksOf u) (flowsOf u) (heldOf s) (not (eqb (getD t 4497 0) 0))) 0) a
+        → SteppedParts toAnswer m (withTurn (linkWith (partsIn plan s) (getD s 4496 0) (ownersOf u) (masksOf u) (flowsOf u) (heldOf s) (not (eqb (getD t 4497 0) 0))) 0) a
         → Went toAnswer m plan (set u 4498 0) a
     went-reset x = record {
       link-is = ap linkOf parts-reset ∙ x .link-is;
@@ -162,7 +162,7 @@ module _ {plan : Plan} {w : Window} {s : List ℕ} (o : StateIn plan w s) where
         mark = rw mark-stays mark;
         bounds =
             bounds-beside last (omega arith) (λ k l₁ h₁ l₂ h₂. omega arith)
-            (bounds-beside (renewed .beside) (omega arith) (λ k l₁ h₁ l₂ h₂. omega arith)
+            (bounds-beside (tables-reset .beside) (omega arith) (λ k l₁ h₁ l₂ h₂. omega arith)
             (bounds-beside marked (omega arith) (λ k l₁ h₁ l₂ h₂. omega arith) (o .sound .bounds)));
         parts = rw parts-reset (x .sound);
       };
@@ -173,7 +173,7 @@ module _ {plan : Plan} {w : Window} {s : List ℕ} (o : StateIn plan w s) where
   abbrev pub Marked : List ℕ → Type 0
   Marked t =
       Beside 4497 4498 s t × (getD t 4497 0 ≤ 1)
-      × (not (eqb (getD t 4497 0) 0) ≡ not (eqb (ownerAt (partsIn plan s) (getD s 4496 0)) nobody) || partsIn plan s .taken)
+      × (not (eqb (getD t 4497 0) 0) ≡ not (eqb (ownerAt (partsIn plan s) (getD s 4496 0)) nobody) || partsIn plan s .marked)
 
   pub marked-booked : (getD s (4096 + w .current) 0 ≡ 16 → ⊥) → {t : List ℕ} → t ≡ set s 4497 1 → Marked t
   marked-booked n e =
@@ -189,11 +189,11 @@ module _ {plan : Plan} {w : Window} {s : List ℕ} (o : StateIn plan w s) where
 
 -- ---- the tests of a lend, as the code reads the owner
 
-pub tests-of : {plan : Plan} {w : Window} {s : List ℕ} → StateIn plan w s → (mask : ℕ) (taken : Bool) {n : ℕ}
-    → n ≡ firstOf (8 when leb (2 ^ plan .count) mask ∷ 17 when (not (eqb (getD s (4096 + w .current) 0) nobody) || taken) ∷ [])
-    → n ≡ firstOf (8 when leb (2 ^ plan .count) mask ∷ 17 when (not (eqb (ownerAt (partsIn plan s) (getD s 4496 0)) nobody) || taken) ∷ [])
-tests-of {plan} o mask taken e =
-    e ∙ ap (λ (x : ℕ). firstOf (8 when leb (2 ^ plan .count) mask ∷ 17 when (not (eqb x nobody) || taken) ∷ [])) (owner-of o)
+pub tests-of : {plan : Plan} {w : Window} {s : List ℕ} → StateIn plan w s → (mask : ℕ) (marked : Bool) {n : ℕ}
+    → n ≡ firstOf (8 when leb (2 ^ plan .count) mask ∷ 17 when (not (eqb (getD s (4096 + w .current) 0) nobody) || marked) ∷ [])
+    → n ≡ firstOf (8 when leb (2 ^ plan .count) mask ∷ 17 when (not (eqb (ownerAt (partsIn plan s) (getD s 4496 0)) nobody) || marked) ∷ [])
+tests-of {plan} o mask marked e =
+    e ∙ ap (λ (x : ℕ). firstOf (8 when leb (2 ^ plan .count) mask ∷ 17 when (not (eqb x nobody) || marked) ∷ [])) (owner-of o)
 
 -- ---- the owners, the masks and the flows of a reset
 
@@ -208,9 +208,9 @@ module _ (plan : Plan) (frame : ℕ) (s : List ℕ) (whole : Whole s) {t₁ : Li
     pub whole-masked : Whole t₂
     whole-masked = masks .beside .long ∙ whole-disowned
 
-    pub renewed-by : Words (plan .slots) (plan .frames) (λ p. true) u
-        → {t₃ : List ℕ} → FlowsNow t₂ t₃ (startedFlows frame (plan .entries) (plan .count) (flowsOf t₂)) → Renewed plan frame s t₃
-    renewed-by words flows = record {
+    pub reset-tables-by : Words (plan .slots) (plan .frames) (λ p. true) u
+        → {t₃ : List ℕ} → FlowsNow t₂ t₃ (startedFlows frame (plan .entries) (plan .count) (flowsOf t₂)) → ResetTables plan frame s t₃
+    reset-tables-by words flows = record {
       owners-are =
           owners-beside (flows .beside) (λ k l₁ h₁ l₂ h₂. omega arith)
           ∙ owners-beside (masks .beside) (λ k l₁ h₁ l₂ h₂. omega arith)

@@ -32,18 +32,18 @@ same-rest : (p : Plan) {s t : List ℕ} → Beside 0 4496 s t → {o u : List �
     → ownersOf t ≡ o → masksOf t ≡ u → flowsOf t ≡ fs → heldOf t ≡ h
     → partsIn p t ≡ withHoldings (withFlows (withOwners (partsIn p s) o u) fs) h
 same-rest p {s} {t} v o u fs h =
-    let cp : getD t 4496 0 ≡ getD s 4496 0 = v .kept 4496 (λ _ high. omega arith) in
+    let current : getD t 4496 0 ≡ getD s 4496 0 = v .kept 4496 (λ _ high. omega arith) in
     let mark : getD t 4497 0 ≡ getD s 4497 0 = v .kept 4497 (λ _ high. omega arith) in
     let first : getD t 4498 0 ≡ getD s 4498 0 = v .kept 4498 (λ _ high. omega arith) in
     λ k. record {
       plan = p;
-      cp = cp k;
+      current = current k;
       owner = o k;
       unbooked = u k;
       flows = fs k;
       held = h k;
-      taken = not (eqb (mark k) 0);
-      first = first k;
+      marked = not (eqb (mark k) 0);
+      turn = first k;
     }
 
 module _ (p : Plan) (s : List ℕ) (whole : Whole s) where

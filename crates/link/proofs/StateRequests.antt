@@ -167,7 +167,7 @@ module _ {p : Plan} {n : ℕ} {e : Entry} {w : Window} {f : Fields} {x : ℕ} {s
           stopped-is k = movedTo (stored-is k) ((newest-is ∙ ap newest (o .state .window-is)) k) c
 
           pub stopped-few : FitsBytes stoppedHere
-          stopped-few = rw stopped-is (stopped-fits hand x tests z same c is (rw (← stored-is) (fits .left)))
+          stopped-few = rw stopped-is (stopped-fits hand x tests z same c is (rw (← stored-is) (fits .remainder)))
 
           pub went-stopped : {t : List ℕ} → t ≡ withFlowAt s i stoppedHere
               → Went replyOf (request (readIn p s) x) p t (record { number = firstOf (newestTests (wouldBeValid (readIn p s) i) c); position = 0 })
@@ -186,7 +186,7 @@ module _ {p : Plan} {n : ℕ} {e : Entry} {w : Window} {f : Fields} {x : ℕ} {s
           granted-is k = grantedIn (stored-is k) j c
 
           pub granted-few : FitsBytes grantedHere
-          granted-few = rw granted-is (granted-fits hand x tests z same j c q is (rw (← stored-is) (fits .left)))
+          granted-few = rw granted-is (granted-fits hand x tests z same j c q is (rw (← stored-is) (fits .remainder)))
 
           pub in-frame : InFrame w j q
           in-frame = granted-in-frame hand x tests z same j c q is

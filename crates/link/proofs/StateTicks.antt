@@ -32,7 +32,7 @@ use Rattle.link.specs.Changes.{FlowsNow, FrameLeft, ChangeIn}
 use Rattle.link.specs.Reading.{linkOf}
 use Rattle.link.specs.Sound.{SoundState}
 use Rattle.link.specs.Steps.{readIn, Went}
-use Rattle.link.specs.Updates.{leftHeads, withCurrent, withTaken}
+use Rattle.link.specs.Updates.{leftHeads, withCurrent, withMark}
 use Rattle.link.proofs.Plans.{count-most}
 use Rattle.link.proofs.Given.{AtHand, at-hand-ticked, in-hand, bounds-in, bounds-out}
 use Rattle.link.proofs.FlowBytes.{flows-beside}
@@ -109,7 +109,7 @@ module _ (plan : Plan) (s : List ℕ) (whole : Whole s) (c : ℕ) where
   mark-is : getD tickedState 4497 0 ≡ 0
   mark-is = getD-set-other (set s 4497 0) 4496 4497 c 0 (λ z. omega arith) ∙ getD-set-same s 4497 0 0 (omega (arith, whole))
 
-  parts-ticked : partsIn plan tickedState ≡ withCurrent (withTaken (partsIn plan s) false) c
+  parts-ticked : partsIn plan tickedState ≡ withCurrent (withMark (partsIn plan s) false) c
   parts-ticked =
       let owners = owners-beside after (λ k l₁ h₁ l₂ h₂. omega arith) in
       let masks = masks-beside after (λ k l₁ h₁ l₂ h₂. omega arith) in
@@ -127,7 +127,7 @@ module _ {plan : Plan} {w on : Window} {s : List ℕ} (o : StateIn plan w s) (t 
   TickedTo v =
       Went answerToTick (tick.tick (readIn plan s)) plan v (answerToTick (ownerOf (getD v (4096 + on .current) 0))) × StateIn plan on v
 
-  went : (u : List ℕ) → Whole u → Bounds (sizeFor plan) u → Advanced (partsIn plan s) (withTaken (partsIn plan u) false) (on .current) → TickedTo (set (set u 4497 0) 4496 (on .current))
+  went : (u : List ℕ) → Whole u → Bounds (sizeFor plan) u → Advanced (partsIn plan s) (withMark (partsIn plan u) false) (on .current) → TickedTo (set (set u 4497 0) 4496 (on .current))
   went u whole bounds a =
       let few : on .current < 256 = omega (arith, t .proper .measures .current-below, t .proper .measures .positions-most) in
       let is = parts-ticked plan u whole (on .current) in

@@ -11,7 +11,7 @@ use Rattle.model.specs.Word.{flowOf, departureOf}
 use Rattle.model.specs.Request.{Found, found, nowhere, requestTests, sought, booked, refusedAtNewest, answered, requestAfter, request}
 use Rattle.model.specs.Credit.{creditTests, lowered, creditAfter, credit}
 use Rattle.model.specs.Lend.{lend, lendAfter, lentAfter, lentTo, lendTests, firstInTurn}
-use Rattle.model.specs.Reset.{reset, resetAfter, renewed, resetTests}
+use Rattle.model.specs.Reset.{reset, resetAfter, resetLink, resetTests}
 use Rattle.plan.specs.declared.Plan.{Plan}
 use Rattle.window.specs.declared.Window.{Window}
 use Rattle.window.specs.Window.{windowOf}
@@ -52,7 +52,7 @@ lend-current l mask = go (firstOf (lendTests l mask))
     go (suc n) = refl
 
 pub reset-current : (l : model.Link) → reset l .link .current ≡ l .current
-unfolding reset resetAfter renewed
+unfolding reset resetAfter resetLink
 reset-current l = go (firstOf (resetTests l))
   where
     go : (n : ℕ) → resetAfter n l .link .current ≡ l .current

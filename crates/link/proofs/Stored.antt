@@ -43,13 +43,13 @@ pub stored-reading : (l : Parts) → Sound l → stored (linkOf l) ≡ l
 unfolding stored linkOf everywhere
 stored-reading l s = λ k. record {
   plan = stored-plan (l .plan) (s .plan) k;
-  cp = l .cp;
+  current = l .current;
   owner = owners k;
   unbooked = words k;
   flows = flows k;
   held = held k;
-  taken = l .taken;
-  first = l .first;
+  marked = l .marked;
+  turn = l .turn;
 }
   where
     owner : (p : ℕ) → p < 256 → Dec (p < sizeOf l) → storedOwner (model.owner (linkOf l) p) ≡ ownerAt l p

@@ -18,7 +18,7 @@ use Rattle.tables.specs.Holdings.{carried}
 use Rattle.link.specs.declared.Flow.{Flow}
 use Rattle.link.specs.Parts.{Parts}
 use Rattle.link.specs.Layout.{ownerAt}
-use Rattle.link.specs.Updates.{leftHeads, linkWith, withCurrent, withTaken}
+use Rattle.link.specs.Updates.{leftHeads, linkWith, withCurrent, withMark}
 use Rattle.link.specs.Reading.{linkOf}
 use Rattle.link.specs.Sound.{Sound}
 use Rattle.link.specs.Steps.{SteppedParts}
@@ -34,7 +34,7 @@ pub record Advanced (l x : Parts) (p : ℕ) : Type 0 where
   pub sound : Sound (withCurrent x p)
 
 module _ (l : Parts) (s : Sound l) where
-  stayed : (nextAt l % l .plan .slots ≡ 0 → ⊥) → Advanced l (withTaken l false) (nextAt l)
+  stayed : (nextAt l % l .plan .slots ≡ 0 → ⊥) → Advanced l (withMark l false) (nextAt l)
   unfolding tick.advanced linkOf
   stayed n = record {
     plan-is = refl;
@@ -61,11 +61,11 @@ module _ {l : Parts} {plan : Plan} {w : Window} (a : AtHand l plan w) {on : Wind
   slots-are = ap (λ (x : Window). x .slots) window-is
 
   -- the head frame stays
-  pub head-stays : {x : Parts} → on .head ≡ w .head → withCurrent x (on .current) ≡ withCurrent (withTaken l false) (on .current)
+  pub head-stays : {x : Parts} → on .head ≡ w .head → withCurrent x (on .current) ≡ withCurrent (withMark l false) (on .current)
       → Advanced l x (on .current)
   head-stays e same =
       let r = stayed l (a .sound) (λ z. t .stays e (rw (next-is, slots-are) z)) in
-      let there = same ∙ ap (withCurrent (withTaken l false)) next-is in
+      let there = same ∙ ap (withCurrent (withMark l false)) next-is in
       record { plan-is = ap (λ (y : Parts). y .plan) there; link-is = ap linkOf there ∙ r .link-is; sound = rw there (r .sound) }
 
   -- the head frame is left: its owners with their words, its holdings and its flows were changed

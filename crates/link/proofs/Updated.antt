@@ -26,7 +26,7 @@ use Rattle.tables.proofs.Rows.{length-row, length-with-row, row-with-same, row-
 use Rattle.link.specs.declared.Flow.{Flow}
 use Rattle.link.specs.Parts.{Parts}
 use Rattle.link.specs.Layout.{FlowRow, sizeFor, sizeOf, flowRow, flowIn, flowAt, noFlow}
-use Rattle.link.specs.Updates.{linkWith, withOwners, withFirst, withFlow}
+use Rattle.link.specs.Updates.{linkWith, withOwners, withTurn, withFlow}
 use Rattle.link.specs.Reading.{spareFlow, flowOf, linkOf}
 use Rattle.link.specs.Sound.{Sound, SoundFlow}
 use Rattle.link.proofs.Readings.{read-count, read-flow, read-holding, read-owner, flows-most, size-most}
@@ -64,11 +64,11 @@ module _ (l : Parts) (s : Sound l) where
     held-long = flows .rows;
     flows = flows .each;
     spare-flows = flows .spare;
-    first = s .first;
+    turn = s .turn;
   }
 
   -- another flow to lend from
-  pub sound-first : {i : ℕ} → i < l .plan .count → Sound (withFirst l i)
+  pub sound-first : {i : ℕ} → i < l .plan .count → Sound (withTurn l i)
   sound-first below = record {
     plan = s .plan;
     current = s .current;
@@ -80,7 +80,7 @@ module _ (l : Parts) (s : Sound l) where
     held-long = s .held-long;
     flows = s .flows;
     spare-flows = s .spare-flows;
-    first = below;
+    turn = below;
   }
 
   pub sound-owners : SoundOwners (l .plan) (l .owner) (l .unbooked)
@@ -201,7 +201,7 @@ module _ (l : Parts) (s : Sound l) where
         → linkOf (withFlow l i (flowRow f h)) ≡ model.withFlow (linkOf l) i (model.withHeld y (model.heldFrom (linkOf l) i p g))
     read-from reads = read-with-flow i hi _ long-from ∙ (λ k. model.withFlow (linkOf l) i (model.withHeld (reads k) (held-from k)))
 
-    pub sound-from : f .frame < l .plan .frames → f .number < 1024 → Sound (withFlow l i (flowRow f h))
+    pub sound-from : f .injection < l .plan .frames → f .number < 1024 → Sound (withFlow l i (flowRow f h))
     unfolding linkOf fromIn
     sound-from hj hk = sound-with-flow i hi _ long-from (record {
       frame = hj;

@@ -9,7 +9,7 @@ use lib.ListN.{getD}
 use borrow.Author.Tests.{lt-ltb, le-ltb, ltb-true, eq-eqb, ne-eqb}
 use Rattle.model.specs.Refusals.{Line, firstOf, _when_}
 use Rattle.model.specs.Word as word
-use Rattle.model.specs.Plan as paper
+use Rattle.model.specs.Plan as reference
 use Rattle.model.specs.Calls.{refused}
 use Rattle.model.specs.Link as model
 use Rattle.model.specs.Request.{numberTests, requestTests, sought, answered, requestAfter, request}
@@ -51,8 +51,8 @@ module _ (x : ℕ) (f : Fields) (is : fieldsOf f ≡ word.split x) (p : Plan) (k
   entryThere = getD (p .entries) (f .flow) noEntry
 
   module _ (h : f .flow < p .count) where
-    destination-there : paper.entry (planFor p) (f .flow) .destination ≡ entryThere .destination
-    destination-there = ap (λ (y : paper.Entry). y .destination) (plan-entry p (f .flow) h)
+    destination-there : reference.entry (planFor p) (f .flow) .destination ≡ entryThere .destination
+    destination-there = ap (λ (y : reference.Entry). y .destination) (plan-entry p (f .flow) h)
 
     pub word-9 : (f .destination ≡ entryThere .destination → ⊥) → 9 ≡ firstOf (requestTests (planFor p) k x)
     unfolding firstOf
@@ -104,8 +104,8 @@ module _ (l : Parts) (x : ℕ) {n : ℕ} (tests : n ≡ testsOf l x) where
     unfolding firstOf
     departure-below =
         let P = planFor (l .plan) in
-        let flow-there = ltb (word.flowOf x) (paper.flowCount P) in
-        let own-destination = eqb (word.destinationOf x) (paper.entry P (word.flowOf x) .destination) in
+        let flow-there = ltb (word.flowOf x) (reference.flowCount P) in
+        let own-destination = eqb (word.destinationOf x) (reference.entry P (word.flowOf x) .destination) in
         ltb-true _ _ (passes-third flow-there own-destination _ (numberTests (model.flow (linkOf l) (word.flowOf x) .number) x) (sym tests ∙ z))
       where
         passes-third : (a b c : Bool) (rest : List Line) → firstOf (8 when not a ∷ 9 when not b ∷ 10 when not c ∷ rest) ≡ 0 → c ≡ true

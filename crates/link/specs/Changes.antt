@@ -39,7 +39,7 @@ pub record BookedIn (w : Window) (i j p : ℕ) (before after : List ℕ) : Type 
   pub is : after ≡ raised w i p masked
 
 -- nobody owns a position, and the plan's flows start in a frame
-pub record Renewed (plan : Plan) (frame : ℕ) (before after : List ℕ) : Type 0 where
+pub record ResetTables (plan : Plan) (frame : ℕ) (before after : List ℕ) : Type 0 where
   pub owners-are : ownersOf after ≡ everywhere nobody
   pub masks-are : Words (plan .slots) (plan .frames) (λ p. true) (masksOf after)
   pub flows-are : flowsOf after ≡ startedFlows frame (plan .entries) (plan .count) (flowsOf before)

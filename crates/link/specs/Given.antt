@@ -39,15 +39,15 @@ pub record Creditable (n : ℕ) (w : Window) (held : List ℕ) (i p : ℕ) : Typ
 -- ---- a request
 
 -- flow i of a plan of n flows, and 0 where there is none
-abbrev pub placed : (n i : ℕ) → ℕ
-placed n i = cond (ltb i n) i 0
+abbrev pub flowOrZero : (n i : ℕ) → ℕ
+flowOrZero n i = cond (ltb i n) i 0
 
 -- word x, whose fields are f, on a state of plan p, which has n flows: e is the entry of its flow, and of flow 0 where there is none
 pub record RequestIn (p : Plan) (n : ℕ) (e : Entry) (w : Window) (f : Fields) (x : ℕ) (s : List ℕ) : Type 0 where
   pub state : StateIn p w s
   pub count-is : n ≡ p .count
   pub fields-are : fieldsOf f ≡ split x
-  pub entry-is : e ≡ getD (p .entries) (placed n (f .flow)) noEntry
+  pub entry-is : e ≡ getD (p .entries) (flowOrZero n (f .flow)) noEntry
 
 -- what is given is given of some plan and some word
 pub record SomeRequest (Given : Plan → ℕ → Type 0) : Type 0 where

@@ -24,7 +24,7 @@ ownerAt l p = getD (l .owner) p 0
 
 -- past the end of the flows
 abbrev pub noFlow : Flow
-noFlow = record { frame = 0; left = 0; number = 0 }
+noFlow = record { injection = 0; remainder = 0; number = 0 }
 
 -- a flow with its row of the holdings: what it holds at each of 256 positions
 pub record FlowRow : Type 0 where

@@ -13,26 +13,26 @@ use Rattle.link.specs.declared.Link.{Link}
 
 pub record Parts : Type 0 where
   pub plan : Plan
-  pub cp : ℕ
+  pub current : ℕ
   pub owner : List ℕ
   pub unbooked : List ℕ
   pub flows : List Flow
   pub held : List ℕ
-  pub taken : Bool
-  pub first : ℕ
+  pub marked : Bool
+  pub turn : ℕ
 
 -- ---- a flow in four bytes: its frame, its remainder, and its number, the low byte first
 
 abbrev pub flowFrom : List ℕ → Flow
-flowFrom xs = record { frame = getD xs 0 0; left = getD xs 1 0; number = getD xs 2 0 + 256 * getD xs 3 0 }
+flowFrom xs = record { injection = getD xs 0 0; remainder = getD xs 1 0; number = getD xs 2 0 + 256 * getD xs 3 0 }
 
 abbrev pub flowBytes : Flow → List ℕ
-flowBytes f = f .frame ∷ f .left ∷ f .number % 256 ∷ f .number / 256 ∷ []
+flowBytes f = f .injection ∷ f .remainder ∷ f .number % 256 ∷ f .number / 256 ∷ []
 
 -- each of its numbers fits its bytes
 pub record FitsBytes (f : Flow) : Type 0 where
-  pub frame : f .frame < 256
-  pub left : f .left < 256
+  pub injection : f .injection < 256
+  pub remainder : f .remainder < 256
   pub number : f .number < 65536
 
 unfoldable pub flowRead : List ℕ → (i : ℕ) → Flow
@@ -49,13 +49,13 @@ flowsOf s = table 16 (flowRead s)
 abbrev pub partsIn : Plan → List ℕ → Parts
 partsIn p s = record {
   plan = p;
-  cp = getD s 4496 0;
+  current = getD s 4496 0;
   owner = ownersOf s;
   unbooked = masksOf s;
   flows = flowsOf s;
   held = heldOf s;
-  taken = not (eqb (getD s 4497 0) 0);
-  first = getD s 4498 0;
+  marked = not (eqb (getD s 4497 0) 0);
+  turn = getD s 4498 0;
 }
 
 abbrev pub partsOf : Link → Parts

@@ -1,4 +1,4 @@
--- A link read as the paper's: the first T positions, the first n flows; and the paper's link as it is stored. Assumes nothing.
+-- A link read as the model's: the first T positions, the first n flows; and the model's link as it is stored. Assumes nothing.
 use Prim.Native.Nat.{ℕ}
 use mathlib.Core.Option.{Option, some, none}
 use lib.ListN.{getD}
@@ -14,13 +14,13 @@ use Rattle.model.specs.Tables.{table}
 use Rattle.model.specs.Link as model
 use Rattle.model.specs.Request.{unbooked}
 
--- ---- read as the paper's
+-- ---- read as the model's
 
 -- the holdings at the first T positions
 abbrev pub flowOf : ℕ → FlowRow → model.Flow
 flowOf T x = record {
-  injection = x .flow .frame;
-  remainder = x .flow .left;
+  injection = x .flow .injection;
+  remainder = x .flow .remainder;
   held = table T (λ p. getD (x .held) p 0);
   number = x .flow .number;
 }
@@ -28,14 +28,14 @@ flowOf T x = record {
 unfoldable pub linkOf : Parts → model.Link
 linkOf l = record {
   plan = plan.planFor (l .plan);
-  current = l .cp;
+  current = l .current;
   owners = table (sizeOf l) (λ p. ownerOf (ownerAt l p));
   flows = table (l .plan .count) (λ i. flowOf (sizeOf l) (flowAt l i));
-  taken = l .taken;
-  lookFrom = l .first;
+  marked = l .marked;
+  turn = l .turn;
 }
 
--- ---- the paper's link as it is stored: 256 positions and 16 flows
+-- ---- the model's link as it is stored: 256 positions and 16 flows
 
 -- what stands in the place of a flow that the plan does not have
 abbrev pub spareFlow : FlowRow
@@ -51,11 +51,11 @@ storedFlow f = withNumber (movedTo noFlow (f .injection) (f .remainder)) (f .num
 unfoldable pub stored : model.Link → Parts
 stored m = record {
   plan = plan.stored (m .plan);
-  cp = m .current;
+  current = m .current;
   owner = table 256 (λ p. storedOwner (model.owner m p));
   unbooked = wordsOf (m .plan .slots) (m .plan .frames) (λ p. unbooked (model.owner m p));
   flows = table 16 (λ i. storedFlow (model.flow m i));
   held = rowsOf (model.holding m);
-  taken = m .taken;
-  first = m .lookFrom;
+  marked = m .marked;
+  turn = m .turn;
 }

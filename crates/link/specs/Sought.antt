@@ -1,4 +1,4 @@
--- What the search of a request comes to, from what the paper's search does. Assumes nothing.
+-- What the search of a request comes to, from what the model's search does. Assumes nothing.
 use Prim.Native.Nat.{ℕ}
 use mathlib.Core.Bool.{Bool}
 use Rattle.model.specs.Refusals.{firstOf}

@@ -15,13 +15,13 @@ use Rattle.plan.specs.Reading.{Valid}
 
 -- a flow: IF is one of W frames, nothing is held past the T positions, and a number modulo 1,024 is expected
 pub record SoundFlow (plan : Plan) (x : FlowRow) : Type 0 where
-  pub frame : x .flow .frame < plan .frames
+  pub frame : x .flow .injection < plan .frames
   pub spare : (p : ℕ) → sizeFor plan ≤ p → getD (x .held) p 0 ≡ 0
   pub number : x .flow .number < 1024
 
 pub record Sound (l : Parts) : Type 0 where
   pub plan : Valid (l .plan)
-  pub current : l .cp < sizeOf l
+  pub current : l .current < sizeOf l
   pub owners-long : length (l .owner) ≡ 256
   -- an owner is a flow, or nobody
   pub owners : (p : ℕ) → p < 256 → (ownerAt l p ≡ nobody → ⊥) → ownerAt l p < l .plan .count
@@ -33,7 +33,7 @@ pub record Sound (l : Parts) : Type 0 where
   pub flows : (i : ℕ) → i < l .plan .count → SoundFlow (l .plan) (flowAt l i)
   pub spare-flows : (i : ℕ) → l .plan .count ≤ i → i < 16 → flowAt l i ≡ spareFlow
   -- the next lend looks at one of the plan's flows first
-  pub first : l .first < l .plan .count
+  pub turn : l .turn < l .plan .count
 
 -- a state of a link with this plan: its parts are sound, it has no other bytes, the mark is 0 or 1, and no flow holds more than its bound
 pub record SoundState (plan : Plan) (s : List ℕ) : Type 0 where

@@ -1,4 +1,4 @@
--- What a call of the code comes to, against what the paper's call hands back. Assumes nothing.
+-- What a call of the code comes to, against what the model's call hands back. Assumes nothing.
 use Prim.Native.Nat.{ℕ}
 use mathlib.Core.Path.{_≡_}
 use mathlib.Core.List.{List}
@@ -8,7 +8,7 @@ use Rattle.model.specs.Word.{departureOf, depart}
 use Rattle.model.specs.Calls as calls
 use Rattle.model.specs.Calls.{Grant, accepted, refused}
 use Rattle.calls.specs.declared.Answer.{Answer}
-use Rattle.calls.specs.declared.Answer.the-variants.{Granted, Taken, Refused}
+use Rattle.calls.specs.declared.Answer.the-variants.{Granted, Accepted, Refused}
 use Rattle.model.specs.Link as model
 use Rattle.plan.specs.declared.Plan.{Plan}
 use Rattle.link.specs.declared.Link.{Link}
@@ -18,20 +18,20 @@ use Rattle.link.specs.Parts.{Parts, partsIn}
 use Rattle.link.specs.Reading.{linkOf}
 use Rattle.link.specs.Sound.{Sound, SoundState}
 
--- a link of the paper, read of a plan and a state
+-- a link of the model, read of a plan and a state
 abbrev pub readIn : Plan → List ℕ → model.Link
 readIn plan s = linkOf (partsIn plan s)
 
 abbrev pub readOf : Link → model.Link
 readOf l = readIn (l .plan) (l .state)
 
--- the state has the paper's next link and is sound again, and the answer is the paper's, as the code has it
+-- the state has the model's next link and is sound again, and the answer is the model's, as the code has it
 pub record Went {A B : Type 0} (toAnswer : A → B) (m : model.Step A) (plan : Plan) (after : List ℕ) (answer : B) : Type 0 where
   pub link-is : readIn plan after ≡ m .link
   pub answer-is : answer ≡ toAnswer (m .answer)
   pub sound : SoundState plan after
 
--- r has the paper's next link and its answer, and the link is sound again
+-- r has the model's next link and its answer, and the link is sound again
 abbrev pub Stepped : {A : Type 0} (toAnswer : A → Answer) (m : model.Step A) (r : Step) → Type 0
 Stepped toAnswer m r = Went toAnswer m (r .link .plan) (r .link .state) (r .answer)
 
@@ -55,7 +55,7 @@ replyOf (refused number) = record { number = number; position = 0 }
 
 -- the answer to a credit, from its number
 abbrev pub creditAnswer : ℕ → Answer
-creditAnswer n = cond (eqb n 0) Taken (Refused n)
+creditAnswer n = cond (eqb n 0) Accepted (Refused n)
 
 -- the answer to word x, from what its request comes to
 abbrev pub requestAnswer : (x : ℕ) → Reply → Answer

@@ -17,11 +17,11 @@ use Rattle.model.specs.Request.{nextNumber}
 
 -- another frame and another remainder
 abbrev pub movedTo : Flow → ℕ → ℕ → Flow
-movedTo f j c = record { frame = j; left = c; number = f .number }
+movedTo f j c = record { injection = j; remainder = c; number = f .number }
 
 -- another number
 abbrev pub withNumber : Flow → ℕ → Flow
-withNumber f k = record { frame = f .frame; left = f .left; number = k }
+withNumber f k = record { injection = f .injection; remainder = f .remainder; number = k }
 
 -- after a grant: another frame and another remainder, and the next number
 abbrev pub grantedIn : Flow → ℕ → ℕ → Flow
@@ -29,7 +29,7 @@ grantedIn f j c = withNumber (movedTo f j c) (nextNumber (f .number))
 
 -- a flow that was in the head frame goes on in the next one, with its share
 abbrev pub leftHead : (head on share : ℕ) → Flow → Flow
-leftHead head on share f = cond (eqb (f .frame) head) (movedTo f on share) f
+leftHead head on share f = cond (eqb (f .injection) head) (movedTo f on share) f
 
 -- each of the plan's flows that was in the head frame
 abbrev pub leftHeads : Plan → (head on : ℕ) → List Flow → List Flow
@@ -42,27 +42,27 @@ withHeld x h = flowRow (x .flow) h
 -- ---- a link
 
 -- another current position, other owners with their words, other flows and holdings, and another mark; the flow to lend from stays
-abbrev pub linkWith : Parts → (cp : ℕ) (owner unbooked : List ℕ) (flows : List Flow) (held : List ℕ) (taken : Bool) → Parts
-linkWith l p o u fs h t = record { plan = l .plan; cp = p; owner = o; unbooked = u; flows = fs; held = h; taken = t; first = l .first }
+abbrev pub linkWith : Parts → (current : ℕ) (owner unbooked : List ℕ) (flows : List Flow) (held : List ℕ) (marked : Bool) → Parts
+linkWith l p o u fs h t = record { plan = l .plan; current = p; owner = o; unbooked = u; flows = fs; held = h; marked = t; turn = l .turn }
 
 abbrev pub withCurrent : Parts → ℕ → Parts
-withCurrent l p = linkWith l p (l .owner) (l .unbooked) (l .flows) (l .held) (l .taken)
+withCurrent l p = linkWith l p (l .owner) (l .unbooked) (l .flows) (l .held) (l .marked)
 
 abbrev pub withOwners : Parts → (owner unbooked : List ℕ) → Parts
-withOwners l o u = linkWith l (l .cp) o u (l .flows) (l .held) (l .taken)
+withOwners l o u = linkWith l (l .current) o u (l .flows) (l .held) (l .marked)
 
 abbrev pub withFlows : Parts → List Flow → Parts
-withFlows l fs = linkWith l (l .cp) (l .owner) (l .unbooked) fs (l .held) (l .taken)
+withFlows l fs = linkWith l (l .current) (l .owner) (l .unbooked) fs (l .held) (l .marked)
 
 abbrev pub withHoldings : Parts → List ℕ → Parts
-withHoldings l h = linkWith l (l .cp) (l .owner) (l .unbooked) (l .flows) h (l .taken)
+withHoldings l h = linkWith l (l .current) (l .owner) (l .unbooked) (l .flows) h (l .marked)
 
-abbrev pub withTaken : Parts → Bool → Parts
-withTaken l t = linkWith l (l .cp) (l .owner) (l .unbooked) (l .flows) (l .held) t
+abbrev pub withMark : Parts → Bool → Parts
+withMark l t = linkWith l (l .current) (l .owner) (l .unbooked) (l .flows) (l .held) t
 
 -- another flow to lend from
-abbrev pub withFirst : Parts → ℕ → Parts
-withFirst l i = record { plan = l .plan; cp = l .cp; owner = l .owner; unbooked = l .unbooked; flows = l .flows; held = l .held; taken = l .taken; first = i }
+abbrev pub withTurn : Parts → ℕ → Parts
+withTurn l i = record { plan = l .plan; current = l .current; owner = l .owner; unbooked = l .unbooked; flows = l .flows; held = l .held; marked = l .marked; turn = i }
 
 -- another flow i, with its row
 abbrev pub withFlow : Parts → ℕ → FlowRow → Parts

@@ -43,7 +43,7 @@ fn told(number: u8) -> Answer
     if number != 0 {
         return Answer::Refused(number);
     }
-    Answer::Taken
+    Answer::Accepted
 }
 
 impl Link {
@@ -53,8 +53,8 @@ impl Link {
         ensures { λ r. ⌜ Stepped answerToCredit (model.credit (readOf self) flow position) r ⌝ }
     {
         let plan = self.plan;
-        let cp = self.state[CURRENT];
-        let w = window(plan.slots, plan.frames, cp as usize);
+        let current = self.state[CURRENT];
+        let w = window(plan.slots, plan.frames, current as usize);
         let number = credit(&mut self.state, plan, w, flow, position);
         Step {
             link: self,

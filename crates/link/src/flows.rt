@@ -19,8 +19,8 @@ pub fn flow_at(s: &State, i: usize) -> Flow
 {
     let at = FLOWS + 4 * i;
     Flow {
-        frame: wide(s[at]),
-        left: wide(s[at + 1]),
+        injection: wide(s[at]),
+        remainder: wide(s[at + 1]),
         number: wide(s[at + 2]) + 256 * wide(s[at + 3]),
     }
 }
@@ -30,8 +30,8 @@ pub fn put_flow(s: &mut State, i: usize, f: Flow)
     ensures { λ r. ⌜ now (s .exit) ≡ withFlowAt (now (s .entry)) i f ⌝ }
 {
     let at = FLOWS + 4 * i;
-    s[at] = f.frame as u8;
-    s[at + 1] = f.left as u8;
+    s[at] = f.injection as u8;
+    s[at + 1] = f.remainder as u8;
     s[at + 2] = (f.number % 256) as u8;
     s[at + 3] = (f.number / 256) as u8;
 }

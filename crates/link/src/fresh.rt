@@ -15,6 +15,7 @@ use crate::flows::flow_at;
 use crate::flows::put_flow;
 use plan::Plan;
 use state::CURRENT;
+use state::LENGTH;
 use state::MARK;
 use state::State;
 use state::TURN;
@@ -29,8 +30,8 @@ fn no_flows(s: &mut State)
     ensures { λ r. ⌜ FlowsNow (now (s .entry)) (now (s .exit)) noFlows ⌝ }
 {
     let spare = Flow {
-        frame: 0,
-        left: 0,
+        injection: 0,
+        remainder: 0,
         number: 0,
     };
     let mut i = 0;
@@ -76,7 +77,7 @@ impl Link {
         ensures link { λ r. ⌜ readOf r ≡ model.fresh (planFor plan) ⌝ }
         ensures sound { λ r. ⌜ SoundLink r ⌝ }
     {
-        let mut state = [0u8; 4499];
+        let mut state = [0u8; LENGTH];
         begin(&mut state, plan);
         Link { plan, state }
     }

@@ -20,6 +20,7 @@ use crate::Step;
 use plan::Plan;
 use state::CURRENT;
 use state::MARK;
+use state::NOBODY;
 use state::OWNERS;
 use state::State;
 use state::TURN;
@@ -42,24 +43,24 @@ fn bits_from(mask: u16, n: usize) -> u16
     rest
 }
 
-// Whether a slot with this owner and this mark is booked or marked taken.
-pub(crate) fn booked_or_marked(owner: u8, taken: bool) -> bool
-    ensures { λ r. ⌜ r ≡ not (eqb owner nobody) || taken ⌝ }
+// Whether a slot with this owner and this mark is booked or marked.
+pub(crate) fn booked_or_marked(owner: u8, marked: bool) -> bool
+    ensures { λ r. ⌜ r ≡ not (eqb owner nobody) || marked ⌝ }
 {
-    if owner != 16 {
+    if owner != NOBODY {
         return true;
     }
-    taken
+    marked
 }
 
 // The refusal of a lend before its flows are looked at, and 0 where there is none: n flows, the owner of the current position, and its mark.
-fn refusal(count: usize, owner: u8, taken: bool, mask: u16) -> u8
-    ensures { λ r. ⌜ r ≡ firstOf (8 when leb (2 ^ count) mask ∷ 17 when (not (eqb owner nobody) || taken) ∷ []) ⌝ }
+fn refusal(count: usize, owner: u8, marked: bool, mask: u16) -> u8
+    ensures { λ r. ⌜ r ≡ firstOf (8 when leb (2 ^ count) mask ∷ 17 when (not (eqb owner nobody) || marked) ∷ []) ⌝ }
 {
     if bits_from(mask, count) != 0 {
         return 8;
     }
-    if booked_or_marked(owner, taken) {
+    if booked_or_marked(owner, marked) {
         return 17;
     }
     0
@@ -91,8 +92,8 @@ pub fn lend(s: &mut State, plan: Plan, w: Window, mask: u16) -> Answer
     requires { ⌜ StateIn plan w (now s) ⌝ }
     ensures { λ r. ⌜ Went answerToLend (model.lend (readIn plan (now (s .entry))) mask) plan (now (s .exit)) r ⌝ }
 {
-    let cp = w.current;
-    let owner = s[OWNERS + cp];
+    let current = w.current;
+    let owner = s[OWNERS + current];
     let mark = s[MARK];
     let number = refusal(plan.count, owner, mark != 0, mask);
     if number != 0 {
@@ -103,7 +104,7 @@ pub fn lend(s: &mut State, plan: Plan, w: Window, mask: u16) -> Answer
     if i == plan.count {
         return Answer::Refused(18);
     }
-    raise_from(s, i, w, cp);
+    raise_from(s, i, w, current);
     s[MARK] = 1;
     s[TURN] = next(plan.count, i) as u8;
     Answer::Lent(i as u8)
@@ -116,8 +117,8 @@ impl Link {
         ensures { λ r. ⌜ Stepped answerToLend (model.lend (readOf self) mask) r ⌝ }
     {
         let plan = self.plan;
-        let cp = self.state[CURRENT];
-        let w = window(plan.slots, plan.frames, cp as usize);
+        let current = self.state[CURRENT];
+        let w = window(plan.slots, plan.frames, current as usize);
         let answer = lend(&mut self.state, plan, w, mask);
         Step { link: self, answer }
     }

@@ -1,5 +1,5 @@
 // One link of a plan: its current position, the owner of each position, each flow's frame, remainder and expected number, what each flow
-// holds, whether the current slot is marked taken, and whose turn it is to be lent to.
+// holds, whether the current slot is marked, and whose turn it is to be lent to.
 ghost use mathlib.Core.Path.{_≡_};
 ghost use Prim.Native.Nat.{_<_};
 ghost use Rattle.link.specs.Updates.{movedTo, grantedIn};
@@ -19,8 +19,8 @@ use state::State;
 
 // A flow's injection frame, its remainder, and the quantum number that is expected of its next word.
 pub struct Flow {
-    pub frame: usize,
-    pub left: usize,
+    pub injection: usize,
+    pub remainder: usize,
     pub number: usize,
 }
 
@@ -29,8 +29,8 @@ impl Flow {
     pub fn moved_to(mut self, frame: usize, left: usize) -> Flow
         ensures { λ r. ⌜ r ≡ movedTo self frame left ⌝ }
     {
-        self.frame = frame;
-        self.left = left;
+        self.injection = frame;
+        self.remainder = left;
         self
     }
 
@@ -39,8 +39,8 @@ impl Flow {
         requires { ⌜ self .number < 1024 ⌝ }
         ensures { λ r. ⌜ r ≡ grantedIn self frame left ⌝ }
     {
-        self.frame = frame;
-        self.left = left;
+        self.injection = frame;
+        self.remainder = left;
         self.number = (self.number + 1) % 1024;
         self
     }

@@ -10,7 +10,7 @@ ghost use Rattle.link.specs.Parts.{partsIn};
 ghost use Rattle.link.specs.Changes.{BookedIn};
 ghost use Rattle.link.specs.Sound.{SoundLink};
 ghost use Rattle.link.specs.Steps.{readIn, readOf, Went, Stepped, replyOf, requestAnswer};
-ghost use Rattle.link.specs.Given.{SomePlan, SomeRequest, RequestIn, SeekIn, placed, testsOf};
+ghost use Rattle.link.specs.Given.{SomePlan, SomeRequest, RequestIn, SeekIn, flowOrZero, testsOf};
 ghost use Rattle.link.specs.Sought.{soughtIn};
 use crate::Answer;
 use crate::Flow;
@@ -88,8 +88,8 @@ fn nowhere(would: bool) -> u8
 }
 
 // Flow i of a plan of n flows, and 0 where there is none.
-pub fn placed(count: usize, i: usize) -> usize
-    ensures { λ r. ⌜ r ≡ placed count i ⌝ }
+pub fn flow_or_zero(count: usize, i: usize) -> usize
+    ensures { λ r. ⌜ r ≡ flowOrZero count i ⌝ }
 {
     if i < count {
         return i;
@@ -103,7 +103,7 @@ fn seek(s: &State, e: Entry, w: Window, i: usize, flow: Flow, departure: usize) 
     ensures { λ r. ⌜ ((p : Plan) → SeekIn p e w i flow departure (now (s .entry)) → r ≡ soughtIn (readIn p (now (s .entry))) i departure) ⌝ }
 {
     // the share is spent up to the newest frame: there is nothing to search, and no other word is refused as 11
-    if flow.left == 0 && flow.frame == w.newest() {
+    if flow.remainder == 0 && flow.injection == w.newest() {
         return Sought::Nowhere(0, 11);
     }
     let late = late_rank(s, i, e.cells, w);
@@ -113,8 +113,8 @@ fn seek(s: &State, e: Entry, w: Window, i: usize, flow: Flow, departure: usize) 
         late,
         departure,
         e.share as usize,
-        flow.frame,
-        flow.left,
+        flow.injection,
+        flow.remainder,
     );
     match found {
         Found::At(frame, left, position) => {
@@ -132,7 +132,7 @@ fn book(s: &mut State, w: Window, i: usize, frame: usize, position: usize)
     ensures { λ r. ⌜ BookedIn w i frame position (now (s .entry)) (now (s .exit)) ⌝ }
 {
     s[OWNERS + position] = i as u8;
-    tables::words::book(s, w, frame, position);
+    tables::slot_masks::book(s, w, frame, position);
     raise_from(s, i, w, position);
 }
 
@@ -185,10 +185,10 @@ impl Link {
     {
         let plan = self.plan;
         let fields = word::split(word);
-        let i = placed(plan.count, fields.flow as usize);
+        let i = flow_or_zero(plan.count, fields.flow as usize);
         let e = plan.entries[i];
-        let cp = self.state[CURRENT];
-        let w = window(plan.slots, plan.frames, cp as usize);
+        let current = self.state[CURRENT];
+        let w = window(plan.slots, plan.frames, current as usize);
         let reply = request(&mut self.state, plan.count, e, w, fields);
         Step {
             link: self,

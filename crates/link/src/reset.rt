@@ -7,7 +7,7 @@ ghost use Rattle.tables.specs.Asked.{FlowsOf};
 ghost use Prim.Native.Nat.{_<_};
 ghost use Rattle.plan.specs.Reading.{Valid};
 ghost use Rattle.state.specs.State.{Whole, ownersOf};
-ghost use Rattle.link.specs.Changes.{Renewed};
+ghost use Rattle.link.specs.Changes.{ResetTables};
 ghost use Rattle.link.specs.Given.{StateIn};
 ghost use Rattle.link.specs.Sound.{SoundLink};
 ghost use Rattle.link.specs.Steps.{readIn, readOf, Went, Stepped};
@@ -19,6 +19,7 @@ use crate::fresh::start_flows;
 use plan::Plan;
 use state::CURRENT;
 use state::MARK;
+use state::NOBODY;
 use state::OWNERS;
 use state::State;
 use state::TURN;
@@ -58,9 +59,9 @@ fn quiet(s: &State, count: usize, w: Window) -> bool
 }
 
 // Nobody owns a position of a state, and its flows start again in a frame.
-fn renew(s: &mut State, plan: Plan, frame: usize)
+fn reset_tables(s: &mut State, plan: Plan, frame: usize)
     requires { ⌜ Valid plan × Whole (now s) × (frame < 256) ⌝ }
-    ensures { λ r. ⌜ Renewed plan frame (now (s .entry)) (now (s .exit)) ⌝ }
+    ensures { λ r. ⌜ ResetTables plan frame (now (s .entry)) (now (s .exit)) ⌝ }
 {
     disown(s);
     put_masks(s, every_slot(plan.slots, plan.frames));
@@ -76,11 +77,11 @@ pub fn reset(s: &mut State, plan: Plan, w: Window) -> Answer
     if !quiet(s, plan.count, w) {
         return Answer::Refused(23);
     }
-    let cp = w.current;
-    if s[OWNERS + cp] != 16 {
+    let current = w.current;
+    if s[OWNERS + current] != NOBODY {
         s[MARK] = 1;
     }
-    renew(s, plan, w.head);
+    reset_tables(s, plan, w.head);
     s[TURN] = 0;
     Answer::Reset
 }
@@ -92,8 +93,8 @@ impl Link {
         ensures { λ r. ⌜ Stepped answerToReset (model.reset (readOf self)) r ⌝ }
     {
         let plan = self.plan;
-        let cp = self.state[CURRENT];
-        let w = window(plan.slots, plan.frames, cp as usize);
+        let current = self.state[CURRENT];
+        let w = window(plan.slots, plan.frames, current as usize);
         let answer = reset(&mut self.state, plan, w);
         Step { link: self, answer }
     }

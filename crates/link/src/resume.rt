@@ -5,13 +5,15 @@ ghost use Rattle.window.specs.Window.{Proper};
 ghost use Rattle.link.specs.Resumed.{empty, OwnersMasked, Unbounded, Resumed};
 use state::BOUNDS;
 use state::CURRENT;
+use state::LENGTH;
 use state::MARK;
+use state::NOBODY;
 use state::OWNERS;
 use state::State;
 use state::TURN;
 use state::put_masks;
 use state::put_table;
-use tables::words::book;
+use tables::slot_masks::book;
 use unbooked::frames::every_slot;
 use window::Window;
 
@@ -19,7 +21,7 @@ use window::Window;
 pub fn empty() -> State
     ensures { λ r. ⌜ r ≡ empty ⌝ }
 {
-    [0u8; 4499]
+    [0u8; LENGTH]
 }
 
 // The masks of a state by its owners: all slots of the frames, less the positions that somebody booked.
@@ -31,7 +33,7 @@ fn mask_owners(s: &mut State, w: Window)
     put_masks(s, every_slot(w.slots, w.frames));
     let mut p = 0;
     while p < size {
-        if s[OWNERS + p] != 16 {
+        if s[OWNERS + p] != NOBODY {
             book(s, w, p / w.slots, p);
         }
         p += 1;

@@ -21,22 +21,23 @@ use crate::flows::put_flow;
 use plan::Plan;
 use state::CURRENT;
 use state::MARK;
+use state::NOBODY;
 use state::OWNERS;
 use state::State;
 use tables::holdings::carry_head;
 use tables::owners::empty_head;
-use tables::words::recycle_head;
+use tables::slot_masks::recycle_head;
 use window::Window;
 use window::positions::window;
 
 // The answer at a position with this owner.
-pub fn turn(owner: u8) -> Answer
+pub fn tick_answer(owner: u8) -> Answer
     ensures { λ r. ⌜ r ≡ answerToTick (ownerOf owner) ⌝ }
 {
-    if owner == 16 {
+    if owner == NOBODY {
         return Answer::Idle;
     }
-    Answer::Turn(owner)
+    Answer::Booked(owner)
 }
 
 // The flows of a plan, those in the head frame moved to the next one with their share.
@@ -48,7 +49,7 @@ fn leave_head(s: &mut State, plan: Plan, head: usize, on: usize)
     while i < plan.count {
         let e = plan.entries[i];
         let f = flow_at(s, i);
-        if f.frame == head {
+        if f.injection == head {
             put_flow(s, i, f.moved_to(on, e.share as usize));
         }
         i += 1;
@@ -89,14 +90,14 @@ impl Link {
         ensures { λ r. ⌜ Stepped answerToTick (model.tick (readOf self)) r ⌝ }
     {
         let plan = self.plan;
-        let cp = self.state[CURRENT];
-        let w = window(plan.slots, plan.frames, cp as usize);
+        let current = self.state[CURRENT];
+        let w = window(plan.slots, plan.frames, current as usize);
         let on = tick(&mut self.state, plan, w);
         let next = on.current;
         let owner = self.state[OWNERS + next];
         Step {
             link: self,
-            answer: turn(owner),
+            answer: tick_answer(owner),
         }
     }
 }

@@ -28,7 +28,7 @@ fn fits(slots: usize, source: usize, destination: usize, share: usize) -> bool
 }
 
 // Test 4: some stream breaks its limits.
-fn misfits(slots: usize, numbers: &[usize], count: usize) -> bool
+fn streams_out_of_range(slots: usize, numbers: &[usize], count: usize) -> bool
     requires { ⌜ 3 * count ≤ length (now numbers) ⌝ }
     ensures { λ r. ⌜ r ≡ any count (λ i. not (admission.streamFits slots (streamAt (now (numbers .entry)) i))) ⌝ }
 {
@@ -61,7 +61,7 @@ pub(crate) fn refusal_before_links(slots: usize, numbers: &[usize]) -> u8
     if 64 < slots {
         return 3;
     }
-    if misfits(slots, numbers, count) {
+    if streams_out_of_range(slots, numbers, count) {
         return 4;
     }
     0

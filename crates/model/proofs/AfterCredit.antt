@@ -4,7 +4,7 @@ use mathlib.Core.Path.{_≡_, refl}
 use mathlib.Core.List.{_∷_}
 use Rattle.model.specs.Refusals.{firstOf}
 use Rattle.model.specs.Plan.{flowCount}
-use Rattle.model.specs.Calls.{Receipt, History, credited, accepted, refused}
+use Rattle.model.specs.Calls.{CreditAnswer, History, credited, accepted, refused}
 use Rattle.model.specs.Link.{Link, flow, withHeld, heldFrom}
 use Rattle.model.specs.Credit.{creditTests, lowered, creditAfter, credit}
 use Rattle.model.specs.History.{ticks, origin, grants, credits, grantsSince, refusalsSince}
@@ -17,13 +17,13 @@ module _ {l : Link} {h : History} (g : After (l .plan) l h) (i p : ℕ) where
   open Link l using (plan as P)
 
   -- no credit changes what the least count needs of a flow
-  least-kept : (a : Receipt) (q : ℕ) → q < flowCount P → LeastOf P (credited i p a ∷ h) q (flow l q)
+  least-kept : (a : CreditAnswer) (q : ℕ) → q < flowCount P → LeastOf P (credited i p a ∷ h) q (flow l q)
   unfolding ticks origin grantsSince refusalsSince
   least-kept a q known asked = g .least q known (record { ready = asked .ready .1; refused-before = asked .refused-before })
 
-  taken : CreditPasses l i p → After P (lowered l i p) (credited i p (accepted tt) ∷ h)
+  accepts : CreditPasses l i p → After P (lowered l i p) (credited i p (accepted tt) ∷ h)
   unfolding ticks origin grants grantsSince raises credits lowered
-  taken c = after-event g (record {
+  accepts c = after-event g (record {
     plan-is = refl;
     keeps = credit-keeps (g .invariant) c;
     soon = tt;
@@ -38,9 +38,9 @@ module _ {l : Link} {h : History} (g : After (l .plan) l h) (i p : ℕ) where
     numbers = each-flow l (NumberOf P h) i (withHeld (flow l i) (heldFrom l i p (λ x. x - 1))) (g .numbers i (c .known)) (λ q known d. g .numbers q known);
   })
 
-  pub not-taken : (r : ℕ) → After P l (credited i p (refused r) ∷ h)
+  pub not-accepted : (r : ℕ) → After P l (credited i p (refused r) ∷ h)
   unfolding ticks origin grants grantsSince raises credits
-  not-taken r = after-event g (record {
+  not-accepted r = after-event g (record {
     plan-is = refl;
     keeps = g .invariant;
     soon = tt;
@@ -58,5 +58,5 @@ module _ {l : Link} {h : History} (g : After (l .plan) l h) (i p : ℕ) where
   after-credit = go (firstOf (creditTests l i p)) refl
     where
       go : (r : ℕ) → firstOf (creditTests l i p) ≡ r → After P (creditAfter r l i p .link) (credited i p (creditAfter r l i p .answer) ∷ h)
-      go zero e = taken (credit-passes l i p e)
-      go (suc r) e = not-taken (suc r)
+      go zero e = accepts (credit-passes l i p e)
+      go (suc r) e = not-accepted (suc r)

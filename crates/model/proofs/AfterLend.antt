@@ -7,7 +7,7 @@ use mathlib.Core.Bool.{true}
 use native.Mathlib.Nat.{mod-lt}
 use Rattle.model.specs.Refusals.{firstOf}
 use Rattle.model.specs.Plan.{flowCount}
-use Rattle.model.specs.Calls.{Loan, History, lent, accepted, refused, inMask}
+use Rattle.model.specs.Calls.{LendAnswer, History, lent, accepted, refused, inMask}
 use Rattle.model.specs.Link.{Link, flow, withHeld, heldFrom}
 use Rattle.model.specs.Lend.{canTake, takes, lendTests, lentTo, firstInTurn, lentAfter, lendAfter, lend}
 use Rattle.model.specs.History.{ticks, origin, grants, credits, grantsSince, refusalsSince}
@@ -25,7 +25,7 @@ module _ {l : Link} {h : History} (g : After (l .plan) l h) (mask : ℕ) where
   open Current (v .current) using (accepted as ok)
 
   -- no lend changes what the least count needs of a flow
-  least-kept : (a : Loan) (q : ℕ) → q < flowCount P → LeastOf P (lent mask a ∷ h) q (flow l q)
+  least-kept : (a : LendAnswer) (q : ℕ) → q < flowCount P → LeastOf P (lent mask a ∷ h) q (flow l q)
   unfolding ticks origin grantsSince refusalsSince
   least-kept a q known asked = g .least q known (record { ready = asked .ready .1; refused-before = asked .refused-before })
 
@@ -68,7 +68,7 @@ module _ {l : Link} {h : History} (g : After (l .plan) l h) (mask : ℕ) where
   unfolding firstInTurn lentAfter
   found free none e = not-lent 18
   found free (some k) e =
-      let hit = firstFrom-some (flowCount P) (l .lookFrom) (λ j. takes l mask (j % flowCount P)) k e in
+      let hit = firstFrom-some (flowCount P) (l .turn) (λ j. takes l mask (j % flowCount P)) k e in
       lent-to free (k % flowCount P) (mod-lt k (ok .some-flow)) (hit .passes)
 
   pub after-lend : After P (lend l mask .link) (lent mask (lend l mask .answer) ∷ h)

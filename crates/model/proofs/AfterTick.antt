@@ -7,7 +7,7 @@ use native.Mathlib.Numerals.{add-one}
 use native.Mathlib.Omega.{arith}
 use Rattle.model.specs.Tables.{tally}
 use Rattle.model.specs.Plan.{flowCount}
-use Rattle.model.specs.Calls.{Turn, History, ticked}
+use Rattle.model.specs.Calls.{TickAnswer, History, ticked}
 use Rattle.model.specs.Link.{Link, flow}
 use Rattle.model.specs.Tick.{advanced, tick}
 use Rattle.model.specs.History.{ticks, frameOf, origin, grantAt, grants, credits, grantsSince, refusalsSince, ofFlow, atSlot}
@@ -32,7 +32,7 @@ module _ {l : Link} {h : History} (g : After (l .plan) l h) where
   on : Advances v (advanced l)
   on = advances v
 
-  least-ticked : (x : Turn) (q : ℕ) → q < flowCount P → Dec (suc t % P .slots ≡ 0) → LeastOf P (ticked x ∷ h) q (flow (advanced l) q)
+  least-ticked : (x : TickAnswer) (q : ℕ) → q < flowCount P → Dec (suc t % P .slots ≡ 0) → LeastOf P (ticked x ∷ h) q (flow (advanced l) q)
   unfolding ticks origin grantsSince refusalsSince
   least-ticked x q known (no d) asked =
       let same-frame = frame-stays ok t d in

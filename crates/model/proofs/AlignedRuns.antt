@@ -6,7 +6,7 @@ use mathlib.Core.List.{[], _∷_}
 use mathlib.Core.Bool.{false}
 use Rattle.model.specs.Plan.{Plan}
 use Rattle.model.specs.Calls.{Event, History, requested, credited, ticked, lent}
-use Rattle.model.specs.History.{ticks, wellFormed, renews}
+use Rattle.model.specs.History.{ticks, wellFormed, isGrantedReset}
 use Rattle.model.specs.TwoRuns.{SameButNumber, Neighbours, Aligned, start, both-tick, both-request, both-credit, first-alone, second-alone}
 use Rattle.model.proofs.HistoryCounts.{NoneGranted}
 use Rattle.model.proofs.AskedInFrames.{asks, askedIn, asked-is, asked-by-another}
@@ -27,12 +27,12 @@ module _ (i : ℕ) where
   neighbours-tick (lent m a) h other = refl
   neighbours-tick (Event.reset a) h other = absurd other
 
-  neighbours-renew : (e : Event) → Neighbours i e → renews e ≡ false
-  neighbours-renew (requested w a) other = refl
-  neighbours-renew (credited j p a) other = refl
-  neighbours-renew (ticked x) other = absurd other
-  neighbours-renew (lent m a) other = refl
-  neighbours-renew (Event.reset a) other = absurd other
+  neighbours-reset : (e : Event) → Neighbours i e → isGrantedReset e ≡ false
+  neighbours-reset (requested w a) other = refl
+  neighbours-reset (credited j p a) other = refl
+  neighbours-reset (ticked x) other = absurd other
+  neighbours-reset (lent m a) other = refl
+  neighbours-reset (Event.reset a) other = absurd other
 
   neighbours-ask : (P : Plan) (f : ℕ) (e : Event) (h : History) → Neighbours i e → askedIn P (e ∷ h) i f ≡ askedIn P h i f
   unfolding asks
@@ -59,8 +59,8 @@ module _ (i : ℕ) where
   none-granted (both-tick x) = let n = none-granted x in ((refl, n .0), (refl, n .1))
   none-granted (both-request own same x) = let n = none-granted x in ((refl, n .0), (refl, n .1))
   none-granted (both-credit x) = let n = none-granted x in ((refl, n .0), (refl, n .1))
-  none-granted (first-alone e other x) = let n = none-granted x in ((neighbours-renew e other, n .0), n .1)
-  none-granted (second-alone e other x) = let n = none-granted x in (n .0, (neighbours-renew e other, n .1))
+  none-granted (first-alone e other x) = let n = none-granted x in ((neighbours-reset e other, n .0), n .1)
+  none-granted (second-alone e other x) = let n = none-granted x in (n .0, (neighbours-reset e other, n .1))
 
   pub aligned-asked : (P : Plan) (f : ℕ) {h₁ h₂ : History} → Aligned i h₁ h₂ → askedIn P h₁ i f ≡ askedIn P h₂ i f
   unfolding asks

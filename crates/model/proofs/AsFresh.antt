@@ -17,7 +17,7 @@ use Rattle.model.specs.Window.{head, later, fromOn, everyFrom}
 use Rattle.model.specs.Link.{Link, window, owner, flow, holding, movedTo, linkWith}
 use Rattle.model.specs.Fresh.{freshFlow, fresh}
 use Rattle.model.specs.Request.{unbooked}
-use Rattle.model.specs.Reset.{noneBooked, noneHeld, quiet, fromHead, renewed, reset}
+use Rattle.model.specs.Reset.{noneBooked, noneHeld, quiet, fromHead, resetLink, reset}
 use Rattle.model.specs.Holding.{InWindow}
 use Rattle.model.specs.AsFresh.{flowAt, freshAt, answersTo, GoesOnAsFresh, TwiceIsOnce, FreshStays}
 use Rattle.model.proofs.Tests.{or-true}
@@ -68,8 +68,8 @@ module _ (l : Link) (ok : Accepted (l .plan)) (below : l .current < positions (l
   abbrev numbers : ℕ → ℕ
   numbers i = flow l i .number
 
-  alike : Alike l now (renewed l) (freshAt P t numbers)
-  unfolding renewed fresh
+  alike : Alike l now (resetLink l) (freshAt P t numbers)
+  unfolding resetLink fresh
   alike = record {
     owners = λ s w after.
         owner-withOwners l (λ q. none) (s % T) (mod-lt s (some-position ok))
@@ -84,28 +84,28 @@ module _ (l : Link) (ok : Accepted (l .plan)) (below : l .current < positions (l
   }
 
 pub goes-on-as-fresh : GoesOnAsFresh reset
-unfolding renewed fresh
+unfolding resetLink fresh
 goes-on-as-fresh l ok below e words =
     let was-quiet = granted-quiet l e in
     let q = quiet-parts l was-quiet in
     ap (λ s. answersTo (s .link) words) (quiet-granted l was-quiet)
-    ∙ answers-alike l (now l ok below q) words (pair l (now l ok below q) (renewed l) (freshAt (l .plan) (l .current) (numbers l ok below q))) (alike l ok below q)
+    ∙ answers-alike l (now l ok below q) words (pair l (now l ok below q) (resetLink l) (freshAt (l .plan) (l .current) (numbers l ok below q))) (alike l ok below q)
 
 -- ---- a second reset
 
 module _ (l : Link) (below : l .current < positions (l .plan)) (found : Quiet l) where
   open Link l using (plan as P)
 
-  emptied : (q : ℕ) → q < positions P → owner (renewed l) q ≡ none
-  unfolding renewed
+  emptied : (q : ℕ) → q < positions P → owner (resetLink l) q ≡ none
+  unfolding resetLink
   emptied q h = owner-withOwners l (λ q. none) q h
 
-  from-head : (i : ℕ) → i < flowCount P → flow (renewed l) i ≡ fromHead l i
-  unfolding renewed
+  from-head : (i : ℕ) → i < flowCount P → flow (resetLink l) i ≡ fromHead l i
+  unfolding resetLink
   from-head i known = flow-withFlows l (fromHead l) i known
 
-  still-quiet : quiet (renewed l) ≡ true
-  unfolding renewed noneBooked noneHeld
+  still-quiet : quiet (resetLink l) ≡ true
+  unfolding resetLink noneBooked noneHeld
   still-quiet =
       rw (
         every-intro (positions P) _ (λ q h. or-true (not (later (window l) q (l .current))) _ (ap unbooked (emptied q h))),
@@ -114,18 +114,18 @@ module _ (l : Link) (below : l .current < positions (l .plan)) (found : Quiet l)
             ∙ every-at (flowCount P) _ i (found .none-held) known),
       )
 
-  nothing-new : renewed (renewed l) ≡ renewed l
-  unfolding renewed
+  nothing-new : resetLink (resetLink l) ≡ resetLink l
+  unfolding resetLink
   nothing-new =
-      ap₂ (λ flows taken. linkWith l (l .current) (table (positions P) (λ q. none)) flows taken (renewed l .lookFrom))
+      ap₂ (λ flows marked. linkWith l (l .current) (table (positions P) (λ q. none)) flows marked (resetLink l .turn))
       (table-same (flowCount P) _ _ (λ i known. ap (λ x. movedTo x (head (window l)) (entry P i .share)) (from-head i known)))
-      (ap (λ o. not (unbooked o) || renewed l .taken) (emptied (l .current) below))
+      (ap (λ o. not (unbooked o) || resetLink l .marked) (emptied (l .current) below))
 
 pub twice-is-once : TwiceIsOnce reset
 twice-is-once l below e =
     let was-quiet = granted-quiet l e in
     let q = quiet-parts l was-quiet in
-    rw (quiet-granted l was-quiet, quiet-granted (renewed l) (still-quiet l below q), nothing-new l below q)
+    rw (quiet-granted l was-quiet, quiet-granted (resetLink l) (still-quiet l below q), nothing-new l below q)
 
 -- ---- a fresh link
 
@@ -152,8 +152,8 @@ module _ (P : Plan) (ok : Accepted P) where
       or-true (not (fromOn (window (fresh P)) 0 q)) _
       (ap (λ x. eqb (getD (x .held) q 0) 0) (fresh-flow ok i known) ∙ ap (λ x. eqb x 0) (getD-replicate (positions P) q 0 0 h))
 
-  fresh-again : renewed (fresh P) ≡ fresh P
-  unfolding fresh renewed
+  fresh-again : resetLink (fresh P) ≡ fresh P
+  unfolding fresh resetLink
   fresh-again =
       let flows-are = table-same (flowCount P) (fromHead (fresh P)) (freshFlow P) (λ i known.
       ap₂ (λ x j. movedTo x j (entry P i .share)) (fresh-flow ok i known) (zero-div (P .slots))) in

@@ -132,7 +132,7 @@ module _ {l : Link} {L : Ledger} (v : Invariant l L) {i : ℕ} (known : i < flow
     unfolding tally
     alike r e = ap (bit (atSlot r m) +_) e
 
-    owned-more : Open s → Owned t (m ∷ L .grants) (m ∷ L .raises) (l .taken)
+    owned-more : Open s → Owned t (m ∷ L .grants) (m ∷ L .raises) (l .marked)
     owned-more o = record {
       one-owner = once-more m (L .raises) (v .owned .to-come s (o .to-come) ∙ o .not-granted) (v .owned .one-owner);
       to-come = λ r lt. alike r (v .owned .to-come r lt);

@@ -1,4 +1,4 @@
--- A card that meets demand 3 never fills the next board's buffer over. Assumes nothing.
+-- A scheduler that meets demand 3 never fills the next board's buffer over. Assumes nothing.
 use Prim.Native.Nat.{ℕ, _+_, _≤_, _<_}
 use mathlib.Core.List.{_∷_, []}
 use native.Mathlib.Omega.{arith}
@@ -7,7 +7,7 @@ use Rattle.model.specs.Plan.{Plan, flowCount, entry, planOf, Accepted}
 use Rattle.model.specs.Calls.{History}
 use Rattle.model.specs.History.{grants, lends, grantedUpTo, lentUpTo, creditedUpTo}
 use Rattle.model.specs.Claim.{Clause, Demand3}
-use Rattle.model.specs.Card.{Card, Meets, paper, run}
+use Rattle.model.specs.Scheduler.{Scheduler, Meets, reference, run}
 use Rattle.model.specs.Buffer.{FitsBuffer, NeverOverfull}
 use Rattle.model.proofs.Plan.{accepted}
 use Rattle.model.proofs.Demand3.{meets}
@@ -30,9 +30,9 @@ together P ok h s d =
       ok .cells-fit,
     )
 
-pub never-overfull : (c : Card) → Meets c → NeverOverfull c
+pub never-overfull : (c : Scheduler) → Meets c → NeverOverfull c
 never-overfull c meets bytes passes calls s =
     together (planOf bytes) (accepted bytes passes) (run c (planOf bytes) calls .history) s (meets bytes passes calls)
 
-pub paper-never-overfull : NeverOverfull paper
-paper-never-overfull = never-overfull paper meets
+pub reference-never-overfull : NeverOverfull reference
+reference-never-overfull = never-overfull reference meets

@@ -11,8 +11,8 @@ use borrow.Author.Tests.{ne-eqb}
 use Rattle.model.specs.Tables.{tally}
 use Rattle.model.specs.Word.{flowOf, quantumOf, departureOf, depart}
 use Rattle.model.specs.Plan.{Plan, positions, flowCount, entry}
-use Rattle.model.specs.Calls.{Event, History, Turn, requested, credited, ticked, lent, accepted, refused, inMask}
-use Rattle.model.specs.History.{ticks, frameOf, wellFormed, hasCome, renews, origin, changes, Mark, grants, lends, grantsSince}
+use Rattle.model.specs.Calls.{Event, History, TickAnswer, requested, credited, ticked, lent, accepted, refused, inMask}
+use Rattle.model.specs.History.{ticks, frameOf, wellFormed, hasCome, isGrantedReset, origin, changes, Mark, grants, lends, grantsSince}
 use Rattle.model.specs.History.{ofFlow, atSlot, inFrame, grantedIn, refusedIn, grantedUpTo, lentUpTo, creditedUpTo, expectedNumber, WasGranted}
 use Rattle.model.specs.Claim.{Each, EachSince, AtRequest, AtGrant, AtTick, AtLoan, Room, Ready, ReadyAt, RefusedInEachFrame, Persistent}
 use Rattle.model.specs.Claim.{Held, HeldAt, SoonAt, ComesUpAt}
@@ -39,7 +39,7 @@ at-grant d (ticked x) h = yes tt
 at-grant d (lent m a) h = yes tt
 at-grant d (Event.reset a) h = yes tt
 
-unfoldable pub at-tick : {Q : Turn → History → Type 0} → ((x : Turn) (h : History) → Dec (Q x h))
+unfoldable pub at-tick : {Q : TickAnswer → History → Type 0} → ((x : TickAnswer) (h : History) → Dec (Q x h))
     → (e : Event) (h : History) → Dec (AtTick Q e h)
 at-tick d (requested w a) h = yes tt
 at-tick d (credited j p a) h = yes tt
@@ -107,7 +107,7 @@ comes-up P = at-tick answered
         none-past (λ m. m .flow) (λ m. ofFlow i m && atSlot (ticks h + 1) m) i (grants P h) past
         (λ m lt. rw (ne-eqb (m .flow) i (omega arith)))
 
-    answered : (x : Turn) (h : History) → Dec ((i : ℕ) → (x ≡ some i) ↔ WasGranted P h i (ticks h + 1))
+    answered : (x : TickAnswer) (h : History) → Dec ((i : ℕ) → (x ≡ some i) ↔ WasGranted P h i (ticks h + 1))
     answered x h =
         everywhere (max (aboveAnswer x) (above (λ m. m .flow) (grants P h)))
         (λ i. Dec·and (implies (answers-flow x i) (decLt _ _)) (implies (decLt _ _) (answers-flow x i)))
@@ -177,7 +177,7 @@ unless false d = d
 unfoldable pub each-since : {Q : Event → History → Type 0} → ((e : Event) (h : History) → Dec (Q e h)) → (h : History) → Dec (EachSince Q h)
 unfolding unless
 each-since d [] = yes tt
-each-since d (e ∷ h) = unless (renews e) (Dec·and (d e h) (each-since d h))
+each-since d (e ∷ h) = unless (isGrantedReset e) (Dec·and (d e h) (each-since d h))
 
 unfoldable pub refused-in-each : (P : Plan) (i : ℕ) (h : History) → Dec (RefusedInEachFrame P i h)
 refused-in-each P i h =

@@ -14,8 +14,8 @@ use Rattle.model.specs.Calls.{Call, Grant, History, requested, accepted,
 use Rattle.model.specs.Link.{Link, flow}
 use Rattle.model.specs.Request.{Found, found, nowhere, requestTests, sought, wouldBeValid, answered, requestAfter, request}
 use Rattle.model.specs.Claim.{GrantedWordAt, Demand3}
-use Rattle.model.specs.Card.{Played, paper, step, play, started, run}
-use Rattle.model.specs.Burst.{Ask, filled, inOrder, burst}
+use Rattle.model.specs.Scheduler.{Played, reference, step, play, started, run}
+use Rattle.model.specs.Burst.{BurstRecord, filled, inOrder, burst}
 use Rattle.model.specs.CountedBursts.{Item, single, several, countsAs, replaced, eventIn, stepWith, playWith, runWith, BurstsCounted}
 use Rattle.model.proofs.AfterCalls.{Known, after-calls, after-fresh}
 use Rattle.model.proofs.Plan as plan
@@ -48,21 +48,21 @@ request-numbered l w = go (firstOf (requestTests (l .plan) (flow l (flowOf w) .n
 
 -- ---- the event of a request is the one that its record shows
 
-event-shown : (P : Plan) (h : History) (x : Ask) (a : Grant) → GrantedWordAt P (requested (x .word) a) h → Numbered a
+event-shown : (P : Plan) (h : History) (x : BurstRecord) (a : Grant) → GrantedWordAt P (requested (x .word) a) h → Numbered a
     → eventIn (filled x a) ≡ requested (x .word) a
 event-shown P h x (accepted v) word numbered = ap (λ u. requested (x .word) (accepted u)) (sym (word .same-but-departure))
 event-shown P h x (refused r) word numbered =
     ap (λ b. requested (x .word) (cond b (accepted (depart (x .word) 0)) (refused r))) (ne-eqb r 0 numbered)
 
 -- a link, after the events of a history
-abbrev from : Link → History → Played paper
+abbrev from : Link → History → Played reference
 from l h = record { state = l; history = h }
 
-asks : List Ask → List Call
+asks : List BurstRecord → List Call
 asks xs = map (λ x. Call.request (x .word)) xs
 
-in-order-played : {P : Plan} (l : Link) (h : History) → Known P (from l h) → (xs : List Ask)
-    → play paper (from l h) (asks xs) ≡ from (inOrder l xs .link) (reverseAux (map eventIn (inOrder l xs .records)) h)
+in-order-played : {P : Plan} (l : Link) (h : History) → Known P (from l h) → (xs : List BurstRecord)
+    → play reference (from l h) (asks xs) ≡ from (inOrder l xs .link) (reverseAux (map eventIn (inOrder l xs .records)) h)
 unfolding play inOrder asks
 in-order-played l h g [] = refl
 in-order-played {P} l h g (x ∷ xs) =
@@ -77,7 +77,7 @@ in-order-played {P} l h g (x ∷ xs) =
 -- ---- a burst counts as its requests
 
 -- the records that were handled are the first ones
-first-handled : (k : ℕ) (l : Link) (xs : List Ask) → take k (inOrder l (take k xs) .records ++ drop k xs) ≡ inOrder l (take k xs) .records
+first-handled : (k : ℕ) (l : Link) (xs : List BurstRecord) → take k (inOrder l (take k xs) .records ++ drop k xs) ≡ inOrder l (take k xs) .records
 unfolding inOrder
 first-handled zero l xs = refl
 first-handled (suc k) l [] = refl
@@ -85,7 +85,7 @@ first-handled (suc k) l (x ∷ xs) =
     let first = request l (x .word) in
     ap (λ ys. filled x (first .answer) ∷ ys) (first-handled k (first .link) xs)
 
-pub burst-played : {P : Plan} (r : Played paper) → Known P r → (xs : List Ask) → stepWith burst r (several xs) ≡ play paper r (countsAs (several xs))
+pub burst-played : {P : Plan} (r : Played reference) → Known P r → (xs : List BurstRecord) → stepWith burst r (several xs) ≡ play reference r (countsAs (several xs))
 unfolding burst asks
 burst-played r g xs =
     let b = inOrder (r .state) (take 16 xs) in
@@ -93,23 +93,23 @@ burst-played r g xs =
     ∙ ap (from (b .link)) (sym (reverseAux-eq (map eventIn (b .records)) (r .history)))
     ∙ sym (in-order-played (r .state) (r .history) g (take 16 xs))
 
-pub play-both : (r : Played paper) (xs ys : List Call) → play paper r (xs ++ ys) ≡ play paper (play paper r xs) ys
+pub play-both : (r : Played reference) (xs ys : List Call) → play reference r (xs ++ ys) ≡ play reference (play reference r xs) ys
 unfolding play
 play-both r [] ys = refl
-play-both r (x ∷ xs) ys = play-both (step paper r x) xs ys
+play-both r (x ∷ xs) ys = play-both (step reference r x) xs ys
 
-items-counted : {P : Plan} (r : Played paper) → Known P r → (items : List Item) → playWith burst r items ≡ play paper r (replaced items)
+items-counted : {P : Plan} (r : Played reference) → Known P r → (items : List Item) → playWith burst r items ≡ play reference r (replaced items)
 unfolding playWith play flatMap
 items-counted r g [] = refl
-items-counted r g (single c ∷ items) = items-counted (step paper r c) (after-calls r (c ∷ []) g) items
+items-counted r g (single c ∷ items) = items-counted (step reference r c) (after-calls r (c ∷ []) g) items
 items-counted r g (several xs ∷ items) =
     let cs = countsAs (several xs) in
     ap (λ q. playWith burst q items) (burst-played r g xs)
-    ∙ items-counted (play paper r cs) (after-calls r cs g) items
+    ∙ items-counted (play reference r cs) (after-calls r cs g) items
     ∙ sym (play-both r cs (replaced items))
 
 pub bursts-counted : BurstsCounted burst
-bursts-counted P ok items = items-counted (started paper P) (after-fresh ok) items
+bursts-counted P ok items = items-counted (started reference P) (after-fresh ok) items
 
 -- and so demand 3 is met of what its caller sees
 pub bursts-meet : (bytes : List ℕ) → refusal bytes ≡ 0 → (items : List Item) (i : ℕ) → i < flowCount (planOf bytes)

@@ -1,4 +1,4 @@
--- Demand 3: the card of the rules meets it. Assumes nothing.
+-- Demand 3: the scheduler of the rules meets it. Assumes nothing.
 use Prim.Native.Nat.{ℕ, suc, _+_, _-_, _*_, _≤_, _<_}
 use mathlib.Core.Path.{_≡_, subst}
 use mathlib.Core.List.{[], _∷_}
@@ -10,9 +10,9 @@ use Rattle.model.specs.Tables.{sum}
 use Rattle.model.specs.Plan.{Plan, flowCount, entry, planOf, Accepted}
 use Rattle.model.specs.Calls.{Event, History}
 use Rattle.model.specs.Link.{Link}
-use Rattle.model.specs.History.{Mark, ticks, frameOf, renews, origin, changes, grantsSince, granted, grantedIn, ofFlow, atSlot, inFrame}
+use Rattle.model.specs.History.{Mark, ticks, frameOf, isGrantedReset, origin, changes, grantsSince, granted, grantedIn, ofFlow, atSlot, inFrame}
 use Rattle.model.specs.Claim.{Each, EachSince, Clause, Says, Demand3}
-use Rattle.model.specs.Card.{Meets, MeetsOn, paper}
+use Rattle.model.specs.Scheduler.{Meets, MeetsOn, reference}
 use Rattle.model.proofs.Tests.{and-true}
 use Rattle.model.proofs.Tallies.{all-map, sum-le, sum-const, sum-tail, tally-join, tally-split, Classed}
 use Rattle.model.proofs.Slots.{frame-high}
@@ -29,7 +29,7 @@ each-map Q R f (e ∷ h) a = (f e h (a .0), each-map Q R f h (a .1))
 
 pub each-since-map : (Q R : Event → History → Type 0) → ((e : Event) (h : History) → Q e h → R e h) → (h : History) → EachSince Q h → EachSince R h
 each-since-map Q R f [] a = tt
-each-since-map Q R f (e ∷ h) a = go (renews e) (each-since-map Q R f h) a
+each-since-map Q R f (e ∷ h) a = go (isGrantedReset e) (each-since-map Q R f h) a
   where
     go : (b : Bool) → (EachSince Q h → EachSince R h) → cond b (Unit {0}) (Q e h × EachSince Q h) → cond b (Unit {0}) (R e h × EachSince R h)
     go true rest a = tt
@@ -117,8 +117,8 @@ module _ (l : Link) (h : History) (g : After (l .plan) l h) (i : ℕ) (known : i
   demand3 Clause.lent-flows = each-map _ _ (λ e h c. c .loan) h (g .events)
 
 -- demand 3 on any plan that keeps the limits, and so on the plan of any bytes that are accepted
-pub meets-accepted : (P : Plan) → Accepted P → MeetsOn paper P
+pub meets-accepted : (P : Plan) → Accepted P → MeetsOn reference P
 meets-accepted = after-run (λ P l h. (i : ℕ) → i < flowCount P → Demand3 P i h) demand3
 
-pub meets : Meets paper
+pub meets : Meets reference
 meets bytes passes = meets-accepted (planOf bytes) (accepted bytes passes)

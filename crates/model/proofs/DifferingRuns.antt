@@ -9,7 +9,7 @@ use Rattle.model.specs.Tables.{tally}
 use Rattle.model.specs.Plan.{Plan, planOf, refusal}
 use Rattle.model.specs.Calls.{Call, History, requested, credited, ticked, lent, accepted, refused}
 use Rattle.model.specs.History.{changes, WasGranted}
-use Rattle.model.specs.Card.{run, paper}
+use Rattle.model.specs.Scheduler.{run, reference}
 use Rattle.model.specs.PlanBytes.{unequal}
 use Rattle.model.specs.TwoRuns.{Aligned, AsksUntil11, SameFrames}
 use Rattle.model.specs.Outlines.{outline}
@@ -44,10 +44,10 @@ calls₂ =
     ∷ Call.tick ∷ Call.tick ∷ Call.tick ∷ Call.tick ∷ Call.request 0x24000800 ∷ Call.request 0x24000C00 ∷ []
 
 abbrev h₁ : History
-h₁ = run paper P calls₁ .history
+h₁ = run reference P calls₁ .history
 
 abbrev h₂ : History
-h₂ = run paper P calls₂ .history
+h₂ = run reference P calls₂ .history
 
 -- what the calls come to, oldest first
 pub come-to₁ :

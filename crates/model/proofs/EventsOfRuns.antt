@@ -1,4 +1,4 @@
--- What is known of each event of a run of the paper's card: of the counts before it and after it, of a granted word, and of a word refused with 11.
+-- What is known of each event of a run of the reference scheduler: of the counts before it and after it, of a granted word, and of a word refused with 11.
 -- Assumes nothing.
 use Prim.Native.Nat.{ℕ, zero, suc, _+_, _-_, _≤_, _<_}
 use mathlib.Core.Path.{_≡_, refl, ap, _∙_, subst}
@@ -15,7 +15,7 @@ use Rattle.model.specs.Link.{Link, flow}
 use Rattle.model.specs.Request.{wordTests, numberTests, requestAfter, request}
 use Rattle.model.specs.History.{ticks, frameOf, wellFormed, origin, grantsSince, grantedIn, refusedIn}
 use Rattle.model.specs.Claim.{Each, GrantedWordAt}
-use Rattle.model.specs.Card.{Played, paper, step, play, started, run}
+use Rattle.model.specs.Scheduler.{Played, reference, step, play, started, run}
 use Rattle.model.proofs.Tallies.{All, all-map}
 use Rattle.model.proofs.Invariant.{Begun}
 use Rattle.model.proofs.LeastCount.{Full}
@@ -103,7 +103,7 @@ module _ {P : Plan} where
   pub happens : {l k : Link} {e : Event} {h : History} → After P l h → After P k (e ∷ h) → WellFormedIf11 P e → Happened P e h
   happens g later if-11 = record { counts-before = counts g; counts-after = counts later; word = later .events .0 .word; well-formed-if-11 = if-11 }
 
-  pub one-more : (r : Played paper) (c : Call) → Known P r → Each (Happened P) (r .history) → Each (Happened P) (step paper r c .history)
+  pub one-more : (r : Played reference) (c : Call) → Known P r → Each (Happened P) (r .history) → Each (Happened P) (step reference r c .history)
   one-more r (Call.request w) g each =
       let if-11 = subst (λ Q. WellFormedIf11 Q (requested w (request (r .state) w .answer))) (g .plan-is) (requested-11 (r .state) w) in
       (happens g (after-step r (Call.request w) g) if-11, each)
@@ -112,21 +112,21 @@ module _ {P : Plan} where
   one-more r (Call.lend m) g each = (happens g (after-step r (Call.lend m) g) tt, each)
   one-more r Call.reset g each = (happens g (after-step r Call.reset g) tt, each)
 
-  go-on : (r : Played paper) (calls : List Call) → Known P r → Each (Happened P) (r .history) → Each (Happened P) (play paper r calls .history)
+  go-on : (r : Played reference) (calls : List Call) → Known P r → Each (Happened P) (r .history) → Each (Happened P) (play reference r calls .history)
   unfolding play
   go-on r [] g each = each
-  go-on r (c ∷ calls) g each = go-on (step paper r c) calls (after-step r c g) (one-more r c g each)
+  go-on r (c ∷ calls) g each = go-on (step reference r c) calls (after-step r c g) (one-more r c g each)
 
-pub each-happened : (P : Plan) → Accepted P → (calls : List Call) → Each (Happened P) (run paper P calls .history)
-each-happened P ok calls = go-on (started paper P) calls (after-fresh ok) tt
+pub each-happened : (P : Plan) → Accepted P → (calls : List Call) → Each (Happened P) (run reference P calls .history)
+each-happened P ok calls = go-on (started reference P) calls (after-fresh ok) tt
 
 -- What holds at the start and is kept by each call, with what is known of the calls so far, holds after every list of calls.
-pub by-calls : {P : Plan} → Accepted P → (Q : Played paper → Type 0)
-    → ((r : Played paper) (c : Call) → Known P r → Each (Happened P) (r .history) → Q r → Q (step paper r c))
-    → Q (started paper P) → (calls : List Call) → Q (run paper P calls)
+pub by-calls : {P : Plan} → Accepted P → (Q : Played reference → Type 0)
+    → ((r : Played reference) (c : Call) → Known P r → Each (Happened P) (r .history) → Q r → Q (step reference r c))
+    → Q (started reference P) → (calls : List Call) → Q (run reference P calls)
 unfolding play
-by-calls {P} ok Q kept first calls = all (started paper P) calls (after-fresh ok) tt first
+by-calls {P} ok Q kept first calls = all (started reference P) calls (after-fresh ok) tt first
   where
-    all : (r : Played paper) (calls : List Call) → Known P r → Each (Happened P) (r .history) → Q r → Q (play paper r calls)
+    all : (r : Played reference) (calls : List Call) → Known P r → Each (Happened P) (r .history) → Q r → Q (play reference r calls)
     all r [] g each q = q
-    all r (c ∷ calls) g each q = all (step paper r c) calls (after-step r c g) (one-more r c g each) (kept r c g each q)
+    all r (c ∷ calls) g each q = all (step reference r c) calls (after-step r c g) (one-more r c g each) (kept r c g each q)

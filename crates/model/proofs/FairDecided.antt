@@ -7,7 +7,7 @@ use native.Mathlib.Decide.{ℕ-discrete}
 use Rattle.model.specs.Tables.{tally}
 use Rattle.model.specs.Plan.{Plan}
 use Rattle.model.specs.Calls.{Event, History, requested, credited, ticked, lent, accepted, refused, inMask}
-use Rattle.model.specs.History.{renews}
+use Rattle.model.specs.History.{isGrantedReset}
 use Rattle.model.specs.Fairness.{Waits, WaitsAt, EachOf, Waiting}
 use Rattle.model.proofs.Decidable.{same, is-true}
 use Rattle.model.proofs.ClaimDecided.{has-room}
@@ -32,4 +32,4 @@ unfoldable pub waiting : (P : Plan) (i : ℕ) (stretch early : History) → Dec 
 unfolding waits waits-at each-waits
 waiting P i stretch early =
     same (λ r. record { no-reset = r .0; waits = r .1 }) (λ w. (w .no-reset, w .waits))
-    (Dec·and (ℕ-discrete (tally renews stretch) 0) (each-waits P i stretch early))
+    (Dec·and (ℕ-discrete (tally isGrantedReset stretch) 0) (each-waits P i stretch early))

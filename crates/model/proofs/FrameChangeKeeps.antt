@@ -13,7 +13,7 @@ use borrow.Author.Tests.{eqb-true, eqb-false, eq-eqb, ne-eqb}
 use Rattle.model.specs.Tables.{tally}
 use Rattle.model.specs.Plan.{Plan, positions, flowCount}
 use Rattle.model.specs.Window.{head, next, frameAt, inHead}
-use Rattle.model.specs.Link.{Link, Flow, window, owner, flow, holding, share, withCurrent, withTaken, movedTo}
+use Rattle.model.specs.Link.{Link, Flow, window, owner, flow, holding, share, withCurrent, withMark, movedTo}
 use Rattle.model.specs.Tick.{leftHead, carriedOn, recycled, nextPosition}
 use Rattle.model.specs.History.{frameOf, atSlot}
 use Rattle.model.specs.Holding.{frameStart, InWindow}
@@ -147,7 +147,7 @@ module _ {l : Link} {L : Ledger} (v : Invariant l L) (change : suc (L .now) % l 
 
   -- ---- the frame change
 
-  pub frame-change-keeps : Invariant (withTaken (withCurrent (recycled l) (nextPosition l)) false) (atNextSlot L)
+  pub frame-change-keeps : Invariant (withMark (withCurrent (recycled l) (nextPosition l)) false) (atNextSlot L)
   unfolding recycled
   frame-change-keeps = record {
     current = next-current v;

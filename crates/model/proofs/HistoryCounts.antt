@@ -14,7 +14,7 @@ use Rattle.model.specs.Word.{flowOf, destinationOf, departureOf}
 use Rattle.model.specs.Plan.{Plan, positions, flowCount, entry, Accepted}
 use Rattle.model.specs.Calls.{Event, History, requested, credited, ticked, lent, accepted, refused}
 use Rattle.model.specs.Request.{wordTests, numberTests, requestTests}
-use Rattle.model.specs.History.{Mark, ticks, frameOf, wellFormed, renews, origin, changes, marksOf, marksSince, grantAt, lendAt}
+use Rattle.model.specs.History.{Mark, ticks, frameOf, wellFormed, isGrantedReset, origin, changes, marksOf, marksSince, grantAt, lendAt}
 use Rattle.model.specs.History.{grants, refusalsSince, lends, refusedIn}
 use Rattle.model.specs.Claim.{Each}
 use Rattle.model.proofs.Tests.{and-true}
@@ -114,13 +114,13 @@ refused-later P ok i f (ticked x ∷ h) lt =
 -- the marks of each event up to the last granted reset
 unfoldable pub marksBefore : (Event → History → List Mark) → History → List Mark
 marksBefore f [] = []
-marksBefore f (e ∷ h) = cond (renews e) (f e h ++ marksOf f h) (marksBefore f h)
+marksBefore f (e ∷ h) = cond (isGrantedReset e) (f e h ++ marksOf f h) (marksBefore f h)
 
 pub split-at-reset : (f : Event → History → List Mark) (test : Mark → Bool) (h : History)
     → tally test (marksOf f h) ≡ tally test (marksSince f h) + tally test (marksBefore f h)
 unfolding marksOf marksSince marksBefore tally
 split-at-reset f test [] = refl
-split-at-reset f test (e ∷ h) = go (renews e) (split-at-reset f test h)
+split-at-reset f test (e ∷ h) = go (isGrantedReset e) (split-at-reset f test h)
   where
     go : (b : Bool) → tally test (marksOf f h) ≡ tally test (marksSince f h) + tally test (marksBefore f h)
         → tally test (f e h ++ marksOf f h)
@@ -131,7 +131,7 @@ split-at-reset f test (e ∷ h) = go (renews e) (split-at-reset f test h)
 -- ---- a list without a granted reset: both families of counts are over the whole list
 
 abbrev pub NoneGranted : History → Type 0
-NoneGranted = Each (λ e h. renews e ≡ false)
+NoneGranted = Each (λ e h. isGrantedReset e ≡ false)
 
 pub since-the-start : (f : Event → History → List Mark) (h : History) → NoneGranted h → marksSince f h ≡ marksOf f h
 unfolding marksOf marksSince

@@ -100,13 +100,13 @@ pub record Bookings (P : Plan) (t : ℕ) (G : List Mark) (owners : List (Option 
   pub owners-are : (s : ℕ) → InWindow P t s → getD owners (s % positions P) none ≡ ownerIn G s
   pub once : (s : ℕ) → tally (atSlot s) G ≤ 1
 
--- ---- the slots that have an owner, where slot t is current, the grants are G, all that raised a holding is B, and `taken` is the link's mark
+-- ---- the slots that have an owner, where slot t is current, the grants are G, all that raised a holding is B, and `marked` is the link's mark
 
--- No slot has two owners. A slot to come has one only if it is booked, and so has the current one where it is not marked taken.
-pub record Owned (t : ℕ) (G B : List Mark) (taken : Bool) : Type 0 where
+-- No slot has two owners. A slot to come has one only if it is booked, and so has the current one where it is not marked.
+pub record Owned (t : ℕ) (G B : List Mark) (marked : Bool) : Type 0 where
   pub one-owner : (s : ℕ) → tally (atSlot s) B ≤ 1
   pub to-come : (s : ℕ) → t < s → tally (atSlot s) B ≡ tally (atSlot s) G
-  pub unmarked : taken ≡ false → tally (atSlot t) B ≡ tally (atSlot t) G
+  pub unmarked : marked ≡ false → tally (atSlot t) B ≡ tally (atSlot t) G
 
 -- ---- the invariant
 
@@ -114,7 +114,7 @@ pub record Invariant (l : Link) (L : Ledger) : Type 0 where
   pub current : Current (l .plan) (L .now) (l .current)
   pub marks : MarksIn (l .plan) L
   pub bookings : Bookings (l .plan) (L .now) (L .grants) (l .owners)
-  pub owned : Owned (L .now) (L .grants) (L .raises) (l .taken)
+  pub owned : Owned (L .now) (L .grants) (L .raises) (l .marked)
   pub injects : (i : ℕ) → i < flowCount (l .plan) → Injects (l .plan) (frameOf (l .plan) (L .now)) (L .grants) i (flow l i)
   pub holds : (i : ℕ) → i < flowCount (l .plan) → Holds (l .plan) (L .now) (L .raises) (L .credits) i (flow l i)
 

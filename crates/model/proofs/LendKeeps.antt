@@ -29,13 +29,13 @@ use Rattle.model.proofs.HeldFrom.{raise-own, raise-other, room-from}
 pub record LendPasses (l : Link) (mask : ℕ) : Type 0 where
   pub mask-below : mask < 2 ^ flowCount (l .plan)
   pub not-booked : unbooked (owner l (l .current)) ≡ true
-  pub not-marked : l .taken ≡ false
+  pub not-marked : l .marked ≡ false
 
 pub lend-passes : (l : Link) (mask : ℕ) → firstOf (lendTests l mask) ≡ 0 → LendPasses l mask
 lend-passes l mask e =
     let l8 = line-passed _ 7 _ e in
     let l17 = line-passed _ 16 _ (l8 .1) in
-    let free = or-false (not (unbooked (owner l (l .current)))) (l .taken) (l17 .0) in
+    let free = or-false (not (unbooked (owner l (l .current)))) (l .marked) (l17 .0) in
     record { mask-below = leb-false _ mask (l8 .0); not-booked = not-false _ (free .0); not-marked = free .1 }
 
 module _ {l : Link} {L : Ledger} (v : Invariant l L) {mask : ℕ} (free : LendPasses l mask) {i : ℕ} (known : i < flowCount (l .plan)) (can : canTake l i ≡ true) where

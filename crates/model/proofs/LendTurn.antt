@@ -30,7 +30,7 @@ module _ (l : Link) (mask : ℕ) (passes : firstOf (lendTests l mask) ≡ 0) whe
   pub no-taker : 0 < n → ((i : ℕ) → i < n → takes l mask i ≡ false) → lend l mask ≡ record { link = l; answer = refused 18 }
   unfolding firstInTurn lentAfter
   no-taker some-flow nobody =
-      lend-is ∙ ap (lentAfter l) (first-nowhere n (l .lookFrom) (λ k. takes l mask (k % n)) (λ j. nobody (j % n) (mod-lt j some-flow)))
+      lend-is ∙ ap (lentAfter l) (first-nowhere n (l .turn) (λ k. takes l mask (k % n)) (λ j. nobody (j % n) (mod-lt j some-flow)))
 
   -- the flow that gets the slot is a flow of the mask that can take it
   pub record Taker : Type 0 where
@@ -51,20 +51,20 @@ module _ (l : Link) (mask : ℕ) (passes : firstOf (lendTests l mask) ≡ 0) whe
 
       -- a number from the first flow to look at on that stands for flow i
       place : ℕ
-      place = firstWith n (l .lookFrom) i
+      place = firstWith n (l .turn) i
 
       passes-there : test place ≡ true
-      passes-there = ap (takes l mask) (firstWith-mod some-flow (l .lookFrom) i known) ∙ can
+      passes-there = ap (takes l mask) (firstWith-mod some-flow (l .turn) i known) ∙ can
 
       go : (o : Option ℕ) → firstInTurn l mask ≡ o → Taker
       go none e =
-          let fails = firstFrom-none n (l .lookFrom) test e place (firstWith-low some-flow (l .lookFrom) i) (firstWith-high some-flow (l .lookFrom) i) in
+          let fails = firstFrom-none n (l .turn) test e place (firstWith-low some-flow (l .turn) i) (firstWith-high some-flow (l .turn) i) in
           let both : _≡_ {A = Bool} true false = sym passes-there ∙ fails in
           let z : _≡_ {A = ℕ} 0 1 = cc in
           absurd (omega arith)
       go (some k) e = record {
         flow = k % n;
         known = mod-lt k some-flow;
-        can = firstFrom-some n (l .lookFrom) test k e .passes;
+        can = firstFrom-some n (l .turn) test k e .passes;
         gets = lend-is ∙ ap (lentAfter l) e;
       }

@@ -8,7 +8,7 @@ use native.Mathlib.Decide.{ℕ-discrete}
 use lib.Dec.{lit<, lit≤}
 use Rattle.model.specs.Plan.{Plan, flowCount, planOf, refusal}
 use Rattle.model.specs.Calls.{Call, History}
-use Rattle.model.specs.Card.{step, run, paper}
+use Rattle.model.specs.Scheduler.{step, run, reference}
 use Rattle.model.specs.PlanBytes.{plan1, unequal}
 use Rattle.model.specs.TwoRuns.{SameFrames, UnmovedFrom}
 use Rattle.model.specs.Outlines.{outline, NoReset}
@@ -28,13 +28,13 @@ module _ {Q : Plan → ℕ → History → Type 0} (decide : (P : Plan) (i : ℕ
     P = planOf bytes
 
     abbrev h₁ : History
-    h₁ = run paper P calls₁ .history
+    h₁ = run reference P calls₁ .history
 
     abbrev h₂ : History
-    h₂ = run paper P calls₂ .history
+    h₂ = run reference P calls₂ .history
 
     told : refusal bytes ≡ 0 → 0 < flowCount P → (none₁ : NoReset h₁) (none₂ : NoReset h₂) (same : outline 0 h₁ ≡ outline 0 h₂) → IsYes (decide P 0 h₁)
-        → IsYes (decide P 0 h₂) → UnmovedFrom paper k Q → SameFrames P k (aligned-by 0 h₁ none₁ h₂ none₂ same)
+        → IsYes (decide P 0 h₂) → UnmovedFrom reference k Q → SameFrames P k (aligned-by 0 h₁ none₁ h₂ none₂ same)
     told passes known none₁ none₂ same yes₁ yes₂ unmoved =
         unmoved bytes passes calls₁ calls₂ 0 known (aligned-by 0 h₁ none₁ h₂ none₂ same) (proved (decide P 0 h₁) yes₁) (proved (decide P 0 h₂) yes₂)
 
@@ -68,7 +68,7 @@ tick4 = Call.tick ∷ Call.tick ∷ Call.tick ∷ Call.tick ∷ []
 -- ---- before the first frame change
 
 -- the first request of flow 0: slot 1, of frame 0, and slot 4, of frame 1
-pub not-from-the-start : UnmovedFrom paper 0 AllAsked → ⊥
+pub not-from-the-start : UnmovedFrom reference 0 AllAsked → ⊥
 unfolding pairs-compute
 not-from-the-start unmoved =
     let calls₂ = neighbour ++ Call.request 0x24000000 ∷ Call.request 0x24000400 ∷ Call.request 0x24000400 ∷ [] in
@@ -78,7 +78,7 @@ not-from-the-start unmoved =
 -- ---- without 'until refused with 11 in every frame'
 
 -- Flow 0 asks once in frame 0, and until it is refused with 11 in frame 1. There its first slot is 5, of frame 1, and 8, of frame 2.
-pub not-without-11-in-frame-0 : UnmovedFrom paper 1 (Without11In 0) → ⊥
+pub not-without-11-in-frame-0 : UnmovedFrom reference 1 (Without11In 0) → ⊥
 unfolding pairs-compute
 not-without-11-in-frame-0 unmoved =
     let before = Call.request 0x24000000 ∷ tick4 ++ Call.request 0x24000404 ∷ [] in
@@ -88,7 +88,7 @@ not-without-11-in-frame-0 unmoved =
     omega (arith, same .1 .1 .0 (lit≤ tt))
 
 -- It asks for nothing in frame 1. In frame 2 its first slot is 9, of that frame, and 12, of frame 3.
-pub not-without-11-in-frame-1 : UnmovedFrom paper 1 (Without11In 1) → ⊥
+pub not-without-11-in-frame-1 : UnmovedFrom reference 1 (Without11In 1) → ⊥
 unfolding pairs-compute
 not-without-11-in-frame-1 unmoved =
     let before = until11 ++ tick4 ++ tick4 in
@@ -97,7 +97,7 @@ not-without-11-in-frame-1 unmoved =
     let same = told (asks-until-11-by (but 1) ready) 1 unequal calls₁ calls₂ refl (lit< tt) refl refl refl tt tt unmoved in
     omega (arith, same .1 .1 .0 (lit≤ tt))
 
-pub not-without-11 : UnmovedFrom paper 1 Without11 → ⊥
+pub not-without-11 : UnmovedFrom reference 1 Without11 → ⊥
 not-without-11 unmoved =
     not-without-11-in-frame-1
     (λ bytes passes calls₁ calls₂ i known aligned one two.
@@ -107,7 +107,7 @@ not-without-11 unmoved =
 
 -- One flow with 3 cells: slot 5 is lent to it in the second run, in which it then holds 3. Slot 8 is granted, or it is refused with 12. After a credit
 -- it asks until it is refused with 11.
-pub not-without-room : UnmovedFrom paper 1 WithoutRoom → ⊥
+pub not-without-room : UnmovedFrom reference 1 WithoutRoom → ⊥
 unfolding pairs-compute
 not-without-room unmoved =
     let before = until11 ++ tick4 ++ Call.tick ∷ [] in
@@ -120,7 +120,7 @@ not-without-room unmoved =
 
 -- At slot 4 flow 0 asks for a tile that comes at slot 10. Slot 11 is granted, or it is refused with 20, where flow 1 has booked that slot. Then it asks
 -- for a tile that has come until it is refused with 11.
-pub not-without-come : UnmovedFrom paper 1 WithoutCome → ⊥
+pub not-without-come : UnmovedFrom reference 1 WithoutCome → ⊥
 unfolding pairs-compute
 not-without-come unmoved =
     let before = until11 ++ tick4 in
@@ -135,7 +135,7 @@ not-without-come unmoved =
 
 -- The words of flow 0 are the same in both runs, numbers too. At slot 4 the first run expects 2, and the second 1: the word with 2 is granted slot 8, or
 -- it is refused with 24. Then flow 0 asks until it is refused with 11, with words that one run or the other expects.
-pub not-without-number : UnmovedFrom paper 1 WithoutNumber → ⊥
+pub not-without-number : UnmovedFrom reference 1 WithoutNumber → ⊥
 unfolding pairs-compute
 not-without-number unmoved =
     let later = Call.request 0x24000404 ∷ Call.request 0x24000804 ∷ Call.request 0x24000C04 ∷ [] in
@@ -147,15 +147,15 @@ not-without-number unmoved =
 
 -- Flow 0 has had both of its cells back, and at slot 5 there is a reset: it is granted, or refused with 23 where flow 1 has booked a slot. Then the slot of
 -- flow 0 is 6, of frame 1, and 8, of frame 2.
-pub not-with-a-reset : UnmovedByReset paper → ⊥
+pub not-with-a-reset : UnmovedByReset reference → ⊥
 unfolding pairs-compute
 not-with-a-reset unmoved =
     let calls = until11 ++ Call.credit 0 1 ∷ Call.credit 0 4 ∷ tick4 ++ Call.tick ∷ [] in
     let booked = calls ++ Call.request 0x24100005 ∷ [] in
     let P = planOf unequal in
-    let r₁ = run paper P (calls ++ Call.reset ∷ []) in
-    let r₂ = run paper P (booked ++ Call.reset ∷ []) in
-    let aligned = aligned-by 0 (run paper P calls .history) refl (run paper P booked .history) refl refl in
-    let asks₁ = proved (asks-until-11 P 0 (step paper r₁ (Call.request 0x24000805) .history)) tt in
-    let asks₂ = proved (asks-until-11 P 0 (step paper r₂ (Call.request 0x24000805) .history)) tt in
+    let r₁ = run reference P (calls ++ Call.reset ∷ []) in
+    let r₂ = run reference P (booked ++ Call.reset ∷ []) in
+    let aligned = aligned-by 0 (run reference P calls .history) refl (run reference P booked .history) refl refl in
+    let asks₁ = proved (asks-until-11 P 0 (step reference r₁ (Call.request 0x24000805) .history)) tt in
+    let asks₂ = proved (asks-until-11 P 0 (step reference r₂ (Call.request 0x24000805) .history)) tt in
     omega (arith, unmoved unequal refl calls booked 0x24000805 (lit< tt) aligned (lit≤ tt) r₁ r₂ refl refl asks₁ asks₂)

@@ -61,7 +61,7 @@ pub mod AsFresh
 pub mod TurnOrder
 pub mod Turns
 pub mod TurnCounts
-pub mod LookFrom
+pub mod TurnKept
 pub mod Waiting
 pub mod Fairness
 pub mod AskedInFrames
@@ -70,23 +70,23 @@ pub mod NewestGrants
 pub mod AlignedRuns
 pub mod SameFrames
 pub mod Outlines
--- edges, cards that demand 3 sends back, streams that meet the premise of the least count, and what its premises on words are for
+-- edges, schedulers that demand 3 sends back, streams that meet the premise of the least count, and what its premises on words are for
 pub mod Unfoldings
 pub mod Edges
 pub mod Decidable
 pub mod PastMarks
 pub mod ClaimDecided
-pub mod BadHistories
-pub mod BadCards
-pub mod BadLends
-pub mod BadDepartures
-pub mod BadHops
-pub mod BadResets
+pub mod WrongHistories
+pub mod WrongSchedulers
+pub mod WrongLends
+pub mod WrongDepartures
+pub mod WrongHops
+pub mod WrongResets
 pub mod FairDecided
-pub mod BadTurns
+pub mod WrongTurns
 pub mod TwoHeads
-pub mod BadNumbers
-pub mod BadBursts
+pub mod WrongNumbers
+pub mod WrongBursts
 pub mod PersistentStream
 pub mod StreamAfterReset
 pub mod OtherPremises

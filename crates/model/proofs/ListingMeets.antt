@@ -1,4 +1,4 @@
--- A listing's events are those of a run of the paper's card, and so they meet demand 3. Assumes nothing.
+-- A listing's events are those of a run of the reference scheduler, and so they meet demand 3. Assumes nothing.
 use Prim.Native.Nat.{ℕ, _<_}
 use mathlib.Core.Path.{_≡_, refl, sym, ap, _∙_, subst}
 use mathlib.Core.List.{List, [], _∷_, map, reverse, reverseAux, reverse-reverse}
@@ -8,13 +8,13 @@ use Rattle.model.specs.Calls.{Call, History}
 use Rattle.model.specs.Link.{Link}
 use Rattle.model.specs.Fresh.{fresh}
 use Rattle.model.specs.Claim.{Demand3}
-use Rattle.model.specs.Card.{Played, paper, play}
+use Rattle.model.specs.Scheduler.{Played, reference, play}
 use Rattle.model.specs.Record.{RecordCall, asCall}
 use Rattle.model.specs.Listing.{asEvent, callsOf, outcomes, linkAfterCalls, present, linkAfter}
 use Rattle.model.proofs.Demand3.{meets}
 
 -- a link, after the events of a history
-abbrev pub from : Link → History → Played paper
+abbrev pub from : Link → History → Played reference
 from l h = record { state = l; history = h }
 
 -- ---- records' calls, played
@@ -24,7 +24,7 @@ abbrev listOf : List (Option RecordCall) → List Call
 listOf cs = map asCall (present cs)
 
 history-played : (l : Link) (h : History) (cs : List (Option RecordCall))
-    → play paper (from l h) (listOf cs) .history ≡ reverseAux (map asEvent (present (outcomes l cs))) h
+    → play reference (from l h) (listOf cs) .history ≡ reverseAux (map asEvent (present (outcomes l cs))) h
 unfolding play outcomes
 history-played l h [] = refl
 history-played l h (some (RecordCall.request w) ∷ cs) = history-played _ _ cs
@@ -32,7 +32,7 @@ history-played l h (some (RecordCall.credit i p) ∷ cs) = history-played _ _ cs
 history-played l h (some RecordCall.tick ∷ cs) = history-played _ _ cs
 history-played l h (none ∷ cs) = history-played l h cs
 
-link-played : (l : Link) (h : History) (cs : List (Option RecordCall)) → linkAfterCalls l cs ≡ play paper (from l h) (listOf cs) .state
+link-played : (l : Link) (h : History) (cs : List (Option RecordCall)) → linkAfterCalls l cs ≡ play reference (from l h) (listOf cs) .state
 unfolding play linkAfterCalls
 link-played l h [] = refl
 link-played l h (some (RecordCall.request w) ∷ cs) = link-played _ _ cs
@@ -49,11 +49,11 @@ callsIn stream = listOf (callsOf stream)
 abbrev pub eventsIn : Link → List ℕ → History
 eventsIn l stream = map asEvent (present (outcomes l (callsOf stream)))
 
--- The events of a listing are those of its calls, played on the paper's card.
-pub listing-played : (l : Link) (stream : List ℕ) → eventsIn l stream ≡ reverse (play paper (from l []) (callsIn stream) .history)
+-- The events of a listing are those of its calls, played on the reference scheduler.
+pub listing-played : (l : Link) (stream : List ℕ) → eventsIn l stream ≡ reverse (play reference (from l []) (callsIn stream) .history)
 listing-played l stream = sym (ap reverse (history-played l [] (callsOf stream)) ∙ reverse-reverse (eventsIn l stream))
 
-pub link-after-played : (l : Link) (stream : List ℕ) → linkAfter l stream ≡ play paper (from l []) (callsIn stream) .state
+pub link-after-played : (l : Link) (stream : List ℕ) → linkAfter l stream ≡ play reference (from l []) (callsIn stream) .state
 unfolding linkAfter
 link-after-played l stream = link-played l [] (callsOf stream)
 

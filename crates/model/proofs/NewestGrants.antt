@@ -11,8 +11,8 @@ use borrow.Author.Tests.{ne-eqb}
 use Rattle.model.specs.Tables.{bit, tally}
 use Rattle.model.specs.Word.{flowOf, departureOf}
 use Rattle.model.specs.Plan.{Plan, flowCount, entry, Accepted}
-use Rattle.model.specs.Calls.{Grant, Turn, Event, History, requested, credited, ticked, lent, accepted, refused}
-use Rattle.model.specs.History.{Mark, ticks, slotAfter, frameOf, wellFormed, renews, origin, grantsSince, refusalsSince, ofFlow, inFrame}
+use Rattle.model.specs.Calls.{Grant, TickAnswer, Event, History, requested, credited, ticked, lent, accepted, refused}
+use Rattle.model.specs.History.{Mark, ticks, slotAfter, frameOf, wellFormed, isGrantedReset, origin, grantsSince, refusalsSince, ofFlow, inFrame}
 use Rattle.model.specs.History.{grantedIn, refusedIn}
 use Rattle.model.specs.Claim.{Each}
 use Rattle.model.specs.TwoRuns.{AsksUntil11}
@@ -162,7 +162,7 @@ module _ {P : Plan} (ok : Accepted P) (i : ℕ) (h : History) (before : Counts P
           let high = frame-high ok (now P h + P .frames) (m .slot) (omega arith) in
           rw (ne-eqb (frameOf P (m .slot)) f (λ z. omega arith)) (and-false (ofFlow i m))
 
-  tick-exact : (x : Turn) → Exact P i h → Exact P i (ticked x ∷ h)
+  tick-exact : (x : TickAnswer) → Exact P i h → Exact P i (ticked x ∷ h)
   unfolding ticks grantsSince asks
   tick-exact x exact later = go (ℕ-discrete (suc (ticks h) % P .slots) 0)
     where
@@ -183,7 +183,7 @@ pub record Paced (P : Plan) (i : ℕ) (h : History) : Type 0 where
 
 module _ {P : Plan} (ok : Accepted P) {i : ℕ} (known : i < flowCount P) where
   -- one event more
-  one-more : (e : Event) (h : History) → Happened P e h → renews e ≡ false → origin P h ≡ 0 → AskedOn P h i → AskedOn P (e ∷ h) i
+  one-more : (e : Event) (h : History) → Happened P e h → isGrantedReset e ≡ false → origin P h ≡ 0 → AskedOn P h i → AskedOn P (e ∷ h) i
       → Exact P i h → Exact P i (e ∷ h) × DecidedAt P i e h
   unfolding ticks grantsSince asks
   one-more (requested w (accepted v)) h x none from-0 asked asked-too exact =

@@ -1,4 +1,4 @@
--- What every tick does, whether or not the frame changes: the next current position, the marks, which stay, and the taken mark, which goes off. Assumes nothing.
+-- What every tick does, whether or not the frame changes: the next current position, the marks, which stay, and the mark, which goes off. Assumes nothing.
 use Prim.Native.Nat.{ℕ, suc, _+_, _%_, _≤_}
 use mathlib.Core.Path.{_≡_, ap, _∙_}
 use mathlib.Core.Bool.{false}

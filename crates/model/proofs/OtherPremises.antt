@@ -13,7 +13,7 @@ use Rattle.model.specs.Plan.{Plan, planOf}
 use Rattle.model.specs.Calls.{Call, Event, History, requested, credited, ticked, lent}
 use Rattle.model.specs.History.{ticks, wellFormed, hasCome, granted, expectedNumber}
 use Rattle.model.specs.Claim.{ReadyAt, Clause}
-use Rattle.model.specs.Card.{run, paper}
+use Rattle.model.specs.Scheduler.{run, reference}
 use Rattle.model.specs.PlanBytes.{listing, oneShare}
 use Rattle.model.specs.OtherPremises.{Premise, Both, ReadyBy, PersistentBy, LeastBy, Come, Numbered, SlotGone, NumberedSince}
 use Rattle.model.proofs.Unfoldings.{plans-compute, calls-compute, counts-compute}
@@ -34,7 +34,7 @@ pub least-by-claim : LeastBy (Both Come Numbered)
 least-by-claim bytes passes calls i known p =
     meets bytes passes calls i known Clause.least (record {
       refused-in-each-frame = p .refused-in-each-frame;
-      ready-at-each-request = each-since-map _ _ (ready-by-claim (planOf bytes) i) (run paper (planOf bytes) calls .history) (p .ready-at-each-request);
+      ready-at-each-request = each-since-map _ _ (ready-by-claim (planOf bytes) i) (run reference (planOf bytes) calls .history) (p .ready-at-each-request);
     })
 
 -- ---- it does not hold by less
@@ -67,7 +67,7 @@ unfolding plans-compute calls-compute counts-compute persistent persistent-by
 not-any-departure least =
     let calls = Call.request 0x24000007 ∷ [] in
     let P = planOf listing in
-    let few = least listing refl calls 0 (lit< tt) (proved (persistent-by numbered P 0 (run paper P calls .history)) tt) in
+    let few = least listing refl calls 0 (lit< tt) (proved (persistent-by numbered P 0 (run reference P calls .history)) tt) in
     omega (arith, few)
 
 -- Share 1: slots 1 and 4 are granted, then 11; at slot 4 departure 3 gives 20, and at slot 8 departure 7. With k = 2 the least count is 3.
@@ -78,7 +78,7 @@ not-slot-gone least =
     ∷ Call.request 0x24000803 ∷ Call.tick ∷ Call.tick ∷ Call.tick ∷ Call.tick ∷ Call.request 0x24000807 ∷ [] in
     let P = planOf oneShare in
     let gone : Decides SlotGone = λ P i w h. decLe (departureOf w) (ticks h) in
-    let few = least oneShare refl calls 0 (lit< tt) (proved (persistent-by (both gone numbered) P 0 (run paper P calls .history)) tt) in
+    let few = least oneShare refl calls 0 (lit< tt) (proved (persistent-by (both gone numbered) P 0 (run reference P calls .history)) tt) in
     omega (arith, few)
 
 -- one request with number 1, on a fresh link: 24, where the least count is 2
@@ -87,7 +87,7 @@ unfolding plans-compute calls-compute counts-compute persistent persistent-by
 not-any-number least =
     let calls = Call.request 0x24000400 ∷ [] in
     let P = planOf listing in
-    let few = least listing refl calls 0 (lit< tt) (proved (persistent-by come P 0 (run paper P calls .history)) tt) in
+    let few = least listing refl calls 0 (lit< tt) (proved (persistent-by come P 0 (run reference P calls .history)) tt) in
     omega (arith, few)
 
 -- Slot 1 is granted, served and given back. After a reset the number 0 again gives 24, where the least count since then is 2.
@@ -97,5 +97,5 @@ not-number-since least =
     let calls = Call.request 0x24000000 ∷ Call.credit 0 1 ∷ Call.tick ∷ Call.reset ∷ Call.request 0x24000001 ∷ [] in
     let P = planOf listing in
     let since : Decides NumberedSince = λ P i w h. ℕ-discrete (quantumOf w) (granted P h i % 1024) in
-    let few = least listing refl calls 0 (lit< tt) (proved (persistent-by (both come since) P 0 (run paper P calls .history)) tt) in
+    let few = least listing refl calls 0 (lit< tt) (proved (persistent-by (both come since) P 0 (run reference P calls .history)) tt) in
     omega (arith, few)

@@ -9,7 +9,7 @@ use lib.ListN.{length}
 use borrow.Author.Tests.{eqb-true, eqb-false, ne-eqb}
 use Rattle.model.specs.Tables.{bit, tally}
 use Rattle.model.specs.Word.{destinationOf, flowOf, departureOf}
-use Rattle.model.specs.Calls.{Grant, Receipt, Turn, Event, History, requested, credited, ticked, lent}
+use Rattle.model.specs.Calls.{Grant, CreditAnswer, TickAnswer, Event, History, requested, credited, ticked, lent}
 use Rattle.model.specs.TwoRuns.{Neighbours, Aligned, start, both-tick, both-request, both-credit, first-alone, second-alone}
 use Rattle.model.specs.Outlines.{Place, placesOf, outline, isReset, NoReset, SameOutline, AlignedIs}
 use Rattle.model.proofs.Tallies.{tally-skip}
@@ -70,9 +70,9 @@ module _ (i : ℕ) where
 
 -- an event with this place
 pub data Own (i : ℕ) : Event → Place → Type 0 where
-  own-tick : {x : Turn} → Own i (ticked x) Place.tick
+  own-tick : {x : TickAnswer} → Own i (ticked x) Place.tick
   own-request : {w : ℕ} {a : Grant} → flowOf w ≡ i → Own i (requested w a) (Place.request (destinationOf w) (departureOf w))
-  own-credit : {j p : ℕ} {a : Receipt} → j ≡ i → Own i (credited j p a) (Place.credit p)
+  own-credit : {j p : ℕ} {a : CreditAnswer} → j ≡ i → Own i (credited j p a) (Place.credit p)
 
 -- an event of the neighbours, or one with a place
 pub data Kind (i : ℕ) (e : Event) : Type 0 where

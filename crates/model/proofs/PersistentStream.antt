@@ -9,7 +9,7 @@ use Rattle.model.specs.Plan.{Plan, entry, planOf, refusal}
 use Rattle.model.specs.Calls.{Call, Event, History, requested, credited, ticked, accepted, refused}
 use Rattle.model.specs.History.{changes, credits, ofFlow, granted}
 use Rattle.model.specs.Claim.{Persistent}
-use Rattle.model.specs.Card.{run, paper}
+use Rattle.model.specs.Scheduler.{run, reference}
 use Rattle.model.specs.PlanBytes.{plan2}
 use Rattle.model.proofs.Unfoldings.{plans-compute, calls-compute, counts-compute}
 use Rattle.model.proofs.Decidable.{proved}
@@ -44,7 +44,7 @@ calls =
     ∷ Call.tick ∷ Call.tick ∷ Call.credit 0 1 ∷ Call.request 0x24000800 ∷ Call.request 0x24000C00 ∷ []
 
 abbrev h : History
-h = run paper P calls .history
+h = run reference P calls .history
 
 -- what the calls come to, oldest first
 abbrev events : List Event
@@ -66,6 +66,6 @@ pub other-flow-books : granted P h 1 ≡ 2
 unfolding calls-compute counts-compute
 other-flow-books = refl
 
-pub credits-are-taken : tally (ofFlow 0) (credits P h) ≡ 2
+pub credits-are-accepted : tally (ofFlow 0) (credits P h) ≡ 2
 unfolding calls-compute counts-compute
-credits-are-taken = refl
+credits-are-accepted = refl

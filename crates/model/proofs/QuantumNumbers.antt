@@ -12,7 +12,7 @@ use Rattle.model.specs.Plan.{Plan, flowCount, planOf, Accepted}
 use Rattle.model.specs.Calls.{Call, Event, History, requested, credited, ticked, lent, accepted, refused}
 use Rattle.model.specs.History.{grantAt, grants, ofFlow, grantedInAll, expectedNumber}
 use Rattle.model.specs.Claim.{Each}
-use Rattle.model.specs.Card.{paper, run}
+use Rattle.model.specs.Scheduler.{reference, run}
 use Rattle.model.specs.QuantumNumbers.{NumberIsCount, expectedOn, wordGranted, wordsGranted, InOrder, NumbersInOrder}
 use Rattle.model.proofs.Tables.{table-append}
 use Rattle.model.proofs.Tallies.{tally-append}
@@ -22,10 +22,10 @@ use Rattle.model.proofs.AfterCalls.{after-run}
 use Rattle.model.proofs.Demand3.{each-map}
 
 pub number-accepted : (P : Plan) → Accepted P → (calls : List Call) (i : ℕ) → i < flowCount P
-    → expectedOn (run paper P calls .state) i ≡ expectedNumber P (run paper P calls .history) i
+    → expectedOn (run reference P calls .state) i ≡ expectedNumber P (run reference P calls .history) i
 number-accepted = after-run (λ P l h. (i : ℕ) → i < flowCount P → expectedOn l i ≡ expectedNumber P h i) (λ l h g. g .numbers)
 
-pub number-is-count : NumberIsCount paper expectedOn
+pub number-is-count : NumberIsCount reference expectedOn
 number-is-count bytes passes = number-accepted (planOf bytes) (plan.accepted bytes passes)
 
 -- ---- the words that are granted
@@ -67,10 +67,10 @@ module _ (P : Plan) (i : ℕ) where
       ∙ sym (table-append before new (λ k. k % 1024))
       ∙ ap (λ n. table n (λ k. k % 1024)) count
 
-pub numbers-accepted : (P : Plan) → Accepted P → (calls : List Call) → (i : ℕ) → i < flowCount P → InOrder P i (run paper P calls .history)
+pub numbers-accepted : (P : Plan) → Accepted P → (calls : List Call) → (i : ℕ) → i < flowCount P → InOrder P i (run reference P calls .history)
 numbers-accepted =
     after-run (λ P l h. (i : ℕ) → i < flowCount P → InOrder P i h)
     (λ l h g i known. in-order (l .plan) i h (each-map _ _ (λ e h c. c .numbered) h (g .events)))
 
-pub numbers-in-order : NumbersInOrder paper
+pub numbers-in-order : NumbersInOrder reference
 numbers-in-order bytes passes = numbers-accepted (planOf bytes) (plan.accepted bytes passes)

@@ -44,16 +44,16 @@ module _ (base : Link) {t : ℕ} (now : Current (base .plan) t (base .current)) 
     pub owners′ : List (Option ℕ)
     pub flows : List Flow
     pub flows′ : List Flow
-    pub taken : Bool
-    pub taken′ : Bool
-    pub lookFrom : ℕ
-    pub lookFrom′ : ℕ
+    pub marked : Bool
+    pub marked′ : Bool
+    pub turn : ℕ
+    pub turn′ : ℕ
 
   abbrev pub first : Pair → Link
-  first x = linkWith base (base .current) (x .owners) (x .flows) (x .taken) (x .lookFrom)
+  first x = linkWith base (base .current) (x .owners) (x .flows) (x .marked) (x .turn)
 
   abbrev pub second : Pair → Link
-  second x = linkWith base (base .current) (x .owners′) (x .flows′) (x .taken′) (x .lookFrom′)
+  second x = linkWith base (base .current) (x .owners′) (x .flows′) (x .marked′) (x .turn′)
 
   -- what two links have
   abbrev pub pair : Link → Link → Pair
@@ -62,10 +62,10 @@ module _ (base : Link) {t : ℕ} (now : Current (base .plan) t (base .current)) 
     owners′ = l .owners;
     flows = k .flows;
     flows′ = l .flows;
-    taken = k .taken;
-    taken′ = l .taken;
-    lookFrom = k .lookFrom;
-    lookFrom′ = l .lookFrom;
+    marked = k .marked;
+    marked′ = l .marked;
+    turn = k .turn;
+    turn′ = l .turn;
   }
 
   -- ---- what agrees

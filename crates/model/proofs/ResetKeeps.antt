@@ -13,7 +13,7 @@ use Rattle.model.specs.Plan.{positions}
 use Rattle.model.specs.Window.{later}
 use Rattle.model.specs.Link.{Link, window, owner}
 use Rattle.model.specs.Request.{unbooked}
-use Rattle.model.specs.Reset.{noneBooked, fromHead, renewed}
+use Rattle.model.specs.Reset.{noneBooked, fromHead, resetLink}
 use Rattle.model.specs.History.{frameOf, atSlot}
 use Rattle.model.specs.Holding.{frameStart, InWindow}
 use Rattle.model.proofs.Tests.{or-false}
@@ -50,22 +50,22 @@ module _ {l : Link} {L : Ledger} (v : Invariant l L) (empty : noneBooked l ≡ t
           (all-map _ _ (λ m g. ne-eqb (m .slot) s (λ e. omega (arith, g .begun))) (L .grants) (v .marks .grants-in))
 
   -- A slot to come has no owner, and neither has the current one where it is not marked.
-  owned-afresh : Owned t [] (L .raises) (not (unbooked (owner l (l .current))) || l .taken)
+  owned-reset : Owned t [] (L .raises) (not (unbooked (owner l (l .current))) || l .marked)
   unfolding tally
-  owned-afresh = record {
+  owned-reset = record {
     one-owner = v .owned .one-owner;
     to-come = λ s lt. v .owned .to-come s lt ∙ none-granted s lt;
     unmarked = λ e.
-        let parts = or-false (not (unbooked (owner l (l .current)))) (l .taken) e in
+        let parts = or-false (not (unbooked (owner l (l .current)))) (l .marked) e in
         v .owned .unmarked (parts .1)
         ∙ unowned t (L .grants) .0
         (sym (v .bookings .owners-are t (current-in-window ok t)) ∙ ap (owner l) (sym (v .current .current-is))
         ∙ unbooked-none (owner l (l .current)) (not-false _ (parts .0)));
   }
 
-  injects-afresh : (i : ℕ) → Injects P (frameOf P t) [] i (fromHead l i)
+  injects-reset : (i : ℕ) → Injects P (frameOf P t) [] i (fromHead l i)
   unfolding tally
-  injects-afresh i = record {
+  injects-reset i = record {
     frame = frameOf P t;
     low = omega arith;
     high = omega (arith, some-frame ok);
@@ -74,16 +74,16 @@ module _ {l : Link} {L : Ledger} (v : Invariant l L) (empty : noneBooked l ≡ t
     in-frames = λ f. omega arith;
   }
 
-  pub renewed-keeps : Invariant (renewed l) (atReset P L)
-  unfolding renewed ownerIn tally
-  renewed-keeps = record {
+  pub reset-keeps : Invariant (resetLink l) (atReset P L)
+  unfolding resetLink ownerIn tally
+  reset-keeps = record {
     current = v .current;
     marks = record { origin-le = omega arith; grants-in = tt; raises-in = v .marks .raises-in; credits-in = v .marks .credits-in };
     bookings = record {
       owners-are = λ s w. owner-withOwners l (λ q. none) (s % T) (mod-lt s (some-position ok));
       once = λ s. omega arith;
     };
-    owned = owned-afresh;
-    injects = λ i known. subst (Injects P (frameOf P t) [] i) (sym (flow-withFlows l (fromHead l) i known)) (injects-afresh i);
+    owned = owned-reset;
+    injects = λ i known. subst (Injects P (frameOf P t) [] i) (sym (flow-withFlows l (fromHead l) i known)) (injects-reset i);
     holds = λ i known. subst (Holds P t (L .raises) (L .credits) i) (sym (flow-withFlows l (fromHead l) i known)) (v .holds i known);
   }

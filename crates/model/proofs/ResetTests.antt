@@ -8,16 +8,16 @@ use borrow.Author.Tests.{le-ltb, ne-eqb}
 use Rattle.model.specs.Tables.{every}
 use Rattle.model.specs.Refusals.{firstOf}
 use Rattle.model.specs.Plan.{flowCount}
-use Rattle.model.specs.Calls.{Renewal, accepted, refused}
+use Rattle.model.specs.Calls.{ResetAnswer, accepted, refused}
 use Rattle.model.specs.Window.{everyFrom}
 use Rattle.model.specs.Link.{Link, Step, window, holding}
-use Rattle.model.specs.Reset.{noneBooked, noneHeld, quiet, resetTests, renewed, resetAfter, reset}
+use Rattle.model.specs.Reset.{noneBooked, noneHeld, quiet, resetTests, resetLink, resetAfter, reset}
 use Rattle.model.proofs.Tests.{and-true}
 
-abbrev pub granted : Link → Step Renewal
-granted l = record { link = renewed l; answer = accepted tt }
+abbrev pub granted : Link → Step ResetAnswer
+granted l = record { link = resetLink l; answer = accepted tt }
 
-abbrev pub notGranted : Link → Step Renewal
+abbrev pub notGranted : Link → Step ResetAnswer
 notGranted l = record { link = l; answer = refused 23 }
 
 pub reset-is : (l : Link) → reset l ≡ cond (quiet l) (granted l) (notGranted l)

@@ -9,7 +9,7 @@ use Rattle.model.specs.Plan.{Plan, flowCount, planOf, Accepted}
 use Rattle.model.specs.Calls.{Call, Grant, Event, History, requested, accepted, refused}
 use Rattle.model.specs.History.{ticks, frameOf}
 use Rattle.model.specs.Claim.{Each}
-use Rattle.model.specs.Card.{run, paper}
+use Rattle.model.specs.Scheduler.{run, reference}
 use Rattle.model.specs.TwoRuns.{SameButNumber, Aligned, start, both-tick, both-request, both-credit, first-alone, second-alone}
 use Rattle.model.specs.TwoRuns.{AsksUntil11, SameFrame, SameFrames, UnmovedOn, Unmoved}
 use Rattle.model.proofs.Plan as plan
@@ -67,21 +67,21 @@ module _ {P : Plan} (ok : Accepted P) (i : ℕ) where
   each-alike (second-alone e other x) s₁ s₂ = each-alike x s₁ (s₂ .1)
 
   -- one run
-  each-settled : i < flowCount P → (calls : List Call) → NoneGranted (run paper P calls .history) → AsksUntil11 P i (run paper P calls .history)
-      → Each (Settled P i) (run paper P calls .history)
+  each-settled : i < flowCount P → (calls : List Call) → NoneGranted (run reference P calls .history) → AsksUntil11 P i (run reference P calls .history)
+      → Each (Settled P i) (run reference P calls .history)
   each-settled known calls none on =
       let happened = each-happened P ok calls in
-      each-both (run paper P calls .history) happened (paced ok known (run paper P calls .history) happened none on .decided)
+      each-both (run reference P calls .history) happened (paced ok known (run reference P calls .history) happened none on .decided)
     where
       each-both : (h : History) → Each (Happened P) h → Each (DecidedAt P i) h → Each (Settled P i) h
       each-both [] x y = tt
       each-both (e ∷ h) x y = (record { happened = x .0; decided = y .0 }, each-both h (x .1) (y .1))
 
 -- on any plan that keeps the limits, and so on the plan of any bytes that are accepted
-pub same-frames-accepted : (P : Plan) → Accepted P → UnmovedOn paper P 1 AsksUntil11
+pub same-frames-accepted : (P : Plan) → Accepted P → UnmovedOn reference P 1 AsksUntil11
 same-frames-accepted P ok calls₁ calls₂ i known aligned on₁ on₂ =
     let none = none-granted i aligned in
     each-alike ok i aligned (each-settled ok i known calls₁ (none .0) on₁) (each-settled ok i known calls₂ (none .1) on₂)
 
-pub same-frames : Unmoved paper
+pub same-frames : Unmoved reference
 same-frames bytes passes = same-frames-accepted (planOf bytes) (plan.accepted bytes passes)

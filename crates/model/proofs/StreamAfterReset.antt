@@ -8,7 +8,7 @@ use Rattle.model.specs.Tables.{tally}
 use Rattle.model.specs.Plan.{Plan, entry, planOf}
 use Rattle.model.specs.Calls.{Call, Event, History, requested, credited, ticked, accepted, refused}
 use Rattle.model.specs.History.{origin, changes, marksOf, refusalAt, grants, ofFlow, inFrame, granted, refusedIn}
-use Rattle.model.specs.Card.{run, paper}
+use Rattle.model.specs.Scheduler.{run, reference}
 use Rattle.model.specs.PlanBytes.{plan2, listing, oneShare}
 use Rattle.model.proofs.Unfoldings.{calls-compute, counts-compute}
 use Rattle.model.proofs.Decidable.{proved}
@@ -30,7 +30,7 @@ calls =
     ∷ Call.tick ∷ Call.credit 0 1 ∷ Call.request 0x24000800 ∷ Call.request 0x24000C00 ∷ []
 
 abbrev h : History
-h = run paper P calls .history
+h = run reference P calls .history
 
 -- what the calls come to, oldest first
 abbrev events : List Event
@@ -64,7 +64,7 @@ Q = planOf oneShare
 
 abbrev threeTimes : History
 threeTimes =
-    run paper Q
+    run reference Q
     (Call.request 0x24000000 ∷ Call.credit 0 1 ∷ Call.tick ∷ Call.reset ∷ Call.request 0x24000401 ∷ Call.credit 0 2 ∷ Call.tick ∷ Call.reset
     ∷ Call.request 0x24000802 ∷ Call.request 0x24000C02 ∷ [])
     .history
@@ -89,7 +89,7 @@ abbrev L : Plan
 L = planOf listing
 
 abbrev refusedBefore : History
-refusedBefore = run paper L (Call.request 0x24000007 ∷ Call.reset ∷ []) .history
+refusedBefore = run reference L (Call.request 0x24000007 ∷ Call.reset ∷ []) .history
 
 -- over the whole list the flow was refused in each frame, with nothing granted; since the reset it was not
 pub refused-over-the-list : tally (inFrame L 0 0) (marksOf (refusalAt L) refusedBefore) ≡ 1

@@ -6,7 +6,7 @@ use lib.Dec.{eqb}
 use borrow.Author.Tests.{eqb-true, eqb-false}
 use Rattle.model.specs.Plan.{Plan, flowCount}
 use Rattle.model.specs.Window.{head, next}
-use Rattle.model.specs.Link.{Link, window, owner, flow, share, withCurrent, withTaken, movedTo}
+use Rattle.model.specs.Link.{Link, window, owner, flow, share, withCurrent, withMark, movedTo}
 use Rattle.model.specs.Tick.{leftHead, recycled, nextPosition, advanced}
 use Rattle.model.specs.History.{frameOf}
 use Rattle.model.specs.Holding.{InWindow}
@@ -34,7 +34,7 @@ module _ {l : Link} {L : Ledger} (v : Invariant l L) where
 
   -- ---- in the same frame
 
-  in-frame : (suc t % F ≡ 0 → ⊥) → Invariant (withTaken (withCurrent l (nextPosition l)) false) (atNextSlot L)
+  in-frame : (suc t % F ≡ 0 → ⊥) → Invariant (withMark (withCurrent l (nextPosition l)) false) (atNextSlot L)
   in-frame d = record {
     current = next-current v;
     marks = marks-stay v;
@@ -68,7 +68,7 @@ module _ {l : Link} {L : Ledger} (v : Invariant l L) where
       place : nextPosition l % F ≡ suc t % F
       place = ap (_% F) (next-position v) ∙ place-of-position ok (suc t)
 
-      go : (b : Bool) → eqb (nextPosition l % F) 0 ≡ b → Advances (withTaken (withCurrent (cond b (recycled l) l) (nextPosition l)) false)
+      go : (b : Bool) → eqb (nextPosition l % F) 0 ≡ b → Advances (withMark (withCurrent (cond b (recycled l) l) (nextPosition l)) false)
       go true e =
           let change : suc t % F ≡ 0 = sym place ∙ eqb-true (nextPosition l % F) 0 e in
           let keeps = frame-change-keeps v change in

@@ -7,7 +7,7 @@ use native.Mathlib.Omega.{arith}
 use Rattle.model.specs.Tables.{bit, tally}
 use Rattle.model.specs.Plan.{Plan, flowCount}
 use Rattle.model.specs.Calls.{Event, History, requested, credited, ticked, lent, accepted, refused}
-use Rattle.model.specs.History.{Mark, ticks, renews, marksOf, lends}
+use Rattle.model.specs.History.{Mark, ticks, isGrantedReset, marksOf, lends}
 use Rattle.model.specs.Fairness.{Waits, WaitsAt, Waiting}
 use Rattle.model.proofs.Marks.{mark}
 use Rattle.model.proofs.TurnOrder.{place}
@@ -45,7 +45,7 @@ not-that-one false x e = (refl, omega arith)
 module _ (P : Plan) (j : ℕ) (R : List Mark → ℕ → Type 0) (early : History) (at-first : (p : ℕ) → Turned P early p → R [] p)
     (each-lend : (marks : List Mark) (p q mask k s : ℕ) (h : History) → R marks p → LentInTurn P p q mask k h → Waits P j mask h → R (mark k s ∷ marks) q) where
   one-more : (e : Event) (stretch : History) (p q : ℕ) → R (lends stretch) p → Moves P p q e (stretch ++ early) → WaitsAt P j e (stretch ++ early)
-      → renews e ≡ false → R (lends (e ∷ stretch)) q
+      → isGrantedReset e ≡ false → R (lends (e ∷ stretch)) q
   unfolding lends marksOf
   one-more (requested w a) stretch p q r m waits none = subst (R (lends stretch)) (sym m) r
   one-more (credited i x a) stretch p q r m waits none = subst (R (lends stretch)) (sym m) r
@@ -59,5 +59,5 @@ module _ (P : Plan) (j : ℕ) (R : List Mark → ℕ → Type 0) (early : Histor
   unfolding lends marksOf tally
   over-the-stretch [] p t w = at-first p t
   over-the-stretch (e ∷ stretch) q (Turned.moved {p = p} t m) w =
-      let none = not-that-one (renews e) (tally renews stretch) (w .no-reset) in
+      let none = not-that-one (isGrantedReset e) (tally isGrantedReset stretch) (w .no-reset) in
       one-more e stretch p q (over-the-stretch stretch p t (record { no-reset = none .1; waits = w .waits .1 })) m (w .waits .0) (none .0)

@@ -3,12 +3,12 @@ use mathlib.Core.Path.{_≡_, refl}
 use mathlib.Core.List.{List, _∷_, []}
 use Rattle.model.specs.Plan.{Plan, planOf}
 use Rattle.model.specs.Calls.{Call, History}
-use Rattle.model.specs.Card.{run, paper}
+use Rattle.model.specs.Scheduler.{run, reference}
 use Rattle.model.specs.PlanBytes.{roomy}
 use Rattle.model.specs.Fairness.{Waiting, lentIn}
 use Rattle.model.proofs.Decidable.{proved}
 use Rattle.model.proofs.FairDecided.{waiting}
-use Rattle.model.proofs.BadTurns.{turns-compute}
+use Rattle.model.proofs.WrongTurns.{turns-compute}
 
 abbrev P : Plan
 P = planOf roomy
@@ -17,7 +17,7 @@ abbrev calls : List Call
 calls = Call.lend 3 ∷ Call.tick ∷ Call.lend 3 ∷ Call.tick ∷ Call.lend 3 ∷ Call.tick ∷ Call.lend 3 ∷ Call.tick ∷ Call.lend 3 ∷ []
 
 abbrev h : History
-h = run paper P calls .history
+h = run reference P calls .history
 
 pub both-wait : Waiting P 0 h [] × Waiting P 1 h []
 unfolding turns-compute

@@ -14,7 +14,7 @@ use Rattle.model.specs.Link.{Link}
 use Rattle.model.specs.Request.{request}
 use Rattle.model.specs.History.{ticks, slotAfter, frameOf, hasCome, grantsSince}
 use Rattle.model.specs.Claim.{Each, AtGrant}
-use Rattle.model.specs.Card.{Played, paper, step, run}
+use Rattle.model.specs.Scheduler.{Played, reference, step, run}
 use Rattle.model.specs.Holding.{frameStart, InWindow}
 use Rattle.model.specs.TwoHops.{InStep, GrantedIn, LeavesAfter, LeavesAfterItCame}
 use Rattle.model.proofs.Plan as plan
@@ -33,7 +33,7 @@ pub record Grants (P : Plan) (t w v : ℕ) : Type 0 where
   pub begun : slotAfter P t (departureOf v) < frameStart P t + positions P
   pub after-departure : hasCome P t (departureOf w) ≡ false → slotAfter P t (departureOf w) < slotAfter P t (departureOf v)
 
--- what every grant of the paper's card is
+-- what every grant of the reference scheduler is
 grants-are : (l : Link) (h : History) → After (l .plan) l h → (w v : ℕ) → request l w .answer ≡ accepted v → Grants (l .plan) (ticks h) w v
 unfolding ticks grantsSince
 grants-are l h g w v e =
@@ -59,7 +59,7 @@ answered l h g w = go (request l w .answer) refl
     go (accepted v) e = grants-are l h g w v e
     go (refused r) e = tt
 
-one-more : {P : Plan} (r : Played paper) (c : Call) → Known P r → Each (GrantsAt P) (r .history) → Each (GrantsAt P) (step paper r c .history)
+one-more : {P : Plan} (r : Played reference) (c : Call) → Known P r → Each (GrantsAt P) (r .history) → Each (GrantsAt P) (step reference r c .history)
 one-more {P} r (Call.request w) g each =
     (subst (λ Q. Known Q r → GrantsAt Q (requested w (request (r .state) w .answer)) (r .history)) (g .plan-is) (λ k. answered (r .state) (r .history) k w) g, each)
 one-more r (Call.credit i p) g each = (tt, each)
@@ -67,7 +67,7 @@ one-more r Call.tick g each = (tt, each)
 one-more r (Call.lend m) g each = (tt, each)
 one-more r Call.reset g each = (tt, each)
 
-pub each-grant : {P : Plan} → Accepted P → (calls : List Call) → Each (GrantsAt P) (run paper P calls .history)
+pub each-grant : {P : Plan} → Accepted P → (calls : List Call) → Each (GrantsAt P) (run reference P calls .history)
 each-grant {P} ok = by-calls ok (λ r. Each (GrantsAt P) (r .history)) (λ r c g happened. one-more r c g) tt
 
 -- what holds of each event holds of one among them
@@ -123,9 +123,9 @@ module _ {P Q : Plan} (ok : Accepted Q) (step : InStep P Q) {t₁ t₂ w₁ v₁
       go (no n) = to-come (omega arith)
 
 pub leaves-after : {P Q : Plan} → Accepted P → Accepted Q → InStep P Q → (calls₁ calls₂ : List Call)
-    → LeavesAfter P Q (run paper P calls₁ .history) (run paper Q calls₂ .history)
+    → LeavesAfter P Q (run reference P calls₁ .history) (run reference Q calls₂ .history)
 leaves-after ok₁ ok₂ step calls₁ calls₂ w₁ v₁ w₂ v₂ early₁ early₂ one two =
     comes-first ok₂ step (granted (each-grant ok₁ calls₁) one) (granted (each-grant ok₂ calls₂) two)
 
-pub leaves-after-it-came : LeavesAfterItCame paper
+pub leaves-after-it-came : LeavesAfterItCame reference
 leaves-after-it-came first second passes₁ passes₂ = leaves-after (plan.accepted first passes₁) (plan.accepted second passes₂)

@@ -11,11 +11,11 @@ use Rattle.model.specs.Tick.{recycled, advanced, tick}
 use Rattle.model.specs.Lend.{canTake, lentTo, firstInTurn, lentAfter, lendAfter, lend}
 use Rattle.model.specs.Burst.{inOrder, burst}
 use Rattle.model.specs.WrittenPlan.{bytesOf, writeRefusal, writtenAfter, written}
-use Rattle.model.specs.Reset.{noneBooked, noneHeld, renewed, resetAfter, reset}
+use Rattle.model.specs.Reset.{noneBooked, noneHeld, resetLink, resetAfter, reset}
 use Rattle.model.specs.Record.{records, callOf}
 use Rattle.model.specs.Listing.{digits, decimal, outcomes, listing, planMissing, outputAfter, output}
 use Rattle.model.specs.History.{ticks, slotAfter, wellFormed, origin, changes, grants, credits, lends, grantsSince, refusalsSince}
-use Rattle.model.specs.Card.{play}
+use Rattle.model.specs.Scheduler.{play}
 
 -- a plan's refusal
 unfoldable pub plans-compute : Unit {0}
@@ -35,9 +35,9 @@ unfoldable pub lends-compute : Unit {0}
 unfolding firstFrom firstOf window-computes canTake lentTo firstInTurn lentAfter lendAfter lend
 lends-compute = tt
 
--- the calls of the paper's card, and a list of calls played
+-- the calls of the reference scheduler, and a list of calls played
 unfoldable pub calls-compute : Unit {0}
-unfolding fresh requests-compute lowered creditAfter credit recycled advanced tick lends-compute noneBooked noneHeld renewed resetAfter reset play
+unfolding fresh requests-compute lowered creditAfter credit recycled advanced tick lends-compute noneBooked noneHeld resetLink resetAfter reset play
 calls-compute = tt
 
 unfoldable pub bursts-compute : Unit {0}

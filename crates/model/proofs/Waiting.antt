@@ -13,7 +13,7 @@ use Rattle.model.specs.Window.{everyFrom}
 use Rattle.model.specs.Link.{Link, window, holding, cells}
 use Rattle.model.specs.Lend.{canTake, takes}
 use Rattle.model.specs.History.{ticks, upTo}
-use Rattle.model.specs.Card.{paper, run}
+use Rattle.model.specs.Scheduler.{reference, run}
 use Rattle.model.specs.Fairness.{Waits}
 use Rattle.model.proofs.Tests.{and-true}
 use Rattle.model.proofs.Slots.{current-in-window}
@@ -49,7 +49,7 @@ module _ {l : Link} {h : History} (g : After (l .plan) l h) (i mask : ℕ) (know
 
 -- after every list of calls
 pub waits-is : (P : Plan) → Accepted P → (calls : List Call) (i mask : ℕ) → i < flowCount P
-    → (takes (run paper P calls .state) mask i ≡ true) ↔ Waits P i mask (run paper P calls .history)
+    → (takes (run reference P calls .state) mask i ≡ true) ↔ Waits P i mask (run reference P calls .history)
 waits-is =
     after-run (λ P l h. (i mask : ℕ) → i < flowCount P → (takes l mask i ≡ true) ↔ Waits P i mask h)
     (λ l h g i mask known. (taking-waits g i mask known, waiting-takes g i mask known))

@@ -8,7 +8,7 @@ use Rattle.model.specs.Link.{Link}
 use Rattle.model.specs.Request.{request}
 
 -- RULES 11.1: a record, in which a word is asked for
-pub record Ask : Type 0 where
+pub record BurstRecord : Type 0 where
   pub word : ℕ
   pub result : ℕ
   pub position : ℕ
@@ -16,7 +16,7 @@ pub record Ask : Type 0 where
 -- what a burst hands back: the next link, and the records that it was lent
 pub record Burst : Type 0 where
   pub link : Link
-  pub records : List Ask
+  pub records : List BurstRecord
 
 -- RULES 11.2: the result, 0 or a refusal
 abbrev pub resultOf : Grant → ℕ
@@ -29,21 +29,25 @@ positionOf (accepted word) = departureOf word
 positionOf (refused number) = 0
 
 -- RULES 11.2: record x with the answer to its request; its word stays
-abbrev pub filled : Ask → Grant → Ask
+abbrev pub filled : BurstRecord → Grant → BurstRecord
 filled x a = record { word = x .word; result = resultOf a; position = positionOf a }
 
-abbrev pub inFront : Ask → Burst → Burst
+abbrev pub inFront : BurstRecord → Burst → Burst
 inFront x b = record { link = b .link; records = x ∷ b .records }
 
 -- RULES 11.1: each record is a request on the link that the one before left
-unfoldable pub inOrder : Link → List Ask → Burst
+unfoldable pub inOrder : Link → List BurstRecord → Burst
 inOrder l [] = record { link = l; records = [] }
 inOrder l (x ∷ xs) =
     let first = request l (x .word) in
     inFront (filled x (first .answer)) (inOrder (first .link) xs)
 
+-- RULES 11.1: how many are handled
+abbrev pub mostRecords : ℕ
+mostRecords = 16
+
 -- RULES 11.1: the first 16 are handled
-unfoldable pub burst : Link → List Ask → Burst
+unfoldable pub burst : Link → List BurstRecord → Burst
 burst l xs =
-    let handled = inOrder l (take 16 xs) in
-    record { link = handled .link; records = handled .records ++ drop 16 xs }
+    let handled = inOrder l (take mostRecords xs) in
+    record { link = handled .link; records = handled .records ++ drop mostRecords xs }

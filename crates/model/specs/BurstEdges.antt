@@ -7,18 +7,18 @@ use mathlib.Core.List.{List, _∷_, [], _++_}
 use mathlib.Core.Option.{some, none}
 use lib.ListN.{replicate}
 use Rattle.model.specs.Calls.{Call, Event, requested, ticked, lent, accepted, refused}
-use Rattle.model.specs.Burst.{Ask}
+use Rattle.model.specs.Burst.{BurstRecord}
 use Rattle.model.specs.PlanBytes.{listing, roomy, single, oneShare}
 use Rattle.model.specs.EdgeCases.{Case, wordOf, fills}
 
 -- a record after the burst: its word's flow, quantum and departure, and what stands beside the word
-abbrev gets : (flow quantum departure position : ℕ) → Ask
+abbrev gets : (flow quantum departure position : ℕ) → BurstRecord
 gets flow quantum departure position = record { word = wordOf flow quantum departure; result = 0; position = position }
 
-abbrev fails : (flow quantum departure number : ℕ) → Ask
+abbrev fails : (flow quantum departure number : ℕ) → BurstRecord
 fails flow quantum departure number = record { word = wordOf flow quantum departure; result = number; position = 0 }
 
-abbrev untouched : (flow quantum departure : ℕ) → Ask
+abbrev untouched : (flow quantum departure : ℕ) → BurstRecord
 untouched flow quantum departure = record { word = wordOf flow quantum departure; result = 255; position = 255 }
 
 unfoldable pub burstEdges : List Case

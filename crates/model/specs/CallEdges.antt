@@ -1,7 +1,7 @@
 -- Edges of request, credit and tick, and of the granted word. Assumes nothing.
 --
 -- What each comes to is worked out from RULES 5.1 to 8.3. Where a row says no more, F = 4 and W = 2, so that T = 8, and the frames' positions are 0
--- to 3 and 4 to 7. Slips 1 to 3 are those of BadCards.antt.
+-- to 3 and 4 to 7. Slips 1 to 3 are those of WrongSchedulers.antt.
 use Prim.Native.Nat.{ℕ}
 use mathlib.Core.List.{List, _∷_, []}
 use Rattle.model.specs.Calls.{requested, accepted, refused}

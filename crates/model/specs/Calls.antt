@@ -27,28 +27,28 @@ abbrev pub Grant : Type 0
 Grant = Answer ℕ
 
 -- a credit: taken, or a refusal
-abbrev pub Receipt : Type 0
-Receipt = Answer (Unit {0})
+abbrev pub CreditAnswer : Type 0
+CreditAnswer = Answer (Unit {0})
 
 -- a tick: the flow booked at the new current position, or idle
-abbrev pub Turn : Type 0
-Turn = Option ℕ
+abbrev pub TickAnswer : Type 0
+TickAnswer = Option ℕ
 
 -- a lend: the flow that the current slot is lent to, or a refusal
-abbrev pub Loan : Type 0
-Loan = Answer ℕ
+abbrev pub LendAnswer : Type 0
+LendAnswer = Answer ℕ
 
 -- a reset: granted, or a refusal
-abbrev pub Renewal : Type 0
-Renewal = Answer (Unit {0})
+abbrev pub ResetAnswer : Type 0
+ResetAnswer = Answer (Unit {0})
 
 -- A call with its answer.
 pub data Event : Type 0 where
   requested : (word : ℕ) → Grant → Event
-  credited : (flow position : ℕ) → Receipt → Event
-  ticked : Turn → Event
-  lent : (mask : ℕ) → Loan → Event
-  reset : Renewal → Event
+  credited : (flow position : ℕ) → CreditAnswer → Event
+  ticked : TickAnswer → Event
+  lent : (mask : ℕ) → LendAnswer → Event
+  reset : ResetAnswer → Event
 
 -- The events of a list of calls, the newest first: behind an event stands what was before it.
 abbrev pub History : Type 0

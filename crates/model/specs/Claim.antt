@@ -5,17 +5,18 @@
 --
 -- Demand 3 cannot see what follows; the rules of each call say it:
 -- - which number a refusal has, and what C and IF are after it;
--- - which of a frame's valid positions is granted, as long as the counts come out; and in which frame, to a stream that asks for less than its share: a card
+-- - which of a frame's valid positions is granted, as long as the counts come out; and in which frame, to a stream that asks for less than its share: a
+-- scheduler
 --   that sends one to the newest frame meets demand 3 (`sends-to-newest-meets`). `Soon` and `SoonAhead` in Delay.antt of the crate arrival see that a modest
---   stream's slot is in the frame in which its tile is due or in the next one, and not in which of the two: a card that never books in the current frame
+--   stream's slot is in the frame in which its tile is due or in the next one, and not in which of the two: a scheduler that never books in the current frame
 --   can pass them. What is built on them sees by when a tile comes up on several links (SeveralLinks.antt) and from a source (Source.antt); the files that
 --   follow are there too;
 -- - that a stream's slots come in the order of its requests: `BooksInOrder` and `SharesInOrder` (SharesOfCells.antt) say when they do;
 -- - credits refused that should be taken, and credits taken that should be refused with 8, 13 or 14 (of a position p of T or more it counts p
---   modulo T). A card that refuses every credit meets demand 3, and is prompt and soon (`keeping-meets`). `CreditTaken` in TakenCredits.antt sees both;
+--   modulo T). A scheduler that refuses every credit meets demand 3, and is prompt and soon (`keeping-meets`). `CreditAccepted` in AcceptedCredits.antt sees both;
 -- - requests refused to a stream that lapsed once: in some frame it was not refused, so that a stream that asks for less than its share has no least
 --   count from the next frame on; or once it asked with all of its cells held in a slot from the current one on, as flow 0 does in the listing's
---   third call; or once it asked for a tile that had not come, or with another number than the expected one. A card that gives a flow 12
+--   third call; or once it asked for a tile that had not come, or with another number than the expected one. A scheduler that gives a flow 12
 --   after its first 12 until a reset is granted meets demand 3 (`stays-refused-meets`), and so does one that refuses whenever the tile has not come.
 --   `Prompt` in Delay.antt sees such refusals of requests that fit the newest frame, and SharesOfCells.antt and SharesAhead.antt say with how many cells a
 --   stream has none;
@@ -34,8 +35,8 @@ use mathlib.Core.Option.{some}
 use mathlib.Core.Bool.{true, false, cond}
 use Rattle.model.specs.Word.{flowOf, quantumOf, departureOf, depart}
 use Rattle.model.specs.Plan.{Plan, positions, flowCount, entry}
-use Rattle.model.specs.Calls.{Event, History, Turn, requested, credited, ticked, lent, accepted, refused, inMask}
-use Rattle.model.specs.History.{ticks, slotAfter, wellFormed, hasCome, renews, origin, changes}
+use Rattle.model.specs.Calls.{Event, History, TickAnswer, requested, credited, ticked, lent, accepted, refused, inMask}
+use Rattle.model.specs.History.{ticks, slotAfter, wellFormed, hasCome, isGrantedReset, origin, changes}
 use Rattle.model.specs.History.{granted, grantedIn, refusedIn, grantedUpTo, lentUpTo, creditedUpTo, expectedNumber, ownersOf, WasGranted}
 
 -- ---- each event, and what was before it
@@ -47,7 +48,7 @@ Each Q (e ∷ h) = Q e h × Each Q h
 -- the same, since the last granted reset
 abbrev pub EachSince : (Event → History → Type 0) → History → Type 0
 EachSince Q [] = Unit {0}
-EachSince Q (e ∷ h) = cond (renews e) (Unit {0}) (Q e h × EachSince Q h)
+EachSince Q (e ∷ h) = cond (isGrantedReset e) (Unit {0}) (Q e h × EachSince Q h)
 
 -- Q holds of the word, where the event is a request.
 abbrev pub AtRequest : (ℕ → History → Type 0) → Event → History → Type 0
@@ -67,7 +68,7 @@ AtGrant Q (lent m a) h = Unit {0}
 AtGrant Q (Event.reset a) h = Unit {0}
 
 -- Q holds of the answer, where the event is a tick.
-abbrev pub AtTick : (Turn → History → Type 0) → Event → History → Type 0
+abbrev pub AtTick : (TickAnswer → History → Type 0) → Event → History → Type 0
 AtTick Q (requested w a) h = Unit {0}
 AtTick Q (credited j p a) h = Unit {0}
 AtTick Q (ticked x) h = Q x h

@@ -5,7 +5,7 @@ use mathlib.Core.Bool.{not}
 use lib.Dec.{ltb}
 use Rattle.model.specs.Refusals.{Line, firstOf, _when_}
 use Rattle.model.specs.Plan.{positions, flowCount}
-use Rattle.model.specs.Calls.{Receipt, accepted, refused}
+use Rattle.model.specs.Calls.{CreditAnswer, accepted, refused}
 use Rattle.model.specs.Window.{passed, everyFrom}
 use Rattle.model.specs.Link.{Link, Step, window, flow, holding, withFlow, withHeld, heldFrom}
 
@@ -27,9 +27,9 @@ unfoldable pub lowered : Link → ℕ → ℕ → Link
 lowered l i p = withFlow l i (withHeld (flow l i) (heldFrom l i p (λ x. x - 1)))
 
 -- RULES 7.2: the credit, where its tests give the number r
-unfoldable pub creditAfter : ℕ → Link → ℕ → ℕ → Step Receipt
+unfoldable pub creditAfter : ℕ → Link → ℕ → ℕ → Step CreditAnswer
 creditAfter zero l i p = record { link = lowered l i p; answer = accepted tt }
 creditAfter (suc r) l i p = record { link = l; answer = refused (suc r) }
 
-unfoldable pub credit : Link → ℕ → ℕ → Step Receipt
+unfoldable pub credit : Link → ℕ → ℕ → Step CreditAnswer
 credit l i p = creditAfter (firstOf (creditTests l i p)) l i p

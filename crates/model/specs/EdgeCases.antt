@@ -11,8 +11,8 @@ use Rattle.model.specs.Plan.{Plan, positions, planOf, refusal}
 use Rattle.model.specs.WrittenPlan as WrittenPlan
 use Rattle.model.specs.WrittenPlan.{Written}
 use Rattle.model.specs.Calls.{Call, Event, History, requested, credited, ticked, lent, accepted, refused}
-use Rattle.model.specs.Burst.{Ask, Burst, burst}
-use Rattle.model.specs.Card.{Card, paper, play, run}
+use Rattle.model.specs.Burst.{BurstRecord, Burst, burst}
+use Rattle.model.specs.Scheduler.{Scheduler, reference, play, run}
 use Rattle.model.specs.Listing.{text, output}
 
 -- ---- what is tried, and what comes of it
@@ -27,7 +27,7 @@ pub data Trial : Type 0 where
   -- a plan to be written in a buffer
   writing : (plan : Plan) (out : List ℕ) → Trial
   -- records that a burst is lent after some calls, and calls on the link that it hands back
-  bursting : (bytes : List ℕ) (before : List Call) (records : List Ask) (after : List Call) → Trial
+  bursting : (bytes : List ℕ) (before : List Call) (records : List BurstRecord) (after : List Call) → Trial
 
 pub data Outcome : Type 0 where
   -- the plan is refused
@@ -40,30 +40,30 @@ pub data Outcome : Type 0 where
   -- the writer's answer, and the buffer
   wrote : Written → Outcome
   -- the records after a burst, and the events after it, oldest first
-  handed : (records : List Ask) → History → Outcome
+  handed : (records : List BurstRecord) → History → Outcome
 
 -- RULES 2.4: the outcome of a plan and calls, where the plan's tests give the number r: a refused plan makes no link
-abbrev linkOutcome : Card → ℕ → List ℕ → List Call → Outcome
+abbrev linkOutcome : Scheduler → ℕ → List ℕ → List Call → Outcome
 linkOutcome c zero bytes calls = events (reverse (run c (planOf bytes) calls .history))
 linkOutcome c (suc r) bytes calls = refusedPlan (suc r)
 
 -- the outcome of a burst, and of the calls on the link that it hands back
 abbrev burstOutcome : Burst → List Call → Outcome
-burstOutcome b after = handed (b .records) (reverse (play paper (record { state = b .link; history = [] }) after .history))
+burstOutcome b after = handed (b .records) (reverse (play reference (record { state = b .link; history = [] }) after .history))
 
-abbrev pub outcome : Card → Trial → Outcome
+abbrev pub outcome : Scheduler → Trial → Outcome
 outcome c (link bytes calls) = linkOutcome c (refusal bytes) bytes calls
 outcome c (granting w p) = word (depart w p)
 outcome c (program input) = written (output input)
 outcome c (writing plan out) = wrote (WrittenPlan.written plan out)
-outcome c (bursting bytes before records after) = burstOutcome (burst (run paper (planOf bytes) before .state) records) after
+outcome c (bursting bytes before records after) = burstOutcome (burst (run reference (planOf bytes) before .state) records) after
 
 pub record Case : Type 0 where
   pub trial : Trial
   pub expected : Outcome
 
--- A card has the expected outcome in every case.
-abbrev pub Passes : Card → List Case → Type 0
+-- A scheduler has the expected outcome in every case.
+abbrev pub Passes : Scheduler → List Case → Type 0
 Passes c cases = map (λ e. outcome c (e .trial)) cases ≡ map (λ e. e .expected) cases
 
 -- ---- a plan: its bytes are accepted, or refused by a number
@@ -108,7 +108,7 @@ pub data Answered : Type 0 where
   lend : (mask flow : ℕ) → Answered
   deny : (mask number : ℕ) → Answered
   -- a reset is granted, or refused
-  renew : Answered
+  grantReset : Answered
   decline : (number : ℕ) → Answered
 
 -- k idle ticks, and then the rest
@@ -135,7 +135,7 @@ played T at next (serve i ∷ rest) = ticked (some i) ∷ played T ((at + 1) % T
 played T at next (idle ∷ rest) = ticked none ∷ played T ((at + 1) % T) next rest
 played T at next (lend m i ∷ rest) = lent m (accepted i) ∷ played T at next rest
 played T at next (deny m r ∷ rest) = lent m (refused r) ∷ played T at next rest
-played T at next (renew ∷ rest) = Event.reset (accepted tt) ∷ played T at next rest
+played T at next (grantReset ∷ rest) = Event.reset (accepted tt) ∷ played T at next rest
 played T at next (decline r ∷ rest) = Event.reset (refused r) ∷ played T at next rest
 
 abbrev pub follows : List ℕ → List Answered → Case
@@ -156,10 +156,10 @@ declines number plan out = record { trial = writing plan out; expected = wrote (
 
 -- ---- a burst after some calls: its records, which are lent with result 255 and position 255, and calls with their answers after it
 
-abbrev unfilled : Ask → Ask
+abbrev unfilled : BurstRecord → BurstRecord
 unfilled x = record { word = x .word; result = 255; position = 255 }
 
-abbrev pub fills : List ℕ → (before : List Call) → (records : List Ask) → (after : List Event) → Case
+abbrev pub fills : List ℕ → (before : List Call) → (records : List BurstRecord) → (after : List Event) → Case
 fills bytes before records after = record {
   trial = bursting bytes before (map unfilled records) (map callMade after);
   expected = handed records after;

@@ -22,9 +22,9 @@ use lib.ListN.{length}
 use Rattle.model.specs.Tables.{tally}
 use Rattle.model.specs.Plan.{Plan, flowCount, planOf, refusal}
 use Rattle.model.specs.Calls.{Call, Event, History, requested, credited, ticked, lent, accepted, refused, inMask}
-use Rattle.model.specs.History.{renews, lends, ofFlow}
+use Rattle.model.specs.History.{isGrantedReset, lends, ofFlow}
 use Rattle.model.specs.Claim.{Room}
-use Rattle.model.specs.Card.{Card, run}
+use Rattle.model.specs.Scheduler.{Scheduler, run}
 
 -- ---- a stretch in which a flow waits
 
@@ -48,7 +48,7 @@ EachOf Q [] early = Unit {0}
 EachOf Q (e ∷ stretch) early = Q e (stretch ++ early) × EachOf Q stretch early
 
 pub record Waiting (P : Plan) (i : ℕ) (stretch early : History) : Type 0 where
-  pub no-reset : tally renews stretch ≡ 0
+  pub no-reset : tally isGrantedReset stretch ≡ 0
   pub waits : EachOf (WaitsAt P i) stretch early
 
 -- ---- what is counted in a stretch
@@ -86,6 +86,6 @@ pub record FairOn (P : Plan) (h : History) : Type 0 where
   pub even : Even P h
   pub within-a-round : WithinARound P h
 
--- A card is fair, for the bytes of every accepted plan and every list of calls. As every beginning of a list is a list, a stretch may end anywhere.
-abbrev pub Fair : Card → Type 0
+-- A scheduler is fair, for the bytes of every accepted plan and every list of calls. As every beginning of a list is a list, a stretch may end anywhere.
+abbrev pub Fair : Scheduler → Type 0
 Fair c = (bytes : List ℕ) → refusal bytes ≡ 0 → (calls : List Call) → FairOn (planOf bytes) (run c (planOf bytes) calls .history)

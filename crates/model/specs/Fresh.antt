@@ -23,6 +23,6 @@ fresh P = record {
   current = 0;
   owners = replicate (positions P) none;
   flows = table (flowCount P) (freshFlow P);
-  taken = false;  -- the mark is off
-  lookFrom = 0;  -- flow 0 is looked at first
+  marked = false;  -- the mark is off
+  turn = 0;  -- flow 0 is looked at first
 }

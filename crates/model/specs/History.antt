@@ -6,7 +6,7 @@ use mathlib.Core.List.{List, _∷_, [], _++_}
 use mathlib.Core.Bool.{Bool, true, false, _&&_, cond}
 use lib.Dec.{leb, ltb, eqb}
 use Rattle.model.specs.Tables.{ahead, bit, tally}
-use Rattle.model.specs.Word.{flowOf, destinationOf, departureOf}
+use Rattle.model.specs.Word.{flowOf, destinationOf, departureOf, quantumNumbers}
 use Rattle.model.specs.Plan.{Plan, positions, flowCount, entry}
 use Rattle.model.specs.Calls.{Event, History, requested, credited, ticked, lent, accepted, refused}
 
@@ -41,18 +41,18 @@ hasCome P t d = eqb (frameOf P d) (frameOf P t % P .frames) && leb d (t % positi
 -- ---- since the last granted reset
 
 -- the event is a reset that is granted
-abbrev pub renews : Event → Bool
-renews (requested w a) = false
-renews (credited i p a) = false
-renews (ticked x) = false
-renews (lent m a) = false
-renews (Event.reset (accepted u)) = true
-renews (Event.reset (refused r)) = false
+abbrev pub isGrantedReset : Event → Bool
+isGrantedReset (requested w a) = false
+isGrantedReset (credited i p a) = false
+isGrantedReset (ticked x) = false
+isGrantedReset (lent m a) = false
+isGrantedReset (Event.reset (accepted u)) = true
+isGrantedReset (Event.reset (refused r)) = false
 
 -- RULES 21.9: the frame of the slot that was current at the last granted reset, and frame 0 where there was none
 unfoldable pub origin : Plan → History → ℕ
 origin P [] = 0
-origin P (e ∷ h) = cond (renews e) (frameOf P (ticks h)) (origin P h)
+origin P (e ∷ h) = cond (isGrantedReset e) (frameOf P (ticks h)) (origin P h)
 
 -- RULES 21.3: k, how many ticks brought a new frame
 unfoldable pub changes : Plan → History → ℕ
@@ -78,7 +78,7 @@ marksOf f (e ∷ h) = f e h ++ marksOf f h
 
 unfoldable pub marksSince : (Event → History → List Mark) → History → List Mark
 marksSince f [] = []
-marksSince f (e ∷ h) = cond (renews e) [] (f e h ++ marksSince f h)
+marksSince f (e ∷ h) = cond (isGrantedReset e) [] (f e h ++ marksSince f h)
 
 -- ---- the mark of a granted slot, a taken credit, a refusal, a lent slot
 
@@ -189,7 +189,7 @@ grantedInAll P h i = tally (ofFlow i) (grants P h)
 
 -- RULES 5.3: the number of flow i's next word is the count of its grants, modulo 1,024
 abbrev pub expectedNumber : Plan → History → ℕ → ℕ
-expectedNumber P h i = grantedInAll P h i % 1024
+expectedNumber P h i = grantedInAll P h i % quantumNumbers
 
 -- the grants and the lends of slot s, of all flows
 abbrev pub ownersOf : Plan → History → ℕ → ℕ

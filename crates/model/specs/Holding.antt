@@ -6,7 +6,7 @@ use Rattle.model.specs.Plan.{Plan, positions, flowCount, planOf, refusal
 use Rattle.model.specs.Calls.{Call, History}
 use Rattle.model.specs.History.{frameOf, ticks, grantedUpTo, lentUpTo, creditedUpTo}
 use Rattle.model.specs.Link.{Link, holding}
-use Rattle.model.specs.Card.{paper, run}
+use Rattle.model.specs.Scheduler.{reference, run}
 
 -- the first slot of the frame of slot t
 abbrev pub frameStart : Plan → ℕ → ℕ
@@ -25,4 +25,4 @@ pub record HoldingIs (P : Plan) (l : Link) (h : History) (i : ℕ) : Type 0 wher
 abbrev pub TableIsHolding : Type 0
 TableIsHolding =
     (bytes : List ℕ) → refusal bytes ≡ 0 → (calls : List Call) (i : ℕ) → i < flowCount (planOf bytes)
-    → HoldingIs (planOf bytes) (run paper (planOf bytes) calls .state) (run paper (planOf bytes) calls .history) i
+    → HoldingIs (planOf bytes) (run reference (planOf bytes) calls .state) (run reference (planOf bytes) calls .history) i

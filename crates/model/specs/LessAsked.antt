@@ -9,7 +9,7 @@ use Rattle.model.specs.Plan.{Plan, flowCount, planOf, refusal}
 use Rattle.model.specs.Calls.{Call, History}
 use Rattle.model.specs.History.{ticks, frameOf, changes, wellFormed, marksOf, inFrame}
 use Rattle.model.specs.Claim.{Each, AtRequest, Room, Ready, ReadyAt}
-use Rattle.model.specs.Card.{Card, Played, step, run}
+use Rattle.model.specs.Scheduler.{Scheduler, Played, step, run}
 use Rattle.model.specs.OtherPremises.{Premise, Both, Come, Numbered}
 use Rattle.model.specs.TwoRuns.{Aligned, refusal11At, AsksUntil11, SameFrame}
 
@@ -60,7 +60,7 @@ WithoutNumber = AsksUntil11By EveryFrame (Both HasRoom Come)
 
 -- Without 'There is no reset': two aligned runs in which there was a frame change have a reset each, and then the same request of the flow. Each run is
 -- as it is asked to be, and the request is answered alike.
-abbrev pub UnmovedByResetOn : Card → Plan → Type 0
+abbrev pub UnmovedByResetOn : Scheduler → Plan → Type 0
 UnmovedByResetOn c P =
     (calls₁ calls₂ : List Call) (w : ℕ) → flowOf w < flowCount P → Aligned (flowOf w) (run c P calls₁ .history) (run c P calls₂ .history)
     → 1 ≤ changes P (run c P calls₁ .history)
@@ -68,5 +68,5 @@ UnmovedByResetOn c P =
     → AsksUntil11 P (flowOf w) (step c r₁ (Call.request w) .history) → AsksUntil11 P (flowOf w) (step c r₂ (Call.request w) .history)
     → SameFrame P (r₁ .history) (c .request (r₁ .state) w .1) (r₂ .history) (c .request (r₂ .state) w .1)
 
-abbrev pub UnmovedByReset : Card → Type 0
+abbrev pub UnmovedByReset : Scheduler → Type 0
 UnmovedByReset c = (bytes : List ℕ) → refusal bytes ≡ 0 → UnmovedByResetOn c (planOf bytes)

@@ -21,7 +21,7 @@ pub mod Listing
 -- demand 3
 pub mod History
 pub mod Claim
-pub mod Card
+pub mod Scheduler
 pub mod CountedBursts
 pub mod Holding
 pub mod Buffer
@@ -33,7 +33,7 @@ pub mod Fairness
 pub mod TwoRuns
 pub mod Outlines
 pub mod LessAsked
--- worked examples, and cards that are sent back
+-- worked examples, and schedulers that are sent back
 pub mod PlanBytes
 pub mod EdgeCases
 pub mod PlanEdges
@@ -47,11 +47,11 @@ pub mod ResetEdges
 pub mod BurstEdges
 pub mod ProgramEdges
 pub mod Edges
-pub mod BadHistories
-pub mod BadCards
-pub mod BadLends
-pub mod BadDepartures
-pub mod BadResets
-pub mod BadTurns
-pub mod BadNumbers
-pub mod BadBursts
+pub mod WrongHistories
+pub mod WrongSchedulers
+pub mod WrongLends
+pub mod WrongDepartures
+pub mod WrongResets
+pub mod WrongTurns
+pub mod WrongNumbers
+pub mod WrongBursts

@@ -22,8 +22,8 @@ pub record Link : Type 0 where
   pub current : ℕ  -- CP
   pub owners : List (Option ℕ)  -- the flow that booked each position
   pub flows : List Flow
-  pub taken : Bool  -- RULES 9.2: the mark of the current slot
-  pub lookFrom : ℕ  -- RULES 9.3: the flow that the next lend looks from
+  pub marked : Bool  -- RULES 9.2: the mark of the current slot
+  pub turn : ℕ  -- RULES 9.3: the flow that the next lend looks from
 
 -- RULES 4.3: what a call hands back, the next link and its answer
 pub record Step (A : Type 0) : Type 0 where
@@ -77,36 +77,36 @@ withNumber x k = flowWith x (x .injection) (x .remainder) (x .held) k
 -- ---- a link that is changed
 
 -- Link l with these fields; what else it has stays. Every change of a link goes through this one.
-abbrev pub linkWith : Link → (current : ℕ) → (owners : List (Option ℕ)) → (flows : List Flow) → (taken : Bool) → (lookFrom : ℕ) → Link
-linkWith l current owners flows taken lookFrom = record {
+abbrev pub linkWith : Link → (current : ℕ) → (owners : List (Option ℕ)) → (flows : List Flow) → (marked : Bool) → (turn : ℕ) → Link
+linkWith l current owners flows marked turn = record {
   plan = l .plan;
   current = current;
   owners = owners;
   flows = flows;
-  taken = taken;
-  lookFrom = lookFrom;
+  marked = marked;
+  turn = turn;
 }
 
 abbrev pub withCurrent : Link → ℕ → Link
-withCurrent l p = linkWith l p (l .owners) (l .flows) (l .taken) (l .lookFrom)
+withCurrent l p = linkWith l p (l .owners) (l .flows) (l .marked) (l .turn)
 
 -- the owner of each position p is f p
 abbrev pub withOwners : Link → (ℕ → Option ℕ) → Link
-withOwners l f = linkWith l (l .current) (table (positions (l .plan)) f) (l .flows) (l .taken) (l .lookFrom)
+withOwners l f = linkWith l (l .current) (table (positions (l .plan)) f) (l .flows) (l .marked) (l .turn)
 
 -- each flow i is f i
 abbrev pub withFlows : Link → (ℕ → Flow) → Link
-withFlows l f = linkWith l (l .current) (l .owners) (table (flowCount (l .plan)) f) (l .taken) (l .lookFrom)
+withFlows l f = linkWith l (l .current) (l .owners) (table (flowCount (l .plan)) f) (l .marked) (l .turn)
 
 -- flow i is x
 abbrev pub withFlow : Link → ℕ → Flow → Link
 withFlow l i x = withFlows l (λ j. cond (eqb j i) x (flow l j))
 
-abbrev pub withTaken : Link → Bool → Link
-withTaken l mark = linkWith l (l .current) (l .owners) (l .flows) mark (l .lookFrom)
+abbrev pub withMark : Link → Bool → Link
+withMark l mark = linkWith l (l .current) (l .owners) (l .flows) mark (l .turn)
 
-abbrev pub withLookFrom : Link → ℕ → Link
-withLookFrom l i = linkWith l (l .current) (l .owners) (l .flows) (l .taken) i
+abbrev pub withTurn : Link → ℕ → Link
+withTurn l i = linkWith l (l .current) (l .owners) (l .flows) (l .marked) i
 
 -- flow i's holdings, changed by f at position p and at all later positions
 abbrev pub heldFrom : Link → ℕ → ℕ → (ℕ → ℕ) → List ℕ

@@ -11,7 +11,7 @@ use lib.Dec.{ltb}
 use Rattle.model.specs.Tables.{within}
 use Rattle.model.specs.Word.{departureOf}
 use Rattle.model.specs.Plan.{field16, planOf, refusal}
-use Rattle.model.specs.Calls.{Event, Grant, Receipt, Turn, Loan, Renewal, accepted, refused}
+use Rattle.model.specs.Calls.{Event, Grant, CreditAnswer, TickAnswer, LendAnswer, ResetAnswer, accepted, refused}
 use Rattle.model.specs.Link.{Link, Step}
 use Rattle.model.specs.Fresh.{fresh}
 use Rattle.model.specs.Request.{request}
@@ -24,8 +24,8 @@ use Rattle.model.specs.Record.{RecordCall, records, callOf}
 -- a record's call with its answer
 pub data RecordEvent : Type 0 where
   requested : (word : ℕ) → Grant → RecordEvent
-  credited : (flow position : ℕ) → Receipt → RecordEvent
-  ticked : Turn → RecordEvent
+  credited : (flow position : ℕ) → CreditAnswer → RecordEvent
+  ticked : TickAnswer → RecordEvent
 
 -- such an event as one of demand 3's histories
 abbrev pub asEvent : RecordEvent → Event
@@ -65,22 +65,22 @@ requestLine (accepted word) = line "G" (decimal (departureOf word))
 requestLine (refused number) = refusalLine number
 
 -- RULES 13.5: the line of a credit
-abbrev pub creditLine : Receipt → List ℕ
+abbrev pub creditLine : CreditAnswer → List ℕ
 creditLine (accepted _) = text "C\n"
 creditLine (refused number) = refusalLine number
 
 -- RULES 13.5: the line of a tick
-abbrev pub tickLine : Turn → List ℕ
+abbrev pub tickLine : TickAnswer → List ℕ
 tickLine (some flow) = line "T" (decimal flow)
 tickLine none = line "T" (text "-")
 
 -- RULES 14.2: the line of a lend, which `domelink` has no record for
-abbrev pub lendLine : Loan → List ℕ
+abbrev pub lendLine : LendAnswer → List ℕ
 lendLine (accepted flow) = line "L" (decimal flow)
 lendLine (refused number) = refusalLine number
 
 -- RULES 14.2: the line of a reset, which it has none for either
-abbrev pub resetLine : Renewal → List ℕ
+abbrev pub resetLine : ResetAnswer → List ℕ
 resetLine (accepted _) = text "Z\n"
 resetLine (refused number) = refusalLine number
 
@@ -141,9 +141,13 @@ planLine number = line "P" (decimal number)
 abbrev pub planLength : List ℕ → ℕ
 planLength input = field16 input 0
 
+-- RULES 13.2: the length of the longest plan
+abbrev pub longestPlan : ℕ
+longestPlan = 76
+
 -- RULES 13.2: there is no plan to be tested
 unfoldable pub planMissing : List ℕ → Bool
-planMissing input = ltb (length input) 2 || ltb (length input) (planLength input) || not (within 12 76 (planLength input))
+planMissing input = ltb (length input) 2 || ltb (length input) (planLength input) || not (within 12 longestPlan (planLength input))
 
 -- RULES 13.2: the plan's line, and where it is accepted those of the records
 unfoldable pub outputAfter : (number : ℕ) → (plan rest : List ℕ) → List ℕ

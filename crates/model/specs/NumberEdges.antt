@@ -5,7 +5,7 @@
 use mathlib.Core.List.{List, _∷_, []}
 use Rattle.model.specs.Calls.{requested, accepted, refused}
 use Rattle.model.specs.PlanBytes.{listing, roomy, single}
-use Rattle.model.specs.EdgeCases.{Case, grant, refuse, refuseFrom, refuseAs, credit, reject, serve, idle, idles, lend, deny, renew, decline}
+use Rattle.model.specs.EdgeCases.{Case, grant, refuse, refuseFrom, refuseAs, credit, reject, serve, idle, idles, lend, deny, grantReset, decline}
 use Rattle.model.specs.EdgeCases.{plays, follows}
 
 unfoldable pub numberEdges : List Case
@@ -39,9 +39,9 @@ numberEdges =
     ∷ follows listing (grant 0 1 ∷ serve 0 ∷ idle ∷ idle ∷ idle ∷ refuseAs 0 0 4 24 ∷ grant 0 5 ∷ [])
     ∷ follows roomy (grant 0 1 ∷ grant 0 2 ∷ grant 0 4 ∷ serve 0 ∷ serve 0 ∷ idle ∷ serve 0 ∷ refuseAs 0 0 4 24 ∷ grant 0 5 ∷ [])
     -- a reset leaves it, granted or refused
-    ∷ follows listing (grant 0 1 ∷ credit 0 1 ∷ decline 23 ∷ refuseAs 0 0 0 24 ∷ serve 0 ∷ renew ∷ refuseAs 0 0 1 24 ∷ grant 0 2 ∷ [])
+    ∷ follows listing (grant 0 1 ∷ credit 0 1 ∷ decline 23 ∷ refuseAs 0 0 0 24 ∷ serve 0 ∷ grantReset ∷ refuseAs 0 0 1 24 ∷ grant 0 2 ∷ [])
     -- and each flow's own
-    ∷ follows listing (grant 0 1 ∷ grant 1 2 ∷ credit 1 2 ∷ credit 0 1 ∷ serve 0 ∷ serve 1 ∷ renew ∷ refuseAs 1 0 2 24 ∷ grant 1 3 ∷ grant 0 4 ∷ [])
+    ∷ follows listing (grant 0 1 ∷ grant 1 2 ∷ credit 1 2 ∷ credit 0 1 ∷ serve 0 ∷ serve 1 ∷ grantReset ∷ refuseAs 1 0 2 24 ∷ grant 1 3 ∷ grant 0 4 ∷ [])
     -- a wrong number, then the tile comes and is granted with the right one
     ∷ follows listing (refuseAs 0 1 7 24 ∷ idles 7 (grant 0 0 ∷ []))
     ∷ []

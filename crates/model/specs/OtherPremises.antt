@@ -3,12 +3,12 @@ use Prim.Native.Nat.{ℕ, _+_, _-_, _*_, _%_, _≤_, _<_}
 use mathlib.Core.Path.{_≡_}
 use mathlib.Core.List.{List}
 use mathlib.Core.Bool.{true}
-use Rattle.model.specs.Word.{flowOf, quantumOf, departureOf}
+use Rattle.model.specs.Word.{flowOf, quantumOf, departureOf, quantumNumbers}
 use Rattle.model.specs.Plan.{Plan, flowCount, entry, planOf, refusal}
 use Rattle.model.specs.Calls.{Call, Event, History}
 use Rattle.model.specs.History.{ticks, wellFormed, hasCome, changes, granted, expectedNumber}
 use Rattle.model.specs.Claim.{EachSince, AtRequest, Room, RefusedInEachFrame}
-use Rattle.model.specs.Card.{run, paper}
+use Rattle.model.specs.Scheduler.{run, reference}
 
 -- A premise on a request of flow i with word w, after h.
 abbrev pub Premise : Type 1
@@ -26,12 +26,12 @@ pub record PersistentBy (Q : Premise) (P : Plan) (i : ℕ) (h : History) : Type 
   pub refused-in-each-frame : RefusedInEachFrame P i h
   pub ready-at-each-request : EachSince (ReadyBy Q P i) h
 
--- the least count of the paper's card for such a stream
+-- the least count of the reference scheduler for such a stream
 abbrev pub LeastBy : Premise → Type 0
 LeastBy Q = (bytes : List ℕ) → refusal bytes ≡ 0 → (calls : List Call) (i : ℕ) → i < flowCount (planOf bytes)
-    → PersistentBy Q (planOf bytes) i (run paper (planOf bytes) calls .history)
-    → (planOf bytes .frames - 1 + changes (planOf bytes) (run paper (planOf bytes) calls .history)) * entry (planOf bytes) i .share
-    ≤ granted (planOf bytes) (run paper (planOf bytes) calls .history) i
+    → PersistentBy Q (planOf bytes) i (run reference (planOf bytes) calls .history)
+    → (planOf bytes .frames - 1 + changes (planOf bytes) (run reference (planOf bytes) calls .history)) * entry (planOf bytes) i .share
+    ≤ granted (planOf bytes) (run reference (planOf bytes) calls .history) i
 
 -- what the claim says of a word: its tile has come, and it carries the expected number
 abbrev pub Come : Premise
@@ -46,4 +46,4 @@ SlotGone P i w h = departureOf w ≤ ticks h
 
 -- it carries the number of grants since the last granted reset, modulo 1,024
 abbrev pub NumberedSince : Premise
-NumberedSince P i w h = quantumOf w ≡ granted P h i % 1024
+NumberedSince P i w h = quantumOf w ≡ granted P h i % quantumNumbers

@@ -85,31 +85,54 @@ planWith h es = record { slots = h .slots; frames = h .frames; buffer = h .buffe
 abbrev pub planOf : List ℕ → Plan
 planOf b = planWith (headerOf b) (entriesOf (headerOf b .count) (drop 12 b))
 
--- ---- the limits, one by one. RULES 2.3
+-- ---- the limits, by name. RULES 2.3
+
+abbrev pub mostFlows : ℕ
+mostFlows = 16
+
+abbrev pub mostSlots : ℕ
+mostSlots = 64
+
+abbrev pub mostFrames : ℕ
+mostFrames = 8
+
+abbrev pub mostBuffer : ℕ
+mostBuffer = 4095
+
+abbrev pub mostPositions : ℕ
+mostPositions = 256
+
+abbrev pub mostCells : ℕ
+mostCells = 255
+
+abbrev pub lastNode : ℕ
+lastNode = 63
+
+-- ---- and what keeps them
 
 abbrev pub countFits : (n : ℕ) → Bool
-countFits n = within 1 16 n
+countFits n = within 1 mostFlows n
 
 abbrev pub slotsFit : (F : ℕ) → Bool
-slotsFit F = within 1 64 F
+slotsFit F = within 1 mostSlots F
 
 abbrev pub framesFit : (W : ℕ) → Bool
-framesFit W = within 2 8 W
+framesFit W = within 2 mostFrames W
 
 abbrev pub bufferFits : (N : ℕ) → Bool
-bufferFits N = within 1 4095 N
+bufferFits N = within 1 mostBuffer N
 
 abbrev pub manyPositions : (T : ℕ) → Bool
-manyPositions T = ltb 256 T
+manyPositions T = ltb mostPositions T
 
 abbrev pub shareFits : (F share : ℕ) → Bool
 shareFits F share = within 1 F share
 
 abbrev pub cellsFit : (cells : ℕ) → Bool
-cellsFit cells = within 1 255 cells
+cellsFit cells = within 1 mostCells cells
 
 abbrev pub nodeFits : (node : ℕ) → Bool
-nodeFits node = within 0 63 node
+nodeFits node = within 0 lastNode node
 
 -- the two nodes of an entry are equal
 abbrev pub sameNodes : Entry → Bool
@@ -163,21 +186,21 @@ pub record FittingEntry (P : Plan) (e : Entry) : Type 0 where
   pub some-share : 1 ≤ e .share
   pub share-most : e .share ≤ P .slots
   pub some-cell : 1 ≤ e .cells
-  pub cells-most : e .cells ≤ 255
-  pub source-most : e .source ≤ 63
-  pub destination-most : e .destination ≤ 63
+  pub cells-most : e .cells ≤ mostCells
+  pub source-most : e .source ≤ lastNode
+  pub destination-most : e .destination ≤ lastNode
   pub ends-differ : e .source ≡ e .destination → ⊥
 
 pub record Accepted (P : Plan) : Type 0 where
   pub some-flow : 1 ≤ flowCount P
-  pub flows-most : flowCount P ≤ 16
+  pub flows-most : flowCount P ≤ mostFlows
   pub some-slot : 1 ≤ P .slots
-  pub slots-most : P .slots ≤ 64
+  pub slots-most : P .slots ≤ mostSlots
   pub two-frames : 2 ≤ P .frames
-  pub frames-most : P .frames ≤ 8
+  pub frames-most : P .frames ≤ mostFrames
   pub some-place : 1 ≤ P .buffer
-  pub buffer-most : P .buffer ≤ 4095
-  pub positions-most : positions P ≤ 256
+  pub buffer-most : P .buffer ≤ mostBuffer
+  pub positions-most : positions P ≤ mostPositions
   pub entries-fit : (i : ℕ) → i < flowCount P → FittingEntry P (entry P i)
   pub pairs-differ : (i j : ℕ) → i < flowCount P → j < i → entry P j .source ≡ entry P i .source → entry P j .destination ≡ entry P i .destination → ⊥
   pub shares-fit : sum (flowCount P) (λ i. entry P i .share) ≤ P .slots

@@ -5,20 +5,20 @@ use mathlib.Core.List.{List, _∷_, [], _++_, map}
 use mathlib.Core.Bool.{cond}
 use lib.Dec.{eqb}
 use Rattle.model.specs.Tables.{table}
-use Rattle.model.specs.Word.{flowOf, quantumOf}
+use Rattle.model.specs.Word.{flowOf, quantumOf, quantumNumbers}
 use Rattle.model.specs.Plan.{Plan, flowCount, planOf, refusal}
 use Rattle.model.specs.Calls.{Call, Event, History, requested, credited, ticked, lent, accepted, refused}
 use Rattle.model.specs.History.{grantedInAll, expectedNumber}
 use Rattle.model.specs.Link.{Link, flow}
-use Rattle.model.specs.Card.{Card, run}
+use Rattle.model.specs.Scheduler.{Scheduler, run}
 
--- RULES 5.3: after every list of calls the number that a card's state expects of a flow is how many grants the flow has had, modulo 1,024.
-abbrev pub NumberIsCount : (c : Card) → (number : c .State → (i : ℕ) → ℕ) → Type 0
+-- RULES 5.3: after every list of calls the number that a scheduler's state expects of a flow is how many grants the flow has had, modulo 1,024.
+abbrev pub NumberIsCount : (c : Scheduler) → (number : c .State → (i : ℕ) → ℕ) → Type 0
 NumberIsCount c number =
     (bytes : List ℕ) → refusal bytes ≡ 0 → (calls : List Call) (i : ℕ) → i < flowCount (planOf bytes)
     → number (run c (planOf bytes) calls .state) i ≡ expectedNumber (planOf bytes) (run c (planOf bytes) calls .history) i
 
--- the number that a link of the paper expects
+-- the number that a link of the model expects
 abbrev pub expectedOn : Link → (i : ℕ) → ℕ
 expectedOn l i = flow l i .number
 
@@ -38,9 +38,9 @@ wordsGranted i (e ∷ h) = wordsGranted i h ++ wordGranted i e
 
 -- RULES 5.3: the words that a flow is granted carry 0, 1, 2 and so on modulo 1,024.
 abbrev pub InOrder : Plan → ℕ → History → Type 0
-InOrder P i h = map quantumOf (wordsGranted i h) ≡ table (grantedInAll P h i) (λ k. k % 1024)
+InOrder P i h = map quantumOf (wordsGranted i h) ≡ table (grantedInAll P h i) (λ k. k % quantumNumbers)
 
-abbrev pub NumbersInOrder : Card → Type 0
+abbrev pub NumbersInOrder : Scheduler → Type 0
 NumbersInOrder c =
     (bytes : List ℕ) → refusal bytes ≡ 0 → (calls : List Call) (i : ℕ) → i < flowCount (planOf bytes)
     → InOrder (planOf bytes) i (run c (planOf bytes) calls .history)

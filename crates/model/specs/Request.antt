@@ -6,7 +6,7 @@ use mathlib.Core.Bool.{Bool, true, false, not, _&&_, _||_, cond}
 use lib.Dec.{ltb, eqb}
 use Rattle.model.specs.Tables.{any, firstFrom, ahead}
 use Rattle.model.specs.Refusals.{Line, firstOf, _when_}
-use Rattle.model.specs.Word.{flowOf, destinationOf, quantumOf, departureOf, depart}
+use Rattle.model.specs.Word.{flowOf, destinationOf, quantumOf, departureOf, quantumNumbers, depart}
 use Rattle.model.specs.Plan.{Plan, positions, flowCount, entry}
 use Rattle.model.specs.Calls.{Grant, accepted, refused}
 use Rattle.model.specs.Window.{Window, start, next, newest, later, passed, everyFrom}
@@ -36,7 +36,7 @@ requestTests P expected w = wordTests P w ++ numberTests expected w
 
 -- RULES 5.3: the number after a grant
 abbrev pub nextNumber : ℕ → ℕ
-nextNumber k = (k + 1) % 1024
+nextNumber k = (k + 1) % quantumNumbers
 
 -- ---- which positions are valid
 

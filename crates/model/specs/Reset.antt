@@ -7,9 +7,9 @@ use lib.Dec.{eqb}
 use Rattle.model.specs.Tables.{every}
 use Rattle.model.specs.Refusals.{Line, firstOf, _when_}
 use Rattle.model.specs.Plan.{positions, flowCount}
-use Rattle.model.specs.Calls.{Renewal, accepted, refused}
+use Rattle.model.specs.Calls.{ResetAnswer, accepted, refused}
 use Rattle.model.specs.Window.{head, later, everyFrom}
-use Rattle.model.specs.Link.{Link, Flow, Step, window, owner, flow, holding, share, withOwners, withFlows, withTaken, withLookFrom, movedTo}
+use Rattle.model.specs.Link.{Link, Flow, Step, window, owner, flow, holding, share, withOwners, withFlows, withMark, withTurn, movedTo}
 use Rattle.model.specs.Request.{unbooked}
 
 -- RULES 10.1: no later position has an owner
@@ -35,13 +35,13 @@ abbrev pub fromHead : Link → ℕ → Flow
 fromHead l i = movedTo (flow l i) (head (window l)) (share l i)
 
 -- RULES 10.2: all owners are removed, and a current slot that had one stays taken by the mark. CP stays. Flow 0 is looked at first.
-unfoldable pub renewed : Link → Link
-renewed l = withLookFrom (withTaken (withFlows (withOwners l (λ q. none)) (fromHead l)) (not (unbooked (owner l (l .current))) || l .taken)) 0
+unfoldable pub resetLink : Link → Link
+resetLink l = withTurn (withMark (withFlows (withOwners l (λ q. none)) (fromHead l)) (not (unbooked (owner l (l .current))) || l .marked)) 0
 
 -- RULES 10.1: the reset, where its test gives the number r, which leaves all as it was
-unfoldable pub resetAfter : ℕ → Link → Step Renewal
-resetAfter zero l = record { link = renewed l; answer = accepted tt }
+unfoldable pub resetAfter : ℕ → Link → Step ResetAnswer
+resetAfter zero l = record { link = resetLink l; answer = accepted tt }
 resetAfter (suc r) l = record { link = l; answer = refused (suc r) }
 
-unfoldable pub reset : Link → Step Renewal
+unfoldable pub reset : Link → Step ResetAnswer
 reset l = resetAfter (firstOf (resetTests l)) l

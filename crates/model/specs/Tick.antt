@@ -5,10 +5,10 @@ use mathlib.Core.Bool.{false, cond}
 use lib.Dec.{eqb}
 use Rattle.model.specs.Tables.{table}
 use Rattle.model.specs.Plan.{positions}
-use Rattle.model.specs.Calls.{Turn}
+use Rattle.model.specs.Calls.{TickAnswer}
 use Rattle.model.specs.Window.{head, next, inHead, last}
 use Rattle.model.specs.Link.{Link, Flow, Step, window, owner, flow, holding, share}
-use Rattle.model.specs.Link.{withCurrent, withOwners, withFlows, withTaken, movedTo, withHeld}
+use Rattle.model.specs.Link.{withCurrent, withOwners, withFlows, withMark, movedTo, withHeld}
 
 -- RULES 8.1: the next CP
 abbrev pub nextPosition : Link → ℕ
@@ -40,8 +40,8 @@ movedOn l = withCurrent (cond (eqb (nextPosition l % l .plan .slots) 0) (recycle
 
 -- RULES 8.1: the mark is turned off
 unfoldable pub advanced : Link → Link
-advanced l = withTaken (movedOn l) false
+advanced l = withMark (movedOn l) false
 
 -- RULES 8.3: the owner of the new CP, or idle
-unfoldable pub tick : Link → Step Turn
+unfoldable pub tick : Link → Step TickAnswer
 tick l = record { link = advanced l; answer = owner (advanced l) (nextPosition l) }

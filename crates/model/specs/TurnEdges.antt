@@ -3,7 +3,7 @@
 -- What each comes to is worked out from the rules. Masks of three flows: 1 is flow 0, 2 is flow 1, 4 is flow 2, 7 all.
 use mathlib.Core.List.{List, _∷_, []}
 use Rattle.model.specs.PlanBytes.{plan3, planOfMany, single}
-use Rattle.model.specs.EdgeCases.{Case, grant, credit, serve, idle, lend, deny, renew, decline, follows}
+use Rattle.model.specs.EdgeCases.{Case, grant, credit, serve, idle, lend, deny, grantReset, decline, follows}
 
 unfoldable pub turnEdges : List Case
 turnEdges =
@@ -25,6 +25,6 @@ turnEdges =
     -- a flow whose turn it is but that can't take the slot is passed over, and has no turn more for it
     ∷ follows (plan3 1) (lend 7 0 ∷ grant 1 1 ∷ serve 1 ∷ deny 7 17 ∷ idle ∷ lend 7 2 ∷ idle ∷ lend 7 0 ∷ credit 1 4 ∷ idle ∷ lend 7 1 ∷ idle ∷ lend 7 2 ∷ [])
     -- a granted reset begins with flow 0 again, each time; a refused one leaves it
-    ∷ follows (plan3 8) (lend 1 0 ∷ credit 0 1 ∷ idle ∷ renew ∷ lend 7 0 ∷ credit 0 2 ∷ idle ∷ renew ∷ lend 7 0 ∷ [])
+    ∷ follows (plan3 8) (lend 1 0 ∷ credit 0 1 ∷ idle ∷ grantReset ∷ lend 7 0 ∷ credit 0 2 ∷ idle ∷ grantReset ∷ lend 7 0 ∷ [])
     ∷ follows (plan3 8) (lend 1 0 ∷ decline 23 ∷ idle ∷ decline 23 ∷ lend 7 1 ∷ [])
     ∷ []

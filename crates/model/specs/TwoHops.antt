@@ -6,7 +6,7 @@ use Rattle.model.specs.Word.{departureOf}
 use Rattle.model.specs.Plan.{Plan, planOf, refusal}
 use Rattle.model.specs.Calls.{Call, History, requested, accepted}
 use Rattle.model.specs.History.{ticks, slotAfter}
-use Rattle.model.specs.Card.{Card, run}
+use Rattle.model.specs.Scheduler.{Scheduler, run}
 
 -- RULES 6.7: two boards with equal F and W
 pub record InStep (P Q : Plan) : Type 0 where
@@ -29,8 +29,8 @@ LeavesAfter P Q h₁ h₂ =
     (w₁ v₁ w₂ v₂ : ℕ) (early₁ early₂ : History) → GrantedIn h₁ w₁ v₁ early₁ → GrantedIn h₂ w₂ v₂ early₂
     → departureOf w₂ ≡ departureOf v₁ → ticks early₁ ≤ ticks early₂ → sentAt P early₁ v₁ < sentAt Q early₂ v₂
 
--- RULES 21.12: so on two boards with this card, whatever else they are asked
-abbrev pub LeavesAfterItCame : Card → Type 0
+-- RULES 21.12: so on two boards with this scheduler, whatever else they are asked
+abbrev pub LeavesAfterItCame : Scheduler → Type 0
 LeavesAfterItCame c =
     (first second : List ℕ) → refusal first ≡ 0 → refusal second ≡ 0 → InStep (planOf first) (planOf second) → (calls₁ calls₂ : List Call)
     → LeavesAfter (planOf first) (planOf second) (run c (planOf first) calls₁ .history) (run c (planOf second) calls₂ .history)

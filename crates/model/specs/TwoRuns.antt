@@ -4,7 +4,7 @@
 -- Its limits:
 -- - It is said of a flow that asks until it is refused with 11, by `AsksUntil11`, in both runs. In frame 0 its requests may be answered otherwise in the
 --   one than in the other (`not-from-the-start`), and so its words may carry other numbers from then on.
--- - A card that never gives 11 keeps it, since no flow has such a run on it. Which answers a card gives is not said here.
+-- - A scheduler that never gives 11 keeps it, since no flow has such a run on it. Which answers a scheduler gives is not said here.
 -- - Which slot of the frame it is, is not said (`other-slots`); nor what the flow holds, and which of its credits are taken.
 -- - A list with a reset in it, granted or refused, is aligned with none. A burst is its requests, as in demand 3's list.
 use Prim.Native.Nat.{ℕ, _≤_, _<_}
@@ -15,10 +15,10 @@ use lib.Dec.{eqb}
 use Rattle.model.specs.Tables.{tally}
 use Rattle.model.specs.Word.{destinationOf, flowOf, departureOf}
 use Rattle.model.specs.Plan.{Plan, flowCount, planOf, refusal}
-use Rattle.model.specs.Calls.{Call, Grant, Receipt, Turn, Event, History, requested, credited, ticked, lent, accepted, refused}
+use Rattle.model.specs.Calls.{Call, Grant, CreditAnswer, TickAnswer, Event, History, requested, credited, ticked, lent, accepted, refused}
 use Rattle.model.specs.History.{ticks, slotAfter, frameOf, changes, Mark, marksOf, inFrame}
 use Rattle.model.specs.Claim.{Each, ReadyAt}
-use Rattle.model.specs.Card.{Card, run}
+use Rattle.model.specs.Scheduler.{Scheduler, run}
 
 -- ---- two runs with the same calls of flow i
 
@@ -42,10 +42,10 @@ Neighbours i (Event.reset a) = ⊥
 -- newest event is first.
 pub data Aligned (i : ℕ) : (h₁ h₂ : History) → Type 0 where
   start : Aligned i [] []
-  both-tick : {h₁ h₂ : History} {x₁ x₂ : Turn} → Aligned i h₁ h₂ → Aligned i (ticked x₁ ∷ h₁) (ticked x₂ ∷ h₂)
+  both-tick : {h₁ h₂ : History} {x₁ x₂ : TickAnswer} → Aligned i h₁ h₂ → Aligned i (ticked x₁ ∷ h₁) (ticked x₂ ∷ h₂)
   both-request : {h₁ h₂ : History} {w₁ w₂ : ℕ} {a₁ a₂ : Grant} → flowOf w₁ ≡ i → SameButNumber w₁ w₂
       → Aligned i h₁ h₂ → Aligned i (requested w₁ a₁ ∷ h₁) (requested w₂ a₂ ∷ h₂)
-  both-credit : {h₁ h₂ : History} {p : ℕ} {a₁ a₂ : Receipt} → Aligned i h₁ h₂ → Aligned i (credited i p a₁ ∷ h₁) (credited i p a₂ ∷ h₂)
+  both-credit : {h₁ h₂ : History} {p : ℕ} {a₁ a₂ : CreditAnswer} → Aligned i h₁ h₂ → Aligned i (credited i p a₁ ∷ h₁) (credited i p a₂ ∷ h₂)
   first-alone : {h₁ h₂ : History} (e : Event) → Neighbours i e → Aligned i h₁ h₂ → Aligned i (e ∷ h₁) h₂
   second-alone : {h₁ h₂ : History} (e : Event) → Neighbours i e → Aligned i h₁ h₂ → Aligned i h₁ (e ∷ h₂)
 
@@ -90,17 +90,17 @@ SameFrames P k (both-credit x) = SameFrames P k x
 SameFrames P k (first-alone e other x) = SameFrames P k x
 SameFrames P k (second-alone e other x) = SameFrames P k x
 
--- Two lists of calls on a card, from one plan, and a flow i of it whose calls are aligned. If each run is as Q asks, flow i's requests are answered so,
+-- Two lists of calls on a scheduler, from one plan, and a flow i of it whose calls are aligned. If each run is as Q asks, flow i's requests are answered so,
 -- from frame change number k on.
-abbrev pub UnmovedOn : Card → Plan → (k : ℕ) → (Q : Plan → ℕ → History → Type 0) → Type 0
+abbrev pub UnmovedOn : Scheduler → Plan → (k : ℕ) → (Q : Plan → ℕ → History → Type 0) → Type 0
 UnmovedOn c P k Q =
     (calls₁ calls₂ : List Call) (i : ℕ) → i < flowCount P → (aligned : Aligned i (run c P calls₁ .history) (run c P calls₂ .history))
     → Q P i (run c P calls₁ .history) → Q P i (run c P calls₂ .history) → SameFrames P k aligned
 
 -- for the bytes of every accepted plan
-abbrev pub UnmovedFrom : Card → (k : ℕ) → (Q : Plan → ℕ → History → Type 0) → Type 0
+abbrev pub UnmovedFrom : Scheduler → (k : ℕ) → (Q : Plan → ℕ → History → Type 0) → Type 0
 UnmovedFrom c k Q = (bytes : List ℕ) → refusal bytes ≡ 0 → UnmovedOn c (planOf bytes) k Q
 
--- RULES 21.11: each request after the first frame change. That the paper's card keeps it is `same-frames`, in proofs/SameFrames.antt.
-abbrev pub Unmoved : Card → Type 0
+-- RULES 21.11: each request after the first frame change. That the reference scheduler keeps it is `same-frames`, in proofs/SameFrames.antt.
+abbrev pub Unmoved : Scheduler → Type 0
 Unmoved c = UnmovedFrom c 1 AsksUntil11

@@ -27,6 +27,10 @@ quantumOf w = bits 19 10 w
 abbrev pub departureOf : ℕ → ℕ
 departureOf w = bits 9 0 w
 
+-- RULES 5.3: how many quantum numbers there are
+abbrev pub quantumNumbers : ℕ
+quantumNumbers = 1024
+
 -- RULES 5.1: a word's parts, and the word of four parts
 abbrev pub split : ℕ → Fields
 split w = record { destination = destinationOf w; flow = flowOf w; quantum = quantumOf w; departure = departureOf w }

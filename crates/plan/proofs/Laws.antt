@@ -1,4 +1,4 @@
--- The plan that the reader stores is the paper's plan of the bytes. Assumes nothing.
+-- The plan that the reader stores is the model's plan of the bytes. Assumes nothing.
 use Prim.Native.Nat.{ℕ, _≤_}
 use mathlib.Core.Path.{_≡_, ap, _∙_}
 use mathlib.Core.List.{List}

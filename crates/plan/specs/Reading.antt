@@ -1,4 +1,4 @@
--- The crate's types read as the paper's, and the paper's plan as it is stored. Assumes nothing.
+-- The crate's types read as the model's, and the model's plan as it is stored. Assumes nothing.
 use Prim.Native.Nat.{ℕ, zero, suc, _≤_}
 use mathlib.Core.Path.{_≡_}
 use mathlib.Core.List.{List}
@@ -14,7 +14,7 @@ use Rattle.limits.specs.declared.Draft.{Draft}
 use Rattle.model.specs.Tables.{table}
 use Rattle.model.specs.Plan as model
 
--- ---- read as the paper's
+-- ---- read as the model's
 
 abbrev pub headerFor : Header → model.Header
 headerFor h = record { total = h .total; count = h .count; offset = h .offset; slots = h .slots; frames = h .frames; buffer = h .buffer }
@@ -29,7 +29,7 @@ noEntry = record { share = 0; cells = 0; source = 0; destination = 0 }
 abbrev pub planFor : Plan → model.Plan
 planFor p = record { slots = p .slots; frames = p .frames; buffer = p .buffer; entries = table (p .count) (λ i. entryFor (getD (p .entries) i noEntry)) }
 
--- ---- the paper's plan as it is stored
+-- ---- the model's plan as it is stored
 
 abbrev pub storedEntry : model.Entry → Entry
 storedEntry e = record { share = e .share; cells = e .cells; source = e .source; destination = e .destination }
@@ -58,7 +58,7 @@ draftOf p = record { slots = p .slots; frames = p .frames; buffer = p .buffer; c
 
 -- ---- what the reader answers
 
--- this paper's number of each verdict: 0 where the plan is accepted, else the refusal
+-- the model's number of each verdict: 0 where the plan is accepted, else the refusal
 unfoldable pub verdictFor : ℕ → Verdict
 verdictFor zero = Accepted
 verdictFor (suc r) = Refused (suc r)

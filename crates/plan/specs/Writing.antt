@@ -11,7 +11,7 @@ use Rattle.model.specs.Tables.{table}
 use Rattle.model.specs.Calls.{Answer, accepted, refused}
 use Rattle.model.specs.WrittenPlan.{entryBytes, ByteEntry}
 
--- this paper's number and value of each answer: the count of bytes written, or the refusal
+-- the model's number and value of each answer: the count of bytes written, or the refusal
 abbrev pub answerFor : Answer ℕ → Written
 answerFor (accepted count) = Bytes count
 answerFor (refused number) = Refused number

@@ -48,10 +48,10 @@ pub(crate) fn read_header(bytes: &[u8]) -> Header
 }
 
 // RULES 2.3: test 2, on n, the offset and the length.
-pub(crate) fn miscounts(h: Header) -> bool
+pub(crate) fn count_out_of_range(h: Header) -> bool
     ensures { λ r. ⌜ r ≡ condition (countTest (headerFor h)) ⌝ }
 {
-    if limits::miscounts(h.count) {
+    if limits::count_out_of_range(h.count) {
         return true;
     }
     if h.offset != 12 {

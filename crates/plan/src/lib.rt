@@ -80,7 +80,7 @@ pub fn read(bytes: &[u8]) -> Outcome
     if bytes.len() != h.total {
         return refused(1);
     }
-    if header::miscounts(h) {
+    if header::count_out_of_range(h) {
         return refused(2);
     }
     let part = &bytes[12..];
@@ -92,7 +92,7 @@ pub fn read(bytes: &[u8]) -> Outcome
         count: h.count,
         entries,
     };
-    let number = limits::broken(plan.draft());
+    let number = limits::first_refusal(plan.draft());
     if number != 0 {
         return refused(number);
     }
@@ -109,7 +109,7 @@ pub fn write(draft: Draft, out: &mut [u8]) -> Written
     ensures out { λ r. ⌜ now (out .exit) ≡ writer.written (draftFor draft) (now (out .entry)) .out ⌝ }
     ensures most { λ r. ⌜ ((n : ℕ) → r ≡ Written.Bytes n → (n ≤ 76) × (n ≤ length (now (out .entry)))) ⌝ }
 {
-    let number = limits::broken(draft);
+    let number = limits::first_refusal(draft);
     if number != 0 {
         return Written::Refused(number);
     }

@@ -1,4 +1,4 @@
--- What a record that is played comes to: the paper's link after its call, and the paper's line. Assumes nothing.
+-- What a record that is played comes to: the model's link after its call, and the model's line. Assumes nothing.
 use Prim.Native.Nat.{ℕ}
 use mathlib.Core.Path.{_≡_, refl, sym, ap, _∙_}
 use mathlib.Core.List.{List}
@@ -33,7 +33,7 @@ reads-as o r e = sym (call-in o) ∙ ap callIn (sym e)
 
 -- ---- what it comes to
 
--- from state s of a plan the call o, or none, comes to this state with this window at hand, and to an answer with the paper's line
+-- from state s of a plan the call o, or none, comes to this state with this window at hand, and to an answer with the model's line
 pub record Played (plan : Plan) (s : List ℕ) (o : Made) (w : Window) (t : List ℕ) (answer : Answer) : Type 0 where
   pub link-is : readIn plan t ≡ made (readIn plan s) o .link
   pub line-is : lineFor answer ≡ lineOf (made (readIn plan s) o .answer)

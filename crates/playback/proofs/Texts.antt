@@ -16,9 +16,9 @@ use Rattle.model.specs.Word.{depart}
 use Rattle.model.proofs.Word.{departure-depart}
 use Rattle.calls.specs.declared.Answer.the-variants.{Granted, Refused}
 use Rattle.calls.specs.Reading.{lineFor, answerToTick}
-use Rattle.lines.specs.declared.Line.{Line}
-use Rattle.lines.specs.Lines.{textOf, noLine, AllLines}
-use Rattle.lines.proofs.Places.{granted-line, turn-line, idle-line}
+use Rattle.linetable.specs.declared.Line.{Line}
+use Rattle.linetable.specs.Lines.{textOf, noLine, AllLines}
+use Rattle.linetable.proofs.Places.{granted-line, turn-line, idle-line}
 use Rattle.tables.specs.Owners.{nobody, ownerOf}
 use Rattle.window.specs.declared.Window.{Window}
 use Rattle.link.specs.declared.request.Reply.{Reply}

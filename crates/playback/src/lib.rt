@@ -6,13 +6,13 @@ use calls::Call;
 use calls::LONGEST_LINE;
 use calls::RECORD;
 use calls::Record;
-use lines::TICKS;
-use lines::lines;
-use lines::write_reply;
-use lines::write_taken;
+use linetable::TICKS;
+use linetable::lines;
+use linetable::write_accepted;
+use linetable::write_reply;
 use link::Link;
 use link::credit::credit;
-use link::request::placed;
+use link::request::flow_or_zero;
 use link::request::request;
 use link::tick::tick;
 use state::CURRENT;
@@ -39,8 +39,8 @@ pub fn play(mut link: Link, records: &[u8], out: &mut [u8]) -> Playback
 {
     let used = RECORD * smaller(records.len() / RECORD, out.len() / LONGEST_LINE);
     let plan = link.plan;
-    let cp = link.state[CURRENT];
-    let mut w = window(plan.slots, plan.frames, cp as usize);
+    let current = link.state[CURRENT];
+    let mut w = window(plan.slots, plan.frames, current as usize);
     let made = lines();
     let mut at = 0;
     let mut end = 0;
@@ -53,7 +53,7 @@ pub fn play(mut link: Link, records: &[u8], out: &mut [u8]) -> Playback
         match call {
             Call::Request(word) => {
                 let fields = word::split(word);
-                let i = placed(plan.count, fields.flow as usize);
+                let i = flow_or_zero(plan.count, fields.flow as usize);
                 let e = plan.entries[i];
                 let reply = request(&mut link.state, plan.count, e, w, fields);
                 let line = made[reply.position as usize];
@@ -64,14 +64,14 @@ pub fn play(mut link: Link, records: &[u8], out: &mut [u8]) -> Playback
                 if number != 0 {
                     end = calls::write_refusal(number, out, end);
                 } else {
-                    end = write_taken(out, end);
+                    end = write_accepted(out, end);
                 }
             }
             Call::Tick => {
                 w = tick(&mut link.state, plan, w);
                 let owner = link.state[OWNERS + w.current];
                 let line = made[TICKS + owner as usize];
-                end = lines::write(line, out, end);
+                end = linetable::write(line, out, end);
             }
         }
     }

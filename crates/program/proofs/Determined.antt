@@ -51,6 +51,6 @@ module _ (l m : Link) (j k : Kept) (h : Keeps j (bytesIn j)) (g : Keeps k (bytes
   one-state Ended Reading x y e = let z : _≡_ {A = ℕ} 0 1 = cc in absurd (omega arith)
   one-state Ended Playing x y e = let z : _≡_ {A = ℕ} 0 1 = cc in absurd (omega arith)
 
--- so a contract that gives the stage gives the state; of the bounds, which the papers don't know, `SoundState` has what must hold
+-- so a contract that gives the stage gives the state; of the bounds, which the models don't know, `SoundState` has what must hold
 pub determined : (s t : State) → Regular s → Regular t → stageOf s ≡ stageOf t → SameState s t
 determined s t r q e = one-state (s .link) (t .link) (s .kept) (t .kept) (r .kept) (q .kept) (s .phase) (t .phase) (r .in-phase) (q .in-phase) e

@@ -1,4 +1,4 @@
--- However the input is cut into pieces, what is to be written, in order, is the paper's output of the input. Assumes nothing.
+-- However the input is cut into pieces, what is to be written, in order, is the model's output of the input. Assumes nothing.
 use Prim.Native.Nat.{ℕ, zero, suc, _*_, _/_, _≤_}
 use mathlib.Core.Path.{_≡_, refl, sym, ap, _∙_}
 use mathlib.Core.List.{List, [], _++_, append-nil, append-assoc}
@@ -126,7 +126,7 @@ said-at-end {s} {out} {n} {out′} room f =
     let long : n ≡ length (atEnd s) = omega (arith, f .written-is, next-in-room (atEnd s) out 0 (omega arith)) in
     (λ i. take (long i) ((f .out-is ∙ out-in-room (atEnd s) out 0 (omega arith)) i)) ∙ stored-back out (atEnd s) (omega (arith, f .room))
 
--- However the input is cut into pieces, all that is to be written, in order, is the paper's output of the input.
+-- However the input is cut into pieces, all that is to be written, in order, is the model's output of the input.
 -- Of the code it names the promises of `start`, `feed` and `finish` alone.
 pub cut-anyhow : {pieces : List (List ℕ)} {lines : List ℕ} → Runs pieces lines → lines ≡ output (joined pieces)
 cut-anyhow {pieces} r =

@@ -5,8 +5,8 @@ use mathlib.Core.List.{List, _∷_, [], map, flatMap}
 use Rattle.model.specs.Tables.{any}
 use Rattle.model.specs.Refusals.{firstOf}
 use Rattle.model.specs.Listing.{digits, decimal}
-use Rattle.programme.specs.Week.{keepsLimits, running}
-use Rattle.programme.proofs.ByEnds.{answerByEnds, answered-by-ends}
+use Rattle.week.specs.Week.{keepsLimits, running}
+use Rattle.week.proofs.ByEnds.{answerByEnds, answered-by-ends}
 use Rattle.programmewords.specs.Programmes.{minuteAsked, programmeAsked, lineOn, answerToProgramme}
 use Rattle.programmewords.specs.ProgrammeLineEdges.{Case, Pass, programmeLineEdges}
 

@@ -11,11 +11,11 @@ use borrow.Author.Tests.{eq-eqb, ne-eqb}
 use Rattle.model.specs.Tables.{table, any}
 use Rattle.model.specs.Calls.{Answer, accepted, refused}
 use Rattle.model.proofs.Tables.{length-table, getD-table, table-same}
-use Rattle.programme.specs.declared.Entry.{Entry as CodeEntry}
-use Rattle.programme.specs.declared.Programme.{Programme}
-use Rattle.programme.specs.Week.{AtMinute, plan, dark, planAt}
-use Rattle.programme.specs.Reading.{emptyEntry, entryFor, entriesOf, answerFor}
-use Rattle.programme.proofs.Refusals.{many-refused}
+use Rattle.week.specs.declared.Entry.{Entry as CodeEntry}
+use Rattle.week.specs.declared.Programme.{Programme}
+use Rattle.week.specs.Week.{AtMinute, plan, dark, planAt}
+use Rattle.week.specs.Reading.{emptyEntry, entryFor, entriesOf, answerFor}
+use Rattle.week.proofs.Refusals.{many-refused}
 use Rattle.replies.specs.Lines.{cannot}
 use Rattle.programmewords.specs.Programmes.{minuteAsked, entriesAsked, entryAsked, programmeAsked, programmeLine, answerToProgramme}
 use Rattle.programmewords.specs.Asked.{WholeEntries, storedEntry, storedAsked, lineFor}

@@ -8,9 +8,9 @@ use lib.Dec.{ltb}
 use Rattle.model.specs.Tables.{table, any}
 use Rattle.model.specs.Listing.{text, refusalLine}
 use Rattle.replies.specs.Lines.{spaced}
-use Rattle.programme.specs.declared.Entry.{Entry as CodeEntry}
-use Rattle.programme.specs.declared.Programme.{Programme}
-use Rattle.programme.specs.declared.AtMinute.{AtMinute as CodeAtMinute}
+use Rattle.week.specs.declared.Entry.{Entry as CodeEntry}
+use Rattle.week.specs.declared.Programme.{Programme}
+use Rattle.week.specs.declared.AtMinute.{AtMinute as CodeAtMinute}
 use Rattle.programmewords.specs.Programmes.{entriesAsked}
 
 -- a minute, and three numbers for each of so many entries

@@ -8,7 +8,7 @@ use Rattle.model.specs.Tables.{table, any}
 use Rattle.model.specs.Calls.{Answer, accepted, refused}
 use Rattle.model.specs.Listing.{text, refusalLine}
 use Rattle.replies.specs.Lines.{cannot, spaced}
-use Rattle.programme.specs.Week.{Entry, AtMinute, plan, dark, planAt}
+use Rattle.week.specs.Week.{Entry, AtMinute, plan, dark, planAt}
 
 -- the minute that is asked about comes first
 abbrev pub minuteAsked : List ℕ → ℕ

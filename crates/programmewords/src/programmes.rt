@@ -9,9 +9,9 @@ ghost use Rattle.model.specs.Listing.{text};
 ghost use Rattle.replies.specs.Lines as said;
 ghost use Rattle.programmewords.specs.Programmes.{answerToProgramme};
 ghost use Rattle.programmewords.specs.Asked.{WholeEntries, NarrowPlans, storedEntry, storedAsked, lineFor};
-use programme::AtMinute;
-use programme::Entry;
-use programme::Programme;
+use week::AtMinute;
+use week::Entry;
+use week::Programme;
 
 // The largest number of a plan.
 const WIDEST: usize = 65535;
@@ -99,7 +99,7 @@ fn say_asked(numbers: &[usize], count: usize, out: &mut [u8]) -> usize
     ensures { λ r. ⌜ said.Says (answerToProgramme (now (numbers .entry))) (now (out .entry)) (now (out .exit)) r ⌝ }
 {
     let p = asked(numbers, count);
-    let answer = programme::plan_at(p, numbers[0]);
+    let answer = week::plan_at(p, numbers[0]);
     say_answer(answer, out)
 }
 

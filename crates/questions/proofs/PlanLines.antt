@@ -18,8 +18,8 @@ use Rattle.planwords.specs.PlanLines.{askingLine, readingLine}
 use Rattle.planwords.proofs.DecimalRead.{each-append, each-so, apart}
 use Rattle.planwords.proofs.FieldsRead.{each-spaced}
 use Rattle.planwords.proofs.PlanLines.{hex-digits, short-numbers, asking-most, reading-most, there-and-back}
-use Rattle.questions.specs.declared.words.NumberWord.{NumberWord}
-use Rattle.questions.specs.declared.words.Word.the-variants.{OfNumbers, Read}
+use Rattle.questions.specs.declared.keywords.NumberWord.{NumberWord}
+use Rattle.questions.specs.declared.keywords.Word.the-variants.{OfNumbers, Read}
 use Rattle.questions.specs.Answers.{sameText, rowNamed, words, wordFor, answerToNumbers, numbersLine, answerTo, answerOf}
 use Rattle.questions.specs.Input.{isNewline, linesOf, answersTo}
 use Rattle.questions.proofs.LineAnswers.{short-enough}

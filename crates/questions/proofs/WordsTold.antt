@@ -7,7 +7,7 @@ use native.Mathlib.Omega.{arith}
 use lib.Dec.{eqb}
 use borrow.Author.Tests.{eqb-true, eq-eqb}
 use Rattle.model.specs.Listing.{text}
-use Rattle.questions.specs.declared.words.Word.{Word}
+use Rattle.questions.specs.declared.keywords.Word.{Word}
 use Rattle.questions.specs.Answers.{sameText, Row, rowNamed}
 
 -- ---- texts that are the same

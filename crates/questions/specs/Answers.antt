@@ -19,9 +19,9 @@ use Rattle.programmewords.specs.Programmes.{answerToProgramme}
 use Rattle.delaywords.specs.DelayWord.{answerToDelay}
 use Rattle.faultwords.specs.FaultsWord.{answerToFaults}
 use Rattle.weekwords.specs.WeekWord.{answerToWeekFaults}
-use Rattle.questions.specs.declared.words.NumberWord.{NumberWord}
-use Rattle.questions.specs.declared.words.Word.{Word}
-use Rattle.questions.specs.declared.words.Word.the-variants.{OfNumbers, Read, Unknown}
+use Rattle.questions.specs.declared.keywords.NumberWord.{NumberWord}
+use Rattle.questions.specs.declared.keywords.Word.{Word}
+use Rattle.questions.specs.declared.keywords.Word.the-variants.{OfNumbers, Read, Unknown}
 
 -- whether two texts are the same
 unfoldable pub sameText : List ℕ → List ℕ → Bool

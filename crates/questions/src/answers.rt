@@ -5,9 +5,9 @@ ghost use Rattle.tokens.specs.Pieces.{wordOf};
 ghost use Rattle.replies.specs.Lines as said;
 ghost use Rattle.questions.specs.Answers as answers;
 use crate::LONGEST;
-use crate::words;
-use crate::words::NumberWord;
-use crate::words::Word;
+use crate::keywords;
+use crate::keywords::NumberWord;
+use crate::keywords::Word;
 use tokens::Found;
 
 // Reads the numbers after a word that asks for some, and answers them. A line has at most half as many numbers as bytes.
@@ -19,7 +19,7 @@ fn answer_counted(word: NumberWord, line: &[u8], out: &mut [u8]) -> usize
     let found = tokens::read_numbers(line, &mut numbers);
     match found {
         Found::Wrong(fault) => replies::say_fault(fault, out),
-        Found::Count(count) => words::answer_numbers(word, &numbers[..count], out),
+        Found::Count(count) => keywords::answer_numbers(word, &numbers[..count], out),
     }
 }
 
@@ -29,7 +29,7 @@ fn answer_short(line: &[u8], out: &mut [u8]) -> usize
     ensures { λ r. ⌜ said.Says (answers.answerTo (answers.wordFor (wordOf (now (line .entry)))) (now (line .entry))) (now (out .entry)) (now (out .exit)) r ⌝ }
 {
     let end = tokens::piece_end(line, 0);
-    let word = words::named(&line[..end]);
+    let word = keywords::named(&line[..end]);
     match word {
         Word::OfNumbers(number_word) => answer_counted(number_word, line, out),
         Word::Read => planwords::read(line, out),

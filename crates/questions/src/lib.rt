@@ -1,11 +1,11 @@
 // The show editor's questions but for reading and writing: input is fed in pieces of any sizes, and the answers to the lines that end in each are handed back.
 mod answers;
-mod lines;
-mod words;
+mod input;
+mod keywords;
 
-pub use lines::feed;
-pub use lines::finish;
-pub use lines::start;
+pub use input::feed;
+pub use input::finish;
+pub use input::start;
 
 // The most bytes of a line that is a question.
 pub const LONGEST: usize = 4000;

@@ -1,12 +1,12 @@
 // What answers are made of: texts, numbers, hexadecimal digits, refusals, and what is wrong with a line.
-mod lines;
+mod render;
 
-pub use lines::put;
-pub use lines::put_decimal;
-pub use lines::put_first;
-pub use lines::put_hex;
-pub use lines::put_number;
-pub use lines::say;
-pub use lines::say_fault;
-pub use lines::say_refusal;
-pub use lines::say_three;
+pub use render::put;
+pub use render::put_decimal;
+pub use render::put_first;
+pub use render::put_hex;
+pub use render::put_number;
+pub use render::say;
+pub use render::say_fault;
+pub use render::say_refusal;
+pub use render::say_three;

@@ -6,7 +6,7 @@ use native.Mathlib.Omega.{arith}
 use lib.ListN.{length}
 use Rattle.model.specs.Plan as plan
 use Rattle.model.specs.History.{ticks}
-use Rattle.model.specs.Card.{Card, paper}
+use Rattle.model.specs.Scheduler.{Scheduler, reference}
 use Rattle.arrival.specs.SeveralLinks.{tile, Board, planOn, sentOn, dueOn, Within, EachWithin}
 use Rattle.arrival.specs.Source.{upToFrame, Source, Bursts, AsksAs}
 use Rattle.arrival.specs.CreditedByNext.{JoinedByCredits, WayByCredits}
@@ -28,19 +28,19 @@ use Rattle.show.proofs.Claim.{all-the-way}
 -- ---- what a show says of a board on the way
 
 -- its frame, and the stream's share there
-pub record Fits (show : Show) (s : ShowStream) (b : Board paper) : Type 0 where
+pub record Fits (show : Show) (s : ShowStream) (b : Board reference) : Type 0 where
   pub slots-are : planOn b .slots ≡ show .slots
   pub frames-are : planOn b .frames ≡ show .frames
   pub share-is : shareOn b ≡ s .stream .share
 
 -- and its cells, before the last link and on it
-pub record FitsAt (show : Show) (s : ShowStream) (p m : ℕ) (b : Board paper) : Type 0 where
+pub record FitsAt (show : Show) (s : ShowStream) (p m : ℕ) (b : Board reference) : Type 0 where
   pub fits-there : Fits show s b
   pub before-last : suc p < m → plan.entry (planOn b) (b .stream) .cells ≡ s .cells
   pub at-last : suc p ≡ m → plan.entry (planOn b) (b .stream) .cells ≡ s .lastCells
 
 -- so of boards one after the other, from link number p of m on
-abbrev pub EachFits : Show → ShowStream → (p m : ℕ) → List (Board paper) → Type 0
+abbrev pub EachFits : Show → ShowStream → (p m : ℕ) → List (Board reference) → Type 0
 EachFits show s p m [] = Unit {0}
 EachFits show s p m (b ∷ bs) = FitsAt show s p m b × EachFits show s (suc p) m bs
 
@@ -51,7 +51,7 @@ module _ (show : Show) (i : ℕ) where
   abbrev m : ℕ
   m = length (way (s .stream))
 
-  fits-at : {p : ℕ} {l : Link} {b : Board paper} → Flows show i p l → OnLink show i l b → FitsAt show s p m b
+  fits-at : {p : ℕ} {l : Link} {b : Board reference} → Flows show i p l → OnLink show i l b → FitsAt show s p m b
   unfolding linkPlan
   fits-at {l = l} {b = b} f on =
       let plan-is : planOn b ≡ linkPlan show l = ap plan.planOf (on .bytes-are) ∙ f .good .read-back in
@@ -70,7 +70,7 @@ module _ (show : Show) (i : ℕ) where
 
   -- each link of the rest of the way, by its number
   abbrev There : (p : ℕ) → List Link → Type 0
-  There p ls = (l : Link) (on : In l ls) (b : Board paper) → OnLink show i l b → FitsAt show s (p + on .place) m b
+  There p ls = (l : Link) (on : In l ls) (b : Board reference) → OnLink show i l b → FitsAt show s (p + on .place) m b
 
   pub there-all : refusal show ≡ 0 → i < length (show .streams) → There 0 (way (s .stream))
   there-all none below l here b at =
@@ -82,7 +82,7 @@ module _ (show : Show) (i : ℕ) where
       let same : p + suc (on .place) ≡ suc p + on .place = omega arith in
       subst (λ q. FitsAt show s q m b) same (each k (record { place = suc (on .place); within = omega (arith, on .within); there = on .there }) b at)
 
-  pub each-fits : (p : ℕ) (ls : List Link) (bs : List (Board paper)) → There p ls → OnLinks show i ls bs → EachFits show s p m bs
+  pub each-fits : (p : ℕ) (ls : List Link) (bs : List (Board reference)) → There p ls → OnLinks show i ls bs → EachFits show s p m bs
   each-fits p [] [] each on = tt
   each-fits p [] (b ∷ bs) each on = absurd on
   each-fits p (l ∷ ls) [] each on = absurd on
@@ -92,7 +92,7 @@ module _ (show : Show) (i : ℕ) where
         each-fits (suc p) ls bs (there-after p l ls each) (on .1),
       )
 
-  pub as-many : (ls : List Link) (bs : List (Board paper)) → OnLinks show i ls bs → length bs ≡ length ls
+  pub as-many : (ls : List Link) (bs : List (Board reference)) → OnLinks show i ls bs → length bs ≡ length ls
   as-many [] [] on = refl
   as-many [] (b ∷ bs) on = absurd on
   as-many (l ∷ ls) [] on = absurd on
@@ -101,7 +101,7 @@ module _ (show : Show) (i : ℕ) where
   -- ---- so the boards are a way
 
   module _ {late : ℕ} (enough : EnoughCells show late i) where
-    joins : {p : ℕ} {a b : Board paper} → suc p < m → FitsAt show s p m a → Fits show s b → PassedOn a b → JoinedByCredits a b
+    joins : {p : ℕ} {a b : Board reference} → suc p < m → FitsAt show s p m a → Fits show s b → PassedOn a b → JoinedByCredits a b
     joins h x g passed =
         let f = x .fits-there in
         record {
@@ -113,7 +113,7 @@ module _ (show : Show) (i : ℕ) where
           not-lent = passed .not-lent;
         }
 
-    a-way : (p : ℕ) (a : Board paper) (rest : List (Board paper)) → p + suc (length rest) ≡ m → EachFits show s p m (a ∷ rest) → PassedAlong late a rest
+    a-way : (p : ℕ) (a : Board reference) (rest : List (Board reference)) → p + suc (length rest) ≡ m → EachFits show s p m (a ∷ rest) → PassedAlong late a rest
         → WayByCredits late a rest
     a-way p a [] e fs passed =
         let shares = ap ((late + 2) *_) (fs .0 .fits-there .share-is) in
@@ -123,12 +123,12 @@ module _ (show : Show) (i : ℕ) where
 
 -- ---- the last of several boards
 
-last-fits : {show : Show} {s : ShowStream} {m : ℕ} (p : ℕ) (a : Board paper) (rest : List (Board paper)) → EachFits show s p m (a ∷ rest)
+last-fits : {show : Show} {s : ShowStream} {m : ℕ} (p : ℕ) (a : Board reference) (rest : List (Board reference)) → EachFits show s p m (a ∷ rest)
     → Fits show s (lastBoard a rest)
 last-fits p a [] fs = fs .0 .fits-there
 last-fits p a (b ∷ rest) fs = last-fits (suc p) b rest (fs .1)
 
-last-within : {c : Card} (k : ℕ) (P : plan.Plan) (from : List ℕ) (a : Board c) (rest : List (Board c)) → EachWithin k P from (a ∷ rest)
+last-within : {c : Scheduler} (k : ℕ) (P : plan.Plan) (from : List ℕ) (a : Board c) (rest : List (Board c)) → EachWithin k P from (a ∷ rest)
     → Within (k + length rest) P from (lastBoard a rest)
 last-within k P from a [] within = let same : k + 0 ≡ k = omega arith in rw same (within .0)
 last-within k P from a (b ∷ rest) within =
@@ -136,7 +136,7 @@ last-within k P from a (b ∷ rest) within =
     rw same (last-within (k + 1) P from b rest (within .1))
 
 -- what `bounds` says of the numbers of the first board is so of those of the show
-module _ (a : Board paper) (rest : List (Board paper)) where
+module _ (a : Board reference) (rest : List (Board reference)) where
   abbrev InBoundsOf : (F m share : ℕ) → Type 0
   InBoundsOf F m share =
       (burst : ℕ) (comes asks : ℕ → ℕ) → Source share comes asks → Bursts share burst comes → AsksAs asks (planOn a) (a .stream) (a .events)
@@ -159,14 +159,14 @@ module _ (a : Board paper) (rest : List (Board paper)) where
       (subst (λ m. UpInBoundsOf (planOn a .slots) m share) links (subst (UpInBoundsOf (planOn a .slots) (length (a ∷ rest))) shares x))
 
 -- what the numbers of a show say of a stream's boards
-record Along (show : Show) (i late : ℕ) (a : Board paper) (rest : List (Board paper)) : Type 0 where
+record Along (show : Show) (i late : ℕ) (a : Board reference) (rest : List (Board reference)) : Type 0 where
   hops : suc (length rest) ≡ distance (showStream show i .stream)
   way-there : WayByCredits late a rest
   first : Fits show (showStream show i) a
   last : Fits show (showStream show i) (lastBoard a rest)
 
 along : (show : Show) → refusal show ≡ 0 → (i : ℕ) → i < length (show .streams) → (late : ℕ) → EnoughCells show late i
-    → (a : Board paper) (rest : List (Board paper)) → OnLinks show i (way (showStream show i .stream)) (a ∷ rest) → PassedAlong late a rest → Along show i late a rest
+    → (a : Board reference) (rest : List (Board reference)) → OnLinks show i (way (showStream show i .stream)) (a ∷ rest) → PassedAlong late a rest → Along show i late a rest
 along show none i below late enough a rest on passed =
     let s = showStream show i in
     let ls = way (s .stream) in
@@ -180,11 +180,11 @@ along show none i below late enough a rest on passed =
     }
 
 -- the bound by its frames, and by the hops
-same-bound : (show : Show) (i late : ℕ) (a : Board paper) (rest : List (Board paper)) → Along show i late a rest
+same-bound : (show : Show) (i late : ℕ) (a : Board reference) (rest : List (Board reference)) → Along show i late a rest
     → (1 + length rest + 1) * planOn (lastBoard a rest) .slots ≡ (distance (showStream show i .stream) + 1) * show .slots
 same-bound show i late a rest x = ap₂ _*_ (omega (arith, x .hops)) (x .last .slots-are)
 
-pub in-time : ShowInTime paper
+pub in-time : ShowInTime reference
 in-time show none i below late enough a rest on modest passed =
     let x = along show none i below late enough a rest on passed in
     let later = over-links-by-credits late a rest (x .way-there) in
@@ -196,7 +196,7 @@ in-time show none i below late enough a rest on modest passed =
       from-source = with-numbers a rest (x .first .slots-are) (x .hops) (x .first .share-is) (bound-by-credits late a rest (x .way-there) modest);
     }
 
-pub all-in-time : ShowAllInTime paper
+pub all-in-time : ShowAllInTime reference
 all-in-time show none i below late enough a rest on modest passed asked =
     let x = along show none i below late enough a rest on passed in
     record {

@@ -113,7 +113,7 @@ module _ (dome : Dome) where
       go true e = draft-more (flowsOf l streams) (entryOn l s) ∙ ap (draftOver dome) (sym (flows-more l streams s true e))
       go false e = ap (draftOver dome) (sym (flows-more l streams s false e))
 
-  -- ---- and as the paper's
+  -- ---- and as the model's
 
   abbrev pub planOver : List plan.Entry → plan.Plan
   planOver es = record { slots = dome .slots; frames = dome .frames; buffer = dome .buffer; entries = es }

@@ -14,7 +14,7 @@ use Rattle.model.specs.Word.{flowOf}
 use Rattle.model.specs.WrittenPlan.{bytesOf}
 use Rattle.model.specs.History.{ticks, wellFormed, lends, ofFlow}
 use Rattle.model.specs.Claim.{Each, AtRequest}
-use Rattle.model.specs.Card.{Card}
+use Rattle.model.specs.Scheduler.{Scheduler}
 use Rattle.arrival.specs.SeveralLinks.{tile, Together, Board, planOn, sentOn, dueOn, EachGranted}
 use Rattle.arrival.specs.SharesOfCells.{GivenBack, EachGrantedNow}
 use Rattle.arrival.specs.LinksOnArrival.{AsksOnArrival}
@@ -30,12 +30,12 @@ use Rattle.show.specs.Show.{Show, showStream, linkPlan, flowOn, refusal}
 -- ---- boards on a way
 
 -- a board runs the plan of a link, and its stream is stream i of the show
-pub record OnLink (show : Show) (i : ℕ) (l : Link) {c : Card} (b : Board c) : Type 0 where
+pub record OnLink (show : Show) (i : ℕ) (l : Link) {c : Scheduler} (b : Board c) : Type 0 where
   pub bytes-are : b .bytes ≡ bytesOf (linkPlan show l)
   pub flow-is : b .stream ≡ flowOn show l i
 
 -- so one board for each of several links
-abbrev pub OnLinks : Show → ℕ → {c : Card} → List Link → List (Board c) → Type 0
+abbrev pub OnLinks : Show → ℕ → {c : Scheduler} → List Link → List (Board c) → Type 0
 OnLinks show i [] [] = Unit {0}
 OnLinks show i [] (b ∷ bs) = ⊥
 OnLinks show i (l ∷ ls) [] = ⊥
@@ -44,7 +44,7 @@ OnLinks show i (l ∷ ls) (b ∷ bs) = OnLink show i l b × OnLinks show i ls bs
 -- ---- what the stream does
 
 -- From board a to the next: it asks on arrival, its cells of a are credited at the grants of b, and it is lent nothing on b. RULES 22.8.
-pub record PassedOn {c : Card} (a b : Board c) : Type 0 where
+pub record PassedOn {c : Scheduler} (a b : Board c) : Type 0 where
   pub together :
       Together (planOn a) (planOn b) (a .stream) (b .stream) (AsksOnArrival (λ P i h. Unit {0}) (planOn a) (planOn b) (a .stream) (b .stream))
       (a .events) (b .events)
@@ -52,7 +52,7 @@ pub record PassedOn {c : Card} (a b : Board c) : Type 0 where
   pub not-lent : tally (ofFlow (b .stream)) (lends (b .events)) ≡ 0
 
 -- so from board to board, up to the last one, which gives its cells back `late` frames late
-abbrev pub PassedAlong : {c : Card} → (late : ℕ) → Board c → List (Board c) → Type 0
+abbrev pub PassedAlong : {c : Scheduler} → (late : ℕ) → Board c → List (Board c) → Type 0
 PassedAlong late a [] =
     Each (AtRequest (λ w h. wellFormed (planOn a) w ≡ true → flowOf w ≡ a .stream → GivenBack late (planOn a) (a .stream) h)) (a .events)
 PassedAlong late a (b ∷ rest) = PassedOn a b × PassedAlong late b rest
@@ -60,7 +60,7 @@ PassedAlong late a (b ∷ rest) = PassedOn a b × PassedAlong late b rest
 -- ---- what follows
 
 -- RULES 25.5: of one stream and its boards.
-pub record InTime (show : Show) (i : ℕ) {c : Card} (a : Board c) (rest : List (Board c)) : Type 0 where
+pub record InTime (show : Show) (i : ℕ) {c : Scheduler} (a : Board c) (rest : List (Board c)) : Type 0 where
   -- every request is granted: on the first board, in its frame or the next; and on each later one
   pub granted-first : EachGrantedNow (planOn a) (a .stream) (a .events)
   pub granted-later : EachGranted rest
@@ -73,7 +73,7 @@ pub record InTime (show : Show) (i : ℕ) {c : Card} (a : Board c) (rest : List 
       → ArrivesWithin (bounds (show .slots) (distance (showStream show i .stream)) (showStream show i .stream .share) burst .slots) comes (lastBoard a rest)
 
 -- RULES 25.5: where each of its tiles whose slot is gone was asked for on the next board, all of them arrive.
-pub record AllInTime (show : Show) (i : ℕ) {c : Card} (a : Board c) (rest : List (Board c)) : Type 0 where
+pub record AllInTime (show : Show) (i : ℕ) {c : Scheduler} (a : Board c) (rest : List (Board c)) : Type 0 where
   -- a tile that was granted on the first has come up on the last link once (distance + 1) × F slots are over since it was due
   pub from-due : (n : ℕ) → n < length (dueOn a)
       → tile n (dueOn a) + (distance (showStream show i .stream) + 1) * show .slots ≤ ticks (lastBoard a rest .events) → Up n (lastBoard a rest)
@@ -89,16 +89,16 @@ pub record EnoughCells (show : Show) (late i : ℕ) : Type 0 where
   pub usual : 1 < length (way (showStream show i .stream)) → 2 * showStream show i .stream .share ≤ showStream show i .cells
   pub last : (late + 2) * showStream show i .stream .share ≤ showStream show i .lastCells
 
--- That the paper's card keeps it is `in-time`, in proofs/Delay.antt. With late = 1, where the last board credits a cell when its tile was shown, these are
--- the cells that a show file has where it names none.
-abbrev pub ShowInTime : Card → Type 0
+-- That the reference scheduler keeps it is `in-time`, in proofs/Delay.antt. With late = 1, where the last board credits a cell when its tile was shown, these
+-- are the cells that a show file has where it names none.
+abbrev pub ShowInTime : Scheduler → Type 0
 ShowInTime c =
     (show : Show) → refusal show ≡ 0 → (i : ℕ) → i < length (show .streams) → (late : ℕ) → EnoughCells show late i
     → (a : Board c) (rest : List (Board c)) → OnLinks show i (way (showStream show i .stream)) (a ∷ rest)
     → ModestFirst (planOn a) (a .stream) (a .events) → PassedAlong late a rest → InTime show i a rest
 
 -- That it keeps this too is `all-in-time`, there.
-abbrev pub ShowAllInTime : Card → Type 0
+abbrev pub ShowAllInTime : Scheduler → Type 0
 ShowAllInTime c =
     (show : Show) → refusal show ≡ 0 → (i : ℕ) → i < length (show .streams) → (late : ℕ) → EnoughCells show late i
     → (a : Board c) (rest : List (Board c)) → OnLinks show i (way (showStream show i .stream)) (a ∷ rest)

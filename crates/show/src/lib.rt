@@ -42,7 +42,7 @@ pub fn link_refusal(dome: Dome, numbers: &[usize], cells: &[usize], k: usize) ->
     if draft.count == 0 {
         return 0;
     }
-    limits::broken(draft)
+    limits::first_refusal(draft)
 }
 
 // The refusal of a show, and 0 where every link that is used has a plan.

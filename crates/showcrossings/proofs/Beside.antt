@@ -10,8 +10,8 @@ use lib.ListN.{getD, length}
 use borrow.Author.Tests.{ne-eqb}
 use Rattle.model.specs.Word.{flowOf, departureOf}
 use Rattle.model.specs.Plan.{Plan, flowCount, planOf, Accepted}
-use Rattle.model.specs.Calls.{Call, Grant, Turn, accepted, refused}
-use Rattle.model.specs.Card.{Played, paper, step}
+use Rattle.model.specs.Calls.{Call, Grant, TickAnswer, accepted, refused}
+use Rattle.model.specs.Scheduler.{Played, reference, step}
 use Rattle.model.proofs.Tests.{any-of-none}
 use Rattle.model.proofs.Plan.{accepted as accepted-plan}
 use Rattle.crossings.specs.Crossing.{Crossing, crossingWith, goesOnAs, waits, withWaiting, asking, answerFor, askedFor, leaves, onGrant, passOn, passAs}
@@ -70,7 +70,7 @@ module _ (t : List (Option ℕ)) {Keeps : Crossing → Type 0} (asked : (i j : �
       go none e = z
       go (some j) e = both j e (eqb (waits x i) 0)
 
-  serve-on : (turn : Turn) (x : Crossing) → On x → On (served turn x)
+  serve-on : (owner : TickAnswer) (x : Crossing) → On x → On (served owner x)
   unfolding served
   serve-on none x z = pass-waiting (flowCount (x .arriving .state .plan)) x z
   serve-on (some i) x z =
@@ -79,19 +79,19 @@ module _ (t : List (Option ℕ)) {Keeps : Crossing → Type 0} (asked : (i j : �
 
 -- ---- the other crossing
 
-credit-more : {y : Crossing} {link : Played paper} (i p : ℕ) → goesOnAs y i ≡ none → ToArriving y link → ToArriving y (step paper link (Call.credit i p))
+credit-more : {y : Crossing} {link : Played reference} (i p : ℕ) → goesOnAs y i ≡ none → ToArriving y link → ToArriving y (step reference link (Call.credit i p))
 unfolding others
 credit-more {y} {link} i p free z = record {
   calls = z .calls ++ (onArriving (Call.credit i p) ∷ []);
   come-to = others-then (z .calls) (onArriving (Call.credit i p) ∷ []) y ∙ ap (another (onArriving (Call.credit i p))) (z .come-to)
-      ∙ ap (λ o. cond (isNone o) (crossingWith y (step paper link (Call.credit i p)) (y .leaving) (y .waiting))
+      ∙ ap (λ o. cond (isNone o) (crossingWith y (step reference link (Call.credit i p)) (y .leaving) (y .waiting))
       (crossingWith y link (y .leaving) (y .waiting))) free;
 }
 
 pub part-beside : BesideArriving
 unfolding others
-part-beside turn x y same apart =
-    serve-on (x .onward) {Keeps = λ z. ToArriving y (z .arriving)} (λ i j e z c. c) (λ i j p e z c. credit-more i p (apart i j e) c) (λ i k z c. c) turn x
+part-beside owner x y same apart =
+    serve-on (x .onward) {Keeps = λ z. ToArriving y (z .arriving)} (λ i j e z c. c) (λ i j p e z c. credit-more i p (apart i j e) c) (λ i k z c. c) owner x
     (record { onward-is = refl; keeps = record { calls = []; come-to = ap (λ link. crossingWith y link (y .leaving) (y .waiting)) same } })
     .keeps
 
@@ -105,13 +105,13 @@ not-onto y j apart = any-of-none (length (y .onward)) (λ k. isFlow j (goesOnAs 
     one k none e = refl
     one k (some m) e = ne-eqb m j (λ same. apart k (e ∙ ap some same))
 
-request-more : {y : Crossing} {link : Played paper} (w : ℕ) → goesOnto y (flowOf w) ≡ false → ToLeaving y link
-    → ToLeaving y (step paper link (Call.request w))
+request-more : {y : Crossing} {link : Played reference} (w : ℕ) → goesOnto y (flowOf w) ≡ false → ToLeaving y link
+    → ToLeaving y (step reference link (Call.request w))
 unfolding others
 request-more {y} {link} w free z = record {
   calls = z .calls ++ (onLeaving (Call.request w) ∷ []);
   come-to = others-then (z .calls) (onLeaving (Call.request w) ∷ []) y ∙ ap (another (onLeaving (Call.request w))) (z .come-to)
-      ∙ ap (λ b. cond (not b) (crossingWith y (y .arriving) (step paper link (Call.request w)) (y .waiting))
+      ∙ ap (λ b. cond (not b) (crossingWith y (y .arriving) (step reference link (Call.request w)) (y .waiting))
       (crossingWith y (y .arriving) link (y .waiting))) free;
 }
 
@@ -131,10 +131,10 @@ module _ {Q : Plan} (good : Accepted Q) (y : Crossing) where
 
 pub part-beside-out : BesideLeaving
 unfolding others
-part-beside-out bytes passes calls turn x y is same below apart =
+part-beside-out bytes passes calls owner x y is same below apart =
     let good = accepted-plan bytes passes in
     serve-on (x .onward) {Keeps = Leaves (planOf bytes) y} (λ i j e z c. asked-there good y i j (below i j e) (λ k. apart i k j e) z c)
-    (λ i j p e z c. record { reached = c .reached; to-leaving = c .to-leaving }) (λ i k z c. record { reached = c .reached; to-leaving = c .to-leaving }) turn x
+    (λ i j p e z c. record { reached = c .reached; to-leaving = c .to-leaving }) (λ i k z c. record { reached = c .reached; to-leaving = c .to-leaving }) owner x
     (record {
       onward-is = refl;
       keeps = record {

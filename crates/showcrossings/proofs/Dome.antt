@@ -4,7 +4,7 @@ use mathlib.Core.Path.{_≡_, sym, ap, _∙_}
 use mathlib.Core.List.{List, _∷_, []}
 use native.Mathlib.Omega.{arith}
 use lib.ListN.{length}
-use Rattle.model.specs.Card.{paper}
+use Rattle.model.specs.Scheduler.{reference}
 use Rattle.arrival.specs.SeveralLinks.{Board}
 use Rattle.arrival.specs.CreditedByNext.{WayByCredits}
 use Rattle.mesh.specs.Way.{way}
@@ -22,7 +22,7 @@ module _ (show : Show) (i late : ℕ) (enough : EnoughCells show late i) where
   abbrev m : ℕ
   m = length (way (showStream show i .stream))
 
-  plans-fit : (p : ℕ) (a : Board paper) (rest : List (Board paper)) → p + suc (length rest) ≡ m → EachFits show (showStream show i) p m (a ∷ rest)
+  plans-fit : (p : ℕ) (a : Board reference) (rest : List (Board reference)) → p + suc (length rest) ≡ m → EachFits show (showStream show i) p m (a ∷ rest)
       → PlansFit late a rest
   plans-fit p a [] e fs =
       let shares = ap ((late + 2) *_) (fs .0 .fits-there .share-is) in
@@ -40,7 +40,7 @@ module _ (show : Show) (i late : ℕ) (enough : EnoughCells show late i) where
           }
 
 -- a way by credits is one that the theorem on shows asks for
-passed-on : (late : ℕ) (a : Board paper) (rest : List (Board paper)) → WayByCredits late a rest → show-delay.PassedAlong late a rest
+passed-on : (late : ℕ) (a : Board reference) (rest : List (Board reference)) → WayByCredits late a rest → show-delay.PassedAlong late a rest
 passed-on late a [] way = way .given-back
 passed-on late a (b ∷ rest) way =
     (record { together = way .0 .together; credits = way .0 .credits; not-lent = way .0 .not-lent }, passed-on late b rest (way .1))

@@ -14,9 +14,9 @@ use Rattle.model.specs.Word.{flowOf}
 use Rattle.model.specs.Plan.{planOf, entryFits, refusal}
 use Rattle.model.specs.WrittenPlan.{bytesOf}
 use Rattle.model.specs.Calls.{History}
-use Rattle.model.specs.History.{wellFormed, renews, lends, ofFlow}
+use Rattle.model.specs.History.{wellFormed, isGrantedReset, lends, ofFlow}
 use Rattle.model.specs.Claim.{Each, AtRequest}
-use Rattle.model.specs.Card.{paper, run}
+use Rattle.model.specs.Scheduler.{reference, run}
 use Rattle.model.proofs.Decidable.{implies, is-true, proved}
 use Rattle.model.proofs.ClaimDecided.{at-request, each}
 use Rattle.arrival.specs.SeveralLinks.{Ran, Board, sentOn, dueOn, tile}
@@ -58,10 +58,10 @@ pub record Comes (r : Run) : Type 0 where
   pub passes₂ : refusal (lastBytes (r .lastCells)) ≡ 0
   pub first-is : crosses r .arriving .history ≡ reverse (r .first)
   pub last-is : crosses r .leaving .history ≡ reverse (r .last)
-  pub ran₁ : Ran paper (planOf (firstBytes (r .cells))) (reverse (r .first))
-  pub ran₂ : Ran paper (planOf (lastBytes (r .lastCells))) (reverse (r .last))
-  pub none₁ : tally renews (reverse (r .first)) ≡ 0
-  pub none₂ : tally renews (reverse (r .last)) ≡ 0
+  pub ran₁ : Ran reference (planOf (firstBytes (r .cells))) (reverse (r .first))
+  pub ran₂ : Ran reference (planOf (lastBytes (r .lastCells))) (reverse (r .last))
+  pub none₁ : tally isGrantedReset (reverse (r .first)) ≡ 0
+  pub none₂ : tally isGrantedReset (reverse (r .last)) ≡ 0
   pub not-lent : tally (ofFlow 0) (lends (reverse (r .last))) ≡ 0
 
 -- all of it in one equation
@@ -82,10 +82,10 @@ figures r = record {
   refusal₂ = refusal (lastBytes (r .lastCells));
   first = crosses r .arriving .history;
   last = crosses r .leaving .history;
-  ran₁ = run paper (planOf (firstBytes (r .cells))) (callsOf (reverse (r .first))) .history;
-  ran₂ = run paper (planOf (lastBytes (r .lastCells))) (callsOf (reverse (r .last))) .history;
-  resets₁ = tally renews (reverse (r .first));
-  resets₂ = tally renews (reverse (r .last));
+  ran₁ = run reference (planOf (firstBytes (r .cells))) (callsOf (reverse (r .first))) .history;
+  ran₂ = run reference (planOf (lastBytes (r .lastCells))) (callsOf (reverse (r .last))) .history;
+  resets₁ = tally isGrantedReset (reverse (r .first));
+  resets₂ = tally isGrantedReset (reverse (r .last));
   lent = tally (ofFlow 0) (lends (reverse (r .last)));
 }
 
@@ -116,7 +116,7 @@ comes r e = record {
 }
 
 module _ {r : Run} (x : Comes r) where
-  abbrev pub firstLink : Board paper
+  abbrev pub firstLink : Board reference
   firstLink = record {
     bytes = firstBytes (r .cells);
     passes = x .passes₁;
@@ -127,7 +127,7 @@ module _ {r : Run} (x : Comes r) where
     known = lit< tt;
   }
 
-  abbrev pub lastLink : Board paper
+  abbrev pub lastLink : Board reference
   lastLink = record {
     bytes = lastBytes (r .lastCells);
     passes = x .passes₂;

@@ -12,17 +12,17 @@ use borrow.Author.Tests.{le-leb, lt-leb, eqb-true, eqb-false, eq-eqb, ne-eqb}
 use Rattle.model.specs.Tables.{bit, tally}
 use Rattle.model.specs.Word.{flowOf}
 use Rattle.model.specs.Plan.{Plan, positions, flowCount, Accepted}
-use Rattle.model.specs.Calls.{Call, Receipt, Event, History, requested, credited, ticked, lent, accepted, refused}
+use Rattle.model.specs.Calls.{Call, CreditAnswer, Event, History, requested, credited, ticked, lent, accepted, refused}
 use Rattle.model.specs.History.{ticks, slotAfter, frameOf, wellFormed, hasCome, creditAt, grants, credits, ofFlow, upTo, grantedUpTo, creditedUpTo}
 use Rattle.model.specs.Holding.{InWindow}
 use Rattle.model.specs.Claim.{Each, AtRequest}
-use Rattle.model.specs.Card.{Played, paper, started, step}
+use Rattle.model.specs.Scheduler.{Played, reference, started, step}
 use Rattle.model.specs.Tick.{nextPosition}
 use Rattle.model.proofs.Tallies.{tally-append}
 use Rattle.model.proofs.Slots.{some-position, frame-begins, frame-ends, slotAfter-is}
 use Rattle.model.proofs.Departures.{come-at}
 use Rattle.model.proofs.NextSlot.{next-position}
-use Rattle.arrival.specs.TakenCredits.{AtCredit, IsTaken, GivesBackFrom}
+use Rattle.arrival.specs.AcceptedCredits.{AtCredit, IsAccepted, GivesBackFrom}
 use Rattle.arrival.specs.SeveralLinks.{slotsOf, Board, planOn}
 use Rattle.arrival.specs.EnoughCells.{lastOf, Return, returnAt, returns}
 use Rattle.arrival.specs.SharesOfCells.{GivenBack}
@@ -61,7 +61,7 @@ NextDatedAt P i = AtCredit (λ k p a h. k ≡ i → slotAfter P (ticks h) p ≡ 
 module _ {P : Plan} (good : Accepted P) (i : ℕ) (below : i < flowCount P) where
   record Kept (x : End) : Type 0 where
     reached : Reached P (x .link)
-    taken : Each (AtCredit (λ k p a h. k ≡ i → IsTaken a)) (x .link .history)
+    all-accepted : Each (AtCredit (λ k p a h. k ≡ i → IsAccepted a)) (x .link .history)
     dated : Each (NextDatedAt P i) (x .link .history)
     none-lost : grantedUpTo P (x .link .history) i (ticks (x .link .history)) ≡ x .kept + length (slotsOf i (credits P (x .link .history)))
 
@@ -77,19 +77,19 @@ module _ {P : Plan} (good : Accepted P) (i : ℕ) (below : i < flowCount P) wher
     abbrev h : History
     h = x .link .history
 
-    by-event : (e : Event) (r : Played paper) → r .history ≡ e ∷ h → Reached P r → NotGiven i e → Kept (record { link = r; kept = x .kept })
+    by-event : (e : Event) (r : Played reference) → r .history ≡ e ∷ h → Reached P r → NotGiven i e → Kept (record { link = r; kept = x .kept })
     by-event e r is reached n =
         let s = same-arriving P i e h n in
         record {
           reached = reached;
-          taken = subst (Each (AtCredit (λ k p a h. k ≡ i → IsTaken a))) (sym is) (s .taken, z .taken);
+          all-accepted = subst (Each (AtCredit (λ k p a h. k ≡ i → IsAccepted a))) (sym is) (s .all-accepted, z .all-accepted);
           dated = subst (Each (NextDatedAt P i)) (sym is) (not-given e h n, z .dated);
           none-lost =
               ap (λ g. grantedUpTo P g i (ticks g)) is ∙ ap (grantedUpTo P (e ∷ h) i) (s .now) ∙ s .came ∙ z .none-lost
               ∙ ap (λ ss. x .kept + length ss) (sym (ap (λ g. slotsOf i (credits P g)) is ∙ s .dated));
         }
 
-    by-call : (c : Call) → othersMay i c ≡ true → Kept (record { link = step paper (x .link) c; kept = x .kept })
+    by-call : (c : Call) → othersMay i c ≡ true → Kept (record { link = step reference (x .link) c; kept = x .kept })
     by-call (Call.request w) e = by-event _ _ refl (reached-more (Call.request w) (z .reached)) tt
     by-call (Call.credit k p) e =
         by-event _ _ refl (reached-more (Call.credit k p) (z .reached)) (λ same. true≢false (sym e ∙ ap not (eq-eqb k i same)))
@@ -101,7 +101,7 @@ module _ {P : Plan} (good : Accepted P) (i : ℕ) (below : i < flowCount P) wher
     unfolding ticks grants credits
     by-tick = record {
       reached = reached-more Call.tick (z .reached);
-      taken = (tt, z .taken);
+      all-accepted = (tt, z .all-accepted);
       dated = (tt, z .dated);
       none-lost = omega (arith, tick-adds good (z .reached) i, z .none-lost);
     }
@@ -134,21 +134,21 @@ module _ {P : Plan} (good : Accepted P) (i : ℕ) (below : i < flowCount P) wher
     by-show : 0 < x .kept → Kept (record { link = shown i (x .link); kept = x .kept - 1 })
     unfolding shown
     by-show some-kept =
-        let receipt = paper .credit (x .link .state) i p .1 in
+        let receipt = reference .credit (x .link .state) i p .1 in
         let reached = reached-more (Call.credit i p) (z .reached) in
-        let is-taken : IsTaken receipt = credits-by-holding good reached .0 .1 (gives-back some-kept) in
+        let is-accepted : IsAccepted receipt = credits-by-holding good reached .0 .1 (gives-back some-kept) in
         record {
           reached = reached;
-          taken = ((λ same. is-taken), z .taken);
+          all-accepted = ((λ same. is-accepted), z .all-accepted);
           dated = ((λ same. ap (slotAfter P (ticks h)) position ∙ next-slot good (ticks h)), z .dated);
-          none-lost = omega (arith, credit-came P i i p receipt h, z .none-lost, ap length (credit-dated P i p receipt h is-taken), some-kept);
+          none-lost = omega (arith, credit-came P i i p receipt h, z .none-lost, ap length (credit-dated P i p receipt h is-accepted), some-kept);
         }
 
   act-kept : (a : EndAct) (x : End) → Kept x → Kept (endAct i a x)
   act-kept tick-on x z = by-tick x z
   act-kept (call-it c) x z = go (othersMay i c) refl
     where
-      go : (b : Bool) → othersMay i c ≡ b → Kept (cond b (record { link = step paper (x .link) c; kept = x .kept }) x)
+      go : (b : Bool) → othersMay i c ≡ b → Kept (cond b (record { link = step reference (x .link) c; kept = x .kept }) x)
       go true e = by-call x z c e
       go false e = z
   act-kept show-one x z = go (eqb (x .kept) 0) refl
@@ -170,13 +170,13 @@ module _ {P : Plan} (good : Accepted P) (i : ℕ) (below : i < flowCount P) wher
 
   end-kept : (acts : List EndAct) → Kept (endPlayed P i acts)
   unfolding ticks grants credits slotsOf tally
-  end-kept acts = acts-kept acts _ (record { reached = reached-start P; taken = tt; dated = tt; none-lost = refl })
+  end-kept acts = acts-kept acts _ (record { reached = reached-start P; all-accepted = tt; dated = tt; none-lost = refl })
 
   -- RULES 27.14: no credit is refused
   pub shown-ends-well : (acts : List EndAct) → EndsWell P i (endPlayed P i acts)
   shown-ends-well acts =
       let z = end-kept acts in
-      record { taken = z .taken; none-lost = omega (arith, z .none-lost, count-slots i (credits P (endPlayed P i acts .link .history))) }
+      record { all-accepted = z .all-accepted; none-lost = omega (arith, z .none-lost, count-slots i (credits P (endPlayed P i acts .link .history))) }
 
   -- ---- given back in time
 

@@ -8,8 +8,8 @@ use native.Mathlib.Omega.{arith}
 use lib.Dec.{leb}
 use borrow.Author.Tests.{le-leb, lt-leb}
 use Rattle.model.specs.Tables.{bit, tally}
-use Rattle.model.specs.Calls.{Turn, Event, History, requested, credited, ticked, lent}
-use Rattle.model.specs.History.{ticks, renews, lendAt, lends, ofFlow}
+use Rattle.model.specs.Calls.{TickAnswer, Event, History, requested, credited, ticked, lent}
+use Rattle.model.specs.History.{ticks, isGrantedReset, lendAt, lends, ofFlow}
 use Rattle.model.specs.Claim.{Each}
 use Rattle.model.proofs.Tallies.{tally-append}
 use Rattle.arrival.specs.SeveralLinks.{Alone}
@@ -23,7 +23,7 @@ pub data GoesOn (h : History) : History → Type 0 where
 
 -- by one tick first, and by none after it
 pub data SinceTick (h : History) : History → Type 0 where
-  at-tick : (x : Turn) → SinceTick h (ticked x ∷ h)
+  at-tick : (x : TickAnswer) → SinceTick h (ticked x ∷ h)
   after-tick : {h' : History} (e : Event) → Alone e → SinceTick h h' → SinceTick h (e ∷ h')
 
 pub ticks-alone : (e : Event) → Alone e → (h : History) → ticks (e ∷ h) ≡ ticks h
@@ -65,7 +65,7 @@ pub each-before : (R : Event → History → Type 0) {h h' : History} → GoesOn
 each-before R here each = each
 each-before R (one-more e g) each = each-before R g (each .1)
 
-pub no-reset-before : {h h' : History} → GoesOn h h' → tally renews h' ≡ 0 → tally renews h ≡ 0
+pub no-reset-before : {h h' : History} → GoesOn h h' → tally isGrantedReset h' ≡ 0 → tally isGrantedReset h ≡ 0
 unfolding tally
 no-reset-before here none = none
 no-reset-before (one-more e g) none = no-reset-before g (omega arith)

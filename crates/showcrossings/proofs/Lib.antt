@@ -20,4 +20,4 @@ pub mod Beside
 pub mod OfCode
 -- a worked example, and boards that are sent back
 pub mod Edges
-pub mod BadBoards
+pub mod WrongBoards

@@ -3,7 +3,7 @@ use Prim.Native.Nat.{ℕ}
 use mathlib.Core.Path.{_≡_, refl, sym, ap, _∙_, subst}
 use mathlib.Core.List.{List, _∷_, []}
 use lib.ListN.{getD}
-use Rattle.model.specs.Card.{paper}
+use Rattle.model.specs.Scheduler.{reference}
 use Rattle.arrival.specs.SeveralLinks.{Board, planOn}
 use Rattle.plan.specs.Reading.{planFor}
 use Rattle.crossings.specs.Crossing as crossings
@@ -30,7 +30,7 @@ played-in-hand (InHand.by-cross h comes) = slot-more (played-in-hand h) (record 
 
 -- ---- so of two links of a stream's way
 
-module _ {a b : Board paper} (x : CodeCrossed a b) where
+module _ {a b : Board reference} (x : CodeCrossed a b) where
   as-played : PlayedAs (planOn a) (planOn b) (onwardOf (x .crossing)) (x .so-far)
   as-played =
       subst (λ P. PlayedAs P (planOn b) (onwardOf (x .crossing)) (x .so-far)) (x .plan₁)
@@ -53,11 +53,11 @@ module _ {a b : Board paper} (x : CodeCrossed a b) where
       ap (λ ks. getD ks (a .stream) 0) (sym (in-hand-reads (x .in-hand) .waiting-is))
       ∙ ap (λ (p : crossings.Crossing). waits p (a .stream)) (sym (as-played .is)) ∙ none
 
-abbrev crossed-along : (a : Board paper) (rest : List (Board paper)) → CodeCrossedAlong a rest → CrossedAlong served a rest
+abbrev crossed-along : (a : Board reference) (rest : List (Board reference)) → CodeCrossedAlong a rest → CrossedAlong served a rest
 crossed-along a [] x = tt
 crossed-along a (b ∷ rest) x = (as-crossed (x .0), crossed-along b rest (x .1))
 
-none-along : (a : Board paper) (rest : List (Board paper)) (x : CodeCrossedAlong a rest) → NoneWaits served a rest (crossed-along a rest x)
+none-along : (a : Board reference) (rest : List (Board reference)) (x : CodeCrossedAlong a rest) → NoneWaits served a rest (crossed-along a rest x)
     → NoneWaiting a rest x
 none-along a [] x none = tt
 none-along a (b ∷ rest) x none = (as-waiting (x .0) (none .0), none-along b rest (x .1) (none .1))

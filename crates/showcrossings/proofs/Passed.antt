@@ -11,12 +11,12 @@ use borrow.Author.Tests.{lt-ltb, eq-eqb}
 use Rattle.model.specs.Tables.{tally}
 use Rattle.model.specs.Word.{flowOf, departureOf}
 use Rattle.model.specs.Plan.{Plan, positions, entry}
-use Rattle.model.specs.Calls.{Call, Grant, Receipt, Event, History, requested, credited, accepted, refused}
-use Rattle.model.specs.History.{ticks, slotAfter, frameOf, renews, grants, lends, ofFlow, atSlot}
+use Rattle.model.specs.Calls.{Call, Grant, CreditAnswer, Event, History, requested, credited, accepted, refused}
+use Rattle.model.specs.History.{ticks, slotAfter, frameOf, isGrantedReset, grants, lends, ofFlow, atSlot}
 use Rattle.model.specs.Claim.{Each}
-use Rattle.model.specs.Card.{Played, paper, step}
+use Rattle.model.specs.Scheduler.{Played, reference, step}
 use Rattle.model.specs.TwoHops.{InStep}
-use Rattle.arrival.specs.TakenCredits.{IsTaken}
+use Rattle.arrival.specs.AcceptedCredits.{IsAccepted}
 use Rattle.arrival.specs.Delay.{currentFrame, madeIn, dueIn, AsksAt}
 use Rattle.arrival.specs.SeveralLinks.{nextSlot, ForNext, first-alone, second-alone, Board, planOn, Joined}
 use Rattle.arrival.specs.EnoughCells.{Return, returns}
@@ -51,20 +51,20 @@ granted-now Q j t s w v a h is own now there =
           (rw (eq-eqb (flowOf w) j own, eq-eqb (ticks h) t now, eq-eqb (slotAfter Q (ticks h) (departureOf v)) s there)),
     )))
 
-returned-now : (P : Plan) (i p : ℕ) (r : Receipt) (h : History) (test : Return → Bool) → IsTaken r
+returned-now : (P : Plan) (i p : ℕ) (r : CreditAnswer) (h : History) (test : Return → Bool) → IsAccepted r
     → test (record { flow = i; made = ticks h; dated = slotAfter P (ticks h) p }) ≡ true → 0 < tally test (returns P (credited i p r ∷ h))
 unfolding returns
-returned-now P i p (accepted u) h test taken e = omega (arith, tally-hit test _ (returns P h) e)
-returned-now P i p (refused n) h test taken e = absurd taken
+returned-now P i p (accepted u) h test all-accepted e = omega (arith, tally-hit test _ (returns P h) e)
+returned-now P i p (refused n) h test all-accepted e = absurd all-accepted
 
 -- ---- a link after some of its calls
 
-abbrev pub boardAt : (a : Board paper) (r : Played paper) → Reached (planOn a) r → tally renews (r .history) ≡ 0 → Board paper
+abbrev pub boardAt : (a : Board reference) (r : Played reference) → Reached (planOn a) r → tally isGrantedReset (r .history) ≡ 0 → Board reference
 boardAt a r x unreset = record {
   bytes = a .bytes;
   passes = a .passes;
   events = r .history;
-  ran = record { calls = x .calls; is = ap (λ (r : Played paper). r .history) (x .played) };
+  ran = record { calls = x .calls; is = ap (λ (r : Played reference). r .history) (x .played) };
   no-reset = unreset;
   stream = a .stream;
   known = a .known;
@@ -72,7 +72,7 @@ boardAt a r x unreset = record {
 
 -- ---- two links, with a crossing between them
 
-module _ (a b : Board paper) (in-step : InStep (planOn a) (planOn b)) (share-kept : entry (planOn a) (a .stream) .share ≤ entry (planOn b) (b .stream) .share)
+module _ (a b : Board reference) (in-step : InStep (planOn a) (planOn b)) (share-kept : entry (planOn a) (a .stream) .share ≤ entry (planOn b) (b .stream) .share)
     (late : ℕ) (enough : (late + 2) * entry (planOn b) (b .stream) .share ≤ entry (planOn b) (b .stream) .cells) where
   abbrev P : Plan
   P = planOn a
@@ -88,8 +88,8 @@ module _ (a b : Board paper) (in-step : InStep (planOn a) (planOn b)) (share-kep
 
   -- what is asked of the events so far: no reset is granted, the stream is lent nothing on b, and its cells there are given back
   pub record Allowed (h₁ h₂ : History) : Type 0 where
-    pub none₁ : tally renews h₁ ≡ 0
-    pub none₂ : tally renews h₂ ≡ 0
+    pub none₁ : tally isGrantedReset h₁ ≡ 0
+    pub none₂ : tally isGrantedReset h₂ ≡ 0
     pub not-lent : tally (ofFlow j) (lends h₂) ≡ 0
     pub back : Each (AsksAt (λ P i w h. GivenBack late P i h) Q j) h₂
 
@@ -102,7 +102,7 @@ module _ (a b : Board paper) (in-step : InStep (planOn a) (planOn b)) (share-kep
   }
 
   -- so far they are joined as the theorems on arrival have it
-  pub joined-at : {s : ℕ} {r₁ r₂ : Played paper} (reached₁ : Reached P r₁) (reached₂ : Reached Q r₂) → Pair P Q i j late s (r₁ .history) (r₂ .history)
+  pub joined-at : {s : ℕ} {r₁ r₂ : Played reference} (reached₁ : Reached P r₁) (reached₂ : Reached Q r₂) → Pair P Q i j late s (r₁ .history) (r₂ .history)
       → (allowed : Allowed (r₁ .history) (r₂ .history)) → JoinedOnArrival (boardAt a r₁ reached₁ (allowed .none₁)) (boardAt b r₂ reached₂ (allowed .none₂))
   joined-at reached₁ reached₂ pair allowed = record {
     in-step = in-step;
@@ -132,10 +132,10 @@ module _ (a b : Board paper) (in-step : InStep (planOn a) (planOn b)) (share-kep
     allowed-now : Allowed h₁ h₂
     allowed-now = allowed-before here (one-more _ here) allowed
 
-    abbrev a' : Board paper
+    abbrev a' : Board reference
     a' = boardAt a (y .arriving) reached₁ (allowed-now .none₁)
 
-    abbrev b' : Board paper
+    abbrev b' : Board reference
     b' = boardAt b (y .leaving) reached₂ (allowed-now .none₂)
 
     joined : Joined a' b'
@@ -178,7 +178,7 @@ module _ (a b : Board paper) (in-step : InStep (planOn a) (planOn b)) (share-kep
 
     -- it is granted a slot
     pub is-granted : GrantedNow Q (answerFor j y) h₂
-    is-granted = granted-first late (boardAt b (step paper (y .leaving) (Call.request w)) (reached-more (Call.request w) reached₂) (allowed .none₂)) (record {
+    is-granted = granted-first late (boardAt b (step reference (y .leaving) (Call.request w)) (reached-more (Call.request w) reached₂) (allowed .none₂)) (record {
       asks = asks-more;
       enough-cells = omega (arith, enough);
       not-lent = allowed .not-lent;
@@ -186,7 +186,7 @@ module _ (a b : Board paper) (in-step : InStep (planOn a) (planOn b)) (share-kep
     }) .0 (asked .well) (asked .flow)
 
     -- and its cell is credited
-    module _ (v : ℕ) (is : answerFor j y ≡ accepted v) (r : Receipt) (taken : IsTaken r) where
+    module _ (v : ℕ) (is : answerFor j y ≡ accepted v) (r : CreditAnswer) (all-accepted : IsAccepted r) where
       abbrev p : ℕ
       p = departureOf v
 
@@ -207,7 +207,7 @@ module _ (a b : Board paper) (in-step : InStep (planOn a) (planOn b)) (share-kep
             arith,
             at-slot-stays P i t (credited i p r) h₁ (omega arith),
             pending .one,
-            returned-now P i p r h₁ (λ r. eqb (r .flow) i && eqb (r .made) t && grantedThen Q j t (r .dated) g₂) taken
+            returned-now P i p r h₁ (λ r. eqb (r .flow) i && eqb (r .made) t && grantedThen Q j t (r .dated) g₂) all-accepted
                 (rw (eq-eqb i i refl, eq-eqb t t refl, granted)),
           )
 

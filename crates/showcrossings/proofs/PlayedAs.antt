@@ -5,7 +5,7 @@ use mathlib.Core.List.{List, _∷_, [], _++_}
 use mathlib.Core.Option.{Option}
 use Rattle.model.specs.Plan.{Plan}
 use Rattle.crossings.specs.Crossing.{Crossing, served}
-use Rattle.crossings.specs.Playing.{Other, another, others, Slot, bothTick, turnOf, inSlot, inSlots, begun, played}
+use Rattle.crossings.specs.Playing.{Other, another, others, Slot, bothTick, tickAnswerOf, inSlot, inSlots, begun, played}
 
 -- ---- calls and slots more
 
@@ -22,7 +22,7 @@ afterLast s (t ∷ ss) calls = s ∷ afterLast t ss calls
 after-last : (s : Slot) (ss : List Slot) (calls : List Other) (y : Crossing)
     → inSlots served (afterLast s ss calls) y ≡ others calls (inSlots served (s ∷ ss) y)
 unfolding inSlots
-after-last s [] calls y = others-then (s .after) calls (served (turnOf y) (others (s .before) (bothTick y)))
+after-last s [] calls y = others-then (s .after) calls (served (tickAnswerOf y) (others (s .before) (bothTick y)))
 after-last s (t ∷ ss) calls y = after-last t ss calls (inSlot served s y)
 
 slot-then : (ss : List Slot) (s : Slot) (y : Crossing) → inSlots served (ss ++ (s ∷ [])) y ≡ inSlot served s (inSlots served ss y)

@@ -9,12 +9,12 @@ use native.Mathlib.Omega.{arith}
 use lib.Dec.{eqb}
 use borrow.Author.Tests.{eq-eqb, ne-eqb}
 use Rattle.model.specs.Plan.{Plan}
-use Rattle.model.specs.Calls.{Call, Turn}
-use Rattle.model.specs.Card.{Played, paper, step}
+use Rattle.model.specs.Calls.{Call, TickAnswer}
+use Rattle.model.specs.Scheduler.{Played, reference, step}
 use Rattle.model.proofs.Tests.{and-true}
 use Rattle.arrival.specs.SeveralLinks.{Board, planOn}
 use Rattle.crossings.specs.Crossing.{Crossing, crossingWith, served}
-use Rattle.crossings.specs.Playing.{Other, onArriving, onLeaving, theirsArriving, theirsLeaving, another, others, Slot, bothTick, turnOf, inSlot, inSlots}
+use Rattle.crossings.specs.Playing.{Other, onArriving, onLeaving, theirsArriving, theirsLeaving, another, others, Slot, bothTick, tickAnswerOf, inSlot, inSlots}
 use Rattle.crossings.proofs.Neighbours.{served-keeps, CallsArriving, CallsLeaving, part-before, part-after}
 use Rattle.showcrossings.specs.Ways.{Crossed, CrossedAlong}
 use Rattle.showcrossings.specs.Rows.{Row, instead, Act, part, call, crossingAt, withPart, theirs, withCall, act, acts, allTick, rowSlot, rowSlots}
@@ -31,7 +31,7 @@ instead-other : {A : Type 0} (f : ℕ → A) (k : ℕ) (v : A) (n : ℕ) → (n 
 instead-other f k v n other = rw (ne-eqb n k other)
 
 -- two crossings with the same table
-same-crossing : (t : List (Option ℕ)) {a a' b b' : Played paper} {w w' : List ℕ} → a ≡ a' → b ≡ b' → w ≡ w'
+same-crossing : (t : List (Option ℕ)) {a a' b b' : Played reference} {w w' : List ℕ} → a ≡ a' → b ≡ b' → w ≡ w'
     → _≡_ {A = Crossing} (record { arriving = a; leaving = b; onward = t; waiting = w }) (record { arriving = a'; leaving = b'; onward = t; waiting = w' })
 same-crossing t p q r = λ m. record { arriving = p m; leaving = q m; onward = t; waiting = r m }
 
@@ -55,29 +55,29 @@ module _ (onward : ℕ → List (Option ℕ)) where
   -- ---- a call
 
   abbrev called : (k : ℕ) → Call → Row → Row
-  called k c row = record { link = instead (row .link) k (step paper (row .link k) c); waiting = row .waiting }
+  called k c row = record { link = instead (row .link) k (step reference (row .link k) c); waiting = row .waiting }
 
   arriving-called : (k : ℕ) (c : Call) (row : Row) → theirsArriving (crossingAt onward k row) c ≡ true
       → AsOthers (crossingAt onward k row) (crossingAt onward k (called k c row))
   arriving-called k c row e =
       one-call (crossingAt onward k row) (onArriving c) (crossingAt onward k (called k c row))
-      (ap (λ b. cond b (crossingWith (crossingAt onward k row) (step paper (row .link k) c) (row .link (suc k)) (row .waiting k)) (crossingAt onward k row)) e
-      ∙ same-crossing (onward k) (sym (instead-same (row .link) k (step paper (row .link k) c)))
-      (sym (instead-other (row .link) k (step paper (row .link k) c) (suc k) (λ z. omega arith))) refl)
+      (ap (λ b. cond b (crossingWith (crossingAt onward k row) (step reference (row .link k) c) (row .link (suc k)) (row .waiting k)) (crossingAt onward k row)) e
+      ∙ same-crossing (onward k) (sym (instead-same (row .link) k (step reference (row .link k) c)))
+      (sym (instead-other (row .link) k (step reference (row .link k) c) (suc k) (λ z. omega arith))) refl)
 
   leaving-called : (k : ℕ) (c : Call) (row : Row) → theirsLeaving (crossingAt onward k row) c ≡ true
       → AsOthers (crossingAt onward k row) (crossingAt onward k (called (suc k) c row))
   leaving-called k c row e =
       one-call (crossingAt onward k row) (onLeaving c) (crossingAt onward k (called (suc k) c row))
-      (ap (λ b. cond b (crossingWith (crossingAt onward k row) (row .link k) (step paper (row .link (suc k)) c) (row .waiting k)) (crossingAt onward k row)) e
-      ∙ same-crossing (onward k) (sym (instead-other (row .link) (suc k) (step paper (row .link (suc k)) c) k (λ z. omega arith)))
-      (sym (instead-same (row .link) (suc k) (step paper (row .link (suc k)) c))) refl)
+      (ap (λ b. cond b (crossingWith (crossingAt onward k row) (row .link k) (step reference (row .link (suc k)) c) (row .waiting k)) (crossingAt onward k row)) e
+      ∙ same-crossing (onward k) (sym (instead-other (row .link) (suc k) (step reference (row .link (suc k)) c) k (λ z. omega arith)))
+      (sym (instead-same (row .link) (suc k) (step reference (row .link (suc k)) c))) refl)
 
   far-called : (k j : ℕ) (c : Call) (row : Row) → (j ≡ k → ⊥) → (j ≡ suc k → ⊥)
       → AsOthers (crossingAt onward k row) (crossingAt onward k (called j c row))
   far-called k j c row not-in not-out =
-      as-same (same-crossing (onward k) (sym (instead-other (row .link) j (step paper (row .link j) c) k (λ z. not-in (sym z))))
-      (sym (instead-other (row .link) j (step paper (row .link j) c) (suc k) (λ z. not-out (sym z)))) refl)
+      as-same (same-crossing (onward k) (sym (instead-other (row .link) j (step reference (row .link j) c) k (λ z. not-in (sym z))))
+      (sym (instead-other (row .link) j (step reference (row .link j) c) (suc k) (λ z. not-out (sym z)))) refl)
 
   theirs-arriving : (k : ℕ) (c : Call) (row : Row) → theirs onward k row c ≡ true → theirsArriving (crossingAt onward k row) c ≡ true
   theirs-arriving zero c row e = e
@@ -104,10 +104,10 @@ module _ (onward : ℕ → List (Option ℕ)) where
 
   -- ---- another crossing's part
 
-  before-part : (turn : Turn) (k : ℕ) (row : Row) → AsOthers (crossingAt onward (suc k) row) (crossingAt onward (suc k) (withPart onward turn k row))
-  before-part turn k row =
-      let x = served turn (crossingAt onward k row) in
-      let calls = part-before turn (crossingAt onward k row) (crossingAt onward (suc k) row) refl in
+  before-part : (owner : TickAnswer) (k : ℕ) (row : Row) → AsOthers (crossingAt onward (suc k) row) (crossingAt onward (suc k) (withPart onward owner k row))
+  before-part owner k row =
+      let x = served owner (crossingAt onward k row) in
+      let calls = part-before owner (crossingAt onward k row) (crossingAt onward (suc k) row) refl in
       let first = instead (row .link) k (x .arriving) in
       record {
         calls = calls .calls;
@@ -117,10 +117,10 @@ module _ (onward : ℕ → List (Option ℕ)) where
             (sym (instead-other (row .waiting) k (x .waiting) (suc k) (λ z. omega arith)));
       }
 
-  after-part : (turn : Turn) (k : ℕ) (row : Row) → AsOthers (crossingAt onward k row) (crossingAt onward k (withPart onward turn (suc k) row))
-  after-part turn k row =
-      let x = served turn (crossingAt onward (suc k) row) in
-      let calls = part-after turn (crossingAt onward (suc k) row) (crossingAt onward k row) refl in
+  after-part : (owner : TickAnswer) (k : ℕ) (row : Row) → AsOthers (crossingAt onward k row) (crossingAt onward k (withPart onward owner (suc k) row))
+  after-part owner k row =
+      let x = served owner (crossingAt onward (suc k) row) in
+      let calls = part-after owner (crossingAt onward (suc k) row) (crossingAt onward k row) refl in
       let first = instead (row .link) (suc k) (x .arriving) in
       record {
         calls = calls .calls;
@@ -130,10 +130,10 @@ module _ (onward : ℕ → List (Option ℕ)) where
             (sym (instead-other (row .waiting) (suc k) (x .waiting) k (λ z. omega arith)));
       }
 
-  far-part : (turn : Turn) (k j : ℕ) (row : Row) → (j ≡ k → ⊥) → (suc j ≡ k → ⊥) → (j ≡ suc k → ⊥)
-      → AsOthers (crossingAt onward k row) (crossingAt onward k (withPart onward turn j row))
-  far-part turn k j row not-here not-before not-after =
-      let x = served turn (crossingAt onward j row) in
+  far-part : (owner : TickAnswer) (k j : ℕ) (row : Row) → (j ≡ k → ⊥) → (suc j ≡ k → ⊥) → (j ≡ suc k → ⊥)
+      → AsOthers (crossingAt onward k row) (crossingAt onward k (withPart onward owner j row))
+  far-part owner k j row not-here not-before not-after =
+      let x = served owner (crossingAt onward j row) in
       let first = instead (row .link) j (x .arriving) in
       as-same (same-crossing (onward k)
       (sym (instead-other first (suc j) (x .leaving) k (λ z. not-before (sym z)) ∙ instead-other (row .link) j (x .arriving) k (λ z. not-here (sym z))))
@@ -141,7 +141,7 @@ module _ (onward : ℕ → List (Option ℕ)) where
       ∙ instead-other (row .link) j (x .arriving) (suc k) (λ z. not-after (sym z))))
       (sym (instead-other (row .waiting) j (x .waiting) k (λ z. not-here (sym z)))))
 
-  part-as-others : (turns : ℕ → Turn) (k j : ℕ) (row : Row) → (j ≡ k → ⊥)
+  part-as-others : (turns : ℕ → TickAnswer) (k j : ℕ) (row : Row) → (j ≡ k → ⊥)
       → AsOthers (crossingAt onward k row) (crossingAt onward k (withPart onward (turns j) j row))
   part-as-others turns k j row other = go (ℕ-discrete (suc j) k) (ℕ-discrete j (suc k))
     where
@@ -154,28 +154,28 @@ module _ (onward : ℕ → List (Option ℕ)) where
 
   -- ---- several
 
-  act-as-others : (turns : ℕ → Turn) (k : ℕ) (a : Act) (row : Row) → NotPart k a
+  act-as-others : (turns : ℕ → TickAnswer) (k : ℕ) (a : Act) (row : Row) → NotPart k a
       → AsOthers (crossingAt onward k row) (crossingAt onward k (act onward turns a row))
   act-as-others turns k (part j) row other = part-as-others turns k j row other
   act-as-others turns k (call j c) row other = call-as-others k j c row
 
-  acts-as-others : (turns : ℕ → Turn) (k : ℕ) (list : List Act) (row : Row) → NoPart k list
+  acts-as-others : (turns : ℕ → TickAnswer) (k : ℕ) (list : List Act) (row : Row) → NoPart k list
       → AsOthers (crossingAt onward k row) (crossingAt onward k (acts onward turns list row))
   acts-as-others turns k [] row other = as-same refl
   acts-as-others turns k (a ∷ list) row other =
       as-then (act-as-others turns k a row (other .0)) (acts-as-others turns k list (act onward turns a row) (other .1))
 
-  acts-then : (turns : ℕ → Turn) (list more : List Act) (row : Row) → acts onward turns (list ++ more) row ≡ acts onward turns more (acts onward turns list row)
+  acts-then : (turns : ℕ → TickAnswer) (list more : List Act) (row : Row) → acts onward turns (list ++ more) row ≡ acts onward turns more (acts onward turns list row)
   acts-then turns [] more row = refl
   acts-then turns (a ∷ list) more row = acts-then turns list more (act onward turns a row)
 
   -- ---- its own part
 
-  own-part : (turn : Turn) (k : ℕ) (row : Row) → served turn (crossingAt onward k row) ≡ crossingAt onward k (withPart onward turn k row)
-  own-part turn k row =
-      let x = served turn (crossingAt onward k row) in
+  own-part : (owner : TickAnswer) (k : ℕ) (row : Row) → served owner (crossingAt onward k row) ≡ crossingAt onward k (withPart onward owner k row)
+  own-part owner k row =
+      let x = served owner (crossingAt onward k row) in
       let first = instead (row .link) k (x .arriving) in
-      let table = served-keeps {Keeps = λ z. z .onward ≡ onward k} (λ j z e. e) (λ i p z e. e) (λ i n z e. e) turn (crossingAt onward k row) refl in
+      let table = served-keeps {Keeps = λ z. z .onward ≡ onward k} (λ j z e. e) (λ i p z e. e) (λ i n z e. e) owner (crossingAt onward k row) refl in
       let there : x ≡ record { arriving = x .arriving; leaving = x .leaving; onward = onward k; waiting = x .waiting } =
       λ m. record { arriving = x .arriving; leaving = x .leaving; onward = table m; waiting = x .waiting } in
       there ∙ same-crossing (onward k)
@@ -187,7 +187,7 @@ module _ (onward : ℕ → List (Option ℕ)) where
   slot-as : (k : ℕ) (list : List Act) (row : Row) → OnePart k list → {P Q : Plan} → PlayedAs P Q (onward k) (crossingAt onward k row)
       → PlayedAs P Q (onward k) (crossingAt onward k (rowSlot onward list row))
   slot-as k list row one {P} {Q} played =
-      let turns : ℕ → Turn = λ n. paper .tick (row .link n .state) .1 in
+      let turns : ℕ → TickAnswer = λ n. reference .tick (row .link n .state) .1 in
       let early = acts-as-others turns k (one .before) (allTick onward row) (one .none-before) in
       let row₁ = acts onward turns (one .before) (allTick onward row) in
       let row₂ = withPart onward (turns k) k row₁ in
@@ -212,7 +212,7 @@ module _ (onward : ℕ → List (Option ℕ)) where
 
 -- ---- a stream's links
 
-two-crossed : (onward : ℕ → List (Option ℕ)) (plans : ℕ → Plan) (begin : List Act) (slots : List (List Act)) (k : ℕ) (a b : Board paper)
+two-crossed : (onward : ℕ → List (Option ℕ)) (plans : ℕ → Plan) (begin : List Act) (slots : List (List Act)) (k : ℕ) (a b : Board reference)
     → OnRow onward plans begin slots k a → OnRow onward plans begin slots (suc k) b → CrossedThere onward plans begin slots k a b → Crossed served a b
 two-crossed onward plans begin slots k a b on₁ on₂ x = record {
   onward = onward k;
@@ -233,7 +233,7 @@ two-crossed onward plans begin slots k a b on₁ on₂ x = record {
         subst (λ P. PlayedAs P (planOn b) (onward k) at-end) (on₁ .plan-is)
         (subst (λ Q. PlayedAs (plans k) Q (onward k) at-end) (on₂ .plan-is) (row-as onward plans begin slots k (x .not-at-first) (x .in-each-slot)))
 
-on-first : {onward : ℕ → List (Option ℕ)} {plans : ℕ → Plan} {begin : List Act} {slots : List (List Act)} (k : ℕ) (a : Board paper) (rest : List (Board paper))
+on-first : {onward : ℕ → List (Option ℕ)} {plans : ℕ → Plan} {begin : List Act} {slots : List (List Act)} (k : ℕ) (a : Board reference) (rest : List (Board reference))
     → AlongRow onward plans begin slots k a rest → OnRow onward plans begin slots k a
 on-first k a [] x = x
 on-first k a (b ∷ rest) x = x .0

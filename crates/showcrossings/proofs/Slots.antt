@@ -13,9 +13,9 @@ use borrow.Author.Tests.{eqb-true, eqb-false, eq-eqb}
 use Rattle.model.specs.Tables.{bit, tally}
 use Rattle.model.specs.Word.{departureOf}
 use Rattle.model.specs.Plan.{Plan, flowCount, entry}
-use Rattle.model.specs.Calls.{Call, Grant, Receipt, Turn, Event, History, requested, credited, ticked, accepted, refused}
+use Rattle.model.specs.Calls.{Call, Grant, CreditAnswer, TickAnswer, Event, History, requested, credited, ticked, accepted, refused}
 use Rattle.model.specs.History.{ticks, grants, ofFlow, atSlot, upTo, grantedUpTo}
-use Rattle.model.specs.Card.{Played, paper, step}
+use Rattle.model.specs.Scheduler.{Played, reference, step}
 use Rattle.model.specs.TwoHops.{InStep}
 use Rattle.arrival.specs.SeveralLinks.{slotsOf, sentSlots, tile, nextTile, nextSlot, start, both-tick, Board, planOn}
 use Rattle.arrival.specs.SharesOfCells.{GrantedNow}
@@ -23,9 +23,9 @@ use Rattle.arrival.specs.EnoughCells.{returns}
 use Rattle.arrival.proofs.TileSlots.{count-slots}
 use Rattle.arrival.proofs.SeveralLinks.{ok}
 use Rattle.crossings.specs.Crossing.{Crossing, goesOnAs, waits, asking, answerFor, askedFor, leaves, onGrant, passOn, passWaiting, queued, comes, served}
-use Rattle.crossings.specs.Playing.{Other, others, Slot, bothTick, turnOf, inSlot, begun}
+use Rattle.crossings.specs.Playing.{Other, others, Slot, bothTick, tickAnswerOf, inSlot, begun}
 use Rattle.crossings.specs.Claim.{Onward}
-use Rattle.crossings.proofs.OneLink.{reached-start, reached-more, up-to-next, up-to-slots, isTurn, tick-adds}
+use Rattle.crossings.proofs.OneLink.{reached-start, reached-more, up-to-next, up-to-slots, isOwner, tick-adds}
 use Rattle.crossings.proofs.Kept.{NotGiven}
 use Rattle.crossings.proofs.Board.{Full}
 use Rattle.crossings.proofs.Crosses.{zeros, begun-full, others-full, part-full}
@@ -64,7 +64,7 @@ module _ (P Q : Plan) (i j late : ℕ) where
 
   -- ---- both links tick
 
-  module _ (x₁ x₂ : Turn) (h₁ h₂ : History) (x : AllPassed h₁ h₂) where
+  module _ (x₁ x₂ : TickAnswer) (h₁ h₂ : History) (x : AllPassed h₁ h₂) where
     tick-credited : (t : ℕ) → t < suc (ticks h₁) → CreditedIn P Q i j t (ticked x₁ ∷ h₁) (ticked x₂ ∷ h₂)
     tick-credited t lt =
         credited-first P Q i j t (ticked x₁) h₁ (ticked x₂ ∷ h₂) (omega arith) (credited-second P Q i j t (ticked x₂) h₁ h₂ (x .credited t lt))
@@ -103,7 +103,7 @@ module _ (P Q : Plan) (i j late : ℕ) where
 
 -- ---- a crossing between two links
 
-module _ (a b : Board paper) (in-step : InStep (planOn a) (planOn b)) (share-kept : entry (planOn a) (a .stream) .share ≤ entry (planOn b) (b .stream) .share)
+module _ (a b : Board reference) (in-step : InStep (planOn a) (planOn b)) (share-kept : entry (planOn a) (a .stream) .share ≤ entry (planOn b) (b .stream) .share)
     (late : ℕ) (enough : (late + 2) * entry (planOn b) (b .stream) .share ≤ entry (planOn b) (b .stream) .cells)
     {onward : List (Option ℕ)} (goes-on : Onward (planOn a) (planOn b) onward) (goes : getD onward (a .stream) none ≡ some (b .stream)) where
   abbrev P : Plan
@@ -147,7 +147,7 @@ module _ (a b : Board paper) (in-step : InStep (planOn a) (planOn b)) (share-kep
   -- ---- the board's part
 
   -- another flow's tile comes, or none
-  part-others : (turn : Turn) → isTurn turn i ≡ false → (y : Crossing) → AllStill y → AllStill (served turn y)
+  part-others : (owner : TickAnswer) → isOwner owner i ≡ false → (y : Crossing) → AllStill y → AllStill (served owner y)
   unfolding served
   part-others none d y z =
       all-waiting (flowCount (y .arriving .state .plan)) y z
@@ -167,8 +167,8 @@ module _ (a b : Board paper) (in-step : InStep (planOn a) (planOn b)) (share-kep
     unfolding passOn
     tile-goes (accepted v) is full allowed =
         let p = departureOf v in
-        let receipt = paper .credit (y .arriving .state) i p .1 in
-        let taken = full .kept .flows i j goes .taken .0 refl in
+        let receipt = reference .credit (y .arriving .state) i p .1 in
+        let all-accepted = full .kept .flows i j goes .all-accepted .0 refl in
         let before = allowed-before a b in-step share-kept late enough (one-more (credited i p receipt) here) here allowed in
         let long : i < length (q .waiting) =
         omega (
@@ -186,7 +186,7 @@ module _ (a b : Board paper) (in-step : InStep (planOn a) (planOn b)) (share-kep
           reached₂ = reached-more (Call.request (asking (y .leaving .state) j)) (z .reached₂);
           onward-is = z .onward-is;
           none-waits = left ∙ ap (_- 1) one;
-          holds = pair-more a b in-step share-kept late enough y (z .reached₁) (z .reached₂) (z .holds .0) (z .holds .1) before v is receipt taken;
+          holds = pair-more a b in-step share-kept late enough y (z .reached₁) (z .reached₂) (z .holds .0) (z .holds .1) before v is receipt all-accepted;
         }
     tile-goes (refused r) is full allowed =
         absurd (subst (λ g. GrantedNow Q g (y .leaving .history)) is
@@ -241,7 +241,7 @@ module _ (a b : Board paper) (in-step : InStep (planOn a) (planOn b)) (share-kep
     abbrev tiles : ℕ
     tiles = nextTile P Q i j h₂
 
-    in-this-slot : tally (λ m. ofFlow i m && atSlot (suc (ticks h₁)) m) (grants P h₁) ≡ bit (isTurn (turnOf x) i)
+    in-this-slot : tally (λ m. ofFlow i m && atSlot (suc (ticks h₁)) m) (grants P h₁) ≡ bit (isOwner (tickAnswerOf x) i)
     in-this-slot = omega (arith, tick-adds (ok a) (z .still .reached₁) i, up-to-next i (ticks h₁) (grants P h₁))
 
     ticked-still : {R : (h₁ h₂ : History) → Type 0} {first : (e : Event) → NotGiven i e → (h₁ h₂ : History) → R h₁ h₂ → R (e ∷ h₁) h₂}
@@ -255,11 +255,11 @@ module _ (a b : Board paper) (in-step : InStep (planOn a) (planOn b)) (share-kep
       holds = holds;
     }
 
-    tick-others : isTurn (turnOf x) i ≡ false → AllStill (bothTick x)
+    tick-others : isOwner (tickAnswerOf x) i ≡ false → AllStill (bothTick x)
     tick-others other =
-        ticked-still (tick-none P Q i j late (turnOf x) (paper .tick (x .leaving .state) .1) h₁ h₂ (z .still .holds) (in-this-slot ∙ ap bit other))
+        ticked-still (tick-none P Q i j late (tickAnswerOf x) (reference .tick (x .leaving .state) .1) h₁ h₂ (z .still .holds) (in-this-slot ∙ ap bit other))
 
-    tick-ours : isTurn (turnOf x) i ≡ true → OneStill (bothTick x)
+    tick-ours : isOwner (tickAnswerOf x) i ≡ true → OneStill (bothTick x)
     tick-ours own =
         let t = ticks h₁ in
         let one = in-this-slot ∙ ap bit own in
@@ -276,36 +276,36 @@ module _ (a b : Board paper) (in-step : InStep (planOn a) (planOn b)) (share-kep
         let low = tile-past (sentSlots P h₁ i) down t tiles (omega (arith, came x z)) sent in
         let high = tile-up-to (sentSlots P h₁ i) down (suc t) tiles (omega (arith, next)) in
         let now : nextSlot P Q i j h₁ h₂ ≡ suc t = omega (arith, low, high) in
-        ticked-still (tick-one P Q i j late (turnOf x) (paper .tick (x .leaving .state) .1) h₁ h₂ (z .still .holds) sent now (omega (arith, one)))
+        ticked-still (tick-one P Q i j late (tickAnswerOf x) (reference .tick (x .leaving .state) .1) h₁ h₂ (z .still .holds) sent now (omega (arith, one)))
 
     -- the board's part of it
-    part : (before : List Other) (turn : Turn) → turnOf x ≡ turn → FullHere (served turn (others before (bothTick x)))
-        → AllowedAt (served turn (others before (bothTick x))) → AllStill (served turn (others before (bothTick x)))
-    part before turn is full allowed = go (isTurn turn i) refl
+    part : (before : List Other) (owner : TickAnswer) → tickAnswerOf x ≡ owner → FullHere (served owner (others before (bothTick x)))
+        → AllowedAt (served owner (others before (bothTick x))) → AllStill (served owner (others before (bothTick x)))
+    part before owner is full allowed = go (isOwner owner i) refl
       where
-        ours : (turn : Turn) → isTurn turn i ≡ true → turnOf x ≡ turn → FullHere (served turn (others before (bothTick x)))
-            → AllowedAt (served turn (others before (bothTick x))) → AllStill (served turn (others before (bothTick x)))
+        ours : (owner : TickAnswer) → isOwner owner i ≡ true → tickAnswerOf x ≡ owner → FullHere (served owner (others before (bothTick x)))
+            → AllowedAt (served owner (others before (bothTick x))) → AllStill (served owner (others before (bothTick x)))
         ours none own is full allowed = absurd (true≢false (sym own))
         ours (some k) own is full allowed =
             let same = eqb-true k i own in
             subst (λ k. FullHere (served (some k) (others before (bothTick x))) → AllowedAt (served (some k) (others before (bothTick x)))
             → AllStill (served (some k) (others before (bothTick x)))) (sym same)
-            (part-ours (others before (bothTick x)) (one-others before (bothTick x) (tick-ours (ap (λ o. isTurn o i) is ∙ own)))) full allowed
+            (part-ours (others before (bothTick x)) (one-others before (bothTick x) (tick-ours (ap (λ o. isOwner o i) is ∙ own)))) full allowed
 
-        go : (c : Bool) → isTurn turn i ≡ c → AllStill (served turn (others before (bothTick x)))
-        go true own = ours turn own is full allowed
+        go : (c : Bool) → isOwner owner i ≡ c → AllStill (served owner (others before (bothTick x)))
+        go true own = ours owner own is full allowed
         go false other =
-            part-others turn other (others before (bothTick x))
+            part-others owner other (others before (bothTick x))
             (all-others before (bothTick x)
-            (tick-others (ap (λ o. isTurn o i) is ∙ other)))
+            (tick-others (ap (λ o. isOwner o i) is ∙ other)))
 
     pub slot-passes : (s : Slot) → AllowedAt (inSlot served s x) → Passing (inSlot served s x)
     slot-passes s allowed =
-        let y = served (turnOf x) (others (s .before) (bothTick x)) in
+        let y = served (tickAnswerOf x) (others (s .before) (bothTick x)) in
         let full = part-full (ok a) (ok b) in-step goes-on (s .before) x (z .full) in
         let first = others-arriving (GoesOn (y .arriving .history)) (λ e alone h g. one-more e g) (s .after) y here in
         let second = others-leaving (GoesOn (y .leaving .history)) (λ e alone h g. one-more e g) (s .after) y here in
-        let done = part (s .before) (turnOf x) refl full (allowed-before a b in-step share-kept late enough first second allowed) in
+        let done = part (s .before) (tickAnswerOf x) refl full (allowed-before a b in-step share-kept late enough first second allowed) in
         record {
           full = others-full (ok a) (ok b) in-step goes-on (s .after) y full;
           still = all-others (s .after) y done;

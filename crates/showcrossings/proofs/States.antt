@@ -7,10 +7,10 @@ use native.Mathlib.Omega.{arith}
 use lib.ListN.{length}
 use Rattle.model.specs.Calls.{Call, Event, History, requested, credited, ticked, lent}
 use Rattle.model.specs.History.{ticks}
-use Rattle.model.specs.Card.{Played, paper, step}
+use Rattle.model.specs.Scheduler.{Played, reference, step}
 use Rattle.arrival.specs.SeveralLinks.{Alone}
 use Rattle.crossings.specs.Crossing.{Crossing, crossingWith, served}
-use Rattle.crossings.specs.Playing.{Other, onArriving, onLeaving, theirsArriving, theirsLeaving, another, others, Slot, bothTick, turnOf, inSlot, inSlots}
+use Rattle.crossings.specs.Playing.{Other, onArriving, onLeaving, theirsArriving, theirsLeaving, another, others, Slot, bothTick, tickAnswerOf, inSlot, inSlots}
 use Rattle.crossings.proofs.Neighbours.{served-keeps}
 use Rattle.showcrossings.proofs.Growing.{GoesOn, here, one-more, SinceTick, at-tick, after-tick, since-ticks, since-goes, goes-then, cut, cut-all}
 use Rattle.showcrossings.proofs.Growing.{cut-slot}
@@ -18,18 +18,18 @@ use Rattle.showcrossings.proofs.Growing.{cut-slot}
 -- ---- calls of others
 
 module _ {Keeps : Crossing → Type 0}
-    (first : (c : Call) (x : Crossing) → theirsArriving x c ≡ true → Keeps x → Keeps (crossingWith x (step paper (x .arriving) c) (x .leaving) (x .waiting)))
+    (first : (c : Call) (x : Crossing) → theirsArriving x c ≡ true → Keeps x → Keeps (crossingWith x (step reference (x .arriving) c) (x .leaving) (x .waiting)))
     (second : (c : Call) (x : Crossing) → theirsLeaving x c ≡ true → Keeps x
-    → Keeps (crossingWith x (x .arriving) (step paper (x .leaving) c) (x .waiting))) where
+    → Keeps (crossingWith x (x .arriving) (step reference (x .leaving) c) (x .waiting))) where
   another-keeps : (o : Other) (x : Crossing) → Keeps x → Keeps (another o x)
   another-keeps (onArriving c) x z = go (theirsArriving x c) refl
     where
-      go : (b : Bool) → theirsArriving x c ≡ b → Keeps (cond b (crossingWith x (step paper (x .arriving) c) (x .leaving) (x .waiting)) x)
+      go : (b : Bool) → theirsArriving x c ≡ b → Keeps (cond b (crossingWith x (step reference (x .arriving) c) (x .leaving) (x .waiting)) x)
       go true e = first c x e z
       go false e = z
   another-keeps (onLeaving c) x z = go (theirsLeaving x c) refl
     where
-      go : (b : Bool) → theirsLeaving x c ≡ b → Keeps (cond b (crossingWith x (x .arriving) (step paper (x .leaving) c) (x .waiting)) x)
+      go : (b : Bool) → theirsLeaving x c ≡ b → Keeps (cond b (crossingWith x (x .arriving) (step reference (x .leaving) c) (x .waiting)) x)
       go true e = second c x e z
       go false e = z
 
@@ -48,14 +48,14 @@ module _ (R : History → Type 0) (more : (e : Event) → Alone e → (h : Histo
   abbrev OnLeaving : Crossing → Type 0
   OnLeaving x = R (x .leaving .history)
 
-  call-arriving : (c : Call) (x : Crossing) → theirsArriving x c ≡ true → OnArriving x → R (step paper (x .arriving) c .history)
+  call-arriving : (c : Call) (x : Crossing) → theirsArriving x c ≡ true → OnArriving x → R (step reference (x .arriving) c .history)
   call-arriving (Call.request w) x e z = more _ tt _ z
   call-arriving (Call.credit n p) x e z = more _ tt _ z
   call-arriving Call.tick x e z = absurd (true≢false (sym e))
   call-arriving (Call.lend m) x e z = more _ tt _ z
   call-arriving Call.reset x e z = more _ tt _ z
 
-  call-leaving : (c : Call) (x : Crossing) → theirsLeaving x c ≡ true → OnLeaving x → R (step paper (x .leaving) c .history)
+  call-leaving : (c : Call) (x : Crossing) → theirsLeaving x c ≡ true → OnLeaving x → R (step reference (x .leaving) c .history)
   call-leaving (Call.request w) x e z = more _ tt _ z
   call-leaving (Call.credit n p) x e z = more _ tt _ z
   call-leaving Call.tick x e z = absurd (true≢false (sym e))
@@ -68,18 +68,18 @@ module _ (R : History → Type 0) (more : (e : Event) → Alone e → (h : Histo
   pub others-leaving : (os : List Other) (x : Crossing) → OnLeaving x → OnLeaving (others os x)
   others-leaving = others-keep {Keeps = OnLeaving} (λ c x e z. z) call-leaving
 
-  pub slot-arriving : (s : Slot) (x : Crossing) → R (ticked (turnOf x) ∷ x .arriving .history) → OnArriving (inSlot served s x)
+  pub slot-arriving : (s : Slot) (x : Crossing) → R (ticked (tickAnswerOf x) ∷ x .arriving .history) → OnArriving (inSlot served s x)
   slot-arriving s x z =
-      others-arriving (s .after) _ (served-keeps {Keeps = OnArriving} (λ j x z. z) (λ i p x z. more _ tt _ z) (λ i k x z. z) (turnOf x) _
+      others-arriving (s .after) _ (served-keeps {Keeps = OnArriving} (λ j x z. z) (λ i p x z. more _ tt _ z) (λ i k x z. z) (tickAnswerOf x) _
       (others-arriving (s .before) (bothTick x) z))
 
-  pub slot-leaving : (s : Slot) (x : Crossing) → R (ticked (paper .tick (x .leaving .state) .1) ∷ x .leaving .history) → OnLeaving (inSlot served s x)
+  pub slot-leaving : (s : Slot) (x : Crossing) → R (ticked (reference .tick (x .leaving .state) .1) ∷ x .leaving .history) → OnLeaving (inSlot served s x)
   slot-leaving s x z =
-      others-leaving (s .after) _ (served-keeps {Keeps = OnLeaving} (λ j x z. more _ tt _ z) (λ i p x z. z) (λ i k x z. z) (turnOf x) _
+      others-leaving (s .after) _ (served-keeps {Keeps = OnLeaving} (λ j x z. more _ tt _ z) (λ i p x z. z) (λ i k x z. z) (tickAnswerOf x) _
       (others-leaving (s .before) (bothTick x) z))
 
 pub arriving-since : (s : Slot) (x : Crossing) → SinceTick (x .arriving .history) (inSlot served s x .arriving .history)
-arriving-since s x = slot-arriving (SinceTick (x .arriving .history)) (λ e alone h z. after-tick e alone z) s x (at-tick (turnOf x))
+arriving-since s x = slot-arriving (SinceTick (x .arriving .history)) (λ e alone h z. after-tick e alone z) s x (at-tick (tickAnswerOf x))
 
 pub leaving-since : (s : Slot) (x : Crossing) → SinceTick (x .leaving .history) (inSlot served s x .leaving .history)
 leaving-since s x = slot-leaving (SinceTick (x .leaving .history)) (λ e alone h z. after-tick e alone z) s x (at-tick _)

@@ -14,7 +14,7 @@ use Rattle.model.specs.Tables.{any}
 use Rattle.model.specs.Word.{flowOf, departureOf}
 use Rattle.model.specs.Plan.{Plan, flowCount, Accepted}
 use Rattle.model.specs.Calls.{Call, Grant, Event, History, requested, credited, ticked, lent, accepted, refused}
-use Rattle.model.specs.Card.{Played, paper, step}
+use Rattle.model.specs.Scheduler.{Played, reference, step}
 use Rattle.model.specs.TwoHops.{InStep}
 use Rattle.model.proofs.Tests.{any-hit}
 use Rattle.crossings.specs.Crossing.{Crossing, crossingWith, goesOnAs, waits, withWaiting, asking, answerFor, askedFor, leaves, onGrant, passOn, passAs}
@@ -79,7 +79,7 @@ module _ {P Q : Plan} {onward : List (Option ℕ)} (ok-P : Accepted P) (ok-Q : A
       reached₂ = z .reached₂;
       onward-is = z .onward-is;
       none-waits = getD-set-other (x .waiting) i' i (waits x i' - 1) 0 (λ e. d (sym e)) ∙ z .none-waits;
-      holds = first (credited i' p (paper .credit (x .arriving .state) i' p .1)) d (x .arriving .history) (x .leaving .history) (z .holds);
+      holds = first (credited i' p (reference .credit (x .arriving .state) i' p .1)) d (x .arriving .history) (x .leaving .history) (z .holds);
     }
 
     pass-still : (k : ℕ) (x : Crossing) → Still x → Still (passOn k i' j' x)
@@ -144,7 +144,7 @@ module _ {P Q : Plan} {onward : List (Option ℕ)} (ok-P : Accepted P) (ok-Q : A
       true≢false (sym theirs ∙ ap not all)
 
   arriving-still : (c : Call) (x : Crossing) → theirsArriving x c ≡ true → Still x
-      → Still (crossingWith x (step paper (x .arriving) c) (x .leaving) (x .waiting))
+      → Still (crossingWith x (step reference (x .arriving) c) (x .leaving) (x .waiting))
   arriving-still c x theirs z = record {
     reached₁ = reached-more c (z .reached₁);
     reached₂ = z .reached₂;
@@ -153,7 +153,7 @@ module _ {P Q : Plan} {onward : List (Option ℕ)} (ok-P : Accepted P) (ok-Q : A
     holds = one c theirs;
   }
     where
-      one : (c : Call) → theirsArriving x c ≡ true → R (step paper (x .arriving) c .history) (x .leaving .history)
+      one : (c : Call) → theirsArriving x c ≡ true → R (step reference (x .arriving) c .history) (x .leaving .history)
       one (Call.request w) e = first _ tt _ _ (z .holds)
       one (Call.credit n p) e = first _ (not-credited x z n e) _ _ (z .holds)
       one Call.tick e = absurd (true≢false (sym e))
@@ -161,7 +161,7 @@ module _ {P Q : Plan} {onward : List (Option ℕ)} (ok-P : Accepted P) (ok-Q : A
       one Call.reset e = first _ tt _ _ (z .holds)
 
   leaving-still : (c : Call) (x : Crossing) → theirsLeaving x c ≡ true → Still x
-      → Still (crossingWith x (x .arriving) (step paper (x .leaving) c) (x .waiting))
+      → Still (crossingWith x (x .arriving) (step reference (x .leaving) c) (x .waiting))
   leaving-still c x theirs z = record {
     reached₁ = z .reached₁;
     reached₂ = reached-more c (z .reached₂);
@@ -170,7 +170,7 @@ module _ {P Q : Plan} {onward : List (Option ℕ)} (ok-P : Accepted P) (ok-Q : A
     holds = one c theirs;
   }
     where
-      one : (c : Call) → theirsLeaving x c ≡ true → R (x .arriving .history) (step paper (x .leaving) c .history)
+      one : (c : Call) → theirsLeaving x c ≡ true → R (x .arriving .history) (step reference (x .leaving) c .history)
       one (Call.request w) e = second _ (not-asked x z w e) _ _ (z .holds)
       one (Call.credit n p) e = second _ tt _ _ (z .holds)
       one Call.tick e = absurd (true≢false (sym e))

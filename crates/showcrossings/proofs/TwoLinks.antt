@@ -14,9 +14,9 @@ use Rattle.model.specs.Tables.{bit, tally}
 use Rattle.model.specs.Word.{flowOf}
 use Rattle.model.specs.Plan.{Plan, entry}
 use Rattle.model.specs.Calls.{Call, Event, History, requested, credited, ticked, lent, accepted, refused}
-use Rattle.model.specs.History.{ticks, wellFormed, renews, grantAt, grants, lends, marksOf, ofFlow, grantedInAll}
+use Rattle.model.specs.History.{ticks, wellFormed, isGrantedReset, grantAt, grants, lends, marksOf, ofFlow, grantedInAll}
 use Rattle.model.specs.Claim.{Each, AtRequest, GrantedWordAt}
-use Rattle.model.specs.Card.{Played, paper, run}
+use Rattle.model.specs.Scheduler.{Played, reference, run}
 use Rattle.arrival.specs.Delay.{AsksAt}
 use Rattle.arrival.specs.SeveralLinks.{sentSlots, tile, AskedAt, Together, start, both-tick, first-alone, second-alone, Board, planOn, sentOn}
 use Rattle.arrival.specs.EnoughCells.{returnAt, returns, inSlot, CreditsEachTile}
@@ -48,13 +48,13 @@ use Rattle.showcrossings.proofs.Slots.{AllPassed, Passing, came, slot-p
 -- ---- one link
 
 -- where the stream keeps its shares of cells, its slots are in order
-slots-in-order : (a : Board paper) (late : ℕ) {r : Played paper} → Reached (planOn a) r → KeepsShares late 0 (planOn a) (a .stream) (r .history)
+slots-in-order : (a : Board reference) (late : ℕ) {r : Played reference} → Reached (planOn a) r → KeepsShares late 0 (planOn a) (a .stream) (r .history)
     → Descends (sentSlots (planOn a) (r .history) (a .stream))
 slots-in-order a late {r} reached keeps =
     let P = planOn a in
     let i = a .stream in
     sent-descends P i (r .history) (none-granted (r .history) (keeps .no-reset))
-    (subst (λ (r : Played paper). KeepsShares late 0 P i (r .history) → Each (AfterThoseAt P i) (r .history)) (reached .played)
+    (subst (λ (r : Played reference). KeepsShares late 0 P i (r .history) → Each (AfterThoseAt P i) (r .history)) (reached .played)
     (shares-in-order-accepted late P (ok a) (reached .calls) i (a .known)) keeps)
 
 -- a slot more, without a credit for a tile that comes in it
@@ -118,7 +118,7 @@ module _ (P Q : Plan) (i j late : ℕ) where
 
 -- ---- two links, with a crossing between them
 
-module _ (a b : Board paper) (plans : PlansJoin a b) (x : Crossed served a b) (late : ℕ)
+module _ (a b : Board reference) (plans : PlansJoin a b) (x : Crossed served a b) (late : ℕ)
     (enough : (late + 2) * entry (planOn b) (b .stream) .share ≤ entry (planOn b) (b .stream) .cells) where
   abbrev P : Plan
   P = planOn a

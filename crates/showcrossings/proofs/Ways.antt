@@ -6,7 +6,7 @@ use mathlib.Core.List.{List, _∷_, []}
 use native.Mathlib.Omega.{arith}
 use Rattle.model.specs.Plan.{entry}
 use Rattle.model.specs.Claim.{Each}
-use Rattle.model.specs.Card.{paper}
+use Rattle.model.specs.Scheduler.{reference}
 use Rattle.arrival.specs.Delay.{AsksAt}
 use Rattle.arrival.specs.SeveralLinks.{sentSlots, Board, planOn, sentOn}
 use Rattle.arrival.specs.SharesOfCells.{GivenBack}
@@ -24,35 +24,35 @@ use Rattle.showcrossings.proofs.TwoLinks.{whole₂, waits-none, joins, 
 -- ---- from link to link
 
 -- how late cells are given back on a link: `late` frames on the last, and none before it
-abbrev lateOn : ℕ → List (Board paper) → ℕ
+abbrev lateOn : ℕ → List (Board reference) → ℕ
 lateOn late [] = late
 lateOn late (b ∷ rest) = 0
 
-cells-on : (late : ℕ) (a : Board paper) (rest : List (Board paper)) → PlansFit late a rest
+cells-on : (late : ℕ) (a : Board reference) (rest : List (Board reference)) → PlansFit late a rest
     → (lateOn late rest + 2) * entry (planOn a) (a .stream) .share ≤ entry (planOn a) (a .stream) .cells
 cells-on late a [] fits = fits
 cells-on late a (b ∷ rest) fits = omega (arith, fits .0 .two-shares)
 
 -- after slot n, at the first crossing, and at each
-abbrev PassingAt : (n late : ℕ) (a b : Board paper) (rest : List (Board paper)) → PlansFit late a (b ∷ rest) → CrossedAlong served a (b ∷ rest) → Type 0
+abbrev PassingAt : (n late : ℕ) (a b : Board reference) (rest : List (Board reference)) → PlansFit late a (b ∷ rest) → CrossedAlong served a (b ∷ rest) → Type 0
 PassingAt n late a b rest fits way =
     let L = lateOn late rest in
     let enough = cells-on late b rest (fits .1) in
     PassingIn a b (fits .0) (way .0) L enough (state a b (fits .0) (way .0) L enough n)
 
-abbrev PassedBy : (n late : ℕ) (a : Board paper) (rest : List (Board paper)) → PlansFit late a rest → CrossedAlong served a rest → Type 0
+abbrev PassedBy : (n late : ℕ) (a : Board reference) (rest : List (Board reference)) → PlansFit late a rest → CrossedAlong served a rest → Type 0
 PassedBy n late a [] fits way = Unit {0}
 PassedBy n late a (b ∷ rest) fits way = PassingAt n late a b rest fits way × PassedBy n late b rest (fits .1) (way .1)
 
 -- cells are given back up to slot n
-abbrev BackBy : (n late : ℕ) (a : Board paper) (rest : List (Board paper)) → Type 0
+abbrev BackBy : (n late : ℕ) (a : Board reference) (rest : List (Board reference)) → Type 0
 BackBy n late a rest = Each (AsksAt (λ P i w h. GivenBack (lateOn late rest) P i h) (planOn a) (a .stream)) (cut n (a .events))
 
-back-before : (n late : ℕ) (a : Board paper) (rest : List (Board paper)) → BackBy (suc n) late a rest → BackBy n late a rest
+back-before : (n late : ℕ) (a : Board reference) (rest : List (Board reference)) → BackBy (suc n) late a rest → BackBy n late a rest
 back-before n late a rest = each-before (AsksAt (λ P i w h. GivenBack (lateOn late rest) P i h) (planOn a) (a .stream)) (cut-next n (a .events))
 
 -- on each link, one slot longer than tiles were passed on
-back-by : (n late : ℕ) (a : Board paper) (rest : List (Board paper)) (fits : PlansFit late a rest) (way : CrossedAlong served a rest)
+back-by : (n late : ℕ) (a : Board reference) (rest : List (Board reference)) (fits : PlansFit late a rest) (way : CrossedAlong served a rest)
     → GivesBack late (lastBoard a rest) → PassedBy n late a rest fits way
     → BackBy (suc n) late a rest
 back-by n late a [] fits way ends passed =
@@ -64,7 +64,7 @@ back-by n late a (b ∷ rest) fits way ends passed =
     (allowed-at a b (fits .0) (way .0) L enough n (back-before n late b rest (back-by n late b rest (fits .1) (way .1) ends (passed .1))))
 
 -- a slot more
-step-by : (n late : ℕ) (a : Board paper) (rest : List (Board paper)) (fits : PlansFit late a rest) (way : CrossedAlong served a rest)
+step-by : (n late : ℕ) (a : Board reference) (rest : List (Board reference)) (fits : PlansFit late a rest) (way : CrossedAlong served a rest)
     → GivesBack late (lastBoard a rest) → Descends (sentSlots (planOn a) (cut n (a .events)) (a .stream)) → PassedBy n late a rest fits way
     → PassedBy (suc n) late a rest fits way
 step-by n late a [] fits way ends down passed = tt
@@ -75,7 +75,7 @@ step-by n late a (b ∷ rest) fits way ends down passed =
     let order = order-next a b (fits .0) (way .0) L enough n (passed .0) (allowed-at a b (fits .0) (way .0) L enough n (back-before n late b rest back)) in
     (passing-next a b (fits .0) (way .0) L enough n (passed .0) down back, step-by n late b rest (fits .1) (way .1) ends order (passed .1))
 
-starts-by : (late : ℕ) (a : Board paper) (rest : List (Board paper)) (fits : PlansFit late a rest) (way : CrossedAlong served a rest)
+starts-by : (late : ℕ) (a : Board reference) (rest : List (Board reference)) (fits : PlansFit late a rest) (way : CrossedAlong served a rest)
     → PassedBy 0 late a rest fits way
 starts-by late a [] fits way = tt
 starts-by late a (b ∷ rest) fits way = (
@@ -84,7 +84,7 @@ starts-by late a (b ∷ rest) fits way = (
   starts-by late b rest (fits .1) (way .1),
 )
 
-module _ (late : ℕ) (a b : Board paper) (rest : List (Board paper)) (fits : PlansFit late a (b ∷ rest)) (way : CrossedAlong served a (b ∷ rest))
+module _ (late : ℕ) (a b : Board reference) (rest : List (Board reference)) (fits : PlansFit late a (b ∷ rest)) (way : CrossedAlong served a (b ∷ rest))
     (ends : GivesBack late (lastBoard b rest)) (modest : ModestFirst (planOn a) (a .stream) (a .events)) where
   -- on the first link
   first-order : (n : ℕ) → PassedBy n late a (b ∷ rest) fits way → Descends (sentSlots (planOn a) (cut n (a .events)) (a .stream))
@@ -109,7 +109,7 @@ module _ (late : ℕ) (a b : Board paper) (rest : List (Board paper)) (fits : Pl
       (first-order n (all-by n))
 
 -- so of the whole, from link to link
-along : (late : ℕ) (a : Board paper) (rest : List (Board paper)) (fits : PlansFit late a rest) (way : CrossedAlong served a rest)
+along : (late : ℕ) (a : Board reference) (rest : List (Board reference)) (fits : PlansFit late a rest) (way : CrossedAlong served a rest)
     → GivesBack late (lastBoard a rest) → ((n : ℕ) → PassedBy n late a rest fits way) → Descends (sentOn a) → PassedAlong served late a rest way
 along late a [] fits way ends all down = record { none-waits = tt; by-credits = record { given-back = ends; enough-cells = fits }; all-asked = tt }
 along late a (b ∷ rest) fits way ends all down =

@@ -10,7 +10,7 @@ use mathlib.Core.List.{List, _∷_}
 use lib.ListN.{length}
 use Rattle.model.specs.Plan.{Plan}
 use Rattle.model.specs.Calls.{History}
-use Rattle.model.specs.Card.{paper}
+use Rattle.model.specs.Scheduler.{reference}
 use Rattle.arrival.specs.SeveralLinks.{Board, planOn}
 use Rattle.arrival.specs.CreditedByNext.{ModestFirst}
 use Rattle.delay.specs.Promised.{lastBoard}
@@ -21,7 +21,7 @@ use Rattle.crossings.specs.Playing as playing
 use Rattle.showcrossings.specs.Ways.{CrossedAlong, GivesBack, NoneWaits}
 
 -- RULES 27.13: of one stream and its links
-pub record Arrives (board : playing.Board) (show : Show) (i : ℕ) (a : Board paper) (rest : List (Board paper)) (crossed : CrossedAlong board a rest)
+pub record Arrives (board : playing.Board) (show : Show) (i : ℕ) (a : Board reference) (rest : List (Board reference)) (crossed : CrossedAlong board a rest)
     : Type 0 where
   -- no tile waits at a crossing
   pub none-waits : NoneWaits board a rest crossed
@@ -31,11 +31,11 @@ pub record Arrives (board : playing.Board) (show : Show) (i : ℕ) (a : Board pa
   pub all-in-time : AllInTime show i a rest
 
 -- The premises by name, so that each can be left out: the cells of the show, what the source does, and what is done where the stream ends.
-abbrev pub DomeArrivesBy : (Cells : Show → (late i : ℕ) → Type 0) (Source : Plan → ℕ → History → Type 0) (Ends : (late : ℕ) → Board paper → Type 0)
+abbrev pub DomeArrivesBy : (Cells : Show → (late i : ℕ) → Type 0) (Source : Plan → ℕ → History → Type 0) (Ends : (late : ℕ) → Board reference → Type 0)
     → playing.Board → Type 0
 DomeArrivesBy Cells Source Ends board =
     (show : Show) → refusal show ≡ 0 → (i : ℕ) → i < length (show .streams) → (late : ℕ) → Cells show late i
-    → (a : Board paper) (rest : List (Board paper)) → OnLinks show i (way (showStream show i .stream)) (a ∷ rest)
+    → (a : Board reference) (rest : List (Board reference)) → OnLinks show i (way (showStream show i .stream)) (a ∷ rest)
     → Source (planOn a) (a .stream) (a .events) → Ends late (lastBoard a rest) → (crossed : CrossedAlong board a rest) → Arrives board show i a rest crossed
 
 -- RULES 27.13: that our board keeps it is `dome-arrives`, in proofs/Dome.antt.

@@ -10,8 +10,8 @@ use Rattle.model.specs.Plan.{Plan}
 use Rattle.model.specs.Calls.{Call, History}
 use Rattle.model.specs.History.{ticks, frameOf, wellFormed, credits, ofFlow, grantedUpTo}
 use Rattle.model.specs.Claim.{Each, AtRequest}
-use Rattle.model.specs.Card.{Played, paper, started, step}
-use Rattle.arrival.specs.TakenCredits.{AtCredit, IsTaken}
+use Rattle.model.specs.Scheduler.{Played, reference, started, step}
+use Rattle.arrival.specs.AcceptedCredits.{AtCredit, IsAccepted}
 use Rattle.arrival.specs.Delay.{currentFrame}
 use Rattle.arrival.specs.SeveralLinks.{Board, planOn}
 use Rattle.arrival.specs.EnoughCells.{returns}
@@ -33,7 +33,7 @@ pub data EndAct : Type 0 where
 
 -- the link, and how many tiles of the stream came and were not shown yet
 pub record End : Type 0 where
-  pub link : Played paper
+  pub link : Played reference
   pub kept : ℕ
 
 -- RULES 27.14: others don't credit flow i
@@ -46,8 +46,8 @@ othersMay i Call.reset = true
 
 -- RULES 27.5: of flow i; nothing is done where no tile is kept
 abbrev pub endAct : (i : ℕ) → EndAct → End → End
-endAct i tick-on x = record { link = step paper (x .link) Call.tick; kept = x .kept + bit (isFlow i (paper .tick (x .link .state) .1)) }
-endAct i (call-it c) x = cond (othersMay i c) (record { link = step paper (x .link) c; kept = x .kept }) x
+endAct i tick-on x = record { link = step reference (x .link) Call.tick; kept = x .kept + bit (isFlow i (reference .tick (x .link .state) .1)) }
+endAct i (call-it c) x = cond (othersMay i c) (record { link = step reference (x .link) c; kept = x .kept }) x
 endAct i show-one x = cond (eqb (x .kept) 0) x (record { link = shown i (x .link); kept = x .kept - 1 })
 
 abbrev pub endActs : (i : ℕ) → List EndAct → End → End
@@ -55,13 +55,13 @@ endActs i [] x = x
 endActs i (a ∷ acts) x = endActs i acts (endAct i a x)
 
 abbrev pub endPlayed : Plan → (i : ℕ) → List EndAct → End
-endPlayed P i acts = endActs i acts (record { link = started paper P; kept = 0 })
+endPlayed P i acts = endActs i acts (record { link = started reference P; kept = 0 })
 
 -- ---- what follows
 
 -- RULES 27.14: each credit of the stream is taken, and there is one for each tile that was shown
 pub record EndsWell (P : Plan) (i : ℕ) (x : End) : Type 0 where
-  pub taken : Each (AtCredit (λ k p a h. k ≡ i → IsTaken a)) (x .link .history)
+  pub all-accepted : Each (AtCredit (λ k p a h. k ≡ i → IsAccepted a)) (x .link .history)
   pub none-lost : grantedUpTo P (x .link .history) i (ticks (x .link .history)) ≡ x .kept + tally (ofFlow i) (credits P (x .link .history))
 
 -- After h the tiles of flow i that came up more than `late` frames back were shown at most `late` frames after the one in which each came.
@@ -71,14 +71,14 @@ ShownBy late P i h =
     → grantedUpTo P h i s ≤ tally (λ r. eqb (r .flow) i && leb (frameOf P (r .made)) (frameOf P s + late)) (returns P h)
 
 -- the events of b are of such a link, and at each request of the stream its tiles were shown so
-pub record ShownThere (late : ℕ) (b : Board paper) : Type 0 where
+pub record ShownThere (late : ℕ) (b : Board reference) : Type 0 where
   pub acts : List EndAct
   pub events-are : endPlayed (planOn b) (b .stream) acts .link .history ≡ b .events
   pub shown-by : Each (AtRequest (λ w h. wellFormed (planOn b) w ≡ true → flowOf w ≡ b .stream → ShownBy late (planOn b) (b .stream) h)) (b .events)
 
 -- RULES 27.14: then cells are given back so late, as `DomeArrives` asks: `shown-ends-well` and `shown-gives-back`, in proofs/Ends.antt.
 abbrev pub ShownGivesBack : Type 0
-ShownGivesBack = (late : ℕ) (b : Board paper) → ShownThere late b → GivesBack late b
+ShownGivesBack = (late : ℕ) (b : Board reference) → ShownThere late b → GivesBack late b
 
 -- RULES 27.14: so `DomeArrives` with tiles that are shown in time: `dome-arrives-shown`, there.
 abbrev pub DomeArrivesShown : playing.Board → Type 0

@@ -11,4 +11,4 @@ pub mod Rows
 pub mod Beside
 -- a worked example, and boards that are sent back
 pub mod Edges
-pub mod BadBoards
+pub mod WrongBoards

@@ -6,7 +6,7 @@ use mathlib.Core.Option.{some, none}
 use lib.ListN.{getD, length}
 use Rattle.model.specs.Tables.{tally}
 use Rattle.model.specs.History.{lends, ofFlow}
-use Rattle.model.specs.Card.{paper}
+use Rattle.model.specs.Scheduler.{reference}
 use Rattle.arrival.specs.SeveralLinks.{Board, planOn}
 use Rattle.arrival.specs.CreditedByNext.{ModestFirst}
 use Rattle.plan.specs.Reading.{planFor}
@@ -23,7 +23,7 @@ use Rattle.showcrossings.specs.Ways.{GivesBack}
 
 -- Between a and b lies a crossing that the code plays, by `serve` or `cross`: its two states and the tiles that wait are in hand, as contracts say, and
 -- what was asked of its links are the events of a and of b.
-pub record CodeCrossed (a b : Board paper) : Type 0 where
+pub record CodeCrossed (a b : Board reference) : Type 0 where
   pub crossing : Crossing
   pub so-far : crossings.Crossing
   pub state₁ : List ℕ
@@ -39,16 +39,16 @@ pub record CodeCrossed (a b : Board paper) : Type 0 where
   pub not-lent : tally (ofFlow (b .stream)) (lends (b .events)) ≡ 0
 
 -- so from link to link
-abbrev pub CodeCrossedAlong : Board paper → List (Board paper) → Type 0
+abbrev pub CodeCrossedAlong : Board reference → List (Board reference) → Type 0
 CodeCrossedAlong a [] = Unit {0}
 CodeCrossedAlong a (b ∷ rest) = CodeCrossed a b × CodeCrossedAlong b rest
 
 -- in none of the arrays that the code has of its tiles that wait one of the stream is counted
-abbrev pub NoneWaiting : (a : Board paper) (rest : List (Board paper)) → CodeCrossedAlong a rest → Type 0
+abbrev pub NoneWaiting : (a : Board reference) (rest : List (Board reference)) → CodeCrossedAlong a rest → Type 0
 NoneWaiting a [] crossed = Unit {0}
 NoneWaiting a (b ∷ rest) crossed = (getD (crossed .0 .waiting) (a .stream) 0 ≡ 0) × NoneWaiting b rest (crossed .1)
 
-pub record CodeArrives (show : Show) (i : ℕ) (a : Board paper) (rest : List (Board paper)) (crossed : CodeCrossedAlong a rest) : Type 0 where
+pub record CodeArrives (show : Show) (i : ℕ) (a : Board reference) (rest : List (Board reference)) (crossed : CodeCrossedAlong a rest) : Type 0 where
   pub none-waiting : NoneWaiting a rest crossed
   pub in-time : InTime show i a rest
   pub all-in-time : AllInTime show i a rest
@@ -57,6 +57,6 @@ pub record CodeArrives (show : Show) (i : ℕ) (a : Board paper) (rest : List (B
 abbrev pub CodeDomeArrives : Type 0
 CodeDomeArrives =
     (show : Show) → refusal show ≡ 0 → (i : ℕ) → i < length (show .streams) → (late : ℕ) → EnoughCells show late i
-    → (a : Board paper) (rest : List (Board paper)) → OnLinks show i (way (showStream show i .stream)) (a ∷ rest)
+    → (a : Board reference) (rest : List (Board reference)) → OnLinks show i (way (showStream show i .stream)) (a ∷ rest)
     → ModestFirst (planOn a) (a .stream) (a .events) → GivesBack late (lastBoard a rest) → (crossed : CodeCrossedAlong a rest)
     → CodeArrives show i a rest crossed

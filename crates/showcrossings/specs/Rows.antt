@@ -8,9 +8,9 @@ use lib.Dec.{eqb}
 use lib.ListN.{getD, replicate}
 use Rattle.model.specs.Tables.{tally}
 use Rattle.model.specs.Plan.{Plan}
-use Rattle.model.specs.Calls.{Call, Turn}
+use Rattle.model.specs.Calls.{Call, TickAnswer}
 use Rattle.model.specs.History.{lends, ofFlow}
-use Rattle.model.specs.Card.{Played, paper, started, step}
+use Rattle.model.specs.Scheduler.{Played, reference, started, step}
 use Rattle.arrival.specs.SeveralLinks.{Board, planOn}
 use Rattle.crossings.specs.Crossing.{Crossing, served}
 use Rattle.crossings.specs.Playing.{theirsArriving, theirsLeaving}
@@ -21,7 +21,7 @@ use Rattle.showcrossings.specs.Ways.{CrossedAlong}
 
 -- link number k, and the tiles that wait at crossing number k, which lies between links k and k + 1
 pub record Row : Type 0 where
-  pub link : ℕ → Played paper
+  pub link : ℕ → Played reference
   pub waiting : ℕ → List ℕ
 
 -- something else at k
@@ -38,10 +38,10 @@ module _ (onward : ℕ → List (Option ℕ)) where
   abbrev pub crossingAt : ℕ → Row → Crossing
   crossingAt k row = record { arriving = row .link k; leaving = row .link (suc k); onward = onward k; waiting = row .waiting k }
 
-  -- RULES 27.2: crossing k does its part, where its in-link's tick answered `turn`
-  abbrev pub withPart : Turn → (k : ℕ) → Row → Row
-  withPart turn k row =
-      let x = served turn (crossingAt k row) in
+  -- RULES 27.2: crossing k does its part, where its in-link's tick answered `owner`
+  abbrev pub withPart : TickAnswer → (k : ℕ) → Row → Row
+  withPart owner k row =
+      let x = served owner (crossingAt k row) in
       record { link = instead (instead (row .link) k (x .arriving)) (suc k) (x .leaving); waiting = instead (row .waiting) k (x .waiting) }
 
   -- RULES 27.6: a call that is neither the crossing's before link k nor the one's after it
@@ -51,22 +51,22 @@ module _ (onward : ℕ → List (Option ℕ)) where
 
   -- and any other is left out
   abbrev pub withCall : (k : ℕ) → Call → Row → Row
-  withCall k c row = cond (theirs k row c) (record { link = instead (row .link) k (step paper (row .link k) c); waiting = row .waiting }) row
+  withCall k c row = cond (theirs k row c) (record { link = instead (row .link) k (step reference (row .link k) c); waiting = row .waiting }) row
 
-  abbrev pub act : (turns : ℕ → Turn) → Act → Row → Row
+  abbrev pub act : (turns : ℕ → TickAnswer) → Act → Row → Row
   act turns (part k) row = withPart (turns k) k row
   act turns (call k c) row = withCall k c row
 
-  abbrev pub acts : (turns : ℕ → Turn) → List Act → Row → Row
+  abbrev pub acts : (turns : ℕ → TickAnswer) → List Act → Row → Row
   acts turns [] row = row
   acts turns (a ∷ list) row = acts turns list (act turns a row)
 
   -- RULES 27.2: in a slot all links tick first
   abbrev pub allTick : Row → Row
-  allTick row = record { link = λ k. step paper (row .link k) Call.tick; waiting = row .waiting }
+  allTick row = record { link = λ k. step reference (row .link k) Call.tick; waiting = row .waiting }
 
   abbrev pub rowSlot : List Act → Row → Row
-  rowSlot list row = acts (λ k. paper .tick (row .link k .state) .1) list (allTick row)
+  rowSlot list row = acts (λ k. reference .tick (row .link k .state) .1) list (allTick row)
 
   abbrev pub rowSlots : List (List Act) → Row → Row
   rowSlots [] row = row
@@ -74,7 +74,7 @@ module _ (onward : ℕ → List (Option ℕ)) where
 
   -- RULES 27.1: all links are fresh, and no tile waits; some calls in slot 0, and then slots
   abbrev pub rowPlayed : (plans : ℕ → Plan) (begin : List Act) → List (List Act) → Row
-  rowPlayed plans begin slots = rowSlots slots (acts (λ k. none) begin (record { link = λ k. started paper (plans k); waiting = λ k. replicate 16 0 }))
+  rowPlayed plans begin slots = rowSlots slots (acts (λ k. none) begin (record { link = λ k. started reference (plans k); waiting = λ k. replicate 16 0 }))
 
 -- ---- which crossings are played
 
@@ -103,23 +103,23 @@ InEachSlot k (list ∷ slots) = OnePart k list × InEachSlot k slots
 
 -- a stream's links are the row's from number k on, and between each two the row's crossing is played; it goes on there, and is lent nothing
 module _ (onward : ℕ → List (Option ℕ)) (plans : ℕ → Plan) (begin : List Act) (slots : List (List Act)) where
-  pub record OnRow (k : ℕ) (a : Board paper) : Type 0 where
+  pub record OnRow (k : ℕ) (a : Board reference) : Type 0 where
     pub plan-is : plans k ≡ planOn a
     pub events-are : rowPlayed onward plans begin slots .link k .history ≡ a .events
 
-  pub record CrossedThere (k : ℕ) (a b : Board paper) : Type 0 where
+  pub record CrossedThere (k : ℕ) (a b : Board reference) : Type 0 where
     pub goes-on : Onward (planOn a) (planOn b) (onward k)
     pub stream-goes-on : getD (onward k) (a .stream) none ≡ some (b .stream)
     pub not-lent : tally (ofFlow (b .stream)) (lends (b .events)) ≡ 0
     pub not-at-first : NoPart k begin
     pub in-each-slot : InEachSlot k slots
 
-  abbrev pub AlongRow : (k : ℕ) → Board paper → List (Board paper) → Type 0
+  abbrev pub AlongRow : (k : ℕ) → Board reference → List (Board reference) → Type 0
   AlongRow k a [] = OnRow k a
   AlongRow k a (b ∷ rest) = OnRow k a × (CrossedThere k a b × AlongRow (suc k) b rest)
 
 -- RULES 27.11: then they are a way of crossings, whatever the order of parts and calls in each slot: `rows-cross`, in proofs/Rows.antt.
 abbrev pub RowsCross : Type 0
 RowsCross =
-    (onward : ℕ → List (Option ℕ)) (plans : ℕ → Plan) (begin : List Act) (slots : List (List Act)) (k : ℕ) (a : Board paper) (rest : List (Board paper))
+    (onward : ℕ → List (Option ℕ)) (plans : ℕ → Plan) (begin : List Act) (slots : List (List Act)) (k : ℕ) (a : Board reference) (rest : List (Board reference))
     → AlongRow onward plans begin slots k a rest → CrossedAlong served a rest

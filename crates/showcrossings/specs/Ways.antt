@@ -11,7 +11,7 @@ use Rattle.model.specs.Word.{flowOf}
 use Rattle.model.specs.Plan.{entry}
 use Rattle.model.specs.History.{wellFormed, lends, ofFlow}
 use Rattle.model.specs.Claim.{Each, AtRequest}
-use Rattle.model.specs.Card.{paper}
+use Rattle.model.specs.Scheduler.{reference}
 use Rattle.model.specs.TwoHops.{InStep}
 use Rattle.arrival.specs.SeveralLinks.{Board, planOn}
 use Rattle.arrival.specs.SharesOfCells.{GivenBack}
@@ -27,7 +27,7 @@ use Rattle.crossings.specs.Claim.{Onward}
 
 -- RULES 27.11: between a and b lies a crossing that `board` plays: a's events are those of its in-link, and b's those of its out-link. The stream of a goes on
 -- as that of b, and is lent no slot there. What others ask of the two links is open; that of the crossings before and after this one is among it.
-pub record Crossed (board : playing.Board) (a b : Board paper) : Type 0 where
+pub record Crossed (board : playing.Board) (a b : Board reference) : Type 0 where
   pub onward : List (Option ℕ)
   pub goes-on : Onward (planOn a) (planOn b) onward
   pub stream-goes-on : getD onward (a .stream) none ≡ some (b .stream)
@@ -37,41 +37,41 @@ pub record Crossed (board : playing.Board) (a b : Board paper) : Type 0 where
   pub leaving-is : played board (planOn a) (planOn b) onward begin slots .leaving .history ≡ b .events
   pub not-lent : tally (ofFlow (b .stream)) (lends (b .events)) ≡ 0
 
-abbrev pub crossingOf : {board : playing.Board} {a b : Board paper} → Crossed board a b → Crossing
+abbrev pub crossingOf : {board : playing.Board} {a b : Board reference} → Crossed board a b → Crossing
 crossingOf {board} {a} {b} x = played board (planOn a) (planOn b) (x .onward) (x .begin) (x .slots)
 
 -- RULES 27.11: so from link to link
-abbrev pub CrossedAlong : playing.Board → Board paper → List (Board paper) → Type 0
+abbrev pub CrossedAlong : playing.Board → Board reference → List (Board reference) → Type 0
 CrossedAlong board a [] = Unit {0}
 CrossedAlong board a (b ∷ rest) = Crossed board a b × CrossedAlong board b rest
 
 -- RULES 27.11: where the stream ends, its cells are given back `late` frames late
-abbrev pub GivesBack : (late : ℕ) → Board paper → Type 0
+abbrev pub GivesBack : (late : ℕ) → Board reference → Type 0
 GivesBack late b =
     Each (AtRequest (λ w h. wellFormed (planOn b) w ≡ true → flowOf w ≡ b .stream → GivenBack late (planOn b) (b .stream) h)) (b .events)
 
 -- ---- the plans
 
 -- b is the next link after a: F and W are equal, the stream's share is no smaller on b, and it has two shares of cells on a
-pub record PlansJoin (a b : Board paper) : Type 0 where
+pub record PlansJoin (a b : Board reference) : Type 0 where
   pub in-step : InStep (planOn a) (planOn b)
   pub share-kept : entry (planOn a) (a .stream) .share ≤ entry (planOn b) (b .stream) .share
   pub two-shares : 2 * entry (planOn a) (a .stream) .share ≤ entry (planOn a) (a .stream) .cells
 
 -- so from link to link, with late + 2 shares of cells on the last. RULES 22.8.
-abbrev pub PlansFit : (late : ℕ) → Board paper → List (Board paper) → Type 0
+abbrev pub PlansFit : (late : ℕ) → Board reference → List (Board reference) → Type 0
 PlansFit late a [] = (late + 2) * entry (planOn a) (a .stream) .share ≤ entry (planOn a) (a .stream) .cells
 PlansFit late a (b ∷ rest) = PlansJoin a b × PlansFit late b rest
 
 -- ---- what follows
 
 -- RULES 27.12: no tile of the stream waits at any of the crossings
-abbrev pub NoneWaits : (board : playing.Board) (a : Board paper) (rest : List (Board paper)) → CrossedAlong board a rest → Type 0
+abbrev pub NoneWaits : (board : playing.Board) (a : Board reference) (rest : List (Board reference)) → CrossedAlong board a rest → Type 0
 NoneWaits board a [] crossed = Unit {0}
 NoneWaits board a (b ∷ rest) crossed = (waits (crossingOf (crossed .0)) (a .stream) ≡ 0) × NoneWaits board b rest (crossed .1)
 
 -- RULES 27.12: and its requests and credits on each link are those that the theorems on arrival ask for
-pub record PassedAlong (board : playing.Board) (late : ℕ) (a : Board paper) (rest : List (Board paper)) (crossed : CrossedAlong board a rest) : Type 0 where
+pub record PassedAlong (board : playing.Board) (late : ℕ) (a : Board reference) (rest : List (Board reference)) (crossed : CrossedAlong board a rest) : Type 0 where
   pub none-waits : NoneWaits board a rest crossed
   pub by-credits : WayByCredits late a rest
   pub all-asked : AllAskedAlong a rest
@@ -79,5 +79,5 @@ pub record PassedAlong (board : playing.Board) (late : ℕ) (a : Board paper) (r
 -- So it is where the source is modest: `passes-along`, in proofs/Ways.antt, of our board.
 abbrev pub PassesAlong : playing.Board → Type 0
 PassesAlong board =
-    (late : ℕ) (a : Board paper) (rest : List (Board paper)) → PlansFit late a rest → ModestFirst (planOn a) (a .stream) (a .events)
+    (late : ℕ) (a : Board reference) (rest : List (Board reference)) → PlansFit late a rest → ModestFirst (planOn a) (a .stream) (a .events)
     → GivesBack late (lastBoard a rest) → (crossed : CrossedAlong board a rest) → PassedAlong board late a rest crossed

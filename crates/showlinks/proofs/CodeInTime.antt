@@ -7,7 +7,7 @@ use native.Mathlib.Omega.{arith}
 use lib.ListN.{length, take}
 use lib.Seq.{take-at}
 use Rattle.model.specs.Plan as plan
-use Rattle.model.specs.Card.{Played, paper}
+use Rattle.model.specs.Scheduler.{Played, reference}
 use Rattle.arrival.specs.SeveralLinks.{Ran, Board}
 use Rattle.model.specs.WrittenPlan as writer
 use Rattle.model.specs.WrittenPlan.{bytesOf}
@@ -38,13 +38,13 @@ module _ (show : Show) (none : refusal show ≡ 0) where
       let many : length (bytesOf P) ≡ x .count = cc in
       ap (take (x .count)) (x .wrote .left ∙ ap (λ (w : writer.Written). w .out) whole) ∙ take-at (bytesOf P) _ (x .count) many
 
-  -- and the events those of a run of the paper's card on it
-  ran-there : {l : Link} (x : CodeLink show l) → plan.refusal (take (x .count) (x .after)) ≡ 0 → Ran paper (plan.planOf (take (x .count) (x .after))) (x .events)
+  -- and the events those of a run of the reference scheduler on it
+  ran-there : {l : Link} (x : CodeLink show l) → plan.refusal (take (x .count) (x .after)) ≡ 0 → Ran reference (plan.planOf (take (x .count) (x .after))) (x .events)
   ran-there x passes =
       let bytes = take (x .count) (x .after) in
       let run = run-of (x .valid (x .accepts) .accepted) (x .handed) in
       let same : planFor (x .outcome .plan) ≡ plan.planOf bytes = ap (λ (o : Outcome). planFor (o .plan)) (x .read) ∙ is-plan bytes passes in
-      subst (λ P. Ran paper P (x .events)) same (record { calls = run .calls; is = ap (λ (r : Played paper). r .history) (run .played) })
+      subst (λ P. Ran reference P (x .events)) same (record { calls = run .calls; is = ap (λ (r : Played reference). r .history) (run .played) })
 
   module _ (i : ℕ) (below : i < length (show .streams)) {l : Link} (on : In l (way (showStream show i .stream))) where
     abbrev flows : Flows show i (on .place) l
@@ -77,10 +77,10 @@ module _ (show : Show) (none : refusal show ≡ 0) where
           has-events = refl;
         }
 
-  on-link : (i : ℕ) {l : Link} {b : Board paper} → used show l ≡ true → OfCode show i l b → OnLink show i l b
+  on-link : (i : ℕ) {l : Link} {b : Board reference} → used show l ≡ true → OfCode show i l b → OnLink show i l b
   on-link i u x = record { bytes-are = x .bytes-are ∙ bytes-left (x .made) u; flow-is = x .flow-is }
 
-  on-links : (i : ℕ) (ls : List Link) (bs : List (Board paper)) → ((l : Link) → In l ls → used show l ≡ true) → AllOfCode show i ls bs → OnLinks show i ls bs
+  on-links : (i : ℕ) (ls : List Link) (bs : List (Board reference)) → ((l : Link) → In l ls → used show l ≡ true) → AllOfCode show i ls bs → OnLinks show i ls bs
   on-links i [] [] each x = tt
   on-links i [] (b ∷ bs) each x = absurd x
   on-links i (l ∷ ls) [] each x = absurd x

@@ -5,8 +5,8 @@ use mathlib.Core.List.{List, _∷_, []}
 use lib.ListN.{length, take}
 use Rattle.model.specs.Tables.{tally}
 use Rattle.model.specs.Calls.{History}
-use Rattle.model.specs.History.{renews}
-use Rattle.model.specs.Card.{paper}
+use Rattle.model.specs.History.{isGrantedReset}
+use Rattle.model.specs.Scheduler.{reference}
 use Rattle.arrival.specs.SeveralLinks.{Board, planOn}
 use Rattle.arrival.specs.CreditedByNext.{ModestFirst}
 use Rattle.arrival.specs.AllArrive.{AllAskedAlong}
@@ -40,10 +40,10 @@ pub record CodeLink (show : Show) (l : Link) : Type 0 where
   pub events : History
   pub link : code.Link
   pub handed : Handed (outcome .plan) events link
-  pub unreset : tally renews events ≡ 0
+  pub unreset : tally isGrantedReset events ≡ 0
 
 -- board b has this plan and these events, and its stream is stream i of the show
-pub record OfCode (show : Show) (i : ℕ) (l : Link) (b : Board paper) : Type 0 where
+pub record OfCode (show : Show) (i : ℕ) (l : Link) (b : Board reference) : Type 0 where
   pub made : CodeLink show l
   pub bytes-are : b .bytes ≡ take (made .count) (made .after)
   pub events-are : b .events ≡ made .events
@@ -51,7 +51,7 @@ pub record OfCode (show : Show) (i : ℕ) (l : Link) (b : Board paper) : Type 0 
 
 -- the board of what the code did
 pub record BoardOf (show : Show) (i : ℕ) (l : Link) (m : CodeLink show l) : Type 0 where
-  pub board : Board paper
+  pub board : Board reference
   pub of-code : OfCode show i l board
   pub has-events : board .events ≡ m .events
 
@@ -62,7 +62,7 @@ CodeBoards =
     → BoardOf show i l m
 
 -- so of the boards of several links
-abbrev pub AllOfCode : Show → ℕ → List Link → List (Board paper) → Type 0
+abbrev pub AllOfCode : Show → ℕ → List Link → List (Board reference) → Type 0
 AllOfCode show i [] [] = Unit {0}
 AllOfCode show i [] (b ∷ bs) = ⊥
 AllOfCode show i (l ∷ ls) [] = ⊥
@@ -72,12 +72,12 @@ AllOfCode show i (l ∷ ls) (b ∷ bs) = OfCode show i l b × AllOfCode show i l
 abbrev pub CodeInTime : Type 0
 CodeInTime =
     (show : Show) → refusal show ≡ 0 → (i : ℕ) → i < length (show .streams) → (late : ℕ) → EnoughCells show late i
-    → (a : Board paper) (rest : List (Board paper)) → AllOfCode show i (way (showStream show i .stream)) (a ∷ rest)
+    → (a : Board reference) (rest : List (Board reference)) → AllOfCode show i (way (showStream show i .stream)) (a ∷ rest)
     → ModestFirst (planOn a) (a .stream) (a .events) → PassedAlong late a rest → InTime show i a rest
 
 -- and where each tile is asked for on the next board, all of them arrive: `code-all-in-time`, there
 abbrev pub CodeAllInTime : Type 0
 CodeAllInTime =
     (show : Show) → refusal show ≡ 0 → (i : ℕ) → i < length (show .streams) → (late : ℕ) → EnoughCells show late i
-    → (a : Board paper) (rest : List (Board paper)) → AllOfCode show i (way (showStream show i .stream)) (a ∷ rest)
+    → (a : Board reference) (rest : List (Board reference)) → AllOfCode show i (way (showStream show i .stream)) (a ∷ rest)
     → ModestFirst (planOn a) (a .stream) (a .events) → PassedAlong late a rest → AllAskedAlong a rest → AllInTime show i a rest

@@ -1,14 +1,14 @@
 // The records of a burst.
 ghost use Prim.Native.Nat.{_+_, _≤_};
 ghost use Rattle.link.specs.Sound.{SoundLink};
-use burst::Ask;
+use burst::BurstRecord;
 use burst::HandedBack;
 use link::Link;
 use timing::file::MOST;
 
 // A record that asks for a word.
-fn unfilled(word: u32) -> Ask {
-    Ask {
+fn unfilled(word: u32) -> BurstRecord {
+    BurstRecord {
         word,
         result: 0,
         position: 0,
@@ -27,7 +27,7 @@ pub(crate) fn none(link: Link) -> HandedBack
 }
 
 // The records of so many words from a place on.
-pub(crate) fn asks(words: &[u32; MOST], from: usize, count: usize) -> [Ask; 20]
+pub(crate) fn asks(words: &[u32; MOST], from: usize, count: usize) -> [BurstRecord; 20]
     requires { ⌜ (from + count ≤ 4096) × (count ≤ 16) ⌝ }
 {
     let mut all = [unfilled(0); 20];
@@ -40,7 +40,7 @@ pub(crate) fn asks(words: &[u32; MOST], from: usize, count: usize) -> [Ask; 20]
 }
 
 // An answer as a number: the granted word, or the refusal.
-fn number(record: Ask) -> u64 {
+fn number(record: BurstRecord) -> u64 {
     if record.result == 0 {
         return (record.word / 1024) as u64 * 1024 + record.position as u64;
     }
@@ -48,7 +48,7 @@ fn number(record: Ask) -> u64 {
 }
 
 // The sum of the answers in the first records.
-pub(crate) fn answers(records: [Ask; 20], count: usize) -> u64
+pub(crate) fn answers(records: [BurstRecord; 20], count: usize) -> u64
     requires { ⌜ count ≤ 16 ⌝ }
 {
     let mut sum = 0;

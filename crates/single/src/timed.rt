@@ -20,8 +20,8 @@ pub(crate) struct Timed {
 fn number(answer: Answer) -> u64 {
     match answer {
         Answer::Granted(word) => word as u64,
-        Answer::Taken => 1,
-        Answer::Turn(flow) => flow as u64,
+        Answer::Accepted => 1,
+        Answer::Booked(flow) => flow as u64,
         Answer::Idle => 16,
         Answer::Lent(flow) => flow as u64,
         Answer::Reset => 1,

@@ -7,7 +7,13 @@ ghost use lib.ListN.{length};
 ghost use Rattle.state.specs.Parts.{withPart};
 ghost use Rattle.state.specs.State.{Whole, maskAt, withMask, MasksNow};
 
-pub type State = [u8; 4499];
+// How many bytes a state has.
+pub const LENGTH: usize = 4499;
+
+pub type State = [u8; LENGTH];
+
+// The owner of a position that nobody booked.
+pub const NOBODY: u8 = 16;
 
 // The bytes of one flow's holdings, from ROW * i on.
 pub const ROW: usize = 256;

@@ -1,4 +1,4 @@
--- The search of a request over the tables: valid positions, what it comes to, read as the paper's, and a frame's valid slots in one word.
+-- The search of a request over the tables: valid positions, what it comes to, read as the model's, and a frame's valid slots in one word.
 -- Assumes nothing.
 use Prim.Native.Nat.{ℕ, _+_}
 use mathlib.Core.Path.{_≡_}

@@ -25,13 +25,13 @@ use state::ROW;
 use state::State;
 use state::put_table;
 use window::Window;
-use window::numbers::chosen;
 use window::numbers::larger_byte;
-use window::numbers::moved;
-use window::numbers::on_by_one;
-use window::numbers::one_more;
+use window::numbers::saturating_inc;
+use window::numbers::select_below;
 use window::numbers::smaller_byte;
-use window::numbers::to_zero;
+use window::numbers::wrapping_add;
+use window::numbers::wrapping_inc;
+use window::numbers::wrapping_neg;
 use window::positions::before;
 
 // One value at every place of the range from a to e.
@@ -109,11 +109,11 @@ fn shift(s: &mut State, a: usize, e: usize, base: u8, from: u8, late: u8)
 {
     let mut q = a;
     // how far q lies on from a + base, going round 256
-    let mut x = to_zero(base);
+    let mut x = wrapping_neg(base);
     while q < e {
-        let by = chosen(x, from, 0, late);
-        s[q] = moved(s[q], by);
-        x = on_by_one(x);
+        let by = select_below(x, from, 0, late);
+        s[q] = wrapping_add(s[q], by);
+        x = wrapping_inc(x);
         q += 1;
     }
 }
@@ -125,7 +125,7 @@ fn on_from_head(w: Window, p: usize) -> u8
     ensures { λ r. ⌜ r ≡ onFrom (baseOf w) p ⌝ }
 {
     let start = w.head * w.slots;
-    moved(p as u8, to_zero(start as u8))
+    wrapping_add(p as u8, wrapping_neg(start as u8))
 }
 
 // Flow i's holdings from p on, each moved by a number modulo 256: 1 is one more, 255 one fewer.
@@ -147,10 +147,10 @@ fn held_in(s: &State, a: usize, e: usize, base: u8, from: u8) -> bool
     let mut least = 255u8;
     let mut q = a;
     // how far q lies on from a + base, going round 256
-    let mut x = to_zero(base);
+    let mut x = wrapping_neg(base);
     while q < e {
-        least = smaller_byte(least, larger_byte(s[q], chosen(x, from, 255, 0)));
-        x = on_by_one(x);
+        least = smaller_byte(least, larger_byte(s[q], select_below(x, from, 255, 0)));
+        x = wrapping_inc(x);
         q += 1;
     }
     0 < least
@@ -185,13 +185,13 @@ fn lower(s: &mut State, a: usize, e: usize, base: u8, from: u8) -> u8
     let mut most = 0u8;
     let mut q = a;
     // how far q lies on from a + base, going round 256
-    let mut x = to_zero(base);
+    let mut x = wrapping_neg(base);
     while q < e {
-        let by = chosen(x, from, 0, 255);
-        let fewer = moved(byte(s[q]), by);
+        let by = select_below(x, from, 0, 255);
+        let fewer = wrapping_add(byte(s[q]), by);
         most = larger_byte(most, fewer);
         s[q] = fewer;
-        x = on_by_one(x);
+        x = wrapping_inc(x);
         q += 1;
     }
     most
@@ -240,7 +240,7 @@ pub fn raise_from(s: &mut State, i: usize, w: Window, position: usize)
 {
     let bound = s[BOUNDS + i];
     shift_from(s, 1, i, w, position);
-    s[BOUNDS + i] = one_more(bound);
+    s[BOUNDS + i] = saturating_inc(bound);
 }
 
 // The table of a flow that holds nothing at any position.

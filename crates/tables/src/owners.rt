@@ -5,6 +5,7 @@ ghost use Rattle.state.specs.State.{ownersOf, withOwners};
 ghost use Rattle.window.specs.Ranges.{inRange, replaced, All};
 ghost use Rattle.window.specs.Window.{windowOf, Proper};
 ghost use Rattle.tables.specs.Owners.{nobody, unbookedAt, noneLater, everywhere, emptied};
+use state::NOBODY;
 use state::OWNERS;
 use state::State;
 use state::put_table;
@@ -13,7 +14,7 @@ use window::Window;
 pub fn unbooked() -> [u8; 256]
     ensures { λ r. ⌜ r ≡ everywhere nobody ⌝ }
 {
-    [16u8; 256]
+    [NOBODY; 256]
 }
 
 // Nobody owns a position.
@@ -31,7 +32,7 @@ fn empty(s: &mut State, a: usize, e: usize)
     let end = OWNERS + e;
     let mut q = OWNERS + a;
     while q < end {
-        s[q] = 16;
+        s[q] = NOBODY;
         q += 1;
     }
 }
@@ -53,7 +54,7 @@ fn unbooked_in(s: &State, a: usize, e: usize) -> bool
     let mut all = true;
     let mut q = a;
     while q < e {
-        if s[OWNERS + q] != 16 {
+        if s[OWNERS + q] != NOBODY {
             all = false;
         }
         q += 1;

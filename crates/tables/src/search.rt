@@ -11,11 +11,11 @@ use crate::holdings::room_rank;
 use state::BOUNDS;
 use state::State;
 use state::mask_at;
-use unbooked::bits::from;
+use unbooked::bits::clear_below;
 use unbooked::bits::lowest;
 use window::Window;
 use window::numbers::larger;
-use window::numbers::over;
+use window::numbers::saturating_sub;
 use window::positions::next;
 
 // The rank from which on a position is late enough for a flow: it is not passed, and there is room from it on. Where the flow's bound is below
@@ -47,7 +47,10 @@ fn valid_slots(s: &State, w: Window, low: usize, frame: usize) -> u64
     requires { ⌜ FrameIn w frame (now s) ⌝ }
     ensures { λ r. ⌜ ValidSlots (windowOf w) (validAt (ownersOf (now (s .entry))) (ranksFrom w low)) frame r ⌝ }
 {
-    from(mask_at(s, frame), over(low, w.rank(frame * w.slots)))
+    clear_below(
+        mask_at(s, frame),
+        saturating_sub(low, w.rank(frame * w.slots)),
+    )
 }
 
 // The search from a frame and a remainder up to the newest frame, for a valid position, where the late positions are those of rank

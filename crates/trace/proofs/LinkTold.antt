@@ -10,7 +10,7 @@ use lib.ListN.{getD}
 use lib.Dec.{eqb, ltb}
 use borrow.Author.Tests.{eq-eqb, ne-eqb, lt-ltb, le-ltb, ltb-true, not-false}
 use Rattle.model.specs.Tables.{ahead}
-use Rattle.model.specs.Plan as paper
+use Rattle.model.specs.Plan as reference
 use Rattle.model.specs.Window as seen
 use Rattle.model.specs.Link as model
 use Rattle.model.specs.Refusals.{firstOf}
@@ -71,15 +71,15 @@ answered-as l e f g h = λ k. answered (e k .letter) (e k .number) (e k .value) 
 
 -- ---- a credit that is taken is dated a position
 
-pub dated-below : (l : model.Link) (i p : ℕ) → numberOf (credit l i p .answer) ≡ 0 → p < paper.positions (l .plan)
+pub dated-below : (l : model.Link) (i p : ℕ) → numberOf (credit l i p .answer) ≡ 0 → p < reference.positions (l .plan)
 unfolding credit creditAfter
-dated-below l i p z = ltb-true p (paper.positions (l .plan)) (not-false (ltb p (paper.positions (l .plan))) (tests .1))
+dated-below l i p z = ltb-true p (reference.positions (l .plan)) (not-false (ltb p (reference.positions (l .plan))) (tests .1))
   where
     none : (n : ℕ) → numberOf (creditAfter n l i p .answer) ≡ 0 → n ≡ 0
     none zero e = refl
     none (suc n) e = e
 
-    tests : (not (ltb i (paper.flowCount (l .plan))) ≡ false) × (not (ltb p (paper.positions (l .plan))) ≡ false)
+    tests : (not (ltb i (reference.flowCount (l .plan))) ≡ false) × (not (ltb p (reference.positions (l .plan))) ≡ false)
     tests =
         let first = line-passed _ _ _ (none (firstOf (creditTests l i p)) z) in
         (first .0, line-passed _ _ _ (first .1) .0)
@@ -90,9 +90,9 @@ module _ (i p : ℕ) (l : model.Link) (n : ℕ) where
   unfolding creditLine
   refused-line h = rw (ne-eqb n 0 h)
 
-  pub taken-line : n ≡ 0 → answered 67 0 0 (callNumbers 2 i p) l i p ≡ creditLine i p l n
+  pub accepted-line : n ≡ 0 → answered 67 0 0 (callNumbers 2 i p) l i p ≡ creditLine i p l n
   unfolding creditLine
-  taken-line h = rw (eq-eqb n 0 h)
+  accepted-line h = rw (eq-eqb n 0 h)
 
 -- ---- the lines of a tick and of a reset: one line, or the flows after it
 
@@ -123,10 +123,10 @@ module _ (l : model.Link) (a : Answer) {r : Said} (e : r ≡ saidFor a) where
 -- ---- a plan's entries
 
 module _ (p : Plan) where
-  pub plan-count : paper.flowCount (planFor p) ≡ p .count
+  pub plan-count : reference.flowCount (planFor p) ≡ p .count
   plan-count = length-table (p .count) _
 
-  pub plan-entry : (i : ℕ) → i < p .count → paper.entry (planFor p) i ≡ entryFor (getD (p .entries) i noEntry)
+  pub plan-entry : (i : ℕ) → i < p .count → reference.entry (planFor p) i ≡ entryFor (getD (p .entries) i noEntry)
   plan-entry i h = getD-table (p .count) _ i _ h
 
   pub count-most : Valid p → p .count ≤ 16
@@ -180,11 +180,11 @@ module _ {plan : Plan} {w : Window} {s : List ℕ} (o : StateIn plan w s) where
   pub current-told : w .current ≡ readIn plan s .current
   current-told = ap (λ (v : seen.Window). v .current) (o .window-is)
 
-  pub mark-told : getD s 4497 0 ≡ bit (readIn plan s .taken)
+  pub mark-told : getD s 4497 0 ≡ bit (readIn plan s .marked)
   unfolding linkOf
   mark-told = bit-back (getD s 4497 0) (o .sound .mark)
 
-  pub turn-told : getD s 4498 0 ≡ readIn plan s .lookFrom
+  pub turn-told : getD s 4498 0 ≡ readIn plan s .turn
   unfolding linkOf
   turn-told = refl
 
@@ -193,7 +193,7 @@ module _ {plan : Plan} {w : Window} {s : List ℕ} (o : StateIn plan w s) where
   pub last-told : (baseOf w + sizeOf w - 1) % sizeOf w ≡ seen.last (model.window (readIn plan s))
   last-told = ap (λ h. (h * w .slots + sizeOf w - 1) % sizeOf w) (o .proper .head-is) ∙ ap seen.last (o .window-is)
 
-  pub ahead-told : (p : ℕ) → (p + sizeOf w - w .current) % sizeOf w ≡ ahead (paper.positions (readIn plan s .plan)) (readIn plan s .current) p
+  pub ahead-told : (p : ℕ) → (p + sizeOf w - w .current) % sizeOf w ≡ ahead (reference.positions (readIn plan s .plan)) (readIn plan s .current) p
   unfolding ahead
   ahead-told p = ap (λ (v : seen.Window). (p + v .slots * v .frames - v .current) % (v .slots * v .frames)) (o .window-is)
 
@@ -202,14 +202,14 @@ module _ {plan : Plan} {w : Window} {s : List ℕ} (o : StateIn plan w s) where
   -- the part of flow i, from what is read of it
   pub part-told : (i p : ℕ) {f : Flow} {owner held last : ℕ} → i < 16 → p < 256 → f ≡ flowRead s i → owner ≡ getD s (4096 + p) 0
       → held ≡ getD s (256 * i + p) 0 → last ≡ heldLast (readIn plan s) i
-      → f .frame ∷ f .left ∷ f .number ∷ (p + sizeOf w - w .current) % sizeOf w ∷ owner ∷ held ∷ last ∷ [] ≡ flowNumbers (readIn plan s) i p
+      → f .injection ∷ f .remainder ∷ f .number ∷ (p + sizeOf w - w .current) % sizeOf w ∷ owner ∷ held ∷ last ∷ [] ≡ flowNumbers (readIn plan s) i p
   part-told i p few b e x h z =
       let g = e ∙ flow-told i few in
-      λ k. g k .frame ∷ g k .left ∷ g k .number ∷ ahead-told p k ∷ (x ∙ owner-told p b) k ∷ (h ∙ held-told i p few b) k ∷ z k ∷ []
+      λ k. g k .injection ∷ g k .remainder ∷ g k .number ∷ ahead-told p k ∷ (x ∙ owner-told p b) k ∷ (h ∙ held-told i p few b) k ∷ z k ∷ []
 
   pub flow-line-told : (i : ℕ) {f : Flow} {last : ℕ} → i < 16 → f ≡ flowRead s i → last ≡ heldLast (readIn plan s) i
-      → lineOf 70 (i ∷ f .frame ∷ f .left ∷ last ∷ []) ≡ flowLine (readIn plan s) i
-  flow-line-told i few e z = let g = e ∙ flow-told i few in λ k. lineOf 70 (i ∷ g k .frame ∷ g k .left ∷ z k ∷ [])
+      → lineOf 70 (i ∷ f .injection ∷ f .remainder ∷ last ∷ []) ≡ flowLine (readIn plan s) i
+  flow-line-told i few e z = let g = e ∙ flow-told i few in λ k. lineOf 70 (i ∷ g k .injection ∷ g k .remainder ∷ z k ∷ [])
 
   -- no flow of the plan has the number of its flows
   pub count-told : plan .count ≡ nobodys (readIn plan s)

@@ -6,7 +6,7 @@ use mathlib.Core.Bool.{Bool, cond}
 use lib.Dec.{ltb, eqb}
 use Rattle.model.specs.Tables.{table, ahead}
 use Rattle.model.specs.Word.{flowOf, destinationOf, quantumOf, departureOf}
-use Rattle.model.specs.Plan as paper
+use Rattle.model.specs.Plan as reference
 use Rattle.model.specs.Listing.{text}
 use Rattle.model.specs.Window.{last}
 use Rattle.model.specs.Link.{Link, window, owner, flow, holding}
@@ -20,7 +20,7 @@ use Rattle.link.specs.declared.request.Reply.{Reply}
 use Rattle.link.specs.Reading.{storedOwner}
 use Rattle.link.specs.Steps.{numberOf, replyOf}
 use Rattle.calls.specs.declared.Answer.{Answer}
-use Rattle.calls.specs.declared.Answer.the-variants.{Granted, Taken, Turn, Idle, Lent, Refused}
+use Rattle.calls.specs.declared.Answer.the-variants.{Granted, Accepted, Booked, Idle, Lent, Refused}
 use Rattle.calls.specs.Reading.{answerToLend, answerToReset}
 use Rattle.trace.specs.declared.told.Said.{Said}
 use Rattle.trace.specs.declared.Call.{Call}
@@ -32,18 +32,18 @@ lineOf letter numbers = letter ∷ flatMap spaced numbers ++ text "\n"
 
 -- ---- RULES 26.3: the plan
 
-abbrev pub entryLine : paper.Entry → List ℕ
+abbrev pub entryLine : reference.Entry → List ℕ
 entryLine e = lineOf (code "E") (e .share ∷ e .cells ∷ e .source ∷ e .destination ∷ [])
 
-abbrev pub planStart : paper.Plan → List ℕ
-planStart P = lineOf (code "P") (0 ∷ P .slots ∷ P .frames ∷ P .buffer ∷ paper.flowCount P ∷ [])
+abbrev pub planStart : reference.Plan → List ℕ
+planStart P = lineOf (code "P") (0 ∷ P .slots ∷ P .frames ∷ P .buffer ∷ reference.flowCount P ∷ [])
 
 -- the lines of the first n entries
-unfoldable pub entryLines : paper.Plan → ℕ → List ℕ
-entryLines P n = flatMap entryLine (table n (paper.entry P))
+unfoldable pub entryLines : reference.Plan → ℕ → List ℕ
+entryLines P n = flatMap entryLine (table n (reference.entry P))
 
-abbrev pub planLines : paper.Plan → List ℕ
-planLines P = planStart P ++ entryLines P (paper.flowCount P)
+abbrev pub planLines : reference.Plan → List ℕ
+planLines P = planStart P ++ entryLines P (reference.flowCount P)
 
 -- ---- RULES 26.4 and 26.6: the link after a call, and one flow of it
 
@@ -52,7 +52,7 @@ bit b = cond b 1 0
 
 -- CP, the mark, and the flow that the next lend looks from
 abbrev pub linkNumbers : Link → List ℕ
-linkNumbers l = l .current ∷ bit (l .taken) ∷ l .lookFrom ∷ []
+linkNumbers l = l .current ∷ bit (l .marked) ∷ l .turn ∷ []
 
 -- what flow i holds at the last position of the window
 abbrev pub heldLast : Link → (i : ℕ) → ℕ
@@ -64,7 +64,7 @@ flowNumbers l i p =
     flow l i .injection
     ∷ flow l i .remainder
     ∷ flow l i .number
-    ∷ ahead (paper.positions (l .plan)) (l .current) p
+    ∷ ahead (reference.positions (l .plan)) (l .current) p
     ∷ storedOwner (owner l p)
     ∷ holding l i p
     ∷ heldLast l i
@@ -72,7 +72,7 @@ flowNumbers l i p =
 
 -- the link, and flow i where the plan has it
 unfoldable pub about : Link → (i p : ℕ) → List ℕ
-about l i p = linkNumbers l ++ cond (ltb i (paper.flowCount (l .plan))) (flowNumbers l i p) []
+about l i p = linkNumbers l ++ cond (ltb i (reference.flowCount (l .plan))) (flowNumbers l i p) []
 
 -- RULES 26.4: the line of an answer, which is about flow i and position p
 unfoldable pub answered : (letter number value : ℕ) (call : List ℕ) → Link → (i p : ℕ) → List ℕ
@@ -80,13 +80,13 @@ answered letter number value call l i p = lineOf letter (number ∷ value ∷ ca
 
 -- no flow: the plan has none of this number
 abbrev pub nobodys : Link → ℕ
-nobodys l = paper.flowCount (l .plan)
+nobodys l = reference.flowCount (l .plan)
 
 -- RULES 26.2 and 26.4: an answer's letter, the refusal or 0, and what is answered
 abbrev pub saidFor : Answer → Said
 saidFor (Granted word) = record { letter = code "G"; number = 0; value = departureOf word }
-saidFor Taken = record { letter = code "C"; number = 0; value = 0 }
-saidFor (Turn flow) = record { letter = code "T"; number = 0; value = flow }
+saidFor Accepted = record { letter = code "C"; number = 0; value = 0 }
+saidFor (Booked flow) = record { letter = code "T"; number = 0; value = flow }
 saidFor Idle = record { letter = code "T"; number = 0; value = 16 }
 saidFor (Lent flow) = record { letter = code "L"; number = 0; value = flow }
 saidFor Answer.Reset = record { letter = code "Z"; number = 0; value = 0 }
@@ -156,7 +156,7 @@ tickLine l change = answered (code "T") 0 (storedOwner (owner l (l .current))) (
 
 -- its lines
 unfoldable pub tickLines : Link → (change : Bool) → List ℕ
-tickLines l change = tickLine l (bit change) ++ cond change (flowLines l (paper.flowCount (l .plan))) []
+tickLines l change = tickLine l (bit change) ++ cond change (flowLines l (reference.flowCount (l .plan))) []
 
 -- RULES 26.7: there is a frame change where CP is now 0 modulo F
 unfoldable pub tracedTick : Link → Traced
@@ -175,7 +175,7 @@ tracedLend l mask = let m = lend l mask in record { link = m .link; lines = lend
 unfoldable pub resetLines : Link → Answer → List ℕ
 resetLines l a =
     answered (saidFor a .letter) (saidFor a .number) (saidFor a .value) (callNumbers 5 0 0) l (nobodys l) (l .current)
-    ++ cond (eqb (saidFor a .number) 0) (flowLines l (paper.flowCount (l .plan))) []
+    ++ cond (eqb (saidFor a .number) 0) (flowLines l (reference.flowCount (l .plan))) []
 
 unfoldable pub tracedReset : Link → Traced
 tracedReset l = let m = reset l in record { link = m .link; lines = resetLines (m .link) (answerToReset (m .answer)) }

@@ -14,7 +14,7 @@ use Rattle.trace.specs.Trace.{Traced}
 
 -- what is told of a flow and a position, as numbers
 abbrev pub partNumbers : Part → List ℕ
-partNumbers x = x .frame ∷ x .left ∷ x .number ∷ x .ahead ∷ x .owner ∷ x .held ∷ x .last ∷ []
+partNumbers x = x .injection ∷ x .remainder ∷ x .number ∷ x .ahead ∷ x .owner ∷ x .held ∷ x .last ∷ []
 
 -- a call's numbers
 abbrev pub namedNumbers : Named → List ℕ

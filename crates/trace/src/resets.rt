@@ -15,7 +15,7 @@ use plan::Plan;
 use state::State;
 use window::Window;
 
-pub(crate) fn renew(s: &mut State, plan: Plan, w: Window, out: &mut [u8], at: usize) -> usize
+pub(crate) fn reset_step(s: &mut State, plan: Plan, w: Window, out: &mut [u8], at: usize) -> usize
     requires { ⌜ StateIn plan w (now s) × (at + 2048 ≤ length (now out)) ⌝ }
     ensures { λ r. ⌜ Told (tracedReset (readIn plan (now (s .entry)))) plan w (now (s .exit))
         (now (out .entry)) (now (out .exit)) at r ⌝ }

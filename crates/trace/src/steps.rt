@@ -12,8 +12,8 @@ use crate::asks::ask_in_burst;
 use crate::asks::ask_past_burst;
 use crate::credits::give;
 use crate::lends::hand_on;
-use crate::resets::renew;
-use crate::ticks::turn;
+use crate::resets::reset_step;
+use crate::ticks::tick_step;
 use plan::Plan;
 use state::State;
 use window::Window;
@@ -41,14 +41,14 @@ pub fn step(s: &mut State, plan: Plan, w: Window, call: Call, out: &mut [u8], at
             window: w,
             end: give(s, plan, w, flow, position, out, at),
         },
-        Call::Tick => turn(s, plan, w, out, at),
+        Call::Tick => tick_step(s, plan, w, out, at),
         Call::Lend(mask) => Reached {
             window: w,
             end: hand_on(s, plan, w, mask, out, at),
         },
         Call::Reset => Reached {
             window: w,
-            end: renew(s, plan, w, out, at),
+            end: reset_step(s, plan, w, out, at),
         },
     }
 }

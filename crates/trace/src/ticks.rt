@@ -33,7 +33,7 @@ fn put_tick(s: &State, plan: Plan, w: Window, change: usize, out: &mut [u8], at:
     put_answer(s, plan, w, line, out, at)
 }
 
-pub(crate) fn turn(s: &mut State, plan: Plan, w: Window, out: &mut [u8], at: usize) -> Reached
+pub(crate) fn tick_step(s: &mut State, plan: Plan, w: Window, out: &mut [u8], at: usize) -> Reached
     requires { ⌜ StateIn plan w (now s) × (at + 2048 ≤ length (now out)) ⌝ }
     ensures { λ r. ⌜ Told (tracedTick (readIn plan (now (s .entry)))) plan (r .window) (now (s .exit))
         (now (out .entry)) (now (out .exit)) at (r .end) ⌝ }

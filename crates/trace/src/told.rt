@@ -73,10 +73,10 @@ pub(crate) fn spoken(answer: Answer) -> Said
         Answer::Granted(word) => {
             return answer_of(b'G', 0, (word % 1024) as usize);
         }
-        Answer::Taken => {
+        Answer::Accepted => {
             return answer_of(b'C', 0, 0);
         }
-        Answer::Turn(flow) => {
+        Answer::Booked(flow) => {
             return answer_of(b'T', 0, flow as usize);
         }
         Answer::Idle => {
@@ -119,8 +119,8 @@ fn last_held(s: &State, w: Window, i: usize) -> usize
 
 // What is told of a flow and a position.
 struct Part {
-    frame: usize,
-    left: usize,
+    injection: usize,
+    remainder: usize,
     number: usize,
     ahead: usize,
     owner: usize,
@@ -136,8 +136,8 @@ fn part_of(s: &State, w: Window, i: usize, p: usize) -> Part
     let f = flow_at(s, i);
     let size = w.slots * w.frames;
     Part {
-        frame: f.frame,
-        left: f.left,
+        injection: f.injection,
+        remainder: f.remainder,
         number: f.number,
         ahead: (p + size - w.current) % size,
         owner: byte_at(s, OWNERS + p),
@@ -189,8 +189,8 @@ pub(crate) fn put_answer(
         w.current,
         mark,
         turn,
-        f.frame,
-        f.left,
+        f.injection,
+        f.remainder,
         f.number,
         f.ahead,
         f.owner,
@@ -207,7 +207,7 @@ fn put_flow(s: &State, w: Window, i: usize, out: &mut [u8], at: usize) -> usize
         → Lines (flowLine (readIn plan (now (s .entry))) i) (now (out .entry)) (now (out .exit)) at r 86) ⌝ }
 {
     let f = flow_at(s, i);
-    let numbers = [i, f.frame, f.left, last_held(s, w, i)];
+    let numbers = [i, f.injection, f.remainder, last_held(s, w, i)];
     put_line(b'F', &numbers, out, at)
 }
 

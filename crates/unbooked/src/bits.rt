@@ -13,7 +13,7 @@ pub fn below(n: usize) -> u64
 }
 
 // A word without its bits below n.
-pub fn from(word: u64, n: usize) -> u64
+pub fn clear_below(word: u64, n: usize) -> u64
     ensures { λ r. ⌜ Bits (λ i. leb n i && bitAt word i) r ⌝ }
 {
     if 64 <= n {

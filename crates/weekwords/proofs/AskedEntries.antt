@@ -12,7 +12,7 @@ use borrow.Author.Tests.{lt-ltb, le-ltb, lt-leb, le-leb}
 use Rattle.model.specs.Tables.{any, table}
 use Rattle.model.proofs.Tables.{length-table, getD-table, table-same}
 use Rattle.model.proofs.Tests.{any-same}
-use Rattle.programme.specs.Week.{Entry, week, entry, noEntry, startsFirst, inWeek}
+use Rattle.week.specs.Week.{Entry, week, entry, noEntry, startsFirst, inWeek}
 use Rattle.programmewords.specs.Programmes.{entriesAsked, entryAsked, programmeAsked, widePlan}
 use Rattle.faults.specs.Told.{eachBelow}
 use Rattle.weekwords.specs.WeekFaults.{entriesSeen, entriesFaults, countFaults, sharedFaults, faultsOf}

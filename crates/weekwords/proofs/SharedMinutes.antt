@@ -6,9 +6,9 @@ use native.Mathlib.Omega.{arith}
 use lib.Dec.{ltb}
 use borrow.Author.Tests.{ltb-true, lt-ltb, le-ltb}
 use Rattle.model.proofs.Tests.{and-true, same-truth}
-use Rattle.programme.specs.Week.{Entry, week, runs, shareMinute}
-use Rattle.programme.proofs.OneEntry.{runs-true, runs-at}
-use Rattle.programme.proofs.SharedMinutes.{any-passes, share-at}
+use Rattle.week.specs.Week.{Entry, week, runs, shareMinute}
+use Rattle.week.proofs.OneEntry.{runs-true, runs-at}
+use Rattle.week.proofs.SharedMinutes.{any-passes, share-at}
 
 abbrev pub laterStart : Entry → Entry → ℕ
 laterStart a b = max (a .start) (b .start)

@@ -11,9 +11,9 @@ use borrow.Author.Tests.{lt-ltb, le-ltb}
 use Rattle.model.specs.Tables.{any}
 use Rattle.model.specs.Refusals.{Line, _when_, firstOf}
 use Rattle.model.proofs.Tests.{or-true}
-use Rattle.programme.specs.Week.{Entry, week, entry, startsFirst, inWeek, manyEntries, keepsLimits}
-use Rattle.programme.specs.Week.{shareMinute, someBreaksLimits, someShared, refusal}
-use Rattle.programme.proofs.OneEntry.{ends-first, limits-by-end}
+use Rattle.week.specs.Week.{Entry, week, entry, startsFirst, inWeek, manyEntries, keepsLimits}
+use Rattle.week.specs.Week.{shareMinute, someBreaksLimits, someShared, refusal}
+use Rattle.week.proofs.OneEntry.{ends-first, limits-by-end}
 use Rattle.faults.specs.Told.{eachBelow}
 use Rattle.faults.proofs.Tells.{Tells, tells-same, tells-one, tells-both, tells-each, tells-first}
 use Rattle.faults.proofs.Tells.{Follows, follows-none, follows-first, follows-more, follows-same}

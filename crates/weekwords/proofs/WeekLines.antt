@@ -11,7 +11,7 @@ use Rattle.model.specs.Tables.{any}
 use Rattle.model.specs.Listing.{text, decimal, refusalLine}
 use Rattle.model.specs.Refusals.{firstOf}
 use Rattle.replies.specs.Lines.{cannot, spaced}
-use Rattle.programme.specs.Week.{week, refusal, running, planOrDark, answered, planAt}
+use Rattle.week.specs.Week.{week, refusal, running, planOrDark, answered, planAt}
 use Rattle.programmewords.specs.Programmes.{programmeAsked, programmeLine, answerToProgramme}
 use Rattle.faults.specs.Told.{faultsLine}
 use Rattle.faults.proofs.LinesBegin.{begins-line, not-ok}

@@ -5,7 +5,7 @@ use mathlib.Core.List.{List, _∷_, [], _++_, map, flatMap}
 use lib.ListN.{length}
 use Rattle.model.specs.Tables.{any, firstFrom}
 use Rattle.model.specs.Listing.{digits, decimal}
-use Rattle.programme.specs.Week.{Entry, entry}
+use Rattle.week.specs.Week.{Entry, entry}
 use Rattle.faults.specs.Told.{firstTold, eachBelow}
 use Rattle.weekwords.specs.WeekFaults.{entriesSeen, entriesFaults, countFaults, faultsOf}
 use Rattle.weekwords.specs.WeekWord.{weekAsked, lineOn, answerToWeekFaults}

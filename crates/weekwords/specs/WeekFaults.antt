@@ -4,7 +4,7 @@ use mathlib.Core.List.{List, _++_}
 use mathlib.Core.Bool.{not}
 use lib.ListN.{length}
 use Rattle.model.specs.Tables.{firstFrom}
-use Rattle.programme.specs.Week.{Entry, entry, startsFirst, inWeek, manyEntries, shareMinute}
+use Rattle.week.specs.Week.{Entry, entry, startsFirst, inWeek, manyEntries, shareMinute}
 use Rattle.faults.specs.Told.{told, firstTold, eachBelow}
 
 -- RULES 19.4: of more than 64 entries the first 64 are looked at

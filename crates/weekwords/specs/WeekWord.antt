@@ -7,7 +7,7 @@ use lib.ListN.{length}
 use lib.Dec.{eqb}
 use Rattle.model.specs.Listing.{text, decimal, refusalLine}
 use Rattle.replies.specs.Lines.{cannot}
-use Rattle.programme.specs.Week.{Entry, week}
+use Rattle.week.specs.Week.{Entry, week}
 use Rattle.programmewords.specs.Programmes.{programmeAsked, widePlan, answerToProgramme}
 use Rattle.faults.specs.Told.{faultsLine}
 use Rattle.weekwords.specs.WeekFaults.{faultsOf}

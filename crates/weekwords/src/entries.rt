@@ -3,7 +3,7 @@ ghost use Prim.Native.Nat.{_+_, _*_, _≤_, _<_, max};
 ghost use mathlib.Core.Path.{_≡_};
 ghost use lib.ListN.{length};
 ghost use Rattle.calls.specs.Lines.{Puts};
-ghost use Rattle.programme.specs.Week.{entry, shareMinute};
+ghost use Rattle.week.specs.Week.{entry, shareMinute};
 ghost use Rattle.faults.specs.Told.{eachBelow};
 ghost use Rattle.weekwords.specs.WeekFaults.{entryFaults, entriesFaults, sharedFaults};
 ghost use Rattle.weekwords.specs.WeekWord.{weekAsked};
@@ -17,7 +17,7 @@ fn tell_entry(numbers: &[usize], i: usize, found: &mut [usize], at: usize) -> us
     let start = numbers[3 * i];
     let end = numbers[3 * i + 1];
     let after_start = faults::tell_if(end <= start, 28, i, 0, found, at);
-    faults::tell_if(programme::WEEK < end, 28, i, 1, found, after_start)
+    faults::tell_if(week::WEEK < end, 28, i, 1, found, after_start)
 }
 
 // The same of each of so many entries.
@@ -51,7 +51,7 @@ fn share_minute(numbers: &[usize], i: usize, j: usize) -> bool
     ensures { λ r. ⌜ r ≡ shareMinute (entry (weekAsked (now (numbers .entry))) i) (entry (weekAsked (now (numbers .entry))) j) ⌝ }
 {
     let start = later(numbers[3 * i], numbers[3 * j]);
-    if programme::WEEK <= start {
+    if week::WEEK <= start {
         return false;
     }
     if numbers[3 * i + 1] <= start {

@@ -33,10 +33,10 @@ fn some_wide(numbers: &[usize], count: usize) -> bool
 fn seen(count: usize) -> usize
     ensures { λ r. ⌜ r ≡ min count 64 ⌝ }
 {
-    if count < programme::MOST {
+    if count < week::MOST {
         return count;
     }
-    programme::MOST
+    week::MOST
 }
 
 // Finds the faults of entries, and stores them from the start on; how many numbers they have.
@@ -47,7 +47,7 @@ fn find(numbers: &[usize], count: usize, found: &mut [usize]) -> usize
 {
     let first = seen(count);
     let after_entries = entries::tell_entries(numbers, first, found, 0);
-    let after_count = faults::tell_if(programme::MOST < count, 28, count, 2, found, after_entries);
+    let after_count = faults::tell_if(week::MOST < count, 28, count, 2, found, after_entries);
     entries::tell_pairs(numbers, first, found, after_count)
 }
 

@@ -40,7 +40,7 @@ proper slots frames current m = record {
     head-below = div-lt-iff-lt-mul (m .some-slot) .1 (rw mul-comm (m .current-below))
 
 module _ (w : Window) (v : Proper w) where
-  -- the paper's window at another current position
+  -- the model's window at another current position
   abbrev movedTo : ℕ → model.Window
   movedTo p = record { slots = w .slots; frames = w .frames; current = p }
 

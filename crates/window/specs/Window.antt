@@ -1,4 +1,4 @@
--- The window that a call works with, read as the paper's. Assumes nothing.
+-- The window that a call works with, read as the model's. Assumes nothing.
 use Prim.Native.Nat.{ℕ, _+_, _*_, _/_, _%_, _≤_, _<_}
 use mathlib.Core.Path.{_≡_}
 use mathlib.Core.Bool.{Bool, _&&_}

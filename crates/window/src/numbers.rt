@@ -26,7 +26,7 @@ pub fn larger(a: usize, b: usize) -> usize
 }
 
 // a - b, and 0 where b is the larger.
-pub fn over(a: usize, b: usize) -> usize
+pub fn saturating_sub(a: usize, b: usize) -> usize
     ensures { λ r. ⌜ r ≡ a - b ⌝ }
 {
     if a <= b {
@@ -54,7 +54,7 @@ pub fn larger_byte(a: u8, b: u8) -> u8
 }
 
 // `below` where x is below a bound, else `other`.
-pub fn chosen(x: u8, bound: u8, below: u8, other: u8) -> u8
+pub fn select_below(x: u8, bound: u8, below: u8, other: u8) -> u8
     ensures { λ r. ⌜ r ≡ cond (ltb x bound) below other ⌝ }
 {
     if x < bound {
@@ -64,28 +64,28 @@ pub fn chosen(x: u8, bound: u8, below: u8, other: u8) -> u8
 }
 
 // A byte moved by a number modulo 256.
-pub fn moved(x: u8, by: u8) -> u8
+pub fn wrapping_add(x: u8, by: u8) -> u8
     ensures { λ r. ⌜ r ≡ wrapped by x ⌝ }
 {
     wrapping_add_u8(x, by)
 }
 
 // How far 0 lies on from a byte, going round 256.
-pub fn to_zero(x: u8) -> u8
+pub fn wrapping_neg(x: u8) -> u8
     ensures { λ r. ⌜ r ≡ (256 - x) % 256 ⌝ }
 {
     wrapping_sub_u8(0, x)
 }
 
 // The next byte, going round 256.
-pub fn on_by_one(x: u8) -> u8
+pub fn wrapping_inc(x: u8) -> u8
     ensures { λ r. ⌜ r ≡ (x + 1) % 256 ⌝ }
 {
     wrapping_add_u8(x, 1)
 }
 
 // The next byte, and 255 after 255.
-pub fn one_more(x: u8) -> u8
+pub fn saturating_inc(x: u8) -> u8
     ensures { λ r. ⌜ r ≡ min (x + 1) 255 ⌝ }
 {
     if x < 255 {

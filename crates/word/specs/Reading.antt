@@ -1,4 +1,4 @@
--- The crate's types read as the paper's: a word's fields, and what fields join to. Assumes nothing.
+-- The crate's types read as the model's: a word's fields, and what fields join to. Assumes nothing.
 use mathlib.Core.Bool.{cond}
 use Rattle.word.specs.declared.Fields.{Fields}
 use Rattle.word.specs.declared.Joined.{Joined}

@@ -1,11 +1,12 @@
 -- `burst::burst` meets its contract: a walk of its MIR, by hand. All that it knows of `window_of`, `handled` and `reply_to` is that each meets its contract.
 --     WindowOf, Handled, ReplyTo    the contracts that it cites; `goes-…`, that what each asks is had; `…-of`, what it ensures
 --     exits            from what is had at exit to the `post` of `walkOf`
---     At t             the loop's invariant, at the variables t (`Turns.antt`'s `Turn`): the slice's elements, the open borrow, and the locals
+--     At t             the loop's invariant, at the variables t (`Passes.antt`'s `Pass`): the slice's elements, the open borrow, and the locals
 --     leaves, more     the turn that leaves the loop, with the rest of the body; and a turn that handles a record.        turns, plays      the loop
 --     walk             the MIR up to the loop
--- The borrow is opened once, before the loop, and closed once, after it. `&mut records[i]` is a pointer to the walk: no lifetime is made for it. In each turn the link's state is lent to `reply_to`, for a lifetime that is made for the call (`Lent.antt`). What is pure, lists and numbers, is in `Turns.antt` and `Values.antt`.
--- Assumes nothing.
+-- The borrow is opened once, before the loop, and closed once, after it. `&mut records[i]` is a pointer to the walk: no lifetime is made for it. In each turn
+-- the link's state is lent to `reply_to`, for a lifetime that is made for the call (`Lent.antt`). What is pure, lists and numbers, is in `Passes.antt` and
+-- `Values.antt`. Assumes nothing.
 use mathlib.Core.Path.{_≡_, refl, sym, ap, subst}
 use Prim.Native.Nat.{ℕ, _+_, _*_, _≤_, _<_, _^_, min}
 use native.Mathlib.Nat.{eq-or-lt-of-le}
@@ -62,16 +63,16 @@ use Rattle.link.specs.Given.{StateIn}
 use Rattle.link.specs.Steps.{readOf}
 use Rattle.link.specs.Sound.{SoundLink}
 use Rattle.link.specs.Bursts.{Bursted}
-use Rattle.burst.specs.declared.Ask.{Ask}
+use Rattle.burst.specs.declared.BurstRecord.{BurstRecord}
 use Rattle.link.specs.declared.request.Reply.{Reply}
 use Rattle.burst.specs.Reading.{asksOf}
 use Rattle.burst.proofs.Locals.{into, value}
 use Rattle.burst.proofs.Values.{Bytes, bytes, bytes-vals, plan-vals, window-vals, link-vals, held-val, held-is, plan-of, state-of, link-of}
 use Rattle.burst.proofs.Lent.{place, lent, Kept, lends-state, comes-state}
-use Rattle.burst.proofs.Turns.{counted, Turn, none, last, asked, Replied, put, here, next, Nearer, Nearer-wf, nearer, start}
-use Rattle.burst.proofs.Turns as P
-use Rattle.burst.proofs.Ask as Q
-use Rattle.burst.proofs.Ask.Laws as Q′
+use Rattle.burst.proofs.Passes.{counted, Pass, none, last, asked, Replied, put, here, next, Nearer, Nearer-wf, nearer, start}
+use Rattle.burst.proofs.Passes as P
+use Rattle.burst.proofs.BurstRecord as Q
+use Rattle.burst.proofs.BurstRecord.Laws as Q′
 use Rattle.plan.proofs.Plan as G
 use Rattle.plan.proofs.Plan.Laws as G′
 use Rattle.window.proofs.Window as N
@@ -105,7 +106,7 @@ stayed = (stay-dropped (plain (λ _. L.the-row)) yes, (stay-slice (0 ∷ []) tt 
 abbrev link-val : Link → Val
 link-val = LL.val L.the-type L′.the-laws
 
-abbrev ask-vals : Ask → List Val
+abbrev ask-vals : BurstRecord → List Val
 ask-vals = LL.vals Q.the-type Q′.the-laws
 
 -- ---- the callees
@@ -142,17 +143,17 @@ module _ {M : Type 1} (𝓤 : URA M) (H : Heap 𝓤) (A : Atoms 𝓤) (mem : Mem
     goes-handled m fits = qed W [] ∵ nothing ! $ owned ! usize (Is usize) (uint-makes 𝓤 H A W w64) m _ (refl, fits) $ fjoin ! $ nothing ! $ join ! $ nothing ! $ move ! (1 ∷ 0 ∷ []) $ join ! $ done !
 
 -- ---- the walk, at a link s and a slice of the records xs that lies at (b, o)
-module _ {M : Type 1} (𝓤 : URA M) (H : Heap 𝓤) (A : Atoms 𝓤) (W : Given 𝓤 H A) (mem : Memory → SProp 𝓤) (run : Routine → Fun 𝓤) (κ : Lft) (q : Share) (s : Link) (b o : ℕ) (γ : GName) (xs : List Ask)
+module _ {M : Type 1} (𝓤 : URA M) (H : Heap 𝓤) (A : Atoms 𝓤) (W : Given 𝓤 H A) (mem : Memory → SProp 𝓤) (run : Routine → Fun 𝓤) (κ : Lft) (q : Share) (s : Link) (b o : ℕ) (γ : GName) (xs : List BurstRecord)
     (ok : Is L.the-row s (link-vals s)) (sound : SoundLink s) (room : Room Q.the-row (length xs)) where
   -- the borrow at the list ys, and its machine value
-  abbrev x : List Ask → RefT (List Ask)
+  abbrev x : List BurstRecord → RefT (List BurstRecord)
   x ys = record { ptr = (b, o); name = γ; now = ys }
 
   abbrev slice-val : Val
   slice-val = sliceVal (b, o) (length xs)
 
   abbrev Arg : Type 0
-  Arg = Link × (RefT (List Ask) × Unit {0})
+  Arg = Link × (RefT (List BurstRecord) × Unit {0})
 
   abbrev a : Arg
   a = (s, (x xs, tt))
@@ -164,14 +165,14 @@ module _ {M : Type 1} (𝓤 : URA M) (H : Heap 𝓤) (A : Atoms 𝓤) (W : Given
   Post = walkOf 𝓤 H A burst.ended stayed (burst.clauses 𝓤 H A mem run) .post (((κ, tt), (q, tt), tt, a, vals), tt)
 
   -- what the ghost name says of the slice, at the list ys
-  abbrev obs : List Ask → Fml
+  abbrev obs : List BurstRecord → Fml
   obs ys = fobs γ (codedHoleys Q.the-row .code (heres Q.the-row ys))
 
   -- a link's machine value has the struct's MIR type
   typed : (st : Link) → Is L.the-row st (link-vals st) → Holds (hasTy L′.mir (link-val st)) × WT (link-val st)
   typed st good = LL.lawful L.the-type L′.the-laws 𝓤 H A W .typed st _ good .0
 
-  exits : (st : Link) (ys : List Ask) → Is L.the-row st (link-vals st) → length ys ≡ length xs → Bursted (model.burst (readOf s) (asksOf xs)) st (asksOf ys) → ent 𝓤 (⋆ 𝓤 H A (‵ (obs ys) ∷ ‵ (fbor κ (Held Q.the-row (length ys) b o γ)) ∷ ‵ (flft κ q) ∷ [])) (Post (link-val st))
+  exits : (st : Link) (ys : List BurstRecord) → Is L.the-row st (link-vals st) → length ys ≡ length xs → Bursted (model.burst (readOf s) (asksOf xs)) st (asksOf ys) → ent 𝓤 (⋆ 𝓤 H A (‵ (obs ys) ∷ ‵ (fbor κ (Held Q.the-row (length ys) b o γ)) ∷ ‵ (flft κ q) ∷ [])) (Post (link-val st))
   exits st ys good long e =
       qed W (‵ (obs ys) ∷ ‵ (fbor κ (Held Q.the-row (length ys) b o γ)) ∷ ‵ (flft κ q) ∷ []) ∵
       suffices ! _ (ends-at 𝓤 H A burst.ended stayed (burst.clauses 𝓤 H A mem run) W (((κ, tt), (q, tt), tt, a, vals), tt) (link-val st) st (tt, (ys, tt)) (tt, (long, tt))) $
@@ -212,7 +213,7 @@ module _ {M : Type 1} (𝓤 : URA M) (H : Heap 𝓤) (A : Atoms 𝓤) (W : Given
     window-val = only (window-vals w)
 
     -- the invariant. The link in hand stands in front of the locals, at 4; a local i from 6 on at 35 - 2 i, and one to 4 at 34 - 2 i
-    abbrev At : Turn s w xs n → List (Item 𝓤)
+    abbrev At : Pass s w xs n → List (Item 𝓤)
     At t =
         ‵ (row Q.the-row fullShare (t .cur) b o) ∷ ‵ (fobor κ q (Held Q.the-row (length xs) b o γ)) ∷ ‵ (obs xs) ∷ ‵ (fauth γ (codedHoleys Q.the-row .code (heres Q.the-row xs)))
         ∷ ‵ (fat fullShare L′.mir l₅ 0 (held-val (s .plan) (t .state)))
@@ -223,14 +224,14 @@ module _ {M : Type 1} (𝓤 : URA M) (H : Heap 𝓤) (A : Atoms 𝓤) (W : Given
         ∷ ‵ (fat fullShare slice l₂ 0 slice-val) ∷ ‵ (fdies slice l₂) ∷ ‵ (fat fullShare L′.mir l₁ 0 (link-val s)) ∷ ‵ (fdies L′.mir l₁) ∷ ‵ (froom L′.mir l₀ 0) ∷ ‵ (fdies L′.mir l₀) ∷ []
 
     -- a turn's postcondition: fewer records are left, or the loop is left and the rest of the body runs
-    abbrev Turned : Turn s w xs n → Outcome → SProp 𝓤
+    abbrev Turned : Pass s w xs n → Outcome → SProp 𝓤
     Turned t = afterTurn 𝓤 H (Below 𝓤 H A Nearer At t) (afterBlock 𝓤 H (afterSeq 𝓤 H (Wp 𝓤 H C Λ En mir′.t-8 (atReturn 𝓤 H En Post)) (atReturn 𝓤 H En Post)))
 
-    last-ok : (t : Turn s w xs n) → Is L.the-row (last t) (link-vals (last t))
+    last-ok : (t : Pass s w xs n) → Is L.the-row (last t) (link-vals (last t))
     last-ok t = link-of (s .plan) (t .state) (plan-of s ok) (t .ok)
 
     -- the turn that leaves the loop, and the rest of the body: the borrow is closed at what the slice holds
-    leaves : (t : Turn s w xs n) → n ≤ t .i → Sq W (At t) (runs C Λ En mir′.turn-1 (anyQ (Turned t)))
+    leaves : (t : Pass s w xs n) → n ≤ t .i → Sq W (At t) (runs C Λ En mir′.turn-1 (anyQ (Turned t)))
     unfolding afterTurn
     leaves t over =
         assigns ! (bin ! (value ! 21 refl) (value ! 23 refl) tt) (into !) (init ! 13 refl (tt, tt)) $
@@ -245,7 +246,7 @@ module _ {M : Type 1} (𝓤 : URA M) (H : Heap 𝓤) (A : Atoms 𝓤) (W : Given
         by ! (exits (last t) (t .cur) (last-ok t) (t .long) (P.done t over counts))
 
     -- a turn's call of `reply_to`, with the state lent for the lifetime ν under the name δ: what it is passed, what its triple binds outside, and that what it asks is had
-    module _ (t : Turn s w xs n) (ν : ℕ) (δ : GName) where
+    module _ (t : Pass s w xs n) (ν : ℕ) (δ : GName) where
       abbrev passed : RefT (List ℕ) × (Plan × (Window × (ℕ × Unit {0})))
       passed = (lent (ν ∷ []) l₅ (s .plan) (t .state) δ, (s .plan, (w, (asked t .word, tt))))
 
@@ -263,7 +264,7 @@ module _ {M : Type 1} (𝓤 : URA M) (H : Heap 𝓤) (A : Atoms 𝓤) (W : Given
           owned ! G.the-row (Is G.the-row) (LL.makes G.the-type G′.the-plain 𝓤 H A) (s .plan) _ (plan-of s ok) $ fjoin ! $ move ! (2 ∷ 0 ∷ []) $ fjoin ! $ move ! (1 ∷ 0 ∷ []) $ join ! $ done !
 
     -- a turn that handles one record
-    more : (t : Turn s w xs n) → t .i < n → Sq W (At t) (runs C Λ En mir′.turn-1 (anyQ (Turned t)))
+    more : (t : Pass s w xs n) → t .i < n → Sq W (At t) (runs C Λ En mir′.turn-1 (anyQ (Turned t)))
     unfolding afterTurn
     more t less =
         assigns ! (bin ! (value ! 21 refl) (value ! 23 refl) tt) (into !) (init ! 13 refl (tt, tt)) $
@@ -321,7 +322,7 @@ module _ {M : Type 1} (𝓤 : URA M) (H : Heap 𝓤) (A : Atoms 𝓤) (W : Given
         put-ok : (u : Reply) {v : Val} → Is Q.the-row (asked t) (ask-vals (asked t)) → Is R.the-row u (v ∷ []) → Is Q.the-row (put t u) (ask-vals (put t u))
         put-ok u is out = LL.owes Q.the-type Q′.the-laws (put t u) ((refl, word-fits is), ((refl, number-fits u out), ((refl, position-fits u out), tt)))
 
-    turns : (t : Turn s w xs n) → Sq W (At t) (runs C Λ En mir′.turn-1 (anyQ (Turned t)))
+    turns : (t : Pass s w xs n) → Sq W (At t) (runs C Λ En mir′.turn-1 (anyQ (Turned t)))
     turns t = elim (eq-or-lt-of-le (t .within)) [ inl e ↦ leaves t (omega (arith, e)) | inr less ↦ more t less ]
 
     -- the loop, and the rest of the body. It is a lemma by itself: inlined in `walk` it takes antt past its step limit

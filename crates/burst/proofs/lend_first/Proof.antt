@@ -50,15 +50,15 @@ use Rattle.link.specs.declared.Link.{Link}
 use Rattle.link.specs.Steps.{readOf}
 use Rattle.link.specs.Sound.{SoundLink}
 use Rattle.link.specs.Bursts.{Bursted}
-use Rattle.burst.specs.declared.Ask.{Ask}
+use Rattle.burst.specs.declared.BurstRecord.{BurstRecord}
 use Rattle.burst.specs.Reading.{asksOf}
 use Rattle.burst.specs.First.{burstOfFirst}
 use Rattle.burst.proofs.Locals.{into, value}
-use Rattle.burst.proofs.Turns.{front-handled}
+use Rattle.burst.proofs.Passes.{front-handled}
 use Rattle.burst.proofs.Values.{link-vals}
 use Rattle.burst.proofs.Front.{front, Kept, lends-front, comes-front}
-use Rattle.burst.proofs.Ask as Q
-use Rattle.burst.proofs.Ask.Laws as Q′
+use Rattle.burst.proofs.BurstRecord as Q
+use Rattle.burst.proofs.BurstRecord.Laws as Q′
 use Rattle.link.proofs.Link as L
 use Rattle.link.proofs.Link.Laws as L′
 use Rattle.burst.proofs.HandedBack as B
@@ -82,7 +82,7 @@ abbrev slice : Ty
 slice = sliceTy (tyRef erased mut (pointee (Q.the-row .written)))
 
 -- the machine values of an array of records
-abbrev row-vals : List Ask → List Val
+abbrev row-vals : List BurstRecord → List Val
 row-vals = array-vals (LL.vals Q.the-type Q′.the-laws)
 
 module _ {M : Type 1} (𝓤 : URA M) (H : Heap 𝓤) (A : Atoms 𝓤) (mem : Memory → SProp 𝓤) (run : Routine → Fun 𝓤) where
@@ -90,7 +90,7 @@ module _ {M : Type 1} (𝓤 : URA M) (H : Heap 𝓤) (A : Atoms 𝓤) (mem : Mem
   abbrev Burst : Contract 𝓤
   Burst = tripleOf 𝓤 H A burst.signature (burst.spec 𝓤 H A mem run)
 
-module _ {M : Type 1} (𝓤 : URA M) (H : Heap 𝓤) (A : Atoms 𝓤) (W : Given 𝓤 H A) (mem : Memory → SProp 𝓤) (run : Routine → Fun 𝓤) (s : Link) (xs : List Ask) (k : ℕ)
+module _ {M : Type 1} (𝓤 : URA M) (H : Heap 𝓤) (A : Atoms 𝓤) (W : Given 𝓤 H A) (mem : Memory → SProp 𝓤) (run : Routine → Fun 𝓤) (s : Link) (xs : List BurstRecord) (k : ℕ)
     (s-ok : Is L.the-row s (link-vals s)) (xs-ok : Is Row xs (row-vals xs)) (k-fits : k < 2 ^ 64) (sound : SoundLink s) (most : k ≤ 20) where
   abbrev link-val : Val
   link-val = only (link-vals s)
@@ -99,7 +99,7 @@ module _ {M : Type 1} (𝓤 : URA M) (H : Heap 𝓤) (A : Atoms 𝓤) (W : Given
   row-val = only (row-vals xs)
 
   abbrev Arg : Type 0
-  Arg = Link × (List Ask × (ℕ × Unit {0}))
+  Arg = Link × (List BurstRecord × (ℕ × Unit {0}))
 
   abbrev a : Arg
   a = (s, (xs, (k, tt)))
@@ -124,17 +124,17 @@ module _ {M : Type 1} (𝓤 : URA M) (H : Heap 𝓤) (A : Atoms 𝓤) (W : Given
   room = subst (Room Q.the-row) (sym long) (k-fits, omega (arith, most))
 
   -- machine values have their MIR types
-  row-typed : (ys : List Ask) (w : Val) → Is Row ys (w ∷ []) → Holds (hasTy (tyArray Q′.mir 20) w) × WT w
+  row-typed : (ys : List BurstRecord) (w : Val) → Is Row ys (w ∷ []) → Holds (hasTy (tyArray Q′.mir 20) w) × WT w
   row-typed ys w is = array-lawful 𝓤 H A W Q.the-row (LL.lawful Q.the-type Q′.the-laws 𝓤 H A W) 20 .typed ys (w ∷ []) is .0
 
   -- what the result is, and its machine value
-  result-is : (r : Link) (ys : List Ask) (v w : Val) → Is L.the-row r (v ∷ []) → Is Row ys (w ∷ []) → Is B.the-row (record { link = r; records = ys }) (vstruct (vcons v (vcons w vnil)) ∷ [])
-  result-is r ys v w link-is row-is = ((v ∷ [], (w ∷ [], tt)), (refl, (link-is, (is-same (Q.the-field .row) Ask (Q.the-field .into) (Q.the-field .into-one) 20 ys (w ∷ []) row-is, tt))))
+  result-is : (r : Link) (ys : List BurstRecord) (v w : Val) → Is L.the-row r (v ∷ []) → Is Row ys (w ∷ []) → Is B.the-row (record { link = r; records = ys }) (vstruct (vcons v (vcons w vnil)) ∷ [])
+  result-is r ys v w link-is row-is = ((v ∷ [], (w ∷ [], tt)), (refl, (link-is, (is-same (Q.the-field .row) BurstRecord (Q.the-field .into) (Q.the-field .into-one) 20 ys (w ∷ []) row-is, tt))))
 
-  result-typed : (r : Link) (ys : List Ask) (v w : Val) → Is L.the-row r (v ∷ []) → Is Row ys (w ∷ []) → Holds (hasTy B′.mir (vstruct (vcons v (vcons w vnil)))) × WT (vstruct (vcons v (vcons w vnil)))
+  result-typed : (r : Link) (ys : List BurstRecord) (v w : Val) → Is L.the-row r (v ∷ []) → Is Row ys (w ∷ []) → Holds (hasTy B′.mir (vstruct (vcons v (vcons w vnil)))) × WT (vstruct (vcons v (vcons w vnil)))
   result-typed r ys v w link-is row-is = LL.lawful B.the-type B′.the-laws 𝓤 H A W .typed (record { link = r; records = ys }) _ (result-is r ys v w link-is row-is) .0
 
-  exits : (r : Link) (ys : List Ask) (v w : Val) → Is L.the-row r (v ∷ []) → Is Row ys (w ∷ []) → Bursted (burstOfFirst k (readOf s) (asksOf xs)) r (asksOf ys) → ent 𝓤 (emp 𝓤) (Post (vstruct (vcons v (vcons w vnil))))
+  exits : (r : Link) (ys : List BurstRecord) (v w : Val) → Is L.the-row r (v ∷ []) → Is Row ys (w ∷ []) → Bursted (burstOfFirst k (readOf s) (asksOf xs)) r (asksOf ys) → ent 𝓤 (emp 𝓤) (Post (vstruct (vcons v (vcons w vnil))))
   exits r ys v w link-is row-is e =
       qed W [] ∵ suffices ! _ (ends-at 𝓤 H A lend-first.ended stayed (lend-first.clauses 𝓤 H A mem run) W ((tt, tt, tt, a, vals), tt) (vstruct (vcons v (vcons w vnil))) (record { link = r; records = ys }) (tt, (tt, (tt, tt))) (tt, (tt, (tt, tt)))) $
       says ! e $
@@ -170,7 +170,7 @@ module _ {M : Type 1} (𝓤 : URA M) (H : Heap 𝓤) (A : Atoms 𝓤) (W : Given
         -- `burst`: [what it asks; what is kept of the array; _8; …; _7; …; _6; …; _5; …; … of _4; _3; …; _2; …; _1; …; _0; …]
         calls-at ! fm (Burst 𝓤 H A mem run) known (to-burst l₄ ν γ) (and-then ! (value ! 15 refl) (and-then ! (value ! 4 refl) (no-more !))) (λ v.
         use1 W (later (some (λ (r : Link). ((‵ (flft (ν ∷ []) fullShare) ⊛ ‵ ftrue) ⊛ ‵ (L.the-row .own r (v ∷ []))) ⊛ raw (ensured 𝓤 H A burst.ended (burst.clauses 𝓤 H A mem run) (ν ∷ [], tt) (s, (front Q.the-row (ν ∷ []) l₄ k xs γ, tt)) tt r)))) (id⊢ 𝓤 _) $ await ! tt $ pick ! (λ r.
-        split ! $ move ! (1 ∷ []) $ use1 W (some (λ (zs : Unit {0} × (List Ask × Unit {0})). ‵ (lasts burst.ended (ν ∷ [], tt) (s, (front Q.the-row (ν ∷ []) l₄ k xs γ, tt)) zs) ⊛ raw (fact 𝓤 (Bursted (model.burst (readOf s) (asksOf (take k xs))) r (asksOf (zs .1 .0)))))) (id⊢ 𝓤 _) $ pick ! (λ zs.
+        split ! $ move ! (1 ∷ []) $ use1 W (some (λ (zs : Unit {0} × (List BurstRecord × Unit {0})). ‵ (lasts burst.ended (ν ∷ [], tt) (s, (front Q.the-row (ν ∷ []) l₄ k xs γ, tt)) zs) ⊛ raw (fact 𝓤 (Bursted (model.burst (readOf s) (asksOf (take k xs))) r (asksOf (zs .1 .0)))))) (id⊢ 𝓤 _) $ pick ! (λ zs.
         split ! $ move ! (1 ∷ []) $ heard ! (Bursted (model.burst (readOf s) (asksOf (take k xs))) r (asksOf (zs .1 .0))) (λ e. fsplit ! $ drop ! $ fsplit ! $ fsplit ! $ move ! (1 ∷ []) $ feqL ! (λ same.
         -- [the last list; true; the token and the result; what is kept of the array; _8; …]
         move ! (2 ∷ []) $ split ! $ move ! (1 ∷ []) $ facts ! L.the-row (Is L.the-row) (shows 𝓤 H A L.the-row) r (v ∷ []) (λ link-is.

@@ -13,8 +13,8 @@ cast-j c = search needs
 element-copy-out-k : tie.Need-element-copy-out-k
 element-copy-out-k c = search needs
 
-one-more-requires : tie.Need-one-more-requires
-one-more-requires c κs = search needs
+saturating-inc-requires : tie.Need-saturating-inc-requires
+saturating-inc-requires c κs = search needs
 
 element-write-waiting : tie.Need-element-write-waiting
 element-write-waiting c = search needs
@@ -29,7 +29,7 @@ returns c =
     let t = m .before .before in
     let s = t .before .before in (
       λ p r. comes-alone _ (s .args .i) (s .pre .1) r (t .if1 .taken) (only .if2 .taken)
-          (c .pass .ensures .0 _ (reads-queued _ (s .args .i) (s .pre .1) r (m .one-more .ensures))),
+          (c .pass .ensures .0 _ (reads-queued _ (s .args .i) (s .pre .1) r (m .saturating-inc .ensures))),
       c .pass .ensures .1,
     )
 
@@ -38,7 +38,7 @@ returns-2 c =
     let m = c .before in
     let t = m .before .before in
     let s = t .before .before in
-    (λ p r. comes-last _ (s .args .i) (s .pre .1) r (t .if1 .taken) (m .one-more .ensures) (c .if2 .left), s .pre .0)
+    (λ p r. comes-last _ (s .args .i) (s .pre .1) r (t .if1 .taken) (m .saturating-inc .ensures) (c .if2 .left), s .pre .0)
 
 returns-3 : tie.Need-returns-3
 returns-3 c =
@@ -52,7 +52,7 @@ come-spec =
     element-copy-out-j
     cast-j
     element-copy-out-k
-    one-more-requires
+    saturating-inc-requires
     element-write-waiting
     pass-requires
     returns

@@ -11,11 +11,11 @@ tick-requires c κs = search needs
 tick-requires-2 : tie.Need-tick-requires-2
 tick-requires-2 c κs = search needs
 
-add-turn : tie.Need-add-turn
-add-turn c = search needs
+add-owner : tie.Need-add-owner
+add-owner c = search needs
 
-element-copy-out-turn : tie.Need-element-copy-out-turn
-element-copy-out-turn c = search needs
+element-copy-out-owner : tie.Need-element-copy-out-owner
+element-copy-out-owner c = search needs
 
 serve-requires : tie.Need-serve-requires
 serve-requires c κs =
@@ -34,4 +34,4 @@ returns c =
     )
 
 pub cross-spec : {M : Type 1} → statement M
-cross-spec = tie.close (tie.spec tick-requires tick-requires-2 add-turn element-copy-out-turn serve-requires returns)
+cross-spec = tie.close (tie.spec tick-requires tick-requires-2 add-owner element-copy-out-owner serve-requires returns)

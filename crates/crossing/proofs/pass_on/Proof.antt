@@ -6,14 +6,14 @@ use mathlib.Core.List.{List}
 use native.Mathlib.Omega.{arith}
 use lib.ListN.{getD}
 use borrow.Author.Tests.{not-true, not-false}
-use Rattle.crossings.specs.Crossing as paper
+use Rattle.crossings.specs.Crossing as reference
 use Rattle.crossing.proofs.Tiles.{Going, going-first, going-done, tile-granted, tile-refused, none-left}
 use Rattle.crossing.proofs.pass_on.Statement.{statement}
 use Rattle.crossing.proofs.pass_on.Tie as tie
 
 abbrev Inv-loop : tie.InvT-loop
 Inv-loop a₀ b₀ waiting₀ x w i j left₀ a b waiting left =
-    Going x w (λ p. paper.passOn (paper.waits p i) i j p) (paper.passOn left i j) a₀ b₀ waiting₀ a b waiting
+    Going x w (λ p. reference.passOn (reference.waits p i) i j p) (reference.passOn left i j) a₀ b₀ waiting₀ a b waiting
 
 abbrev μ-loop : tie.MeasureT-loop
 μ-loop a₀ b₀ waiting₀ x w i j left₀ a b waiting left = left
@@ -31,7 +31,7 @@ element-copy-out-left c = search needs
 loop-holds : tie.Need-loop-holds Inv-loop μ-loop
 loop-holds c =
     let s = c .before in
-    going-first (s .pre .0) (λ p r. ap (λ (ks : List ℕ). paper.passOn (getD ks (s .args .i) 0) (s .args .i) (s .args .j) p) (r .waiting-is))
+    going-first (s .pre .0) (λ p r. ap (λ (ks : List ℕ). reference.passOn (getD ks (s .args .i) 0) (s .args .i) (s .args .j) p) (r .waiting-is))
 
 sub-left : tie.Need-sub-left Inv-loop μ-loop
 sub-left c = search needs

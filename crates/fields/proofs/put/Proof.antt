@@ -2,7 +2,7 @@
 use borrow.Author.Needs.{needs}
 use mathlib.Core.List.{flatMap}
 use Rattle.calls.proofs.Stores.{puts-two}
-use Rattle.images.specs.Image.{fields}
+use Rattle.imagemodel.specs.Image.{fields}
 use Rattle.fields.proofs.put.Statement.{statement}
 use Rattle.fields.proofs.put.Tie as tie
 

@@ -4,7 +4,7 @@ use Prim.Native.Nat.{_-_}
 use native.Mathlib.Omega.{arith}
 use Rattle.window.proofs.RangeLoops.{Replacing, replacing-none, replacing-more, replacing-done}
 use Rattle.tables.specs.Owners.{everywhere}
-use Rattle.images.specs.Image.{fieldAt}
+use Rattle.imagemodel.specs.Image.{fieldAt}
 use Rattle.fields.proofs.read_table.Statement.{statement}
 use Rattle.fields.proofs.read_table.Tie as tie
 

@@ -29,19 +29,19 @@ counted c = record {
   header = headed c .read-header .ensures;
   long = headed c .before .if1 .left;
   same = c .before .before .if2 .left;
-  counts = sym (c .before .miscounts .ensures) ∙ c .if3 .left;
+  counts = sym (c .before .count-out-of-range .ensures) ∙ c .if3 .left;
 }
 
 -- after the tests of the plan that was read
-module _ (c : tie.After-broken) where
+module _ (c : tie.After-first-refusal) where
   abbrev entered : tie.After-read-entries
   entered = c .before .before
 
   abbrev plan-read : Plan
   plan-read = planFrom (headed (entered .before .before) .read-header .result) (entered .read-entries .result)
 
-  tested : firstOf (numberTests (draftFor (draftOf plan-read))) ≡ c .broken .result
-  tested = ap (λ d. firstOf (numberTests (draftFor d))) (sym (c .before .draft .ensures)) ∙ sym (c .broken .ensures)
+  tested : firstOf (numberTests (draftFor (draftOf plan-read))) ≡ c .first-refusal .result
+  tested = ap (λ d. firstOf (numberTests (draftFor d))) (sym (c .before .draft .ensures)) ∙ sym (c .first-refusal .ensures)
 
 -- ---- the needs
 
@@ -63,8 +63,8 @@ returns-2 c =
     let other = other-length _ (c .before .before .before .before .if1 .left) (λ e. c .before .if2 .taken (e ∙ ap (λ (x : model.Header). x .total) (sym h))) in
     refused-reads _ _ 1 (omega arith) other (c .refused2 .ensures .0) (c .refused2 .ensures .1)
 
-miscounts-requires : tie.Need-miscounts-requires
-miscounts-requires c κs = search needs
+count-out-of-range-requires : tie.Need-count-out-of-range-requires
+count-out-of-range-requires c κs = search needs
 
 refused-requires-3 : tie.Need-refused-requires-3
 refused-requires-3 c κs = search needs
@@ -73,7 +73,7 @@ returns-3 : tie.Need-returns-3
 returns-3 c =
     let h = c .before .before .before .before .before .read-header .ensures in
     let same = c .before .before .before .if2 .left ∙ ap (λ (x : model.Header). x .total) h in
-    let counts = ap (λ x. condition (model.countTest x)) (sym h) ∙ sym (c .before .before .miscounts .ensures) ∙ c .before .if3 .taken in
+    let counts = ap (λ x. condition (model.countTest x)) (sym h) ∙ sym (c .before .before .count-out-of-range .ensures) ∙ c .before .if3 .taken in
     let other = other-count _ (c .before .before .before .before .before .before .if1 .left) same counts in
     refused-reads _ _ 2 (omega arith) other (c .refused3 .ensures .0) (c .refused3 .ensures .1)
 
@@ -92,8 +92,8 @@ read-entries-requires c κs = (in-count (counted (c .before)) .flows-most, part-
 draft-requires : tie.Need-draft-requires
 draft-requires c κs = search needs
 
-broken-requires : tie.Need-broken-requires
-broken-requires c κs = search needs
+first-refusal-requires : tie.Need-first-refusal-requires
+first-refusal-requires c κs = search needs
 
 refused-requires-4 : tie.Need-refused-requires-4
 refused-requires-4 c κs = omega arith
@@ -118,7 +118,7 @@ read-spec =
     read-header-requires
     refused-requires-2
     returns-2
-    miscounts-requires
+    count-out-of-range-requires
     refused-requires-3
     returns-3
     sub-part
@@ -126,7 +126,7 @@ read-spec =
     part-part-end
     read-entries-requires
     draft-requires
-    broken-requires
+    first-refusal-requires
     refused-requires-4
     returns-4
     returns-5)

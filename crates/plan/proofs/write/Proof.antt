@@ -17,15 +17,15 @@ tested c = c .before .before
 -- ---- what is known on the way
 
 passes : (c : tie.Else1) → Passes (start c .args .draft)
-passes c = record { tests = sym (c .before .broken .ensures) ∙ c .if1 .left }
+passes c = record { tests = sym (c .before .first-refusal .ensures) ∙ c .if1 .left }
 
 -- ---- the needs
 
-broken-requires : tie.Need-broken-requires
-broken-requires c κs = search needs
+first-refusal-requires : tie.Need-first-refusal-requires
+first-refusal-requires c κs = search needs
 
 returns : tie.Need-returns
-returns c = refused-by-number (c .before .before .before .args .draft) _ _ (omega arith) (c .before .broken .ensures)
+returns c = refused-by-number (c .before .before .before .args .draft) _ _ (omega arith) (c .before .first-refusal .ensures)
 
 mul-total : tie.Need-mul-total
 mul-total c = omega (arith, few (passes (c .before)))
@@ -69,7 +69,7 @@ pub write-spec : {M : Type 1} → statement M
 write-spec =
     tie.close
     (tie.spec
-    broken-requires
+    first-refusal-requires
     returns
     mul-total
     add-total

@@ -6,7 +6,7 @@ use native.Mathlib.Omega.{arith}
 use lib.ListN.{length, getD}
 use borrow.Author.Tests.{eq-eqb, ne-eqb}
 use Rattle.plan.specs.declared.Plan.{Plan}
-use Rattle.calls.specs.declared.Answer.the-variants.{Taken, Refused}
+use Rattle.calls.specs.declared.Answer.the-variants.{Accepted, Refused}
 use Rattle.calls.specs.declared.Call.{Call}
 use Rattle.calls.specs.declared.Record.{Record}
 use Rattle.calls.specs.Reading.{callIn, answerToTick}
@@ -15,7 +15,7 @@ use Rattle.calls.proofs.Stores.{put-in-room, puts-same}
 use Rattle.tables.specs.Owners.{ownerOf}
 use Rattle.link.specs.Given.{StateIn}
 use Rattle.link.specs.Steps.{requestAnswer}
-use Rattle.link.proofs.Given.{state-in, placed-few, request-in}
+use Rattle.link.proofs.Given.{state-in, flow-or-zero-few, request-in}
 use Rattle.link.proofs.Told.{request-told, credit-told}
 use Rattle.playback.proofs.Records.{Made, reads-as, no-call-played, played-request, played-credit, played-tick}
 use Rattle.playback.proofs.Texts.{reply-text, tick-text, owner-at}
@@ -24,10 +24,10 @@ use Rattle.playback.proofs.play.Statement.{statement}
 use Rattle.playback.proofs.play.Tie as tie
 
 abbrev Inv-loop : tie.InvT-loop
-Inv-loop records out₀ link₀ used plan cp w₀ made at₀ end₀ out link w at end = SoFar link₀ records out₀ used plan at link w out end
+Inv-loop records out₀ link₀ used plan current w₀ made at₀ end₀ out link w at end = SoFar link₀ records out₀ used plan at link w out end
 
 abbrev μ-loop : tie.MeasureT-loop
-μ-loop records out₀ link₀ used plan cp w₀ made at₀ end₀ out link w at end = used - at
+μ-loop records out₀ link₀ used plan current w₀ made at₀ end₀ out link w at end = used - at
 
 -- ---- the places of its code
 
@@ -68,7 +68,7 @@ call-is : (c : tie.After-known-told Inv-loop μ-loop) {x : Call} → c .before .
 call-is c e = read-is (read-at c) ∙ ap callIn (c .before .call .given .1) ∙ ap (λ (x : Call). callIn (Record.Call x)) e
 
 -- where a request's flow is placed, a credit's number known, and a tick made, from where its call was told
-abbrev request-at : tie.After-placed Inv-loop μ-loop → tie.After-known-told Inv-loop μ-loop
+abbrev request-at : tie.After-flow-or-zero Inv-loop μ-loop → tie.After-known-told Inv-loop μ-loop
 request-at c = c .before .before .before .before .before .before
 
 abbrev credit-at : tie.After-credit Inv-loop μ-loop → tie.After-known-told Inv-loop μ-loop
@@ -77,8 +77,8 @@ credit-at c = c .before .before .before .before .before
 abbrev tick-at : tie.After-tick Inv-loop μ-loop → tie.After-known-told Inv-loop μ-loop
 tick-at c = c .before .before .before .before
 
-asker-few : (c : tie.After-placed Inv-loop μ-loop) → c .placed .result < 16
-asker-few c = placed-few (hand-at (read-at (request-at c)) .sound .parts .plan) _ (c .placed .ensures)
+asked-flow-few : (c : tie.After-flow-or-zero Inv-loop μ-loop) → c .flow-or-zero .result < 16
+asked-flow-few c = flow-or-zero-few (hand-at (read-at (request-at c)) .sound .parts .plan) _ (c .flow-or-zero .ensures)
 
 -- ---- the needs
 
@@ -88,8 +88,8 @@ smaller-requires c κs = search needs
 mul-used : tie.Need-mul-used Inv-loop μ-loop
 mul-used c = search needs
 
-element-copy-out-cp : tie.Need-element-copy-out-cp Inv-loop μ-loop
-element-copy-out-cp c = search needs
+element-copy-out-current : tie.Need-element-copy-out-current Inv-loop μ-loop
+element-copy-out-current c = search needs
 
 cast-window : tie.Need-cast-window Inv-loop μ-loop
 cast-window c = search needs
@@ -147,22 +147,22 @@ enum-known-call-2 c = search needs
 split-requires : tie.Need-split-requires Inv-loop μ-loop
 split-requires c κs = search needs
 
-cast-placed : tie.Need-cast-placed Inv-loop μ-loop
-cast-placed c = search needs
+cast-flow-or-zero : tie.Need-cast-flow-or-zero Inv-loop μ-loop
+cast-flow-or-zero c = search needs
 
-placed-requires : tie.Need-placed-requires Inv-loop μ-loop
-placed-requires c κs = search needs
+flow-or-zero-requires : tie.Need-flow-or-zero-requires Inv-loop μ-loop
+flow-or-zero-requires c κs = search needs
 
 mul-e : tie.Need-mul-e Inv-loop μ-loop
-mul-e c = omega (arith, asker-few c)
+mul-e c = omega (arith, asked-flow-few c)
 
 element-copy-out-e : tie.Need-element-copy-out-e Inv-loop μ-loop
-element-copy-out-e c = asker-few c
+element-copy-out-e c = asked-flow-few c
 
 request-requires : tie.Need-request-requires Inv-loop μ-loop
 request-requires c κs =
     let p = c .before .before in
-    record { plan = _; word = _; given = request-in (hand-at (read-at (request-at p))) _ (p .before .before .split .ensures) (p .placed .ensures) }
+    record { plan = _; word = _; given = request-in (hand-at (read-at (request-at p))) _ (p .before .before .split .ensures) (p .flow-or-zero .ensures) }
 
 cast-line : tie.Need-cast-line Inv-loop μ-loop
 cast-line c = search needs
@@ -190,7 +190,7 @@ loop-again-2 c =
     let told = request-at p in
     let read = read-at told in
     let o = hand-at read in
-    let went = request .request .ensures _ _ (request-in o (call .0 .0) (split .split .ensures) (p .placed .ensures)) in
+    let went = request .request .ensures _ _ (request-in o (call .0 .0) (split .split .ensures) (p .flow-or-zero .ensures)) in
     one-more (loop-at read .loop .inv) (read .before .loop-test .taken)
     (record {
       answer = requestAnswer (call .0 .0) (request .request .result);
@@ -230,8 +230,8 @@ loop-again-3 c =
       most = written .write-refusal2 .ensures .1 .1;
     })
 
-write-taken-requires : tie.Need-write-taken-requires Inv-loop μ-loop
-write-taken-requires c κs = room-at (read-at (credit-at (c .before .before)))
+write-accepted-requires : tie.Need-write-accepted-requires Inv-loop μ-loop
+write-accepted-requires c κs = room-at (read-at (credit-at (c .before .before)))
 
 loop-less-4 : tie.Need-loop-less-4 Inv-loop μ-loop
 loop-less-4 c = search needs
@@ -245,13 +245,13 @@ loop-again-4 c =
     let read = read-at told in
     one-more (loop-at read .loop .inv) (read .before .loop-test .taken)
     (record {
-      answer = Taken;
+      answer = Accepted;
       played =
           rw (call-is told (credit .before .before .before .call3 .given .1))
           (played-credit (hand-at read) _ _ (rw (eq-eqb _ _ (taken .if1 .left)) at (credit-told _ _ _ (credit .credit .ensures))));
       plan-is = loop-at read .loop .inv .plan-is;
-      put = written .write-taken .ensures .0;
-      most = written .write-taken .ensures .1;
+      put = written .write-accepted .ensures .0;
+      most = written .write-accepted .ensures .1;
     })
 
 enum-told-2 : tie.Need-enum-told-2 Inv-loop μ-loop
@@ -316,7 +316,7 @@ play-spec =
     μ-loop
     smaller-requires
     mul-used
-    element-copy-out-cp
+    element-copy-out-current
     cast-window
     window-requires
     lines-requires
@@ -331,8 +331,8 @@ play-spec =
     loop-again
     enum-known-call-2
     split-requires
-    cast-placed
-    placed-requires
+    cast-flow-or-zero
+    flow-or-zero-requires
     mul-e
     element-copy-out-e
     request-requires
@@ -347,7 +347,7 @@ play-spec =
     write-refusal-requires-2
     loop-less-3
     loop-again-3
-    write-taken-requires
+    write-accepted-requires
     loop-less-4
     loop-again-4
     enum-told-2

@@ -14,16 +14,16 @@ returns c =
     let start = draft .before .before .before .args in
     not-asked (start .dome) (start .numbers .now) (start .cells .now) (start .k) (record { is = draft .gathered .ensures }) (c .if1 .taken)
 
-broken-requires : tie.Need-broken-requires
-broken-requires c κs = search needs
+first-refusal-requires : tie.Need-first-refusal-requires
+first-refusal-requires c κs = search needs
 
 returns-2 : tie.Need-returns-2
 returns-2 c =
     let some = c .before in
     let draft = some .before .before in
     let start = draft .before .before .before .args in
-    c .broken .ensures
+    c .first-refusal .ensures
     ∙ number-as (start .dome) (start .numbers .now) (start .cells .now) (start .k) (record { is = draft .gathered .ensures }) (some .if1 .left)
 
 pub link-refusal-spec : {M : Type 1} → statement M
-link-refusal-spec = tie.close (tie.spec gathered-requires returns broken-requires returns-2)
+link-refusal-spec = tie.close (tie.spec gathered-requires returns first-refusal-requires returns-2)

@@ -11,10 +11,10 @@ use Rattle.dometrace.proofs.pieces.play.Statement.{statement}
 use Rattle.dometrace.proofs.pieces.play.Tie as tie
 
 abbrev Inv-loop : tie.InvT-loop
-Inv-loop bytes all out₀ link₀ plan cp w₀ end₀ used₀ more₀ size₀ out link w end used more size = StateIn plan w (link .state) × (link .plan ≡ plan) × (used + size ≤ length bytes) × (size ≤ 85) × (end ≤ length out) × (length out ≡ length out₀)
+Inv-loop bytes all out₀ link₀ plan current w₀ end₀ used₀ more₀ size₀ out link w end used more size = StateIn plan w (link .state) × (link .plan ≡ plan) × (used + size ≤ length bytes) × (size ≤ 85) × (end ≤ length out) × (length out ≡ length out₀)
 
 abbrev μ-loop : tie.MeasureT-loop
-μ-loop bytes all out₀ link₀ plan cp w₀ end₀ used₀ more₀ size₀ out link w end used more size = length bytes - used
+μ-loop bytes all out₀ link₀ plan current w₀ end₀ used₀ more₀ size₀ out link w end used more size = length bytes - used
 
 abbrev start : tie.At-loop Inv-loop μ-loop → tie.Start Inv-loop μ-loop
 start l = l .before .before .before .before .before .before .before
@@ -26,8 +26,8 @@ then-of one = one .before .before .before .before .before .before .before .befor
 some : (t : tie.Then1 Inv-loop μ-loop) → 4 < t .before .before .loop .size
 some t = ltb-true 4 _ (t .if1 .taken)
 
-element-copy-out-cp : tie.Need-element-copy-out-cp Inv-loop μ-loop
-element-copy-out-cp c = search needs
+element-copy-out-current : tie.Need-element-copy-out-current Inv-loop μ-loop
+element-copy-out-current c = search needs
 
 cast-window : tie.Need-cast-window Inv-loop μ-loop
 cast-window c = search needs
@@ -113,4 +113,4 @@ returns-2 c =
     (rw (v .1) (v .0 .sound), omega (arith, v .2))
 
 pub play-spec : {M : Type 1} → statement M
-play-spec = tie.close (tie.spec Inv-loop μ-loop element-copy-out-cp cast-window window-requires whole-at-requires loop-holds flushed-requires place-in-requires add-one sub-one part-one-start part-one-end one-requires past-requires whole-at-requires-2 loop-less loop-again write-requires same-length returns same-length-2 returns-2)
+play-spec = tie.close (tie.spec Inv-loop μ-loop element-copy-out-current cast-window window-requires whole-at-requires loop-holds flushed-requires place-in-requires add-one sub-one part-one-start part-one-end one-requires past-requires whole-at-requires-2 loop-less loop-again write-requires same-length returns same-length-2 returns-2)

@@ -11,10 +11,10 @@ use Rattle.faultwords.proofs.words.find.Tie as tie
 
 -- ---- the places before
 
-abbrev missed-at : tie.After-tell-if → tie.After-miscounts
+abbrev missed-at : tie.After-tell-if → tie.After-count-out-of-range
 missed-at c = c .before .before
 
-abbrev looked-at : tie.After-miscounts → tie.After-seen
+abbrev looked-at : tie.After-count-out-of-range → tie.After-seen
 looked-at c = c .before
 
 abbrev begun-at : tie.After-tell-if → tie.Start
@@ -28,8 +28,8 @@ sub-count c = search needs
 seen-requires : tie.Need-seen-requires
 seen-requires c κs = search needs
 
-miscounts-requires : tie.Need-miscounts-requires
-miscounts-requires c κs = search needs
+count-out-of-range-requires : tie.Need-count-out-of-range-requires
+count-out-of-range-requires c κs = search needs
 
 tell-if-requires : tie.Need-tell-if-requires
 tell-if-requires c κs = search needs
@@ -76,7 +76,7 @@ returns c =
     let missed = missed-at counted in
     let looked = looked-at missed in
     let numbers = begun-at counted .args .numbers .now in
-    let count = puts-same (ap (λ b. told b 2 (flowsAsked numbers) 0) (missed .miscounts .ensures)) (counted .tell-if .ensures .0) in
+    let count = puts-same (ap (λ b. told b 2 (flowsAsked numbers) 0) (missed .count-out-of-range .ensures)) (counted .tell-if .ensures .0) in
     let flows = puts-then (puts-then (puts-then count (frame .tell-frame .ensures .0)) (entries .tell-entries .ensures .0)) (repeats .tell-repeats .ensures .0) in (
       puts-same (all-found numbers (looked .seen .result) (looked .seen .ensures)) (puts-then flows (sums .tell-sums .ensures .0)),
       omega (
@@ -95,7 +95,7 @@ find-spec =
     (tie.spec
     sub-count
     seen-requires
-    miscounts-requires
+    count-out-of-range-requires
     tell-if-requires
     shared-slice-read-tell-frame
     shared-slice-read-tell-frame-2

@@ -9,8 +9,8 @@ use Rattle.link.proofs.Link.reset.Tie as tie
 in-at : (c : tie.After-window) → let l = c .before .before .before .args .t1 in StateIn (l .plan) (c .window .result) (l .state)
 in-at c = state-in (c .before .before .before .pre) (c .window .ensures .0) (c .window .ensures .1)
 
-element-copy-out-cp : tie.Need-element-copy-out-cp
-element-copy-out-cp c = search needs
+element-copy-out-current : tie.Need-element-copy-out-current
+element-copy-out-current c = search needs
 
 cast-window : tie.Need-cast-window
 cast-window c = search needs
@@ -26,4 +26,4 @@ returns c = search needs
 
 pub reset-spec : {M : Type 1} → statement M
 reset-spec =
-    tie.close (tie.spec element-copy-out-cp cast-window window-requires reset-requires returns)
+    tie.close (tie.spec element-copy-out-current cast-window window-requires reset-requires returns)

@@ -9,8 +9,8 @@ use Rattle.link.proofs.Link.tick.Tie as tie
 in-at : (c : tie.After-window) → let l = c .before .before .before .args .t1 in StateIn (l .plan) (c .window .result) (l .state)
 in-at c = state-in (c .before .before .before .pre) (c .window .ensures .0) (c .window .ensures .1)
 
-element-copy-out-cp : tie.Need-element-copy-out-cp
-element-copy-out-cp c = search needs
+element-copy-out-current : tie.Need-element-copy-out-current
+element-copy-out-current c = search needs
 
 cast-window : tie.Need-cast-window
 cast-window c = search needs
@@ -27,21 +27,21 @@ add-owner c = search needs
 element-copy-out-owner : tie.Need-element-copy-out-owner
 element-copy-out-owner c = search needs
 
-turn-requires : tie.Need-turn-requires
-turn-requires c κs = search needs
+tick-answer-requires : tie.Need-tick-answer-requires
+tick-answer-requires c κs = search needs
 
 returns : tie.Need-returns
-returns c = rw (c .turn .ensures) (c .before .before .tick .ensures .0)
+returns c = rw (c .tick-answer .ensures) (c .before .before .tick .ensures .0)
 
 pub tick-spec : {M : Type 1} → statement M
 tick-spec =
     tie.close
     (tie.spec
-    element-copy-out-cp
+    element-copy-out-current
     cast-window
     window-requires
     tick-requires
     add-owner
     element-copy-out-owner
-    turn-requires
+    tick-answer-requires
     returns)

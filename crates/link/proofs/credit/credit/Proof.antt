@@ -22,7 +22,7 @@ use Rattle.link.specs.Reading.{linkOf}
 use Rattle.link.proofs.Given.{in-hand, bounds-in, bounds-out}
 use Rattle.link.proofs.StateParts.{went-same, went-by, lowered-rest, parts-lowered}
 use Rattle.link.proofs.Readings.{read-size, flows-most}
-use Rattle.link.proofs.Credits.{tests-8, tests-13, tests-14, tests-15, tests-pass, credit-refused, credit-taken}
+use Rattle.link.proofs.Credits.{tests-8, tests-13, tests-14, tests-15, tests-pass, credit-refused, credit-accepted}
 use Rattle.link.proofs.credit.credit.Statement.{statement}
 use Rattle.link.proofs.credit.credit.Tie as tie
 
@@ -132,7 +132,7 @@ returns-5 c =
     went-by (o .sound) (lowered-rest p _ whole _ i q (flow-few t) is)
     (bounds-out o (rw is (bounds-lowered (o .proper) whole (bounds-in o) i q (flow-few t))))
     (parts-lowered p _ whole _ i q (flow-few t) is)
-    (credit-taken (in-hand o) _ _ tests refl (record { flow = flow-below t; position = t .if2 .left; some-held = held }) refl)
+    (credit-accepted (in-hand o) _ _ tests refl (record { flow = flow-below t; position = t .if2 .left; some-held = held }) refl)
 
 pub credit-spec : {M : Type 1} → statement M
 credit-spec =

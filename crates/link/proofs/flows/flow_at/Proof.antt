@@ -59,7 +59,7 @@ returns c =
     let low = three .wide3 .ensures in
     let s = one .before .before .args in (
       flow-read (s .s .now) (s .i) _ (one .wide .ensures .0) (two .wide2 .ensures .0) (omega arith),
-      record { frame = one .wide .ensures .1; left = two .wide2 .ensures .1; number = omega arith },
+      record { injection = one .wide .ensures .1; remainder = two .wide2 .ensures .1; number = omega arith },
     )
 
 pub flow-at-spec : {M : Type 1} → statement M

@@ -30,7 +30,7 @@ module _ (c : tie.After-taker) where
   abbrev entry : tie.Start
   entry = start (free-at c .before)
 
-  first-is : c .taker .result ≡ firstTaker (takesIn (entry .args .plan) (entry .args .w) (partsIn (entry .args .plan) (entry .args .s .now) .held) (entry .args .mask)) (entry .args .plan .count) (partsIn (entry .args .plan) (entry .args .s .now) .first)
+  first-is : c .taker .result ≡ firstTaker (takesIn (entry .args .plan) (entry .args .w) (partsIn (entry .args .plan) (entry .args .s .now) .held) (entry .args .mask)) (entry .args .plan .count) (partsIn (entry .args .plan) (entry .args .s .now) .turn)
   first-is =
       let v = entry .pre .sound .parts .plan in
       c .taker .ensures ∙ taker-same (entry .args .plan) (entry .args .w) (entry .args .s .now) (entry .args .mask) _ (count-some _ v) (count-most _ v)

@@ -41,7 +41,7 @@ found-is : (c : tie.After-find) (p : Plan) → InAt (start c) p
 found-is c p o = c .find .ensures ∙ sought-on o (late-at c .late-rank .ensures)
 
 -- the share is not spent up to the newest frame
-not-spent : (c : tie.Joined1) → let s = entered c in s .args .flow .frame ≡ newest (windowOf (s .args .w)) → s .args .flow .left ≡ 0 → ⊥
+not-spent : (c : tie.Joined1) → let s = entered c in s .args .flow .injection ≡ newest (windowOf (s .args .w)) → s .args .flow .remainder ≡ 0 → ⊥
 not-spent c frame left =
     ⊎-elim
     (λ (_, n, _, elsewhere). true≢false (sym (eq-eqb _ _ (frame ∙ sym (n .ensures))) ∙ elsewhere .left))

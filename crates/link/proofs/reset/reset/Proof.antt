@@ -11,7 +11,7 @@ use Rattle.link.proofs.Plans.{count-most}
 use Rattle.link.proofs.Resets.{reset-refused, reset-granted}
 use Rattle.link.proofs.Given.{in-hand}
 use Rattle.link.proofs.StateParts.{went-same}
-use Rattle.link.proofs.StateLends.{quiet-same, Marked, marked-booked, marked-kept, flows-renewed, went-reset}
+use Rattle.link.proofs.StateLends.{quiet-same, Marked, marked-booked, marked-kept, flows-reset, went-reset}
 use borrow.Author.Needs.{needs}
 use Rattle.link.proofs.reset.reset.Statement.{statement}
 use Rattle.link.proofs.reset.reset.Tie as tie
@@ -56,8 +56,8 @@ element-copy-out-if2 c = search needs
 element-write-s : tie.Need-element-write-s
 element-write-s c = search needs
 
-renew-requires : tie.Need-renew-requires
-renew-requires c κs =
+reset-tables-requires : tie.Need-reset-tables-requires
+reset-tables-requires c κs =
     let o = start (quiet-at (c .before)) .pre in
     (o .sound .parts .plan, marked (c .before) .0 .long ∙ o .sound .whole, omega (arith, o .proper .head-below, o .proper .measures .frames-most))
 
@@ -71,8 +71,8 @@ returns-2 c =
     let s = start q in
     let o = s .pre in
     let m = marked j in
-    let r = c .renew .ensures in
-    let flows = r .flows-are ∙ ap (startedFlows (s .args .w .head) (s .args .plan .entries) (s .args .plan .count)) (flows-renewed o (m .0) (m .1) r) in
+    let r = c .reset-tables .ensures in
+    let flows = r .flows-are ∙ ap (startedFlows (s .args .w .head) (s .args .plan .entries) (s .args .plan .count)) (flows-reset o (m .0) (m .1) r) in
     went-reset o (m .0) (m .1) r
     (reset-granted (in-hand o) (quiet-is q) (j .before .before .if1 .left) (m .2) (r .owners-are) (r .masks-are) flows)
 
@@ -85,6 +85,6 @@ reset-spec =
     add-if2
     element-copy-out-if2
     element-write-s
-    renew-requires
+    reset-tables-requires
     element-write-s-2
     returns-2)

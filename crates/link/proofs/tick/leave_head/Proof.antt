@@ -48,8 +48,8 @@ put-flow-requires c κs =
     rw (c .moved-to .ensures) (
       few,
       record {
-        frame = s .pre .2;
-        left = share-few (s .args .t2) (s .pre .0) i (l .loop-test .taken);
+        injection = s .pre .2;
+        remainder = share-few (s .args .t2) (s .pre .0) i (l .loop-test .taken);
         number = f .flow-at .ensures .1 .number;
       },
     )

@@ -27,21 +27,21 @@ returns-3 c =
     let some = c .before in
     many-slots (few-given (some .before)) _ (some .before .if1 .left) (some .if2 .left) (c .if3 .taken)
 
-misfits-requires : tie.Need-misfits-requires
-misfits-requires c κs = search needs
+streams-out-of-range-requires : tie.Need-streams-out-of-range-requires
+streams-out-of-range-requires c κs = search needs
 
 returns-4 : tie.Need-returns-4
 returns-4 c =
     let few = c .before .before in
     let some = few .before in
-    gives-4 (few-given (some .before)) _ (some .before .if1 .left) (some .if2 .left) (few .if3 .left) true (sym (c .before .misfits .ensures) ∙ c .if4 .taken)
+    gives-4 (few-given (some .before)) _ (some .before .if1 .left) (some .if2 .left) (few .if3 .left) true (sym (c .before .streams-out-of-range .ensures) ∙ c .if4 .taken)
 
 returns-5 : tie.Need-returns-5
 returns-5 c =
     let few = c .before .before in
     let some = few .before in
-    gives-4 (few-given (some .before)) _ (some .before .if1 .left) (some .if2 .left) (few .if3 .left) false (sym (c .before .misfits .ensures) ∙ c .if4 .left)
+    gives-4 (few-given (some .before)) _ (some .before .if1 .left) (some .if2 .left) (few .if3 .left) false (sym (c .before .streams-out-of-range .ensures) ∙ c .if4 .left)
 
 pub refusal-before-links-spec : {M : Type 1} → statement M
 refusal-before-links-spec =
-    tie.close (tie.spec returns returns-2 returns-3 misfits-requires returns-4 returns-5)
+    tie.close (tie.spec returns returns-2 returns-3 streams-out-of-range-requires returns-4 returns-5)

@@ -4,7 +4,7 @@ use borrow.Author.Needs.{needs}
 use borrow.Author.Tests.{ltb-true, ltb-false}
 use native.Mathlib.Omega.{arith}
 use Rattle.model.proofs.Tests.{any-none}
-use Rattle.programme.specs.Reading.{emptyEntry}
+use Rattle.week.specs.Reading.{emptyEntry}
 use Rattle.programmewords.specs.Asked.{storedEntry}
 use Rattle.programmewords.proofs.Filled.{StartFilled, nothing-filled, one-more-filled, rest-empty}
 use Rattle.programmewords.proofs.ProgrammeLines.{past}

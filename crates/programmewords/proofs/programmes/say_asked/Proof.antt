@@ -1,7 +1,7 @@
 -- `programmewords::programmes::say_asked` meets its contract. Assumes nothing.
 use mathlib.Core.Path.{ap, _∙_}
-use Rattle.programme.specs.Week.{planAt}
-use Rattle.programme.specs.Reading.{entriesOf, answerFor}
+use Rattle.week.specs.Week.{planAt}
+use Rattle.week.specs.Reading.{entriesOf, answerFor}
 use Rattle.programmewords.specs.Programmes.{minuteAsked}
 use Rattle.programmewords.specs.Asked.{lineFor}
 use Rattle.replies.proofs.PutOn.{says-same}

@@ -19,20 +19,20 @@ abbrev μ-loop : tie.MeasureT-loop
 μ-loop held a e base from least₀ q₀ x₀ least q x = e - q
 
 -- where a place is looked at
-abbrev at-place : tie.After-chosen Inv-loop μ-loop → tie.In-loop Inv-loop μ-loop
+abbrev at-place : tie.After-select-below Inv-loop μ-loop → tie.In-loop Inv-loop μ-loop
 at-place c = c .before .before
 
-to-zero-requires : tie.Need-to-zero-requires Inv-loop μ-loop
-to-zero-requires c κs = search needs
+wrapping-neg-requires : tie.Need-wrapping-neg-requires Inv-loop μ-loop
+wrapping-neg-requires c κs = search needs
 
 loop-holds : tie.Need-loop-holds Inv-loop μ-loop
-loop-holds c = (counting-first _ _ _ (omega arith) (c .to-zero .ensures), testing-none (omega arith))
+loop-holds c = (counting-first _ _ _ (omega arith) (c .wrapping-neg .ensures), testing-none (omega arith))
 
 element-copy-out-larger-byte : tie.Need-element-copy-out-larger-byte Inv-loop μ-loop
 element-copy-out-larger-byte c = search needs
 
-chosen-requires : tie.Need-chosen-requires Inv-loop μ-loop
-chosen-requires c κs = search needs
+select-below-requires : tie.Need-select-below-requires Inv-loop μ-loop
+select-below-requires c κs = search needs
 
 larger-byte-requires : tie.Need-larger-byte-requires Inv-loop μ-loop
 larger-byte-requires c κs = search needs
@@ -40,8 +40,8 @@ larger-byte-requires c κs = search needs
 smaller-byte-requires : tie.Need-smaller-byte-requires Inv-loop μ-loop
 smaller-byte-requires c κs = search needs
 
-on-by-one-requires : tie.Need-on-by-one-requires Inv-loop μ-loop
-on-by-one-requires c κs = search needs
+wrapping-inc-requires : tie.Need-wrapping-inc-requires Inv-loop μ-loop
+wrapping-inc-requires c κs = search needs
 
 add-q : tie.Need-add-q Inv-loop μ-loop
 add-q c = search needs
@@ -56,10 +56,10 @@ loop-again c =
     let ch = g .before in
     let i = at-place ch in
     let l = i .before in
-    let padded = ch .chosen .ensures ∙ counted-pad (l .loop .inv .0) (l .before .before .args .from) 255 0 in
+    let padded = ch .select-below .ensures ∙ counted-pad (l .loop .inv .0) (l .before .before .args .from) 255 0 in
     let seen = g .larger-byte .ensures ∙ ap (max _) padded in
     let tested = testing-least (l .loop .least) (l .loop .inv .1) (i .loop-test .taken) _ (ap (λ y. ltb 0 y) (sym seen)) in
-    (counting-on (l .loop .inv .0) (omega arith) (l .loop .inv .1 .from) (c .on-by-one .ensures), rw (s .smaller-byte .ensures) tested)
+    (counting-on (l .loop .inv .0) (omega arith) (l .loop .inv .1 .from) (c .wrapping-inc .ensures), rw (s .smaller-byte .ensures) tested)
 
 returns : tie.Need-returns Inv-loop μ-loop
 returns c = testing-done (c .before .loop .inv .1) (omega arith)
@@ -70,13 +70,13 @@ held-in-spec =
     (tie.spec
     Inv-loop
     μ-loop
-    to-zero-requires
+    wrapping-neg-requires
     loop-holds
     element-copy-out-larger-byte
-    chosen-requires
+    select-below-requires
     larger-byte-requires
     smaller-byte-requires
-    on-by-one-requires
+    wrapping-inc-requires
     add-q
     loop-less
     loop-again

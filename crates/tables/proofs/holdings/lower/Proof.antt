@@ -16,17 +16,17 @@ abbrev μ-loop : tie.MeasureT-loop
 μ-loop held₀ a e base from most₀ q₀ x₀ held most q x = e - q
 
 -- where the move of a place is known
-abbrev chosen-at : tie.After-byte Inv-loop μ-loop → tie.After-chosen Inv-loop μ-loop
+abbrev chosen-at : tie.After-byte Inv-loop μ-loop → tie.After-select-below Inv-loop μ-loop
 chosen-at c = c .before .before
 
-to-zero-requires : tie.Need-to-zero-requires Inv-loop μ-loop
-to-zero-requires c κs = search needs
+wrapping-neg-requires : tie.Need-wrapping-neg-requires Inv-loop μ-loop
+wrapping-neg-requires c κs = search needs
 
 loop-holds : tie.Need-loop-holds Inv-loop μ-loop
-loop-holds c = lowering-none _ _ _ _ (omega arith) (omega arith) (c .to-zero .ensures)
+loop-holds c = lowering-none _ _ _ _ (omega arith) (omega arith) (c .wrapping-neg .ensures)
 
-chosen-requires : tie.Need-chosen-requires Inv-loop μ-loop
-chosen-requires c κs = search needs
+select-below-requires : tie.Need-select-below-requires Inv-loop μ-loop
+select-below-requires c κs = search needs
 
 element-copy-out-byte : tie.Need-element-copy-out-byte Inv-loop μ-loop
 element-copy-out-byte c = search needs
@@ -34,8 +34,8 @@ element-copy-out-byte c = search needs
 byte-requires : tie.Need-byte-requires Inv-loop μ-loop
 byte-requires c κs = search needs
 
-moved-requires : tie.Need-moved-requires Inv-loop μ-loop
-moved-requires c κs = search needs
+wrapping-add-requires : tie.Need-wrapping-add-requires Inv-loop μ-loop
+wrapping-add-requires c κs = search needs
 
 larger-byte-requires : tie.Need-larger-byte-requires Inv-loop μ-loop
 larger-byte-requires c κs = search needs
@@ -43,8 +43,8 @@ larger-byte-requires c κs = search needs
 element-write-s : tie.Need-element-write-s Inv-loop μ-loop
 element-write-s c = search needs
 
-on-by-one-requires : tie.Need-on-by-one-requires Inv-loop μ-loop
-on-by-one-requires c κs = search needs
+wrapping-inc-requires : tie.Need-wrapping-inc-requires Inv-loop μ-loop
+wrapping-inc-requires c κs = search needs
 
 add-q : tie.Need-add-q Inv-loop μ-loop
 add-q c = search needs
@@ -60,9 +60,9 @@ loop-again c =
     let ch = chosen-at b in
     let i = ch .before in
     let l = i .before in
-    let moved = m .moved .ensures ∙ ap (λ by. wrapped by (b .byte .result)) (ch .chosen .ensures) in
+    let wrapping-add = m .wrapping-add .ensures ∙ ap (λ by. wrapped by (b .byte .result)) (ch .select-below .ensures) in
     lowering-more _ _ _ _ (omega arith) (l .loop .inv) (i .loop-test .taken)
-    (b .byte .ensures .0) (b .byte .ensures .1) moved (g .larger-byte .ensures) (c .on-by-one .ensures)
+    (b .byte .ensures .0) (b .byte .ensures .1) wrapping-add (g .larger-byte .ensures) (c .wrapping-inc .ensures)
 
 returns : tie.Need-returns Inv-loop μ-loop
 returns c =
@@ -76,15 +76,15 @@ lower-spec =
     (tie.spec
     Inv-loop
     μ-loop
-    to-zero-requires
+    wrapping-neg-requires
     loop-holds
-    chosen-requires
+    select-below-requires
     element-copy-out-byte
     byte-requires
-    moved-requires
+    wrapping-add-requires
     larger-byte-requires
     element-write-s
-    on-by-one-requires
+    wrapping-inc-requires
     add-q
     loop-less
     loop-again

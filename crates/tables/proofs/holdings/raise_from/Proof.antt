@@ -15,8 +15,8 @@ element-copy-out-bound c = search needs
 shift-from-requires : tie.Need-shift-from-requires
 shift-from-requires c κs = search needs
 
-one-more-requires : tie.Need-one-more-requires
-one-more-requires c κs = search needs
+saturating-inc-requires : tie.Need-saturating-inc-requires
+saturating-inc-requires c κs = search needs
 
 add-s : tie.Need-add-s
 add-s c = search needs
@@ -29,7 +29,7 @@ unfolding raised
 returns c =
     let f = c .before in
     let s = f .before .before .before in
-    λ k. set (f .shift-from .ensures k) (4480 + s .args .i) (c .one-more .ensures k)
+    λ k. set (f .shift-from .ensures k) (4480 + s .args .i) (c .saturating-inc .ensures k)
 
 pub raise-from-spec : {M : Type 1} → statement M
 raise-from-spec =
@@ -38,7 +38,7 @@ raise-from-spec =
     add-bound
     element-copy-out-bound
     shift-from-requires
-    one-more-requires
+    saturating-inc-requires
     add-s
     element-write-s
     returns)

@@ -19,41 +19,41 @@ abbrev μ-loop : tie.MeasureT-loop
 μ-loop held₀ a e base from late q₀ x₀ held q x = e - q
 
 -- where a place is looked at
-abbrev at-place : tie.After-moved Inv-loop μ-loop → tie.In-loop Inv-loop μ-loop
+abbrev at-place : tie.After-wrapping-add Inv-loop μ-loop → tie.In-loop Inv-loop μ-loop
 at-place c = c .before .before .before
 
 -- what is put there: what is held, moved by the pad
-put : (c : tie.After-moved Inv-loop μ-loop)
+put : (c : tie.After-wrapping-add Inv-loop μ-loop)
     → let l = at-place c .before in
     let s = l .before .before .args in
-    c .moved .result ≡ wrapped (pad (s .base) (s .from) 0 (s .late) (l .loop .q - s .a)) (getD (l .loop .s) (l .loop .q) 0)
+    c .wrapping-add .result ≡ wrapped (pad (s .base) (s .from) 0 (s .late) (l .loop .q - s .a)) (getD (l .loop .s) (l .loop .q) 0)
 put c =
     let i = at-place c in
     let l = i .before in
     let s = l .before .before in
     let padded = counted-pad (l .loop .inv .0) (s .args .from) 0 (s .args .late) in
-    c .moved .ensures ∙ ap (λ by. wrapped by (getD (l .loop .s) (l .loop .q) 0)) (c .before .before .chosen .ensures ∙ padded)
+    c .wrapping-add .ensures ∙ ap (λ by. wrapped by (getD (l .loop .s) (l .loop .q) 0)) (c .before .before .select-below .ensures ∙ padded)
 
-to-zero-requires : tie.Need-to-zero-requires Inv-loop μ-loop
-to-zero-requires c κs = search needs
+wrapping-neg-requires : tie.Need-wrapping-neg-requires Inv-loop μ-loop
+wrapping-neg-requires c κs = search needs
 
 loop-holds : tie.Need-loop-holds Inv-loop μ-loop
-loop-holds c = (counting-first _ _ _ (omega arith) (c .to-zero .ensures), replacing-none 0 (omega arith))
+loop-holds c = (counting-first _ _ _ (omega arith) (c .wrapping-neg .ensures), replacing-none 0 (omega arith))
 
-chosen-requires : tie.Need-chosen-requires Inv-loop μ-loop
-chosen-requires c κs = search needs
+select-below-requires : tie.Need-select-below-requires Inv-loop μ-loop
+select-below-requires c κs = search needs
 
-element-copy-out-moved : tie.Need-element-copy-out-moved Inv-loop μ-loop
-element-copy-out-moved c = search needs
+element-copy-out-wrapping-add : tie.Need-element-copy-out-wrapping-add Inv-loop μ-loop
+element-copy-out-wrapping-add c = search needs
 
-moved-requires : tie.Need-moved-requires Inv-loop μ-loop
-moved-requires c κs = search needs
+wrapping-add-requires : tie.Need-wrapping-add-requires Inv-loop μ-loop
+wrapping-add-requires c κs = search needs
 
 element-write-s : tie.Need-element-write-s Inv-loop μ-loop
 element-write-s c = search needs
 
-on-by-one-requires : tie.Need-on-by-one-requires Inv-loop μ-loop
-on-by-one-requires c κs = search needs
+wrapping-inc-requires : tie.Need-wrapping-inc-requires Inv-loop μ-loop
+wrapping-inc-requires c κs = search needs
 
 add-q : tie.Need-add-q Inv-loop μ-loop
 add-q c = search needs
@@ -66,7 +66,7 @@ loop-again c =
     let m = c .before in
     let i = at-place m in
     let l = i .before .loop in (
-      counting-on (l .inv .0) (omega arith) (l .inv .1 .from) (c .on-by-one .ensures),
+      counting-on (l .inv .0) (omega arith) (l .inv .1 .from) (c .wrapping-inc .ensures),
       replacing-more 0 (l .inv .1) (i .loop-test .taken) (put m),
     )
 
@@ -79,13 +79,13 @@ shift-spec =
     (tie.spec
     Inv-loop
     μ-loop
-    to-zero-requires
+    wrapping-neg-requires
     loop-holds
-    chosen-requires
-    element-copy-out-moved
-    moved-requires
+    select-below-requires
+    element-copy-out-wrapping-add
+    wrapping-add-requires
     element-write-s
-    on-by-one-requires
+    wrapping-inc-requires
     add-q
     loop-less
     loop-again

@@ -21,11 +21,11 @@ rank-requires c κs =
     let m = s .pre .masks .proper .measures in
     record { proper = s .pre .masks .proper; below = omega (arith, frame-fits (s .args .w .slots) _ _ (s .pre .frame), m .some-slot) }
 
-over-requires : tie.Need-over-requires
-over-requires c κs = search needs
+saturating-sub-requires : tie.Need-saturating-sub-requires
+saturating-sub-requires c κs = search needs
 
-from-requires : tie.Need-from-requires
-from-requires c κs = search needs
+clear-below-requires : tie.Need-clear-below-requires
+clear-below-requires c κs = search needs
 
 returns : tie.Need-returns
 returns c =
@@ -34,11 +34,11 @@ returns c =
     let m = r .before .before in
     let s = m .before in
     let few = s .pre .masks .proper .measures .frames-most in
-    let early = o .over .ensures ∙ ap (λ (x : ℕ). s .args .low - x) (r .rank .ensures) in
+    let early = o .saturating-sub .ensures ∙ ap (λ (x : ℕ). s .args .low - x) (r .rank .ensures) in
     let mask = m .mask-at .ensures ∙ sym (masks-at (s .args .s .now) (s .args .frame) (omega (arith, s .pre .frame))) in
-    gathered (s .pre .masks) (s .args .low) (s .args .frame) (s .pre .frame) (rw (early, mask) at (c .from .ensures))
+    gathered (s .pre .masks) (s .args .low) (s .args .frame) (s .pre .frame) (rw (early, mask) at (c .clear-below .ensures))
 
 pub valid-slots-spec : {M : Type 1} → statement M
 valid-slots-spec =
     tie.close
-    (tie.spec mask-at-requires mul-rank rank-requires over-requires from-requires returns)
+    (tie.spec mask-at-requires mul-rank rank-requires saturating-sub-requires clear-below-requires returns)

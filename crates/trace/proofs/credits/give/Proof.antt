@@ -7,7 +7,7 @@ use Rattle.link.proofs.Readings.{size-most}
 use Rattle.link.proofs.Stays.{credit-current, still-in}
 use Rattle.trace.specs.Trace.{creditLine, tracedCredit}
 use Rattle.trace.proofs.Numbers.{lines-as}
-use Rattle.trace.proofs.LinkTold.{current-few, answered-as, current-told, dated-below, refused-line, taken-line}
+use Rattle.trace.proofs.LinkTold.{current-few, answered-as, current-told, dated-below, refused-line, accepted-line}
 use Rattle.trace.proofs.credits.give.Statement.{statement}
 use Rattle.trace.proofs.credits.give.Tie as tie
 
@@ -89,7 +89,7 @@ returns-2 c =
       lines-are =
           lines-as
           (answered-as _ (a .answer-of2 .ensures) (t .before .call-of .ensures) refl refl
-          ∙ taken-line (s .args .flow) (s .args .position) _ _ (t .if1 .left)
+          ∙ accepted-line (s .args .flow) (s .args .position) _ _ (t .if1 .left)
           ∙ (λ j. creditLine (s .args .flow) (s .args .position) (went .link-is j) (went .answer-is j)))
           (omega arith) (put .put-answer2 .ensures);
     }

@@ -3,7 +3,7 @@ use borrow.Author.Needs.{needs}
 use native.Mathlib.Omega.{arith}
 use Prim.Native.Nat.{_-_, _<_}
 use mathlib.Core.Path.{_≡_, refl, sym, ap, _∙_}
-use Rattle.model.specs.Plan as paper
+use Rattle.model.specs.Plan as reference
 use Rattle.plan.specs.Reading.{planFor}
 use Rattle.trace.proofs.LinkTold.{plan-entry, count-most}
 use Rattle.trace.specs.Trace.{entryLine, entryLines}
@@ -12,7 +12,7 @@ use Rattle.trace.proofs.plans.put_entries.Statement.{statement}
 use Rattle.trace.proofs.plans.put_entries.Tie as tie
 
 abbrev Inv-loop : tie.InvT-loop
-Inv-loop out₀ at plan next₀ i₀ out next i = LinesTo entryLine (paper.entry (planFor plan)) (plan .count) out₀ out at next i
+Inv-loop out₀ at plan next₀ i₀ out next i = LinesTo entryLine (reference.entry (planFor plan)) (plan .count) out₀ out at next i
 
 abbrev μ-loop : tie.MeasureT-loop
 μ-loop out₀ at plan next₀ i₀ out next i = plan .count - i

@@ -31,8 +31,8 @@ give-requires c κs = search needs
 enum-told : tie.Need-enum-told
 enum-told c = search needs
 
-turn-requires : tie.Need-turn-requires
-turn-requires c κs = search needs
+tick-step-requires : tie.Need-tick-step-requires
+tick-step-requires c κs = search needs
 
 enum-known-call-5 : tie.Need-enum-known-call-5
 enum-known-call-5 c = search needs
@@ -43,8 +43,8 @@ hand-on-requires c κs = search needs
 enum-told-2 : tie.Need-enum-told-2
 enum-told-2 c = search needs
 
-renew-requires : tie.Need-renew-requires
-renew-requires c κs = search needs
+reset-step-requires : tie.Need-reset-step-requires
+reset-step-requires c κs = search needs
 
 same-length : tie.Need-same-length
 same-length c = search needs
@@ -74,7 +74,7 @@ same-length-5 : tie.Need-same-length-5
 same-length-5 c = search needs
 
 returns-5 : tie.Need-returns-5
-returns-5 c = let made = c .before .before in rw (made .before .before .before .enum-told .given .1) (made .turn .ensures)
+returns-5 c = let made = c .before .before in rw (made .before .before .before .enum-told .given .1) (made .tick-step .ensures)
 
 same-length-6 : tie.Need-same-length-6
 same-length-6 c = search needs
@@ -86,7 +86,7 @@ same-length-7 : tie.Need-same-length-7
 same-length-7 c = search needs
 
 returns-7 : tie.Need-returns-7
-returns-7 c = let made = c .before .before in rw (made .before .before .before .enum-told2 .given .1) (made .renew .ensures)
+returns-7 c = let made = c .before .before in rw (made .before .before .before .enum-told2 .given .1) (made .reset-step .ensures)
 
 pub step-spec : {M : Type 1} → statement M
-step-spec = tie.close (tie.spec enum-known-call ask-requires enum-known-call-2 ask-in-burst-requires enum-known-call-3 ask-past-burst-requires enum-known-call-4 give-requires enum-told turn-requires enum-known-call-5 hand-on-requires enum-told-2 renew-requires same-length returns same-length-2 returns-2 same-length-3 returns-3 same-length-4 returns-4 same-length-5 returns-5 same-length-6 returns-6 same-length-7 returns-7)
+step-spec = tie.close (tie.spec enum-known-call ask-requires enum-known-call-2 ask-in-burst-requires enum-known-call-3 ask-past-burst-requires enum-known-call-4 give-requires enum-told tick-step-requires enum-known-call-5 hand-on-requires enum-told-2 reset-step-requires same-length returns same-length-2 returns-2 same-length-3 returns-3 same-length-4 returns-4 same-length-5 returns-5 same-length-6 returns-6 same-length-7 returns-7)

@@ -2,7 +2,7 @@
 use mathlib.Core.Path.{_≡_, sym, _∙_}
 use Prim.Native.Nat.{ℕ}
 use mathlib.Core.List.{List}
-use Rattle.programme.specs.Week.{Entry, entry, shareMinute}
+use Rattle.week.specs.Week.{Entry, entry, shareMinute}
 use Rattle.weekwords.specs.WeekWord.{weekAsked}
 use Rattle.weekwords.proofs.AskedEntries.{listed, entry-is}
 use Rattle.weekwords.proofs.SharedMinutes.{laterStart, week-over, first-over, by-second}

@@ -1,7 +1,7 @@
 -- `weekwords::entries::tell_entries` meets its contract. The loop: the entries before entry i are told. Assumes nothing.
 use Prim.Native.Nat.{ℕ, _-_, _≤_}
 use mathlib.Core.List.{List}
-use Rattle.programme.specs.Week.{entry}
+use Rattle.week.specs.Week.{entry}
 use Rattle.faults.proofs.ToldEach.{ToldTo, none-told, one-told, all-told}
 use Rattle.weekwords.specs.WeekFaults.{entryFaults}
 use Rattle.weekwords.specs.WeekWord.{weekAsked}

@@ -4,7 +4,7 @@ use mathlib.Core.Path.{_≡_, refl, sym, ap, _∙_}
 use mathlib.Core.Bool.{Bool}
 use mathlib.Core.List.{List}
 use lib.ListN.{length}
-use Rattle.programme.specs.Week.{entry, shareMinute}
+use Rattle.week.specs.Week.{entry, shareMinute}
 use Rattle.calls.proofs.Stores.{puts-none, puts-same}
 use Rattle.faults.proofs.ToldEach.{puts-from, Searched, none-searched, one-searched, first-found, none-found}
 use Rattle.weekwords.specs.WeekWord.{weekAsked}
