@@ -66,7 +66,7 @@ extern "C" {
 
 /* ---- the version: the first number goes up where older images are refused */
 
-#define NAZGOLV_VERSION "4.9.0"
+#define NAZGOLV_VERSION "4.10.0"
 #define NAZGOLV_VERSION_MAJOR 4
 #define NAZGOLV_VERSION_MINOR 9
 #define NAZGOLV_VERSION_PATCH 0
