@@ -13,9 +13,9 @@ GATE_OF = 1100                  # seconds
 # How far the time of `dense` is above that of the page, the exit status, and
 # a part of what is said.
 SAID = (
-    (0.9, 0, "of 12 ratios none is more than 10 of 100 above"),
-    (1.0, 0, "of 12 ratios none is more than 10 of 100 above"),
-    (1.1, 0, "of 12 ratios none is more than 10 of 100 above"),
+    (0.9, 0, "of 16 ratios none is more than 10 of 100 above"),
+    (1.0, 0, "of 16 ratios none is more than 10 of 100 above"),
+    (1.1, 0, "of 16 ratios none is more than 10 of 100 above"),
     (1.11, 1, "above that of docs/PERFORMANCE.md: whole file, dense 2.22, "
               "was 2.00; measure again alone"))
 
