@@ -30,7 +30,7 @@ def made(words, what):
 def build(folder):
     """Both libraries, and the program over each."""
     programs.need("cc")
-    done = subprocess.run(["rt", "staticlib", "image"], cwd=programs.ROOT,
+    done = subprocess.run(["rt", "staticlib", "nazgolv"], cwd=programs.ROOT,
                           stdout=subprocess.DEVNULL, stderr=subprocess.DEVNULL)
     if done.returncode != 0:
         programs.stop("rt staticlib nazgolv failed: nothing is measured")
