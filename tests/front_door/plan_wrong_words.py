@@ -2,7 +2,7 @@
 nothing is written."""
 
 from front_door.command import trouble
-from front_door.plan_tree import NOT_DONE, NUMBERS, in_trees
+from front_door.plan_tree import NOT_DONE, NUMBERS, REFUSED, in_trees
 
 COUNT = "the numbers are F, W, N and then four for each flow, and %s given"
 
@@ -49,10 +49,11 @@ def wrong_words(tree):
 
 
 def too_many_numbers(tree):
-    """A line of more than 4,000 bytes is no question of domeplan's."""
+    """A line of more than 4,000 bytes is no question of domeplan's; how many
+    flows there are is told all the same."""
     words = ["4", "2", "4"] + ["1", "1", "1", "9"] * 600
-    return trouble(tree.start(*words), NOT_DONE, b"",
-                   "domeplan doesn't take this: ")
+    return trouble(tree.start(*words), REFUSED, b"",
+                   "refused with 2: n is not 1 to 16; here n is 600")
 
 
 def nothing_is_built(tree):
