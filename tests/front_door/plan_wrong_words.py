@@ -1,7 +1,6 @@
 """./plan with words that are no question: one sentence, status 2, and
 nothing is written."""
 
-from front_door.command import trouble
 from front_door.plan_tree import NOT_DONE, NUMBERS, REFUSED, in_trees
 
 COUNT = "the numbers are F, W, N and then four for each flow, and %s given"
@@ -52,8 +51,11 @@ def too_many_numbers(tree):
     """A line of more than 4,000 bytes is no question of domeplan's; how many
     flows there are is told all the same."""
     words = ["4", "2", "4"] + ["1", "1", "1", "9"] * 600
-    return trouble(tree.start(*words), REFUSED, b"",
-                   "refused with 2: n is not 1 to 16; here n is 600")
+    ended = tree.start(*words)
+    first = ended.errors.splitlines()[0]
+    return ((ended.status, ended.output) != (REFUSED, b"")
+            or "refused with 2: n is not 1 to 16; here n is 600" not in first
+            ) and "status %d: %s" % (ended.status, first)
 
 
 def nothing_is_built(tree):

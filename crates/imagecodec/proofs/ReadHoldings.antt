@@ -1,5 +1,5 @@
 -- Holdings that are read row by row. Assumes nothing.
-use Prim.Native.Nat.{ℕ, _+_, _-_, _*_, _≤_, _<_}
+use Prim.Native.Nat.{ℕ, _+_, _≤_, _<_}
 use mathlib.Core.Path.{_≡_, refl, sym, ap, _∙_}
 use mathlib.Core.List.{List}
 use mathlib.Core.Bool.{cond}
@@ -8,50 +8,19 @@ use native.Mathlib.Omega.{arith}
 use lib.ListN.{length, getD}
 use lib.Dec.{ltb}
 use borrow.Author.Tests.{lt-ltb, le-ltb}
-use Rattle.window.specs.Ranges.{inRange, replaced}
-use Rattle.window.proofs.Ranges.{in-range, before-range, past-range, replaced-same}
-use Rattle.state.specs.Parts.{withPart, Beside}
+use Rattle.state.specs.Parts.{Beside}
 use Rattle.state.specs.State.{Whole, heldOf}
-use Rattle.state.proofs.Parts.{part-at, beside-both}
+use Rattle.state.proofs.Parts.{beside-both}
 use Rattle.state.proofs.State.{length-held}
 use Rattle.tables.specs.Owners.{everywhere}
 use Rattle.tables.specs.Rows.{row, Sixteen, withRow}
 use Rattle.tables.specs.Holdings.{nothingHeld}
 use Rattle.tables.proofs.Rows.{rows-of, row-with-same, row-with-other}
 use Rattle.tables.proofs.HeldRows.{row-held, beside-held}
-use Rattle.tables.proofs.FreshTables.{row-of-nothing, nothing-at, everywhere-at}
-use Rattle.imagemodel.specs.Image.{fieldAt}
+use Rattle.tables.proofs.FreshTables.{row-of-nothing, nothing-at}
 use Rattle.imagecheck.specs.declared.layout.Layout.{Layout}
-use Rattle.imagecodec.specs.Reading.{tableFrom, partAt, rowFrom, heldFrom, HeldRead}
-use Rattle.imagecodec.proofs.ReadTables.{length-from, from-in, from-past}
-
--- ---- the fields of a row that holds nothing, stored one by one
-
-pub row-stored : (b : List ℕ) (at size : ℕ) (h : List ℕ) (i : ℕ) → size ≤ 256 → i < 16 → row h i ≡ everywhere 0
-    → replaced (inRange (256 * i) (256 * i + size)) (λ k x. fieldAt b at (k - 256 * i)) h ≡ withRow h i (tableFrom b at size 0)
-unfolding withRow withPart row
-row-stored b at size h i most few empty =
-    replaced-same (inRange (256 * i) (256 * i + size)) (inRange (256 * i) (256 * i + 256)) (λ k x. fieldAt b at (k - 256 * i))
-    (λ k x. getD (tableFrom b at size 0) (k - 256 * i) 0) h 0
-    (λ k l. go k (256 * i) refl (decLt k (256 * i)) (decLt k (256 * i + size)) (decLt k (256 * i + 256)))
-  where
-    nothing : (k a : ℕ) → a ≡ 256 * i → a ≤ k → k < a + 256 → getD h k 0 ≡ 0
-    nothing k a e low high =
-        let is : 256 * i + (k - a) ≡ k = omega (arith, e) in
-        ap (λ j. getD h j 0) (sym is) ∙ sym (part-at h (256 * i) 256 (k - a) (omega arith)) ∙ ap (λ xs. getD xs (k - a) 0) empty
-        ∙ everywhere-at 0 (k - a) (omega arith)
-
-    go : (k a : ℕ) → a ≡ 256 * i → Dec (k < a) → Dec (k < a + size) → Dec (k < a + 256)
-        → cond (inRange a (a + size) k) (fieldAt b at (k - a)) (getD h k 0)
-        ≡ cond (inRange a (a + 256) k) (getD (tableFrom b at size 0) (k - a) 0) (getD h k 0)
-    go k a e (yes low) y z = rw (before-range a (a + size) k low, before-range a (a + 256) k low)
-    go k a e (no low) (yes inside) z =
-        rw (in-range a (a + size) k (omega arith) inside, in-range a (a + 256) k (omega arith) (omega (arith, most)))
-        (sym (from-in b at size 0 (k - a) (omega arith) (omega (arith, most))))
-    go k a e (no low) (no out) (yes inside) =
-        rw (past-range a (a + size) k (omega arith), in-range a (a + 256) k (omega arith) inside)
-        (nothing k a e (omega arith) inside ∙ sym (from-past b at size 0 (k - a) (omega arith) (omega arith)))
-    go k a e (no low) (no out) (no past) = rw (past-range a (a + size) k (omega arith), past-range a (a + 256) k (omega arith))
+use Rattle.imagecodec.specs.Reading.{partAt, rowFrom, heldFrom, HeldRead}
+use Rattle.imagecodec.proofs.ReadTables.{length-from}
 
 -- the first i rows are read, the others hold nothing, and nothing else changed
 pub record ReadingRows (b : List ℕ) (y : Layout) (before h : List ℕ) (i : ℕ) : Type 0 where

@@ -1,22 +1,20 @@
 // The flows of an image, stored to a state: their frames, remainders and expected numbers, and what they hold.
 ghost use mathlib.Core.Path.{_≡_};
-ghost use Prim.Native.Nat.{_+_, _*_, _≤_, _<_};
+ghost use Prim.Native.Nat.{_+_, _*_, _≤_};
 ghost use lib.ListN.{length};
 ghost use Rattle.state.specs.State.{Whole, heldOf};
-ghost use Rattle.tables.specs.Owners.{everywhere};
-ghost use Rattle.tables.specs.Rows.{row, withRow};
 ghost use Rattle.tables.specs.Holdings.{nothingHeld};
-ghost use Rattle.fields.specs.Fields.{ByteFields};
 ghost use Rattle.link.specs.Parts.{flowsOf};
 ghost use Rattle.link.specs.Changes.{FlowsNow};
-ghost use Rattle.imagecodec.specs.Reading.{tableFrom, flowFrom, flowsOver, HeldRead};
+ghost use Rattle.imagecodec.specs.Reading.{flowFrom, flowsOver, HeldRead};
 ghost use Rattle.imagecodec.specs.Asked.{FlowsOn, HoldingsOn};
 use fields::field;
+use fields::read_table;
 use imagecheck::layout::Layout;
 use link::Flow;
 use link::flows::put_flow;
-use state::ROW;
 use state::State;
+use tables::holdings::store;
 
 // The injection frame, the remainder and the expected number of a part that stands at a place, with so many holdings.
 fn read_flow(image: &[u8], at: usize, size: usize) -> Flow
@@ -43,19 +41,6 @@ pub(crate) fn read_flows(s: &mut State, image: &[u8], l: Layout)
     }
 }
 
-// What a flow that holds nothing holds now: so many fields from a place on, each of them a byte, as the first of its row.
-fn read_row(s: &mut State, i: usize, image: &[u8], at: usize, size: usize)
-    requires { ⌜ (i < 16) × ByteFields (now image) at size × (row (now s) i ≡ everywhere 0) ⌝ }
-    ensures { λ r. ⌜ now (s .exit) ≡ withRow (now (s .entry)) i (tableFrom (now (image .entry)) at size 0) ⌝ }
-{
-    let first = ROW * i;
-    let mut p = 0;
-    while p < size {
-        s[first + p] = field(image, at + 2 * p) as u8;
-        p += 1;
-    }
-}
-
 // What each flow holds, where nothing is held.
 pub(crate) fn read_held(s: &mut State, image: &[u8], l: Layout)
     requires { ⌜ HoldingsOn (now image) l × Whole (now s) × (heldOf (now s) ≡ nothingHeld) ⌝ }
@@ -64,7 +49,7 @@ pub(crate) fn read_held(s: &mut State, image: &[u8], l: Layout)
     let count = l.count;
     let mut i = 0;
     while i < count {
-        read_row(s, i, image, l.flow(i) + 4, l.size);
+        store(s, i, read_table(image, l.flow(i) + 4, l.size, 0));
         i += 1;
     }
 }

@@ -1,10 +1,9 @@
 -- `imagecodec::flows::read_held` meets its contract. Assumes nothing.
 use borrow.Author.Needs.{needs}
 use Prim.Native.Nat.{ℕ, _+_, _-_, _<_}
-use mathlib.Core.Path.{sym, ap, subst}
+use mathlib.Core.Path.{sym, ap, _∙_, subst}
 use native.Mathlib.Omega.{arith}
 use Rattle.imagemodel.specs.Image.{fieldAt}
-use Rattle.fields.specs.Fields.{ByteFields}
 use Rattle.imagecodec.specs.Reading.{tableFrom}
 use Rattle.imagecodec.proofs.ReadHoldings.{ReadingRows, no-rows, one-row-more, all-rows}
 use Rattle.imagecodec.proofs.flows.read_held.Statement.{statement}
@@ -30,31 +29,23 @@ loop-holds c = no-rows (c .before .pre .2)
 flow-requires : tie.Need-flow-requires Inv-loop μ-loop
 flow-requires c κs = let i = c .before in (entered (i .before) .pre .0 .on .sized, i .loop-test .taken)
 
-add-read-row : tie.Need-add-read-row Inv-loop μ-loop
-add-read-row c = omega arith
+add-read-table : tie.Need-add-read-table Inv-loop μ-loop
+add-read-table c = omega arith
 
--- the flow's holdings are there, and each of them is a byte
-fields-there : (c : tie.After-flow Inv-loop μ-loop) → let s = entered (looped c .before) in
-    ByteFields (s .args .image .now) (c .flow .result + 4) (s .args .l .size)
-fields-there c =
+read-table-requires : tie.Need-read-table-requires Inv-loop μ-loop
+read-table-requires c κs =
     let i = looped c in
     let s = entered (i .before) in
     let v = s .pre .0 in
-    let at = sym (c .flow .ensures .0) in
     record {
       few = v .size-most;
       there = omega arith;
       bytes = λ q h.
-          subst (λ (at : ℕ). fieldAt (s .args .image .now) (at + 4) q < 256) at (v .bytes (i .before .loop .i) q (i .loop-test .taken) h);
+          subst (λ (at : ℕ). fieldAt (s .args .image .now) (at + 4) q < 256) (sym (c .flow .ensures .0)) (v .bytes (i .before .loop .i) q (i .loop-test .taken) h);
     }
 
-read-row-requires : tie.Need-read-row-requires Inv-loop μ-loop
-read-row-requires c κs =
-    let i = looped c in
-    let s = entered (i .before) in
-    let v = s .pre .0 in
-    let below : i .before .loop .i < 16 = omega (arith, v .on .few, i .loop-test .taken) in
-    (below, fields-there c, i .before .loop .inv .spare (i .before .loop .i) (omega arith) below)
+store-requires : tie.Need-store-requires Inv-loop μ-loop
+store-requires c κs = omega arith
 
 add-i : tie.Need-add-i Inv-loop μ-loop
 add-i c = search needs
@@ -64,11 +55,12 @@ loop-less c = search needs
 
 loop-again : tie.Need-loop-again Inv-loop μ-loop
 loop-again c =
-    let f = c .before in
+    let r = c .before in
+    let f = r .before in
     let i = looped f in
     let s = entered (i .before) in
     let same = ap (λ (at : ℕ). tableFrom (s .args .image .now) (at + 4) (s .args .l .size) 0) (f .flow .ensures .0) in
-    one-row-more (s .pre .0 .on .few) (i .before .loop .inv) (s .pre .1) (i .loop-test .taken) same (c .read-row .ensures)
+    one-row-more (s .pre .0 .on .few) (i .before .loop .inv) (s .pre .1) (i .loop-test .taken) (r .read-table .ensures ∙ same) (c .store .ensures)
 
 returns : tie.Need-returns Inv-loop μ-loop
 returns c = all-rows (entered (c .before) .pre .0 .on .few) (c .before .loop .inv) (omega arith)
@@ -81,8 +73,9 @@ read-held-spec =
     μ-loop
     loop-holds
     flow-requires
-    add-read-row
-    read-row-requires
+    add-read-table
+    read-table-requires
+    store-requires
     add-i
     loop-less
     loop-again
