@@ -283,12 +283,12 @@ uint64_t nazgolv_lend(uint8_t *image, size_t image_length, uint16_t mask);
 
 /*
  * To send a tile ahead of its booked slot: in a slot that nobody booked, lend to
- * flows that have a tile which came in an earlier slot and waits for a later
- * position; then credit the flow that was answered, dated the position that is
- * booked for the tile, before any other call. That credit is always taken. The
- * tile leaves in the current slot, and when its position comes up there is
- * nothing to send. A tile that comes up on the link before in the current slot
- * has come only when that slot is over, and is sent on in a later one.
+ * flows that have a tile which came, and was asked for, in an earlier slot, and
+ * waits for a later position; then credit the flow that was answered, dated the
+ * position that is booked for the tile, before any other call. That credit is
+ * always taken. The tile leaves in the current slot, and when its position comes
+ * up there is nothing to send. A tile that comes up on the link before in the
+ * current slot, or is asked for in it, is sent in a later one.
  * Owners, and with them the slots that others get, stay as they are. The credit
  * for the tile's cell is another call, when the next board has it free again.
  */

@@ -17,9 +17,9 @@
  *
  * With --ahead it also sends tiles ahead of their booked slots, by a lend and a
  * credit that have no lines: at the end of each slot from slot 1 on that nobody
- * booked and that is not lent, one of a flow whose first tile that waits came in
- * an earlier slot. It knows a tile by the word that asked for it, and takes it to
- * come in the slot of the word's departure. With --ahead FILE it writes to FILE which
+ * booked and that is not lent, one of a flow whose first tile that waits came, and
+ * was asked for, in an earlier slot. It knows a tile by the word that asked for it:
+ * it comes in the slot of the word's departure. With --ahead FILE it writes to FILE which
  * flow left in each slot, from slot 1 on, or - where none did: what
  * ./check-log --ahead reads.
  *
@@ -83,7 +83,7 @@ static int refused(uint64_t result)
 
 /* ---- sending ahead */
 
-/* The slot in which a word's tile comes: now, if its departure is in this frame and not after now. */
+/* The slot in which a word's tile is due: now, if its departure is in this frame and not after now. */
 static unsigned long comes_in(uint32_t word)
 {
     unsigned departure = NAZGOLV_POSITION(word);
@@ -100,7 +100,7 @@ static void note_grant(uint32_t word, unsigned position)
     board.comes[position] = comes_in(word);
 }
 
-/* The position of a flow's first tile that waits, if that came in an earlier slot; else a number past all. */
+/* The position of a flow's first tile that waits, if that is due before this slot; else a number past all. */
 static unsigned first_ready(unsigned flow)
 {
     unsigned step;

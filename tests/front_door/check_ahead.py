@@ -197,7 +197,7 @@ WRONG = [
 # gone by, else its departure's; and it leaves in a later one (rule 24.2).  Of
 # each SENT what is told of a slot, or None.
 EARLY = ("slot 2 (frame 0, its slot 2): flow 0's tile of slot 4 left, and it "
-         "comes in slot %d: it may leave from the next one on")
+         "is due in slot %d: it may leave from the next one on")
 COMING = [
     ([(ask(0), "G 1"), (ask(0), "G 4"), *ticks(0, "-", "-", 0)],
      (("0 0 - -", None), ("0 - 0 -", None))),

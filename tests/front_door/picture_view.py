@@ -100,8 +100,9 @@ CHOSEN = [(["choose", 8], 0), (["key", "n"], 1), (["key", "n"], 5),
 # Slot 0 is lent to flow 1, and slot 1 is nobody's.
 LENT = Played(BASE + lend(2) + TICK, ["P 0", "L 1", "T -"], ["--allcalls"])
 
-# Slot 2 may leave ahead in slot 0; the credit of slot 1 has no lend before it,
-# and that of slot 5 is another flow's than was lent to.
+# None may leave ahead: slot 2 was asked for in slot 0, where it is credited
+# after a lend; the credit of slot 1 has no lend before it, and that of slot 5
+# is another flow's than was lent to.
 PAIRED = Played(
     BASE + call_bytes.request(9, 0) + call_bytes.request(9, 0, 1)
     + call_bytes.request(9, 1) + call_bytes.credit(0, 1) + lend(1)
@@ -109,8 +110,18 @@ PAIRED = Played(
     + call_bytes.credit(1, 5),
     ["P 0", "G 1", "G 2", "G 3", "C", "L 0", "C", "T 0", "T 0", "T 1", "T -",
      "L 0", "C"], ["--allcalls"])
-PAIR = (" With the lend before it the tile of slot 2 may leave ahead, in slot "
-        "0.")
+# Slot 4 is asked for by a burst in slot 0, where it can't leave; it may in
+# slot 3.
+SENT_AHEAD = Played(
+    BASE + call_bytes.request(9, 0) + call_bytes.request(9, 0, 1)
+    + call_bytes.credit(0, 1) + call_bytes.credit(0, 2)
+    + call_bytes.burst([call_bytes.word(9, 0, 2)]) + lend(1)
+    + call_bytes.credit(0, 4) + TICK + TICK + TICK + lend(1)
+    + call_bytes.credit(0, 4),
+    ["P 0", "G 1", "G 2", "C", "C", "B 0 4", "L 0", "C", "T 0", "T 0", "T -",
+     "L 0", "C"], ["--allcalls"])
+PAIR = (" With the lend before it the tile of slot 4 may leave ahead, in slot "
+        "3, if it came in an earlier one.")
 
 # A burst of a word of flow 1 and two of flow 0; then flow 1's slot comes up.
 BURST = Played(
@@ -324,12 +335,19 @@ def sentence_once():
 
 def pairs_that_send_ahead():
     """How many there are, and the credit of each says so."""
-    seen = used(PAIRED, 12 * [["key", "ArrowRight"]])
-    found = [seen["number"] for seen in seen if PAIR in seen["answer"]]
-    plan = seen[0]["plan"]
-    return found != ["6 of 12"] and "%s" % found or (
-        not plan.endswith(", 2 flows, 12 calls, 1 pair of a lend and a credit "
-                          "to leave ahead.") and plan)
+    for played, said, counted in (
+            (PAIRED, [], ""),
+            (SENT_AHEAD, ["12 of 12"],
+             ", 1 pair of a lend and a credit to leave ahead")):
+        seen = used(played, 12 * [["key", "ArrowRight"]])
+        found = [each["number"] for each in seen
+                 if "ahead" in each["answer"]]
+        plan = seen[0]["plan"]
+        if found != said or said and PAIR not in seen[-1]["answer"]:
+            return "%s: %s" % (found, seen[-1]["answer"])
+        if not plan.endswith(", 2 flows, 12 calls%s." % counted):
+            return plan
+    return None
 
 
 def page_of_a_stretch():

@@ -141,40 +141,55 @@ def with_all_calls(tree):
         "line 4: lend is a call for the program allcalls")
 
 
-# F = 4 and T = 8.  Slot 2 is sent ahead in slot 0; in slot 3 the credit is
-# dated slot 5, which flow 0 has not booked; in slot 4 it is flow 1's, and the
-# lend flow 0's; in slot 5 a tick stands between the two.
+# F = 4 and T = 8.  Flow 0 has slots 1, 2, 4 and 5, asked for in slot 0.  The
+# tile of slot 4 can't leave in slot 0, and may in slot 3.  The credit in slot 6
+# is of flow 1, and the lend before it flow 0's; in slot 10 the credit is dated
+# slot 11, which flow 0 has not booked; a tick stands between the lend in slot
+# 11 and the credit that is dated slot 13.
 SENT_AHEAD = """\
-plan F=4 W=2 N=6
-flow share=2 cells=3 from=1 to=9
-flow share=2 cells=3 from=2 to=9
+plan F=4 W=2 N=16
+flow share=2 cells=12 from=1 to=9
+flow share=2 cells=4 from=2 to=9
 ask 0
 ask 0
+ask 0
+ask 0
+lend 0
+credit 0 4
+tick 3
+lend 0
+credit 0 4
+tick
+ask 0
+tick 2
 ask 1
 lend 0
-credit 0 2
-tick 4
+credit 1 7
+tick 2
+ask 0
+ask 0
+ask 0
+tick 2
 lend 0
+credit 0 3
+tick
+lend 0
+tick
 credit 0 5
-tick
-ask 1
-lend 0
-credit 1 6
-tick
-ask 0
-credit 0 7
 """
 AHEAD_IN_WORDS = (
-    "C taken: from slot 2 (position 2, frame 0) on flow 0 holds one less; "
-    "with the lend before it the tile of slot 2 may leave ahead, in slot 0 ",
-    "flow 0: 3 requests, 2 granted, 1 refused (1 with 12); lent 3 slots, 1 of "
-    "them in a pair ",
+    "C taken: from slot 4 (position 4, frame 1) on flow 0 holds one less; "
+    "with the lend before it the tile of slot 4 may leave ahead, in slot 3, "
+    "if it came in an earlier one ",
+    "flow 0: 8 requests, 8 granted, 0 refused; lent 5 slots, 1 of them in a "
+    "pair ",
     " 1 pair of a lend and a credit, by which a tile may leave ahead ")
 
 
 def a_tile_sent_ahead(tree):
     """A lend and the credit after it, where its flow has booked the slot of
-    its date; of other credits it is not said."""
+    its date, by a request in an earlier slot; of other credits it is not
+    said."""
     ended = tree.start("--allcalls", "--explain", tree.write(
         "ahead.calls", SENT_AHEAD))
     said = plain(ended.output.decode())
@@ -182,7 +197,7 @@ def a_tile_sent_ahead(tree):
     return trouble(ended) or (
         missing and "not said: %s" % missing
         or said.count("ahead") != 2 and "said too often: " + said
-        or said.count(" C taken") != 4 and "credits: " + said)
+        or said.count(" C taken") != 5 and "credits: " + said)
 
 
 def the_dense_flight(tree):

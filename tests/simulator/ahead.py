@@ -38,8 +38,9 @@ class Tiles:
                 if tile.left is None and tile.slot > now]
 
     def ready(self, now, hasty=False):
-        """For each flow whose first tile that waits came in an earlier slot,
-        that tile (rule 24.2); a hasty board takes this slot for one too."""
+        """For each flow whose first tile that waits came, and was asked for,
+        in an earlier slot, that tile (rule 24.2); a hasty board takes this
+        slot for one too."""
         first = {flow: self.waiting(flow, now)[:1]
                  for flow in range(len(self.of))}
         return {flow: tiles[0] for flow, tiles in first.items()
@@ -87,7 +88,7 @@ def send_ahead(link, ready):
 class Board:
     """A call file played with tiles sent ahead: at the end of each slot from
     slot 1 on, before the tick, where the slot is idle and a flow's first tile
-    that waits came in an earlier slot."""
+    that waits came, and was asked for, in an earlier slot."""
 
     def __init__(self, plan):
         self.link = Link(plan)

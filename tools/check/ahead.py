@@ -227,7 +227,7 @@ def wrong_leaving(slot, owner, flow, tile, due):
     if owner is not None:
         return "%sflow %d's tile of slot %d left in it" % (whose, flow, tile)
     if slot <= due:
-        return "flow %d's tile of slot %d left, and it comes in slot %d: it " \
+        return "flow %d's tile of slot %d left, and it is due in slot %d: it " \
             "may leave from the next one on" % (flow, tile, due)
     return "flow %d's tile of slot %d left, %s late" % (
         flow, tile, plural(slot - tile, "slot"))

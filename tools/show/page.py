@@ -54,8 +54,7 @@ class Flight:
                 if self.over:
                     return
             self.kept.take(words)
-            pair = words[0] not in "FB" and self.pairs.of_line(
-                words, self.kept.slot)
+            pair = self.pairs.of_line(words, self.kept.slot)
             if self.start:
                 self.lines.append(line)
                 self.note(words, pair)

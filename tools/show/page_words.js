@@ -52,7 +52,7 @@ function creditWords(flight, [line], before, reasons) {
 // What a credit and the lend before it let a tile do, where they are a pair.
 function pairWords(flight, number) {
   const pair = flight.pairs[number];
-  return pair ? ` With the lend before it the tile of slot ${pair[0]} may leave ahead, in slot ${pair[1]}.` : "";
+  return pair ? ` With the lend before it the tile of slot ${pair[0]} may leave ahead, in slot ${pair[1]}, if it came in an earlier one.` : "";
 }
 
 function tickWords(flight, [line], before) {

@@ -67,6 +67,7 @@ class Summary:
         flow = self.by_word[words[FLOW]]
         place = self.place + int(words[AHEAD])
         flow.held.more_from(place)
+        self.pairs.grant(words, self.slot)
         flow.granted += 1
         self.calls += 1
         return place

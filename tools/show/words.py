@@ -135,7 +135,7 @@ class Words:
     def sent_ahead(pair):
         """What a credit and the lend before it let a tile do."""
         return "; with the lend before it the tile of slot %d may leave " \
-            "ahead, in slot %d" % pair
+            "ahead, in slot %d, if it came in an earlier one" % pair
 
     def lent(self, words):
         return "lent to flow %s: %s" % (words[VALUE], self.place(self.slot))
