@@ -44,12 +44,12 @@
  *               Bytes below the caller, measured on flights/sparse:
  *
  *                   nazgolv_fresh     11,200
- *                   nazgolv_request    6,900
- *                   nazgolv_credit     6,900
- *                   nazgolv_tick       6,900
- *                   nazgolv_lend       6,900
- *                   nazgolv_reset      6,900
- *                   nazgolv_play       7,000
+ *                   nazgolv_request    7,300
+ *                   nazgolv_credit     7,300
+ *                   nazgolv_tick       7,300
+ *                   nazgolv_lend       7,300
+ *                   nazgolv_reset      7,300
+ *                   nazgolv_play       7,400
  *                   nazgolv_check      2,100
  *
  * Of the C library memcpy and memset are needed, and no other thing.
