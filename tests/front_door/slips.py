@@ -132,13 +132,22 @@ def functions(slip):
             for file, old, _ in slip.steps}
 
 
+def at_its_type(crate, function):
+    """The folder of a function's proof; that of a method is its type's, which
+    may stand in another module than the method."""
+    short = "/".join(function.split("/")[-2:])
+    folders = ROOT / "crates" / crate / "proofs"
+    other = not (folders / function).is_dir() and (folders / short).is_dir()
+    return "proofs/%s/" % (short if other else function)
+
+
 def place_of(slip):
     """Where its error has to be: a file, a function's folder, or None."""
     if slip.told:
         return slip.told
     found = functions(slip)
     only = found.pop() if len(found) == 1 else None
-    return only and "proofs/%s/" % only
+    return only and at_its_type(slip.crate, only)
 
 
 # ---- which functions a function calls, by their names alone
