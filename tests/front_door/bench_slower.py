@@ -66,7 +66,7 @@ def told():
 
 def other_rows():
     """A row that one of the two tables doesn't have is not compared."""
-    import slower
+    slower = report().slower
     old = ["| gone | 30 ms | 10 ms | 3.00 | - | - | - |",
            "| kept | 30 ms | 10 ms | 3.00 | - | - | - |",
            "| count | 30 µs | - | - | - | - | - |"]
