@@ -138,9 +138,9 @@ module _ (P : Plan) (ok : Accepted P) where
   unfolding fresh
   unowned q h = get_or-replicate (positions P) q none none h
 
-  none_booked : none_booked (fresh P) ≡ true
+  fresh-none_booked : none_booked (fresh P) ≡ true
   unfolding fresh none_booked
-  none_booked =
+  fresh-none_booked =
       every-intro (positions P) (λ q. not (later (window (fresh P)) q 0) || unbooked (owner (fresh P) q))
       (λ q h. or-true (not (later (window (fresh P)) q 0)) _ (ap unbooked (unowned q h)))
 
@@ -162,4 +162,4 @@ module _ (P : Plan) (ok : Accepted P) where
       (unowned 0 (some-position ok))
 
 pub fresh-stays : FreshStays reset
-fresh-stays P ok = quiet-granted (fresh P) (rw (none_booked P ok, none-held P ok)) ∙ ap (λ l. record { link = l; answer = accepted tt }) (fresh-again P ok)
+fresh-stays P ok = quiet-granted (fresh P) (rw (fresh-none_booked P ok, none-held P ok)) ∙ ap (λ l. record { link = l; answer = accepted tt }) (fresh-again P ok)

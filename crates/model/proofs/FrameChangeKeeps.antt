@@ -89,7 +89,7 @@ module _ {l : Link} {L : Ledger} (v : Invariant l L) (change : suc L.now % l.pla
   -- ---- what is held goes on
 
   held : (i : ℕ) → i < flow_count P → (x : Flow) → Holds P (suc t) L.raises L.credits i (carried_on l i x)
-  held i known x s = record { at_slot_lem = λ w. at_slot_lem w (dec_lt s end); covered = h.covered; within = h.within }
+  held i known x s = record { at_slot = λ w. at_slot_lem w (dec_lt s end); covered = h.covered; within = h.within }
     where
       h : HoldsAt P t L.raises L.credits i (flow l i).held s
       h = v.holds i known s

@@ -61,7 +61,7 @@ pub record Injecting (P : Plan) (k : ℕ) (G : List Mark) (i j c : ℕ) : Type 0
 
 -- Where slot t is current, flow i's table of holdings says what it holds at slot s of the window; and at any slot it holds no more than its cells.
 pub record HoldsAt (P : Plan) (t : ℕ) (B K : List Mark) (i : ℕ) (held : List ℕ) (s : ℕ) : Type 0 where
-  pub at_slot_lem : InWindow P t s → marks_up_to i s B ≡ marks_up_to i s K + get_or held (s % positions P) 0
+  pub at_slot : InWindow P t s → marks_up_to i s B ≡ marks_up_to i s K + get_or held (s % positions P) 0
   pub covered : marks_up_to i s K ≤ marks_up_to i s B
   pub within : marks_up_to i s B ≤ marks_up_to i s K + (entry P i).cells
 

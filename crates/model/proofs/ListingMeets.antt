@@ -10,7 +10,7 @@ use Rattle.model.specs.Fresh.{fresh}
 use Rattle.model.specs.Claim.{Demand3}
 use Rattle.model.specs.Scheduler.{Played, reference, play}
 use Rattle.model.specs.Record.{RecordCall, as_call}
-use Rattle.model.specs.Listing.{as_event, calls_of, outcomes, link_after_calls, present, link_after}
+use Rattle.model.specs.Listing.{as_event, calls_of, made, outcomes, link_after_calls, present, link_after}
 use Rattle.model.proofs.Demand3.{meets}
 
 -- a link, after the events of a history
@@ -27,17 +27,17 @@ history-played : (l : Link) (h : History) (cs : List (Option RecordCall))
     → (play reference (from l h) (list_of cs)).history ≡ reverse_aux (map as_event (present (outcomes l cs))) h
 unfolding play outcomes
 history-played l h [] = refl
-history-played l h (some (RecordCall.request w) ∷ cs) = history-played _ _ cs
-history-played l h (some (RecordCall.credit i p) ∷ cs) = history-played _ _ cs
-history-played l h (some RecordCall.tick ∷ cs) = history-played _ _ cs
+history-played l h (some (RecordCall.request w) ∷ cs) = history-played (made l (some (RecordCall.request w))).link _ cs
+history-played l h (some (RecordCall.credit i p) ∷ cs) = history-played (made l (some (RecordCall.credit i p))).link _ cs
+history-played l h (some RecordCall.tick ∷ cs) = history-played (made l (some RecordCall.tick)).link _ cs
 history-played l h (none ∷ cs) = history-played l h cs
 
 link-played : (l : Link) (h : History) (cs : List (Option RecordCall)) → link_after_calls l cs ≡ (play reference (from l h) (list_of cs)).state
 unfolding play link_after_calls
 link-played l h [] = refl
-link-played l h (some (RecordCall.request w) ∷ cs) = link-played _ _ cs
-link-played l h (some (RecordCall.credit i p) ∷ cs) = link-played _ _ cs
-link-played l h (some RecordCall.tick ∷ cs) = link-played _ _ cs
+link-played l h (some (RecordCall.request w) ∷ cs) = link-played (made l (some (RecordCall.request w))).link _ cs
+link-played l h (some (RecordCall.credit i p) ∷ cs) = link-played (made l (some (RecordCall.credit i p))).link _ cs
+link-played l h (some RecordCall.tick ∷ cs) = link-played (made l (some RecordCall.tick)).link _ cs
 link-played l h (none ∷ cs) = link-played l h cs
 
 -- ---- a stream of records

@@ -11,7 +11,7 @@ use Rattle.model.specs.Scheduler.{Meets, run, reference}
 use Rattle.model.specs.PlanBytes.{listing, one_share}
 use Rattle.model.specs.WrongDepartures.{ignores_departure, leaves_at_departure, comes_by_number, tests_own_room, refuses_to_come, keeps_frame}
 use Rattle.model.proofs.Unfoldings.{calls-compute}
-use Rattle.model.proofs.WrongSchedulers.{two-flows, one_cell, sent_back, events-compute}
+use Rattle.model.proofs.WrongSchedulers.{two-flows, one_cell_lem, sent_back, events-compute}
 
 -- departure 2, and slot 1 is granted
 pub ignores-departure : Meets ignores_departure → ⊥
@@ -32,7 +32,7 @@ comes-by-number =
 -- with one cell, slot 2 and then slot 1 are granted
 pub tests-own-room : Meets tests_own_room → ⊥
 unfolding events-compute
-tests-own-room = sent_back tests_own_room one_cell (Call.request 0x24000001 ∷ Call.request 0x24000400 ∷ []) Clause.within_cells tt
+tests-own-room = sent_back tests_own_room one_cell_lem (Call.request 0x24000001 ∷ Call.request 0x24000400 ∷ []) Clause.within_cells tt
 
 -- Demand 3 does not see that a tile which has not come is refused a slot, nor the frame that a refusal leaves. The answers differ. With departure 2
 -- the reference scheduler grants 3.

@@ -12,7 +12,7 @@ use Rattle.model.specs.Buffer.{FitsBuffer, NeverOverfull}
 use Rattle.model.specs.PlanBytes.{plan1, listing}
 use Rattle.model.specs.WrongLends.{lends_booked, forgets_mark, holds_no_loan, lends_to_full, ignores_mask, keeps_mark}
 use Rattle.model.proofs.Unfoldings.{calls-compute}
-use Rattle.model.proofs.WrongSchedulers.{two-flows, one_cell, sent_back, events-compute}
+use Rattle.model.proofs.WrongSchedulers.{two-flows, one_cell_lem, sent_back, events-compute}
 
 -- a slot is lent, and the next one
 abbrev lend_again : List Call
@@ -31,11 +31,11 @@ forgets-mark = sent_back forgets_mark two-flows (Call.lend 1 ∷ Call.lend 2 ∷
 -- slots 0 and 1 are lent to a flow with one cell
 pub holds-no-loan : Meets holds_no_loan → ⊥
 unfolding events-compute
-holds-no-loan = sent_back holds_no_loan one_cell lend_again Clause.within_cells tt
+holds-no-loan = sent_back holds_no_loan one_cell_lem lend_again Clause.within_cells tt
 
 pub lends-to-full : Meets lends_to_full → ⊥
 unfolding events-compute
-lends-to-full = sent_back lends_to_full one_cell lend_again Clause.within_cells tt
+lends-to-full = sent_back lends_to_full one_cell_lem lend_again Clause.within_cells tt
 
 pub ignores-mask : Meets ignores_mask → ⊥
 unfolding events-compute
