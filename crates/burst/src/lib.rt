@@ -18,7 +18,7 @@ use window::numbers::smaller;
 use window::positions::window;
 
 // A word, and what its request comes to: 0 and the position granted, or the refusal and 0.
-#[derive(Drop)]
+#[derive(Clone, Copy)]
 pub struct BurstRecord {
     pub word: u32,
     pub result: u8,
@@ -77,7 +77,7 @@ pub fn burst(link: Link, records: &mut [BurstRecord]) -> Link
 }
 
 // A link after a burst, and the array whose first records it was lent.
-#[derive(Drop)]
+#[derive(Clone, Copy)]
 pub struct HandedBack {
     pub link: Link,
     pub records: [BurstRecord; 20],

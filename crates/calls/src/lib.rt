@@ -11,7 +11,7 @@ pub const RECORD: usize = 5;
 pub const LONGEST_LINE: usize = 7;
 
 // A call on a link.
-#[derive(Drop)]
+#[derive(Clone, Copy)]
 pub enum Call {
     // A request has a word.
     Request(u32),
@@ -21,7 +21,7 @@ pub enum Call {
 }
 
 // What a call record comes to.
-#[derive(Drop)]
+#[derive(Clone, Copy)]
 pub enum Record {
     Call(Call),
     // Refusal 16.
@@ -29,7 +29,7 @@ pub enum Record {
 }
 
 // What a call is answered.
-#[derive(Drop)]
+#[derive(Clone, Copy)]
 pub enum Answer {
     // A request is granted: the word with its position as departure.
     Granted(u32),

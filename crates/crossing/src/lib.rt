@@ -23,7 +23,7 @@ use word::Fields;
 
 // The plans of the in-link and of the out-link, and for each flow of the first the flow of the second that it goes on as; a number that is no flow of
 // the second says that it doesn't go on here.
-#[derive(Drop)]
+#[derive(Clone, Copy)]
 pub struct Crossing {
     pub arriving: Plan,
     pub leaving: Plan,

@@ -13,7 +13,7 @@ const MOST_BURST: usize = 999;
 const MOST_SLOTS: usize = 64;
 
 // What a stream can count on.
-#[derive(Drop)]
+#[derive(Clone, Copy)]
 pub enum Delayed {
     // The slots from a tile's coming to its arrival at most; the cells that suffice where each is given back as its tile comes up; and those where it
     // is given back only when the tile was shown.

@@ -7,7 +7,7 @@ ghost use Rattle.program.specs.State.{Regular};
 use program::{Fed, Phase, State};
 
 // Where a round of reading, feeding and writing leaves the program. Neither holds where the plan was refused, a read failed, or the output took no more.
-#[derive(Drop)]
+#[derive(Clone, Copy)]
 struct Round {
     state: State,
     // more is to be read

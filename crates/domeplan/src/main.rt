@@ -10,7 +10,7 @@ ghost use Rattle.domeplan.specs.Rounds.{Takes, Goes};
 use questions::State;
 
 // Where some input leaves the program. Neither holds where a read failed, or the output took no more.
-#[derive(Drop)]
+#[derive(Clone, Copy)]
 struct Round {
     state: State,
     // more is to be read

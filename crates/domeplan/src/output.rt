@@ -4,7 +4,7 @@ ghost use Rattle.std.specs.Prelude.{◌≤◌, ◌<◌, ◌≡◌, cond, length}
 use crate::waiting::may_go_on;
 
 // What one write comes to: how many bytes were taken, and whether the output may take more.
-#[derive(Drop)]
+#[derive(Clone, Copy)]
 struct Wrote {
     count: usize,
     more: bool,

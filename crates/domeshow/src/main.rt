@@ -8,7 +8,7 @@ ghost use Rattle.showinput.specs.Promises.{Regular};
 use showinput::{KEPT, State};
 
 // Where a piece of the input leaves the program.
-#[derive(Drop)]
+#[derive(Clone, Copy)]
 struct Round {
     state: State,
     // more is to be read

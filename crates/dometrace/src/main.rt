@@ -12,7 +12,7 @@ use pieces::{play_first, put_bytes};
 use plan::Verdict;
 
 // A link after some pieces of the input.
-#[derive(Drop)]
+#[derive(Clone, Copy)]
 struct Round {
     link: Link,
     // bytes at the start of the space that are not played yet

@@ -111,7 +111,7 @@ fn whole_at(bytes: &[u8], at: usize, all: bool) -> usize
 }
 
 // A link after the whole records of a piece.
-#[derive(Drop)]
+#[derive(Clone, Copy)]
 pub(crate) struct Played {
     pub(crate) link: Link,
     // bytes of the records

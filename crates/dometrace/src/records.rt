@@ -9,7 +9,7 @@ use window::numbers::smaller;
 const MOST: usize = 20;
 
 // What a record of five bytes comes to.
-#[derive(Drop)]
+#[derive(Clone, Copy)]
 pub(crate) enum Found {
     Call(Call),
     // so many words follow

@@ -13,7 +13,7 @@ pub const MOST: usize = 12;
 
 // The slots left in a frame, how many sets may be looked at, n, and of each layer its share, the slots of a frame that it takes, and what it is
 // worth. What stands at place n and from there on has no effect.
-#[derive(Drop)]
+#[derive(Clone, Copy)]
 pub struct Extras {
     pub slots: usize,
     pub budget: usize,
@@ -23,14 +23,14 @@ pub struct Extras {
 }
 
 // A set by its mask, bit i for layer i; what it is worth; and what no set that fits is worth more than.
-#[derive(Drop)]
+#[derive(Clone, Copy)]
 pub struct Chosen {
     pub mask: usize,
     pub worth: usize,
     pub ceiling: usize,
 }
 
-#[derive(Drop)]
+#[derive(Clone, Copy)]
 pub enum Choice {
     Best(Chosen),
     Refused(u8),

@@ -8,7 +8,7 @@ use crate::Extras;
 use crate::sets::sum_over;
 
 // A set and its worth.
-#[derive(Drop)]
+#[derive(Clone, Copy)]
 pub(crate) struct SetWorth {
     pub mask: usize,
     pub worth: usize,

@@ -9,7 +9,7 @@ use plan::Plan;
 pub const HEADER: usize = 18;
 
 // The layout of an image, as its header has it, and the number of fields of a flow's part.
-#[derive(Drop)]
+#[derive(Clone, Copy)]
 pub struct Layout {
     pub total: usize,
     // offset of the plan

@@ -18,7 +18,7 @@ use window::Window;
 use window::positions::window;
 
 // What of a link doesn't stand in its state: the plan, and the window there.
-#[derive(Drop)]
+#[derive(Clone, Copy)]
 pub struct Kept {
     pub plan: Plan,
     pub window: Window,

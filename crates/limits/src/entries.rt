@@ -7,7 +7,7 @@ ghost use Rattle.limits.specs.Reading.{wanted_for, no_wanted, SmallEntries};
 use crate::{Wanted, ranges};
 
 // The sums of some entries' shares and cells.
-#[derive(Drop)]
+#[derive(Clone, Copy)]
 pub(crate) struct Sums {
     pub shares: usize,
     pub cells: usize,

@@ -16,7 +16,7 @@ pub use ranges::{
 pub const MOST_FLOWS: usize = 16;
 
 // A flow's entry as asked for: numbers that may be too wide for their fields.
-#[derive(Drop)]
+#[derive(Clone, Copy)]
 pub struct Wanted {
     pub share: usize,
     pub cells: usize,
@@ -25,7 +25,7 @@ pub struct Wanted {
 }
 
 // A plan as asked for: F, W, N, n and the entries, of which those from n on have no effect.
-#[derive(Drop)]
+#[derive(Clone, Copy)]
 pub struct Draft {
     pub slots: usize,
     pub frames: usize,

@@ -10,7 +10,7 @@ ghost use Rattle.linetable.specs.Lines.{four, text_of, Kept, line_at, AllLines};
 use calls::wide;
 
 // A line of four to seven bytes.
-#[derive(Drop)]
+#[derive(Clone, Copy)]
 pub struct Line {
     // its first four bytes, low byte first
     pub first: u32,

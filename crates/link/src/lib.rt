@@ -17,7 +17,7 @@ use plan::Plan;
 use state::State;
 
 // A flow's injection frame, its remainder, and the quantum number that is expected of its next word.
-#[derive(Drop)]
+#[derive(Clone, Copy)]
 pub struct Flow {
     pub injection: usize,
     pub remainder: usize,
@@ -47,14 +47,14 @@ impl Flow {
 }
 
 // A link: its plan, and the rest of it in one array of bytes.
-#[derive(Drop)]
+#[derive(Clone, Copy)]
 pub struct Link {
     pub plan: Plan,
     pub state: State,
 }
 
 // What a call hands back.
-#[derive(Drop)]
+#[derive(Clone, Copy)]
 pub struct Step {
     pub link: Link,
     pub answer: Answer,

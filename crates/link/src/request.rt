@@ -24,7 +24,7 @@ use window::positions::window;
 use word::Fields;
 
 // What a request comes to: 0 and the position granted, or the refusal and 0.
-#[derive(Drop)]
+#[derive(Clone, Copy)]
 pub struct Reply {
     pub number: u8,
     pub position: u8,
@@ -32,7 +32,7 @@ pub struct Reply {
 
 // What the search for a word's position comes to: the frame, what is left of the share, and the position; or no position: what is left, and
 // the refusal.
-#[derive(Drop)]
+#[derive(Clone, Copy)]
 pub enum Sought {
     At(usize, usize, usize),
     Nowhere(usize, u8),

@@ -11,7 +11,7 @@ pub use loads::any_over;
 pub use places::{link_from, link_to};
 
 // The load of each link, four places for each board, or the number of the first test before the links that applies.
-#[derive(Drop)]
+#[derive(Clone, Copy)]
 pub struct Measured {
     pub refusal: u8,
     pub table: [usize; 256],

@@ -8,7 +8,7 @@ use tokens::Found;
 const REPEATS: usize = 20000;
 
 // The lowest time of a check, and the sum of all answers.
-#[derive(Drop)]
+#[derive(Clone, Copy)]
 struct Checked {
     lowest: u64,
     sum: u64,

@@ -22,7 +22,7 @@ use plan::Verdict;
 use played::play_all;
 
 // A call on a link.
-#[derive(Drop)]
+#[derive(Clone, Copy)]
 pub enum Call {
     // A request has a word.
     Request(u32),

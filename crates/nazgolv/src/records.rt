@@ -8,7 +8,7 @@ use calls::{RECORD, Record};
 use fields::field;
 
 // What a record comes to.
-#[derive(Drop)]
+#[derive(Clone, Copy)]
 pub(crate) enum Found {
     Call(Call),
     // Refusal 16.

@@ -18,7 +18,7 @@ use state::{OWNERS, State};
 use window::Window;
 
 // What a call comes to: the window after it, and its number.
-#[derive(Drop)]
+#[derive(Clone, Copy)]
 pub(crate) struct Moved {
     pub window: Window,
     pub number: u64,

@@ -8,7 +8,7 @@ ghost use Rattle.model.specs.WrittenPlan as written;
 ghost use Rattle.plan.specs.Reading.{header_for};
 ghost use Rattle.plan.specs.Writing.{HeaderFits};
 
-#[derive(Drop)]
+#[derive(Clone, Copy)]
 pub(crate) struct Header {
     pub total: usize,
     pub count: usize,

@@ -14,7 +14,7 @@ ghost use Rattle.plan.specs.Writing.{answer_for};
 pub use limits::{Draft, Wanted};
 
 // A flow's entry: its slots a frame, its places in the next board's buffer, and its two nodes.
-#[derive(Drop)]
+#[derive(Clone, Copy)]
 pub struct Entry {
     pub share: u8,
     pub cells: u8,
@@ -23,7 +23,7 @@ pub struct Entry {
 }
 
 // A plan: F, W, N, n, and the entries, of which those from n on are all zero.
-#[derive(Drop)]
+#[derive(Clone, Copy)]
 pub struct Plan {
     pub slots: usize,
     pub frames: usize,
@@ -33,21 +33,21 @@ pub struct Plan {
 }
 
 // What a plan's bytes come to.
-#[derive(Drop)]
+#[derive(Clone, Copy)]
 pub enum Verdict {
     Accepted,
     Refused(u8),
 }
 
 // The verdict, and the plan beside it: all zero where it is refused.
-#[derive(Drop)]
+#[derive(Clone, Copy)]
 pub struct Outcome {
     pub verdict: Verdict,
     pub plan: Plan,
 }
 
 // What writing came to: the bytes written, or the refusal.
-#[derive(Drop)]
+#[derive(Clone, Copy)]
 pub enum Written {
     Bytes(usize),
     Refused(u8),

@@ -14,7 +14,7 @@ use window::numbers::smaller;
 use window::positions::window;
 
 // A link after some records, and how far they and their lines go.
-#[derive(Drop)]
+#[derive(Clone, Copy)]
 pub struct Playback {
     pub link: Link,
     // bytes of the records that were played

@@ -15,7 +15,7 @@ use window::numbers::smaller;
 pub const LONGEST_PLAN: usize = 76;
 
 // Where the program stands.
-#[derive(Drop)]
+#[derive(Clone, Copy)]
 pub enum Phase {
     // Bytes of the plan are still to come.
     Reading,
@@ -26,14 +26,14 @@ pub enum Phase {
 }
 
 // The bytes of a plan or of a record that is not whole yet, and zeros after them.
-#[derive(Drop)]
+#[derive(Clone, Copy)]
 pub struct Kept {
     pub bytes: [u8; LONGEST_PLAN],
     pub count: usize,
 }
 
 // The program after some input. The link is all zero where there is none.
-#[derive(Drop)]
+#[derive(Clone, Copy)]
 pub struct State {
     pub phase: Phase,
     pub link: Link,
@@ -41,7 +41,7 @@ pub struct State {
 }
 
 // What feeding a piece comes to.
-#[derive(Drop)]
+#[derive(Clone, Copy)]
 pub struct Fed {
     pub state: State,
     // bytes of the piece that were taken
@@ -51,7 +51,7 @@ pub struct Fed {
 }
 
 // What a part of that comes to: the bytes that are to be written end at `written`.
-#[derive(Drop)]
+#[derive(Clone, Copy)]
 pub(crate) struct Progress {
     pub state: State,
     pub written: usize,

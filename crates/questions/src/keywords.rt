@@ -4,7 +4,7 @@ ghost use Rattle.replies.specs.Lines as said;
 ghost use Rattle.questions.specs.Answers.{word_for, answer_to_numbers};
 
 // Words that are followed by numbers.
-#[derive(Drop)]
+#[derive(Clone, Copy)]
 pub(crate) enum NumberWord {
     Plan,
     Room,
@@ -18,7 +18,7 @@ pub(crate) enum NumberWord {
     WeekFaults,
 }
 
-#[derive(Drop)]
+#[derive(Clone, Copy)]
 pub(crate) enum Word {
     OfNumbers(NumberWord),
     Read,

@@ -13,14 +13,14 @@ pub const KEPT: usize = 4001;
 pub const ROOM: usize = 16384;
 
 // The line that has begun: its first bytes, as many as `count` says.
-#[derive(Drop)]
+#[derive(Clone, Copy)]
 pub struct State {
     pub bytes: [u8; KEPT],
     pub count: usize,
 }
 
 // What feeding a piece comes to.
-#[derive(Drop)]
+#[derive(Clone, Copy)]
 pub struct Fed {
     pub state: State,
     // bytes of the piece that were taken
@@ -30,7 +30,7 @@ pub struct Fed {
 }
 
 // What one byte comes to: how many bytes of its line are kept then, and where the bytes that are to be written end.
-#[derive(Drop)]
+#[derive(Clone, Copy)]
 pub(crate) struct Progress {
     pub count: usize,
     pub written: usize,

@@ -6,7 +6,7 @@ ghost use Rattle.model.specs.Tables.{within};
 ghost use Rattle.shares.specs.Counts as counts;
 
 // What the share lists of so many flows come to in a frame.
-#[derive(Drop)]
+#[derive(Clone, Copy)]
 pub enum Counted {
     // How many of them the share test accepts, and how many it refuses.
     Lists { accepts: u64, refuses: u64 },

@@ -15,7 +15,7 @@ pub use plan::Written;
 const PLACES: usize = 256;
 
 // F, W and N, which hold for every link.
-#[derive(Drop)]
+#[derive(Clone, Copy)]
 pub struct Dome {
     pub slots: usize,
     pub frames: usize,

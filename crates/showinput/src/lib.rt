@@ -12,7 +12,7 @@ pub const KEPT: usize = 4002;
 pub const ROOM: usize = 51207;
 
 // The input so far: its first bytes, as many as `count` says.
-#[derive(Drop)]
+#[derive(Clone, Copy)]
 pub struct State {
     pub bytes: [u8; KEPT],
     pub count: usize,

@@ -11,7 +11,7 @@ use timing::file::MOST;
 use window::numbers::smaller;
 
 // A link after some calls, with the last answer; the sum of their answers, and the nanoseconds that they took.
-#[derive(Drop)]
+#[derive(Clone, Copy)]
 pub(crate) struct Timed {
     pub step: Step,
     pub sum: u64,

@@ -8,7 +8,7 @@ use crate::{clock, file};
 const SHORTEST: usize = 8;
 
 // The calls of a kind that are counted, and their nanoseconds.
-#[derive(Drop)]
+#[derive(Clone, Copy)]
 struct Counted {
     calls: u64,
     spent: u64,

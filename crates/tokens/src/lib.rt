@@ -14,7 +14,7 @@ pub use pieces::piece_end;
 pub const MOST_DIGITS: usize = 9;
 
 // What is wrong with a field.
-#[derive(Drop)]
+#[derive(Clone, Copy)]
 pub enum Fault {
     // Nothing stands after a space.
     Missing,
@@ -29,14 +29,14 @@ pub enum Fault {
 }
 
 // What a number's field comes to.
-#[derive(Drop)]
+#[derive(Clone, Copy)]
 pub enum Number {
     Is(usize),
     Wrong(Fault),
 }
 
 // What a line's fields come to: how many numbers or bytes there are, or the first fault.
-#[derive(Drop)]
+#[derive(Clone, Copy)]
 pub enum Found {
     Count(usize),
     Wrong(Fault),

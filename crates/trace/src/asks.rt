@@ -41,7 +41,7 @@ fn place_of(w: Window, reply: Reply) -> usize
 }
 
 // A word that was asked for: the letter and the kind of its line, and what its request came to.
-#[derive(Drop)]
+#[derive(Clone, Copy)]
 struct Asked {
     letter: u8,
     kind: usize,

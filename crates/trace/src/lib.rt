@@ -18,7 +18,7 @@ pub use told::write_burst;
 pub const ROOM: usize = 2048;
 
 // A call.
-#[derive(Drop)]
+#[derive(Clone, Copy)]
 pub enum Call {
     // A request has a word.
     Request(u32),
@@ -34,7 +34,7 @@ pub enum Call {
 }
 
 // The window after a call, and the place after its lines.
-#[derive(Drop)]
+#[derive(Clone, Copy)]
 pub struct Reached {
     pub window: window::Window,
     pub end: usize,

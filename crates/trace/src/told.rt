@@ -15,7 +15,7 @@ use window::Window;
 use window::positions::before;
 
 // A call's numbers: its kind, and what it has.
-#[derive(Drop)]
+#[derive(Clone, Copy)]
 pub(crate) struct Named {
     pub(crate) kind: usize,
     pub(crate) first: usize,
@@ -38,7 +38,7 @@ pub(crate) fn call_of(kind: usize, first: usize, second: usize) -> Named
 }
 
 // An answer: its letter, the refusal or 0, and what is answered.
-#[derive(Drop)]
+#[derive(Clone, Copy)]
 pub(crate) struct Said {
     pub(crate) letter: u8,
     pub(crate) number: usize,
@@ -56,7 +56,7 @@ pub(crate) fn answer_of(letter: u8, number: usize, value: usize) -> Said
 }
 
 // What an answer's line has: the answer, the call, and the flow and the position that it is about.
-#[derive(Drop)]
+#[derive(Clone, Copy)]
 pub(crate) struct Line {
     pub(crate) said: Said,
     pub(crate) call: Named,
@@ -117,7 +117,7 @@ fn last_held(s: &State, w: Window, i: usize) -> usize
 }
 
 // What is told of a flow and a position.
-#[derive(Drop)]
+#[derive(Clone, Copy)]
 struct Part {
     injection: usize,
     remainder: usize,

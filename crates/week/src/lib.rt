@@ -14,7 +14,7 @@ pub const WEEK: usize = 10080;
 pub const MOST: usize = 64;
 
 // An entry: a showing's start and end in minutes of the week, and its plan. It runs at its start and up to the minute before its end.
-#[derive(Drop)]
+#[derive(Clone, Copy)]
 pub struct Entry {
     pub start: usize,
     pub end: usize,
@@ -22,14 +22,14 @@ pub struct Entry {
 }
 
 // A programme: how many entries it has, and the entries in any order, of which those from the count on have no effect.
-#[derive(Drop)]
+#[derive(Clone, Copy)]
 pub struct Programme {
     pub count: usize,
     pub entries: [Entry; 64],
 }
 
 // What runs at a minute: a plan by its number, or nothing; or the refusal.
-#[derive(Drop)]
+#[derive(Clone, Copy)]
 pub enum AtMinute {
     Plan(u16),
     Dark,

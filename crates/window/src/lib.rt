@@ -3,7 +3,7 @@ pub mod numbers; // the smaller, the larger, and sums modulo 256
 pub mod positions; // positions and frames, going round
 
 // The window of a call: F, W and CP, and the head frame.
-#[derive(Drop)]
+#[derive(Clone, Copy)]
 pub struct Window {
     pub slots: usize,
     pub frames: usize,

@@ -4,7 +4,7 @@ ghost use Rattle.model.specs.Word as model;
 ghost use Rattle.word.specs.Reading.{fields_of, joined_of};
 
 // The fields of a word, of 6, 6, 10 and 10 bits.
-#[derive(Drop)]
+#[derive(Clone, Copy)]
 pub struct Fields {
     pub destination: u8,
     pub flow: u8,
@@ -13,7 +13,7 @@ pub struct Fields {
 }
 
 // The word that fields join to, if each fits its width.
-#[derive(Drop)]
+#[derive(Clone, Copy)]
 pub enum Joined {
     Word(u32),
     TooWide,

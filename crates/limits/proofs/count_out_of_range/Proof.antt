@@ -11,5 +11,5 @@ inside-requires c κs = search rules
 returns : tie.Need-returns
 returns c = ap not c.inside.ensures
 
-pub count-out-of-range-spec : {M : Type 1} → statement M
-count-out-of-range-spec = tie.close (tie.spec inside-requires returns)
+pub count_out_of_range_spec : {M : Type 1} → statement M
+count_out_of_range_spec = tie.close (tie.spec inside-requires returns)

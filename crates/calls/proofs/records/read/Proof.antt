@@ -22,7 +22,7 @@ word-is b at =
     let last : at + 3 + 1 ≡ at + 4 = omega arith in
     rw (second, third, after, last) (omega arith)
 
-module _ (c : tie.After-four-bytes) where
+module _ (c : tie.After-four_bytes-word) where
   abbrev start : tie.Start
   start = c.before.before.before.before.before
 
@@ -33,16 +33,16 @@ module _ (c : tie.After-four-bytes) where
   at = start.args.at
 
   abbrev word : ℕ
-  word = c.four_bytes.result
+  word = c.four_bytes-word.result
 
   byte : (k : ℕ) → get_or bytes k 0 < 256
-  byte k = omega (arith, c.before.shared-slice-known2.given k)
+  byte k = omega (arith, c.before.shared_slice_known-2-1.given k)
 
   five : at + 5 ≤ length bytes
   five = omega arith
 
   parts : word ≡ get_or bytes (at + 1) 0 + 256 * field16 bytes (at + 2) + 16777216 * get_or bytes (at + 4) 0
-  parts = c.four_bytes.ensures ∙ word-is bytes at
+  parts = c.four_bytes-word.ensures ∙ word-is bytes at
 
   filled : 16777216 ≤ word → get_or bytes (at + 4) 0 ≡ 0 → ⊥
   filled h z = omega (arith, parts, byte (at + 1), byte (at + 2), byte (at + 2 + 1))
@@ -59,58 +59,58 @@ module _ (c : tie.After-four-bytes) where
 
 -- ---- the needs
 
-returns : tie.Need-returns
+returns : tie.Need-returns-then-records-lt-RECORD
 returns c = let s = c.before.before in rw (no-call-at s.args.records.now s.args.at (omega arith)) (refl, refl)
 
-sub-if2 : tie.Need-overflow-sub-if2
+sub-if2 : tie.Need-overflow_sub-records
 sub-if2 c = search rules
 
-returns-2 : tie.Need-returns-2
+returns-2 : tie.Need-returns-then-records-at
 returns-2 c = let s = c.before.before.before in rw (no-call-at s.args.records.now s.args.at (omega arith)) (refl, refl)
 
-shared-slice-read-kind : tie.Need-shared-slice-read-kind
+shared-slice-read-kind : tie.Need-bounds-records-at
 shared-slice-read-kind c = search rules
 
-add-four-bytes : tie.Need-overflow-add-four-bytes
+add-four-bytes : tie.Need-overflow_add-at
 add-four-bytes c = search rules
 
-four-bytes-requires : tie.Need-four-bytes-requires
+four-bytes-requires : tie.Need-four_bytes-word-requires
 four-bytes-requires c κs = search rules
 
-returns-3 : tie.Need-returns-3
-returns-3 c = let r = c.before in rw (call_at (bytes r) (at r) (five r), c.if3.true, ← r.four_bytes.ensures) (refl, refl)
+returns-3 : tie.Need-returns-then-kind-eq1
+returns-3 c = let r = c.before in rw (call_at (bytes r) (at r) (five r), c.if-kind-eq1.true, ← r.four_bytes-word.ensures) (refl, refl)
 
-returns-4 : tie.Need-returns-4
+returns-4 : tie.Need-returns-then-word-ge16777216
 returns-4 c =
     let r = c.before.before.before in
-    rw (call_at (bytes r) (at r) (five r), c.before.if4.true, ne_eqb _ _ (filled r c.if5.true)) (refl, refl)
+    rw (call_at (bytes r) (at r) (five r), c.before.if-kind-eq2.true, ne_eqb _ _ (filled r c.if-word-ge16777216.true)) (refl, refl)
 
-cast-t13 : tie.Need-overflow-cast-t13
+cast-t13 : tie.Need-overflow_cast-result
 cast-t13 c = search rules
 
-cast-t15 : tie.Need-overflow-cast-t15
+cast-t15 : tie.Need-overflow_cast-result-then-kind-eq2
 cast-t15 c = search rules
 
-returns-5 : tie.Need-returns-5
+returns-5 : tie.Need-returns-then-kind-eq2
 returns-5 c =
     let r = c.before.before.before in
     let few : word r < 16777216 = omega arith in
-    rw (call_at (bytes r) (at r) (five r), c.before.if4.true, eq-eqb _ _ (not-filled r few), flow_is r few, position-is r few) (refl, refl)
+    rw (call_at (bytes r) (at r) (five r), c.before.if-kind-eq2.true, eq-eqb _ _ (not-filled r few), flow_is r few, position-is r few) (refl, refl)
 
-returns-6 : tie.Need-returns-6
+returns-6 : tie.Need-returns-then-kind-ne3
 returns-6 c =
     let r = c.before.before.before in
-    rw (call_at (bytes r) (at r) (five r), ne_eqb _ _ c.before.before.if3.false, ne_eqb _ _ c.before.if4.false, ne_eqb _ _ c.if6.true) (refl, refl)
+    rw (call_at (bytes r) (at r) (five r), ne_eqb _ _ c.before.before.if-kind-eq1.false, ne_eqb _ _ c.before.if-kind-eq2.false, ne_eqb _ _ c.if-kind-ne3.true) (refl, refl)
 
-returns-7 : tie.Need-returns-7
+returns-7 : tie.Need-returns-then-word-ne0
 returns-7 c =
     let r = c.before.before.before.before in
-    rw (call_at (bytes r) (at r) (five r), c.before.if6.false, ne_eqb _ _ (λ z. c.if7.true (r.four_bytes.ensures ∙ z))) (refl, refl)
+    rw (call_at (bytes r) (at r) (five r), c.before.if-kind-ne3.false, ne_eqb _ _ (λ z. c.if-word-ne0.true (r.four_bytes-word.ensures ∙ z))) (refl, refl)
 
-returns-8 : tie.Need-returns-8
+returns-8 : tie.Need-returns
 returns-8 c =
     let r = c.before.before.before.before in
-    rw (call_at (bytes r) (at r) (five r), c.before.if6.false, sym r.four_bytes.ensures ∙ c.if7.false) (refl, refl)
+    rw (call_at (bytes r) (at r) (five r), c.before.if-kind-ne3.false, sym r.four_bytes-word.ensures ∙ c.if-word-ne0.false) (refl, refl)
 
 pub read_spec : {M : Type 1} → statement M
 read_spec =

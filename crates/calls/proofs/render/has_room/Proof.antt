@@ -4,14 +4,14 @@ use Rattle.calls.proofs.Stores.{no_room, room-is}
 use Rattle.calls.proofs.render.has_room.Statement.{statement}
 use Rattle.calls.proofs.render.has_room.Tie as tie
 
-returns : tie.Need-returns
-returns c = no_room _ _ c.if1.true
+returns : tie.Need-returns-then-out-lt-LONGEST_LINE
+returns c = no_room _ _ c.if-out-lt-LONGEST_LINE.true
 
-sub-result : tie.Need-overflow-sub-result
+sub-result : tie.Need-overflow_sub-result
 sub-result c = search rules
 
-returns-2 : tie.Need-returns-2
-returns-2 c = room-is _ _ c.if1.false
+returns-2 : tie.Need-returns
+returns-2 c = room-is _ _ c.if-out-lt-LONGEST_LINE.false
 
-pub has-room-spec : {M : Type 1} → statement M
-has-room-spec = tie.close (tie.spec returns sub-result returns-2)
+pub has_room_spec : {M : Type 1} → statement M
+has_room_spec = tie.close (tie.spec returns sub-result returns-2)

@@ -6,27 +6,27 @@ use Rattle.calls.proofs.Stores.{in-room, written, not_written}
 use Rattle.calls.proofs.render.put_line.Statement.{statement}
 use Rattle.calls.proofs.render.put_line.Tie as tie
 
-has-room-requires : tie.Need-has-room-requires
+has-room-requires : tie.Need-has_room-requires
 has-room-requires c κs = search rules
 
-same_length : tie.Need-same-length
+same_length : tie.Need-shape_of-out-then-not-has_room
 same_length c = search rules
 
-returns : tie.Need-returns
-returns c = not_written _ _ c.before.has_room.ensures _ c.if1.true
+returns : tie.Need-returns-then-not-has_room
+returns c = not_written _ _ c.before.has_room.ensures _ c.if-not-has_room.true-raw
 
-put-number-requires : tie.Need-put-number-requires
-put-number-requires c κs = (omega arith, in-room _ _ c.before.before.has_room.ensures c.before.if1.false)
+put-number-requires : tie.Need-put_number-requires
+put-number-requires c κs = (omega arith, in-room _ _ c.before.before.has_room.ensures c.before.if-not-has_room.false-raw)
 
-same-length-2 : tie.Need-same-length-2
+same-length-2 : tie.Need-shape_of-out
 same-length-2 c = search rules
 
-returns-2 : tie.Need-returns-2
+returns-2 : tie.Need-returns
 returns-2 c =
     let e = c.before.before.before.before in
-    written _ _ e.before.has_room.ensures e.if1.false refl c.before.before.put-number.ensures.0 (omega arith)
+    written _ _ e.before.has_room.ensures e.if-not-has_room.false-raw refl c.before.before.put_number.ensures.0 (omega arith)
 
-pub put-line-spec : {M : Type 1} → statement M
-put-line-spec =
+pub put_line_spec : {M : Type 1} → statement M
+put_line_spec =
     tie.close
     (tie.spec has-room-requires same_length returns put-number-requires same-length-2 returns-2)

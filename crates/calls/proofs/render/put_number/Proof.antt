@@ -6,28 +6,28 @@ use Rattle.calls.proofs.Digits.{digit_by_digit}
 use Rattle.calls.proofs.render.put_number.Statement.{statement}
 use Rattle.calls.proofs.render.put_number.Tie as tie
 
-put-pair-requires : tie.Need-put-pair-requires
+put-pair-requires : tie.Need-put_pair-a-requires
 put-pair-requires c κs = search rules
 
-put-digit-requires : tie.Need-put-digit-requires
+put-digit-requires : tie.Need-put_digit-b-requires
 put-digit-requires c κs = search rules
 
-put-digit-requires-2 : tie.Need-put-digit-requires-2
+put-digit-requires-2 : tie.Need-put_digit-c-requires
 put-digit-requires-2 c κs = search rules
 
-put-digit-requires-3 : tie.Need-put-digit-requires-3
+put-digit-requires-3 : tie.Need-put_digit-d-requires
 put-digit-requires-3 c κs = omega arith
 
-cast-put-pair : tie.Need-overflow-cast-put-pair
+cast-put-pair : tie.Need-overflow_cast-n
 cast-put-pair c = search rules
 
-add-put-pair : tie.Need-overflow-add-put-pair
+add-put-pair : tie.Need-overflow_add-n
 add-put-pair c = search rules
 
-put-pair-requires-2 : tie.Need-put-pair-requires-2
+put-pair-requires-2 : tie.Need-put_pair-requires
 put-pair-requires-2 c κs = omega arith
 
-same_length : tie.Need-same-length
+same_length : tie.Need-shape_of-out
 same_length c = search rules
 
 returns : tie.Need-returns
@@ -39,12 +39,12 @@ returns c =
     let p1 = p2.before.before.before.before in
     let s = p1.before.before.before in (
       puts-same (digit_by_digit s.args.letter s.args.n (omega arith))
-          (puts_then (puts_then (puts_then (puts_then p1.put-pair.ensures p2.put-digit.ensures.0) p3.put-digit2.ensures.0) p4.put-digit3.ensures.0) p5.put-pair2.ensures),
+          (puts_then (puts_then (puts_then (puts_then p1.put_pair-a.ensures p2.put_digit-b.ensures.0) p3.put_digit-c.ensures.0) p4.put_digit-d.ensures.0) p5.put_pair.ensures),
       omega arith,
     )
 
-pub put-number-spec : {M : Type 1} → statement M
-put-number-spec =
+pub put_number_spec : {M : Type 1} → statement M
+put_number_spec =
     tie.close
     (tie.spec
     put-pair-requires

@@ -14,7 +14,7 @@ use Rattle.calls.proofs.render.write.Statement.{statement}
 use Rattle.calls.proofs.render.write.Tie as tie
 
 -- where there is room, and a line is put
-module _ (c : tie.Else1) where
+module _ (c : tie.Else-not-has_room) where
   abbrev answer : Answer
   answer = c.before.before.before.before.args.answer
 
@@ -25,130 +25,130 @@ module _ (c : tie.Else1) where
   at = c.before.before.before.before.args.at
 
   room-there : at + 7 ≤ length out
-  room-there = in-room out at c.before.has_room.ensures c.if1.false
+  room-there = in-room out at c.before.has_room.ensures c.if-not-has_room.false-raw
 
   line-put : {bytes after : List ℕ} {next : ℕ} → bytes ≡ line_for answer → Puts bytes out after at next → next ≤ at + 7 → Written (line_for answer) out after at next
-  line-put = written out at c.before.has_room.ensures c.if1.false
+  line-put = written out at c.before.has_room.ensures c.if-not-has_room.false-raw
 
-has-room-requires : tie.Need-has-room-requires
+has-room-requires : tie.Need-has_room-requires
 has-room-requires c κs = search rules
 
-same_length : tie.Need-same-length
+same_length : tie.Need-shape_of-out-then-not-has_room
 same_length c = search rules
 
-returns : tie.Need-returns
-returns c = not_written _ _ c.before.has_room.ensures _ c.if1.true
+returns : tie.Need-returns-then-not-has_room
+returns c = not_written _ _ c.before.has_room.ensures _ c.if-not-has_room.true-raw
 
-enum-known-answer : tie.Need-enum-known-answer
+enum-known-answer : tie.Need-enum_known-answer
 enum-known-answer c = search rules
 
-put-number-requires : tie.Need-put-number-requires
+put-number-requires : tie.Need-put_number-requires
 put-number-requires c κs = (omega arith, room-there c.before.before.before.before)
 
-same-length-2 : tie.Need-same-length-2
+same-length-2 : tie.Need-shape_of-out-in-Granted
 same-length-2 c = search rules
 
-returns-2 : tie.Need-returns-2
+returns-2 : tie.Need-returns-in-Granted
 returns-2 c =
     let a = c.before.before.before.before.before in
-    line-put a.before.before (ap (λ w. number_line 71 (w % 1024)) (sym (div-one _)) ∙ ap line_for (sym a.answer.given.1)) c.before.before.put-number.ensures.0 (omega arith)
+    line-put a.before.before (ap (λ w. number_line 71 (w % 1024)) (sym (div-one _)) ∙ ap line_for (sym a.answer-1.given.1)) c.before.before.put_number.ensures.0 (omega arith)
 
-enum_told : tie.Need-enum-told
+enum_told : tie.Need-enum_told-1
 enum_told c = search rules
 
-put-pair-requires : tie.Need-put-pair-requires
+put-pair-requires : tie.Need-put_pair-requires
 put-pair-requires c κs = omega (arith, room-there c.before.before.before)
 
-same-length-3 : tie.Need-same-length-3
+same-length-3 : tie.Need-shape_of-out-in-Accepted
 same-length-3 c = search rules
 
-returns-3 : tie.Need-returns-3
+returns-3 : tie.Need-returns-in-Accepted
 returns-3 c =
     let a = c.before.before.before.before in
-    line-put a.before.before (ap line_for (sym a.enum_told.given.1)) c.before.before.put-pair.ensures (omega arith)
+    line-put a.before.before (ap line_for (sym a.enum_told-1.given.1)) c.before.before.put_pair.ensures (omega arith)
 
-enum-known-answer-2 : tie.Need-enum-known-answer-2
+enum-known-answer-2 : tie.Need-enum_known-answer-in-Booked-1
 enum-known-answer-2 c = search rules
 
-cast-put-number : tie.Need-overflow-cast-put-number
+cast-put-number : tie.Need-overflow_cast-flow
 cast-put-number c = search rules
 
-put-number-requires-2 : tie.Need-put-number-requires-2
+put-number-requires-2 : tie.Need-put_number-requires-in-Booked
 put-number-requires-2 c κs = (omega arith, room-there c.before.before.before.before)
 
-same-length-4 : tie.Need-same-length-4
+same-length-4 : tie.Need-shape_of-out-in-Booked
 same-length-4 c = search rules
 
-returns-4 : tie.Need-returns-4
+returns-4 : tie.Need-returns-in-Booked
 returns-4 c =
     let a = c.before.before.before.before.before in
-    line-put a.before.before (ap line_for (sym a.answer2.given.1)) c.before.before.put-number2.ensures.0 (omega arith)
+    line-put a.before.before (ap line_for (sym a.answer-in-Booked-1.given.1)) c.before.before.put_number-in-Booked.ensures.0 (omega arith)
 
-enum-told-2 : tie.Need-enum-told-2
+enum-told-2 : tie.Need-enum_told-in-Idle
 enum-told-2 c = search rules
 
-put-pair-requires-2 : tie.Need-put-pair-requires-2
+put-pair-requires-2 : tie.Need-put_pair-next-requires
 put-pair-requires-2 c κs = omega (arith, room-there c.before.before.before)
 
-put-pair-requires-3 : tie.Need-put-pair-requires-3
+put-pair-requires-3 : tie.Need-put_pair-requires-in-Idle
 put-pair-requires-3 c κs = omega (arith, room-there c.before.before.before.before.before.before.before)
 
-same-length-5 : tie.Need-same-length-5
+same-length-5 : tie.Need-shape_of-out-in-Idle
 same-length-5 c = search rules
 
-returns-5 : tie.Need-returns-5
+returns-5 : tie.Need-returns-in-Idle
 returns-5 c =
     let b = c.before.before.before.before.before.before in
     let a = b.before.before in
-    line-put a.before.before (ap line_for (sym a.enum-told2.given.1)) (puts_then b.put-pair2.ensures c.before.before.put-pair3.ensures) (omega arith)
+    line-put a.before.before (ap line_for (sym a.enum_told-in-Idle-1.given.1)) (puts_then b.put_pair-next.ensures c.before.before.put_pair-in-Idle.ensures) (omega arith)
 
-enum-known-answer-3 : tie.Need-enum-known-answer-3
+enum-known-answer-3 : tie.Need-enum_known-answer-in-Lent-1
 enum-known-answer-3 c = search rules
 
-cast-put-number-2 : tie.Need-overflow-cast-put-number-2
+cast-put-number-2 : tie.Need-overflow_cast-flow-in-Lent
 cast-put-number-2 c = search rules
 
-put-number-requires-3 : tie.Need-put-number-requires-3
+put-number-requires-3 : tie.Need-put_number-requires-in-Lent
 put-number-requires-3 c κs = (omega arith, room-there c.before.before.before.before)
 
-same-length-6 : tie.Need-same-length-6
+same-length-6 : tie.Need-shape_of-out-in-Lent
 same-length-6 c = search rules
 
-returns-6 : tie.Need-returns-6
+returns-6 : tie.Need-returns-in-Lent
 returns-6 c =
     let a = c.before.before.before.before.before in
-    line-put a.before.before (ap line_for (sym a.answer3.given.1)) c.before.before.put-number3.ensures.0 (omega arith)
+    line-put a.before.before (ap line_for (sym a.answer-in-Lent-1.given.1)) c.before.before.put_number-in-Lent.ensures.0 (omega arith)
 
-enum-told-3 : tie.Need-enum-told-3
+enum-told-3 : tie.Need-enum_told-in-Reset
 enum-told-3 c = search rules
 
-put-pair-requires-4 : tie.Need-put-pair-requires-4
+put-pair-requires-4 : tie.Need-put_pair-requires-in-Reset
 put-pair-requires-4 c κs = omega (arith, room-there c.before.before.before)
 
-same-length-7 : tie.Need-same-length-7
+same-length-7 : tie.Need-shape_of-out-in-Reset
 same-length-7 c = search rules
 
-returns-7 : tie.Need-returns-7
+returns-7 : tie.Need-returns-in-Reset
 returns-7 c =
     let a = c.before.before.before.before in
-    line-put a.before.before (ap line_for (sym a.enum-told3.given.1)) c.before.before.put-pair4.ensures (omega arith)
+    line-put a.before.before (ap line_for (sym a.enum_told-in-Reset-1.given.1)) c.before.before.put_pair-in-Reset.ensures (omega arith)
 
-enum-known-answer-4 : tie.Need-enum-known-answer-4
+enum-known-answer-4 : tie.Need-enum_known-answer-in-Refused-1
 enum-known-answer-4 c = search rules
 
-cast-put-number-3 : tie.Need-overflow-cast-put-number-3
+cast-put-number-3 : tie.Need-overflow_cast-number
 cast-put-number-3 c = search rules
 
-put-number-requires-4 : tie.Need-put-number-requires-4
+put-number-requires-4 : tie.Need-put_number-requires-in-Refused
 put-number-requires-4 c κs = (omega arith, room-there c.before.before.before.before)
 
-same-length-8 : tie.Need-same-length-8
+same-length-8 : tie.Need-shape_of-out-in-Refused
 same-length-8 c = search rules
 
-returns-8 : tie.Need-returns-8
+returns-8 : tie.Need-returns-in-Refused
 returns-8 c =
     let a = c.before.before.before.before.before in
-    line-put a.before.before (ap line_for (sym a.answer4.given.1)) c.before.before.put-number4.ensures.0 (omega arith)
+    line-put a.before.before (ap line_for (sym a.answer-in-Refused-1.given.1)) c.before.before.put_number-in-Refused.ensures.0 (omega arith)
 
 pub write_spec : {M : Type 1} → statement M
 write_spec =

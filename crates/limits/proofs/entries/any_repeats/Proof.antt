@@ -16,39 +16,39 @@ use Rattle.limits.proofs.entries.any_repeats.Tie as tie
 abbrev repeated : List Wanted → ℕ → Bool
 repeated entries i = any i (λ j. same_pair (wanted_for (get_or entries j no_wanted)) (wanted_for (get_or entries i no_wanted)))
 
-abbrev invariant-loop : tie.invariant-loop
+abbrev invariant-loop : tie.invariant-loop-i
 invariant-loop entries count i₀ i = None (repeated entries) count i
 
-abbrev decreases-loop : tie.decreases-loop
+abbrev decreases-loop : tie.decreases-loop-i
 decreases-loop entries count i₀ i = count - i
 
-loop-holds : tie.Need-loop-init invariant-loop decreases-loop
+loop-holds : tie.Need-loop-i-init invariant-loop decreases-loop
 loop-holds c = none_yet _ _
 
 repeats-requires : tie.Need-repeats-requires invariant-loop decreases-loop
 repeats-requires c κs = search rules
 
-returns : tie.Need-returns invariant-loop decreases-loop
+returns : tie.Need-returns-then-repeats invariant-loop decreases-loop
 returns c =
     let step = c.before.before in
-    found-one step.before.loop.invariant step.loop-test.true (sym c.before.repeats.ensures ∙ c.if1.true)
+    found-one step.before.loop-i.invariant step.loop-i-test.true (sym c.before.repeats.ensures ∙ c.if-repeats.true)
 
-add-i : tie.Need-overflow-add-i invariant-loop decreases-loop
+add-i : tie.Need-overflow_add-i invariant-loop decreases-loop
 add-i c = search rules
 
-loop-less : tie.Need-loop-smaller invariant-loop decreases-loop
+loop-less : tie.Need-loop-i-smaller invariant-loop decreases-loop
 loop-less c = search rules
 
-loop-again : tie.Need-loop-preserved invariant-loop decreases-loop
+loop-again : tie.Need-loop-i-preserved invariant-loop decreases-loop
 loop-again c =
     let step = c.before.before in
-    none_more step.before.loop.invariant step.loop-test.true (sym c.before.repeats.ensures ∙ c.if1.false)
+    none_more step.before.loop-i.invariant step.loop-i-test.true (sym c.before.repeats.ensures ∙ c.if-repeats.false)
 
-returns-2 : tie.Need-returns-2 invariant-loop decreases-loop
-returns-2 c = none_at_all c.before.loop.invariant c.loop-test.false
+returns-2 : tie.Need-returns invariant-loop decreases-loop
+returns-2 c = none_at_all c.before.loop-i.invariant c.loop-i-test.false
 
-pub any-repeats-spec : {M : Type 1} → statement M
-any-repeats-spec =
+pub any_repeats_spec : {M : Type 1} → statement M
+any_repeats_spec =
     tie.close
     (tie.spec
     invariant-loop

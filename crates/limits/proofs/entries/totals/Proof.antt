@@ -19,49 +19,49 @@ pub record Summed (entries : List Wanted) (n i shares cells : ℕ) : Type 0 wher
   pub shares_most : shares ≤ 255 * i
   pub cells_most : cells ≤ 255 * i
 
-abbrev invariant-loop : tie.invariant-loop
+abbrev invariant-loop : tie.invariant-loop-i
 invariant-loop count entries shares₀ cells₀ i₀ shares cells i = Summed entries count i shares cells
 
-abbrev decreases-loop : tie.decreases-loop
+abbrev decreases-loop : tie.decreases-loop-i
 decreases-loop count entries shares₀ cells₀ i₀ shares cells i = count - i
 
 -- where an iteration starts: the entry's share and cells
-module _ (c : tie.In-loop invariant-loop decreases-loop) where
+module _ (c : tie.In-loop-i invariant-loop decreases-loop) where
   abbrev given : List Wanted
   given = c.before.before.args.t1
 
   abbrev place : ℕ
-  place = c.before.loop.i
+  place = c.before.loop-i.i
 
   share-small : (get_or given place no_wanted).share ≤ 255
-  share-small = c.before.before.requires.shares place c.loop-test.true
+  share-small = c.before.before.requires.shares place c.loop-i-test.true
 
   cells-small : (get_or given place no_wanted).cells ≤ 255
-  cells-small = c.before.before.requires.cells place c.loop-test.true
+  cells-small = c.before.before.requires.cells place c.loop-i-test.true
 
-loop-holds : tie.Need-loop-init invariant-loop decreases-loop
+loop-holds : tie.Need-loop-i-init invariant-loop decreases-loop
 unfolding sum
 loop-holds c = record { within = omega arith; shares_are = refl; cells_are = refl; shares_most = omega arith; cells_most = omega arith }
 
-mul-e : tie.Need-overflow-mul-e invariant-loop decreases-loop
+mul-e : tie.Need-offset_bounds-entries-i invariant-loop decreases-loop
 mul-e c = search rules
 
-array-copy-out-e : tie.Need-array-copy-out-e invariant-loop decreases-loop
+array-copy-out-e : tie.Need-bounds-entries-i invariant-loop decreases-loop
 array-copy-out-e c = search rules
 
-add-shares : tie.Need-overflow-add-shares invariant-loop decreases-loop
+add-shares : tie.Need-overflow_add-shares invariant-loop decreases-loop
 add-shares c = omega (arith, share-small c.before.before)
 
-add-cells : tie.Need-overflow-add-cells invariant-loop decreases-loop
+add-cells : tie.Need-overflow_add-cells invariant-loop decreases-loop
 add-cells c = omega (arith, cells-small c.before.before.before)
 
-add-i : tie.Need-overflow-add-i invariant-loop decreases-loop
+add-i : tie.Need-overflow_add-i invariant-loop decreases-loop
 add-i c = search rules
 
-loop-less : tie.Need-loop-smaller invariant-loop decreases-loop
+loop-less : tie.Need-loop-i-smaller invariant-loop decreases-loop
 loop-less c = search rules
 
-loop-again : tie.Need-loop-preserved invariant-loop decreases-loop
+loop-again : tie.Need-loop-i-preserved invariant-loop decreases-loop
 loop-again c =
     let step = c.before.before.before in
     record {
@@ -74,13 +74,13 @@ loop-again c =
 
 returns : tie.Need-returns invariant-loop decreases-loop
 returns c =
-    let h = c.before.loop.invariant in
+    let h = c.before.loop-i.invariant in
     let entries = c.before.before.args.t1 in
-    let end : c.before.loop.i ≡ c.before.before.args.count = omega arith in
+    let end : c.before.loop-i.i ≡ c.before.before.args.count = omega arith in
     (h.shares_are ∙ ap (λ n. sum n (λ k. (get_or entries k no_wanted).share)) end, h.cells_are ∙ ap (λ n. sum n (λ k. (get_or entries k no_wanted).cells)) end)
 
-pub totals-spec : {M : Type 1} → statement M
-totals-spec =
+pub totals_spec : {M : Type 1} → statement M
+totals_spec =
     tie.close
     (tie.spec
     invariant-loop

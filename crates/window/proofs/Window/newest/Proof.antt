@@ -7,7 +7,7 @@ before-requires : tie.Need-before-requires
 before-requires c κs = search rules
 
 returns : tie.Need-returns
-returns c = rw (← c.before.requires.head_is) c.before2.ensures
+returns c = rw (← c.before.requires.head_is) c.before-2.ensures
 
-pub newest-spec : {M : Type 1} → statement M
-newest-spec = tie.close (tie.spec before-requires returns)
+pub newest_spec : {M : Type 1} → statement M
+newest_spec = tie.close (tie.spec before-requires returns)

@@ -4,11 +4,11 @@ use Rattle.window.proofs.Windows.{proper}
 use Rattle.window.proofs.positions.window.Statement.{statement}
 use Rattle.window.proofs.positions.window.Tie as tie
 
-div-t4 : tie.Need-nonzero-div-t4
+div-t4 : tie.Need-nonzero_div-result
 div-t4 c = search rules
 
 returns : tie.Need-returns
 returns c = (refl, proper _ _ _ c.requires)
 
-pub window-spec : {M : Type 1} → statement M
-window-spec = tie.close (tie.spec div-t4 returns)
+pub window_spec : {M : Type 1} → statement M
+window_spec = tie.close (tie.spec div-t4 returns)
