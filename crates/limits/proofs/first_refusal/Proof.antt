@@ -13,7 +13,7 @@ use Rattle.limits.proofs.first_refusal.Tie as tie
 -- ---- the plan that is asked for, at each place
 
 abbrev asked-2 : tie.Else-count_out_of_range → Draft
-asked-2 c = c.before.before.args.d
+asked-2 c = c.args.d
 
 abbrev asked-3 : tie.Else-frames_out_of_range → Draft
 asked-3 c = asked-2 c.before.before
@@ -43,7 +43,7 @@ abbrev summed : tie.Else-d-t → tie.After-totals-t
 summed c = c.before.before.before
 
 passed-6 : (c : tie.Else-d-t) → Passed6 (asked-5 (summed c).before)
-passed-6 c = record { to_5 = passed-5 (summed c).before; shared = ap (ltb _) (sym (summed c).totals.ensures.0) ∙ le-ltb _ _ c.if-d-t.false }
+passed-6 c = record { to_5 = passed-5 (summed c).before; shared = ap (ltb _) (sym (summed c).totals-t.ensures.0) ∙ le-ltb _ _ c.if-d-t.false }
 
 -- the last test, which goes by the sum of the cells
 module _ (c : tie.After-struct_known-4-1) where
@@ -59,7 +59,7 @@ count-out-of-range-requires : tie.Need-count_out_of_range-requires
 count-out-of-range-requires c κs = search rules
 
 returns : tie.Need-returns-then-count_out_of_range
-returns c = gives-2 c.before.before.args.d (sym c.before.count_out_of_range.ensures ∙ c.if-count_out_of_range.true)
+returns c = gives-2 c.args.d (sym c.before.count_out_of_range.ensures ∙ c.if-count_out_of_range.true)
 
 frames-out-of-range-requires : tie.Need-frames_out_of_range-requires
 frames-out-of-range-requires c κs = search rules

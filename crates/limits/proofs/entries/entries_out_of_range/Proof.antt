@@ -36,7 +36,7 @@ fits-requires c κs = search rules
 returns : tie.Need-returns-then-not-fits invariant-loop decreases-loop
 returns c =
     let step = c.before.before.before in
-    found-one step.before.loop-i.invariant step.loop-i-test.true (not_is c.before.fits2.ensures c.if-not-fits.true-raw)
+    found-one step.before.loop-i.invariant step.loop-i-test.true (not_is c.before.fits.ensures c.if-not-fits.true-raw)
 
 add-i : tie.Need-overflow_add-i invariant-loop decreases-loop
 add-i c = search rules
@@ -47,7 +47,7 @@ loop-less c = search rules
 loop-again : tie.Need-loop-i-preserved invariant-loop decreases-loop
 loop-again c =
     let step = c.before.before.before in
-    none_more step.before.loop-i.invariant step.loop-i-test.true (not_is c.before.fits2.ensures c.if-not-fits.false-raw)
+    none_more step.before.loop-i.invariant step.loop-i-test.true (not_is c.before.fits.ensures c.if-not-fits.false-raw)
 
 returns-2 : tie.Need-returns invariant-loop decreases-loop
 returns-2 c = none_at_all c.before.loop-i.invariant c.loop-i-test.false

@@ -28,16 +28,16 @@ decreases-loop count entries shares₀ cells₀ i₀ shares cells i = count - i
 -- where an iteration starts: the entry's share and cells
 module _ (c : tie.In-loop-i invariant-loop decreases-loop) where
   abbrev given : List Wanted
-  given = c.before.before.args.t1
+  given = c.args.entries
 
   abbrev place : ℕ
   place = c.before.loop-i.i
 
   share-small : (get_or given place no_wanted).share ≤ 255
-  share-small = c.before.before.requires.shares place c.loop-i-test.true
+  share-small = c.requires.shares place c.loop-i-test.true
 
   cells-small : (get_or given place no_wanted).cells ≤ 255
-  cells-small = c.before.before.requires.cells place c.loop-i-test.true
+  cells-small = c.requires.cells place c.loop-i-test.true
 
 loop-holds : tie.Need-loop-i-init invariant-loop decreases-loop
 unfolding sum
@@ -75,8 +75,8 @@ loop-again c =
 returns : tie.Need-returns invariant-loop decreases-loop
 returns c =
     let h = c.before.loop-i.invariant in
-    let entries = c.before.before.args.t1 in
-    let end : c.before.loop-i.i ≡ c.before.before.args.count = omega arith in
+    let entries = c.args.entries in
+    let end : c.before.loop-i.i ≡ c.args.count = omega arith in
     (h.shares_are ∙ ap (λ n. sum n (λ k. (get_or entries k no_wanted).share)) end, h.cells_are ∙ ap (λ n. sum n (λ k. (get_or entries k no_wanted).cells)) end)
 
 pub totals_spec : {M : Type 1} → statement M

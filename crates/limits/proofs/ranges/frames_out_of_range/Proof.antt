@@ -22,22 +22,22 @@ before-3 c = c.before.before
 
 -- what is known after each test that is passed
 slots-passed : (c : tie.Else-not-slots_fit) → within 1 64 (before-1 c).args.slots ≡ true
-slots-passed c = is_true c.before.slots_fit.ensures c.if-not-slots_fit.false
+slots-passed c = is_true c.before.slots_fit.ensures c.if-not-slots_fit.false-raw
 
 frames-passed : (c : tie.Else-not-frames_fit) → within 2 8 (before-1 (before-2 c)).args.frames ≡ true
-frames-passed c = is_true c.before.frames_fit.ensures c.if-not-frames_fit.false
+frames-passed c = is_true c.before.frames_fit.ensures c.if-not-frames_fit.false-raw
 
 slots-fit-requires : tie.Need-slots_fit-requires
 slots-fit-requires c κs = search rules
 
 returns : tie.Need-returns-then-not-slots_fit
-returns c = rw (is_false c.before.slots_fit.ensures c.if-not-slots_fit.true)
+returns c = rw (is_false c.before.slots_fit.ensures c.if-not-slots_fit.true-raw)
 
 frames-fit-requires : tie.Need-frames_fit-requires
 frames-fit-requires c κs = search rules
 
 returns-2 : tie.Need-returns-then-not-frames_fit
-returns-2 c = rw (slots-passed c.before.before, is_false c.before.frames_fit.ensures c.if-not-frames_fit.true)
+returns-2 c = rw (slots-passed c.before.before, is_false c.before.frames_fit.ensures c.if-not-frames_fit.true-raw)
 
 buffer-fits-requires : tie.Need-buffer_fits-requires
 buffer-fits-requires c κs = search rules
@@ -45,7 +45,7 @@ buffer-fits-requires c κs = search rules
 returns-3 : tie.Need-returns-then-not-buffer_fits
 returns-3 c =
     let frames = c.before.before in
-    rw (slots-passed (before-2 frames), frames-passed frames, is_false c.before.buffer_fits.ensures c.if-not-buffer_fits.true)
+    rw (slots-passed (before-2 frames), frames-passed frames, is_false c.before.buffer_fits.ensures c.if-not-buffer_fits.true-raw)
 
 mul-many-positions : tie.Need-overflow_mul-slots
 mul-many-positions c =
@@ -65,7 +65,7 @@ returns-4 c =
     rw (
       slots-passed (before-2 frames),
       frames-passed frames,
-      is_true buffer.before.buffer_fits.ensures buffer.if-not-buffer_fits.false,
+      is_true buffer.before.buffer_fits.ensures buffer.if-not-buffer_fits.false-raw,
     ) c.many_positions.ensures
 
 pub frames_out_of_range_spec : {M : Type 1} → statement M
