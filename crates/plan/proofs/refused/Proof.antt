@@ -4,13 +4,13 @@ use borrow.Author.Rules.{rules}
 use Rattle.plan.proofs.refused.Statement.{statement}
 use Rattle.plan.proofs.refused.Tie as tie
 
-none-requires : tie.Need-none-requires
+none-requires : tie.Need-none-entries-requires
 none-requires c κs = search rules
 
 returns : tie.Need-returns
 returns c =
-    let r = c.before.args.number in
-    (verdict-refused r c.before.requires, λ P. rw c.none.ensures (plan-refused r c.before.requires P))
+    let r = c.args.number in
+    (verdict-refused r c.requires, λ P. rw c.none-entries.ensures (plan-refused r c.requires P))
 
-pub refused-spec : {M : Type 1} → statement M
-refused-spec = tie.close (tie.spec none-requires returns)
+pub refused_spec : {M : Type 1} → statement M
+refused_spec = tie.close (tie.spec none-requires returns)

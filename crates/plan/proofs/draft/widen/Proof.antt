@@ -16,51 +16,51 @@ use Rattle.plan.proofs.draft.widen.Tie as tie
 abbrev wanted-at : List Entry → ℕ → Wanted
 wanted-at entries k = wanted_of (get_or entries k no_entry)
 
-abbrev invariant-loop : tie.invariant-loop
+abbrev invariant-loop : tie.invariant-loop-i
 invariant-loop entries all₀ i₀ all i = (i ≤ 16) × (all ≡ up_to (wanted-at entries) no_wanted i)
 
-abbrev decreases-loop : tie.decreases-loop
+abbrev decreases-loop : tie.decreases-loop-i
 decreases-loop entries all₀ i₀ all i = 16 - i
 
-loop-holds : tie.Need-loop-init invariant-loop decreases-loop
+loop-holds : tie.Need-loop-i-init invariant-loop decreases-loop
 loop-holds c = (omega arith, none_yet _ _)
 
-mul-e : tie.Need-overflow-mul-e invariant-loop decreases-loop
+mul-e : tie.Need-offset_bounds-entries-i invariant-loop decreases-loop
 mul-e c = search rules
 
-array-copy-out-e : tie.Need-array-copy-out-e invariant-loop decreases-loop
+array-copy-out-e : tie.Need-bounds-entries-i invariant-loop decreases-loop
 array-copy-out-e c = search rules
 
 wanted-requires : tie.Need-wanted-requires invariant-loop decreases-loop
 wanted-requires c κs = search rules
 
-mul-all : tie.Need-overflow-mul-all invariant-loop decreases-loop
+mul-all : tie.Need-offset_bounds-all-i invariant-loop decreases-loop
 mul-all c = search rules
 
-array-set-from-all : tie.Need-array-set-from-all invariant-loop decreases-loop
+array-set-from-all : tie.Need-bounds-all-i invariant-loop decreases-loop
 array-set-from-all c = search rules
 
-add-i : tie.Need-overflow-add-i invariant-loop decreases-loop
+add-i : tie.Need-overflow_add-i invariant-loop decreases-loop
 add-i c = search rules
 
-loop-less : tie.Need-loop-smaller invariant-loop decreases-loop
+loop-less : tie.Need-loop-i-smaller invariant-loop decreases-loop
 loop-less c = search rules
 
-loop-again : tie.Need-loop-preserved invariant-loop decreases-loop
+loop-again : tie.Need-loop-i-preserved invariant-loop decreases-loop
 loop-again c =
     let loop = c.before.before.before in
-    let next = wanted-at loop.before.args.t1 in
-    let before = ap (λ a. set a loop.loop.i c.wanted.result) loop.loop.invariant.1 in
-    let stored = ap (set (up_to next no_wanted loop.loop.i) loop.loop.i) c.wanted.ensures in
-    (omega arith, before ∙ stored ∙ one_more next no_wanted loop.loop.i (omega arith))
+    let next = wanted-at loop.args.entries in
+    let before = ap (λ a. set a loop.loop-i.i c.wanted.result) loop.loop-i.invariant.1 in
+    let stored = ap (set (up_to next no_wanted loop.loop-i.i) loop.loop-i.i) c.wanted.ensures in
+    (omega arith, before ∙ stored ∙ one_more next no_wanted loop.loop-i.i (omega arith))
 
 returns : tie.Need-returns invariant-loop decreases-loop
 unfolding widened
 returns c =
     let loop = c.before in
-    let next = wanted-at loop.before.args.t1 in
-    let end : loop.loop.i ≡ 16 = omega arith in
-    loop.loop.invariant.1 ∙ ap (up_to next no_wanted) end ∙ all_there next no_wanted
+    let next = wanted-at loop.args.entries in
+    let end : loop.loop-i.i ≡ 16 = omega arith in
+    loop.loop-i.invariant.1 ∙ ap (up_to next no_wanted) end ∙ all_there next no_wanted
 
 pub widen_spec : {M : Type 1} → statement M
 widen_spec =

@@ -24,15 +24,15 @@ field-requires-6 c κs = search rules
 returns : tie.Need-returns
 returns c = λ k. record {
   total = c.before.before.before.before.before.field.ensures k;
-  count = c.before.before.before.before.field2.ensures k;
-  offset = c.before.before.before.field3.ensures k;
-  slots = c.before.before.field4.ensures k;
-  frames = c.before.field5.ensures k;
-  buffer = c.field6.ensures k;
+  count = c.before.before.before.before.field-2.ensures k;
+  offset = c.before.before.before.field-3.ensures k;
+  slots = c.before.before.field-4.ensures k;
+  frames = c.before.field-5.ensures k;
+  buffer = c.field-6.ensures k;
 }
 
-pub read-header-spec : {M : Type 1} → statement M
-read-header-spec =
+pub read_header_spec : {M : Type 1} → statement M
+read_header_spec =
     tie.close
     (tie.spec
     field-requires
