@@ -7,16 +7,16 @@ use Rattle.window.specs.Window.{size_of}
 use Rattle.tables.proofs.holdings.carry_head.Statement.{statement}
 use Rattle.tables.proofs.holdings.carry_head.Tie as tie
 
-mul-base : tie.Need-overflow-mul-base
+mul-base : tie.Need-overflow_mul-base
 mul-base c = search rules
 
-mul-before : tie.Need-overflow-mul-before
+mul-before : tie.Need-overflow_mul-w
 mul-before c = search rules
 
-before-requires : tie.Need-before-requires
+before-requires : tie.Need-before-last-requires
 before-requires c κs = search rules
 
-add-carry : tie.Need-overflow-add-carry
+add-carry : tie.Need-overflow_add-base
 add-carry c = search rules
 
 carry-requires : tie.Need-carry-requires
@@ -25,12 +25,12 @@ carry-requires c κs =
     let s = b.before.before.before in
     let v = s.requires.proper in
     let some : 0 < size_of s.args.w = omega (arith, v.measures.current_below) in
-    let last : b.before2.result < size_of s.args.w = rw b.before2.ensures (mod-lt _ some) in
+    let last : b.before-last.result < size_of s.args.w = rw b.before-last.ensures (mod-lt _ some) in
     (s.requires.few, omega (arith, v.measures.positions_most), omega arith, omega (arith, v.base_fits, v.measures.positions_most))
 
 returns : tie.Need-returns
-returns c = let last = c.before.before.before in rw (c.carry.ensures, last.before2.ensures)
+returns c = let last = c.before.before.before in rw (c.carry.ensures, last.before-last.ensures)
 
-pub carry-head-spec : {M : Type 1} → statement M
-carry-head-spec =
+pub carry_head_spec : {M : Type 1} → statement M
+carry_head_spec =
     tie.close (tie.spec mul-base mul-before before-requires add-carry carry-requires returns)

@@ -7,29 +7,29 @@ use Rattle.window.proofs.RangeLoops.{Replacing, replacing-none, replacing-more, 
 use Rattle.tables.proofs.holdings.fill.Statement.{statement}
 use Rattle.tables.proofs.holdings.fill.Tie as tie
 
-abbrev invariant-loop : tie.invariant-loop
+abbrev invariant-loop : tie.invariant-loop-q
 invariant-loop held₀ value a e q₀ held q = Replacing (λ k x. value) a e held₀ held q
 
-abbrev decreases-loop : tie.decreases-loop
+abbrev decreases-loop : tie.decreases-loop-q
 decreases-loop held₀ value a e q₀ held q = e - q
 
-loop-holds : tie.Need-loop-init invariant-loop decreases-loop
+loop-holds : tie.Need-loop-q-init invariant-loop decreases-loop
 loop-holds c = replacing-none 0 (omega arith)
 
-element-write-s : tie.Need-element-write-s invariant-loop decreases-loop
+element-write-s : tie.Need-bounds-s-q invariant-loop decreases-loop
 element-write-s c = search rules
 
-add-q : tie.Need-overflow-add-q invariant-loop decreases-loop
+add-q : tie.Need-overflow_add-q invariant-loop decreases-loop
 add-q c = search rules
 
-loop-less : tie.Need-loop-smaller invariant-loop decreases-loop
+loop-less : tie.Need-loop-q-smaller invariant-loop decreases-loop
 loop-less c = search rules
 
-loop-again : tie.Need-loop-preserved invariant-loop decreases-loop
-loop-again c = replacing-more 0 c.before.loop.invariant (omega arith) refl
+loop-again : tie.Need-loop-q-preserved invariant-loop decreases-loop
+loop-again c = replacing-more 0 c.before.loop-q.invariant (omega arith) refl
 
 returns : tie.Need-returns invariant-loop decreases-loop
-returns c = replacing-done 0 c.before.loop.invariant (omega arith)
+returns c = replacing-done 0 c.before.loop-q.invariant (omega arith)
 
 pub fill_spec : {M : Type 1} → statement M
 fill_spec =

@@ -11,61 +11,61 @@ use Rattle.tables.proofs.Padded.{Counting, counting-first, counting-on, counted-
 use Rattle.tables.proofs.holdings.held_in.Statement.{statement}
 use Rattle.tables.proofs.holdings.held_in.Tie as tie
 
-abbrev invariant-loop : tie.invariant-loop
+abbrev invariant-loop : tie.invariant-loop-q
 invariant-loop held a e base from least₀ q₀ x₀ least q x =
     Counting base a q x × Testing (λ k. ltb 0 (max (get_or held k 0) (pad base from 255 0 (k - a)))) a e q (ltb 0 least)
 
-abbrev decreases-loop : tie.decreases-loop
+abbrev decreases-loop : tie.decreases-loop-q
 decreases-loop held a e base from least₀ q₀ x₀ least q x = e - q
 
 -- where a place is looked at
-abbrev at_place : tie.After-select-below invariant-loop decreases-loop → tie.In-loop invariant-loop decreases-loop
+abbrev at_place : tie.After-select_below invariant-loop decreases-loop → tie.In-loop-q invariant-loop decreases-loop
 at_place c = c.before.before
 
-wrapping-neg-requires : tie.Need-wrapping-neg-requires invariant-loop decreases-loop
+wrapping-neg-requires : tie.Need-wrapping_neg-x-requires invariant-loop decreases-loop
 wrapping-neg-requires c κs = search rules
 
-loop-holds : tie.Need-loop-init invariant-loop decreases-loop
-loop-holds c = (counting-first _ _ _ (omega arith) c.wrapping-neg.ensures, testing-none (omega arith))
+loop-holds : tie.Need-loop-q-init invariant-loop decreases-loop
+loop-holds c = (counting-first _ _ _ (omega arith) c.wrapping_neg-x.ensures, testing-none (omega arith))
 
-element-copy-out-larger-byte : tie.Need-element-copy-out-larger-byte invariant-loop decreases-loop
+element-copy-out-larger-byte : tie.Need-bounds-s-q invariant-loop decreases-loop
 element-copy-out-larger-byte c = search rules
 
-select-below-requires : tie.Need-select-below-requires invariant-loop decreases-loop
+select-below-requires : tie.Need-select_below-requires invariant-loop decreases-loop
 select-below-requires c κs = search rules
 
-larger-byte-requires : tie.Need-larger-byte-requires invariant-loop decreases-loop
+larger-byte-requires : tie.Need-larger_byte-requires invariant-loop decreases-loop
 larger-byte-requires c κs = search rules
 
-smaller-byte-requires : tie.Need-smaller-byte-requires invariant-loop decreases-loop
+smaller-byte-requires : tie.Need-smaller_byte-least-requires invariant-loop decreases-loop
 smaller-byte-requires c κs = search rules
 
-wrapping-inc-requires : tie.Need-wrapping-inc-requires invariant-loop decreases-loop
+wrapping-inc-requires : tie.Need-wrapping_inc-x-requires invariant-loop decreases-loop
 wrapping-inc-requires c κs = search rules
 
-add-q : tie.Need-overflow-add-q invariant-loop decreases-loop
+add-q : tie.Need-overflow_add-q invariant-loop decreases-loop
 add-q c = search rules
 
-loop-less : tie.Need-loop-smaller invariant-loop decreases-loop
+loop-less : tie.Need-loop-q-smaller invariant-loop decreases-loop
 loop-less c = search rules
 
-loop-again : tie.Need-loop-preserved invariant-loop decreases-loop
+loop-again : tie.Need-loop-q-preserved invariant-loop decreases-loop
 loop-again c =
     let s = c.before in
     let g = s.before in
     let ch = g.before in
     let i = at_place ch in
     let l = i.before in
-    let padded = ch.select-below.ensures ∙ counted-pad l.loop.inv.0 l.before.before.args.from 255 0 in
-    let seen = g.larger-byte.ensures ∙ ap (max _) padded in
-    let tested = testing-least l.loop.least l.loop.inv.1 i.loop-test.taken _ (ap (λ y. ltb 0 y) (sym seen)) in
-    (counting-on l.loop.inv.0 (omega arith) l.loop.inv.1.from c.wrapping-inc.ensures, rw s.smaller-byte.ensures tested)
+    let padded = ch.select_below.ensures ∙ counted-pad l.loop.invariant.0 l.before.before.args.from 255 0 in
+    let seen = g.larger_byte.ensures ∙ ap (max _) padded in
+    let tested = testing-least l.loop.least l.loop.invariant.1 i.loop-test.true _ (ap (λ y. ltb 0 y) (sym seen)) in
+    (counting-on l.loop.invariant.0 (omega arith) l.loop.invariant.1.from c.wrapping_inc-x.ensures, rw s.smaller_byte-least.ensures tested)
 
 returns : tie.Need-returns invariant-loop decreases-loop
-returns c = testing-done c.before.loop.invariant.1 (omega arith)
+returns c = testing-done c.before.loop-q.invariant.1 (omega arith)
 
-pub held-in-spec : {M : Type 1} → statement M
-held-in-spec =
+pub held_in_spec : {M : Type 1} → statement M
+held_in_spec =
     tie.close
     (tie.spec
     invariant-loop

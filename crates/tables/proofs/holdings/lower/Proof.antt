@@ -9,50 +9,50 @@ use Rattle.tables.proofs.Lowered.{Lowering, lowering-none, lowering-more, loweri
 use Rattle.tables.proofs.holdings.lower.Statement.{statement}
 use Rattle.tables.proofs.holdings.lower.Tie as tie
 
-abbrev invariant-loop : tie.invariant-loop
+abbrev invariant-loop : tie.invariant-loop-q
 invariant-loop held₀ a e base from most₀ q₀ x₀ held most q x = Lowering base from a e held₀ held most q x
 
-abbrev decreases-loop : tie.decreases-loop
+abbrev decreases-loop : tie.decreases-loop-q
 decreases-loop held₀ a e base from most₀ q₀ x₀ held most q x = e - q
 
 -- where the move of a place is known
-abbrev chosen_at : tie.After-byte invariant-loop decreases-loop → tie.After-select-below invariant-loop decreases-loop
+abbrev chosen_at : tie.After-byte invariant-loop decreases-loop → tie.After-select_below-by invariant-loop decreases-loop
 chosen_at c = c.before.before
 
-wrapping-neg-requires : tie.Need-wrapping-neg-requires invariant-loop decreases-loop
+wrapping-neg-requires : tie.Need-wrapping_neg-x-requires invariant-loop decreases-loop
 wrapping-neg-requires c κs = search rules
 
-loop-holds : tie.Need-loop-init invariant-loop decreases-loop
-loop-holds c = lowering-none _ _ _ _ (omega arith) (omega arith) c.wrapping-neg.ensures
+loop-holds : tie.Need-loop-q-init invariant-loop decreases-loop
+loop-holds c = lowering-none _ _ _ _ (omega arith) (omega arith) c.wrapping_neg-x.ensures
 
-select-below-requires : tie.Need-select-below-requires invariant-loop decreases-loop
+select-below-requires : tie.Need-select_below-by-requires invariant-loop decreases-loop
 select-below-requires c κs = search rules
 
-element-copy-out-byte : tie.Need-element-copy-out-byte invariant-loop decreases-loop
+element-copy-out-byte : tie.Need-bounds-s-q invariant-loop decreases-loop
 element-copy-out-byte c = search rules
 
 byte-requires : tie.Need-byte-requires invariant-loop decreases-loop
 byte-requires c κs = search rules
 
-wrapping-add-requires : tie.Need-wrapping-add-requires invariant-loop decreases-loop
+wrapping-add-requires : tie.Need-wrapping_add-fewer-requires invariant-loop decreases-loop
 wrapping-add-requires c κs = search rules
 
-larger-byte-requires : tie.Need-larger-byte-requires invariant-loop decreases-loop
+larger-byte-requires : tie.Need-larger_byte-most-requires invariant-loop decreases-loop
 larger-byte-requires c κs = search rules
 
-element-write-s : tie.Need-element-write-s invariant-loop decreases-loop
+element-write-s : tie.Need-bounds-s-q-in-loop-q invariant-loop decreases-loop
 element-write-s c = search rules
 
-wrapping-inc-requires : tie.Need-wrapping-inc-requires invariant-loop decreases-loop
+wrapping-inc-requires : tie.Need-wrapping_inc-x-requires invariant-loop decreases-loop
 wrapping-inc-requires c κs = search rules
 
-add-q : tie.Need-overflow-add-q invariant-loop decreases-loop
+add-q : tie.Need-overflow_add-q invariant-loop decreases-loop
 add-q c = search rules
 
-loop-less : tie.Need-loop-smaller invariant-loop decreases-loop
+loop-less : tie.Need-loop-q-smaller invariant-loop decreases-loop
 loop-less c = search rules
 
-loop-again : tie.Need-loop-preserved invariant-loop decreases-loop
+loop-again : tie.Need-loop-q-preserved invariant-loop decreases-loop
 loop-again c =
     let g = c.before in
     let m = g.before in
@@ -60,13 +60,13 @@ loop-again c =
     let ch = chosen_at b in
     let i = ch.before in
     let l = i.before in
-    let wrapping_add = m.wrapping_add.ensures ∙ ap (λ by. wrapped by b.byte.result) ch.select-below.ensures in
-    lowering-more _ _ _ _ (omega arith) l.loop.inv i.loop-test.taken
-    b.byte.ensures.0 b.byte.ensures.1 wrapping_add g.larger-byte.ensures c.wrapping-inc.ensures
+    let wrapping_add = m.wrapping_add-fewer.ensures ∙ ap (λ by. wrapped by b.byte.result) ch.select-below.ensures in
+    lowering-more _ _ _ _ (omega arith) l.loop.invariant i.loop-test.true
+    b.byte.ensures.0 b.byte.ensures.1 wrapping_add g.larger_byte-most.ensures c.wrapping_inc-x.ensures
 
 returns : tie.Need-returns invariant-loop decreases-loop
 returns c =
-    let l = c.before.loop.invariant in
+    let l = c.before.loop-q.invariant in
     let most = lowering-done _ _ _ _ (omega arith) l (omega arith) in
     (most, (replacing-done 0 l.replaced (omega arith), record { below = λ k h b. l.bytes.below k h (omega arith) }))
 

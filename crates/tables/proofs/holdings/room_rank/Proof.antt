@@ -16,10 +16,10 @@ use Rattle.tables.proofs.holdings.room_rank.Statement.{statement}
 use Rattle.tables.proofs.holdings.room_rank.Tie as tie
 
 -- where the function is entered
-abbrev start : tie.After-room-in → tie.Start
+abbrev start : tie.After-room_in → tie.Start
 start c = c.before.before.before
 
-module _ (c : tie.After-room-in) where
+module _ (c : tie.After-room_in) where
   abbrev window-at : Window
   window-at = (start c).args.w
 
@@ -38,82 +38,82 @@ module _ (c : tie.After-room-in) where
   test_at = room_at (row held_at (start c).args.i) (start c).args.cells
 
 -- the last full position before the head
-module _ (c : tie.After-last-full) where
-  last-low : LastIn (test_at c.before.before) 0 (base_of (window-at c.before.before)) (c.last-full.result - first-at c.before.before)
+module _ (c : tie.After-last_full-k) where
+  last-low : LastIn (test_at c.before.before) 0 (base_of (window-at c.before.before)) (c.last_full-k.result - first-at c.before.before)
   last-low =
       let r = c.before.before in
       let base = base_of (window-at r) in
-      last-room (held_at r) (start r).args.i (start r).args.cells 0 base (omega arith) (omega arith) refl c.last-full.ensures
+      last-room (held_at r) (start r).args.i (start r).args.cells 0 base (omega arith) (omega arith) refl c.last_full-k.ensures
 
-mul-first : tie.Need-overflow-mul-first
+mul-first : tie.Need-overflow_mul-first
 mul-first c = search rules
 
-mul-head : tie.Need-overflow-mul-head
+mul-head : tie.Need-overflow_mul-head
 mul-head c = search rules
 
-add-head : tie.Need-overflow-add-head
+add-head : tie.Need-overflow_add-head
 add-head c = search rules
 
-mul-past : tie.Need-overflow-mul-past
+mul-past : tie.Need-overflow_mul-past
 mul-past c = search rules
 
-add-past : tie.Need-overflow-add-past
+add-past : tie.Need-overflow_add-past
 add-past c = search rules
 
-room-in-requires : tie.Need-room-in-requires
+room-in-requires : tie.Need-room_in-requires
 room-in-requires c κs = search rules
 
-returns : tie.Need-returns
+returns : tie.Need-returns-then-room_in
 returns c =
     let r = c.before in
     let v = proper-at r in
-    let all = rw c.if1.true at r.room_in.ensures in
+    let all = rw c.if-room_in.true at r.room_in.ensures in
     passes-from _ v _ (passes-all _ v _ (all_room _ (start r).args.i _ 0 _ v.measures.positions_most (omega arith) refl all))
 
-last-full-requires : tie.Need-last-full-requires
+last-full-requires : tie.Need-last_full-k-requires
 last-full-requires c κs = search rules
 
-add-result : tie.Need-overflow-add-result
+add-result : tie.Need-overflow_add-result
 add-result c = search rules
 
-sub-result : tie.Need-overflow-sub-result
+sub-result : tie.Need-overflow_sub-result
 sub-result c = search rules
 
-sub-result-2 : tie.Need-overflow-sub-result-2
+sub-result-2 : tie.Need-overflow_sub-result-then-first-k
 sub-result-2 c = search rules
 
-returns-2 : tie.Need-returns-2
+returns-2 : tie.Need-returns-then-first-k
 returns-2 c =
     let k = c.before in
     let r = k.before.before in
     let w = window-at r in
     let first = first-at r in
-    let low = k.last-full.ensures.low in
-    let same : k.last-full.result + (first + size_of w) - first - (first + base_of w) ≡ k.last-full.result - first + size_of w - base_of w =
+    let low = k.last_full-k.ensures.low in
+    let same : k.last_full-k.result + (first + size_of w) - first - (first + base_of w) ≡ k.last_full-k.result - first + size_of w - base_of w =
     omega (arith, (proper-at r).base_fits) in
     rw same (passes-from w (proper-at r) _ (passes-low w (proper-at r) _ _ (last-low k) (omega arith)))
 
-last-full-requires-2 : tie.Need-last-full-requires-2
+last-full-requires-2 : tie.Need-last_full-requires
 last-full-requires-2 c κs = search rules
 
-sub-result-3 : tie.Need-overflow-sub-result-3
+sub-result-3 : tie.Need-overflow_sub-result-2
 sub-result-3 c = search rules
 
-returns-3 : tie.Need-returns-3
+returns-3 : tie.Need-returns
 returns-3 c =
     let k = c.before.before in
     let r = k.before.before in
     let w = window-at r in
     let v = proper-at r in
     let first = first-at r in
-    let none : k.last-full.result - first ≡ 0 = omega (arith, c.before.if2.false) in
-    let high : LastIn (test_at r) (base_of w) (size_of w) (c.last-full2.result - first) =
-    last-room _ (start r).args.i _ (base_of w) (size_of w) v.measures.positions_most refl refl c.last-full2.ensures in
-    let same : c.last-full2.result - (first + base_of w) ≡ c.last-full2.result - first - base_of w = omega arith in
+    let none : k.last_full-k.result - first ≡ 0 = omega (arith, c.before.if-first-k.false) in
+    let high : LastIn (test_at r) (base_of w) (size_of w) (c.last_full.result - first) =
+    last-room _ (start r).args.i _ (base_of w) (size_of w) v.measures.positions_most refl refl c.last_full.ensures in
+    let same : c.last_full.result - (first + base_of w) ≡ c.last_full.result - first - base_of w = omega arith in
     rw same (passes-from w v _ (passes-high w v _ _ (rw none at (last-low k)) high))
 
-pub room-rank-spec : {M : Type 1} → statement M
-room-rank-spec =
+pub room_rank_spec : {M : Type 1} → statement M
+room_rank_spec =
     tie.close
     (tie.spec
     mul-first

@@ -11,19 +11,19 @@ use Rattle.tables.proofs.Padded.{Counting, counting-first, counting-on, counted-
 use Rattle.tables.proofs.holdings.shift.Statement.{statement}
 use Rattle.tables.proofs.holdings.shift.Tie as tie
 
-abbrev invariant-loop : tie.invariant-loop
+abbrev invariant-loop : tie.invariant-loop-q
 invariant-loop held₀ a e base from late q₀ x₀ held q x =
     Counting base a q x × Replacing (λ k y. wrapped (pad base from 0 late (k - a)) y) a e held₀ held q
 
-abbrev decreases-loop : tie.decreases-loop
+abbrev decreases-loop : tie.decreases-loop-q
 decreases-loop held₀ a e base from late q₀ x₀ held q x = e - q
 
 -- where a place is looked at
-abbrev at_place : tie.After-wrapping-add invariant-loop decreases-loop → tie.In-loop invariant-loop decreases-loop
+abbrev at_place : tie.After-wrapping_add invariant-loop decreases-loop → tie.In-loop-q invariant-loop decreases-loop
 at_place c = c.before.before.before
 
 -- what is put there: what is held, moved by the pad
-put : (c : tie.After-wrapping-add invariant-loop decreases-loop)
+put : (c : tie.After-wrapping_add invariant-loop decreases-loop)
     → let l = (at_place c).before in
     let s = l.before.before.args in
     c.wrapping_add.result ≡ wrapped (pad s.base s.from 0 s.late (l.loop.q - s.a)) (get_or l.loop.s l.loop.q 0)
@@ -31,50 +31,50 @@ put c =
     let i = at_place c in
     let l = i.before in
     let s = l.before.before in
-    let padded = counted-pad l.loop.inv.0 s.args.from 0 s.args.late in
-    c.wrapping_add.ensures ∙ ap (λ by. wrapped by (get_or l.loop.s l.loop.q 0)) (c.before.before.select-below.ensures ∙ padded)
+    let padded = counted-pad l.loop.invariant.0 s.args.from 0 s.args.late in
+    c.wrapping_add.ensures ∙ ap (λ by. wrapped by (get_or l.loop.s l.loop.q 0)) (c.before.before.select_below-by.ensures ∙ padded)
 
-wrapping-neg-requires : tie.Need-wrapping-neg-requires invariant-loop decreases-loop
+wrapping-neg-requires : tie.Need-wrapping_neg-x-requires invariant-loop decreases-loop
 wrapping-neg-requires c κs = search rules
 
-loop-holds : tie.Need-loop-init invariant-loop decreases-loop
-loop-holds c = (counting-first _ _ _ (omega arith) c.wrapping-neg.ensures, replacing-none 0 (omega arith))
+loop-holds : tie.Need-loop-q-init invariant-loop decreases-loop
+loop-holds c = (counting-first _ _ _ (omega arith) c.wrapping_neg-x.ensures, replacing-none 0 (omega arith))
 
-select-below-requires : tie.Need-select-below-requires invariant-loop decreases-loop
+select-below-requires : tie.Need-select_below-by-requires invariant-loop decreases-loop
 select-below-requires c κs = search rules
 
-element-copy-out-wrapping-add : tie.Need-element-copy-out-wrapping-add invariant-loop decreases-loop
+element-copy-out-wrapping-add : tie.Need-bounds-s-q invariant-loop decreases-loop
 element-copy-out-wrapping-add c = search rules
 
-wrapping-add-requires : tie.Need-wrapping-add-requires invariant-loop decreases-loop
+wrapping-add-requires : tie.Need-wrapping_add-requires invariant-loop decreases-loop
 wrapping-add-requires c κs = search rules
 
-element-write-s : tie.Need-element-write-s invariant-loop decreases-loop
+element-write-s : tie.Need-bounds-s-q-in-loop-q invariant-loop decreases-loop
 element-write-s c = search rules
 
-wrapping-inc-requires : tie.Need-wrapping-inc-requires invariant-loop decreases-loop
+wrapping-inc-requires : tie.Need-wrapping_inc-x-requires invariant-loop decreases-loop
 wrapping-inc-requires c κs = search rules
 
-add-q : tie.Need-overflow-add-q invariant-loop decreases-loop
+add-q : tie.Need-overflow_add-q invariant-loop decreases-loop
 add-q c = search rules
 
-loop-less : tie.Need-loop-smaller invariant-loop decreases-loop
+loop-less : tie.Need-loop-q-smaller invariant-loop decreases-loop
 loop-less c = search rules
 
-loop-again : tie.Need-loop-preserved invariant-loop decreases-loop
+loop-again : tie.Need-loop-q-preserved invariant-loop decreases-loop
 loop-again c =
     let m = c.before in
     let i = at_place m in
     let l = i.before.loop in (
-      counting-on l.inv.0 (omega arith) l.inv.1.from c.wrapping-inc.ensures,
-      replacing-more 0 l.inv.1 i.loop-test.taken (put m),
+      counting-on l.invariant.0 (omega arith) l.invariant.1.from c.wrapping_inc-x.ensures,
+      replacing-more 0 l.invariant.1 i.loop-test.true (put m),
     )
 
 returns : tie.Need-returns invariant-loop decreases-loop
-returns c = replacing-done 0 c.before.loop.invariant.1 (omega arith)
+returns c = replacing-done 0 c.before.loop-q.invariant.1 (omega arith)
 
-pub shift-spec : {M : Type 1} → statement M
-shift-spec =
+pub shift_spec : {M : Type 1} → statement M
+shift_spec =
     tie.close
     (tie.spec
     invariant-loop

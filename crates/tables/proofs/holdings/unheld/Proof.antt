@@ -8,5 +8,5 @@ returns : tie.Need-returns
 unfolding everywhere
 returns c = refl
 
-pub unheld-spec : {M : Type 1} → statement M
-unheld-spec = tie.close (tie.spec returns)
+pub unheld_spec : {M : Type 1} → statement M
+unheld_spec = tie.close (tie.spec returns)

@@ -7,12 +7,12 @@ use Rattle.tables.proofs.owners.disown.Tie as tie
 unbooked-requires : tie.Need-unbooked-requires
 unbooked-requires c κs = search rules
 
-put-table-requires : tie.Need-put-table-requires
+put-table-requires : tie.Need-put_table-requires
 put-table-requires c κs = search rules
 
 returns : tie.Need-returns
 unfolding with_owners
-returns c = rw (← c.before.unbooked.ensures) c.put-table.ensures
+returns c = rw (← c.before.unbooked.ensures) c.put_table.ensures
 
-pub disown-spec : {M : Type 1} → statement M
-disown-spec = tie.close (tie.spec unbooked-requires put-table-requires returns)
+pub disown_spec : {M : Type 1} → statement M
+disown_spec = tie.close (tie.spec unbooked-requires put-table-requires returns)

@@ -8,5 +8,5 @@ returns : tie.Need-returns
 unfolding everywhere
 returns c = refl
 
-pub unbooked-spec : {M : Type 1} → statement M
-unbooked-spec = tie.close (tie.spec returns)
+pub unbooked_spec : {M : Type 1} → statement M
+unbooked_spec = tie.close (tie.spec returns)

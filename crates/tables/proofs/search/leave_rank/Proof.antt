@@ -10,25 +10,25 @@ use Rattle.tables.proofs.search.leave_rank.Tie as tie
 passed-requires : tie.Need-passed-requires
 passed-requires c κs = search rules
 
-returns : tie.Need-returns
+returns : tie.Need-returns-then-passed
 returns c =
     let s = c.before.before in
-    leaves-anywhere s.args.w s.requires.proper s.args.departure s.requires.below (sym c.before.passed.ensures ∙ c.if1.true)
+    leaves-anywhere s.args.w s.requires.proper s.args.departure s.requires.below (sym c.before.passed.ensures ∙ c.if-passed.true)
 
 rank-requires : tie.Need-rank-requires
 rank-requires c κs = search rules
 
-add-result : tie.Need-overflow-add-result
+add-result : tie.Need-overflow_add-result
 add-result c =
     let s = c.before.before.before in
     omega (arith, c.rank.ensures, rank_below s.args.w s.requires.proper s.args.departure, s.requires.proper.measures.positions_most)
 
-returns-2 : tie.Need-returns-2
+returns-2 : tie.Need-returns
 returns-2 c =
     let e = c.before in
     let s = e.before.before in
     rw c.rank.ensures
-    (leaves_after s.args.w s.requires.proper s.args.departure s.requires.below (sym e.before.passed.ensures ∙ e.if1.false))
+    (leaves_after s.args.w s.requires.proper s.args.departure s.requires.below (sym e.before.passed.ensures ∙ e.if-passed.false))
 
-pub leave-rank-spec : {M : Type 1} → statement M
-leave-rank-spec = tie.close (tie.spec passed-requires returns rank-requires add-result returns-2)
+pub leave_rank_spec : {M : Type 1} → statement M
+leave_rank_spec = tie.close (tie.spec passed-requires returns rank-requires add-result returns-2)

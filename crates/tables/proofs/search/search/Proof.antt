@@ -51,84 +51,84 @@ module _ (c : tie.At-search invariant-search decreases-search) where
   ok_at = valid_at (owners_of start.args.s.now) (ranks_from window-at start.args.low)
 
 -- where a frame's valid slots are gathered, and from there the frame
-abbrev gathered-at : tie.After-lowest invariant-search decreases-search → tie.After-valid-slots invariant-search decreases-search
+abbrev gathered-at : tie.After-lowest invariant-search decreases-search → tie.After-valid_slots-valid invariant-search decreases-search
 gathered-at c = c.before.before.before
 
-abbrev frame-of : tie.After-valid-slots invariant-search decreases-search → tie.At-search invariant-search decreases-search
+abbrev frame-of : tie.After-valid_slots-valid invariant-search decreases-search → tie.At-search invariant-search decreases-search
 frame-of c = c.before.before
 
 -- the frame has no valid slot, or nothing is left of the share
-nothing-here : (c : tie.Joined1 invariant-search decreases-search) → let f = c.before in
-    NoneIn (window_of (window-at f)) (ok_at f) (start f).args.share (frame_at f) f.search.left
+nothing-here : (c : tie.Joined-left-gt0 invariant-search decreases-search) → let f = c.before in
+    NoneIn (window_of (window-at f)) (ok_at f) (start f).args.share (frame_at f) f.search.false
 nothing-here c =
-    ⊎_elim (λ (_, valid, empty). none-valid (no_slot valid.ensures empty.left)) (λ spent. none-spent spent.left) c.if1.branch
+    ⊎_elim (λ (_, valid, empty). none-valid (no_slot valid.ensures empty.false)) (λ spent. none-spent spent.false) c.if-left-gt0.branch
 
 -- ---- the needs
 
-newest-requires : tie.Need-newest-requires invariant-search decreases-search
+newest-requires : tie.Need-newest-newest-requires invariant-search decreases-search
 newest-requires c κs = search rules
 
 search-holds : tie.Need-search-init invariant-search decreases-search
 search-holds c = record { there = search rules; walked = record { same = refl } }
 
-valid-slots-requires : tie.Need-valid-slots-requires invariant-search decreases-search
+valid-slots-requires : tie.Need-valid_slots-valid-requires invariant-search decreases-search
 valid-slots-requires c κs = let f = c.before in record { masks = (start f).requires.masks; frame = f.search.invariant.there }
 
-sub-t14 : tie.Need-overflow-sub-t14 invariant-search decreases-search
+sub-t14 : tie.Need-overflow_sub-found invariant-search decreases-search
 sub-t14 c = search rules
 
-mul-t15 : tie.Need-overflow-mul-t15 invariant-search decreases-search
+mul-t15 : tie.Need-overflow_mul-found invariant-search decreases-search
 mul-t15 c = let f = frame-of c.before.before in omega (arith, frame-there f, (start f).pre.masks.proper.measures.positions_most)
 
 lowest-requires : tie.Need-lowest-requires invariant-search decreases-search
 lowest-requires c κs = search rules
 
-add-t17 : tie.Need-overflow-add-t17 invariant-search decreases-search
+add-t17 : tie.Need-overflow_add-found invariant-search decreases-search
 add-t17 c =
     let f = frame-of (gathered-at c) in
     omega (arith, frame-there f, (start f).pre.masks.proper.measures.positions_most, c.lowest.ensures.at_most)
 
-next-requires : tie.Need-next-requires invariant-search decreases-search
+next-requires : tie.Need-next-frame-requires invariant-search decreases-search
 next-requires c κs = search rules
 
 -- the frame is not the newest
-module _ (c : tie.Else3 invariant-search decreases-search) where
+module _ (c : tie.Else-frame-newest invariant-search decreases-search) where
   abbrev left-frame : tie.At-search invariant-search decreases-search
   left-frame = c.before.before
 
   not-newest : frame_at left-frame ≡ newest (window_of (window-at left-frame)) → ⊥
-  not-newest e = c.if3.false (e ∙ sym left-frame.before.newest.ensures)
+  not-newest e = c.if-frame-newest.false (e ∙ sym left-frame.before.newest-newest.ensures)
 
 search-less : tie.Need-search-smaller invariant-search decreases-search
 search-less c =
     let f = left-frame c.before in
-    rw c.next.ensures (omega (arith, one-frame-on (window_of (window-at f)) f.search.inv.there (not-newest c.before)))
+    rw c.next-frame.ensures (omega (arith, one-frame-on (window_of (window-at f)) f.search.invariant.there (not-newest c.before)))
 
 search-again : tie.Need-search-preserved invariant-search decreases-search
 search-again c =
     let j = c.before.before in
     let v = j.before.search.invariant in
-    rw c.next.ensures
+    rw c.next-frame.ensures
     (record {
       there = mod-lt _ (omega arith);
       walked = walked_on v.walked (nothing-here j) v.there (not-newest c.before);
     })
 
-returns : tie.Need-returns invariant-search decreases-search
+returns : tie.Need-returns-then-valid-ne0 invariant-search decreases-search
 returns c =
     let valid = gathered-at c in
-    walked-hit (frame-of valid).search.inv.walked valid.before.if1.taken
-    (lowest-slot valid.valid-slots.ensures c.lowest.ensures c.before.before.if2.true)
+    walked-hit (frame-of valid).search.invariant.walked valid.before.if1.true
+    (lowest-slot valid.valid-slots.ensures c.lowest.ensures c.before.before.if-valid-ne0.true)
 
-returns-2 : tie.Need-returns-2 invariant-search decreases-search
+returns-2 : tie.Need-returns-then-frame-newest invariant-search decreases-search
 returns-2 c =
     let j = c.before in
     let v = j.before.search.invariant in
-    let is-newest = c.if3.true ∙ j.before.before.newest.ensures in
+    let is-newest = c.if-frame-newest.true ∙ j.before.before.newest-newest.ensures in
     walked-out v.walked (nothing-here j) v.there is-newest
 
-pub search-spec : {M : Type 1} → statement M
-search-spec =
+pub search_spec : {M : Type 1} → statement M
+search_spec =
     tie.close
     (tie.spec
     invariant-search

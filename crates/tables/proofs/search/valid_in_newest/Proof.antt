@@ -19,7 +19,7 @@ use Rattle.tables.proofs.search.valid_in_newest.Tie as tie
 newest-requires : tie.Need-newest-requires
 newest-requires c κs = search rules
 
-valid-slots-requires : tie.Need-valid-slots-requires
+valid-slots-requires : tie.Need-valid_slots-requires
 valid-slots-requires c κs =
     let s = c.before in
     record { masks = s.requires; frame = rw c.newest.ensures (mod-lt _ (omega (arith, s.requires.proper.measures.two_frames))) }
@@ -32,7 +32,7 @@ told w {word = word} v (no h) = let z : word ≡ 0 → ⊥ = λ e. omega arith i
 returns : tie.Need-returns
 returns c =
     let n = c.before in
-    told (window_of n.before.args.w) (rw n.newest.ensures at c.valid-slots.ensures) (dec_le c.valid-slots.result 0)
+    told (window_of n.args.w) (rw n.newest.ensures at c.valid_slots.ensures) (dec_le c.valid_slots.result 0)
 
-pub valid-in-newest-spec : {M : Type 1} → statement M
-valid-in-newest-spec = tie.close (tie.spec newest-requires valid-slots-requires returns)
+pub valid_in_newest_spec : {M : Type 1} → statement M
+valid_in_newest_spec = tie.close (tie.spec newest-requires valid-slots-requires returns)
