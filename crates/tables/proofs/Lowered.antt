@@ -114,8 +114,8 @@ module _ (w : Window) (v : Proper w) (p : ℕ) (lp : p < size_of w) (h : List �
       ∙ rw (row_at h i q b)
 
   -- something was held at each position where none is 255 after it
-  pub some_held : most_held (size_of w) (shifted_row (window_of w) 255 p (row h i)) < 255 → every_from (window_of w) p (some_held (row h i)) ≡ true
-  some_held low = every-from w v p lp (some_held (row h i)) (λ q l r. held q l r (ℕ_discrete (get_or (row h i) q 0) 0))
+  pub some_held_lem : most_held (size_of w) (shifted_row (window_of w) 255 p (row h i)) < 255 → every_from (window_of w) p (some_held (row h i)) ≡ true
+  some_held_lem low = every-from w v p lp (some_held (row h i)) (λ q l r. held q l r (ℕ_discrete (get_or (row h i) q 0) 0))
     where
       held : (q : ℕ) → q < size_of w → rank_in w p ≤ rank_in w q → Dec (get_or (row h i) q 0 ≡ 0) → some_held (row h i) q ≡ true
       held q l r (yes z) =

@@ -18,10 +18,6 @@ invariant-loop held a e base from least₀ q₀ x₀ least q x =
 abbrev decreases-loop : tie.decreases-loop-q
 decreases-loop held a e base from least₀ q₀ x₀ least q x = e - q
 
--- where a place is looked at
-abbrev at_place : tie.After-select_below invariant-loop decreases-loop → tie.In-loop-q invariant-loop decreases-loop
-at_place c = c.before.before
-
 wrapping-neg-requires : tie.Need-wrapping_neg-x-requires invariant-loop decreases-loop
 wrapping-neg-requires c κs = search rules
 
@@ -51,15 +47,10 @@ loop-less c = search rules
 
 loop-again : tie.Need-loop-q-preserved invariant-loop decreases-loop
 loop-again c =
-    let s = c.before in
-    let g = s.before in
-    let ch = g.before in
-    let i = at_place ch in
-    let l = i.before in
-    let padded = ch.select_below.ensures ∙ counted-pad l.loop.invariant.0 l.before.before.args.from 255 0 in
-    let seen = g.larger_byte.ensures ∙ ap (max _) padded in
-    let tested = testing-least l.loop.least l.loop.invariant.1 i.loop-test.true _ (ap (λ y. ltb 0 y) (sym seen)) in
-    (counting-on l.loop.invariant.0 (omega arith) l.loop.invariant.1.from c.wrapping_inc-x.ensures, rw s.smaller_byte-least.ensures tested)
+    let padded = c.select_below.ensures ∙ counted-pad c.loop-q.invariant.0 c.args.from 255 0 in
+    let seen = c.larger_byte.ensures ∙ ap (max _) padded in
+    let tested = testing-least c.loop-q.least c.loop-q.invariant.1 c.loop-q-test.true _ (ap (λ y. ltb 0 y) (sym seen)) in
+    (counting-on c.loop-q.invariant.0 (omega arith) c.loop-q.invariant.1.from c.wrapping_inc-x.ensures, rw c.smaller_byte-least.ensures tested)
 
 returns : tie.Need-returns invariant-loop decreases-loop
 returns c = testing-done c.before.loop-q.invariant.1 (omega arith)

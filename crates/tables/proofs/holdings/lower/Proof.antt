@@ -15,10 +15,6 @@ invariant-loop held₀ a e base from most₀ q₀ x₀ held most q x = Lowering 
 abbrev decreases-loop : tie.decreases-loop-q
 decreases-loop held₀ a e base from most₀ q₀ x₀ held most q x = e - q
 
--- where the move of a place is known
-abbrev chosen_at : tie.After-byte invariant-loop decreases-loop → tie.After-select_below-by invariant-loop decreases-loop
-chosen_at c = c.before.before
-
 wrapping-neg-requires : tie.Need-wrapping_neg-x-requires invariant-loop decreases-loop
 wrapping-neg-requires c κs = search rules
 
@@ -54,15 +50,9 @@ loop-less c = search rules
 
 loop-again : tie.Need-loop-q-preserved invariant-loop decreases-loop
 loop-again c =
-    let g = c.before in
-    let m = g.before in
-    let b = m.before in
-    let ch = chosen_at b in
-    let i = ch.before in
-    let l = i.before in
-    let wrapping_add = m.wrapping_add-fewer.ensures ∙ ap (λ by. wrapped by b.byte.result) ch.select-below.ensures in
-    lowering-more _ _ _ _ (omega arith) l.loop.invariant i.loop-test.true
-    b.byte.ensures.0 b.byte.ensures.1 wrapping_add g.larger_byte-most.ensures c.wrapping_inc-x.ensures
+    let moved = c.wrapping_add-fewer.ensures ∙ ap (λ by. wrapped by c.byte.result) c.select_below-by.ensures in
+    lowering-more _ _ _ _ (omega arith) c.loop-q.invariant c.loop-q-test.true
+    c.byte.ensures.0 c.byte.ensures.1 moved c.larger_byte-most.ensures c.wrapping_inc-x.ensures
 
 returns : tie.Need-returns invariant-loop decreases-loop
 returns c =

@@ -15,27 +15,23 @@ use Rattle.tables.proofs.RowRanges.{all_room, last-room}
 use Rattle.tables.proofs.holdings.room_rank.Statement.{statement}
 use Rattle.tables.proofs.holdings.room_rank.Tie as tie
 
--- where the function is entered
-abbrev start : tie.After-room_in → tie.Start
-start c = c.before.before.before
-
 module _ (c : tie.After-room_in) where
   abbrev window-at : Window
-  window-at = (start c).args.w
+  window-at = c.args.w
 
   abbrev proper-at : Proper window-at
-  proper-at = (start c).requires.0
+  proper-at = c.requires.0
 
   -- the first place of the flow's row
   abbrev first-at : ℕ
-  first-at = 256 * (start c).args.i
+  first-at = 256 * c.args.i
 
   abbrev held_at : List ℕ
-  held_at = (start c).args.s.now
+  held_at = c.args.s.now
 
   -- whether there is room at a position
   abbrev test_at : ℕ → Bool
-  test_at = room_at (row held_at (start c).args.i) (start c).args.cells
+  test_at = room_at (row held_at c.args.i) c.args.cells
 
 -- the last full position before the head
 module _ (c : tie.After-last_full-k) where
@@ -43,7 +39,7 @@ module _ (c : tie.After-last_full-k) where
   last-low =
       let r = c.before.before in
       let base = base_of (window-at r) in
-      last-room (held_at r) (start r).args.i (start r).args.cells 0 base (omega arith) (omega arith) refl c.last_full-k.ensures
+      last-room (held_at r) r.args.i r.args.cells 0 base (omega arith) (omega arith) refl c.last_full-k.ensures
 
 mul-first : tie.Need-overflow_mul-first
 mul-first c = search rules
@@ -68,7 +64,7 @@ returns c =
     let r = c.before in
     let v = proper-at r in
     let all = rw c.if-room_in.true at r.room_in.ensures in
-    passes-from _ v _ (passes-all _ v _ (all_room _ (start r).args.i _ 0 _ v.measures.positions_most (omega arith) refl all))
+    passes-from _ v _ (passes-all _ v _ (all_room _ r.args.i _ 0 _ v.measures.positions_most (omega arith) refl all))
 
 last-full-requires : tie.Need-last_full-k-requires
 last-full-requires c κs = search rules
@@ -108,7 +104,7 @@ returns-3 c =
     let first = first-at r in
     let none : k.last_full-k.result - first ≡ 0 = omega (arith, c.before.if-first-k.false) in
     let high : LastIn (test_at r) (base_of w) (size_of w) (c.last_full.result - first) =
-    last-room _ (start r).args.i _ (base_of w) (size_of w) v.measures.positions_most refl refl c.last_full.ensures in
+    last-room _ r.args.i _ (base_of w) (size_of w) v.measures.positions_most refl refl c.last_full.ensures in
     let same : c.last_full.result - (first + base_of w) ≡ c.last_full.result - first - base_of w = omega arith in
     rw same (passes-from w v _ (passes-high w v _ _ (rw none at (last-low k)) high))
 

@@ -18,21 +18,13 @@ invariant-loop held₀ a e base from late q₀ x₀ held q x =
 abbrev decreases-loop : tie.decreases-loop-q
 decreases-loop held₀ a e base from late q₀ x₀ held q x = e - q
 
--- where a place is looked at
-abbrev at_place : tie.After-wrapping_add invariant-loop decreases-loop → tie.In-loop-q invariant-loop decreases-loop
-at_place c = c.before.before.before
-
 -- what is put there: what is held, moved by the pad
 put : (c : tie.After-wrapping_add invariant-loop decreases-loop)
-    → let l = (at_place c).before in
-    let s = l.before.before.args in
-    c.wrapping_add.result ≡ wrapped (pad s.base s.from 0 s.late (l.loop.q - s.a)) (get_or l.loop.s l.loop.q 0)
+    → let s = c.args in
+    c.wrapping_add.result ≡ wrapped (pad s.base s.from 0 s.late (c.loop-q.q - s.a)) (get_or c.loop-q.s c.loop-q.q 0)
 put c =
-    let i = at_place c in
-    let l = i.before in
-    let s = l.before.before in
-    let padded = counted-pad l.loop.invariant.0 s.args.from 0 s.args.late in
-    c.wrapping_add.ensures ∙ ap (λ by. wrapped by (get_or l.loop.s l.loop.q 0)) (c.before.before.select_below-by.ensures ∙ padded)
+    let padded = counted-pad c.loop-q.invariant.0 c.args.from 0 c.args.late in
+    c.wrapping_add.ensures ∙ ap (λ by. wrapped by (get_or c.loop-q.s c.loop-q.q 0)) (c.select_below-by.ensures ∙ padded)
 
 wrapping-neg-requires : tie.Need-wrapping_neg-x-requires invariant-loop decreases-loop
 wrapping-neg-requires c κs = search rules
@@ -62,13 +54,10 @@ loop-less : tie.Need-loop-q-smaller invariant-loop decreases-loop
 loop-less c = search rules
 
 loop-again : tie.Need-loop-q-preserved invariant-loop decreases-loop
-loop-again c =
-    let m = c.before in
-    let i = at_place m in
-    let l = i.before.loop in (
-      counting-on l.invariant.0 (omega arith) l.invariant.1.from c.wrapping_inc-x.ensures,
-      replacing-more 0 l.invariant.1 i.loop-test.true (put m),
-    )
+loop-again c = (
+    counting-on c.loop-q.invariant.0 (omega arith) c.loop-q.invariant.1.from c.wrapping_inc-x.ensures,
+    replacing-more 0 c.loop-q.invariant.1 c.loop-q-test.true (put c.before),
+  )
 
 returns : tie.Need-returns invariant-loop decreases-loop
 returns c = replacing-done 0 c.before.loop-q.invariant.1 (omega arith)
