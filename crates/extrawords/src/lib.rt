@@ -1,4 +1,6 @@
 // The word that asks which optional layers to switch on.
+#![tactic(auto)]
+
 ghost use Rattle.std.specs.Prelude.{◌+◌, ◌*◌, ◌≤◌, ◌<◌, ◌≡◌, length, get_or};
 ghost use Rattle.model.specs.Tables.{table};
 ghost use Rattle.extras.specs.Reading.{answer_for};

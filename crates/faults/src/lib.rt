@@ -1,4 +1,6 @@
 // Faults: limits that are broken, told one after another as three numbers each, and said in a line.
+#![tactic(auto)]
+
 ghost use Rattle.std.specs.Prelude.{◌+◌, ◌*◌, ◌≤◌, ◌<◌, length};
 ghost use mathlib.Core.List.{flat_map};
 ghost use Rattle.calls.specs.Lines.{Puts};

@@ -1,4 +1,6 @@
 // The week's programme: which plan runs at a minute of the week.
+#![tactic(auto)]
+
 mod entries;
 mod search;
 mod shared;

@@ -8,67 +8,52 @@ use Rattle.faults.proofs.ToldLines.{none-line, some-line}
 use Rattle.faults.proofs.say.Statement.{statement}
 use Rattle.faults.proofs.say.Tie as tie
 
-slice-aggregate-say : tie.Need-slice-aggregate-say
-slice-aggregate-say c = search rules
-
 say-requires : tie.Need-say-requires
 say-requires c κs = search rules
 
-same_length : tie.Need-same-length
+same_length : tie.Need-shape_of-out-then-found-eq0
 same_length c = search rules
 
-returns : tie.Need-returns
+returns : tie.Need-returns-then-found-eq0
 returns c =
     let said = c.before.before in
     let none = said.before.before.before in
-    says_same (none-line none.before.before.before.args.found.now none.if1.true) said.say.ensures
+    says_same (none-line none.args.found.now none.if-found-eq0.true) said.say.ensures
 
-shared-slice-read-put-first : tie.Need-shared-slice-read-put-first
+shared-slice-read-put-first : tie.Need-bounds-found-0
 shared-slice-read-put-first c = search rules
 
-put-first-requires : tie.Need-put-first-requires
+put-first-requires : tie.Need-put_first-first-requires
 put-first-requires c κs = search rules
 
-sub-put-numbers : tie.Need-overflow-sub-put-numbers
+sub-put-numbers : tie.Need-slice_bounds-put_numbers-count
 sub-put-numbers c = search rules
 
-part-put-numbers-start : tie.Need-slice-bounds-put-numbers-start
+part-put-numbers-start : tie.Need-slice_bounds-put_numbers-start
 part-put-numbers-start c = search rules
 
-part-put-numbers-end : tie.Need-slice-bounds-put-numbers-end
+part-put-numbers-end : tie.Need-slice_bounds-put_numbers-end
 part-put-numbers-end c = search rules
 
-put-numbers-requires : tie.Need-put-numbers-requires
-put-numbers-requires c κs =
-    let first : tie.After-put-first = c.before.before.before.before in
-    omega (arith, first.put_first.ensures.1)
-
-slice-aggregate-put : tie.Need-slice-aggregate-put
-slice-aggregate-put c = search rules
+put-numbers-requires : tie.Need-put_numbers-end-requires
+put-numbers-requires c κs = omega (arith, c.put_first-first.ensures.1)
 
 put-requires : tie.Need-put-requires
-put-requires c κs =
-    let rest : tie.After-put-numbers = c.before.before.before.before in
-    omega (arith, rest.put-numbers.ensures.1)
+put-requires c κs = omega (arith, c.put_numbers-end.ensures.1)
 
-same-length-2 : tie.Need-same-length-2
+same-length-2 : tie.Need-shape_of-out
 same-length-2 c = search rules
 
-returns-2 : tie.Need-returns-2
+returns-2 : tie.Need-returns
 returns-2 c =
-    let end : tie.After-put = c.before.before in
-    let rest : tie.After-put-numbers = end.before.before.before.before.before in
-    let first : tie.After-put-first = rest.before.before.before.before.before in
-    let some : tie.Else1 = first.before.before.before in
-    let line = some-line some.before.before.before.args.found.now some.if1.false in
-    let all = puts_then (puts_then first.put_first.ensures.0 rest.put-numbers.ensures.0) end.put.ensures in
-    says (puts-same line all) (omega (arith, end.put.ensures.up_to, rest.put-numbers.ensures.1, first.put_first.ensures.1))
+    let line = some-line c.args.found.now c.if-found-eq0.false in
+    let all = puts_then (puts_then c.put_first-first.ensures.0 c.put_numbers-end.ensures.0) c.put.ensures in
+    says (puts-same line all) (omega (arith, c.put.ensures.up_to, c.put_numbers-end.ensures.1, c.put_first-first.ensures.1))
 
-pub say-spec : {M : Type 1} → statement M
-say-spec =
+pub say_spec : {M : Type 1} → statement M
+say_spec =
     tie.close
     (tie.spec
-    slice-aggregate-say
     say-requires
     same_length
     returns
@@ -78,7 +63,6 @@ say-spec =
     part-put-numbers-start
     part-put-numbers-end
     put-numbers-requires
-    slice-aggregate-put
     put-requires
     same-length-2
     returns-2)

@@ -9,48 +9,48 @@ use Rattle.faults.proofs.ToldLines.{puts-three}
 use Rattle.faults.proofs.tell_if.Statement.{statement}
 use Rattle.faults.proofs.tell_if.Tie as tie
 
-mul-found : tie.Need-overflow-mul-found
+mul-found : tie.Need-offset_bounds-found-at
 mul-found c = search rules
 
-slice-write-found : tie.Need-slice-write-found
+slice-write-found : tie.Need-bounds-found-at
 slice-write-found c = search rules
 
-add-found : tie.Need-overflow-add-found
+add-found : tie.Need-overflow_add-found
 add-found c = search rules
 
-mul-found-2 : tie.Need-overflow-mul-found-2
+mul-found-2 : tie.Need-offset_bounds-found-at-then-broken
 mul-found-2 c = search rules
 
-slice-write-found-2 : tie.Need-slice-write-found-2
+slice-write-found-2 : tie.Need-bounds-found-at-then-broken
 slice-write-found-2 c = simp length-set (omega arith)
 
-add-found-2 : tie.Need-overflow-add-found-2
+add-found-2 : tie.Need-overflow_add-found-then-broken
 add-found-2 c = search rules
 
-mul-found-3 : tie.Need-overflow-mul-found-3
+mul-found-3 : tie.Need-offset_bounds-found-at-then-broken-2
 mul-found-3 c = search rules
 
-slice-write-found-3 : tie.Need-slice-write-found-3
+slice-write-found-3 : tie.Need-bounds-found-at-then-broken-2
 slice-write-found-3 c = simp length-set (omega arith)
 
-add-result : tie.Need-overflow-add-result
+add-result : tie.Need-overflow_add-result
 add-result c = search rules
 
-same_length : tie.Need-same-length
+same_length : tie.Need-shape_of-found-then-broken
 same_length c = search rules
 
-returns : tie.Need-returns
+returns : tie.Need-returns-then-broken
 returns c =
-    let args = c.before.args in
-    (puts-same (ap (λ b. told b args.number args.place args.which) (sym c.if1.true)) (puts-three _ _ _ _ _), omega arith)
+    let args = c.args in
+    (puts-same (ap (λ b. told b args.number args.place args.which) (sym c.if-broken.true)) (puts-three _ _ _ _ _), omega arith)
 
-returns-2 : tie.Need-returns-2
+returns-2 : tie.Need-returns
 returns-2 c =
-    let args = c.before.args in
-    (puts-same (ap (λ b. told b args.number args.place args.which) (sym c.if1.false)) (puts_none _ _), omega arith)
+    let args = c.args in
+    (puts-same (ap (λ b. told b args.number args.place args.which) (sym c.if-broken.false)) (puts_none _ _), omega arith)
 
-pub tell-if-spec : {M : Type 1} → statement M
-tell-if-spec =
+pub tell_if_spec : {M : Type 1} → statement M
+tell_if_spec =
     tie.close
     (tie.spec
     mul-found

@@ -8,24 +8,24 @@ use Rattle.week.proofs.plan_at.Statement.{statement}
 use Rattle.week.proofs.plan_at.Tie as tie
 
 -- where the number is 0
-none-broken : (c : tie.Else1) → refusal (entries_of c.before.before.args.p) c.before.before.args.minute ≡ 0
-none-broken c = sym c.before.first-refusal.ensures ∙ c.if1.false
+none-broken : (c : tie.Else-number-ne0) → refusal (entries_of c.before.before.args.p) c.before.before.args.minute ≡ 0
+none-broken c = sym c.before.first_refusal-number.ensures ∙ c.if-number-ne0.false
 
-first-refusal-requires : tie.Need-first-refusal-requires
+first-refusal-requires : tie.Need-first_refusal-number-requires
 first-refusal-requires c κs = search rules
 
-returns : tie.Need-returns
+returns : tie.Need-returns-then-number-ne0
 returns c =
     let start = c.before.before in
-    refused-answer (entries_of start.args.p) start.args.minute c.before.first-refusal.result c.before.first-refusal.ensures c.if1.true
+    refused-answer (entries_of start.args.p) start.args.minute c.before.first_refusal-number.result c.before.first_refusal-number.ensures c.if-number-ne0.true
 
-plan-or-dark-requires : tie.Need-plan-or-dark-requires
+plan-or-dark-requires : tie.Need-plan_or_dark-requires
 plan-or-dark-requires c κs = let start = c.before.before.before in few-entries start.args.p start.args.minute (none-broken c.before)
 
-returns-2 : tie.Need-returns-2
+returns-2 : tie.Need-returns
 returns-2 c =
     let passed = c.before.before in
-    c.plan-or-dark.ensures ∙ ap answer_for (passing-answer _ _ (none-broken passed))
+    c.plan_or_dark.ensures ∙ ap answer_for (passing-answer _ _ (none-broken passed))
 
-pub plan-at-spec : {M : Type 1} → statement M
-plan-at-spec = tie.close (tie.spec first-refusal-requires returns plan-or-dark-requires returns-2)
+pub plan_at_spec : {M : Type 1} → statement M
+plan_at_spec = tie.close (tie.spec first-refusal-requires returns plan-or-dark-requires returns-2)

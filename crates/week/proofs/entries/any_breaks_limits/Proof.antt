@@ -14,45 +14,45 @@ use Rattle.week.proofs.entries.any_breaks_limits.Tie as tie
 abbrev breaks : List CodeEntry → ℕ → Bool
 breaks entries i = not (keeps_limits (stored entries i))
 
-abbrev invariant-loop : tie.invariant-loop
+abbrev invariant-loop : tie.invariant-loop-i
 invariant-loop count entries i₀ i = None (breaks entries) count i
 
-abbrev decreases-loop : tie.decreases-loop
+abbrev decreases-loop : tie.decreases-loop-i
 decreases-loop count entries i₀ i = count - i
 
-loop-holds : tie.Need-loop-init invariant-loop decreases-loop
+loop-holds : tie.Need-loop-i-init invariant-loop decreases-loop
 loop-holds c = none_yet _ _
 
-mul-e : tie.Need-overflow-mul-e invariant-loop decreases-loop
+mul-e : tie.Need-offset_bounds-entries-i invariant-loop decreases-loop
 mul-e c = search rules
 
-array-copy-out-e : tie.Need-array-copy-out-e invariant-loop decreases-loop
+array-copy-out-e : tie.Need-bounds-entries-i invariant-loop decreases-loop
 array-copy-out-e c = omega arith
 
-keeps-limits-requires : tie.Need-keeps-limits-requires invariant-loop decreases-loop
+keeps-limits-requires : tie.Need-keeps_limits-requires invariant-loop decreases-loop
 keeps-limits-requires c κs = search rules
 
-returns : tie.Need-returns invariant-loop decreases-loop
+returns : tie.Need-returns-then-not-keeps_limits invariant-loop decreases-loop
 returns c =
     let step = c.before.before.before in
-    found-one step.before.loop.invariant step.loop-test.true (not_is c.before.keeps-limits.ensures c.if1.true)
+    found-one step.before.loop-i.invariant step.loop-i-test.true (not_is c.before.keeps_limits.ensures c.if-not-keeps_limits.true-raw)
 
-add-i : tie.Need-overflow-add-i invariant-loop decreases-loop
+add-i : tie.Need-overflow_add-i invariant-loop decreases-loop
 add-i c = search rules
 
-loop-less : tie.Need-loop-smaller invariant-loop decreases-loop
+loop-less : tie.Need-loop-i-smaller invariant-loop decreases-loop
 loop-less c = search rules
 
-loop-again : tie.Need-loop-preserved invariant-loop decreases-loop
+loop-again : tie.Need-loop-i-preserved invariant-loop decreases-loop
 loop-again c =
     let step = c.before.before.before in
-    none_more step.before.loop.invariant step.loop-test.true (not_is c.before.keeps-limits.ensures c.if1.false)
+    none_more step.before.loop-i.invariant step.loop-i-test.true (not_is c.before.keeps_limits.ensures c.if-not-keeps_limits.false-raw)
 
-returns-2 : tie.Need-returns-2 invariant-loop decreases-loop
-returns-2 c = none_at_all c.before.loop.invariant c.loop-test.false
+returns-2 : tie.Need-returns invariant-loop decreases-loop
+returns-2 c = none_at_all c.before.loop-i.invariant c.loop-i-test.false
 
-pub any-breaks-limits-spec : {M : Type 1} → statement M
-any-breaks-limits-spec =
+pub any_breaks_limits_spec : {M : Type 1} → statement M
+any_breaks_limits_spec =
     tie.close
     (tie.spec
     invariant-loop

@@ -4,11 +4,11 @@ use Rattle.week.proofs.OneEntry.{ends-first, limits-by-end}
 use Rattle.week.proofs.entries.keeps_limits.Statement.{statement}
 use Rattle.week.proofs.entries.keeps_limits.Tie as tie
 
-returns : tie.Need-returns
-returns c = ends-first (entry_for c.before.before.args.e) c.if1.true
+returns : tie.Need-returns-then-e
+returns c = ends-first (entry_for c.args.e) c.if-e.true
 
-returns-2 : tie.Need-returns-2
-returns-2 c = limits-by-end (entry_for c.before.before.before.args.e) c.before.if1.false
+returns-2 : tie.Need-returns
+returns-2 c = limits-by-end (entry_for c.args.e) c.before.if-e.false
 
-pub keeps-limits-spec : {M : Type 1} → statement M
-keeps-limits-spec = tie.close (tie.spec returns returns-2)
+pub keeps_limits_spec : {M : Type 1} → statement M
+keeps_limits_spec = tie.close (tie.spec returns returns-2)

@@ -16,41 +16,41 @@ use Rattle.week.proofs.shared.any_shared.Tie as tie
 abbrev shares_below : List CodeEntry → ℕ → Bool
 shares_below entries i = any i (λ j. share_minute (stored entries j) (stored entries i))
 
-abbrev invariant-loop : tie.invariant-loop
+abbrev invariant-loop : tie.invariant-loop-i
 invariant-loop entries count i₀ i = None (shares_below entries) count i
 
-abbrev decreases-loop : tie.decreases-loop
+abbrev decreases-loop : tie.decreases-loop-i
 decreases-loop entries count i₀ i = count - i
 
-loop-holds : tie.Need-loop-init invariant-loop decreases-loop
+loop-holds : tie.Need-loop-i-init invariant-loop decreases-loop
 loop-holds c = none_yet _ _
 
-shared-below-requires : tie.Need-shared-below-requires invariant-loop decreases-loop
+shared-below-requires : tie.Need-shared_below-requires invariant-loop decreases-loop
 shared-below-requires c κs =
-    let pre = c.before.before.requires in
-    (omega arith, record { each = λ i h. pre.1.each i (omega (arith, c.loop-test.true)) })
+    let pre = c.requires in
+    (omega arith, record { each = λ i h. pre.1.each i (omega (arith, c.loop-i-test.true)) })
 
-returns : tie.Need-returns invariant-loop decreases-loop
+returns : tie.Need-returns-then-shared_below invariant-loop decreases-loop
 returns c =
     let step = c.before.before in
-    found-one step.before.loop.invariant step.loop-test.true (sym c.before.shared-below.ensures ∙ c.if1.true)
+    found-one step.before.loop-i.invariant step.loop-i-test.true (sym c.before.shared_below.ensures ∙ c.if-shared_below.true)
 
-add-i : tie.Need-overflow-add-i invariant-loop decreases-loop
+add-i : tie.Need-overflow_add-i invariant-loop decreases-loop
 add-i c = search rules
 
-loop-less : tie.Need-loop-smaller invariant-loop decreases-loop
+loop-less : tie.Need-loop-i-smaller invariant-loop decreases-loop
 loop-less c = search rules
 
-loop-again : tie.Need-loop-preserved invariant-loop decreases-loop
+loop-again : tie.Need-loop-i-preserved invariant-loop decreases-loop
 loop-again c =
     let step = c.before.before in
-    none_more step.before.loop.invariant step.loop-test.true (sym c.before.shared-below.ensures ∙ c.if1.false)
+    none_more step.before.loop-i.invariant step.loop-i-test.true (sym c.before.shared_below.ensures ∙ c.if-shared_below.false)
 
-returns-2 : tie.Need-returns-2 invariant-loop decreases-loop
-returns-2 c = none_at_all c.before.loop.invariant c.loop-test.false
+returns-2 : tie.Need-returns invariant-loop decreases-loop
+returns-2 c = none_at_all c.before.loop-i.invariant c.loop-i-test.false
 
-pub any-shared-spec : {M : Type 1} → statement M
-any-shared-spec =
+pub any_shared_spec : {M : Type 1} → statement M
+any_shared_spec =
     tie.close
     (tie.spec
     invariant-loop
