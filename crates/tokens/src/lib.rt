@@ -1,4 +1,6 @@
 // The fields of a line, set apart by single spaces: a word, and decimal numbers or hexadecimal digits after it.
+#![tactic(auto)]
+
 mod decimal;
 mod hexadecimal;
 mod pieces;

@@ -11,42 +11,42 @@ use Rattle.tokens.proofs.EachByte.{Passed, none_passed, one_passes, one-fails, a
 use Rattle.tokens.proofs.hexadecimal.all_digits.Statement.{statement}
 use Rattle.tokens.proofs.hexadecimal.all_digits.Tie as tie
 
-abbrev invariant-loop : tie.invariant-loop
+abbrev invariant-loop : tie.invariant-loop-i
 invariant-loop text i₀ i = Passed is_hex_digit text i
 
-abbrev decreases-loop : tie.decreases-loop
+abbrev decreases-loop : tie.decreases-loop-i
 decreases-loop text i₀ i = length text - i
 
-loop-holds : tie.Need-loop-init invariant-loop decreases-loop
+loop-holds : tie.Need-loop-i-init invariant-loop decreases-loop
 loop-holds c = none_passed _ _
 
-shared-slice-read-digit : tie.Need-shared-slice-read-digit invariant-loop decreases-loop
+shared-slice-read-digit : tie.Need-bounds-text-i invariant-loop decreases-loop
 shared-slice-read-digit c = search rules
 
 digit-requires : tie.Need-digit-requires invariant-loop decreases-loop
 digit-requires c κs = search rules
 
-returns : tie.Need-returns invariant-loop decreases-loop
+returns : tie.Need-returns-then-digit-eq16 invariant-loop decreases-loop
 returns c =
-    one-fails c.before.before.before.before.loop.invariant (omega arith)
-    (ap not (eq-eqb _ _ (sym c.before.digit.ensures ∙ c.if1.true)))
+    one-fails c.before.before.before.before.loop-i.invariant (omega arith)
+    (ap not (eq-eqb _ _ (sym c.before.digit.ensures ∙ c.if-digit-eq16.true)))
 
-add-i : tie.Need-overflow-add-i invariant-loop decreases-loop
+add-i : tie.Need-overflow_add-i invariant-loop decreases-loop
 add-i c = search rules
 
-loop-less : tie.Need-loop-smaller invariant-loop decreases-loop
+loop-less : tie.Need-loop-i-smaller invariant-loop decreases-loop
 loop-less c = search rules
 
-loop-again : tie.Need-loop-preserved invariant-loop decreases-loop
+loop-again : tie.Need-loop-i-preserved invariant-loop decreases-loop
 loop-again c =
-    one_passes c.before.before.before.before.loop.invariant (omega arith)
-    (ap not (ne_eqb _ _ (λ e. c.if1.false (c.before.digit.ensures ∙ e))))
+    one_passes c.before.before.before.before.loop-i.invariant (omega arith)
+    (ap not (ne_eqb _ _ (λ e. c.if-digit-eq16.false (c.before.digit.ensures ∙ e))))
 
-returns-2 : tie.Need-returns-2 invariant-loop decreases-loop
-returns-2 c = all-passed c.before.loop.invariant (omega arith)
+returns-2 : tie.Need-returns invariant-loop decreases-loop
+returns-2 c = all-passed c.before.loop-i.invariant (omega arith)
 
-pub all-digits-spec : {M : Type 1} → statement M
-all-digits-spec =
+pub all_digits_spec : {M : Type 1} → statement M
+all_digits_spec =
     tie.close
     (tie.spec
     invariant-loop

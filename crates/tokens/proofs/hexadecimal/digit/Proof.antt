@@ -10,61 +10,61 @@ use Rattle.tokens.proofs.hexadecimal.digit.Tie as tie
 inside-requires : tie.Need-inside-requires
 inside-requires c κs = search rules
 
-sub-result : tie.Need-overflow-sub-result
-sub-result c = omega (arith, within-true 48 57 c.before.before.args.byte (sym c.before.inside.ensures ∙ c.if1.true))
+sub-result : tie.Need-overflow_sub-result
+sub-result c = omega (arith, within-true 48 57 c.args.byte (sym c.before.inside.ensures ∙ c.if-inside.true))
 
-returns : tie.Need-returns
+returns : tie.Need-returns-then-inside
 unfolding hex_digit
-returns c = rw (sym c.before.inside.ensures ∙ c.if1.true)
+returns c = rw (sym c.before.inside.ensures ∙ c.if-inside.true)
 
 inside-requires-2 : tie.Need-inside-requires-2
 inside-requires-2 c κs = search rules
 
-sub-result-2 : tie.Need-overflow-sub-result-2
-sub-result-2 c = omega (arith, within-true 65 70 c.before.before.before.before.args.byte (sym c.before.inside2.ensures ∙ c.if2.true))
+sub-result-2 : tie.Need-overflow_sub-result-then-inside-2
+sub-result-2 c = omega (arith, within-true 65 70 c.args.byte (sym c.before.inside-2.ensures ∙ c.if-inside-2.true))
 
-add-result : tie.Need-overflow-add-result
+add-result : tie.Need-overflow_add-result
 add-result c = search rules
 
-returns-2 : tie.Need-returns-2
+returns-2 : tie.Need-returns-then-inside-2
 unfolding hex_digit
 returns-2 c =
     let no_digit = c.before.before in
-    rw (sym no_digit.before.inside.ensures ∙ no_digit.if1.false, sym c.before.inside2.ensures ∙ c.if2.true)
+    rw (sym no_digit.before.inside.ensures ∙ no_digit.if-inside.false, sym c.before.inside-2.ensures ∙ c.if-inside-2.true)
 
 inside-requires-3 : tie.Need-inside-requires-3
 inside-requires-3 c κs = search rules
 
-sub-result-3 : tie.Need-overflow-sub-result-3
-sub-result-3 c = omega (arith, within-true 97 102 c.before.before.before.before.before.before.args.byte (sym c.before.inside3.ensures ∙ c.if3.true))
+sub-result-3 : tie.Need-overflow_sub-result-then-inside-3
+sub-result-3 c = omega (arith, within-true 97 102 c.args.byte (sym c.before.inside-3.ensures ∙ c.if-inside-3.true))
 
-add-result-2 : tie.Need-overflow-add-result-2
+add-result-2 : tie.Need-overflow_add-result-then-inside-3
 add-result-2 c = search rules
 
-returns-3 : tie.Need-returns-3
+returns-3 : tie.Need-returns-then-inside-3
 unfolding hex_digit
 returns-3 c =
     let no-capital = c.before.before in
     let no_digit = no-capital.before.before in
     rw (
-      sym no_digit.before.inside.ensures ∙ no_digit.if1.false,
-      sym no-capital.before.inside2.ensures ∙ no-capital.if2.false,
-      sym c.before.inside3.ensures ∙ c.if3.true,
+      sym no_digit.before.inside.ensures ∙ no_digit.if-inside.false,
+      sym no-capital.before.inside-2.ensures ∙ no-capital.if-inside-2.false,
+      sym c.before.inside-3.ensures ∙ c.if-inside-3.true,
     )
 
-returns-4 : tie.Need-returns-4
+returns-4 : tie.Need-returns
 unfolding hex_digit
 returns-4 c =
     let no-capital = c.before.before in
     let no_digit = no-capital.before.before in
     rw (
-      sym no_digit.before.inside.ensures ∙ no_digit.if1.false,
-      sym no-capital.before.inside2.ensures ∙ no-capital.if2.false,
-      sym c.before.inside3.ensures ∙ c.if3.false,
+      sym no_digit.before.inside.ensures ∙ no_digit.if-inside.false,
+      sym no-capital.before.inside-2.ensures ∙ no-capital.if-inside-2.false,
+      sym c.before.inside-3.ensures ∙ c.if-inside-3.false,
     )
 
-pub digit-spec : {M : Type 1} → statement M
-digit-spec =
+pub digit_spec : {M : Type 1} → statement M
+digit_spec =
     tie.close
     (tie.spec
     inside-requires

@@ -8,35 +8,35 @@ use Rattle.tokens.proofs.FirstPiece.{InPiece, piece-starts, piece-goes-on, ends-
 use Rattle.tokens.proofs.pieces.piece_end.Statement.{statement}
 use Rattle.tokens.proofs.pieces.piece_end.Tie as tie
 
-abbrev invariant-loop : tie.invariant-loop
+abbrev invariant-loop : tie.invariant-loop-at
 invariant-loop text from at₀ at = InPiece text from at
 
-abbrev decreases-loop : tie.decreases-loop
+abbrev decreases-loop : tie.decreases-loop-at
 decreases-loop text from at₀ at = length text - at
 
-loop-holds : tie.Need-loop-init invariant-loop decreases-loop
+loop-holds : tie.Need-loop-at-init invariant-loop decreases-loop
 loop-holds c = piece-starts _ _
 
-shared-slice-read-if1 : tie.Need-shared-slice-read-if1 invariant-loop decreases-loop
+shared-slice-read-if1 : tie.Need-bounds-text-at invariant-loop decreases-loop
 shared-slice-read-if1 c = search rules
 
-add_at : tie.Need-overflow-add-at invariant-loop decreases-loop
+add_at : tie.Need-overflow_add-at invariant-loop decreases-loop
 add_at c = search rules
 
-loop-less : tie.Need-loop-smaller invariant-loop decreases-loop
+loop-less : tie.Need-loop-at-smaller invariant-loop decreases-loop
 loop-less c = omega arith
 
-loop-again : tie.Need-loop-preserved invariant-loop decreases-loop
-loop-again c = piece-goes-on c.before.before.before.loop.invariant (omega arith) (eqb-false _ _ (not-true _ c.if1.true))
+loop-again : tie.Need-loop-at-preserved invariant-loop decreases-loop
+loop-again c = piece-goes-on c.before.before.before.loop-at.invariant (omega arith) (eqb-false _ _ (not-true _ c.if-text-at-ne32.true-raw))
 
-returns : tie.Need-returns invariant-loop decreases-loop
-returns c = ends-at-space c.before.before.before.loop.invariant (omega arith) (eqb-true _ _ (not-false _ c.if1.false))
+returns : tie.Need-returns-else-text-at-ne32 invariant-loop decreases-loop
+returns c = ends-at-space c.before.before.before.loop-at.invariant (omega arith) (eqb-true _ _ (not-false _ c.if-text-at-ne32.false-raw))
 
-returns-2 : tie.Need-returns-2 invariant-loop decreases-loop
-returns-2 c = ends-at-end c.before.loop.invariant (omega arith)
+returns-2 : tie.Need-returns-after-loop-at invariant-loop decreases-loop
+returns-2 c = ends-at-end c.before.loop-at.invariant (omega arith)
 
-pub piece-end-spec : {M : Type 1} → statement M
-piece-end-spec =
+pub piece_end_spec : {M : Type 1} → statement M
+piece_end_spec =
     tie.close
     (tie.spec
     invariant-loop
