@@ -1,4 +1,6 @@
 // How many plans fit: of the share lists of a frame, those that pass the share test and those that fail it. RULES 17.1 and 17.2.
+#![tactic(auto)]
+
 mod lists;
 
 ghost use Rattle.std.specs.Prelude.{◌≡◌, not};

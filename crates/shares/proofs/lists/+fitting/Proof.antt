@@ -23,48 +23,45 @@ At t = and 0 fitting-kinds.ps (is 0 fitting-kinds.ps μ-fitting t) fitting.Pre
 abbrev Below : ℕ → In 0 fitting-kinds.ps
 Below t = and 0 fitting-kinds.ps (falls 0 fitting-kinds.ps ◌<◌ μ-fitting t) fitting.Pre
 
-abbrev invariant-loop : lts.invariant-loop
+abbrev invariant-loop : lts.invariant-loop-rest
 invariant-loop left flows count₀ rest₀ count rest = Counting left flows rest count
 
-abbrev decreases-loop : lts.decreases-loop
+abbrev decreases-loop : lts.decreases-loop-rest
 decreases-loop left flows count₀ rest₀ count rest = left - rest
 
 module _ (t : ℕ) where
-  returns : lts.Need-returns (Below t, fitting.Post) (At t) fitting.Post invariant-loop decreases-loop
-  returns c = sym (ap (accepted_lists c.before.args.left) c.if1.true ∙ no-flows c.before.args.left)
+  returns : lts.Need-returns-then-flows-eq0 (Below t, fitting.Post) (At t) fitting.Post invariant-loop decreases-loop
+  returns c = sym (ap (accepted_lists c.args.left) c.if-flows-eq0.true ∙ no-flows c.args.left)
 
-  loop-holds : lts.Need-loop-init (Below t, fitting.Post) (At t) fitting.Post invariant-loop decreases-loop
-  loop-holds c = none-counted _ _ c.if1.false
+  loop-holds : lts.Need-loop-rest-init (Below t, fitting.Post) (At t) fitting.Post invariant-loop decreases-loop
+  loop-holds c = none-counted _ _ c.if-flows-eq0.false
 
-  sub-fitting : lts.Need-overflow-sub-fitting (Below t, fitting.Post) (At t) fitting.Post invariant-loop decreases-loop
-  sub-fitting c = c.before.loop.invariant.some_flow
+  sub-fitting : lts.Need-overflow_sub-flows (Below t, fitting.Post) (At t) fitting.Post invariant-loop decreases-loop
+  sub-fitting c = c.loop-rest.invariant.some_flow
 
-  fitting-requires : lts.Need-fitting-requires (Below t, fitting.Post) (At t) fitting.Post invariant-loop decreases-loop
+  fitting-requires : lts.Need-fitting-count-requires (Below t, fitting.Post) (At t) fitting.Post invariant-loop decreases-loop
   fitting-requires c κs =
-      let inv = c.before.loop.invariant in
-      let start = c.before.before.before in
-      (omega (arith, inv.some_flow, start.requires.0), (omega (arith, inv.within, start.requires.1.0), omega (arith, start.requires.1.1)))
+      let inv = c.loop-rest.invariant in
+      (omega (arith, inv.some_flow, c.requires.0), (omega (arith, inv.within, c.requires.1.0), omega (arith, c.requires.1.1)))
 
-  add-count : lts.Need-overflow-add-count (Below t, fitting.Post) (At t) fitting.Post invariant-loop decreases-loop
+  add-count : lts.Need-overflow_add-count (Below t, fitting.Post) (At t) fitting.Post invariant-loop decreases-loop
   add-count c =
-      let loop = c.before.before in
-      let start = loop.before.before in
-      omega (arith, small_count loop.loop.invariant start.requires.1.0 start.requires.1.1 c.fitting.ensures)
+      omega (arith, small_count c.loop-rest.invariant c.requires.1.0 c.requires.1.1 c.fitting-count.ensures)
 
-  add-rest : lts.Need-overflow-add-rest (Below t, fitting.Post) (At t) fitting.Post invariant-loop decreases-loop
+  add-rest : lts.Need-overflow_add-rest (Below t, fitting.Post) (At t) fitting.Post invariant-loop decreases-loop
   add-rest c = search rules
 
-  loop-less : lts.Need-loop-smaller (Below t, fitting.Post) (At t) fitting.Post invariant-loop decreases-loop
+  loop-less : lts.Need-loop-rest-smaller (Below t, fitting.Post) (At t) fitting.Post invariant-loop decreases-loop
   loop-less c = search rules
 
-  loop-again : lts.Need-loop-preserved (Below t, fitting.Post) (At t) fitting.Post invariant-loop decreases-loop
-  loop-again c = more-counted c.before.before.loop.invariant c.before.loop-test.true c.fitting.ensures
+  loop-again : lts.Need-loop-rest-preserved (Below t, fitting.Post) (At t) fitting.Post invariant-loop decreases-loop
+  loop-again c = more-counted c.loop-rest.invariant c.loop-rest-test.true c.fitting-count.ensures
 
-  returns-2 : lts.Need-returns-2 (Below t, fitting.Post) (At t) fitting.Post invariant-loop decreases-loop
-  returns-2 c = all-counted c.before.loop.invariant c.loop-test.false
+  returns-2 : lts.Need-returns (Below t, fitting.Post) (At t) fitting.Post invariant-loop decreases-loop
+  returns-2 c = all-counted c.loop-rest.invariant c.loop-rest-test.false
 
-pub +fitting-spec : {M : Type 1} → statement M
-+fitting-spec =
+pub +fitting_spec : {M : Type 1} → statement M
++fitting_spec =
     close μ-fitting λ t.
     lts.spec (Below t, fitting.Post) (At t) fitting.Post invariant-loop decreases-loop
     (returns t)

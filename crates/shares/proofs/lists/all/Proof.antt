@@ -19,35 +19,35 @@ one_more {slots} {flows} {i} {lists} p l = record {
   power = ap (◌* slots) p.power ∙ sym (pow-suc slots i) ∙ ap (slots ^◌) (sym (add-one i));
 }
 
-abbrev invariant-loop : tie.invariant-loop
+abbrev invariant-loop : tie.invariant-loop-i
 invariant-loop slots flows lists₀ i₀ lists i = Power slots flows i lists
 
-abbrev decreases-loop : tie.decreases-loop
+abbrev decreases-loop : tie.decreases-loop-i
 decreases-loop slots flows lists₀ i₀ lists i = flows - i
 
-loop-holds : tie.Need-loop-init invariant-loop decreases-loop
+loop-holds : tie.Need-loop-i-init invariant-loop decreases-loop
 loop-holds c = record { within = omega arith; power = sym (pow-zero c.args.slots) }
 
-mul-lists : tie.Need-overflow-mul-lists invariant-loop decreases-loop
+mul-lists : tie.Need-overflow_mul-lists invariant-loop decreases-loop
 mul-lists c =
-    let next = one_more c.before.loop.invariant c.loop-test.true in
+    let next = one_more c.before.loop-i.invariant c.loop-i-test.true in
     let start = c.before.before in
-    omega (arith, next.power, most-lists start.args.slots (c.before.loop.i + 1) start.requires.0 (omega (arith, next.within, start.requires.1)))
+    omega (arith, next.power, most-lists start.args.slots (c.before.loop-i.i + 1) start.requires.0 (omega (arith, next.within, start.requires.1)))
 
-add-i : tie.Need-overflow-add-i invariant-loop decreases-loop
+add-i : tie.Need-overflow_add-i invariant-loop decreases-loop
 add-i c = search rules
 
-loop-less : tie.Need-loop-smaller invariant-loop decreases-loop
+loop-less : tie.Need-loop-i-smaller invariant-loop decreases-loop
 loop-less c = search rules
 
-loop-again : tie.Need-loop-preserved invariant-loop decreases-loop
-loop-again c = one_more c.before.loop.invariant c.loop-test.true
+loop-again : tie.Need-loop-i-preserved invariant-loop decreases-loop
+loop-again c = one_more c.before.loop-i.invariant c.loop-i-test.true
 
 returns : tie.Need-returns invariant-loop decreases-loop
 returns c =
-    let inv = c.before.loop.invariant in
-    let end : c.before.loop.i ≡ c.before.before.args.flows = omega (arith, inv.within) in
-    inv.power ∙ ap (c.before.before.args.slots ^◌) end
+    let inv = c.before.loop-i.invariant in
+    let end : c.before.loop-i.i ≡ c.args.flows = omega (arith, inv.within) in
+    inv.power ∙ ap (c.args.slots ^◌) end
 
-pub all-spec : {M : Type 1} → statement M
-all-spec = tie.close (tie.spec invariant-loop decreases-loop loop-holds mul-lists add-i loop-less loop-again returns)
+pub all_spec : {M : Type 1} → statement M
+all_spec = tie.close (tie.spec invariant-loop decreases-loop loop-holds mul-lists add-i loop-less loop-again returns)
