@@ -1,4 +1,6 @@
 // Which optional layers to switch on: the best set that fits in the slots left, of the sets that a budget allows to look at.
+#![tactic(auto)]
+
 mod ceiling;
 mod ranges;
 mod search;

@@ -19,75 +19,75 @@ singly slots e = cond (leb e.share slots) e.worth 0
 abbrev single : Extras → ℕ → ℕ
 single x i = singly x.slots (layer (extras_for x) i)
 
-abbrev invariant-loop : tie.invariant-loop
+abbrev invariant-loop : tie.invariant-loop-i
 invariant-loop x worth₀ i₀ worth i = Summed (single x) 1000 (layer_count (extras_for x)) i worth
 
-abbrev decreases-loop : tie.decreases-loop
+abbrev decreases-loop : tie.decreases-loop-i
 decreases-loop x worth₀ i₀ worth i = x.count - i
 
 -- where an iteration starts: the layer that is read
-module _ (c : tie.In-loop invariant-loop decreases-loop) where
+module _ (c : tie.In-loop-i invariant-loop decreases-loop) where
   abbrev given : Extras
-  given = c.before.before.args.t1
+  given = c.args.x
 
   abbrev place : ℕ
-  place = c.before.loop.i
+  place = c.before.loop-i.i
 
   abbrev there : place < given.count
-  there = c.loop-test.true
+  there = c.loop-i-test.true
 
   small : place < 12
-  small = place-small given c.before.before.requires place there
+  small = place-small given c.requires place there
 
   inside : LayerInside (layer_at given place)
-  inside = element-inside given c.before.before.requires place there
+  inside = element-inside given c.requires place there
 
   as-given : singly given.slots (layer_at given place) ≡ single given place
   as-given = ap (singly given.slots) (sym (layer-is given place there))
 
 -- the sum after a layer
-more : (c : tie.After-added invariant-loop decreases-loop) → let step = c.before.before.before in
-    Summed (single (given step)) 1000 (layer_count (extras_for (given step))) (place step + 1) (step.before.loop.worth + c.added.result)
+more : (c : tie.After-added-worth invariant-loop decreases-loop) → let step = c.before.before.before in
+    Summed (single (given step)) 1000 (layer_count (extras_for (given step))) (place step + 1) (step.before.loop-i.worth + c.added-worth.result)
 more c =
     let step = c.before.before.before in
-    one-added step.before.loop.invariant (place-there (given step) step.before.before.requires (place step) (there step)) (c.added.ensures.0 ∙ as-given step)
-    (omega (arith, c.added.ensures.1, (inside step).worth_most))
+    one-added step.before.loop-i.invariant (place-there (given step) step.requires (place step) (there step)) (c.added-worth.ensures.0 ∙ as-given step)
+    (omega (arith, c.added-worth.ensures.1, (inside step).worth_most))
 
-loop-holds : tie.Need-loop-init invariant-loop decreases-loop
+loop-holds : tie.Need-loop-i-init invariant-loop decreases-loop
 loop-holds c = none-added _ _ _
 
-mul-share : tie.Need-overflow-mul-share invariant-loop decreases-loop
+mul-share : tie.Need-offset_bounds-x-i invariant-loop decreases-loop
 mul-share c = omega (arith, small c)
 
-element-copy-out-share : tie.Need-element-copy-out-share invariant-loop decreases-loop
+element-copy-out-share : tie.Need-bounds-x-i invariant-loop decreases-loop
 element-copy-out-share c = small c
 
-mul-single : tie.Need-overflow-mul-single invariant-loop decreases-loop
+mul-single : tie.Need-offset_bounds-x-i-in-loop-i invariant-loop decreases-loop
 mul-single c = omega (arith, small c.before)
 
-element-copy-out-single : tie.Need-element-copy-out-single invariant-loop decreases-loop
+element-copy-out-single : tie.Need-bounds-x-i-in-loop-i invariant-loop decreases-loop
 element-copy-out-single c = small c.before
 
-added-requires : tie.Need-added-requires invariant-loop decreases-loop
+added-requires : tie.Need-added-worth-requires invariant-loop decreases-loop
 added-requires c κs = search rules
 
-add-worth : tie.Need-overflow-add-worth invariant-loop decreases-loop
+add-worth : tie.Need-overflow_add-worth invariant-loop decreases-loop
 add-worth c = let step = c.before.before.before in omega (arith, (more c).bound, small step)
 
-add-i : tie.Need-overflow-add-i invariant-loop decreases-loop
+add-i : tie.Need-overflow_add-i invariant-loop decreases-loop
 add-i c = search rules
 
-loop-less : tie.Need-loop-smaller invariant-loop decreases-loop
+loop-less : tie.Need-loop-i-smaller invariant-loop decreases-loop
 loop-less c = search rules
 
-loop-again : tie.Need-loop-preserved invariant-loop decreases-loop
+loop-again : tie.Need-loop-i-preserved invariant-loop decreases-loop
 loop-again c = more c
 
 returns : tie.Need-returns invariant-loop decreases-loop
-returns c = all-added c.before.loop.invariant (omega (arith, c.loop-test.false, count_is c.before.before.args.t1))
+returns c = all-added c.before.loop-i.invariant (omega (arith, c.loop-i-test.false, count_is c.args.x))
 
-pub singles-spec : {M : Type 1} → statement M
-singles-spec =
+pub singles_spec : {M : Type 1} → statement M
+singles_spec =
     tie.close
     (tie.spec
     invariant-loop

@@ -5,20 +5,20 @@ use Rattle.extras.specs.Extras.{layer_inside}
 use Rattle.extras.proofs.ranges.layer_inside.Statement.{statement}
 use Rattle.extras.proofs.ranges.layer_inside.Tie as tie
 
-returns : tie.Need-returns
+returns : tie.Need-returns-then-share-lt1
 unfolding layer_inside
-returns c = rw (lt-leb _ _ c.if1.taken)
+returns c = rw (lt-leb _ _ c.if-share-lt1.true)
 
-returns-2 : tie.Need-returns-2
+returns-2 : tie.Need-returns-then-share-gt64
 unfolding layer_inside
-returns-2 c = rw (le-leb _ _ c.before.if1.left, lt-leb _ _ c.if2.taken)
+returns-2 c = rw (le-leb _ _ c.before.if-share-lt1.false, lt-leb _ _ c.if-share-gt64.true)
 
-returns-3 : tie.Need-returns-3
+returns-3 : tie.Need-returns
 unfolding layer_inside
 returns-3 c =
     let first = c.before in
-    let worth = first.before.args.worth in
-    rw (le-leb _ _ first.if1.left, le-leb _ _ c.if2.left, le-leb 0 worth (omega arith))
+    let worth = first.args.worth in
+    rw (le-leb _ _ first.if-share-lt1.false, le-leb _ _ c.if-share-gt64.false, le-leb 0 worth (omega arith))
 
-pub layer-inside-spec : {M : Type 1} → statement M
-layer-inside-spec = tie.close (tie.spec returns returns-2 returns-3)
+pub layer_inside_spec : {M : Type 1} → statement M
+layer_inside_spec = tie.close (tie.spec returns returns-2 returns-3)

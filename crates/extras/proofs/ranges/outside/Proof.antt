@@ -14,53 +14,53 @@ use Rattle.extras.proofs.ranges.outside.Statement.{statement}
 use Rattle.extras.proofs.ranges.outside.Tie as tie
 
 -- the place before each test, where the test before it was passed
-abbrev asked : tie.Else1 → Extras
-asked c = c.before.before.args.x
+abbrev asked : tie.Else-x-eq0 → Extras
+asked c = c.args.x
 
-abbrev before-2 : tie.Else2 → tie.Else1
+abbrev before-2 : tie.Else-x-gt-MOST → tie.Else-x-eq0
 before-2 c = c.before.before
 
-abbrev before-3 : tie.Else3 → tie.Else2
+abbrev before-3 : tie.Else-x-gt64 → tie.Else-x-gt-MOST
 before-3 c = c.before.before
 
 -- what is known after each test that is passed
-some_budget : (c : tie.Else1) → eqb (asked c).budget 0 ≡ false
-some_budget c = ne_eqb _ _ c.if1.left
+some_budget : (c : tie.Else-x-eq0) → eqb (asked c).budget 0 ≡ false
+some_budget c = ne_eqb _ _ c.if-x-eq0.false
 
-few-layers : (c : tie.Else2) → ltb 12 (layer_count (extras_for (asked (before-2 c)))) ≡ false
-few-layers c = le-ltb 12 (layer_count (extras_for (asked (before-2 c)))) (omega (arith, c.if2.left, count_is (asked (before-2 c))))
+few-layers : (c : tie.Else-x-gt-MOST) → ltb 12 (layer_count (extras_for (asked (before-2 c)))) ≡ false
+few-layers c = le-ltb 12 (layer_count (extras_for (asked (before-2 c)))) (omega (arith, c.if-x-gt-MOST.false, count_is (asked (before-2 c))))
 
-few-slots : (c : tie.Else3) → within 0 64 (asked (before-2 (before-3 c))).slots ≡ true
+few-slots : (c : tie.Else-x-gt64) → within 0 64 (asked (before-2 (before-3 c))).slots ≡ true
 few-slots c =
     let slots = (asked (before-2 (before-3 c))).slots in
-    rw (le-leb 0 slots (omega arith), le-leb slots 64 c.if3.left)
+    rw (le-leb 0 slots (omega arith), le-leb slots 64 c.if-x-gt64.false)
 
-returns : tie.Need-returns
+returns : tie.Need-returns-then-x-eq0
 unfolding outside
-returns c = rw (eq-eqb _ _ c.if1.taken)
+returns c = rw (eq-eqb _ _ c.if-x-eq0.true)
 
-returns-2 : tie.Need-returns-2
+returns-2 : tie.Need-returns-then-x-gt-MOST
 unfolding outside
 returns-2 c =
     let first = c.before.before in
-    rw (some_budget first, lt-ltb 12 (layer_count (extras_for (asked first))) (omega (arith, c.if2.taken, count_is (asked first))))
+    rw (some_budget first, lt-ltb 12 (layer_count (extras_for (asked first))) (omega (arith, c.if-x-gt-MOST.true, count_is (asked first))))
 
-returns-3 : tie.Need-returns-3
+returns-3 : tie.Need-returns-then-x-gt64
 unfolding outside
 returns-3 c =
     let second = c.before.before in
     let slots = (asked (before-2 second)).slots in
-    rw (some_budget (before-2 second), few-layers second, le-leb 0 slots (omega arith), lt-leb slots 64 c.if3.taken)
+    rw (some_budget (before-2 second), few-layers second, le-leb 0 slots (omega arith), lt-leb slots 64 c.if-x-gt64.true)
 
-some-outside-requires : tie.Need-some-outside-requires
+some-outside-requires : tie.Need-some_outside-requires
 some-outside-requires c κs = search rules
 
-returns-4 : tie.Need-returns-4
+returns-4 : tie.Need-returns
 unfolding outside
 returns-4 c =
     let third = c.before in
     let second = before-3 third in
-    rw (some_budget (before-2 second), few-layers second, few-slots third, count_is (asked (before-2 second))) c.some-outside.ensures
+    rw (some_budget (before-2 second), few-layers second, few-slots third, count_is (asked (before-2 second))) c.some_outside.ensures
 
-pub outside-spec : {M : Type 1} → statement M
-outside-spec = tie.close (tie.spec returns returns-2 returns-3 some-outside-requires returns-4)
+pub outside_spec : {M : Type 1} → statement M
+outside_spec = tie.close (tie.spec returns returns-2 returns-3 some-outside-requires returns-4)

@@ -6,7 +6,7 @@ use borrow.Author.Rules.{rules}
 use Rattle.extras.proofs.sets.set_count.Statement.{statement}
 use Rattle.extras.proofs.sets.set_count.Tie as tie
 
-shl-result : tie.Need-overflow-shl-result
+shl-result : tie.Need-overflow_shl-result
 shl-result c = search rules
 
 returns : tie.Need-returns
@@ -14,5 +14,5 @@ returns c =
     let most : 2 ^ c.args.n ≤ 2 ^ 12 = pow-le-pow_right (omega arith) c.requires in
     (omega (arith, most), omega (arith, most))
 
-pub set-count-spec : {M : Type 1} → statement M
-set-count-spec = tie.close (tie.spec shl-result returns)
+pub set_count_spec : {M : Type 1} → statement M
+set_count_spec = tie.close (tie.spec shl-result returns)
