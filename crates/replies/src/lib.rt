@@ -1,4 +1,6 @@
 // What answers are made of: texts, numbers, hexadecimal digits, refusals, and what is wrong with a line.
+#![tactic(auto)]
+
 mod render;
 
 pub use render::{

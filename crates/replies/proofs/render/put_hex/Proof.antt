@@ -8,71 +8,71 @@ use Rattle.replies.proofs.PutOn.{HexTo, no-hex, one-hex, all-hex}
 use Rattle.replies.proofs.render.put_hex.Statement.{statement}
 use Rattle.replies.proofs.render.put_hex.Tie as tie
 
-abbrev invariant-loop : tie.invariant-loop
+abbrev invariant-loop : tie.invariant-loop-i
 invariant-loop bytes out₀ at i₀ out i = HexTo bytes out₀ out at i
 
-abbrev decreases-loop : tie.decreases-loop
+abbrev decreases-loop : tie.decreases-loop-i
 decreases-loop bytes out₀ at i₀ out i = length bytes - i
 
-abbrev loop-at : tie.After-hex-glyph invariant-loop decreases-loop → tie.At-loop invariant-loop decreases-loop
+abbrev loop-at : tie.After-hex_glyph invariant-loop decreases-loop → tie.At-loop-i invariant-loop decreases-loop
 loop-at c = c.before.before.before
 
-loop-holds : tie.Need-loop-init invariant-loop decreases-loop
+loop-holds : tie.Need-loop-i-init invariant-loop decreases-loop
 loop-holds c = no-hex _ _ _
 
-shared-slice-read-byte : tie.Need-shared-slice-read-byte invariant-loop decreases-loop
+shared-slice-read-byte : tie.Need-bounds-bytes-i invariant-loop decreases-loop
 shared-slice-read-byte c = search rules
 
-hex-glyph-requires : tie.Need-hex-glyph-requires invariant-loop decreases-loop
-hex-glyph-requires c κs = omega (arith, c.shared-slice-known2.given c.before.before.loop.i)
+hex-glyph-requires : tie.Need-hex_glyph-requires invariant-loop decreases-loop
+hex-glyph-requires c κs = omega (arith, c.shared_slice_known-in-loop-i-1.given c.before.before.loop-i.i)
 
-mul-out : tie.Need-overflow-mul-out invariant-loop decreases-loop
+mul-out : tie.Need-overflow_mul-out invariant-loop decreases-loop
 mul-out c = search rules
 
-add-out : tie.Need-overflow-add-out invariant-loop decreases-loop
+add-out : tie.Need-overflow_add-out invariant-loop decreases-loop
 add-out c = search rules
 
-slice-write-out : tie.Need-slice-write-out invariant-loop decreases-loop
-slice-write-out c = omega (arith, (loop-at c).loop.invariant.puts.length_stays)
+slice-write-out : tie.Need-bounds-out-at invariant-loop decreases-loop
+slice-write-out c = omega (arith, (loop-at c).loop-i.invariant.puts.length_stays)
 
-hex-glyph-requires-2 : tie.Need-hex-glyph-requires-2 invariant-loop decreases-loop
+hex-glyph-requires-2 : tie.Need-hex_glyph-requires-in-loop-i invariant-loop decreases-loop
 hex-glyph-requires-2 c κs = search rules
 
-mul-out-2 : tie.Need-overflow-mul-out-2 invariant-loop decreases-loop
+mul-out-2 : tie.Need-overflow_mul-out-in-loop-i invariant-loop decreases-loop
 mul-out-2 c = search rules
 
-add-out-2 : tie.Need-overflow-add-out-2 invariant-loop decreases-loop
+add-out-2 : tie.Need-overflow_add-out-in-loop-i invariant-loop decreases-loop
 add-out-2 c = search rules
 
-add-out-3 : tie.Need-overflow-add-out-3 invariant-loop decreases-loop
+add-out-3 : tie.Need-overflow_add-out-in-loop-i-2 invariant-loop decreases-loop
 add-out-3 c = search rules
 
-slice-write-out-2 : tie.Need-slice-write-out-2 invariant-loop decreases-loop
-slice-write-out-2 c = simp length-set (omega (arith, (loop-at c.before).loop.inv.puts.length_stays))
+slice-write-out-2 : tie.Need-bounds-out-at-in-loop-i invariant-loop decreases-loop
+slice-write-out-2 c = simp length-set (omega (arith, (loop-at c.before).loop-i.invariant.puts.length_stays))
 
-add-i : tie.Need-overflow-add-i invariant-loop decreases-loop
+add-i : tie.Need-overflow_add-i invariant-loop decreases-loop
 add-i c = search rules
 
-loop-less : tie.Need-loop-smaller invariant-loop decreases-loop
+loop-less : tie.Need-loop-i-smaller invariant-loop decreases-loop
 loop-less c = search rules
 
-loop-again : tie.Need-loop-preserved invariant-loop decreases-loop
-loop-again c = one-hex (loop-at c.before).loop.inv (omega arith) c.before.hex-glyph.ensures c.hex-glyph2.ensures
+loop-again : tie.Need-loop-i-preserved invariant-loop decreases-loop
+loop-again c = one-hex (loop-at c.before).loop-i.invariant (omega arith) c.before.hex_glyph.ensures c.hex_glyph-in-loop-i.ensures
 
-mul-result : tie.Need-overflow-mul-result invariant-loop decreases-loop
+mul-result : tie.Need-overflow_mul-result invariant-loop decreases-loop
 mul-result c = search rules
 
-add-result : tie.Need-overflow-add-result invariant-loop decreases-loop
+add-result : tie.Need-overflow_add-result invariant-loop decreases-loop
 add-result c = search rules
 
-same_length : tie.Need-same-length invariant-loop decreases-loop
-same_length c = c.before.loop.invariant.puts.length_stays
+same_length : tie.Need-shape_of-out invariant-loop decreases-loop
+same_length c = c.before.loop-i.invariant.puts.length_stays
 
 returns : tie.Need-returns invariant-loop decreases-loop
-returns c = all-hex c.before.loop.invariant (omega arith)
+returns c = all-hex c.before.loop-i.invariant (omega arith)
 
-pub put-hex-spec : {M : Type 1} → statement M
-put-hex-spec =
+pub put_hex_spec : {M : Type 1} → statement M
+put_hex_spec =
     tie.close
     (tie.spec
     invariant-loop

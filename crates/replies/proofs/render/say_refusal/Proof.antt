@@ -5,16 +5,16 @@ use Rattle.replies.proofs.PutOn.{says-refusal}
 use Rattle.replies.proofs.render.say_refusal.Statement.{statement}
 use Rattle.replies.proofs.render.say_refusal.Tie as tie
 
-write-refusal-requires : tie.Need-write-refusal-requires
+write-refusal-requires : tie.Need-write_refusal-requires
 write-refusal-requires c κs = search rules
 
-same_length : tie.Need-same-length
+same_length : tie.Need-shape_of-out
 same_length c = search rules
 
 returns : tie.Need-returns
 returns c =
     let w = c.before.before in
-    says-refusal w.before.before.before.args.number w.before.before.before.requires w.write-refusal.ensures.0 w.write-refusal.ensures.1.0 (omega (arith, w.write-refusal.ensures.1.1))
+    says-refusal w.args.number w.requires w.write_refusal.ensures.0 w.write_refusal.ensures.1.0 (omega (arith, w.write_refusal.ensures.1.1))
 
-pub say-refusal-spec : {M : Type 1} → statement M
-say-refusal-spec = tie.close (tie.spec write-refusal-requires same_length returns)
+pub say_refusal_spec : {M : Type 1} → statement M
+say_refusal_spec = tie.close (tie.spec write-refusal-requires same_length returns)
