@@ -10,7 +10,7 @@ use lib.ListN.{get_or}
 use borrow.Author.Tests.{leb-true, leb-false, le-leb, lt-ltb, eq-eqb, ne_eqb}
 use Rattle.model.specs.Plan.{positions, flow_count, plan_of}
 use Rattle.model.specs.Calls.{History, accepted}
-use Rattle.model.specs.Window.{Window, later, passed, from_on, every_from}
+use Rattle.model.specs.Window.{Window, passed, from_on, every_from}
 use Rattle.model.specs.Link.{Link, window, link_with, flow, holding, with_held, held_from}
 use Rattle.model.specs.Credit.{lowered, credit}
 use Rattle.model.specs.Lend.{lent_to, lend}

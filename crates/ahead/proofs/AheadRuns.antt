@@ -17,7 +17,7 @@ use Rattle.model.specs.Lend.{lent_to, lend}
 use Rattle.model.specs.History.{ticks, slot_after, marks_of, grants}
 use Rattle.model.specs.Claim.{Each}
 use Rattle.model.specs.Scheduler.{reference}
-use Rattle.ahead.specs.Ahead.{sent_ahead}
+use Rattle.ahead.specs.Ahead.{sent_ahead as leaves_ahead}
 use Rattle.ahead.specs.AheadRuns.{WithAhead, start, both_tick, both_request, both_credit, both_lend, first_refused, second_refused, both_reset, sent_ahead}
 use Rattle.ahead.specs.AheadRuns.{latest, GrantFrom, ResetFrom, RefusedToo, GrantsAfter, ResetsAfter, NoneAcceptedAlone, SameGrant, AnsweredAlike, AcceptedToo, Unmoved, NobodyMoves}
 use Rattle.model.proofs.Plan.{accepted as accepted_plan}
@@ -37,7 +37,7 @@ pub record SentAhead (l : Link) (m i p : ℕ) : Type 0 where
   pub known : i < flow_count l.plan
   pub below : p < positions l.plan
   pub to_come : passed (window l) p ≡ false
-  pub leaves : (credit (lend l m).link i p).link ≡ sent_ahead l i p
+  pub leaves : (credit (lend l m).link i p).link ≡ leaves_ahead l i p
 
 sent : {P : Plan} {l : Link} {h : History} → After P l h → (m i p : ℕ) → (lend l m).answer ≡ accepted i
     → (credit (lend l m).link i p).answer ≡ accepted tt → SentAhead l m i p

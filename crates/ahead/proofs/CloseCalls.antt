@@ -12,7 +12,7 @@ use lib.ListN.{get_or}
 use borrow.Author.Tests.{ltb-true, leb-true, leb-false, le-leb, lt-ltb, eqb-true, eqb-false, eq-eqb, ne_eqb}
 use Rattle.model.specs.Refusals.{first_of}
 use Rattle.model.specs.Plan.{Plan, positions, flow_count}
-use Rattle.model.specs.Calls.{CreditAnswer, accepted}
+use Rattle.model.specs.Calls.{CreditAnswer}
 use Rattle.model.specs.Window.{Window, head, next, passed, from_on, every_from, in_head}
 use Rattle.model.specs.Link.{Link, Flow, Step, window, flow, holding, share, with_current, with_mark, moved_to, with_held, held_from}
 use Rattle.model.specs.Credit.{credit_tests, lowered, credit_after, credit}

@@ -12,7 +12,7 @@ use Rattle.model.specs.Tables.{ahead}
 use Rattle.model.specs.Refusals.{first_of}
 use Rattle.model.specs.Word.{flow_of, departure_of}
 use Rattle.model.specs.Plan.{Plan, positions, flow_count, entry}
-use Rattle.model.specs.Calls.{Grant, accepted, refused}
+use Rattle.model.specs.Calls.{Grant, refused}
 use Rattle.model.specs.Window.{Window, start, newest, passed, from_on, every_from}
 use Rattle.model.specs.Link.{Link, Step, window, owner, flow, holding, cells}
 use Rattle.model.specs.Request.{Found, found, nowhere, request_tests, next_number, unbooked, valid, can_leave, valid_for, search, sought}

@@ -29,7 +29,7 @@ use Rattle.model.proofs.Word.{departure-depart}
 use Rattle.model.proofs.Slots.{some-frame, frame-slot-in-window, position-of}
 use Rattle.model.proofs.Departures.{leaves_in}
 use Rattle.model.proofs.RequestSearch.{Searched, request-searched, not_valid}
-use Rattle.model.proofs.RequestKeeps.{AfterGrant, found_slot, in_frame_lem, free, slot_is, after-grant}
+use Rattle.model.proofs.RequestKeeps.{AfterGrant, found_slot, in_frame as in_frame_lem, free, slot_is, after-grant}
 use Rattle.model.proofs.HistoryCounts.{departure-below, raises-are}
 use Rattle.model.proofs.AfterHistory.{After}
 use Rattle.model.proofs.AfterCalls.{Known}

@@ -1,5 +1,5 @@
 -- Two boards in step on which the first is credited at the second's grants: all that `over-links-by-credits` asks. Assumes nothing.
-use Prim.Native.Nat.{ℕ, ◌<◌}
+use Prim.Native.Nat.{ℕ}
 use mathlib.Core.Path.{◌≡◌, refl}
 use mathlib.Core.Logic.Dec
 use mathlib.Core.List.{List, ◌∷◌, [], reverse}
@@ -8,7 +8,7 @@ use native.Mathlib.Decide.{dec_le, dec_lt, ℕ_discrete}
 use lib.Dec.{lit<, lit≤}
 use Rattle.model.specs.Tables.{tally}
 use Rattle.model.specs.Word.{flow_of, quantum_of, departure_of}
-use Rattle.model.specs.Plan.{Plan, entry, flow_count, plan_of, refusal}
+use Rattle.model.specs.Plan.{Plan, entry, plan_of, refusal}
 use Rattle.model.specs.Calls.{History, requested, credited, accepted}
 use Rattle.model.specs.History.{ticks, well_formed, has_come, is_granted_reset, lends, of_flow, expected_number}
 use Rattle.model.specs.Scheduler.{reference}
@@ -17,7 +17,7 @@ use Rattle.arrival.specs.Delay.{current_frame, made_in}
 use Rattle.arrival.specs.SeveralLinks.{Ran, Board, plan_on, due_on, EachWithin}
 use Rattle.arrival.specs.EnoughCells.{returns}
 use Rattle.arrival.specs.LinksOnArrival.{AsksOnArrival}
-use Rattle.arrival.specs.CreditedByNext.{passes, CreditedByNext, WayByCredits, ModestFirst}
+use Rattle.arrival.specs.CreditedByNext.{passes, WayByCredits, ModestFirst}
 use Rattle.model.proofs.Decidable.{same, implies, is_true, all-below, proved}
 use Rattle.model.proofs.ClaimDecided.{at-request, each}
 use Rattle.arrival.proofs.CellsNeeded.{given_back}

@@ -1,10 +1,10 @@
 -- The reference scheduler over several links on which each board credits the one before it at its own grant. Assumes nothing.
-use Prim.Native.Nat.{ℕ, suc, ◌+◌, ◌-◌, ◌*◌, ◌/◌, ◌≤◌, ◌<◌}
+use Prim.Native.Nat.{ℕ, ◌+◌, ◌-◌, ◌*◌, ◌/◌, ◌≤◌, ◌<◌}
 use mathlib.Core.Path.{◌≡◌, refl, sym, ap, subst}
-use mathlib.Core.List.{List, [], ◌∷◌, ◌++◌}
+use mathlib.Core.List.{List, [], ◌∷◌}
 use mathlib.Core.Bool.{Bool, true, false, ◌&&◌}
 use native.Mathlib.Omega.{arith}
-use lib.Dec.{leb, ltb, eqb}
+use lib.Dec.{eqb}
 use borrow.Author.Tests.{le-leb, ltb-true, eqb-true, ne_eqb}
 use Rattle.model.specs.Tables.{bit, tally}
 use Rattle.model.specs.Word.{flow_of, departure_of}
@@ -19,7 +19,7 @@ use Rattle.arrival.specs.SeveralLinks.{AskedAt, Together, start, both_tick, firs
 use Rattle.arrival.specs.EnoughCells.{last_of, Return, return_at, returns, in_slot, CreditsEachTile}
 use Rattle.arrival.specs.SharesOfCells.{GivenBack, AsksWithinShare, KeepsShares, EachGrantedNow}
 use Rattle.arrival.specs.LinksOnArrival.{AsksOnArrival, JoinedOnArrival, WayOnArrival}
-use Rattle.arrival.specs.CreditedByNext.{Pass, pass_at, passes, granted_then, CreditedByNext, JoinedByCredits, WayByCredits, AsksModestly, ModestFirst}
+use Rattle.arrival.specs.CreditedByNext.{Pass, passes, granted_then, CreditedByNext, JoinedByCredits, WayByCredits, AsksModestly, ModestFirst}
 use Rattle.arrival.specs.CreditedByNext.{OverLinksByCredits, FromSourceByCredits, GrantedByCredits}
 use Rattle.model.proofs.Tests.{and-true, and-false}
 use Rattle.model.proofs.Tallies.{All, tally-append, tally-le}

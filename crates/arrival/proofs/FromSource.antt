@@ -1,31 +1,29 @@
 -- The reference scheduler over several links, from the frame in which a tile comes to its source. Assumes nothing.
-use Prim.Native.Nat.{ℕ, zero, suc, ◌+◌, ◌-◌, ◌*◌, ◌/◌, ◌≤◌, ◌<◌}
-use mathlib.Core.Path.{◌≡◌, refl, sym, ap, ◌∙◌, subst}
+use Prim.Native.Nat.{ℕ, suc, ◌+◌, ◌-◌, ◌*◌, ◌≤◌, ◌<◌}
+use mathlib.Core.Path.{◌≡◌, refl, sym, ap, ◌∙◌}
 use mathlib.Core.List.{List, [], ◌∷◌}
 use mathlib.Core.Bool.{Bool, true, false}
 use native.Mathlib.Nat.{mul-le-mul_right}
 use native.Mathlib.Decide.{dec_le, dec_lt, ℕ_discrete}
 use native.Mathlib.Omega.{arith}
-use lib.Dec.{ltb, eqb}
+use lib.Dec.{ltb}
 use lib.ListN.{length}
 use borrow.Author.Tests.{eqb-true, eq-eqb, ne_eqb, lt-ltb, le-ltb}
 use Rattle.model.specs.Tables.{sum, bit, tally}
 use Rattle.model.specs.Word.{flow_of}
-use Rattle.model.specs.Plan.{Plan, entry, Accepted}
+use Rattle.model.specs.Plan.{Plan, entry}
 use Rattle.model.specs.Calls.{Event, History, requested, credited, ticked, lent, accepted, refused}
 use Rattle.model.specs.History.{frame_of}
 use Rattle.model.specs.Claim.{Each, GrantedWordAt}
 use Rattle.model.specs.Scheduler.{reference}
-use Rattle.arrival.specs.Delay.{due_slot, due_in, TimelyInOrder, AsksAt, Modest}
-use Rattle.arrival.specs.SeveralLinks.{slots_of, dues, due_slots, tile, Board, plan_on, sent_on, due_on, Within, EachWithin, Way}
-use Rattle.arrival.specs.SharesOfCells.{KeepsShares}
-use Rattle.arrival.specs.LinksOnArrival.{WayOnArrival}
-use Rattle.arrival.specs.Source.{up_to_frame, Source, Bursts, burst_frames, AskedWithin, AsksAs, CameWithin, EachCameWithin, InTimeFromSource, FromSource, FromSourceOnArrival}
+use Rattle.arrival.specs.Delay.{due_in, TimelyInOrder, AsksAt, Modest}
+use Rattle.arrival.specs.SeveralLinks.{slots_of, dues, due_slots, tile, Board, plan_on, sent_on, due_on, Within, EachWithin}
+use Rattle.arrival.specs.Source.{up_to_frame, Source, Bursts, burst_frames, AsksAs, CameWithin, EachCameWithin, InTimeFromSource, FromSource, FromSourceOnArrival}
 use Rattle.model.proofs.Tallies.{sum-le, tally-hit, tally-skip, tally-join}
 use Rattle.model.proofs.Slots.{frame-begins, frame-ends, frame-high}
 use Rattle.model.proofs.HistoryCounts.{NoneGranted}
 use Rattle.arrival.proofs.TileSlots.{of_frame, tile-newest, tile-older}
-use Rattle.arrival.proofs.NextLink.{Descending, due-own, due-other, due-in-is, as_many, since-all}
+use Rattle.arrival.proofs.NextLink.{Descending, due-own, due-other, due-in-is, since-all}
 use Rattle.arrival.proofs.SeveralLinks.{ok, none, words, over-links}
 use Rattle.arrival.proofs.LinksOnArrival.{way-with-room, modest-first}
 use Rattle.arrival.proofs.Source.{sum_more, asked-soon}

@@ -76,9 +76,9 @@ module _ {l : Link} {h : History} (g : After l.plan l h) where
         let none-since : tally (at_slot s) (grants_since P h) ≡ 0 = omega (arith, split-at-reset (grant_at P) (at_slot s) h, x.none_booked s lt) in
         ap unbooked (v.bookings.owners_are s w-s ∙ (unowned s (grants_since P h)).1 none-since)
 
-    none_booked : none_booked l ≡ true
+    none-booked : none_booked l ≡ true
     unfolding none_booked
-    none_booked = every-intro T (λ q. not (later (window l) q l.current) || unbooked (owner l q)) λ q below. go q below (later (window l) q l.current) refl
+    none-booked = every-intro T (λ q. not (later (window l) q l.current) || unbooked (owner l q)) λ q below. go q below (later (window l) q l.current) refl
       where
         go : (q : ℕ) → q < T → (b : Bool) → later (window l) q l.current ≡ b → not b || unbooked (owner l q) ≡ true
         go q below false e = refl
@@ -98,7 +98,7 @@ module _ {l : Link} {h : History} (g : After l.plan l h) where
         eq-eqb (holding l i (r % T)) 0 (omega (arith, (v.holds i known r).at_slot w-r, x.none-held i known r le, raises-are P (up_to i r) h)))
 
     quiet-if-rests : quiet l ≡ true
-    quiet-if-rests = rw (none_booked, none-held) refl
+    quiet-if-rests = rw (none-booked, none-held) refl
 
   granted-at : ResetGrantedAt P (Event.reset (reset l).answer) h
   granted-at = rw (reset-is l) (go (quiet l) refl)

@@ -6,7 +6,7 @@ use mathlib.Core.Bool.{true}
 use native.Mathlib.Omega.{arith}
 use Rattle.model.specs.Word.{flow_of, departure_of, depart}
 use Rattle.model.specs.Plan.{Plan, Accepted}
-use Rattle.model.specs.Calls.{Call, Grant, Event, History, requested, accepted}
+use Rattle.model.specs.Calls.{Call, Grant, Event, History, requested}
 use Rattle.model.specs.Link.{Link, Step}
 use Rattle.model.specs.Request.{Found, found, nowhere, sought, answered, request}
 use Rattle.model.specs.History.{ticks, slot_after, frame_of, well_formed, granted_in}

@@ -1,6 +1,6 @@
 -- What each premise of `OverLinks` is for: without it the reference scheduler does not keep what follows on the next board, by two short lists of calls.
 -- Assumes nothing.
-use Prim.Native.Nat.{ℕ, ◌≤◌}
+use Prim.Native.Nat.{ℕ}
 use mathlib.Core.Path.{◌≡◌, refl}
 use mathlib.Core.List.{◌∷◌, [], reverse}
 use mathlib.Core.Option.{some, none}

@@ -1,24 +1,22 @@
 -- On the reference scheduler a stream whose words run up to `ahead` frames ahead of their tiles, with ahead + late + 2 shares of cells that are given back
 -- `late` frames late, is granted each request in the frame in which its tile is due or the next. Assumes nothing.
-use Prim.Native.Nat.{ℕ, suc, ◌+◌, ◌-◌, ◌*◌, ◌≤◌, ◌<◌}
+use Prim.Native.Nat.{ℕ, zero, suc, ◌+◌, ◌-◌, ◌*◌, ◌≤◌, ◌<◌}
 use mathlib.Core.Path.{◌≡◌, refl, ap, subst}
 use mathlib.Core.List.{List, [], ◌∷◌}
-use mathlib.Core.Bool.{Bool, true}
 use native.Mathlib.Nat.{mul-le-mul_right}
 use native.Mathlib.Decide.{dec_le, ℕ_discrete}
 use native.Mathlib.Omega.{arith}
 use lib.Dec.{leb}
-use Rattle.model.specs.Tables.{bit, tally, sum}
+use Rattle.model.specs.Tables.{bit, tally}
 use Rattle.model.specs.Word.{flow_of, departure_of}
 use Rattle.model.specs.Plan.{Plan, flow_count, entry, plan_of, Accepted}
 use Rattle.model.specs.Calls.{Call, Event, History, requested, credited, ticked, lent, accepted, refused}
-use Rattle.model.specs.History.{Mark, ticks, slot_after, frame_of, well_formed, lend_at, grants, lends, of_flow, in_frame, up_to}
+use Rattle.model.specs.History.{Mark, ticks, slot_after, frame_of, lend_at, grants, lends, of_flow, in_frame, up_to}
 use Rattle.model.specs.Claim.{Each, EachSince, GrantedWordAt}
 use Rattle.model.specs.Scheduler.{reference, run}
-use Rattle.arrival.specs.Delay.{current_frame, due_slot, due_frame, due_since, due_in, RoomFrom, next_frame_of, TimelyInOrder, AsksAt, Modest, AtAnswer, ServedAt}
+use Rattle.arrival.specs.Delay.{current_frame, due_slot, due_frame, due_since, due_in, RoomFrom, next_frame_of, TimelyInOrder, AsksAt, Modest, ServedAt}
 use Rattle.arrival.specs.SeveralLinks.{Ran}
-use Rattle.arrival.specs.SharesOfCells.{GivenBack}
-use Rattle.arrival.specs.SharesAhead.{AsksAhead, KeepsSharesAhead, GrantedInTime, EachGrantedInTime, SharesAhead}
+use Rattle.arrival.specs.SharesAhead.{AsksAhead, KeepsSharesAhead, EachGrantedInTime, SharesAhead}
 use Rattle.model.proofs.Plan as plan
 use Rattle.model.proofs.Tests.{and-true}
 use Rattle.model.proofs.Tallies.{All, all_map, sum-le, sum-const, tally-append, tally-le}
@@ -126,6 +124,7 @@ module _ {P : Plan} (ok : Accepted P) (i : ℕ) (known : i < flow_count P) where
     D = due_frame P w h
 
     none-past-next : (g : ℕ) → suc D < g → tally (in_frame P i g) (grants P h) ≡ 0
+    none-past-next zero lt = elim lt [ ]
     none-past-next (suc g) lt = omega (arith, in-frame-due g h none words served, x.in_order g (omega arith), x.in_order (suc g) (omega arith))
 
     in-next : tally (in_frame P i (suc D)) (grants P h) ≤ due_in P h i D

@@ -14,11 +14,11 @@ use Rattle.model.specs.Calls.{Call, History, requested, ticked, accepted}
 use Rattle.model.specs.History.{frame_of, is_granted_reset}
 use Rattle.model.specs.Scheduler.{reference}
 use Rattle.model.specs.PlanBytes.{plan1}
-use Rattle.arrival.specs.Delay.{due_since, due_in}
+use Rattle.arrival.specs.Delay.{due_since}
 use Rattle.arrival.specs.SeveralLinks.{slots_of, dues, tile, start, both_tick, first_alone, second_alone, Ran, Board, plan_on, sent_on}
 use Rattle.arrival.specs.SharesOfCells.{KeepsShares}
 use Rattle.arrival.specs.LinksOnArrival.{WayOnArrival}
-use Rattle.arrival.specs.Source.{up_to_frame, Source, Bursts, burst_frames, AskedWithin, AsksAs, EachCameWithin}
+use Rattle.arrival.specs.Source.{Source, Bursts, burst_frames, AskedWithin, AsksAs, EachCameWithin}
 use Rattle.model.proofs.Decidable.{implies, all-below, everywhere, proved}
 use Rattle.model.proofs.PastMarks.{above}
 use Rattle.arrival.proofs.DelayDecided.{none_in, delays-compute}

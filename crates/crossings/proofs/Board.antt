@@ -1,35 +1,27 @@
 -- Our board crosses well: it keeps at a crossing what is claimed, whatever the others ask. Assumes nothing.
-use Prim.Native.Nat.{ℕ, zero, suc, ◌+◌, ◌-◌, ◌≤◌, ◌<◌, min}
+use Prim.Native.Nat.{ℕ, zero, suc, ◌+◌, ◌≤◌, ◌<◌, min}
 use mathlib.Core.Path.{◌≡◌, refl, sym, ap, ◌∙◌, subst}
-use mathlib.Core.List.{List, ◌∷◌, []}
+use mathlib.Core.List.{List}
 use mathlib.Core.Option.{Option, some, none}
-use mathlib.Core.Bool.{Bool, true, false, not, true≢false, cond}
-use native.Mathlib.Decide.{dec_lt, ℕ_discrete}
+use mathlib.Core.Bool.{not}
+use native.Mathlib.Decide.{ℕ_discrete}
 use native.Mathlib.Omega.{arith}
 use lib.Dec.{eqb}
-use lib.ListN.{get_or, set, length, length-set, replicate, get_or-eq_default}
+use lib.ListN.{get_or, length, length-set}
 use lib.Seq.{get_or-set_same, get_or-set_other}
-use borrow.Author.Tests.{eqb-true, eqb-false, eq-eqb, ne_eqb}
-use Rattle.model.specs.Tables.{bit, tally, any}
-use Rattle.model.specs.Word.{flow_of}
-use Rattle.model.specs.Plan.{Plan, flow_count, entry, plan_of, Accepted}
-use Rattle.model.specs.Calls.{Call, Grant, TickAnswer, Event, History, requested, credited, ticked, lent, accepted, refused}
-use Rattle.model.specs.Scheduler.{Played, reference, step, started}
-use Rattle.model.specs.History.{ticks, grants, credits, lends, up_to, granted_up_to, lent_up_to, credited_up_to}
-use Rattle.model.specs.Claim.{AtRequest}
+use borrow.Author.Tests.{eq-eqb, ne_eqb}
+use Rattle.model.specs.Tables.{bit}
+use Rattle.model.specs.Plan.{Plan, flow_count, entry, Accepted}
+use Rattle.model.specs.Calls.{TickAnswer}
+use Rattle.model.specs.History.{ticks, credits, up_to, granted_up_to, lent_up_to, credited_up_to}
 use Rattle.model.specs.TwoHops.{InStep}
-use Rattle.arrival.specs.SeveralLinks.{slots_of}
-use Rattle.model.proofs.Plan.{accepted as accepted_plan}
 use Rattle.model.proofs.HistoryCounts.{raises-are}
-use Rattle.arrival.proofs.TileSlots.{count-slots}
-use Rattle.model.proofs.AfterCalls.{Known}
-use Rattle.crossings.specs.Crossing.{Crossing, crossing_with, goes_on_as, waits, pass_on, pass_as, pass_flow, pass_waiting, queued, comes, arrives}
+use Rattle.crossings.specs.Crossing.{Crossing, goes_on_as, waits, pass_on, pass_as, pass_flow, pass_waiting, queued, comes, arrives}
 use Rattle.crossings.specs.Crossing.{served}
-use Rattle.crossings.specs.Playing.{Other, on_arriving, on_leaving, is_flow, is_none, goes_onto, theirs_arriving, theirs_leaving, another, others}
-use Rattle.crossings.specs.Playing.{Slot, both_tick, tick_answer_of, in_slot, in_slots, begun}
-use Rattle.crossings.specs.Claim.{AsksNow, Onward, refused_then, Crosses, CrossesWell}
-use Rattle.crossings.proofs.OneLink.{Reached, reached-start, reached-more, known, within_held, up-to-most, up-to-slots, is_owner, tick-adds}
-use Rattle.crossings.proofs.Kept.{NotGiven, NoGrant, FlowKept, Kept, by-arriving, by-leaving, refused-more}
+use Rattle.crossings.specs.Playing.{is_none}
+use Rattle.crossings.specs.Claim.{Onward}
+use Rattle.crossings.proofs.OneLink.{known, within_held, up-to-most, is_owner}
+use Rattle.crossings.proofs.Kept.{FlowKept, Kept}
 use Rattle.crossings.proofs.Tiles.{Tried, PassedOn, tried-still, pass_on_lem}
 
 module _ {P Q : Plan} {onward : List (Option ℕ)} (ok-P : Accepted P) (ok-Q : Accepted Q) (in_step : InStep P Q) (goes_on : Onward P Q onward) where

@@ -1,31 +1,31 @@
 -- Our board crosses well: so after every slot, whatever the others ask. Assumes nothing.
-use Prim.Native.Nat.{ℕ, zero, suc, ◌+◌, ◌≤◌, ◌<◌}
+use Prim.Native.Nat.{ℕ, zero, suc, ◌≤◌, ◌<◌}
 use mathlib.Core.Path.{◌≡◌, refl, sym, ap, ◌∙◌, subst}
 use mathlib.Core.List.{List, ◌∷◌, []}
 use mathlib.Core.Option.{Option, some, none}
 use mathlib.Core.Bool.{Bool, true, false, not, true≢false, cond}
 use native.Mathlib.Decide.{dec_lt}
 use native.Mathlib.Omega.{arith}
-use lib.Dec.{leb, eqb}
+use lib.Dec.{leb}
 use lib.ListN.{get_or, length, replicate, get_or-eq_default}
 use borrow.Author.Tests.{eq-eqb}
-use Rattle.model.specs.Tables.{bit, tally, any}
+use Rattle.model.specs.Tables.{bit, tally}
 use Rattle.model.specs.Word.{flow_of}
 use Rattle.model.specs.Plan.{Plan, plan_of, Accepted}
-use Rattle.model.specs.Calls.{Call, Grant, TickAnswer, Event, History, requested, credited, ticked, lent, accepted, refused}
-use Rattle.model.specs.Scheduler.{Played, reference, step, started}
-use Rattle.model.specs.History.{ticks, grants, credits, up_to, granted_up_to}
+use Rattle.model.specs.Calls.{Call, Grant, requested, accepted, refused}
+use Rattle.model.specs.Scheduler.{reference, step}
+use Rattle.model.specs.History.{ticks, grants, credits}
 use Rattle.model.specs.TwoHops.{InStep}
 use Rattle.arrival.specs.SeveralLinks.{slots_of}
 use Rattle.model.proofs.Tests.{any-hit}
 use Rattle.model.proofs.Plan.{accepted as accepted_plan}
 use Rattle.arrival.proofs.TileSlots.{count-slots}
-use Rattle.crossings.specs.Crossing.{Crossing, crossing_with, goes_on_as, waits, served}
+use Rattle.crossings.specs.Crossing.{Crossing, crossing_with, goes_on_as, served}
 use Rattle.crossings.specs.Playing.{Other, on_arriving, on_leaving, is_flow, is_none, goes_onto, theirs_arriving, theirs_leaving, another, others}
 use Rattle.crossings.specs.Playing.{Slot, both_tick, tick_answer_of, in_slot, in_slots, begun}
 use Rattle.crossings.specs.Claim.{Onward, refused_then, Crosses, CrossesWell}
-use Rattle.crossings.proofs.OneLink.{Reached, reached-start, reached-more, within_held, up-to-slots, is_owner, tick-adds}
-use Rattle.crossings.proofs.Kept.{NoGrant, FlowKept, Kept, by-arriving, by-leaving, ticks-requested, ticks-credited, refused-more}
+use Rattle.crossings.proofs.OneLink.{reached-start, reached-more, within_held, up-to-slots, is_owner, tick-adds}
+use Rattle.crossings.proofs.Kept.{NoGrant, Kept, by-arriving, by-leaving, ticks-requested, refused-more}
 use Rattle.crossings.proofs.Tiles.{Tried}
 use Rattle.crossings.proofs.Board.{Full, served-full}
 

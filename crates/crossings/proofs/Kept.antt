@@ -1,24 +1,21 @@
 -- What a board keeps at a crossing, call by call. Assumes nothing.
-use Prim.Native.Nat.{ℕ, zero, suc, ◌+◌, ◌-◌, ◌*◌, ◌/◌, ◌%◌, ◌≤◌, ◌<◌, min}
+use Prim.Native.Nat.{ℕ, suc, ◌+◌, ◌*◌, ◌/◌, ◌%◌, ◌≤◌, ◌<◌}
 use mathlib.Core.Path.{◌≡◌, refl, sym, ap, ◌∙◌, subst}
-use mathlib.Core.List.{List, ◌∷◌, [], ◌++◌}
+use mathlib.Core.List.{List, ◌∷◌}
 use mathlib.Core.Option.{Option, some, none}
-use mathlib.Core.Bool.{Bool, true, false, not, ◌&&◌, true≢false, cond}
-use native.Mathlib.Decide.{dec_lt, ℕ_discrete}
+use mathlib.Core.Bool.{true, false, ◌&&◌}
 use native.Mathlib.Omega.{arith}
 use lib.Dec.{leb, eqb}
-use lib.ListN.{get_or, set, length, length-set}
-use lib.Seq.{get_or-set_same, get_or-set_other}
+use lib.ListN.{get_or, length}
 use native.Mathlib.Nat.{mod-lt}
-use borrow.Author.Tests.{le-leb, lt-leb, lt-ltb, eq-eqb, ne_eqb}
-use Rattle.model.specs.Tables.{ahead, bit, tally, any}
-use Rattle.model.specs.Word.{Fields, flow_of, destination_of, quantum_of, departure_of}
+use borrow.Author.Tests.{le-leb, lt-leb, lt-ltb, eq-eqb}
+use Rattle.model.specs.Tables.{ahead, tally}
+use Rattle.model.specs.Word.{Fields, flow_of, destination_of, departure_of}
 use Rattle.model.specs.Plan.{Plan, positions, flow_count, entry, Accepted}
-use Rattle.model.specs.Calls.{Call, Grant, CreditAnswer, TickAnswer, Event, History, requested, credited, ticked, lent, accepted, refused}
+use Rattle.model.specs.Calls.{Grant, CreditAnswer, Event, History, requested, credited, ticked, lent, accepted, refused}
 use Rattle.model.specs.Link.{Link, flow}
-use Rattle.model.specs.Scheduler.{Played, reference, step}
-use Rattle.model.specs.History.{Mark, marks_of, refusal_at, at_slot, ticks, slot_after, has_come, well_formed, grants, credits, of_flow, granted_up_to}
-use Rattle.model.specs.History.{lent_up_to, credited_up_to, granted_in_all, expected_number}
+use Rattle.model.specs.Scheduler.{Played, reference}
+use Rattle.model.specs.History.{marks_of, refusal_at, at_slot, ticks, slot_after, has_come, well_formed, grants, credits, of_flow, granted_up_to}
 use Rattle.model.specs.Claim.{Each, AtRequest}
 use Rattle.arrival.specs.AcceptedCredits.{AtCredit, IsAccepted, GivesBackFrom}
 use Rattle.model.specs.TwoHops.{InStep}
@@ -30,10 +27,10 @@ use Rattle.model.proofs.Departures.{come-at}
 use Rattle.model.proofs.AfterHistory.{After}
 use Rattle.model.proofs.Marks.{up-to-skip}
 use Rattle.arrival.proofs.EnoughCells.{up-to-more}
-use Rattle.arrival.proofs.TileSlots.{slots-hit, slots-skip, count-slots}
-use Rattle.crossings.specs.Crossing.{Crossing, crossing_with, goes_on_as, waits, asking}
+use Rattle.arrival.proofs.TileSlots.{slots-hit, slots-skip}
+use Rattle.crossings.specs.Crossing.{Crossing, crossing_with, waits, asking}
 use Rattle.crossings.specs.Claim.{AsksNow, Onward, refused_then}
-use Rattle.crossings.proofs.OneLink.{Reached, known, credits-by-holding, up-to-most, slot-to-come, granted-position, granted_later}
+use Rattle.crossings.proofs.OneLink.{Reached, up-to-most, slot-to-come}
 
 -- ---- an event more on the in-link
 

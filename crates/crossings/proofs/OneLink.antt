@@ -1,5 +1,5 @@
 -- One link of a crossing: it is a run of calls, and what an event more changes of what is counted. Assumes nothing.
-use Prim.Native.Nat.{ℕ, zero, suc, ◌+◌, ◌-◌, ◌*◌, ◌%◌, ◌≤◌, ◌<◌}
+use Prim.Native.Nat.{ℕ, suc, ◌+◌, ◌≤◌, ◌<◌}
 use mathlib.Core.Path.{◌≡◌, refl, sym, ap, ◌∙◌, subst}
 use mathlib.Core.List.{List, ◌∷◌, [], ◌++◌}
 use mathlib.Core.Option.{some, none}
@@ -10,26 +10,23 @@ use lib.Dec.{leb, eqb}
 use lib.ListN.{length}
 use borrow.Author.Tests.{le-leb, lt-leb, eq-eqb, ne_eqb}
 use Rattle.model.specs.Tables.{bit, tally}
-use Rattle.model.specs.Word.{flow_of, quantum_of, departure_of}
+use Rattle.model.specs.Word.{departure_of}
 use Rattle.model.specs.Plan.{Plan, positions, flow_count, entry, Accepted}
-use Rattle.model.specs.Calls.{Call, TickAnswer, Event, History, requested, credited, ticked, lent, accepted, refused}
+use Rattle.model.specs.Calls.{Call, TickAnswer, History, requested, accepted}
 use Rattle.model.specs.Scheduler.{Played, reference, step, play, started, run}
-use Rattle.model.specs.History.{Mark, ticks, slot_after, has_come, marks_of, refusal_at, grants, credits, grants_since, of_flow, at_slot, up_to, granted_up_to}
+use Rattle.model.specs.History.{Mark, ticks, slot_after, has_come, grants, credits, grants_since, of_flow, at_slot, up_to, granted_up_to}
 use Rattle.model.specs.History.{lent_up_to, credited_up_to}
-use Rattle.model.specs.Holding.{InWindow, frame_start}
+use Rattle.model.specs.Holding.{InWindow}
 use Rattle.model.specs.Claim.{Each}
-use Rattle.arrival.specs.AcceptedCredits.{CreditAcceptedAt, HoldsFrom, GivesBackFrom, IsAccepted}
+use Rattle.arrival.specs.AcceptedCredits.{CreditAcceptedAt}
 use Rattle.arrival.specs.SeveralLinks.{slots_of}
 use Rattle.model.proofs.Tests.{and-true}
-use Rattle.model.proofs.Tallies.{tally-append, tally-le}
-use Rattle.model.proofs.Marks.{up-to-skip}
+use Rattle.model.proofs.Tallies.{tally-le}
 use Rattle.model.proofs.Slots.{frame-begins, slot_after-first}
 use Rattle.model.proofs.Departures.{come-at}
-use Rattle.arrival.proofs.TileSlots.{slots-hit, slots-skip, count-slots}
 use Rattle.model.specs.Link.{flow}
 use Rattle.model.proofs.Invariant.{HoldsAt}
 use Rattle.model.proofs.HistoryCounts.{raises, raises-are}
-use Rattle.model.proofs.AfterHistory.{After}
 use Rattle.model.proofs.AfterCalls.{Known, after-calls, after-fresh}
 use Rattle.model.proofs.EventsOfRuns.{counts}
 use Rattle.model.proofs.CountedBursts.{play-both}

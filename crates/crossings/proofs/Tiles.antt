@@ -1,32 +1,27 @@
 -- What a board keeps at a crossing, tile by tile and flow by flow. Assumes nothing.
-use Prim.Native.Nat.{ℕ, zero, suc, ◌+◌, ◌-◌, ◌≤◌, ◌<◌, min}
+use Prim.Native.Nat.{ℕ, zero, suc, ◌-◌, ◌≤◌, ◌<◌}
 use mathlib.Core.Path.{◌≡◌, refl, sym, ap, ◌∙◌, subst}
-use mathlib.Core.List.{List, ◌∷◌, []}
+use mathlib.Core.List.{List, ◌∷◌}
 use mathlib.Core.Option.{Option, some, none}
-use mathlib.Core.Bool.{Bool, true, false, cond}
+use mathlib.Core.Bool.{false}
 use native.Mathlib.Decide.{ℕ_discrete}
 use native.Mathlib.Omega.{arith}
-use lib.Dec.{eqb}
-use lib.ListN.{get_or, set, length, length-set}
+use lib.ListN.{get_or, length, length-set}
 use lib.Seq.{get_or-set_same, get_or-set_other}
-use borrow.Author.Tests.{eqb-true, eqb-false, eq-eqb, ne_eqb}
-use Rattle.model.specs.Tables.{bit}
 use Rattle.model.specs.Word.{flow_of, departure_of}
-use Rattle.model.specs.Plan.{Plan, positions, flow_count, entry, Accepted}
-use Rattle.model.specs.Calls.{Call, Grant, CreditAnswer, TickAnswer, Event, History, requested, credited, accepted, refused}
-use Rattle.model.specs.Scheduler.{Played, reference, step}
-use Rattle.model.specs.History.{ticks, slot_after, has_come, grants, credits, up_to, granted_up_to, lent_up_to, credited_up_to}
+use Rattle.model.specs.Plan.{Plan, positions, Accepted}
+use Rattle.model.specs.Calls.{Call, Grant, CreditAnswer, History, requested, credited, accepted, refused}
+use Rattle.model.specs.Scheduler.{reference, step}
+use Rattle.model.specs.History.{ticks, slot_after, has_come, grants}
 use Rattle.model.specs.Claim.{Each, AtRequest}
-use Rattle.arrival.specs.AcceptedCredits.{AtCredit, IsAccepted}
+use Rattle.arrival.specs.AcceptedCredits.{IsAccepted}
 use Rattle.model.specs.TwoHops.{InStep}
 use Rattle.arrival.specs.SeveralLinks.{slots_of}
-use Rattle.model.proofs.HistoryCounts.{raises-are}
-use Rattle.crossings.specs.Crossing.{Crossing, crossing_with, goes_on_as, waits, asking, answer_for, asked_for, leaves, on_grant, pass_on, pass_as}
-use Rattle.crossings.specs.Crossing.{pass_flow, pass_waiting, queued, comes, arrives, served}
+use Rattle.crossings.specs.Crossing.{Crossing, waits, asking, answer_for, asked_for, leaves, on_grant, pass_on}
 use Rattle.crossings.specs.Claim.{AsksNow, Onward, refused_then}
-use Rattle.crossings.proofs.OneLink.{Reached, reached-more, known, credits-by-holding, up-to-most, slot-to-come, granted-position}
-use Rattle.crossings.proofs.OneLink.{granted_later, is_owner}
-use Rattle.crossings.proofs.Kept.{NotGiven, NoGrant, same-arriving, same-leaving, FlowKept, Kept, by-leaving, same-positions, same_slot}
+use Rattle.crossings.proofs.OneLink.{Reached, reached-more, known, credits-by-holding, granted-position}
+use Rattle.crossings.proofs.OneLink.{granted_later}
+use Rattle.crossings.proofs.Kept.{same-arriving, same-leaving, FlowKept, Kept, by-leaving, same_slot}
 use Rattle.crossings.proofs.Kept.{gives_back}
 use Rattle.crossings.proofs.Kept.{credit-dated, grant-slot, credit-came, ticks-credited, ticks-requested, AskedAs, asks-so, refused-more}
 use Rattle.crossings.proofs.Kept.{refused-now}

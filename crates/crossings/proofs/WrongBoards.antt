@@ -2,15 +2,14 @@
 use Prim.Native.Nat.{ℕ, zero, suc, ◌+◌, ◌≤◌, ◌<◌}
 use mathlib.Core.Path.{◌≡◌, refl, ap}
 use mathlib.Core.List.{List, ◌∷◌, []}
-use mathlib.Core.Option.{Option, some, none}
-use mathlib.Core.Bool.{Bool, true, false}
+use mathlib.Core.Option.{some, none}
+use mathlib.Core.Bool.{true, false}
 use native.Mathlib.Omega.{arith}
 use lib.ListN.{get_or, take}
 use lib.Dec.{lit<}
 use Rattle.model.specs.Tables.{bit}
 use Rattle.model.specs.Plan.{plan_of, refusal}
 use Rattle.model.specs.Calls.{Call}
-use Rattle.model.specs.TwoHops.{InStep}
 use Rattle.model.proofs.Unfoldings.{plans-compute}
 use Rattle.crossings.specs.Playing.{Board, Slot, on_arriving}
 use Rattle.crossings.specs.Claim.{Onward, Crosses, CrossesWell}

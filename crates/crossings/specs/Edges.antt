@@ -1,11 +1,11 @@
 -- Crossings worked out by hand, and one on which a slot more would be false. RULES 27.1 to 27.8. Assumes nothing.
-use Rattle.std.specs.Prelude.{ℕ, ◌+◌, ◌≤◌, ◌≡◌, List, ◌∷◌, [], reverse, get_or, replicate, take}
+use Rattle.std.specs.Prelude.{ℕ, ◌+◌, ◌≤◌, List, ◌∷◌, [], reverse, take}
 use Rattle.std.proofs.Math.Option.{Option, some, none}
 use Rattle.model.specs.Plan.{Plan, entry, plan_of}
 use Rattle.model.specs.Calls.{Call, History, requested, credited, ticked, accepted, refused}
 use Rattle.model.specs.History.{granted_up_to}
 use Rattle.model.specs.PlanBytes as plan_bytes
-use Rattle.crossings.specs.Crossing.{Crossing, served}
+use Rattle.crossings.specs.Crossing.{Crossing}
 use Rattle.crossings.specs.Playing.{Board, Other, on_arriving, on_leaving, Slot, played}
 
 -- the events of both links, oldest first, and how many tiles of the first flows wait

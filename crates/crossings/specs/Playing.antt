@@ -1,5 +1,5 @@
 -- A board that plays a crossing, slot by slot, and what others ask of its links. RULES 27.2 and 27.6. Assumes nothing.
-use Rattle.std.specs.Prelude.{ℕ, zero, suc, List, ◌∷◌, [], Bool, true, false, not, cond, replicate, length, eqb}
+use Rattle.std.specs.Prelude.{ℕ, List, ◌∷◌, [], Bool, true, false, not, cond, replicate, length, eqb}
 use Rattle.std.proofs.Math.Option.{Option, some, none}
 use Rattle.model.specs.Tables.{any}
 use Rattle.model.specs.Word.{flow_of}

@@ -1,14 +1,14 @@
 -- Boards that are not ours: each does all but one thing as RULES 27.2 to 27.4 say. `CrossesWell` sends them back. Assumes nothing.
-use Rattle.std.specs.Prelude.{ℕ, zero, suc, ◌+◌, ◌-◌, ◌%◌, min, ◌∷◌, [], Bool, false, cond, set, eqb}
+use Rattle.std.specs.Prelude.{ℕ, zero, suc, ◌-◌, ◌%◌, ◌∷◌, [], cond, eqb}
 use Rattle.std.proofs.Math.Option.{Option, some, none}
 use Rattle.model.specs.Word.{join, departure_of}
 use Rattle.model.specs.Plan.{positions, flow_count, entry}
-use Rattle.model.specs.Calls.{Call, Grant, TickAnswer, Event, History, requested, credited, ticked, lent, accepted, refused}
+use Rattle.model.specs.Calls.{Call, Grant, Event, History, requested, credited, ticked, lent, accepted, refused}
 use Rattle.model.specs.Link.{Link, flow}
 use Rattle.model.specs.Tick.{next_position}
 use Rattle.model.specs.History.{ticks}
 use Rattle.model.specs.Scheduler.{reference, step}
-use Rattle.crossings.specs.Crossing.{Crossing, crossing_with, goes_on_as, waits, with_waiting, asking, leaves, queued, comes}
+use Rattle.crossings.specs.Crossing.{Crossing, crossing_with, goes_on_as, waits, with_waiting, asking, leaves, queued}
 use Rattle.crossings.specs.Playing.{Board}
 
 -- ---- a board by its habits

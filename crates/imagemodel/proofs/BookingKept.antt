@@ -14,7 +14,7 @@ use borrow.Author.Tests.{leb-false, lt-ltb, eq-eqb, ne_eqb}
 use Rattle.model.specs.Tables.{table, bit}
 use Rattle.model.specs.Plan.{positions, flow_count}
 use Rattle.model.specs.Window.{passed, every_from}
-use Rattle.model.specs.Link.{Link, Flow, window, owner, flow, holding, share, cells, with_owners, moved_to, with_held, held_from}
+use Rattle.model.specs.Link.{Link, Flow, window, owner, flow, holding, share, cells, with_owners, held_from}
 use Rattle.model.specs.Request as request
 use Rattle.model.specs.History.{frame_of}
 use Rattle.model.specs.Holding.{InWindow}

@@ -24,7 +24,7 @@ use Rattle.model.proofs.Slots.{some-frame, some-position, frame-begins}
 use Rattle.model.proofs.Window.{Current, head_is, last_is}
 use Rattle.model.proofs.LinkUpdates.{flow-with_flows, carried_on-at}
 use Rattle.model.proofs.TickKeeps.{left-number}
-use Rattle.imagemodel.specs.Consistent.{known, booked_by, bookings_in}
+use Rattle.imagemodel.specs.Consistent.{booked_by, bookings_in}
 use Rattle.imagemodel.proofs.Bookings.{booking}
 use Rattle.imagemodel.proofs.OldHead.{owners_after, step, kept, added, owner-is, known-still, bookings-last, bookings-stay}
 use Rattle.imagemodel.proofs.BySlots.{Spends, GrowsAt, HoldsWell, FlowAt, LinkAt, slot-before}

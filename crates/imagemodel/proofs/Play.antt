@@ -1,5 +1,5 @@
 -- Records played on an image: on the image of a link they are played on the link, and their numbers stand in the bytes. RULES 12.8. Assumes nothing.
-use Prim.Native.Nat.{ℕ, zero, suc, ◌+◌, ◌*◌, ◌/◌, ◌%◌, ◌^◌, ◌≤◌, ◌<◌}
+use Prim.Native.Nat.{ℕ, zero, suc, ◌+◌, ◌*◌, ◌/◌, ◌%◌, ◌≤◌, ◌<◌}
 use mathlib.Core.Path.{◌≡◌, refl, sym, ap, ◌∙◌}
 use mathlib.Core.List.{List, ◌∷◌, [], ◌++◌, flat_map, append-nil, append_assoc}
 use mathlib.Core.Option.{Option, some, none}
@@ -58,20 +58,20 @@ record-on-image v rest none = refl
 pub all-kept : {l : Link} → Keepable l → (rs : List (List ℕ)) → KeptAfter l (in_order l rs).link
 unfolding in_order
 all-kept v [] = record { same_plan = refl; kept = v }
-all-kept v (r ∷ rs) =
+all-kept {l = l} v (r ∷ rs) =
     let one = made_kept v (call_of r) in
-    let more = all-kept one.kept rs in
+    let more = all-kept {l = (made_on l (call_of r)).link} one.kept rs in
     record { same_plan = more.same_plan ∙ one.same_plan; kept = more.kept }
 
 all-on-image : {l : Link} → Keepable l → (rest : List ℕ) (rs : List (List ℕ))
     → one_by_one (image_of l ++ rest) rs ≡ record { buffer = image_of (in_order l rs).link ++ rest; numbers = (in_order l rs).numbers }
 unfolding one_by_one in_order
 all-on-image v rest [] = refl
-all-on-image {l} v rest (r ∷ rs) =
+all-on-image {l = l} v rest (r ∷ rs) =
     ap (λ (x : Called). record { buffer = (one_by_one x.buffer rs).buffer; numbers = x.result ∷ (one_by_one x.buffer rs).numbers })
     (record-on-image v rest (call_of r))
     ∙ ap (λ (y : Results). record { buffer = y.buffer; numbers = (made_on l (call_of r)).number ∷ y.numbers })
-    (all-on-image (made_kept v (call_of r)).kept rest rs)
+    (all-on-image {l = (made_on l (call_of r)).link} (made_kept v (call_of r)).kept rest rs)
 
 -- on an image that is taken
 pub all-called : {b : List ℕ} → ValidImage b → AllBytes b → (rs : List (List ℕ))

@@ -1,6 +1,6 @@
 -- A reset leaves a link that meets the conditions. Assumes nothing.
 use Prim.Native.Nat.{ℕ, zero, suc, ◌+◌, ◌*◌, ◌%◌, ◌<◌, ◌≤◌}
-use mathlib.Core.Path.{◌≡◌, refl, sym, ap, ◌∙◌, subst}
+use mathlib.Core.Path.{◌≡◌, refl, sym, ap, subst}
 use mathlib.Core.List.{List}
 use mathlib.Core.Option.{Option, none}
 use mathlib.Core.Bool.{Bool, true}
@@ -11,15 +11,15 @@ use lib.Dec.{eqb}
 use borrow.Author.Tests.{eqb-true, not-false}
 use Rattle.model.specs.Tables.{bit}
 use Rattle.model.specs.Refusals.{first_of}
-use Rattle.model.specs.Plan.{Plan, positions, flow_count}
+use Rattle.model.specs.Plan.{positions, flow_count}
 use Rattle.model.specs.Window.{every_from}
-use Rattle.model.specs.Link.{Link, Flow, window, flow, holding}
+use Rattle.model.specs.Link.{Link, window, holding}
 use Rattle.model.specs.History.{frame_of}
 use Rattle.model.specs.Holding.{InWindow}
-use Rattle.model.specs.Reset.{none_held, quiet, reset_tests, from_head, reset_link, reset_after, reset}
+use Rattle.model.specs.Reset.{none_held, reset_tests, from_head, reset_link, reset_after, reset}
 use Rattle.model.proofs.Tests.{line-passed}
-use Rattle.model.proofs.Tables.{length-table, every-at, get_d-table}
-use Rattle.model.proofs.Slots.{some-frame, some-position, current-in-window}
+use Rattle.model.proofs.Tables.{length-table, every-at}
+use Rattle.model.proofs.Slots.{some-frame, current-in-window}
 use Rattle.model.proofs.Window.{head_is, every_from-at}
 use Rattle.model.proofs.LinkUpdates.{owner-with_owners, flow-with_flows}
 use Rattle.model.proofs.ResetTests.{quiet-parts}
