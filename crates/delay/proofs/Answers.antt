@@ -1,6 +1,6 @@
 -- What the tests leave of the numbers, and what is answered then. Assumes nothing.
-use Prim.Native.Nat.{ℕ, ◌+◌, ◌-◌, ◌*◌, ◌/◌, ◌≤◌, ◌<◌}
-use mathlib.Core.Path.{◌≡◌, refl, sym, ◌∙◌}
+use Prim.Native.Nat.{ℕ, ◌-◌, ◌*◌, ◌≤◌}
+use mathlib.Core.Path.{◌≡◌, sym}
 use mathlib.Core.Bool.{true, false, not}
 use mathlib.Core.List.{◌∷◌, []}
 use native.Mathlib.Nat.{mul-le-mul_right}
@@ -8,11 +8,11 @@ use native.Mathlib.Omega.{arith}
 use lib.Dec.{ltb}
 use borrow.Author.Tests.{ltb-false, ne_eqb}
 use Rattle.model.specs.Tables.{within}
-use Rattle.model.specs.Refusals.{first_of, ◌when◌}
+use Rattle.model.specs.Refusals.{◌when◌}
 use Rattle.model.proofs.Tests.{or-false, in-range, line-passed}
 use Rattle.delay.specs.declared.Delayed.{Delayed}
 use Rattle.delay.specs.Limits.{Asked, Passed}
-use Rattle.delay.specs.Bounds.{frames_in, bounds, no_question, refusal_of, delayed, answer_for}
+use Rattle.delay.specs.Bounds.{frames_in, no_question, refusal_of, delayed, answer_for}
 
 pub asked-limits : (m burst : ℕ) → no_question m burst ≡ false → Asked m burst
 unfolding no_question

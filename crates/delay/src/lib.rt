@@ -1,4 +1,6 @@
 // When a tile arrives: how many slots it takes over several links at most, and how many cells keep it so.
+#![tactic(auto)]
+
 ghost use Rattle.std.specs.Prelude.{◌≡◌, ◌≤◌};
 ghost use Rattle.delay.specs.Bounds.{frames_in, no_question, refusal_of, answer_for};
 ghost use Rattle.delay.specs.Limits.{Asked};

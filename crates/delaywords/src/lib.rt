@@ -1,4 +1,6 @@
 // The word that asks when a tile arrives.
+#![tactic(auto)]
+
 ghost use Rattle.std.specs.Prelude.{◌≤◌, length};
 ghost use Rattle.replies.specs.Lines.{room, Says};
 ghost use Rattle.delaywords.specs.DelayWord.{line_for, answer_to_delay};

@@ -1,19 +1,19 @@
 -- What the tests before the links leave, and the refusal by the links. Assumes nothing.
-use Prim.Native.Nat.{ℕ, zero, suc, ◌+◌, ◌*◌, ◌/◌, ◌≤◌, ◌<◌}
+use Prim.Native.Nat.{ℕ, zero, suc, ◌/◌, ◌≤◌, ◌<◌}
 use mathlib.Core.Path.{◌≡◌, refl, sym, ap, ◌∙◌}
 use mathlib.Core.List.{List, ◌∷◌, [], ◌++◌}
-use mathlib.Core.Bool.{Bool, true, false, not, cond}
+use mathlib.Core.Bool.{Bool, true, false, cond}
 use native.Mathlib.Omega.{arith}
 use lib.ListN.{length, get_or, replicate}
 use lib.Dec.{ltb}
 use borrow.Author.Tests.{ltb-false, not-false}
-use Rattle.model.specs.Tables.{table, any, sum, within}
+use Rattle.model.specs.Tables.{any, sum}
 use Rattle.model.specs.Refusals.{Line, ◌when◌, first_of}
 use Rattle.model.proofs.Tests.{in-range, any_none, any_same, line-passed}
 use Rattle.model.proofs.Tables.{get_d-table, table_same}
 use Rattle.mesh.specs.Mesh.{links, some_of}
 use Rattle.mesh.specs.Streams.{Stream, stream, share_on, load}
-use Rattle.mesh.specs.Admission.{stream_fits, over, refusal_before_links, refusal, FittingStream}
+use Rattle.mesh.specs.Admission.{over, refusal_before_links, refusal, FittingStream}
 use Rattle.mesh.specs.Reading.{stream_at, streams_of, link_at, loads_when}
 use Rattle.mesh.specs.Loads.{SmallStreams, gathered_loads}
 use Rattle.mesh.proofs.Tests.{fitting, count_is, stream-is}

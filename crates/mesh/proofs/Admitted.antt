@@ -1,17 +1,16 @@
 -- A set of streams is given no refusal exactly when it is admitted. Assumes nothing.
-use Prim.Native.Nat.{ℕ, zero, suc, ◌+◌, ◌*◌, ◌/◌, ◌%◌, ◌≤◌, ◌<◌}
+use Prim.Native.Nat.{ℕ, ◌+◌, ◌*◌, ◌/◌, ◌%◌, ◌≤◌, ◌<◌}
 use mathlib.Core.Path.{◌≡◌, refl, sym, ap, ap₂, ◌∙◌}
 use mathlib.Core.List.{List, ◌∷◌, []}
-use mathlib.Core.Bool.{Bool, true, false, not, ◌&&◌, ◌||◌, cond}
+use mathlib.Core.Bool.{Bool, true, false, not, ◌||◌, cond}
 use native.Mathlib.Decide.{ℕ_discrete}
 use native.Mathlib.Omega.{arith}
 use lib.ListN.{length}
-use lib.Dec.{ltb}
-use borrow.Author.Tests.{ltb-true, ltb-false, le-ltb, le-leb, ne_eqb}
-use Rattle.model.specs.Tables.{table, any, within}
-use Rattle.model.specs.Refusals.{◌when◌, first_of}
-use Rattle.model.proofs.Tests.{and-true, any_none, any-of-none}
-use Rattle.mesh.specs.Mesh.{Side, north, west, east, south, Link, link, joined, in_mesh, keep, some_of, links}
+use borrow.Author.Tests.{ltb-false, le-ltb, le-leb, ne_eqb}
+use Rattle.model.specs.Tables.{table}
+use Rattle.model.specs.Refusals.{first_of}
+use Rattle.model.proofs.Tests.{any_none, any-of-none}
+use Rattle.mesh.specs.Mesh.{Side, north, west, east, south, Link, link, in_mesh, keep, some_of, links}
 use Rattle.mesh.specs.Streams.{Stream, stream, load}
 use Rattle.mesh.specs.Admission.{stream_fits, over, refusal_before_links, refusal, over_links, FittingStream, Admitted}
 use Rattle.mesh.specs.Reading.{side_at, link_at}

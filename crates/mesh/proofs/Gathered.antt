@@ -1,18 +1,18 @@
 -- Loads to which one stream after another is added. Assumes nothing.
-use Prim.Native.Nat.{ℕ, zero, suc, ◌+◌, ◌*◌, ◌/◌, ◌%◌, ◌≤◌, ◌<◌}
-use mathlib.Core.Path.{◌≡◌, refl, sym, ap, ◌∙◌}
+use Prim.Native.Nat.{ℕ, zero, suc, ◌+◌, ◌/◌, ◌%◌, ◌≤◌, ◌<◌}
+use mathlib.Core.Path.{◌≡◌, refl, ap, ◌∙◌}
 use mathlib.Core.List.{List, ◌∷◌}
-use mathlib.Core.Bool.{Bool, true, false, ◌&&◌, cond}
+use mathlib.Core.Bool.{Bool, cond}
 use native.Mathlib.Omega.{arith}
-use lib.ListN.{length, get_or, replicate}
-use lib.Dec.{leb, ltb, eqb}
+use lib.ListN.{get_or, replicate}
+use lib.Dec.{leb, ltb}
 use borrow.Author.Tests.{ltb-true, leb-true, lt-ltb, le-leb, eq-eqb}
 use Rattle.model.specs.Tables.{table, sum}
 use Rattle.model.proofs.Tests.{same_truth}
 use Rattle.model.proofs.Tables.{get_d-table, table_same}
 use Rattle.model.proofs.Tallies.{sum-le, sum-const}
 use Rattle.limits.proofs.Tests.{sum_more}
-use Rattle.mesh.specs.Mesh.{Side, north, west, east, south, column, row}
+use Rattle.mesh.specs.Mesh.{north, west, east, south, column, row}
 use Rattle.mesh.specs.Streams.{stream_with, on_way, uses, share_on}
 use Rattle.mesh.specs.Reading.{stream_at, side_at, link_at}
 use Rattle.mesh.specs.Loads.{Small, SmallStreams, in_line, raised, gathered_loads}

@@ -1,16 +1,15 @@
 -- The links of the mesh and the places of the table: what a place that is no link carries is nothing. Assumes nothing.
-use Prim.Native.Nat.{ℕ, zero, suc, ◌+◌, ◌/◌, ◌%◌, ◌≤◌, ◌<◌}
+use Prim.Native.Nat.{ℕ, zero, suc, ◌/◌, ◌<◌}
 use mathlib.Core.Path.{◌≡◌, refl, sym, ap, ◌∙◌}
 use mathlib.Core.List.{List, ◌∷◌, [], flat_map}
 use mathlib.Core.Bool.{Bool, true, false, ◌&&◌, ◌||◌, cond}
 use native.Mathlib.Omega.{arith}
 use lib.ListN.{length}
-use lib.Dec.{ltb}
-use borrow.Author.Tests.{ltb-true, leb-true, eqb-true, lt-ltb, le-ltb}
+use borrow.Author.Tests.{lt-ltb, le-ltb}
 use Rattle.model.specs.Tables.{table, any, sum}
-use Rattle.model.proofs.Tests.{and-true, same_truth, any_same}
-use Rattle.mesh.specs.Mesh.{Side, north, west, east, south, Link, column, row, joined, in_mesh, keep, some_of, links_at, links}
-use Rattle.mesh.specs.Streams.{Stream, stream, on_way, uses, share_on, load}
+use Rattle.model.proofs.Tests.{any_same}
+use Rattle.mesh.specs.Mesh.{Link, joined, in_mesh, keep, some_of, links}
+use Rattle.mesh.specs.Streams.{Stream, stream, uses, load}
 use Rattle.mesh.specs.Admission.{over, FittingStream, over_links}
 use Rattle.mesh.specs.Reading.{link_at}
 use Rattle.mesh.proofs.OnWay.{on-way, on-way-joined}

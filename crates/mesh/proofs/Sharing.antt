@@ -1,6 +1,6 @@
 -- Streams of one link, taken for the flows of a plan, pass its share test. Assumes nothing.
 use Prim.Native.Nat.{ℕ, zero, suc, ◌+◌, ◌≤◌, ◌<◌}
-use mathlib.Core.Path.{◌≡◌, refl, sym, ap, ◌∙◌}
+use mathlib.Core.Path.{◌≡◌, sym, ap, ◌∙◌}
 use mathlib.Core.List.{List, ◌∷◌, []}
 use mathlib.Core.Bool.{Bool, true, false, cond}
 use native.Mathlib.Decide.{ℕ_discrete}
@@ -12,7 +12,7 @@ use Rattle.model.specs.Tables.{sum}
 use Rattle.model.specs.Refusals.{◌when◌, first_of}
 use Rattle.model.specs.Plan as plan
 use Rattle.mesh.specs.Mesh.{Link, in_mesh}
-use Rattle.mesh.specs.Streams.{Stream, stream, uses, share_on, load}
+use Rattle.mesh.specs.Streams.{Stream, stream, share_on, load}
 use Rattle.mesh.specs.Admission.{Admitted}
 use Rattle.mesh.specs.Sharing.{Carried}
 use Rattle.mesh.proofs.Admission.{sum_same}

@@ -1,15 +1,14 @@
 -- The tests before the links, on the streams of some numbers. Assumes nothing.
-use Prim.Native.Nat.{ℕ, ◌*◌, ◌/◌, ◌≤◌, ◌<◌}
-use mathlib.Core.Path.{◌≡◌, refl, sym, ap, ap₂, ◌∙◌}
+use Prim.Native.Nat.{ℕ, ◌/◌, ◌≤◌, ◌<◌}
+use mathlib.Core.Path.{◌≡◌, ap, ◌∙◌}
 use mathlib.Core.List.{List, ◌∷◌, []}
-use mathlib.Core.Bool.{Bool, true, false, not, cond}
-use native.Mathlib.Omega.{arith}
-use lib.ListN.{length, get_or}
+use mathlib.Core.Bool.{Bool, true, not, cond}
+use lib.ListN.{length}
 use lib.Dec.{ltb}
-use borrow.Author.Tests.{ltb-false, leb-true, lt-ltb, lt-leb, le-leb, le-ltb, eqb-false, not-true, not-false}
-use Rattle.model.specs.Tables.{any, sum, within}
+use borrow.Author.Tests.{leb-true, lt-ltb, lt-leb, le-leb, le-ltb, eqb-false, not-true}
+use Rattle.model.specs.Tables.{any, within}
 use Rattle.model.specs.Refusals.{◌when◌, first_of}
-use Rattle.model.proofs.Tests.{and-true, within-true, in-range, any_none, any_same, line-passed}
+use Rattle.model.proofs.Tests.{and-true, within-true, any_same}
 use Rattle.model.proofs.Tables.{length-table, get_d-table}
 use Rattle.mesh.specs.Streams.{Stream, no_stream, stream}
 use Rattle.mesh.specs.Admission.{stream_fits, refusal_before_links, FittingStream}

@@ -1,20 +1,19 @@
 -- The way of a stream has the links that the stream uses, leads from its source to its destination, and is as long as they lie apart. Assumes nothing.
-use Prim.Native.Nat.{ℕ, zero, suc, ◌+◌, ◌-◌, ◌*◌, ◌≤◌, ◌<◌}
+use Prim.Native.Nat.{ℕ, ◌+◌, ◌-◌, ◌*◌, ◌≤◌, ◌<◌}
 use mathlib.Core.Path.{◌≡◌, refl, sym, ap, ◌∙◌}
-use mathlib.Core.List.{List, ◌++◌}
+use mathlib.Core.List.{List}
 use mathlib.Core.Bool.{Bool, true, false, cond}
 use mathlib.Core.Logic.{⊎_elim}
 use native.Mathlib.Omega.{arith}
 use lib.ListN.{length, length-append}
 use lib.Dec.{ltb}
 use borrow.Author.Tests.{ltb-true, ltb-false, lt-ltb, le-ltb}
-use Rattle.model.specs.Tables.{table}
 use Rattle.model.proofs.Tables.{length-table}
-use Rattle.mesh.specs.Mesh.{Side, north, west, east, south, Link, link, to, column, row, in_mesh}
-use Rattle.mesh.specs.Streams.{Stream, on_way, uses}
+use Rattle.mesh.specs.Mesh.{Side, north, west, east, south, Link, link, column, row}
+use Rattle.mesh.specs.Streams.{Stream, uses}
 use Rattle.mesh.specs.Way.{eastward, westward, southward, northward, along_row, along_column, corner, way, apart, distance, Walk, In, RightWay}
 use Rattle.mesh.proofs.OnWay.{OnWay, on-way, way_on, on-way-joined, mesh-whole}
-use Rattle.mesh.proofs.Walks.{walk-on, chain, walk-between, in_table, Element, of-table, in-first, in-second, in_either}
+use Rattle.mesh.proofs.Walks.{walk-on, chain, walk-between, in_table, of-table, in-first, in-second, in_either}
 
 -- ---- in one direction
 

@@ -1,5 +1,5 @@
 -- Streams of one link (RULES 16.3) as the flows of a plan (RULES 2.3). Assumes nothing.
-use Rattle.std.specs.Prelude.{ℕ, ◌≤◌, ◌<◌, ◌≡◌, List, true, length}
+use Rattle.std.specs.Prelude.{ℕ, ◌<◌, ◌≡◌, List, true, length}
 use Rattle.model.specs.Plan as plan
 use Rattle.mesh.specs.Mesh.{Link}
 use Rattle.mesh.specs.Streams.{Stream, stream, uses}

@@ -1,7 +1,7 @@
 -- The way of a stream, link by link, first in its row. RULES 16.2. Assumes nothing.
 use Rattle.std.specs.Prelude.{ℕ, ◌+◌, ◌-◌, ◌*◌, ◌<◌, ◌≡◌, List, ◌∷◌, [], ◌++◌, true, cond, length, get_or, ltb}
 use Rattle.model.specs.Tables.{table}
-use Rattle.mesh.specs.Mesh.{Side, north, west, east, south, Link, link, to, column, row, in_mesh}
+use Rattle.mesh.specs.Mesh.{north, west, east, south, Link, link, to, column, row, in_mesh}
 use Rattle.mesh.specs.Streams.{Stream, uses}
 
 -- so many links to the east, or to another side, each from where the one before leads

@@ -1,4 +1,6 @@
 // Streams over the mesh of boards: what they put on each link, and whether a set of them is admitted.
+#![tactic(auto)]
+
 mod entries;
 mod loads;
 mod places;

@@ -1,4 +1,6 @@
 // The words that ask about streams over the mesh.
+#![tactic(auto)]
+
 mod asked;
 mod overloads;
 

@@ -1,4 +1,6 @@
 // The show editor's questions but for reading and writing: input is fed in pieces of any sizes, and the answers to the lines that end in each are handed back.
+#![tactic(auto)]
+
 mod answers;
 mod input;
 mod keywords;

@@ -26,7 +26,7 @@ use Rattle.mesh.proofs.Ways.{right-way}
 use Rattle.show.specs.Show.{Show, ShowStream, no_show_stream, show_stream, streams_in, uses_link, entry_on, link_plan, flow_on, used, plan_refusal, link_refusal, first_number, refusal}
 use Rattle.show.specs.Claim.{GoodPlan, FlowOf, InOrder, Planned, Flows, AllTheWay, show_numbers}
 use Rattle.show.proofs.LinkPlans.{in_use}
-use Rattle.show.proofs.Places.{first-none, stream-is, admits, fits, uses-in-mesh, in_mesh, refusal_is, refused-by-mesh, mesh-passed, link-passed}
+use Rattle.show.proofs.Places.{first-none, stream-is, admits, fits, uses-in-mesh, used-in-mesh, refusal_is, refused-by-mesh, mesh-passed, link-passed}
 use Rattle.show.proofs.Chosen.{Chosen, place_in, each-kept, each-passed, order-kept, get_d-map-below}
 use Rattle.show.proofs.LastLink.{usual-cells, last-cells, not_last, is_last}
 
@@ -172,7 +172,7 @@ pub known-number : (show : Show) → some_of (eqb (refusal show)) show_numbers �
 known-number show = go (ℕ_discrete (admission.refusal show.slots (streams_in show)) 0)
   where
     on_link : admission.refusal show.slots (streams_in show) ≡ 0 → (l : Link) (b : Bool) → used show l ≡ b → Known (cond b (plan_refusal show l) 0)
-    on_link z l true u = plan-known _ _ _ _ _ _ (never-6 (admits show z) (in_mesh show z l u) (carried show l))
+    on_link z l true u = plan-known _ _ _ _ _ _ (never-6 (admits show z) (used-in-mesh show z l u) (carried show l))
     on_link z l false u = none-known
 
     go : Dec (admission.refusal show.slots (streams_in show) ≡ 0) → Known (refusal show)

@@ -1,5 +1,4 @@
 -- A show of one stream over two links, and a run of its boards in which all that `in_time` asks holds. Assumes nothing.
-use Prim.Native.Nat.{ℕ}
 use mathlib.Core.Path.{◌≡◌, refl}
 use mathlib.Core.List.{◌∷◌, [], flat_map}
 use lib.Dec.{lit<, lit≤}
@@ -14,7 +13,7 @@ use Rattle.mesh.specs.Way.{way}
 use Rattle.mesh.specs.Admission as admission
 use Rattle.show.specs.Show.{Show, show_stream, link_plan, flow_on, used, first_number, refusal}
 use Rattle.show.specs.Edges.{sent, show_with}
-use Rattle.show.specs.Delay.{OnLinks, PassedAlong, EnoughCells, InTime}
+use Rattle.show.specs.Delay.{OnLinks, PassedAlong, InTime}
 use Rattle.show.proofs.Delay.{in_time}
 
 -- F = 2, W = 2, N = 8: a stream from board 0 over board 1 to board 9, with share 2, 4 cells on the first link and 6 on the last

@@ -2,15 +2,14 @@
 use Prim.Native.Nat.{ℕ, zero, suc, ◌+◌, ◌/◌, ◌≤◌, ◌<◌}
 use mathlib.Core.Path.{◌≡◌, refl, sym, ap, ◌∙◌}
 use mathlib.Core.List.{List, ◌∷◌, [], map}
-use mathlib.Core.Bool.{Bool, true, false, ◌&&◌, cond}
+use mathlib.Core.Bool.{Bool, true, false, cond}
 use native.Mathlib.Decide.{ℕ_discrete}
 use native.Mathlib.Omega.{arith}
 use lib.ListN.{length, get_or, length-map, get_or-map}
 use Rattle.model.specs.Tables.{table}
-use Rattle.model.proofs.Tests.{and-true}
 use Rattle.model.proofs.Tables.{table_same}
 use Rattle.mesh.specs.Mesh.{Link, in_mesh, keep, some_of, links}
-use Rattle.mesh.specs.Streams.{stream, uses}
+use Rattle.mesh.specs.Streams.{stream}
 use Rattle.mesh.specs.Admission as admission
 use Rattle.mesh.specs.Admission.{FittingStream, Admitted}
 use Rattle.mesh.specs.Reading.{streams_of, link_at}
@@ -101,8 +100,8 @@ module _ (show : Show) where
         go i h true e = let on = uses-in-mesh l i h e in let z : ◌≡◌ {A = ℕ} 0 1 = cc in absurd (omega arith)
 
     -- so are the links that are used
-    pub in_mesh : (l : Link) → used show l ≡ true → in_mesh l ≡ true
-    in_mesh l u = go (in_mesh l) refl
+    pub used-in-mesh : (l : Link) → used show l ≡ true → in_mesh l ≡ true
+    used-in-mesh l u = go (in_mesh l) refl
       where
         go : (b : Bool) → in_mesh l ≡ b → b ≡ true
         go true e = refl
@@ -148,7 +147,7 @@ module _ (show : Show) (none : refusal show ≡ 0) where
 
   pub link-passed : (l : Link) → used show l ≡ true → plan_refusal show l ≡ 0
   link-passed l u =
-      let node = (mesh-parts l (in_mesh show mesh-passed l u)).0 in
+      let node = (mesh-parts l (used-in-mesh show mesh-passed l u)).0 in
       let zero-there = none-placed (place l) (omega (arith, number-most l.side)) in
       ap (λ b. cond b (plan_refusal show l) 0) (sym u) ∙ ap (link_refusal show) (sym (link-there l)) ∙ zero-there
 

@@ -1,4 +1,6 @@
 // A show over the mesh: the plan of each link, and whether every link that is used has one.
+#![tactic(auto)]
+
 mod flows;
 mod ways;
 

@@ -1,4 +1,6 @@
 // The question of `domeshow` but for reading and writing: input is fed in pieces of any sizes, and at its end the answer is handed back.
+#![tactic(auto)]
+
 mod answers;
 mod pieces;
 

@@ -1,4 +1,6 @@
 // The word `show`: the numbers of a show, answered by its refusal, and by the plan or the refusal of each link that is used.
+#![tactic(auto)]
+
 mod links;
 
 ghost use Rattle.std.specs.Prelude.{◌≤◌, length};

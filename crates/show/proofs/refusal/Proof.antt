@@ -9,62 +9,62 @@ use Rattle.show.proofs.Places.{NoneYet, none_yet, none_more, found-one, none_at_
 use Rattle.show.proofs.refusal.Statement.{statement}
 use Rattle.show.proofs.refusal.Tie as tie
 
-abbrev invariant-loop : tie.invariant-loop
+abbrev invariant-loop : tie.invariant-loop-k
 invariant-loop dome numbers cells admission k₀ k = NoneYet (show_of dome numbers cells) k
 
-abbrev decreases-loop : tie.decreases-loop
+abbrev decreases-loop : tie.decreases-loop-k
 decreases-loop dome numbers cells admission k₀ k = 256 - k
 
 -- ---- what the mesh said
 
 -- the show of the numbers
-abbrev shown : tie.After-admit invariant-loop decreases-loop → Show
-shown c = let s = c.before.before.before.args in show_of s.dome s.numbers.now s.cells.now
+abbrev shown : tie.After-admit-admission invariant-loop decreases-loop → Show
+shown c = let s = c.args in show_of s.dome s.numbers.now s.cells.now
 
 -- the mesh's answer is the refusal of its streams
-mesh-said : (c : tie.After-admit invariant-loop decreases-loop) → c.admit.result ≡ admission.refusal (shown c).slots (streams_in (shown c))
+mesh-said : (c : tie.After-admit-admission invariant-loop decreases-loop) → c.admit-admission.result ≡ admission.refusal (shown c).slots (streams_in (shown c))
 mesh-said c =
-    let s = c.before.before.before.args in
-    c.admit.ensures ∙ ap (admission.refusal s.dome.slots) (sym (streams_are s.dome s.numbers.now s.cells.now))
+    let s = c.args in
+    c.admit-admission.ensures ∙ ap (admission.refusal s.dome.slots) (sym (streams_are s.dome s.numbers.now s.cells.now))
 
-mesh-passed : (c : tie.Else1 invariant-loop decreases-loop) → admission.refusal (shown c.before).slots (streams_in (shown c.before)) ≡ 0
-mesh-passed c = sym (mesh-said c.before) ∙ c.if1.false
+mesh-passed : (c : tie.Else-admission-ne0 invariant-loop decreases-loop) → admission.refusal (shown c.before).slots (streams_in (shown c.before)) ≡ 0
+mesh-passed c = sym (mesh-said c.before) ∙ c.if-admission-ne0.false
 
 -- ---- the needs
 
-admit-requires : tie.Need-admit-requires invariant-loop decreases-loop
+admit-requires : tie.Need-admit-admission-requires invariant-loop decreases-loop
 admit-requires c κs = search rules
 
-returns : tie.Need-returns invariant-loop decreases-loop
-returns c = mesh-said c.before ∙ refused-by-mesh (shown c.before) (λ z. c.if1.true (mesh-said c.before ∙ z))
+returns : tie.Need-returns-then-admission-ne0 invariant-loop decreases-loop
+returns c = mesh-said c.before ∙ refused-by-mesh (shown c.before) (λ z. c.if-admission-ne0.true (mesh-said c.before ∙ z))
 
-loop-holds : tie.Need-loop-init invariant-loop decreases-loop
+loop-holds : tie.Need-loop-k-init invariant-loop decreases-loop
 loop-holds c = none_yet _
 
-link-refusal-requires : tie.Need-link-refusal-requires invariant-loop decreases-loop
+link-refusal-requires : tie.Need-link_refusal-number-requires invariant-loop decreases-loop
 link-refusal-requires c κs = search rules
 
-returns-2 : tie.Need-returns-2 invariant-loop decreases-loop
+returns-2 : tie.Need-returns-then-number-ne0 invariant-loop decreases-loop
 returns-2 c =
     let loop = c.before.before in
-    found-one loop.before.loop.invariant loop.loop-test.true (mesh-passed loop.before.before) c.before.link-refusal.ensures c.if2.true
+    found-one loop.before.loop-k.invariant loop.loop-k-test.true (mesh-passed loop.before.before) c.before.link_refusal-number.ensures c.if-number-ne0.true
 
-add-k : tie.Need-overflow-add-k invariant-loop decreases-loop
+add-k : tie.Need-overflow_add-k invariant-loop decreases-loop
 add-k c = search rules
 
-loop-less : tie.Need-loop-smaller invariant-loop decreases-loop
+loop-less : tie.Need-loop-k-smaller invariant-loop decreases-loop
 loop-less c = search rules
 
-loop-again : tie.Need-loop-preserved invariant-loop decreases-loop
+loop-again : tie.Need-loop-k-preserved invariant-loop decreases-loop
 loop-again c =
     let loop = c.before.before in
-    none_more loop.before.loop.invariant loop.loop-test.true c.before.link-refusal.ensures c.if2.false
+    none_more loop.before.loop-k.invariant loop.loop-k-test.true c.before.link_refusal-number.ensures c.if-number-ne0.false
 
-returns-3 : tie.Need-returns-3 invariant-loop decreases-loop
-returns-3 c = none_at_all c.before.loop.invariant c.loop-test.false (mesh-passed c.before.before)
+returns-3 : tie.Need-returns invariant-loop decreases-loop
+returns-3 c = none_at_all c.before.loop-k.invariant c.loop-k-test.false (mesh-passed c.before.before)
 
-pub refusal-spec : {M : Type 1} → statement M
-refusal-spec =
+pub refusal_spec : {M : Type 1} → statement M
+refusal_spec =
     tie.close
     (tie.spec
     invariant-loop

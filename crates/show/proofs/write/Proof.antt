@@ -7,21 +7,21 @@ use Rattle.show.proofs.LinkPlans.{written_as}
 use Rattle.show.proofs.write.Statement.{statement}
 use Rattle.show.proofs.write.Tie as tie
 
-gathered-requires : tie.Need-gathered-requires
+gathered-requires : tie.Need-gathered-draft-requires
 gathered-requires c κs = search rules
 
 write-requires : tie.Need-write-requires
 write-requires c κs = search rules
 
-same_length : tie.Need-same-length
+same_length : tie.Need-shape_of-out
 same_length c = search rules
 
 returns : tie.Need-returns
 returns c =
     let wrote = c.before.before in
     let draft = wrote.before.before in
-    let start = draft.before.before.before.before.args in
-    let same = written_as start.dome start.numbers.now start.cells.now start.k (record { is = draft.gathered.ensures }) start.out.now in (
+    let start = draft.args in
+    let same = written_as start.dome start.numbers.now start.cells.now start.k (record { is = draft.gathered-draft.ensures }) start.out.now in (
       wrote.write.ensures.0 ∙ ap (λ (w : writer.Written). answer_for w.answer) same,
       (wrote.write.ensures.1.0 ∙ ap (λ (w : writer.Written). w.out) same, wrote.write.ensures.1.1),
     )

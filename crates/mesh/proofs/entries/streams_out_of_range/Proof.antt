@@ -6,85 +6,84 @@ use Rattle.limits.proofs.Tests.{None, none_yet, none_more, found-one, none_at_al
 use Rattle.mesh.specs.Admission.{stream_fits}
 use Rattle.mesh.specs.Reading.{stream_at}
 use borrow.Author.Rules.{rules}
-use native.Mathlib.Omega.{arith}
 use Rattle.mesh.proofs.entries.streams_out_of_range.Statement.{statement}
 use Rattle.mesh.proofs.entries.streams_out_of_range.Tie as tie
 
 abbrev misfit : ℕ → List ℕ → ℕ → Bool
 misfit slots numbers i = not (stream_fits slots (stream_at numbers i))
 
-abbrev invariant-loop : tie.invariant-loop
+abbrev invariant-loop : tie.invariant-loop-i
 invariant-loop slots numbers count i₀ i = None (misfit slots numbers) count i
 
-abbrev decreases-loop : tie.decreases-loop
+abbrev decreases-loop : tie.decreases-loop-i
 decreases-loop slots numbers count i₀ i = count - i
 
 -- the turn of the loop that a stream is tested in
-abbrev turn : tie.After-fits2 invariant-loop decreases-loop → tie.In-loop invariant-loop decreases-loop
+abbrev turn : tie.After-fits invariant-loop decreases-loop → tie.In-loop-i invariant-loop decreases-loop
 turn c = c.before.before.before.before
 
-loop-holds : tie.Need-loop-init invariant-loop decreases-loop
+loop-holds : tie.Need-loop-i-init invariant-loop decreases-loop
 loop-holds c = none_yet _ _
 
-mul-fits : tie.Need-overflow-mul-fits invariant-loop decreases-loop
+mul-fits : tie.Need-overflow_mul-i invariant-loop decreases-loop
 mul-fits c = search rules
 
-mul-fits-2 : tie.Need-overflow-mul-fits-2 invariant-loop decreases-loop
+mul-fits-2 : tie.Need-offset_bounds-numbers-i invariant-loop decreases-loop
 mul-fits-2 c = search rules
 
-shared-slice-read-fits : tie.Need-shared-slice-read-fits invariant-loop decreases-loop
+shared-slice-read-fits : tie.Need-bounds-numbers-i invariant-loop decreases-loop
 shared-slice-read-fits c = search rules
 
-mul-fits-3 : tie.Need-overflow-mul-fits-3 invariant-loop decreases-loop
+mul-fits-3 : tie.Need-overflow_mul-i-in-loop-i invariant-loop decreases-loop
 mul-fits-3 c = search rules
 
-add-fits : tie.Need-overflow-add-fits invariant-loop decreases-loop
+add-fits : tie.Need-overflow_add-i invariant-loop decreases-loop
 add-fits c = search rules
 
-mul-fits-4 : tie.Need-overflow-mul-fits-4 invariant-loop decreases-loop
+mul-fits-4 : tie.Need-offset_bounds-numbers-i-in-loop-i invariant-loop decreases-loop
 mul-fits-4 c = search rules
 
-shared-slice-read-fits-2 : tie.Need-shared-slice-read-fits-2 invariant-loop decreases-loop
+shared-slice-read-fits-2 : tie.Need-bounds-numbers-i-in-loop-i invariant-loop decreases-loop
 shared-slice-read-fits-2 c = search rules
 
-mul-fits-5 : tie.Need-overflow-mul-fits-5 invariant-loop decreases-loop
+mul-fits-5 : tie.Need-overflow_mul-i-in-loop-i-2 invariant-loop decreases-loop
 mul-fits-5 c = search rules
 
-add-fits-2 : tie.Need-overflow-add-fits-2 invariant-loop decreases-loop
+add-fits-2 : tie.Need-overflow_add-i-in-loop-i invariant-loop decreases-loop
 add-fits-2 c = search rules
 
-mul-fits-6 : tie.Need-overflow-mul-fits-6 invariant-loop decreases-loop
+mul-fits-6 : tie.Need-offset_bounds-numbers-i-in-loop-i-2 invariant-loop decreases-loop
 mul-fits-6 c = search rules
 
-shared-slice-read-fits-3 : tie.Need-shared-slice-read-fits-3 invariant-loop decreases-loop
+shared-slice-read-fits-3 : tie.Need-bounds-numbers-i-in-loop-i-2 invariant-loop decreases-loop
 shared-slice-read-fits-3 c = search rules
 
 fits-requires : tie.Need-fits-requires invariant-loop decreases-loop
 fits-requires c κs = search rules
 
-returns : tie.Need-returns invariant-loop decreases-loop
+returns : tie.Need-returns-then-not-fits invariant-loop decreases-loop
 returns c =
     let fits = c.before in
     let loop = turn fits in
-    found-one loop.before.loop.inv loop.loop-test.taken (not_is fits.fits2.ensures c.if1.true)
+    found-one loop.before.loop-i.invariant loop.loop-i-test.true (not_is fits.fits.ensures c.if-not-fits.true-raw)
 
-add-i : tie.Need-overflow-add-i invariant-loop decreases-loop
+add-i : tie.Need-overflow_add-i-in-loop-i-2 invariant-loop decreases-loop
 add-i c = search rules
 
-loop-less : tie.Need-loop-smaller invariant-loop decreases-loop
+loop-less : tie.Need-loop-i-smaller invariant-loop decreases-loop
 loop-less c = search rules
 
-loop-again : tie.Need-loop-preserved invariant-loop decreases-loop
+loop-again : tie.Need-loop-i-preserved invariant-loop decreases-loop
 loop-again c =
     let fits = c.before in
     let loop = turn fits in
-    none_more loop.before.loop.inv loop.loop-test.taken (not_is fits.fits2.ensures c.if1.false)
+    none_more loop.before.loop-i.invariant loop.loop-i-test.true (not_is fits.fits.ensures c.if-not-fits.false-raw)
 
-returns-2 : tie.Need-returns-2 invariant-loop decreases-loop
-returns-2 c = none_at_all c.before.loop.invariant c.loop-test.false
+returns-2 : tie.Need-returns invariant-loop decreases-loop
+returns-2 c = none_at_all c.before.loop-i.invariant c.loop-i-test.false
 
-pub streams-out-of-range-spec : {M : Type 1} → statement M
-streams-out-of-range-spec =
+pub streams_out_of_range_spec : {M : Type 1} → statement M
+streams_out_of_range_spec =
     tie.close
     (tie.spec
     invariant-loop

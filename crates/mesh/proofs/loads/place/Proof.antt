@@ -1,57 +1,56 @@
 -- `mesh::loads::place` meets its contract. Assumes nothing.
 use Rattle.mesh.proofs.Lines.{west-place, east-place, column-place}
-use native.Mathlib.Omega.{arith}
 use borrow.Author.Rules.{rules}
 use Rattle.mesh.proofs.loads.place.Statement.{statement}
 use Rattle.mesh.proofs.loads.place.Tie as tie
 
-mul-result : tie.Need-overflow-mul-result
+mul-result : tie.Need-overflow_mul-result
 mul-result c = search rules
 
-add-result : tie.Need-overflow-add-result
+add-result : tie.Need-overflow_add-result
 add-result c = search rules
 
-mul-result-2 : tie.Need-overflow-mul-result-2
+mul-result-2 : tie.Need-overflow_mul-result-then-side-eq1
 mul-result-2 c = search rules
 
-add-result-2 : tie.Need-overflow-add-result-2
+add-result-2 : tie.Need-overflow_add-result-then-side-eq1
 add-result-2 c = search rules
 
-returns : tie.Need-returns
-returns c = west-place c.before.requires.line_below c.before.requires.step_below c.if1.true
+returns : tie.Need-returns-then-side-eq1
+returns c = west-place c.requires.line_below c.requires.step_below c.if-side-eq1.true
 
-mul-result-3 : tie.Need-overflow-mul-result-3
+mul-result-3 : tie.Need-overflow_mul-result-then-side-eq2
 mul-result-3 c = search rules
 
-add-result-3 : tie.Need-overflow-add-result-3
+add-result-3 : tie.Need-overflow_add-result-then-side-eq2
 add-result-3 c = search rules
 
-mul-result-4 : tie.Need-overflow-mul-result-4
+mul-result-4 : tie.Need-overflow_mul-result-then-side-eq2-2
 mul-result-4 c = search rules
 
-add-result-4 : tie.Need-overflow-add-result-4
+add-result-4 : tie.Need-overflow_add-result-then-side-eq2-2
 add-result-4 c = search rules
 
-returns-2 : tie.Need-returns-2
-returns-2 c = let start = c.before.before in east-place start.requires.line_below start.requires.step_below c.if2.true
+returns-2 : tie.Need-returns-then-side-eq2
+returns-2 c = let start = c.before.before in east-place start.requires.line_below start.requires.step_below c.if-side-eq2.true
 
-mul-result-5 : tie.Need-overflow-mul-result-5
+mul-result-5 : tie.Need-overflow_mul-result-2
 mul-result-5 c = search rules
 
-add-result-5 : tie.Need-overflow-add-result-5
+add-result-5 : tie.Need-overflow_add-result-2
 add-result-5 c = search rules
 
-mul-result-6 : tie.Need-overflow-mul-result-6
+mul-result-6 : tie.Need-overflow_mul-result-3
 mul-result-6 c = search rules
 
-add-result-6 : tie.Need-overflow-add-result-6
+add-result-6 : tie.Need-overflow_add-result-3
 add-result-6 c = search rules
 
-returns-3 : tie.Need-returns-3
-returns-3 c = let start = c.before.before in column-place start.requires.line_below start.requires.step_below start.requires.side_below c.before.if1.false c.if2.false
+returns-3 : tie.Need-returns
+returns-3 c = let start = c.before.before in column-place start.requires.line_below start.requires.step_below start.requires.side_below c.before.if-side-eq1.false c.if-side-eq2.false
 
-pub place-spec : {M : Type 1} → statement M
-place-spec =
+pub place_spec : {M : Type 1} → statement M
+place_spec =
     tie.close
     (tie.spec
     mul-result

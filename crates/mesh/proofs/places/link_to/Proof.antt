@@ -1,6 +1,6 @@
 -- `mesh::places::link_to` meets its contract, side by side. Assumes nothing.
-use Prim.Native.Nat.{ℕ, zero, suc, ◌+◌, ◌/◌, ◌%◌}
-use mathlib.Core.Path.{◌≡◌, refl, sym, ap, ◌∙◌}
+use Prim.Native.Nat.{ℕ, ◌+◌, ◌/◌, ◌%◌}
+use mathlib.Core.Path.{◌≡◌, sym, ap, ◌∙◌}
 use Rattle.mesh.specs.Mesh.{beside, to}
 use Rattle.mesh.specs.Reading.{side_at, link_at}
 use native.Mathlib.Omega.{arith}
@@ -18,31 +18,31 @@ last k no-north no-west no-east = let south : k % 4 ≡ 3 = omega arith in led k
 before-requires : tie.Need-before-requires
 before-requires c κs = search rules
 
-returns : tie.Need-returns
-returns c = let side = c.before in c.before2.ensures ∙ led side.before.args.k side.if1.true
+returns : tie.Need-returns-then-side-eq0
+returns c = let side = c.before in c.before-then-side-eq0.ensures ∙ led side.args.k side.if-side-eq0.true
 
-before-requires-2 : tie.Need-before-requires-2
+before-requires-2 : tie.Need-before-requires-then-side-eq1
 before-requires-2 c κs = search rules
 
-returns-2 : tie.Need-returns-2
-returns-2 c = let side = c.before in c.before3.ensures ∙ led side.before.before.args.k side.if2.true
+returns-2 : tie.Need-returns-then-side-eq1
+returns-2 c = let side = c.before in c.before-then-side-eq1.ensures ∙ led side.args.k side.if-side-eq1.true
 
-add-result : tie.Need-overflow-add-result
+add-result : tie.Need-overflow_add-result
 add-result c = search rules
 
-returns-3 : tie.Need-returns-3
-returns-3 c = led c.before.before.before.args.k c.if3.true
+returns-3 : tie.Need-returns-then-side-eq2
+returns-3 c = led c.args.k c.if-side-eq2.true
 
-add-result-2 : tie.Need-overflow-add-result-2
+add-result-2 : tie.Need-overflow_add-result-2
 add-result-2 c = search rules
 
-returns-4 : tie.Need-returns-4
+returns-4 : tie.Need-returns
 returns-4 c =
     let start = c.before.before.before in
-    last start.args.k c.before.before.if1.false c.before.if2.false c.if3.false
+    last start.args.k c.before.before.if-side-eq0.false c.before.if-side-eq1.false c.if-side-eq2.false
 
-pub link-to-spec : {M : Type 1} → statement M
-link-to-spec =
+pub link_to_spec : {M : Type 1} → statement M
+link_to_spec =
     tie.close
     (tie.spec
     before-requires

@@ -6,17 +6,17 @@ use borrow.Author.Rules.{rules}
 use Rattle.show.proofs.flows.stored.Statement.{statement}
 use Rattle.show.proofs.flows.stored.Tie as tie
 
-mul-all : tie.Need-overflow-mul-all
+mul-all : tie.Need-offset_bounds-all-at
 mul-all c = search rules
 
-array-set-from-all : tie.Need-array-set-from-all
+array-set-from-all : tie.Need-bounds-all-at
 array-set-from-all c = search rules
 
-returns : tie.Need-returns
+returns : tie.Need-returns-then-at-lt16
 returns c = search rules
 
-returns-2 : tie.Need-returns-2
+returns-2 : tie.Need-returns
 returns-2 c = sym (set_out _ _ _ (omega arith))
 
-pub stored-spec : {M : Type 1} → statement M
-stored-spec = tie.close (tie.spec mul-all array-set-from-all returns returns-2)
+pub stored_spec : {M : Type 1} → statement M
+stored_spec = tie.close (tie.spec mul-all array-set-from-all returns returns-2)

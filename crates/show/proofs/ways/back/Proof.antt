@@ -3,14 +3,14 @@ use borrow.Author.Tests.{eq-eqb, ne_eqb, lt-ltb, le-ltb}
 use Rattle.show.proofs.ways.back.Statement.{statement}
 use Rattle.show.proofs.ways.back.Tie as tie
 
-returns : tie.Need-returns
-returns c = rw (ne_eqb _ _ c.if1.true)
+returns : tie.Need-returns-then-line-of
+returns c = rw (ne_eqb _ _ c.if-line-of.true)
 
-returns-2 : tie.Need-returns-2
-returns-2 c = rw (eq-eqb _ _ c.before.if1.false, le-ltb _ _ c.if2.true)
+returns-2 : tie.Need-returns-then-step-last
+returns-2 c = rw (eq-eqb _ _ c.before.if-line-of.false, le-ltb _ _ c.if-step-last.true)
 
-returns-3 : tie.Need-returns-3
-returns-3 c = rw (eq-eqb _ _ c.before.if1.false, lt-ltb _ _ c.if2.false)
+returns-3 : tie.Need-returns
+returns-3 c = rw (eq-eqb _ _ c.before.if-line-of.false, lt-ltb _ _ c.if-step-last.false)
 
-pub back-spec : {M : Type 1} → statement M
-back-spec = tie.close (tie.spec returns returns-2 returns-3)
+pub back_spec : {M : Type 1} → statement M
+back_spec = tie.close (tie.spec returns returns-2 returns-3)

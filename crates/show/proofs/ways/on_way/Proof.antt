@@ -18,41 +18,41 @@ last-side k no-north no-west no-east = omega arith
 back-requires : tie.Need-back-requires
 back-requires c κs = search rules
 
-returns : tie.Need-returns
+returns : tie.Need-returns-then-side-eq0
 returns c =
-    let start = c.before.before.args in
-    c.back.ensures ∙ on-side start.source start.destination start.k c.before.if1.true
+    let start = c.args in
+    c.back.ensures ∙ on-side start.source start.destination start.k c.before.if-side-eq0.true
 
-back-requires-2 : tie.Need-back-requires-2
+back-requires-2 : tie.Need-back-requires-then-side-eq1
 back-requires-2 c κs = search rules
 
-returns-2 : tie.Need-returns-2
+returns-2 : tie.Need-returns-then-side-eq1
 returns-2 c =
-    let start = c.before.before.before.args in
-    c.back2.ensures ∙ on-side start.source start.destination start.k c.before.if2.true
+    let start = c.args in
+    c.back-then-side-eq1.ensures ∙ on-side start.source start.destination start.k c.before.if-side-eq1.true
 
 ahead-requires : tie.Need-ahead-requires
 ahead-requires c κs = search rules
 
-returns-3 : tie.Need-returns-3
+returns-3 : tie.Need-returns-then-side-eq2
 returns-3 c =
-    let start = c.before.before.before.before.args in
-    c.ahead.ensures ∙ on-side start.source start.destination start.k c.before.if3.true
+    let start = c.args in
+    c.ahead.ensures ∙ on-side start.source start.destination start.k c.before.if-side-eq2.true
 
 ahead-requires-2 : tie.Need-ahead-requires-2
 ahead-requires-2 c κs = search rules
 
-returns-4 : tie.Need-returns-4
+returns-4 : tie.Need-returns
 returns-4 c =
     let third = c.before in
     let second = third.before in
     let first = second.before in
-    let start = first.before.args in
-    c.ahead2.ensures
-    ∙ on-side start.source start.destination start.k (last-side start.k first.if1.false second.if2.false third.if3.false)
+    let start = first.args in
+    c.ahead-2.ensures
+    ∙ on-side start.source start.destination start.k (last-side start.k first.if-side-eq0.false second.if-side-eq1.false third.if-side-eq2.false)
 
-pub on-way-spec : {M : Type 1} → statement M
-on-way-spec =
+pub on_way_spec : {M : Type 1} → statement M
+on_way_spec =
     tie.close
     (tie.spec
     back-requires
