@@ -4,11 +4,11 @@ use mathlib.Core.Path.{refl}
 use Rattle.link.proofs.Flow.granted_in.Statement.{statement}
 use Rattle.link.proofs.Flow.granted_in.Tie as tie
 
-add-self : tie.Need-overflow-add-self
+add-self : tie.Need-overflow_add-self
 add-self c = search rules
 
 returns : tie.Need-returns
 returns c = refl
 
-pub granted-in-spec : {M : Type 1} → statement M
-granted-in-spec = tie.close (tie.spec add-self returns)
+pub granted_in_spec : {M : Type 1} → statement M
+granted_in_spec = tie.close (tie.spec add-self returns)

@@ -7,28 +7,28 @@ use Rattle.link.proofs.Link.credit.Statement.{statement}
 use Rattle.link.proofs.Link.credit.Tie as tie
 
 -- what is given of the state
-in-at : (c : tie.After-window) → let l = c.before.before.before.args.t1 in StateIn l.plan c.window.result l.state
-in-at c = state-in c.before.before.before.requires c.window.ensures.0 c.window.ensures.1
+in-at : (c : tie.After-window-w) → let l = c.before.before.before.args.t1 in StateIn l.plan c.window.result l.state
+in-at c = state-in c.requires c.window-w.ensures.0 c.window-w.ensures.1
 
-element-copy-out-current : tie.Need-element-copy-out-current
+element-copy-out-current : tie.Need-bounds-self-4496
 element-copy-out-current c = search rules
 
-cast-window : tie.Need-overflow-cast-window
+cast-window : tie.Need-overflow_cast-current
 cast-window c = search rules
 
-window-requires : tie.Need-window-requires
+window-requires : tie.Need-window-w-requires
 window-requires c κs = search rules
 
-credit-requires : tie.Need-credit-requires
+credit-requires : tie.Need-credit-number-requires
 credit-requires c κs = in-at c.before
 
 told-requires : tie.Need-told-requires
 told-requires c κs = search rules
 
 returns : tie.Need-returns
-returns c = rw c.told.ensures (credit-told _ _ _ c.before.credit.ensures)
+returns c = rw c.told.ensures (credit-told _ _ _ c.before.credit-number.ensures)
 
-pub credit-spec : {M : Type 1} → statement M
-credit-spec =
+pub credit_spec : {M : Type 1} → statement M
+credit_spec =
     tie.close
     (tie.spec element-copy-out-current cast-window window-requires credit-requires told-requires returns)

@@ -3,11 +3,11 @@ use borrow.Author.Tests.{eq-eqb, ne_eqb}
 use Rattle.link.proofs.credit.told.Statement.{statement}
 use Rattle.link.proofs.credit.told.Tie as tie
 
-returns : tie.Need-returns
-returns c = rw (ne_eqb _ _ c.if1.true)
+returns : tie.Need-returns-then-number-ne0
+returns c = rw (ne_eqb _ _ c.if-number-ne0.true)
 
-returns-2 : tie.Need-returns-2
-returns-2 c = rw (eq-eqb _ _ c.if1.false)
+returns-2 : tie.Need-returns
+returns-2 c = rw (eq-eqb _ _ c.if-number-ne0.false)
 
-pub told-spec : {M : Type 1} → statement M
-told-spec = tie.close (tie.spec returns returns-2)
+pub told_spec : {M : Type 1} → statement M
+told_spec = tie.close (tie.spec returns returns-2)

@@ -8,60 +8,60 @@ use Rattle.link.proofs.fresh.begin.Tie as tie
 
 -- ---- the places of its code
 
-abbrev held_of : tie.After-disown → tie.After-hold-nothing
+abbrev held_of : tie.After-disown → tie.After-hold_nothing
 held_of c = c.before.before
 
-abbrev disowned : tie.After-every-slot → tie.After-disown
+abbrev disowned : tie.After-every_slot → tie.After-disown
 disowned c = c.before.before
 
-abbrev masked : tie.After-no-flows → tie.After-put-masks
+abbrev masked : tie.After-no_flows → tie.After-put_masks
 masked c = c.before.before
 
 -- ---- the needs
 
-hold-nothing-requires : tie.Need-hold-nothing-requires
+hold-nothing-requires : tie.Need-hold_nothing-requires
 hold-nothing-requires c κs = search rules
 
 disown-requires : tie.Need-disown-requires
 disown-requires c κs = search rules
 
-every-slot-requires : tie.Need-every-slot-requires
-every-slot-requires c κs = measures-start _ c.before.before.before.before.before.requires.0
+every-slot-requires : tie.Need-every_slot-requires
+every-slot-requires c κs = measures-start _ c.requires.0
 
-put-masks-requires : tie.Need-put-masks-requires
+put-masks-requires : tie.Need-put_masks-requires
 put-masks-requires c κs =
     let d = disowned c in
     let h = held_of d in
     let o = h.before.before in
-    (whole-owners o.pre.0 o.args.s.now o.pre.1 h.hold-nothing.ensures d.disown.ensures, c.every-slot.ensures.long)
+    (whole-owners o.requires.0 o.args.s.now o.requires.1 h.hold-nothing.ensures d.disown.ensures, c.every_slot.ensures.long)
 
-no-flows-requires : tie.Need-no-flows-requires
+no-flows-requires : tie.Need-no_flows-requires
 no-flows-requires c κs =
     let m = c.before in
     let d = disowned m.before in
     let h = held_of d in
     let o = h.before.before in
-    whole-masks o.pre.0 o.args.s.now o.pre.1 h.hold-nothing.ensures d.disown.ensures m.before.every-slot.ensures m.put-masks.ensures
+    whole-masks o.requires.0 o.args.s.now o.requires.1 h.hold-nothing.ensures d.disown.ensures m.before.every_slot.ensures m.put_masks.ensures
 
-start-flows-requires : tie.Need-start-flows-requires
+start-flows-requires : tie.Need-start_flows-requires
 start-flows-requires c κs =
     let n = c.before in
     let m = masked n in
     let d = disowned m.before in
     let h = held_of d in
     let o = h.before.before in (
-      o.pre.0,
-      whole-spare o.pre.0 o.args.s.now o.pre.1 h.hold-nothing.ensures d.disown.ensures m.before.every-slot.ensures m.put-masks.ensures n.no-flows.ensures,
+      o.requires.0,
+      whole-spare o.requires.0 o.args.s.now o.requires.1 h.hold-nothing.ensures d.disown.ensures m.before.every-slot.ensures m.put-masks.ensures n.no_flows.ensures,
       omega arith,
     )
 
-element-write-s : tie.Need-element-write-s
+element-write-s : tie.Need-bounds-s-4496
 element-write-s c = search rules
 
-element-write-s-2 : tie.Need-element-write-s-2
+element-write-s-2 : tie.Need-bounds-s-4497
 element-write-s-2 c = search rules
 
-element-write-s-3 : tie.Need-element-write-s-3
+element-write-s-3 : tie.Need-bounds-s-4498
 element-write-s-3 c = search rules
 
 returns : tie.Need-returns
@@ -71,12 +71,12 @@ returns c =
     let d = disowned m.before in
     let h = held_of d in
     let o = h.before.before in (
-      fresh-read o.pre.0 o.args.s.now o.pre.1 h.hold-nothing.ensures d.disown.ensures m.before.every-slot.ensures m.put-masks.ensures n.no-flows.ensures c.start-flows.ensures,
-      fresh-sound o.pre.0 o.args.s.now o.pre.1 h.hold-nothing.ensures d.disown.ensures m.before.every-slot.ensures m.put-masks.ensures n.no-flows.ensures c.start-flows.ensures,
+      fresh-read o.requires.0 o.args.s.now o.requires.1 h.hold-nothing.ensures d.disown.ensures m.before.every-slot.ensures m.put-masks.ensures n.no_flows.ensures c.start_flows.ensures,
+      fresh-sound o.requires.0 o.args.s.now o.requires.1 h.hold-nothing.ensures d.disown.ensures m.before.every-slot.ensures m.put-masks.ensures n.no_flows.ensures c.start_flows.ensures,
     )
 
-pub begin-spec : {M : Type 1} → statement M
-begin-spec =
+pub begin_spec : {M : Type 1} → statement M
+begin_spec =
     tie.close
     (tie.spec
     hold-nothing-requires

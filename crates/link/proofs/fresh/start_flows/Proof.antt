@@ -12,72 +12,72 @@ use Rattle.link.proofs.LeavingHeads.{share-few}
 use Rattle.link.proofs.fresh.start_flows.Statement.{statement}
 use Rattle.link.proofs.fresh.start_flows.Tie as tie
 
-abbrev invariant-loop : tie.invariant-loop
+abbrev invariant-loop : tie.invariant-loop-i
 invariant-loop s₀ frame plan i₀ s i = Flowing (λ k. started_flow frame (get_or plan.entries k no_entry)) plan.count s₀ s i
 
-abbrev decreases-loop : tie.decreases-loop
+abbrev decreases-loop : tie.decreases-loop-i
 decreases-loop s₀ frame plan i₀ s i = plan.count - i
 
 -- where flow i is looked at
-abbrev loop-of : tie.After-flow-at invariant-loop decreases-loop → tie.In-loop invariant-loop decreases-loop
+abbrev loop-of : tie.After-flow_at-f invariant-loop decreases-loop → tie.In-loop-i invariant-loop decreases-loop
 loop-of c = c.before.before.before
 
-loop-holds : tie.Need-loop-init invariant-loop decreases-loop
+loop-holds : tie.Need-loop-i-init invariant-loop decreases-loop
 loop-holds c = flowing-none (count_most _ c.requires.0) c.requires.1
 
-mul-e : tie.Need-overflow-mul-e invariant-loop decreases-loop
+mul-e : tie.Need-offset_bounds-plan-i invariant-loop decreases-loop
 mul-e c = search rules
 
-element-copy-out-e : tie.Need-element-copy-out-e invariant-loop decreases-loop
+element-copy-out-e : tie.Need-bounds-plan-i invariant-loop decreases-loop
 element-copy-out-e c = search rules
 
-flow-at-requires : tie.Need-flow-at-requires invariant-loop decreases-loop
+flow-at-requires : tie.Need-flow_at-f-requires invariant-loop decreases-loop
 flow-at-requires c κs = let l = c.before.before in omega (arith, l.before.loop.invariant.few, l.loop-test.true)
 
-cast-moved-to : tie.Need-overflow-cast-moved-to invariant-loop decreases-loop
+cast-moved-to : tie.Need-overflow_cast-e invariant-loop decreases-loop
 cast-moved-to c = search rules
 
-moved-to-requires : tie.Need-moved-to-requires invariant-loop decreases-loop
+moved-to-requires : tie.Need-moved_to-requires invariant-loop decreases-loop
 moved-to-requires c κs = search rules
 
-put-flow-requires : tie.Need-put-flow-requires invariant-loop decreases-loop
+put-flow-requires : tie.Need-put_flow-requires invariant-loop decreases-loop
 put-flow-requires c κs =
     let f = c.before.before.before in
     let l = loop-of f in
     let s = l.before.before in
     let i = l.before.loop.i in
-    let few : i < 16 = omega (arith, l.before.loop.inv.few, l.loop-test.taken) in
+    let few : i < 16 = omega (arith, l.before.loop.invariant.few, l.loop-test.true) in
     rw c.moved_to.ensures (
       few,
       record {
-        injection = s.pre.2;
-        remainder = share-few s.args.t2 s.pre.0 i l.loop-test.taken;
-        number = f.flow-at.ensures.1.number;
+        injection = s.requires.2;
+        remainder = share-few s.args.t2 s.requires.0 i l.loop-test.true;
+        number = f.flow_at-f.ensures.1.number;
       },
     )
 
-add-i : tie.Need-overflow-add-i invariant-loop decreases-loop
+add-i : tie.Need-overflow_add-i invariant-loop decreases-loop
 add-i c = search rules
 
-loop-less : tie.Need-loop-smaller invariant-loop decreases-loop
+loop-less : tie.Need-loop-i-smaller invariant-loop decreases-loop
 loop-less c = search rules
 
-loop-again : tie.Need-loop-preserved invariant-loop decreases-loop
+loop-again : tie.Need-loop-i-preserved invariant-loop decreases-loop
 loop-again c =
     let m = c.before in
     let f = m.before.before.before in
     let l = loop-of f in
     let a = l.before.before.args in
     let i = l.before.loop.i in
-    flowing-put l.before.loop.inv l.loop-test.taken
-    (m.moved_to.ensures ∙ ap (started_flow a.frame (get_or a.t2.entries i no_entry)) f.flow-at.ensures.0)
-    c.put-flow.ensures
+    flowing-put l.before.loop.invariant l.loop-test.true
+    (m.moved_to.ensures ∙ ap (started_flow a.frame (get_or a.t2.entries i no_entry)) f.flow_at-f.ensures.0)
+    c.put_flow.ensures
 
 returns : tie.Need-returns invariant-loop decreases-loop
-returns c = flowing-done c.before.loop.invariant (omega arith)
+returns c = flowing-done c.before.loop-i.invariant (omega arith)
 
-pub start-flows-spec : {M : Type 1} → statement M
-start-flows-spec =
+pub start_flows_spec : {M : Type 1} → statement M
+start_flows_spec =
     tie.close
     (tie.spec
     invariant-loop

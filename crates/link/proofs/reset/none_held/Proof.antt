@@ -18,50 +18,50 @@ record NoneBefore (w : Window) (count : ℕ) (held : List ℕ) (i : ℕ) : Type 
   pub at_most : i ≤ count
   pub none : none_held_in w i held ≡ true
 
-abbrev invariant-loop : tie.invariant-loop
+abbrev invariant-loop : tie.invariant-loop-i
 invariant-loop held count w current i₀ i = NoneBefore (window_of w) count held i
 
-abbrev decreases-loop : tie.decreases-loop
+abbrev decreases-loop : tie.decreases-loop-i
 decreases-loop held count w current i₀ i = count - i
 
 -- where the function is entered, from the test of a flow
-abbrev entered_at : tie.In-loop invariant-loop decreases-loop → tie.Start invariant-loop decreases-loop
+abbrev entered_at : tie.In-loop-i invariant-loop decreases-loop → tie.Start invariant-loop decreases-loop
 entered_at c = c.before.before
 
-loop-holds : tie.Need-loop-init invariant-loop decreases-loop
+loop-holds : tie.Need-loop-i-init invariant-loop decreases-loop
 loop-holds c = record { at_most = omega arith; none = every-none _ }
 
-room-from-requires : tie.Need-room-from-requires invariant-loop decreases-loop
+room-from-requires : tie.Need-room_from-requires invariant-loop decreases-loop
 room-from-requires c κs =
     let start = entered_at c in
-    record { proper = start.pre.proper; flow = omega (arith, start.pre.few); position = start.pre.proper.measures.current_below }
+    record { proper = start.requires.proper; flow = omega (arith, start.requires.few); position = start.requires.proper.measures.current_below }
 
-returns : tie.Need-returns invariant-loop decreases-loop
+returns : tie.Need-returns-then-not-room_from invariant-loop decreases-loop
 returns c =
     let tested = c.before in
-    sym (every-miss _ _ tested.before.before.loop.i (omega arith) (sym tested.room-from.ensures ∙ not-true _ c.if1.true))
+    sym (every-miss _ _ tested.before.before.loop-i.i (omega arith) (sym tested.room_from.ensures ∙ not-true _ c.if-not-room_from.true-raw))
 
-add-i : tie.Need-overflow-add-i invariant-loop decreases-loop
+add-i : tie.Need-overflow_add-i invariant-loop decreases-loop
 add-i c = search rules
 
-loop-less : tie.Need-loop-smaller invariant-loop decreases-loop
+loop-less : tie.Need-loop-i-smaller invariant-loop decreases-loop
 loop-less c = search rules
 
-loop-again : tie.Need-loop-preserved invariant-loop decreases-loop
+loop-again : tie.Need-loop-i-preserved invariant-loop decreases-loop
 loop-again c =
     let tested = c.before in
-    let before = tested.before.before.loop in
-    record { at_most = omega arith; none = every_more before.i _ before.invariant.none (sym tested.room-from.ensures ∙ not-false _ c.if1.false) }
+    let before = tested.before.before.loop-i in
+    record { at_most = omega arith; none = every_more before.i _ before.invariant.none (sym tested.room_from.ensures ∙ not-false _ c.if-not-room_from.false-raw) }
 
-returns-2 : tie.Need-returns-2 invariant-loop decreases-loop
+returns-2 : tie.Need-returns invariant-loop decreases-loop
 returns-2 c =
-    let all = c.before.loop in
+    let all = c.before.loop-i in
     let start = c.before.before in
     let end : all.i ≡ start.args.count = omega (arith, all.invariant.at_most) in
     sym (sym (ap (λ (n : ℕ). none_held_in (window_of start.args.w) n start.args.s.now) end) ∙ all.invariant.none)
 
-pub none-held-spec : {M : Type 1} → statement M
-none-held-spec =
+pub none_held_spec : {M : Type 1} → statement M
+none_held_spec =
     tie.close
     (tie.spec
     invariant-loop

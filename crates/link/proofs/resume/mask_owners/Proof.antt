@@ -8,65 +8,65 @@ use Rattle.link.proofs.OwnerMasks.{Masking, measures-at-first, frame-of, masking
 use Rattle.link.proofs.resume.mask_owners.Statement.{statement}
 use Rattle.link.proofs.resume.mask_owners.Tie as tie
 
-abbrev invariant-loop : tie.invariant-loop
+abbrev invariant-loop : tie.invariant-loop-p
 invariant-loop s₀ w size p₀ s p = Masking w s₀ s p
 
-abbrev decreases-loop : tie.decreases-loop
+abbrev decreases-loop : tie.decreases-loop-p
 decreases-loop s₀ w size p₀ s p = size - p
 
-mul-size : tie.Need-overflow-mul-size invariant-loop decreases-loop
+mul-size : tie.Need-overflow_mul-size invariant-loop decreases-loop
 mul-size c = search rules
 
-every-slot-requires : tie.Need-every-slot-requires invariant-loop decreases-loop
-every-slot-requires c κs = measures-at-first c.before.before.requires.0.measures
+every-slot-requires : tie.Need-every_slot-requires invariant-loop decreases-loop
+every-slot-requires c κs = measures-at-first c.requires.0.measures
 
-put-masks-requires : tie.Need-put-masks-requires invariant-loop decreases-loop
-put-masks-requires c κs = (c.before.before.before.requires.1, c.every-slot.ensures.long)
+put-masks-requires : tie.Need-put_masks-requires invariant-loop decreases-loop
+put-masks-requires c κs = (c.requires.1, c.every_slot.ensures.long)
 
 -- where the function is entered
-abbrev start : tie.After-put-masks invariant-loop decreases-loop → tie.Start invariant-loop decreases-loop
+abbrev start : tie.After-put_masks invariant-loop decreases-loop → tie.Start invariant-loop decreases-loop
 start c = c.before.before.before.before
 
-loop-holds : tie.Need-loop-init invariant-loop decreases-loop
+loop-holds : tie.Need-loop-p-init invariant-loop decreases-loop
 loop-holds c =
-    let now = c.put-masks.ensures in
-    masking-none _ (now.beside.long ∙ (start c).requires.1) (rw now.masks_are c.before.every-slot.ensures)
+    let now = c.put_masks.ensures in
+    masking-none _ (now.beside.long ∙ (start c).requires.1) (rw now.masks_are c.before.every_slot.ensures)
 
-add-if1 : tie.Need-overflow-add-if1 invariant-loop decreases-loop
+add-if1 : tie.Need-overflow_add-p invariant-loop decreases-loop
 add-if1 c = search rules
 
-element-copy-out-if1 : tie.Need-element-copy-out-if1 invariant-loop decreases-loop
+element-copy-out-if1 : tie.Need-bounds-s-p invariant-loop decreases-loop
 element-copy-out-if1 c = omega (arith, (start c.before.before).pre.0.measures.positions_most)
 
-div-book : tie.Need-nonzero-div-book invariant-loop decreases-loop
+div-book : tie.Need-nonzero_div-p invariant-loop decreases-loop
 div-book c = search rules
 
 book-requires : tie.Need-book-requires invariant-loop decreases-loop
 book-requires c κs =
     let i = c.before.before.before.before in
-    frame-of (start i.before.before).pre.0 i.loop-test.true
+    frame-of (start i.before.before).pre.0 i.loop-p-test.true
 
-add-p : tie.Need-overflow-add-p invariant-loop decreases-loop
+add-p : tie.Need-overflow_add-p-in-loop-p invariant-loop decreases-loop
 add-p c = search rules
 
-loop-less : tie.Need-loop-smaller invariant-loop decreases-loop
+loop-less : tie.Need-loop-p-smaller invariant-loop decreases-loop
 loop-less c = search rules
 
-loop-again : tie.Need-loop-preserved invariant-loop decreases-loop
+loop-again : tie.Need-loop-p-preserved invariant-loop decreases-loop
 loop-again c =
     let i = c.before.before in
     let l = i.before in
     let v = (start l.before).pre.0 in
     ⊎_elim
-    (λ (owned, _, _, booked, state-is). rw state-is (masking-owned v l.loop.invariant i.loop-test.true owned.taken booked.ensures))
-    (λ (unowned, state-is). rw state-is (masking-unowned v l.loop.invariant i.loop-test.true unowned.left))
-    c.if1.branch
+    (λ (owned, _, _, booked, state-is). rw state-is (masking-owned v l.loop-p.invariant i.loop-p-test.true owned.taken booked.ensures))
+    (λ (unowned, state-is). rw state-is (masking-unowned v l.loop-p.invariant i.loop-p-test.true unowned.left))
+    c.if-s-p-ne-NOBODY.branch
 
 returns : tie.Need-returns invariant-loop decreases-loop
-returns c = let l = c.before in masking-done l.before.put-masks.ensures c.loop-test.false l.loop.invariant
+returns c = let l = c.before in masking-done l.before.put_masks.ensures c.loop-p-test.false l.loop-p.invariant
 
-pub mask-owners-spec : {M : Type 1} → statement M
-mask-owners-spec =
+pub mask_owners_spec : {M : Type 1} → statement M
+mask_owners_spec =
     tie.close
     (tie.spec
     invariant-loop

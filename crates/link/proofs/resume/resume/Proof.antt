@@ -11,31 +11,31 @@ use Rattle.link.proofs.resume.resume.Tie as tie
 owners_long : (s : tie.Start) → length s.args.owner ≡ 256
 owners_long s = omega arith
 
-put-table-requires : tie.Need-put-table-requires
+put-table-requires : tie.Need-put_table-requires
 put-table-requires c κs = search rules
 
-mask-owners-requires : tie.Need-mask-owners-requires
+mask-owners-requires : tie.Need-mask_owners-requires
 unfolding with_owners
 mask-owners-requires c κs =
     let t = c.before in
     let s = t.before.before in
-    (s.requires.0, whole-owned s.args.s.now s.requires.1 s.args.owner t.put-table.ensures)
+    (s.requires.0, whole-owned s.args.s.now s.requires.1 s.args.owner t.put_table.ensures)
 
 unbound-requires : tie.Need-unbound-requires
 unbound-requires c κs = search rules
 
-cast-s : tie.Need-overflow-cast-s
+cast-s : tie.Need-overflow_cast-s
 cast-s c =
-    let v = c.before.before.before.before.before.before.before.requires.0.measures in
+    let v = c.requires.0.measures in
     omega (arith, v.current_below, v.positions_most)
 
-element-write-s : tie.Need-element-write-s
+element-write-s : tie.Need-bounds-s-4496
 element-write-s c = search rules
 
-element-write-s-2 : tie.Need-element-write-s-2
+element-write-s-2 : tie.Need-bounds-s-4497
 element-write-s-2 c = search rules
 
-element-write-s-3 : tie.Need-element-write-s-3
+element-write-s-3 : tie.Need-bounds-s-4498
 element-write-s-3 c = search rules
 
 returns : tie.Need-returns
@@ -45,9 +45,9 @@ returns c =
     let m = u.before.before in
     let t = m.before.before in
     let s = t.before.before in
-    resumed s.args.w s.args.s.now s.requires.1 s.args.owner (owners_long s) s.args.mark s.args.turn t.put-table.ensures m.mask-owners.ensures u.unbound.ensures
+    resumed s.args.w s.args.s.now s.requires.1 s.args.owner (owners_long s) s.args.mark s.args.turn t.put_table.ensures m.mask_owners.ensures u.unbound.ensures
 
-pub resume-spec : {M : Type 1} → statement M
-resume-spec =
+pub resume_spec : {M : Type 1} → statement M
+resume_spec =
     tie.close
     (tie.spec put-table-requires mask-owners-requires unbound-requires cast-s element-write-s element-write-s-2 element-write-s-3 returns)
