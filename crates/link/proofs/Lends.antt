@@ -1,6 +1,6 @@
 -- A lend on a link, as it is read. Assumes nothing.
 use Prim.Native.Nat.{ℕ, zero, suc, ◌+◌, ◌%◌, ◌^◌, ◌≤◌, ◌<◌}
-use mathlib.Core.Path.{◌≡◌, refl, sym, ap, ◌∙◌}
+use mathlib.Core.Path.{◌≡◌, refl, sym, ap, subst, ◌∙◌}
 use mathlib.Core.List.{List, ◌∷◌, []}
 use mathlib.Core.Option as option
 use mathlib.Core.Bool.{Bool, true, false, not, ◌&&◌, ◌||◌, cond}
@@ -197,8 +197,8 @@ module _ {l : Parts} {plan : Plan} {w : code.Window} (a : AtHand l plan w) (mask
         pub taker-below : i < l.plan.count
         taker-below = omega (arith, was-found.flow_is, count_is, mod-lt was-found.number some-here)
 
-        can_take : takes_in plan w l.held mask i ≡ true
-        can_take =
+        can_take_lem : takes_in plan w l.held mask i ≡ true
+        can_take_lem =
             ap (takes_in plan w l.held mask) was-found.flow_is
             ∙ (first_from-some plan.count l.turn (λ k. takes_in plan w l.held mask (k % plan.count)) was-found.number was-found.is).passes
 
@@ -214,16 +214,18 @@ module _ {l : Parts} {plan : Plan} {w : code.Window} (a : AtHand l plan w) (mask
           on_below : on < l.plan.count
           on_below = omega (arith, next-is, count_is, mod-lt (i + 1) some-here)
 
-          turned : link_of (with_turn (lent_link i taker-below can_take) on) ≡ lent_to (link_of l) i
+          turned : link_of (with_turn (lent_link i taker-below can_take_lem) on) ≡ lent_to (link_of l) i
           unfolding lent_to
           turned =
               let next-read : on ≡ (i + 1) % reference.flow_count (link_of l).plan = next-is ∙ ap ((i + 1) %◌) (count_is ∙ sym (read_count l)) in
-              turned-link (lent_link i taker-below can_take) on ∙ (λ k. model.with_turn (lent-link i taker-below can_take k) (next-read k))
+              turned-link (lent_link i taker-below can_take_lem) on ∙ (λ k. model.with_turn (lent-link i taker-below can_take_lem k) (next-read k))
 
           pub lend-to-taker : {h : List ℕ} → h ≡ shifted (window_of w) 1 i l.current l.held
               → SteppedParts answer_to_lend (lend (link_of l) mask) (with_turn (with_mark (with_holdings l h) true) on) (Lent i)
-          lend-to-taker e = rw (lent_is, e, same_flow l i (raised i taker-below can_take)) (record {
-            link_is = turned;
-            answer_is = refl;
-            sound = sound-first _ (sound-lent i taker-below can_take) on_below;
-          })
+          lend-to-taker e =
+              let Comes : Parts → Type 0 = λ p. SteppedParts answer_to_lend (lend (link_of l) mask) (with_turn (with_mark p true) on) (Lent i) in
+              subst Comes (sym (ap (with_holdings l) e ∙ same_flow l i (raised i taker-below can_take_lem))) (rw lent_is (record {
+                link_is = turned;
+                answer_is = refl;
+                sound = sound-first _ (sound-lent i taker-below can_take_lem) on_below;
+              }))

@@ -21,12 +21,12 @@ flow-few : (c : tie.After-flow_or_zero-i) → c.flow_or_zero-i.result < 16
 flow-few c = flow-or-zero-few (start c).requires.parts.plan _ c.flow_or_zero-i.ensures
 
 -- what is given of the state and the word
-in-at : (c : tie.After-window-w) → let a = placed_at c in let l = (start a).args.t1 in
-    RequestIn l.plan l.plan.count (get_or l.plan.entries a.flow-or-zero.result no_entry) c.window.result
-    a.before.before.split.result (start a).args.word l.state
+in-at : (c : tie.After-window-w) → let a = placed_at c in let l = (start a).args.self in
+    RequestIn l.plan l.plan.count (get_or l.plan.entries a.flow_or_zero-i.result no_entry) c.window-w.result
+    a.before.before.split-fields.result (start a).args.word l.state
 in-at c =
     let a = placed_at c in
-    request-in (state-in (start a).pre c.window-w.ensures.0 c.window-w.ensures.1) _ a.before.before.split.ensures a.flow-or-zero.ensures
+    request-in (state-in (start a).requires c.window-w.ensures.0 c.window-w.ensures.1) _ a.before.before.split-fields.ensures a.flow_or_zero-i.ensures
 
 split-requires : tie.Need-split-fields-requires
 split-requires c κs = search rules

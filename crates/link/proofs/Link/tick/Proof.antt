@@ -6,7 +6,7 @@ use Rattle.link.proofs.Link.tick.Statement.{statement}
 use Rattle.link.proofs.Link.tick.Tie as tie
 
 -- what is given of the state
-in-at : (c : tie.After-window-w) → let l = c.before.before.before.args.t1 in StateIn l.plan c.window.result l.state
+in-at : (c : tie.After-window-w) → let l = c.before.before.before.args.self in StateIn l.plan c.window-w.result l.state
 in-at c = state-in c.requires c.window-w.ensures.0 c.window-w.ensures.1
 
 element-copy-out-current : tie.Need-bounds-self-4496

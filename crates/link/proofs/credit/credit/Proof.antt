@@ -132,7 +132,7 @@ returns-5 c =
     went-by o.sound (lowered-rest p _ whole _ i q (flow-few t) is)
     (bounds-out o (rw is (bounds-lowered o.proper whole (bounds-in o) i q (flow-few t))))
     (parts-lowered p _ whole _ i q (flow-few t) is)
-    (credit-accepted (in_hand o) _ _ tests refl (record { flow = flow_below t; position = t.if2.false; some_held = held }) refl)
+    (credit-accepted (in_hand o) _ _ tests refl (record { flow = flow_below t; position = t.if-w-position.false; some_held = held }) refl)
 
 pub credit_spec : {M : Type 1} → statement M
 credit_spec =

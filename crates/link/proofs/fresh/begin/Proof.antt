@@ -29,31 +29,17 @@ every-slot-requires : tie.Need-every_slot-requires
 every-slot-requires c κs = measures-start _ c.requires.0
 
 put-masks-requires : tie.Need-put_masks-requires
-put-masks-requires c κs =
-    let d = disowned c in
-    let h = held_of d in
-    let o = h.before.before in
-    (whole-owners o.requires.0 o.args.s.now o.requires.1 h.hold-nothing.ensures d.disown.ensures, c.every_slot.ensures.long)
+put-masks-requires c κs = (whole-owners c.requires.0 c.args.s.now c.requires.1 c.hold_nothing.ensures c.disown.ensures, c.every_slot.ensures.long)
 
 no-flows-requires : tie.Need-no_flows-requires
-no-flows-requires c κs =
-    let m = c.before in
-    let d = disowned m.before in
-    let h = held_of d in
-    let o = h.before.before in
-    whole-masks o.requires.0 o.args.s.now o.requires.1 h.hold-nothing.ensures d.disown.ensures m.before.every_slot.ensures m.put_masks.ensures
+no-flows-requires c κs = whole-masks c.requires.0 c.args.s.now c.requires.1 c.hold_nothing.ensures c.disown.ensures c.every_slot.ensures c.put_masks.ensures
 
 start-flows-requires : tie.Need-start_flows-requires
-start-flows-requires c κs =
-    let n = c.before in
-    let m = masked n in
-    let d = disowned m.before in
-    let h = held_of d in
-    let o = h.before.before in (
-      o.requires.0,
-      whole-spare o.requires.0 o.args.s.now o.requires.1 h.hold-nothing.ensures d.disown.ensures m.before.every-slot.ensures m.put-masks.ensures n.no_flows.ensures,
-      omega arith,
-    )
+start-flows-requires c κs = (
+    c.requires.0,
+    whole-spare c.requires.0 c.args.s.now c.requires.1 c.hold_nothing.ensures c.disown.ensures c.every_slot.ensures c.put_masks.ensures c.no_flows.ensures,
+    omega arith,
+  )
 
 element-write-s : tie.Need-bounds-s-4496
 element-write-s c = search rules
@@ -65,15 +51,10 @@ element-write-s-3 : tie.Need-bounds-s-4498
 element-write-s-3 c = search rules
 
 returns : tie.Need-returns
-returns c =
-    let n = c.before.before in
-    let m = masked n in
-    let d = disowned m.before in
-    let h = held_of d in
-    let o = h.before.before in (
-      fresh-read o.requires.0 o.args.s.now o.requires.1 h.hold-nothing.ensures d.disown.ensures m.before.every-slot.ensures m.put-masks.ensures n.no_flows.ensures c.start_flows.ensures,
-      fresh-sound o.requires.0 o.args.s.now o.requires.1 h.hold-nothing.ensures d.disown.ensures m.before.every-slot.ensures m.put-masks.ensures n.no_flows.ensures c.start_flows.ensures,
-    )
+returns c = (
+    fresh-read c.requires.0 c.args.s.now c.requires.1 c.hold_nothing.ensures c.disown.ensures c.every_slot.ensures c.put_masks.ensures c.no_flows.ensures c.start_flows.ensures,
+    fresh-sound c.requires.0 c.args.s.now c.requires.1 c.hold_nothing.ensures c.disown.ensures c.every_slot.ensures c.put_masks.ensures c.no_flows.ensures c.start_flows.ensures,
+  )
 
 pub begin_spec : {M : Type 1} → statement M
 begin_spec =

@@ -18,10 +18,6 @@ invariant-loop s₀ frame plan i₀ s i = Flowing (λ k. started_flow frame (get
 abbrev decreases-loop : tie.decreases-loop-i
 decreases-loop s₀ frame plan i₀ s i = plan.count - i
 
--- where flow i is looked at
-abbrev loop-of : tie.After-flow_at-f invariant-loop decreases-loop → tie.In-loop-i invariant-loop decreases-loop
-loop-of c = c.before.before.before
-
 loop-holds : tie.Need-loop-i-init invariant-loop decreases-loop
 loop-holds c = flowing-none (count_most _ c.requires.0) c.requires.1
 
@@ -32,7 +28,7 @@ element-copy-out-e : tie.Need-bounds-plan-i invariant-loop decreases-loop
 element-copy-out-e c = search rules
 
 flow-at-requires : tie.Need-flow_at-f-requires invariant-loop decreases-loop
-flow-at-requires c κs = let l = c.before.before in omega (arith, l.before.loop.invariant.few, l.loop-test.true)
+flow-at-requires c κs = omega (arith, c.loop-i.invariant.few, c.loop-i-test.true)
 
 cast-moved-to : tie.Need-overflow_cast-e invariant-loop decreases-loop
 cast-moved-to c = search rules
@@ -42,17 +38,13 @@ moved-to-requires c κs = search rules
 
 put-flow-requires : tie.Need-put_flow-requires invariant-loop decreases-loop
 put-flow-requires c κs =
-    let f = c.before.before.before in
-    let l = loop-of f in
-    let s = l.before.before in
-    let i = l.before.loop.i in
-    let few : i < 16 = omega (arith, l.before.loop.invariant.few, l.loop-test.true) in
+    let few : c.loop-i.i < 16 = omega (arith, c.loop-i.invariant.few, c.loop-i-test.true) in
     rw c.moved_to.ensures (
       few,
       record {
-        injection = s.requires.2;
-        remainder = share-few s.args.t2 s.requires.0 i l.loop-test.true;
-        number = f.flow_at-f.ensures.1.number;
+        injection = c.requires.2;
+        remainder = share-few c.args.plan c.requires.0 c.loop-i.i c.loop-i-test.true;
+        number = c.flow_at-f.ensures.1.number;
       },
     )
 
@@ -64,13 +56,9 @@ loop-less c = search rules
 
 loop-again : tie.Need-loop-i-preserved invariant-loop decreases-loop
 loop-again c =
-    let m = c.before in
-    let f = m.before.before.before in
-    let l = loop-of f in
-    let a = l.before.before.args in
-    let i = l.before.loop.i in
-    flowing-put l.before.loop.invariant l.loop-test.true
-    (m.moved_to.ensures ∙ ap (started_flow a.frame (get_or a.t2.entries i no_entry)) f.flow_at-f.ensures.0)
+    let i = c.loop-i.i in
+    flowing-put c.loop-i.invariant c.loop-i-test.true
+    (c.moved_to.ensures ∙ ap (started_flow c.args.frame (get_or c.args.plan.entries i no_entry)) c.flow_at-f.ensures.0)
     c.put_flow.ensures
 
 returns : tie.Need-returns invariant-loop decreases-loop

@@ -18,10 +18,10 @@ use Rattle.link.proofs.lend.lend.Tie as tie
 
 -- where the function is entered, and where the slot was found free and a flow was looked for
 abbrev start : tie.After-refusal-number → tie.Start
-start c = c.before.before.before
+start c = c.before.before.before.before
 
 abbrev free-at : tie.After-taker-i → tie.Else-number-ne0
-free-at c = c.before.before.before
+free-at c = c.before.before
 
 abbrev taker-at : tie.Else-i-plan → tie.After-taker-i
 taker-at c = c.before.before
@@ -35,12 +35,12 @@ module _ (c : tie.After-taker-i) where
       let v = entry.requires.sound.parts.plan in
       c.taker-i.ensures ∙ taker-same entry.args.plan entry.args.w entry.args.s.now entry.args.mask _ (count-some _ v) (count_most _ v)
 
-flow-there : (c : tie.Else-i-plan) → let t = taker-at c in (t.taker.result < (entry t).args.plan.count) × (t.taker.result < 16)
+flow-there : (c : tie.Else-i-plan) → let t = taker-at c in (t.taker-i.result < (entry t).args.plan.count) × (t.taker-i.result < 16)
 flow-there c =
     let t = taker-at c in
     let s = entry t in
     let r = (free-at t).before in
-    let known = taker-below (in_hand s.requires) _ (tests-of s.requires _ _ r.refusal.ensures) (free-at t).if-number-ne0.false (first_is t) c.if-i-plan.false in
+    let known = taker-below (in_hand s.requires) _ (tests-of s.requires _ _ r.refusal-number.ensures) (free-at t).if-number-ne0.false (first_is t) c.if-i-plan.false in
     (known, omega (arith, known, count_most _ s.requires.sound.parts.plan))
 
 -- ---- the needs
@@ -76,41 +76,41 @@ returns-2 : tie.Need-returns-then-i-plan
 returns-2 c =
     let t = c.before.before in
     let r = (free-at t).before in
-    let o = (start r).pre in
-    went-same o.sound refl (lend-to-nobody (in_hand o) _ (tests-of o _ _ r.refusal.ensures) (free-at t).if-number-ne0.false (first_is t) c.if-i-plan.true)
+    let o = (start r).requires in
+    went-same o.sound refl (lend-to-nobody (in_hand o) _ (tests-of o _ _ r.refusal-number.ensures) (free-at t).if-number-ne0.false (first_is t) c.if-i-plan.true)
 
 raise-from-requires : tie.Need-raise_from-requires
 raise-from-requires c κs =
-    let o = (entry (taker-at c.before)).pre in
+    let o = (entry (taker-at c.before)).requires in
     record { proper = o.proper; flow = (flow-there c.before).1; position = o.proper.measures.current_below }
 
 element-write-s : tie.Need-bounds-s-4497-2
 element-write-s c = search rules
 
 next-requires : tie.Need-next-requires
-next-requires c κs = omega (arith, flow-there c.before.before)
+next-requires c κs = omega (arith, flow-there c.before.before.before)
 
 cast-s : tie.Need-overflow_cast-s
 cast-s c =
-    let e = c.before.before.before in
-    let v = (entry (taker-at e)).pre.sound.parts.plan in
+    let e = c.before.before.before.before in
+    let v = (entry (taker-at e)).requires.sound.parts.plan in
     omega (arith, c.next.ensures, mod-lt ((taker-at e).taker-i.result + 1) (count-some _ v), count_most _ v)
 
 element-write-s-2 : tie.Need-bounds-s-4498-2
 element-write-s-2 c = search rules
 
 cast-t14 : tie.Need-overflow_cast-result
-cast-t14 c = omega (arith, flow-there c.before.before.before)
+cast-t14 c = omega (arith, flow-there c.before.before.before.before)
 
 returns-3 : tie.Need-returns
 returns-3 c =
     let shifted = c.before in
-    let e = shifted.before.before in
+    let e = shifted.before.before.before in
     let t = taker-at e in
     let r = (free-at t).before in
-    let o = (start r).pre in
-    went-lent o t.taker.result c.next.result (flow-there e).1 shifted.raise_from.ensures
-    (lend-to-taker (in_hand o) _ (tests-of o _ _ r.refusal.ensures) (free-at t).if-number-ne0.false (first_is t) e.if-i-plan.false c.next.ensures refl)
+    let o = (start r).requires in
+    went-lent o t.taker-i.result c.next.result (flow-there e).1 shifted.raise_from.ensures
+    (lend-to-taker (in_hand o) _ (tests-of o _ _ r.refusal-number.ensures) (free-at t).if-number-ne0.false (first_is t) e.if-i-plan.false c.next.ensures refl)
 
 pub lend_spec : {M : Type 1} → statement M
 lend_spec =

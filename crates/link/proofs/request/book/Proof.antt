@@ -22,7 +22,7 @@ raise-from-requires c κs =
     record { proper = s.requires.0.proper; flow = s.requires.1; position = in_window s.requires.0 }
 
 returns : tie.Need-returns
-returns c = let b = c.before.before in record { masked = b.book.new.0; booked = b.book.ensures; is = c.raise_from.ensures }
+returns c = let b = c.before.before in record { masked = b.book.new.s; booked = b.book.ensures; is = c.raise_from.ensures }
 
 pub book_spec : {M : Type 1} → statement M
 book_spec = tie.close (tie.spec cast-s add-s element-write-s book-requires raise-from-requires returns)

@@ -40,10 +40,10 @@ returns-3 : tie.Need-returns-then-w-fields
 returns-3 c =
     let d = c.before.before.before in
     let f = flow-at d in
-    λ p x o. tests-10 o f.if1.false d.if-fields-e.false c.if-w-fields.true
+    λ p x o. tests-10 o f.if-count-i.false d.if-fields-e.false c.if-w-fields.true
 
 flow-at-requires : tie.Need-flow_at-flow-requires
-flow-at-requires c κs = let f = flow-at (destination-at c) in flow-few (start f).pre.given f.if1.false
+flow-at-requires c κs = let f = flow-at (destination-at c) in flow-few (start f).requires.given f.if-count-i.false
 
 cast-if4 : tie.Need-overflow_cast-fields-2
 cast-if4 c = search rules
@@ -54,7 +54,7 @@ returns-4 c =
     let b = a.before in
     let d = destination-at b in
     let f = flow-at d in
-    λ p x o. tests-24 o f.if1.false d.if2.false b.if-w-fields.false a.flow_at-flow.ensures.0 c.if-fields-flow.true
+    λ p x o. tests-24 o f.if-count-i.false d.if-fields-e.false b.if-w-fields.false a.flow_at-flow.ensures.0 c.if-fields-flow.true
 
 returns-5 : tie.Need-returns
 returns-5 c =
@@ -62,7 +62,7 @@ returns-5 c =
     let b = a.before in
     let d = destination-at b in
     let f = flow-at d in
-    λ p x o. tests-pass o f.if1.false d.if2.false b.if-w-fields.false a.flow_at-flow.ensures.0 c.if-fields-flow.false
+    λ p x o. tests-pass o f.if-count-i.false d.if-fields-e.false b.if-w-fields.false a.flow_at-flow.ensures.0 c.if-fields-flow.false
 
 pub refusal_spec : {M : Type 1} → statement M
 refusal_spec =

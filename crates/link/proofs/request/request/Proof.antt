@@ -19,14 +19,14 @@ use Rattle.link.proofs.request.request.Tie as tie
 
 -- where the function is entered
 abbrev start : tie.After-refusal-number → tie.Start
-start c = c.before.before
+start c = c.before
 
 -- where the word passed its tests, and where the flow is read
 abbrev passed-at : tie.After-flow_at-flow → tie.Else-number-ne0
-passed-at c = c.before.before.before
+passed-at c = c.before.before
 
 abbrev read_at : tie.After-seek-sought → tie.After-flow_at-flow
-read_at c = c.before.before.before
+read_at c = c.before.before
 
 abbrev entered : tie.After-seek-sought → tie.Start
 entered c = start (passed-at (read_at c)).before
@@ -44,11 +44,11 @@ abbrev InAt : tie.Start → Plan → ℕ → Type 0
 InAt s p x = RequestIn p s.args.count s.args.e s.args.w s.args.fields x s.args.s.now
 
 module _ (c : tie.After-seek-sought) (p : Plan) (x : ℕ) (o : InAt (entered c) p x) where
-  tests : (passed-at (read_at c)).before.refusal.result ≡ tests_of (parts_in p (entered c).args.s.now) x
-  tests = (passed-at (read_at c)).before.refusal.ensures p x o
+  tests : (passed-at (read_at c)).before.refusal-number.result ≡ tests_of (parts_in p (entered c).args.s.now) x
+  tests = (passed-at (read_at c)).before.refusal-number.ensures p x o
 
-  zero : (passed-at (read_at c)).before.refusal.result ≡ 0
-  zero = (passed-at (read_at c)).if1.false
+  zero : (passed-at (read_at c)).before.refusal-number.result ≡ 0
+  zero = (passed-at (read_at c)).if-number-ne0.false
 
   sought-is : c.seek-sought.result ≡ sought_in (read_in p (entered c).args.s.now) (entered c).args.fields.flow (departure_of x)
   sought-is =
@@ -57,13 +57,13 @@ module _ (c : tie.After-seek-sought) (p : Plan) (x : ℕ) (o : InAt (entered c) 
 
 module _ (c : tie.In-At) where
   abbrev frame_at : ℕ
-  frame_at = c.sought-1.given.0.0
+  frame_at = c.in-At.frame
 
   abbrev left_at : ℕ
-  left_at = c.sought-1.given.0.1.0
+  left_at = c.in-At.left
 
   abbrev position_at : ℕ
-  position_at = c.sought-1.given.0.1.1.0
+  position_at = c.in-At.position
 
   found-is : (p : Plan) (x : ℕ) → InAt (entered (seek-at c)) p x
       → found frame_at left_at position_at ≡ sought (read_in p (entered (seek-at c)).args.s.now) (entered (seek-at c)).args.fields.flow (departure_of x)
@@ -75,11 +75,11 @@ module _ (c : tie.In-At) where
 none_is : (c : tie.In-Nowhere) (p : Plan) (x : ℕ) → InAt (entered (seek-at-2 c)) p x
     → let l = read_in p (entered (seek-at-2 c)).args.s.now in
     let i = (entered (seek-at-2 c)).args.fields.flow in
-    Stopped (would_be_valid l i) (sought l i (departure_of x)) c.sought2.given.0.0 c.sought2.given.0.1.0
+    Stopped (would_be_valid l i) (sought l i (departure_of x)) c.in-Nowhere.left c.in-Nowhere.number
 none_is c p x o =
     let l = read_in p (entered (seek-at-2 c)).args.s.now in
     let i = (entered (seek-at-2 c)).args.fields.flow in
-    nowhere-from (would_be_valid l i) (sought l i (departure_of x)) (sym c.sought2.given.1 ∙ sought-is (seek-at-2 c) p x o)
+    nowhere-from (would_be_valid l i) (sought l i (departure_of x)) (sym c.in-Nowhere.is ∙ sought-is (seek-at-2 c) p x o)
 
 -- ---- the needs
 
@@ -99,19 +99,19 @@ cast-i c = search rules
 
 flow-at-requires : tie.Need-flow_at-flow-requires
 flow-at-requires c κs =
-    let e = c.before.before in
+    let e = c.before in
     let o = (start e.before).requires.given in
-    few o (e.before.refusal.ensures _ _ o) e.if1.false
+    few o (e.before.refusal-number.ensures _ _ o) e.if-number-ne0.false
 
 cast-seek : tie.Need-overflow_cast-fields
 cast-seek c = search rules
 
 seek-requires : tie.Need-seek-sought-requires
 seek-requires c κs =
-    let r = c.before.before in
+    let r = c.before in
     let e = passed-at r in
     let some = (start e.before).requires in
-    record { plan = some.plan; given = seek-in some.given (e.before.refusal.ensures _ _ some.given) e.if1.false r.flow-at.ensures.0 }
+    record { plan = some.plan; given = seek-in some.given (e.before.refusal-number.ensures _ _ some.given) e.if-number-ne0.false r.flow_at-flow.ensures.0 }
 
 enum-known-sought : tie.Need-enum_known-sought
 enum-known-sought c = search rules
@@ -119,7 +119,7 @@ enum-known-sought c = search rules
 granted-in-requires : tie.Need-granted_in-requires
 granted-in-requires c κs =
     let k = seek-at c.before in
-    let some = (entered k).pre in
+    let some = (entered k).requires in
     let o = some.given in
     number_below o (tests k _ _ o) (zero k _ _ o) (read_at k).flow_at-flow.ensures.0 (read_at k).flow_at-flow.ensures.1
 
@@ -127,7 +127,7 @@ put-flow-requires : tie.Need-put_flow-requires
 put-flow-requires c κs =
     let f = c.before.before in
     let k = seek-at f in
-    let o = (entered k).pre.given in
+    let o = (entered k).requires.given in
     let read = (read_at k).flow_at-flow.ensures in
     rw c.granted_in.ensures (few o (tests k _ _ o) (zero k _ _ o), granted-few o (tests k _ _ o) (zero k _ _ o) read.0 read.1 _ _ _ (found-is f _ _ o))
 
@@ -135,7 +135,7 @@ book-requires : tie.Need-book-requires
 book-requires c κs =
     let f = c.before.before.before.before in
     let k = seek-at f in
-    let o = (entered k).pre.given in
+    let o = (entered k).requires.given in
     let read = (read_at k).flow_at-flow.ensures in
     (in_frame o (tests k _ _ o) (zero k _ _ o) read.0 read.1 _ _ _ (found-is f _ _ o), few o (tests k _ _ o) (zero k _ _ o))
 
@@ -143,7 +143,7 @@ cast-t24 : tie.Need-overflow_cast-result
 cast-t24 c =
     let f = c.before.before.before.before.before in
     let k = seek-at f in
-    let o = (entered k).pre.given in
+    let o = (entered k).requires.given in
     let read = (read_at k).flow_at-flow.ensures in
     omega (arith, byte-position o (tests k _ _ o) (zero k _ _ o) read.0 read.1 _ _ _ (found-is f _ _ o))
 
@@ -173,7 +173,7 @@ put-flow-requires-2 c κs =
     let n = c.before in
     let f = n.before.before in
     let k = seek-at-2 f in
-    let o = (entered k).pre.given in
+    let o = (entered k).requires.given in
     let read = (read_at k).flow_at-flow.ensures in
     let none = none_is f _ _ o in
     rw c.moved_to.ensures (few o (tests k _ _ o) (zero k _ _ o), stopped-few o (tests k _ _ o) (zero k _ _ o) read.0 read.1 _ none.found_none _ n.newest.ensures)

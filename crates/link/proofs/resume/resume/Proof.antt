@@ -8,18 +8,12 @@ use Rattle.link.proofs.Resumed.{whole-owned, resumed}
 use Rattle.link.proofs.resume.resume.Statement.{statement}
 use Rattle.link.proofs.resume.resume.Tie as tie
 
-owners_long : (s : tie.Start) → length s.args.owner ≡ 256
-owners_long s = omega arith
-
 put-table-requires : tie.Need-put_table-requires
 put-table-requires c κs = search rules
 
 mask-owners-requires : tie.Need-mask_owners-requires
 unfolding with_owners
-mask-owners-requires c κs =
-    let t = c.before in
-    let s = t.before.before in
-    (s.requires.0, whole-owned s.args.s.now s.requires.1 s.args.owner t.put_table.ensures)
+mask-owners-requires c κs = (c.requires.0, whole-owned c.args.s.now c.requires.1 c.args.owner c.put_table.ensures)
 
 unbound-requires : tie.Need-unbound-requires
 unbound-requires c κs = search rules
@@ -41,11 +35,9 @@ element-write-s-3 c = search rules
 returns : tie.Need-returns
 unfolding with_owners
 returns c =
-    let u = c.before in
-    let m = u.before.before in
-    let t = m.before.before in
-    let s = t.before.before in
-    resumed s.args.w s.args.s.now s.requires.1 s.args.owner (owners_long s) s.args.mark s.args.turn t.put_table.ensures m.mask_owners.ensures u.unbound.ensures
+    let s = c.args in
+    let owners_long : length s.owner ≡ 256 = omega arith in
+    resumed s.w s.s.now c.requires.1 s.owner owners_long s.mark s.turn c.put_table.ensures c.mask_owners.ensures c.unbound.ensures
 
 pub resume_spec : {M : Type 1} → statement M
 resume_spec =
