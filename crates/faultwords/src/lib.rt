@@ -1,4 +1,6 @@
 // The word that asks which limits a plan breaks.
+#![tactic(auto)]
+
 mod flows;
 mod header;
 mod words;

@@ -1,4 +1,6 @@
 // The words that ask about plans.
+#![tactic(auto)]
+
 mod plans;
 mod reads;
 

@@ -1,4 +1,6 @@
 // The word that asks how many plans fit.
+#![tactic(auto)]
+
 ghost use Rattle.std.specs.Prelude.{◌≤◌, length};
 ghost use Rattle.replies.specs.Lines.{room, Says};
 ghost use Rattle.sharewords.specs.CountWord.{two_line, line_for, answer_to_count};

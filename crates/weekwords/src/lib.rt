@@ -1,4 +1,6 @@
 // The word that asks which limits a week's entries break.
+#![tactic(auto)]
+
 mod entries;
 mod words;
 

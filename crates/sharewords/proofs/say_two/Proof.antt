@@ -8,63 +8,41 @@ use Rattle.replies.proofs.PutOn.{says}
 use Rattle.sharewords.proofs.say_two.Statement.{statement}
 use Rattle.sharewords.proofs.say_two.Tie as tie
 
--- where the first number is put, and where the second is
-abbrev begun : tie.After-put-decimal → tie.Start
-begun c = c.before.before.before
+put-decimal-requires : tie.Need-put_decimal-space-requires
+put-decimal-requires c κs = omega (arith, twenty _ c.ranges.first.fits, c.requires)
 
-abbrev first : tie.After-put-number → tie.After-put-decimal
-first c = c.before.before.before.before
-
-abbrev second : tie.After-put → tie.After-put-number
-second c = c.before.before.before.before.before
-
-first-end : (c : tie.After-put-decimal) → c.put-decimal.result ≤ 20
-first-end c = omega (arith, c.put-decimal.ensures.up_to, twenty _ (begun c).ranges.first.fits)
-
-put-decimal-requires : tie.Need-put-decimal-requires
-put-decimal-requires c κs =
-    let start = c.before.before in
-    omega (arith, twenty _ start.ranges.first.fits, start.requires)
-
-put-number-requires : tie.Need-put-number-requires
+put-number-requires : tie.Need-put_number-end-requires
 put-number-requires c κs =
-    let put = c.before.before.before in
-    omega (arith, first-end put, put.put-decimal.ensures.length_stays, (begun put).requires)
-
-slice-aggregate-put : tie.Need-slice-aggregate-put
-slice-aggregate-put c = search rules
+    let first : c.put_decimal-space.result ≤ 20 = omega (arith, c.put_decimal-space.ensures.up_to, twenty _ c.ranges.first.fits) in
+    omega (arith, first, c.put_decimal-space.ensures.length_stays, c.requires)
 
 put-requires : tie.Need-put-requires
 put-requires c κs =
-    let two = c.before.before.before.before in
-    let one = first two in
+    let first : c.put_decimal-space.result ≤ 20 = omega (arith, c.put_decimal-space.ensures.up_to, twenty _ c.ranges.first.fits) in
     omega (
       arith,
-      first-end one,
-      two.put-number.ensures.1,
-      two.put-number.ensures.0.length_stays,
-      one.put-decimal.ensures.length_stays,
-      (begun one).pre,
+      first,
+      c.put_number-end.ensures.1,
+      c.put_number-end.ensures.0.length_stays,
+      c.put_decimal-space.ensures.length_stays,
+      c.requires,
     )
 
-same_length : tie.Need-same-length
+same_length : tie.Need-shape_of-out
 same_length c = search rules
 
 returns : tie.Need-returns
 returns c =
-    let end = c.before.before in
-    let two = second end in
-    let one = first two in
-    let all = puts_then (puts_then one.put-decimal.ensures two.put-number.ensures.0) end.put.ensures in
-    says all (omega (arith, end.put.ensures.up_to, two.put-number.ensures.1, first-end one, (begun one).pre))
+    let first : c.put_decimal-space.result ≤ 20 = omega (arith, c.put_decimal-space.ensures.up_to, twenty _ c.ranges.first.fits) in
+    let all = puts_then (puts_then c.put_decimal-space.ensures c.put_number-end.ensures.0) c.put.ensures in
+    says all (omega (arith, c.put.ensures.up_to, c.put_number-end.ensures.1, first, c.requires))
 
-pub say-two-spec : {M : Type 1} → statement M
-say-two-spec =
+pub say_two_spec : {M : Type 1} → statement M
+say_two_spec =
     tie.close
     (tie.spec
     put-decimal-requires
     put-number-requires
-    slice-aggregate-put
     put-requires
     same_length
     returns)

@@ -13,46 +13,46 @@ use Rattle.faultwords.proofs.flows.tell_entries.Tie as tie
 abbrev told_of : List ℕ → ℕ → List ℕ
 told_of numbers i = entry_faults (get_or numbers 0 0) (entry_asked numbers i) i
 
-abbrev invariant-loop : tie.invariant-loop
+abbrev invariant-loop : tie.invariant-loop-i
 invariant-loop numbers flows found₀ at next₀ i₀ found next i = (i ≤ flows) × ToldTo (told_of numbers) 15 found₀ found at next i
 
-abbrev decreases-loop : tie.decreases-loop
+abbrev decreases-loop : tie.decreases-loop-i
 decreases-loop numbers flows found₀ at next₀ i₀ found next i = flows - i
 
-loop-holds : tie.Need-loop-init invariant-loop decreases-loop
+loop-holds : tie.Need-loop-i-init invariant-loop decreases-loop
 loop-holds c = (omega arith, none_told _ _ _ _)
 
-tell-entry-requires : tie.Need-tell-entry-requires invariant-loop decreases-loop
+tell-entry-requires : tie.Need-tell_entry-next-requires invariant-loop decreases-loop
 tell-entry-requires c κs =
     let step = c.before in
-    let s = step.before.loop.invariant.1 in
-    let pre = step.before.before.before.before.requires in
+    let s = step.before.loop-i.invariant.1 in
+    let pre = step.requires in
     (omega (arith, pre.0.asked), omega (arith, s.up_to, s.puts.length_stays, pre.0.few))
 
-add-i : tie.Need-overflow-add-i invariant-loop decreases-loop
+add-i : tie.Need-overflow_add-i invariant-loop decreases-loop
 add-i c = search rules
 
-loop-less : tie.Need-loop-smaller invariant-loop decreases-loop
+loop-less : tie.Need-loop-i-smaller invariant-loop decreases-loop
 loop-less c = search rules
 
-loop-again : tie.Need-loop-preserved invariant-loop decreases-loop
+loop-again : tie.Need-loop-i-preserved invariant-loop decreases-loop
 loop-again c =
     let put = c.before.before in
     let step = put.before.before in
-    (omega arith, one_told step.before.loop.invariant.1 put.tell-entry.ensures.0 put.tell-entry.ensures.1)
+    (omega arith, one_told step.before.loop-i.invariant.1 put.tell_entry-next.ensures.0 put.tell_entry-next.ensures.1)
 
-same_length : tie.Need-same-length invariant-loop decreases-loop
-same_length c = c.before.loop.invariant.1.puts.length_stays
+same_length : tie.Need-shape_of-found invariant-loop decreases-loop
+same_length c = c.before.loop-i.invariant.1.puts.length_stays
 
 returns : tie.Need-returns invariant-loop decreases-loop
 returns c =
-    let s = c.before.loop.invariant in
+    let s = c.before.loop-i.invariant in
     let begun = c.before.before.before.before in
     let pre = begun.requires in
     (all_told s.1 begun.args.flows (omega (arith, s.0)), omega (arith, s.1.up_to, s.0, pre.0.few))
 
-pub tell-entries-spec : {M : Type 1} → statement M
-tell-entries-spec =
+pub tell_entries_spec : {M : Type 1} → statement M
+tell_entries_spec =
     tie.close
     (tie.spec
     invariant-loop

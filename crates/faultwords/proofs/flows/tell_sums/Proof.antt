@@ -13,44 +13,44 @@ use native.Mathlib.Omega.{arith}
 use Rattle.faultwords.proofs.flows.tell_sums.Statement.{statement}
 use Rattle.faultwords.proofs.flows.tell_sums.Tie as tie
 
-shared-slice-read-slots : tie.Need-shared-slice-read-slots
+shared-slice-read-slots : tie.Need-bounds-numbers-0
 shared-slice-read-slots c = search rules
 
-shared-slice-read-buffer : tie.Need-shared-slice-read-buffer
+shared-slice-read-buffer : tie.Need-bounds-numbers-2
 shared-slice-read-buffer c = search rules
 
-total-requires : tie.Need-total-requires
+total-requires : tie.Need-total-shares-requires
 total-requires c κs = search rules
 
-total-requires-2 : tie.Need-total-requires-2
+total-requires-2 : tie.Need-total-cells-requires
 total-requires-2 c κs = search rules
 
-tell-if-requires : tie.Need-tell-if-requires
+tell-if-requires : tie.Need-tell_if-after_shares-requires
 tell-if-requires c κs = search rules
 
-tell-if-requires-2 : tie.Need-tell-if-requires-2
+tell-if-requires-2 : tie.Need-tell_if-requires
 tell-if-requires-2 c κs = search rules
 
-same_length : tie.Need-same-length
+same_length : tie.Need-shape_of-found
 same_length c = search rules
 
 returns : tie.Need-returns
 returns c =
-    let second : tie.After-tell-if2 = c.before.before in
-    let first : tie.After-tell-if = second.before.before.before.before in
-    let cells : tie.After-total2 = first.before.before in
-    let shares : tie.After-total = cells.before in
+    let second : tie.After-tell_if = c.before.before in
+    let first : tie.After-tell_if-after_shares = second.before.before.before.before in
+    let cells : tie.After-total-cells = first.before.before in
+    let shares : tie.After-total-shares = cells.before in
     let begun : tie.Start = shares.before.before.before.before.before in
     let numbers = begun.args.numbers.now in
     let F = get_or numbers 0 0 in
     let N = get_or numbers 2 0 in
-    let shares_are = shares.total.ensures ∙ (λ t. sum begun.args.flows (λ i. get_or numbers (add-zero (3 + 4 * i) t) 0)) in
-    let over-slots = puts-same (ap (λ s. told (ltb F s) 6 s F) shares_are) first.tell-if.ensures.0 in
-    let over-buffer = puts-same (ap (λ s. told (ltb N s) 7 s N) cells.total2.ensures) second.tell-if2.ensures.0 in
-    (puts_then over-slots over-buffer, omega (arith, first.tell-if.ensures.1, second.tell-if2.ensures.1))
+    let shares_are = shares.total-shares.ensures ∙ (λ t. sum begun.args.flows (λ i. get_or numbers (add-zero (3 + 4 * i) t) 0)) in
+    let over-slots = puts-same (ap (λ s. told (ltb F s) 6 s F) shares_are) first.tell_if-after_shares.ensures.0 in
+    let over-buffer = puts-same (ap (λ s. told (ltb N s) 7 s N) cells.total-cells.ensures) second.tell_if.ensures.0 in
+    (puts_then over-slots over-buffer, omega (arith, first.tell_if-after_shares.ensures.1, second.tell_if.ensures.1))
 
-pub tell-sums-spec : {M : Type 1} → statement M
-tell-sums-spec =
+pub tell_sums_spec : {M : Type 1} → statement M
+tell_sums_spec =
     tie.close
     (tie.spec
     shared-slice-read-slots

@@ -16,54 +16,54 @@ use Rattle.faultwords.proofs.words.say_found.Statement.{statement}
 use Rattle.faultwords.proofs.words.say_found.Tie as tie
 
 -- where the faults are found
-module _ (c : tie.After-find) where
+module _ (c : tie.After-find-count) where
   abbrev begun-at : tie.Start
   begun-at = c.before.before.before.before
 
   abbrev count : ℕ
-  count = c.find.result
+  count = c.find-count.result
 
   abbrev kept : List ℕ
-  kept = c.find.new.1.0
+  kept = c.find-count.new.found
 
   in-room : count ≤ length kept
-  in-room = omega (arith, c.find.ensures.1, c.find.ensures.0.length_stays, length-replicate {A = ℕ} 309 0)
+  in-room = omega (arith, c.find-count.ensures.1, c.find-count.ensures.0.length_stays, length-replicate {A = ℕ} 309 0)
 
   found : take count kept ≡ faults_of (plan_asked begun-at.args.numbers.now)
   found =
-      let puts = c.find.ensures.0 in
+      let puts = c.find-count.ensures.0 in
       ap (take count) puts.stored
-      ∙ kept-first _ (replicate 309 0) count (omega (arith, puts.up_to)) (omega (arith, c.find.ensures.1, length-replicate {A = ℕ} 309 0))
+      ∙ kept-first _ (replicate 309 0) count (omega (arith, puts.up_to)) (omega (arith, c.find-count.ensures.1, length-replicate {A = ℕ} 309 0))
 
-slice-aggregate-find : tie.Need-slice-aggregate-find
+slice-aggregate-find : tie.Need-slice_bounds-find-end
 slice-aggregate-find c = search rules
 
-find-requires : tie.Need-find-requires
+find-requires : tie.Need-find-count-requires
 find-requires c κs = search rules
 
-array-share-prefix-found : tie.Need-array-share-prefix-found
+array-share-prefix-found : tie.Need-slice_bounds-found-end
 array-share-prefix-found c = search rules
 
-slice-aggregate-say : tie.Need-slice-aggregate-say
+slice-aggregate-say : tie.Need-slice_bounds-say-end
 slice-aggregate-say c = sym (length-take-le _ _ (in-room c.before.before))
 
 say-requires : tie.Need-say-requires
 say-requires c κs =
-    let f : tie.After-find = c.before.before.before in
-    (omega (arith, length-take-le (count f) (kept f) (in-room f), f.find.ensures.1), search rules)
+    let f : tie.After-find-count = c.before.before.before in
+    (omega (arith, length-take-le (count f) (kept f) (in-room f), f.find-count.ensures.1), search rules)
 
-same_length : tie.Need-same-length
+same_length : tie.Need-shape_of-out
 same_length c = search rules
 
 returns : tie.Need-returns
 returns c =
     let said : tie.After-say = c.before.before in
-    let f : tie.After-find = said.before.before.before.before in
+    let f : tie.After-find-count = said.before.before.before.before in
     let begun = begun-at f in
-    says_same (ap faults_line (found f) ∙ faults-said begun.args.numbers.now begun.pre.0) said.say.ensures
+    says_same (ap faults_line (found f) ∙ faults-said begun.args.numbers.now begun.requires.0) said.say.ensures
 
-pub say-found-spec : {M : Type 1} → statement M
-say-found-spec =
+pub say_found_spec : {M : Type 1} → statement M
+say_found_spec =
     tie.close
     (tie.spec
     slice-aggregate-find

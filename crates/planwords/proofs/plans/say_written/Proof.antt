@@ -18,102 +18,99 @@ use Rattle.planwords.proofs.plans.say_written.Tie as tie
 
 -- ---- where the plan is written
 
-module _ (c : tie.After-known-told2) where
-  abbrev told : tie.After-answer2
-  told = c.before
+module _ (c : tie.In-Bytes) where
+  abbrev told : tie.In-Bytes
+  told = c
 
-  abbrev write : tie.After-write
-  write = told.before.before.before.before
+  abbrev write : tie.After-write-answer
+  write = told.before.before.before
 
   abbrev begun : tie.Start
   begun = write.before.before.before.before
 
   abbrev count : ℕ
-  count = told.answer2.given.0.0
+  count = told.in-Bytes.count
 
   counted : Written.Bytes count ≡ answer_for (written (draft_for begun.args.draft) begun.args.buffer.now).answer
-  counted = sym told.answer2.given.1 ∙ write.write.ensures.0
+  counted = sym told.in-Bytes.is ∙ write.write-answer.ensures.0
 
   few : (count ≤ 76) × (count ≤ length begun.args.buffer.now)
-  few = write.write.ensures.1.1 count told.answer2.given.1
+  few = write.write-answer.ensures.1.1 count told.in-Bytes.is
 
-  in_buffer : count ≤ length write.write.last.1.0
-  in_buffer = omega (arith, few.1, write.write.kept.1.0)
+  in_buffer : count ≤ length write.write-answer.new.out
+  in_buffer = omega (arith, few.1, write.write-answer.auto.out)
 
-  bytes-there : take count write.write.last.1.0 ≡ bytes_of (draft_for begun.args.draft)
-  bytes-there = ap (take count) write.write.ensures.1.0 ∙ written-first (draft_for begun.args.draft) begun.args.buffer.now count counted
+  bytes-there : take count write.write-answer.new.out ≡ bytes_of (draft_for begun.args.draft)
+  bytes-there = ap (take count) write.write-answer.ensures.1.0 ∙ written-first (draft_for begun.args.draft) begun.args.buffer.now count counted
 
-  many-there : length (take count write.write.last.1.0) ≡ count
-  many-there = length-take-le count write.write.last.1.0 in_buffer
+  many-there : length (take count write.write-answer.new.out) ≡ count
+  many-there = length-take-le count write.write-answer.new.out in_buffer
 
-abbrev digits-at : tie.After-put-hex → tie.After-known-told2
-digits-at c = c.before.before.before
+abbrev digits-at : tie.After-put_hex-end → tie.In-Bytes
+digits-at c = c.before.before
 
 -- where the digits end
-end-there : (c : tie.After-put-hex) → c.put-hex.result ≤ 152
+end-there : (c : tie.After-put_hex-end) → c.put_hex-end.result ≤ 152
 end-there c =
     let c₀ = digits-at c in
-    omega (arith, c.put-hex.ensures.up_to, hex-length (take (count c₀) (write c₀).write.last.1.0), many-there c₀, (few c₀).0)
+    omega (arith, c.put_hex-end.ensures.up_to, hex-length (take (count c₀) (write c₀).write-answer.new.out), many-there c₀, (few c₀).0)
 
-write-requires : tie.Need-write-requires
+write-requires : tie.Need-write-answer-requires
 write-requires c κs = search rules
 
-enum-known-answer : tie.Need-enum-known-answer
+enum-known-answer : tie.Need-enum_known-answer
 enum-known-answer c = search rules
 
-say-refusal-requires : tie.Need-say-refusal-requires
+say-refusal-requires : tie.Need-say_refusal-requires
 say-refusal-requires c κs = search rules
 
-enum-known-answer-2 : tie.Need-enum-known-answer-2
+enum-known-answer-2 : tie.Need-enum_known-answer-in-Bytes-1
 enum-known-answer-2 c = search rules
 
-slice-reshare-prefix-put-hex : tie.Need-slice-reshare-prefix-put-hex
+slice-reshare-prefix-put-hex : tie.Need-slice_bounds-put_hex-end
 slice-reshare-prefix-put-hex c = in_buffer c
 
-slice-aggregate-put-hex : tie.Need-slice-aggregate-put-hex
-slice-aggregate-put-hex c = sym (length-take-le _ _ (in_buffer c.before))
+slice-aggregate-put-hex : tie.Need-slice_bounds-put_hex-end-in-Bytes
+slice-aggregate-put-hex c = sym (length-take-le _ _ (in_buffer c))
 
-put-hex-requires : tie.Need-put-hex-requires
+put-hex-requires : tie.Need-put_hex-end-requires
 put-hex-requires c κs =
-    let c₀ = c.before.before in
+    let c₀ = c.before in
     omega (arith, (few c₀).0, many-there c₀, (begun c₀).requires)
-
-slice-aggregate-put : tie.Need-slice-aggregate-put
-slice-aggregate-put c = search rules
 
 put-requires : tie.Need-put-requires
 put-requires c κs =
-    let hex = c.before.before.before.before in
-    omega (arith, end-there hex, hex.put-hex.ensures.length_stays, (begun (digits-at hex)).pre)
+    let hex = c.before.before.before.before.before in
+    omega (arith, end-there hex, hex.put_hex-end.ensures.length_stays, (begun (digits-at hex)).requires)
 
-same_length : tie.Need-same-length
+same_length : tie.Need-shape_of-buffer-in-Refused
 same_length c = search rules
 
-same-length-2 : tie.Need-same-length-2
+same-length-2 : tie.Need-shape_of-out-in-Refused
 same-length-2 c = search rules
 
-returns : tie.Need-returns
+returns : tie.Need-returns-in-Refused
 returns c =
     let said = c.before.before in
-    let refused = said.before.before.before in
-    says_same (refusal-said _ _ _ (sym refused.answer.given.1 ∙ refused.before.before.before.before.write.ensures.0)) said.say-refusal.ensures
+    let refused = said.before.before in
+    says_same (refusal-said _ _ _ (sym refused.in-Refused.is ∙ refused.before.before.before.write-answer.ensures.0)) said.say_refusal.ensures
 
-same-length-3 : tie.Need-same-length-3
+same-length-3 : tie.Need-shape_of-buffer-in-Bytes
 same-length-3 c = search rules
 
-same-length-4 : tie.Need-same-length-4
+same-length-4 : tie.Need-shape_of-out-in-Bytes
 same-length-4 c = search rules
 
-returns-2 : tie.Need-returns-2
+returns-2 : tie.Need-returns-in-Bytes
 returns-2 c =
     let end = c.before.before in
-    let digits = end.before.before.before.before.before in
+    let digits = end.before.before.before.before.before.before in
     let c₀ = digits-at digits in
-    let all = puts_then (puts-same (ap hex (bytes-there c₀)) digits.put-hex.ensures) end.put.ensures in
-    says_same (bytes-said _ _ (count c₀) (counted c₀)) (says all (omega (arith, end.put.ensures.up_to, end-there digits, (begun c₀).pre)))
+    let all = puts_then (puts-same (ap hex (bytes-there c₀)) digits.put_hex-end.ensures) end.put.ensures in
+    says_same (bytes-said _ _ (count c₀) (counted c₀)) (says all (omega (arith, end.put.ensures.up_to, end-there digits, (begun c₀).requires)))
 
-pub say-written-spec : {M : Type 1} → statement M
-say-written-spec =
+pub say_written_spec : {M : Type 1} → statement M
+say_written_spec =
     tie.close
     (tie.spec
     write-requires
@@ -123,7 +120,6 @@ say-written-spec =
     slice-reshare-prefix-put-hex
     slice-aggregate-put-hex
     put-hex-requires
-    slice-aggregate-put
     put-requires
     same_length
     same-length-2

@@ -10,23 +10,23 @@ use Rattle.tokens.specs.Pieces.{piece_length}
 use Rattle.planwords.proofs.reads.after_word.Statement.{statement}
 use Rattle.planwords.proofs.reads.after_word.Tie as tie
 
-piece-end-requires : tie.Need-piece-end-requires
+piece-end-requires : tie.Need-piece_end-end-requires
 piece-end-requires c κs = search rules
 
-add-result : tie.Need-overflow-add-result
+add-result : tie.Need-overflow_add-result
 add-result c = search rules
 
-returns : tie.Need-returns
+returns : tie.Need-returns-then-end-line
 returns c =
-    let line = c.before.before.before.args.line.now in
-    let end : c.before.piece-end.result ≡ piece_length line = c.before.piece-end.ensures ∙ zero-add (piece_length line) in
+    let line = c.args.line.now in
+    let end : c.before.piece_end-end.result ≡ piece_length line = c.before.piece_end-end.ensures ∙ zero-add (piece_length line) in
     (omega arith, ap (λ k. drop (k + 1) line) end)
 
-returns-2 : tie.Need-returns-2
+returns-2 : tie.Need-returns
 returns-2 c =
-    let line = c.before.before.before.args.line.now in
-    let end : c.before.piece-end.result ≡ piece_length line = c.before.piece-end.ensures ∙ zero-add (piece_length line) in
+    let line = c.args.line.now in
+    let end : c.before.piece_end-end.result ≡ piece_length line = c.before.piece_end-end.ensures ∙ zero-add (piece_length line) in
     (omega arith, drop-length line ∙ sym (drop_of_length-le line {i = piece_length line + 1} (omega arith)))
 
-pub after-word-spec : {M : Type 1} → statement M
-after-word-spec = tie.close (tie.spec piece-end-requires add-result returns returns-2)
+pub after_word_spec : {M : Type 1} → statement M
+after_word_spec = tie.close (tie.spec piece-end-requires add-result returns returns-2)

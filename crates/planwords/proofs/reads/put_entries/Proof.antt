@@ -11,49 +11,49 @@ use Rattle.planwords.proofs.SpacedNumbers.{first_entries, EntriesTo, no-entries,
 use Rattle.planwords.proofs.reads.put_entries.Statement.{statement}
 use Rattle.planwords.proofs.reads.put_entries.Tie as tie
 
-abbrev invariant-loop : tie.invariant-loop
+abbrev invariant-loop : tie.invariant-loop-i
 invariant-loop count out₀ at entries next₀ i₀ out next i = (i ≤ count) × EntriesTo entries out₀ out at next i
 
-abbrev decreases-loop : tie.decreases-loop
+abbrev decreases-loop : tie.decreases-loop-i
 decreases-loop count out₀ at entries next₀ i₀ out next i = count - i
 
-loop-holds : tie.Need-loop-init invariant-loop decreases-loop
+loop-holds : tie.Need-loop-i-init invariant-loop decreases-loop
 loop-holds c = (omega arith, no-entries _ _ _)
 
-mul-e : tie.Need-overflow-mul-e invariant-loop decreases-loop
+mul-e : tie.Need-offset_bounds-entries-i invariant-loop decreases-loop
 mul-e c = search rules
 
-array-copy-out-e : tie.Need-array-copy-out-e invariant-loop decreases-loop
+array-copy-out-e : tie.Need-bounds-entries-i invariant-loop decreases-loop
 array-copy-out-e c = search rules
 
-put-entry-requires : tie.Need-put-entry-requires invariant-loop decreases-loop
+put-entry-requires : tie.Need-put_entry-next-requires invariant-loop decreases-loop
 put-entry-requires c κs =
     let loop = c.before.before.before in
-    omega (arith, loop.loop.invariant.0, loop.loop.invariant.1.most, loop.loop.invariant.1.puts.length_stays)
+    omega (arith, loop.loop-i.invariant.0, loop.loop-i.invariant.1.most, loop.loop-i.invariant.1.puts.length_stays)
 
-add-i : tie.Need-overflow-add-i invariant-loop decreases-loop
+add-i : tie.Need-overflow_add-i invariant-loop decreases-loop
 add-i c = search rules
 
-loop-less : tie.Need-loop-smaller invariant-loop decreases-loop
+loop-less : tie.Need-loop-i-smaller invariant-loop decreases-loop
 loop-less c = search rules
 
-loop-again : tie.Need-loop-preserved invariant-loop decreases-loop
+loop-again : tie.Need-loop-i-preserved invariant-loop decreases-loop
 loop-again c =
     let put = c.before.before in
     let loop = put.before.before.before.before in
-    (omega arith, one_entry loop.loop.invariant.1 put.put-entry.ensures.0 put.put-entry.ensures.1)
+    (omega arith, one_entry loop.loop-i.invariant.1 put.put_entry-next.ensures.0 put.put_entry-next.ensures.1)
 
-same_length : tie.Need-same-length invariant-loop decreases-loop
-same_length c = c.before.loop.invariant.1.puts.length_stays
+same_length : tie.Need-shape_of-out invariant-loop decreases-loop
+same_length c = c.before.loop-i.invariant.1.puts.length_stays
 
 returns : tie.Need-returns invariant-loop decreases-loop
 returns c =
-    let s = c.before.loop.invariant.1 in
-    let all : c.before.loop.i ≡ c.before.before.before.args.count = omega (arith, c.before.loop.invariant.0) in
-    (puts-same (ap (λ n. flat_map spaced (flat_map entry_numbers (first_entries c.before.before.before.args.t1 n))) all) s.puts, omega (arith, s.most))
+    let s = c.before.loop-i.invariant.1 in
+    let all : c.before.loop-i.i ≡ c.args.count = omega (arith, c.before.loop-i.invariant.0) in
+    (puts-same (ap (λ n. flat_map spaced (flat_map entry_numbers (first_entries c.args.entries n))) all) s.puts, omega (arith, s.most))
 
-pub put-entries-spec : {M : Type 1} → statement M
-put-entries-spec =
+pub put_entries_spec : {M : Type 1} → statement M
+put_entries_spec =
     tie.close
     (tie.spec
     invariant-loop

@@ -11,42 +11,38 @@ use Rattle.planwords.proofs.SpacedNumbers.{question-is}
 use Rattle.planwords.proofs.reads.say_question.Statement.{statement}
 use Rattle.planwords.proofs.reads.say_question.Tie as tie
 
-put-header-requires : tie.Need-put-header-requires
+put-header-requires : tie.Need-put_header-header-requires
 put-header-requires c κs = search rules
 
-put-entries-requires : tie.Need-put-entries-requires
+put-entries-requires : tie.Need-put_entries-end-requires
 put-entries-requires c κs =
     let header = c.before.before.before.before in
     let start = header.before.before.before in
     let few : start.args.p.count ≤ 16 = omega (arith, start.requires.0.accepted.flows_most, length-table start.args.p.count (λ i. entry_for (get_or start.args.p.entries i no_entry))) in
-    (few, omega (arith, header.put-header.ensures.0.length_stays, header.put-header.ensures.1, start.requires.1))
-
-slice-aggregate-put : tie.Need-slice-aggregate-put
-slice-aggregate-put c = search rules
+    (few, omega (arith, header.put_header-header.ensures.0.length_stays, header.put_header-header.ensures.1, start.requires.1))
 
 put-requires : tie.Need-put-requires
 put-requires c κs = search rules
 
-same_length : tie.Need-same-length
+same_length : tie.Need-shape_of-out
 same_length c = search rules
 
 returns : tie.Need-returns
 returns c =
     let end = c.before.before in
-    let entries = end.before.before.before.before.before in
+    let entries = end.before.before.before.before.before.before in
     let header = entries.before.before.before.before.before in
     let start = header.before.before.before in
-    let all = puts_then (puts_then header.put-header.ensures.0 entries.put_entries.ensures.0) end.put.ensures in
+    let all = puts_then (puts_then header.put_header-header.ensures.0 entries.put_entries-end.ensures.0) end.put.ensures in
     says (puts-same (question-is (plan_for start.args.p)) all)
-    (omega (arith, end.put.ensures.up_to, entries.put_entries.ensures.1, header.put-header.ensures.1, start.requires.1))
+    (omega (arith, end.put.ensures.up_to, entries.put_entries-end.ensures.1, header.put_header-header.ensures.1, start.requires.1))
 
-pub say-question-spec : {M : Type 1} → statement M
-say-question-spec =
+pub say_question_spec : {M : Type 1} → statement M
+say_question_spec =
     tie.close
     (tie.spec
     put-header-requires
     put-entries-requires
-    slice-aggregate-put
     put-requires
     same_length
     returns)

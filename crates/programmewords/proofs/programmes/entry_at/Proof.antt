@@ -3,44 +3,44 @@ use borrow.Author.Rules.{rules}
 use Rattle.programmewords.proofs.programmes.entry_at.Statement.{statement}
 use Rattle.programmewords.proofs.programmes.entry_at.Tie as tie
 
-mul_at : tie.Need-overflow-mul-at
+mul_at : tie.Need-overflow_mul-at
 mul_at c = search rules
 
-add_at : tie.Need-overflow-add-at
+add_at : tie.Need-overflow_add-at
 add_at c = search rules
 
-mul-start : tie.Need-overflow-mul-start
+mul-start : tie.Need-offset_bounds-numbers-at
 mul-start c = search rules
 
-shared-slice-read-start : tie.Need-shared-slice-read-start
+shared-slice-read-start : tie.Need-bounds-numbers-at
 shared-slice-read-start c = search rules
 
-add-end : tie.Need-overflow-add-end
+add-end : tie.Need-overflow_add-end
 add-end c = search rules
 
-mul-end : tie.Need-overflow-mul-end
+mul-end : tie.Need-offset_bounds-numbers-at-2
 mul-end c = search rules
 
-shared-slice-read-end : tie.Need-shared-slice-read-end
+shared-slice-read-end : tie.Need-bounds-numbers-at-2
 shared-slice-read-end c = search rules
 
-add-plan : tie.Need-overflow-add-plan
+add-plan : tie.Need-overflow_add-plan
 add-plan c = search rules
 
-mul-plan : tie.Need-overflow-mul-plan
+mul-plan : tie.Need-offset_bounds-numbers-at-3
 mul-plan c = search rules
 
-shared-slice-read-plan : tie.Need-shared-slice-read-plan
+shared-slice-read-plan : tie.Need-bounds-numbers-at-3
 shared-slice-read-plan c = search rules
 
-cast-plan : tie.Need-overflow-cast-plan
+cast-plan : tie.Need-overflow_cast-plan
 cast-plan c = search rules
 
 returns : tie.Need-returns
 returns c = search rules
 
-pub entry-at-spec : {M : Type 1} → statement M
-entry-at-spec =
+pub entry_at_spec : {M : Type 1} → statement M
+entry_at_spec =
     tie.close
     (tie.spec
     mul_at

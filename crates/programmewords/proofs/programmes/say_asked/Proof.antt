@@ -10,19 +10,19 @@ use borrow.Author.Rules.{rules}
 use Rattle.programmewords.proofs.programmes.say_asked.Statement.{statement}
 use Rattle.programmewords.proofs.programmes.say_asked.Tie as tie
 
-asked-requires : tie.Need-asked-requires
+asked-requires : tie.Need-asked-p-requires
 asked-requires c κs = search rules
 
-shared-slice-read-plan-at : tie.Need-shared-slice-read-plan-at
+shared-slice-read-plan-at : tie.Need-bounds-numbers-0
 shared-slice-read-plan-at c = search rules
 
-plan-at-requires : tie.Need-plan-at-requires
+plan-at-requires : tie.Need-plan_at-answer-requires
 plan-at-requires c κs = search rules
 
-say-answer-requires : tie.Need-say-answer-requires
+say-answer-requires : tie.Need-say_answer-requires
 say-answer-requires c κs = search rules
 
-same_length : tie.Need-same-length
+same_length : tie.Need-shape_of-out
 same_length c = search rules
 
 returns : tie.Need-returns
@@ -32,11 +32,11 @@ returns c =
     let asked = found.before.before in
     let start = asked.before.before.before in
     let numbers = start.args.numbers.now in
-    let answer = found.plan-at.ensures ∙ ap (λ p. answer_for (plan_at (entries_of p) (minute_asked numbers))) asked.asked.ensures in
-    says_same (ap line_for answer ∙ narrow-line numbers start.args.count start.requires.0 start.requires.1.narrow) said.say-answer.ensures
+    let answer = found.plan_at-answer.ensures ∙ ap (λ p. answer_for (plan_at (entries_of p) (minute_asked numbers))) asked.asked-p.ensures in
+    says_same (ap line_for answer ∙ narrow-line numbers start.args.count start.requires.0 start.requires.1.narrow) said.say_answer.ensures
 
-pub say-asked-spec : {M : Type 1} → statement M
-say-asked-spec =
+pub say_asked_spec : {M : Type 1} → statement M
+say_asked_spec =
     tie.close
     (tie.spec
     asked-requires

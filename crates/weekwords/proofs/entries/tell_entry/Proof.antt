@@ -9,51 +9,51 @@ use native.Mathlib.Omega.{arith}
 use Rattle.weekwords.proofs.entries.tell_entry.Statement.{statement}
 use Rattle.weekwords.proofs.entries.tell_entry.Tie as tie
 
-mul-start : tie.Need-overflow-mul-start
+mul-start : tie.Need-overflow_mul-start
 mul-start c = search rules
 
-mul-start-2 : tie.Need-overflow-mul-start-2
+mul-start-2 : tie.Need-offset_bounds-numbers-i
 mul-start-2 c = search rules
 
-shared-slice-read-start : tie.Need-shared-slice-read-start
+shared-slice-read-start : tie.Need-bounds-numbers-i
 shared-slice-read-start c = search rules
 
-mul-end : tie.Need-overflow-mul-end
+mul-end : tie.Need-overflow_mul-end
 mul-end c = search rules
 
-add-end : tie.Need-overflow-add-end
+add-end : tie.Need-overflow_add-end
 add-end c = search rules
 
-mul-end-2 : tie.Need-overflow-mul-end-2
+mul-end-2 : tie.Need-offset_bounds-numbers-i-2
 mul-end-2 c = search rules
 
-shared-slice-read-end : tie.Need-shared-slice-read-end
+shared-slice-read-end : tie.Need-bounds-numbers-i-2
 shared-slice-read-end c = search rules
 
-tell-if-requires : tie.Need-tell-if-requires
+tell-if-requires : tie.Need-tell_if-after_start-requires
 tell-if-requires c κs = search rules
 
-tell-if-requires-2 : tie.Need-tell-if-requires-2
+tell-if-requires-2 : tie.Need-tell_if-requires
 tell-if-requires-2 c κs = search rules
 
-same_length : tie.Need-same-length
+same_length : tie.Need-shape_of-found
 same_length c = search rules
 
 returns : tie.Need-returns
 returns c =
-    let second : tie.After-tell-if2 = c.before.before in
-    let first : tie.After-tell-if = second.before.before.before.before in
+    let second : tie.After-tell_if = c.before.before in
+    let first : tie.After-tell_if-after_start = second.before.before.before.before in
     let begun : tie.Start = first.before.before.before.before.before.before in
     let i = begun.args.i in
     let numbers = begun.args.numbers.now in
     let e = listed numbers i in
-    let start = puts-same (ap (λ b. told b 28 i 0) (not_first e)) first.tell-if.ensures.0 in
-    let end = puts-same (ap (λ b. told b 28 i 1) (past-week e.end)) second.tell-if2.ensures.0 in
+    let start = puts-same (ap (λ b. told b 28 i 0) (not_first e)) first.tell_if-after_start.ensures.0 in
+    let end = puts-same (ap (λ b. told b 28 i 1) (past-week e.end)) second.tell_if.ensures.0 in
     let same = ap (λ x. entry_faults x i) (sym (entry_is numbers i begun.requires.0)) in
-    (puts-same same (puts_then start end), omega (arith, first.tell-if.ensures.1, second.tell-if2.ensures.1))
+    (puts-same same (puts_then start end), omega (arith, first.tell_if-after_start.ensures.1, second.tell_if.ensures.1))
 
-pub tell-entry-spec : {M : Type 1} → statement M
-tell-entry-spec =
+pub tell_entry_spec : {M : Type 1} → statement M
+tell_entry_spec =
     tie.close
     (tie.spec
     mul-start

@@ -8,45 +8,45 @@ use native.Mathlib.Omega.{arith}
 use Rattle.weekwords.proofs.entries.tell_pairs.Statement.{statement}
 use Rattle.weekwords.proofs.entries.tell_pairs.Tie as tie
 
-abbrev invariant-loop : tie.invariant-loop
+abbrev invariant-loop : tie.invariant-loop-j
 invariant-loop numbers count found₀ at next₀ j₀ found next j = (j ≤ count) × ToldTo (shared_faults (week_asked numbers)) 3 found₀ found at next j
 
-abbrev decreases-loop : tie.decreases-loop
+abbrev decreases-loop : tie.decreases-loop-j
 decreases-loop numbers count found₀ at next₀ j₀ found next j = count - j
 
-loop-holds : tie.Need-loop-init invariant-loop decreases-loop
+loop-holds : tie.Need-loop-j-init invariant-loop decreases-loop
 loop-holds c = (omega arith, none_told _ _ _ _)
 
-tell-shared-requires : tie.Need-tell-shared-requires invariant-loop decreases-loop
+tell-shared-requires : tie.Need-tell_shared-next-requires invariant-loop decreases-loop
 tell-shared-requires c κs =
     let step = c.before in
-    let s = step.before.loop.invariant.1 in
-    let pre = step.before.before.before.before.requires in
+    let s = step.before.loop-j.invariant.1 in
+    let pre = step.requires in
     (omega (arith, pre.1), omega (arith, s.up_to, s.puts.length_stays, pre.0, pre.2))
 
-add-j : tie.Need-overflow-add-j invariant-loop decreases-loop
+add-j : tie.Need-overflow_add-j invariant-loop decreases-loop
 add-j c = search rules
 
-loop-less : tie.Need-loop-smaller invariant-loop decreases-loop
+loop-less : tie.Need-loop-j-smaller invariant-loop decreases-loop
 loop-less c = search rules
 
-loop-again : tie.Need-loop-preserved invariant-loop decreases-loop
+loop-again : tie.Need-loop-j-preserved invariant-loop decreases-loop
 loop-again c =
     let put = c.before.before in
     let step = put.before.before in
-    (omega arith, one_told step.before.loop.invariant.1 put.tell-shared.ensures.0 put.tell-shared.ensures.1)
+    (omega arith, one_told step.before.loop-j.invariant.1 put.tell_shared-next.ensures.0 put.tell_shared-next.ensures.1)
 
-same_length : tie.Need-same-length invariant-loop decreases-loop
-same_length c = c.before.loop.invariant.1.puts.length_stays
+same_length : tie.Need-shape_of-found invariant-loop decreases-loop
+same_length c = c.before.loop-j.invariant.1.puts.length_stays
 
 returns : tie.Need-returns invariant-loop decreases-loop
 returns c =
-    let s = c.before.loop.invariant in
+    let s = c.before.loop-j.invariant in
     let begun = c.before.before.before.before in
     (all_told s.1 begun.args.count (omega (arith, s.0)), omega (arith, s.1.up_to, s.0, begun.requires.0))
 
-pub tell-pairs-spec : {M : Type 1} → statement M
-tell-pairs-spec =
+pub tell_pairs_spec : {M : Type 1} → statement M
+tell_pairs_spec =
     tie.close
     (tie.spec
     invariant-loop
