@@ -1,5 +1,5 @@
 -- `meshwords::asked::asked` meets its contract. Assumes nothing.
-use Prim.Native.Nat.{ℕ, ◌-◌, ◌%◌}
+use Prim.Native.Nat.{ℕ, ◌-◌}
 use mathlib.Core.Path.{◌≡◌, sym, ap, ◌∙◌}
 use mathlib.Core.Bool.{Bool}
 use mathlib.Core.List.{List}
@@ -8,7 +8,6 @@ use Rattle.mesh.specs.Reading.{streams_of}
 use Rattle.replies.proofs.PutOn.{says_same}
 use Rattle.meshwords.specs.Answers.{mesh_line, mesh_answer}
 use Rattle.meshwords.proofs.AskedLines.{slots-missing, no-threes, whole-streams}
-use native.Mathlib.Omega.{arith}
 use borrow.Author.Rules.{rules}
 use Rattle.meshwords.proofs.asked.asked.Statement.{statement}
 use Rattle.meshwords.proofs.asked.asked.Tie as tie

@@ -3,7 +3,6 @@ use mathlib.Core.Path.{sym, ap, ◌∙◌}
 use Rattle.replies.proofs.PutOn.{says_same}
 use Rattle.meshwords.specs.Answers.{admission_line}
 use Rattle.meshwords.proofs.AskedLines.{refused-line}
-use native.Mathlib.Omega.{arith}
 use borrow.Author.Rules.{rules}
 use Rattle.meshwords.proofs.asked.say_admission.Statement.{statement}
 use Rattle.meshwords.proofs.asked.say_admission.Tie as tie

@@ -1,5 +1,5 @@
 -- `meshwords::overloads::put_link` meets its contract. Assumes nothing.
-use mathlib.Core.Path.{ap, ◌∙◌}
+use mathlib.Core.Path.{ap}
 use Rattle.calls.proofs.Stores.{puts_then, puts-same}
 use Rattle.replies.specs.Lines.{spaced}
 use Rattle.meshwords.proofs.OverLines.{three-spaced}
@@ -35,8 +35,8 @@ returns c =
     let from-node = from.before.before in
     let first = puts-same (ap spaced from-node.link_from.ensures) from.put_number-after_from.ensures.0 in
     let second = puts-same (ap spaced to-node.link_to.ensures) to.put_number-after_to.ensures.0 in
-    let all = puts_then (puts_then first second) load.put_number-after_from.ensures.0 in
-    (puts-same (three-spaced _ _ _) all, omega (arith, from.put_number-after_from.ensures.1, to.put_number-after_to.ensures.1, load.put_number-after_from.ensures.1))
+    let all = puts_then (puts_then first second) load.put_number.ensures.0 in
+    (puts-same (three-spaced _ _ _) all, omega (arith, from.put_number-after_from.ensures.1, to.put_number-after_to.ensures.1, load.put_number.ensures.1))
 
 pub put_link_spec : {M : Type 1} → statement M
 put_link_spec =

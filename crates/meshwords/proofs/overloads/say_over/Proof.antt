@@ -5,7 +5,6 @@ use Rattle.replies.proofs.PutOn.{says_same}
 use Rattle.meshwords.specs.Answers.{over_line}
 use Rattle.meshwords.proofs.OverLines.{table-line-is}
 use Rattle.meshwords.proofs.AskedLines.{over-refused}
-use native.Mathlib.Omega.{arith}
 use borrow.Author.Rules.{rules}
 use Rattle.meshwords.proofs.overloads.say_over.Statement.{statement}
 use Rattle.meshwords.proofs.overloads.say_over.Tie as tie

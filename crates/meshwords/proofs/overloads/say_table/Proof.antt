@@ -48,7 +48,7 @@ put-requires-2 : tie.Need-put-requires
 put-requires-2 c κs =
     let over = c.before.before.before.before.before in
     let word = word_at over in
-    omega (arith, over.put_over-end.ensures.1, over.put_over-end.ensures.0.length_stays, word.put-word.ensures.up_to, word.put-word.ensures.length_stays, (begun word).pre)
+    omega (arith, over.put_over-end.ensures.1, over.put_over-end.ensures.0.length_stays, word.put-word.ensures.up_to, word.put-word.ensures.length_stays, (begun word).requires)
 
 same-length-2 : tie.Need-shape_of-out
 same-length-2 c = search rules
@@ -61,7 +61,7 @@ returns-2 c =
     let some = some_at word in
     let all = puts_then (puts_then word.put-word.ensures over.put_over-end.ensures.0) end.put.ensures in
     says (puts-same (some-line (begun word).args.slots (begun word).args.loads.now some.before.any_over.ensures some.if-not-any_over.false-raw) all)
-    (omega (arith, end.put.ensures.up_to, over.put_over-end.ensures.1, word.put-word.ensures.up_to, (begun word).pre))
+    (omega (arith, end.put.ensures.up_to, over.put_over-end.ensures.1, word.put-word.ensures.up_to, (begun word).requires))
 
 pub say_table_spec : {M : Type 1} → statement M
 say_table_spec =
