@@ -1,16 +1,16 @@
 -- The answers to F and streams, by the tests on the way. Assumes nothing.
 use Prim.Native.Nat.{ℕ, zero, suc, ◌-◌, ◌%◌}
-use mathlib.Core.Path.{◌≡◌, refl, sym, ap, ◌∙◌}
-use mathlib.Core.List.{List, ◌∷◌, []}
-use mathlib.Core.Bool.{Bool, true, false}
+use mathlib.Core.Path.{◌≡◌, refl, ap, ◌∙◌}
+use mathlib.Core.List.{List}
+use mathlib.Core.Bool.{Bool}
 use native.Mathlib.Omega.{arith}
 use lib.ListN.{length, get_or, take, drop, length-drop}
 use lib.Seq.{take_all}
 use borrow.Author.Tests.{eq-eqb, ne_eqb}
-use Rattle.model.specs.Listing.{text, refusal_line}
+use Rattle.model.specs.Listing.{refusal_line}
 use Rattle.replies.specs.Lines.{cannot}
 use Rattle.mesh.specs.Streams.{Stream}
-use Rattle.mesh.specs.Admission.{refusal_before_links, refusal}
+use Rattle.mesh.specs.Admission.{refusal_before_links}
 use Rattle.mesh.specs.Reading.{streams_of}
 use Rattle.meshwords.specs.Answers.{admission_line, over_line, mesh_line, mesh_answer}
 

@@ -5,7 +5,7 @@ use mathlib.Core.List.{List, ◌∷◌, [], ◌++◌, flat_map, append-nil, appe
 use mathlib.Core.Bool.{Bool, true, false, not, cond}
 use native.Mathlib.Numerals.{add-one}
 use native.Mathlib.Omega.{arith}
-use lib.ListN.{length, get_or}
+use lib.ListN.{get_or}
 use lib.Dec.{ltb}
 use borrow.Author.Tests.{not-true, not-false}
 use Rattle.model.specs.Tables.{table, any}
@@ -15,12 +15,12 @@ use Rattle.calls.specs.Lines.{Puts}
 use Rattle.calls.proofs.Stores.{puts_none, puts_then, puts-same}
 use Rattle.tokens.proofs.BytesRead.{table_more}
 use Rattle.replies.specs.Lines.{spaced}
-use Rattle.mesh.specs.Mesh.{Link, to, keep, some_of, links}
+use Rattle.mesh.specs.Mesh.{Link, keep, some_of, links}
 use Rattle.mesh.specs.Streams.{Stream, load}
 use Rattle.mesh.specs.Admission.{over, refusal_before_links, over_links, over_numbers}
 use Rattle.mesh.specs.Reading.{link_at, loads_when}
 use Rattle.mesh.proofs.Links.{over-links-are}
-use Rattle.mesh.proofs.Admission.{Asked, well-asked, over-table}
+use Rattle.mesh.proofs.Admission.{well-asked, over-table}
 use Rattle.mesh.proofs.Admitted.{none_kept, nothing-kept}
 use Rattle.meshwords.specs.Answers.{links_line}
 use Rattle.meshwords.specs.Overloads.{place_numbers, overload_numbers, table_line}

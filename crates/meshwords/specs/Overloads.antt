@@ -1,5 +1,5 @@
 -- The links of a table of loads that are over. Assumes nothing.
-use Rattle.std.specs.Prelude.{ℕ, zero, suc, cond, get_or, ltb}
+use Rattle.std.specs.Prelude.{ℕ, cond, get_or, ltb}
 use mathlib.Core.List.{List, ◌∷◌, [], ◌++◌, flat_map}
 use Rattle.model.specs.Tables.{table, any}
 use Rattle.model.specs.Listing.{text}

@@ -1,6 +1,6 @@
 -- The numbers of a show, by the tests on the way. Assumes nothing.
-use Prim.Native.Nat.{ℕ, ◌+◌, ◌-◌, ◌*◌, ◌/◌, ◌%◌, ◌≤◌, ◌<◌}
-use mathlib.Core.Path.{◌≡◌, refl, ap, ◌∙◌}
+use Prim.Native.Nat.{ℕ, ◌+◌, ◌-◌, ◌*◌, ◌%◌, ◌≤◌, ◌<◌}
+use mathlib.Core.Path.{◌≡◌, ap, ◌∙◌}
 use mathlib.Core.List.{List}
 use native.Mathlib.Omega.{arith}
 use lib.ListN.{length, take, drop, length-drop}
@@ -8,7 +8,7 @@ use lib.Seq.{take_all}
 use borrow.Author.Tests.{lt-ltb, le-ltb, eq-eqb, ne_eqb}
 use Rattle.replies.specs.Lines.{cannot}
 use Rattle.show.specs.Reading.{show_of}
-use Rattle.showwords.specs.Answers.{show_lines, streams_asked, dome_asked, show_asked, answer_to_show}
+use Rattle.showwords.specs.Answers.{show_lines, streams_asked, dome_asked, answer_to_show}
 
 module _ (numbers : List ℕ) where
   pub header-missing : length numbers < 3 → cannot "F, W or N is missing" ≡ answer_to_show numbers

@@ -5,52 +5,48 @@ use Rattle.delaywords.proofs.DelayLines.{not-four, four}
 use Rattle.delaywords.proofs.delay.Statement.{statement}
 use Rattle.delaywords.proofs.delay.Tie as tie
 
-slice-aggregate-say : tie.Need-slice-aggregate-say
-slice-aggregate-say c = search rules
-
 say-requires : tie.Need-say-requires
 say-requires c κs = search rules
 
-same_length : tie.Need-same-length
+same_length : tie.Need-shape_of-out-then-numbers-ne4
 same_length c = search rules
 
-returns : tie.Need-returns
+returns : tie.Need-returns-then-numbers-ne4
 returns c =
     let said = c.before.before in
-    says_same (not-four _ said.before.before.before.if1.true) said.say.ensures
+    says_same (not-four _ said.before.before.before.if-numbers-ne4.true) said.say.ensures
 
-shared-slice-read-delay : tie.Need-shared-slice-read-delay
+shared-slice-read-delay : tie.Need-bounds-numbers-0
 shared-slice-read-delay c = search rules
 
-shared-slice-read-delay-2 : tie.Need-shared-slice-read-delay-2
+shared-slice-read-delay-2 : tie.Need-bounds-numbers-1
 shared-slice-read-delay-2 c = search rules
 
-shared-slice-read-delay-3 : tie.Need-shared-slice-read-delay-3
+shared-slice-read-delay-3 : tie.Need-bounds-numbers-2
 shared-slice-read-delay-3 c = search rules
 
-shared-slice-read-delay-4 : tie.Need-shared-slice-read-delay-4
+shared-slice-read-delay-4 : tie.Need-bounds-numbers-3
 shared-slice-read-delay-4 c = search rules
 
 delay-requires : tie.Need-delay-requires
 delay-requires c κs = search rules
 
-say-delayed-requires : tie.Need-say-delayed-requires
+say-delayed-requires : tie.Need-say_delayed-requires
 say-delayed-requires c κs = search rules
 
-same-length-2 : tie.Need-same-length-2
+same-length-2 : tie.Need-shape_of-out
 same-length-2 c = search rules
 
-returns-2 : tie.Need-returns-2
+returns-2 : tie.Need-returns
 returns-2 c =
     let said = c.before.before in
     let told = said.before.before in
-    says_same (four _ told.before.before.before.before.before.if1.false told.delay.ensures) said.say-delayed.ensures
+    says_same (four _ told.before.before.before.before.before.if-numbers-ne4.false told.delay.ensures) said.say_delayed.ensures
 
-pub delay-spec : {M : Type 1} → statement M
-delay-spec =
+pub delay_spec : {M : Type 1} → statement M
+delay_spec =
     tie.close
     (tie.spec
-    slice-aggregate-say
     say-requires
     same_length
     returns

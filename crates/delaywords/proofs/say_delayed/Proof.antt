@@ -6,56 +6,53 @@ use Rattle.delaywords.specs.DelayWord.{line_for}
 use Rattle.delaywords.proofs.say_delayed.Statement.{statement}
 use Rattle.delaywords.proofs.say_delayed.Tie as tie
 
-enum-known-answer : tie.Need-enum-known-answer
+enum-known-answer : tie.Need-enum_known-answer
 enum-known-answer c = search rules
 
-say-refusal-requires : tie.Need-say-refusal-requires
+say-refusal-requires : tie.Need-say_refusal-requires
 say-refusal-requires c κs = search rules
 
-enum-known-answer-2 : tie.Need-enum-known-answer-2
+enum-known-answer-2 : tie.Need-enum_known-answer-in-Within-1
 enum-known-answer-2 c = search rules
 
-say-three-requires : tie.Need-say-three-requires
+say-three-requires : tie.Need-say_three-requires
 say-three-requires c κs = search rules
 
-enum_told : tie.Need-enum-told
+enum_told : tie.Need-enum_told-1
 enum_told c = search rules
-
-slice-aggregate-say : tie.Need-slice-aggregate-say
-slice-aggregate-say c = search rules
 
 say-requires : tie.Need-say-requires
 say-requires c κs = search rules
 
-same_length : tie.Need-same-length
+same_length : tie.Need-shape_of-out-in-Refused
 same_length c = search rules
 
-returns : tie.Need-returns
+returns : tie.Need-returns-in-Refused
 returns c =
     let said = c.before.before in
-    let told = said.before.before.before in
-    says_same (ap line_for (sym told.answer.given.1)) said.say-refusal.ensures
+    let told = said.before.before in
+    says_same (ap line_for (sym told.in-Refused.is)) said.say_refusal.ensures
 
-same-length-2 : tie.Need-same-length-2
+same-length-2 : tie.Need-shape_of-out-in-Within
 same-length-2 c = search rules
 
-returns-2 : tie.Need-returns-2
+returns-2 : tie.Need-returns-in-Within
 returns-2 c =
     let said = c.before.before in
-    let told = said.before.before.before in
-    says_same (ap line_for (sym told.answer2.given.1)) said.say-three.ensures
+    let told = said.before.before in
+    says_same (ap line_for (sym told.in-Within.is)) said.say_three.ensures
 
-same-length-3 : tie.Need-same-length-3
+same-length-3 : tie.Need-shape_of-out-in-NoQuestion
 same-length-3 c = search rules
 
-returns-3 : tie.Need-returns-3
+returns-3 : tie.Need-returns-in-NoQuestion
 returns-3 c =
     let said = c.before.before in
     let told = said.before.before.before in
-    says_same (ap line_for (sym told.enum_told.given.1)) said.say.ensures
+    says_same (ap line_for (sym told.in-NoQuestion.is)) said.say.ensures
 
-pub say-delayed-spec : {M : Type 1} → statement M
-say-delayed-spec =
+pub say_delayed_spec : {M : Type 1} → statement M
+say_delayed_spec =
     tie.close
     (tie.spec
     enum-known-answer
@@ -63,7 +60,6 @@ say-delayed-spec =
     enum-known-answer-2
     say-three-requires
     enum_told
-    slice-aggregate-say
     say-requires
     same_length
     returns

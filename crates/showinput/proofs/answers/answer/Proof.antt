@@ -13,7 +13,7 @@ use Rattle.showinput.proofs.answers.answer.Statement.{statement}
 use Rattle.showinput.proofs.answers.answer.Tie as tie
 
 -- where the question's end is known
-module _ (c : tie.After-question-end) where
+module _ (c : tie.After-question_end-end) where
   abbrev start : tie.Start
   start = c.before.before.before
 
@@ -21,56 +21,52 @@ module _ (c : tie.After-question-end) where
   input = start.args.input.now
 
   abbrev end : ℕ
-  end = c.question-end.result
+  end = c.question_end-end.result
 
   long : length (question_of input) ≡ end
-  long = end-long input end c.question-end.ensures.0 c.question-end.ensures.1
+  long = end-long input end c.question_end-end.ensures.0 c.question_end-end.ensures.1
 
-question-end-requires : tie.Need-question-end-requires
+question-end-requires : tie.Need-question_end-end-requires
 question-end-requires c κs = search rules
-
-slice-aggregate-say : tie.Need-slice-aggregate-say
-slice-aggregate-say c = search rules
 
 say-requires : tie.Need-say-requires
 say-requires c κs = search rules
 
-same_length : tie.Need-same-length
+same_length : tie.Need-shape_of-out-then-end-gt-LONGEST
 same_length c = search rules
 
-returns : tie.Need-returns
+returns : tie.Need-returns-then-end-gt-LONGEST
 returns c =
     let said = c.before.before in
-    let over = said.before.before.before in
+    let over = said.before.before.before.before in
     let ends = over.before in
-    says_same (too_long (input ends) (omega (arith, long ends, over.if1.true))) said.say.ensures
+    says_same (too_long (input ends) (omega (arith, long ends, over.if-end-gt-LONGEST.true))) said.say.ensures
 
-slice-aggregate-answer-short : tie.Need-slice-aggregate-answer-short
-slice-aggregate-answer-short c = sym (length-take-le _ _ c.before.before.question-end.ensures.0)
+slice-aggregate-answer-short : tie.Need-slice_bounds-answer_short-end
+slice-aggregate-answer-short c = sym (length-take-le _ _ c.question_end-end.ensures.0)
 
-answer-short-requires : tie.Need-answer-short-requires
+answer-short-requires : tie.Need-answer_short-requires
 answer-short-requires c κs =
-    let short = c.before.before in
+    let short = c.before in
     let ends = short.before in
-    (omega (arith, length-take-le (end ends) (input ends) ends.question-end.ensures.0, short.if1.false), (start ends).requires)
+    (omega (arith, length-take-le (end ends) (input ends) ends.question_end-end.ensures.0, short.if-end-gt-LONGEST.false), (start ends).requires)
 
-same-length-2 : tie.Need-same-length-2
+same-length-2 : tie.Need-shape_of-out
 same-length-2 c = search rules
 
-returns-2 : tie.Need-returns-2
+returns-2 : tie.Need-returns
 returns-2 c =
     let said = c.before.before in
-    let short = said.before.before.before in
+    let short = said.before.before in
     let ends = short.before in
-    says_same (ap question_line ends.question-end.ensures.1 ∙ short-enough (input ends) (omega (arith, long ends, short.if1.false)))
-    said.answer-short.ensures
+    says_same (ap question_line ends.question_end-end.ensures.1 ∙ short-enough (input ends) (omega (arith, long ends, short.if-end-gt-LONGEST.false)))
+    said.answer_short.ensures
 
-pub answer-spec : {M : Type 1} → statement M
-answer-spec =
+pub answer_spec : {M : Type 1} → statement M
+answer_spec =
     tie.close
     (tie.spec
     question-end-requires
-    slice-aggregate-say
     say-requires
     same_length
     returns

@@ -6,16 +6,16 @@ use borrow.Author.Rules.{rules}
 use Rattle.showinput.proofs.pieces.finish.Statement.{statement}
 use Rattle.showinput.proofs.pieces.finish.Tie as tie
 
-array-share-prefix-bytes : tie.Need-array-share-prefix-bytes
-array-share-prefix-bytes c = let s = c.before.before.requires.0 in omega (arith, s.long, s.most)
+array-share-prefix-bytes : tie.Need-slice_bounds-bytes-end
+array-share-prefix-bytes c = let s = c.requires.0 in omega (arith, s.long, s.most)
 
-slice-aggregate-answer : tie.Need-slice-aggregate-answer
-slice-aggregate-answer c = let s = c.before.before.before.requires.0 in sym (length-take-le _ _ (omega (arith, s.long, s.most)))
+slice-aggregate-answer : tie.Need-slice_bounds-answer-end
+slice-aggregate-answer c = let s = c.requires.0 in sym (length-take-le _ _ (omega (arith, s.long, s.most)))
 
 answer-requires : tie.Need-answer-requires
 answer-requires c κs = search rules
 
-same_length : tie.Need-same-length
+same_length : tie.Need-shape_of-out
 same_length c = search rules
 
 returns : tie.Need-returns

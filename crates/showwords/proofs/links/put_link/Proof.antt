@@ -6,36 +6,36 @@ use borrow.Author.Rules.{rules}
 use Rattle.showwords.proofs.links.put_link.Statement.{statement}
 use Rattle.showwords.proofs.links.put_link.Tie as tie
 
-link-refusal-requires : tie.Need-link-refusal-requires
+link-refusal-requires : tie.Need-link_refusal-number-requires
 link-refusal-requires c κs = search rules
 
-put-refused-requires : tie.Need-put-refused-requires
+put-refused-requires : tie.Need-put_refused-requires
 put-refused-requires c κs = search rules
 
-same_length : tie.Need-same-length
+same_length : tie.Need-shape_of-out-then-number-ne0
 same_length c = search rules
 
-returns : tie.Need-returns
+returns : tie.Need-returns-then-number-ne0
 returns c =
     let put = c.before.before in
     let some = put.before.before in
-    let line = refused-line _ _ _ some.before.link-refusal.ensures some.if1.true in
-    (puts-same line put.Put-refused.ensures.0, omega (arith, put.Put-refused.ensures.1))
+    let line = refused-line _ _ _ some.before.link_refusal-number.ensures some.if-number-ne0.true in
+    (puts-same line put.put_refused.ensures.0, omega (arith, put.put_refused.ensures.1))
 
-put-plan-requires : tie.Need-put-plan-requires
+put-plan-requires : tie.Need-put_plan-requires
 put-plan-requires c κs = search rules
 
-same-length-2 : tie.Need-same-length-2
+same-length-2 : tie.Need-shape_of-out
 same-length-2 c = search rules
 
-returns-2 : tie.Need-returns-2
+returns-2 : tie.Need-returns
 returns-2 c =
     let put = c.before.before in
     let none = put.before.before in
-    (puts-same (plan-line _ _ _ none.before.link-refusal.ensures none.if1.false) put.put-plan.ensures.0, put.put-plan.ensures.1)
+    (puts-same (plan-line _ _ _ none.before.link_refusal-number.ensures none.if-number-ne0.false) put.put_plan.ensures.0, put.put_plan.ensures.1)
 
-pub put-link-spec : {M : Type 1} → statement M
-put-link-spec =
+pub put_link_spec : {M : Type 1} → statement M
+put_link_spec =
     tie.close
     (tie.spec
     link-refusal-requires

@@ -7,39 +7,39 @@ use borrow.Author.Rules.{rules}
 use Rattle.showwords.proofs.links.put_links.Statement.{statement}
 use Rattle.showwords.proofs.links.put_links.Tie as tie
 
-abbrev invariant-loop : tie.invariant-loop
+abbrev invariant-loop : tie.invariant-loop-k
 invariant-loop dome numbers cells out₀ at next₀ k₀ out next k = LinesTo (show_of dome numbers cells) out₀ out at next k
 
-abbrev decreases-loop : tie.decreases-loop
+abbrev decreases-loop : tie.decreases-loop-k
 decreases-loop dome numbers cells out₀ at next₀ k₀ out next k = 256 - k
 
-loop-holds : tie.Need-loop-init invariant-loop decreases-loop
+loop-holds : tie.Need-loop-k-init invariant-loop decreases-loop
 loop-holds c = none-put _ _ _
 
-put-link-requires : tie.Need-put-link-requires invariant-loop decreases-loop
+put-link-requires : tie.Need-put_link-next-requires invariant-loop decreases-loop
 put-link-requires c κs =
     let loop = c.before.before in
-    omega (arith, loop.loop.invariant.most, loop.loop.invariant.puts.length_stays, loop.before.before.before.before.requires, c.before.loop-test.true)
+    omega (arith, loop.loop-k.invariant.most, loop.loop-k.invariant.puts.length_stays, loop.requires, c.before.loop-k-test.true)
 
-add-k : tie.Need-overflow-add-k invariant-loop decreases-loop
+add-k : tie.Need-overflow_add-k invariant-loop decreases-loop
 add-k c = search rules
 
-loop-less : tie.Need-loop-smaller invariant-loop decreases-loop
+loop-less : tie.Need-loop-k-smaller invariant-loop decreases-loop
 loop-less c = search rules
 
-loop-again : tie.Need-loop-preserved invariant-loop decreases-loop
+loop-again : tie.Need-loop-k-preserved invariant-loop decreases-loop
 loop-again c =
     let put = c.before.before in
     let loop = put.before.before in
-    one-put loop.before.loop.invariant loop.loop-test.true put.put-link.ensures.0 put.put-link.ensures.1
+    one-put loop.before.loop-k.invariant loop.loop-k-test.true put.put_link-next.ensures.0 put.put_link-next.ensures.1
 
-same_length : tie.Need-same-length invariant-loop decreases-loop
-same_length c = c.before.loop.invariant.puts.length_stays
+same_length : tie.Need-shape_of-out invariant-loop decreases-loop
+same_length c = c.before.loop-k.invariant.puts.length_stays
 
 returns : tie.Need-returns invariant-loop decreases-loop
 returns c =
-    let s = c.before.loop.invariant in
-    (all-put s c.loop-test.false, omega (arith, s.most, s.within))
+    let s = c.before.loop-k.invariant in
+    (all-put s c.loop-k-test.false, omega (arith, s.most, s.within))
 
-pub put-links-spec : {M : Type 1} → statement M
-put-links-spec = tie.close (tie.spec invariant-loop decreases-loop loop-holds put-link-requires add-k loop-less loop-again same_length returns)
+pub put_links_spec : {M : Type 1} → statement M
+put_links_spec = tie.close (tie.spec invariant-loop decreases-loop loop-holds put-link-requires add-k loop-less loop-again same_length returns)

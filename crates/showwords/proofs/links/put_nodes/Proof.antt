@@ -7,31 +7,25 @@ use borrow.Author.Rules.{rules}
 use Rattle.showwords.proofs.links.put_nodes.Statement.{statement}
 use Rattle.showwords.proofs.links.put_nodes.Tie as tie
 
-slice-aggregate-put : tie.Need-slice-aggregate-put
-slice-aggregate-put c = search rules
-
-put-requires : tie.Need-put-requires
+put-requires : tie.Need-put-word-requires
 put-requires c κs = search rules
 
-link-from-requires : tie.Need-link-from-requires
+link-from-requires : tie.Need-link_from-requires
 link-from-requires c κs = search rules
 
-put-number-requires : tie.Need-put-number-requires
+put-number-requires : tie.Need-put_number-from-requires
 put-number-requires c κs = search rules
 
-link-to-requires : tie.Need-link-to-requires
+link-to-requires : tie.Need-link_to-requires
 link-to-requires c κs = search rules
 
-put-number-requires-2 : tie.Need-put-number-requires-2
+put-number-requires-2 : tie.Need-put_number-to-requires
 put-number-requires-2 c κs = search rules
 
-slice-aggregate-put-2 : tie.Need-slice-aggregate-put-2
-slice-aggregate-put-2 c = search rules
-
-put-requires-2 : tie.Need-put-requires-2
+put-requires-2 : tie.Need-put-requires
 put-requires-2 c κs = search rules
 
-same_length : tie.Need-same-length
+same_length : tie.Need-shape_of-out
 same_length c = search rules
 
 returns : tie.Need-returns
@@ -42,23 +36,21 @@ returns c =
     let from = to-node.before.before.before in
     let from-node = from.before.before in
     let word = from-node.before.before.before in
-    let first = puts-same (ap spaced from-node.link-from.ensures) from.put-number.ensures.0 in
-    let second = puts-same (ap spaced to-node.link-to.ensures) to.put-number2.ensures.0 in (
-      puts_then (puts_then (puts_then word.put.ensures first) second) end.put2.ensures,
-      omega (arith, word.put.ensures.up_to, from.put-number.ensures.1, to.put-number2.ensures.1, end.put2.ensures.up_to),
+    let first = puts-same (ap spaced from-node.link_from.ensures) from.put_number-from.ensures.0 in
+    let second = puts-same (ap spaced to-node.link_to.ensures) to.put_number-to.ensures.0 in (
+      puts_then (puts_then (puts_then word.put-word.ensures first) second) end.put.ensures,
+      omega (arith, word.put-word.ensures.up_to, from.put_number-from.ensures.1, to.put_number-to.ensures.1, end.put.ensures.up_to),
     )
 
-pub put-nodes-spec : {M : Type 1} → statement M
-put-nodes-spec =
+pub put_nodes_spec : {M : Type 1} → statement M
+put_nodes_spec =
     tie.close
     (tie.spec
-    slice-aggregate-put
     put-requires
     link-from-requires
     put-number-requires
     link-to-requires
     put-number-requires-2
-    slice-aggregate-put-2
     put-requires-2
     same_length
     returns)
