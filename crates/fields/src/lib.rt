@@ -1,4 +1,6 @@
 // 16-bit fields of a slice, low byte first: one read or written, and a table of them.
+#![tactic(auto)]
+
 ghost use Rattle.std.specs.Prelude.{◌≡◌, ◌∷◌, [], ◌+◌, ◌*◌, ◌≤◌, ◌<◌, length, get_or};
 ghost use Rattle.model.specs.Plan.{field16};
 ghost use Rattle.model.specs.WrittenPlan.{AllBytes};

@@ -1,5 +1,5 @@
 -- The conditions on a flow of an image, by the places of its fields. Assumes nothing.
-use Prim.Native.Nat.{ℕ, zero, suc, ◌+◌, ◌-◌, ◌*◌, ◌≤◌, ◌<◌}
+use Prim.Native.Nat.{ℕ, zero, suc, ◌+◌, ◌*◌, ◌<◌}
 use mathlib.Core.Path.{◌≡◌, refl, sym, ap, ap₂, ◌∙◌}
 use mathlib.Core.List.{List}
 use mathlib.Core.Option.{Option, none}
@@ -10,13 +10,13 @@ use native.Mathlib.Omega.{arith}
 use lib.ListN.{get_or}
 use lib.Dec.{leb, ltb, eqb}
 use borrow.Author.Tests.{lt-ltb, le-ltb}
-use Rattle.model.specs.Tables.{table, every, sum}
+use Rattle.model.specs.Tables.{every, sum}
 use Rattle.model.specs.Plan.{Plan, positions, entry, field16, Accepted}
 use Rattle.model.specs.Window.{Window, later}
 use Rattle.model.specs.Link.{Flow}
 use Rattle.window.proofs.Tabulated.{get_d-table, every-same}
 use Rattle.imagemodel.specs.Image.{field_at, owner_in, positions_at, flows_at, flow_fields, flow_field, flow_in, link_from}
-use Rattle.imagemodel.specs.Consistent.{booked_by, bookings_in, frame_after, before, window_at, grows_to, flow_test}
+use Rattle.imagemodel.specs.Consistent.{bookings_in, frame_after, before, window_at, grows_to, flow_test}
 use Rattle.imagemodel.proofs.Bookings.{place-below, booking}
 use Rattle.imagecheck.specs.Flows.{booking_at, bookings_at, frame_kept, grows_at, spends_well, holds_well, flow_kept}
 

@@ -15,11 +15,10 @@ use Rattle.plan.specs.declared.Plan.{Plan}
 use Rattle.plan.specs.Reading.{entry_for, no_entry, plan_for}
 use Rattle.window.specs.declared.Window.{Window}
 use Rattle.window.specs.Window.{window_of, size_of}
-use Rattle.imagemodel.specs.Image.{flows_at, flow_fields, image_length}
 use Rattle.imagecheck.specs.declared.layout.Layout.{Layout}
 use Rattle.imagecheck.specs.Flows.{spends_well, holds_well, flow_kept}
-use Rattle.imagecheck.specs.Asked.{PartsOn, PartOn, OwnersOn, HeldOn}
-use Rattle.imagecheck.proofs.Layouts.{size_is as layout-size, count-few, total_is, positions-at, flows-at, part-ends, sized}
+use Rattle.imagecheck.specs.Asked.{PartsOn, OwnersOn, HeldOn}
+use Rattle.imagecheck.proofs.Layouts.{size_is as layout-size, count-few, total_is, positions-at, flows-at}
 use Rattle.imagecheck.proofs.FlowFields.{part, flow-by-fields}
 
 module _ {b : List ℕ} {y : Layout} {p : Plan} {w : Window} (v : PartsOn b y p w) where

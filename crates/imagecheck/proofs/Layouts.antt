@@ -1,6 +1,6 @@
 -- The layout of an image: its parts fit into it, and what it is by its plan. Assumes nothing.
 use Prim.Native.Nat.{ℕ, ◌+◌, ◌*◌, ◌≤◌, ◌<◌}
-use mathlib.Core.Path.{◌≡◌, refl, ap, ◌∙◌}
+use mathlib.Core.Path.{◌≡◌, refl, ap}
 use mathlib.Core.List.{◌∷◌, []}
 use native.Mathlib.Nat.{mul-le-mul, mul-le-mul_right, suc-mul}
 use native.Mathlib.Omega.{arith}
@@ -9,7 +9,7 @@ use Rattle.model.specs.Plan as model
 use Rattle.model.proofs.Tables.{length-table}
 use Rattle.plan.specs.declared.Plan.{Plan}
 use Rattle.plan.specs.Reading.{plan_for, Valid}
-use Rattle.imagemodel.specs.Image.{header_length, positions_at, flows_at, image_length, flow_fields, layout}
+use Rattle.imagemodel.specs.Image.{header_length, positions_at, flows_at, image_length, layout}
 use Rattle.imagecheck.specs.declared.layout.Layout.{Layout}
 use Rattle.imagecheck.specs.Layout.{fields_of, LaidOut, Sized}
 

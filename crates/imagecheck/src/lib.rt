@@ -1,4 +1,6 @@
 // Which images are taken: the tests of a buffer, 21 and 22.
+#![tactic(auto)]
+
 ghost use Rattle.std.specs.Prelude.{◌≡◌};
 ghost use Rattle.imagemodel.specs.ValidImage.{refusal_of};
 ghost use Rattle.imagecheck.specs.Asked.{LongEnough};

@@ -8,48 +8,48 @@ use Rattle.fields.proofs.FieldLists.{Putting, putting-none, putting-more, puttin
 use Rattle.fields.proofs.put_part.Statement.{statement}
 use Rattle.fields.proofs.put_part.Tie as tie
 
-abbrev invariant-loop : tie.invariant-loop
+abbrev invariant-loop : tie.invariant-loop-p
 invariant-loop s first count out₀ at next₀ p₀ out next p = Putting (λ k. get_or s (first + k) 0) count out₀ out at next p
 
-abbrev decreases-loop : tie.decreases-loop
+abbrev decreases-loop : tie.decreases-loop-p
 decreases-loop s first count out₀ at next₀ p₀ out next p = count - p
 
-loop-holds : tie.Need-loop-init invariant-loop decreases-loop
+loop-holds : tie.Need-loop-p-init invariant-loop decreases-loop
 loop-holds c = putting-none
 
-add_wide : tie.Need-overflow-add-wide invariant-loop decreases-loop
+add_wide : tie.Need-overflow_add-first invariant-loop decreases-loop
 add_wide c = search rules
 
-element-copy-out-wide : tie.Need-element-copy-out-wide invariant-loop decreases-loop
+element-copy-out-wide : tie.Need-bounds-s-first invariant-loop decreases-loop
 element-copy-out-wide c = search rules
 
 wide-requires : tie.Need-wide-requires invariant-loop decreases-loop
 wide-requires c κs = search rules
 
-put-requires : tie.Need-put-requires invariant-loop decreases-loop
+put-requires : tie.Need-put-next-requires invariant-loop decreases-loop
 put-requires c κs = search rules
 
-add-p : tie.Need-overflow-add-p invariant-loop decreases-loop
+add-p : tie.Need-overflow_add-p invariant-loop decreases-loop
 add-p c = search rules
 
-loop-less : tie.Need-loop-smaller invariant-loop decreases-loop
+loop-less : tie.Need-loop-p-smaller invariant-loop decreases-loop
 loop-less c = search rules
 
-loop-again : tie.Need-loop-preserved invariant-loop decreases-loop
+loop-again : tie.Need-loop-p-preserved invariant-loop decreases-loop
 loop-again c =
     let w = c.before.before.before.before in
     let l = w.before.before.before in
-    putting-more l.loop.invariant (omega arith) w.wide.ensures.0 c.before.before.put.ensures
+    putting-more l.loop-p.invariant (omega arith) w.wide.ensures.0 c.before.before.put-next.ensures
 
-same_length : tie.Need-same-length invariant-loop decreases-loop
+same_length : tie.Need-shape_of-out invariant-loop decreases-loop
 same_length c = search rules
 
 returns : tie.Need-returns invariant-loop decreases-loop
 unfolding part
-returns c = putting-done c.before.loop.invariant (omega arith)
+returns c = putting-done c.before.loop-p.invariant (omega arith)
 
-pub put-part-spec : {M : Type 1} → statement M
-put-part-spec =
+pub put_part_spec : {M : Type 1} → statement M
+put_part_spec =
     tie.close
     (tie.spec
     invariant-loop

@@ -10,17 +10,17 @@ use Rattle.imagecheck.proofs.bookings.booking.Tie as tie
 field-requires : tie.Need-field-requires
 field-requires c κs = search rules
 
-returns : tie.Need-returns
+returns : tie.Need-returns-then-field-i
 returns c =
     let f = c.before in
-    let few = f.before.before.requires.1 in
-    (rw (booked-in _ _ few, eq-eqb _ _ (sym f.field.ensures.0 ∙ c.if1.true)), omega arith)
+    let few = f.requires.1 in
+    (rw (booked-in _ _ few, eq-eqb _ _ (sym f.field.ensures.0 ∙ c.if-field-i.true)), omega arith)
 
-returns-2 : tie.Need-returns-2
+returns-2 : tie.Need-returns
 returns-2 c =
     let f = c.before in
-    let few = f.before.before.requires.1 in
-    (rw (booked-in _ _ few, ne_eqb _ _ (λ e. c.if1.false (f.field.ensures.0 ∙ e))), omega arith)
+    let few = f.requires.1 in
+    (rw (booked-in _ _ few, ne_eqb _ _ (λ e. c.if-field-i.false (f.field.ensures.0 ∙ e))), omega arith)
 
-pub booking-spec : {M : Type 1} → statement M
-booking-spec = tie.close (tie.spec field-requires returns returns-2)
+pub booking_spec : {M : Type 1} → statement M
+booking_spec = tie.close (tie.spec field-requires returns returns-2)

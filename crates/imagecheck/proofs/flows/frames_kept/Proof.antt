@@ -8,41 +8,41 @@ use Rattle.imagecheck.proofs.TestLoops.{Passing, passing-none, passing-yes, pass
 use Rattle.imagecheck.proofs.flows.frames_kept.Statement.{statement}
 use Rattle.imagecheck.proofs.flows.frames_kept.Tie as tie
 
-abbrev invariant-loop : tie.invariant-loop
+abbrev invariant-loop : tie.invariant-loop-j
 invariant-loop image owners w i share frame frames j₀ j = Passing (frame_kept image owners (window_of w) i share frame) frames j
 
-abbrev decreases-loop : tie.decreases-loop
+abbrev decreases-loop : tie.decreases-loop-j
 decreases-loop image owners w i share frame frames j₀ j = frames - j
 
-loop-holds : tie.Need-loop-init invariant-loop decreases-loop
+loop-holds : tie.Need-loop-j-init invariant-loop decreases-loop
 loop-holds c = passing-none
 
-frame-kept-requires : tie.Need-frame-kept-requires invariant-loop decreases-loop
+frame-kept-requires : tie.Need-frame_kept-requires invariant-loop decreases-loop
 frame-kept-requires c κs =
     let s = c.before.before.before in
-    (s.requires.0, record { frame = s.requires.1; other = c.loop-test.true })
+    (s.requires.0, record { frame = s.requires.1; other = c.loop-j-test.true })
 
-returns : tie.Need-returns invariant-loop decreases-loop
+returns : tie.Need-returns-then-not-frame_kept invariant-loop decreases-loop
 returns c =
     let k = c.before in
-    passing-no k.before.before.loop.invariant k.before.loop-test.true k.frame-kept.ensures c.if1.true
+    passing-no k.before.before.loop-j.invariant k.before.loop-j-test.true k.frame_kept.ensures c.if-not-frame_kept.true-raw
 
-add-j : tie.Need-overflow-add-j invariant-loop decreases-loop
+add-j : tie.Need-overflow_add-j invariant-loop decreases-loop
 add-j c = search rules
 
-loop-less : tie.Need-loop-smaller invariant-loop decreases-loop
+loop-less : tie.Need-loop-j-smaller invariant-loop decreases-loop
 loop-less c = search rules
 
-loop-again : tie.Need-loop-preserved invariant-loop decreases-loop
+loop-again : tie.Need-loop-j-preserved invariant-loop decreases-loop
 loop-again c =
     let k = c.before in
-    passing-yes k.before.before.loop.invariant k.before.loop-test.true k.frame-kept.ensures c.if1.false
+    passing-yes k.before.before.loop-j.invariant k.before.loop-j-test.true k.frame_kept.ensures c.if-not-frame_kept.false-raw
 
-returns-2 : tie.Need-returns-2 invariant-loop decreases-loop
-returns-2 c = passing-all c.before.loop.invariant (omega arith)
+returns-2 : tie.Need-returns invariant-loop decreases-loop
+returns-2 c = passing-all c.before.loop-j.invariant (omega arith)
 
-pub frames-kept-spec : {M : Type 1} → statement M
-frames-kept-spec =
+pub frames_kept_spec : {M : Type 1} → statement M
+frames_kept_spec =
     tie.close
     (tie.spec
     invariant-loop

@@ -1,7 +1,6 @@
 -- `imagecheck::links::consistent` meets its contract. Assumes nothing.
 use Prim.Native.Nat.{ℕ}
 use mathlib.Core.Path.{refl, sym, ap, ◌∙◌}
-use mathlib.Core.Bool.{◌&&◌}
 use native.Mathlib.Omega.{arith}
 use borrow.Author.Tests.{lt-ltb, le-ltb, not-true, not-false}
 use Rattle.model.specs.Tables.{every}
@@ -13,40 +12,40 @@ use Rattle.imagecheck.proofs.links.consistent.Statement.{statement}
 use Rattle.imagecheck.proofs.links.consistent.Tie as tie
 
 -- where CP is read, and where the function is entered
-abbrev current-at : tie.Else1 → tie.After-field
+abbrev current-at : tie.Else-l-current → tie.After-field-current
 current-at c = c.before.before
 
-abbrev entered : tie.After-field → tie.Start
+abbrev entered : tie.After-field-current → tie.Start
 entered c = c.before.before
 
 -- where the flow to look from is read, and found to be one
-abbrev turn_at : tie.Else2 → tie.After-field2
+abbrev turn_at : tie.Else-l-turn → tie.After-field-turn
 turn_at c = c.before.before
 
-field-requires : tie.Need-field-requires
-field-requires c κs = let v = c.before.requires in omega (arith, v.there)
+field-requires : tie.Need-field-current-requires
+field-requires c κs = let v = c.requires in omega (arith, v.there)
 
-returns : tie.Need-returns
+returns : tie.Need-returns-then-l-current
 returns c =
     let f = c.before.before in
-    rw (link-by-fields (entered f).requires _ _ f.field.ensures.0 refl, le-ltb _ _ c.if1.true)
+    rw (link-by-fields (entered f).requires _ _ f.field-current.ensures.0 refl, le-ltb _ _ c.if-l-current.true)
 
-field-requires-2 : tie.Need-field-requires-2
+field-requires-2 : tie.Need-field-turn-requires
 field-requires-2 c κs = let v = (entered (current-at c)).requires in omega (arith, v.there)
 
-returns-2 : tie.Need-returns-2
+returns-2 : tie.Need-returns-then-l-turn
 returns-2 c =
     let turn = c.before.before in
     let e = turn.before in
     let f = current-at e in
-    rw (link-by-fields (entered f).pre _ _ f.field.ensures.0 turn.field2.ensures.0, lt-ltb _ _ e.if1.false, le-ltb _ _ c.if2.true)
+    rw (link-by-fields (entered f).requires _ _ f.field-current.ensures.0 turn.field-turn.ensures.0, lt-ltb _ _ e.if-l-current.false, le-ltb _ _ c.if-l-turn.true)
 
 known-requires : tie.Need-known-requires
 known-requires c κs =
     let v = (entered (current-at (turn_at c).before)).requires in
     (owners_there v, few-positions v, few-flows v)
 
-returns-3 : tie.Need-returns-3
+returns-3 : tie.Need-returns-then-not-known
 returns-3 c =
     let k = c.before in
     let g = k.before in
@@ -54,23 +53,23 @@ returns-3 c =
     let e = turn.before in
     let f = current-at e in
     rw (
-      link-by-fields (entered f).pre _ _ f.field.ensures.0 turn.field2.ensures.0,
-      lt-ltb _ _ e.if1.left,
-      lt-ltb _ _ g.if2.false,
-      sym k.known.ensures ∙ not-true _ c.if3.true,
+      link-by-fields (entered f).requires _ _ f.field-current.ensures.0 turn.field-turn.ensures.0,
+      lt-ltb _ _ e.if-l-current.false,
+      lt-ltb _ _ g.if-l-turn.false,
+      sym k.known.ensures ∙ not-true _ c.if-not-known.true-raw,
     )
 
-window-requires : tie.Need-window-requires
+window-requires : tie.Need-window-w-requires
 window-requires c κs =
     let e = (turn_at c.before.before).before in
-    measures (entered (current-at e)).requires _ e.if1.left
+    measures (entered (current-at e)).requires _ e.if-l-current.false
 
-flows-kept-requires : tie.Need-flows-kept-requires
+flows-kept-requires : tie.Need-flows_kept-requires
 flows-kept-requires c κs =
     let e = (turn_at c.before.before.before).before in
-    parts-on (entered (current-at e)).requires c.window.result c.window.ensures.0 c.window.ensures.1
+    parts-on (entered (current-at e)).requires c.window-w.result c.window-w.ensures.0 c.window-w.ensures.1
 
-returns-4 : tie.Need-returns-4
+returns-4 : tie.Need-returns
 returns-4 c =
     let w = c.before in
     let h = w.before in
@@ -80,17 +79,17 @@ returns-4 c =
     let e = turn.before in
     let f = current-at e in
     let s = entered f in
-    let current = ap (λ (x : Window). x.current) w.window.ensures.0 in
+    let current = ap (λ (x : Window). x.current) w.window-w.ensures.0 in
     rw (
-      link-by-fields s.pre _ _ f.field.ensures.0 turn.field2.ensures.0,
-      lt-ltb _ _ e.if1.left,
-      lt-ltb _ _ g.if2.false,
-      sym k.known.ensures ∙ not-false _ h.if3.false,
+      link-by-fields s.requires _ _ f.field-current.ensures.0 turn.field-turn.ensures.0,
+      lt-ltb _ _ e.if-l-current.false,
+      lt-ltb _ _ g.if-l-turn.false,
+      sym k.known.ensures ∙ not-false _ h.if-not-known.false-raw,
     )
-    (c.flows-kept.ensures ∙ ap (λ (q : ℕ). every s.args.plan.count (flow_kept s.args.image.now (plan_for s.args.plan) q)) current)
+    (c.flows_kept.ensures ∙ ap (λ (q : ℕ). every s.args.plan.count (flow_kept s.args.image.now (plan_for s.args.plan) q)) current)
 
-pub consistent-spec : {M : Type 1} → statement M
-consistent-spec =
+pub consistent_spec : {M : Type 1} → statement M
+consistent_spec =
     tie.close
     (tie.spec
     field-requires

@@ -6,17 +6,17 @@ use lib.ListN.{get_or-eq_default}
 use Rattle.imagecheck.proofs.plans.byte_or_zero.Statement.{statement}
 use Rattle.imagecheck.proofs.plans.byte_or_zero.Tie as tie
 
-returns : tie.Need-returns
-returns c = (sym (get_or-eq_default c.before.args.image.now 0 c.if1.true), omega arith)
+returns : tie.Need-returns-then-image-at
+returns c = (sym (get_or-eq_default c.args.image.now 0 c.if-image-at.true), omega arith)
 
-shared-slice-read-result : tie.Need-shared-slice-read-result
+shared-slice-read-result : tie.Need-bounds-image-at
 shared-slice-read-result c = search rules
 
-cast-result : tie.Need-overflow-cast-result
-cast-result c = omega (arith, c.shared-slice-known.given c.before.before.args.at)
+cast-result : tie.Need-overflow_cast-result
+cast-result c = omega (arith, c.shared_slice_known-1.given c.args.at)
 
-returns-2 : tie.Need-returns-2
-returns-2 c = (refl, omega (arith, c.shared-slice-known.given c.before.before.args.at))
+returns-2 : tie.Need-returns
+returns-2 c = (refl, omega (arith, c.shared_slice_known-1.given c.args.at))
 
-pub byte-or-zero-spec : {M : Type 1} → statement M
-byte-or-zero-spec = tie.close (tie.spec returns shared-slice-read-result cast-result returns-2)
+pub byte_or_zero_spec : {M : Type 1} → statement M
+byte_or_zero_spec = tie.close (tie.spec returns shared-slice-read-result cast-result returns-2)

@@ -10,34 +10,34 @@ use Rattle.imagecheck.proofs.PlanParts.{plan-part}
 use Rattle.imagecheck.proofs.plans.plan_in.Statement.{statement}
 use Rattle.imagecheck.proofs.plans.plan_in.Tie as tie
 
-byte-or-zero-requires : tie.Need-byte-or-zero-requires
+byte-or-zero-requires : tie.Need-byte_or_zero-requires
 byte-or-zero-requires c κs = search rules
 
-add-byte-or-zero : tie.Need-add-byte-or-zero
+add-byte-or-zero : tie.Need-overflow_add-byte_or_zero
 add-byte-or-zero c = search rules
 
-byte-or-zero-requires-2 : tie.Need-byte-or-zero-requires-2
+byte-or-zero-requires-2 : tie.Need-byte_or_zero-requires-2
 byte-or-zero-requires-2 c κs = search rules
 
-mul-long : tie.Need-mul-long
+mul-long : tie.Need-overflow_mul-long
 mul-long c = search rules
 
-add-long : tie.Need-add-long
+add-long : tie.Need-overflow_add-long
 add-long c = search rules
 
-add-smaller : tie.Need-add-smaller
+add-smaller : tie.Need-overflow_add-long-2
 add-smaller c = search rules
 
-smaller-requires : tie.Need-smaller-requires
+smaller-requires : tie.Need-smaller-end-requires
 smaller-requires c κs = search rules
 
-sub_part : tie.Need-sub-part
+sub_part : tie.Need-slice_bounds-part-count
 sub_part c = search rules
 
-part-part-start : tie.Need-part-part-start
+part-part-start : tie.Need-slice_bounds-part-start
 part-part-start c = search rules
 
-part-part-end : tie.Need-part-part-end
+part-part-end : tie.Need-slice_bounds-part-end
 part-part-end c = search rules
 
 read-requires : tie.Need-read-requires
@@ -48,13 +48,13 @@ returns c =
     let m = c.before.before in
     let high = m.before in
     let low = high.before in
-    let b = low.before.before.args.image.now in
-    let long : low.byte-or-zero.result + 256 * high.byte-or-zero2.result ≡ field16 b header_length =
-    omega (arith, low.byte-or-zero.ensures.0, high.byte-or-zero2.ensures.0) in
-    (c.read.ensures.0 ∙ ap read_of (plan-part b _ _ long m.smaller.ensures), c.read.ensures.1)
+    let b = low.args.image.now in
+    let long : low.byte_or_zero.result + 256 * high.byte_or_zero-2.result ≡ field16 b header_length =
+    omega (arith, low.byte_or_zero.ensures.0, high.byte_or_zero-2.ensures.0) in
+    (c.read.ensures.0 ∙ ap read_of (plan-part b _ _ long m.smaller-end.ensures), c.read.ensures.1)
 
-pub plan-in-spec : {M : Type 1} → statement M
-plan-in-spec =
+pub plan_in_spec : {M : Type 1} → statement M
+plan_in_spec =
     tie.close
     (tie.spec
     byte-or-zero-requires

@@ -6,11 +6,11 @@ use Rattle.model.specs.Tables.{bit}
 use Rattle.imagecheck.proofs.straight.fits.Statement.{statement}
 use Rattle.imagecheck.proofs.straight.fits.Tie as tie
 
-returns : tie.Need-returns
-returns c = (sym (ap bit (lt-leb _ _ c.if1.true)), omega arith)
+returns : tie.Need-returns-then-b-a
+returns c = (sym (ap bit (lt-leb _ _ c.if-b-a.true)), omega arith)
 
-returns-2 : tie.Need-returns-2
-returns-2 c = (sym (ap bit (le-leb _ _ c.if1.false)), omega arith)
+returns-2 : tie.Need-returns
+returns-2 c = (sym (ap bit (le-leb _ _ c.if-b-a.false)), omega arith)
 
-pub fits-spec : {M : Type 1} → statement M
-fits-spec = tie.close (tie.spec returns returns-2)
+pub fits_spec : {M : Type 1} → statement M
+fits_spec = tie.close (tie.spec returns returns-2)

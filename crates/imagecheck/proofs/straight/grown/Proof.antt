@@ -21,9 +21,9 @@ returns : tie.Need-returns
 returns c =
     let l = c.before in
     let s = l.before in
-    let a = s.before.args in
+    let a = s.args in
     let left = l.less.ensures ∙ ap (a.x -◌) s.same.ensures.0 in
-    (c.fits2.ensures.0 ∙ ap (λ v. bit (leb v a.last)) left ∙ ap bit (moved a.x a.last (bit (eqb a.owner a.i))), c.fits2.ensures.1)
+    (c.fits.ensures.0 ∙ ap (λ v. bit (leb v a.last)) left ∙ ap bit (moved a.x a.last (bit (eqb a.owner a.i))), c.fits.ensures.1)
 
-pub grown-spec : {M : Type 1} → statement M
-grown-spec = tie.close (tie.spec same-requires less-requires fits-requires returns)
+pub grown_spec : {M : Type 1} → statement M
+grown_spec = tie.close (tie.spec same-requires less-requires fits-requires returns)
