@@ -1,4 +1,2 @@
-pub mod FailedWrites
-pub mod BytesMoved
 pub mod Taking
 pub mod AllAnswered
