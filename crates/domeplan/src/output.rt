@@ -1,5 +1,7 @@
 // Standard output, and what is said on standard error where something was lost.
-ghost use Rattle.std.specs.Prelude.{◌≤◌, ◌<◌, ◌≡◌, cond, length};
+ghost use Rattle.std.specs.Prelude.{◌≤◌, ◌<◌, ◌≡◌, cond, length, take};
+ghost use Rattle.std.specs.Bool.{OnTrue};
+ghost use Rattle.std.specs.Io.KnownBytes.{Appends};
 
 use crate::waiting::may_go_on;
 use std::io::{Eprint, Write};
@@ -13,9 +15,10 @@ struct Wrote {
 }
 
 // Writes once. Where the output takes nothing for now, it waits a moment.
-fn write_once(clock: &impl Clock, output: &mut impl Write, bytes: &[u8]) -> Wrote
+fn write_once<W: Write>(clock: &impl Clock, output: &mut W, bytes: &[u8]) -> Wrote
     ensures few { result.count ≤ length bytes.now }
     ensures none { cond result.more 0 result.count ≡ 0 }
+    ensures written { Appends (W.contents output.old) (W.contents output.new) (take result.count bytes.now) }
 {
     match output.write(bytes) {
         Ok(got) => Wrote {
@@ -31,9 +34,10 @@ fn write_once(clock: &impl Clock, output: &mut impl Write, bytes: &[u8]) -> Wrot
 
 // Writes the first bytes of a slice, as long as the output may take more; how many were taken. As a proved loop has to end, its turns count down from a
 // number that is never used up.
-fn write_all(clock: &impl Clock, output: &mut impl Write, out: &[u8], end: usize) -> usize
+fn write_all<W: Write>(clock: &impl Clock, output: &mut W, out: &[u8], end: usize) -> usize
     requires { end ≤ length out.now }
-    ensures { result ≤ end }
+    ensures most { result ≤ end }
+    ensures written { Appends (W.contents output.old) (W.contents output.new) (take result out.now) }
 {
     let mut left = u64::MAX;
     let mut done = 0;
@@ -48,14 +52,15 @@ fn write_all(clock: &impl Clock, output: &mut impl Write, out: &[u8], end: usize
 }
 
 // Writes the first bytes of a slice. Where the output takes no more it says so and answers false.
-pub(crate) fn write(
+pub(crate) fn write<W: Write>(
     rt: &(impl Eprint + Clock),
-    output: &mut impl Write,
+    output: &mut W,
     out: &[u8],
     end: usize,
 ) -> bool
     requires { end ≤ length out.now }
-    ensures { 0 < cond result 1 end }
+    ensures lost { 0 < cond result 1 end }
+    ensures written { OnTrue result (Appends (W.contents output.old) (W.contents output.new) (take end out.now)) }
 {
     if write_all(rt, output, out, end) == end {
         return true;
