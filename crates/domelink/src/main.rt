@@ -1,10 +1,13 @@
 // Plays a file of calls: what standard input brings is fed to the program, and what that hands back is written to standard output. RULES 13.1.
+#![tactic(auto)]
+
 mod output;
 
 ghost use Rattle.std.specs.Prelude.{◌*◌, ◌/◌, ◌≤◌, ◌≡◌, length};
 ghost use Rattle.program.specs.State.{Regular};
 
 use program::{Fed, Phase, State};
+use std::io::{Eprint, Read, Write};
 
 // Where a round of reading, feeding and writing leaves the program. Neither holds where the plan was refused, a read failed, or the output took no more.
 #[derive(Clone, Copy)]
@@ -35,19 +38,25 @@ fn reads_on(phase: Phase) -> bool {
 }
 
 // Reads once, feeds what was read, and writes what is handed back.
-fn round_once(state: State, space: &mut [u8], out: &mut [u8]) -> Round
+fn round_once(
+    rt: &impl Eprint,
+    input: &mut impl Read,
+    output: &mut impl Write,
+    state: State,
+    space: &mut [u8],
+    out: &mut [u8],
+) -> Round
     requires { Regular state × (length space.old ≤ 5 * (length out.old / 7)) }
     ensures { Regular result.state }
 {
-    let got = libc::read(libc::STDIN_FILENO, space);
-    if got < 0 {
-        output::input_lost();
+    let Ok(got) = input.read(space) else {
+        output::input_lost(rt);
         return Round {
             state,
             more: false,
             finish: false,
         };
-    }
+    };
     if got == 0 {
         return Round {
             state,
@@ -55,10 +64,9 @@ fn round_once(state: State, space: &mut [u8], out: &mut [u8]) -> Round
             finish: true,
         };
     }
-    let have = io::count(got, space);
-    let fed = feed_whole(state, &space[..have], out);
+    let fed = feed_whole(state, &space[..got], out);
     let state = fed.state;
-    if !output::write(out, fed.written) {
+    if !output::write(rt, output, out, fed.written) {
         return Round {
             state,
             more: false,
@@ -75,7 +83,13 @@ fn round_once(state: State, space: &mut [u8], out: &mut [u8]) -> Round
 
 // Reads to the end of the input, and then writes what is to be written there. A proved loop has to end, and nothing says that the input does:
 // it counts its rounds down from a number that is never used up.
-fn rounds(space: &mut [u8], out: &mut [u8])
+fn rounds(
+    rt: &impl Eprint,
+    input: &mut impl Read,
+    output: &mut impl Write,
+    space: &mut [u8],
+    out: &mut [u8],
+)
     requires { length space.old ≤ 5 * (length out.old / 7) }
 {
     let mut left = u64::MAX;
@@ -85,17 +99,17 @@ fn rounds(space: &mut [u8], out: &mut [u8])
         finish: false,
     };
     while now.more && 0 < left {
-        now = round_once(now.state, space, out);
+        now = round_once(rt, input, output, now.state, space, out);
         left -= 1;
     }
     if now.finish {
         let end = program::finish(now.state, out);
-        output::write(out, end);
+        output::write(rt, output, out, end);
     }
 }
 
-fn main() {
+fn main(rt: HostRuntime) {
     let mut space = [0u8; 65535];
     let mut out = [0u8; 91749];
-    rounds(&mut space, &mut out);
+    rounds(&rt, &mut rt.stdin(), &mut rt.stdout(), &mut space, &mut out);
 }

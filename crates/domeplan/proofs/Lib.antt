@@ -1,4 +1,3 @@
-pub mod FailedWrites
-pub mod BytesMoved
 pub mod Taking
 pub mod AllAnswered
+pub mod Written

@@ -1,4 +1,6 @@
 // Answers the show editor's questions: what standard input brings is fed to `questions`, and what that hands back is written to standard output.
+#![tactic(auto)]
+
 mod output;
 mod waiting;
 
@@ -8,6 +10,8 @@ ghost use Rattle.questions.specs.Promises.{line_of, Regular};
 ghost use Rattle.domeplan.specs.Rounds.{Takes, Goes};
 
 use questions::State;
+use std::io::{Eprint, Read, Write};
+use std::time::Clock;
 
 // Where some input leaves the program. Neither holds where a read failed, or the output took no more.
 #[derive(Clone, Copy)]
@@ -20,7 +24,13 @@ struct Round {
 }
 
 // Takes a piece of the input, and writes the answers to the lines that end in it, as many at once as `out` has room for.
-fn take(state: State, piece: &[u8], out: &mut [u8]) -> Round
+fn take(
+    rt: &(impl Eprint + Clock),
+    output: &mut impl Write,
+    state: State,
+    piece: &[u8],
+    out: &mut [u8],
+) -> Round
     requires { Regular state × (room ≤ length out.old) }
     ensures { Takes (line_of state) piece.now out.old result out.new }
 {
@@ -36,7 +46,7 @@ fn take(state: State, piece: &[u8], out: &mut [u8]) -> Round
         let state = fed.state;
         now = Round {
             state,
-            more: output::write(out, fed.written),
+            more: output::write(rt, output, out, fed.written),
             finish: false,
         };
     }
@@ -44,19 +54,25 @@ fn take(state: State, piece: &[u8], out: &mut [u8]) -> Round
 }
 
 // RULES 20.1: reads once, and takes what was read.
-fn round_once(state: State, space: &mut [u8], out: &mut [u8]) -> Round
+fn round_once(
+    rt: &(impl Eprint + Clock),
+    input: &mut impl Read,
+    output: &mut impl Write,
+    state: State,
+    space: &mut [u8],
+    out: &mut [u8],
+) -> Round
     requires { Regular state × (room ≤ length out.old) }
     ensures { Goes state out.old space.new result out.new }
 {
-    let got = libc::read(libc::STDIN_FILENO, space);
-    if got < 0 {
-        output::input_lost();
+    let Ok(got) = input.read(space) else {
+        output::input_lost(rt);
         return Round {
             state,
             more: false,
             finish: false,
         };
-    }
+    };
     if got == 0 {
         return Round {
             state,
@@ -64,13 +80,18 @@ fn round_once(state: State, space: &mut [u8], out: &mut [u8]) -> Round
             finish: true,
         };
     }
-    let have = io::count(got, space);
-    take(state, &space[..have], out)
+    take(rt, output, state, &space[..got], out)
 }
 
 // Reads to the end of the input, and then answers a last line that no newline ends. A proved loop has to end, and nothing says that the input does:
 // it counts its rounds down from a number that is never used up.
-fn rounds(space: &mut [u8], out: &mut [u8])
+fn rounds(
+    rt: &(impl Eprint + Clock),
+    input: &mut impl Read,
+    output: &mut impl Write,
+    space: &mut [u8],
+    out: &mut [u8],
+)
     requires { room ≤ length out.old }
 {
     let mut left = u64::MAX;
@@ -80,17 +101,17 @@ fn rounds(space: &mut [u8], out: &mut [u8])
         finish: false,
     };
     while now.more && 0 < left {
-        now = round_once(now.state, space, out);
+        now = round_once(rt, input, output, now.state, space, out);
         left -= 1;
     }
     if now.finish {
         let end = questions::finish(now.state, out);
-        output::write(out, end);
+        output::write(rt, output, out, end);
     }
 }
 
-fn main() {
+fn main(rt: HostRuntime) {
     let mut space = [0u8; 65536];
     let mut out = [0u8; 65536];
-    rounds(&mut space, &mut out);
+    rounds(&rt, &mut rt.stdin(), &mut rt.stdout(), &mut space, &mut out);
 }

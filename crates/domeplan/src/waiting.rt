@@ -2,31 +2,29 @@
 ghost use Rattle.std.specs.Prelude.{◌≡◌};
 ghost use Rattle.domeplan.specs.Waiting.{may_go_on};
 
-use libc::types::timespec;
+use std::thread;
+use std::time::{Clock, Duration};
+
+// The numbers of two errors, as the system has them.
+const EINTR: i32 = 4;
+
+const EAGAIN: i32 = 11;
 
 // Waits for a millisecond.
-fn pause() {
-    let asked = timespec {
-        tv_sec: 0,
-        tv_nsec: 1000000,
-    };
-    let mut left = timespec {
-        tv_sec: 0,
-        tv_nsec: 0,
-    };
-    libc::nanosleep(&asked, &mut left);
+fn pause(clock: &impl Clock) {
+    thread::sleep(clock, Duration::from_millis(1));
 }
 
 // Whether a write that failed for this reason may be made again: a signal came first, or the output takes nothing for now, which is waited for.
-pub(crate) fn may_go_on(reason: i32) -> bool
+pub(crate) fn may_go_on(clock: &impl Clock, reason: i32) -> bool
     ensures { result ≡ may_go_on reason }
 {
-    if reason == libc::EINTR {
+    if reason == EINTR {
         return true;
     }
-    if reason != libc::EAGAIN {
+    if reason != EAGAIN {
         return false;
     }
-    pause();
+    pause(clock);
     true
 }

@@ -1,13 +1,14 @@
 // Standard output, and what is said on standard error where something was lost.
 ghost use Rattle.std.specs.Prelude.{◌≤◌, length};
 
+use std::io::{Eprint, Write};
+
 // Writes the first bytes of a slice, and says so where the output takes no more.
-pub(crate) fn write(out: &[u8], end: usize)
+pub(crate) fn write(rt: &impl Eprint, output: &mut impl Write, out: &[u8], end: usize)
     requires { end ≤ length out.now }
 {
-    if io::write_all(libc::STDOUT_FILENO, &out[..end]) {
+    if output.write_all(&out[..end]).is_ok() {
         return;
     }
-    let line = b"domeshow: output was lost: standard output takes no more\n";
-    io::write_all(libc::STDERR_FILENO, line);
+    let _ = rt.eprintln("domeshow: output was lost: standard output takes no more");
 }

@@ -8,6 +8,7 @@ use crate::records::{Found, record_at, word_at, words_of};
 use link::Link;
 use plan::Plan;
 use state::{CURRENT, State};
+use std::io::{Eprint, Write};
 use trace::{Call, Reached, step};
 use window::Window;
 use window::positions::window;
@@ -121,11 +122,11 @@ pub(crate) struct Played {
 }
 
 // Makes room for the lines of a record, by writing those that there are; false where the output takes no more.
-fn flushed(out: &[u8], end: usize) -> bool
+fn flushed(rt: &impl Eprint, output: &mut impl Write, out: &[u8], end: usize) -> bool
     requires { end ≤ length out.now }
 {
     if out.len() - end < ROOM {
-        return output::write(out, end);
+        return output::write(rt, output, out, end);
     }
     true
 }
@@ -150,7 +151,14 @@ fn past(bytes: &[u8], at: usize, size: usize) -> usize
 }
 
 // Plays the records of a slice that are whole, and writes their lines.
-fn play(mut link: Link, bytes: &[u8], all: bool, out: &mut [u8]) -> Played
+fn play(
+    rt: &impl Eprint,
+    output: &mut impl Write,
+    mut link: Link,
+    bytes: &[u8],
+    all: bool,
+    out: &mut [u8],
+) -> Played
     requires { SoundLink link × (43008 ≤ length out.old) }
     ensures sound { SoundLink result.link }
     ensures used { result.used ≤ length bytes.now }
@@ -163,7 +171,7 @@ fn play(mut link: Link, bytes: &[u8], all: bool, out: &mut [u8]) -> Played
     let mut more = true;
     let mut size = whole_at(bytes, 0, all);
     while more && 4 < size {
-        more = flushed(out, end);
+        more = flushed(rt, output, out, end);
         let at = place_in(out, end);
         let next = one(
             &mut link.state,
@@ -180,16 +188,24 @@ fn play(mut link: Link, bytes: &[u8], all: bool, out: &mut [u8]) -> Played
         size = whole_at(bytes, used, all);
     }
     if more {
-        more = output::write(out, end);
+        more = output::write(rt, output, out, end);
     }
     Played { link, used, more }
 }
 
 // Plays the whole records among the first bytes of a space, and writes their lines.
-pub(crate) fn play_first(link: Link, space: &[u8], have: usize, all: bool, out: &mut [u8]) -> Played
+pub(crate) fn play_first(
+    rt: &impl Eprint,
+    output: &mut impl Write,
+    link: Link,
+    space: &[u8],
+    have: usize,
+    all: bool,
+    out: &mut [u8],
+) -> Played
     requires { SoundLink link × (have ≤ length space.now) × (43008 ≤ length out.old) }
     ensures sound { SoundLink result.link }
     ensures used { result.used ≤ have }
 {
-    play(link, &space[..have], all, out)
+    play(rt, output, link, &space[..have], all, out)
 }

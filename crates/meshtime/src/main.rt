@@ -1,7 +1,11 @@
 // Measures the check of streams over the mesh. It reads a word, F and the streams' numbers from standard input, all set apart by single spaces, checks the streams many times and prints the lowest time of a check, less the clock's own, and the sum of all answers.
+#![tactic(auto)]
+
 ghost use Rattle.std.specs.Prelude.{◌≤◌, length};
 
-use timing::{clock, report};
+use std::io::Print;
+use std::time::Clock;
+use timing::{clock, input, report};
 use tokens::Found;
 
 // Times that the streams are checked.
@@ -15,23 +19,23 @@ struct Checked {
 }
 
 // Checks the streams many times. The first one's share alternates between 1 and 2, or the compiler could leave checks out.
-fn repeat(slots: usize, numbers: &mut [usize]) -> Checked
+fn repeat(clock: &impl Clock, slots: usize, numbers: &mut [usize]) -> Checked
     requires { 3 ≤ length numbers.old }
 {
     let mut lowest = u64::MAX;
     let mut sum = 0;
     for i in 0..REPEATS {
         numbers[2] = 1 + i % 2;
-        let begin = clock::nanoseconds();
+        let begin = clock::nanoseconds(clock);
         let answer = mesh::admit(slots, numbers);
-        lowest = clock::least(lowest, clock::since(begin));
+        lowest = clock::least(lowest, clock::since(clock, begin));
         sum = std::num::wrapping_add_u64(sum, answer as u64);
     }
     Checked { lowest, sum }
 }
 
 // Measures the first numbers, F and the streams; false where there is no stream.
-fn measure(numbers: &mut [usize], count: usize) -> bool {
+fn measure(rt: &(impl Clock + Print), numbers: &mut [usize], count: usize) -> bool {
     if count < 4 {
         return false;
     }
@@ -39,25 +43,25 @@ fn measure(numbers: &mut [usize], count: usize) -> bool {
         return false;
     }
     let slots = numbers[0];
-    let checked = repeat(slots, &mut numbers[1..count]);
-    report::print(b"check ");
-    report::print_number(clock::difference(checked.lowest, clock::cost()));
-    report::print(b" ns\nanswers ");
-    report::print_number(checked.sum);
-    report::print(b"\n");
+    let checked = repeat(rt, slots, &mut numbers[1..count]);
+    report::print(rt, b"check ");
+    report::print_number(rt, clock::difference(checked.lowest, clock::cost(rt)));
+    report::print(rt, b" ns\nanswers ");
+    report::print_number(rt, checked.sum);
+    report::print(rt, b"\n");
     true
 }
 
-fn main() {
+fn main(rt: HostRuntime) {
     let mut space = [0u8; 4000];
-    let got = io::read_full(libc::STDIN_FILENO, &mut space);
+    let got = input::read_full(&mut rt.stdin(), &mut space);
     let mut numbers = [0usize; 256];
     let found = tokens::read_numbers(&space[..got], &mut numbers);
     let Found::Count(count) = found else {
-        report::print(b"no streams\n");
+        report::print(&rt, b"no streams\n");
         return;
     };
-    if !measure(&mut numbers, count) {
-        report::print(b"no streams\n");
+    if !measure(&rt, &mut numbers, count) {
+        report::print(&rt, b"no streams\n");
     }
 }

@@ -1,4 +1,6 @@
 // Measures single calls by value, and requests in bursts of 16 and of none. It reads a call file of at most 4096 calls from standard input, plays it many times and times each streak, the calls of one kind in a row. The lowest time of each streak counts, less the clock's own.
+#![tactic(auto)]
+
 mod several;
 mod timed;
 
@@ -8,8 +10,10 @@ ghost use Rattle.plan.specs.Reading.{Valid};
 use calls::Answer;
 use link::{Link, Step};
 use plan::{Plan, Verdict};
+use std::io::Print;
+use std::time::Clock;
 use timing::file::MOST;
-use timing::{clock, file, report};
+use timing::{clock, file, input, report};
 
 // Times that the file is played.
 const REPEATS: usize = 200;
@@ -19,6 +23,7 @@ const LONGEST: usize = 76 + 5 * MOST;
 
 // Plays the calls on a fresh link and keeps the lowest time of each streak, at its first call; the sum of all answers.
 fn play(
+    clock: &impl Clock,
     plan: Plan,
     kinds: &[u8; MOST],
     words: &[u32; MOST],
@@ -37,7 +42,7 @@ fn play(
     let mut from = 0;
     while from < count {
         let to = file::streak_end(kinds, from, count);
-        let t = timed::streak(step, kinds[from], words, from, to, most);
+        let t = timed::streak(clock, step, kinds[from], words, from, to, most);
         step = t.step;
         lowest[from] = clock::least(lowest[from], t.spent);
         sum = std::num::wrapping_add_u64(sum, t.sum);
@@ -48,6 +53,7 @@ fn play(
 
 // Plays the calls many times over; the sum of all answers.
 fn repeat(
+    clock: &impl Clock,
     plan: Plan,
     kinds: &[u8; MOST],
     words: &[u32; MOST],
@@ -59,13 +65,14 @@ fn repeat(
 {
     let mut sum = 0;
     for _ in 0..REPEATS {
-        sum = play(plan, kinds, words, lowest, count, most);
+        sum = play(clock, plan, kinds, words, lowest, count, most);
     }
     sum
 }
 
 // Prints a line for each kind of call, and one for requests in bursts and for bursts of no words.
 fn tell(
+    out: &impl Print,
     kinds: &[u8; MOST],
     lowest: &[u64; MOST],
     in_bursts: &[u64; MOST],
@@ -75,37 +82,37 @@ fn tell(
 )
     requires { count ≤ 4096 }
 {
-    report::line(b"request", 1, kinds, lowest, count, cost);
-    report::line(b"burst", 1, kinds, in_bursts, count, cost);
-    report::line(b"floor", 1, kinds, floor, count, cost);
-    report::line(b"credit", 2, kinds, lowest, count, cost);
-    report::line(b"tick", 3, kinds, lowest, count, cost);
+    report::line(out, b"request", 1, kinds, lowest, count, cost);
+    report::line(out, b"burst", 1, kinds, in_bursts, count, cost);
+    report::line(out, b"floor", 1, kinds, floor, count, cost);
+    report::line(out, b"credit", 2, kinds, lowest, count, cost);
+    report::line(out, b"tick", 3, kinds, lowest, count, cost);
 }
 
 // Plays the records, and prints.
-fn measure(plan: Plan, records: &[u8])
+fn measure(rt: &(impl Clock + Print), plan: Plan, records: &[u8])
     requires { Valid plan }
 {
     let mut kinds = [0u8; MOST];
     let mut words = [0u32; MOST];
     let mut lowest = [u64::MAX; MOST];
     let count = file::split(records, &mut kinds, &mut words);
-    let cost = clock::cost();
-    let sum = repeat(plan, &kinds, &words, &mut lowest, count, 1);
+    let cost = clock::cost(rt);
+    let sum = repeat(rt, plan, &kinds, &words, &mut lowest, count, 1);
     let mut in_bursts = [u64::MAX; MOST];
-    let same = repeat(plan, &kinds, &words, &mut in_bursts, count, 16);
+    let same = repeat(rt, plan, &kinds, &words, &mut in_bursts, count, 16);
     let mut floor = [u64::MAX; MOST];
-    repeat(plan, &kinds, &words, &mut floor, count, 0);
-    tell(&kinds, &lowest, &in_bursts, &floor, count, cost);
-    report::print(b"answers ");
-    report::print_number(sum);
-    report::print(b"\nin bursts ");
-    report::print_number(same);
-    report::print(b"\n");
+    repeat(rt, plan, &kinds, &words, &mut floor, count, 0);
+    tell(rt, &kinds, &lowest, &in_bursts, &floor, count, cost);
+    report::print(rt, b"answers ");
+    report::print_number(rt, sum);
+    report::print(rt, b"\nin bursts ");
+    report::print_number(rt, same);
+    report::print(rt, b"\n");
 }
 
 // Reads the plan at the start of the bytes, and measures the calls after it; false where no plan that is accepted stands there.
-fn begin(bytes: &[u8]) -> bool {
+fn begin(rt: &(impl Clock + Print), bytes: &[u8]) -> bool {
     if bytes.len() < 12 {
         return false;
     }
@@ -119,16 +126,16 @@ fn begin(bytes: &[u8]) -> bool {
         Verdict::Refused(_) => false,
         Verdict::Accepted => {
             let plan = outcome.plan;
-            measure(plan, &bytes[total..]);
+            measure(rt, plan, &bytes[total..]);
             true
         }
     }
 }
 
-fn main() {
+fn main(rt: HostRuntime) {
     let mut space = [0u8; LONGEST];
-    let got = io::read_full(libc::STDIN_FILENO, &mut space);
-    if !begin(&space[..got]) {
-        report::print(b"no calls\n");
+    let got = input::read_full(&mut rt.stdin(), &mut space);
+    if !begin(&rt, &space[..got]) {
+        report::print(&rt, b"no calls\n");
     }
 }

@@ -6,6 +6,7 @@ use crate::several;
 use burst::burst_first;
 use calls::Answer;
 use link::Step;
+use std::time::Clock;
 use timing::clock;
 use timing::file::MOST;
 use window::numbers::smaller;
@@ -36,19 +37,19 @@ fn add(sum: u64, answer: Answer) -> u64 {
     std::num::wrapping_add_u64(sum, number(answer))
 }
 
-fn requests(first: Step, words: &[u32; MOST], from: usize, to: usize) -> Timed
+fn requests(clock: &impl Clock, first: Step, words: &[u32; MOST], from: usize, to: usize) -> Timed
     requires { SoundLink first.link × (to ≤ 4096) }
     ensures { SoundLink result.step.link }
 {
     let mut step = first;
     let mut sum = 0;
-    let begin = clock::nanoseconds();
+    let begin = clock::nanoseconds(clock);
     for i in from..to {
         step = step.link.request(words[i]);
         let answer = step.answer;
         sum = add(sum, answer);
     }
-    let spent = clock::since(begin);
+    let spent = clock::since(clock, begin);
     Timed { step, sum, spent }
 }
 
@@ -62,49 +63,56 @@ fn position(word: u32) -> usize {
     (word / 256 % 65536) as usize
 }
 
-fn credits(first: Step, words: &[u32; MOST], from: usize, to: usize) -> Timed
+fn credits(clock: &impl Clock, first: Step, words: &[u32; MOST], from: usize, to: usize) -> Timed
     requires { SoundLink first.link × (to ≤ 4096) }
     ensures { SoundLink result.step.link }
 {
     let mut step = first;
     let mut sum = 0;
-    let begin = clock::nanoseconds();
+    let begin = clock::nanoseconds(clock);
     for i in from..to {
         let word = words[i];
         step = step.link.credit(flow(word), position(word));
         let answer = step.answer;
         sum = add(sum, answer);
     }
-    let spent = clock::since(begin);
+    let spent = clock::since(clock, begin);
     Timed { step, sum, spent }
 }
 
-fn ticks(first: Step, from: usize, to: usize) -> Timed
+fn ticks(clock: &impl Clock, first: Step, from: usize, to: usize) -> Timed
     requires { SoundLink first.link }
     ensures { SoundLink result.step.link }
 {
     let mut step = first;
     let mut sum = 0;
-    let begin = clock::nanoseconds();
+    let begin = clock::nanoseconds(clock);
     for _ in from..to {
         step = step.link.tick();
         let answer = step.answer;
         sum = add(sum, answer);
     }
-    let spent = clock::since(begin);
+    let spent = clock::since(clock, begin);
     Timed { step, sum, spent }
 }
 
 // The requests of a streak as bursts of 16; the last may have fewer. No more than `most` words of each are asked: where that is 0, a burst is what it
 // takes to hand the link over and back.
-fn bursts(first: Step, words: &[u32; MOST], from: usize, to: usize, most: usize) -> Timed
+fn bursts(
+    clock: &impl Clock,
+    first: Step,
+    words: &[u32; MOST],
+    from: usize,
+    to: usize,
+    most: usize,
+) -> Timed
     requires { SoundLink first.link × (to ≤ 4096) }
     ensures { SoundLink result.step.link }
 {
     let mut back = several::none(first.link);
     let mut sum = 0;
     let mut at = from;
-    let begin = clock::nanoseconds();
+    let begin = clock::nanoseconds(clock);
     while at < to {
         let count = smaller(to - at, 16);
         let asked = smaller(count, most);
@@ -113,7 +121,7 @@ fn bursts(first: Step, words: &[u32; MOST], from: usize, to: usize, most: usize)
         sum = std::num::wrapping_add_u64(sum, several::answers(records, asked));
         at += count;
     }
-    let spent = clock::since(begin);
+    let spent = clock::since(clock, begin);
     let link = back.link;
     let step = Step {
         link,
@@ -124,6 +132,7 @@ fn bursts(first: Step, words: &[u32; MOST], from: usize, to: usize, most: usize)
 
 // Plays a streak: the calls of a kind from one place to another, requests in bursts of at most so many words, and one by one where that is 1.
 pub(crate) fn streak(
+    clock: &impl Clock,
     step: Step,
     kind: u8,
     words: &[u32; MOST],
@@ -135,13 +144,13 @@ pub(crate) fn streak(
     ensures { SoundLink result.step.link }
 {
     if kind == 1 && most == 1 {
-        return requests(step, words, from, to);
+        return requests(clock, step, words, from, to);
     }
     if kind == 1 {
-        return bursts(step, words, from, to, most);
+        return bursts(clock, step, words, from, to, most);
     }
     if kind == 2 {
-        return credits(step, words, from, to);
+        return credits(clock, step, words, from, to);
     }
-    ticks(step, from, to)
+    ticks(clock, step, from, to)
 }

@@ -3,6 +3,7 @@ ghost use Rattle.std.specs.Prelude.{◌<◌, ◌≤◌};
 
 use crate::file::MOST;
 use crate::{clock, file};
+use std::io::Print;
 
 // Shorter streaks are played but not counted: the clock would take too much of the time.
 const SHORTEST: usize = 8;
@@ -31,12 +32,14 @@ fn total(kind: u8, kinds: &[u8; MOST], lowest: &[u64; MOST], count: usize, cost:
     Counted { calls, spent }
 }
 
-pub fn print(text: &[u8]) {
-    io::write_all(libc::STDOUT_FILENO, text);
+// Prints bytes, if the output takes them.
+pub fn print(out: &impl Print, text: &[u8]) {
+    let _ = out.write_all(text);
 }
 
-pub fn print_number(number: u64) {
-    io::print_decimal(libc::STDOUT_FILENO, number);
+// Prints a number's decimal digits, if the output takes them.
+pub fn print_number(out: &impl Print, number: u64) {
+    let _ = out.print(number);
 }
 
 // The digit after the point of a quotient whose remainder is given. A remainder is below the number of calls, which is at most 4096; the test is there so that ten times the remainder is proved not to overflow.
@@ -51,6 +54,7 @@ fn tenths(rest: u64, calls: u64) -> u64
 
 // Prints the nanoseconds of one call of a kind, with one digit after the point.
 pub fn line(
+    out: &impl Print,
     name: &[u8],
     kind: u8,
     kinds: &[u8; MOST],
@@ -61,18 +65,18 @@ pub fn line(
     requires { count ≤ 4096 }
 {
     let t = total(kind, kinds, lowest, count, cost);
-    print(name);
+    print(out, name);
     if t.calls == 0 {
-        print(b" - ns (no streak of 8 calls)\n");
+        print(out, b" - ns (no streak of 8 calls)\n");
         return;
     }
     let whole = t.spent / t.calls;
     let rest = t.spent % t.calls;
-    print(b" ");
-    print_number(whole);
-    print(b".");
-    print_number(tenths(rest, t.calls));
-    print(b" ns (");
-    print_number(t.calls);
-    print(b" counted)\n");
+    print(out, b" ");
+    print_number(out, whole);
+    print(out, b".");
+    print_number(out, tenths(rest, t.calls));
+    print(out, b" ns (");
+    print_number(out, t.calls);
+    print(out, b" counted)\n");
 }

@@ -10,51 +10,47 @@ record Same (kinds : List ℕ) (from count to : ℕ) : Type 0 where
   pub most : to ≤ count
   pub same : (k : ℕ) → k < to → from ≤ k → get_or kinds k 0 ≡ get_or kinds from 0
 
-abbrev invariant-loop : tie.invariant-loop
+abbrev invariant-loop : tie.invariant-loop-to
 invariant-loop kinds from count kind to₀ to = Same kinds from count to
 
-abbrev decreases-loop : tie.decreases-loop
+abbrev decreases-loop : tie.decreases-loop-to
 decreases-loop kinds from count kind to₀ to = count - to
 
-element-copy-out-kind : tie.Need-element-copy-out-kind invariant-loop decreases-loop
+element-copy-out-kind : tie.Need-bounds-kinds-from invariant-loop decreases-loop
 element-copy-out-kind c = search rules
 
-add-to : tie.Need-overflow-add-to invariant-loop decreases-loop
+add-to : tie.Need-overflow_add-to invariant-loop decreases-loop
 add-to c = search rules
 
-loop-holds : tie.Need-loop-init invariant-loop decreases-loop
-loop-holds c = record { more = omega arith; most = omega arith; same = λ k h b. let e : k ≡ c.before.args.from = omega arith in rw e }
+loop-holds : tie.Need-loop-to-init invariant-loop decreases-loop
+loop-holds c = record { more = omega arith; most = omega arith; same = λ k h b. let e : k ≡ c.args.from = omega arith in rw e }
 
-element-copy-out-if1 : tie.Need-element-copy-out-if1 invariant-loop decreases-loop
+element-copy-out-if1 : tie.Need-bounds-kinds-to invariant-loop decreases-loop
 element-copy-out-if1 c = search rules
 
-add-to-2 : tie.Need-overflow-add-to-2 invariant-loop decreases-loop
+add-to-2 : tie.Need-overflow_add-to-in-loop-to invariant-loop decreases-loop
 add-to-2 c = search rules
 
-loop-less : tie.Need-loop-smaller invariant-loop decreases-loop
+loop-less : tie.Need-loop-to-smaller invariant-loop decreases-loop
 loop-less c = search rules
 
--- where one more call is looked at
-abbrev loop-at : tie.After-if12 invariant-loop decreases-loop → tie.At-loop invariant-loop decreases-loop
-loop-at c = c.before.before
-
-loop-again : tie.Need-loop-preserved invariant-loop decreases-loop
+loop-again : tie.Need-loop-to-preserved invariant-loop decreases-loop
 loop-again c =
-    let s = (loop-at c.before).loop.inv in
-    record { more = omega (arith, s.more); most = omega arith; same = up_to _ s.same (λ b. eqb-true _ _ c.if1.true) }
+    let s = c.loop-to.invariant in
+    record { more = omega (arith, s.more); most = omega arith; same = up_to _ s.same (λ b. eqb-true _ _ c.if-kinds-to.true-raw) }
 
-returns : tie.Need-returns invariant-loop decreases-loop
+returns : tie.Need-returns-else-kinds-to invariant-loop decreases-loop
 returns c =
-    let s = (loop-at c.before).loop.inv in
-    record { more = s.more; most = s.most; same = λ k b h. s.same k h b; stops = λ h. eqb-false _ _ c.if1.false }
+    let s = c.loop-to.invariant in
+    record { more = s.more; most = s.most; same = λ k b h. s.same k h b; stops = λ h. eqb-false _ _ c.if-kinds-to.false-raw }
 
-returns-2 : tie.Need-returns-2 invariant-loop decreases-loop
+returns-2 : tie.Need-returns-after-loop-to invariant-loop decreases-loop
 returns-2 c =
-    let s = c.before.loop.invariant in
+    let s = c.before.loop-to.invariant in
     record { more = s.more; most = s.most; same = λ k b h. s.same k h b; stops = λ h. absurd (omega arith) }
 
-pub streak-end-spec : {M : Type 1} → statement M
-streak-end-spec =
+pub streak_end_spec : {M : Type 1} → statement M
+streak_end_spec =
     tie.close
     (tie.spec
     invariant-loop
