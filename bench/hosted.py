@@ -30,10 +30,10 @@ def made(words, what):
 def build(folder):
     """Both libraries, and the program over each."""
     programs.need("cc")
-    done = subprocess.run(["rt", "staticlib", "nazgolv"], cwd=programs.ROOT,
+    done = subprocess.run(["tools/build", "nazgolv"], cwd=programs.ROOT,
                           stdout=subprocess.DEVNULL, stderr=subprocess.DEVNULL)
     if done.returncode != 0:
-        programs.stop("rt staticlib nazgolv failed: nothing is measured")
+        programs.stop("tools/build nazgolv failed: nothing is measured")
     plain = folder / "libimages.a"
     made([*programs.RUSTC, "-C", "panic=abort", SOURCES / "images.rs",
           "-o", plain], "docs/src/images.rs")

@@ -39,8 +39,9 @@ def proved(name):
 
 
 def prove(*names):
-    """Proves and compiles proved programs; stops where that fails."""
-    words = ["rt", "check", *names]
+    """Proves and compiles what is missing or older than its sources; stops
+    where that fails."""
+    words = ["tools/build", *names]
     if not progress.line.on and not all(proved(name).exists() for name in names):
         print("bench/run: %s: what is missing is proved and built first, which "
               "takes some minutes" % " ".join(words), file=sys.stderr)
@@ -49,13 +50,13 @@ def prove(*names):
     if done.returncode != 0:
         for line in done.stdout.splitlines()[-LAST:]:
             print(line, file=sys.stderr)
-        stop("rt check %s failed with status %d: nothing is measured"
-             % (" ".join(names), done.returncode))
+        stop("%s failed with status %d: nothing is measured"
+             % (" ".join(words), done.returncode))
 
 
 def build(folder):
     """The plain Rust programs, and the proved ones where they are missing or
-    their sources have changed: rt leaves a program that is up to date."""
+    their sources have changed."""
     for name in progress.counted("programs in plain Rust", PLAIN, len(PLAIN)):
         source = "docs/src/%s.rs" % name
         done = subprocess.run(RUSTC + [str(ROOT / source),

@@ -1,5 +1,5 @@
 # shellcheck shell=sh disable=SC2034,SC2154
-# What ./play, ./plan, ./check-log and tools/calls have in common. Whoever sources it has set script, its own name, crate, that of its program, and here, the tree's root.
+# What ./play, ./plan, ./dome, ./check-log, tools/calls and tools/build have in common. Whoever sources it has set script, its own name, crate, that of its program, and here, the tree's root.
 program=$here/target/bin/$crate
 log=$here/target/build.log  # what rt said when it built a program last
 
@@ -35,29 +35,70 @@ show_version() {
     printf 'kit %s\nprogram %s\n' "$kit" "$(state)"
 }
 
-# A source that is newer than the program, of the crates that it stands on.
-newer_source() {
-    count_crates
-    set --
-    for name in $needed; do
+# ---- what rt proves and builds
+
+# Leaves in $asked what rt is asked for in the folder of the crate, and in $left what it leaves there: a program, or the library for C. A copy of that is $program.
+what_rt_leaves() {
+    asked=run
+    left=crates/$crate/out/$crate
+    [ "$crate" = nazgolv ] || return 0
+    asked=lib
+    left=crates/nazgolv/out/libnazgolv.a
+}
+
+# A source that is newer than a file, of crates whose names stand in a word, or crates.txt.
+newer_than() {
+    file=$1
+    names=$2
+    set -- "$here/crates.txt"
+    for name in $names; do
         [ -d "$here/crates/$name" ] && set -- "$@" "$here/crates/$name"
     done
-    find "$@" "$here/crates.txt" -type f ! -path '*/must-fail/*' -newer "$program" 2>/dev/null | head -n 1
+    find "$@" -path '*/out' -prune -o -type f ! -path '*/must-fail/*' -newer "$file" -print 2>/dev/null | head -n 1
+}
+
+# The same of all crates that the program stands on.
+newer_source() {
+    count_crates
+    newer_than "$1" "$needed"
+}
+
+# Whether a program is there, or the library.
+is_there() {
+    case $1 in
+    *.a) [ -f "$1" ] ;;
+    *) [ -x "$1" ] ;;
+    esac
 }
 
 # Whether the program can be started, in words.
 state() {
-    if [ ! -x "$program" ]; then
-        echo "target/bin/$crate is missing"
-    elif [ -n "$(newer_source)" ]; then
-        echo "target/bin/$crate is older than its sources"
+    if ! is_there "$program"; then
+        echo "${program#"$here"/} is missing"
+    elif [ -n "$(newer_source "$program")" ]; then
+        echo "${program#"$here"/} is older than its sources"
     else
-        echo "target/bin/$crate is built"
+        echo "${program#"$here"/} is built"
     fi
 }
 
-# Proves and builds the program. What rt says goes to the log.
-check_crate() { cd "$here" && rt check "$crate" </dev/null >"$log" 2>&1; }
+# Whether rt left a newer one, of the sources as they stand, as rt ci does.
+is_left() {
+    is_there "$here/$left" || return
+    [ -z "$(newer_source "$here/$left")" ] || return
+    ! is_there "$program" || [ -n "$(find "$here/$left" -newer "$program" 2>/dev/null)" ]
+}
+
+# Copies what rt left, whole or not at all.
+take() {
+    mkdir -p "${program%/*}" 2>/dev/null
+    cp "$here/$left" "$program.$$" 2>/dev/null && mv -f "$program.$$" "$program" 2>/dev/null && return
+    rm -f "$program.$$" 2>/dev/null
+    stop 2 "$left is built, and ${program#"$here"/} can't be written"
+}
+
+# Has rt prove and build the program, which starts it too, with no input. What is said goes to the log.
+check_crate() { cd "$here/crates/$crate" && rt "$asked" </dev/null >"$log" 2>&1; }
 
 # Leaves in $needed the names of the program's crate and of all that it stands on, and in $crates how many of them crates.txt lists: rt proves these.
 count_crates() {
@@ -68,7 +109,7 @@ count_crates() {
         crates=0
         while IFS=: read -r name uses; do
             case $needed in
-            *" $name "*) ;;
+            *" ${name%% *} "*) ;;
             *) continue ;;
             esac
             crates=$((crates + 1))
@@ -82,12 +123,50 @@ count_crates() {
     done
 }
 
-# Leaves in $proved how many crates the log says are proved so far.
+# Whether rt has built a library of the sources as they stand; the words after it are what it stands on, and $kept has those that are built so.
+is_kept() {
+    stamp=$here/crates/$1/out/rlib/stamp
+    [ -f "$stamp" ] && [ -z "$(newer_than "$stamp" "$1")" ] || return
+    shift
+    for use in "$@"; do
+        case $kept in
+        *" $use "*) ;;
+        *) [ ! -d "$here/crates/$use" ] || return ;;
+        esac
+    done
+}
+
+# Leaves in $had how many of the crates rt need not prove again.
+count_kept() {
+    had=0
+    kept=" "
+    before=
+    while [ "$before" != "$kept" ]; do
+        before=$kept
+        while IFS=: read -r name uses; do
+            name=${name%% *}
+            case $needed in
+            *" $name "*) ;;
+            *) continue ;;
+            esac
+            case $kept in
+            *" $name "*) continue ;;
+            esac
+            # shellcheck disable=SC2086
+            is_kept "$name" $uses || continue
+            kept="$kept$name "
+            had=$((had + 1))
+        done <"$here/crates.txt"
+    done
+}
+
+# Leaves in $proved how many crates are proved so far: rt ends each with such a line.
 count_proved() {
-    proved=0
-    while read -r word _ said _; do
-        [ "$word $said" = 'rt: proved' ] && proved=$((proved + 1))
+    proved=$had
+    while read -r word _; do
+        [ "$word" = logic=proved ] && proved=$((proved + 1))
     done <"$log"
+    [ "$proved" -le "$crates" ] || proved=$crates
 }
 
 # Counts the proved crates and the seconds on one line of standard error, as long as this script runs.
@@ -95,7 +174,7 @@ count_up() {
     seconds=0
     while kill -0 $$ 2>/dev/null; do
         count_proved
-        printf '\r%s: rt check %s: %s of %s crates proved, %s s ' "$script" "$crate" "$proved" "$crates" "$seconds" >&2
+        printf '\r%s: rt %s in crates/%s: %s of %s crates proved, %s s ' "$script" "$asked" "$crate" "$proved" "$crates" "$seconds" >&2
         sleep 1 2>/dev/null || return
         seconds=$((seconds + 1))
     done
@@ -107,13 +186,14 @@ prove() {
         (check_crate)
         return
     fi
+    count_kept
     count_up >/dev/null &
     counter=$!
     (check_crate)
     ended=$?
     kill "$counter" 2>/dev/null
     wait "$counter" 2>/dev/null
-    printf '\r%60s\r' '' >&2
+    printf '\r%75s\r' '' >&2
     return "$ended"
 }
 
@@ -126,20 +206,25 @@ begin_log() {
 # Ends where rt failed, with the last lines that it said. The word says what was found before.
 build_failed() {
     tail -n 20 "$log" >&2
-    stop 2 "$1, and rt check $crate failed: nothing is done; target/build.log has all that rt said"
+    stop 2 "$1, and rt $asked in crates/$crate failed: nothing is done; target/build.log has all that rt said"
 }
 
 # Proves and builds the program where that is needed.
 build() {
+    what_rt_leaves
+    if is_left; then
+        take
+        return
+    fi
     found=$(state)
-    [ "$found" = "target/bin/$crate is built" ] && return
+    [ "$found" = "${program#"$here"/} is built" ] && return
     command -v rt >/dev/null 2>&1 || stop 2 "$found, and rt, which proves and builds it, is not on the path; README, 'What is needed', names the kit that has it"
     begin_log || stop 2 "$found, and can't be built: target/build.log can't be written"
     count_crates
     printf '%s: %s: it is proved and built first, %s crates, which may take some minutes; what rt says goes to target/build.log\n' "$script" "$found" "$crates" >&2
     prove || build_failed "$found"
-    [ -x "$program" ] || stop 2 "rt check $crate left no target/bin/$crate; target/build.log has what rt said"
-    touch "$program" 2>/dev/null
+    is_there "$here/$left" || stop 2 "rt $asked in crates/$crate left no $left; target/build.log has what rt said"
+    take
 }
 
 # Makes a file standard input, or says why it can't be; the second word says what the file has to be. Sentences name the file by $input.

@@ -5,6 +5,7 @@ their Lib.antt."""
 import re
 
 from front_door.command import ROOT
+from front_door.crate_names import depends
 from front_door.pages import inline_code, page, table
 
 PAGE = "docs/ARCHITECTURE.md"
@@ -26,8 +27,7 @@ def first_column(head):
 
 
 def crates():
-    names = re.findall(r"^(\w+):", page("crates.txt"), re.MULTILINE)
-    return differing(names, first_column("Crate"))
+    return differing([*depends()], first_column("Crate"))
 
 
 def proofs_of_the_model():

@@ -8,9 +8,9 @@ from pathlib import Path
 from front_door.command import ROOT, start, trouble
 
 HANDS_OUT = """\
-[ "$*" = "staticlib nazgolv" ] || exit 2
-mkdir -p target/staticlib
-cp "%s" target/staticlib/libnazgolv.a
+[ "$*" = lib ] && [ "${PWD##*/}" = nazgolv ] || exit 2
+mkdir -p out
+cp "%s" out/libnazgolv.a
 """
 PROVES_NOTHING = "exit 1\n"
 
@@ -20,6 +20,10 @@ class CTree:
         self.root = Path(root)
         for part in ("include", "player", "docs/man"):
             shutil.copytree(ROOT / part, self.root / part)
+        (self.root / "tools").mkdir()
+        for name in ("tools/build", "tools/front_door.sh", "crates.txt"):
+            shutil.copy(ROOT / name, self.root / name)
+        (self.root / "crates/nazgolv").mkdir(parents=True)
         rt = self.root / "bin/rt"
         rt.parent.mkdir()
         rt.write_text("#!/bin/sh\n" + script)

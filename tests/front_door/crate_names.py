@@ -14,11 +14,12 @@ ALIKE = ({"shown": ["lines"], "lines": ["calls"], "calls": []},
 
 
 def depends():
-    """Each crate, with the crates and libraries that it names."""
+    """Each crate, with the crates and libraries that it names; before the
+    colon a word may say what sort of crate it is."""
     lines = (line.partition("#")[0] for line in
              (ROOT / "crates.txt").read_text().splitlines())
     named = (line.partition(":") for line in lines if ":" in line)
-    return {name.strip(): after.split() for name, _, after in named}
+    return {name.split()[0]: after.split() for name, _, after in named}
 
 
 def modules(crates):

@@ -9,8 +9,8 @@ with other names are of the crate's definitions or of what its entry points
 share.  One of the two may stand in a crate below that BELOW names, where its
 fact is decided and a check is quicker.
 
-That an edit is refused is tried by `rt must-fail`, and that each of its slips
-is by `tests/slips`; here their lines are read."""
+That an edit is refused is tried by `rt ci`, and that each of its slips is by
+`tests/slips`; here their lines are read."""
 
 import re
 
@@ -130,8 +130,11 @@ def wrong_edit(path):
     found = slips.slips(path)
     if not all(slip.words and slip.steps for slip in found):
         return "a slip doesn't say what it breaks, or changes nothing"
+    crate = path.parts[-3]
+    alone = [slips.misfit(crate, slip.steps) for slip in found]
     steps = [step for slip in found for step in slip.steps]
-    return slips.misfit(path.parts[-3], steps) or slips.unfit(path)
+    return (slips.misfit(crate, steps) or next(filter(None, alone), None)
+            or slips.unfit(path))
 
 
 def all_fit():

@@ -363,15 +363,13 @@ def program_breaks_off(tree):
 
 def built_where_it_is_missing(tree):
     """It is dometrace that rt is asked for, and no other program."""
-    rt = tree.write("bin/rt", '#!/bin/sh\necho "$@" >>rt.words\n'
-                    "mv away target/bin/dometrace\n")
-    rt.chmod(0o755)
-    tree.path = "%s:%s" % (rt.parent, tree.path)
+    tree.write_rt(tree.leaves("away"))
+    tree.path = "%s:%s" % (tree.root / "bin", tree.path)
     tree.program.rename(tree.root / "away")
     ended = tree.start("--health", tree.calls)
     return trouble(ended, PASSES, None, "target/bin/dometrace is missing: it "
                    "is proved and built first") or (
-        tree.rt_words() != "check dometrace\n" and tree.rt_words())
+        tree.rt_words() != tree.asked() and tree.rt_words())
 
 
 def broken_off(tree):

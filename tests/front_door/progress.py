@@ -13,20 +13,21 @@ import tempfile
 from call_bytes import TICK, credit
 from edges.edge_maker import BASE
 from front_door.command import LIMIT, ROOT, Ended, start, trouble
+from front_door.crate_names import depends, reached
 from front_door.plan_tree import PlanTree
 from front_door.play_tree import PlayTree, in_traced_trees
 from front_door.tree import named
 
 NOTHING_DONE = 2                # exit status of play and plan
 CRATE_BY_CRATE = """\
-echo 'logic=proved a line of the prover'
-echo 'rt: model proved (3 s)'
+echo 'fn model::rank: proved'
+echo 'logic=proved functions=2 sum=1'
 sleep 1.5
-echo 'rt: word proved (unchanged since it was last proved)'
-echo 'rt: a line on something that is not proved'
+echo 'logic=proved functions=3 sum=1'
+echo 'logic=not-proved'
 sleep 1.5
 """
-BUILDS = "echo 'all proved'\nmv built target/bin/%s\n"
+BUILDS = "echo 'all proved'\n"
 FAILS = """\
 line=1
 while [ $line -le 30 ]; do
@@ -124,18 +125,16 @@ def environment(tree, script):
     return dict(os.environ, PATH=tree.path)
 
 
+def builds(tree):
+    """The lines of an rt that proves all, and leaves the program."""
+    return BUILDS + tree.leaves("built")
+
+
 def crates_below(crate):
     """The crates that one stands on, itself among them, by crates.txt."""
-    lines = (ROOT / "crates.txt").read_text().splitlines()
-    uses = {name: words.split() for name, colon, words in
-            (line.partition(":") for line in lines) if colon}
-    found, left = set(), [crate]
-    while left:
-        name = left.pop()
-        if name in uses and name not in found:      # the kit has others
-            found.add(name)
-            left += uses[name]
-    return found
+    crates = depends()
+    return [name for name in reached(crates, crate)
+            if name in crates]                      # the kit has others
 
 
 def first_line(tree):
@@ -153,14 +152,33 @@ def counts_crates_on_a_terminal(tree):
     """And what rt says goes to the log."""
     ended = on_a_terminal(
         [tree.command, *tree.good],
-        env=environment(tree, CRATE_BY_CRATE + BUILDS % tree.crate))
-    counts = ["%s: rt check %s: %d of %d crates proved, "
+        env=environment(tree, CRATE_BY_CRATE + builds(tree)))
+    counts = ["%s: rt run in crates/%s: %d of %d crates proved, "
               % (tree.script, tree.crate, proved,
                  len(crates_below(tree.crate))) for proved in (1, 2)]
     return (wrong_lines(ended, counts, [first_line(tree), ""])
             or ended.output != tree.output and "other output"
             or " 3 of " in ended.errors and "other lines are counted"
             or log(tree).splitlines()[-1] != "all proved" and log(tree))
+
+
+def built_libraries(tree):
+    """Where rt has built the libraries below already, they are counted; but
+    not one with a newer source, nor those above it."""
+    for name in crates_below(tree.crate):
+        tree.write("crates/%s/out/rlib/stamp" % name, "")
+    os.utime(tree.write("crates/limits/src/lib.rt", "// a source\n"),
+             (1 << 40, 1 << 40))
+    crates = depends()
+    again = [name for name in crates_below(tree.crate)
+             if "limits" in reached(crates, name)]
+    ended = on_a_terminal(
+        [tree.command, *tree.good],
+        env=environment(tree, "sleep 1.5\n" + builds(tree)))
+    total = len(crates_below(tree.crate))
+    return wrong_lines(ended, ["%s: rt run in crates/%s: %d of %d crates proved, "
+                               % (tree.script, tree.crate, total - len(again),
+                                  total)], [first_line(tree), ""])
 
 
 def wrong_failure(tree, ended, lines):
@@ -171,7 +189,8 @@ def wrong_failure(tree, ended, lines):
         return "status %d: %r" % (ended.status, lines)
     if log(tree).splitlines() != SAID:
         return "in the log: %r" % log(tree)
-    says = "rt check %s failed: nothing is done; target/build.log has all"
+    says = ("rt run in crates/%s failed: nothing is done; target/build.log has "
+            "all")
     return (len(lines) != 22 or says % tree.crate not in lines[21]) and (
         "%r" % lines[21:])
 
@@ -190,7 +209,7 @@ def failure_on_a_pipe(tree):
 def no_count_on_a_pipe(tree):
     """One line, and no other until it is done; the folder of the log is made
     where it is missing."""
-    env = environment(tree, "mkdir target/bin\n" + BUILDS % tree.crate)
+    env = environment(tree, builds(tree))
     shutil.rmtree(tree.root / "target")
     ended = start([tree.command, *tree.good], env=env)
     return trouble(ended, 0, tree.output, first_line(tree)) or (
@@ -199,7 +218,7 @@ def no_count_on_a_pipe(tree):
 
 def log_that_takes_nothing(tree):
     """It is said before rt is started."""
-    env = environment(tree, BUILDS % tree.crate)
+    env = environment(tree, builds(tree))
     (tree.root / "target/build.log").mkdir()
     return trouble(start([tree.command, *tree.good], env=env), NOTHING_DONE,
                    b"", "target/build.log can't be written") or (
@@ -244,7 +263,7 @@ def measured(starting):
 
 def bench_run_counts_on_a_terminal(programs):
     return wrong_lines(measured(on_a_terminal),
-                       ["rt check domeplan: 0 s", "count, rounds: 0 of 1"],
+                       ["tools/build domeplan: 0 s", "count, rounds: 0 of 1"],
                        [""])
 
 
@@ -265,7 +284,7 @@ def tests(programs):
     yield from named(PlayTree, (counts_crates_on_a_terminal,
                                 no_count_on_a_pipe, failure_on_a_pipe),
                      programs)
-    yield from named(PlanTree, (counts_crates_on_a_terminal,
+    yield from named(PlanTree, (counts_crates_on_a_terminal, built_libraries,
                                 failure_on_a_terminal,
                                 log_that_takes_nothing), programs)
     for test in RUNNING:

@@ -1,55 +1,88 @@
-"""tests/slips on logs made up: only an error of a slip's own tells it."""
+"""tests/slips on what rt says, made up: only a refusal of its own tells a
+slip."""
 
 import tempfile
 from pathlib import Path
 
-from front_door import gathering, slips
+from front_door import alone, gathering, slips
 
-OTHER = "proofs/no_such_function/Proof.antt:9:9: error: `returns`: they differ"
-NOT_ADMITTED = ("%sProof.antt:9:9: error: `spec`: `close` was not admitted (it "
-                "has holes), so this cannot be checked")
-OWN = "/a/tree/%sProof.antt:9:9: error: `returns-2`: the two types differ"
-NO_PROOF = "fn %s: no proof: expected `spec` in a file; `search` does not close"
-CALLS = NO_PROOF + "; it calls `a::b`, which is not proved"
-# What a log has, and whether that tells a slip in a function with a file of
-# proofs, and in one without.
-LOGS = ((OTHER, False, False), (NOT_ADMITTED, False, False),
-        (OWN, True, True), (NO_PROOF, False, True), (CALLS, False, False),
-        ("logic=not-proved", False, False))
-
-
-def log_for(line, slip):
-    place = slips.place_of(slip)
-    name = slips.function_name(slip.crate, place)
-    if "%s" not in line:
-        return line
-    return line % (name if line.startswith("fn ") else place)
+# What rt says of an edit, and whether that tells the slip that is alone in it.
+SAID = (
+    ("refused, as it must be: ./proofs/ends/Proof.antt:9:9: error: `returns`: "
+     "they differ", True),
+    ("refused, as it must be", True),
+    ("refused, as it must be (only by a limit of the prover, which gave no "
+     "verdict, so this says less of the contract: choose a change that it "
+     "refuses sooner): ./proofs/ends/Proof.antt:9:9: error: `returns`", True),
+    ("refused, as it must be (only because a proof file names what the edit "
+     "took away, so this says little of the contract: change a value and keep "
+     "the names): ./proofs/ends/Proof.antt:9:9: error: a record has no field",
+     False),
+    ("NOT REFUSED: the crate is still proved with this edit", False),
+    ("BAD EDIT: an 'old:' text is in src/lib.rt 0 times, and not once", False),
+    ("NOT TRIED: its check was killed, most likely for memory", False))
+LINE = "== %s\nrt: must-fail %s/%s.edit: %s\nrt: %s proved\n"
 
 
-def chosen(with_proof):
-    """A slip in a function that has a file of proofs, or that has none."""
-    return next(slip for slip in slips.gathered()
-                if not slip.told and slips.has_proof(slip) == with_proof)
+def chosen():
+    """A slip in a function, which shares its edit."""
+    return next(slip for slip in slips.gathered() if not slip.told)
 
 
 def tells():
-    for line, *told in LOGS:
-        found = [slips.is_told(slip, "before\n%s\nafter" % log_for(line, slip))
-                 for slip in (chosen(True), chosen(False))]
-        if found != told:
-            return "%s: %s" % (line, found)
+    slip = chosen()
+    for words, told in SAID:
+        log = LINE % (slip.crate, slip.crate, slip.name, words, slip.crate)
+        found = alone.trouble(slip, alone.said_in(log))
+        if (found is None) != told:
+            return "%s: %s" % (words, found)
     return None
+
+
+def not_of_another():
+    """What is said of another slip, or of the edit that it is in, tells
+    nothing, nor does a line of the prover."""
+    slip = chosen()
+    log = "".join(LINE % (slip.crate, crate, name, SAID[0][0], slip.crate)
+                  for crate, name in ((slip.crate, "another"),
+                                      ("another", slip.name),
+                                      (slip.crate, slip.edit)))
+    log += "must-fail %s/%s.edit: %s\n" % (slip.crate, slip.name, SAID[0][0])
+    return alone.trouble(slip, alone.said_in(log)) is None and "it is told"
+
+
+def laid_out():
+    """Each slip has an edit of its own there, which fits, and there is no
+    other; nothing of the crates is missing."""
+    found = slips.gathered()
+    with tempfile.TemporaryDirectory() as folder:
+        alone.lay_out(Path(folder), found)
+        there = {path.relative_to(folder)
+                 for path in Path(folder).rglob("must-fail/*")}
+        read = [slips.slips(Path(folder) / path) for path in sorted(there)]
+        sources = {path.relative_to(folder)
+                   for path in Path(folder).rglob("src/*.rt")}
+    wanted = {Path("crates", slip.crate, "must-fail", slip.name + ".edit")
+              for slip in found}
+    missing = {path.relative_to(slips.ROOT)
+               for path in slips.ROOT.glob("crates/*/src/*.rt")} - sources
+    steps = {(slip.crate, slip.name, slip.steps) for slip in found}
+    return (there != wanted and "edits: %s" % (there ^ wanted)
+            or missing and "missing: %s" % missing
+            or {(slip.crate, slip.name, slip.steps) for each in read
+                for slip in each} != steps and "other slips"
+            or any(len(each) != 1 for each in read) and "several in one")
 
 
 def not_two_at_one_place():
     """Two slips of one function never share an edit."""
-    slip = chosen(True)
+    slip = chosen()
     return not slips.mixed(slip, slip._replace(name="another")) and "mixed"
 
 
 def read_again():
     """What is written of slips, together or alone, is read as it was."""
-    crate = chosen(True).crate
+    crate = chosen().crate
     found = [slip for slip in slips.gathered() if slip.crate == crate]
     with tempfile.TemporaryDirectory() as folder:
         path = Path(folder) / crate / "must-fail" / "made.edit"
@@ -64,6 +97,8 @@ def read_again():
 
 
 def tests(_):
-    yield "tests/slips: an error of its own tells a slip", tells
+    yield "tests/slips: a refusal of its own tells a slip", tells
+    yield "tests/slips: a refusal of another doesn't", not_of_another
+    yield "tests/slips: each slip has an edit of its own", laid_out
     yield "tests/slips: two slips in one function", not_two_at_one_place
     yield "tests/slips --gather: what is written is read again", read_again

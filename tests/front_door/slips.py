@@ -1,18 +1,15 @@
 """Slips that the prover has to refuse: crates/NAME/must-fail/*.edit, read as
-text, and what the logs of `rt must-fail` and `rt ci` say of them.
+text.
 
 An edit is one slip, whose name is the file's.  Or it is several, each after a
-line `slip: NAME`, so that one check of the crate tries them all.  Then each
-has to be told by an error of its own, at a place that no other slip of the
-edit can reach:
+line `slip: NAME`, so that one check of the crate tries them all; tests/slips
+tries each of these alone besides.  No two of an edit can be at one place:
 
-- a slip in a function's body, in the proof of that function, and no other
-  slip of the edit is in that function; where it has no file of proofs, none
-  is in a function that it calls either;
-- a slip in a definition, in the file of proofs that its line `told: FILE`
-  names, and no other slip of the edit is in what that file imports.
-
-An error of its own is none that says that something else was not admitted."""
+- a slip in a function's body, and no other slip of the edit is in that
+  function;
+- a slip in a definition, with a line `told: FILE` that names a file of proofs
+  which rests on it, and no other slip of the edit is in what that file
+  imports."""
 
 import re
 from functools import lru_cache
@@ -21,18 +18,12 @@ from typing import NamedTuple, Optional
 
 from front_door.command import ROOT
 
-LOGS = ROOT / "target/must-fail"
 FUNCTION = re.compile(
     r'^( *)(?:pub(?:\(\w+\))? )?(?:extern "C" )?fn (\w+)', re.MULTILINE)
 TYPE = re.compile(r"^impl(?:<[^>]*>)? (\w+)", re.MULTILINE)
 ITEM = re.compile(r"^(?:pub(?:\(\w+\))? )?(?:const|struct|enum|use|mod)\b",
                   re.MULTILINE)
-ERROR = re.compile(r"^(\S+?):\d+:\d+: error: (.*)$", re.MULTILINE)
-NOT_ITS_OWN = "was not admitted"
-STANDING = re.compile(r"^fn (\S+): (?:not proved|no proof)(.*)$", re.MULTILINE)
-CALLED = "; it calls "
-CALL = re.compile(r"\b(\w+)\(")
-IMPORT = re.compile(r"Rattle·(\w+)·(specs|proofs)\.\2\.([\w·.]+)")
+IMPORT = re.compile(r"\bRattle\.(\w+)\.(specs|proofs)\.([\w.']+)")
 
 
 class Slip(NamedTuple):
@@ -142,7 +133,7 @@ def at_its_type(crate, function):
 
 
 def place_of(slip):
-    """Where its error has to be: a file, a function's folder, or None."""
+    """Where its fact is proved: a file, a function's folder, or None."""
     if slip.told:
         return slip.told
     found = functions(slip)
@@ -150,45 +141,11 @@ def place_of(slip):
     return only and at_its_type(slip.crate, only)
 
 
-# ---- which functions a function calls, by their names alone
-
-@lru_cache(maxsize=None)
-def called(crate):
-    """Each function of a crate, and the names that its text calls."""
-    found = {}
-    for path in sorted((ROOT / "crates" / crate / "src").rglob("*.rt")):
-        file = str(path.relative_to(ROOT / "crates" / crate))
-        text = text_of(crate, file)
-        starts = [head.start() for head in FUNCTION.finditer(text)]
-        for start, end in zip(starts, [*starts[1:], len(text)]):
-            found[function_at(file, text, start + 1)] = set(
-                CALL.findall(text[start:end]))
-    return found
-
-
-@lru_cache(maxsize=None)
-def below(crate, function):
-    """The functions of the crate that a function may call, and itself."""
-    found, rest = set(), [function]
-    while rest:
-        here = rest.pop()
-        if here not in found:
-            found.add(here)
-            rest += [other for other in called(crate)
-                     if other and other.split("/")[-1]
-                     in called(crate).get(here, ())]
-    return found
-
-
-def has_proof(slip):
-    return bool(text_of(slip.crate, place_of(slip) + "Proof.antt"))
-
-
 # ---- what a file of proofs imports
 
 def file_named(crate, part, name):
     """The file of a module, or of the one that it is in."""
-    words = name.split(".")
+    words = name.strip(".").split(".")
     while words:
         file = "%s/%s.antt" % (part, "/".join(words))
         if text_of(crate, file):
@@ -212,14 +169,11 @@ def imports(crate, file):
 
 
 def mixed(one, other):
-    """Whether an error of one slip could be another's."""
+    """Whether two slips are at one place."""
     if one.told:
         return bool(imports(one.crate, one.told)
                     & {file for file, *_ in other.steps})
-    if other.told is not None or place_of(one) == place_of(other):
-        return True
-    return not has_proof(one) and bool(
-        below(one.crate, *functions(one)) & functions(other))
+    return other.told is not None or place_of(one) == place_of(other)
 
 
 def unfit(path):
@@ -235,50 +189,8 @@ def unfit(path):
             return "%s: %s doesn't rest on it" % (slip.name, slip.told)
         for other in found:
             if other is not slip and mixed(slip, other):
-                return "%s and %s: one error would be both's" % (
-                    slip.name, other.name)
+                return "%s and %s are at one place" % (slip.name, other.name)
     return None
-
-
-# ---- what a log says
-
-def own_errors(log):
-    """The files with an error of their own, from proofs/ on."""
-    return {path[path.find("proofs/"):]
-            for path, words in ERROR.findall(log)
-            if NOT_ITS_OWN not in words and "proofs/" in path}
-
-
-def function_name(crate, place):
-    """A function as a log has it, of the folder of its proof."""
-    return "::".join([crate, *place.rstrip("/").split("/")[1:]])
-
-
-def is_told(slip, log):
-    """Whether the log has an error of the slip's own.  A function without a
-    file of proofs is refused where it doesn't call what is refused."""
-    place = place_of(slip)
-    if any(file.startswith(place) for file in own_errors(log)):
-        return True
-    return (not slip.told and not has_proof(slip)
-            and any(name == function_name(slip.crate, place)
-                    and CALLED not in rest
-                    for name, rest in STANDING.findall(log)))
-
-
-def log_of(slip):
-    path = LOGS / slip.crate / slip.edit / ".log"
-    return path.read_text(errors="replace") if path.is_file() else None
-
-
-def trouble(slip):
-    """Why a slip of several is not known to be refused, or None."""
-    log = log_of(slip)
-    if log is None:
-        return "it was not tried: there is no log of it below target/must-fail"
-    return None if is_told(slip, log) else (
-        "no error of its own at %s in target/must-fail/%s/%s/.log"
-        % (place_of(slip), slip.crate, slip.edit))
 
 
 def gathered():

@@ -9,8 +9,8 @@ from pathlib import Path
 from front_door.command import ROOT, start
 
 NEEDED = ("tools/front_door.sh", "docs/REFUSALS.md", "crates.txt")
-TOOLS = ("cat", "dirname", "find", "head", "mkdir", "mv", "od", "readlink",
-         "sed", "sh", "sort", "tail", "touch", "tr")
+TOOLS = ("cat", "cp", "dirname", "find", "head", "mkdir", "mv", "od",
+         "readlink", "rm", "sed", "sh", "sort", "tail", "touch", "tr")
 
 
 class Tree:
@@ -26,6 +26,8 @@ class Tree:
         self.command = self.root / self.script
         self.program = self.copy(program, "target/bin/" + self.crate)
         self.source = self.write("crates/plan/src/lib.rt", "// a source\n")
+        self.left = "crates/%s/out/%s" % (self.crate, self.crate)
+        (self.root / self.left).parent.mkdir(parents=True)
         for path in (self.source, self.root / "crates.txt"):
             os.utime(path, (1, 1))
         self.path = os.environ.get("PATH", os.defpath)
@@ -57,12 +59,25 @@ class Tree:
         self.path = str(folder)
 
     def rt(self, script):
-        """Puts an rt on the path that writes down its words, then does what
-        the script says; the tree's root is its folder."""
+        """Puts an rt on the path that writes down its words and its folder,
+        then does what the script says, at the tree's root."""
         self.only_tools()
-        path = self.write("bin/rt", '#!/bin/sh\necho "$@" >>rt.words\n'
+        self.write_rt(script)
+
+    def write_rt(self, script):
+        root = self.root.resolve()
+        path = self.write("bin/rt", '#!/bin/sh\nfolder=${PWD#"%s"/}\ncd "%s"\n'
+                          'echo "$@ in $folder" >>rt.words\n' % (root, root)
                           + script)
         path.chmod(0o755)
+
+    def leaves(self, built):
+        """The lines of an rt that leaves a program, which stands at a path."""
+        return "mv %s %s\n" % (built, self.left)
+
+    def asked(self):
+        """What rt is asked for where the program is to be built."""
+        return "run in crates/%s\n" % self.crate
 
     def rt_words(self):
         path = self.root / "rt.words"

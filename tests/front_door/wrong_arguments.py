@@ -8,12 +8,12 @@ from pathlib import Path
 
 from front_door.command import ROOT, start, trouble
 
-PROGRAMS = "rt check domelink allcalls domeplan domeshow dometrace"
+PROGRAMS = "tools/build domelink allcalls domeplan domeshow dometrace"
 BUILT = {                     # what tests/run needs, and what makes it
     "bin/domelink": PROGRAMS, "bin/allcalls": PROGRAMS,
     "bin/domeplan": PROGRAMS, "bin/domeshow": PROGRAMS,
     "bin/dometrace": PROGRAMS,
-    "staticlib/libnazgolv.a": "rt staticlib nazgolv"}
+    "staticlib/libnazgolv.a": "tools/build nazgolv"}
 MISSING = os.path.join(os.sep, "nowhere", "calls")
 
 # Arguments of tests/run, and words of the sentence.

@@ -27,7 +27,7 @@ class Unbuilt(Trouble):
 def build():
     """Proves and builds domeplan where that is needed, as all commands do; it
     says itself what went wrong."""
-    done = subprocess.run(["sh", str(ROOT / "tools/build"), "plan",
+    done = subprocess.run(["sh", str(ROOT / "tools/build"), "--for", "plan",
                            "domeplan"], check=False)
     if done.returncode:
         raise Unbuilt("domeplan is not built")
