@@ -2,9 +2,8 @@
 --     up_to k l xs          the first k records are handled, from the link l.        onward i k l xs      the same from record i on, and those before it are as they are
 --     onward-turns         one record is handled, and put in its place: what is left comes to the same.        onward-ends      nothing is left
 --     enough               as many as there are, or 16, are as good as 16
---     Turn l w xs n        the loop's variables between two turns, with what is known of them.        asked, put    the record that a turn handles, and what the turn leaves
+--     Passing              the loop's variables between two turns, with what is known of them
 --     start, next, done    the variables where the loop begins, and after one more turn; and where the loop is left, they are what is to be shown
---     Nearer, nearer       fewer records are left
 --     front-handled        a prefix that is handled, and the rest
 -- Assumes nothing.
 use mathlib.Core.Path.{◌≡◌, refl, sym, ◌∙◌, ap, subst}
@@ -13,16 +12,13 @@ use native.Mathlib.Nat.{not-suc-le-zero, le_of_suc-le-suc}
 use native.Mathlib.Decide.{dec_lt}
 use native.Mathlib.Omega.{arith}
 use mathlib.Core.List.{List, [], ◌∷◌, ◌++◌}
-use mathlib.Core.WellFounded.InvImage
-use mathlib.Core.WellFounded.{WellFounded}
 use lib.ListN.{length, get_or, set, length-set, length-map, take, drop}
-use lib.WfN.{lt-wf_rel}
-use denote.Laws.{Is}
 use Rattle.model.specs.Calls.{Grant, accepted, refused}
 use Rattle.model.specs.Link as model
 use Rattle.model.specs.Request.{request}
 use Rattle.model.specs.Burst as reference
 use Rattle.model.specs.Burst.{filled, in_front, in_order, burst}
+use Rattle.plan.specs.declared.Plan.{Plan}
 use Rattle.window.specs.declared.Window.{Window}
 use Rattle.link.specs.declared.Link.{Link}
 use Rattle.link.specs.declared.request.Reply.{Reply}
@@ -33,7 +29,10 @@ use Rattle.link.proofs.Stays.{request-current, still-in}
 use Rattle.burst.specs.declared.BurstRecord.{BurstRecord}
 use Rattle.burst.specs.Reading.{ask_of, asks_of}
 use Rattle.burst.specs.First.{burst_of_first}
-use Rattle.burst.proofs.Values.{Bytes, bytes-vals, link_with}
+
+-- a link of a plan and a state
+abbrev pub link_with : Plan → List ℕ → Link
+link_with p s = record { plan = p; state = s }
 
 -- ---- on from the i-th record, by the model
 
@@ -90,17 +89,14 @@ enough n l xs c = go (dec_lt n 16)
     go (yes less) = let e = c.all less in reaches n 16 l xs (omega (arith, e)) (omega (arith, e, less))
     go (no full) = let e : n ≡ 16 = omega (arith, c.most) in ap (λ (k : ℕ). up_to k l xs) e
 
--- ---- the loop's variables between two turns: i, the state in hand and what the slice holds, where n records of xs are handled from l, whose window is w
+-- ---- the loop's variables between two turns: i, the link in hand and what the slice holds, where n records of xs are handled from l, whose window is w
 
-pub record Pass (l : Link) (w : Window) (xs : List BurstRecord) (n : ℕ) : Type 0 where
-  pub i : ℕ
-  pub state : List ℕ
-  pub cur : List BurstRecord
-  pub ok : Is Bytes state (bytes-vals state)
-  pub hand : StateIn l.plan w state
+pub record Passing (l : Link) (w : Window) (xs : List BurstRecord) (n : ℕ) (last : Link) (cur : List BurstRecord) (i : ℕ) : Type 0 where
+  pub plan_is : last.plan ≡ l.plan
+  pub hand : StateIn l.plan w last.state
   pub within : i ≤ n
   pub long : length cur ≡ length xs
-  pub comes : onward i (n - i) (read_in l.plan state) (asks_of cur) ≡ up_to n (read_of l) (asks_of xs)
+  pub comes : onward i (n - i) (read_in l.plan last.state) (asks_of cur) ≡ up_to n (read_of l) (asks_of xs)
 
 one_more : (i : ℕ) → i + 1 ≡ suc i
 one_more i = omega arith
@@ -111,7 +107,7 @@ one_less n i l = omega (arith, l)
 none_left : (n i : ℕ) → n ≤ i → 0 ≡ n - i
 none_left n i l = omega (arith, l)
 
-pub all_left : (n : ℕ) → n - 0 ≡ n
+all_left : (n : ℕ) → n - 0 ≡ n
 all_left n = omega arith
 
 -- what a request comes to is what the model writes in the record
@@ -123,90 +119,68 @@ reply-fills x (refused number) = refl
 abbrev pub none : BurstRecord
 none = record { word = 0; result = 0; position = 0 }
 
-module _ {l : Link} {w : Window} {xs : List BurstRecord} {n : ℕ} where
-  -- the model's link in hand, and the code's
-  abbrev pub read : Pass l w xs n → model.Link
-  read t = read_in l.plan t.state
-
-  abbrev pub last : Pass l w xs n → Link
-  last t = link_with l.plan t.state
-
-  -- the record that a turn handles, its request by the model, and what the turn leaves in the record's place
-  abbrev pub asked : Pass l w xs n → BurstRecord
-  asked t = get_or t.cur t.i none
-
-  abbrev pub Replied : Pass l w xs n → List ℕ → Reply → Type 0
-  Replied t after u = Went reply_of (request (read t) (asked t).word) l.plan after u
-
-  abbrev pub put : Pass l w xs n → Reply → BurstRecord
-  put t u = record { word = (asked t).word; result = u.number; position = u.position }
-
-  -- the record is there
-  pub here : (t : Pass l w xs n) → t.i < n → n ≤ length xs → t.i < length t.cur
-  here t more fits = subst (λ (m : ℕ). t.i < m) (sym t.long) (omega (arith, more, fits))
-
-  pub turned : (t : Pass l w xs n) (after : List ℕ) (u : Reply) → Replied t after u → t.i < n → n ≤ length xs
-      → onward (t.i + 1) (n - (t.i + 1)) (read_in l.plan after) (asks_of (set t.cur t.i (put t u))) ≡ up_to n (read_of l) (asks_of xs)
-  turned t after u is more fits =
-      ap (λ (j : ℕ). onward j left (read_in l.plan after) (asks_of cur)) (one_more t.i)
-      ∙ ap (λ (m : model.Link). onward (suc t.i) left m (asks_of cur)) is.link_is
-      ∙ onward-turns t.i left (read t) t.cur none (put t u) (here t more fits) shown
-      ∙ ap (λ (k : ℕ). onward t.i k (read t) (asks_of t.cur)) (one_less n t.i more)
-      ∙ t.comes
-    where
-      left : ℕ
-      left = n - (t.i + 1)
-
-      cur : List BurstRecord
-      cur = set t.cur t.i (put t u)
-
-      shown : ask_of (put t u) ≡ filled (ask_of (asked t)) (request (read t) (asked t).word).answer
-      shown = (λ k. ask_of (put t (is.answer_is k))) ∙ reply-fills (ask_of (asked t)) (request (read t) (asked t).word).answer
-
-  abbrev pub next : (t : Pass l w xs n) (after : List ℕ) (u : Reply) → Replied t after u → t.i < n → n ≤ length xs → Is Bytes after (bytes-vals after) → Pass l w xs n
-  next t after u is more fits ok = record {
-    i = t.i + 1;
-    state = after;
-    cur = set t.cur t.i (put t u);
-    ok = ok;
-    hand = still-in t.hand is (request-current (read t) (asked t).word);
-    within = omega (arith, more);
-    long = length-set t.cur t.i (put t u) ∙ t.long;
-    comes = turned t after u is more fits;
-  }
-
-  -- where the loop is left, the link and the records are those of the burst
-  pub done : (t : Pass l w xs n) → n ≤ t.i → Counts (length xs) n → Bursted (burst (read_of l) (asks_of xs)) (last t) (asks_of t.cur)
-  done t over counts = record { link_is = ap (λ (b : reference.Burst). b.link) whole; records_are = ap (λ (b : reference.Burst). b.records) whole; sound = t.hand.sound }
-    where
-      whole : record { link = read t; records = asks_of t.cur } ≡ burst (read_of l) (asks_of xs)
-      whole =
-          sym (onward-ends t.i (read t) (asks_of t.cur))
-          ∙ ap (λ (k : ℕ). onward t.i k (read t) (asks_of t.cur)) (none_left n t.i over)
-          ∙ t.comes
-          ∙ enough n (read_of l) (asks_of xs) (subst (λ (m : ℕ). Counts m n) (sym (length-map xs ask_of)) counts)
-
-  abbrev pub Nearer : Pass l w xs n → Pass l w xs n → Type 0
-  Nearer u t = n - u.i < n - t.i
-
-  pub Nearer-wf : WellFounded Nearer
-  Nearer-wf = InvImage.wf (λ (t : Pass l w xs n). n - t.i) lt-wf_rel.wf
-
-  pub nearer : (t : Pass l w xs n) → t.i < n → n - (t.i + 1) < n - t.i
-  nearer t more = omega (arith, more)
+-- a record with the reply to its word
+abbrev pub put : BurstRecord → Reply → BurstRecord
+put x u = record { word = x.word; result = u.number; position = u.position }
 
 -- the loop begins
-abbrev pub start : (l : Link) (w : Window) (xs : List BurstRecord) (n : ℕ) → Is Bytes l.state (bytes-vals l.state) → StateIn l.plan w l.state → Pass l w xs n
-start l w xs n ok hand = record {
-  i = 0;
-  state = l.state;
-  cur = xs;
-  ok = ok;
+pub start : (l : Link) (w : Window) (xs : List BurstRecord) (n : ℕ) → StateIn l.plan w l.state → Passing l w xs n l xs 0
+start l w xs n hand = record {
+  plan_is = refl;
   hand = hand;
   within = omega arith;
   long = refl;
   comes = ap (λ (k : ℕ). up_to k (read_of l) (asks_of xs)) (all_left n);
 }
+
+module _ {l : Link} {w : Window} {xs : List BurstRecord} {n : ℕ} {last : Link} {cur : List BurstRecord} {i : ℕ} (t : Passing l w xs n last cur i) where
+  -- one record more is handled
+  pub next : (after : List ℕ) (u : Reply) → i < n → n ≤ length xs
+      → Went reply_of (request (read_in l.plan last.state) (get_or cur i none).word) l.plan after u
+      → Passing l w xs n (link_with last.plan after) (set cur i (put (get_or cur i none) u)) (i + 1)
+  next after u more fits is = record {
+    plan_is = t.plan_is;
+    hand = still-in t.hand is (request-current (read_in l.plan last.state) (get_or cur i none).word);
+    within = omega (arith, more);
+    long = length-set cur i (put (get_or cur i none) u) ∙ t.long;
+    comes =
+        ap (λ (j : ℕ). onward j left (read_in l.plan after) (asks_of turned)) (one_more i)
+        ∙ ap (λ (m : model.Link). onward (suc i) left m (asks_of turned)) is.link_is
+        ∙ onward-turns i left (read_in l.plan last.state) cur none (put (get_or cur i none) u) here shown
+        ∙ ap (λ (k : ℕ). onward i k (read_in l.plan last.state) (asks_of cur)) (one_less n i more)
+        ∙ t.comes;
+  }
+    where
+      left : ℕ
+      left = n - (i + 1)
+
+      turned : List BurstRecord
+      turned = set cur i (put (get_or cur i none) u)
+
+      here : i < length cur
+      here = subst (λ (m : ℕ). i < m) (sym t.long) (omega (arith, more, fits))
+
+      shown : ask_of (put (get_or cur i none) u) ≡ filled (ask_of (get_or cur i none)) (request (read_in l.plan last.state) (get_or cur i none).word).answer
+      shown =
+          (λ k. ask_of (put (get_or cur i none) (is.answer_is k)))
+          ∙ reply-fills (ask_of (get_or cur i none)) (request (read_in l.plan last.state) (get_or cur i none).word).answer
+
+  -- where the loop is left, the link and the records are those of the burst
+  pub done : n ≤ i → Counts (length xs) n → Bursted (burst (read_of l) (asks_of xs)) last (asks_of cur)
+  done over counts =
+      let Handed : Plan → Type 0 = λ p. Bursted (burst (read_of l) (asks_of xs)) (link_with p last.state) (asks_of cur) in
+      subst Handed (sym t.plan_is) (record {
+        link_is = ap (λ (b : reference.Burst). b.link) whole;
+        records_are = ap (λ (b : reference.Burst). b.records) whole;
+        sound = t.hand.sound;
+      })
+    where
+      whole : record { link = read_in l.plan last.state; records = asks_of cur } ≡ burst (read_of l) (asks_of xs)
+      whole =
+          sym (onward-ends i (read_in l.plan last.state) (asks_of cur))
+          ∙ ap (λ (k : ℕ). onward i k (read_in l.plan last.state) (asks_of cur)) (none_left n i over)
+          ∙ t.comes
+          ∙ enough n (read_of l) (asks_of xs) (subst (λ (m : ℕ). Counts m n) (sym (length-map xs ask_of)) counts)
 
 -- ---- the first records of an array
 

@@ -1,4 +1,6 @@
 // A burst: the requests of several words in a single call.
+#![tactic(auto)]
+
 ghost use Rattle.std.specs.Prelude.{◌≡◌, ◌≤◌, min};
 ghost use Rattle.model.specs.Burst as model;
 ghost use Rattle.model.specs.Request as reference;

@@ -9,5 +9,5 @@ smaller-requires c κs = search rules
 returns : tie.Need-returns
 returns c = c.smaller.ensures
 
-pub handled-spec : {M : Type 1} → statement M
-handled-spec = tie.close (tie.spec smaller-requires returns)
+pub handled_spec : {M : Type 1} → statement M
+handled_spec = tie.close (tie.spec smaller-requires returns)
