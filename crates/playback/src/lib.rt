@@ -1,4 +1,6 @@
 // Call records of a slice played in place.
+#![tactic(auto)]
+
 ghost use Rattle.link.specs.Sound.{SoundLink};
 ghost use Rattle.link.specs.Steps.{read_of};
 ghost use Rattle.playback.specs.Playback.{PlayedRecords};
