@@ -1,12 +1,12 @@
 -- However the input is cut into pieces, what is to be written, in order, is the answers to its lines. Assumes nothing.
-use Prim.Native.Nat.{ℕ, ◌≤◌, ◌<◌}
+use Prim.Native.Nat.{ℕ, ◌≤◌}
 use mathlib.Core.Path.{◌≡◌, refl, sym, ap, ◌∙◌}
 use mathlib.Core.List.{List, ◌∷◌, [], ◌++◌, foldr, flat_map, append_assoc, append-nil}
-use mathlib.Core.Bool.{Bool, true, false, cond}
+use mathlib.Core.Bool.{Bool, true, false}
 use native.Mathlib.Decide.{dec_le}
 use native.Mathlib.Omega.{arith}
-use lib.ListN.{length, take, drop, length-append}
-use lib.Seq.{sets, sets-eq, take_at, take_all, take-append-le, length-take-le}
+use lib.ListN.{length, take, length-append}
+use lib.Seq.{take_all, take-append-le, length-take-le}
 use borrow.Author.Tests.{lt-ltb, le-ltb}
 use Rattle.tokens.specs.Pieces.{before}
 use Rattle.tokens.proofs.NumbersCounted.{kept-first}
@@ -14,7 +14,7 @@ use Rattle.questions.specs.declared.State.{State}
 use Rattle.questions.specs.Answers.{answer_of}
 use Rattle.questions.specs.Input.{is_newline, lines_of, answers_to}
 use Rattle.questions.specs.Feeding.{kept, line_with, said_with, line_fed, said_fed, at_end}
-use Rattle.questions.specs.Promises.{line_of, FedPiece, Feeds, none, piece, joined, Runs}
+use Rattle.questions.specs.Promises.{line_of, Feeds, none, piece, joined, Runs}
 use Rattle.questions.proofs.LineAnswers.{kept-answer}
 use Rattle.questions.proofs.FedBytes.{line-append, said-append}
 

@@ -2,7 +2,7 @@
 use Rattle.std.specs.Prelude.{ℕ, ◌≤◌, ◌≡◌, length, take}
 use mathlib.Core.List.{List, ◌∷◌, [], ◌++◌, foldr}
 use Rattle.std.proofs.lemmas.List.Edits.{sets}
-use Rattle.replies.specs.Lines.{room, Says}
+use Rattle.replies.specs.Lines.{Says}
 use Rattle.questions.specs.declared.State.{State}
 use Rattle.questions.specs.declared.Fed.{Fed}
 use Rattle.questions.specs.Feeding.{line_fed, said_fed, taken_from, at_end}

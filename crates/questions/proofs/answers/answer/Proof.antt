@@ -5,30 +5,27 @@ use Rattle.questions.proofs.LineAnswers.{too_long, short-enough}
 use Rattle.questions.proofs.answers.answer.Statement.{statement}
 use Rattle.questions.proofs.answers.answer.Tie as tie
 
-slice-aggregate-say : tie.Need-slice-aggregate-say
-slice-aggregate-say c = search rules
-
 say-requires : tie.Need-say-requires
 say-requires c κs = search rules
 
-same_length : tie.Need-same-length
+same_length : tie.Need-shape_of-out-then-line-gt-LONGEST
 same_length c = search rules
 
-returns : tie.Need-returns
+returns : tie.Need-returns-then-line-gt-LONGEST
 returns c =
     let said = c.before.before in
-    says_same (too_long _ said.before.before.before.if1.true) said.say.ensures
+    says_same (too_long _ said.before.before.before.if-line-gt-LONGEST.true) said.say.ensures
 
-answer-short-requires : tie.Need-answer-short-requires
+answer-short-requires : tie.Need-answer_short-requires
 answer-short-requires c κs = search rules
 
-same-length-2 : tie.Need-same-length-2
+same-length-2 : tie.Need-shape_of-out
 same-length-2 c = search rules
 
-returns-2 : tie.Need-returns-2
+returns-2 : tie.Need-returns
 returns-2 c =
     let said = c.before.before in
-    says_same (short-enough _ said.before.before.if1.false) said.answer-short.ensures
+    says_same (short-enough _ said.before.before.if-line-gt-LONGEST.false) said.answer_short.ensures
 
-pub answer-spec : {M : Type 1} → statement M
-answer-spec = tie.close (tie.spec slice-aggregate-say say-requires same_length returns answer-short-requires same-length-2 returns-2)
+pub answer_spec : {M : Type 1} → statement M
+answer_spec = tie.close (tie.spec say-requires same_length returns answer-short-requires same-length-2 returns-2)

@@ -8,27 +8,27 @@ use Rattle.questions.proofs.LineAnswers.{none-begun, some-begun}
 use Rattle.questions.proofs.input.finish.Statement.{statement}
 use Rattle.questions.proofs.input.finish.Tie as tie
 
-returns : tie.Need-returns
-returns c = none-begun _ c.before.before.before.args.state c.if1.true
+returns : tie.Need-returns-then-count-eq0
+returns c = none-begun _ c.args.state c.if-count-eq0.true
 
-array-share-prefix-line : tie.Need-array-share-prefix-line
-array-share-prefix-line c = let s = c.before.before.before.requires.0 in omega (arith, s.long, s.most)
+array-share-prefix-line : tie.Need-slice_bounds-line-end
+array-share-prefix-line c = let s = c.requires.0 in omega (arith, s.long, s.most)
 
-slice-aggregate-answer : tie.Need-slice-aggregate-answer
-slice-aggregate-answer c = let s = c.before.before.before.before.requires.0 in sym (length-take-le _ _ (omega (arith, s.long, s.most)))
+slice-aggregate-answer : tie.Need-slice_bounds-answer-end
+slice-aggregate-answer c = let s = c.requires.0 in sym (length-take-le _ _ (omega (arith, s.long, s.most)))
 
 answer-requires : tie.Need-answer-requires
 answer-requires c κs = search rules
 
-same_length : tie.Need-same-length
+same_length : tie.Need-shape_of-out
 same_length c = search rules
 
-returns-2 : tie.Need-returns-2
+returns-2 : tie.Need-returns
 returns-2 c =
     let said = c.before.before in
     let some = said.before.before.before in
     let start = some.before.before.before in
-    says_same (some-begun start.args.state start.requires.0 some.if1.false) said.answer.ensures
+    says_same (some-begun start.args.state start.requires.0 some.if-count-eq0.false) said.answer.ensures
 
 pub finish_spec : {M : Type 1} → statement M
 finish_spec = tie.close (tie.spec returns array-share-prefix-line slice-aggregate-answer answer-requires same_length returns-2)
