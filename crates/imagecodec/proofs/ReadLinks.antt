@@ -2,7 +2,6 @@
 use Prim.Native.Nat.{ℕ, ◌+◌, ◌*◌, ◌≤◌, ◌<◌}
 use mathlib.Core.Path.{◌≡◌, sym, ap, ap₂, ◌∙◌, subst}
 use mathlib.Core.List.{List}
-use mathlib.Core.Option.{none}
 use mathlib.Core.Bool.{Bool, true, not}
 use native.Mathlib.Decide.{dec_lt, ℕ_discrete}
 use native.Mathlib.Omega.{arith}
@@ -26,7 +25,6 @@ use Rattle.tables.specs.Owners.{nobody, owner_of, unbooked_at, WordsOf}
 use Rattle.tables.specs.Rows.{row}
 use Rattle.tables.specs.Holdings.{nothing_held}
 use Rattle.tables.proofs.Bounds.{bounds_unknown}
-use Rattle.link.specs.declared.Flow.{Flow}
 use Rattle.link.specs.Layout.{no_flow, flow_row}
 use Rattle.link.specs.Parts.{Parts, FitsBytes, flows_of, parts_in}
 use Rattle.link.specs.Changes.{FlowsNow}
@@ -39,7 +37,7 @@ use Rattle.link.proofs.Given.{window_for, state-in}
 use Rattle.link.proofs.FlowBytes.{flows-beside}
 use Rattle.link.proofs.Resumed.{whole-empty, held-empty, flows-empty}
 use Rattle.fields.specs.Fields.{ByteFields}
-use Rattle.imagemodel.specs.Image.{field_at, positions_at, flows_at, image_length, flow_fields, plan_in, owner_in, flow_field, flow_in, link_from, link_in}
+use Rattle.imagemodel.specs.Image.{field_at, image_length, plan_in, owner_in, flow_field, flow_in, link_from, link_in}
 use Rattle.imagemodel.specs.Consistent.{known, ConsistentFlow, Consistent}
 use Rattle.imagemodel.specs.ValidImage.{ValidImage}
 use Rattle.imagecheck.specs.declared.layout.Layout.{Layout}
@@ -48,7 +46,7 @@ use Rattle.imagecheck.specs.Asked.{PlanOn}
 use Rattle.imagecheck.proofs.Owners.{flow-known}
 use Rattle.imagecheck.proofs.Layouts.{count_is, count-few, total_is, positions-at, size_is, flows-at, flows_are, sized}
 use Rattle.imagecheck.proofs.LinkFields.{owners_there}
-use Rattle.imagecheck.proofs.FlowFields.{part, field_is, owner-is, held_is}
+use Rattle.imagecheck.proofs.FlowFields.{part, field_is, owner-is}
 use Rattle.imagecodec.specs.Reading.{owners_from, part_at, flow_from, flows_over, flows_from, row_from, held_from, HeldRead}
 use Rattle.imagecodec.specs.Asked.{FlowsOn, HoldingsOn}
 use Rattle.imagecodec.proofs.ReadTables.{length_from, from_in, from_past, nothing-past, flows-in, flows-past, length-flows, length-held, rows_in, rows-past}

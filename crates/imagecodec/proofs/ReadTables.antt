@@ -6,7 +6,7 @@ use native.Mathlib.Decide.{dec_lt}
 use native.Mathlib.Omega.{arith}
 use lib.ListN.{length, get_or, replicate, length-replicate, get_or-replicate, get_or-eq_default}
 use borrow.Author.Tests.{lt-ltb, le-ltb}
-use Rattle.window.specs.Ranges.{in_range, replaced}
+use Rattle.window.specs.Ranges.{in_range}
 use Rattle.window.proofs.Tabulated.{table_same, table_of, replicate-table}
 use Rattle.window.proofs.Ranges.{in-range, past-range, length-replaced, replaced-at, replaced-off}
 use Rattle.tables.specs.Owners.{everywhere}

@@ -23,7 +23,7 @@ use Rattle.state.proofs.Parts.{length_part}
 use Rattle.state.proofs.State.{owners-at}
 use Rattle.tables.specs.Owners.{nobody, owner_of}
 use Rattle.tables.proofs.HeldRows.{row-held}
-use Rattle.link.specs.Layout.{size_for, flow_row, flow_at}
+use Rattle.link.specs.Layout.{size_for, flow_row}
 use Rattle.link.specs.Parts.{parts_in}
 use Rattle.link.specs.Reading.{flow_of, link_of}
 use Rattle.link.specs.Steps.{read_in}

@@ -53,7 +53,8 @@ module _ (plan : List ℕ) where
   all-records : {h : History} {b : List ℕ} → Chained h b → (rs : List (List ℕ)) → Chained (events_of rs (one_by_one b rs).numbers h) (one_by_one b rs).buffer
   unfolding events_of one_by_one
   all-records x [] = x
-  all-records x (r ∷ rs) = all-records (one-record x (call_of r)) rs
+  all-records {h} {b} x (r ∷ rs) =
+      all-records {h = with_event (call_of r) (record_on b (call_of r)).result h} {b = (record_on b (call_of r)).buffer} (one-record x (call_of r)) rs
 
   one-play : {h : History} {b : List ℕ} → Chained h b → (c : List ℕ) → image_in c ≡ image_in b → (stream out : List ℕ) {after out' : List ℕ}
       → PlaysBack (play_on c stream out) 0 after out' → Chained (events_of (records stream) (numbers_in out' (length (records stream))) h) after

@@ -18,7 +18,7 @@ use Rattle.link.specs.Sound.{SoundLink}
 use Rattle.link.specs.Steps.{read_in}
 use Rattle.imagemodel.specs.Image.{image_length}
 use Rattle.imagemodel.specs.Consistent.{Keepable}
-use Rattle.imagemodel.specs.Exports.{Called, HandsBack, refusal_number, written_to, handed_back, fresh_on}
+use Rattle.imagemodel.specs.Exports.{HandsBack, refusal_number, written_to, handed_back, fresh_on}
 use Rattle.imagemodel.proofs.FreshKept.{fresh_kept}
 use Rattle.imagecheck.specs.declared.layout.Layout.{Layout}
 use Rattle.imagecheck.specs.Layout.{LaidOut}

@@ -16,7 +16,6 @@ use Rattle.calls.specs.declared.Record.{Record}
 use Rattle.calls.specs.Reading.{record_for, call_in}
 use Rattle.calls.proofs.Answers.{call-in}
 use Rattle.imagemodel.specs.Play.{other_call}
-use Rattle.nazgolv.specs.declared.Call.{Call}
 use Rattle.nazgolv.specs.declared.records.Found.{Found}
 use Rattle.nazgolv.specs.declared.records.Found.TheVariants.{NoCall}
 use Rattle.nazgolv.specs.Calls.{call_for, call_out, found_for}

@@ -13,7 +13,6 @@ use Rattle.model.specs.Link.{Link}
 use Rattle.plan.specs.declared.Plan.{Plan}
 use Rattle.link.specs.Steps.{read_in}
 use Rattle.imagemodel.specs.Image.{image_length, link_in}
-use Rattle.imagemodel.specs.Consistent.{Keepable}
 use Rattle.imagemodel.specs.ValidImage.{refusal_of, ValidImage}
 use Rattle.imagemodel.specs.Exports.{refusal_number, written_to}
 use Rattle.imagemodel.specs.Play.{Results, eight, played_back, play_on, PlaysBack, in_order}

@@ -1,12 +1,11 @@
 -- A rule on the state of a link is the call; on the link of a taken image there is room for what that leaves, and it is the exported call's.
 -- Assumes nothing.
-use Prim.Native.Nat.{ℕ, ◌≤◌}
+use Prim.Native.Nat.{ℕ}
 use mathlib.Core.Path.{◌≡◌, refl, sym, ap, ◌∙◌, subst}
 use mathlib.Core.List.{List}
 use mathlib.Core.Option.{some, none}
 use mathlib.Core.Bool.{Bool, true, false, cond}
 use native.Mathlib.Omega.{arith}
-use lib.ListN.{length}
 use lib.Dec.{eqb}
 use borrow.Author.Tests.{eqb-true}
 use Rattle.model.specs.Calls.{Call, Grant, CreditAnswer, TickAnswer, LendAnswer, ResetAnswer, accepted, refused}
@@ -27,9 +26,8 @@ use Rattle.link.specs.Given.{StateIn}
 use Rattle.link.specs.Steps.{read_in, Went, number_of, reply_of, credit_answer, request_answer}
 use Rattle.link.proofs.Told.{request-told, credit-told}
 use Rattle.link.proofs.Stays.{request-current, credit-current, lend-current, reset-current, still-in}
-use Rattle.imagemodel.specs.Image.{image_length, plan_in, link_in}
-use Rattle.imagemodel.specs.Consistent.{Keepable}
-use Rattle.imagemodel.specs.ValidImage.{refusal_of, ValidImage}
+use Rattle.imagemodel.specs.Image.{image_length, link_in}
+use Rattle.imagemodel.specs.ValidImage.{ValidImage}
 use Rattle.imagemodel.specs.Exports.{Called, HandsBack, refusal_number, grant_number, credit_number, tick_number, lend_number, reset_number, done, on_link, written_to, handed_back, called_on}
 use Rattle.imagemodel.proofs.ValidImage.{valid-image}
 use Rattle.imagemodel.proofs.ImageValid.{read_kept}

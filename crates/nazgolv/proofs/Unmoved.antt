@@ -12,7 +12,7 @@ use Rattle.model.specs.Plan.{flow_count}
 use Rattle.model.specs.Calls.{Call, TickAnswer}
 use Rattle.model.specs.Word.{flow_of, departure_of, depart}
 use Rattle.model.specs.Link.{Link, flow}
-use Rattle.model.specs.Request.{Found, found, nowhere, sought, would_be_valid, newest_tests, answered, request_tests, request_after, request}
+use Rattle.model.specs.Request.{Found, found, nowhere, sought, would_be_valid, answered, request_tests, request_after, request}
 use Rattle.model.specs.Credit.{credit_tests, credit_after, credit}
 use Rattle.model.specs.Tick.{tick}
 use Rattle.model.specs.Lend.{lend_tests, first_in_turn, lent_after, lend_after, lend}

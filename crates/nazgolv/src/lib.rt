@@ -1,5 +1,7 @@
 // The calls for a host in C, which keeps the link as an image in its own bytes. A number below 2 to the power 32 is what a call is
 // answered; else it is a refusal times that power.
+#![tactic(auto)]
+
 ghost use Rattle.std.specs.Prelude.{◌≡◌};
 ghost use Rattle.imagemodel.specs.ValidImage.{refusal_of};
 ghost use Rattle.imagemodel.specs.Exports.{HandsBack, fresh_on, request_on, credit_on, tick_on, lend_on, reset_on};

@@ -6,19 +6,19 @@ use Rattle.imagecodec.proofs.flows.read_flow.Tie as tie
 field-requires : tie.Need-field-requires
 field-requires c κs = search rules
 
-add-field : tie.Need-overflow-add-field
+add-field : tie.Need-overflow_add-at
 add-field c = search rules
 
 field-requires-2 : tie.Need-field-requires-2
 field-requires-2 c κs = search rules
 
-add-field-2 : tie.Need-overflow-add-field-2
+add-field-2 : tie.Need-overflow_add-at-2
 add-field-2 c = search rules
 
-mul-field : tie.Need-overflow-mul-field
+mul-field : tie.Need-overflow_mul-size
 mul-field c = search rules
 
-add-field-3 : tie.Need-overflow-add-field-3
+add-field-3 : tie.Need-overflow_add-at-3
 add-field-3 c = search rules
 
 field-requires-3 : tie.Need-field-requires-3
@@ -28,10 +28,10 @@ returns : tie.Need-returns
 returns c =
     let left = c.before in
     let frame = left.before in
-    rw (frame.field.ensures.0, left.field2.ensures.0, c.field3.ensures.0)
+    rw (frame.field.ensures.0, left.field-2.ensures.0, c.field-3.ensures.0)
 
-pub read-flow-spec : {M : Type 1} → statement M
-read-flow-spec =
+pub read_flow_spec : {M : Type 1} → statement M
+read_flow_spec =
     tie.close
     (tie.spec
     field-requires

@@ -9,59 +9,42 @@ use Rattle.imagecodec.specs.Reading.{part_at, flow_from}
 use Rattle.imagecodec.proofs.flows.read_flows.Statement.{statement}
 use Rattle.imagecodec.proofs.flows.read_flows.Tie as tie
 
-abbrev invariant-loop : tie.invariant-loop
+abbrev invariant-loop : tie.invariant-loop-i
 invariant-loop s₀ image l count i₀ s i = Flowing (λ j f. flow_from image l.size (part_at l j)) count s₀ s i
 
-abbrev decreases-loop : tie.decreases-loop
+abbrev decreases-loop : tie.decreases-loop-i
 decreases-loop s₀ image l count i₀ s i = count - i
 
--- ---- where the function is entered, and where the loop is
-
-abbrev entered : tie.At-loop invariant-loop decreases-loop → tie.Start invariant-loop decreases-loop
-entered c = c.before.before
-
-abbrev looped : tie.After-read-flow invariant-loop decreases-loop → tie.In-loop invariant-loop decreases-loop
-looped c = c.before.before.before
-
 -- the flow that is read
-flow_is : (c : tie.After-read-flow invariant-loop decreases-loop) → let i = looped c in let s = (entered i.before).args in
-    c.read-flow.result ≡ flow_from s.image.now s.l.size (part_at s.l i.before.loop.i)
-flow_is c =
-    let s = (entered (looped c).before).args in
-    c.read-flow.ensures ∙ ap (flow_from s.image.now s.l.size) c.before.flow.ensures.0
+flow_is : (c : tie.After-read_flow invariant-loop decreases-loop) → c.read_flow.result ≡ flow_from c.args.image.now c.args.l.size (part_at c.args.l c.loop-i.i)
+flow_is c = c.read_flow.ensures ∙ ap (flow_from c.args.image.now c.args.l.size) c.flow.ensures.0
 
-loop-holds : tie.Need-loop-init invariant-loop decreases-loop
-loop-holds c = flowing-none c.before.requires.0.few c.before.requires.1
+loop-holds : tie.Need-loop-i-init invariant-loop decreases-loop
+loop-holds c = flowing-none c.requires.0.few c.requires.1
 
 flow-requires : tie.Need-flow-requires invariant-loop decreases-loop
-flow-requires c κs = let i = c.before in ((entered i.before).pre.0.sized, i.loop-test.true)
+flow-requires c κs = (c.requires.0.sized, c.loop-i-test.true)
 
-read-flow-requires : tie.Need-read-flow-requires invariant-loop decreases-loop
+read-flow-requires : tie.Need-read_flow-requires invariant-loop decreases-loop
 read-flow-requires c κs = omega arith
 
-put-flow-requires : tie.Need-put-flow-requires invariant-loop decreases-loop
-put-flow-requires c κs =
-    let i = looped c in
-    let v = (entered i.before).pre.0 in
-    (omega arith, subst FitsBytes (sym (flow_is c)) (v.fits i.before.loop.i i.loop-test.taken))
+put-flow-requires : tie.Need-put_flow-requires invariant-loop decreases-loop
+put-flow-requires c κs = (omega arith, subst FitsBytes (sym (flow_is c)) (c.requires.0.fits c.loop-i.i c.loop-i-test.true))
 
-add-i : tie.Need-overflow-add-i invariant-loop decreases-loop
+add-i : tie.Need-overflow_add-i invariant-loop decreases-loop
 add-i c = search rules
 
-loop-less : tie.Need-loop-smaller invariant-loop decreases-loop
+loop-less : tie.Need-loop-i-smaller invariant-loop decreases-loop
 loop-less c = search rules
 
-loop-again : tie.Need-loop-preserved invariant-loop decreases-loop
-loop-again c =
-    let r = c.before in
-    let i = looped r in
-    flowing-put i.before.loop.inv i.loop-test.taken (flow_is r) c.put-flow.ensures
+loop-again : tie.Need-loop-i-preserved invariant-loop decreases-loop
+loop-again c = flowing-put c.loop-i.invariant c.loop-i-test.true (flow_is c.before) c.put_flow.ensures
 
 returns : tie.Need-returns invariant-loop decreases-loop
-returns c = flowing-done c.before.loop.invariant c.loop-test.false
+returns c = flowing-done c.loop-i.invariant c.loop-i-test.false
 
-pub read-flows-spec : {M : Type 1} → statement M
-read-flows-spec =
+pub read_flows_spec : {M : Type 1} → statement M
+read_flows_spec =
     tie.close
     (tie.spec
     invariant-loop

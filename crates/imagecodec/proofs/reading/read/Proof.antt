@@ -12,118 +12,96 @@ use Rattle.imagecodec.proofs.ReadLinks.{owners-on, flows-on, holdings-on, measur
 use Rattle.imagecodec.proofs.reading.read.Statement.{statement}
 use Rattle.imagecodec.proofs.reading.read.Tie as tie
 
--- ---- where the plan is read, where the function is entered, and where the parts are read
+-- ---- where the plan is read, and where the parts are
 
-abbrev read_at : tie.After-layout-of → tie.After-plan-in
+abbrev read_at : tie.After-layout_of-l → tie.After-plan_in-outcome
 read_at c = c.before.before
 
-abbrev entered : tie.After-plan-in → tie.Start
-entered c = c.before.before
-
-abbrev laid-at : tie.After-read-flows → tie.After-layout-of
+abbrev laid-at : tie.After-read_flows → tie.After-layout_of-l
 laid-at c = c.before.before
 
-abbrev flows-at : tie.After-read-held → tie.After-read-flows
+abbrev flows-at : tie.After-read_held → tie.After-read_flows
 flows-at c = c.before.before
 
-abbrev held_at : tie.After-field → tie.After-read-held
+abbrev held_at : tie.After-field → tie.After-read_held
 held_at c = c.before.before
 
-abbrev current-at : tie.After-byte → tie.After-field
+abbrev current-at : tie.After-byte-turn → tie.After-field
 current-at c = c.before.before.before
 
-module _ (c : tie.After-plan-in) where
+module _ (c : tie.After-plan_in-outcome) where
   abbrev plan-at : Plan
-  plan-at = c.plan-in.result.plan
+  plan-at = c.plan_in-outcome.result.plan
 
   valid-at : Valid plan-at
-  valid-at = c.plan-in.ensures.1 (is-accepted (entered c).args.image.now c.plan-in.ensures.0 (entered c).requires.0.plan_passes)
+  valid-at = c.plan_in-outcome.ensures.1 (is-accepted c.args.image.now c.plan_in-outcome.ensures.0 c.requires.0.plan_passes)
 
-  plan-here : plan_for plan-at ≡ plan_in (entered c).args.image.now
-  plan-here = plan_is (entered c).args.image.now c.plan-in.ensures.0 (entered c).requires.0.plan_passes
+  plan-here : plan_for plan-at ≡ plan_in c.args.image.now
+  plan-here = plan_is c.args.image.now c.plan_in-outcome.ensures.0 c.requires.0.plan_passes
 
-plan-in-requires : tie.Need-plan-in-requires
+plan-in-requires : tie.Need-plan_in-outcome-requires
 plan-in-requires c κs = search rules
 
-layout-of-requires : tie.Need-layout-of-requires
+layout-of-requires : tie.Need-layout_of-l-requires
 layout-of-requires c κs = valid-at c.before
 
-read-flows-requires : tie.Need-read-flows-requires
+read-flows-requires : tie.Need-read_flows-requires
 read-flows-requires c κs =
-    let y = c.before in
-    let r = read_at y in
-    (flows-on (entered r).pre.0 (plan-at r) (valid-at r) (plan-here r) _ y.layout_of.ensures, ap length (entered r).pre.1 ∙ whole-empty)
+    let r = read_at c.before in
+    (flows-on c.requires.0 (plan-at r) (valid-at r) (plan-here r) _ c.layout_of-l.ensures, ap length c.requires.1 ∙ whole-empty)
 
-read-held-requires : tie.Need-read-held-requires
+read-held-requires : tie.Need-read_held-requires
 read-held-requires c κs =
-    let f = c.before in
-    let y = laid-at f in
-    let r = read_at y in (
-      holdings-on (entered r).pre.0 (plan-at r) (valid-at r) (plan-here r) _ y.layout_of.ensures,
-      whole-flows (entered r).pre.0 (plan-at r) (valid-at r) (plan-here r) _ y.layout_of.ensures (entered r).pre.1 f.read-flows.ensures,
-      nothing_yet (entered r).pre.0 (plan-at r) (valid-at r) (plan-here r) _ y.layout_of.ensures (entered r).pre.1 f.read-flows.ensures,
+    let r = read_at (laid-at c.before) in (
+      holdings-on c.requires.0 (plan-at r) (valid-at r) (plan-here r) _ c.layout_of-l.ensures,
+      whole-flows c.requires.0 (plan-at r) (valid-at r) (plan-here r) _ c.layout_of-l.ensures c.requires.1 c.read_flows.ensures,
+      nothing_yet c.requires.0 (plan-at r) (valid-at r) (plan-here r) _ c.layout_of-l.ensures c.requires.1 c.read_flows.ensures,
     )
 
-read-table-requires : tie.Need-read-table-requires
+read-table-requires : tie.Need-read_table-owner-requires
 read-table-requires c κs =
-    let y = laid-at (flows-at c) in
-    let r = read_at y in
-    owners-on (entered r).pre.0 (plan-at r) (valid-at r) (plan-here r) _ y.layout_of.ensures
+    let r = read_at (laid-at (flows-at c)) in
+    owners-on c.requires.0 (plan-at r) (valid-at r) (plan-here r) _ c.layout_of-l.ensures
 
 field-requires : tie.Need-field-requires
 field-requires c κs = search rules
 
-window-requires : tie.Need-window-requires
+window-requires : tie.Need-window-w-requires
 window-requires c κs =
-    let y = laid-at (flows-at (held_at c)) in
-    let r = read_at y in
-    rw c.field.ensures.0 (measures_read (entered r).pre.0 (plan-at r) (valid-at r) (plan-here r) _ y.layout_of.ensures)
+    let r = read_at (laid-at (flows-at (held_at c))) in
+    rw c.field.ensures.0 (measures_read c.requires.0 (plan-at r) (valid-at r) (plan-here r) _ c.layout_of-l.ensures)
 
-field-requires-2 : tie.Need-field-requires-2
+field-requires-2 : tie.Need-field-mark-requires
 field-requires-2 c κs = search rules
 
-byte-requires : tie.Need-byte-requires
+byte-requires : tie.Need-byte-turn-requires
 byte-requires c κs = search rules
 
-cast-resume : tie.Need-overflow-cast-resume
+cast-resume : tie.Need-overflow_cast-mark
 cast-resume c =
-    let t = c.before in
-    let y = laid-at (flows-at (held_at (current-at t))) in
-    let r = read_at y in
-    omega (arith, t.before.field2.ensures.0, mark-most (entered r).pre.0 (plan-at r) (valid-at r) (plan-here r) _ y.layout_of.ensures)
+    let r = read_at (laid-at (flows-at (held_at (current-at c.before)))) in
+    omega (arith, c.field-mark.ensures.0, mark-most c.requires.0 (plan-at r) (valid-at r) (plan-here r) _ c.layout_of-l.ensures)
 
-cast-resume-2 : tie.Need-overflow-cast-resume-2
-cast-resume-2 c =
-    let t = c.before in
-    omega (arith, t.byte.ensures.0, t.byte.ensures.1.byte 16)
+cast-resume-2 : tie.Need-overflow_cast-turn
+cast-resume-2 c = omega (arith, c.byte-turn.ensures.0, c.byte-turn.ensures.1.byte 16)
 
 resume-requires : tie.Need-resume-requires
 resume-requires c κs =
-    let t = c.before in
-    let h = held_at (current-at t) in
-    let f = flows-at h in
-    let y = laid-at f in
-    let r = read_at y in (
-      t.before.before.window.ensures.1,
-      whole-held (entered r).pre.0 (plan-at r) (valid-at r) (plan-here r) _ y.layout_of.ensures (entered r).pre.1 f.read-flows.ensures h.read_held.ensures,
+    let r = read_at (laid-at (flows-at (held_at (current-at c.before)))) in (
+      c.window-w.ensures.1,
+      whole-held c.requires.0 (plan-at r) (valid-at r) (plan-here r) _ c.layout_of-l.ensures c.requires.1 c.read_flows.ensures c.read_held.ensures,
     )
 
 returns : tie.Need-returns
 returns c =
-    let t = c.before.before in
-    let k = current-at t in
-    let h = held_at k in
-    let f = flows-at h in
-    let y = laid-at f in
-    let r = read_at y in
-    let w = t.before.before in
-    let turn = t.byte.ensures.0 ∙ turn_byte (entered r).pre.0 (plan-at r) (valid-at r) (plan-here r) _ y.layout_of.ensures in (
-      made-link (entered r).pre.0 (plan-at r) (valid-at r) (plan-here r) _ y.layout_of.ensures (entered r).pre.1 f.read-flows.ensures h.read_held.ensures
-          k.field.ensures.0 w.window.ensures.0 k.before.read_table.ensures t.before.field2.ensures.0 turn c.resume.ensures,
+    let r = read_at (laid-at (flows-at (held_at (current-at c.before.before)))) in
+    let turn = c.byte-turn.ensures.0 ∙ turn_byte c.requires.0 (plan-at r) (valid-at r) (plan-here r) _ c.layout_of-l.ensures in (
+      made-link c.requires.0 (plan-at r) (valid-at r) (plan-here r) _ c.layout_of-l.ensures c.requires.1 c.read_flows.ensures c.read_held.ensures
+          c.field.ensures.0 c.window-w.ensures.0 c.read_table-owner.ensures c.field-mark.ensures.0 turn c.resume.ensures,
       (
-        made_in (entered r).pre.0 (plan-at r) (valid-at r) (plan-here r) _ y.layout_of.ensures (entered r).pre.1 f.read-flows.ensures h.read_held.ensures
-            k.field.ensures.0 w.window.ensures.0 k.before.read_table.ensures t.before.field2.ensures.0 turn c.resume.ensures w.window.ensures.1,
-        t.byte.ensures.1,
+        made_in c.requires.0 (plan-at r) (valid-at r) (plan-here r) _ c.layout_of-l.ensures c.requires.1 c.read_flows.ensures c.read_held.ensures
+            c.field.ensures.0 c.window-w.ensures.0 c.read_table-owner.ensures c.field-mark.ensures.0 turn c.resume.ensures c.window-w.ensures.1,
+        c.byte-turn.ensures.1,
       ),
     )
 

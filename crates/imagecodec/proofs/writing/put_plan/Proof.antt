@@ -7,28 +7,28 @@ use Rattle.imagecodec.proofs.writing.put_plan.Tie as tie
 draft-requires : tie.Need-draft-requires
 draft-requires c κs = search rules
 
-sub-write : tie.Need-overflow-sub-write
+sub-write : tie.Need-slice_bounds-write-count
 sub-write c = search rules
 
-part-write-start : tie.Need-slice-bounds-write-start
+part-write-start : tie.Need-slice_bounds-write-start
 part-write-start c = search rules
 
-part-write-end : tie.Need-slice-bounds-write-end
+part-write-end : tie.Need-slice_bounds-write-end
 part-write-end c = search rules
 
 write-requires : tie.Need-write-requires
 write-requires c κs = search rules
 
-mul-result : tie.Need-overflow-mul-result
+mul-result : tie.Need-overflow_mul-result
 mul-result c = search rules
 
-add-result : tie.Need-overflow-add-result
+add-result : tie.Need-overflow_add-result
 add-result c = search rules
 
-add-result-2 : tie.Need-overflow-add-result-2
+add-result-2 : tie.Need-overflow_add-result-2
 add-result-2 c = search rules
 
-same_length : tie.Need-same-length
+same_length : tie.Need-shape_of-image
 same_length c = search rules
 
 returns : tie.Need-returns
@@ -38,8 +38,8 @@ returns c =
     let s = d.before.before in
     plan-put s.requires.0 s.args.image.now _ s.args.at s.requires.1 d.draft.ensures w.write.ensures.1.0
 
-pub put-plan-spec : {M : Type 1} → statement M
-put-plan-spec =
+pub put_plan_spec : {M : Type 1} → statement M
+put_plan_spec =
     tie.close
     (tie.spec
     draft-requires

@@ -12,17 +12,17 @@ is-eight : (x : ℕ) → fields (four_fields x) ≡ eight x
 unfolding eight
 is-eight x = refl
 
-slice-aggregate-put-all : tie.Need-slice-aggregate-put-all
+slice-aggregate-put-all : tie.Need-slice_bounds-put_all-end
 slice-aggregate-put-all c = search rules
 
-put-all-requires : tie.Need-put-all-requires
+put-all-requires : tie.Need-put_all-requires
 put-all-requires c κs = search rules
 
-same_length : tie.Need-same-length
+same_length : tie.Need-shape_of-out
 same_length c = search rules
 
 returns : tie.Need-returns
-returns c = let a = c.before.before in puts-same (is-eight a.before.before.before.before.args.x) a.put_all_lem.ensures
+returns c = puts-same (is-eight c.args.x) c.put_all.ensures
 
-pub put-number-spec : {M : Type 1} → statement M
-put-number-spec = tie.close (tie.spec slice-aggregate-put-all put-all-requires same_length returns)
+pub put_number_spec : {M : Type 1} → statement M
+put_number_spec = tie.close (tie.spec slice-aggregate-put-all put-all-requires same_length returns)
