@@ -9,7 +9,7 @@ use Rattle.model.specs.Word as word
 use Rattle.model.specs.Plan as reference
 use Rattle.model.specs.Link as model
 use Rattle.model.specs.Window as seen
-use Rattle.model.proofs.Word.{Fitting, split-join}
+use Rattle.model.proofs.Word.{split-join}
 use Rattle.plan.specs.declared.Plan.{Plan}
 use Rattle.plan.specs.Reading.{no_entry}
 use Rattle.word.specs.declared.Fields.{Fields}
@@ -20,7 +20,7 @@ use Rattle.link.specs.Parts.{Parts, parts_in, flow_read}
 use Rattle.link.specs.Reading.{link_of}
 use Rattle.link.specs.Steps.{read_in}
 use Rattle.link.specs.Given.{StateIn, RequestIn, flow_or_zero}
-use Rattle.link.proofs.Readings.{read-entry, read-flow, read_count, flows_most, size_most}
+use Rattle.link.proofs.Readings.{read-entry, read-flow, read_count, flows_most}
 use Rattle.link.proofs.FlowBytes.{flows-at}
 use Rattle.link.proofs.Given.{request-in}
 use Rattle.crossings.specs.Crossing.{asking}

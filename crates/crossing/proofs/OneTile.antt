@@ -1,10 +1,10 @@
 -- One tile that is asked for, and what is read of the two states then. Assumes nothing.
-use Prim.Native.Nat.{ℕ, ◌-◌, ◌<◌}
-use mathlib.Core.Path.{◌≡◌, refl, sym, ap, ◌∙◌, subst}
+use Prim.Native.Nat.{ℕ, ◌-◌}
+use mathlib.Core.Path.{◌≡◌, refl, sym, ap, ◌∙◌}
 use mathlib.Core.List.{List}
-use mathlib.Core.Bool.{true, false, true≢false, cond}
+use mathlib.Core.Bool.{true, false, true≢false}
 use lib.ListN.{get_or, set}
-use borrow.Author.Tests.{eq-eqb, ne_eqb}
+use borrow.Author.Tests.{eq-eqb}
 use Rattle.model.specs.Word.{departure_of}
 use Rattle.model.specs.Calls.{Grant, accepted, refused}
 use Rattle.model.specs.Link as model
@@ -14,13 +14,12 @@ use Rattle.calls.specs.declared.Answer.TheVariants.{Granted, Refused}
 use Rattle.calls.specs.Reading.{answer_to_request}
 use Rattle.window.specs.declared.Window.{Window}
 use Rattle.link.specs.declared.request.Reply.{Reply}
-use Rattle.link.specs.Given.{StateIn}
 use Rattle.link.specs.Steps.{read_in, Went, number_of, reply_of, request_answer}
 use Rattle.link.proofs.Told.{request-told}
 use Rattle.link.proofs.Stays.{request-current, credit-current, still-in}
 use Rattle.crossings.specs.Crossing as reference
 use Rattle.crossing.specs.declared.Crossing.{Crossing}
-use Rattle.crossing.specs.Reading.{BoardIn, Reads, is_granted, passed_once, PassedOne}
+use Rattle.crossing.specs.Reading.{BoardIn, Reads, is_granted, PassedOne}
 
 granted-refused : {v n : ℕ} → Granted v ≡ Refused n → false ≡ true
 granted-refused e = cc

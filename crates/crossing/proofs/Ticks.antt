@@ -4,7 +4,6 @@ use mathlib.Core.Path.{◌≡◌, refl, sym, ap, ◌∙◌, subst}
 use mathlib.Core.List.{List}
 use mathlib.Core.Option.{some, none}
 use mathlib.Core.Bool.{Bool, true, false, cond}
-use lib.ListN.{get_or}
 use lib.Dec.{eqb}
 use Rattle.model.specs.Calls.{TickAnswer}
 use Rattle.model.specs.Window as seen

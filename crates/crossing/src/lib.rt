@@ -1,4 +1,7 @@
 // A crossing from one link to the next: what a board does in a slot with the tiles that come on the one and go on by the other, on two lent states.
+
+#![tactic(auto)]
+
 ghost use Rattle.std.specs.Prelude.{◌-◌, ◌<◌, ◌≡◌};
 ghost use Rattle.model.specs.Credit as credit;
 ghost use Rattle.model.specs.Request as request;

@@ -4,7 +4,6 @@ use mathlib.Core.Path.{◌≡◌, refl, sym, ap, ◌∙◌, subst}
 use mathlib.Core.List.{List, ◌∷◌, [], ◌++◌}
 use mathlib.Core.Option.{Option, some, none}
 use mathlib.Core.Bool.{Bool, true, false, not, cond}
-use native.Mathlib.Decide.{ℕ_discrete}
 use lib.Dec.{eqb}
 use lib.ListN.{get_or, length}
 use borrow.Author.Tests.{ne_eqb}
@@ -16,7 +15,7 @@ use Rattle.model.proofs.Tests.{any-of-none}
 use Rattle.model.proofs.Plan.{accepted as accepted_plan}
 use Rattle.crossings.specs.Crossing.{Crossing, crossing_with, goes_on_as, waits, with_waiting, asking, answer_for, asked_for, leaves, on_grant, pass_on, pass_as}
 use Rattle.crossings.specs.Crossing.{pass_flow, pass_waiting, queued, comes, served}
-use Rattle.crossings.specs.Playing.{Other, on_arriving, on_leaving, is_flow, is_none, goes_onto, another, others}
+use Rattle.crossings.specs.Playing.{on_arriving, on_leaving, is_flow, is_none, goes_onto, another, others}
 use Rattle.crossings.proofs.OneLink.{Reached, reached-more, known}
 use Rattle.crossings.proofs.Kept.{asks-so}
 use Rattle.showcrossings.specs.Beside.{ToArriving, ToLeaving, BesideArriving, BesideLeaving}

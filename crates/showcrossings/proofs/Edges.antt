@@ -1,7 +1,7 @@
 -- The example of the longest way comes out as it stands there, all that `dome-arrives` asks holds of it, and its bound is attained. Assumes nothing.
-use Prim.Native.Nat.{ℕ, zero, suc, ◌+◌, ◌-◌, ◌*◌, ◌<◌}
+use Prim.Native.Nat.{ℕ, zero, suc, ◌+◌, ◌-◌, ◌*◌}
 use mathlib.Core.Path.{◌≡◌, refl, ap}
-use mathlib.Core.List.{List, ◌∷◌, [], reverse, flat_map}
+use mathlib.Core.List.{◌∷◌, [], reverse, flat_map}
 use mathlib.Core.Option.{some, none}
 use mathlib.Core.Bool.{true}
 use native.Mathlib.Decide.{ℕ_discrete}

@@ -1,29 +1,30 @@
 -- Where a stream ends no credit of it is refused, and cells are given back in time where its tiles are shown in time. Assumes nothing.
-use Prim.Native.Nat.{ℕ, zero, suc, ◌+◌, ◌-◌, ◌*◌, ◌%◌, ◌≤◌, ◌<◌}
+use Prim.Native.Nat.{ℕ, suc, ◌+◌, ◌-◌, ◌*◌, ◌%◌, ◌≤◌, ◌<◌}
 use mathlib.Core.Path.{◌≡◌, refl, sym, ap, ◌∙◌, subst}
 use mathlib.Core.List.{List, ◌∷◌, []}
+use mathlib.Core.Option.{Option, some as one_flow, none as no_flow}
 use mathlib.Core.Bool.{Bool, true, false, not, ◌&&◌, true≢false, cond}
 use native.Mathlib.Nat.{mul-le-mul_right, mod-lt}
 use native.Mathlib.Decide.{dec_le, ℕ_discrete}
 use native.Mathlib.Omega.{arith}
 use lib.Dec.{leb, eqb}
 use lib.ListN.{length}
-use borrow.Author.Tests.{le-leb, lt-leb, eqb-true, eqb-false, eq-eqb, ne_eqb}
+use borrow.Author.Tests.{le-leb, lt-leb, eqb-false, eq-eqb, ne_eqb}
 use Rattle.model.specs.Tables.{bit, tally}
 use Rattle.model.specs.Word.{flow_of}
 use Rattle.model.specs.Plan.{Plan, positions, flow_count, Accepted}
-use Rattle.model.specs.Calls.{Call, CreditAnswer, Event, History, requested, credited, ticked, lent, accepted, refused}
-use Rattle.model.specs.History.{ticks, slot_after, frame_of, well_formed, has_come, credit_at, grants, credits, of_flow, up_to, granted_up_to, credited_up_to}
+use Rattle.model.specs.Calls.{Call, Event, History, requested, credited, ticked, lent, accepted, refused}
+use Rattle.model.specs.History.{ticks, slot_after, frame_of, well_formed, has_come, credit_at, grants, credits, up_to, granted_up_to, credited_up_to}
 use Rattle.model.specs.Holding.{InWindow}
 use Rattle.model.specs.Claim.{Each, AtRequest}
-use Rattle.model.specs.Scheduler.{Played, reference, started, step}
+use Rattle.model.specs.Scheduler.{Played, reference, step}
 use Rattle.model.specs.Tick.{next_position}
 use Rattle.model.proofs.Tallies.{tally-append}
 use Rattle.model.proofs.Slots.{some-position, frame-begins, frame-ends, slot_after-is}
 use Rattle.model.proofs.Departures.{come-at}
 use Rattle.model.proofs.NextSlot.{next-position}
 use Rattle.arrival.specs.AcceptedCredits.{AtCredit, IsAccepted, GivesBackFrom}
-use Rattle.arrival.specs.SeveralLinks.{slots_of, Board, plan_on}
+use Rattle.arrival.specs.SeveralLinks.{slots_of, plan_on}
 use Rattle.arrival.specs.EnoughCells.{last_of, Return, return_at, returns}
 use Rattle.arrival.specs.SharesOfCells.{GivenBack}
 use Rattle.arrival.proofs.EnoughCells.{up-to-more}
@@ -32,9 +33,9 @@ use Rattle.arrival.proofs.SeveralLinks.{ok}
 use Rattle.delay.specs.Promised.{last_board}
 use Rattle.crossings.specs.Crossing.{shown, served}
 use Rattle.crossings.specs.Playing.{is_flow}
-use Rattle.crossings.proofs.OneLink.{Reached, reached-start, reached-more, known, credits-by-holding, up-to-most, slot-to-come, tick-adds}
-use Rattle.crossings.proofs.Kept.{NotGiven, same-arriving, credit-dated, credit-came, ticks-credited}
-use Rattle.showcrossings.specs.Ends.{EndAct, tick_on, call_it, show_one, End, others_may, end_act, end_acts, end_played, EndsWell, ShownBy, ShownThere}
+use Rattle.crossings.proofs.OneLink.{Reached, is_owner, reached-start, reached-more, known, credits-by-holding, up-to-most, slot-to-come, tick-adds}
+use Rattle.crossings.proofs.Kept.{NotGiven, same-arriving, credit-dated, credit-came}
+use Rattle.showcrossings.specs.Ends.{EndAct, tick_on, call_it, show_one, End, others_may, end_act, end_acts, end_played, EndsWell, ShownBy}
 use Rattle.showcrossings.specs.Ends.{ShownGivesBack, DomeArrivesShown}
 use Rattle.showcrossings.proofs.Dome.{dome-arrives}
 
@@ -97,13 +98,18 @@ module _ {P : Plan} (good : Accepted P) (i : ℕ) (below : i < flow_count P) whe
     by_call (Call.lend m) e = by-event _ _ refl (reached-more (Call.lend m) z.reached) tt
     by_call Call.reset e = by-event _ _ refl (reached-more Call.reset z.reached) tt
 
+    -- the flow that comes up
+    comes-up : (o : Option ℕ) → is_owner o i ≡ is_flow i o
+    comes-up no_flow = refl
+    comes-up (one_flow k) = refl
+
     by_tick : Kept (end_act i tick_on x)
     unfolding ticks grants credits
     by_tick = record {
       reached = reached-more Call.tick z.reached;
       all_accepted = (tt, z.all_accepted);
       dated = (tt, z.dated);
-      none_lost = omega (arith, tick-adds good z.reached i, z.none_lost);
+      none_lost = omega (arith, tick-adds good z.reached i, ap bit (comes-up (reference.tick x.link.state).1), z.none_lost);
     }
 
     -- ---- a tile that was shown

@@ -1,13 +1,13 @@
 -- A list of events that goes on, and what it was at the end of a slot. Assumes nothing.
-use Prim.Native.Nat.{ℕ, zero, suc, ◌+◌, ◌≤◌, ◌<◌}
-use mathlib.Core.Path.{◌≡◌, refl, sym, ap, ◌∙◌}
-use mathlib.Core.List.{List, ◌∷◌, []}
+use Prim.Native.Nat.{ℕ, suc, ◌≤◌, ◌<◌}
+use mathlib.Core.Path.{◌≡◌, refl, sym, ◌∙◌}
+use mathlib.Core.List.{◌∷◌, []}
 use mathlib.Core.Bool.{Bool, true, false, cond}
 use native.Mathlib.Decide.{dec_le}
 use native.Mathlib.Omega.{arith}
 use lib.Dec.{leb}
 use borrow.Author.Tests.{le-leb, lt-leb}
-use Rattle.model.specs.Tables.{bit, tally}
+use Rattle.model.specs.Tables.{tally}
 use Rattle.model.specs.Calls.{TickAnswer, Event, History, requested, credited, ticked, lent}
 use Rattle.model.specs.History.{ticks, is_granted_reset, lend_at, lends, of_flow}
 use Rattle.model.specs.Claim.{Each}

@@ -1,6 +1,6 @@
 -- A stream that is granted its slots in order: which tile comes next. Assumes nothing.
 use Prim.Native.Nat.{ℕ, suc, ◌+◌, ◌≤◌, ◌<◌}
-use mathlib.Core.Path.{◌≡◌, refl, sym, ap, ◌∙◌, subst}
+use mathlib.Core.Path.{◌≡◌, refl, ap}
 use mathlib.Core.List.{List, ◌∷◌, []}
 use mathlib.Core.Bool.{Bool, true, false, ◌&&◌, cond}
 use native.Mathlib.Decide.{dec_le, ℕ_discrete}
@@ -16,7 +16,7 @@ use Rattle.model.specs.History.{Mark, ticks, slot_after, grants, of_flow, at_slo
 use Rattle.model.specs.Claim.{Each}
 use Rattle.arrival.specs.SeveralLinks.{slots_of, sent_slots, tile}
 use Rattle.arrival.specs.BooksInOrder.{AfterThoseAt}
-use Rattle.model.proofs.Tallies.{All, all_map, tally-hit, tally-skip}
+use Rattle.model.proofs.Tallies.{All, tally-hit, tally-skip}
 use Rattle.model.proofs.HistoryCounts.{NoneGranted}
 use Rattle.arrival.proofs.TileSlots.{tile-newest, tile-older}
 use Rattle.arrival.proofs.NextLink.{grants-are, sent-own, sent-other}

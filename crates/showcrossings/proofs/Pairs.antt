@@ -1,21 +1,21 @@
 -- Two links in step and a stream that asks on arrival: what events of others leave as it is. Assumes nothing.
-use Prim.Native.Nat.{ℕ, suc, ◌+◌, ◌≤◌, ◌<◌}
+use Prim.Native.Nat.{ℕ, suc, ◌≤◌, ◌<◌}
 use mathlib.Core.Path.{◌≡◌, refl, sym, ap, ◌∙◌, subst}
-use mathlib.Core.List.{List, ◌∷◌, [], ◌++◌}
-use mathlib.Core.Bool.{Bool, true, false, ◌&&◌}
+use mathlib.Core.List.{◌∷◌, []}
+use mathlib.Core.Bool.{true, ◌&&◌}
 use native.Mathlib.Decide.{ℕ_discrete}
 use native.Mathlib.Omega.{arith}
-use lib.Dec.{ltb, eqb}
+use lib.Dec.{eqb}
 use lib.ListN.{length}
 use borrow.Author.Tests.{lt-ltb, ltb-true, ne_eqb}
-use Rattle.model.specs.Tables.{bit, tally}
+use Rattle.model.specs.Tables.{tally}
 use Rattle.model.specs.Word.{flow_of, departure_of}
 use Rattle.model.specs.Plan.{Plan}
 use Rattle.model.specs.Calls.{Event, History, requested, credited, ticked, lent, accepted, refused}
-use Rattle.model.specs.History.{ticks, slot_after, grant_at, grants, of_flow, at_slot}
+use Rattle.model.specs.History.{ticks, slot_after, grants, of_flow, at_slot}
 use Rattle.model.specs.Claim.{Each}
 use Rattle.arrival.specs.Delay.{AsksAt}
-use Rattle.arrival.specs.SeveralLinks.{slots_of, sent_slots, tile, next_tile, next_slot, Alone, AskedAt, Together, first_alone, second_alone}
+use Rattle.arrival.specs.SeveralLinks.{sent_slots, tile, next_tile, next_slot, Alone, AskedAt, Together, first_alone, second_alone}
 use Rattle.arrival.specs.EnoughCells.{Return, return_at, returns}
 use Rattle.arrival.specs.SharesOfCells.{GivenBack, AsksWithinShare}
 use Rattle.arrival.specs.LinksOnArrival.{AsksOnArrival}

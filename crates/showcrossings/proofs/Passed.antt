@@ -1,18 +1,17 @@
 -- The tile of a stream that has just come is asked for with its cells given back so far: it is granted a slot, and its cell is credited. Assumes nothing.
 use Prim.Native.Nat.{ℕ, suc, ◌+◌, ◌*◌, ◌%◌, ◌≤◌, ◌<◌}
 use mathlib.Core.Path.{◌≡◌, refl, sym, ap, ◌∙◌, subst}
-use mathlib.Core.List.{List, ◌∷◌, [], ◌++◌}
-use mathlib.Core.Bool.{Bool, true, false, ◌&&◌}
+use mathlib.Core.List.{◌∷◌, []}
+use mathlib.Core.Bool.{Bool, true, ◌&&◌}
 use native.Mathlib.Decide.{dec_lt}
 use native.Mathlib.Omega.{arith}
-use lib.Dec.{ltb, eqb}
-use lib.ListN.{get_or}
+use lib.Dec.{eqb}
 use borrow.Author.Tests.{lt-ltb, eq-eqb}
 use Rattle.model.specs.Tables.{tally}
 use Rattle.model.specs.Word.{flow_of, departure_of}
 use Rattle.model.specs.Plan.{Plan, positions, entry}
-use Rattle.model.specs.Calls.{Call, Grant, CreditAnswer, Event, History, requested, credited, accepted, refused}
-use Rattle.model.specs.History.{ticks, slot_after, frame_of, is_granted_reset, grants, lends, of_flow, at_slot}
+use Rattle.model.specs.Calls.{Call, Grant, CreditAnswer, History, requested, credited, accepted, refused}
+use Rattle.model.specs.History.{ticks, slot_after, frame_of, is_granted_reset, lends, of_flow}
 use Rattle.model.specs.Claim.{Each}
 use Rattle.model.specs.Scheduler.{Played, reference, step}
 use Rattle.model.specs.TwoHops.{InStep}

@@ -1,12 +1,11 @@
 -- Links in a row that are played all together are a way of crossings: to each crossing what the others do is calls of others. Assumes nothing.
-use Prim.Native.Nat.{ℕ, zero, suc, ◌+◌}
+use Prim.Native.Nat.{ℕ, zero, suc}
 use mathlib.Core.Path.{◌≡◌, refl, sym, ap, ◌∙◌, subst}
 use mathlib.Core.List.{List, ◌∷◌, [], ◌++◌}
-use mathlib.Core.Option.{Option, some, none}
-use mathlib.Core.Bool.{Bool, true, false, ◌&&◌, cond}
+use mathlib.Core.Option.{Option, none}
+use mathlib.Core.Bool.{Bool, true, false, cond}
 use native.Mathlib.Decide.{ℕ_discrete}
 use native.Mathlib.Omega.{arith}
-use lib.Dec.{eqb}
 use borrow.Author.Tests.{eq-eqb, ne_eqb}
 use Rattle.model.specs.Plan.{Plan}
 use Rattle.model.specs.Calls.{Call, TickAnswer}
@@ -14,13 +13,13 @@ use Rattle.model.specs.Scheduler.{Played, reference, step}
 use Rattle.model.proofs.Tests.{and-true}
 use Rattle.arrival.specs.SeveralLinks.{Board, plan_on}
 use Rattle.crossings.specs.Crossing.{Crossing, crossing_with, served}
-use Rattle.crossings.specs.Playing.{Other, on_arriving, on_leaving, theirs_arriving, theirs_leaving, another, others, Slot, both_tick, tick_answer_of, in_slot, in_slots}
-use Rattle.crossings.proofs.Neighbours.{served-keeps, CallsArriving, CallsLeaving, part-before, part-after}
-use Rattle.showcrossings.specs.Ways.{Crossed, CrossedAlong}
+use Rattle.crossings.specs.Playing.{Other, on_arriving, on_leaving, theirs_arriving, theirs_leaving, another, others, in_slots}
+use Rattle.crossings.proofs.Neighbours.{served-keeps, part-before, part-after}
+use Rattle.showcrossings.specs.Ways.{Crossed}
 use Rattle.showcrossings.specs.Rows.{Row, instead, Act, part, call, crossing_at, with_part, theirs, with_call, act, acts, all_tick, row_slot, row_slots}
 use Rattle.showcrossings.specs.Rows.{row_played}
 use Rattle.showcrossings.specs.Rows.{NotPart, NoPart, OnePart, InEachSlot, OnRow, CrossedThere, AlongRow, RowsCross}
-use Rattle.showcrossings.proofs.PlayedAs.{others-then, PlayedAs, calls-more, slot-more}
+use Rattle.showcrossings.proofs.PlayedAs.{others-then, PlayedAs, slot-more}
 
 -- ---- something else at k
 

@@ -1,28 +1,27 @@
 -- A crossing of a stream that asks on arrival, slot by slot: where none of its tiles waits, none does a slot later. Assumes nothing.
-use Prim.Native.Nat.{ℕ, zero, suc, ◌+◌, ◌-◌, ◌*◌, ◌≤◌, ◌<◌, min}
+use Prim.Native.Nat.{ℕ, suc, ◌+◌, ◌-◌, ◌*◌, ◌≤◌, ◌<◌, min}
 use mathlib.Core.Path.{◌≡◌, refl, sym, ap, ◌∙◌, subst}
-use mathlib.Core.List.{List, ◌∷◌, []}
+use mathlib.Core.List.{List, ◌∷◌}
 use mathlib.Core.Option.{Option, some, none}
 use mathlib.Core.Bool.{Bool, true, false, ◌&&◌, true≢false, cond}
-use native.Mathlib.Decide.{dec_lt, ℕ_discrete}
+use native.Mathlib.Decide.{ℕ_discrete}
 use native.Mathlib.Omega.{arith}
-use lib.Dec.{leb, eqb}
-use lib.ListN.{get_or, set, length, length-set}
+use lib.ListN.{get_or, length, length-set}
 use lib.Seq.{get_or-set_same}
 use borrow.Author.Tests.{eqb-true, eqb-false, eq-eqb}
 use Rattle.model.specs.Tables.{bit, tally}
 use Rattle.model.specs.Word.{departure_of}
 use Rattle.model.specs.Plan.{Plan, flow_count, entry}
-use Rattle.model.specs.Calls.{Call, Grant, CreditAnswer, TickAnswer, Event, History, requested, credited, ticked, accepted, refused}
-use Rattle.model.specs.History.{ticks, grants, of_flow, at_slot, up_to, granted_up_to}
-use Rattle.model.specs.Scheduler.{Played, reference, step}
+use Rattle.model.specs.Calls.{Call, Grant, TickAnswer, Event, History, credited, ticked, accepted, refused}
+use Rattle.model.specs.History.{ticks, grants, of_flow, at_slot}
+use Rattle.model.specs.Scheduler.{reference}
 use Rattle.model.specs.TwoHops.{InStep}
-use Rattle.arrival.specs.SeveralLinks.{slots_of, sent_slots, tile, next_tile, next_slot, start, both_tick, Board, plan_on}
+use Rattle.arrival.specs.SeveralLinks.{slots_of, sent_slots, next_tile, next_slot, start, both_tick as together_tick, Board, plan_on}
 use Rattle.arrival.specs.SharesOfCells.{GrantedNow}
 use Rattle.arrival.specs.EnoughCells.{returns}
 use Rattle.arrival.proofs.TileSlots.{count-slots}
 use Rattle.arrival.proofs.SeveralLinks.{ok}
-use Rattle.crossings.specs.Crossing.{Crossing, goes_on_as, waits, asking, answer_for, asked_for, leaves, on_grant, pass_on, pass_waiting, queued, comes, served}
+use Rattle.crossings.specs.Crossing.{Crossing, goes_on_as, waits, asking, answer_for, asked_for, on_grant, pass_on, pass_waiting, queued, comes, served}
 use Rattle.crossings.specs.Playing.{Other, others, Slot, both_tick, tick_answer_of, in_slot, begun}
 use Rattle.crossings.specs.Claim.{Onward}
 use Rattle.crossings.proofs.OneLink.{reached-start, reached-more, up-to-next, up-to-slots, is_owner, tick-adds}
@@ -75,7 +74,7 @@ module _ (P Q : Plan) (i j late : ℕ) where
     tick-none none_there = record {
       same_time = ap suc x.same_time;
       up_to_now = omega arith;
-      together = both_tick x.together;
+      together = together_tick x.together;
       asks = (tt, x.asks);
       credited = λ t lt. each t lt (ℕ_discrete t (suc (ticks h₁)));
     }
@@ -94,7 +93,7 @@ module _ (P Q : Plan) (i j late : ℕ) where
       record {
         same_time = ap suc x.same_time;
         up_to_now = omega arith;
-        together = both_tick x.together;
+        together = together_tick x.together;
         asks = (tt, x.asks);
         credited = tick-credited;
       },

@@ -1,18 +1,18 @@
 -- A crossing that our board plays, slot by slot: what it was at the end of each, told from the events of either link. Assumes nothing.
-use Prim.Native.Nat.{ℕ, zero, suc, ◌+◌, ◌≤◌, ◌<◌}
-use mathlib.Core.Path.{◌≡◌, refl, sym, ap, ◌∙◌}
+use Prim.Native.Nat.{ℕ, zero, suc, ◌+◌}
+use mathlib.Core.Path.{◌≡◌, refl, sym}
 use mathlib.Core.List.{List, ◌∷◌, []}
 use mathlib.Core.Bool.{Bool, true, false, true≢false, cond}
 use native.Mathlib.Omega.{arith}
 use lib.ListN.{length}
-use Rattle.model.specs.Calls.{Call, Event, History, requested, credited, ticked, lent}
+use Rattle.model.specs.Calls.{Call, Event, History, ticked}
 use Rattle.model.specs.History.{ticks}
-use Rattle.model.specs.Scheduler.{Played, reference, step}
+use Rattle.model.specs.Scheduler.{reference, step}
 use Rattle.arrival.specs.SeveralLinks.{Alone}
 use Rattle.crossings.specs.Crossing.{Crossing, crossing_with, served}
 use Rattle.crossings.specs.Playing.{Other, on_arriving, on_leaving, theirs_arriving, theirs_leaving, another, others, Slot, both_tick, tick_answer_of, in_slot, in_slots}
 use Rattle.crossings.proofs.Neighbours.{served-keeps}
-use Rattle.showcrossings.proofs.Growing.{GoesOn, here, one_more, SinceTick, at_tick, after_tick, since-ticks, since-goes, goes_then, cut, cut_all}
+use Rattle.showcrossings.proofs.Growing.{GoesOn, here, SinceTick, at_tick, after_tick, since-ticks, since-goes, goes_then, cut, cut_all}
 use Rattle.showcrossings.proofs.Growing.{cut-slot}
 
 -- ---- calls of others

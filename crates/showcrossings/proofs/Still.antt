@@ -1,26 +1,24 @@
 -- A crossing's part of a slot but for the tile of one stream that comes in it: what its events leave as it is. Assumes nothing.
-use Prim.Native.Nat.{ℕ, zero, suc, ◌+◌, ◌-◌, ◌<◌, min}
+use Prim.Native.Nat.{ℕ, zero, suc, ◌+◌, ◌-◌, min}
 use mathlib.Core.Path.{◌≡◌, refl, sym, ap, ◌∙◌, subst}
-use mathlib.Core.List.{List, ◌∷◌, []}
+use mathlib.Core.List.{List, ◌∷◌}
 use mathlib.Core.Option.{Option, some, none}
 use mathlib.Core.Bool.{Bool, true, false, not, true≢false, cond}
 use native.Mathlib.Decide.{ℕ_discrete}
-use native.Mathlib.Omega.{arith}
 use lib.Dec.{eqb}
-use lib.ListN.{get_or, set, length}
+use lib.ListN.{get_or, length}
 use lib.Seq.{get_or-set_other}
 use borrow.Author.Tests.{eq-eqb}
-use Rattle.model.specs.Tables.{any}
 use Rattle.model.specs.Word.{flow_of, departure_of}
-use Rattle.model.specs.Plan.{Plan, flow_count, Accepted}
+use Rattle.model.specs.Plan.{Plan, Accepted}
 use Rattle.model.specs.Calls.{Call, Grant, Event, History, requested, credited, ticked, lent, accepted, refused}
-use Rattle.model.specs.Scheduler.{Played, reference, step}
+use Rattle.model.specs.Scheduler.{reference, step}
 use Rattle.model.specs.TwoHops.{InStep}
 use Rattle.model.proofs.Tests.{any-hit}
 use Rattle.crossings.specs.Crossing.{Crossing, crossing_with, goes_on_as, waits, with_waiting, asking, answer_for, asked_for, leaves, on_grant, pass_on, pass_as}
 use Rattle.crossings.specs.Crossing.{pass_flow}
 use Rattle.crossings.specs.Crossing.{pass_waiting, queued, comes}
-use Rattle.crossings.specs.Playing.{Other, on_arriving, on_leaving, is_flow, is_none, goes_onto, theirs_arriving, theirs_leaving, another, others}
+use Rattle.crossings.specs.Playing.{Other, is_flow, is_none, goes_onto, theirs_arriving, theirs_leaving, others}
 use Rattle.crossings.specs.Claim.{Onward}
 use Rattle.crossings.proofs.OneLink.{Reached, reached-more, known}
 use Rattle.crossings.proofs.Kept.{NotGiven, asks-so}

@@ -1,24 +1,20 @@
 -- Two links with a crossing between them, told from their events alone: slot after slot no tile of the stream waits, as long as its cells are given back.
 -- Assumes nothing.
-use Prim.Native.Nat.{ℕ, zero, suc, ◌+◌, ◌*◌, ◌≤◌, ◌<◌}
+use Prim.Native.Nat.{ℕ, suc, ◌+◌, ◌*◌, ◌≤◌, ◌<◌}
 use mathlib.Core.Path.{◌≡◌, refl, sym, ap, ◌∙◌, subst}
-use mathlib.Core.List.{List, ◌∷◌, []}
-use mathlib.Core.Option.{Option, some, none}
-use mathlib.Core.Bool.{Bool, true, false, ◌&&◌, cond}
-use native.Mathlib.Decide.{dec_lt, ℕ_discrete}
+use mathlib.Core.List.{◌∷◌, []}
+use mathlib.Core.Option.{none}
+use native.Mathlib.Decide.{dec_lt}
 use native.Mathlib.Omega.{arith}
-use lib.Dec.{eqb}
-use lib.ListN.{get_or, length}
-use borrow.Author.Tests.{eq-eqb}
-use Rattle.model.specs.Tables.{bit, tally}
-use Rattle.model.specs.Word.{flow_of}
+use lib.ListN.{length}
+use Rattle.model.specs.Tables.{tally}
 use Rattle.model.specs.Plan.{Plan, entry}
-use Rattle.model.specs.Calls.{Call, Event, History, requested, credited, ticked, lent, accepted, refused}
-use Rattle.model.specs.History.{ticks, well_formed, is_granted_reset, grant_at, grants, lends, marks_of, of_flow, granted_in_all}
-use Rattle.model.specs.Claim.{Each, AtRequest, GrantedWordAt}
-use Rattle.model.specs.Scheduler.{Played, reference, run}
+use Rattle.model.specs.Calls.{Event, History, requested, credited, ticked, lent, accepted, refused}
+use Rattle.model.specs.History.{ticks, grants, marks_of, of_flow, granted_in_all}
+use Rattle.model.specs.Claim.{Each, GrantedWordAt}
+use Rattle.model.specs.Scheduler.{Played, reference}
 use Rattle.arrival.specs.Delay.{AsksAt}
-use Rattle.arrival.specs.SeveralLinks.{sent_slots, tile, AskedAt, Together, start, both_tick, first_alone, second_alone, Board, plan_on, sent_on}
+use Rattle.arrival.specs.SeveralLinks.{sent_slots, AskedAt, Together, start, both_tick, first_alone, second_alone, Board, plan_on, sent_on}
 use Rattle.arrival.specs.EnoughCells.{return_at, returns, in_slot, CreditsEachTile}
 use Rattle.arrival.specs.SharesOfCells.{GivenBack, AsksWithinShare, KeepsShares}
 use Rattle.arrival.specs.LinksOnArrival.{AsksOnArrival}
@@ -36,14 +32,14 @@ use Rattle.crossings.specs.Crossing.{Crossing, waits, served}
 use Rattle.crossings.specs.Playing.{others, begun}
 use Rattle.crossings.proofs.OneLink.{Reached}
 use Rattle.showcrossings.specs.Ways.{Crossed, crossing_of, PlansJoin}
-use Rattle.showcrossings.proofs.Growing.{GoesOn, SinceTick, at_tick, after_tick, ticks-alone, each-before, no-reset-before, not-lent-before, cut}
-use Rattle.showcrossings.proofs.Growing.{cut-before, cut-next}
+use Rattle.showcrossings.proofs.Growing.{SinceTick, at_tick, after_tick, ticks-alone, each-before, no-reset-before, not-lent-before, cut}
+use Rattle.showcrossings.proofs.Growing.{cut-before}
 use Rattle.showcrossings.proofs.States.{others-arriving, others-leaving, arriving-since, leaving-since, state_at, NextState, over, by_slot}
 use Rattle.showcrossings.proofs.States.{next-state, last-state, state-is}
 use Rattle.showcrossings.proofs.InOrder.{up_to_slot, Descends, sent-descends, tile-past}
-use Rattle.showcrossings.proofs.Pairs.{at-slot-stays, CreditedIn, credited-first, Pair}
-use Rattle.showcrossings.proofs.Passed.{Allowed, board_at, joined_at, allowed-before}
-use Rattle.showcrossings.proofs.Slots.{AllPassed, Passing, came, slot-passes, starts-passing}
+use Rattle.showcrossings.proofs.Pairs.{at-slot-stays, CreditedIn, credited-first}
+use Rattle.showcrossings.proofs.Passed.{Allowed, joined_at}
+use Rattle.showcrossings.proofs.Slots.{AllPassed, Passing, came, slot-passes}
 
 -- ---- one link
 

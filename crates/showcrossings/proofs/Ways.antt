@@ -1,7 +1,7 @@
 -- A stream with a modest source on its way of crossings: its requests and credits are those that the theorems on arrival ask for. By slots: while that is
 -- so up to one, no tile waits, so that the next is asked for as it comes. Assumes nothing.
 use Prim.Native.Nat.{ℕ, zero, suc, ◌+◌, ◌*◌, ◌≤◌}
-use mathlib.Core.Path.{◌≡◌, sym, ◌∙◌, subst}
+use mathlib.Core.Path.{sym, ◌∙◌, subst}
 use mathlib.Core.List.{List, ◌∷◌, []}
 use native.Mathlib.Omega.{arith}
 use Rattle.model.specs.Plan.{entry}
@@ -10,7 +10,7 @@ use Rattle.model.specs.Scheduler.{reference}
 use Rattle.arrival.specs.Delay.{AsksAt}
 use Rattle.arrival.specs.SeveralLinks.{sent_slots, Board, plan_on, sent_on}
 use Rattle.arrival.specs.SharesOfCells.{GivenBack}
-use Rattle.arrival.specs.CreditedByNext.{WayByCredits, ModestFirst}
+use Rattle.arrival.specs.CreditedByNext.{ModestFirst}
 use Rattle.delay.specs.Promised.{last_board}
 use Rattle.crossings.specs.Crossing.{served}
 use Rattle.showcrossings.specs.Ways.{CrossedAlong, GivesBack, PlansFit, PassedAlong, PassesAlong}

@@ -1,7 +1,7 @@
 -- Boards that are not ours are sent back, and no premise of `dome-arrives` can be left out. Assumes nothing.
 use Prim.Native.Nat.{ℕ, ◌+◌, ◌*◌, ◌<◌}
 use mathlib.Core.Path.{◌≡◌, refl}
-use mathlib.Core.List.{List, ◌∷◌, [], reverse, flat_map}
+use mathlib.Core.List.{◌∷◌, [], reverse, flat_map}
 use native.Mathlib.Omega.{arith}
 use lib.Dec.{lit<, lit≤}
 use Rattle.model.specs.Tables.{any, sum}

@@ -1,7 +1,7 @@
 -- A stream over two links and the crossing between them, worked out by hand: its tile takes the longest that it may. RULES 27.13. Assumes nothing.
 use Rattle.std.specs.Prelude.{ℕ, List, ◌∷◌, []}
 use Rattle.std.proofs.Math.Option.{Option, some, none}
-use Rattle.model.specs.Plan.{Plan, plan_of}
+use Rattle.model.specs.Plan.{plan_of}
 use Rattle.model.specs.Calls.{Call, History, requested, credited, ticked, accepted}
 use Rattle.model.specs.PlanBytes as plan_bytes
 use Rattle.show.specs.Show.{Show}

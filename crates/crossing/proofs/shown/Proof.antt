@@ -4,7 +4,7 @@ use Rattle.crossing.proofs.Ticks.{dated-next}
 use Rattle.crossing.proofs.shown.Statement.{statement}
 use Rattle.crossing.proofs.shown.Tie as tie
 
-mul_next : tie.Need-overflow-mul-next
+mul_next : tie.Need-overflow_mul-w
 mul_next c = search rules
 
 next-requires : tie.Need-next-requires
@@ -19,5 +19,5 @@ returns c =
     let s = n.before.before.before in
     dated-next s.requires s.args.i _ n.next.ensures c.credit.ensures
 
-pub shown-spec : {M : Type 1} → statement M
-shown-spec = tie.close (tie.spec mul_next next-requires credit-requires returns)
+pub shown_spec : {M : Type 1} → statement M
+shown_spec = tie.close (tie.spec mul_next next-requires credit-requires returns)
