@@ -1,9 +1,8 @@
-use Rattle.std.proofs.Common.{length}
 use Rattle.program.specs.State.{Regular}
 use Rattle.domelink.proofs.rounds.Given as goal
 
-abbrev pub invariant-loop-more : goal.invariant-loop-more
-invariant-loop-more g l = Regular l.now.state
+abbrev pub invariant-loop-now : goal.invariant-loop-now
+invariant-loop-now g l = Regular l.now.state
 
-abbrev pub decreases-loop-more : goal.decreases-loop-more
-decreases-loop-more g l = l.left
+abbrev pub decreases-loop-now : goal.decreases-loop-now
+decreases-loop-now g l = l.left
