@@ -9,7 +9,7 @@ use Rattle.program.proofs.KeptBytes.{bytes_back, kept-itself}
 use Rattle.program.proofs.start.Statement.{statement}
 use Rattle.program.proofs.start.Tie as tie
 
-no-link-requires : tie.Need-no-link-requires
+no-link-requires : tie.Need-no_link-requires
 no-link-requires c κs = search rules
 
 none-requires : tie.Need-none-requires
@@ -19,7 +19,7 @@ reading-requires : tie.Need-reading-requires
 unfolding plan_open
 reading-requires c κs =
     let none = c.none.ensures in
-    (record { no-link = c.before.no-link.ensures; still_open = ap plan_open (bytes_back none) }, kept-itself none)
+    (record { no-link = c.before.no_link.ensures; still_open = ap plan_open (bytes_back none) }, kept-itself none)
 
 returns : tie.Need-returns
 returns c = subst (λ (b : List ℕ). Stands c.reading.result (reading b)) (bytes_back c.before.none.ensures) c.reading.ensures

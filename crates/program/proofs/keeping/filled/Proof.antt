@@ -10,43 +10,43 @@ use Rattle.program.proofs.KeptBytes.{none_more, more-kept}
 use Rattle.program.proofs.keeping.filled.Statement.{statement}
 use Rattle.program.proofs.keeping.filled.Tie as tie
 
-abbrev invariant-loop : tie.invariant-loop
+abbrev invariant-loop : tie.invariant-loop-i
 invariant-loop to piece start more bytes₀ i₀ bytes i = (i ≤ more) × (bytes ≡ sets bytes₀ start (take i piece))
 
-abbrev decreases-loop : tie.decreases-loop
+abbrev decreases-loop : tie.decreases-loop-i
 decreases-loop to piece start more bytes₀ i₀ bytes i = more - i
 
-returns : tie.Need-returns invariant-loop decreases-loop
-returns c = none_more c.before.before.requires.0 _ _ c.if1.true
+returns : tie.Need-returns-then-to-start invariant-loop decreases-loop
+returns c = none_more c.requires.0 _ _ c.if-to-start.true
 
-sub-smaller : tie.Need-overflow-sub-smaller invariant-loop decreases-loop
+sub-smaller : tie.Need-overflow_sub-to invariant-loop decreases-loop
 sub-smaller c = search rules
 
-smaller-requires : tie.Need-smaller-requires invariant-loop decreases-loop
+smaller-requires : tie.Need-smaller-more-requires invariant-loop decreases-loop
 smaller-requires c κs = search rules
 
-loop-holds : tie.Need-loop-init invariant-loop decreases-loop
+loop-holds : tie.Need-loop-i-init invariant-loop decreases-loop
 loop-holds c = (omega arith, refl)
 
-shared-slice-read-bytes : tie.Need-shared-slice-read-bytes invariant-loop decreases-loop
+shared-slice-read-bytes : tie.Need-bounds-piece-i invariant-loop decreases-loop
 shared-slice-read-bytes c = omega arith
 
-add-bytes : tie.Need-overflow-add-bytes invariant-loop decreases-loop
+add-bytes : tie.Need-overflow_add-bytes invariant-loop decreases-loop
 add-bytes c = omega arith
 
-array-write-bytes : tie.Need-array-write-bytes invariant-loop decreases-loop
+array-write-bytes : tie.Need-bounds-bytes-start invariant-loop decreases-loop
 array-write-bytes c = omega arith
 
-add-i : tie.Need-overflow-add-i invariant-loop decreases-loop
+add-i : tie.Need-overflow_add-i invariant-loop decreases-loop
 add-i c = omega arith
 
-loop-less : tie.Need-loop-smaller invariant-loop decreases-loop
+loop-less : tie.Need-loop-i-smaller invariant-loop decreases-loop
 loop-less c = omega arith
 
-loop-again : tie.Need-loop-preserved invariant-loop decreases-loop
+loop-again : tie.Need-loop-i-preserved invariant-loop decreases-loop
 loop-again c =
     let s = c.before.before.before.before.before.before.before in
-    let loop = c.before.before.loop in
+    let loop = c.before.before.loop-i in
     let inside : loop.i < length s.args.piece.now = omega arith in
     let a = s.args in (
       omega arith,
@@ -54,21 +54,21 @@ loop-again c =
           ∙ stored_more a.kept.bytes a.piece.now a.kept.count loop.i inside,
     )
 
-add-t9 : tie.Need-overflow-add-t9 invariant-loop decreases-loop
+add-t9 : tie.Need-overflow_add-result invariant-loop decreases-loop
 add-t9 c = omega arith
 
-returns-2 : tie.Need-returns-2 invariant-loop decreases-loop
+returns-2 : tie.Need-returns invariant-loop decreases-loop
 returns-2 c =
     let s = c.before.before.before.before.before.before in
-    let loop = c.before.loop in
-    let more = c.before.before.before.smaller.ensures in
+    let loop = c.before.loop-i in
+    let more = c.before.before.before.smaller-more.ensures in
     let all : loop.i ≡ min (s.args.to - s.args.kept.count) (length s.args.piece.now) = omega arith in
     let k = s.args.kept in
     let stored = loop.invariant.1 ∙ ap (λ n. sets k.bytes k.count (take n s.args.piece.now)) all in
     more-kept s.requires.0 _ _ s.requires.1 (omega arith) stored (ap (k.count +◌) more)
 
-pub filled-spec : {M : Type 1} → statement M
-filled-spec =
+pub filled_spec : {M : Type 1} → statement M
+filled_spec =
     tie.close
     (tie.spec
     invariant-loop

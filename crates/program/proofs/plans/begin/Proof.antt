@@ -17,7 +17,7 @@ use Rattle.program.proofs.plans.begin.Statement.{statement}
 use Rattle.program.proofs.plans.begin.Tie as tie
 
 -- where the plan has been read
-module _ (c : tie.After-read) where
+module _ (c : tie.After-read-outcome) where
   abbrev start : tie.Start
   start = c.before.before.before.before.before
 
@@ -25,84 +25,84 @@ module _ (c : tie.After-read) where
   abbrev number : ℕ
   number = refusal (bytes_in start.args.kept)
 
-  verdict-is : c.read.result.verdict ≡ verdict_for number
+  verdict-is : c.read-outcome.result.verdict ≡ verdict_for number
   unfolding read_of
-  verdict-is = ap (λ (o : Outcome). o.verdict) c.read.ensures.0
+  verdict-is = ap (λ (o : Outcome). o.verdict) c.read-outcome.ensures.0
 
   -- a line has room
   room : 0 + 7 ≤ length start.args.out.now
-  room = omega (arith, start.pre.2)
+  room = omega (arith, start.requires.2)
 
 -- where the line of a plan that is accepted has been written
-module _ (c : tie.After-write-plan2) where
-  abbrev at_read : tie.After-read
-  at_read = c.before.before.before.before
+module _ (c : tie.After-write_plan-at) where
+  abbrev at_read : tie.After-read-outcome
+  at_read = c.before.before.before
 
-  abbrev told : at_read.read.result.verdict ≡ Accepted
-  told = c.before.before.enum_told.given.1
+  abbrev told : at_read.read-outcome.result.verdict ≡ Accepted
+  told = c.in-Accepted.is
 
   accepted : number at_read ≡ 0
   accepted = accepted-is-0 (number at_read) (sym (verdict-is at_read) ∙ told)
 
-  plan_is : plan_for at_read.read.result.plan ≡ plan_of (bytes_in (start at_read).args.kept)
-  plan_is = ap (λ (o : Outcome). plan_for o.plan) at_read.read.ensures.0 ∙ is-plan (bytes_in (start at_read).args.kept) accepted
+  plan_is : plan_for at_read.read-outcome.result.plan ≡ plan_of (bytes_in (start at_read).args.kept)
+  plan_is = ap (λ (o : Outcome). plan_for o.plan) at_read.read-outcome.ensures.0 ∙ is-plan (bytes_in (start at_read).args.kept) accepted
 
-array-share-prefix-bytes : tie.Need-array-share-prefix-bytes
+array-share-prefix-bytes : tie.Need-slice_bounds-bytes-end
 array-share-prefix-bytes c = let s = c.before.before.before in omega (arith, array_long s.requires.1, s.requires.1.count_is, s.requires.1.most)
 
-slice-aggregate-read : tie.Need-slice-aggregate-read
-slice-aggregate-read c = c.before.before.before.before.requires.1.count_is
+slice-aggregate-read : tie.Need-slice_bounds-read-end
+slice-aggregate-read c = c.requires.1.count_is
 
-read-requires : tie.Need-read-requires
+read-requires : tie.Need-read-outcome-requires
 read-requires c κs = search rules
 
-enum-known-verdict : tie.Need-enum-known-verdict
+enum-known-verdict : tie.Need-enum_known-verdict
 enum-known-verdict c = search rules
 
-write-plan-requires : tie.Need-write-plan-requires
+write-plan-requires : tie.Need-write_plan-written-requires
 write-plan-requires c κs = search rules
 
 ended-requires : tie.Need-ended-requires
 ended-requires c κs = search rules
 
-enum_told : tie.Need-enum-told
+enum_told : tie.Need-enum_told-1
 enum_told c = search rules
 
-write-plan-requires-2 : tie.Need-write-plan-requires-2
+write-plan-requires-2 : tie.Need-write_plan-at-requires
 write-plan-requires-2 c κs = search rules
 
 fresh-requires : tie.Need-fresh-requires
-fresh-requires c κs = let w = c.before.before.before in (at_read w).read.ensures.1 (told w)
+fresh-requires c κs = let w = c.before.before.before in (at_read w).read-outcome.ensures.1 (told w)
 
-play-on-requires : tie.Need-play-on-requires
+play-on-requires : tie.Need-play_on-requires
 play-on-requires c κs =
     let w = c.before.before.before.before.before in
-    (c.before.fresh.ensures.1, omega (arith, w.write-plan2.ensures.1.1, w.write-plan2.auto.1.0, (start (at_read w)).pre.2))
+    (c.before.fresh.ensures.1, omega (arith, w.write_plan-at.ensures.1.1, w.write_plan-at.auto.1.0, (start (at_read w)).pre.2))
 
-same_length : tie.Need-same-length
+same_length : tie.Need-shape_of-out-in-Refused
 same_length c = search rules
 
-returns : tie.Need-returns
+returns : tie.Need-returns-in-Refused
 returns c =
-    let w = c.before.before.before.write-plan.ensures in
-    let verdict = c.before.before.before.before.before.before in
-    let r = verdict.before.before in
-    let refused = sym (verdict-is r) ∙ verdict.verdict.given.1 in
+    let w = c.before.before.before.write_plan-written.ensures in
+    let verdict = c.before.before.before.before.before in
+    let r = verdict.before in
+    let refused = sym (verdict-is r) ∙ verdict.in-Refused.is in
     left-refused (bytes_in (start r).args.kept) (start r).args.rest.now refused (room r) w c.ended.ensures
 
-same-length-2 : tie.Need-same-length-2
+same-length-2 : tie.Need-shape_of-out-in-Accepted
 same-length-2 c = search rules
 
-returns-2 : tie.Need-returns-2
+returns-2 : tie.Need-returns-in-Accepted
 returns-2 c =
     let fresh-link = c.before.before.before.before.fresh.ensures.0 in
     let w = c.before.before.before.before.before.before.before.before in
     let r = at_read w in
     left-accepted (bytes_in (start r).args.kept) (start r).args.rest.now (accepted w) (fresh-link ∙ ap fresh (plan_is w)) (room r)
-    w.write-plan2.ensures c.before.before.play-on.ensures
+    w.write_plan-at.ensures c.before.before.play_on.ensures
 
-pub begin-spec : {M : Type 1} → statement M
-begin-spec =
+pub begin_spec : {M : Type 1} → statement M
+begin_spec =
     tie.close
     (tie.spec
     array-share-prefix-bytes

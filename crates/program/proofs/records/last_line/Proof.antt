@@ -13,50 +13,50 @@ use Rattle.program.proofs.KeptBytes.{array_long}
 use Rattle.program.proofs.records.last_line.Statement.{statement}
 use Rattle.program.proofs.records.last_line.Tie as tie
 
-returns : tie.Need-returns
+returns : tie.Need-returns-then-count-eq0
 returns c =
     let s = c.before.before in
     finished-silent (no_line (read_of s.args.link) (bytes_in s.args.kept) (omega (arith, s.requires.1.count_is))) _
 
-array-share-prefix-bytes : tie.Need-array-share-prefix-bytes
+array-share-prefix-bytes : tie.Need-slice_bounds-bytes-end
 array-share-prefix-bytes c = let s = c.before.before.before in omega (arith, array_long s.requires.1)
 
-slice-aggregate-read : tie.Need-slice-aggregate-read
-slice-aggregate-read c = c.before.before.before.before.requires.1.count_is
+slice-aggregate-read : tie.Need-slice_bounds-read-end
+slice-aggregate-read c = c.requires.1.count_is
 
 read-requires : tie.Need-read-requires
 read-requires c κs = search rules
 
-enum_told : tie.Need-enum-told
+enum_told : tie.Need-enum_told-1
 enum_told c = search rules
 
-enum-told-2 : tie.Need-enum-told-2
+enum-told-2 : tie.Need-enum_told-in_default
 enum-told-2 c = search rules
 
-write-refusal-requires : tie.Need-write-refusal-requires
+write-refusal-requires : tie.Need-write_refusal-requires
 write-refusal-requires c κs = search rules
 
-same_length : tie.Need-same-length
+same_length : tie.Need-shape_of-out-in_default
 same_length c = search rules
 
-returns-2 : tie.Need-returns-2
+returns-2 : tie.Need-returns-in_default
 returns-2 c =
-    let w = c.before.before.write-refusal.ensures in
+    let w = c.before.before.write_refusal.ensures in
     let s = c.before.before.before.before.before.before.before.before.before.before.before in
     let some : 0 < length (bytes_in s.args.kept) = omega (arith, s.requires.1.count_is) in
     finished-by (cut-off-line (read_of s.args.link) (bytes_in s.args.kept) some) w
 
-returns-3 : tie.Need-returns-3
+returns-3 : tie.Need-returns
 returns-3 c =
-    let s = c.before.before.before.before.before.before.before in
+    let s = c.before.before.before.before.before.before in
     let few : length (bytes_in s.args.kept) < 0 + 5 = s.requires.0.not_whole in
-    let is = c.before.before.read.ensures.0 ∙ ap record_for (no-call-at (bytes_in s.args.kept) 0 few) in
-    let told = c.enum_told.given.1 in
+    let is = c.before.read.ensures.0 ∙ ap record_for (no-call-at (bytes_in s.args.kept) 0 few) in
+    let told = c.in-Call.is in
     let z : ◌≡◌ {A = ℕ} 0 1 = cc in
     absurd (omega arith)
 
-pub last-line-spec : {M : Type 1} → statement M
-last-line-spec =
+pub last_line_spec : {M : Type 1} → statement M
+last_line_spec =
     tie.close
     (tie.spec
     returns

@@ -14,47 +14,47 @@ use Rattle.program.proofs.records.play_on.Statement.{statement}
 use Rattle.program.proofs.records.play_on.Tie as tie
 
 -- where `play` has come back
-module _ (c : tie.After-play) where
+module _ (c : tie.After-play-played) where
   abbrev start : tie.Start
   start = c.before.before.before.before
 
-  played : PlayedOn (read_of start.args.link) start.args.bytes.now start.args.out.now start.args.at (read_of c.play.result.link)
-      c.play.result.used c.play.result.end (put_back start.args.out.now start.args.at c.play.new.1.1.0)
-  played = played-on start.pre.1 c.play.ensures.0
+  played : PlayedOn (read_of start.args.link) start.args.bytes.now start.args.out.now start.args.at (read_of c.play-played.result.link)
+      c.play-played.result.used c.play-played.result.end (put_back start.args.out.now start.args.at c.play-played.new.1.1.0)
+  played = played-on start.requires.1 c.play-played.ensures.0
 
 -- where the bytes after the records are kept
-module _ (c : tie.After-filled) where
-  abbrev came-back : tie.After-play
+module _ (c : tie.After-filled-kept) where
+  abbrev came-back : tie.After-play-played
   came-back = c.before.before.before.before.before
 
-  kept : Keeps c.filled.result (cut_off (start came-back).args.bytes.now)
-  kept = kept-behind (start came-back).args.bytes.now c.before.before.none.ensures (played came-back).used_is c.filled.ensures
+  kept : Keeps c.filled-kept.result (cut_off (start came-back).args.bytes.now)
+  kept = kept-behind (start came-back).args.bytes.now c.before.before.none.ensures (played came-back).used_is c.filled-kept.ensures
 
-sub-play : tie.Need-overflow-sub-play
+sub-play : tie.Need-slice_bounds-play-count
 sub-play c = search rules
 
-part-play-start : tie.Need-slice-bounds-play-start
+part-play-start : tie.Need-slice_bounds-play-start
 part-play-start c = search rules
 
-part-play-end : tie.Need-slice-bounds-play-end
+part-play-end : tie.Need-slice_bounds-play-end
 part-play-end c = search rules
 
-play-requires : tie.Need-play-requires
+play-requires : tie.Need-play-played-requires
 play-requires c κs = search rules
 
 none-requires : tie.Need-none-requires
 none-requires c κs = search rules
 
-sub-filled : tie.Need-overflow-sub-filled
+sub-filled : tie.Need-slice_bounds-filled-count
 sub-filled c = omega (arith, (played c.before.before.before).used_is)
 
-part-filled-start : tie.Need-slice-bounds-filled-start
+part-filled-start : tie.Need-slice_bounds-filled-start
 part-filled-start c = omega (arith, (played c.before.before.before).used_is)
 
-part-filled-end : tie.Need-slice-bounds-filled-end
+part-filled-end : tie.Need-slice_bounds-filled-end
 part-filled-end c = search rules
 
-filled-requires : tie.Need-filled-requires
+filled-requires : tie.Need-filled-kept-requires
 filled-requires c κs = (kept-itself c.before.none.ensures, omega arith)
 
 playing-requires : tie.Need-playing-requires
@@ -63,12 +63,12 @@ playing-requires c κs =
     let a = came-back c.before in
     (record { sound = a.play.ensures.1; not_whole = omega (arith, ap length (bytes_back k), cut_short (start a).args.bytes.now) }, kept-itself k)
 
-add-t10 : tie.Need-overflow-add-t10
+add-t10 : tie.Need-overflow_add-result
 add-t10 c =
     let a = came-back c.before.before.before in
     omega (arith, (played a).seven_most, (start a).pre.1, (start a).good)
 
-same_length : tie.Need-same-length
+same_length : tie.Need-shape_of-out
 same_length c =
     let a = came-back c.before.before.before in
     ap length (played a).out_is ∙ simp length-sets
@@ -79,8 +79,8 @@ returns c =
     let a = came-back f in
     left-playing (start a).pre.1 (played a) (bytes_back (kept f)) c.before.playing.ensures
 
-pub play-on-spec : {M : Type 1} → statement M
-play-on-spec =
+pub play_on_spec : {M : Type 1} → statement M
+play_on_spec =
     tie.close
     (tie.spec
     sub-play

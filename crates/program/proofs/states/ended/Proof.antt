@@ -5,16 +5,16 @@ use Rattle.program.proofs.KeptBytes.{bytes_back, kept-itself}
 use Rattle.program.proofs.states.ended.Statement.{statement}
 use Rattle.program.proofs.states.ended.Tie as tie
 
-none-requires : tie.Need-none-requires
+none-requires : tie.Need-none-kept-requires
 none-requires c κs = search rules
 
 returns : tie.Need-returns
 returns c =
-    let none = c.none.ensures in
+    let none = c.none-kept.ensures in
     record {
       stage_is = refl;
-      regular = record { kept = kept-itself none; in_phase = record { no-link = c.before.requires; no_bytes = bytes_back none } };
+      regular = record { kept = kept-itself none; in_phase = record { no-link = c.requires; no_bytes = bytes_back none } };
     }
 
-pub ended-spec : {M : Type 1} → statement M
-ended-spec = tie.close (tie.spec none-requires returns)
+pub ended_spec : {M : Type 1} → statement M
+ended_spec = tie.close (tie.spec none-requires returns)

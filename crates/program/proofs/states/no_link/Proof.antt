@@ -8,5 +8,5 @@ returns : tie.Need-returns
 unfolding no_link
 returns c = refl
 
-pub no-link-spec : {M : Type 1} → statement M
-no-link-spec = tie.close (tie.spec returns)
+pub no_link_spec : {M : Type 1} → statement M
+no_link_spec = tie.close (tie.spec returns)

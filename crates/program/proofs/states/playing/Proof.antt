@@ -7,5 +7,5 @@ returns : tie.Need-returns
 returns c =
     record { stage_is = refl; regular = record { kept = c.requires.1; in_phase = c.requires.0 } }
 
-pub playing-spec : {M : Type 1} → statement M
-playing-spec = tie.close (tie.spec returns)
+pub playing_spec : {M : Type 1} → statement M
+playing_spec = tie.close (tie.spec returns)
