@@ -27,7 +27,7 @@ module _ (c : tie.After-smaller-used) where
 
 -- where the state's phase is looked at
 abbrev taken_at : tie.After-kept-1 → tie.After-smaller-used
-taken_at c = c.before.before.before
+taken_at c = c.before.before
 
 mul-smaller : tie.Need-overflow_mul-out
 mul-smaller c = omega arith
@@ -36,7 +36,7 @@ smaller-requires : tie.Need-smaller-used-requires
 smaller-requires c κs = search rules
 
 slice-aggregate-part : tie.Need-slice_bounds-part-end
-slice-aggregate-part c = sym (part-long c.before)
+slice-aggregate-part c = sym (part-long c)
 
 enum_told : tie.Need-enum_told-1
 enum_told c = search rules
@@ -69,7 +69,7 @@ returns c =
     let s = start t in
     let left = c.before.before.before.go_on-left.ensures in
     fed-in s.args.state told.in-Reading.is
-    (fed-piece (reading (bytes_in s.args.state.kept)) s.args.piece.now t.smaller.ensures left)
+    (fed-piece (reading (bytes_in s.args.state.kept)) s.args.piece.now t.smaller-used.ensures left)
 
 same-length-2 : tie.Need-shape_of-out-in-Playing
 same-length-2 c = search rules
@@ -81,7 +81,7 @@ returns-2 c =
     let s = start t in
     let left = c.before.before.before.go_on-left-in-Playing.ensures in
     fed-in s.args.state told.in-Playing.is
-    (fed-piece (playing (read_of s.args.state.link) (bytes_in s.args.state.kept)) s.args.piece.now t.smaller.ensures left)
+    (fed-piece (playing (read_of s.args.state.link) (bytes_in s.args.state.kept)) s.args.piece.now t.smaller-used.ensures left)
 
 returns-3 : tie.Need-returns-in-Ended
 unfolding stage_fed written_fed
@@ -91,7 +91,7 @@ returns-3 c =
     let told = c.in-Ended.is in
     let at-end = ap (λ (p : Phase). stage_in p s.args.state.link (bytes_in s.args.state.kept)) told in
     fed-in s.args.state told
-    (fed-piece ended s.args.piece.now t.smaller.ensures (leaves-silent refl refl (record { stage_is = at-end; regular = s.requires })))
+    (fed-piece ended s.args.piece.now t.smaller-used.ensures (leaves-silent refl refl (record { stage_is = at-end; regular = s.requires })))
 
 pub feed_spec : {M : Type 1} → statement M
 feed_spec =

@@ -17,9 +17,8 @@ enum-told-2 c = search rules
 
 last-line-requires : tie.Need-last_line-requires
 last-line-requires c κs =
-    let s = c.before.before.before.before.before in
-    let told = c.before.enum_told-in-Playing-1.given in
-    (what-holds s.args.state told.1 s.requires, s.requires.kept)
+    let s = c in
+    (what-holds s.args.state c.in-Playing.is s.requires, s.requires.kept)
 
 enum-told-3 : tie.Need-enum_told-in-Ended
 enum-told-3 c = search rules
@@ -30,22 +29,20 @@ same_length c = search rules
 returns : tie.Need-returns-in-Reading
 returns c =
     let w = c.before.before.write_plan.ensures in
-    let s = c.before.before.before.before.before.before.before.before in
-    let told = c.before.before.before.before.enum_told-1.given in
-    finished-in s.args.state told.1 (finished-by refl w)
+    let s = c in
+    finished-in s.args.state c.in-Reading.is (finished-by refl w)
 
 same-length-2 : tie.Need-shape_of-out-in-Playing
 same-length-2 c = search rules
 
 returns-2 : tie.Need-returns-in-Playing
 returns-2 c =
-    let s = c.before.before.before.before.before.before.before.before in
-    let told = c.before.before.before.before.enum_told-in-Playing-1.given in
-    finished-in s.args.state told.1 c.before.before.last_line.ensures
+    let s = c in
+    finished-in s.args.state c.in-Playing.is c.before.before.last_line.ensures
 
 returns-3 : tie.Need-returns-in-Ended
 returns-3 c =
-    let s = c.before.before.before.before in
+    let s = c in
     finished-in s.args.state c.in-Ended.is (finished-silent refl _)
 
 pub finish_spec : {M : Type 1} → statement M

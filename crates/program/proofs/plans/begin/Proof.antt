@@ -77,7 +77,7 @@ fresh-requires c κs = let w = c.before.before.before in (at_read w).read-outcom
 play-on-requires : tie.Need-play_on-requires
 play-on-requires c κs =
     let w = c.before.before.before.before.before in
-    (c.before.fresh.ensures.1, omega (arith, w.write_plan-at.ensures.1.1, w.write_plan-at.auto.1.0, (start (at_read w)).pre.2))
+    (c.before.fresh.ensures.1, omega (arith, w.write_plan-at.ensures.1.1, w.write_plan-at.auto.out, (start (at_read w)).requires.2))
 
 same_length : tie.Need-shape_of-out-in-Refused
 same_length c = search rules

@@ -77,17 +77,17 @@ module _ (c : tie.After-filled-whole) where
   abbrev total : ℕ
   total = stated (at-stated at-plan)
 
-  abbrev two-kept : Taken start_of.args.kept 2 start_of.args.piece.now (at-two (at-stated at-plan)).filled.result
+  abbrev two-kept : Taken start_of.args.kept 2 start_of.args.piece.now (at-two (at-stated at-plan)).filled-two.result
   two-kept = two (at-two (at-stated at-plan))
 
   -- what is left of the piece behind the two
   abbrev left : List ℕ
-  left = behind start_of.args.kept (at-two (at-stated at-plan)).filled.result start_of.args.piece.now
+  left = behind start_of.args.kept (at-two (at-stated at-plan)).filled-two.result start_of.args.piece.now
 
   abbrev plan : List ℕ
   plan = bytes_in c.filled-whole.result
 
-  all : Taken (at-two (at-stated at-plan)).filled.result total left c.filled-whole.result
+  all : Taken (at-two (at-stated at-plan)).filled-two.result total left c.filled-whole.result
   all = taken two-kept.kept total left c.filled-whole.ensures
 
   total_is : plan_length plan ≡ total

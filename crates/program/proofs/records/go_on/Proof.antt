@@ -44,7 +44,7 @@ module _ (c : tie.After-play-played) where
   some-taken = omega (arith, long, (five at-filled).kept.count_is, before-play.requires.0.not_whole, before-play.requires.1.kept_well.count_is)
 
   one : PlayedOne (read_of before-play.args.link) (bytes_in at-filled.filled-whole.result) before-play.args.out.now
-      (read_of c.play-played.result.link) c.play-played.result.end c.play-played.new.1.1.0
+      (read_of c.play-played.result.link) c.play-played.result.end c.play-played.new.out
   one = played-one five-is long (omega (arith, (five at-filled).in_piece, some-taken, before-play.requires.1.room)) c.play-played.ensures.0
 
 play-on-requires : tie.Need-play_on-requires
@@ -105,7 +105,7 @@ play-on-requires-2 c κs =
     let s = before-play p in
     let k = five (at-filled p) in
     let w = (one p).seven_most in
-    (p.play-played.ensures.1, omega (arith, p.play-played.auto.1.1.0, k.behind_long, k.in_piece, long p, k.kept.count_is, some-taken p, s.requires.1.room))
+    (p.play-played.ensures.1, omega (arith, p.play-played.auto.out, k.behind_long, k.in_piece, long p, k.kept.count_is, some-taken p, s.requires.1.room))
 
 same-length-2 : tie.Need-shape_of-out
 same-length-2 c = search rules
@@ -115,7 +115,7 @@ returns-3 c =
     let p = c.before.before.before.before.before.before.before.before.before in
     let s = before-play p in
     let f = at-filled p in
-    let rest = behind s.args.kept f.filled.result s.args.piece.now in
+    let rest = behind s.args.kept f.filled-whole.result s.args.piece.now in
     made-whole (read_of s.args.link) (bytes_in s.args.kept) s.args.piece.now rest (omega (arith, long p)) (five f).seam (one p)
     c.before.before.play_on-2.ensures
 

@@ -15,11 +15,11 @@ use Rattle.program.proofs.records.last_line.Tie as tie
 
 returns : tie.Need-returns-then-count-eq0
 returns c =
-    let s = c.before.before in
+    let s = c in
     finished-silent (no_line (read_of s.args.link) (bytes_in s.args.kept) (omega (arith, s.requires.1.count_is))) _
 
 array-share-prefix-bytes : tie.Need-slice_bounds-bytes-end
-array-share-prefix-bytes c = let s = c.before.before.before in omega (arith, array_long s.requires.1)
+array-share-prefix-bytes c = let s = c in omega (arith, array_long s.requires.1)
 
 slice-aggregate-read : tie.Need-slice_bounds-read-end
 slice-aggregate-read c = c.requires.1.count_is
@@ -42,13 +42,13 @@ same_length c = search rules
 returns-2 : tie.Need-returns-in_default
 returns-2 c =
     let w = c.before.before.write_refusal.ensures in
-    let s = c.before.before.before.before.before.before.before.before.before.before.before in
+    let s = c in
     let some : 0 < length (bytes_in s.args.kept) = omega (arith, s.requires.1.count_is) in
     finished-by (cut-off-line (read_of s.args.link) (bytes_in s.args.kept) some) w
 
 returns-3 : tie.Need-returns
 returns-3 c =
-    let s = c.before.before.before.before.before.before in
+    let s = c in
     let few : length (bytes_in s.args.kept) < 0 + 5 = s.requires.0.not_whole in
     let is = c.before.read.ensures.0 ∙ ap record_for (no-call-at (bytes_in s.args.kept) 0 few) in
     let told = c.in-Call.is in

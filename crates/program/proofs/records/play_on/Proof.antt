@@ -19,7 +19,7 @@ module _ (c : tie.After-play-played) where
   start = c.before.before.before.before
 
   played : PlayedOn (read_of start.args.link) start.args.bytes.now start.args.out.now start.args.at (read_of c.play-played.result.link)
-      c.play-played.result.used c.play-played.result.end (put_back start.args.out.now start.args.at c.play-played.new.1.1.0)
+      c.play-played.result.used c.play-played.result.end (put_back start.args.out.now start.args.at c.play-played.new.out)
   played = played-on start.requires.1 c.play-played.ensures.0
 
 -- where the bytes after the records are kept
@@ -61,12 +61,12 @@ playing-requires : tie.Need-playing-requires
 playing-requires c κs =
     let k = kept c.before in
     let a = came-back c.before in
-    (record { sound = a.play.ensures.1; not_whole = omega (arith, ap length (bytes_back k), cut_short (start a).args.bytes.now) }, kept-itself k)
+    (record { sound = a.play-played.ensures.1; not_whole = omega (arith, ap length (bytes_back k), cut_short (start a).args.bytes.now) }, kept-itself k)
 
 add-t10 : tie.Need-overflow_add-result
 add-t10 c =
     let a = came-back c.before.before.before in
-    omega (arith, (played a).seven_most, (start a).pre.1, (start a).good)
+    omega (arith, (played a).seven_most, (start a).requires.1, (start a).well_formed)
 
 same_length : tie.Need-shape_of-out
 same_length c =
@@ -77,7 +77,7 @@ returns : tie.Need-returns
 returns c =
     let f = c.before.before.before in
     let a = came-back f in
-    left-playing (start a).pre.1 (played a) (bytes_back (kept f)) c.before.playing.ensures
+    left-playing (start a).requires.1 (played a) (bytes_back (kept f)) c.before.playing.ensures
 
 pub play_on_spec : {M : Type 1} → statement M
 play_on_spec =
