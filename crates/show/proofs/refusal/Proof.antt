@@ -1,6 +1,7 @@
 -- `show::refusal` meets its contract. The loop: no link at the first places has a refusal. Assumes nothing.
 use Prim.Native.Nat.{◌-◌}
 use mathlib.Core.Path.{◌≡◌, sym, ap, ◌∙◌}
+use native.Mathlib.Omega.{arith}
 use borrow.Author.Rules.{rules}
 use Rattle.mesh.specs.Admission as admission
 use Rattle.show.specs.Show.{Show, streams_in}
@@ -27,16 +28,13 @@ mesh-said c =
     let s = c.args in
     c.admit-admission.ensures ∙ ap (admission.refusal s.dome.slots) (sym (streams_are s.dome s.numbers.now s.cells.now))
 
-mesh-passed : (c : tie.Else-admission-ne0 invariant-loop decreases-loop) → admission.refusal (shown c.before).slots (streams_in (shown c.before)) ≡ 0
-mesh-passed c = sym (mesh-said c.before) ∙ c.if-admission-ne0.false
+mesh-passed : (c : tie.After-admit-admission invariant-loop decreases-loop) → c.admit-admission.result ≡ 0 → admission.refusal (shown c).slots (streams_in (shown c)) ≡ 0
+mesh-passed c none = sym (mesh-said c) ∙ none
 
 -- ---- the needs
 
 admit-requires : tie.Need-admit-admission-requires invariant-loop decreases-loop
 admit-requires c κs = search rules
-
-returns : tie.Need-returns-then-admission-ne0 invariant-loop decreases-loop
-returns c = mesh-said c.before ∙ refused-by-mesh (shown c.before) (λ z. c.if-admission-ne0.true (mesh-said c.before ∙ z))
 
 loop-holds : tie.Need-loop-k-init invariant-loop decreases-loop
 loop-holds c = none_yet _
@@ -47,7 +45,7 @@ link-refusal-requires c κs = search rules
 returns-2 : tie.Need-returns-then-number-ne0 invariant-loop decreases-loop
 returns-2 c =
     let loop = c.before.before in
-    found-one loop.before.loop-k.invariant loop.loop-k-test.true (mesh-passed loop.before.before) c.before.link_refusal-number.ensures c.if-number-ne0.true
+    found-one loop.before.loop-k.invariant loop.loop-k-test.true (mesh-passed loop.before.before.before (omega arith)) c.before.link_refusal-number.ensures c.if-number-ne0.true
 
 add-k : tie.Need-overflow_add-k invariant-loop decreases-loop
 add-k c = search rules
@@ -61,7 +59,7 @@ loop-again c =
     none_more loop.before.loop-k.invariant loop.loop-k-test.true c.before.link_refusal-number.ensures c.if-number-ne0.false
 
 returns-3 : tie.Need-returns invariant-loop decreases-loop
-returns-3 c = none_at_all c.before.loop-k.invariant c.loop-k-test.false (mesh-passed c.before.before)
+returns-3 c = none_at_all c.before.loop-k.invariant c.loop-k-test.false (mesh-passed c.before.before.before (omega arith))
 
 pub refusal_spec : {M : Type 1} → statement M
 refusal_spec =
@@ -70,7 +68,9 @@ refusal_spec =
     invariant-loop
     decreases-loop
     admit-requires
-    returns
+    (λ c.
+    let said = mesh-said c.before in
+    said ∙ refused-by-mesh (shown c.before) (λ z. let none : c.admit-admission.result ≡ 0 = said ∙ z in omega (arith, none)))
     loop-holds
     link-refusal-requires
     returns-2

@@ -8,9 +8,6 @@ use Rattle.questions.proofs.LineAnswers.{none-begun, some-begun}
 use Rattle.questions.proofs.input.finish.Statement.{statement}
 use Rattle.questions.proofs.input.finish.Tie as tie
 
-returns : tie.Need-returns-then-count-eq0
-returns c = none-begun _ c.args.state c.if-count-eq0.true
-
 array-share-prefix-line : tie.Need-slice_bounds-line-end
 array-share-prefix-line c = let s = c.requires.0 in omega (arith, s.long, s.most)
 
@@ -25,10 +22,7 @@ same_length c = search rules
 
 returns-2 : tie.Need-returns
 returns-2 c =
-    let said = c.before.before in
-    let some = said.before.before.before in
-    let start = some.before.before.before in
-    says_same (some-begun start.args.state start.requires.0 some.if-count-eq0.false) said.answer.ensures
+    says_same (some-begun c.args.state c.requires.0 (λ z. omega (arith, z))) c.answer.ensures
 
 pub finish_spec : {M : Type 1} → statement M
-finish_spec = tie.close (tie.spec returns array-share-prefix-line slice-aggregate-answer answer-requires same_length returns-2)
+finish_spec = tie.close (tie.spec (λ c. none-begun _ c.args.state (omega arith)) array-share-prefix-line slice-aggregate-answer answer-requires same_length returns-2)

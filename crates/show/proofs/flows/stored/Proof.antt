@@ -12,11 +12,5 @@ mul-all c = search rules
 array-set-from-all : tie.Need-bounds-all-at
 array-set-from-all c = search rules
 
-returns : tie.Need-returns-then-at-lt16
-returns c = search rules
-
-returns-2 : tie.Need-returns
-returns-2 c = sym (set_out _ _ _ (omega arith))
-
 pub stored_spec : {M : Type 1} → statement M
-stored_spec = tie.close (tie.spec mul-all array-set-from-all returns returns-2)
+stored_spec = tie.close (tie.spec mul-all array-set-from-all (λ c. search rules) (λ c. sym (set_out _ _ _ (omega arith))))

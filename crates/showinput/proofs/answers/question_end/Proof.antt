@@ -17,11 +17,13 @@ shared-slice-read-if2 c = search rules
 sub-result : tie.Need-overflow_sub-result
 sub-result c = search rules
 
-returns-2 : tie.Need-returns-then-input-count-eq10
-returns-2 c = (omega arith, newline-ends c.args.input.now c.if-input-count-eq10.true)
-
-returns-3 : tie.Need-returns
-returns-3 c = (omega arith, all-of-it c.args.input.now c.if-input-count-eq10.false)
-
 pub question_end_spec : {M : Type 1} → statement M
-question_end_spec = tie.close (tie.spec returns sub-if2 shared-slice-read-if2 sub-result returns-2 returns-3)
+question_end_spec =
+    tie.close
+    (tie.spec
+    returns
+    sub-if2
+    shared-slice-read-if2
+    sub-result
+    (λ c. (omega arith, newline-ends c.args.input.now (omega arith)))
+    (λ c. (omega arith, all-of-it c.args.input.now (λ z. omega (arith, z)))))
