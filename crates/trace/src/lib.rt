@@ -1,5 +1,7 @@
 // What is so after each call, as lines of a letter and numbers: the answer, the call, the link, and the flow that it is about. RULES 26.10: a reader keeps
 // the window by these lines alone.
+#![tactic(auto)]
+
 mod asks;
 mod credits;
 mod lends;

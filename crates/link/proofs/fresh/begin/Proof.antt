@@ -36,10 +36,10 @@ no-flows-requires c κs = whole-masks c.requires.0 c.args.s.now c.requires.1 c.h
 
 start-flows-requires : tie.Need-start_flows-requires
 start-flows-requires c κs = (
-    c.requires.0,
-    whole-spare c.requires.0 c.args.s.now c.requires.1 c.hold_nothing.ensures c.disown.ensures c.every_slot.ensures c.put_masks.ensures c.no_flows.ensures,
-    omega arith,
-  )
+  c.requires.0,
+  whole-spare c.requires.0 c.args.s.now c.requires.1 c.hold_nothing.ensures c.disown.ensures c.every_slot.ensures c.put_masks.ensures c.no_flows.ensures,
+  omega arith,
+)
 
 element-write-s : tie.Need-bounds-s-4496
 element-write-s c = search rules
@@ -52,9 +52,9 @@ element-write-s-3 c = search rules
 
 returns : tie.Need-returns
 returns c = (
-    fresh-read c.requires.0 c.args.s.now c.requires.1 c.hold_nothing.ensures c.disown.ensures c.every_slot.ensures c.put_masks.ensures c.no_flows.ensures c.start_flows.ensures,
-    fresh-sound c.requires.0 c.args.s.now c.requires.1 c.hold_nothing.ensures c.disown.ensures c.every_slot.ensures c.put_masks.ensures c.no_flows.ensures c.start_flows.ensures,
-  )
+  fresh-read c.requires.0 c.args.s.now c.requires.1 c.hold_nothing.ensures c.disown.ensures c.every_slot.ensures c.put_masks.ensures c.no_flows.ensures c.start_flows.ensures,
+  fresh-sound c.requires.0 c.args.s.now c.requires.1 c.hold_nothing.ensures c.disown.ensures c.every_slot.ensures c.put_masks.ensures c.no_flows.ensures c.start_flows.ensures,
+)
 
 pub begin_spec : {M : Type 1} → statement M
 begin_spec =

@@ -48,7 +48,7 @@ loop-left-preserved c =
     rw c.next-i.ensures
     (looking-on g some_left
     (elim c.if-mask-i-eq1.branch [
-      then-mask-i-eq1+else-room_from w ↦ no_room g w.if-mask-i-eq1.true (sym w.room_from.ensures ∙ w.if-room_from.false)
+      | then-mask-i-eq1+else-room_from w ↦ no_room g w.if-mask-i-eq1.true (sym w.room_from.ensures ∙ w.if-room_from.false)
       | else-mask-i-eq1 w ↦ not-in-mask g w.if-mask-i-eq1.false
     ]))
 

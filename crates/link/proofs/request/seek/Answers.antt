@@ -45,10 +45,10 @@ returns-in-Nowhere c =
     let s = c.args in
     let left = c.in-Nowhere.left in
     let not-spent : s.flow.injection ≡ newest (window_of s.w) → s.flow.remainder ≡ 0 → ⊥ = λ frame spent.
-      elim c.else-flow-eq0.branch [
-        else-flow-eq0-via-then-flow-eq0+else-flow-newest w ↦ w.if-flow-newest.false (frame ∙ sym w.newest.ensures)
-        | else-flow-eq0-via-else-flow-eq0 w ↦ w.if-flow-eq0.false spent
-      ] in
+    elim c.else-flow-eq0.branch [
+      | else-flow-eq0-via-then-flow-eq0+else-flow-newest w ↦ w.if-flow-newest.false (frame ∙ sym w.newest.ensures)
+      | else-flow-eq0-via-else-flow-eq0 w ↦ w.if-flow-eq0.false spent
+    ] in
     λ p o.
     let found-is = c.find-found.ensures ∙ sought-on o c.late_rank-late.ensures in
     let none = ap found_of (sym c.in-Nowhere.is) ∙ found-is in

@@ -24,7 +24,7 @@ pub reset_tables-requires : goal.reset_tables-requires
 reset_tables-requires c =
     let o = c.requires in
     let marked : Marked o c.if-s-current-ne-NOBODY.s = elim c.if-s-current-ne-NOBODY.branch [
-      then-s-current-ne-NOBODY booked ↦ marked-booked o booked.if-s-current-ne-NOBODY.true booked.s-is
+      | then-s-current-ne-NOBODY booked ↦ marked-booked o booked.if-s-current-ne-NOBODY.true booked.s-is
       | else-s-current-ne-NOBODY kept ↦ marked-kept o kept.if-s-current-ne-NOBODY.false kept.s-is
     ] in
     (o.sound.parts.plan, marked.0.long ∙ o.sound.whole, omega (arith, o.proper.head_below, o.proper.measures.frames_most))
@@ -35,7 +35,7 @@ returns c =
     let o = c.requires in
     let quiet_is = c.quiet.ensures ∙ quiet_same _ s.plan.count s.s.now (count_most _ o.sound.parts.plan) in
     let m : Marked o c.if-s-current-ne-NOBODY.s = elim c.if-s-current-ne-NOBODY.branch [
-      then-s-current-ne-NOBODY booked ↦ marked-booked o booked.if-s-current-ne-NOBODY.true booked.s-is
+      | then-s-current-ne-NOBODY booked ↦ marked-booked o booked.if-s-current-ne-NOBODY.true booked.s-is
       | else-s-current-ne-NOBODY kept ↦ marked-kept o kept.if-s-current-ne-NOBODY.false kept.s-is
     ] in
     let r = c.reset_tables.ensures in

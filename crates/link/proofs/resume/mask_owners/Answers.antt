@@ -24,7 +24,7 @@ pub loop-p-preserved : goal.loop-p-preserved
 loop-p-preserved c =
     let v = c.requires.0 in
     elim c.if-s-p-ne-NOBODY.branch [
-      then-s-p-ne-NOBODY owned ↦ rw owned.s-is (masking-owned v c.loop-p.invariant c.loop-p-test.true owned.if-s-p-ne-NOBODY.true owned.book.ensures)
+      | then-s-p-ne-NOBODY owned ↦ rw owned.s-is (masking-owned v c.loop-p.invariant c.loop-p-test.true owned.if-s-p-ne-NOBODY.true owned.book.ensures)
       | else-s-p-ne-NOBODY unowned ↦ rw unowned.s-is (masking-unowned v c.loop-p.invariant c.loop-p-test.true unowned.if-s-p-ne-NOBODY.false)
     ]
 

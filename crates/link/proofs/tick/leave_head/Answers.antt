@@ -35,12 +35,12 @@ loop-i-preserved c =
     let i = c.loop-i.i in
     let read = c.flow_at-f.ensures.is in
     elim c.if-f-head.branch [
-      then-f-head in_head ↦
-        rw in_head.s-is (flowing-put c.loop-i.invariant c.loop-i-test.true
-        (in_head.moved_to.ensures ∙ left-moved a.plan a.head a.on i c.flow_at-f.result in_head.if-f-head.true ∙ ap (flow_left a.plan a.head a.on i) read)
-        in_head.put_flow.ensures)
+      | then-f-head in_head ↦
+          rw in_head.s-is (flowing-put c.loop-i.invariant c.loop-i-test.true
+          (in_head.moved_to.ensures ∙ left-moved a.plan a.head a.on i c.flow_at-f.result in_head.if-f-head.true ∙ ap (flow_left a.plan a.head a.on i) read)
+          in_head.put_flow.ensures)
       | else-f-head elsewhere ↦
-        rw elsewhere.s-is (flowing-kept c.loop-i.invariant c.loop-i-test.true (left-kept a.plan a.head a.on i c.flow_at-f.result elsewhere.if-f-head.false read))
+          rw elsewhere.s-is (flowing-kept c.loop-i.invariant c.loop-i-test.true (left-kept a.plan a.head a.on i c.flow_at-f.result elsewhere.if-f-head.false read))
     ]
 
 pub returns : goal.returns

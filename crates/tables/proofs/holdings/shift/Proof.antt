@@ -55,9 +55,9 @@ loop-less c = search rules
 
 loop-again : tie.Need-loop-q-preserved invariant-loop decreases-loop
 loop-again c = (
-    counting-on c.loop-q.invariant.0 (omega arith) c.loop-q.invariant.1.from c.wrapping_inc-x.ensures,
-    replacing-more 0 c.loop-q.invariant.1 c.loop-q-test.true (put c.before),
-  )
+  counting-on c.loop-q.invariant.0 (omega arith) c.loop-q.invariant.1.from c.wrapping_inc-x.ensures,
+  replacing-more 0 c.loop-q.invariant.1 c.loop-q-test.true (put c.before),
+)
 
 returns : tie.Need-returns invariant-loop decreases-loop
 returns c = replacing-done 0 c.before.loop-q.invariant.1 (omega arith)

@@ -11,7 +11,7 @@ pub loop-q-preserved : goal.loop-q-preserved
 loop-q-preserved c =
     let owner = owners-at c.args.s.now c.loop-q.q (omega arith) in
     elim c.if-s-q-ne-NOBODY.branch [
-      then-s-q-ne-NOBODY booked ↦ testing-miss c.loop-q.invariant c.loop-q-test.true (rw (owner, ne_eqb _ _ booked.if-s-q-ne-NOBODY.true)) booked.all-is
+      | then-s-q-ne-NOBODY booked ↦ testing-miss c.loop-q.invariant c.loop-q-test.true (rw (owner, ne_eqb _ _ booked.if-s-q-ne-NOBODY.true)) booked.all-is
       | else-s-q-ne-NOBODY free ↦ testing-pass c.loop-q.invariant c.loop-q-test.true (rw (owner, eq-eqb _ _ free.if-s-q-ne-NOBODY.false)) free.all-is
     ]
 

@@ -40,7 +40,7 @@ search-preserved c =
     let s = c.args in
     let nothing : NoneIn (window_of s.w) (valid_at (owners_of s.s.now) (ranks_from s.w s.low)) s.share c.search.frame c.search.left =
     elim c.if-left-gt0.branch [
-      then-left-gt0+else-valid-ne0 w ↦ none-valid (no_slot w.valid_slots-valid.ensures w.if-valid-ne0.false)
+      | then-left-gt0+else-valid-ne0 w ↦ none-valid (no_slot w.valid_slots-valid.ensures w.if-valid-ne0.false)
       | else-left-gt0 w ↦ none-spent w.if-left-gt0.false
     ] in
     rw c.next-frame.ensures
@@ -58,7 +58,7 @@ returns-then-frame-newest c =
     let s = c.args in
     let nothing : NoneIn (window_of s.w) (valid_at (owners_of s.s.now) (ranks_from s.w s.low)) s.share c.search.frame c.search.left =
     elim c.if-left-gt0.branch [
-      then-left-gt0+else-valid-ne0 w ↦ none-valid (no_slot w.valid_slots-valid.ensures w.if-valid-ne0.false)
+      | then-left-gt0+else-valid-ne0 w ↦ none-valid (no_slot w.valid_slots-valid.ensures w.if-valid-ne0.false)
       | else-left-gt0 w ↦ none-spent w.if-left-gt0.false
     ] in
     walked-out c.search.invariant.walked nothing c.search.invariant.there (c.if-frame-newest.true ∙ c.newest-newest.ensures)

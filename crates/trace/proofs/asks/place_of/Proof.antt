@@ -6,14 +6,14 @@ use Rattle.trace.proofs.LinkTold.{current-few}
 use Rattle.trace.proofs.asks.place_of.Statement.{statement}
 use Rattle.trace.proofs.asks.place_of.Tie as tie
 
-returns : tie.Need-returns
-returns c = (current-few c.before.before.requires, rw (ne_eqb _ _ c.if1.true))
+returns : tie.Need-returns-then-reply-ne0
+returns c = (current-few c.requires, rw (ne_eqb _ _ c.if-reply-ne0.true))
 
-cast-result : tie.Need-overflow-cast-result
+cast-result : tie.Need-overflow_cast-result
 cast-result c = search rules
 
-returns-2 : tie.Need-returns-2
-returns-2 c = (omega (arith, c.struct-known2.given), rw (eq-eqb _ _ c.before.if1.false))
+returns-2 : tie.Need-returns
+returns-2 c = (omega (arith, c.struct_known-2-1.given), rw (eq-eqb _ _ c.before.if-reply-ne0.false))
 
-pub place-of-spec : {M : Type 1} → statement M
-place-of-spec = tie.close (tie.spec returns cast-result returns-2)
+pub place_of_spec : {M : Type 1} → statement M
+place_of_spec = tie.close (tie.spec returns cast-result returns-2)

@@ -6,26 +6,26 @@ use Rattle.trace.proofs.LinkTold.{current-few, answered-as, count-told, current-
 use Rattle.trace.proofs.told.write_burst.Statement.{statement}
 use Rattle.trace.proofs.told.write_burst.Tie as tie
 
-answer-of-requires : tie.Need-answer-of-requires
+answer-of-requires : tie.Need-answer_of-requires
 answer-of-requires c κs = search rules
 
-call-of-requires : tie.Need-call-of-requires
+call-of-requires : tie.Need-call_of-requires
 call-of-requires c κs = search rules
 
-put-answer-requires : tie.Need-put-answer-requires
+put-answer-requires : tie.Need-put_answer-requires
 put-answer-requires c κs =
     let s = c.before.before.before.before in
     record { hand = s.requires.0; position = current-few s.requires.0.proper; fits = s.requires.1 }
 
-same_length : tie.Need-same-length
+same_length : tie.Need-shape_of-out
 same_length c = search rules
 
 returns : tie.Need-returns
 returns c =
     let put = c.before.before in
     let call = put.before.before in
-    let o = call.before.before.before.requires.0 in
-    lines-as (answered-as _ call.before.answer-of.ensures call.call-of.ensures (count-told o) (current-told o)) (omega arith) put.put-answer.ensures
+    let o = call.requires.0 in
+    lines-as (answered-as _ call.before.answer_of.ensures call.call_of.ensures (count-told o) (current-told o)) (omega arith) put.put_answer.ensures
 
-pub write-burst-spec : {M : Type 1} → statement M
-write-burst-spec = tie.close (tie.spec answer-of-requires call-of-requires put-answer-requires same_length returns)
+pub write_burst_spec : {M : Type 1} → statement M
+write_burst_spec = tie.close (tie.spec answer-of-requires call-of-requires put-answer-requires same_length returns)

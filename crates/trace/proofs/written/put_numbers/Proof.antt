@@ -7,45 +7,45 @@ use native.Mathlib.Omega.{arith}
 use Rattle.trace.proofs.written.put_numbers.Statement.{statement}
 use Rattle.trace.proofs.written.put_numbers.Tie as tie
 
-abbrev invariant-loop : tie.invariant-loop
+abbrev invariant-loop : tie.invariant-loop-k
 invariant-loop numbers out₀ at next₀ k₀ out next k = NumbersTo numbers out₀ out at next k
 
-abbrev decreases-loop : tie.decreases-loop
+abbrev decreases-loop : tie.decreases-loop-k
 decreases-loop numbers out₀ at next₀ k₀ out next k = length numbers - k
 
-loop-holds : tie.Need-loop-init invariant-loop decreases-loop
+loop-holds : tie.Need-loop-k-init invariant-loop decreases-loop
 loop-holds c = no-numbers _ _ _
 
-mul-put-number : tie.Need-overflow-mul-put-number invariant-loop decreases-loop
+mul-put-number : tie.Need-offset_bounds-numbers-k invariant-loop decreases-loop
 mul-put-number c = search rules
 
-shared-slice-read-put-number : tie.Need-shared-slice-read-put-number invariant-loop decreases-loop
+shared-slice-read-put-number : tie.Need-bounds-numbers-k invariant-loop decreases-loop
 shared-slice-read-put-number c = search rules
 
-put-number-requires : tie.Need-put-number-requires invariant-loop decreases-loop
+put-number-requires : tie.Need-put_number-next-requires invariant-loop decreases-loop
 put-number-requires c κs =
     let i = c.before.before in
-    omega (arith, i.before.loop.invariant.short, i.loop-test.true, i.before.loop.invariant.puts.length_stays)
+    omega (arith, i.before.loop-k.invariant.short, i.loop-k-test.true, i.before.loop-k.invariant.puts.length_stays)
 
-add-k : tie.Need-overflow-add-k invariant-loop decreases-loop
+add-k : tie.Need-overflow_add-k invariant-loop decreases-loop
 add-k c = search rules
 
-loop-less : tie.Need-loop-smaller invariant-loop decreases-loop
+loop-less : tie.Need-loop-k-smaller invariant-loop decreases-loop
 loop-less c = search rules
 
-loop-again : tie.Need-loop-preserved invariant-loop decreases-loop
+loop-again : tie.Need-loop-k-preserved invariant-loop decreases-loop
 loop-again c =
     let i = c.before.before.before.before.before in
-    one_number i.before.loop.invariant i.loop-test.true c.before.before.put-number.ensures.0 c.before.before.put-number.ensures.1
+    one_number i.before.loop-k.invariant i.loop-k-test.true c.before.before.put_number-next.ensures.0 c.before.before.put_number-next.ensures.1
 
-same_length : tie.Need-same-length invariant-loop decreases-loop
-same_length c = c.before.loop.invariant.puts.length_stays
+same_length : tie.Need-shape_of-out invariant-loop decreases-loop
+same_length c = c.before.loop-k.invariant.puts.length_stays
 
 returns : tie.Need-returns invariant-loop decreases-loop
-returns c = all-numbers c.before.loop.invariant (omega arith)
+returns c = all-numbers c.before.loop-k.invariant (omega arith)
 
-pub put-numbers-spec : {M : Type 1} → statement M
-put-numbers-spec =
+pub put_numbers_spec : {M : Type 1} → statement M
+put_numbers_spec =
     tie.close
     (tie.spec
     invariant-loop
