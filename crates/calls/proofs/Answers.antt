@@ -5,7 +5,6 @@ use Rattle.model.specs.Calls as model
 use Rattle.model.specs.Calls.{accepted, refused}
 use Rattle.model.specs.Record.{RecordCall}
 use Rattle.model.specs.Listing.{request_line, credit_line, tick_line, lend_line, reset_line}
-use Rattle.calls.specs.declared.Record.TheVariants.{Call}
 use Rattle.calls.specs.Reading.{record_for, call_in, answer_to_request, answer_to_credit, answer_to_tick, answer_to_lend, answer_to_reset, line_for}
 
 pub call-in : (c : Option RecordCall) → call_in (record_for c) ≡ c

@@ -1,4 +1,6 @@
 // Calls and their answers as bytes: call records are read, and a line is written for each answer.
+#![tactic(auto)]
+
 mod records;
 mod render;
 

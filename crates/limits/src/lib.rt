@@ -1,4 +1,6 @@
 // The limits of a plan, tests 2 to 7, on numbers as they are asked for. Who reads plans and who writes them make the same tests.
+#![tactic(auto)]
+
 mod entries;
 mod ranges;
 

@@ -1,5 +1,7 @@
 // The lines of granted positions and of ticks, made for many records at once and kept in two parts of four bytes each, which overlap; and
 // the lines of what requests come to and of a credit that is taken.
+#![tactic(auto)]
+
 ghost use Rattle.std.specs.Prelude.{◌≡◌, cond, ◌∷◌, [], ◌+◌, ◌<◌, ◌≤◌, eqb, length};
 ghost use Rattle.std.proofs.lemmas.List.Edits.{sets};
 ghost use Rattle.model.specs.Calls.{accepted};

@@ -9,12 +9,12 @@ use lib.Dec.{eqb}
 use borrow.Author.Tests.{ne_eqb}
 use Rattle.model.specs.Refusals.{first_of}
 use Rattle.model.specs.Word.{flow_of, departure_of, depart}
-use Rattle.model.specs.Plan.{Plan, Accepted, flow_count, plan_of, refusal}
+use Rattle.model.specs.Plan.{Plan, flow_count, plan_of, refusal}
 use Rattle.model.specs.Calls.{Call, Grant, History, requested, accepted, refused}
 use Rattle.model.specs.Link.{Link, flow}
 use Rattle.model.specs.Request.{Found, found, nowhere, request_tests, sought, would_be_valid, answered, request_after, request}
 use Rattle.model.specs.Claim.{GrantedWordAt, Demand3}
-use Rattle.model.specs.Scheduler.{Played, reference, step, play, started, run}
+use Rattle.model.specs.Scheduler.{Played, reference, step, play, started}
 use Rattle.model.specs.Burst.{BurstRecord, filled, in_order, burst}
 use Rattle.model.specs.CountedBursts.{Item, single, several, counts_as, replaced, event_in, step_with, play_with, run_with, BurstsCounted}
 use Rattle.model.proofs.AfterCalls.{Known, after-calls, after-fresh}

@@ -1,6 +1,5 @@
 -- Whether a flow waits in a stretch of a history is decided. Assumes nothing.
 use Prim.Native.Nat.{ℕ}
-use mathlib.Core.Path.{◌≡◌}
 use mathlib.Core.List.{◌∷◌, [], ◌++◌}
 use mathlib.Core.Logic.Dec
 use native.Mathlib.Decide.{ℕ_discrete}

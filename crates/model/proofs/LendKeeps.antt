@@ -2,13 +2,13 @@
 use Prim.Native.Nat.{ℕ, suc, ◌%◌, ◌^◌, ◌<◌}
 use mathlib.Core.Path.{◌≡◌, sym, ap, ◌∙◌, subst}
 use mathlib.Core.List.{◌∷◌}
-use mathlib.Core.Bool.{true, false, not, ◌||◌}
+use mathlib.Core.Bool.{true, false, not}
 use native.Mathlib.Omega.{arith}
 use lib.Dec.{ltb}
 use borrow.Author.Tests.{leb-false, ne_eqb, not-false}
 use Rattle.model.specs.Tables.{tally}
 use Rattle.model.specs.Refusals.{first_of}
-use Rattle.model.specs.Plan.{Plan, positions, flow_count}
+use Rattle.model.specs.Plan.{positions, flow_count}
 use Rattle.model.specs.Window.{every_from}
 use Rattle.model.specs.Link.{Link, Flow, window, owner, flow, holding, cells, with_held, held_from}
 use Rattle.model.specs.Request.{unbooked}

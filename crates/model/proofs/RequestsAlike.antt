@@ -16,7 +16,7 @@ use Rattle.model.specs.Word.{flow_of, departure_of, depart}
 use Rattle.model.specs.Plan.{positions, flow_count, entry}
 use Rattle.model.specs.Calls.{Grant, accepted, refused}
 use Rattle.model.specs.Window.{Window, start, newest, from_on}
-use Rattle.model.specs.Link.{Link, Flow, Step, window, link_with, owner, flow, holding, share, cells, with_flow}
+use Rattle.model.specs.Link.{Link, Flow, Step, window, link_with, owner, flow, holding, cells, with_flow}
 use Rattle.model.specs.Request.{Found, found, nowhere, request_tests, next_number, unbooked, valid, can_leave, valid_for, search, sought}
 use Rattle.model.specs.Request.{would_be_valid, newest_tests, booked, refused_at_newest, answered, request_after, request}
 use Rattle.model.specs.Holding.{InWindow}

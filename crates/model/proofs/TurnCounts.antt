@@ -10,7 +10,7 @@ use Rattle.model.specs.Tables.{tally}
 use Rattle.model.specs.Plan.{Plan, flow_count}
 use Rattle.model.specs.Calls.{History, lent, accepted}
 use Rattle.model.specs.History.{Mark, ticks, marks_of, lends, of_flow}
-use Rattle.model.specs.Fairness.{Waits, Waiting, lent_in, InTurn, Even, WithinARound, FairOn}
+use Rattle.model.specs.Fairness.{Waits, lent_in, InTurn, Even, WithinARound, FairOn}
 use Rattle.model.proofs.Marks.{mark}
 use Rattle.model.proofs.TurnOrder.{place, place-below, place-one, nearer, next-round}
 use Rattle.model.proofs.Turns.{LentInTurn, Turned, over-the-stretch}

@@ -4,7 +4,7 @@ use mathlib.Core.Path.{◌≡◌, sym, ap, ◌∙◌}
 use native.Mathlib.Nat.{mod-mod, mod-add-mod, add-mod_right}
 use native.Mathlib.Omega.{arith}
 use Rattle.model.specs.Tables.{ahead}
-use Rattle.model.proofs.Round.{first_with, first_with-low, first_with-high, first_with-mod, ahead-mod}
+use Rattle.model.proofs.Round.{first_with, first_with-high, first_with-mod, ahead-mod}
 
 -- how many of n flows are looked at before flow x, looking from p on
 abbrev pub place : (n p x : ℕ) → ℕ

@@ -8,7 +8,7 @@ use native.Mathlib.Decide.{dec_le}
 use native.Mathlib.Omega.{arith}
 use borrow.Author.Tests.{lt-leb}
 use Rattle.model.specs.Word.{departure_of}
-use Rattle.model.specs.Plan.{Plan, positions, plan_of, refusal, Accepted}
+use Rattle.model.specs.Plan.{Plan, positions, Accepted}
 use Rattle.model.specs.Calls.{Call, Grant, Event, History, requested, accepted, refused}
 use Rattle.model.specs.Link.{Link}
 use Rattle.model.specs.Request.{request}

@@ -5,9 +5,8 @@ use mathlib.Core.List.{List, ◌∷◌, [], ◌++◌, flat_map}
 use native.Mathlib.Omega.{arith}
 use lib.ListN.{replicate}
 use Rattle.model.specs.Plan.{plan_of, Accepted}
-use Rattle.model.specs.Link.{Link}
 use Rattle.model.specs.History.{granted_in_all}
-use Rattle.model.specs.Burst.{BurstRecord, Burst}
+use Rattle.model.specs.Burst.{BurstRecord}
 use Rattle.model.specs.Scheduler.{Played, reference}
 use Rattle.model.specs.CountedBursts.{Item, several, play_with, BurstsCounted}
 use Rattle.model.specs.QuantumNumbers.{expected_on}

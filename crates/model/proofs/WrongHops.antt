@@ -1,12 +1,12 @@
 -- Two boards: what two hops ask can be met, neither the step nor the order can be left out, and schedulers are sent back on the second board. Assumes nothing.
-use Prim.Native.Nat.{ℕ, ◌<◌}
+use Prim.Native.Nat.{◌<◌}
 use mathlib.Core.Path.{◌≡◌, refl}
 use mathlib.Core.List.{List, ◌∷◌, []}
 use mathlib.Core.Option.{some, none}
 use native.Mathlib.Omega.{arith}
 use lib.Dec.{lit<, lit≤}
 use Rattle.model.specs.Plan.{Plan, plan_of}
-use Rattle.model.specs.Calls.{Call, History, requested, ticked, accepted}
+use Rattle.model.specs.Calls.{Call, History, ticked}
 use Rattle.model.specs.Scheduler.{Scheduler, run, reference}
 use Rattle.model.specs.TwoHops.{InStep, GrantedIn, sent_at, LeavesAfter, LeavesAfterItCame}
 use Rattle.model.specs.PlanBytes.{listing, roomy, single}

@@ -5,7 +5,7 @@ use mathlib.Core.List.{List, ◌∷◌, []}
 use mathlib.Core.Option.{none}
 use native.Mathlib.Omega.{arith}
 use Rattle.model.specs.Plan.{plan_of}
-use Rattle.model.specs.Calls.{Call, History, ticked, lent, accepted, refused}
+use Rattle.model.specs.Calls.{Call, ticked, lent, accepted, refused}
 use Rattle.model.specs.Claim.{Clause}
 use Rattle.model.specs.Scheduler.{Scheduler, Meets, run, reference}
 use Rattle.model.specs.Buffer.{FitsBuffer, NeverOverfull}

@@ -8,10 +8,10 @@ use native.Mathlib.Omega.{arith}
 use lib.Dec.{lit<}
 use Rattle.model.specs.Plan.{flow_count, plan_of}
 use Rattle.model.specs.Calls.{Call, Event, History, requested, credited, ticked, lent, accepted, refused}
-use Rattle.model.specs.History.{of_flow, marks_of, lends}
+use Rattle.model.specs.History.{marks_of, lends}
 use Rattle.model.specs.Scheduler.{Scheduler, run, reference}
 use Rattle.model.specs.PlanBytes.{plan3, listing}
-use Rattle.model.specs.Fairness.{Waiting, lent_in, all_lent_in, InTurn, Even, WithinARound, Fair}
+use Rattle.model.specs.Fairness.{lent_in, all_lent_in, InTurn, Even, WithinARound, Fair}
 use Rattle.model.specs.WrongTurns.{lowest_always, looks_from_last, steps_on, turns_on_refusal, tick_forgets, leaves_count, keeps_turn}
 use Rattle.model.proofs.Unfoldings.{plans-compute, calls-compute, counts-compute}
 use Rattle.model.proofs.Decidable.{IsYes, proved}

@@ -1,10 +1,10 @@
 -- Schedulers that lend wrongly (RULES 9.1 to 9.4). Each is the reference scheduler but for one fault. Assumes nothing.
-use Rattle.std.specs.Prelude.{ℕ, suc, ◌%◌, ◌^◌, Bool, true, not, ◌&&◌, cond, leb}
+use Rattle.std.specs.Prelude.{ℕ, ◌%◌, ◌^◌, Bool, true, not, ◌&&◌, cond, leb}
 use Rattle.std.proofs.Math.Option.{Option, some, none}
 use Rattle.model.specs.Tables.{first_from}
 use Rattle.model.specs.Plan.{flow_count}
 use Rattle.model.specs.Calls.{LendAnswer, accepted, refused, in_mask}
-use Rattle.model.specs.Link.{Link, owner, flow, with_flow, with_mark, with_held, held_from}
+use Rattle.model.specs.Link.{Link, owner, with_mark}
 use Rattle.model.specs.Request.{unbooked}
 use Rattle.model.specs.Lend.{can_take, takes, lent_to}
 use Rattle.model.specs.Scheduler.{Scheduler, reference}

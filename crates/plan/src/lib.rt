@@ -1,5 +1,7 @@
 // A link's plan. Its bytes are read, tested, and accepted or refused by a number from 1 to 7. A plan that is asked for is tested in the same way and
 // written as bytes, or refused by a number from 2 to 7 or by 19.
+#![tactic(auto)]
+
 mod draft;
 mod entries;
 mod header;

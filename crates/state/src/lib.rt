@@ -1,6 +1,8 @@
 // The state of a link but for its plan: one array of bytes in parts, one after the other. Each part has an offset, a length and a reader, in this
 // crate alone: what each flow holds (flow i at position p: ROW * i + p), the owner of each position, the mask of each frame's unbooked slots (eight
 // bytes, low first), the flows (four bytes each), for each flow a bound of what it holds, the current position, the mark and the turn.
+#![tactic(auto)]
+
 ghost use Rattle.std.specs.Prelude.{◌≡◌, ◌+◌, ◌*◌, ◌≤◌, ◌<◌, length};
 ghost use Rattle.state.specs.Parts.{with_part};
 ghost use Rattle.state.specs.State.{Whole, mask_at, with_mask, MasksNow};

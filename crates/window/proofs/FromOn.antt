@@ -1,16 +1,15 @@
 -- From p on, which is p and every later position: by rank, a test of these positions, and elements replaced at them. Assumes nothing.
-use Rattle.std.proofs.Common.{◌≡◌, ℕ, ◌+◌, ◌-◌, ◌<◌, ◌≤◌, Bool, true, false, cond, not, ◌||◌, leb, List, get_or, sym, refl, ◌∙◌, arith, le-ltb, lt-ltb, le-leb, leb-true}
+use Rattle.std.proofs.Common.{◌≡◌, ℕ, ◌<◌, ◌≤◌, Bool, true, false, cond, not, ◌||◌, leb, List, get_or, sym, refl, ◌∙◌, arith, le-ltb, lt-ltb, le-leb, leb-true}
 use native.Mathlib.Decide.{dec_lt}
-use borrow.Author.Tests.{lt-leb}
 use Rattle.model.specs.Tables.{every}
 use Rattle.model.specs.Window as model
 use Rattle.model.specs.Window.{from_on, every_from}
 use Rattle.window.specs.declared.Window.{Window}
-use Rattle.window.specs.Ranges.{in_range, replaced, All}
-use Rattle.window.specs.Window.{window_of, size_of, base_of, Proper, from_in}
+use Rattle.window.specs.Ranges.{replaced, All}
+use Rattle.window.specs.Window.{window_of, size_of, Proper, from_in}
 use Rattle.window.proofs.Tabulated.{every-intro, every-at, every-miss, every-same}
-use Rattle.window.proofs.Ranges.{in-range, before-range, past-range, replaced-same}
-use Rattle.window.proofs.Ranks.{rank_in, rank-high, rank-low}
+use Rattle.window.proofs.Ranges.{replaced-same}
+use Rattle.window.proofs.Ranks.{rank_in}
 
 -- two tests that agree at every position
 pub every_from-same : (w : model.Window) (p : ℕ) (t t' : ℕ → Bool) → ((q : ℕ) → q < model.size w → t q ≡ t' q)

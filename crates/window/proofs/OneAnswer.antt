@@ -1,10 +1,10 @@
 -- What contracts say of ranges and of the next window leaves one answer. Assumes nothing.
-use Rattle.std.proofs.Common.{◌≡◌, ℕ, ◌+◌, ◌-◌, ◌/◌, ◌<◌, Bool, true, false, sym, refl, ap, ◌∙◌, ap₂, true≢false, arith}
+use Rattle.std.proofs.Common.{◌≡◌, ℕ, ◌-◌, ◌/◌, ◌<◌, Bool, true, false, sym, refl, ap, ◌∙◌, ap₂, true≢false, arith}
 use native.Mathlib.Decide.{dec_lt}
 use Rattle.model.specs.Window as model
 use Rattle.window.specs.declared.Window.{Window}
 use Rattle.window.specs.Ranges.{All, LastIn}
-use Rattle.window.specs.Window.{window_of, Ticked}
+use Rattle.window.specs.Window.{Ticked}
 
 module _ {t : ℕ → Bool} {a e : ℕ} where
   -- whether every position of a range passes

@@ -1,4 +1,6 @@
 // The window of a call: F, W, CP and the head frame; positions and frames going round; numbers.
+#![tactic(auto)]
+
 pub mod numbers; // the smaller, the larger, and sums modulo 256
 pub mod positions; // positions and frames, going round
 

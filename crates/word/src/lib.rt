@@ -1,4 +1,6 @@
 // The look-ahead word: four fields in 32 bits, and the word with another departure.
+#![tactic(auto)]
+
 ghost use Rattle.std.specs.Prelude.{◌≡◌};
 ghost use Rattle.model.specs.Word as model;
 ghost use Rattle.word.specs.Reading.{fields_of, joined_of};

@@ -2,7 +2,6 @@
 use borrow.Author.Rules.{rules}
 use borrow.Author.Tests.{not-true, not-false}
 use mathlib.Core.Path.{◌≡◌, sym, ap, ◌∙◌}
-use native.Mathlib.Omega.{arith}
 use Rattle.window.specs.Window.{window_of}
 use Rattle.state.specs.State.{with_bound}
 use Rattle.tables.specs.Holdings.{shifted}

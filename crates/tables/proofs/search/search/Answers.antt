@@ -1,6 +1,5 @@
-use Rattle.std.proofs.Common.{refl, sym, ◌∙◌, ◌≡◌, arith, rules}
+use Rattle.std.proofs.Common.{refl, sym, ◌∙◌, arith, rules}
 use native.Mathlib.Nat.{mod-lt}
-use Rattle.model.specs.Window.{newest}
 use Rattle.window.specs.Window.{window_of, ranks_from}
 use Rattle.window.proofs.Windows.{frame-fits}
 use Rattle.state.specs.State.{owners_of}
