@@ -9,7 +9,6 @@ use Rattle.plan.specs.declared.Outcome.{Outcome}
 use Rattle.plan.specs.declared.Verdict.TheVariants.{Accepted}
 use Rattle.plan.specs.Reading.{plan_for, read_of, verdict_for, Valid}
 use Rattle.plan.proofs.Laws.{is-plan}
-use Rattle.calls.specs.declared.Answer.{Answer}
 use Rattle.calls.specs.Reading.{answer_to_request, answer_to_credit, answer_to_tick, answer_to_lend, answer_to_reset}
 use Rattle.model.specs.Plan as model
 use Rattle.model.specs.Calls.{Call, Grant, CreditAnswer, TickAnswer, LendAnswer, ResetAnswer, Event, History, accepted, refused, requested, credited, ticked, lent}

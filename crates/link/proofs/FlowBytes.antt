@@ -1,7 +1,7 @@
 -- The flows of a state in four bytes each: one read after it was stored, and the others. Assumes nothing.
-use Prim.Native.Nat.{ℕ, ◌+◌, ◌*◌, ◌/◌, ◌%◌, ◌≤◌, ◌<◌}
+use Prim.Native.Nat.{ℕ, ◌+◌, ◌*◌, ◌/◌, ◌%◌, ◌<◌}
 use mathlib.Core.Path.{◌≡◌, refl, sym, ap, ◌∙◌}
-use mathlib.Core.List.{List, ◌∷◌, []}
+use mathlib.Core.List.{List}
 use native.Mathlib.Decide.{ℕ_discrete}
 use native.Mathlib.Omega.{arith}
 use lib.ListN.{length, get_or, set, length-set}
@@ -9,7 +9,7 @@ use lib.Seq.{ext_get_or, get_or-set_same, get_or-set_other}
 use Rattle.window.proofs.Tabulated.{get_d-table, length-table, table_same}
 use Rattle.state.specs.Parts.{part, Beside, Apart}
 use Rattle.state.specs.State.{Whole}
-use Rattle.state.proofs.Parts.{part_at, part-beside, beside-part, part-of-with, stores, stores-are}
+use Rattle.state.proofs.Parts.{part-beside, beside-part, part-of-with, stores, stores-are}
 use Rattle.link.specs.declared.Flow.{Flow}
 use Rattle.link.specs.Layout.{no_flow}
 use Rattle.link.specs.Parts.{flow_from, flow_bytes, flow_read, with_flow_at, flows_of}

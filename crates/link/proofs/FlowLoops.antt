@@ -3,7 +3,6 @@ use Prim.Native.Nat.{ℕ, ◌+◌, ◌≤◌, ◌<◌}
 use mathlib.Core.Path.{◌≡◌, refl, sym, ap, ◌∙◌}
 use mathlib.Core.List.{List}
 use native.Mathlib.Omega.{arith}
-use lib.ListN.{get_or, set}
 use Rattle.window.specs.Ranges.{in_range, replaced}
 use Rattle.window.proofs.Ranges.{replaced-none, replaced-more, replaced-kept, replaced-done}
 use Rattle.state.specs.Parts.{Beside}

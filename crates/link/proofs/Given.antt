@@ -33,7 +33,7 @@ use Rattle.link.specs.Reading.{link_of}
 use Rattle.link.specs.Sound.{Sound, SoundState}
 use Rattle.link.specs.Given.{StateIn, flow_or_zero, RequestIn, SeekIn}
 use Rattle.link.proofs.Plans.{plan-count, count-some, count_most}
-use Rattle.link.proofs.Readings.{read-flow, read-size, read-slots, read-frames, some_flow, flows_most}
+use Rattle.link.proofs.Readings.{read-flow, read-size, read-slots, read-frames, flows_most}
 use Rattle.link.proofs.FlowBytes.{flows-at}
 use Rattle.link.proofs.Lefts.{sought-spent}
 use Rattle.link.proofs.Searches.{sought-same, would_same, spent-at-newest}

@@ -10,7 +10,7 @@ use lib.Dec.{leb, ltb, eqb}
 use lib.ListN.{get_or}
 use Rattle.model.specs.Refusals.{Line, first_of, ◌when◌}
 use Rattle.model.specs.Plan as reference
-use Rattle.model.specs.Calls.{accepted, refused, in_mask}
+use Rattle.model.specs.Calls.{accepted, in_mask}
 use Rattle.model.specs.Window.{Window, every_from}
 use Rattle.model.specs.Link as model
 use Rattle.model.specs.Request.{unbooked}
@@ -28,10 +28,9 @@ use Rattle.window.specs.Ranges.{replaced}
 use Rattle.window.specs.Window.{window_of, size_of, from_in}
 use Rattle.window.proofs.FromOn.{every_from-same}
 use Rattle.tables.specs.Owners.{nobody, owner_of}
-use Rattle.tables.specs.Rows.{row, with_row}
+use Rattle.tables.specs.Rows.{row}
 use Rattle.tables.specs.Holdings.{room_at, shifted_row, shifted}
 use Rattle.tables.proofs.HoldingChanges.{one_more}
-use Rattle.link.specs.declared.Flow.{Flow}
 use Rattle.link.specs.Parts.{Parts}
 use Rattle.link.specs.Layout.{size_for, entry_at, flow_at, owner_at}
 use Rattle.link.specs.Updates.{with_held, with_holdings, with_mark, with_turn, with_flow}

@@ -1,5 +1,5 @@
 -- The bits of a mask from a bit on, found by halving; and whether there is one at n or above. Assumes nothing.
-use Prim.Native.Nat.{ℕ, zero, suc, ◌+◌, ◌*◌, ◌/◌, ◌^◌, ◌≤◌, ◌<◌}
+use Prim.Native.Nat.{ℕ, zero, suc, ◌+◌, ◌/◌, ◌^◌, ◌<◌}
 use mathlib.Core.Path.{◌≡◌, sym, ap, ◌∙◌}
 use mathlib.Core.Bool.{true, false}
 use native.Mathlib.Nat.{div-one, div-div-eq-div-mul, div-eq_of_lt, div-lt_iff_lt-mul, pow-suc}

@@ -10,14 +10,14 @@ use lib.Dec.{eqb}
 use borrow.Author.Tests.{eq-eqb, ne_eqb}
 use Rattle.plan.specs.declared.Plan.{Plan}
 use Rattle.state.specs.Parts.{part, number_in, Beside}
-use Rattle.state.specs.State.{Whole, held_of, owners_of, mask_at, masks_of}
+use Rattle.state.specs.State.{Whole, mask_at}
 use Rattle.state.proofs.Parts.{length_part, part_at}
 use Rattle.state.proofs.State.{held_at, owners-at, masks-at}
 use Rattle.link.specs.declared.Flow.{Flow}
 use Rattle.link.specs.declared.Link.{Link}
 use Rattle.link.specs.Layout.{no_flow}
-use Rattle.link.specs.Parts.{Parts, flow_from, flow_read, flows_of, parts_in, parts_of}
-use Rattle.link.specs.Sound.{SoundState, SoundLink}
+use Rattle.link.specs.Parts.{Parts, flow_from, flow_read, parts_in, parts_of}
+use Rattle.link.specs.Sound.{SoundLink}
 use Rattle.link.specs.Steps.{read_of}
 use Rattle.link.proofs.FlowBytes.{flows-at}
 use Rattle.link.proofs.Stored.{one-reading}

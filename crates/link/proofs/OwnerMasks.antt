@@ -1,5 +1,5 @@
 -- The masks of unbooked slots, made from a state's owners position by position. Assumes nothing.
-use Prim.Native.Nat.{ℕ, ◌+◌, ◌*◌, ◌/◌, ◌≤◌, ◌<◌}
+use Prim.Native.Nat.{ℕ, ◌+◌, ◌/◌, ◌≤◌, ◌<◌}
 use mathlib.Core.Path.{◌≡◌, refl, sym, ap, ◌∙◌}
 use mathlib.Core.List.{List}
 use mathlib.Core.Bool.{Bool, true, not, ◌&&◌, ◌||◌}
@@ -122,3 +122,12 @@ module _ {w : Window} (v : Proper w) {before s : List ℕ} where
         go q (yes d) _ = rw (eq-eqb q p d, d, lt-leb (p + 1) p (omega arith), ne_eqb (get_or (owners_of before) p 0) nobody is)
         go q (no d) (yes l) = rw (ne_eqb q p d, lt-leb p q l, lt-leb (p + 1) q (omega arith))
         go q (no d) (no l) = rw (ne_eqb q p d, le-leb p q (omega arith), le-leb (p + 1) q (omega arith))
+
+    -- whoever owns it
+    pub masking-one : {after : List ℕ} → (get_or s (4096 + p) 0 ≡ nobody → after ≡ s)
+        → ((get_or s (4096 + p) 0 ≡ nobody → ⊥) → Booked w.slots (p / w.slots) p s after) → Masking w before after (p + 1)
+    masking-one {after} same booked = go (ℕ_discrete (get_or s (4096 + p) 0) nobody)
+      where
+        go : Dec (get_or s (4096 + p) 0 ≡ nobody) → Masking w before after (p + 1)
+        go (yes e) = rw (same e) (masking-unowned e)
+        go (no some) = masking-owned some (booked some)

@@ -1,5 +1,5 @@
 -- The request of word x, whose flow is i, on link l: refused by the tests before the search, or what the search comes to. Assumes nothing.
-use Prim.Native.Nat.{ℕ, zero, suc, ◌<◌}
+use Prim.Native.Nat.{ℕ}
 use mathlib.Core.Path.{◌≡◌, sym, ap, ◌∙◌}
 use Rattle.model.specs.Refusals.{first_of}
 use Rattle.model.specs.Word as word

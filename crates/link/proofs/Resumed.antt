@@ -1,24 +1,23 @@
 -- A state taken up again: what the empty one has, and what is stored after its flows. Assumes nothing.
-use Prim.Native.Nat.{ℕ, ◌+◌, ◌*◌, ◌≤◌, ◌<◌}
-use mathlib.Core.Path.{◌≡◌, refl, sym, ap, ◌∙◌}
+use Prim.Native.Nat.{ℕ, ◌+◌, ◌*◌, ◌<◌}
+use mathlib.Core.Path.{◌≡◌, sym, ap, ◌∙◌}
 use mathlib.Core.List.{List}
 use native.Mathlib.Decide.{dec_lt}
 use native.Mathlib.Omega.{arith}
 use lib.ListN.{length, get_or, set, replicate, length-set, length-replicate, get_or-replicate, get_or-eq_default}
 use lib.Seq.{get_or-set_same, get_or-set_other}
-use Rattle.window.specs.Ranges.{in_range, replaced}
+use Rattle.window.specs.Ranges.{in_range}
 use Rattle.window.proofs.Ranges.{in-range, replaced-at}
 use Rattle.window.proofs.Tabulated.{table_same, replicate-table}
 use Rattle.window.specs.declared.Window.{Window}
 use Rattle.state.specs.Parts.{part, Beside}
-use Rattle.state.specs.State.{Whole, held_of, owners_of, with_owners, masks_of, bound_at}
+use Rattle.state.specs.State.{Whole, held_of, owners_of, with_owners, bound_at}
 use Rattle.state.proofs.Parts.{beside-set, beside-both, beside-wider, beside-replaced}
 use Rattle.state.proofs.State.{held-beside, owners-beside, owners-with, beside-owners, masks-beside}
 use Rattle.tables.specs.Rows.{rows_of}
 use Rattle.tables.specs.Holdings.{nothing_held}
-use Rattle.link.specs.declared.Flow.{Flow}
 use Rattle.link.specs.Layout.{no_flow}
-use Rattle.link.specs.Parts.{flow_from, flow_read, flows_of}
+use Rattle.link.specs.Parts.{flow_read, flows_of}
 use Rattle.link.specs.Resumed.{empty, OwnersMasked, Unbounded, Resumed}
 use Rattle.link.proofs.FlowBytes.{flows-beside}
 

@@ -1,10 +1,10 @@
 -- The state of a fresh link, from its parts stored one after the other. Assumes nothing.
-use Prim.Native.Nat.{ℕ, ◌+◌, ◌≤◌, ◌<◌}
-use mathlib.Core.Path.{◌≡◌, refl, sym, ap, ◌∙◌}
+use Prim.Native.Nat.{ℕ, ◌<◌}
+use mathlib.Core.Path.{◌≡◌, sym, ap, ◌∙◌}
 use mathlib.Core.List.{List}
 use mathlib.Core.Bool.{true}
 use native.Mathlib.Omega.{arith}
-use lib.ListN.{length, get_or, set, length-set, length-replicate, get_or-replicate}
+use lib.ListN.{get_or, set, length-set, length-replicate, get_or-replicate}
 use lib.Seq.{ext_get_or, get_or-set_same, get_or-set_other}
 use Rattle.model.specs.Fresh.{fresh}
 use Rattle.plan.specs.declared.Plan.{Plan}
@@ -12,15 +12,14 @@ use Rattle.plan.specs.Reading.{Valid, plan_for}
 use Rattle.window.specs.Ranges.{in_range, replaced}
 use Rattle.window.proofs.Ranges.{in-range, length-replaced, replaced-at}
 use Rattle.state.specs.Parts.{Beside}
-use Rattle.state.specs.State.{Whole, held_of, with_held, owners_of, with_owners, masks_of, MasksNow}
-use Rattle.state.proofs.Parts.{beside-set, beside-both, beside-wider}
+use Rattle.state.specs.State.{Whole, held_of, with_held, owners_of, with_owners, MasksNow}
+use Rattle.state.proofs.Parts.{beside-set, beside-both}
 use Rattle.state.proofs.State.{held-beside, held-with-all, beside-all-held, owners-beside, owners-with, beside-owners, masks-beside}
 use Rattle.unbooked.specs.Words.{Words}
 use Rattle.tables.specs.Owners.{nobody, everywhere}
 use Rattle.tables.specs.Holdings.{nothing_held}
 use Rattle.tables.proofs.Bounds.{bounds-nothing}
 use Rattle.tables.proofs.FreshTables.{length-everywhere, length-nothing}
-use Rattle.link.specs.declared.Flow.{Flow}
 use Rattle.link.specs.Layout.{no_flow}
 use Rattle.link.specs.Parts.{Parts, parts_in, flows_of}
 use Rattle.link.specs.Changes.{FlowsNow}

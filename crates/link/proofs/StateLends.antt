@@ -2,15 +2,14 @@
 use Prim.Native.Nat.{ℕ, ◌+◌, ◌%◌, ◌^◌, ◌≤◌, ◌<◌}
 use mathlib.Core.Path.{◌≡◌, refl, sym, ap, ◌∙◌}
 use mathlib.Core.List.{List, ◌∷◌, []}
-use mathlib.Core.Bool.{Bool, true, false, not, ◌&&◌, ◌||◌}
+use mathlib.Core.Bool.{Bool, true, not, ◌&&◌, ◌||◌}
 use native.Mathlib.Nat.{mod-lt}
 use native.Mathlib.Omega.{arith}
 use lib.Dec.{leb, eqb}
-use lib.ListN.{length, get_or, set, length-set}
+use lib.ListN.{get_or, set, length-set}
 use lib.Seq.{get_or-set_same, get_or-set_other}
 use borrow.Author.Tests.{eq-eqb, ne_eqb}
 use Rattle.model.specs.Refusals.{first_of, ◌when◌}
-use Rattle.model.specs.Tables.{every}
 use Rattle.model.specs.Calls.{in_mask}
 use Rattle.model.specs.Window as seen
 use Rattle.model.specs.Window.{every_from}
@@ -38,7 +37,7 @@ use Rattle.link.specs.Layout.{owner_at}
 use Rattle.link.specs.Lend.{takes_in, flow_found, first_taker}
 use Rattle.link.specs.Parts.{Parts, parts_in, flows_of}
 use Rattle.link.specs.Reading.{link_of}
-use Rattle.link.specs.Reset.{none_held_in, quiet_in}
+use Rattle.link.specs.Reset.{quiet_in}
 use Rattle.link.specs.Started.{started_flows}
 use Rattle.link.specs.Steps.{Went, SteppedParts}
 use Rattle.link.specs.Updates.{link_with, with_turn, with_mark, with_holdings}

@@ -1,10 +1,10 @@
 -- A tick on a state: a frame change, and the current position stored. Assumes nothing.
-use Prim.Native.Nat.{ℕ, ◌+◌, ◌*◌, ◌≤◌, ◌<◌}
+use Prim.Native.Nat.{ℕ, ◌+◌, ◌≤◌, ◌<◌}
 use mathlib.Core.Path.{◌≡◌, refl, sym, ap, ◌∙◌}
 use mathlib.Core.List.{List}
 use mathlib.Core.Bool.{false}
 use native.Mathlib.Omega.{arith}
-use lib.ListN.{length, get_or, set, length-set}
+use lib.ListN.{get_or, set, length-set}
 use lib.Seq.{get_or-set_same, get_or-set_other}
 use Rattle.model.specs.Tick as tick
 use Rattle.plan.specs.declared.Plan.{Plan}
@@ -27,7 +27,7 @@ use Rattle.tables.proofs.HeldRows.{beside-carried, held_carried}
 use Rattle.tables.proofs.HoldingChanges.{last-below}
 use Rattle.link.specs.Given.{StateIn}
 use Rattle.link.specs.Layout.{size_for}
-use Rattle.link.specs.Parts.{Parts, parts_in, flows_of}
+use Rattle.link.specs.Parts.{parts_in, flows_of}
 use Rattle.link.specs.Changes.{FlowsNow, FrameLeft, ChangeIn}
 use Rattle.link.specs.Reading.{link_of}
 use Rattle.link.specs.Sound.{SoundState}

@@ -3,8 +3,6 @@ use Prim.Native.Nat.{ℕ, zero, suc}
 use mathlib.Core.Path.{◌≡◌, refl, sym, ap, ◌∙◌}
 use mathlib.Core.List.{List}
 use mathlib.Core.Option.{Option, some, none}
-use lib.ListN.{get_or}
-use Rattle.model.specs.Window as seen
 use Rattle.model.specs.Link as model
 use Rattle.model.specs.Refusals.{first_of}
 use Rattle.model.specs.Word.{flow_of, departure_of}
@@ -14,7 +12,6 @@ use Rattle.model.specs.Lend.{lend, lend_after, lent_after, lent_to, lend_tests, 
 use Rattle.model.specs.Reset.{reset, reset_after, reset_link, reset_tests}
 use Rattle.plan.specs.declared.Plan.{Plan}
 use Rattle.window.specs.declared.Window.{Window}
-use Rattle.window.specs.Window.{window_of}
 use Rattle.link.specs.Given.{StateIn}
 use Rattle.link.specs.Reading.{link_of}
 use Rattle.link.specs.Steps.{read_in, Went}

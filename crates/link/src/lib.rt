@@ -1,5 +1,7 @@
 // One link of a plan: its current position, the owner of each position, each flow's frame, remainder and expected number, what each flow
 // holds, whether the current slot is marked, and whose turn it is to be lent to.
+#![tactic(auto)]
+
 ghost use Rattle.std.specs.Prelude.{◌≡◌, ◌<◌};
 ghost use Rattle.link.specs.Updates.{moved_to, granted_in};
 

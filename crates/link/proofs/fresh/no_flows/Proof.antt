@@ -1,7 +1,7 @@
 -- `link::fresh::no_flows` meets its contract. Assumes nothing.
 use borrow.Author.Rules.{rules}
-use Prim.Native.Nat.{◌-◌, ◌<◌}
-use mathlib.Core.Path.{◌≡◌, refl, ap, ◌∙◌}
+use Prim.Native.Nat.{◌-◌}
+use mathlib.Core.Path.{refl}
 use native.Mathlib.Omega.{arith}
 use Rattle.link.proofs.FlowLoops.{Flowing, flowing-none, flowing-put, flowing-done}
 use Rattle.link.specs.Layout.{no_flow}

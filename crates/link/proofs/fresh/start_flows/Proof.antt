@@ -1,7 +1,7 @@
 -- `link::fresh::start_flows` meets its contract. Assumes nothing.
 use borrow.Author.Rules.{rules}
 use Prim.Native.Nat.{◌-◌, ◌<◌}
-use mathlib.Core.Path.{◌≡◌, refl, ap, ◌∙◌}
+use mathlib.Core.Path.{ap, ◌∙◌}
 use native.Mathlib.Omega.{arith}
 use Rattle.link.proofs.FlowLoops.{Flowing, flowing-none, flowing-put, flowing-done}
 use lib.ListN.{get_or}

@@ -1,7 +1,7 @@
 -- `link::lend::lend` meets its contract. Assumes nothing.
 use native.Mathlib.Nat.{mod-lt}
 use native.Mathlib.Omega.{arith}
-use Prim.Native.Nat.{ℕ, ◌+◌, ◌%◌, ◌<◌}
+use Prim.Native.Nat.{◌+◌, ◌<◌}
 use mathlib.Core.Path.{◌≡◌, refl, ◌∙◌}
 use Rattle.link.specs.Lend.{takes_in, first_taker}
 use Rattle.link.specs.Parts.{parts_in}

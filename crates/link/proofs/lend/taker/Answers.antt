@@ -1,4 +1,4 @@
-use Rattle.std.proofs.Common.{◌<◌, sym, ◌∙◌, arith, rules}
+use Rattle.std.proofs.Common.{◌<◌, sym, ◌∙◌, arith}
 use Rattle.link.proofs.Takers.{looking-all, flow_below, takes-here, no_room, not-in-mask, looking-on, found, nobody}
 use Rattle.link.proofs.Plans.{count_most, count-some}
 use Rattle.link.proofs.lend.taker.Goals as goal

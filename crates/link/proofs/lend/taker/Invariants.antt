@@ -1,5 +1,4 @@
 use Rattle.link.proofs.Takers.{Looking}
-use Rattle.state.specs.State.{held_of}
 use Rattle.link.proofs.lend.taker.Given as goal
 
 abbrev pub invariant-loop-left : goal.invariant-loop-left

@@ -1,8 +1,7 @@
-use Rattle.std.proofs.Common.{◌≡◌, sym, ap, ◌∙◌, true≢false}
-use borrow.Author.Tests.{eqb-true, eq-eqb}
+use Rattle.std.proofs.Common.{◌≡◌, sym, ap, ◌∙◌}
 use Rattle.model.specs.Refusals.{first_of}
 use Rattle.model.specs.Window.{newest}
-use Rattle.model.specs.Request.{nowhere, newest_tests, would_be_valid, sought}
+use Rattle.model.specs.Request.{nowhere, newest_tests, would_be_valid}
 use Rattle.window.specs.Window.{window_of}
 use Rattle.tables.specs.Search.{found_of}
 use Rattle.link.specs.declared.request.Sought.TheVariants.{Nowhere}

@@ -1,7 +1,6 @@
 -- `link::request::told` meets its contract. Assumes nothing.
 use borrow.Author.Rules.{rules}
 use borrow.Author.Tests.{eq-eqb, ne_eqb}
-use mathlib.Core.Path.{ap, ◌∙◌, sym}
 use Rattle.link.proofs.request.told.Statement.{statement}
 use Rattle.link.proofs.request.told.Tie as tie
 

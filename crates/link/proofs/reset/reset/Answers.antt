@@ -1,7 +1,4 @@
-use Rattle.std.proofs.Common.{◌≡◌, refl, ap, ◌∙◌, arith, rules}
-use Rattle.window.specs.Window.{window_of}
-use Rattle.state.specs.State.{held_of, owners_of}
-use Rattle.link.specs.Reset.{quiet_in}
+use Rattle.std.proofs.Common.{refl, ap, ◌∙◌, arith}
 use Rattle.link.specs.Started.{started_flows}
 use Rattle.link.proofs.Plans.{count_most}
 use Rattle.link.proofs.Resets.{reset-refused, reset-granted}

@@ -1,7 +1,6 @@
-use Rattle.std.proofs.Common.{◌∙◌, arith, rules}
-use Rattle.link.proofs.OwnerMasks.{measures-at-first, frame-of, masking-none, masking-unowned, masking-owned, masking-done}
+use Rattle.std.proofs.Common.{◌∙◌, arith}
+use Rattle.link.proofs.OwnerMasks.{measures-at-first, frame-of, masking-none, masking-one, masking-done}
 use Rattle.link.proofs.resume.mask_owners.Goals as goal
-use Rattle.link.proofs.resume.mask_owners.Goals.{then-s-p-ne-NOBODY, else-s-p-ne-NOBODY}
 
 pub every_slot-requires : goal.every_slot-requires
 every_slot-requires c = measures-at-first c.requires.0.measures
@@ -22,11 +21,7 @@ book-requires c = frame-of c.requires.0 c.loop-p-test.true
 
 pub loop-p-preserved : goal.loop-p-preserved
 loop-p-preserved c =
-    let v = c.requires.0 in
-    elim c.if-s-p-ne-NOBODY.branch [
-      | then-s-p-ne-NOBODY owned ↦ rw owned.s-is (masking-owned v c.loop-p.invariant c.loop-p-test.true owned.if-s-p-ne-NOBODY.true owned.book.ensures)
-      | else-s-p-ne-NOBODY unowned ↦ rw unowned.s-is (masking-unowned v c.loop-p.invariant c.loop-p-test.true unowned.if-s-p-ne-NOBODY.false)
-    ]
+    masking-one c.requires.0 c.loop-p.invariant c.loop-p-test.true (λ unowned. grind arith) (λ owned. grind arith)
 
 pub returns : goal.returns
 returns c = masking-done c.put_masks.ensures c.loop-p-test.false c.loop-p.invariant

@@ -1,4 +1,3 @@
-use Rattle.std.proofs.Common.{◌≡◌}
 use Rattle.link.proofs.StateTicks.{went-stays, went-leaves}
 use Rattle.link.proofs.tick.tick.Goals as goal
 use Rattle.link.proofs.tick.tick.Goals.{then-on-w, else-on-w}
