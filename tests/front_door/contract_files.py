@@ -11,16 +11,16 @@ CRATES = ROOT / "crates"
 FUNCTION = re.compile(r'^( *)(pub(?:\(crate\))? )?(?:extern "C" )?fn (\w+)',
                       re.MULTILINE)
 CLAUSE = re.compile(r"^ *(requires|ensures)(?: (\w+))? \{", re.MULTILINE)
-GHOST = re.compile(r"^ghost use Rattle·(\w+)(?:·specs)?\.specs\.([\w.]+)"
+GHOST = re.compile(r"^ghost use Rattle\.(\w+)\.specs\.([\w.]+)"
                    r"(?:\.\{([^}]*)\}| as (\w+));", re.MULTILINE)
-USE = re.compile(r"^use Rattle·(\w+)(?:·specs)?\.specs\.([\w.]+)"
+USE = re.compile(r"^(?:pub )?use Rattle\.(\w+)\.specs\.([\w.]+)"
                  r"(?:\.\{([^}]*)\}| as (\w+))$", re.MULTILINE)
 COMMENT = re.compile(r"^ *--.*\n", re.MULTILINE)
 RECORD = re.compile(r"^(?:pub )?record ([^\s:({]+)")
 GIVEN = re.compile(r"^(?:abbrev |unfoldable )?(?:pub )?([^\s:({]+) :")
 FIELD = re.compile(r"^ +(?:pub )?([^\s:({]+) : (.*)")
 BINDERS = re.compile(r"^[({][^(){}:]+ : ")
-OPENS, CLOSES = "([{⌜", ")]}⌝"
+OPENS, CLOSES = "([{", ")]}"
 
 
 class Clause:
@@ -73,10 +73,8 @@ def functions_of(path):
             if not clause:
                 break
             place = closed(text, clause.end())
-            body = text[clause.end():place - 1].strip()
-            body = re.sub(r"^λ \w+\. *", "", body).strip("⌜⌝ \n")
             getattr(each, clause.group(1)).append(
-                Clause(clause.group(2), body))
+                Clause(clause.group(2), text[clause.end():place - 1]))
         yield each
 
 
