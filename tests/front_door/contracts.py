@@ -22,7 +22,7 @@ from front_door.contract_files import (
 from front_door.pages import page
 from front_door.proof_files import declarations
 
-ONE_LINK = ("link/proofs/OneState.antt", "one-link", "SoundLink")
+ONE_LINK = ("link/proofs/OneState.antt", "one_link", "SoundLink")
 # For each definition the theorem after which it leaves one answer, its file,
 # and what it has to be about.
 SETTLED = {
@@ -44,16 +44,16 @@ SETTLED = {
     "state/Parts Beside": (
         "state/proofs/Parts.antt", "part-beside", "Beside"),
     "timing/File Split": (
-        "timing/proofs/OneAnswer.antt", "one-split", "Split"),
+        "timing/proofs/OneAnswer.antt", "one_split", "Split"),
     "timing/File Streak": (
         "timing/proofs/OneAnswer.antt", "one-streak", "Streak"),
     "unbooked/Bits Lowest": (
         "unbooked/proofs/WordBits.antt", "one-lowest", "Lowest"),
     "window/Ranges All": ("window/proofs/OneAnswer.antt", "one-test", "All"),
     "window/Ranges LastIn": (
-        "window/proofs/OneAnswer.antt", "one-last", "LastIn"),
+        "window/proofs/OneAnswer.antt", "one_last", "LastIn"),
     "window/Window FromRank": (
-        "window/proofs/Ranks.antt", "one-rank", "FromRank"),
+        "window/proofs/Ranks.antt", "one_rank", "FromRank"),
     "window/Window Ticked": (
         "window/proofs/OneAnswer.antt", "one-tick", "Ticked"),
 }

@@ -37,7 +37,7 @@ GONE = ("LendChoice", "each-taker", "FlowFrom", "open_choice.py", "no_such()",
         "model/proofs/LendChoice.antt", "Link::lends", "credit::refusal",
         "link/source/", "crates/links", "TilesToCome.antt", "--no-such-word",
         "credit::take")
-THERE = ("Link::lend", "credit::credit", "firstFrom", "some-taker",
+THERE = ("Link::lend", "credit::credit", "first_from", "some-taker",
          "late_rank()", "LendTurn.antt", "model/proofs/LendTurn.antt",
          "tests/", "./play -e", "link/specs/", "crates/NAME/specs/",
          "--timeline", "R 16", "1/2")
