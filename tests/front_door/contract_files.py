@@ -20,6 +20,8 @@ RECORD = re.compile(r"^(?:pub )?record ([^\s:({]+)")
 GIVEN = re.compile(r"^(?:abbrev |unfoldable )?(?:pub )?([^\s:({]+) :")
 FIELD = re.compile(r"^ +(?:pub )?([^\s:({]+) : (.*)")
 BINDERS = re.compile(r"^[({][^(){}:]+ : ")
+# The library's word for what holds where something is true.
+ON_TRUE = re.compile(r"OnTrue (\S+) (\(.*\))$")
 OPENS, CLOSES = "([{", ")]}"
 
 
@@ -113,7 +115,12 @@ def quantified(text):
     steps = parts(bare(text), " → ")
     bound = [step for step in steps[:-1] if BINDERS.match(step)]
     asked = [step for step in steps[:-1] if not BINDERS.match(step)]
-    return bound, asked, steps[-1]
+    says = steps[-1]
+    on_true = ON_TRUE.match(bare(says))
+    if on_true:
+        asked.append(on_true.group(1) + " ≡ true")
+        says = on_true.group(2)
+    return bound, asked, says
 
 
 # ---- definitions

@@ -10,6 +10,8 @@ Each promise, and each definition that it is made of, is read for the shape
   no others;
 - the function's other promises are equations for all that it leaves: of what it
   hands back, `result`, and of each thing that it was lent to change;
+- it is what an output gets where it takes all that is written, which is the
+  system's to say;
 - SETTLED names a theorem that says so.
 
 A function or a definition with such a promise and nothing of these is told."""
@@ -66,6 +68,10 @@ BELOW = re.compile(r"(\w+) < [1-9]\d*$")
 NOT_ZERO = re.compile(r"\((\w+) ≡ 0 → ⊥\)$")
 SOME = re.compile(r"Some\w* \(λ ([\w ]+)\. (.*)\)$")
 LENT = re.compile(r"(\w+): &(?:'\w+ )?mut\b")
+TAKEN = re.compile(r"OnTrue result \(Appends \(W\.contents output\.old\) "
+                   r"\(W\.contents output\.new\) \(take end out\.now\)\)$")
+# What the library says of lists and bytes, which are there.
+OF_THE_LIBRARY = {"List", "Appends"}
 BOUND = re.compile(r"result(?:\.\w+)* [≤<] [^×≡]*$")
 CLOCKS = {"timing::clock::" + name
           for name in ("nanoseconds", "since", "cost")}
@@ -121,6 +127,8 @@ def why(spoken):
         return SETTLED[spoken.where][1]
     if equations_are_beside(spoken):
         return "equations stand beside it"
+    if TAKEN.match(spoken.clause.text):
+        return "the system says whether it does"
     return None
 
 
@@ -144,7 +152,8 @@ def each_definition_is_found():
     """Else nothing would be read of what it says.  A list or a table in a
     record is something that there is, and says nothing."""
     unknown = {word for promise in promises() for word in promise.unknown}
-    return unknown - {"List"} and "not found: " + ", ".join(sorted(unknown))
+    unknown -= OF_THE_LIBRARY
+    return unknown and "not found: " + ", ".join(sorted(unknown))
 
 
 def statement_of(name, where):
@@ -242,6 +251,8 @@ class Made:
 
 RULE = ("((p : Plan) (x : ℕ) → RequestIn p count e w fields x s.now"
         " → result ≡ x)")
+BYTES = ("OnTrue result (Appends (W.contents output.old) (W.contents output.new) "
+         "(take end out.now))")
 GIVEN = "SomeRequest (λ p x. RequestIn p count e w fields x s.now)"
 
 
@@ -256,8 +267,9 @@ def a_silent_one_is_told():
               Made([], [RULE, "result ≡ 0"], "(out: &mut [u8]) -> u8"),
               Made([], [RULE, "out.new ≡ out.old"], "(out: &mut [u8]) -> u8"),
               Made([], ["InFrame w frame position × " + RULE]),
-              Made([], [bare(RULE)])]
-    spoken = [Made([GIVEN], [RULE]), Made([GIVEN], [bare(RULE)]),
+              Made([], [bare(RULE)]), Made([], ["OnTrue result (r ≡ 0)"]),
+              Made([], [BYTES.replace("out.now", "w.now")])]
+    spoken = [Made([], [BYTES]), Made([GIVEN], [RULE]), Made([GIVEN], [bare(RULE)]),
               Made([], [RULE, "result ≡ 0"]),
               Made([], [RULE, "result ≡ 0", "out.new ≡ out.old"],
                    "(out: &mut [u8]) -> u8"),
