@@ -4,7 +4,7 @@ what is in the code alone stands in a list of docs/PROVED.md."""
 import re
 
 from front_door.command import ROOT
-from front_door.pages import page, table
+from front_door.pages import below, page, table
 from front_door.rule_book import citations, cited, rules
 
 # Folders whose tests are executed; the simulator and the generator have none.
@@ -82,7 +82,7 @@ def the_list_has_reasons():
 def comments_quote_the_rule_book_alone():
     """Definitions, proofs and code cite, and have words of their own."""
     book = page("docs/RULES.md")
-    paths = [path for path in (ROOT / "crates").rglob("*")
+    paths = [path for path in below(ROOT / "crates")
              if path.suffix in COMMENT]
     wrong = ["%s: %s" % (path.relative_to(ROOT), quoted) for path in paths
              for comment in COMMENT[path.suffix].findall(path.read_text())

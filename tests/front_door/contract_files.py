@@ -11,16 +11,18 @@ CRATES = ROOT / "crates"
 FUNCTION = re.compile(r'^( *)(pub(?:\(crate\))? )?(?:extern "C" )?fn (\w+)',
                       re.MULTILINE)
 CLAUSE = re.compile(r"^ *(requires|ensures)(?: (\w+))? \{", re.MULTILINE)
-GHOST = re.compile(r"^ghost use Rattle·(\w+)(?:·specs)?\.specs\.([\w.]+)"
+GHOST = re.compile(r"^ghost use Rattle\.(\w+)\.specs\.([\w.]+)"
                    r"(?:\.\{([^}]*)\}| as (\w+));", re.MULTILINE)
-USE = re.compile(r"^use Rattle·(\w+)(?:·specs)?\.specs\.([\w.]+)"
+USE = re.compile(r"^(?:pub )?use Rattle\.(\w+)\.specs\.([\w.]+)"
                  r"(?:\.\{([^}]*)\}| as (\w+))$", re.MULTILINE)
 COMMENT = re.compile(r"^ *--.*\n", re.MULTILINE)
 RECORD = re.compile(r"^(?:pub )?record ([^\s:({]+)")
 GIVEN = re.compile(r"^(?:abbrev |unfoldable )?(?:pub )?([^\s:({]+) :")
 FIELD = re.compile(r"^ +(?:pub )?([^\s:({]+) : (.*)")
 BINDERS = re.compile(r"^[({][^(){}:]+ : ")
-OPENS, CLOSES = "([{⌜", ")]}⌝"
+# The library's word for what holds where something is true.
+ON_TRUE = re.compile(r"OnTrue (\S+) (\(.*\))$")
+OPENS, CLOSES = "([{", ")]}"
 
 
 class Clause:
@@ -73,10 +75,8 @@ def functions_of(path):
             if not clause:
                 break
             place = closed(text, clause.end())
-            body = text[clause.end():place - 1].strip()
-            body = re.sub(r"^λ \w+\. *", "", body).strip("⌜⌝ \n")
             getattr(each, clause.group(1)).append(
-                Clause(clause.group(2), body))
+                Clause(clause.group(2), text[clause.end():place - 1]))
         yield each
 
 
@@ -115,7 +115,12 @@ def quantified(text):
     steps = parts(bare(text), " → ")
     bound = [step for step in steps[:-1] if BINDERS.match(step)]
     asked = [step for step in steps[:-1] if not BINDERS.match(step)]
-    return bound, asked, steps[-1]
+    says = steps[-1]
+    on_true = ON_TRUE.match(bare(says))
+    if on_true:
+        asked.append(on_true.group(1) + " ≡ true")
+        says = on_true.group(2)
+    return bound, asked, says
 
 
 # ---- definitions

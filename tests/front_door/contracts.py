@@ -9,7 +9,9 @@ Each promise, and each definition that it is made of, is read for the shape
 - the function asks that there is one: `SomeRequest`, of the same conditions and
   no others;
 - the function's other promises are equations for all that it leaves: of what it
-  hands back, `r`, and of each thing that it was lent to change;
+  hands back, `result`, and of each thing that it was lent to change;
+- it is what an output gets where it takes all that is written, which is the
+  system's to say;
 - SETTLED names a theorem that says so.
 
 A function or a definition with such a promise and nothing of these is told."""
@@ -22,7 +24,7 @@ from front_door.contract_files import (
 from front_door.pages import page
 from front_door.proof_files import declarations
 
-ONE_LINK = ("link/proofs/OneState.antt", "one-link", "SoundLink")
+ONE_LINK = ("link/proofs/OneState.antt", "one_link", "SoundLink")
 # For each definition the theorem after which it leaves one answer, its file,
 # and what it has to be about.
 SETTLED = {
@@ -44,29 +46,33 @@ SETTLED = {
     "state/Parts Beside": (
         "state/proofs/Parts.antt", "part-beside", "Beside"),
     "timing/File Split": (
-        "timing/proofs/OneAnswer.antt", "one-split", "Split"),
+        "timing/proofs/OneAnswer.antt", "one_split", "Split"),
     "timing/File Streak": (
         "timing/proofs/OneAnswer.antt", "one-streak", "Streak"),
     "unbooked/Bits Lowest": (
         "unbooked/proofs/WordBits.antt", "one-lowest", "Lowest"),
     "window/Ranges All": ("window/proofs/OneAnswer.antt", "one-test", "All"),
     "window/Ranges LastIn": (
-        "window/proofs/OneAnswer.antt", "one-last", "LastIn"),
+        "window/proofs/OneAnswer.antt", "one_last", "LastIn"),
     "window/Window FromRank": (
-        "window/proofs/Ranks.antt", "one-rank", "FromRank"),
+        "window/proofs/Ranks.antt", "one_rank", "FromRank"),
     "window/Window Ticked": (
         "window/proofs/OneAnswer.antt", "one-tick", "Ticked"),
 }
 # What a contract of a link's may ask for and ask no more than its invariant.
 INVARIANT = re.compile(
-    r"(SoundLink \(?\w+( \.link\))?|StateIn plan w \(now s\)|Valid plan"
+    r"(SoundLink \w+(\.link)?|StateIn plan w s\.(now|old)|Valid plan"
     r"|Regular state)$")
-ROOM = re.compile(r"((said\.)?room|7|100) ≤ length \(now out\)$")
+ROOM = re.compile(r"((said\.)?room|7|100) ≤ length out\.old$")
 BELOW = re.compile(r"(\w+) < [1-9]\d*$")
 NOT_ZERO = re.compile(r"\((\w+) ≡ 0 → ⊥\)$")
 SOME = re.compile(r"Some\w* \(λ ([\w ]+)\. (.*)\)$")
 LENT = re.compile(r"(\w+): &(?:'\w+ )?mut\b")
-BOUND = re.compile(r"\(?r(?: \.\w+)*\)? [≤<] [^×≡]*$")
+TAKEN = re.compile(r"OnTrue result \(Appends \(W\.contents output\.old\) "
+                   r"\(W\.contents output\.new\) \(take end out\.now\)\)$")
+# What the library says of lists and bytes, which are there.
+OF_THE_LIBRARY = {"List", "Appends"}
+BOUND = re.compile(r"result(?:\.\w+)* [≤<] [^×≡]*$")
 CLOCKS = {"timing::clock::" + name
           for name in ("nanoseconds", "since", "cost")}
 
@@ -91,8 +97,7 @@ def a_number_meets(spoken):
 
 def is_asked_for(spoken):
     """What the function asks is that there is one, which meets just this."""
-    wanted = [bare(re.sub(r"\((\w+) \.entry\)", r"\1", each))
-              for each in spoken.asked]
+    wanted = [bare(each) for each in spoken.asked]
     some = [SOME.match(part) for clause in spoken.function.requires
             for part in parts(clause.text, " × ")]
     return any(each and each.group(1).split() == variables(spoken.bound)
@@ -105,10 +110,9 @@ def equations_are_beside(spoken):
     function = spoken.function
     others = [clause.text for clause in function.ensures
               if clause is not spoken.clause]
-    left = ["now (%s .exit) ≡ " % lent
-            for lent in LENT.findall(function.signature)]
+    left = [lent + ".new ≡ " for lent in LENT.findall(function.signature)]
     if "->" in function.signature:
-        left.append("r ≡ ")
+        left.append("result ≡ ")
     return left and all(any(text.startswith(each) for text in others)
                         for each in left)
 
@@ -123,6 +127,8 @@ def why(spoken):
         return SETTLED[spoken.where][1]
     if equations_are_beside(spoken):
         return "equations stand beside it"
+    if TAKEN.match(spoken.clause.text):
+        return "the system says whether it does"
     return None
 
 
@@ -146,7 +152,8 @@ def each_definition_is_found():
     """Else nothing would be read of what it says.  A list or a table in a
     record is something that there is, and says nothing."""
     unknown = {word for promise in promises() for word in promise.unknown}
-    return unknown - {"List"} and "not found: " + ", ".join(sorted(unknown))
+    unknown -= OF_THE_LIBRARY
+    return unknown and "not found: " + ", ".join(sorted(unknown))
 
 
 def statement_of(name, where):
@@ -242,29 +249,33 @@ class Made:
                 for spoken in Reader(self, clause).found if not why(spoken)]
 
 
-RULE = ("((p : Plan) (x : ℕ) → RequestIn p count e w fields x (now (s .entry))"
-        " → r ≡ x)")
-GIVEN = "SomeRequest (λ p x. RequestIn p count e w fields x (now s))"
+RULE = ("((p : Plan) (x : ℕ) → RequestIn p count e w fields x s.now"
+        " → result ≡ x)")
+BYTES = ("OnTrue result (Appends (W.contents output.old) (W.contents output.new) "
+         "(take end out.now))")
+GIVEN = "SomeRequest (λ p x. RequestIn p count e w fields x s.now)"
 
 
 def a_silent_one_is_told():
     """The search's contract of before, and others of its shape."""
     silent = [Made([], [RULE]), Made(["i < 16"], [RULE]),
-              Made([GIVEN.replace(" x (now s)", " 7 (now s)")], [RULE]),
-              Made([], ["((k : ℕ) → k < 0 → r ≡ k)"]),
-              Made([], ["((k : ℕ) → k < 4 → 3 < k → r ≡ k)"]),
+              Made([GIVEN.replace(" x s.now", " 7 s.now")], [RULE]),
+              Made([], ["((k : ℕ) → k < 0 → result ≡ k)"]),
+              Made([], ["((k : ℕ) → k < 4 → 3 < k → result ≡ k)"]),
               Made([GIVEN.replace("fields x", "fields x extra")], [RULE]),
-              Made([GIVEN.replace("(now s))", "(now s) × (p ≡ p))")], [RULE]),
-              Made([], [RULE, "r ≡ 0"], "(out: &mut [u8]) -> u8"),
-              Made([], [RULE, "now (out .exit) ≡ now (out .entry)"],
+              Made([GIVEN.replace("s.now)", "s.now × (p ≡ p))")], [RULE]),
+              Made([], [RULE, "result ≡ 0"], "(out: &mut [u8]) -> u8"),
+              Made([], [RULE, "out.new ≡ out.old"], "(out: &mut [u8]) -> u8"),
+              Made([], ["InFrame w frame position × " + RULE]),
+              Made([], [bare(RULE)]), Made([], ["OnTrue result (r ≡ 0)"]),
+              Made([], [BYTES.replace("out.now", "w.now")])]
+    spoken = [Made([], [BYTES]), Made([GIVEN], [RULE]), Made([GIVEN], [bare(RULE)]),
+              Made([], [RULE, "result ≡ 0"]),
+              Made([], [RULE, "result ≡ 0", "out.new ≡ out.old"],
                    "(out: &mut [u8]) -> u8"),
-              Made([], ["InFrame w frame position × " + RULE])]
-    spoken = [Made([GIVEN], [RULE]), Made([], [RULE, "r ≡ 0"]),
-              Made([], [RULE, "r ≡ 0", "now (out .exit) ≡ now (out .entry)"],
-                   "(out: &mut [u8]) -> u8"),
-              Made([], ["((k : ℕ) → k < 4 → r ≡ k)"]),
-              Made([], ["((k : ℕ) → (k ≡ 0 → ⊥) → r ≡ 0)"]),
-              Made([], ["((k : ℕ) → r ≡ 0)"])]
+              Made([], ["((k : ℕ) → k < 4 → result ≡ k)"]),
+              Made([], ["((k : ℕ) → (k ≡ 0 → ⊥) → result ≡ 0)"]),
+              Made([], ["((k : ℕ) → result ≡ 0)"])]
     wrong = [each.ensures[0].text for each in silent if not each.silent()]
     wrong += ["not silent: " + each.ensures[0].text
               for each in spoken if each.silent()]
@@ -273,9 +284,10 @@ def a_silent_one_is_told():
 
 def bounds_alone_are_told():
     """Of what is handed back, and of its fields."""
-    bounds = (["r < 4"], ["r .position < 256"],
-              ["(r .number ≤ 24) × (r .position < 256)"], [])
-    more = ["r ≡ 3"], ["r < 4", "r ≡ 3"], ["(r < 4) × (r ≡ 3)"]
+    bounds = (["result < 4"], ["result.position < 256"],
+              ["(result.number ≤ 24) × (result.position < 256)"], [])
+    more = (["result ≡ 3"], ["result < 4", "result ≡ 3"],
+            ["(result < 4) × (result ≡ 3)"])
     wrong = ["not told: %s" % each for each in bounds
              if not says_too_little(Made([], each))]
     wrong += ["told: %s" % each for each in more

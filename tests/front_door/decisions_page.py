@@ -5,7 +5,7 @@ import re
 from functools import lru_cache
 
 from front_door.command import ROOT
-from front_door.pages import anchors, links, page
+from front_door.pages import anchors, below, links, page
 
 PAGE = "docs/DECISIONS.md"
 HISTORY = "docs/history/decisions.md"
@@ -15,7 +15,6 @@ LIST = r" (\d+(?:(?:,| and| or| to) \d+)*)"
 CITED = re.compile(r"\b[Dd]ecisions?" + LIST)
 ALSO_CITED = re.compile(r"\b(?:[Dd]ecisions?|[Ss]ee)" + LIST)   # on the page
 MOST_LINES, WIDEST = 9, 150
-SKIPPED = {"target", ".git", "__pycache__"}
 
 
 def entries(name):
@@ -41,11 +40,10 @@ def cited_in(text, form=CITED):
 def texts():
     """Each file of the tree that is text, with its name."""
     found = {}
-    for path in ROOT.rglob("*"):
-        name = path.relative_to(ROOT)
-        if not SKIPPED & set(name.parts) and path.is_file():
+    for path in below(ROOT):
+        if path.is_file():
             text = path.read_bytes().decode("utf-8", errors="ignore")
-            found[str(name)] = text
+            found[str(path.relative_to(ROOT))] = text
     return found
 
 

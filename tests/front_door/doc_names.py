@@ -7,13 +7,14 @@ from functools import lru_cache
 from pathlib import Path
 
 from front_door.command import ROOT
+from front_door.pages import below
 
 PAGES = ("README.md", "CONTRIBUTING.md", "tests/README.md",
          "docs/src/README.md")              # and docs/*.md
 SOURCES = ("crates", "tests", "tools", "include", "player", "bindings",
            "bench", "docs/src", ".ci")
 COMMANDS = ("play", "plan", "dome", "check-log", "crates.txt")
-LEFT_OUT = {"must-fail", "__pycache__"}     # edits name what isn't there
+LEFT_OUT = {"must-fail"}                    # edits name what isn't there
 ENDINGS = ("antt", "rt", "md", "py", "rs", "c", "h", "sh", "js", "css",
            "html", "svg", "txt", "edit", "1")
 COMMENTS = {".antt": "--", ".rt": "//", ".rs": "//", ".c": "//"}
@@ -36,7 +37,7 @@ GONE = ("LendChoice", "each-taker", "FlowFrom", "open_choice.py", "no_such()",
         "model/proofs/LendChoice.antt", "Link::lends", "credit::refusal",
         "link/source/", "crates/links", "TilesToCome.antt", "--no-such-word",
         "credit::take")
-THERE = ("Link::lend", "credit::credit", "firstFrom", "some-taker",
+THERE = ("Link::lend", "credit::credit", "first_from", "some-taker",
          "late_rank()", "LendTurn.antt", "model/proofs/LendTurn.antt",
          "tests/", "./play -e", "link/specs/", "crates/NAME/specs/",
          "--timeline", "R 16", "1/2")
@@ -50,7 +51,7 @@ def pages():
 def paths():
     """Each path of the tree from a slash on, folders with one at the end."""
     inside = [path for folder in (*SOURCES, "docs", "flights")
-              for path in (ROOT / folder).rglob("*")]
+              for path in below(ROOT / folder)]
     return {"/%s%s" % (path.relative_to(ROOT), "/" if path.is_dir() else "")
             for path in [*inside, *ROOT.iterdir()]}
 
@@ -84,7 +85,7 @@ def text_of(path):
 @lru_cache(maxsize=None)
 def names_by_file():
     """Each source with its names, and those of its path; not this file."""
-    files = [path for folder in SOURCES for path in (ROOT / folder).rglob("*")
+    files = [path for folder in SOURCES for path in below(ROOT / folder)
              if path.is_file() and not LEFT_OUT & set(path.parts)]
     files += [ROOT / name for name in COMMANDS]
     files.remove(Path(__file__).resolve())

@@ -16,11 +16,12 @@ import re
 
 from front_door import slips
 from front_door.command import ROOT
+from front_door.proof_files import passed_on
 
 TWO = 2
 METHOD = re.compile(r"^    pub fn (\w+)", re.MULTILINE)
 EXPORT = re.compile(r'^pub extern "C" fn nazgolv_(\w+)', re.MULTILINE)
-AT_ROOT = re.compile(r"^pub (?:fn |use \w+::)([a-z]\w*)[(;]", re.MULTILINE)
+AT_ROOT = re.compile(r"^pub fn (\w+)\(", re.MULTILINE)
 OF_LINK = re.compile(r"^impl Link \{\n(.*?)^\}", re.MULTILINE | re.DOTALL)
 
 # How the entry points of each crate are found.
@@ -79,7 +80,8 @@ def found(crate):
     if CRATES[crate] == "exports":
         return EXPORT.findall("\n".join(sources(crate)))
     root = (ROOT / "crates" / crate / "src/lib.rt").read_text()
-    return [name for name in AT_ROOT.findall(root)
+    passed = [name for _, name in passed_on(root) if name[0].islower()]
+    return [name for name in AT_ROOT.findall(root) + passed
             if name not in HELPERS.get(crate, ())]
 
 

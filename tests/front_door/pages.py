@@ -1,7 +1,9 @@
 """What stands in a page of Markdown: code, links and tables."""
 
+import os
 import re
 from functools import lru_cache
+from pathlib import Path
 
 from front_door.command import ROOT, start, trouble
 
@@ -9,8 +11,18 @@ FILE = re.compile(r"[\w./-]+\.(?:antt|rt|md|py|rs|c|h|svg|txt)"
                   r"|[\w.-]+/[\w./-]*")
 
 
+BUILT = {"out", "target", "__pycache__", ".git"}     # folders
+
+
 def page(name):
     return (ROOT / name).read_text(encoding="utf-8")
+
+
+def below(folder):
+    """The files and folders of the tree below one, but for what is built."""
+    for at, folders, files in os.walk(folder):
+        folders[:] = sorted(set(folders) - BUILT)
+        yield from (Path(at, name) for name in [*folders, *sorted(files)])
 
 
 def code_lines(text):

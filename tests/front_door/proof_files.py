@@ -11,7 +11,8 @@ from front_door.command import ROOT
 CRATES = ROOT / "crates"
 MEASURING = ("timing",)         # its functions read clocks and have no claims
 COMMENT = re.compile(r"--.*")
-IMPORT = re.compile(r"^ *use [^\n{]*(?:\{[^}]*\})?", re.MULTILINE)
+IMPORT = re.compile(r"^ *(?:pub )?use [^\n{]*(?:\{[^}]*\})?", re.MULTILINE)
+GHOST = re.compile(r"^ghost use [^;]*;", re.MULTILINE)
 WORD = re.compile(r"[^\s(){}.,;]+")
 BLOCK = re.compile(r" *(?:pub )?(?:record|data) [^{\s]")
 MODULE = re.compile(r" *module ")
@@ -96,9 +97,8 @@ def claims():
                 line = line[head.end():]
             used.update(WORD.findall(line))
     for path in CRATES.glob("*/src/*.rt"):
-        lines = path.read_text(encoding="utf-8").splitlines()
-        used.update(word for line in lines if not line.startswith("ghost use")
-                    for word in WORD.findall(line))
+        used.update(WORD.findall(GHOST.sub("", path.read_text(
+            encoding="utf-8"))))
     return defined - used
 
 
@@ -125,7 +125,7 @@ def declared(path):
 # ---- functions
 
 FUNCTION = re.compile(r'^pub (?:extern "C" )?fn (\w+)', re.MULTILINE)
-SHOWN = re.compile(r"^pub use (\w+)::(\w+);", re.MULTILINE)
+SHOWN = re.compile(r"^pub use (\w+)::(?:(\w+)|\{([^}]*)\});", re.MULTILINE)
 STRUCT = re.compile(r"^pub struct (\w+)", re.MULTILINE)
 METHODS = re.compile(r"^impl (\w+) \{\n(.*?)^\}", re.MULTILINE | re.DOTALL)
 METHOD = re.compile(r"^    pub fn (\w+)", re.MULTILINE)
@@ -137,12 +137,19 @@ def functions_in(path):
     return set(FUNCTION.findall(text)) | set(METHOD.findall(text))
 
 
+def passed_on(text):
+    """The module and the name of each thing that a lib.rt passes on."""
+    for module, name, names in SHOWN.findall(text):
+        yield from ((module, each) for each in re.findall(
+            r"\w+", name or names))
+
+
 def shown_by(root):
     """The sources and the names of what a crate shows where it is named: the
     functions of lib.rt, those that it passes on, methods of its structs."""
     text = root.read_text(encoding="utf-8")
     yield from ((root, name) for name in FUNCTION.findall(text))
-    for module, name in SHOWN.findall(text):
+    for module, name in passed_on(text):
         path = root.parent / (module + ".rt")
         if path.exists() and name in functions_in(path):
             yield path, name

@@ -15,7 +15,7 @@ OTHER_SPECS = "arrival", "ahead"        # counted in one number
 LEFT_OVER = {
     "model/proofs/NewestFrame.antt": {"sought-if-come"},
     "planwords/proofs/DraftsAsked.antt": {"draft-flows"},
-    "shares/proofs/EachOnce.antt": {"same-true", "same-self"},
+    "shares/proofs/EachOnce.antt": {"same_true", "same_self"},
 }
 
 
@@ -94,7 +94,7 @@ def every_function_that_is_shown():
 
 def every_clause_of_demand_3():
     """The table has those of Claim.antt and no other."""
-    lines = re.findall(r"^  ([a-z -]+) : Clause$",
+    lines = re.findall(r"^  ([a-z_ -]+) : Clause$",
                        (SPECS / "Claim.antt").read_text(), re.MULTILINE)
     right = sorted(name for line in lines for name in line.split())
     has = sorted(name for row in table(page(PAGE), "Clause")
@@ -144,8 +144,8 @@ def names_are_told_apart():
              for each in asked_for()}
     told = ["written-meets" in declared(path), "lines-are" in declared(path),
             ("model/proofs/Demand3.antt", "meets") in asked,
-            ("model/proofs/Demand3.antt", "each-map") in asked,
-            ("link/proofs/Demand3.antt", "code-meets") in asked,
+            ("model/proofs/Demand3.antt", "each_map") in asked,
+            ("link/proofs/Demand3.antt", "code_meets") in asked,
             missing([(path, "no-such-name"), (path, "written-meets")])]
     return told != [True, False, True, False, True, [
         "program/proofs/Demand3.antt: no-such-name"]] and "%s" % told

@@ -114,10 +114,11 @@ def papers_are_not_cited():
 
 
 def theorems_are_proved():
-    """Each hyphenated name in code stands on docs/PROVED.md."""
+    """Each name in code that has a hyphen or an underscore stands on
+    docs/PROVED.md."""
     known = set(inline_code(page("docs/PROVED.md")))
     wrong = [name for name in inline_code(text())
-             if re.fullmatch(r"[a-z]\w*(-\w+)+", name) and name not in known
+             if re.fullmatch(r"[a-z]\w*[-_][\w-]+", name) and name not in known
              and not name.startswith("rattle-kit")]
     return wrong and "not on docs/PROVED.md: " + ", ".join(wrong)
 

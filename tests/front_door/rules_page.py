@@ -6,7 +6,7 @@ import re
 
 from edges import refusals_page
 from front_door.command import ROOT
-from front_door.pages import inline_code, page
+from front_door.pages import below, inline_code, page
 from front_door.rule_book import (
     citations, cited, decided, given_by, is_in, named, pair, rules, sections)
 from simulator.listing import simulate
@@ -124,7 +124,7 @@ def places_are_there():
 
 def texts():
     """Every text that may cite a rule, by its path from the root."""
-    paths = [path for folder in CITING for path in (ROOT / folder).rglob("*")]
+    paths = [path for folder in CITING for path in below(ROOT / folder)]
     for path in paths + [ROOT / name for name in CITING_FILES]:
         if path.is_file() and path.suffix != ".pyc":
             try:
