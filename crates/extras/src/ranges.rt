@@ -7,6 +7,7 @@ ghost use Rattle.extras.specs.Reading.{extras_for, layer_with};
 use crate::{Extras, MOST};
 
 // Whether a layer keeps its limits.
+#[tactic(auto, unfolding(crate::specs::Extras::layer_inside))]
 fn layer_inside(share: usize, worth: usize) -> bool
     ensures { result ≡ model.layer_inside (layer_with share worth) }
 {

