@@ -1,4 +1,3 @@
-use Rattle.std.proofs.Common.{length}
 use Rattle.link.specs.Sound.{SoundLink}
 use Rattle.single.proofs.timed.requests.Given as goal
 

@@ -1,6 +1,5 @@
-use Rattle.std.proofs.Common.{length}
 use Rattle.link.specs.Sound.{SoundLink}
 use Rattle.single.proofs.timed.ticks.Given as goal
 
-abbrev pub invariant-loop-i : goal.invariant-loop-i
-invariant-loop-i g l = SoundLink l.step.link
+abbrev pub invariant-loop : goal.invariant-loop
+invariant-loop g l = SoundLink l.step.link
