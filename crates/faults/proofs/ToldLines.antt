@@ -1,14 +1,13 @@
 -- Faults that are stored one after another, and numbers that are put into a line. Assumes nothing.
-use Prim.Native.Nat.{ℕ, zero, suc, ◌+◌, ◌-◌, ◌*◌, ◌≤◌, ◌<◌}
+use Prim.Native.Nat.{ℕ, ◌+◌, ◌-◌, ◌*◌, ◌≤◌, ◌<◌}
 use mathlib.Core.Path.{◌≡◌, refl, sym, ap, ◌∙◌}
 use mathlib.Core.List.{List, ◌∷◌, [], ◌++◌, flat_map}
 use native.Mathlib.Numerals.{add-one}
 use native.Mathlib.Omega.{arith}
-use lib.ListN.{length, get_or, take, drop, set, length-drop}
+use lib.ListN.{length, get_or, take, drop, set}
 use lib.Seq.{take-suc, take-length, take_all}
 use Rattle.calls.specs.Lines.{Puts}
 use Rattle.calls.proofs.Stores.{puts_none, puts_one, puts-two, puts_then, puts-same}
-use Rattle.tokens.proofs.FromPlace.{from_place}
 use Rattle.replies.specs.Lines.{spaced}
 use Rattle.replies.proofs.PutOn.{puts-to}
 use Rattle.model.specs.Listing.{text, decimal}

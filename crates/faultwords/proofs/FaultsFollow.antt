@@ -1,21 +1,21 @@
 -- A plan's faults begin with the number of its refusal by tests 2 to 7, and there are none where it is not refused. Assumes nothing.
-use Prim.Native.Nat.{ℕ, zero, suc, ◌+◌, ◌*◌, ◌≤◌, ◌<◌, min}
+use Prim.Native.Nat.{ℕ, ◌+◌, ◌*◌, ◌≤◌, ◌<◌}
 use mathlib.Core.Path.{◌≡◌, refl, sym, ap, ap₂, ◌∙◌}
-use mathlib.Core.List.{List, ◌∷◌, [], ◌++◌, append_assoc, append-nil}
+use mathlib.Core.List.{List, [], ◌++◌, append_assoc, append-nil}
 use mathlib.Core.Bool.{Bool, true, false, not, ◌&&◌, ◌||◌}
 use native.Mathlib.Decide.{dec_le}
 use native.Mathlib.Omega.{arith}
 use lib.Dec.{ltb}
 use borrow.Author.Tests.{lt-leb, eq-eqb}
 use Rattle.model.specs.Tables.{any, sum}
-use Rattle.model.specs.Refusals.{◌when◌, condition, first_of}
+use Rattle.model.specs.Refusals.{condition}
 use Rattle.model.specs.Plan.{Plan, Entry, flow_count, entry, entry_fits, same_pair, same_nodes, count_test, frame_test}
 use Rattle.model.specs.Plan.{count_fits, slots_fit, frames_fit, buffer_fits, many_positions, share_fits, cells_fit, node_fits}
 use Rattle.model.specs.WrittenPlan.{header_for, number_tests}
 use Rattle.model.proofs.Tests.{and-false}
 use Rattle.faults.proofs.Tells.{Tells, tells-same, tells-one, tells_both, tells-each, tells_first, Follows, follows-none, follows-first, follows-more, follows_same}
 use Rattle.faults.specs.Told.{told, each_below}
-use Rattle.faultwords.specs.PlanFaults.{flows_seen, count_faults, frame_faults, entry_faults, alike_faults, sum_faults, share_sum, cell_sum, faults_of}
+use Rattle.faultwords.specs.PlanFaults.{flows_seen, count_faults, frame_faults, entry_faults, alike_faults, share_sum, cell_sum, faults_of}
 
 -- ---- the tests by their limits
 

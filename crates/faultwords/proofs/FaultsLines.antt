@@ -1,17 +1,17 @@
 -- The answers to numbers, by the tests on the way, and how they begin. Assumes nothing.
-use Prim.Native.Nat.{ℕ, zero, suc, ◌+◌, ◌-◌, ◌*◌, ◌%◌, ◌≤◌, ◌<◌}
+use Prim.Native.Nat.{ℕ, zero, suc, ◌-◌, ◌%◌, ◌≤◌, ◌<◌}
 use mathlib.Core.Path.{◌≡◌, refl, sym, ap, ◌∙◌}
-use mathlib.Core.List.{List, ◌∷◌, [], ◌++◌, flat_map}
-use mathlib.Core.Bool.{Bool, true, false}
+use mathlib.Core.List.{List, ◌∷◌, ◌++◌, flat_map}
+use mathlib.Core.Bool.{true}
 use native.Mathlib.Omega.{arith}
 use lib.ListN.{length, replicate}
 use borrow.Author.Tests.{lt-ltb, le-ltb, eq-eqb, ne_eqb}
-use Rattle.model.specs.Listing.{text, decimal, refusal_line}
+use Rattle.model.specs.Listing.{text, decimal}
 use Rattle.model.specs.Refusals.{first_of}
-use Rattle.model.specs.WrittenPlan.{number_tests, written}
+use Rattle.model.specs.WrittenPlan.{number_tests}
 use Rattle.model.proofs.WriteRefusals.{refused-writes, by_number}
 use Rattle.replies.specs.Lines.{cannot, spaced}
-use Rattle.planwords.specs.Plans.{plan_asked, file_line, in_room, answer_to_plan}
+use Rattle.planwords.specs.Plans.{plan_asked, file_line}
 use Rattle.planwords.specs.Drafts.{WholeFlows}
 use Rattle.planwords.proofs.FileLines.{whole}
 use Rattle.faults.specs.Told.{faults_line}

@@ -1,5 +1,5 @@
 -- What the parts of `faults` ask for. Assumes nothing.
-use Rattle.std.specs.Prelude.{ℕ, ◌≤◌, ◌<◌, ◌≡◌, List, false, length}
+use Rattle.std.specs.Prelude.{ℕ, ◌≤◌, ◌≡◌, List, false}
 use Rattle.planwords.specs.Plans.{flows_asked}
 use Rattle.planwords.specs.Drafts.{WholeFlows}
 use Rattle.faultwords.specs.FaultsWord.{some_long}

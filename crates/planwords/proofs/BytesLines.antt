@@ -1,7 +1,7 @@
 -- What bytes are read as, and the bytes that hexadecimal digits are kept as. Assumes nothing.
-use Prim.Native.Nat.{ℕ, zero, suc, ◌+◌, ◌/◌, ◌%◌, ◌≤◌}
+use Prim.Native.Nat.{ℕ, zero, suc, ◌/◌, ◌%◌, ◌≤◌}
 use mathlib.Core.Path.{◌≡◌, refl, sym, ap, ◌∙◌}
-use mathlib.Core.List.{List, [], ◌++◌}
+use mathlib.Core.List.{List}
 use mathlib.Core.Bool.{Bool, true, false, not, cond}
 use native.Mathlib.Omega.{arith}
 use lib.ListN.{length, take}
@@ -17,7 +17,7 @@ use Rattle.plan.proofs.Laws.{is-plan}
 use Rattle.tokens.specs.declared.Fault.{Fault}
 use Rattle.tokens.specs.declared.Found.{Found}
 use Rattle.tokens.specs.Pieces.{each}
-use Rattle.tokens.specs.Hexadecimal.{is_hex_digit, byte_at, bytes_of, found_bytes, kept_of}
+use Rattle.tokens.specs.Hexadecimal.{is_hex_digit, byte_at, bytes_of, found_bytes}
 use Rattle.tokens.proofs.NumbersCounted.{kept-first}
 use Rattle.replies.specs.Lines.{fault_line}
 use Rattle.planwords.specs.Reads.{question, read_line, bytes_line, digits_line}

@@ -1,20 +1,19 @@
 -- The line of a plan that is written: its bytes or the refusal, and where the buffer's size makes no difference. Assumes nothing.
-use Prim.Native.Nat.{ℕ, zero, suc, ◌+◌, ◌-◌, ◌*◌, ◌%◌, ◌≤◌, ◌<◌, min}
+use Prim.Native.Nat.{ℕ, zero, suc, ◌-◌, ◌%◌, ◌≤◌, ◌<◌, min}
 use mathlib.Core.Path.{◌≡◌, refl, sym, ap, ◌∙◌}
 use mathlib.Core.List.{List, ◌∷◌, [], ◌++◌}
-use mathlib.Core.Bool.{Bool, true, false, not, ◌&&◌, ◌||◌, and-false}
+use mathlib.Core.Bool.{false, and-false}
 use native.Mathlib.Decide.{dec_le}
 use native.Mathlib.Omega.{arith}
 use lib.ListN.{length, get_or, take, drop, replicate, length-drop, length-replicate}
 use lib.Seq.{take_at, take_all}
 use lib.Dec.{ltb}
 use borrow.Author.Tests.{lt-leb, lt-ltb, le-ltb, eq-eqb, ne_eqb}
-use Rattle.model.specs.Tables.{table, within}
 use Rattle.model.specs.Listing.{text, refusal_line}
 use Rattle.model.specs.Refusals.{first_of, ◌when◌}
 use Rattle.model.specs.Plan.{Plan, flow_count}
 use Rattle.model.specs.Calls.{Answer, accepted, refused}
-use Rattle.model.specs.WrittenPlan.{bytes_of, number_tests, room_test, write_refusal, written_after, written}
+use Rattle.model.specs.WrittenPlan.{bytes_of, number_tests, write_refusal, written_after, written}
 use Rattle.model.proofs.Tables.{length-table}
 use Rattle.model.proofs.WrittenPlan.{length-is}
 use Rattle.plan.specs.declared.Written as code

@@ -2,26 +2,25 @@
 use Prim.Native.Nat.{ℕ, zero, suc, ◌+◌, ◌-◌, ◌*◌, ◌/◌, ◌%◌, ◌≤◌, ◌<◌}
 use mathlib.Core.Path.{◌≡◌, refl, sym, ap, ap₂, ◌∙◌}
 use mathlib.Core.List.{List, ◌∷◌, [], ◌++◌, flat_map}
-use mathlib.Core.Bool.{Bool, true, false, not, ◌&&◌, cond}
+use mathlib.Core.Bool.{Bool, true, false, ◌&&◌}
 use native.Mathlib.Decide.{dec_le, ℕ_discrete}
 use native.Mathlib.Omega.{arith}
 use lib.ListN.{length, get_or, replicate, length-append}
 use borrow.Author.Tests.{eq-eqb}
 use Rattle.model.specs.Tables.{table}
-use Rattle.model.specs.Listing.{text, refusal_line}
-use Rattle.model.specs.Plan.{Plan, Entry, plan_of, refusal}
+use Rattle.model.specs.Listing.{text}
+use Rattle.model.specs.Plan.{Plan, Entry}
 use Rattle.model.specs.Calls.{Answer, accepted, refused}
 use Rattle.model.specs.WrittenPlan as writer
 use Rattle.model.specs.WrittenPlan.{write_refusal, written_after, written, AllBytes}
-use Rattle.model.proofs.Tables.{get_d-table, length-table, table-get_d, table-append, table_same}
+use Rattle.model.proofs.Tables.{get_d-table, table-get_d, table-append, table_same}
 use Rattle.model.proofs.WrittenPlan.{same_tests}
 use Rattle.model.proofs.WriteRefusals.{read-as-written, within-limits, accepted-fits, same-refusals}
-use Rattle.tokens.specs.declared.Found.{Found}
 use Rattle.tokens.specs.Pieces.{tail, each}
 use Rattle.tokens.specs.Hexadecimal.{hex_digit, is_hex_digit, byte_at, bytes_of, found_bytes}
-use Rattle.replies.specs.Lines.{cannot, hex_glyph, hex, spaced}
+use Rattle.replies.specs.Lines.{hex_glyph, hex, spaced}
 use Rattle.replies.proofs.PutOn.{hex-length}
-use Rattle.planwords.specs.Plans.{flows_asked, entry_asked, plan_asked, file_line, in_room, answer_to_plan}
+use Rattle.planwords.specs.Plans.{flows_asked, entry_asked, plan_asked, file_line, answer_to_plan}
 use Rattle.planwords.specs.Drafts.{WholeFlows}
 use Rattle.planwords.specs.Reads.{entry_numbers, plan_numbers, question, read_line, bytes_line, digits_line}
 use Rattle.planwords.proofs.FileLines.{header-missing, no-fours, whole}

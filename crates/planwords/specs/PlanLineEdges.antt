@@ -1,7 +1,7 @@
 -- Edges of the words `plan`, `room` and `read`: numbers or digits, and the line that answers them. Assumes nothing.
 use Rattle.std.specs.Prelude.{ℕ, ◌≡◌}
 use Prim.Native.String.{String}
-use mathlib.Core.List.{List, ◌∷◌, [], ◌++◌, map, flat_map}
+use mathlib.Core.List.{List, ◌∷◌, [], map, flat_map}
 use Rattle.model.specs.Tables.{table}
 use Rattle.model.specs.Listing.{text}
 use Rattle.planwords.specs.Plans.{answer_to_plan, answer_to_room}

@@ -1,11 +1,11 @@
 -- Bytes put one after another, and answers that are put. Assumes nothing.
-use Prim.Native.Nat.{ℕ, zero, suc, ◌+◌, ◌*◌, ◌/◌, ◌%◌, ◌≤◌, ◌<◌}
+use Prim.Native.Nat.{ℕ, ◌+◌, ◌*◌, ◌/◌, ◌%◌, ◌≤◌, ◌<◌}
 use mathlib.Core.Path.{◌≡◌, refl, sym, ap, ◌∙◌}
-use mathlib.Core.List.{List, ◌∷◌, [], ◌++◌, flat_map, append-nil, append_assoc}
+use mathlib.Core.List.{List, ◌∷◌, [], ◌++◌, flat_map}
 use native.Mathlib.Numerals.{add-one}
 use native.Mathlib.Omega.{arith}
 use lib.ListN.{length, get_or, take, set}
-use lib.Seq.{sets, take-suc, take-length, length-sets}
+use lib.Seq.{take-suc, take-length}
 use Rattle.model.specs.Listing.{refusal_line}
 use Rattle.calls.specs.Lines.{Puts, out_with, next_after}
 use Rattle.calls.proofs.Stores.{puts_none, puts_one, puts-two, puts_then, puts-same, out-in-room, next-in-room}

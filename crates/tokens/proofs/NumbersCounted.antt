@@ -1,16 +1,15 @@
 -- How many numbers a line has, and where they are kept. Assumes nothing.
-use Prim.Native.Nat.{ℕ, suc, ◌+◌, ◌*◌, ◌≤◌}
+use Prim.Native.Nat.{ℕ, ◌+◌, ◌*◌, ◌≤◌}
 use mathlib.Core.Path.{◌≡◌, refl, sym, ap, ◌∙◌}
 use mathlib.Core.List.{List, ◌∷◌, []}
 use mathlib.Core.Bool.{Bool, true, false}
 use native.Mathlib.Omega.{arith}
 use lib.ListN.{length, take, drop}
 use lib.Seq.{sets, sets-eq, take_at}
-use Rattle.tokens.specs.declared.Fault.{Fault}
 use Rattle.tokens.specs.declared.Number.{Number}
 use Rattle.tokens.specs.declared.Found.{Found}
 use Rattle.tokens.specs.Pieces.{is_space, pieces, tail, fields_of}
-use Rattle.tokens.specs.Decimal.{number_of, number_then, numbers_in, more, found_then, found_in}
+use Rattle.tokens.specs.Decimal.{number_of, number_then, numbers_in, found_then, found_in}
 
 -- where no field is wrong, as many numbers are found as there are
 pub count_is : (fields : List (List ℕ)) (n : ℕ) → Found.Count n ≡ found_in fields → n ≡ length (numbers_in fields)

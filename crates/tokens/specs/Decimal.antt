@@ -1,5 +1,5 @@
 -- Decimal numbers of at most nine digits. Assumes nothing.
-use Rattle.std.specs.Prelude.{ℕ, suc, ◌+◌, ◌-◌, ◌*◌, List, ◌∷◌, [], Bool, not, cond, length, ltb, eqb}
+use Rattle.std.specs.Prelude.{ℕ, ◌+◌, ◌-◌, ◌*◌, List, ◌∷◌, [], Bool, not, cond, length, ltb, eqb}
 use Prim.Native.Char.{code}
 use Rattle.model.specs.Tables.{within}
 use Rattle.tokens.specs.declared.Fault.TheVariants.{Missing, NoDigit, LongNumber}

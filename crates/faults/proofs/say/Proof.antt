@@ -1,6 +1,5 @@
 -- `faults::say` meets its contract. Assumes nothing.
 use native.Mathlib.Omega.{arith}
-use lib.ListN.{length-drop}
 use borrow.Author.Rules.{rules}
 use Rattle.calls.proofs.Stores.{puts_then, puts-same}
 use Rattle.replies.proofs.PutOn.{says, says_same}

@@ -1,7 +1,6 @@
 -- `faultwords::flows::same_pair` meets its contract. Assumes nothing.
 use borrow.Author.Tests.{eq-eqb, ne_eqb}
 use borrow.Author.Rules.{rules}
-use native.Mathlib.Omega.{arith}
 use Rattle.faultwords.proofs.flows.same_pair.Statement.{statement}
 use Rattle.faultwords.proofs.flows.same_pair.Tie as tie
 

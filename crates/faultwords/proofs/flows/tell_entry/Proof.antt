@@ -1,7 +1,6 @@
 -- `faultwords::flows::tell_entry` meets its contract: five faults one after another. Assumes nothing.
 use mathlib.Core.Path.{ap}
 use mathlib.Core.Bool.{not}
-use lib.ListN.{get_or}
 use Rattle.calls.proofs.Stores.{puts_then, puts-same}
 use Rattle.faults.specs.Told.{told}
 use borrow.Author.Rules.{rules}

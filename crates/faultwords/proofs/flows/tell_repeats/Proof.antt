@@ -1,5 +1,5 @@
 -- `faultwords::flows::tell_repeats` meets its contract. The loop: the flows before flow j are told. Assumes nothing.
-use Prim.Native.Nat.{ℕ, ◌-◌, ◌≤◌}
+use Prim.Native.Nat.{◌-◌, ◌≤◌}
 use Rattle.planwords.specs.Plans.{plan_asked}
 use Rattle.faults.proofs.ToldEach.{ToldTo, none_told, one_told, all_told}
 use Rattle.faultwords.specs.PlanFaults.{alike_faults}

@@ -1,12 +1,11 @@
 -- `faultwords::flows::tell_sums` meets its contract: two faults one after the other. Assumes nothing.
-use Prim.Native.Nat.{ℕ, ◌+◌, ◌*◌}
-use mathlib.Core.Path.{◌≡◌, ap, ◌∙◌}
+use Prim.Native.Nat.{◌+◌, ◌*◌}
+use mathlib.Core.Path.{ap, ◌∙◌}
 use native.Mathlib.Nat.{add-zero}
 use lib.ListN.{get_or}
 use lib.Dec.{ltb}
 use Rattle.model.specs.Tables.{sum}
 use Rattle.calls.proofs.Stores.{puts_then, puts-same}
-use Rattle.planwords.specs.Plans.{entry_asked}
 use Rattle.faults.specs.Told.{told}
 use borrow.Author.Rules.{rules}
 use native.Mathlib.Omega.{arith}

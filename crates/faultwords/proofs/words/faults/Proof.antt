@@ -4,7 +4,6 @@ use Rattle.replies.proofs.PutOn.{says_same}
 use Rattle.planwords.specs.Drafts.{WholeFlows}
 use Rattle.faultwords.proofs.FaultsLines.{header-missing, no-fours, too_long}
 use borrow.Author.Rules.{rules}
-use native.Mathlib.Omega.{arith}
 use Rattle.faultwords.proofs.words.faults.Statement.{statement}
 use Rattle.faultwords.proofs.words.faults.Tie as tie
 

@@ -1,5 +1,4 @@
 -- `planwords::plans::asked` meets its contract. Assumes nothing.
-use native.Mathlib.Omega.{arith}
 use lib.ListN.{get_or}
 use borrow.Author.Rules.{rules}
 use Rattle.planwords.specs.Plans.{flows_asked}

@@ -1,5 +1,4 @@
 -- `planwords::plans::room` meets its contract. Assumes nothing.
-use native.Mathlib.Omega.{arith}
 use borrow.Author.Rules.{rules}
 use Rattle.replies.proofs.PutOn.{says_same}
 use Rattle.planwords.proofs.FileLines.{size-missing, size-given}

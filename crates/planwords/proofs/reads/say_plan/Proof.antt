@@ -1,5 +1,4 @@
 -- `planwords::reads::say_plan` meets its contract. Assumes nothing.
-use native.Mathlib.Omega.{arith}
 use borrow.Author.Rules.{rules}
 use Rattle.replies.proofs.PutOn.{says_same}
 use Rattle.planwords.proofs.BytesLines.{line_refused, line-accepted}

@@ -1,6 +1,5 @@
 -- `tokens::decimal::read_number` meets its contract: each return goes by the tests on the way. Assumes nothing.
 use mathlib.Core.Path.{sym, ap, ◌∙◌}
-use native.Mathlib.Omega.{arith}
 use borrow.Author.Rules.{rules}
 use borrow.Author.Tests.{eq-eqb, ne_eqb, lt-ltb, le-ltb, not-true, not-false}
 use Rattle.tokens.specs.declared.Number.{Number}

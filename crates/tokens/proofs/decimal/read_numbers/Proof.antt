@@ -1,9 +1,7 @@
 -- `tokens::decimal::read_numbers` meets its contract: the fields before a place are read. Assumes nothing.
 use Prim.Native.Nat.{◌+◌, ◌-◌, ◌≤◌}
-use mathlib.Core.Path.{◌≡◌, refl, sym, ap, ◌∙◌}
 use native.Mathlib.Omega.{arith}
 use lib.ListN.{length}
-use lib.Seq.{length-sets}
 use borrow.Author.Rules.{rules}
 use Rattle.tokens.proofs.NumbersRead.{ReadTo, none_read, one-read, wrong-read, all_read, field-ends, kept-length}
 use Rattle.tokens.proofs.decimal.read_numbers.Statement.{statement}

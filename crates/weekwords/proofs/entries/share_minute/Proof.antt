@@ -7,7 +7,6 @@ use Rattle.weekwords.specs.WeekWord.{week_asked}
 use Rattle.weekwords.proofs.AskedEntries.{listed, entry_is}
 use Rattle.weekwords.proofs.SharedMinutes.{later_start, week-over, first-over, by-second}
 use borrow.Author.Rules.{rules}
-use native.Mathlib.Omega.{arith}
 use Rattle.weekwords.proofs.entries.share_minute.Statement.{statement}
 use Rattle.weekwords.proofs.entries.share_minute.Tie as tie
 

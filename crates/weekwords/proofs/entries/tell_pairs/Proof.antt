@@ -1,5 +1,5 @@
 -- `weekwords::entries::tell_pairs` meets its contract. The loop: the entries before entry j are told. Assumes nothing.
-use Prim.Native.Nat.{ℕ, ◌-◌, ◌≤◌}
+use Prim.Native.Nat.{◌-◌, ◌≤◌}
 use Rattle.faults.proofs.ToldEach.{ToldTo, none_told, one_told, all_told}
 use Rattle.weekwords.specs.WeekFaults.{shared_faults}
 use Rattle.weekwords.specs.WeekWord.{week_asked}

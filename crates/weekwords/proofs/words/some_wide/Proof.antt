@@ -7,7 +7,6 @@ use lib.Dec.{ltb}
 use borrow.Author.Tests.{lt-ltb, le-ltb}
 use Rattle.limits.proofs.Tests.{None, none_yet, none_more, found-one, none_at_all}
 use borrow.Author.Rules.{rules}
-use native.Mathlib.Omega.{arith}
 use Rattle.weekwords.proofs.words.some_wide.Statement.{statement}
 use Rattle.weekwords.proofs.words.some_wide.Tie as tie
 
