@@ -1,6 +1,6 @@
 -- Demand 3 of the bytes that the program hands back to be written, however the input is cut into pieces. Assumes nothing.
 use Prim.Native.Nat.{ℕ, ◌<◌}
-use mathlib.Core.Path.{◌≡◌, refl, ap, ◌∙◌}
+use mathlib.Core.Path.{◌≡◌, ◌∙◌}
 use mathlib.Core.List.{List, ◌++◌, flat_map, reverse}
 use mathlib.Core.Bool.{false}
 use lib.ListN.{take, drop}

@@ -1,4 +1,6 @@
 // The program `domelink` but for reading and writing: input is fed in pieces of any sizes, and what is to be written after each is handed back.
+#![tactic(auto)]
+
 mod keeping;
 mod plans;
 mod records;
