@@ -14,9 +14,9 @@ HEAD = ("flow  slots  frames  cells  come up needs  shown needs   tiles more  "
 WORDS = """\
 slots, frames: what a tile takes on this link at most, if it is asked for on
   arrival and its flow asks for no more than its share in a frame, has the
-  cells for it, takes no lent slot, and no reset is granted (two-shares)
+  cells for it, takes no lent slot, and no reset is granted (two_shares)
 come up needs: cells for that, each credited as its tile comes up at the next
-  board (two-shares); with fewer the link takes the plan, but that is not sure
+  board (two_shares); with fewer the link takes the plan, but that is not sure
 shown needs: the same on the last link of a stream's way, each credited when its
   tile was shown, by the end of the next frame (three-shares)
 tiles more, frames more: where so many tiles more than the share come at once, a

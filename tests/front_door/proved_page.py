@@ -142,7 +142,7 @@ def names_are_told_apart():
     path = CRATES / "program/proofs/Demand3.antt"
     asked = {(str(each.path.relative_to(CRATES)), each.name)
              for each in asked_for()}
-    told = ["written-meets" in declared(path), "lines-are" in declared(path),
+    told = ["written-meets" in declared(path), "lines_are" in declared(path),
             ("model/proofs/Demand3.antt", "meets") in asked,
             ("model/proofs/Demand3.antt", "each_map") in asked,
             ("link/proofs/Demand3.antt", "code_meets") in asked,
