@@ -1,13 +1,11 @@
 -- The rows of a state are those of its holdings. Assumes nothing.
-use Prim.Native.Nat.{ℕ, ◌+◌, ◌*◌, ◌/◌, ◌%◌, ◌≤◌, ◌<◌}
-use mathlib.Core.Path.{◌≡◌, sym, ap, ◌∙◌}
+use Prim.Native.Nat.{ℕ, ◌+◌, ◌*◌, ◌/◌, ◌≤◌, ◌<◌}
+use mathlib.Core.Path.{◌≡◌, sym, ◌∙◌}
 use mathlib.Core.List.{List}
 use native.Mathlib.Decide.{dec_lt}
 use native.Mathlib.Omega.{arith}
-use lib.ListN.{length, get_or}
 use lib.Seq.{ext_get_or}
 use borrow.Author.Tests.{le-ltb}
-use Rattle.window.specs.Ranges.{in_range, replaced}
 use Rattle.window.proofs.Ranges.{length-replaced, replaced-at, replaced-off}
 use Rattle.model.specs.Window as model
 use Rattle.state.specs.State.{Whole, held_of}
@@ -17,7 +15,6 @@ use Rattle.state.proofs.State.{length-held, held_at, held_with}
 use Rattle.tables.specs.Rows.{row, with_row}
 use Rattle.tables.specs.Rows.{carried_rows}
 use Rattle.tables.specs.Holdings.{shifted_row, shifted}
-use Rattle.tables.proofs.CarriedRows.{length-carried}
 use Rattle.tables.proofs.Places.{same_row, beside-row}
 
 module _ (s : List ℕ) (i : ℕ) (few : i < 16) where

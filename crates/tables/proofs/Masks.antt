@@ -1,12 +1,12 @@
 -- A mask replaced in the state, as a word replaced in the list of the masks. Assumes nothing.
 use Prim.Native.Nat.{ℕ, ◌<◌}
-use mathlib.Core.Path.{◌≡◌, ◌∙◌, ap}
+use mathlib.Core.Path.{◌∙◌, ap}
 use mathlib.Core.List.{List}
 use mathlib.Core.Bool.{Bool}
 use Rattle.state.specs.State.{Whole, masks_of}
 use Rattle.state.proofs.State.{masks-set, masks-at}
 use Rattle.unbooked.specs.Words as words
-use Rattle.tables.specs.Masks.{WithMask, Booked, Recycled}
+use Rattle.tables.specs.Masks.{WithMask, Booked}
 
 module _ {before after : List ℕ} (whole : Whole before) {j : ℕ} (h : j < 8) where
   pub mask-as-word : {t : ℕ → Bool} → WithMask j t before after → words.WithWord j t (masks_of before) (masks_of after)

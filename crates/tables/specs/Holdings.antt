@@ -1,5 +1,5 @@
 -- What the flows hold: nothing, tested at a position, changed from a position on, and carried on at a frame change. Assumes nothing.
-use Rattle.std.specs.Prelude.{ℕ, zero, suc, ◌+◌, ◌-◌, ◌%◌, ◌≤◌, ◌<◌, max, List, Bool, get_or, ltb}
+use Rattle.std.specs.Prelude.{ℕ, zero, suc, ◌+◌, ◌-◌, ◌%◌, max, List, Bool, get_or, ltb}
 use Rattle.model.specs.Window as model
 use Rattle.window.specs.declared.Window.{Window}
 use Rattle.window.specs.Bytes.{wrapped}

@@ -1,6 +1,5 @@
 -- `tables::search::leave_rank` meets its contract. Assumes nothing.
 use borrow.Author.Rules.{rules}
-use Prim.Native.Nat.{◌<◌}
 use mathlib.Core.Path.{sym, ◌∙◌}
 use native.Mathlib.Omega.{arith}
 use Rattle.tables.proofs.Departures.{leaves-anywhere, leaves_after, rank_below}
