@@ -19,14 +19,6 @@ add-s c = search rules
 element-write-s : tie.Need-bounds-s-i
 element-write-s c = search rules
 
-returns : tie.Need-returns-then-most-lt255
-unfolding lowered
-returns c =
-    let s = c.args in
-    let (most, (shifts, bytes)) = c.lower_all-most.ensures in
-    let some = some_held_lem s.w c.requires.proper s.p c.requires.position s.s.now s.i (rw (← most) c.if-most-lt255.true) in
-    (sym some, λ k. with_bound (shifts k) s.i (most k))
-
 shift-from-requires : tie.Need-shift_from-requires
 shift-from-requires c κs = search rules
 
@@ -66,13 +58,18 @@ returns-3 c =
     (sym (not-false _ c.if-not-held_from.false-raw) ∙ rw again at h.held_from.ensures, λ k. with_bound (shifts k) c.args.i (c.lower_all-most.ensures.0 k))
 
 pub lower_from_spec : {M : Type 1} → statement M
+unfolding lowered
 lower_from_spec =
     tie.close
     (tie.spec
     lower-all-requires
     add-s
     element-write-s
-    returns
+    (λ c.
+    let s = c.args in
+    let (most, (shifts, bytes)) = c.lower_all-most.ensures in
+    let some = some_held_lem s.w c.requires.proper s.p c.requires.position s.s.now s.i (rw (← most) (omega arith)) in
+    (sym some, λ k. with_bound (shifts k) s.i (most k)))
     shift-from-requires
     held-from-requires
     returns-2

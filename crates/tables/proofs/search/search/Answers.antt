@@ -1,13 +1,18 @@
-use Rattle.std.proofs.Common.{refl, sym, ◌∙◌, arith, rules}
+use Rattle.std.proofs.Common.{refl, sym, ◌∙◌, ◌≡◌, arith, rules, ℕ, Bool}
 use native.Mathlib.Nat.{mod-lt}
+use Rattle.model.specs.Window.{newest}
+use Rattle.model.specs.Window as model
 use Rattle.window.specs.Window.{window_of, ranks_from}
 use Rattle.window.proofs.Windows.{frame-fits}
 use Rattle.state.specs.State.{owners_of}
-use Rattle.tables.specs.Search.{valid_at}
+use Rattle.tables.specs.Search.{valid_at, ValidSlots}
 use Rattle.tables.proofs.ValidSlots.{no_slot, lowest-slot}
 use Rattle.tables.proofs.FrameWalk.{one-frame-on, NoneIn, none-spent, none-valid, walked_on, walked-out, walked-hit}
 use Rattle.tables.proofs.search.search.Goals as goal
-use Rattle.tables.proofs.search.search.Goals.{then-left-gt0+else-valid-ne0, else-left-gt0}
+
+-- a frame whose word is 0 has no valid slot
+none-found : {w : model.Window} {ok : ℕ → Bool} {share j c word : ℕ} → ValidSlots w ok j word → word ≡ 0 → NoneIn w ok share j c
+none-found slots z = none-valid (no_slot slots z)
 
 pub search-init : goal.search-init
 search-init c = record { there = search rules; walked = record { same = refl } }
@@ -38,10 +43,7 @@ pub search-preserved : goal.search-preserved
 search-preserved c =
     let s = c.args in
     let nothing : NoneIn (window_of s.w) (valid_at (owners_of s.s.now) (ranks_from s.w s.low)) s.share c.search.frame c.search.left =
-    elim c.if-left-gt0.branch [
-      | then-left-gt0+else-valid-ne0 w ↦ none-valid (no_slot w.valid_slots-valid.ensures w.if-valid-ne0.false)
-      | else-left-gt0 w ↦ none-spent w.if-left-gt0.false
-    ] in
+    grind (arith, none-spent, none-found) in
     rw c.next-frame.ensures
     (record {
       there = mod-lt _ (omega arith);
@@ -56,8 +58,5 @@ pub returns-then-frame-newest : goal.returns-then-frame-newest
 returns-then-frame-newest c =
     let s = c.args in
     let nothing : NoneIn (window_of s.w) (valid_at (owners_of s.s.now) (ranks_from s.w s.low)) s.share c.search.frame c.search.left =
-    elim c.if-left-gt0.branch [
-      | then-left-gt0+else-valid-ne0 w ↦ none-valid (no_slot w.valid_slots-valid.ensures w.if-valid-ne0.false)
-      | else-left-gt0 w ↦ none-spent w.if-left-gt0.false
-    ] in
+    grind (arith, none-spent, none-found) in
     walked-out c.search.invariant.walked nothing c.search.invariant.there (c.if-frame-newest.true ∙ c.newest-newest.ensures)
