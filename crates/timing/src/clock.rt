@@ -8,11 +8,14 @@ fn instant(clock: &impl Clock) -> Duration {
     clock.monotonic().unwrap_or(Duration::ZERO)
 }
 
-// A number from the system, brought to at most `most`.
-fn within(n: u64, most: u64) -> u64
+// A number from the system, brought into 0 to `most`.
+fn within(n: i64, most: u64) -> u64
     ensures { result ≤ most }
 {
-    least(n, most)
+    if n < 0 {
+        return 0;
+    }
+    least(n as u64, most)
 }
 
 // The time on the clock in nanoseconds: what the system says, within 4,294,967,295 seconds.
@@ -20,8 +23,8 @@ pub fn nanoseconds(clock: &impl Clock) -> u64
     ensures { result ≤ 4294967295999999999 }
 {
     let time = instant(clock);
-    let seconds = time.as_secs();
-    let rest = u64::from(time.subsec_nanos());
+    let seconds = i64::try_from(time.as_secs()).unwrap_or(i64::MAX);
+    let rest = i64::from(time.subsec_nanos());
     1000000000 * within(seconds, 4294967295) + within(rest, 999999999)
 }
 
