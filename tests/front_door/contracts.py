@@ -73,8 +73,9 @@ TAKEN = re.compile(r"OnTrue result \(Appends \(W\.contents output\.old\) "
 # What the library says of lists and bytes, which are there.
 OF_THE_LIBRARY = {"List", "Appends"}
 BOUND = re.compile(r"result(?:\.\w+)* [≤<] [^×≡]*$")
-CLOCKS = {"timing::clock::" + name
-          for name in ("nanoseconds", "since", "cost")}
+# What they hand back is a clock's or an input's.
+OUTSIDE = {"timing::clock::nanoseconds", "timing::clock::since",
+           "timing::clock::cost", "timing::input::read_full"}
 
 
 # ---- that there is one
@@ -190,10 +191,10 @@ def says_too_little(function):
 
 
 def each_promises_something():
-    """More than a bound, but for what a clock says."""
+    """More than a bound, but for what a clock says or an input has."""
     wrong = {each.title() for each in shown() if says_too_little(each)}
-    return wrong != CLOCKS and "nothing or a bound alone: " + ", ".join(
-        sorted(wrong ^ CLOCKS))
+    return wrong != OUTSIDE and "nothing or a bound alone: " + ", ".join(
+        sorted(wrong ^ OUTSIDE))
 
 
 def asks(function):

@@ -13,7 +13,10 @@ SPECS = CRATES / "model/specs"
 OTHER_SPECS = "arrival", "ahead"        # counted in one number
 # Laws that nothing uses any more, and that say nothing to a reader.
 LEFT_OVER = {
+    "domeplan/proofs/Taking.antt": {"some-came", "goes-regular"},
     "model/proofs/NewestFrame.antt": {"sought-if-come"},
+    "nazgolv/proofs/PlayRecords.antt": {"found_as", "read_as"},
+    "nazgolv/proofs/Unmoved.antt": {"other-leaves"},
     "planwords/proofs/DraftsAsked.antt": {"draft-flows"},
     "shares/proofs/EachOnce.antt": {"same_true", "same_self"},
 }
