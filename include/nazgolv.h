@@ -43,7 +43,7 @@
  *   stack       where there is too little of it the process ends by a signal.
  *               Bytes below the caller, measured on flights/sparse:
  *
- *                   nazgolv_fresh     11,200
+ *                   nazgolv_fresh     17,100
  *                   nazgolv_request    7,300
  *                   nazgolv_credit     7,300
  *                   nazgolv_tick       7,300
