@@ -65,7 +65,7 @@ INVARIANT = re.compile(
     r"|Regular state)$")
 ROOM = re.compile(r"((said\.)?room|7|100) ≤ length out\.old$")
 BELOW = re.compile(r"(\w+) < [1-9]\d*$")
-NOT_ZERO = re.compile(r"\((\w+) ≡ 0 → ⊥\)$")
+NOT_ZERO = re.compile(r"\(?(\w+) (?:≡ 0 → ⊥\)|≢ 0\)?)$")
 SOME = re.compile(r"Some\w* \(λ ([\w ]+)\. (.*)\)$")
 LENT = re.compile(r"(\w+): &(?:'\w+ )?mut\b")
 TAKEN = re.compile(r"OnTrue result \(Appends \(W\.contents output\.old\) "
@@ -276,6 +276,7 @@ def a_silent_one_is_told():
                    "(out: &mut [u8]) -> u8"),
               Made([], ["((k : ℕ) → k < 4 → result ≡ k)"]),
               Made([], ["((k : ℕ) → (k ≡ 0 → ⊥) → result ≡ 0)"]),
+              Made([], ["((k : ℕ) → k ≢ 0 → result ≡ 0)"]),
               Made([], ["((k : ℕ) → result ≡ 0)"])]
     wrong = [each.ensures[0].text for each in silent if not each.silent()]
     wrong += ["not silent: " + each.ensures[0].text
