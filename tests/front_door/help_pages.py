@@ -3,8 +3,8 @@
 from front_door.command import ROOT, start, trouble
 
 LINES, COLUMNS = 40, 80
-COMMANDS = ("play", "plan", "dome", "check-log", "tools/calls", "tests/run",
-            "bench/run", "bench/console")
+COMMANDS = ("play", "plan", "dome", "check-log", "tools/calls", "tools/build",
+            "tests/run", "tests/slips", "bench/run", "bench/console")
 
 
 def fits(name):
