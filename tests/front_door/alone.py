@@ -4,7 +4,10 @@ it has an edit of its own, and `rt ci` says what came of that.
 rt tells of an edit whether it is refused and its first error, so that of
 several slips in one it can't be told which were.  A slip that is alone is
 refused for itself: nothing else is wrong with its crate.  Not so where only a
-name is gone that a file of proofs has, and rt says that."""
+name is gone that a file of proofs has, and rt says that.  The first error of a
+slip in a function is in that function's proof, or at its source where it has
+no file of proofs; that of a slip in a definition may stand before the file
+that its line `told: FILE` names."""
 
 import re
 import shutil
@@ -15,6 +18,7 @@ from pathlib import Path
 from driver import progress
 from front_door.command import ROOT
 from front_door.gathering import written
+from front_door.slips import place_of
 
 LOG = ROOT / "target/slips.log"
 SAID = re.compile(r"^rt: must-fail (\w+)/([\w.-]+)\.edit: (.*)$", re.MULTILINE)
@@ -55,6 +59,15 @@ def said_in(log):
     return {(crate, name): text for crate, name, text in SAID.findall(log)}
 
 
+def is_elsewhere(slip, text):
+    """Whether the first error that is told is not in the proof of the slip's
+    function; a folder of a recursion has a plus before its name."""
+    if slip.told or "error" not in text and "note: " not in text:
+        return False
+    here = ("./" + place_of(slip), "note: %s:" % slip.steps[0][0])
+    return not any(place in text.replace("/+", "/") for place in here)
+
+
 def trouble(slip, said):
     """Why a slip is not known to be refused for itself, or None."""
     text = said.get((slip.crate, slip.name))
@@ -62,4 +75,6 @@ def trouble(slip, said):
         return "it was not tried; target/slips.log has what rt said"
     if not text.startswith(REFUSED) or ONLY_A_NAME in text:
         return text
+    if is_elsewhere(slip, text):
+        return "its first error is not at %s: %s" % (place_of(slip), text)
     return None

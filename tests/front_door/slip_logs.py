@@ -6,17 +6,24 @@ from pathlib import Path
 
 from front_door import alone, gathering, slips
 
-# What rt says of an edit, and whether that tells the slip that is alone in it.
+# What rt says of an edit, and whether that tells the slip that is alone in it:
+# HERE is the folder of its function's proof, AT its source.
 SAID = (
-    ("refused, as it must be: ./proofs/ends/Proof.antt:9:9: error: `returns`: "
+    ("refused, as it must be: ./HEREProof.antt:9:9: error: `returns`: "
      "they differ", True),
+    ("refused, as it must be: note: AT:9:9: it is not proved that what the "
+     "function ensures holds when it returns (`returns`)", True),
     ("refused, as it must be", True),
     ("refused, as it must be (only by a limit of the prover, which gave no "
      "verdict, so this says less of the contract: choose a change that it "
-     "refuses sooner): ./proofs/ends/Proof.antt:9:9: error: `returns`", True),
+     "refuses sooner): ./HEREProof.antt:9:9: error: `returns`", True),
+    ("refused, as it must be: ./proofs/elsewhere/Proof.antt:9:9: error: "
+     "`returns`: they differ", False),
+    ("refused, as it must be: note: src/elsewhere.rt:9:9: it is not proved "
+     "that the index is within the slice (`bounds-s-i`)", False),
     ("refused, as it must be (only because a proof file names what the edit "
      "took away, so this says little of the contract: change a value and keep "
-     "the names): ./proofs/ends/Proof.antt:9:9: error: a record has no field",
+     "the names): ./HEREProof.antt:9:9: error: a record has no field",
      False),
     ("NOT REFUSED: the crate is still proved with this edit", False),
     ("BAD EDIT: an 'old:' text is in src/lib.rt 0 times, and not once", False),
@@ -29,9 +36,14 @@ def chosen():
     return next(slip for slip in slips.gathered() if not slip.told)
 
 
+def of(slip, words):
+    return words.replace("HERE", slips.place_of(slip)).replace(
+        " AT:", " %s:" % slip.steps[0][0])
+
+
 def tells():
     slip = chosen()
-    for words, told in SAID:
+    for words, told in ((of(slip, words), told) for words, told in SAID):
         log = LINE % (slip.crate, slip.crate, slip.name, words, slip.crate)
         found = alone.trouble(slip, alone.said_in(log))
         if (found is None) != told:
@@ -43,11 +55,12 @@ def not_of_another():
     """What is said of another slip, or of the edit that it is in, tells
     nothing, nor does a line of the prover."""
     slip = chosen()
-    log = "".join(LINE % (slip.crate, crate, name, SAID[0][0], slip.crate)
+    words = of(slip, SAID[0][0])
+    log = "".join(LINE % (slip.crate, crate, name, words, slip.crate)
                   for crate, name in ((slip.crate, "another"),
                                       ("another", slip.name),
                                       (slip.crate, slip.edit)))
-    log += "must-fail %s/%s.edit: %s\n" % (slip.crate, slip.name, SAID[0][0])
+    log += "must-fail %s/%s.edit: %s\n" % (slip.crate, slip.name, words)
     return alone.trouble(slip, alone.said_in(log)) is None and "it is told"
 
 
