@@ -13,7 +13,7 @@ pub const RECORD: usize = 5;
 pub const LONGEST_LINE: usize = 7;
 
 // A call on a link.
-#[derive(Clone, Copy)]
+#[derive(Clone, Copy, Debug, PartialEq, Eq)]
 pub enum Call {
     // A request has a word.
     Request(u32),
@@ -22,16 +22,8 @@ pub enum Call {
     Tick,
 }
 
-// What a call record comes to.
-#[derive(Clone, Copy)]
-pub enum Record {
-    Call(Call),
-    // Refusal 16.
-    NoCall,
-}
-
 // What a call is answered.
-#[derive(Clone, Copy)]
+#[derive(Clone, Copy, Debug, PartialEq, Eq)]
 pub enum Answer {
     // A request is granted: the word with its position as departure.
     Granted(u32),
