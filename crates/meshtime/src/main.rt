@@ -28,7 +28,7 @@ fn repeat(clock: &impl Clock, slots: usize, numbers: &mut [usize]) -> Checked
         numbers[2] = 1 + i % 2;
         let begin = clock::nanoseconds(clock);
         let answer = mesh::admit(slots, numbers);
-        lowest = clock::least(lowest, clock::since(clock, begin));
+        lowest = lowest.min(clock::since(clock, begin));
         sum = std::num::wrapping_add_u64(sum, answer as u64);
     }
     Checked { lowest, sum }
@@ -45,7 +45,7 @@ fn measure(rt: &(impl Clock + Print), numbers: &mut [usize], count: usize) -> bo
     let slots = numbers[0];
     let checked = repeat(rt, slots, &mut numbers[1..count]);
     report::print(rt, b"check ");
-    report::print_number(rt, clock::difference(checked.lowest, clock::cost(rt)));
+    report::print_number(rt, checked.lowest.saturating_sub(clock::cost(rt)));
     report::print(rt, b" ns\nanswers ");
     report::print_number(rt, checked.sum);
     report::print(rt, b"\n");

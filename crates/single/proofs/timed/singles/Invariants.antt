@@ -1,0 +1,5 @@
+use Rattle.link.specs.Sound.{SoundLink}
+use Rattle.single.proofs.timed.singles.Given as goal
+
+abbrev pub invariant-loop-call : goal.invariant-loop-call
+invariant-loop-call g l = SoundLink l.step.link
