@@ -5,12 +5,6 @@ ghost use Rattle.link.specs.Parts.{flow_read, with_flow_at, FitsBytes};
 use crate::Flow;
 use state::{FLOWS, State};
 
-fn wide(b: u8) -> usize
-    ensures { (result ≡ b) × (result < 256) }
-{
-    b as usize
-}
-
 pub fn flow_at(s: &State, i: usize) -> Flow
     requires { i < 16 }
     ensures is { result ≡ flow_read s.now i }
@@ -18,9 +12,9 @@ pub fn flow_at(s: &State, i: usize) -> Flow
 {
     let at = FLOWS + 4 * i;
     Flow {
-        injection: wide(s[at]),
-        remainder: wide(s[at + 1]),
-        number: wide(s[at + 2]) + 256 * wide(s[at + 3]),
+        injection: usize::from(s[at]),
+        remainder: usize::from(s[at + 1]),
+        number: usize::from(s[at + 2]) + 256 * usize::from(s[at + 3]),
     }
 }
 

@@ -28,12 +28,10 @@ fn none_held(s: &State, count: usize, w: Window) -> bool
     ensures { result ≡ none_held_in (window_of w) count s.now }
 {
     let current = w.current;
-    let mut i = 0;
-    while i < count {
+    for i in 0..count {
         if !room_from(s, i, 1, w, current) {
             return false;
         }
-        i += 1;
     }
     true
 }
@@ -43,10 +41,7 @@ fn quiet(s: &State, count: usize, w: Window) -> bool
     requires { FlowsOf w count }
     ensures { result ≡ quiet_in (window_of w) count (owners_of s.now) s.now }
 {
-    if unbooked_later(s, w) {
-        return none_held(s, count, w);
-    }
-    false
+    unbooked_later(s, w) && none_held(s, count, w)
 }
 
 // Nobody owns a position of a state, and its flows start again in a frame.

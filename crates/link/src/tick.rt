@@ -37,14 +37,12 @@ fn leave_head(s: &mut State, plan: Plan, head: usize, on: usize)
     requires { Valid plan × Whole s.old × (on < 256) }
     ensures { FlowsNow s.old s.new (left_heads plan head on (flows_of s.old)) }
 {
-    let mut i = 0;
-    while i < plan.count {
+    for i in 0..plan.count {
         let e = plan.entries[i];
         let f = flow_at(s, i);
         if f.injection == head {
-            put_flow(s, i, f.moved_to(on, e.share as usize));
+            put_flow(s, i, f.moved_to(on, usize::from(e.share)));
         }
-        i += 1;
     }
 }
 

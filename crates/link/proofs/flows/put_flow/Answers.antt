@@ -1,0 +1,5 @@
+use Rattle.link.proofs.FlowBytes.{flow-stored}
+use Rattle.link.proofs.flows.put_flow.Goals as goal
+
+pub returns : goal.returns
+returns c = flow-stored _ _ _
