@@ -6,17 +6,16 @@ ghost use Rattle.imagemodel.specs.Image.{header_length, plan_part};
 
 use crate::layout::HEADER;
 use plan::Outcome;
-use window::numbers::smaller;
 
 // The byte at a place, and 0 where there is none.
 fn byte_or_zero(image: &[u8], at: usize) -> usize
     ensures is { result ≡ get_or image.now at 0 }
     ensures most { result < 256 }
 {
-    if image.len() <= at {
-        return 0;
+    match image.get(at) {
+        Some(b) => usize::from(*b),
+        None => 0,
     }
-    image[at] as usize
 }
 
 // Reads the plan of an image: as many bytes as it states, or those that are there.
@@ -26,7 +25,7 @@ pub fn plan_in(image: &[u8]) -> Outcome
     ensures valid { result.verdict ≡ Accepted → Valid result.plan }
 {
     let long = byte_or_zero(image, HEADER) + 256 * byte_or_zero(image, HEADER + 1);
-    let end = smaller(HEADER + long, image.len());
+    let end = (HEADER + long).min(image.len());
     let part = &image[HEADER..end];
     plan::read(part)
 }
