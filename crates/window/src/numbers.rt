@@ -2,8 +2,6 @@
 ghost use Rattle.std.specs.Prelude.{◌≡◌, ◌+◌, ◌-◌, ◌%◌, min, max, if◌then◌else◌, nat_lt};
 ghost use Rattle.window.specs.Bytes.{wrapped};
 
-use std::num::{wrapping_add_u8, wrapping_sub_u8};
-
 pub fn smaller(a: usize, b: usize) -> usize
     ensures { result ≡ min a b }
 {
@@ -64,21 +62,21 @@ pub fn select_below(x: u8, bound: u8, below: u8, other: u8) -> u8
 pub fn wrapping_add(x: u8, by: u8) -> u8
     ensures { result ≡ wrapped by x }
 {
-    wrapping_add_u8(x, by)
+    x.wrapping_add(by)
 }
 
 // How far 0 lies on from a byte, going round 256.
 pub fn wrapping_neg(x: u8) -> u8
     ensures { result ≡ (256 - x) % 256 }
 {
-    wrapping_sub_u8(0, x)
+    0u8.wrapping_sub(x)
 }
 
 // The next byte, going round 256.
 pub fn wrapping_inc(x: u8) -> u8
     ensures { result ≡ (x + 1) % 256 }
 {
-    wrapping_add_u8(x, 1)
+    x.wrapping_add(1)
 }
 
 // The next byte, and 255 after 255.
