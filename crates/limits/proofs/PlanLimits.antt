@@ -2,7 +2,7 @@
 use Prim.Native.Nat.{ℕ, zero, suc, ◌+◌, ◌*◌, ◌≤◌, ◌<◌}
 use mathlib.Core.Path.{◌≡◌, refl, ap, ap₂, ◌∙◌}
 use mathlib.Core.List.{[], ◌∷◌}
-use mathlib.Core.Bool.{Bool, true, false, not, ◌||◌, cond}
+use mathlib.Core.Bool.{Bool, true, false, not, ◌||◌}
 use native.Mathlib.Omega.{arith}
 use lib.ListN.{get_or}
 use lib.Dec.{ltb}
@@ -90,81 +90,30 @@ module _ (d : Draft) where
       ap (λ n. sum n (λ i. f (model.entry P i))) count_is
       ∙ sum_same d.count _ _ (λ i h. ap f (entry_is i h))
 
-  limits-are : first_of (number_tests P)
+  pub limits_are : first_of (number_tests P)
       ≡ first_of (2 when miscounted ∷ 3 when misframed ∷ 4 when misfits ∷ 5 when repeats ∷ 6 when over-slots ∷ 7 when over-buffer ∷ [])
-  limits-are =
+  limits_are =
       let shares = ap (ltb d.slots) (sums-are (λ e. e.share)) in
       let cells = ap (ltb d.buffer) (sums-are (λ e. e.cells)) in
       λ k. first_of (2 when counts-are k ∷ 3 when misframed ∷ 4 when misfits-are k ∷ 5 when repeats-are k ∷ 6 when shares k ∷ 7 when cells k ∷ [])
 
--- ---- the tests that are passed, up to one of them
+-- ---- what the tests leave
 
-pub record Passed2 (d : Draft) : Type 0 where
-  pub counted : miscounted d ≡ false
-
-pub record Passed3 (d : Draft) : Type 0 where
-  pub to_2 : Passed2 d
-  pub framed : misframed d ≡ false
-
-pub record Passed4 (d : Draft) : Type 0 where
-  pub to_3 : Passed3 d
-  pub fitted : misfits d ≡ false
-
-pub record Passed5 (d : Draft) : Type 0 where
-  pub to_4 : Passed4 d
-  pub distinct : repeats d ≡ false
-
-pub record Passed6 (d : Draft) : Type 0 where
-  pub to_5 : Passed5 d
-  pub shared : over-slots d ≡ false
-
--- ---- the number, by the first test that applies
-
-pub gives-2 : (d : Draft) → miscounted d ≡ true → 2 ≡ first_of (number_tests (draft_for d))
-unfolding first_of
-gives-2 d e = rw (limits-are d, e)
-
-module _ {d : Draft} where
-  pub gives-3 : Passed2 d → misframed d ≡ true → 3 ≡ first_of (number_tests (draft_for d))
-  unfolding first_of
-  gives-3 p e = rw (limits-are d, p.counted, e)
-
-  pub gives-4 : Passed3 d → misfits d ≡ true → 4 ≡ first_of (number_tests (draft_for d))
-  unfolding first_of
-  gives-4 p e = rw (limits-are d, p.to_2.counted, p.framed, e)
-
-  pub gives-5 : Passed4 d → repeats d ≡ true → 5 ≡ first_of (number_tests (draft_for d))
-  unfolding first_of
-  gives-5 p e = let q = p.to_3 in rw (limits-are d, q.to_2.counted, q.framed, p.fitted, e)
-
-  pub gives-6 : Passed5 d → over-slots d ≡ true → 6 ≡ first_of (number_tests (draft_for d))
-  unfolding first_of
-  gives-6 p e = let q = p.to_4.to_3 in rw (limits-are d, q.to_2.counted, q.framed, p.to_4.fitted, p.distinct, e)
-
-  -- 7 or nothing, by the last test
-  pub gives-7 : Passed6 d → (b : Bool) → over-buffer d ≡ b → cond b 7 0 ≡ first_of (number_tests (draft_for d))
-  unfolding first_of
-  gives-7 p b e =
-      let r = p.to_5 in
-      let q = r.to_4.to_3 in
-      rw (limits-are d, q.to_2.counted, q.framed, r.to_4.fitted, r.distinct, p.shared, e)
-
-  -- ---- what the tests leave
-
-  pub few-flows : Passed2 d → d.count ≤ 16
-  few-flows p = (in-range 1 16 d.count p.counted).1
+module _ (d : Draft) (counted : miscounted d ≡ false) where
+  pub few_flows : d.count ≤ 16
+  few_flows = (in-range 1 16 d.count counted).1
 
   -- shares and cells of entries that passed test 4 are small
-  pub small-entries : Passed4 d → SmallEntries d.entries d.count
-  small-entries p =
-      let T-most = or-false _ _ p.to_3.framed in
+  pub small_entries : misframed d ≡ false → misfits d ≡ false → SmallEntries d.entries d.count
+  small_entries framed fitted =
+      let T-most = or-false _ _ framed in
       let N-in = or-false _ _ T-most.0 in
       let F-in = or-false _ _ N-in.0 in
       let slots = in-range 1 64 d.slots F-in.0 in
       let entry-fits : (i : ℕ) → i < d.count → model.FittingEntry (draft_for d) (at d i)
-      = λ i l. fitting-entry (draft_for d) (at d i) (not-false _ (any_none d.count _ p.fitted i l)) in
+      = λ i l. fitting-entry (draft_for d) (at d i) (not-false _ (any_none d.count _ fitted i l)) in
       record {
-        few = few-flows p.to_3.to_2;
+        few = few_flows;
         shares = λ i l. omega (arith, (entry-fits i l).share_most, slots.1);
         cells = λ i l. (entry-fits i l).cells_most;
       }
