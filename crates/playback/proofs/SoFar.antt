@@ -77,14 +77,14 @@ module _ {start : Link} {records out₀ : List ℕ} {used : ℕ} {plan : Plan} {
       omega (arith, same_size, s.seven_most, r.in_out)
 
   -- one record more: it was played, and its line was written
-  pub one_more : at < used → {w' : Window} {link' : Link} {out' : List ℕ} {end' : ℕ}
+  pub one_more : at < used → {next : ℕ} → next ≡ at + 5 → {w' : Window} {link' : Link} {out' : List ℕ} {end' : ℕ}
       → Told plan link.state (call_at records at) w' link' out end out' end'
-      → SoFar start records out₀ used plan (at + 5) link' w' out' end'
-  one_more before t =
+      → SoFar start records out₀ used plan next link' w' out' end'
+  one_more before e t =
       let p = t.played in
       let r = reach records out₀ used s.used_is in
       let on : at + 5 ≤ used = omega (arith, s.whole, r.whole) in
-      record {
+      rw e (record {
         at_most = on;
         used_is = s.used_is;
         whole = omega (arith, s.whole);
@@ -92,7 +92,7 @@ module _ {start : Link} {records out₀ : List ℕ} {used : ℕ} {plan : Plan} {
         played = played-more s.played s.whole (omega (arith, r.in_records)) p.link_is p.line_is t.put;
         plan_is = t.plan_is;
         hand = p.hand;
-      }
+      })
 
   -- all are played
   pub all-played : used ≤ at → PlayedRecords (read_of start) records out₀ (read_of link) used end out

@@ -5,14 +5,13 @@ ghost use Rattle.link.specs.Sound.{SoundLink};
 ghost use Rattle.link.specs.Steps.{read_of};
 ghost use Rattle.playback.specs.Playback.{PlayedRecords};
 
-use calls::{Call, LONGEST_LINE, RECORD, Record};
+use calls::{Call, LONGEST_LINE, RECORD};
 use linetable::{TICKS, lines, write_accepted, write_reply};
 use link::Link;
 use link::credit::credit;
 use link::request::{flow_or_zero, request};
 use link::tick::tick;
 use state::{CURRENT, OWNERS};
-use window::numbers::smaller;
 use window::positions::window;
 
 // A link after some records, and how far they and their lines go.
@@ -33,16 +32,14 @@ pub fn play(mut link: Link, records: &[u8], out: &mut [u8]) -> Playback
         (read_of result.link) result.used result.end out.new }
     ensures sound { SoundLink result.link }
 {
-    let used = RECORD * smaller(records.len() / RECORD, out.len() / LONGEST_LINE);
+    let count = (records.len() / RECORD).min(out.len() / LONGEST_LINE);
     let plan = link.plan;
     let current = link.state[CURRENT];
     let mut w = window(plan.slots, plan.frames, current as usize);
     let made = lines();
-    let mut at = 0;
     let mut end = 0;
-    while at < used {
-        at += RECORD;
-        let Record::Call(call) = calls::read(records, at - RECORD) else {
+    for k in 0..count {
+        let Some(call) = calls::read(records, RECORD * k) else {
             end = calls::write_refusal(16, out, end);
             continue;
         };
@@ -71,5 +68,9 @@ pub fn play(mut link: Link, records: &[u8], out: &mut [u8]) -> Playback
             }
         }
     }
-    Playback { link, used, end }
+    Playback {
+        link,
+        used: RECORD * count,
+        end,
+    }
 }
