@@ -23,8 +23,11 @@ pub fn put_flow(s: &mut State, i: usize, f: Flow)
     ensures { s.new ≡ with_flow_at s.old i f }
 {
     let at = FLOWS + 4 * i;
-    s[at] = f.injection as u8;
-    s[at + 1] = f.remainder as u8;
-    s[at + 2] = (f.number % 256) as u8;
-    s[at + 3] = (f.number / 256) as u8;
+    let bytes = [
+        f.injection as u8,
+        f.remainder as u8,
+        (f.number % 256) as u8,
+        (f.number / 256) as u8,
+    ];
+    s[at..at + 4].copy_from_slice(&bytes);
 }
