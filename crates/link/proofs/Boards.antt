@@ -27,7 +27,7 @@ use Rattle.link.specs.Handed.{Handed}
 use Rattle.link.proofs.Demand3.{RunOf, run_of}
 
 -- bytes that `plan::read` accepts
-module _ (bytes : List ℕ) (plan : Plan) (is : ReadAs bytes (Ok plan)) (valid : Valid plan) where
+module _ (bytes : List ℕ) (p : Plan) (is : ReadAs bytes (Ok p)) (valid : Valid p) where
   abbrev P : model.Plan
   P = model.plan_of bytes
 
@@ -36,22 +36,22 @@ module _ (bytes : List ℕ) (plan : Plan) (is : ReadAs bytes (Ok plan)) (valid :
 
   -- what holds of the link and the events of every run of the reference scheduler
   has : (Q : reference.Link → History → Type 0) → ((calls : List Call) → Q (run scheduler.reference P calls).state (run scheduler.reference P calls).history)
-      → {h : History} {l : Link} → Handed plan h l → Q (link_read l) h
+      → {h : History} {l : Link} → Handed p h l → Q (link_read l) h
   has Q runs {h} {l} g =
-      let plan_is = is-plan bytes plan is in
+      let plan_is = is-plan bytes p is in
       let made = subst (λ R. RunOf R h l) plan_is (run_of valid.accepted g) in
       subst (λ (r : Played scheduler.reference). Q r.state r.history) made.played (runs made.calls)
 
   -- all streams together hold at most N, in every slot
-  pub code-never-overfull : {h : History} {l : Link} → Handed plan h l → (s : ℕ) → FitsBuffer P h s
+  pub code-never-overfull : {h : History} {l : Link} → Handed p h l → (s : ℕ) → FitsBuffer P h s
   code-never-overfull = has (λ l h. (s : ℕ) → FitsBuffer P h s) (reference-never-overfull bytes passes)
 
   -- the holdings that are read of the link are those that are counted, in every slot of the window
-  pub code-table-is-holding : {h : History} {l : Link} → Handed plan h l → (i : ℕ) → i < model.flow_count P → HoldingIs P (link_read l) h i
+  pub code-table-is-holding : {h : History} {l : Link} → Handed p h l → (i : ℕ) → i < model.flow_count P → HoldingIs P (link_read l) h i
   code-table-is-holding = has (λ l h. (i : ℕ) → i < model.flow_count P → HoldingIs P l h i) (table-is-holding bytes passes)
 
   -- and its numbers are the grants so far
-  pub code-number-is-count : {h : History} {l : Link} → Handed plan h l → (i : ℕ) → i < model.flow_count P
+  pub code-number-is-count : {h : History} {l : Link} → Handed p h l → (i : ℕ) → i < model.flow_count P
       → expected_on (link_read l) i ≡ expected_number P h i
   code-number-is-count = has (λ l h. (i : ℕ) → i < model.flow_count P → expected_on l i ≡ expected_number P h i) (number-is-count bytes passes)
 

@@ -4,8 +4,8 @@ use Prim.Native.Nat.{ℕ, ◌<◌}
 use mathlib.Core.Path.{◌≡◌, refl, sym, ap, ◌∙◌, subst}
 use mathlib.Core.List.{List, ◌∷◌, [], ◌++◌}
 use mathlib.Core.Option.{some, none}
-use Rattle.std.specs.Prelude.{Ok}
 use Rattle.plan.specs.declared.Plan.{Plan}
+use Rattle.std.specs.Prelude.{Ok}
 use Rattle.plan.specs.Reading.{plan_for, ReadAs, Valid}
 use Rattle.plan.proofs.Laws.{is-plan}
 use Rattle.calls.specs.Reading.{answer_to_request, answer_to_credit, answer_to_tick, answer_to_lend, answer_to_reset}
@@ -124,7 +124,9 @@ module _ (Q : model.Plan → History → Type 0) (runs : (P : model.Plan) → mo
 
   pub code-has : (bytes : List ℕ) (p : Plan) → ReadAs bytes (Ok p) → Valid p
       → {h : History} {l : Link} → Handed p h l → Q (model.plan_of bytes) h
-  code-has bytes p is valid {h} {l} g = subst (λ P. Q P h) (is-plan bytes p is) (handed-has p valid g)
+  code-has bytes p is valid {h} {l} g =
+      let plan_is = is-plan bytes p is in
+      subst (λ P. Q P h) plan_is (handed-has p valid g)
 
 -- Bytes that `plan::read` accepts, the link that `Link::fresh` hands back, and any list of calls, each on the link that the one before handed back:
 -- demand 3 of their events, for each flow of the plan.

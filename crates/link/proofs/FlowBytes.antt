@@ -1,15 +1,15 @@
 -- The flows of a state in four bytes each: one read after it was stored, and the others. Assumes nothing.
-use Prim.Native.Nat.{ℕ, ◌+◌, ◌*◌, ◌/◌, ◌%◌, ◌<◌, ◌≤◌}
+use Prim.Native.Nat.{ℕ, ◌+◌, ◌*◌, ◌/◌, ◌%◌, ◌<◌}
 use mathlib.Core.Path.{◌≡◌, refl, sym, ap, ◌∙◌}
 use mathlib.Core.List.{List}
 use native.Mathlib.Decide.{ℕ_discrete}
 use native.Mathlib.Omega.{arith}
 use lib.ListN.{length, get_or, set, length-set}
-use borrow.Rule.Slice.PartMut.{put_mid}
 use lib.Seq.{ext_get_or, get_or-set_same, get_or-set_other}
 use Rattle.window.proofs.Tabulated.{get_d-table, length-table, table_same}
 use Rattle.state.specs.Parts.{part, Beside, Apart}
 use Rattle.state.specs.State.{Whole}
+use borrow.Rule.Slice.PartMut.{put_mid}
 use Rattle.state.proofs.Parts.{part-beside, beside-part, part-of-with, put-mid-part}
 use Rattle.link.specs.declared.Flow.{Flow}
 use Rattle.link.specs.Layout.{no_flow}
@@ -65,7 +65,7 @@ flow-read s i f a b c =
     let first : 4416 + 4 * i + 0 ≡ 4416 + 4 * i = omega arith in
     rw first (λ k. record { injection = a k; remainder = b k; number = c k })
 
-pub flow-stored : (s : List ℕ) (i k : ℕ) (f : Flow) (xs : List ℕ) → k ≡ 4 → xs ≡ flow_bytes f → 4416 + 4 * i + 4 ≤ length s
-    → put_mid (4416 + 4 * i) k s xs ≡ with_flow_at s i f
+pub flow-stored : (s : List ℕ) (i n : ℕ) (f : Flow) (bytes : List ℕ) → Whole s → i < 16 → n ≡ 4 → bytes ≡ flow_bytes f
+    → put_mid (4416 + 4 * i) n s bytes ≡ with_flow_at s i f
 unfolding with_flow_at
-flow-stored s i k f xs wide written e = put-mid-part s (4416 + 4 * i) 4 k (flow_bytes f) xs wide written refl e
+flow-stored s i n f bytes whole few four is = put-mid-part s (4416 + 4 * i) 4 n (flow_bytes f) bytes four is refl (omega (arith, whole))

@@ -14,7 +14,7 @@ pub fn flow_at(s: &State, i: usize) -> Flow
     Flow {
         injection: usize::from(s[at]),
         remainder: usize::from(s[at + 1]),
-        number: usize::from(s[at + 2]) + 256 * usize::from(s[at + 3]),
+        number: usize::from(u16::from_le_bytes([s[at + 2], s[at + 3]])),
     }
 }
 
@@ -23,11 +23,6 @@ pub fn put_flow(s: &mut State, i: usize, f: Flow)
     ensures { s.new ≡ with_flow_at s.old i f }
 {
     let at = FLOWS + 4 * i;
-    let bytes = [
-        f.injection as u8,
-        f.remainder as u8,
-        (f.number % 256) as u8,
-        (f.number / 256) as u8,
-    ];
-    s[at..at + 4].copy_from_slice(&bytes);
+    let [low, high] = (f.number as u16).to_le_bytes();
+    s[at..at + 4].copy_from_slice(&[f.injection as u8, f.remainder as u8, low, high]);
 }
