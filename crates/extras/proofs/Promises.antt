@@ -16,7 +16,7 @@ use Rattle.extras.specs.Extras as model
 use Rattle.extras.specs.Best.{Best}
 use Rattle.extras.specs.declared.Extras as code
 use Rattle.extras.specs.declared.Chosen as Answered
-use Rattle.extras.specs.declared.Choice.{Choice}
+use Rattle.std.specs.Prelude.{Some}
 use Rattle.extras.specs.Reading.{extras_for, chosen_for, answer_for}
 use Rattle.extras.specs.Claim.{with_budget, Promised}
 use Rattle.extras.proofs.Summing.{term-most}
@@ -155,7 +155,7 @@ promised x c a =
     rw p.1 (of-best x p.0)
 
 -- by the contract of `extras::choose`, the same of what the code answers
-pub answer-promised : (x : code.Extras) (c : Answered.Chosen) → answer_for (Choice.Best c) ≡ choose (extras_for x) → Promised (extras_for x) (chosen_for c)
+pub answer-promised : (x : code.Extras) (c : Answered.Chosen) → answer_for (Some c) ≡ choose (extras_for x) → Promised (extras_for x) (chosen_for c)
 answer-promised x c e = promised (extras_for x) (chosen_for c) (sym e)
 
 -- a refusal is 27, and stands for a number outside the limits
