@@ -26,12 +26,7 @@ fn empty(s: &mut State, a: usize, e: usize)
     requires { (a ≤ e) × (e ≤ 256) }
     ensures { s.new ≡ with_owners s.old (replaced (in_range a e) (λ q x. nobody) (owners_of s.old)) }
 {
-    let end = OWNERS + e;
-    let mut q = OWNERS + a;
-    while q < end {
-        s[q] = NOBODY;
-        q += 1;
-    }
+    s[OWNERS + a..OWNERS + e].fill(NOBODY);
 }
 
 // Takes the owner from every position of the head frame.
@@ -49,12 +44,10 @@ fn unbooked_in(s: &State, a: usize, e: usize) -> bool
     ensures { All (unbooked_at (owners_of s.now)) a e result }
 {
     let mut all = true;
-    let mut q = a;
-    while q < e {
-        if s[OWNERS + q] != NOBODY {
+    for &owner in &s[OWNERS + a..OWNERS + e] {
+        if owner != NOBODY {
             all = false;
         }
-        q += 1;
     }
     all
 }
