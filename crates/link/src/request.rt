@@ -16,7 +16,6 @@ use crate::flows::{flow_at, put_flow};
 use crate::{Answer, Flow, Link, Step};
 use plan::Entry;
 use state::{CURRENT, OWNERS, State};
-use tables::Found;
 use tables::holdings::raise_from;
 use tables::search::{find, late_rank, valid_in_newest};
 use window::Window;
@@ -111,10 +110,10 @@ fn seek(s: &State, e: Entry, w: Window, i: usize, flow: Flow, departure: usize) 
         flow.remainder,
     );
     match found {
-        Found::At(frame, left, position) => {
-            return Sought::At(frame, left, position);
+        Ok(place) => {
+            return Sought::At(place.frame, place.left, place.position);
         }
-        Found::Nowhere(left) => {
+        Err(left) => {
             return Sought::Nowhere(left, nowhere(valid_in_newest(s, w, late)));
         }
     }

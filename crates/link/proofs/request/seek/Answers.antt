@@ -28,21 +28,21 @@ pub find-found-requires : goal.find-found-requires
 find-found-requires c = search-from c.requires.given
 
 -- what the search comes to is what it found
-pub returns-in-At : goal.returns-in-At
-returns-in-At c =
+pub returns-in-Ok : goal.returns-in-Ok
+returns-in-Ok c =
     let s = c.args in
     λ p o.
     let found-is = c.find-found.ensures ∙ sought-on o c.late_rank-late.ensures in
-    ap (sought_with (would_be_valid (read_in p s.s.now) s.i)) (ap found_of (sym c.in-At.is) ∙ found-is)
+    ap (sought_with (would_be_valid (read_in p s.s.now) s.i)) (ap found_of (sym c.in-Ok.is) ∙ found-is)
 
 pub valid_in_newest-requires : goal.valid_in_newest-requires
 valid_in_newest-requires c = masks-in c.requires.given
 
 -- or the refusal at the newest frame, where the share is not spent up to it
-pub returns-in-Nowhere : goal.returns-in-Nowhere
-returns-in-Nowhere c =
+pub returns-in-Err : goal.returns-in-Err
+returns-in-Err c =
     let s = c.args in
-    let left = c.in-Nowhere.left in
+    let left = c.in-Err.left in
     let not-spent : s.flow.injection ≡ newest (window_of s.w) → s.flow.remainder ≡ 0 → ⊥ = λ frame spent.
     elim c.else-flow-eq0.branch [
       | else-flow-eq0-via-then-flow-eq0+else-flow-newest w ↦ w.if-flow-newest.false (frame ∙ sym w.newest.ensures)
@@ -50,7 +50,7 @@ returns-in-Nowhere c =
     ] in
     λ p o.
     let found-is = c.find-found.ensures ∙ sought-on o c.late_rank-late.ensures in
-    let none = ap found_of (sym c.in-Nowhere.is) ∙ found-is in
+    let none = ap found_of (sym c.in-Err.is) ∙ found-is in
     let some_left : left ≡ 0 → ⊥ = λ z. unspent o not-spent (ap nowhere (sym z) ∙ none) in
     let would = c.valid_in_newest.ensures ∙ would-on o c.late_rank-late.ensures in
     ap (Nowhere left) (c.nowhere.ensures left some_left ∙ ap (λ b. first_of (newest_tests b left)) would)
