@@ -1,11 +1,12 @@
 -- Faults that are stored one after another, and numbers that are put into a line. Assumes nothing.
 use Prim.Native.Nat.{ℕ, ◌+◌, ◌-◌, ◌*◌, ◌≤◌, ◌<◌}
-use mathlib.Core.Path.{◌≡◌, refl, sym, ap, ◌∙◌}
+use mathlib.Core.Path.{◌≡◌, sym, ap, ◌∙◌}
 use mathlib.Core.List.{List, ◌∷◌, [], ◌++◌, flat_map}
 use native.Mathlib.Numerals.{add-one}
 use native.Mathlib.Omega.{arith}
 use lib.ListN.{length, get_or, take, drop, set}
 use lib.Seq.{take-suc, take-length, take_all}
+use Rattle.std.proofs.Common.{Some, slice_get}
 use Rattle.calls.specs.Lines.{Puts}
 use Rattle.calls.proofs.Stores.{puts_none, puts_one, puts-two, puts_then, puts-same}
 use Rattle.replies.specs.Lines.{spaced}
@@ -45,11 +46,10 @@ module _ {numbers before after : List ℕ} {at next i : ℕ} (s : PutTo numbers 
 
 -- ---- the line
 
-pub none-line : (found : List ℕ) → length found ≡ 0 → text "ok\n" ≡ faults_line found
-none-line [] e = refl
-none-line (n ∷ rest) e = absurd (omega arith)
-
-pub some-line : (found : List ℕ) → (length found ≡ 0 → ⊥)
-    → decimal (get_or found 0 0) ++ flat_map spaced (take (length found - 1) (drop 1 found)) ++ text "\n" ≡ faults_line found
-some-line [] some = absurd (some refl)
-some-line (n ∷ rest) some = ap (λ l. decimal n ++ flat_map spaced l ++ text "\n") (take_all (length (n ∷ rest) - 1) rest (omega arith))
+-- a line that begins with the first of some numbers
+pub some-line : (found : List ℕ) (number : ℕ) → Some number ≡ slice_get found 0
+    → decimal number ++ flat_map spaced (take (length found - 1) (drop 1 found)) ++ text "\n" ≡ faults_line found
+some-line [] number e = cc
+some-line (n ∷ rest) number e =
+    let same : number ≡ n = cc in
+    (λ i. decimal (same i) ++ flat_map spaced (take_all (length (n ∷ rest) - 1) rest (omega arith) i) ++ text "\n")
