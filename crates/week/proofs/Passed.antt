@@ -13,7 +13,7 @@ use Rattle.model.proofs.Tests.{or-false, any_none, line-passed}
 use Rattle.week.specs.declared.Programme.{Programme}
 use Rattle.week.specs.declared.Refusal.{Refusal}
 use Rattle.week.specs.declared.Refusal.TheVariants.{Limits, Shared}
-use Rattle.week.specs.Week.{Entry, week, entry, some_breaks_limits, refusal, AtMinute, running, plan_or_dark, answered, plan_at, Passed}
+use Rattle.week.specs.Week.{Entry, week, entry, some_breaks_limits, refusal, running, plan_or_dark, plan_at, Passed}
 use Rattle.week.specs.Reading.{stored, entries_of, number}
 use Rattle.week.proofs.OneEntry.{keeps-limits}
 

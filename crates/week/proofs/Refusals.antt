@@ -11,9 +11,8 @@ use Rattle.std.proofs.lemmas.List.{length-map, get_or-map, get_or-take}
 use lib.Dec.{ltb}
 use borrow.Author.Tests.{lt-ltb, le-ltb, not-false}
 use Rattle.model.specs.Tables.{table, any}
-use Rattle.model.specs.Refusals.{◌when◌, first_of}
+use Rattle.model.specs.Refusals.{first_of}
 use Rattle.model.specs.Calls.{refused}
-use Rattle.model.proofs.Tables.{length-table, get_d-table}
 use Rattle.model.proofs.Tests.{or-true, any_none, any_same}
 use Rattle.week.specs.declared.Entry.{Entry as CodeEntry}
 use Rattle.week.specs.declared.Programme.{Programme}

@@ -1,4 +1,4 @@
-use Rattle.std.proofs.Common.{◌≡◌, ◌≤◌, Bool, true, false, take, length, sym, ap, ◌∙◌, arith}
+use Rattle.std.proofs.Common.{◌≤◌, true, false, take, length, sym, ap, ◌∙◌, arith}
 use Rattle.model.proofs.Tables.{length-table}
 use Rattle.week.specs.Week.{some_breaks_limits, some_shared}
 use Rattle.week.specs.Reading.{stored, entries_of}

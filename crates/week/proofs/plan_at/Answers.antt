@@ -1,8 +1,8 @@
-use Rattle.std.proofs.Common.{◌≡◌, ◌≤◌, take, length, sym, ap, ◌∙◌, arith}
+use Rattle.std.proofs.Common.{◌≤◌, take, length, sym, ap, ◌∙◌, arith}
 use Rattle.std.proofs.lemmas.Result.{err_from_is_err_and}
 use Rattle.model.specs.Calls.{accepted}
-use Rattle.week.specs.Week.{AtMinute, refusal, running, plan_or_dark}
-use Rattle.week.specs.Reading.{entries_of, answer_of, at_minute}
+use Rattle.week.specs.Week.{AtMinute, running, plan_or_dark}
+use Rattle.week.specs.Reading.{entries_of, at_minute}
 use Rattle.week.proofs.FirstRunning.{first-found}
 use Rattle.week.proofs.Passed.{few-entries, refused-answer, passing-answer}
 use Rattle.week.proofs.Refusals.{entries-are}
@@ -13,7 +13,7 @@ returns-in_err-check c =
     let told = err_from_is_err_and c.from_residual.result c.from_residual.ensures.1 in
     rw (told.1, told.2) (refused-answer (entries_of c.args.p) c.args.minute c.in_err-check.field-0.0 c.in_err-check.ensures)
 
-pub shared_ref_as_front-entries : goal.shared_ref_as_front-plan_or_dark
+pub shared_ref_as_front-entries : goal.shared_ref_as_front-entries
 shared_ref_as_front-entries c = omega (arith, few-entries c.args.p c.args.minute (sym c.in_ok-check.ensures))
 
 pub returns : goal.returns

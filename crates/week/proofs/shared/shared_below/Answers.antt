@@ -1,4 +1,4 @@
-use Rattle.std.proofs.Common.{◌<◌, length, sym, ap, ◌∙◌, below_more, length-take, arith}
+use Rattle.std.proofs.Common.{◌<◌, sym, ap, ◌∙◌, below_more, length-take, arith}
 use Rattle.model.proofs.Tests.{any-hit, any-of-none}
 use Rattle.week.specs.Week.{share_minute}
 use Rattle.week.specs.Reading.{stored}
