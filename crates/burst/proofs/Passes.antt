@@ -11,8 +11,9 @@ use Prim.Native.Nat.{ℕ, zero, suc, ◌+◌, ◌-◌, ◌≤◌, ◌<◌, min}
 use native.Mathlib.Nat.{not-suc-le-zero, le_of_suc-le-suc}
 use native.Mathlib.Decide.{dec_lt}
 use native.Mathlib.Omega.{arith}
-use mathlib.Core.List.{List, [], ◌∷◌, ◌++◌}
-use lib.ListN.{length, get_or, set, length-set, length-map, take, drop}
+use mathlib.Core.List.{List, [], ◌∷◌, ◌++◌, append-nil}
+use lib.ListN.{length, get_or, set, length-set, length-map, take, drop, drop_of_length-le}
+use Rattle.std.proofs.lemmas.List.{take_all, length-take-le}
 use Rattle.model.specs.Calls.{Grant, accepted, refused}
 use Rattle.model.specs.Link as model
 use Rattle.model.specs.Request.{request}
@@ -198,6 +199,27 @@ asks_both : (xs ys : List BurstRecord) → asks_of (xs ++ ys) ≡ asks_of xs ++ 
 asks_both [] ys = refl
 asks_both (x ∷ xs) ys = ap (λ (zs : List reference.BurstRecord). ask_of x ∷ zs) (asks_both xs ys)
 
+-- and so they are of themselves
+pub front-counts : {A : Type 0} (n : ℕ) (xs : List A) → Counts (length xs) n → Counts (length (take n xs)) n
+front-counts n xs c = let long = length-take-le n xs c.there in record { there = omega (arith, long); most = c.most; all = λ _. sym long }
+
+-- those that a burst handles come to what the burst of all does
+module _ (n : ℕ) (l : model.Link) (xs : List reference.BurstRecord) (c : Counts (length xs) n) where
+  abbrev front : List reference.BurstRecord
+  front = take n xs
+
+  long : length front ≡ n
+  long = length-take-le n xs c.there
+
+  front-is : burst l front ≡ in_order l front
+  front-is =
+      let whole : take n front ≡ front = take_all n front (omega (arith, long)) in
+      let rest : drop n front ≡ [] = drop_of_length-le front (omega (arith, long)) in
+      sym (enough n l front (front-counts n xs c)) ∙ rw (whole, rest) (λ k. record { link = (in_order l front).link; records = append-nil (in_order l front).records k })
+
+  pub handled-all : burst_of_first n l xs ≡ burst l xs
+  handled-all = ap (λ (b : reference.Burst). record { link = b.link; records = b.records ++ drop n xs }) front-is ∙ enough n l xs c
+
 -- a burst of the first k, and the others behind them
 pub front-handled : (k : ℕ) (l r : Link) (xs ys : List BurstRecord) → Bursted (burst (read_of l) (asks_of (take k xs))) r (asks_of ys)
     → Bursted (burst_of_first k (read_of l) (asks_of xs)) r (asks_of (ys ++ drop k xs))
@@ -206,3 +228,10 @@ front-handled k l r xs ys b = record {
   records_are = asks_both ys (drop k xs) ∙ (λ i. (b.records_are ∙ ap (λ (zs : List reference.BurstRecord). (burst (read_of l) zs).records) (asks-front k xs)) i ++ asks_rest k xs i);
   sound = b.sound;
 }
+
+-- where the first n are those that a burst handles, it is a burst of all
+pub burst-by-front : (l r : Link) (xs ys : List BurstRecord) {n : ℕ} → Counts (length xs) n
+    → Bursted (burst (read_of l) (asks_of (take n xs))) r (asks_of ys) → Bursted (burst (read_of l) (asks_of xs)) r (asks_of (ys ++ drop n xs))
+burst-by-front l r xs ys {n} c b =
+    let counts = subst (λ (m : ℕ). Counts m n) (sym (length-map xs ask_of)) c in
+    subst (λ (x : reference.Burst). Bursted x r (asks_of (ys ++ drop n xs))) (handled-all n (read_of l) (asks_of xs) counts) (front-handled n l r xs ys b)

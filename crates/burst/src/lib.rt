@@ -16,7 +16,6 @@ use link::request::{Reply, flow_or_zero, request};
 use plan::Plan;
 use state::{CURRENT, State};
 use window::Window;
-use window::numbers::smaller;
 use window::positions::window;
 
 // A word, and what its request comes to: 0 and the position granted, or the refusal and 0.
@@ -55,7 +54,7 @@ const MOST: usize = 16;
 fn handled(n: usize) -> usize
     ensures { result ≡ min n 16 }
 {
-    smaller(n, MOST)
+    n.min(MOST)
 }
 
 // The requests of the first 16 records, in order: their answers are filled in, and all else of the slice stays.
@@ -67,13 +66,10 @@ pub fn burst(link: Link, records: &mut [BurstRecord]) -> Link
     let w = window_of(link);
     let mut last = link;
     let n = handled(records.len());
-    let mut i = 0;
-    while i < n {
-        let r = &mut records[i];
+    for r in &mut records[..n] {
         let reply = reply_to(&mut last.state, plan, w, r.word);
         r.result = reply.number;
         r.position = reply.position;
-        i += 1;
     }
     last
 }
@@ -102,5 +98,5 @@ pub fn burst_first(link: Link, records: [BurstRecord; 20], count: usize) -> Hand
     requires { SoundLink link }
     ensures { Bursted (burst_of_first (min count 20) (read_of link) (asks_of records)) result.link (asks_of result.records) }
 {
-    lend_first(link, records, smaller(count, 20))
+    lend_first(link, records, count.min(20))
 }

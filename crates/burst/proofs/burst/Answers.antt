@@ -1,9 +1,16 @@
-use Rattle.burst.proofs.Passes.{counted, next, done}
+use Rattle.std.proofs.Common.{arith}
+use Rattle.std.proofs.lemmas.List.{length-take-le}
+use Rattle.burst.proofs.Passes.{counted, front-counts, next, done, burst-by-front}
 use Rattle.burst.proofs.burst.Goals as goal
 
-pub loop-i-preserved : goal.loop-i-preserved
-loop-i-preserved c =
-    next c.loop-i.invariant c.reply_to-reply.new.s c.reply_to-reply.result c.loop-i-test.true (counted c.handled-n.ensures).there c.reply_to-reply.ensures
+pub loop-r-preserved : goal.loop-r-preserved
+loop-r-preserved c =
+    let long = length-take-le c.handled-n.result c.args.records.now (counted c.handled-n.ensures).there in
+    next c.loop-r.invariant c.reply_to-reply.new.s c.reply_to-reply.result (omega (arith, long)) (omega (arith, long)) c.reply_to-reply.ensures
 
 pub returns : goal.returns
-returns c = done c.loop-i.invariant c.loop-i-test.false (counted c.handled-n.ensures)
+returns c =
+    let counts = counted c.handled-n.ensures in
+    let long = length-take-le c.handled-n.result c.args.records.now counts.there in
+    burst-by-front c.args.link c.loop-r.last c.args.records.now c.loop-r.r-items counts
+    (done c.loop-r.invariant (omega (arith, long)) (front-counts _ c.args.records.now counts))
