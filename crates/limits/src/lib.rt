@@ -43,11 +43,11 @@ pub struct Draft {
 pub fn count_out_of_range(count: usize) -> bool
     ensures { result ≡ not (within 1 16 count) }
 {
-    !ranges::inside(1, MOST_FLOWS, count)
+    !(1..=MOST_FLOWS).contains(&count)
 }
 
 // Tests 2 to 7: the first that applies is the refusal.
-#[tactic(auto, using(std::proofs::lemmas::Bool::Decides::nat_tests, crate::proofs::PlanLimits::limits_are, crate::proofs::PlanLimits::few_flows, crate::proofs::PlanLimits::small_entries), unfolding(model::specs::Refusals::first_of))]
+#[tactic(auto, using(std::proofs::lemmas::Bool::Decides::nat_tests, crate::proofs::PlanLimits::limits_are, crate::proofs::PlanLimits::few_flows, crate::proofs::PlanLimits::gives_2, crate::proofs::PlanLimits::few_shares, crate::proofs::PlanLimits::few_cells), unfolding(model::specs::Refusals::first_of))]
 pub fn check(d: Draft) -> Result<(), Refusal>
     ensures { refusal_number result ≡ first_of (number_tests (draft_for d)) }
 {
@@ -57,18 +57,17 @@ pub fn check(d: Draft) -> Result<(), Refusal>
     if ranges::frames_out_of_range(d.slots, d.frames, d.buffer) {
         return Err(Refusal::Frame);
     }
-    let all = d.entries;
-    if entries::entries_out_of_range(all, d.count, d.slots) {
+    let flows = &d.entries[..d.count];
+    if entries::entries_out_of_range(flows, d.slots) {
         return Err(Refusal::Entries);
     }
-    if entries::any_repeats(all, d.count) {
+    if entries::any_repeats(flows) {
         return Err(Refusal::Pairs);
     }
-    let t = entries::totals(all, d.count);
-    if d.slots < t.shares {
+    if d.slots < entries::shares_of(flows) {
         return Err(Refusal::Shares);
     }
-    if d.buffer < t.cells {
+    if d.buffer < entries::cells_of(flows) {
         return Err(Refusal::Cells);
     }
     Ok(())
