@@ -1,5 +1,5 @@
 -- The crate's types read as the model's, and the model's plan as it is stored. Assumes nothing.
-use Rattle.std.specs.Prelude.{ℕ, ◌≤◌, ◌≡◌, Result, Ok, Err, List, length, get_or, replicate}
+use Rattle.std.specs.Prelude.{ℕ, ◌≤◌, ◌≡◌, Result, Ok, Err, List, length, get_or}
 use Rattle.plan.specs.declared.Entry.{Entry}
 use Rattle.plan.specs.declared.Plan.{Plan}
 use Rattle.plan.specs.declared.header.Header.{Header}
@@ -29,10 +29,6 @@ plan_for p = record { slots = p.slots; frames = p.frames; buffer = p.buffer; ent
 
 abbrev pub stored_entry : model.Entry → Entry
 stored_entry e = record { share = e.share; cells = e.cells; source = e.source; destination = e.destination }
-
--- sixteen entries, all zero
-unfoldable pub no_entries : List Entry
-no_entries = replicate 16 no_entry
 
 -- sixteen entries, all zero after those given
 unfoldable pub stored_entries : List model.Entry → List Entry
