@@ -1,4 +1,4 @@
-use Rattle.std.proofs.Common.{ℕ, Bool, true, false, ◌≡◌, ◌+◌, List, length, get_or, take, refl, sym, ◌∙◌, arith}
+use Rattle.std.proofs.Common.{ℕ, Bool, true, false, ◌≡◌, ◌+◌, List, length, get_or, take, refl, sym, arith}
 use native.Mathlib.Numerals.{add-one}
 use Rattle.std.specs.List.{list_any}
 use Rattle.model.specs.Tables.{any}

@@ -1,6 +1,5 @@
-use Rattle.std.proofs.Common.{ℕ, ◌≡◌, ◌<◌, List, length, get_or, sym, ap, ◌∙◌, arith, rules}
+use Rattle.std.proofs.Common.{ℕ, ◌≡◌, ◌<◌, List, length, get_or, sym, ap, ◌∙◌, rules}
 use Rattle.limits.specs.declared.Wanted.{Wanted}
-use Rattle.limits.specs.declared.Draft.{Draft}
 use Rattle.limits.specs.Reading.{no_wanted}
 use Rattle.model.specs.Tables.{table}
 use Rattle.model.proofs.Tables.{table-get_d, table_same}
