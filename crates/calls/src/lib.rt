@@ -4,7 +4,7 @@
 mod records;
 mod render;
 
-pub use records::{read, wide};
+pub use records::read;
 pub use render::{has_room, write, write_plan, write_refusal};
 
 // The bytes of a call record.

@@ -5,13 +5,6 @@ ghost use Rattle.calls.specs.Reading.{record_for, number_of, number_for};
 
 use crate::{Call, RECORD};
 
-// A byte as a number of 32 bits.
-pub fn wide(byte: u8) -> u32
-    ensures { (result ≡ byte) × (result < 256) }
-{
-    u32::from(byte)
-}
-
 // The number of four bytes, low byte first.
 fn word_at(bytes: &[u8], at: usize) -> u32
     requires { at + 3 < length bytes.now }
