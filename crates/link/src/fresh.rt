@@ -5,7 +5,8 @@ ghost use Rattle.model.specs.Fresh as model;
 ghost use Rattle.state.specs.State.{Whole};
 ghost use Rattle.link.specs.Parts.{flows_of};
 ghost use Rattle.link.specs.Changes.{FlowsNow};
-ghost use Rattle.link.specs.Sound.{SoundState, SoundLink};
+ghost use Rattle.link.specs.Sound.{SoundState};
+ghost use Rattle.link.specs.Links.{SoundLink};
 ghost use Rattle.link.specs.Started.{no_flows, started_flows};
 ghost use Rattle.link.specs.Steps.{read_in, read_of};
 

@@ -7,16 +7,15 @@ ghost use Rattle.plan.specs.Reading.{Valid};
 ghost use Rattle.window.specs.Window.{Proper};
 ghost use Rattle.tables.specs.Owners.{nobody};
 ghost use Rattle.link.specs.Given.{StateIn};
-ghost use Rattle.link.specs.Sound.{SoundLink};
 ghost use Rattle.link.specs.Steps.{read_in, read_of, Went, Stepped};
 ghost use Rattle.link.specs.Lend.{takes_in, first_taker};
 
 use crate::{Answer, Link, Step};
 use plan::Plan;
-use state::{CURRENT, MARK, NOBODY, OWNERS, State, TURN};
+use state::{MARK, NOBODY, OWNERS, State, TURN};
 use tables::holdings::{raise_from, room_from};
 use window::Window;
-use window::positions::{next, window};
+use window::positions::next;
 
 // Whether a slot with this owner and this mark is booked or marked.
 pub(crate) fn booked_or_marked(owner: u8, marked: bool) -> bool
@@ -81,12 +80,10 @@ pub fn lend(s: &mut State, plan: Plan, w: Window, mask: u16) -> Answer
 impl Link {
     // The current slot, when nobody booked it, goes to a flow of a mask that has a quantum ready.
     pub fn lend(mut self, mask: u16) -> Step
-        requires { SoundLink self }
         ensures { Stepped answer_to_lend (model.lend (read_of self) mask) result }
     {
         let plan = self.plan;
-        let current = self.state[CURRENT];
-        let w = window(plan.slots, plan.frames, current as usize);
+        let w = self.window();
         let answer = lend(&mut self.state, plan, w, mask);
         Step { link: self, answer }
     }

@@ -7,7 +7,6 @@ ghost use Rattle.calls.specs.Reading.{answer_to_request};
 ghost use Rattle.unbooked.specs.Words.{InFrame};
 ghost use Rattle.link.specs.Parts.{parts_in};
 ghost use Rattle.link.specs.Changes.{BookedIn};
-ghost use Rattle.link.specs.Sound.{SoundLink};
 ghost use Rattle.link.specs.Steps.{read_in, read_of, Went, Stepped, reply_of, request_answer};
 ghost use Rattle.link.specs.Given.{SomePlan, SomeRequest, RequestIn, SeekIn, flow_or_zero, tests_of};
 ghost use Rattle.link.specs.Sought.{sought_in};
@@ -15,11 +14,10 @@ ghost use Rattle.link.specs.Sought.{sought_in};
 use crate::flows::{flow_at, put_flow};
 use crate::{Answer, Flow, Link, Step};
 use plan::Entry;
-use state::{CURRENT, OWNERS, State};
+use state::{OWNERS, State};
 use tables::holdings::raise_from;
 use tables::search::{find, late_rank, valid_in_newest};
 use window::Window;
-use window::positions::window;
 use word::Fields;
 
 // What a request comes to: 0 and the position granted, or the refusal and 0.
@@ -173,15 +171,13 @@ fn told(word: u32, reply: Reply) -> Answer
 impl Link {
     // A word asks for a slot.
     pub fn request(mut self, word: u32) -> Step
-        requires { SoundLink self }
         ensures { Stepped answer_to_request (model.request (read_of self) word) result }
     {
         let plan = self.plan;
         let fields = word::split(word);
         let i = flow_or_zero(plan.count, fields.flow as usize);
         let e = plan.entries[i];
-        let current = self.state[CURRENT];
-        let w = window(plan.slots, plan.frames, current as usize);
+        let w = self.window();
         let reply = request(&mut self.state, plan.count, e, w, fields);
         Step {
             link: self,
