@@ -6,7 +6,7 @@ ghost use Rattle.model.specs.Burst as model;
 ghost use Rattle.model.specs.Request as reference;
 ghost use Rattle.link.specs.Steps.{read_in, read_of, Went, reply_of};
 ghost use Rattle.link.specs.Given.{StateIn};
-ghost use Rattle.link.specs.Sound.{SoundLink};
+ghost use Rattle.link.specs.Links.{SoundLink};
 ghost use Rattle.link.specs.Bursts.{Bursted};
 ghost use Rattle.burst.specs.Reading.{asks_of};
 ghost use Rattle.burst.specs.First.{burst_of_first};

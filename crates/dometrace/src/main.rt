@@ -7,7 +7,7 @@ mod pieces;
 mod records;
 
 ghost use Rattle.std.specs.Prelude.{◌≤◌, length};
-ghost use Rattle.link.specs.Sound.{SoundLink};
+ghost use Rattle.link.specs.Links.{SoundLink};
 
 use link::Link;
 use pieces::{play_first, put_bytes};

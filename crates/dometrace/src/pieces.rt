@@ -1,7 +1,7 @@
 // The input in pieces: records that are whole are played, and what is left is kept for the next piece.
 ghost use Rattle.std.specs.Prelude.{◌+◌, ◌*◌, ◌≤◌, ◌<◌, ◌≡◌, length};
 ghost use Rattle.link.specs.Given.{StateIn};
-ghost use Rattle.link.specs.Sound.{SoundLink};
+ghost use Rattle.link.specs.Links.{SoundLink};
 
 use crate::output;
 use crate::records::{Found, record_at, word_at, words_of};

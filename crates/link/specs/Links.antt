@@ -1,5 +1,4 @@
 -- A link of the code, taken apart. Assumes nothing.
-use Rattle.std.specs.Prelude.{List}
 use Rattle.link.specs.declared.Link.{Link}
 use Rattle.link.specs.Parts.{Parts, parts_in}
 use Rattle.link.specs.Sound.{SoundState}

@@ -14,7 +14,7 @@ use Rattle.plan.specs.declared.Verdict.TheVariants.{Accepted, Refused}
 use Rattle.plan.specs.Reading.{plan_for, verdict_for, read_of}
 use Rattle.plan.proofs.Laws.{is-plan}
 use Rattle.link.specs.declared.Link.{Link}
-use Rattle.link.specs.Sound.{SoundLink}
+use Rattle.link.specs.Links.{SoundLink}
 use Rattle.link.specs.Steps.{read_in}
 use Rattle.imagemodel.specs.Image.{image_length}
 use Rattle.imagemodel.specs.Consistent.{Keepable}

@@ -1,7 +1,7 @@
 // Call records of a slice played in place.
 #![tactic(auto)]
 
-ghost use Rattle.link.specs.Sound.{SoundLink};
+ghost use Rattle.link.specs.Links.{SoundLink};
 ghost use Rattle.link.specs.Steps.{read_of};
 ghost use Rattle.playback.specs.Playback.{PlayedRecords};
 
@@ -11,8 +11,7 @@ use link::Link;
 use link::credit::credit;
 use link::request::{flow_or_zero, request};
 use link::tick::tick;
-use state::{CURRENT, OWNERS};
-use window::positions::window;
+use state::OWNERS;
 
 // A link after some records, and how far they and their lines go.
 #[derive(Clone, Copy)]
@@ -26,16 +25,15 @@ pub struct Playback {
 
 // Plays the records of a slice and writes their lines from the start of `out` on: every whole record, or as many as `out` has room for,
 // seven bytes each.
-pub fn play(mut link: Link, records: &[u8], out: &mut [u8]) -> Playback
-    requires { SoundLink link }
+pub fn play(link: Link, records: &[u8], out: &mut [u8]) -> Playback
     ensures played_records { PlayedRecords (read_of link) records.now out.old
         (read_of result.link) result.used result.end out.new }
     ensures sound { SoundLink result.link }
 {
     let count = (records.len() / RECORD).min(out.len() / LONGEST_LINE);
     let plan = link.plan;
-    let current = link.state[CURRENT];
-    let mut w = window(plan.slots, plan.frames, current as usize);
+    let mut w = link.window();
+    let mut state = link.state;
     let made = lines();
     let mut end = 0;
     for k in 0..count {
@@ -48,12 +46,12 @@ pub fn play(mut link: Link, records: &[u8], out: &mut [u8]) -> Playback
                 let fields = word::split(word);
                 let i = flow_or_zero(plan.count, fields.flow as usize);
                 let e = plan.entries[i];
-                let reply = request(&mut link.state, plan.count, e, w, fields);
+                let reply = request(&mut state, plan.count, e, w, fields);
                 let line = made[reply.position as usize];
                 end = write_reply(reply.number, line, out, end);
             }
             Call::Credit(flow, position) => {
-                let number = credit(&mut link.state, plan, w, flow, position);
+                let number = credit(&mut state, plan, w, flow, position);
                 if number != 0 {
                     end = calls::write_refusal(number, out, end);
                 } else {
@@ -61,13 +59,14 @@ pub fn play(mut link: Link, records: &[u8], out: &mut [u8]) -> Playback
                 }
             }
             Call::Tick => {
-                w = tick(&mut link.state, plan, w);
-                let owner = link.state[OWNERS + w.current];
+                w = tick(&mut state, plan, w);
+                let owner = state[OWNERS + w.current];
                 let line = made[TICKS + owner as usize];
                 end = linetable::write(line, out, end);
             }
         }
     }
+    let link = Link { plan, state };
     Playback {
         link,
         used: RECORD * count,

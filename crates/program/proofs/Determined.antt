@@ -6,7 +6,7 @@ use native.Mathlib.Omega.{arith}
 use lib.ListN.{length}
 use lib.Seq.{sets}
 use Rattle.link.specs.declared.Link.{Link}
-use Rattle.link.specs.Parts.{parts_of}
+use Rattle.link.specs.Links.{parts_of}
 use Rattle.link.specs.Steps.{read_of}
 use Rattle.link.proofs.Stored.{one-reading}
 use Rattle.program.specs.declared.Phase.{Phase}

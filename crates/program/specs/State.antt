@@ -4,7 +4,7 @@ use Rattle.std.proofs.lemmas.List.Edits.{sets}
 use Rattle.plan.specs.Reading.{no_entry}
 use Rattle.link.specs.declared.Link.{Link}
 use Rattle.link.specs.Steps.{read_of}
-use Rattle.link.specs.Sound.{SoundLink}
+use Rattle.link.specs.Links.{SoundLink}
 use Rattle.program.specs.declared.Phase.{Phase}
 use Rattle.program.specs.declared.Phase.TheVariants.{Reading, Playing, Ended}
 use Rattle.program.specs.declared.Kept.{Kept}

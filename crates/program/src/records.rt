@@ -1,7 +1,7 @@
 // Records: whole ones are played, and the bytes of one that is not whole yet are kept.
 ghost use Rattle.std.specs.Prelude.{[], ◌+◌, ◌*◌, ◌/◌, ◌≤◌, length};
 ghost use Rattle.link.specs.Steps.{read_of};
-ghost use Rattle.link.specs.Sound.{SoundLink};
+ghost use Rattle.link.specs.Links.{SoundLink};
 ghost use Rattle.program.specs.Stage as stage;
 ghost use Rattle.program.specs.State.{bytes_in, Keeps, Plays};
 ghost use Rattle.program.specs.Promises.{Finished};

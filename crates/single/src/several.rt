@@ -1,6 +1,6 @@
 // The records of a burst.
 ghost use Rattle.std.specs.Prelude.{◌≤◌, length};
-ghost use Rattle.link.specs.Sound.{SoundLink};
+ghost use Rattle.link.specs.Links.{SoundLink};
 
 use burst::{BurstRecord, HandedBack};
 use link::Link;

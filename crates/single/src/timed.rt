@@ -1,6 +1,6 @@
 // Calls of one kind, by value, one after the other, and the time that they take.
 ghost use Rattle.std.specs.Prelude.{◌<◌, ◌≤◌, ℕ, length};
-ghost use Rattle.link.specs.Sound.{SoundLink};
+ghost use Rattle.link.specs.Links.{SoundLink};
 ghost use Rattle.link.specs.declared.Link.{Link};
 ghost use Rattle.link.specs.declared.Step.{Step};
 

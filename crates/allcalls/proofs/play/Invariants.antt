@@ -1,4 +1,4 @@
-use Rattle.link.specs.Sound.{SoundLink}
+use Rattle.link.specs.Links.{SoundLink}
 use Rattle.allcalls.proofs.play.Given as goal
 
 abbrev pub invariant-loop : goal.invariant-loop

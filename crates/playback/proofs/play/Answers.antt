@@ -6,16 +6,16 @@ use Rattle.calls.specs.Reading.{call_in, answer_to_tick}
 use Rattle.calls.proofs.Stores.{put-in-room, puts-same}
 use Rattle.tables.specs.Owners.{owner_of}
 use Rattle.link.specs.Steps.{request_answer}
-use Rattle.link.proofs.Given.{state-in, flow-or-zero-few, request-in}
+use Rattle.link.proofs.Given.{flow-or-zero-few, request-in}
 use Rattle.link.proofs.Told.{request-told, credit-told}
 use Rattle.playback.proofs.Records.{reads_as, no-call-played, played-request, played-credit, played-tick}
 use Rattle.playback.proofs.Texts.{reply-text, tick-text, owner_at}
-use Rattle.playback.proofs.SoFar.{none_yet, same_size, room, one_more, all-played, sound-played}
+use Rattle.playback.proofs.SoFar.{none_yet, same_size, room, one_more, all-played}
 use Rattle.playback.proofs.play.Goals as goal
 use Rattle.playback.proofs.play.Goals.{in-Request, in-Credit+then-number-ne0, in-Credit+else-number-ne0, in-Tick}
 
 pub loop-k-init : goal.loop-k-init
-loop-k-init c = none_yet (ap (5 *◌) c.min-count.ensures) (state-in c.requires c.window-w.ensures.is c.window-w.ensures.proper)
+loop-k-init c = none_yet (ap (5 *◌) c.min-count.ensures) c.window-w.ensures
 
 pub loop-k-preserved-in_default : goal.loop-k-preserved-in_default
 loop-k-preserved-in_default c =
@@ -25,7 +25,6 @@ loop-k-preserved-in_default c =
     (record {
       answer = Refused 16;
       played = rw (reads_as _ _ c.read.ensures.is ∙ ap call_in c.in_default.is) (no-call-played s.hand);
-      plan_is = s.plan_is;
       put = put-in-room _ _ _ (room s (omega (arith, c.loop-k-test.true))) (e.out, (e.next, e.most));
       most = e.most;
     })
@@ -75,47 +74,43 @@ loop-k-preserved c =
           let word = y.in-Request.word in
           let went = y.request-reply.ensures _ _ (request-in s.hand word y.split-fields.ensures y.flow_or_zero-i.ensures) in
           let is = call-is ∙ ap (λ (x : Call). call_in (Some x)) y.in-Request.is in
-          rw (y.out-is, y.link-is, y.w-is, y.end-is)
+          rw (y.out-is, y.state-is, y.w-is, y.end-is)
           (one_more s (omega (arith, c.loop-k-test.true)) (omega arith)
           (record {
             answer = request_answer word y.request-reply.result;
             played = rw is (played-request s.hand _ (request-told s.hand.sound _ went));
-            plan_is = s.plan_is;
             put = puts-same (reply-text c.lines-made.ensures word y.request-reply.result (omega arith)) y.write_reply-end.ensures.put;
             most = y.write_reply-end.ensures.most;
           }))
       | in-Credit+then-number-ne0 y ↦
           let e = y.write_refusal-end-then-number-ne0.ensures in
           let is = call-is ∙ ap (λ (x : Call). call_in (Some x)) y.in-Credit.is in
-          rw (y.out-is, y.link-is, y.w-is, y.end-is)
+          rw (y.out-is, y.state-is, y.w-is, y.end-is)
           (one_more s (omega (arith, c.loop-k-test.true)) (omega arith)
           (record {
             answer = Refused y.credit-number.result;
             played = rw is (played-credit s.hand _ _ (rw (ne_eqb _ _ y.if-number-ne0.true) at (credit-told _ _ _ y.credit-number.ensures)));
-            plan_is = s.plan_is;
             put = put-in-room _ _ _ (room s (omega (arith, c.loop-k-test.true))) (e.out, (e.next, e.most));
             most = e.most;
           }))
       | in-Credit+else-number-ne0 y ↦
           let is = call-is ∙ ap (λ (x : Call). call_in (Some x)) y.in-Credit.is in
-          rw (y.out-is, y.link-is, y.w-is, y.end-is)
+          rw (y.out-is, y.state-is, y.w-is, y.end-is)
           (one_more s (omega (arith, c.loop-k-test.true)) (omega arith)
           (record {
             answer = Accepted;
             played = rw is (played-credit s.hand _ _ (rw (eq-eqb _ _ y.if-number-ne0.false) at (credit-told _ _ _ y.credit-number.ensures)));
-            plan_is = s.plan_is;
             put = y.write_accepted-end.ensures.put;
             most = y.write_accepted-end.ensures.most;
           }))
       | in-Tick y ↦
           let there = y.tick-w.ensures.there in
           let is = call-is ∙ ap (λ (x : Call). call_in (Some x)) y.in-Tick.is in
-          rw (y.out-is, y.link-is, y.w-is, y.end-is)
+          rw (y.out-is, y.state-is, y.w-is, y.end-is)
           (one_more s (omega (arith, c.loop-k-test.true)) (omega arith)
           (record {
             answer = answer_to_tick (owner_of (get_or y.tick-w.new.s (4096 + y.tick-w.result.current) 0));
             played = rw is (played-tick s.hand y.tick-w.ensures.is there);
-            plan_is = s.plan_is;
             put = puts-same (tick-text c.lines-made.ensures _ (owner_at there)) y.write-end.ensures.put;
             most = y.write-end.ensures.most;
           }))
@@ -127,4 +122,7 @@ shape_of-out c = same_size c.loop-k.invariant
 pub returns : goal.returns
 returns c =
     let s = c.loop-k.invariant in
-    record { played_records = all-played s (omega arith); sound = sound-played s }
+    record { played_records = all-played s (omega arith); sound = s.hand.sound }
+
+pub invariant_of-link : goal.invariant_of-link
+invariant_of-link c = record { sound = c.loop-k.invariant.hand.sound }

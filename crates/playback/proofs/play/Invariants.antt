@@ -4,4 +4,4 @@ use Rattle.playback.proofs.play.Given as goal
 
 -- the first k records are played
 abbrev pub invariant-loop-k : goal.invariant-loop-k
-invariant-loop-k l = SoFar l.fn.link l.records l.initial.out (5 * l.count) l.plan (5 * l.k) l.link l.w l.out l.end
+invariant-loop-k l = SoFar l.fn.link l.records l.initial.out (5 * l.count) (5 * l.k) l.state l.w l.out l.end

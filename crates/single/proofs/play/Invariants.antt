@@ -1,5 +1,5 @@
 use Rattle.std.proofs.Common.{◌-◌, length}
-use Rattle.link.specs.Sound.{SoundLink}
+use Rattle.link.specs.Links.{SoundLink}
 use Rattle.single.proofs.play.Given as goal
 
 abbrev pub invariant-loop-from : goal.invariant-loop-from

@@ -1,4 +1,4 @@
-use Rattle.link.specs.Sound.{SoundLink}
+use Rattle.link.specs.Links.{SoundLink}
 use Rattle.single.proofs.timed.bursts.Given as goal
 
 abbrev pub invariant-loop-part : goal.invariant-loop-part

@@ -1,4 +1,4 @@
-use Rattle.link.specs.Sound.{SoundLink}
+use Rattle.link.specs.Links.{SoundLink}
 use Rattle.single.proofs.timed.singles.Given as goal
 
 abbrev pub invariant-loop-call : goal.invariant-loop-call
