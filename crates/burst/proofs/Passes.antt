@@ -19,7 +19,6 @@ use Rattle.model.specs.Link as model
 use Rattle.model.specs.Request.{request}
 use Rattle.model.specs.Burst as reference
 use Rattle.model.specs.Burst.{filled, in_front, in_order, burst}
-use Rattle.plan.specs.declared.Plan.{Plan}
 use Rattle.window.specs.declared.Window.{Window}
 use Rattle.link.specs.declared.Link.{Link}
 use Rattle.link.specs.declared.request.Reply.{Reply}
@@ -30,10 +29,6 @@ use Rattle.link.proofs.Stays.{request-current, still-in}
 use Rattle.burst.specs.declared.BurstRecord.{BurstRecord}
 use Rattle.burst.specs.Reading.{ask_of, asks_of}
 use Rattle.burst.specs.First.{burst_of_first}
-
--- a link of a plan and a state
-abbrev pub link_with : Plan → List ℕ → Link
-link_with p s = record { plan = p; state = s }
 
 -- ---- on from the i-th record, by the model
 
@@ -92,12 +87,11 @@ enough n l xs c = go (dec_lt n 16)
 
 -- ---- the loop's variables between two turns: i, the link in hand and what the slice holds, where n records of xs are handled from l, whose window is w
 
-pub record Passing (l : Link) (w : Window) (xs : List BurstRecord) (n : ℕ) (last : Link) (cur : List BurstRecord) (i : ℕ) : Type 0 where
-  pub plan_is : last.plan ≡ l.plan
-  pub hand : StateIn l.plan w last.state
+pub record Passing (l : Link) (w : Window) (xs : List BurstRecord) (n : ℕ) (state : List ℕ) (cur : List BurstRecord) (i : ℕ) : Type 0 where
+  pub hand : StateIn l.plan w state
   pub within : i ≤ n
   pub long : length cur ≡ length xs
-  pub comes : onward i (n - i) (read_in l.plan last.state) (asks_of cur) ≡ up_to n (read_of l) (asks_of xs)
+  pub comes : onward i (n - i) (read_in l.plan state) (asks_of cur) ≡ up_to n (read_of l) (asks_of xs)
 
 one_more : (i : ℕ) → i + 1 ≡ suc i
 one_more i = omega arith
@@ -125,30 +119,28 @@ abbrev pub put : BurstRecord → Reply → BurstRecord
 put x u = record { word = x.word; result = u.number; position = u.position }
 
 -- the loop begins
-pub start : (l : Link) (w : Window) (xs : List BurstRecord) (n : ℕ) → StateIn l.plan w l.state → Passing l w xs n l xs 0
+pub start : (l : Link) (w : Window) (xs : List BurstRecord) (n : ℕ) → StateIn l.plan w l.state → Passing l w xs n l.state xs 0
 start l w xs n hand = record {
-  plan_is = refl;
   hand = hand;
   within = omega arith;
   long = refl;
   comes = ap (λ (k : ℕ). up_to k (read_of l) (asks_of xs)) (all_left n);
 }
 
-module _ {l : Link} {w : Window} {xs : List BurstRecord} {n : ℕ} {last : Link} {cur : List BurstRecord} {i : ℕ} (t : Passing l w xs n last cur i) where
+module _ {l : Link} {w : Window} {xs : List BurstRecord} {n : ℕ} {state : List ℕ} {cur : List BurstRecord} {i : ℕ} (t : Passing l w xs n state cur i) where
   -- one record more is handled
   pub next : (after : List ℕ) (u : Reply) → i < n → n ≤ length xs
-      → Went reply_of (request (read_in l.plan last.state) (get_or cur i none).word) l.plan after u
-      → Passing l w xs n (link_with last.plan after) (set cur i (put (get_or cur i none) u)) (i + 1)
+      → Went reply_of (request (read_in l.plan state) (get_or cur i none).word) l.plan after u
+      → Passing l w xs n after (set cur i (put (get_or cur i none) u)) (i + 1)
   next after u more fits is = record {
-    plan_is = t.plan_is;
-    hand = still-in t.hand is (request-current (read_in l.plan last.state) (get_or cur i none).word);
+    hand = still-in t.hand is (request-current (read_in l.plan state) (get_or cur i none).word);
     within = omega (arith, more);
     long = length-set cur i (put (get_or cur i none) u) ∙ t.long;
     comes =
         ap (λ (j : ℕ). onward j left (read_in l.plan after) (asks_of turned)) (one_more i)
         ∙ ap (λ (m : model.Link). onward (suc i) left m (asks_of turned)) is.link_is
-        ∙ onward-turns i left (read_in l.plan last.state) cur none (put (get_or cur i none) u) here shown
-        ∙ ap (λ (k : ℕ). onward i k (read_in l.plan last.state) (asks_of cur)) (one_less n i more)
+        ∙ onward-turns i left (read_in l.plan state) cur none (put (get_or cur i none) u) here shown
+        ∙ ap (λ (k : ℕ). onward i k (read_in l.plan state) (asks_of cur)) (one_less n i more)
         ∙ t.comes;
   }
     where
@@ -161,25 +153,23 @@ module _ {l : Link} {w : Window} {xs : List BurstRecord} {n : ℕ} {last : Link}
       here : i < length cur
       here = subst (λ (m : ℕ). i < m) (sym t.long) (omega (arith, more, fits))
 
-      shown : ask_of (put (get_or cur i none) u) ≡ filled (ask_of (get_or cur i none)) (request (read_in l.plan last.state) (get_or cur i none).word).answer
+      shown : ask_of (put (get_or cur i none) u) ≡ filled (ask_of (get_or cur i none)) (request (read_in l.plan state) (get_or cur i none).word).answer
       shown =
           (λ k. ask_of (put (get_or cur i none) (is.answer_is k)))
-          ∙ reply-fills (ask_of (get_or cur i none)) (request (read_in l.plan last.state) (get_or cur i none).word).answer
+          ∙ reply-fills (ask_of (get_or cur i none)) (request (read_in l.plan state) (get_or cur i none).word).answer
 
   -- where the loop is left, the link and the records are those of the burst
-  pub done : n ≤ i → Counts (length xs) n → Bursted (burst (read_of l) (asks_of xs)) last (asks_of cur)
-  done over counts =
-      let Handed : Plan → Type 0 = λ p. Bursted (burst (read_of l) (asks_of xs)) (link_with p last.state) (asks_of cur) in
-      subst Handed (sym t.plan_is) (record {
-        link_is = ap (λ (b : reference.Burst). b.link) whole;
-        records_are = ap (λ (b : reference.Burst). b.records) whole;
-        sound = t.hand.sound;
-      })
+  pub done : n ≤ i → Counts (length xs) n → (r : Link) → r.plan ≡ l.plan → r.state ≡ state → Bursted (burst (read_of l) (asks_of xs)) r (asks_of cur)
+  done over counts r plan_is state_is = record {
+    link_is = (λ k. read_in (plan_is k) (state_is k)) ∙ ap (λ (b : reference.Burst). b.link) whole;
+    records_are = ap (λ (b : reference.Burst). b.records) whole;
+    sound = r.sound;
+  }
     where
-      whole : record { link = read_in l.plan last.state; records = asks_of cur } ≡ burst (read_of l) (asks_of xs)
+      whole : record { link = read_in l.plan state; records = asks_of cur } ≡ burst (read_of l) (asks_of xs)
       whole =
-          sym (onward-ends i (read_in l.plan last.state) (asks_of cur))
-          ∙ ap (λ (k : ℕ). onward i k (read_in l.plan last.state) (asks_of cur)) (none_left n i over)
+          sym (onward-ends i (read_in l.plan state) (asks_of cur))
+          ∙ ap (λ (k : ℕ). onward i k (read_in l.plan state) (asks_of cur)) (none_left n i over)
           ∙ t.comes
           ∙ enough n (read_of l) (asks_of xs) (subst (λ (m : ℕ). Counts m n) (sym (length-map xs ask_of)) counts)
 

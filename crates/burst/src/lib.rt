@@ -6,7 +6,6 @@ ghost use Rattle.model.specs.Burst as model;
 ghost use Rattle.model.specs.Request as reference;
 ghost use Rattle.link.specs.Steps.{read_in, read_of, Went, reply_of};
 ghost use Rattle.link.specs.Given.{StateIn};
-ghost use Rattle.link.specs.Links.{SoundLink};
 ghost use Rattle.link.specs.Bursts.{Bursted};
 ghost use Rattle.burst.specs.Reading.{asks_of};
 ghost use Rattle.burst.specs.First.{burst_of_first};
@@ -14,9 +13,8 @@ ghost use Rattle.burst.specs.First.{burst_of_first};
 use link::Link;
 use link::request::{Reply, flow_or_zero, request};
 use plan::Plan;
-use state::{CURRENT, State};
+use state::State;
 use window::Window;
-use window::positions::window;
 
 // A word, and what its request comes to: 0 and the position granted, or the refusal and 0.
 #[derive(Clone, Copy)]
@@ -24,16 +22,6 @@ pub struct BurstRecord {
     pub word: u32,
     pub result: u8,
     pub position: u8,
-}
-
-// The window of a link.
-fn window_of(link: Link) -> Window
-    requires { SoundLink link }
-    ensures { StateIn link.plan result link.state }
-{
-    let plan = link.plan;
-    let current = link.state[CURRENT];
-    window(plan.slots, plan.frames, current as usize)
 }
 
 // What a word's request comes to, on a state of a plan in its window.
@@ -59,19 +47,18 @@ fn handled(n: usize) -> usize
 
 // The requests of the first 16 records, in order: their answers are filled in, and all else of the slice stays.
 pub fn burst(link: Link, records: &mut [BurstRecord]) -> Link
-    requires { SoundLink link }
     ensures { Bursted (model.burst (read_of link) (asks_of records.old)) result (asks_of records.new) }
 {
     let plan = link.plan;
-    let w = window_of(link);
-    let mut last = link;
+    let w = link.window();
+    let mut state = link.state;
     let n = handled(records.len());
     for r in &mut records[..n] {
-        let reply = reply_to(&mut last.state, plan, w, r.word);
+        let reply = reply_to(&mut state, plan, w, r.word);
         r.result = reply.number;
         r.position = reply.position;
     }
-    last
+    Link { plan, state }
 }
 
 // A link after a burst, and the array whose first records it was lent.
@@ -82,7 +69,7 @@ pub struct HandedBack {
 }
 
 fn lend_first(link: Link, records: [BurstRecord; 20], count: usize) -> HandedBack
-    requires { SoundLink link × (count ≤ 20) }
+    requires { count ≤ 20 }
     ensures { Bursted (burst_of_first count (read_of link) (asks_of records)) result.link (asks_of result.records) }
 {
     let mut rs = records;
@@ -95,7 +82,6 @@ fn lend_first(link: Link, records: [BurstRecord; 20], count: usize) -> HandedBac
 
 // A burst of the first records of an array, at most 20. No reference stands in the signature.
 pub fn burst_first(link: Link, records: [BurstRecord; 20], count: usize) -> HandedBack
-    requires { SoundLink link }
     ensures { Bursted (burst_of_first (min count 20) (read_of link) (asks_of records)) result.link (asks_of result.records) }
 {
     lend_first(link, records, count.min(20))
