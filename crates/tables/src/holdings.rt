@@ -22,14 +22,6 @@ use window::Window;
 use window::numbers::select_below;
 use window::positions::before;
 
-// One value at every place of the range from a to e.
-fn fill(s: &mut State, value: u8, a: usize, e: usize)
-    requires { (a ≤ e) × (e ≤ 4096) }
-    ensures { s.new ≡ replaced (in_range a e) (λ q x. value) s.old }
-{
-    s[a..e].fill(value);
-}
-
 // Whether fewer than the cells are held at every place of the range from a to e, which has one.
 fn room_in(s: &State, cells: u8, a: usize, e: usize) -> bool
     requires { (a < e) × (e ≤ 4096) }
@@ -208,6 +200,7 @@ pub fn raise_from(s: &mut State, i: usize, w: Window, position: usize)
 }
 
 // The table of a flow that holds nothing at any position.
+// Stays: the tables of a fresh link begin as `[0u8; 256]` and, in `unbooked`, as `[16u8; 256]`; decision 18 names both.
 fn unheld() -> [u8; 256]
     ensures { result ≡ everywhere 0 }
 {
@@ -240,7 +233,7 @@ fn carry(s: &mut State, count: usize, last: usize, a: usize, e: usize)
     for i in 0..count {
         let first = ROW * i;
         let value = s[first + last];
-        fill(s, value, first + a, first + e);
+        s[first + a..first + e].fill(value);
     }
 }
 
