@@ -19,7 +19,7 @@ use Rattle.window.proofs.Ranks.{rank_in}
 use Rattle.window.proofs.FromOn.{from_is, from_past, every-from}
 use Rattle.window.proofs.Ranges.{replaced-at}
 use Rattle.tables.specs.Rows.{row}
-use Rattle.tables.specs.Padded.{pad, Bytes}
+use Rattle.tables.specs.Padded.{pad}
 use Rattle.tables.specs.Holdings.{some_held, largest, most_held, shifted_row, shifted}
 use Rattle.state.proofs.Parts.{beside_back}
 use Rattle.tables.proofs.Places.{row_at, with-row-in, with-row-is, beside-row}
@@ -94,7 +94,7 @@ module _ (w : Window) (v : Proper w) (p : ℕ) (lp : p < size_of w) (h : List �
           absurd (omega arith)
       held q l r (no z) = lt-ltb 0 (get_or (row h i) q 0) (omega arith)
 
-  pub raised-again : Bytes h (256 * i) (256 * i + size_of w) → shifted (window_of w) 1 i p fewer ≡ h
+  pub raised-again : ((k : ℕ) → get_or h k 0 < 256) → shifted (window_of w) 1 i p fewer ≡ h
   raised-again bytes =
       sym (with-row-is fewer i (shifted_row (window_of w) 1 p (row fewer i)) h (beside_back (beside-row h i _)) at)
     where
@@ -110,4 +110,4 @@ module _ (w : Window) (v : Proper w) (p : ℕ) (lp : p < size_of w) (h : List �
           let first = lowered-at q b (rw (length-with-row h i _) at l) in
           let second = replaced-at from (λ q x. wrapped 1 x) (row fewer i) q 0 (omega (arith, length-row fewer i)) in
           rw (second, row_at fewer i q b, first)
-          (back q (from q) refl (dec_lt q (size_of w)) _ (λ d. bytes.below (256 * i + q) (omega arith) (omega arith)))
+          (back q (from q) refl (dec_lt q (size_of w)) _ (λ _. bytes (256 * i + q)))

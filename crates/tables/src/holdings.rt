@@ -13,7 +13,7 @@ ghost use Rattle.state.specs.State.{with_held};
 ghost use Rattle.tables.specs.Asked.{FlowAt, FlowsOf};
 ghost use Rattle.tables.specs.Owners.{everywhere};
 ghost use Rattle.tables.specs.Rows.{row, Sixteen, with_row, carried_rows};
-ghost use Rattle.tables.specs.Padded.{on_from, pad, Bytes};
+ghost use Rattle.tables.specs.Padded.{on_from, pad};
 ghost use Rattle.tables.specs.Holdings.{some_held, room_at, largest, most_held, shifted_row, shifted, carried, nothing_held};
 ghost use Rattle.tables.specs.Bounds.{raised, lowered};
 
@@ -134,13 +134,11 @@ fn held_from(s: &State, i: usize, w: Window, p: usize) -> bool
     held_in(s, first, past, base as u8, on_from_head(w, p))
 }
 
-// The holdings of the range from a to e moved as by `shift` with 255, and the largest of them then. That holdings are bytes follows from
-// their type, and is stated so that callers find it.
+// The holdings of the range from a to e moved as by `shift` with 255, and the largest of them then.
 fn lower(s: &mut State, a: usize, e: usize, base: u8, from: u8) -> u8
     requires { (a ≤ e) × (e ≤ 4096) }
     ensures most { result ≡ largest (e - a) (λ k. wrapped (pad base from 0 255 k) (get_or s.old (a + k) 0)) }
     ensures shifts { s.new ≡ replaced (in_range a e) (λ k x. wrapped (pad base from 0 255 (k - a)) x) s.old }
-    ensures bytes { Bytes s.old a e }
 {
     let mut most = 0u8;
     // how far the place lies on from a + base, going round 256
@@ -158,7 +156,6 @@ fn lower_all(s: &mut State, i: usize, w: Window, p: usize) -> u8
     requires { FlowAt w i p }
     ensures most { result ≡ most_held (size_of w) (shifted_row (window_of w) 255 p (row s.old i)) }
     ensures shifts { s.new ≡ shifted (window_of w) 255 i p s.old }
-    ensures bytes { Bytes s.old (256 * i) (256 * i + size_of w) }
 {
     let first = ROW * i;
     let past = first + w.slots * w.frames;

@@ -58,8 +58,5 @@ pub fn unbooked_later(s: &State, w: Window) -> bool
     requires { Proper w }
     ensures { result ≡ none_later (window_of w) (owners_of s.now) }
 {
-    if unbooked_in(s, w.current + 1, w.slots * w.frames) {
-        return unbooked_in(s, 0, w.head * w.slots);
-    }
-    false
+    unbooked_in(s, w.current + 1, w.slots * w.frames) && unbooked_in(s, 0, w.head * w.slots)
 }

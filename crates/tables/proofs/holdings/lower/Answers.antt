@@ -24,6 +24,3 @@ returns-clause-most c =
 pub returns-clause-shifts : goal.returns-clause-shifts
 returns-clause-shifts c =
     replacing-inner c.args.a c.args.e _ 0 c.requires.0 (omega (arith, c.told-s)) c.loop-held.invariant.shifting.replaced c.loop-held-test.false
-
-pub returns-clause-bytes : goal.returns-clause-bytes
-returns-clause-bytes c = record { below = λ k _ _. c.fits-s k }
