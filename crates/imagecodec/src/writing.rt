@@ -40,8 +40,7 @@ fn put_plan(plan: Plan, image: &mut [u8], at: usize) -> usize
     requires { Valid plan × (at + (12 + 4 * plan.count) ≤ length image.old) }
     ensures { Puts (bytes_of (plan_for plan)) image.old image.new at result }
 {
-    plan::write(plan.draft(), &mut image[at..]);
-    at + (12 + 4 * plan.count)
+    at + plan::write(plan.draft(), &mut image[at..]).unwrap()
 }
 
 // Writes the part of flow i and returns the place after it.
