@@ -9,7 +9,7 @@ ghost use Rattle.plan.specs.Reading.{Valid};
 
 use calls::Answer;
 use link::{Link, Step};
-use plan::{Plan, Verdict};
+use plan::Plan;
 use std::io::Print;
 use std::time::Clock;
 use timing::file::{Call, Kind, MOST};
@@ -102,31 +102,24 @@ fn split(rt: &(impl Clock + Print), plan: Plan, records: &[u8])
     measure(rt, plan, &calls[..count]);
 }
 
-// Reads the plan at the start of the bytes, and measures the calls after it; false where no plan that is accepted stands there.
-fn begin(rt: &(impl Clock + Print), bytes: &[u8]) -> bool {
+// Reads the plan at the start of the bytes, and measures the calls after it; none where no plan that is accepted stands there.
+fn begin(rt: &(impl Clock + Print), bytes: &[u8]) -> Option<()> {
     if bytes.len() < 12 {
-        return false;
+        return None;
     }
     let total = usize::from(file::two_bytes(bytes, 0));
     if bytes.len() < total {
-        return false;
+        return None;
     }
-    let outcome = plan::read(&bytes[..total]);
-    let verdict = outcome.verdict;
-    match verdict {
-        Verdict::Refused(_) => false,
-        Verdict::Accepted => {
-            let plan = outcome.plan;
-            split(rt, plan, &bytes[total..]);
-            true
-        }
-    }
+    let plan = plan::read(&bytes[..total]).ok()?;
+    split(rt, plan, &bytes[total..]);
+    Some(())
 }
 
 fn main(rt: HostRuntime) {
     let mut space = [0u8; LONGEST];
     let got = input::read_full(&mut rt.stdin(), &mut space);
-    if !begin(&rt, &space[..got]) {
+    if begin(&rt, &space[..got]).is_none() {
         report::print(&rt, b"no calls\n");
     }
 }

@@ -1,6 +1,4 @@
 // The records of a burst.
-ghost use Rattle.std.specs.Prelude.{◌≤◌, length};
-ghost use Rattle.link.specs.Links.{SoundLink};
 
 use burst::{BurstRecord, HandedBack};
 use link::Link;
@@ -16,10 +14,7 @@ fn unfilled(word: u32) -> BurstRecord {
 }
 
 // A link before any burst.
-pub(crate) fn none(link: Link) -> HandedBack
-    requires { SoundLink link }
-    ensures { SoundLink result.link }
-{
+pub(crate) fn none(link: Link) -> HandedBack {
     HandedBack {
         link,
         records: [unfilled(0); 20],

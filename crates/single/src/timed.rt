@@ -1,8 +1,4 @@
 // Calls of one kind, by value, one after the other, and the time that they take.
-ghost use Rattle.std.specs.Prelude.{◌<◌, ◌≤◌, ℕ, length};
-ghost use Rattle.link.specs.Links.{SoundLink};
-ghost use Rattle.link.specs.declared.Link.{Link};
-ghost use Rattle.link.specs.declared.Step.{Step};
 
 use crate::several;
 use burst::burst_first;
@@ -41,10 +37,7 @@ fn singles<F: Fn(Link, u32) -> Step>(
     calls: &[Call],
     make: F,
 ) -> Timed
-    requires sound { SoundLink first.link }
-    requires may { (l : Link) (word : ℕ) → SoundLink l → F.pre make l word }
-    requires stays { (l : Link) (word : ℕ) (r : Step) → SoundLink l → F.post make l word r → SoundLink r.link }
-    ensures { SoundLink result.step.link }
+    requires { F.IsAlwaysCallable make }
 {
     let mut step = first;
     let mut sum: u64 = 0;
@@ -58,10 +51,7 @@ fn singles<F: Fn(Link, u32) -> Step>(
 }
 
 // Makes a credit: its flow is the low byte, and its position the two bytes after.
-fn credit(link: Link, word: u32) -> Step
-    requires { SoundLink link }
-    ensures { SoundLink result.link }
-{
+fn credit(link: Link, word: u32) -> Step {
     let flow = (word % 256) as usize;
     let position = (word / 256 % 65536) as usize;
     link.credit(flow, position)
@@ -69,10 +59,7 @@ fn credit(link: Link, word: u32) -> Step
 
 // The requests of a streak as bursts of 16; the last may have fewer. No more than `most` words of each are asked: where that is 0, a burst is what it
 // takes to hand the link over and back.
-fn bursts(clock: &impl Clock, first: Step, calls: &[Call], most: usize) -> Timed
-    requires { SoundLink first.link }
-    ensures { SoundLink result.step.link }
-{
+fn bursts(clock: &impl Clock, first: Step, calls: &[Call], most: usize) -> Timed {
     let mut back = several::none(first.link);
     let mut sum: u64 = 0;
     let begin = clock::nanoseconds(clock);
@@ -96,10 +83,7 @@ pub(crate) fn streak(
     kind: Kind,
     calls: &[Call],
     most: usize,
-) -> Timed
-    requires { SoundLink step.link }
-    ensures { SoundLink result.step.link }
-{
+) -> Timed {
     match kind {
         Kind::Request if most != 1 => bursts(clock, step, calls, most),
         Kind::Request => singles(clock, step, calls, |link, word| link.request(word)),
