@@ -7,7 +7,7 @@ ghost use Rattle.replies.specs.Lines as said;
 ghost use Rattle.planwords.specs.Plans as answers;
 ghost use Rattle.planwords.specs.Drafts.{WholeFlows, wanted_at, draft_asked};
 
-use plan::{Draft, Wanted, Written};
+use plan::{Draft, Wanted};
 
 // The longest plan: a header of 12 bytes and 16 entries of four.
 const LONGEST: usize = 76;
@@ -67,13 +67,12 @@ fn say_written(draft: Draft, buffer: &mut [u8], out: &mut [u8]) -> usize
     requires { said.room ≤ length out.old }
     ensures { said.Says (answers.file_line (writer.written (draft_for draft) buffer.old).answer (draft_for draft)) out.old out.new result }
 {
-    let answer = plan::write(draft, buffer);
-    match answer {
-        Written::Refused(number) => replies::say_refusal(number, out),
-        Written::Bytes(count) => {
+    match plan::write(draft, buffer) {
+        Ok(count) => {
             let end = replies::put_hex(&buffer[..count], out, 0);
             replies::put(b"\n", out, end)
         }
+        Err(refusal) => replies::say_refusal(refusal.number(), out),
     }
 }
 

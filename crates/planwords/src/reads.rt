@@ -10,8 +10,7 @@ ghost use Rattle.tokens.specs.Pieces.{after_word};
 ghost use Rattle.replies.specs.Lines.{spaced, room, Says};
 ghost use Rattle.planwords.specs.Reads as answers;
 
-use plan::{Entry, Plan, Verdict};
-use tokens::Found;
+use plan::{Entry, Plan};
 
 fn put_entry(e: Entry, out: &mut [u8], at: usize) -> usize
     requires { at + 84 ≤ length out.old }
@@ -68,14 +67,9 @@ fn say_plan(bytes: &[u8], out: &mut [u8]) -> usize
     requires { room ≤ length out.old }
     ensures { Says (answers.read_line (model.refusal bytes.now) (model.plan_of bytes.now)) out.old out.new result }
 {
-    let outcome = plan::read(bytes);
-    let verdict = outcome.verdict;
-    match verdict {
-        Verdict::Refused(number) => replies::say_refusal(number, out),
-        Verdict::Accepted => {
-            let plan = outcome.plan;
-            say_question(plan, out)
-        }
+    match plan::read(bytes) {
+        Ok(plan) => say_question(plan, out),
+        Err(refusal) => replies::say_refusal(refusal.number(), out),
     }
 }
 
@@ -85,10 +79,9 @@ fn say_digits(digits: &[u8], out: &mut [u8]) -> usize
     ensures { Says (answers.digits_line digits.now) out.old out.new result }
 {
     let mut bytes = [0u8; 2000];
-    let found = tokens::read_bytes(digits, &mut bytes);
-    match found {
-        Found::Wrong(fault) => replies::say_fault(fault, out),
-        Found::Count(count) => say_plan(&bytes[..count], out),
+    match tokens::read_bytes(digits, &mut bytes) {
+        Ok(count) => say_plan(&bytes[..count], out),
+        Err(fault) => replies::say_fault(fault, out),
     }
 }
 
