@@ -71,7 +71,7 @@ LENT = re.compile(r"(\w+): &(?:'\w+ )?mut\b")
 TAKEN = re.compile(r"OnTrue result \(Appends \(W\.contents output\.old\) "
                    r"\(W\.contents output\.new\) \(take end out\.now\)\)$")
 # What the library says of lists and bytes, which are there.
-OF_THE_LIBRARY = {"List", "Appends"}
+OF_THE_LIBRARY = {"List", "Appends", "IfOk", "IfSome", "OnOk"}
 BOUND = re.compile(r"result(?:\.\w+)* [≤<] [^×≡]*$")
 # What they hand back is a clock's or an input's.
 OUTSIDE = {"timing::clock::nanoseconds", "timing::clock::since",
@@ -151,7 +151,8 @@ def none_is_silent():
 
 def each_definition_is_found():
     """Else nothing would be read of what it says.  A list or a table in a
-    record is something that there is, and says nothing."""
+    record is something that there is, and says nothing; of what a result
+    holds the words of the library say what stands behind them."""
     unknown = {word for promise in promises() for word in promise.unknown}
     unknown -= OF_THE_LIBRARY
     return unknown and "not found: " + ", ".join(sorted(unknown))
