@@ -81,16 +81,12 @@ fn measure(rt: &(impl Clock + Print), plan: Plan, calls: &[Call])
     let single = repeat(rt, plan, calls, 1);
     let several = repeat(rt, plan, calls, 16);
     let floor = repeat(rt, plan, calls, 0);
-    report::line(rt, b"request", Kind::Request, calls, &single.times, cost);
-    report::line(rt, b"burst", Kind::Request, calls, &several.times, cost);
-    report::line(rt, b"floor", Kind::Request, calls, &floor.times, cost);
-    report::line(rt, b"credit", Kind::Credit, calls, &single.times, cost);
-    report::line(rt, b"tick", Kind::Tick, calls, &single.times, cost);
-    report::print(rt, b"answers ");
-    report::print_number(rt, single.sum);
-    report::print(rt, b"\nin bursts ");
-    report::print_number(rt, several.sum);
-    report::print(rt, b"\n");
+    report::line(rt, "request", Kind::Request, calls, &single.times, cost);
+    report::line(rt, "burst", Kind::Request, calls, &several.times, cost);
+    report::line(rt, "floor", Kind::Request, calls, &floor.times, cost);
+    report::line(rt, "credit", Kind::Credit, calls, &single.times, cost);
+    report::line(rt, "tick", Kind::Tick, calls, &single.times, cost);
+    let _ = println!(rt; "answers {}\nin bursts {}", single.sum, several.sum);
 }
 
 // Takes the records apart, and measures their calls.
@@ -120,6 +116,6 @@ fn main(rt: HostRuntime) {
     let mut space = [0u8; LONGEST];
     let got = input::read_full(&mut rt.stdin(), &mut space);
     if begin(&rt, &space[..got]).is_none() {
-        report::print(&rt, b"no calls\n");
+        let _ = println!(&rt; "no calls");
     }
 }

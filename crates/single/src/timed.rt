@@ -50,11 +50,14 @@ fn singles<F: Fn(Link, u32) -> Step>(
     Timed { step, sum, spent }
 }
 
-// Makes a credit: its flow is the low byte, and its position the two bytes after.
-fn credit(link: Link, word: u32) -> Step {
-    let flow = (word % 256) as usize;
-    let position = (word / 256 % 65536) as usize;
-    link.credit(flow, position)
+// The flow of a credit: the low byte.
+fn flow(word: u32) -> usize {
+    (word % 256) as usize
+}
+
+// The position of a credit: the two bytes after.
+fn position(word: u32) -> usize {
+    (word / 256 % 65536) as usize
 }
 
 // The requests of a streak as bursts of 16; the last may have fewer. No more than `most` words of each are asked: where that is 0, a burst is what it
@@ -87,7 +90,9 @@ pub(crate) fn streak(
     match kind {
         Kind::Request if most != 1 => bursts(clock, step, calls, most),
         Kind::Request => singles(clock, step, calls, |link, word| link.request(word)),
-        Kind::Credit => singles(clock, step, calls, credit),
+        Kind::Credit => singles(clock, step, calls, |link, word| {
+            link.credit(flow(word), position(word))
+        }),
         Kind::Tick => singles(clock, step, calls, |link, _| link.tick()),
     }
 }

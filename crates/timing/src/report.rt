@@ -45,10 +45,10 @@ pub fn print_number(out: &impl Print, number: u64) {
     let _ = out.print(number);
 }
 
-// Prints the nanoseconds of one call of a kind, with one digit after the point.
+// Prints the nanoseconds of one call of a kind, with one digit after the point, if the output takes them.
 pub fn line(
     out: &impl Print,
-    name: &[u8],
+    name: &str,
     kind: Kind,
     calls: &[Call],
     lowest: &[u64; MOST],
@@ -57,18 +57,11 @@ pub fn line(
     requires { length calls.now ≤ 4096 }
 {
     let t = total(kind, calls, lowest, cost);
-    print(out, name);
     if t.calls == 0 {
-        print(out, b" - ns (no streak of 8 calls)\n");
+        let _ = println!(out; "{name} - ns (no streak of 8 calls)");
         return;
     }
     let whole = t.spent / t.calls;
-    let rest = t.spent % t.calls;
-    print(out, b" ");
-    print_number(out, whole);
-    print(out, b".");
-    print_number(out, 10 * rest / t.calls);
-    print(out, b" ns (");
-    print_number(out, t.calls);
-    print(out, b" counted)\n");
+    let tenth = 10 * (t.spent % t.calls) / t.calls;
+    let _ = println!(out; "{name} {whole}.{tenth} ns ({} counted)", t.calls);
 }
