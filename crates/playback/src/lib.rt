@@ -45,10 +45,8 @@ pub fn play(link: Link, records: &[u8], out: &mut [u8]) -> Playback
             Call::Request(word) => {
                 let fields = word::split(word);
                 let i = flow_or_zero(plan.count, fields.flow as usize);
-                let e = plan.entries[i];
-                let reply = request(&mut state, plan.count, e, w, fields);
-                let line = made[reply.position as usize];
-                end = write_reply(reply.number, line, out, end);
+                let reply = request(&mut state, plan.count, plan.entries[i], w, fields);
+                end = write_reply(reply.number, made[reply.position as usize], out, end);
             }
             Call::Credit(flow, position) => {
                 let number = credit(&mut state, plan, w, flow, position);
@@ -66,9 +64,8 @@ pub fn play(link: Link, records: &[u8], out: &mut [u8]) -> Playback
             }
         }
     }
-    let link = Link { plan, state };
     Playback {
-        link,
+        link: Link { plan, state },
         used: RECORD * count,
         end,
     }

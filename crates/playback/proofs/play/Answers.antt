@@ -50,8 +50,8 @@ write_accepted-end-requires c = room c.loop-k.invariant (omega (arith, c.loop-k-
 pub tick-w-requires : goal.tick-w-requires
 tick-w-requires c = c.loop-k.invariant.hand
 
-pub overflow_cast-line-in-Tick : goal.overflow_cast-line-in-Tick
-overflow_cast-line-in-Tick c = omega (arith, owner_at c.tick-w.ensures.there)
+pub overflow_cast-line : goal.overflow_cast-line
+overflow_cast-line c = omega (arith, owner_at c.tick-w.ensures.there)
 
 pub overflow_add-line : goal.overflow_add-line
 overflow_add-line c = omega (arith, owner_at c.tick-w.ensures.there)
@@ -124,5 +124,5 @@ returns c =
     let s = c.loop-k.invariant in
     record { played_records = all-played s (omega arith); sound = s.hand.sound }
 
-pub invariant_of-link : goal.invariant_of-link
-invariant_of-link c = record { sound = c.loop-k.invariant.hand.sound }
+pub invariant_of-result : goal.invariant_of-result
+invariant_of-result c = record { sound = c.loop-k.invariant.hand.sound }
