@@ -32,6 +32,7 @@ pub fn field(bytes: &[u8], at: usize) -> usize
 }
 
 // Writes a field at a place and returns the place after it.
+// Stays: a copy of the bytes of `to_le_bytes` over a part of the slice is no plainer than two stores.
 pub fn put(x: usize, out: &mut [u8], at: usize) -> usize
     requires { (x < 65536) × (at + 1 < length out.old) }
     ensures { Puts (fields (x ∷ [])) out.old out.new at result }

@@ -1,4 +1,5 @@
 // Straight passes over fields as wide as they are: how many of them pass a test, with no way out before the end.
+// Stays: a chain with `all` leaves at the first that fails, and `count` counts in numbers of 64 bits, four times as wide as the fields.
 ghost use Rattle.std.specs.Prelude.{◌≡◌, ◌+◌, ◌-◌, ◌*◌, ◌≤◌, ◌<◌, length, leb, eqb};
 ghost use Rattle.model.specs.Tables.{every, bit};
 ghost use Rattle.model.specs.Plan.{field16};

@@ -17,6 +17,7 @@ use state::State;
 use window::Window;
 
 // Writes a number at a place, as four fields, and returns the place after it.
+// Stays: `four_fields` of RULES 12.9 has these four numbers, and `put_all` writes fields.
 fn put_number(x: u64, out: &mut [u8], at: usize) -> usize
     requires { at + 8 ≤ length out.old }
     ensures { Puts (eight x) out.old out.new at result }
