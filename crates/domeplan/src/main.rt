@@ -84,7 +84,7 @@ fn round_once(
 }
 
 // Reads to the end of the input, and then answers a last line that no newline ends. A proved loop has to end, and nothing says that the input does:
-// it counts its rounds down from a number that is never used up.
+// the rounds are more than are ever made.
 fn rounds(
     rt: &(impl Eprint + Clock),
     input: &mut impl Read,
@@ -94,15 +94,16 @@ fn rounds(
 )
     requires { room ≤ length out.old }
 {
-    let mut left = u64::MAX;
     let mut now = Round {
         state: questions::start(),
         more: true,
         finish: false,
     };
-    while now.more && 0 < left {
+    'rounds: for _ in 0..u64::MAX {
+        if !now.more {
+            break 'rounds;
+        }
         now = round_once(rt, input, output, now.state, space, out);
-        left -= 1;
     }
     if now.finish {
         let end = questions::finish(now.state, out);
