@@ -13,9 +13,9 @@ number Refusal.Frame = 3
 number Refusal.Share = 4
 
 -- 0 where nothing is refused
-abbrev pub refused_by : Result (Unit {0}) Refusal → ℕ
-refused_by (Ok _) = 0
-refused_by (Err r) = number r
+abbrev pub refusal_number : Result (Unit {0}) Refusal → ℕ
+refusal_number (Ok _) = 0
+refusal_number (Err r) = number r
 
 -- each answer with the model's number and values
 abbrev pub told : Result Bounds Unanswered → Option (Answer model.Bounds)

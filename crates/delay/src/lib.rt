@@ -4,7 +4,7 @@
 ghost use Rattle.std.specs.Prelude.{◌≡◌, ◌≤◌};
 ghost use Rattle.delay.specs.declared.Unanswered.{Unanswered};
 ghost use Rattle.delay.specs.Bounds.{frames_in, no_question, refusal_of, answer_for};
-ghost use Rattle.delay.specs.Reading.{number, refused_by, told};
+ghost use Rattle.delay.specs.Reading.{number, refusal_number, told};
 ghost use Rattle.delay.specs.Limits.{Asked};
 
 // The most links of a way: those between two corners of the mesh.
@@ -71,7 +71,7 @@ fn no_question(links: usize, burst: usize) -> bool
 // The test of a frame and a share.
 #[tactic(auto, unfolding(crate::specs::Bounds::refusal_of, model::specs::Refusals::first_of))]
 fn check(slots: usize, share: usize) -> Result<(), Refusal>
-    ensures { refused_by result ≡ refusal_of slots share }
+    ensures { refusal_number result ≡ refusal_of slots share }
 {
     if !(1..=MOST_SLOTS).contains(&slots) {
         return Err(Refusal::Frame);

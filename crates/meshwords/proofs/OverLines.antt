@@ -18,7 +18,7 @@ use Rattle.replies.specs.Lines.{spaced}
 use Rattle.mesh.specs.Mesh.{Link, keep, some_of, links}
 use Rattle.mesh.specs.Streams.{Stream, load}
 use Rattle.mesh.specs.Admission.{over, refusal_before_links, over_links, over_numbers}
-use Rattle.mesh.specs.Reading.{link_at, loads_when}
+use Rattle.mesh.specs.Reading.{link_at, loads_of}
 use Rattle.mesh.proofs.Links.{over-links-are}
 use Rattle.mesh.proofs.Admission.{well-asked, over-table}
 use Rattle.mesh.proofs.Admitted.{none_kept, nothing-kept}
@@ -99,7 +99,7 @@ some-link : (streams : List Stream) (ls : List Link) → (ls ≡ [] → ⊥)
 some-link streams [] some = absurd (some refl)
 some-link streams (l ∷ ls) some = refl
 
-module _ (F : ℕ) (streams : List Stream) (loads : List ℕ) (asked : refusal_before_links F streams ≡ 0) (same : loads ≡ loads_when 0 streams) where
+module _ (F : ℕ) (streams : List Stream) (loads : List ℕ) (asked : refusal_before_links F streams ≡ 0) (same : loads ≡ loads_of streams) where
   load_at : (k : ℕ) → k < 256 → load streams (link_at k) ≡ get_or loads k 0
   load_at k l = sym (ap (λ xs. get_or xs k 0) same ∙ get_d-table 256 (λ k. load streams (link_at k)) k 0 l)
 

@@ -1,6 +1,6 @@
 -- What bytes are read as, and the bytes that hexadecimal digits are kept as. Assumes nothing.
-use Prim.Native.Nat.{ℕ, zero, suc, ◌/◌, ◌%◌, ◌≤◌}
-use mathlib.Core.Path.{◌≡◌, refl, sym, ap, ◌∙◌}
+use Prim.Native.Nat.{ℕ, zero, suc, ◌/◌, ◌%◌, ◌≤◌, ◌<◌}
+use mathlib.Core.Path.{◌≡◌, sym, ap, ◌∙◌}
 use mathlib.Core.List.{List}
 use mathlib.Core.Bool.{Bool, true, false, not, cond}
 use native.Mathlib.Omega.{arith}
@@ -10,11 +10,11 @@ use lib.Dec.{eqb}
 use Rattle.model.specs.Listing.{refusal_line}
 use Rattle.model.specs.Plan as model
 use Rattle.model.proofs.Tables.{length-table}
-use Rattle.std.proofs.Common.{Ok, Err}
+use Rattle.std.specs.Prelude.{Result, Ok, Err}
 use Rattle.limits.specs.declared.refusal.Refusal.{Refusal}
 use Rattle.limits.specs.Refusals.{number}
 use Rattle.limits.proofs.Refusals.{some-number}
-use Rattle.plan.specs.declared.Plan.{Plan}
+use Rattle.plan.specs.declared.Plan as code
 use Rattle.plan.specs.Reading.{plan_for, ReadAs}
 use Rattle.plan.proofs.Laws.{is-plan}
 use Rattle.tokens.specs.declared.Fault.{Fault}
@@ -26,19 +26,18 @@ use Rattle.planwords.specs.Reads.{question, read_line, bytes_line, digits_line}
 
 -- ---- what the reader answers
 
--- a refusal's number is not 0
-refused-line : (r : ℕ) (P : model.Plan) → (r ≡ 0 → ⊥) → refusal_line r ≡ read_line r P
-unfolding read_line
-refused-line zero P h = absurd (h refl)
-refused-line (suc r) P h = refl
-
 module _ (b : List ℕ) where
-  pub line_refused : (e : Refusal) → ReadAs b (Err e) → refusal_line (number e) ≡ read_line (model.refusal b) (model.plan_of b)
-  line_refused e h = rw h (refused-line (number e) (model.plan_of b) (λ z. omega (arith, some-number e)))
-
-  pub line-accepted : (p : Plan) → ReadAs b (Ok p) → question (plan_for p) ≡ read_line (model.refusal b) (model.plan_of b)
+  pub line-accepted : {p : code.Plan} → ReadAs b (Ok p) → question (plan_for p) ≡ read_line (model.refusal b) (model.plan_of b)
   unfolding read_line
-  line-accepted p h = ap question (is-plan b p h) ∙ ap (λ k. read_line k (model.plan_of b)) (sym h.0)
+  line-accepted {p} read = ap question (is-plan b p read) ∙ ap (λ k. read_line k (model.plan_of b)) (sym read.0)
+
+  pub line_refused : (r : Refusal) → ReadAs b (Err r) → refusal_line (number r) ≡ read_line (model.refusal b) (model.plan_of b)
+  unfolding read_line
+  line_refused r read = go (model.refusal b) read (some-number r)
+    where
+      go : (n : ℕ) → n ≡ number r → 0 < number r → refusal_line (number r) ≡ read_line n (model.plan_of b)
+      go zero e some = absurd (omega arith)
+      go (suc n) e some = ap refusal_line (sym e)
 
 -- ---- digits that are kept as bytes
 
@@ -53,7 +52,7 @@ count_is digits n e = go (each is_hex_digit digits) (eqb (length digits % 2) 0) 
     go false t p = let z : ◌≡◌ {A = ℕ} 0 1 = cc in absurd (omega arith)
 
 module _ (digits : List ℕ) where
-  pub wrong-line : {fault : Fault} → Err fault ≡ found_bytes digits → fault_line fault ≡ digits_line digits
+  pub wrong-line : {fault : Fault} → ◌≡◌ {A = Result ℕ Fault} (Err fault) (found_bytes digits) → fault_line fault ≡ digits_line digits
   unfolding digits_line
   wrong-line {fault} e = ap (λ f. bytes_line f (bytes_of digits)) e
 

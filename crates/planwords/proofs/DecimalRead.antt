@@ -11,7 +11,7 @@ use lib.Dec.{eqb}
 use borrow.Author.Tests.{eqb-true, le-ltb, le-leb, ne_eqb}
 use Rattle.model.specs.Listing.{digit, decimal}
 use Rattle.model.proofs.Decimal.{decimal-one, decimal-more, value, decimal-read-back}
-use Rattle.std.proofs.Common.{Ok}
+use Rattle.std.specs.Prelude.{Ok}
 use Rattle.tokens.specs.Pieces.{each}
 use Rattle.tokens.specs.Decimal.{is_digit, value_from, number_of}
 use Rattle.replies.proofs.DecimalLength.{length-one, length_more}

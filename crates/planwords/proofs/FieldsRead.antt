@@ -6,7 +6,7 @@ use mathlib.Core.Bool.{Bool, true, false, ◌&&◌}
 use native.Mathlib.Omega.{arith}
 use lib.ListN.{length, get_or, length-append}
 use Rattle.model.specs.Listing.{decimal}
-use Rattle.std.proofs.Common.{Ok}
+use Rattle.std.specs.Prelude.{Ok}
 use Rattle.tokens.specs.Pieces.{is_space, before, pieces, each}
 use Rattle.tokens.specs.Decimal.{is_digit, number_then, numbers_in, found_then, found_in}
 use Rattle.replies.specs.Lines.{spaced}

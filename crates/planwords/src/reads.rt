@@ -30,11 +30,8 @@ fn put_entries(entries: [Entry; 16], count: usize, out: &mut [u8], at: usize) ->
     ensures most { result ≤ at + 1344 }
 {
     let mut next = at;
-    let mut i = 0;
-    while i < count {
-        let e = entries[i];
-        next = put_entry(e, out, next);
-        i += 1;
+    for e in &entries[..count] {
+        next = put_entry(*e, out, next);
     }
     next
 }
@@ -91,10 +88,7 @@ fn after_word(line: &[u8]) -> usize
     ensures rest { drop result line.now ≡ after_word line.now }
 {
     let end = tokens::piece_end(line, 0);
-    if end < line.len() {
-        return end + 1;
-    }
-    line.len()
+    if end < line.len() { end + 1 } else { end }
 }
 
 // Answers a line whose word is `read`.

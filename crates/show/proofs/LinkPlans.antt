@@ -60,15 +60,11 @@ module _ (dome : Dome) (numbers cells : List ℕ) (k : ℕ) where
     unfolding link_plan
     written_as a out = ap (λ d. writer.written (draft_for d) out) a.is ∙ same-written dome (flows_of (link_at k) show.streams) out
 
+    pub not-asked : Asked d → d.count ≡ 0 → 0 ≡ link_refusal show (link_at k)
+    not-asked a z = ap (λ b. cond b (plan_refusal show (link_at k)) 0) (sym (unused show (link_at k) (sym (count_is a) ∙ z)))
+
     pub number-as : Asked d → (d.count ≡ 0 → ⊥) → first_of (number_tests (draft_for d)) ≡ link_refusal show (link_at k)
     unfolding link_plan
     number-as a some =
         ap (λ d. first_of (number_tests (draft_for d))) a.is ∙ same_number dome (flows_of (link_at k) show.streams)
         ∙ ap (λ b. cond b (plan_refusal show (link_at k)) 0) (sym (in_use show (link_at k) (λ z. some (count_is a ∙ z))))
-
--- where no flow is asked for
-pub not_asked : (dome : Dome) (numbers cells : List ℕ) (k : ℕ) → (draft_over dome (flows_of (link_at k) (show_of dome numbers cells).streams)).count ≡ 0
-    → 0 ≡ link_refusal (show_of dome numbers cells) (link_at k)
-not_asked dome numbers cells k z =
-    let show = show_of dome numbers cells in
-    ap (λ b. cond b (plan_refusal show (link_at k)) 0) (sym (unused show (link_at k) (sym (count_is dome numbers cells k (record { is = refl })) ∙ z)))

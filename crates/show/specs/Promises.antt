@@ -1,5 +1,5 @@
 -- What the contract of `write` says, for a link and a lent buffer. Assumes nothing.
-use Rattle.std.specs.Prelude.{ℕ, ◌≡◌, Result, List}
+use Rattle.std.specs.Prelude.{Result, ℕ, ◌≡◌, List}
 use Rattle.limits.specs.declared.refusal.Refusal.{Refusal}
 use Rattle.plan.specs.Writing.{answer_of}
 use Rattle.model.specs.WrittenPlan.{written}

@@ -9,7 +9,7 @@ use lib.ListN.{length, take}
 use lib.Seq.{sets, take_all, take-length, length-take-le}
 use lib.Dec.{eqb}
 use borrow.Author.Tests.{lt-ltb, le-ltb, eq-eqb, ne_eqb}
-use Rattle.tokens.specs.declared.Found.{Found}
+use Rattle.std.specs.Prelude.{Ok}
 use Rattle.tokens.specs.Pieces.{fields_of}
 use Rattle.tokens.specs.Decimal.{numbers_in, found_in}
 use Rattle.tokens.proofs.NumbersCounted as counted
@@ -69,7 +69,7 @@ kept-answer input = go (dec_le (length input) 4002)
 
 -- ---- numbers that are read
 
-module _ (question : List ℕ) {n : ℕ} (e : Found.Count n ≡ found_in (fields_of question)) where
+module _ (question : List ℕ) {n : ℕ} (e : Ok n ≡ found_in (fields_of question)) where
   pub count_fits : length question ≤ 4000 → n ≤ 2000
   count_fits short = omega (arith, counted.count_most question n e)
 

@@ -5,7 +5,6 @@ ghost use Rattle.showwords.specs.Links.{room};
 ghost use Rattle.showinput.specs.Input.{question_of, question_line, answer_to};
 
 use crate::LONGEST;
-use tokens::Found;
 
 // Where the question ends: a newline after it is no part of it.
 fn question_end(input: &[u8]) -> usize
@@ -28,10 +27,9 @@ fn answer_short(question: &[u8], out: &mut [u8]) -> usize
     ensures { Says (question_line question.now) out.old out.new result }
 {
     let mut numbers = [0usize; 2000];
-    let found = tokens::read_numbers(question, &mut numbers);
-    match found {
-        Found::Wrong(fault) => replies::say_fault(fault, out),
-        Found::Count(count) => showwords::show(&numbers[..count], out),
+    match tokens::read_numbers(question, &mut numbers) {
+        Ok(count) => showwords::show(&numbers[..count], out),
+        Err(fault) => replies::say_fault(fault, out),
     }
 }
 

@@ -5,8 +5,8 @@ use Rattle.show.proofs.write.Goals as goal
 
 pub returns : goal.returns
 returns c =
-    let a = c.args in
-    let same = written_as a.dome a.numbers.now a.cells.now a.k (record { is = c.gathered-draft.ensures }) a.out.now in
+    let start = c.args in
+    let same = written_as start.dome start.numbers.now start.cells.now start.k (record { is = c.gathered-draft.ensures }) start.out.now in
     record {
       is = c.write.ensures.is ∙ ap (λ (w : writer.Written). w.answer) same;
       out = c.write.ensures.out ∙ ap (λ (w : writer.Written). w.out) same;

@@ -5,8 +5,7 @@ use Rattle.planwords.proofs.BytesLines.{line_refused, line-accepted}
 use Rattle.planwords.proofs.reads.say_plan.Goals as goal
 
 pub returns-in-Ok : goal.returns-in-Ok
-returns-in-Ok c = says_same (line-accepted c.args.bytes.now c.in-Ok.plan c.in-Ok.ensures.is) c.say_question.ensures
+returns-in-Ok c = says_same (line-accepted _ c.in-Ok.ensures.is) c.say_question.ensures
 
 pub returns-in-Err : goal.returns-in-Err
-returns-in-Err c =
-    says_same (ap refusal_line c.number.ensures ∙ line_refused c.args.bytes.now c.in-Err.refusal c.in-Err.ensures.is) c.say_refusal.ensures
+returns-in-Err c = says_same (ap refusal_line c.number.ensures ∙ line_refused _ _ c.in-Err.ensures.is) c.say_refusal.ensures
