@@ -54,6 +54,7 @@ pub(crate) fn call_of(kind: Kind, first: usize, second: usize) -> Numbers
 }
 
 // An answer: its letter, the refusal or 0, and what is answered.
+// Stays: a refusal has the field that is 0 where there is none, by RULES 26.4 and `said_for`.
 #[derive(Clone, Copy)]
 pub(crate) struct Said {
     pub(crate) letter: u8,
