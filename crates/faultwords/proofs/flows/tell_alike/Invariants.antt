@@ -8,5 +8,5 @@ use Rattle.faultwords.proofs.flows.tell_alike.Given as goal
 abbrev pub invariant-loop-i : goal.invariant-loop-i
 invariant-loop-i l = record {
   searched : Searched (λ k. same_pair (entry (plan_asked l.numbers) k) (entry (plan_asked l.numbers) l.j)) l.j l.i;
-  same : l.found ≡ l.initial.found
+  same : l.found ≡ l.initial.found;
 }
