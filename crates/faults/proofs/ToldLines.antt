@@ -4,21 +4,16 @@ use mathlib.Core.Path.{◌≡◌, sym, ap, ◌∙◌}
 use mathlib.Core.List.{List, ◌∷◌, [], ◌++◌, flat_map}
 use native.Mathlib.Numerals.{add-one}
 use native.Mathlib.Omega.{arith}
-use lib.ListN.{length, get_or, take, drop, set}
+use lib.ListN.{length, get_or, take, drop}
 use lib.Seq.{take-suc, take-length, take_all}
 use Rattle.std.proofs.Common.{Some, slice_get}
 use Rattle.calls.specs.Lines.{Puts}
-use Rattle.calls.proofs.Stores.{puts_none, puts_one, puts-two, puts_then, puts-same}
+use Rattle.calls.proofs.Stores.{puts_none, puts_then, puts-same}
 use Rattle.tokens.proofs.NumbersCounted.{kept-first}
 use Rattle.replies.specs.Lines.{spaced}
-use Rattle.replies.proofs.PutOn.{puts-to}
 use Rattle.model.specs.Listing.{text, decimal}
 use Rattle.faults.specs.Told.{faults_line}
 use Rattle.faults.proofs.Lists.{flat-last}
-
--- three numbers, one after another
-pub puts-three : (a b c : ℕ) (out : List ℕ) (at : ℕ) → Puts (a ∷ b ∷ c ∷ []) out (set (set (set out at a) (at + 1) b) (at + 2) c) at (at + 3)
-puts-three a b c out at = puts-to (omega arith) (puts_then (puts-two a b out at) (puts_one c (set (set out at a) (at + 1) b) (at + 2)))
 
 -- numbers that are stored from the start on stand there
 pub found-first : {xs before after : List ℕ} {count : ℕ} → Puts xs before after 0 count → count ≤ length before → take count after ≡ xs

@@ -27,10 +27,6 @@ later-is w v p l =
     ∙ more-or-less (w.current - base_of w) (rank_in w p)
     ∙ ap not (sym (passed_is w v p l))
 
--- the place before one of m places
-pub before-below : (m at : ℕ) {r : ℕ} → r ≡ (at + m - 1) % m → at < m → r < m
-before-below m at e h = rw e (mod-lt _ (omega arith))
-
 -- frame j comes after frame k
 pub after_is : (w : Window) → Proper w → (j k : ℕ) {x y : ℕ} → x ≡ ahead w.frames w.head k → y ≡ ahead w.frames w.head j
     → frame_after (window_of w) j k ≡ ltb x y

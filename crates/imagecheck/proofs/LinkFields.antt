@@ -30,12 +30,6 @@ module _ {b : List ℕ} {y : Layout} {p : Plan} (v : PlanOn b y p) where
   pub owners_there : y.positions + 2 * y.size ≤ length b
   owners_there = omega (arith, positions-at v.laid, size_is v.laid, v.there)
 
-  pub few-positions : y.size ≤ 256
-  few-positions = omega (arith, size_is v.laid, v.valid.accepted.positions_most)
-
-  pub few-flows : y.count ≤ 16
-  few-flows = omega (arith, flows_are v.laid, v.valid.accepted.flows_most)
-
   pub measures : (current : ℕ) → current < y.size → Measures p.slots p.frames current
   measures current h = let a = v.valid.accepted in record {
     some_slot = a.some_slot;
@@ -44,14 +38,6 @@ module _ {b : List ℕ} {y : Layout} {p : Plan} (v : PlanOn b y p) where
     frames_most = a.frames_most;
     positions_most = a.positions_most;
     current_below = omega (arith, size_is v.laid);
-  }
-
-  -- with its window
-  pub parts-on : {current : ℕ} (w : Window) → window_of w ≡ record { slots = p.slots; frames = p.frames; current = current } → Proper w → PartsOn b y p w
-  parts-on w e proper = record {
-    on = v;
-    proper = proper;
-    window_is = e ∙ ap (window_at P) (sym (ap (λ (x : reference.Window). x.current) e));
   }
 
   owners_are : every (model.positions P) (λ q. known (model.flow_count P) (owner_in (field_at b (positions_at P) q)))

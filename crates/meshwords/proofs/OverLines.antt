@@ -7,7 +7,7 @@ use native.Mathlib.Numerals.{add-one}
 use native.Mathlib.Omega.{arith}
 use lib.ListN.{get_or}
 use lib.Dec.{ltb}
-use borrow.Author.Tests.{not-true, not-false}
+use borrow.Author.Tests.{not-false}
 use Rattle.model.specs.Tables.{table, any}
 use Rattle.model.specs.Listing.{text}
 use Rattle.model.proofs.Tables.{get_d-table}
@@ -123,8 +123,5 @@ module _ (F : ℕ) (streams : List Stream) (loads : List ℕ) (asked : refusal_b
 
 -- the line by the test of the table
 module _ (F : ℕ) (loads : List ℕ) {r : Bool} (test : r ≡ any 256 (λ k. ltb F (get_or loads k 0))) where
-  pub none-line : not r ≡ true → text "ok\n" ≡ table_line F loads
-  none-line e = rw (sym test ∙ not-true r e)
-
   pub some-line : not r ≡ false → text "over" ++ flat_map spaced (overload_numbers F loads 256) ++ text "\n" ≡ table_line F loads
   some-line e = rw (sym test ∙ not-false r e)

@@ -5,7 +5,7 @@ use mathlib.Core.List.{List, ◌∷◌, [], ◌++◌, flat_map, append_assoc}
 use native.Mathlib.Numerals.{add-one}
 use native.Mathlib.Omega.{arith}
 use lib.ListN.{length, get_or, take, drop, set}
-use lib.Seq.{sets, sets-eq, length-sets, take-suc, take-length, drop-drop}
+use lib.Seq.{sets, sets-eq, length-sets, take-suc, drop-drop}
 use borrow.Rule.Slice.PartMut.{put_mid}
 use Rattle.model.specs.Listing.{refusal_line}
 use Rattle.calls.specs.Lines.{Puts, out_with, next_after}
@@ -59,11 +59,6 @@ module _ {bytes before after : List ℕ} {at i : ℕ} (s : HexTo bytes before af
         most = omega arith;
         puts = puts-to (omega arith) (puts-same (hex-more (take i bytes) (get_or bytes i 0) ∙ ap hex (one_more bytes i h)) (puts_then s.puts two));
       }
-
-  pub all-hex : length bytes ≤ i → Puts (hex bytes) before after at (at + 2 * length bytes)
-  all-hex h =
-      let all : i ≡ length bytes = omega (arith, s.most) in
-      puts-to (ap (λ k. at + 2 * k) all) (puts-same (ap (λ k. hex (take k bytes)) all ∙ ap hex (take-length bytes)) s.puts)
 
 -- ---- answers
 

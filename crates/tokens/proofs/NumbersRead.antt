@@ -5,7 +5,7 @@ use mathlib.Core.List.{List, ◌∷◌, [], ◌++◌, append-nil, append_assoc}
 use native.Mathlib.Nat.{add-zero, zero-add, add_assoc}
 use native.Mathlib.Omega.{arith}
 use lib.ListN.{length, get_or, take, drop, set, length-append, length-drop, drop_of_length-le}
-use lib.Seq.{sets, length-sets, drop-drop, get_or-drop}
+use lib.Seq.{sets, drop-drop, get_or-drop}
 use Rattle.calls.proofs.Stores.{sets-append}
 use Rattle.tokens.specs.declared.Fault.{Fault}
 use Rattle.std.proofs.Common.{Result, Ok, Err}
@@ -110,9 +110,6 @@ module _ {line kept₀ kept : List ℕ} {count at : ℕ} (s : ReadTo line kept�
           sym (s.found ∙ ap (λ fs. more count (found_in fs)) fields-there ∙ ap (λ x. more count (found_then x (found_in (fields_of (drop end line))))) (sym e)),
           s.kept_are ∙ ap (sets kept₀ 0) (sym none),
         )
-
-  pub kept-length : length kept ≡ length kept₀
-  kept-length = ap length s.kept_are ∙ length-sets kept₀ 0 s.before
 
   -- the line's end
   pub all_read : length line ≤ at → (Ok count ≡ found_in (fields_of line)) × (kept ≡ sets kept₀ 0 (numbers_in (fields_of line)))
