@@ -1,10 +1,10 @@
 -- A flow's part in an image that is there: what it is tested by. Assumes nothing.
-use Prim.Native.Nat.{ℕ, ◌+◌, ◌*◌, ◌≤◌, ◌<◌}
+use Prim.Native.Nat.{ℕ, ◌+◌, ◌*◌, ◌<◌}
 use mathlib.Core.Path.{◌≡◌, sym, ap, ◌∙◌}
 use mathlib.Core.List.{List}
 use mathlib.Core.Bool.{◌&&◌}
 use native.Mathlib.Omega.{arith}
-use lib.ListN.{length, get_or}
+use lib.ListN.{get_or}
 use lib.Dec.{ltb}
 use Rattle.model.specs.Plan as model
 use Rattle.model.specs.Plan.{field16}
@@ -17,8 +17,8 @@ use Rattle.window.specs.declared.Window.{Window}
 use Rattle.window.specs.Window.{window_of, size_of}
 use Rattle.imagecheck.specs.declared.layout.Layout.{Layout}
 use Rattle.imagecheck.specs.Flows.{spends_well, holds_well, flow_kept}
-use Rattle.imagecheck.specs.Asked.{PartsOn, OwnersOn, HeldOn}
-use Rattle.imagecheck.proofs.Layouts.{size_is as layout-size, count-few, total_is, positions-at, flows-at}
+use Rattle.imagecheck.specs.Asked.{PartsOn, OwnersOn}
+use Rattle.imagecheck.proofs.Layouts.{size_is as layout-size, count-few, positions-at, flows-at}
 use Rattle.imagecheck.proofs.FlowFields.{part, flow-by-fields}
 
 module _ {b : List ℕ} {y : Layout} {p : Plan} {w : Window} (v : PartsOn b y p w) where

@@ -9,18 +9,16 @@ use lib.ListN.{length, get_or}
 use lib.Dec.{ltb}
 use Rattle.model.specs.Tables.{every}
 use Rattle.model.specs.Plan as model
-use Rattle.model.specs.Window as reference
 use Rattle.model.specs.Link.{no_flow}
 use Rattle.plan.specs.declared.Plan.{Plan}
 use Rattle.plan.specs.Reading.{plan_for}
-use Rattle.window.specs.declared.Window.{Window}
-use Rattle.window.specs.Window.{window_of, Measures, Proper}
+use Rattle.window.specs.Window.{Measures}
 use Rattle.window.proofs.Tabulated.{get_d-table, every-same}
 use Rattle.imagemodel.specs.Image.{field_at, owner_in, positions_at, flow_in, link_from}
-use Rattle.imagemodel.specs.Consistent.{known, flow_test, consistent, window_at}
+use Rattle.imagemodel.specs.Consistent.{known, flow_test, consistent}
 use Rattle.imagecheck.specs.declared.layout.Layout.{Layout}
 use Rattle.imagecheck.specs.Flows.{flow_kept}
-use Rattle.imagecheck.specs.Asked.{PlanOn, PartsOn}
+use Rattle.imagecheck.specs.Asked.{PlanOn}
 use Rattle.imagecheck.proofs.Layouts.{count_is, positions-at, size_is, flows_are}
 
 module _ {b : List ℕ} {y : Layout} {p : Plan} (v : PlanOn b y p) where

@@ -13,7 +13,6 @@ use Rattle.model.specs.Link as model
 use Rattle.model.specs.WrittenPlan.{AllBytes}
 use Rattle.model.specs.Request as request
 use Rattle.model.specs.Credit as credit
-use Rattle.model.specs.Tick as tick
 use Rattle.model.specs.Lend as lend
 use Rattle.model.specs.Reset as reset
 use Rattle.calls.specs.Reading.{answer_to_request, answer_to_credit, answer_to_tick, answer_to_lend, answer_to_reset}
