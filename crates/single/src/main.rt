@@ -43,6 +43,7 @@ fn play(
     };
     let mut sum: u64 = 0;
     let mut from = 0;
+    // Stays: a step is as long as a streak, so that no range has the places.
     while from < calls.len() {
         let to = file::streak_end(calls, from);
         let t = timed::streak(clock, step, calls[from].kind, &calls[from..to], most);

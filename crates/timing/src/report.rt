@@ -21,6 +21,7 @@ fn total(kind: Kind, calls: &[Call], lowest: &[u64; MOST], cost: u64) -> Counted
     let mut counted = 0;
     let mut spent: u64 = 0;
     let mut from = 0;
+    // Stays: a step is as long as a streak, so that no range has the places.
     while from < calls.len() {
         let to = streak_end(calls, from);
         if calls[from].kind == kind && SHORTEST <= to - from {
