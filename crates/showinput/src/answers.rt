@@ -11,14 +11,7 @@ fn question_end(input: &[u8]) -> usize
     ensures few { result ≤ length input.now }
     ensures is { take result input.now ≡ question_of input.now }
 {
-    let count = input.len();
-    if count == 0 {
-        return 0;
-    }
-    if input[count - 1] == b'\n' {
-        return count - 1;
-    }
-    count
+    input.strip_suffix(b"\n").unwrap_or(input).len()
 }
 
 // Reads a question's numbers, and answers them. It has at most half as many numbers as bytes.
