@@ -18,7 +18,7 @@ pub(crate) enum NumberWord {
     WeekFaults,
 }
 
-// Stays: (d) a text that is no word is answered too, so `Unknown` has an arm beside the others'; an Option of a word would be taken apart in the same
+// Stays: a text that is no word is answered too, so `Unknown` has an arm beside the others'; an Option of a word would be taken apart in the same
 // three arms.
 #[derive(Clone, Copy, Debug, PartialEq, Eq)]
 pub(crate) enum Word {

@@ -8,11 +8,12 @@ ghost use Rattle.std.specs.Prelude.{◌≡◌, ◌≤◌, IfOk, length};
 ghost use Rattle.model.specs.WrittenPlan as writer;
 ghost use Rattle.plan.specs.Writing.{answer_of};
 ghost use Rattle.limits.specs.Refusals as link_refusals;
-ghost use Rattle.mesh.specs.Reading.{link_at};
+ghost use Rattle.mesh.specs.Admission as admission;
+ghost use Rattle.mesh.specs.Reading.{link_at, streams_of};
 ghost use Rattle.show.specs.declared.Refusal.{Refusal};
 ghost use Rattle.show.specs.Show as show;
 ghost use Rattle.show.specs.Reading.{show_of};
-ghost use Rattle.show.specs.Refusals.{number, refusal_number};
+ghost use Rattle.show.specs.Refusals.{number, refusal_number, ComesOf};
 
 // The places for links: four for each board, one for each side.
 const PLACES: usize = 256;
@@ -96,7 +97,8 @@ pub fn check_link(
 
 // Tests a show: whether every link that is used has a plan.
 pub fn check(dome: Dome, numbers: &[usize], cells: &[usize]) -> Result<(), Refusal>
-    ensures { refusal_number result ≡ show.refusal (show_of dome numbers.now cells.now) }
+    ensures number { refusal_number result ≡ show.refusal (show_of dome numbers.now cells.now) }
+    ensures comes_of { ComesOf (admission.refusal dome.slots (streams_of numbers.now)) result }
 {
     mesh::admit(dome.slots, numbers)?;
     for k in 0..PLACES {

@@ -82,11 +82,11 @@ fn measure(rt: &(impl Clock + Print), plan: Plan, calls: &[Call])
     let single = repeat(rt, plan, calls, 1);
     let several = repeat(rt, plan, calls, 16);
     let floor = repeat(rt, plan, calls, 0);
-    report::line(rt, "request", Kind::Request, calls, &single.times, cost);
-    report::line(rt, "burst", Kind::Request, calls, &several.times, cost);
-    report::line(rt, "floor", Kind::Request, calls, &floor.times, cost);
-    report::line(rt, "credit", Kind::Credit, calls, &single.times, cost);
-    report::line(rt, "tick", Kind::Tick, calls, &single.times, cost);
+    report::line(rt, b"request", Kind::Request, calls, &single.times, cost);
+    report::line(rt, b"burst", Kind::Request, calls, &several.times, cost);
+    report::line(rt, b"floor", Kind::Request, calls, &floor.times, cost);
+    report::line(rt, b"credit", Kind::Credit, calls, &single.times, cost);
+    report::line(rt, b"tick", Kind::Tick, calls, &single.times, cost);
     let _ = println!(rt; "answers {}\nin bursts {}", single.sum, several.sum);
 }
 

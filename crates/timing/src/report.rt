@@ -49,7 +49,7 @@ pub fn print_number(out: &impl Print, number: u64) {
 // Prints the nanoseconds of one call of a kind, with one digit after the point, if the output takes them.
 pub fn line(
     out: &impl Print,
-    name: &str,
+    name: &[u8],
     kind: Kind,
     calls: &[Call],
     lowest: &[u64; MOST],
@@ -58,11 +58,12 @@ pub fn line(
     requires { length calls.now ≤ 4096 }
 {
     let t = total(kind, calls, lowest, cost);
+    print(out, name);
     if t.calls == 0 {
-        let _ = println!(out; "{name} - ns (no streak of 8 calls)");
+        print(out, b" - ns (no streak of 8 calls)\n");
         return;
     }
     let whole = t.spent / t.calls;
     let tenth = 10 * (t.spent % t.calls) / t.calls;
-    let _ = println!(out; "{name} {whole}.{tenth} ns ({} counted)", t.calls);
+    let _ = println!(out; " {whole}.{tenth} ns ({} counted)", t.calls);
 }

@@ -1,5 +1,5 @@
 // Entries two by two: whether they share a minute.
-ghost use Rattle.std.specs.Prelude.{◌≡◌, ◌<◌, length, map};
+ghost use Rattle.std.specs.Prelude.{◌+◌, ◌≡◌, ◌<◌, length, map};
 ghost use Rattle.model.specs.Tables.{any};
 ghost use Rattle.week.specs.Week.{share_minute, some_shared, KeepsLimits};
 ghost use Rattle.week.specs.Reading.{entry_for, stored, AllKeepLimits};
@@ -16,7 +16,7 @@ fn share_minute(a: Entry, b: Entry) -> bool
 
 // Whether an entry at a lower place shares a minute with entry i.
 fn shared_below(entries: &[Entry], i: usize) -> bool
-    requires { (i < length entries.now) × AllKeepLimits entries.now (length entries.now) }
+    requires { (i < length entries.now) × AllKeepLimits entries.now (i + 1) }
     ensures { result ≡ any i (λ j. share_minute (stored entries.now j) (stored entries.now i)) }
 {
     let e = entries[i];
