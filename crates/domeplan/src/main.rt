@@ -40,6 +40,7 @@ fn take<W: Write>(
 {
     let mut now = state;
     let mut at = 0;
+    // Stays: a step is as long as what one call takes, so that no range has the places.
     while at < piece.len() {
         let fed = questions::feed(now, &piece[at..], out);
         at += fed.used;
