@@ -71,8 +71,11 @@ LENT = re.compile(r"(\w+): &(?:'\w+ )?mut\b")
 TAKEN = re.compile(r"OnTrue result \(Appends \(W\.contents output\.old\) "
                    r"\(W\.contents output\.new\) \(take end out\.now\)\)$")
 # What the library says of lists and bytes, which are there.
-OF_THE_LIBRARY = {"List", "Appends"}
+OF_THE_LIBRARY = {"List", "Appends", "IfOk", "IfSome", "OnOk"}
 BOUND = re.compile(r"result(?:\.\w+)* [≤<] [^×≡]*$")
+# What is said of what a result holds, which says nothing where it holds none.
+HOLDS = re.compile(r"(?:IfOk|IfSome|OnOk) \(?result\b")
+WHOLE = re.compile(r"(?:\w+\.)?(?:\w+ )?result ≡ |(?:ReadAs|ComesOf) .* result$")
 # What they hand back is a clock's or an input's.
 OUTSIDE = {"timing::clock::nanoseconds", "timing::clock::since",
            "timing::clock::cost", "timing::input::read_full"}
@@ -151,7 +154,8 @@ def none_is_silent():
 
 def each_definition_is_found():
     """Else nothing would be read of what it says.  A list or a table in a
-    record is something that there is, and says nothing."""
+    record is something that there is, and says nothing; of what a result
+    holds the words of the library say what stands behind them."""
     unknown = {word for promise in promises() for word in promise.unknown}
     unknown -= OF_THE_LIBRARY
     return unknown and "not found: " + ", ".join(sorted(unknown))
@@ -195,6 +199,23 @@ def each_promises_something():
     wrong = {each.title() for each in shown() if says_too_little(each)}
     return wrong != OUTSIDE and "nothing or a bound alone: " + ", ".join(
         sorted(wrong ^ OUTSIDE))
+
+
+def half_told(function):
+    """Its result is told where it holds something, and nowhere the whole."""
+    texts = [clause.text for clause in function.ensures]
+    return any(HOLDS.match(text) for text in texts) and not any(
+        WHOLE.match(text) for text in texts)
+
+
+def a_result_is_told_whole():
+    """What a result holds is told beside what the whole of it is."""
+    told_so = [each for each in shown()
+               if any(HOLDS.match(clause.text) for clause in each.ensures)]
+    half = Made([], ["IfOk result (λ n. n ≡ x)"], " -> Result<u8, R>")
+    return (not half_told(half) and "half a promise is taken"
+            or len(told_so) < 3 and "only %d are read" % len(told_so)
+            or ", ".join(each.title() for each in told_so if half_told(each)))
 
 
 def asks(function):
@@ -309,7 +330,8 @@ def the_list_has_each():
 
 
 TESTS = (none_is_silent, each_definition_is_found, the_theorems_are_there,
-         each_promises_something, the_decision_counts_them,
+         each_promises_something, a_result_is_told_whole,
+         the_decision_counts_them,
          each_that_asks_more_is_in_a_group, a_silent_one_is_told,
          bounds_alone_are_told, the_list_has_each)
 

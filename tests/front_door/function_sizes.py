@@ -15,7 +15,8 @@ def sizes(text):
     """The name of each function, its parameters, and the lines of its body."""
     for head in HEAD.finditer(text):
         indent, name, parameters = head.groups()
-        body = re.compile(r"^%s\{\n(.*?)^%s\}$" % (indent, indent),
+        # where it has no clause, the body begins on the line of its head
+        body = re.compile(r"\{\n(.*?)^%s\}$" % indent,
                           re.MULTILINE | re.DOTALL).search(text, head.end())
         yield (name, len([each for each in parameters.split(",")
                           if each.strip()]),

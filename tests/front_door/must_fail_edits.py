@@ -39,6 +39,9 @@ CRATES = {
 # Where the second slip of an entry point may stand.
 BELOW = {"link": ("tables",), "nazgolv": ("imagemodel", "link")}
 
+# Entry points whose slips begin with another word.
+CALLED = {"show": {"check_link": "link_refusal", "check": "refusal"}}
+
 # Public functions that others are built from.
 HELPERS = {
     # a burst on an array, for callers, and one of its requests
@@ -58,7 +61,7 @@ KNOWN = {
     "extrawords": "extras", "programmewords": "programme",
     "mesh": "admit measure", "shares": "count", "extras": "choose",
     "week": "plan_at", "delay": "delay", "delaywords": "delay",
-    "questions": "feed finish", "show": "write link_refusal refusal",
+    "questions": "feed finish", "show": "write check_link check",
     "showwords": "show", "showinput": "feed finish",
     "trace": "step write_burst write_plan",
     "crossing": "serve cross shown",
@@ -89,17 +92,20 @@ def slips_of(crate):
     return [slip for path in slips.edits(crate) for slip in slips.slips(path)]
 
 
-def owner(names, label):
+def owner(names, label, called):
     """The entry point that an edit is of, or None."""
     if len(names) == 1:
         return names[0]
-    fitting = [name for name in names if label.startswith(name + "_")]
-    return max(fitting, key=len, default=None)
+    fitting = [name for name in names
+               if label.startswith(called.get(name, name) + "_")]
+    return max(fitting, key=lambda name: len(called.get(name, name)),
+               default=None)
 
 
 def own_slips(crate, names, where):
     """How many slips of a crate each entry point has."""
-    owners = [owner(names, slip.name) for slip in slips_of(where)]
+    called = CALLED.get(crate, {})
+    owners = [owner(names, slip.name, called) for slip in slips_of(where)]
     return {name: owners.count(name) for name in names}
 
 

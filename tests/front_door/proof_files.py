@@ -13,6 +13,7 @@ MEASURING = ("timing",)         # its functions read clocks and have no claims
 COMMENT = re.compile(r"--.*")
 IMPORT = re.compile(r"^ *(?:pub )?use [^\n{]*(?:\{[^}]*\})?", re.MULTILINE)
 GHOST = re.compile(r"^ghost use [^;]*;", re.MULTILINE)
+CITED = re.compile(r"#!?\[tactic\([^\]]*\)\]")     # by a function's source
 WORD = re.compile(r"[^\s(){}.,;]+")
 BLOCK = re.compile(r" *(?:pub )?(?:record|data) [^{\s]")
 MODULE = re.compile(r" *module ")
@@ -75,11 +76,16 @@ def every_declaration():
 
 @lru_cache(maxsize=None)
 def users():
-    """For each word the names of the declarations that have it."""
+    """For each word the names of the declarations that have it, and the
+    sources of the functions whose attribute cites it."""
     found = defaultdict(set)
     for each in every_declaration():
         for word in WORD.findall("\n".join(each.lines)):
             found[word].add(each.name)
+    for path in CRATES.glob("*/src/**/*.rt"):
+        for cited in CITED.findall(path.read_text(encoding="utf-8")):
+            for word in re.findall(r"::(\w+)", cited):
+                found[word].add(str(path))
     return found
 
 

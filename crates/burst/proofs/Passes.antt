@@ -11,8 +11,9 @@ use Prim.Native.Nat.{ℕ, zero, suc, ◌+◌, ◌-◌, ◌≤◌, ◌<◌, min}
 use native.Mathlib.Nat.{not-suc-le-zero, le_of_suc-le-suc}
 use native.Mathlib.Decide.{dec_lt}
 use native.Mathlib.Omega.{arith}
-use mathlib.Core.List.{List, [], ◌∷◌, ◌++◌}
-use lib.ListN.{length, get_or, set, length-set, length-map, take, drop}
+use mathlib.Core.List.{List, [], ◌∷◌, ◌++◌, append-nil}
+use lib.ListN.{length, get_or, set, length-set, length-map, take, drop, drop_of_length-le}
+use Rattle.std.proofs.lemmas.List.{take_all, length-take-le}
 use Rattle.model.specs.Calls.{Grant, accepted, refused}
 use Rattle.model.specs.Link as model
 use Rattle.model.specs.Request.{request}
@@ -29,10 +30,7 @@ use Rattle.link.proofs.Stays.{request-current, still-in}
 use Rattle.burst.specs.declared.BurstRecord.{BurstRecord}
 use Rattle.burst.specs.Reading.{ask_of, asks_of}
 use Rattle.burst.specs.First.{burst_of_first}
-
--- a link of a plan and a state
-abbrev pub link_with : Plan → List ℕ → Link
-link_with p s = record { plan = p; state = s }
+use Rattle.burst.specs.Asked.{AskedInOrder}
 
 -- ---- on from the i-th record, by the model
 
@@ -72,6 +70,13 @@ reaches (suc j) (suc k) l (x ∷ xs) p q =
     let first = request l x.word in
     ap (in_front (filled x first.answer)) (reaches j k first.link xs (le_of_suc-le-suc p) (le_of_suc-le-suc q))
 
+-- all of them, up to the last
+all-in-order : (n : ℕ) (l : model.Link) (xs : List reference.BurstRecord) → length xs ≡ n → up_to n l xs ≡ in_order l xs
+all-in-order n l xs e =
+    let whole : take n xs ≡ xs = take_all n xs (omega (arith, e)) in
+    let rest : drop n xs ≡ [] = drop_of_length-le xs (omega (arith, e)) in
+    rw (whole, rest) (λ k. record { link = (in_order l xs).link; records = append-nil (in_order l xs).records k })
+
 -- the first n of m records are those that a burst handles
 pub record Counts (m n : ℕ) : Type 0 where
   pub there : n ≤ m
@@ -89,14 +94,13 @@ enough n l xs c = go (dec_lt n 16)
     go (yes less) = let e = c.all less in reaches n 16 l xs (omega (arith, e)) (omega (arith, e, less))
     go (no full) = let e : n ≡ 16 = omega (arith, c.most) in ap (λ (k : ℕ). up_to k l xs) e
 
--- ---- the loop's variables between two turns: i, the link in hand and what the slice holds, where n records of xs are handled from l, whose window is w
+-- ---- the loop's variables between two turns: i, the state in hand and what the slice holds, where all records of xs are asked on from state s of plan p
 
-pub record Passing (l : Link) (w : Window) (xs : List BurstRecord) (n : ℕ) (last : Link) (cur : List BurstRecord) (i : ℕ) : Type 0 where
-  pub plan_is : last.plan ≡ l.plan
-  pub hand : StateIn l.plan w last.state
-  pub within : i ≤ n
+pub record Passing (p : Plan) (s : List ℕ) (w : Window) (xs : List BurstRecord) (state : List ℕ) (cur : List BurstRecord) (i : ℕ) : Type 0 where
+  pub hand : StateIn p w state
+  pub within : i ≤ length xs
   pub long : length cur ≡ length xs
-  pub comes : onward i (n - i) (read_in l.plan last.state) (asks_of cur) ≡ up_to n (read_of l) (asks_of xs)
+  pub comes : onward i (length xs - i) (read_in p state) (asks_of cur) ≡ up_to (length xs) (read_in p s) (asks_of xs)
 
 one_more : (i : ℕ) → i + 1 ≡ suc i
 one_more i = omega arith
@@ -124,63 +128,59 @@ abbrev pub put : BurstRecord → Reply → BurstRecord
 put x u = record { word = x.word; result = u.number; position = u.position }
 
 -- the loop begins
-pub start : (l : Link) (w : Window) (xs : List BurstRecord) (n : ℕ) → StateIn l.plan w l.state → Passing l w xs n l xs 0
-start l w xs n hand = record {
-  plan_is = refl;
+pub start : (p : Plan) (s : List ℕ) (w : Window) (xs : List BurstRecord) → StateIn p w s → Passing p s w xs s xs 0
+start p s w xs hand = record {
   hand = hand;
   within = omega arith;
   long = refl;
-  comes = ap (λ (k : ℕ). up_to k (read_of l) (asks_of xs)) (all_left n);
+  comes = ap (λ (k : ℕ). up_to k (read_in p s) (asks_of xs)) (all_left (length xs));
 }
 
-module _ {l : Link} {w : Window} {xs : List BurstRecord} {n : ℕ} {last : Link} {cur : List BurstRecord} {i : ℕ} (t : Passing l w xs n last cur i) where
+module _ {p : Plan} {s : List ℕ} {w : Window} {xs : List BurstRecord} {state : List ℕ} {cur : List BurstRecord} {i : ℕ} (t : Passing p s w xs state cur i) where
   -- one record more is handled
-  pub next : (after : List ℕ) (u : Reply) → i < n → n ≤ length xs
-      → Went reply_of (request (read_in l.plan last.state) (get_or cur i none).word) l.plan after u
-      → Passing l w xs n (link_with last.plan after) (set cur i (put (get_or cur i none) u)) (i + 1)
-  next after u more fits is = record {
-    plan_is = t.plan_is;
-    hand = still-in t.hand is (request-current (read_in l.plan last.state) (get_or cur i none).word);
+  pub next : (after : List ℕ) (u : Reply) → i < length xs
+      → Went reply_of (request (read_in p state) (get_or cur i none).word) p after u
+      → Passing p s w xs after (set cur i (put (get_or cur i none) u)) (i + 1)
+  next after u more is = record {
+    hand = still-in t.hand is (request-current (read_in p state) (get_or cur i none).word);
     within = omega (arith, more);
     long = length-set cur i (put (get_or cur i none) u) ∙ t.long;
     comes =
-        ap (λ (j : ℕ). onward j left (read_in l.plan after) (asks_of turned)) (one_more i)
+        ap (λ (j : ℕ). onward j left (read_in p after) (asks_of turned)) (one_more i)
         ∙ ap (λ (m : model.Link). onward (suc i) left m (asks_of turned)) is.link_is
-        ∙ onward-turns i left (read_in l.plan last.state) cur none (put (get_or cur i none) u) here shown
-        ∙ ap (λ (k : ℕ). onward i k (read_in l.plan last.state) (asks_of cur)) (one_less n i more)
+        ∙ onward-turns i left (read_in p state) cur none (put (get_or cur i none) u) here shown
+        ∙ ap (λ (k : ℕ). onward i k (read_in p state) (asks_of cur)) (one_less (length xs) i more)
         ∙ t.comes;
   }
     where
       left : ℕ
-      left = n - (i + 1)
+      left = length xs - (i + 1)
 
       turned : List BurstRecord
       turned = set cur i (put (get_or cur i none) u)
 
       here : i < length cur
-      here = subst (λ (m : ℕ). i < m) (sym t.long) (omega (arith, more, fits))
+      here = subst (λ (m : ℕ). i < m) (sym t.long) more
 
-      shown : ask_of (put (get_or cur i none) u) ≡ filled (ask_of (get_or cur i none)) (request (read_in l.plan last.state) (get_or cur i none).word).answer
+      shown : ask_of (put (get_or cur i none) u) ≡ filled (ask_of (get_or cur i none)) (request (read_in p state) (get_or cur i none).word).answer
       shown =
           (λ k. ask_of (put (get_or cur i none) (is.answer_is k)))
-          ∙ reply-fills (ask_of (get_or cur i none)) (request (read_in l.plan last.state) (get_or cur i none).word).answer
+          ∙ reply-fills (ask_of (get_or cur i none)) (request (read_in p state) (get_or cur i none).word).answer
 
-  -- where the loop is left, the link and the records are those of the burst
-  pub done : n ≤ i → Counts (length xs) n → Bursted (burst (read_of l) (asks_of xs)) last (asks_of cur)
-  done over counts =
-      let Handed : Plan → Type 0 = λ p. Bursted (burst (read_of l) (asks_of xs)) (link_with p last.state) (asks_of cur) in
-      subst Handed (sym t.plan_is) (record {
-        link_is = ap (λ (b : reference.Burst). b.link) whole;
-        records_are = ap (λ (b : reference.Burst). b.records) whole;
-        sound = t.hand.sound;
-      })
+  -- where the loop is left, the state and the records are those of the requests in order
+  pub done : length xs ≤ i → AskedInOrder (in_order (read_in p s) (asks_of xs)) p state (asks_of cur)
+  done over = record {
+    link_is = ap (λ (b : reference.Burst). b.link) whole;
+    records_are = ap (λ (b : reference.Burst). b.records) whole;
+    sound = t.hand.sound;
+  }
     where
-      whole : record { link = read_in l.plan last.state; records = asks_of cur } ≡ burst (read_of l) (asks_of xs)
+      whole : record { link = read_in p state; records = asks_of cur } ≡ in_order (read_in p s) (asks_of xs)
       whole =
-          sym (onward-ends i (read_in l.plan last.state) (asks_of cur))
-          ∙ ap (λ (k : ℕ). onward i k (read_in l.plan last.state) (asks_of cur)) (none_left n i over)
+          sym (onward-ends i (read_in p state) (asks_of cur))
+          ∙ ap (λ (k : ℕ). onward i k (read_in p state) (asks_of cur)) (none_left (length xs) i over)
           ∙ t.comes
-          ∙ enough n (read_of l) (asks_of xs) (subst (λ (m : ℕ). Counts m n) (sym (length-map xs ask_of)) counts)
+          ∙ all-in-order (length xs) (read_in p s) (asks_of xs) (length-map xs ask_of)
 
 -- ---- the first records of an array
 
@@ -198,6 +198,24 @@ asks_both : (xs ys : List BurstRecord) → asks_of (xs ++ ys) ≡ asks_of xs ++ 
 asks_both [] ys = refl
 asks_both (x ∷ xs) ys = ap (λ (zs : List reference.BurstRecord). ask_of x ∷ zs) (asks_both xs ys)
 
+-- and so they are of themselves
+pub front-counts : {A : Type 0} (n : ℕ) (xs : List A) → Counts (length xs) n → Counts (length (take n xs)) n
+front-counts n xs c = let long = length-take-le n xs c.there in record { there = omega (arith, long); most = c.most; all = λ _. sym long }
+
+-- those that a burst handles come to what the burst of all does
+module _ (n : ℕ) (l : model.Link) (xs : List reference.BurstRecord) (c : Counts (length xs) n) where
+  abbrev front : List reference.BurstRecord
+  front = take n xs
+
+  long : length front ≡ n
+  long = length-take-le n xs c.there
+
+  pub front-is : burst l front ≡ in_order l front
+  front-is = sym (enough n l front (front-counts n xs c)) ∙ all-in-order n l front long
+
+  pub handled-all : burst_of_first n l xs ≡ burst l xs
+  handled-all = ap (λ (b : reference.Burst). record { link = b.link; records = b.records ++ drop n xs }) front-is ∙ enough n l xs c
+
 -- a burst of the first k, and the others behind them
 pub front-handled : (k : ℕ) (l r : Link) (xs ys : List BurstRecord) → Bursted (burst (read_of l) (asks_of (take k xs))) r (asks_of ys)
     → Bursted (burst_of_first k (read_of l) (asks_of xs)) r (asks_of (ys ++ drop k xs))
@@ -206,3 +224,16 @@ front-handled k l r xs ys b = record {
   records_are = asks_both ys (drop k xs) ∙ (λ i. (b.records_are ∙ ap (λ (zs : List reference.BurstRecord). (burst (read_of l) zs).records) (asks-front k xs)) i ++ asks_rest k xs i);
   sound = b.sound;
 }
+
+-- where the first n are those that a burst handles, and are asked in order, it is a burst of all
+pub burst-by-front : (l r : Link) (xs ys : List BurstRecord) {n : ℕ} → Counts (length xs) n → r.plan ≡ l.plan
+    → AskedInOrder (in_order (read_of l) (asks_of (take n xs))) l.plan r.state (asks_of ys) → Bursted (burst (read_of l) (asks_of xs)) r (asks_of (ys ++ drop n xs))
+burst-by-front l r xs ys {n} c plan_is a =
+    let counts = subst (λ (m : ℕ). Counts m n) (sym (length-map xs ask_of)) c in
+    let front = ap (burst (read_of l)) (asks-front n xs) ∙ front-is n (read_of l) (asks_of xs) counts ∙ ap (in_order (read_of l)) (sym (asks-front n xs)) in
+    let first : Bursted (burst (read_of l) (asks_of (take n xs))) r (asks_of ys) = record {
+      link_is = ap (λ (p : Plan). read_in p r.state) plan_is ∙ a.link_is ∙ ap (λ (b : reference.Burst). b.link) (sym front);
+      records_are = a.records_are ∙ ap (λ (b : reference.Burst). b.records) (sym front);
+      sound = r.sound;
+    } in
+    subst (λ (x : reference.Burst). Bursted x r (asks_of (ys ++ drop n xs))) (handled-all n (read_of l) (asks_of xs) counts) (front-handled n l r xs ys first)

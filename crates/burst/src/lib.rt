@@ -3,21 +3,20 @@
 
 ghost use Rattle.std.specs.Prelude.{◌≡◌, ◌≤◌, min};
 ghost use Rattle.model.specs.Burst as model;
+ghost use Rattle.model.specs.Burst.{in_order};
 ghost use Rattle.model.specs.Request as reference;
 ghost use Rattle.link.specs.Steps.{read_in, read_of, Went, reply_of};
 ghost use Rattle.link.specs.Given.{StateIn};
-ghost use Rattle.link.specs.Sound.{SoundLink};
 ghost use Rattle.link.specs.Bursts.{Bursted};
 ghost use Rattle.burst.specs.Reading.{asks_of};
 ghost use Rattle.burst.specs.First.{burst_of_first};
+ghost use Rattle.burst.specs.Asked.{AskedInOrder};
 
 use link::Link;
 use link::request::{Reply, flow_or_zero, request};
 use plan::Plan;
-use state::{CURRENT, State};
+use state::State;
 use window::Window;
-use window::numbers::smaller;
-use window::positions::window;
 
 // A word, and what its request comes to: 0 and the position granted, or the refusal and 0.
 #[derive(Clone, Copy)]
@@ -25,16 +24,6 @@ pub struct BurstRecord {
     pub word: u32,
     pub result: u8,
     pub position: u8,
-}
-
-// The window of a link.
-fn window_of(link: Link) -> Window
-    requires { SoundLink link }
-    ensures { StateIn link.plan result link.state }
-{
-    let plan = link.plan;
-    let current = link.state[CURRENT];
-    window(plan.slots, plan.frames, current as usize)
 }
 
 // What a word's request comes to, on a state of a plan in its window.
@@ -55,27 +44,30 @@ const MOST: usize = 16;
 fn handled(n: usize) -> usize
     ensures { result ≡ min n 16 }
 {
-    smaller(n, MOST)
+    n.min(MOST)
+}
+
+// The requests of all records, in order, on a state of a plan in its window: their answers are filled in.
+fn ask_all(s: &mut State, plan: Plan, w: Window, records: &mut [BurstRecord])
+    requires { StateIn plan w s.old }
+    ensures { AskedInOrder (in_order (read_in plan s.old) (asks_of records.old)) plan s.new (asks_of records.new) }
+{
+    for r in records {
+        let reply = reply_to(s, plan, w, r.word);
+        r.result = reply.number;
+        r.position = reply.position;
+    }
 }
 
 // The requests of the first 16 records, in order: their answers are filled in, and all else of the slice stays.
-pub fn burst(link: Link, records: &mut [BurstRecord]) -> Link
-    requires { SoundLink link }
+pub fn burst(mut link: Link, records: &mut [BurstRecord]) -> Link
     ensures { Bursted (model.burst (read_of link) (asks_of records.old)) result (asks_of records.new) }
 {
-    let plan = link.plan;
-    let w = window_of(link);
-    let mut last = link;
     let n = handled(records.len());
-    let mut i = 0;
-    while i < n {
-        let r = &mut records[i];
-        let reply = reply_to(&mut last.state, plan, w, r.word);
-        r.result = reply.number;
-        r.position = reply.position;
-        i += 1;
-    }
-    last
+    let plan = link.plan;
+    let w = link.window();
+    ask_all(&mut link.state, plan, w, &mut records[..n]);
+    link
 }
 
 // A link after a burst, and the array whose first records it was lent.
@@ -86,7 +78,7 @@ pub struct HandedBack {
 }
 
 fn lend_first(link: Link, records: [BurstRecord; 20], count: usize) -> HandedBack
-    requires { SoundLink link × (count ≤ 20) }
+    requires { count ≤ 20 }
     ensures { Bursted (burst_of_first count (read_of link) (asks_of records)) result.link (asks_of result.records) }
 {
     let mut rs = records;
@@ -99,8 +91,7 @@ fn lend_first(link: Link, records: [BurstRecord; 20], count: usize) -> HandedBac
 
 // A burst of the first records of an array, at most 20. No reference stands in the signature.
 pub fn burst_first(link: Link, records: [BurstRecord; 20], count: usize) -> HandedBack
-    requires { SoundLink link }
     ensures { Bursted (burst_of_first (min count 20) (read_of link) (asks_of records)) result.link (asks_of result.records) }
 {
-    lend_first(link, records, smaller(count, 20))
+    lend_first(link, records, count.min(20))
 }

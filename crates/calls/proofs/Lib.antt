@@ -1,4 +1,5 @@
 pub mod Stores
+pub mod Words
 pub mod Digits
 pub mod Answers
 pub mod PlayedTo

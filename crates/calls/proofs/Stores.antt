@@ -1,16 +1,14 @@
 -- Stores one after another, and lines that have room. Assumes nothing.
-use Prim.Native.Nat.{ℕ, suc, ◌+◌, ◌-◌, ◌≤◌, ◌<◌}
+use Prim.Native.Nat.{ℕ, suc, ◌+◌, ◌≤◌}
 use mathlib.Core.Path.{◌≡◌, refl, sym, ap, ◌∙◌}
 use mathlib.Core.List.{List, ◌∷◌, [], ◌++◌}
-use mathlib.Core.Bool.{Bool, true, false, not}
-use native.Mathlib.Decide.{dec_le}
+use mathlib.Core.Bool.{true}
 use native.Mathlib.Nat.{add-zero, add-suc, suc-add}
 use native.Mathlib.Numerals.{towards_suc}
 use native.Mathlib.Omega.{arith}
 use lib.ListN.{length, set, length-append}
 use lib.Seq.{sets, length-sets}
-use lib.Dec.{leb}
-use borrow.Author.Tests.{leb-true, le-leb, lt-leb, not-true, not-false}
+use borrow.Author.Tests.{le-leb}
 use Rattle.calls.specs.Lines.{room, out_with, next_after, Puts}
 
 -- what is stored in two runs is stored in one
@@ -41,23 +39,11 @@ puts_then {xs} {ys} {before} {middle} {after} {at} {next} {last} p q =
 pub puts-same : {xs ys before after : List ℕ} {at next : ℕ} → xs ≡ ys → Puts xs before after at next → Puts ys before after at next
 puts-same {before} {after} {at} {next} e p = rw e at p
 
--- ---- lines with room, and without
+-- ---- lines with room
 
 -- what a writer promises of a line
 abbrev pub Written : (line before after : List ℕ) → (at next : ℕ) → Type 0
 Written line before after at next = (after ≡ out_with line before at) × ((next ≡ next_after line before at) × (next ≤ at + 7))
-
-pub no_room : (out : List ℕ) (at : ℕ) → length out < 7 → false ≡ room out at
-unfolding room
-no_room out at h = sym (lt-leb (at + 7) (length out) (omega arith))
-
-pub room-is : (out : List ℕ) (at : ℕ) → 7 ≤ length out → leb at (length out - 7) ≡ room out at
-unfolding room
-room-is out at h = go (dec_le (at + 7) (length out))
-  where
-    go : Dec (at + 7 ≤ length out) → leb at (length out - 7) ≡ leb (at + 7) (length out)
-    go (yes l) = rw (le-leb at (length out - 7) (omega arith), le-leb (at + 7) (length out) l)
-    go (no l) = rw (lt-leb at (length out - 7) (omega arith), lt-leb (at + 7) (length out) (omega arith))
 
 -- what a writer leaves, for a caller that has made room
 module _ (line out : List ℕ) (at : ℕ) (h : at + 7 ≤ length out) where
@@ -76,17 +62,3 @@ module _ (line out : List ℕ) (at : ℕ) (h : at + 7 ≤ length out) where
   -- what it wrote stands there
   pub put-in-room : {out' : List ℕ} {next : ℕ} → Written line out out' at next → Puts line out out' at next
   put-in-room (stored, (up_to, most)) = puts line out _ at _ (stored ∙ out-in-room) (up_to ∙ next-in-room)
-
--- where the test r of the room came out
-module _ {r : Bool} (out : List ℕ) (at : ℕ) (test : r ≡ room out at) where
-  pub in-room : not r ≡ false → at + 7 ≤ length out
-  unfolding room
-  in-room e = leb-true (at + 7) (length out) (sym test ∙ not-false r e)
-
-  pub written : {bytes line after : List ℕ} {next : ℕ} → not r ≡ false → bytes ≡ line → Puts bytes out after at next → next ≤ at + 7 → Written line out after at next
-  unfolding out_with next_after
-  written e same p most = rw (← same, sym test ∙ not-false r e) (p.stored, (p.up_to, most))
-
-  pub not_written : (line : List ℕ) → not r ≡ true → Written line out out at at
-  unfolding out_with next_after
-  not_written line e = rw (sym test ∙ not-true r e) (refl, (refl, omega arith))

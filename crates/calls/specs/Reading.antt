@@ -1,10 +1,9 @@
 -- The crate's calls, records and answers, from the model's: the model's number and values for each case. Assumes nothing.
-use Rattle.std.specs.Prelude.{ℕ, List}
+use Rattle.std.specs.Prelude.{ℕ, List, Some, None}
+use Rattle.std.specs.Prelude as rust
 use Rattle.std.proofs.Math.Option.{Option, some, none}
 use Rattle.calls.specs.declared.Call.{Call}
 use Rattle.calls.specs.declared.Call.TheVariants.{Request, Credit, Tick}
-use Rattle.calls.specs.declared.Record.{Record}
-use Rattle.calls.specs.declared.Record.TheVariants.{NoCall}
 use Rattle.calls.specs.declared.Answer.{Answer}
 use Rattle.calls.specs.declared.Answer.TheVariants.{Granted, Accepted, Booked, Idle, Lent, Reset, Refused}
 use Rattle.model.specs.Calls as model
@@ -20,21 +19,21 @@ call_for (RecordCall.credit flow position) = Credit flow position
 call_for RecordCall.tick = Tick
 
 -- a record that makes no call is refused by 16
-abbrev pub record_for : Option RecordCall → Record
-record_for (some call) = Record.Call (call_for call)
-record_for none = NoCall
+abbrev pub record_for : Option RecordCall → rust.Option Call
+record_for (some call) = Some (call_for call)
+record_for none = None
 
 -- the model's call of a record
-abbrev pub call_in : Record → Option RecordCall
-call_in (Record.Call (Request word)) = some (RecordCall.request word)
-call_in (Record.Call (Credit flow position)) = some (RecordCall.credit flow position)
-call_in (Record.Call Tick) = some RecordCall.tick
-call_in NoCall = none
+abbrev pub call_in : rust.Option Call → Option RecordCall
+call_in (Some (Request word)) = some (RecordCall.request word)
+call_in (Some (Credit flow position)) = some (RecordCall.credit flow position)
+call_in (Some Tick) = some RecordCall.tick
+call_in None = none
 
 -- the model's number for each case of a record: 0 where it makes a call, and the refusal where it makes none
-abbrev pub number_of : Record → ℕ
-number_of (Record.Call call) = 0
-number_of NoCall = 16
+abbrev pub number_of : rust.Option Call → ℕ
+number_of (Some call) = 0
+number_of None = 16
 
 -- RULES 13.4: 16 where a record makes no call
 abbrev pub number_for : Option RecordCall → ℕ

@@ -4,7 +4,7 @@
 mod records;
 mod render;
 
-pub use records::{read, wide};
+pub use records::read;
 pub use render::{has_room, write, write_plan, write_refusal};
 
 // The bytes of a call record.
@@ -13,7 +13,7 @@ pub const RECORD: usize = 5;
 pub const LONGEST_LINE: usize = 7;
 
 // A call on a link.
-#[derive(Clone, Copy)]
+#[derive(Clone, Copy, Debug, PartialEq, Eq)]
 pub enum Call {
     // A request has a word.
     Request(u32),
@@ -22,16 +22,8 @@ pub enum Call {
     Tick,
 }
 
-// What a call record comes to.
-#[derive(Clone, Copy)]
-pub enum Record {
-    Call(Call),
-    // Refusal 16.
-    NoCall,
-}
-
 // What a call is answered.
-#[derive(Clone, Copy)]
+#[derive(Clone, Copy, Debug, PartialEq, Eq)]
 pub enum Answer {
     // A request is granted: the word with its position as departure.
     Granted(u32),

@@ -16,6 +16,7 @@ fn put_pair(a: u8, b: u8, out: &mut [u8], at: usize) -> usize
 }
 
 // The digit of n at a place, thousands, hundreds or tens, if n has one there.
+#[tactic(auto, using(std::proofs::lemmas::Bool::Decides::nat_tests, crate::proofs::Stores::puts_none, crate::proofs::Stores::puts_one), unfolding(crate::specs::Lines::digit_at))]
 fn put_digit(n: u32, place: u32, out: &mut [u8], at: usize) -> usize
     requires { (0 < place) × (at < length out.old) }
     ensures put { Puts (digit_at place n) out.old out.new at result }
@@ -42,17 +43,16 @@ fn put_number(letter: u8, n: u32, out: &mut [u8], at: usize) -> usize
 }
 
 // Whether the longest line has room at a place.
+#[tactic(auto, using(std::proofs::lemmas::Bool::Decides::nat_tests), unfolding(crate::specs::Lines::room))]
 pub fn has_room(out: &[u8], at: usize) -> bool
     ensures { result ≡ room out.now at }
 {
-    if out.len() < LONGEST_LINE {
-        return false;
-    }
-    at <= out.len() - LONGEST_LINE
+    LONGEST_LINE <= out.len() && at <= out.len() - LONGEST_LINE
 }
 
 // Writes an answer's line and returns the place after it. Where the longest line has no room it writes nothing and returns the same place.
 // That a line has at most seven bytes is stated so that callers find it.
+#[tactic(auto, using(std::proofs::lemmas::Bool::Decides::nat_tests), unfolding(crate::specs::Lines::room, crate::specs::Lines::out_with, crate::specs::Lines::next_after))]
 pub fn write(answer: Answer, out: &mut [u8], at: usize) -> usize
     ensures out { out.new ≡ out_with (line_for answer) out.old at }
     ensures next { result ≡ next_after (line_for answer) out.old at }
@@ -62,32 +62,21 @@ pub fn write(answer: Answer, out: &mut [u8], at: usize) -> usize
         return at;
     }
     match answer {
-        Answer::Granted(word) => {
-            return put_number(b'G', word % 1024, out, at);
-        }
-        Answer::Accepted => {
-            return put_pair(b'C', b'\n', out, at);
-        }
-        Answer::Booked(flow) => {
-            return put_number(b'T', flow as u32, out, at);
-        }
+        Answer::Granted(word) => put_number(b'G', word % 1024, out, at),
+        Answer::Accepted => put_pair(b'C', b'\n', out, at),
+        Answer::Booked(flow) => put_number(b'T', u32::from(flow), out, at),
         Answer::Idle => {
             let next = put_pair(b'T', b' ', out, at);
-            return put_pair(b'-', b'\n', out, next);
+            put_pair(b'-', b'\n', out, next)
         }
-        Answer::Lent(flow) => {
-            return put_number(b'L', flow as u32, out, at);
-        }
-        Answer::Reset => {
-            return put_pair(b'Z', b'\n', out, at);
-        }
-        Answer::Refused(number) => {
-            return put_number(b'R', number as u32, out, at);
-        }
+        Answer::Lent(flow) => put_number(b'L', u32::from(flow), out, at),
+        Answer::Reset => put_pair(b'Z', b'\n', out, at),
+        Answer::Refused(number) => put_number(b'R', u32::from(number), out, at),
     }
 }
 
 // A letter and a number, where the longest line has room; otherwise nothing is written and the same place is returned.
+#[tactic(auto, using(std::proofs::lemmas::Bool::Decides::nat_tests), unfolding(crate::specs::Lines::room, crate::specs::Lines::out_with, crate::specs::Lines::next_after))]
 fn put_line(letter: u8, number: u8, out: &mut [u8], at: usize) -> usize
     ensures out { out.new ≡ out_with (number_line letter number) out.old at }
     ensures next { result ≡ next_after (number_line letter number) out.old at }
@@ -96,7 +85,7 @@ fn put_line(letter: u8, number: u8, out: &mut [u8], at: usize) -> usize
     if !has_room(out, at) {
         return at;
     }
-    put_number(letter, number as u32, out, at)
+    put_number(letter, u32::from(number), out, at)
 }
 
 // Writes a plan's line, `P` and the refusal or `P 0`, and returns the place after it; without room as in `write`.

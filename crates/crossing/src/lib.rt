@@ -20,7 +20,6 @@ use link::tick::tick;
 use plan::Plan;
 use state::{OWNERS, State};
 use window::Window;
-use window::numbers::saturating_inc;
 use window::positions::next;
 use word::Fields;
 
@@ -50,19 +49,8 @@ fn ask(b: &mut State, plan: Plan, w: Window, j: usize) -> Reply
     request(b, plan.count, e, w, fields)
 }
 
-// One less, and 0 after 0.
-fn one_less(k: u8) -> u8
-    ensures { result ≡ k - 1 }
-{
-    if k == 0 {
-        return 0;
-    }
-    k - 1
-}
-
 // Asks for the first tile of flow i that waits, as flow j; where a position is granted, its cell of the in-link is credited, dated that position,
-// and it waits
-// no more. Whether it was granted.
+// and it waits no more. Whether it was granted.
 fn pass(
     a: &mut State,
     b: &mut State,
@@ -82,7 +70,7 @@ fn pass(
         return false;
     }
     credit(a, x.arriving, w, i, reply.position as usize);
-    waiting[i] = one_less(waiting[i]);
+    waiting[i] = waiting[i].saturating_sub(1);
     true
 }
 
@@ -101,11 +89,9 @@ fn pass_on(
         a.new b.new waiting.new }
     ensures there { BoardIn x w a.new b.new }
 {
-    let mut left = waiting[i];
-    while 0 < left {
-        left -= 1;
+    for _ in 0..waiting[i] {
         if !pass(a, b, waiting, x, w, i, j) {
-            left = 0;
+            break;
         }
     }
 }
@@ -130,10 +116,8 @@ fn pass_waiting(a: &mut State, b: &mut State, waiting: &mut [u8; 16], x: Crossin
         a.new b.new waiting.new }
     ensures there { BoardIn x w a.new b.new }
 {
-    let mut i = 0;
-    while i < x.arriving.count {
+    for i in 0..x.arriving.count {
         pass_flow(a, b, waiting, x, w, i);
-        i += 1;
     }
 }
 
@@ -147,7 +131,7 @@ fn come(a: &mut State, b: &mut State, waiting: &mut [u8; 16], x: Crossing, w: Wi
     let j = x.onward[i] as usize;
     if j < x.leaving.count {
         let k = waiting[i];
-        waiting[i] = saturating_inc(k);
+        waiting[i] = k.saturating_add(1);
         if k == 0 {
             pass(a, b, waiting, x, w, i, j);
         }

@@ -1,12 +1,11 @@
 -- What a stream can count on: when its tiles arrive, and how many cells keep it so. RULES 23.1. What the numbers say of streams is in Promised.antt.
 -- Assumes nothing.
 use Rattle.std.specs.Prelude.{ℕ, ◌+◌, ◌-◌, ◌*◌, ◌∷◌, [], Bool, not, ◌||◌, cond, ltb, eqb}
+use Rattle.std.proofs.Math.Option.{Option, some, none}
 use Rattle.model.specs.Tables.{within}
 use Rattle.model.specs.Refusals.{first_of, ◌when◌}
 use Rattle.model.specs.Calls.{Answer, accepted, refused}
 use Rattle.arrival.specs.Source.{burst_frames}
-use Rattle.delay.specs.declared.Delayed.{Delayed}
-use Rattle.delay.specs.declared.Delayed.TheVariants.{Within, Refused, NoQuestion}
 
 -- RULES 23.1: the three numbers
 pub record Bounds : Type 0 where
@@ -35,10 +34,6 @@ refusal_of F share = first_of (3 when not (within 1 64 F) ∷ 4 when not (within
 unfoldable pub delayed : (F m share burst : ℕ) → Answer Bounds
 delayed F m share burst = cond (eqb (refusal_of F share) 0) (accepted (bounds F m share burst)) (refused (refusal_of F share))
 
--- the code's answer, case by case
-abbrev pub delayed_for : Answer Bounds → Delayed
-delayed_for (accepted b) = Within b.slots b.cells b.shown
-delayed_for (refused number) = Refused number
-
-unfoldable pub answer_for : (F m share burst : ℕ) → Delayed
-answer_for F m share burst = cond (no_question m burst) NoQuestion (delayed_for (delayed F m share burst))
+-- nothing where nobody can ask, and else the answer
+unfoldable pub answer_for : (F m share burst : ℕ) → Option (Answer Bounds)
+answer_for F m share burst = cond (no_question m burst) none (some (delayed F m share burst))

@@ -1,4 +1,5 @@
 pub mod Bounds
+pub mod Reading
 pub mod Promised
 pub mod Limits
 pub mod Edges

@@ -2,24 +2,27 @@
 #![tactic(auto)]
 
 ghost use Rattle.std.specs.Prelude.{◌≤◌, length};
+ghost use Rattle.delay.specs.Reading.{told};
 ghost use Rattle.replies.specs.Lines.{room, Says};
 ghost use Rattle.delaywords.specs.DelayWord.{line_for, answer_to_delay};
 
-use delay::Delayed;
+use delay::{Bounds, Unanswered};
 
 // Says what a stream can count on, or the refusal.
-fn say_delayed(answer: Delayed, out: &mut [u8]) -> usize
+fn say_delayed(answer: Result<Bounds, Unanswered>, out: &mut [u8]) -> usize
     requires { room ≤ length out.old }
-    ensures { Says (line_for answer) out.old out.new result }
+    ensures { Says (line_for (told answer)) out.old out.new result }
 {
     match answer {
-        Delayed::Refused(number) => replies::say_refusal(number, out),
-        Delayed::Within {
-            slots,
-            cells,
-            shown,
-        } => replies::say_three(slots, cells, shown, out),
-        Delayed::NoQuestion => replies::say(
+        Ok(
+            Bounds {
+                slots,
+                cells,
+                shown,
+            },
+        ) => replies::say_three(slots, cells, shown, out),
+        Err(Unanswered::Refused(refusal)) => replies::say_refusal(refusal.number(), out),
+        Err(Unanswered::NoQuestion) => replies::say(
             b"? the links are 1 to 14, and the burst 0 to 999\n",
             out,
         ),
@@ -31,11 +34,8 @@ pub fn delay(numbers: &[usize], out: &mut [u8]) -> usize
     requires { room ≤ length out.old }
     ensures { Says (answer_to_delay numbers.now) out.old out.new result }
 {
-    if numbers.len() != 4 {
+    let &[slots, links, share, burst] = numbers else {
         return replies::say(b"? the numbers are F, links, share and burst\n", out);
-    }
-    say_delayed(
-        delay::delay(numbers[0], numbers[1], numbers[2], numbers[3]),
-        out,
-    )
+    };
+    say_delayed(delay::delay(slots, links, share, burst), out)
 }

@@ -5,18 +5,20 @@ mod output;
 
 ghost use Rattle.std.specs.Prelude.{◌*◌, ◌/◌, ◌≤◌, ◌≡◌, length};
 ghost use Rattle.program.specs.State.{Regular};
+ghost use Rattle.domelink.specs.Rounds.{LeftRegular};
 
-use program::{Fed, Phase, State};
+use program::{Fed, State};
 use std::io::{Eprint, Read, Write};
 
-// Where a round of reading, feeding and writing leaves the program. Neither holds where the plan was refused, a read failed, or the output took no more.
+// Where a round of reading, feeding and writing leaves the program.
 #[derive(Clone, Copy)]
-struct Round {
-    state: State,
-    // more is to be read
-    more: bool,
-    // the input has ended
-    finish: bool,
+enum Round {
+    // More is to be read.
+    More(State),
+    // The input has ended.
+    Over(State),
+    // The plan was refused, a read failed, or the output took no more.
+    Stopped,
 }
 
 // Feeds a piece for which `out` has room, so that all of it is taken.
@@ -29,14 +31,6 @@ fn feed_whole(state: State, piece: &[u8], out: &mut [u8]) -> Fed
     program::feed(state, piece, out)
 }
 
-fn reads_on(phase: Phase) -> bool {
-    match phase {
-        Phase::Reading => true,
-        Phase::Playing => true,
-        Phase::Ended => false,
-    }
-}
-
 // Reads once, feeds what was read, and writes what is handed back.
 fn round_once(
     rt: &impl Eprint,
@@ -47,42 +41,27 @@ fn round_once(
     out: &mut [u8],
 ) -> Round
     requires { Regular state × (length space.old ≤ 5 * (length out.old / 7)) }
-    ensures { Regular result.state }
+    ensures { LeftRegular result }
 {
     let Ok(got) = input.read(space) else {
         output::input_lost(rt);
-        return Round {
-            state,
-            more: false,
-            finish: false,
-        };
+        return Round::Stopped;
     };
     if got == 0 {
-        return Round {
-            state,
-            more: false,
-            finish: true,
-        };
+        return Round::Over(state);
     }
     let fed = feed_whole(state, &space[..got], out);
-    let state = fed.state;
     if !output::write(rt, output, out, fed.written) {
-        return Round {
-            state,
-            more: false,
-            finish: false,
-        };
+        return Round::Stopped;
     }
-    let phase = state.phase;
-    Round {
-        state,
-        more: reads_on(phase),
-        finish: false,
+    match fed.state {
+        State::Ended => Round::Stopped,
+        next => Round::More(next),
     }
 }
 
 // Reads to the end of the input, and then writes what is to be written there. A proved loop has to end, and nothing says that the input does:
-// it counts its rounds down from a number that is never used up.
+// its rounds are counted up to a number that is never reached.
 fn rounds(
     rt: &impl Eprint,
     input: &mut impl Read,
@@ -92,19 +71,17 @@ fn rounds(
 )
     requires { length space.old ≤ 5 * (length out.old / 7) }
 {
-    let mut left = u64::MAX;
-    let mut now = Round {
-        state: program::start(),
-        more: true,
-        finish: false,
-    };
-    while now.more && 0 < left {
-        now = round_once(rt, input, output, now.state, space, out);
-        left -= 1;
-    }
-    if now.finish {
-        let end = program::finish(now.state, out);
-        output::write(rt, output, out, end);
+    let mut state = program::start();
+    for _ in 0..u64::MAX {
+        match round_once(rt, input, output, state, space, out) {
+            Round::More(next) => state = next,
+            Round::Over(last) => {
+                let end = program::finish(last, out);
+                output::write(rt, output, out, end);
+                break;
+            }
+            Round::Stopped => break,
+        }
     }
 }
 

@@ -2,8 +2,7 @@
 use Prim.Native.Nat.{ℕ}
 use mathlib.Core.Path.{◌≡◌, refl, sym, ap, ◌∙◌}
 use mathlib.Core.List.{List, [], ◌++◌}
-use mathlib.Core.Bool.{true, cond}
-use lib.ListN.{length, take}
+use lib.ListN.{take}
 use lib.Seq.{take_all}
 use native.Mathlib.Omega.{arith}
 use Rattle.tokens.proofs.NumbersCounted.{kept-first}
@@ -13,7 +12,7 @@ use Rattle.questions.specs.Feeding.{line_fed, said_fed, at_end}
 use Rattle.questions.specs.Promises.{line_of, joined}
 use Rattle.questions.proofs.FedBytes.{line-append, said-append}
 use Rattle.questions.proofs.AnyPieces.{answers-are}
-use Rattle.domeplan.specs.declared.Round.{Round}
+use Rattle.domeplan.specs.declared.Round.TheVariants.{More}
 use Rattle.domeplan.specs.Rounds.{Takes, Rounds, none, round, WholeRun}
 use Rattle.domeplan.proofs.Taking.{joined-append, one-text-more}
 
@@ -22,14 +21,12 @@ record After (line input : List ℕ) (handed : List (List ℕ)) (t : State) : Ty
   pub said_is : joined handed ≡ said_fed line input
 
 -- a piece after which more is to be read is fed whole
-module _ {line piece out out' : List ℕ} {r : Round} (takes : Takes line piece out r out') (more : r.more ≡ true) where
+module _ {line piece out out' : List ℕ} {next : State} (takes : Takes line piece out (More next) out') where
   fed-whole : take takes.fed piece ≡ piece
-  fed-whole =
-      let all : takes.fed ≡ length piece = ap (λ b. cond b takes.fed (length piece)) (sym more) ∙ takes.whole in
-      take_all takes.fed piece (omega arith)
+  fed-whole = let all = takes.left.1 in take_all takes.fed piece (omega (arith, all))
 
-  line-then : line_of r.state ≡ line_fed line piece
-  line-then = takes.stands.line_is ∙ ap (line_fed line) fed-whole
+  line-then : line_of next ≡ line_fed line piece
+  line-then = takes.left.0.line_is ∙ ap (line_fed line) fed-whole
 
   said-then : joined takes.handed ≡ said_fed line piece
   said-then = takes.said ∙ ap (said_fed line) fed-whole
@@ -37,14 +34,14 @@ module _ {line piece out out' : List ℕ} {r : Round} (takes : Takes line piece 
 rounds-on : {s t : State} {pieces handed : List (List ℕ)} → Rounds s pieces handed t → After (line_of s) (joined pieces) handed t
 unfolding line_fed said_fed
 rounds-on none = record { line_is = refl; said_is = refl }
-rounds-on {s} (round {pieces} {handed} piece out out' r takes more rest) =
+rounds-on {s} (round {pieces} {handed} piece out out' takes rest) =
     let on = rounds-on rest in
-    let line = line-then takes more in
+    let line = line-then takes in
     record {
       line_is = on.line_is ∙ ap (λ l. line_fed l (joined pieces)) line ∙ sym (line-append (line_of s) piece (joined pieces));
       said_is =
           joined-append takes.handed handed
-          ∙ (λ k. said-then takes more k ++ (on.said_is ∙ ap (λ l. said_fed l (joined pieces)) line) k)
+          ∙ (λ k. said-then takes k ++ (on.said_is ∙ ap (λ l. said_fed l (joined pieces)) line) k)
           ∙ sym (said-append (line_of s) piece (joined pieces));
     }
 

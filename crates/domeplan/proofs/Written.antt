@@ -1,10 +1,15 @@
 -- What a writer holds after one write more. Assumes nothing.
-use Rattle.std.proofs.Common.{ℕ, ◌+◌, ◌-◌, ◌≤◌, Option, None, Some, List, ◌++◌, take, drop, sym, ap, ◌∙◌, subst, append_assoc, arith}
+use Rattle.std.proofs.Common.{ℕ, ◌+◌, ◌-◌, ◌≤◌, Option, None, Some, List, [], ◌++◌, take, drop, sym, ap, ◌∙◌, subst, append_assoc, arith}
+use mathlib.Core.List.{append-nil}
 use Rattle.std.specs.Io.KnownBytes.{Appends}
 use Rattle.std.proofs.Math.Seq.{take-add}
 use Rattle.std.proofs.lemmas.List.{take-take}
 
-appends-both : (old then new : Option (List ℕ)) (xs ys : List ℕ) → Appends old then xs → Appends then new ys → Appends old new (xs ++ ys)
+pub appends-none : (held : Option (List ℕ)) → Appends held held []
+appends-none None = tt
+appends-none (Some a) = sym (append-nil a)
+
+pub appends-both : (old then new : Option (List ℕ)) (xs ys : List ℕ) → Appends old then xs → Appends then new ys → Appends old new (xs ++ ys)
 appends-both None then new xs ys p q = tt
 appends-both (Some a) None new xs ys p q = elim p [ ]
 appends-both (Some a) (Some b) None xs ys p q = q

@@ -6,51 +6,50 @@ mod waiting;
 
 ghost use Rattle.std.specs.Prelude.{◌≤◌, length};
 ghost use Rattle.replies.specs.Lines.{room};
+ghost use Rattle.std.specs.Io.KnownBytes.{Appends};
+ghost use Rattle.questions.specs.Feeding.{said_fed};
 ghost use Rattle.questions.specs.Promises.{line_of, Regular};
-ghost use Rattle.domeplan.specs.Rounds.{Takes, Goes};
+ghost use Rattle.domeplan.specs.Rounds.{Takes, Goes, OnMore};
 
 use questions::State;
 use std::io::{Eprint, Read, Write};
 use std::time::Clock;
 
-// Where some input leaves the program. Neither holds where a read failed, or the output took no more.
+// What comes next, after some input.
 #[derive(Clone, Copy)]
-struct Round {
-    state: State,
-    // more is to be read
-    more: bool,
-    // the input has ended
-    finish: bool,
+enum Round {
+    // More is to be read.
+    More(State),
+    // The input has ended.
+    Over(State),
+    // A read failed, or the output took no more.
+    Stopped,
 }
 
 // Takes a piece of the input, and writes the answers to the lines that end in it, as many at once as `out` has room for.
-fn take(
+fn take<W: Write>(
     rt: &(impl Eprint + Clock),
-    output: &mut impl Write,
+    output: &mut W,
     state: State,
     piece: &[u8],
     out: &mut [u8],
 ) -> Round
     requires { Regular state × (room ≤ length out.old) }
-    ensures { Takes (line_of state) piece.now out.old result out.new }
+    ensures takes { Takes (line_of state) piece.now out.old result out.new }
+    ensures written { OnMore result (Appends (W.contents output.old) (W.contents output.new) (said_fed (line_of state) piece.now)) }
 {
-    let mut now = Round {
-        state,
-        more: true,
-        finish: false,
-    };
+    let mut now = state;
     let mut at = 0;
-    while now.more && at < piece.len() {
-        let fed = questions::feed(now.state, &piece[at..], out);
+    // Stays: a step is as long as what one call takes, so that no range has the places.
+    while at < piece.len() {
+        let fed = questions::feed(now, &piece[at..], out);
         at += fed.used;
-        let state = fed.state;
-        now = Round {
-            state,
-            more: output::write(rt, output, out, fed.written),
-            finish: false,
-        };
+        if !output::write(rt, output, out, fed.written) {
+            return Round::Stopped;
+        }
+        now = fed.state;
     }
-    now
+    Round::More(now)
 }
 
 // RULES 20.1: reads once, and takes what was read.
@@ -67,24 +66,16 @@ fn round_once(
 {
     let Ok(got) = input.read(space) else {
         output::input_lost(rt);
-        return Round {
-            state,
-            more: false,
-            finish: false,
-        };
+        return Round::Stopped;
     };
     if got == 0 {
-        return Round {
-            state,
-            more: false,
-            finish: true,
-        };
+        return Round::Over(state);
     }
     take(rt, output, state, &space[..got], out)
 }
 
 // Reads to the end of the input, and then answers a last line that no newline ends. A proved loop has to end, and nothing says that the input does:
-// it counts its rounds down from a number that is never used up.
+// the rounds are more than are ever made.
 fn rounds(
     rt: &(impl Eprint + Clock),
     input: &mut impl Read,
@@ -94,19 +85,17 @@ fn rounds(
 )
     requires { room ≤ length out.old }
 {
-    let mut left = u64::MAX;
-    let mut now = Round {
-        state: questions::start(),
-        more: true,
-        finish: false,
-    };
-    while now.more && 0 < left {
-        now = round_once(rt, input, output, now.state, space, out);
-        left -= 1;
-    }
-    if now.finish {
-        let end = questions::finish(now.state, out);
-        output::write(rt, output, out, end);
+    let mut now = questions::start();
+    'rounds: for _ in 0..u64::MAX {
+        match round_once(rt, input, output, now, space, out) {
+            Round::More(next) => now = next,
+            Round::Over(last) => {
+                let end = questions::finish(last, out);
+                output::write(rt, output, out, end);
+                break 'rounds;
+            }
+            Round::Stopped => break 'rounds,
+        }
     }
 }
 

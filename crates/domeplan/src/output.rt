@@ -1,5 +1,5 @@
 // Standard output, and what is said on standard error where something was lost.
-ghost use Rattle.std.specs.Prelude.{◌≤◌, ◌<◌, ◌≡◌, cond, length, take};
+ghost use Rattle.std.specs.Prelude.{◌≤◌, ◌<◌, cond, length, take, IfSome, unwrap_or};
 ghost use Rattle.std.specs.Bool.{OnTrue};
 ghost use Rattle.std.specs.Io.KnownBytes.{Appends};
 
@@ -7,46 +7,34 @@ use crate::waiting::may_go_on;
 use std::io::{Eprint, Write};
 use std::time::Clock;
 
-// What one write comes to: how many bytes were taken, and whether the output may take more.
-#[derive(Clone, Copy)]
-struct Wrote {
-    count: usize,
-    more: bool,
-}
-
-// Writes once. Where the output takes nothing for now, it waits a moment.
-fn write_once<W: Write>(clock: &impl Clock, output: &mut W, bytes: &[u8]) -> Wrote
-    ensures few { result.count ≤ length bytes.now }
-    ensures none { cond result.more 0 result.count ≡ 0 }
-    ensures written { Appends (W.contents output.old) (W.contents output.new) (take result.count bytes.now) }
+// Writes once; how many bytes were taken, as long as the output may take more. Where it takes nothing for now, it waits a moment.
+fn write_once<W: Write>(clock: &impl Clock, output: &mut W, bytes: &[u8]) -> Option<usize>
+    ensures few { IfSome result (λ n. n ≤ length bytes.now) }
+    ensures written { Appends (W.contents output.old) (W.contents output.new) (take (unwrap_or result 0) bytes.now) }
 {
     match output.write(bytes) {
-        Ok(got) => Wrote {
-            count: got,
-            more: got != 0,
-        },
-        Err(error) => Wrote {
-            count: 0,
-            more: may_go_on(clock, error.raw_os_error().unwrap_or(0)),
-        },
+        Ok(0) => None,
+        Ok(got) => Some(got),
+        Err(error) => may_go_on(clock, error.raw_os_error().unwrap_or(0)).then_some(0),
     }
 }
 
-// Writes the first bytes of a slice, as long as the output may take more; how many were taken. As a proved loop has to end, its turns count down from a
-// number that is never used up.
+// Writes the first bytes of a slice, as long as the output may take more; how many were taken. A proved loop has to end: the turns are more than are ever
+// made.
 fn write_all<W: Write>(clock: &impl Clock, output: &mut W, out: &[u8], end: usize) -> usize
     requires { end ≤ length out.now }
     ensures most { result ≤ end }
     ensures written { Appends (W.contents output.old) (W.contents output.new) (take result out.now) }
 {
-    let mut left = u64::MAX;
     let mut done = 0;
-    let mut more = true;
-    while more && done < end && 0 < left {
-        let wrote = write_once(clock, output, &out[done..end]);
-        done += wrote.count;
-        more = wrote.more;
-        left -= 1;
+    'turns: for _ in 0..u64::MAX {
+        if done == end {
+            break 'turns;
+        }
+        let Some(count) = write_once(clock, output, &out[done..end]) else {
+            break 'turns;
+        };
+        done += count;
     }
     done
 }

@@ -3,37 +3,27 @@
 
 mod output;
 
-ghost use Rattle.std.specs.Prelude.{◌≤◌, length};
+ghost use Rattle.std.specs.Prelude.{◌≤◌, length, IfSome};
 ghost use Rattle.showwords.specs.Links.{room};
 ghost use Rattle.showinput.specs.Promises.{Regular};
 
 use showinput::{KEPT, State};
 use std::io::{Eprint, Read, Write};
 
-// Where a piece of the input leaves the program.
-#[derive(Clone, Copy)]
-struct Round {
-    state: State,
-    // more is to be read
-    more: bool,
-}
-
-// RULES 25.6: reads once, and feeds what was read. Input that can't be read is taken as ended.
-fn round_once(input: &mut impl Read, state: State, space: &mut [u8]) -> Round
+// RULES 25.6: reads once, and feeds what was read. Nothing comes back where the input has ended; input that can't be read is taken as ended.
+fn round_once(input: &mut impl Read, state: State, space: &mut [u8]) -> Option<State>
     requires { Regular state }
-    ensures { Regular result.state }
+    ensures { IfSome result Regular }
 {
     let got = input.read(space).unwrap_or(0);
     if got == 0 {
-        return Round { state, more: false };
+        return None;
     }
-    let state = showinput::feed(state, &space[..got]);
-    let more = state.count < KEPT;
-    Round { state, more }
+    Some(showinput::feed(state, &space[..got]))
 }
 
 // Reads to the end of the input, or until more can't change the answer, and writes that. A proved loop has to end, and nothing says that the input does:
-// it counts its rounds down from a number that is never used up.
+// its rounds are counted up to a number that is never reached.
 fn rounds(
     rt: &impl Eprint,
     input: &mut impl Read,
@@ -43,16 +33,17 @@ fn rounds(
 )
     requires { room ≤ length out.old }
 {
-    let mut left = u64::MAX;
-    let mut now = Round {
-        state: showinput::start(),
-        more: true,
-    };
-    while now.more && 0 < left {
-        now = round_once(input, now.state, space);
-        left -= 1;
+    let mut state = showinput::start();
+    for _ in 0..u64::MAX {
+        let Some(next) = round_once(input, state, space) else {
+            break;
+        };
+        state = next;
+        if state.count == KEPT {
+            break;
+        }
     }
-    let end = showinput::finish(now.state, out);
+    let end = showinput::finish(state, out);
     output::write(rt, output, out, end);
 }
 

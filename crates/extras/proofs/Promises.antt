@@ -16,7 +16,7 @@ use Rattle.extras.specs.Extras as model
 use Rattle.extras.specs.Best.{Best}
 use Rattle.extras.specs.declared.Extras as code
 use Rattle.extras.specs.declared.Chosen as Answered
-use Rattle.extras.specs.declared.Choice.{Choice}
+use Rattle.std.specs.Prelude.{Some}
 use Rattle.extras.specs.Reading.{extras_for, chosen_for, answer_for}
 use Rattle.extras.specs.Claim.{with_budget, Promised}
 use Rattle.extras.proofs.Summing.{term-most}
@@ -155,17 +155,8 @@ promised x c a =
     rw p.1 (of-best x p.0)
 
 -- by the contract of `extras::choose`, the same of what the code answers
-pub answer-promised : (x : code.Extras) (c : Answered.Chosen) → answer_for (Choice.Best c) ≡ choose (extras_for x) → Promised (extras_for x) (chosen_for c)
+pub answer-promised : (x : code.Extras) (c : Answered.Chosen) → answer_for (Some c) ≡ choose (extras_for x) → Promised (extras_for x) (chosen_for c)
 answer-promised x c e = promised (extras_for x) (chosen_for c) (sym e)
-
--- a refusal is 27, and stands for a number outside the limits
-pub refused-is : (x : Extras) (number : ℕ) → choose x ≡ refused number → (number ≡ 27) × (outside x ≡ true)
-unfolding choose
-refused-is x number a = go (outside x) refl a
-  where
-    go : (b : Bool) → outside x ≡ b → cond b (refused 27) (accepted (model.best x)) ≡ refused number → (number ≡ 27) × (outside x ≡ true)
-    go true e r = (cc, e)
-    go false e r = absurd (let z : ◌≡◌ {A = ℕ} 0 1 = cc in omega arith)
 
 -- more than twelve layers are refused, whatever else is given
 pub many-refused : (x : Extras) → 12 < layer_count x → choose x ≡ refused 27

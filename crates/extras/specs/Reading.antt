@@ -1,10 +1,9 @@
 -- What is given and what is answered, read as the definitions have it. Assumes nothing.
-use Rattle.std.specs.Prelude.{ℕ, false, ◌≡◌, get_or}
+use Rattle.std.specs.Prelude.{ℕ, false, ◌≡◌, get_or, Option, Some, None}
 use Rattle.model.specs.Tables.{table}
 use Rattle.model.specs.Calls.{Answer, accepted, refused}
 use Rattle.extras.specs.declared.Extras.{Extras}
 use Rattle.extras.specs.declared.Chosen.{Chosen}
-use Rattle.extras.specs.declared.Choice.{Choice}
 use Rattle.extras.specs.Extras as model
 
 abbrev pub layer_with : (share worth : ℕ) → model.Layer
@@ -21,10 +20,10 @@ extras_for x = record { slots = x.slots; budget = x.budget; layers = table x.cou
 abbrev pub chosen_for : Chosen → model.Chosen
 chosen_for c = record { mask = c.mask; worth = c.worth; ceiling = c.ceiling }
 
--- each answer with the model's number and values
-abbrev pub answer_for : Choice → Answer model.Chosen
-answer_for (Choice.Best c) = accepted (chosen_for c)
-answer_for (Choice.Refused number) = refused number
+-- each answer with the model's number and values: none is refusal 27
+abbrev pub answer_for : Option Chosen → Answer model.Chosen
+answer_for (Some c) = accepted (chosen_for c)
+answer_for None = refused 27
 
 -- the numbers are within their limits
 pub record Inside (x : Extras) : Type 0 where

@@ -10,10 +10,7 @@ fn added(share: usize, slots: usize, worth: usize) -> usize
     ensures is { result ≡ cond (leb share slots) worth 0 }
     ensures most { result ≤ worth }
 {
-    if share <= slots {
-        return worth;
-    }
-    0
+    if share <= slots { worth } else { 0 }
 }
 
 // What the layers that fit singly are worth together.
@@ -22,12 +19,8 @@ fn singles(x: Extras) -> usize
     ensures { result ≡ model.singles_worth (extras_for x) }
 {
     let mut worth = 0;
-    let mut i = 0;
-    while i < x.count {
-        let share = x.shares[i];
-        let single = x.worths[i];
-        worth += added(share, x.slots, single);
-        i += 1;
+    for i in 0..x.count {
+        worth += added(x.shares[i], x.slots, x.worths[i]);
     }
     worth
 }
@@ -37,8 +30,5 @@ pub(crate) fn ceiling(x: Extras, sets: usize, worth: usize) -> usize
     requires { Inside x }
     ensures { result ≡ cond (leb sets x.budget) worth (model.singles_worth (extras_for x)) }
 {
-    if sets <= x.budget {
-        return worth;
-    }
-    singles(x)
+    if sets <= x.budget { worth } else { singles(x) }
 }

@@ -13,6 +13,9 @@ ghost use Rattle.extras.specs.Reading.{extras_for, answer_for};
 // The most layers.
 pub const MOST: usize = 12;
 
+// The refusal of what is outside its limits.
+pub const OUT_OF_RANGE: u8 = 27;
+
 // The slots left in a frame, how many sets may be looked at, n, and of each layer its share, the slots of a frame that it takes, and what it is
 // worth. What stands at place n and from there on has no effect.
 #[derive(Clone, Copy)]
@@ -25,30 +28,24 @@ pub struct Extras {
 }
 
 // A set by its mask, bit i for layer i; what it is worth; and what no set that fits is worth more than.
-#[derive(Clone, Copy)]
+#[derive(Clone, Copy, Debug, PartialEq, Eq)]
 pub struct Chosen {
     pub mask: usize,
     pub worth: usize,
     pub ceiling: usize,
 }
 
-#[derive(Clone, Copy)]
-pub enum Choice {
-    Best(Chosen),
-    Refused(u8),
-}
-
-// The best set looked at.
-pub fn choose(x: Extras) -> Choice
+// The best set looked at; none where what is given is outside its limits.
+pub fn choose(x: Extras) -> Option<Chosen>
     ensures { answer_for result ≡ model.choose (extras_for x) }
 {
     if ranges::outside(x) {
-        return Choice::Refused(27);
+        return None;
     }
     let sets = sets::set_count(x.count);
-    let best = search::best_of(x, sets::looked_at(x.budget, sets));
+    let best = search::best_of(x, x.budget.min(sets));
     let ceiling = ceiling::ceiling(x, sets, best.worth);
-    Choice::Best(Chosen {
+    Some(Chosen {
         mask: best.mask,
         worth: best.worth,
         ceiling,

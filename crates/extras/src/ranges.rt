@@ -6,18 +6,18 @@ ghost use Rattle.extras.specs.Reading.{extras_for, layer_with};
 
 use crate::{Extras, MOST};
 
+// The most slots of a frame.
+const MOST_SLOTS: usize = 64;
+
+// The most that a layer is worth.
+const MOST_WORTH: usize = 1000;
+
 // Whether a layer keeps its limits.
 #[tactic(auto, unfolding(crate::specs::Extras::layer_inside))]
 fn layer_inside(share: usize, worth: usize) -> bool
     ensures { result ≡ model.layer_inside (layer_with share worth) }
 {
-    if share < 1 {
-        return false;
-    }
-    if 64 < share {
-        return false;
-    }
-    worth <= 1000
+    (1..=MOST_SLOTS).contains(&share) && worth <= MOST_WORTH
 }
 
 // Whether some layer breaks its limits.
@@ -25,14 +25,10 @@ fn some_outside(x: Extras) -> bool
     requires { x.count ≤ 12 }
     ensures { result ≡ any x.count (λ i. not (model.layer_inside (model.layer (extras_for x) i))) }
 {
-    let mut i = 0;
-    while i < x.count {
-        let share = x.shares[i];
-        let worth = x.worths[i];
-        if !layer_inside(share, worth) {
+    for i in 0..x.count {
+        if !layer_inside(x.shares[i], x.worths[i]) {
             return true;
         }
-        i += 1;
     }
     false
 }
@@ -41,14 +37,8 @@ fn some_outside(x: Extras) -> bool
 pub(crate) fn outside(x: Extras) -> bool
     ensures { result ≡ model.outside (extras_for x) }
 {
-    if x.budget == 0 {
+    if x.budget == 0 || MOST < x.count {
         return true;
     }
-    if MOST < x.count {
-        return true;
-    }
-    if 64 < x.slots {
-        return true;
-    }
-    some_outside(x)
+    MOST_SLOTS < x.slots || some_outside(x)
 }

@@ -18,13 +18,11 @@ pub(crate) struct SetWorth {
 fn better(best: SetWorth, set: SetWorth, share: usize, slots: usize) -> SetWorth
     ensures { result ≡ better_of best set share slots }
 {
-    if slots < share {
-        return best;
+    if slots < share || set.worth <= best.worth {
+        best
+    } else {
+        set
     }
-    if set.worth <= best.worth {
-        return best;
-    }
-    set
 }
 
 // The best of the first sets.
@@ -33,12 +31,10 @@ pub(crate) fn best_of(x: Extras, looked: usize) -> SetWorth
     ensures { Best (extras_for x) looked result.mask result.worth }
 {
     let mut best = SetWorth { mask: 0, worth: 0 };
-    let mut mask = 1;
-    while mask < looked {
+    for mask in 1..looked {
         let share = sum_over(&x.shares, x.count, mask);
         let worth = sum_over(&x.worths, x.count, mask);
         best = better(best, SetWorth { mask, worth }, share, x.slots);
-        mask += 1;
     }
     best
 }

@@ -1,5 +1,5 @@
 // Sets by their masks.
-ghost use Rattle.std.specs.Prelude.{◌≡◌, cond, ◌≤◌, ◌<◌, ◌^◌, min};
+ghost use Rattle.std.specs.Prelude.{◌≡◌, cond, ◌≤◌, ◌<◌, ◌^◌};
 ghost use Rattle.model.specs.Calls.{in_mask};
 ghost use Rattle.extras.specs.Search.{Amounts, sum_in};
 
@@ -14,26 +14,13 @@ pub(crate) fn set_count(n: usize) -> usize
     1usize << n
 }
 
-// How many sets are looked at: as many as the budget allows, and as there are.
-pub(crate) fn looked_at(budget: usize, sets: usize) -> usize
-    ensures { result ≡ min budget sets }
-{
-    if budget < sets {
-        return budget;
-    }
-    sets
-}
-
 // What layer i adds to the sum over a set: nothing where it isn't in it.
 fn added(mask: usize, i: usize, amount: usize) -> usize
     requires { i < 64 }
     ensures is { result ≡ cond (in_mask mask i) amount 0 }
     ensures most { result ≤ amount }
 {
-    if (mask >> i) % 2 == 1 {
-        return amount;
-    }
-    0
+    if (mask >> i) % 2 == 1 { amount } else { 0 }
 }
 
 // The sum of some amounts, one for each layer, over a set.
@@ -42,11 +29,8 @@ pub(crate) fn sum_over(amounts: &[usize; MOST], count: usize, mask: usize) -> us
     ensures { result ≡ sum_in amounts.now count mask }
 {
     let mut sum = 0;
-    let mut i = 0;
-    while i < count {
-        let amount = amounts[i];
-        sum += added(mask, i, amount);
-        i += 1;
+    for (i, amount) in amounts[..count].iter().enumerate() {
+        sum += added(mask, i, *amount);
     }
     sum
 }

@@ -8,28 +8,16 @@ ghost use Rattle.replies.specs.Lines as said;
 ghost use Rattle.extrawords.specs.ExtrasWord as answers;
 ghost use Rattle.extrawords.specs.Asked.{struct_asked};
 
-use extras::{Choice, Chosen, Extras, MOST};
+use extras::{Chosen, Extras, MOST, OUT_OF_RANGE};
 
-// The number at a place, and 0 past the last.
-fn number_at(numbers: &[usize], place: usize) -> usize
-    ensures { result ≡ get_or numbers.now place 0 }
-{
-    if place < numbers.len() {
-        return numbers[place];
-    }
-    0
-}
-
-// Every second number from a place on, twelve of them.
+// Every second number from a place on, twelve of them, and 0 past the last.
 fn every_second(numbers: &[usize], from: usize) -> [usize; MOST]
     requires { from < 4 }
     ensures { result ≡ table 12 (λ i. get_or numbers.now (from + 2 * i) 0) }
 {
     let mut all = [0usize; MOST];
-    let mut i = 0;
-    while i < MOST {
-        all[i] = number_at(numbers, from + 2 * i);
-        i += 1;
+    for (i, number) in all.iter_mut().enumerate() {
+        *number = numbers.get(from + 2 * i).copied().unwrap_or(0);
     }
     all
 }
@@ -50,22 +38,14 @@ fn asked(numbers: &[usize]) -> Extras
     }
 }
 
-// Says mask, worth and ceiling.
-fn say_best(c: Chosen, out: &mut [u8]) -> usize
-    requires { said.room ≤ length out.old }
-    ensures { said.Says (answers.chosen_line (answer_for (Choice.Best c))) out.old out.new result }
-{
-    replies::say_three(c.mask, c.worth, c.ceiling, out)
-}
-
-// Says an answer.
-fn say_choice(choice: Choice, out: &mut [u8]) -> usize
+// Says mask, worth and ceiling, or the refusal.
+fn say_choice(choice: Option<Chosen>, out: &mut [u8]) -> usize
     requires { said.room ≤ length out.old }
     ensures { said.Says (answers.chosen_line (answer_for choice)) out.old out.new result }
 {
     match choice {
-        Choice::Refused(number) => replies::say_refusal(number, out),
-        Choice::Best(c) => say_best(c, out),
+        Some(c) => replies::say_three(c.mask, c.worth, c.ceiling, out),
+        None => replies::say_refusal(OUT_OF_RANGE, out),
     }
 }
 

@@ -1,22 +1,23 @@
 -- Faults that are stored one after another, and numbers that are put into a line. Assumes nothing.
 use Prim.Native.Nat.{ℕ, ◌+◌, ◌-◌, ◌*◌, ◌≤◌, ◌<◌}
-use mathlib.Core.Path.{◌≡◌, refl, sym, ap, ◌∙◌}
+use mathlib.Core.Path.{◌≡◌, sym, ap, ◌∙◌}
 use mathlib.Core.List.{List, ◌∷◌, [], ◌++◌, flat_map}
 use native.Mathlib.Numerals.{add-one}
 use native.Mathlib.Omega.{arith}
-use lib.ListN.{length, get_or, take, drop, set}
+use lib.ListN.{length, get_or, take, drop}
 use lib.Seq.{take-suc, take-length, take_all}
+use Rattle.std.proofs.Common.{Some, slice_get}
 use Rattle.calls.specs.Lines.{Puts}
-use Rattle.calls.proofs.Stores.{puts_none, puts_one, puts-two, puts_then, puts-same}
+use Rattle.calls.proofs.Stores.{puts_none, puts_then, puts-same}
+use Rattle.tokens.proofs.NumbersCounted.{kept-first}
 use Rattle.replies.specs.Lines.{spaced}
-use Rattle.replies.proofs.PutOn.{puts-to}
 use Rattle.model.specs.Listing.{text, decimal}
 use Rattle.faults.specs.Told.{faults_line}
 use Rattle.faults.proofs.Lists.{flat-last}
 
--- three numbers, one after another
-pub puts-three : (a b c : ℕ) (out : List ℕ) (at : ℕ) → Puts (a ∷ b ∷ c ∷ []) out (set (set (set out at a) (at + 1) b) (at + 2) c) at (at + 3)
-puts-three a b c out at = puts-to (omega arith) (puts_then (puts-two a b out at) (puts_one c (set (set out at a) (at + 1) b) (at + 2)))
+-- numbers that are stored from the start on stand there
+pub found-first : {xs before after : List ℕ} {count : ℕ} → Puts xs before after 0 count → count ≤ length before → take count after ≡ xs
+found-first {xs} {before} {count = count} p room = ap (take count) p.stored ∙ kept-first xs before count (omega (arith, p.up_to)) room
 
 -- the numbers before number i are put
 pub record PutTo (numbers before after : List ℕ) (at next i : ℕ) : Type 0 where
@@ -45,11 +46,10 @@ module _ {numbers before after : List ℕ} {at next i : ℕ} (s : PutTo numbers 
 
 -- ---- the line
 
-pub none-line : (found : List ℕ) → length found ≡ 0 → text "ok\n" ≡ faults_line found
-none-line [] e = refl
-none-line (n ∷ rest) e = absurd (omega arith)
-
-pub some-line : (found : List ℕ) → (length found ≡ 0 → ⊥)
-    → decimal (get_or found 0 0) ++ flat_map spaced (take (length found - 1) (drop 1 found)) ++ text "\n" ≡ faults_line found
-some-line [] some = absurd (some refl)
-some-line (n ∷ rest) some = ap (λ l. decimal n ++ flat_map spaced l ++ text "\n") (take_all (length (n ∷ rest) - 1) rest (omega arith))
+-- a line that begins with the first of some numbers
+pub some-line : (found : List ℕ) (number : ℕ) → Some number ≡ slice_get found 0
+    → decimal number ++ flat_map spaced (take (length found - 1) (drop 1 found)) ++ text "\n" ≡ faults_line found
+some-line [] number e = cc
+some-line (n ∷ rest) number e =
+    let same : number ≡ n = cc in
+    (λ i. decimal (same i) ++ flat_map spaced (take_all (length (n ∷ rest) - 1) rest (omega arith) i) ++ text "\n")

@@ -36,10 +36,8 @@ fn put_numbers(numbers: &[usize], out: &mut [u8], at: usize) -> usize
     ensures most { result ≤ at + 21 * length numbers.now }
 {
     let mut next = at;
-    let mut i = 0;
-    while i < numbers.len() {
-        next = replies::put_number(numbers[i], out, next);
-        i += 1;
+    for n in numbers {
+        next = replies::put_number(*n, out, next);
     }
     next
 }
@@ -49,10 +47,10 @@ pub fn say(found: &[usize], out: &mut [u8]) -> usize
     requires { (length found.now ≤ 780) × (room ≤ length out.old) }
     ensures { Says (faults_line found.now) out.old out.new result }
 {
-    if found.len() == 0 {
+    let Some(number) = found.first() else {
         return replies::say(b"ok\n", out);
-    }
-    let first = replies::put_first(found[0], out);
+    };
+    let first = replies::put_first(*number, out);
     let end = put_numbers(&found[1..], out, first);
     replies::put(b"\n", out, end)
 }

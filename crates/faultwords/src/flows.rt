@@ -52,10 +52,8 @@ pub(crate) fn tell_entries(numbers: &[usize], flows: usize, found: &mut [usize],
     ensures most { result ≤ at + 240 }
 {
     let mut next = at;
-    let mut i = 0;
-    while i < flows {
+    for i in 0..flows {
         next = tell_entry(numbers, i, found, next);
-        i += 1;
     }
     next
 }
@@ -67,10 +65,7 @@ fn same_pair(numbers: &[usize], i: usize, j: usize) -> bool
 {
     let one = 3 + 4 * i;
     let other = 3 + 4 * j;
-    if numbers[one + 2] != numbers[other + 2] {
-        return false;
-    }
-    numbers[one + 3] == numbers[other + 3]
+    numbers[one + 2] == numbers[other + 2] && numbers[one + 3] == numbers[other + 3]
 }
 
 // Tells the first flow before flow j that has its nodes.
@@ -79,12 +74,10 @@ fn tell_alike(numbers: &[usize], j: usize, found: &mut [usize], at: usize) -> us
     ensures put { Puts (alike_faults (plan_asked numbers.now) j) found.old found.new at result }
     ensures most { result ≤ at + 3 }
 {
-    let mut i = 0;
-    while i < j {
+    for i in 0..j {
         if same_pair(numbers, i, j) {
             return faults::tell_if(true, 5, i, j, found, at);
         }
-        i += 1;
     }
     at
 }
@@ -96,10 +89,8 @@ pub(crate) fn tell_repeats(numbers: &[usize], flows: usize, found: &mut [usize],
     ensures most { result ≤ at + 48 }
 {
     let mut next = at;
-    let mut j = 0;
-    while j < flows {
+    for j in 0..flows {
         next = tell_alike(numbers, j, found, next);
-        j += 1;
     }
     next
 }
@@ -110,10 +101,8 @@ fn total(numbers: &[usize], flows: usize, place: usize) -> usize
     ensures { result ≡ sum flows (λ i. get_or numbers.now (3 + 4 * i + place) 0) }
 {
     let mut sum = 0;
-    let mut i = 0;
-    while i < flows {
+    for i in 0..flows {
         sum += numbers[3 + 4 * i + place];
-        i += 1;
     }
     sum
 }

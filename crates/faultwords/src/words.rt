@@ -1,5 +1,5 @@
 // The word `faults`: numbers that ask for a plan, answered by the limits that it breaks.
-ghost use Rattle.std.specs.Prelude.{◌+◌, ◌≤◌, min, ◌≡◌, length};
+ghost use Rattle.std.specs.Prelude.{◌+◌, ◌≤◌, ◌≡◌, length};
 ghost use Rattle.calls.specs.Lines.{Puts};
 ghost use Rattle.replies.specs.Lines as said;
 ghost use Rattle.planwords.specs.Plans.{plan_asked};
@@ -18,24 +18,12 @@ const FLOWS: usize = 16;
 fn some_long(numbers: &[usize]) -> bool
     ensures { result ≡ answers.some_long numbers.now }
 {
-    let mut i = 0;
-    while i < numbers.len() {
-        if LONGEST < numbers[i] {
+    for n in numbers {
+        if LONGEST < *n {
             return true;
         }
-        i += 1;
     }
     false
-}
-
-// How many of the flows are looked at.
-fn seen(flows: usize) -> usize
-    ensures { result ≡ min flows 16 }
-{
-    if flows < FLOWS {
-        return flows;
-    }
-    FLOWS
 }
 
 // Finds the faults of the plan that numbers ask for, and stores them from the start on; how many numbers they have.
@@ -45,7 +33,7 @@ fn find(numbers: &[usize], found: &mut [usize]) -> usize
     ensures most { result ≤ 309 }
 {
     let count = (numbers.len() - 3) / 4;
-    let flows = seen(count);
+    let flows = count.min(FLOWS);
     let after_count = faults::tell_if(limits::count_out_of_range(count), 2, count, 0, found, 0);
     let after_frame = header::tell_frame(numbers[0], numbers[1], numbers[2], found, after_count);
     let after_entries = flows::tell_entries(numbers, flows, found, after_frame);

@@ -13,19 +13,13 @@ ghost use Rattle.fields.specs.Fields.{AllFit, ByteFields};
 
 use state::State;
 
-fn wide(byte: u8) -> usize
-    ensures { (result ≡ byte) × (result < 256) }
-{
-    byte as usize
-}
-
 // The byte at a place. That each one is below 256 is so by their type; it is stated so that callers find it.
 pub fn byte(bytes: &[u8], at: usize) -> usize
     requires { at < length bytes.now }
     ensures is { result ≡ get_or bytes.now at 0 }
     ensures all { AllBytes bytes.now }
 {
-    bytes[at] as usize
+    usize::from(bytes[at])
 }
 
 // The field at a place.
@@ -34,10 +28,11 @@ pub fn field(bytes: &[u8], at: usize) -> usize
     ensures is { result ≡ field16 bytes.now at }
     ensures most { result < 65536 }
 {
-    wide(bytes[at]) + 256 * wide(bytes[at + 1])
+    usize::from(u16::from_le_bytes([bytes[at], bytes[at + 1]]))
 }
 
 // Writes a field at a place and returns the place after it.
+// Stays: a copy of the bytes of `to_le_bytes` over a part of the slice is no plainer than two stores.
 pub fn put(x: usize, out: &mut [u8], at: usize) -> usize
     requires { (x < 65536) × (at + 1 < length out.old) }
     ensures { Puts (fields (x ∷ [])) out.old out.new at result }
@@ -53,19 +48,10 @@ pub fn put_all(numbers: &[usize], out: &mut [u8], at: usize) -> usize
     ensures { Puts (fields numbers.now) out.old out.new at result }
 {
     let mut next = at;
-    let mut k = 0;
-    while k < numbers.len() {
-        next = put(numbers[k], out, next);
-        k += 1;
+    for x in numbers {
+        next = put(*x, out, next);
     }
     next
-}
-
-// One value at every place of a table.
-fn filled(value: u8) -> [u8; 256]
-    ensures { result ≡ everywhere value }
-{
-    [value; 256]
 }
 
 // The fields from a place on, each of them a byte, as the first of a table; the rest of it is one value.
@@ -73,11 +59,9 @@ pub fn read_table(bytes: &[u8], at: usize, count: usize, spare: u8) -> [u8; 256]
     requires { ByteFields bytes.now at count }
     ensures { result ≡ replaced (in_range 0 count) (λ p x. field_at bytes.now at p) (everywhere spare) }
 {
-    let mut table = filled(spare);
-    let mut p = 0;
-    while p < count {
+    let mut table = [spare; 256];
+    for p in 0..count {
         table[p] = field(bytes, at + 2 * p) as u8;
-        p += 1;
     }
     table
 }
@@ -88,10 +72,8 @@ pub fn put_part(s: &State, first: usize, count: usize, out: &mut [u8], at: usize
     ensures { Puts (fields (part s.now first count)) out.old out.new at result }
 {
     let mut next = at;
-    let mut p = 0;
-    while p < count {
-        next = put(wide(s[first + p]), out, next);
-        p += 1;
+    for x in &s[first..first + count] {
+        next = put(usize::from(*x), out, next);
     }
     next
 }

@@ -1,10 +1,10 @@
 -- A flow's part in an image that is there: what it is tested by. Assumes nothing.
-use Prim.Native.Nat.{ℕ, ◌+◌, ◌*◌, ◌≤◌, ◌<◌}
+use Prim.Native.Nat.{ℕ, ◌+◌, ◌*◌, ◌<◌}
 use mathlib.Core.Path.{◌≡◌, sym, ap, ◌∙◌}
 use mathlib.Core.List.{List}
 use mathlib.Core.Bool.{◌&&◌}
 use native.Mathlib.Omega.{arith}
-use lib.ListN.{length, get_or}
+use lib.ListN.{get_or}
 use lib.Dec.{ltb}
 use Rattle.model.specs.Plan as model
 use Rattle.model.specs.Plan.{field16}
@@ -17,24 +17,17 @@ use Rattle.window.specs.declared.Window.{Window}
 use Rattle.window.specs.Window.{window_of, size_of}
 use Rattle.imagecheck.specs.declared.layout.Layout.{Layout}
 use Rattle.imagecheck.specs.Flows.{spends_well, holds_well, flow_kept}
-use Rattle.imagecheck.specs.Asked.{PartsOn, OwnersOn, HeldOn}
-use Rattle.imagecheck.proofs.Layouts.{size_is as layout-size, count-few, total_is, positions-at, flows-at}
+use Rattle.imagecheck.specs.Asked.{PartsOn, OwnersOn}
+use Rattle.imagecheck.proofs.Layouts.{size_is as layout-size, count-few, positions-at, flows-at}
 use Rattle.imagecheck.proofs.FlowFields.{part, flow-by-fields}
 
 module _ {b : List ℕ} {y : Layout} {p : Plan} {w : Window} (v : PartsOn b y p w) where
   size_is : size_of w ≡ p.slots * p.frames
   size_is = ap size v.window_is
 
-  pub size_same : y.size ≡ size_of w
-  size_same = layout-size v.on.laid ∙ sym size_is
-
   module _ (i : ℕ) (h : i < p.count) where
     pub flow-few : i < 16
     flow-few = omega (arith, count-few p v.on.valid)
-
-    -- a place at which the part ends in the image
-    pub part-there : (at : ℕ) → at + 2 * y.fields ≤ y.total → at + 6 + 2 * size_of w ≤ length b
-    part-there at e = omega (arith, size_is, v.on.laid.fields_are, total_is v.on.laid, v.on.there)
 
     pub owners-on : OwnersOn b y.positions w i
     owners-on = record {
@@ -42,9 +35,6 @@ module _ {b : List ℕ} {y : Layout} {p : Plan} {w : Window} (v : PartsOn b y p 
       flow = flow-few;
       owners_there = omega (arith, size_is, positions-at v.on.laid, v.on.there);
     }
-
-    pub held_on : (at : ℕ) → at + 2 * y.fields ≤ y.total → HeldOn b y.positions (at + 4) w i
-    held_on at e = record { on = owners-on; holdings_there = omega (arith, part-there at e) }
 
     entry_is : model.entry (plan_for p) i ≡ entry_for (get_or p.entries i no_entry)
     entry_is = get_d-table p.count _ i _ h

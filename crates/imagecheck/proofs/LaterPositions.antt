@@ -1,8 +1,7 @@
 -- Positions later than CP: those that are not passed; the position before one; and frames after another. Assumes nothing.
-use Prim.Native.Nat.{ℕ, ◌+◌, ◌-◌, ◌%◌, ◌≤◌, ◌<◌}
+use Prim.Native.Nat.{ℕ, ◌-◌, ◌≤◌, ◌<◌}
 use mathlib.Core.Path.{◌≡◌, sym, ap, ◌∙◌}
 use mathlib.Core.Bool.{not}
-use native.Mathlib.Nat.{mod-lt}
 use native.Mathlib.Decide.{dec_le}
 use native.Mathlib.Omega.{arith}
 use lib.Dec.{leb, ltb}
@@ -26,10 +25,6 @@ later-is w v p l =
     ap (λ r. ltb r (rank_in w p)) (rank-high w v w.current v.measures.current_below v.base_low)
     ∙ more-or-less (w.current - base_of w) (rank_in w p)
     ∙ ap not (sym (passed_is w v p l))
-
--- the place before one of m places
-pub before-below : (m at : ℕ) {r : ℕ} → r ≡ (at + m - 1) % m → at < m → r < m
-before-below m at e h = rw e (mod-lt _ (omega arith))
 
 -- frame j comes after frame k
 pub after_is : (w : Window) → Proper w → (j k : ℕ) {x y : ℕ} → x ≡ ahead w.frames w.head k → y ≡ ahead w.frames w.head j

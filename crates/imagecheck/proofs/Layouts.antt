@@ -1,8 +1,8 @@
 -- The layout of an image: its parts fit into it, and what it is by its plan. Assumes nothing.
-use Prim.Native.Nat.{ℕ, ◌+◌, ◌*◌, ◌≤◌, ◌<◌}
+use Prim.Native.Nat.{ℕ, ◌+◌, ◌*◌, ◌≤◌}
 use mathlib.Core.Path.{◌≡◌, refl, ap}
 use mathlib.Core.List.{◌∷◌, []}
-use native.Mathlib.Nat.{mul-le-mul, mul-le-mul_right, suc-mul}
+use native.Mathlib.Nat.{mul-le-mul}
 use native.Mathlib.Omega.{arith}
 use lib.ListN.{get_or}
 use Rattle.model.specs.Plan as model
@@ -90,7 +90,3 @@ module _ {P : model.Plan} {y : Layout} (v : LaidOut P y) where
     where
       ends : y.total ≡ y.flows + 2 * (y.count * y.fields)
       ends = rw (flows_are, v.fields_are) (omega (arith, total_is, flows-at))
-
--- the part of flow i lies in the image
-pub part-ends : (y : Layout) (i : ℕ) → i < y.count → i * y.fields + y.fields ≤ y.count * y.fields
-part-ends y i h = omega (arith, suc-mul i y.fields, mul-le-mul_right y.fields h)

@@ -12,3 +12,4 @@ pub mod FlowParts
 -- a link
 pub mod LinkFields
 pub mod Refusals
+pub mod Numbers

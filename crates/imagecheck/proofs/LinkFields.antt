@@ -9,18 +9,16 @@ use lib.ListN.{length, get_or}
 use lib.Dec.{ltb}
 use Rattle.model.specs.Tables.{every}
 use Rattle.model.specs.Plan as model
-use Rattle.model.specs.Window as reference
 use Rattle.model.specs.Link.{no_flow}
 use Rattle.plan.specs.declared.Plan.{Plan}
 use Rattle.plan.specs.Reading.{plan_for}
-use Rattle.window.specs.declared.Window.{Window}
-use Rattle.window.specs.Window.{window_of, Measures, Proper}
+use Rattle.window.specs.Window.{Measures}
 use Rattle.window.proofs.Tabulated.{get_d-table, every-same}
 use Rattle.imagemodel.specs.Image.{field_at, owner_in, positions_at, flow_in, link_from}
-use Rattle.imagemodel.specs.Consistent.{known, flow_test, consistent, window_at}
+use Rattle.imagemodel.specs.Consistent.{known, flow_test, consistent}
 use Rattle.imagecheck.specs.declared.layout.Layout.{Layout}
 use Rattle.imagecheck.specs.Flows.{flow_kept}
-use Rattle.imagecheck.specs.Asked.{PlanOn, PartsOn}
+use Rattle.imagecheck.specs.Asked.{PlanOn}
 use Rattle.imagecheck.proofs.Layouts.{count_is, positions-at, size_is, flows_are}
 
 module _ {b : List ℕ} {y : Layout} {p : Plan} (v : PlanOn b y p) where
@@ -30,12 +28,6 @@ module _ {b : List ℕ} {y : Layout} {p : Plan} (v : PlanOn b y p) where
   pub owners_there : y.positions + 2 * y.size ≤ length b
   owners_there = omega (arith, positions-at v.laid, size_is v.laid, v.there)
 
-  pub few-positions : y.size ≤ 256
-  few-positions = omega (arith, size_is v.laid, v.valid.accepted.positions_most)
-
-  pub few-flows : y.count ≤ 16
-  few-flows = omega (arith, flows_are v.laid, v.valid.accepted.flows_most)
-
   pub measures : (current : ℕ) → current < y.size → Measures p.slots p.frames current
   measures current h = let a = v.valid.accepted in record {
     some_slot = a.some_slot;
@@ -44,14 +36,6 @@ module _ {b : List ℕ} {y : Layout} {p : Plan} (v : PlanOn b y p) where
     frames_most = a.frames_most;
     positions_most = a.positions_most;
     current_below = omega (arith, size_is v.laid);
-  }
-
-  -- with its window
-  pub parts-on : {current : ℕ} (w : Window) → window_of w ≡ record { slots = p.slots; frames = p.frames; current = current } → Proper w → PartsOn b y p w
-  parts-on w e proper = record {
-    on = v;
-    proper = proper;
-    window_is = e ∙ ap (window_at P) (sym (ap (λ (x : reference.Window). x.current) e));
   }
 
   owners_are : every (model.positions P) (λ q. known (model.flow_count P) (owner_in (field_at b (positions_at P) q)))

@@ -1,6 +1,6 @@
 -- The refusal of a buffer, test by test. Assumes nothing.
-use Prim.Native.Nat.{ℕ, zero, suc, ◌≤◌, ◌<◌}
-use mathlib.Core.Path.{◌≡◌, refl, sym, ap, ◌∙◌}
+use Prim.Native.Nat.{ℕ, ◌≤◌, ◌<◌}
+use mathlib.Core.Path.{◌≡◌, refl, ap, ◌∙◌}
 use mathlib.Core.List.{List, ◌∷◌, []}
 use mathlib.Core.Bool.{Bool, true, false, not}
 use native.Mathlib.Omega.{arith}
@@ -9,11 +9,14 @@ use lib.Dec.{ltb, eqb}
 use borrow.Author.Tests.{lt-ltb, le-ltb, eq-eqb, ne_eqb, eqb-true}
 use Rattle.model.specs.Tables.{every}
 use Rattle.model.specs.Refusals.{first_of, ◌when◌}
-use Rattle.model.specs.Plan.{Plan, refusal}
+use Rattle.model.specs.Plan as model
+use Rattle.model.specs.Plan.{refusal}
 use Rattle.model.proofs.Tests.{or-true}
-use Rattle.plan.specs.declared.Outcome.{Outcome}
-use Rattle.plan.specs.declared.Verdict.TheVariants.{Accepted, Refused}
-use Rattle.plan.specs.Reading.{plan_for, verdict_for, read_of}
+use Rattle.std.proofs.Common.{Result, Ok, Err, IsOk}
+use Rattle.limits.specs.declared.refusal.Refusal.{Refusal}
+use Rattle.limits.proofs.Refusals.{some-number}
+use Rattle.plan.specs.declared.Plan.{Plan}
+use Rattle.plan.specs.Reading.{plan_for, ReadAs}
 use Rattle.plan.proofs.Laws.{is-plan}
 use Rattle.window.proofs.Tabulated.{every-at}
 use Rattle.imagemodel.specs.Image.{header_length, image_length, layout, header_field, plan_part, plan_in, link_from, link_in}
@@ -64,7 +67,7 @@ module _ (b : List ℕ) where
         ) refl
 
   -- an image whose header states a plan's layout is there
-  pub image-fits : {P : Plan} {y : Layout} {stated : List ℕ} → LongEnough b → LaidOut P y → stated ≡ fields_of y
+  pub image-fits : {P : model.Plan} {y : Layout} {stated : List ℕ} → LongEnough b → LaidOut P y → stated ≡ fields_of y
       → every 6 (λ k. eqb (header_field b k) (get_or stated k 0)) ≡ true → image_length P ≤ length b
   image-fits {P} {stated = stated} v laid is e =
       let first = every-at 6 (λ k. eqb (header_field b k) (get_or stated k 0)) 0 e (omega arith) in
@@ -73,36 +76,23 @@ module _ (b : List ℕ) where
 
   -- ---- the plan that is read
 
-  module _ {o : Outcome} (e : o ≡ read_of (plan_part b)) where
-    verdict-is : o.verdict ≡ verdict_for (refusal (plan_part b))
-    unfolding read_of
-    verdict-is = ap (λ (x : Outcome). x.verdict) e
+  pub plan-fails : (r : Refusal) → ReadAs (plan_part b) (Err r) → refusal (plan_part b) ≡ 0 → ⊥
+  plan-fails r e z = omega (arith, some-number r, e)
 
-    pub plan_passes : o.verdict ≡ Accepted → refusal (plan_part b) ≡ 0
-    unfolding verdict_for
-    plan_passes a = go (refusal (plan_part b)) (sym verdict-is ∙ a)
-      where
-        go : (r : ℕ) → verdict_for r ≡ Accepted → r ≡ 0
-        go zero q = refl
-        go (suc r) q = let z : ◌≡◌ {A = ℕ} 0 1 = cc in absurd (omega arith)
+  module _ {p : Plan} (e : ReadAs (plan_part b) (Ok p)) where
+    pub plan_is : plan_for p ≡ plan_in b
+    plan_is = is-plan (plan_part b) p e
 
-    pub plan-fails : {n : ℕ} → o.verdict ≡ Refused n → refusal (plan_part b) ≡ 0 → ⊥
-    unfolding verdict_for
-    plan-fails a z = let q : Accepted ≡ Refused _ = ap verdict_for (sym z) ∙ sym verdict-is ∙ a in let y : ◌≡◌ {A = ℕ} 0 1 = cc in omega arith
+    pub listed-is : {y : Layout} {stated : List ℕ} → LaidOut (plan_for p) y → stated ≡ fields_of y
+        → every 6 (λ k. eqb (header_field b k) (get_or stated k 0)) ≡ listed b
+    unfolding listed
+    listed-is laid is = ap (λ xs. every 6 (λ k. eqb (header_field b k) (get_or xs k 0))) (is ∙ laid.is ∙ ap layout plan_is)
 
-    module _ (z : refusal (plan_part b) ≡ 0) where
-      pub is-accepted : o.verdict ≡ Accepted
-      unfolding verdict_for
-      is-accepted = verdict-is ∙ ap verdict_for z
+    pub consistent-is : consistent (link_from b (plan_for p)) ≡ consistent (link_in b)
+    unfolding link_in
+    consistent-is = ap (λ P. consistent (link_from b P)) plan_is
 
-      pub plan_is : plan_for o.plan ≡ plan_in b
-      plan_is = ap (λ (x : Outcome). plan_for x.plan) e ∙ is-plan (plan_part b) z
-
-      pub listed-is : {y : Layout} {stated : List ℕ} → LaidOut (plan_for o.plan) y → stated ≡ fields_of y
-          → every 6 (λ k. eqb (header_field b k) (get_or stated k 0)) ≡ listed b
-      unfolding listed
-      listed-is laid is = ap (λ xs. every 6 (λ k. eqb (header_field b k) (get_or xs k 0))) (is ∙ laid.is ∙ ap layout plan_is)
-
-      pub consistent-is : consistent (link_from b (plan_for o.plan)) ≡ consistent (link_in b)
-      unfolding link_in
-      consistent-is = ap (λ P. consistent (link_from b P)) plan_is
+  -- the plan of an image that is taken is there
+  pub plan-there : (r : Result Plan Refusal) → ReadAs (plan_part b) r → refusal (plan_part b) ≡ 0 → IsOk r
+  plan-there (Ok p) e z = refl
+  plan-there (Err r) e z = absurd (plan-fails r e z)

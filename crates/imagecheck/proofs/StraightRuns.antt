@@ -7,7 +7,7 @@ use native.Mathlib.Nat.{mod-eq_of_lt, add-mod_right}
 use native.Mathlib.Decide.{dec_le, ℕ_discrete}
 use native.Mathlib.Omega.{arith}
 use lib.Dec.{leb, eqb}
-use borrow.Author.Tests.{le-leb, lt-leb, not-true, not-false}
+use borrow.Author.Tests.{le-leb, lt-leb}
 use Rattle.model.specs.Tables.{every, bit}
 use Rattle.model.specs.Plan.{field16}
 use Rattle.model.specs.Window.{later}
@@ -123,24 +123,24 @@ module _ (b : List ℕ) (owners held : ℕ) (w : Window) (v : Proper w) (i : ℕ
           let is : next + k ≡ p = omega arith in
           ap test (sym is) ∙ sym (behind-is k (omega arith)) ∙ every-at (size_of w - next) (run next) k e (omega arith)
 
-  pub behind-fails : {r : Bool} → r ≡ behind → not r ≡ true → false ≡ all
-  behind-fails {r} e said =
+  pub behind-fails : {r : Bool} → r ≡ behind → r ≡ false → false ≡ all
+  behind-fails e said =
       fails all (λ z. every-intro (size_of w - next) (run next) (λ k h. behind-is k h ∙ every-at (size_of w) test (next + k) z (omega arith)))
-      (sym e ∙ not-true r said)
+      (sym e ∙ said)
 
-  pub head_first : {r : Bool} → r ≡ behind → not r ≡ false → base_of w ≡ 0 → true ≡ all
-  head_first {r} e said z = sym (every-intro (size_of w) test (λ p l. from-head (sym e ∙ not-false r said) p l (omega (arith, z))))
+  pub head_first : {r : Bool} → r ≡ behind → r ≡ true → base_of w ≡ 0 → true ≡ all
+  head_first e said z = sym (every-intro (size_of w) test (λ p l. from-head (sym e ∙ said) p l (omega (arith, z))))
 
-  pub zero-fails : {r : Bool} → r ≡ test 0 → not r ≡ true → false ≡ all
-  zero-fails {r} e said = sym (every-miss (size_of w) test 0 (omega (arith, v.measures.current_below)) (sym e ∙ not-true r said))
+  pub zero-fails : {r : Bool} → r ≡ test 0 → r ≡ false → false ≡ all
+  zero-fails e said = sym (every-miss (size_of w) test 0 (omega (arith, v.measures.current_below)) (sym e ∙ said))
 
-  module _ {r₁ r₀ : Bool} (e₁ : r₁ ≡ behind) (said₁ : not r₁ ≡ false) (e₀ : r₀ ≡ test 0) (said₀ : not r₀ ≡ false) where
+  module _ {r₁ r₀ : Bool} (e₁ : r₁ ≡ behind) (said₁ : r₁ ≡ true) (e₀ : r₀ ≡ test 0) (said₀ : r₀ ≡ true) where
     each : ahead ≡ true → (p : ℕ) → p < size_of w → test p ≡ true
     each e p l = go (dec_le (base_of w) p) (ℕ_discrete p 0)
       where
         go : Dec (base_of w ≤ p) → Dec (p ≡ 0) → test p ≡ true
-        go (yes h) d = from-head (sym e₁ ∙ not-false r₁ said₁) p l h
-        go (no h) (yes z) = ap test z ∙ sym e₀ ∙ not-false r₀ said₀
+        go (yes h) d = from-head (sym e₁ ∙ said₁) p l h
+        go (no h) (yes z) = ap test z ∙ sym e₀ ∙ said₀
         go (no h) (no z) =
             let is : 1 + (p - 1) ≡ p = omega arith in
             ap test (sym is) ∙ sym (ahead-is (p - 1) (omega arith)) ∙ every-at (base_of w - 1) (run 1) (p - 1) e (omega arith)

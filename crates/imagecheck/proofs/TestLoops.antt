@@ -1,12 +1,13 @@
 -- Loops over the numbers below a bound: a test of each that is left at the first that fails, and a sum. Assumes nothing.
 use Prim.Native.Nat.{ℕ, zero, suc, ◌+◌, ◌≤◌, ◌<◌}
 use mathlib.Core.Path.{◌≡◌, refl, sym, ap, ◌∙◌}
-use mathlib.Core.Bool.{Bool, true, false, not, ◌&&◌}
+use mathlib.Core.Bool.{Bool, true, false, ◌&&◌}
+use Rattle.std.specs.Int.{from_bool}
 use native.Mathlib.Decide.{ℕ_discrete}
 use native.Mathlib.Numerals.{add-one}
 use native.Mathlib.Omega.{arith}
 use lib.Dec.{eqb}
-use borrow.Author.Tests.{eq-eqb, ne_eqb, not-true, not-false}
+use borrow.Author.Tests.{eq-eqb, ne_eqb}
 use Rattle.model.specs.Tables.{every, sum, bit}
 use Rattle.window.proofs.Tabulated.{every-intro, every-miss}
 
@@ -30,13 +31,6 @@ module _ {t : ℕ → Bool} {n : ℕ} where
 
     pub passing-miss : k < n → t k ≡ false → false ≡ every n t
     passing-miss h e = sym (every-miss n t k h e)
-
-    -- by what a test of k said
-    pub passing-yes : {r : Bool} → k < n → r ≡ t k → not r ≡ false → Passing t n (k + 1)
-    passing-yes {r} h e said = passing-more h (sym e ∙ not-false r said)
-
-    pub passing-no : {r : Bool} → k < n → r ≡ t k → not r ≡ true → false ≡ every n t
-    passing-no {r} h e said = passing-miss h (sym e ∙ not-true r said)
 
     pub passing-all : n ≤ k → true ≡ every n t
     passing-all h = sym (every-intro n t (λ j l. v.pass j (omega arith)))
@@ -65,6 +59,19 @@ module _ {f : ℕ → ℕ} {n : ℕ} where
     counting-done h = let z : k ≡ n = omega (arith, v.to) in (v.is ∙ ap (λ m. sum m f) z, omega (arith, v.most))
 
 -- ---- a count of those that pass a test is the bound exactly if all do
+
+as_bit : (b : Bool) → (from_bool b ≡ bit b) × (bit b ≤ 1)
+as_bit true = (refl, omega arith)
+as_bit false = (refl, omega arith)
+
+-- the next one is counted by its test
+pub counting_test : (t : ℕ → Bool) {n k total x : ℕ} {b : Bool} → Counting (λ j. bit (t j)) n k total → k < n → x ≡ from_bool b → b ≡ t k
+    → Counting (λ j. bit (t j)) n (k + 1) (total + x)
+counting_test t {k = k} {b = b} v h e is =
+    let told = as_bit b in
+    let most : bit b ≤ 1 = told.1 in
+    let x-is = e ∙ told.0 in
+    counting_more v h (x-is ∙ ap bit is) (rw x-is most)
 
 bits_most : (n : ℕ) (t : ℕ → Bool) → sum n (λ k. bit (t k)) ≤ n
 unfolding sum

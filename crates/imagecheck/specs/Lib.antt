@@ -1,3 +1,4 @@
 pub mod Layout
 pub mod Flows
 pub mod Asked
+pub mod Refusals

@@ -5,20 +5,14 @@ ghost use Rattle.imagemodel.specs.Image.{field_at, owner_in};
 ghost use Rattle.imagemodel.specs.Consistent as images;
 ghost use Rattle.imagecheck.specs.Flows.{booking_at, bookings_at};
 
-use crate::straight::{same, short};
+use crate::straight::short;
 use fields::field;
 
 // 1 where an owner is one of n flows, or none, else 0.
 fn is_known(x: u16, count: u16) -> u16
     ensures { (result ≡ model.bit (images.known count (owner_in x))) × (result ≤ 1) }
 {
-    if x == 16 {
-        return 1;
-    }
-    if x < count {
-        return 1;
-    }
-    0
+    u16::from(x == 16 || x < count)
 }
 
 // Whether every owner is one of n flows, or none.
@@ -28,12 +22,10 @@ pub(crate) fn known(image: &[u8], at: usize, size: usize, count: usize) -> bool
 {
     let flows = count as u16;
     let mut n: u16 = 0;
-    let mut p = 0;
-    while p < size {
+    for p in 0..size {
         n += is_known(short(image, at + 2 * p), flows);
-        p += 1;
     }
-    n as usize == size
+    usize::from(n) == size
 }
 
 // 1 where flow i booked the position at a place, else 0.
@@ -42,10 +34,7 @@ pub(crate) fn booking(image: &[u8], at: usize, i: usize) -> usize
     ensures is { result ≡ booking_at image.now i at }
     ensures most { result ≤ 1 }
 {
-    if field(image, at) == i {
-        return 1;
-    }
-    0
+    usize::from(field(image, at) == i)
 }
 
 // How many of so many positions from a place on flow i booked.
@@ -56,10 +45,8 @@ pub(crate) fn bookings(image: &[u8], at: usize, slots: usize, i: usize) -> usize
 {
     let flow = i as u16;
     let mut n: u16 = 0;
-    let mut x = 0;
-    while x < slots {
-        n += same(short(image, at + 2 * x), flow);
-        x += 1;
+    for x in 0..slots {
+        n += u16::from(short(image, at + 2 * x) == flow);
     }
-    n as usize
+    usize::from(n)
 }

@@ -45,13 +45,10 @@ fn frames_kept(image: &[u8], owners: usize, w: Window, i: usize, share: usize, f
     requires { OwnersOn image.now owners w i × (frame < w.frames) }
     ensures { result ≡ model.every w.frames (frame_kept image.now owners (window_of w) i share frame) }
 {
-    let frames = w.frames;
-    let mut j = 0;
-    while j < frames {
+    for j in 0..w.frames {
         if !frame_kept(image, owners, w, i, share, frame, j) {
             return false;
         }
-        j += 1;
     }
     true
 }
@@ -124,10 +121,10 @@ fn flow_kept(image: &[u8], l: Layout, plan: Plan, w: Window, i: usize) -> bool
 {
     let e = plan.entries[i];
     let at = l.flow(i);
-    if !spends_well(image, l.positions, at, w, i, e.share as usize) {
+    if !spends_well(image, l.positions, at, w, i, usize::from(e.share)) {
         return false;
     }
-    if !holds_well(image, l.positions, at + 4, w, i, e.cells as u16) {
+    if !holds_well(image, l.positions, at + 4, w, i, u16::from(e.cells)) {
         return false;
     }
     field(image, at + 4 + 2 * l.size) < NUMBERS
@@ -138,12 +135,10 @@ pub(crate) fn flows_kept(image: &[u8], l: Layout, plan: Plan, w: Window) -> bool
     requires { PartsOn image.now l plan w }
     ensures { result ≡ model.every plan.count (flow_kept image.now (plan_for plan) w.current) }
 {
-    let mut i = 0;
-    while i < plan.count {
+    for i in 0..plan.count {
         if !flow_kept(image, l, plan, w, i) {
             return false;
         }
-        i += 1;
     }
     true
 }

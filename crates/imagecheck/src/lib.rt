@@ -4,54 +4,52 @@
 ghost use Rattle.std.specs.Prelude.{◌≡◌};
 ghost use Rattle.imagemodel.specs.ValidImage.{refusal_of};
 ghost use Rattle.imagecheck.specs.Asked.{LongEnough};
+ghost use Rattle.imagecheck.specs.Refusals.{refusal_number};
 
 mod bookings; // the owners of positions
 mod flows; // the conditions on a flow
 pub mod layout; // where the parts of an image stand
 mod links; // the conditions on a link
 pub mod plans; // the plan of an image
+mod refusal; // why a buffer is refused
 mod straight; // straight passes over fields
 
 use fields::field;
 use layout::{HEADER, layout_of};
 use links::{consistent, listed};
-use plan::Verdict;
 use plans::plan_in;
+pub use refusal::Refusal;
 
-// The refusal of an image in a buffer that is long enough, and 0 where it is taken.
-fn fault(image: &[u8]) -> u8
+// The tests of an image in a buffer that is long enough.
+fn check_image(image: &[u8]) -> Result<(), Refusal>
     requires { LongEnough image.now }
-    ensures { result ≡ refusal_of image.now }
+    ensures { refusal_number result ≡ refusal_of image.now }
 {
-    let outcome = plan_in(image);
-    let verdict = outcome.verdict;
-    let Verdict::Accepted = verdict else {
-        return 22;
+    let Ok(plan) = plan_in(image) else {
+        return Err(Refusal::Fault);
     };
-    let plan = outcome.plan;
     let l = layout_of(plan);
     if !listed(image, l.stated()) {
-        return 22;
+        return Err(Refusal::Fault);
     }
     if 1 < field(image, 14) {
-        return 22;
+        return Err(Refusal::Fault);
     }
     if !consistent(image, l, plan) {
-        return 22;
+        return Err(Refusal::Fault);
     }
-    0
+    Ok(())
 }
 
-// The refusal of a buffer: 21 where it is shorter than the header or than the total that this states, 22 for any other fault in its
-// image, and 0 where its image is taken.
-pub fn refusal(image: &[u8]) -> u8
-    ensures { result ≡ refusal_of image.now }
+// The tests of a buffer: whether it is long enough, and then those of its image, which is taken where all are passed.
+pub fn check(image: &[u8]) -> Result<(), Refusal>
+    ensures { refusal_number result ≡ refusal_of image.now }
 {
     if image.len() < HEADER {
-        return 21;
+        return Err(Refusal::Short);
     }
     if image.len() < field(image, 0) {
-        return 21;
+        return Err(Refusal::Short);
     }
-    fault(image)
+    check_image(image)
 }

@@ -18,12 +18,10 @@ pub(crate) fn listed(image: &[u8], stated: [usize; 6]) -> bool
     requires { header_length ≤ length image.now }
     ensures { result ≡ model.every 6 (λ k. eqb (header_field image.now k) (get_or stated k 0)) }
 {
-    let mut k = 0;
-    while k < 6 {
-        if field(image, 2 * k) != stated[k] {
+    for (k, x) in stated.iter().enumerate() {
+        if field(image, 2 * k) != *x {
             return false;
         }
-        k += 1;
     }
     true
 }

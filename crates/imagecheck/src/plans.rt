@@ -1,32 +1,29 @@
 // The plan of an image.
-ghost use Rattle.std.specs.Prelude.{◌≡◌, ◌≤◌, ◌<◌, length, get_or};
-ghost use Rattle.plan.specs.declared.Verdict.TheVariants.{Accepted};
-ghost use Rattle.plan.specs.Reading.{read_of, Valid};
+ghost use Rattle.std.specs.Prelude.{◌≡◌, ◌≤◌, ◌<◌, IfOk, length, get_or};
+ghost use Rattle.plan.specs.Reading.{ReadAs, Valid};
 ghost use Rattle.imagemodel.specs.Image.{header_length, plan_part};
 
 use crate::layout::HEADER;
-use plan::Outcome;
-use window::numbers::smaller;
+use plan::{Plan, Refusal};
 
 // The byte at a place, and 0 where there is none.
 fn byte_or_zero(image: &[u8], at: usize) -> usize
     ensures is { result ≡ get_or image.now at 0 }
     ensures most { result < 256 }
 {
-    if image.len() <= at {
-        return 0;
+    match image.get(at) {
+        Some(b) => usize::from(*b),
+        None => 0,
     }
-    image[at] as usize
 }
 
 // Reads the plan of an image: as many bytes as it states, or those that are there.
-pub fn plan_in(image: &[u8]) -> Outcome
+pub fn plan_in(image: &[u8]) -> Result<Plan, Refusal>
     requires { header_length ≤ length image.now }
-    ensures is { result ≡ read_of (plan_part image.now) }
-    ensures valid { result.verdict ≡ Accepted → Valid result.plan }
+    ensures is { ReadAs (plan_part image.now) result }
+    ensures valid { IfOk result Valid }
 {
     let long = byte_or_zero(image, HEADER) + 256 * byte_or_zero(image, HEADER + 1);
-    let end = smaller(HEADER + long, image.len());
-    let part = &image[HEADER..end];
-    plan::read(part)
+    let end = (HEADER + long).min(image.len());
+    plan::read(&image[HEADER..end])
 }

@@ -17,7 +17,10 @@ use Rattle.limits.specs.declared.Draft.{Draft}
 use Rattle.limits.specs.Reading.{draft_for}
 use Rattle.plan.specs.declared.Plan.{Plan}
 use Rattle.plan.specs.Reading.{plan_for, draft_of, Valid}
-use Rattle.plan.specs.Writing.{begun}
+use Rattle.std.proofs.Common.{Result, Ok, Err}
+use Rattle.limits.specs.declared.refusal.Refusal.{Refusal}
+use Rattle.model.specs.Calls.{accepted}
+use Rattle.plan.specs.Writing.{begun, answer_of}
 use Rattle.plan.proofs.Stored.{drafted}
 use Rattle.calls.specs.Lines.{Puts}
 use Rattle.calls.proofs.Stores.{puts_none, puts_then, puts-same}
@@ -89,13 +92,28 @@ part-begun bytes before at fits =
 
 module _ {p : Plan} (v : Valid p) where
   -- the numbers of an accepted plan pass
-  plan-written : (out : List ℕ) → 12 + 4 * p.count ≤ length out → (written (draft_for (draft_of p)) out).out ≡ begun (bytes_of (plan_for p)) out
-  plan-written out room =
+  plan-told : (out : List ℕ) → 12 + 4 * p.count ≤ length out
+      → written (draft_for (draft_of p)) out ≡ record { answer = accepted (length (bytes_of (plan_for p))); out = begun (bytes_of (plan_for p)) out }
+  plan-told out room =
       let P = plan_for p in
       let long : length (bytes_of P) ≤ length out = omega (arith, length-is P, count_is p) in
       let passed : first_of (number_tests P) ≡ 0 = sym (same_tests P) ∙ plan_passes P v.accepted in
-      ap (λ Q. (written Q out).out) (drafted p (count-few p v))
-      ∙ ap (λ (x : Written). x.out) (accepted-writes P out (with-room P out passed long))
+      ap (λ Q. written Q out) (drafted p (count-few p v)) ∙ accepted-writes P out (with-room P out passed long)
+
+  plan-written : (out : List ℕ) → 12 + 4 * p.count ≤ length out → (written (draft_for (draft_of p)) out).out ≡ begun (bytes_of (plan_for p)) out
+  plan-written out room = ap (λ (x : Written). x.out) (plan-told out room)
+
+  -- the writer says how many bytes there are
+  pub plan-counted : (r : Result ℕ Refusal) (out : List ℕ) {d : Draft} → 12 + 4 * p.count ≤ length out → d ≡ draft_of p
+      → answer_of r ≡ (written (draft_for d) out).answer → r ≡ Ok (12 + 4 * p.count)
+  plan-counted r out room same e =
+      let long : length (bytes_of (plan_for p)) ≡ 12 + 4 * p.count = omega (arith, length-is (plan_for p), count_is p) in
+      let told = ap (λ (x : Written). x.answer) (ap (λ d. written (draft_for d) out) same ∙ plan-told out room) in
+      go r (e ∙ told ∙ ap accepted long)
+    where
+      go : (r : Result ℕ Refusal) → answer_of r ≡ accepted (12 + 4 * p.count) → r ≡ Ok (12 + 4 * p.count)
+      go (Ok n) q = cc
+      go (Err f) q = cc
 
   -- they are written to the part of a buffer from a place on
   pub plan-put : (before written-part : List ℕ) (at : ℕ) {d : Draft} → at + (12 + 4 * p.count) ≤ length before → d ≡ draft_of p

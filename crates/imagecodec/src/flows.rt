@@ -31,11 +31,8 @@ pub(crate) fn read_flows(s: &mut State, image: &[u8], l: Layout)
     requires { FlowsOn image.now l × Whole s.old }
     ensures { FlowsNow s.old s.new (flows_over image.now l (flows_of s.old)) }
 {
-    let count = l.count;
-    let mut i = 0;
-    while i < count {
+    for i in 0..l.count {
         put_flow(s, i, read_flow(image, l.flow(i), l.size));
-        i += 1;
     }
 }
 
@@ -44,10 +41,7 @@ pub(crate) fn read_held(s: &mut State, image: &[u8], l: Layout)
     requires { HoldingsOn image.now l × Whole s.old × (held_of s.old ≡ nothing_held) }
     ensures { HeldRead image.now l s.old s.new }
 {
-    let count = l.count;
-    let mut i = 0;
-    while i < count {
+    for i in 0..l.count {
         store(s, i, read_table(image, l.flow(i) + 4, l.size, 0));
-        i += 1;
     }
 }

@@ -31,8 +31,7 @@ pub fn read(s: &mut State, image: &[u8]) -> Kept
     ensures there { StateIn result.plan result.window s.new }
     ensures bytes { AllBytes image.now }
 {
-    let outcome = plan_in(image);
-    let plan = outcome.plan;
+    let plan = plan_in(image).unwrap();
     let l = layout_of(plan);
     read_flows(s, image, l);
     read_held(s, image, l);

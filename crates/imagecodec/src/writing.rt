@@ -15,12 +15,6 @@ use link::flows::flow_at;
 use plan::Plan;
 use state::{CURRENT, MARK, OWNERS, ROW, State, TURN};
 
-fn wide(byte: u8) -> usize
-    ensures { (result ≡ byte) × (result < 256) }
-{
-    byte as usize
-}
-
 // Writes the header of an image and returns the place after it.
 fn put_header(plan: Plan, current: usize, mark: usize, turn: usize, image: &mut [u8]) -> usize
     requires { HeaderFits plan current mark turn image.old }
@@ -46,8 +40,7 @@ fn put_plan(plan: Plan, image: &mut [u8], at: usize) -> usize
     requires { Valid plan × (at + (12 + 4 * plan.count) ≤ length image.old) }
     ensures { Puts (bytes_of (plan_for plan)) image.old image.new at result }
 {
-    plan::write(plan.draft(), &mut image[at..]);
-    at + (12 + 4 * plan.count)
+    at + plan::write(plan.draft(), &mut image[at..]).unwrap()
 }
 
 // Writes the part of flow i and returns the place after it.
@@ -68,10 +61,8 @@ fn put_flows(s: &State, count: usize, size: usize, image: &mut [u8], at: usize) 
     ensures { Puts (parts_of size s.now count) image.old image.new at result }
 {
     let mut next = at;
-    let mut i = 0;
-    while i < count {
+    for i in 0..count {
         next = put_flow(s, i, size, image, next);
-        i += 1;
     }
     next
 }
@@ -82,9 +73,9 @@ pub fn write(plan: Plan, s: &State, image: &mut [u8])
     ensures { image.new ≡ written_to image.old (read_in plan s.now) }
 {
     let size = plan.slots * plan.frames;
-    let current = wide(s[CURRENT]);
-    let mark = wide(s[MARK]);
-    let turn = wide(s[TURN]);
+    let current = usize::from(s[CURRENT]);
+    let mark = usize::from(s[MARK]);
+    let turn = usize::from(s[TURN]);
     let mut at = put_header(plan, current, mark, turn, image);
     at = put_plan(plan, image, at);
     at = put_part(s, OWNERS, size, image, at);

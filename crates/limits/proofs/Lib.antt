@@ -1,2 +1,3 @@
 pub mod Tests
 pub mod PlanLimits
+pub mod Refusals

@@ -1,10 +1,11 @@
 -- The tests of a plan as asked for are those of the plan that it is read as. Assumes nothing.
 use Prim.Native.Nat.{ℕ, zero, suc, ◌+◌, ◌*◌, ◌≤◌, ◌<◌}
-use mathlib.Core.Path.{◌≡◌, refl, ap, ap₂, ◌∙◌}
-use mathlib.Core.List.{[], ◌∷◌}
-use mathlib.Core.Bool.{Bool, true, false, not, ◌||◌, cond}
+use mathlib.Core.Path.{◌≡◌, refl, sym, ap, ap₂, ◌∙◌}
+use mathlib.Core.List.{List, [], ◌∷◌}
+use mathlib.Core.Bool.{Bool, true, false, not, ◌||◌}
 use native.Mathlib.Omega.{arith}
-use lib.ListN.{get_or}
+use lib.ListN.{length, get_or, take, length-take}
+use Rattle.std.proofs.lemmas.List.{length-take-le, get_or-take, take-take}
 use lib.Dec.{ltb}
 use borrow.Author.Tests.{eq-eqb, not-false}
 use Rattle.limits.specs.declared.Draft.{Draft}
@@ -13,14 +14,36 @@ use Rattle.model.specs.Refusals.{◌when◌, condition, first_of}
 use Rattle.model.specs.Plan as model
 use Rattle.model.specs.WrittenPlan.{header_for, number_tests}
 use Rattle.model.proofs.Tables.{length-table, get_d-table}
-use Rattle.model.proofs.Tests.{or-false, in-range, any_none}
+use Rattle.model.proofs.Tests.{or-false, in-range, any_same}
 use Rattle.model.proofs.Plan.{fitting-entry}
-use Rattle.limits.specs.Reading.{wanted_for, no_wanted, draft_for, SmallEntries}
+use Rattle.limits.specs.declared.Wanted.{Wanted}
+use Rattle.limits.specs.Reading.{wanted_for, no_wanted, draft_for}
+use Rattle.std.specs.List.{list_any, sum_by}
+use Rattle.std.proofs.lemmas.List.Recursion.{or_push, or_at}
+use Rattle.std.proofs.lemmas.List.Sums.{sum_by_more, sum_by-le}
+use Rattle.std.proofs.Math.Seq.{take-suc}
+use native.Mathlib.Numerals.{add-one}
 
-any_same : (n : ℕ) (f g : ℕ → Bool) → ((i : ℕ) → i < n → f i ≡ g i) → any n f ≡ any n g
-unfolding any
-any_same zero f g h = refl
-any_same (suc n) f g h = ap₂ ◌||◌ (h n (omega arith)) (any_same n f g (λ i l. h i (omega arith)))
+-- ---- the first n elements of a list, one after another
+
+or_swap : (a b : Bool) → a || b ≡ b || a
+or_swap true true = refl
+or_swap true false = refl
+or_swap false true = refl
+or_swap false false = refl
+
+module _ {A : Type 0} (xs : List A) (d : A) where
+  any_taken : (f : A → Bool) (n : ℕ) → n ≤ length xs → any n (λ i. f (get_or xs i d)) ≡ list_any f (take n xs)
+  unfolding any
+  any_taken f zero h = refl
+  any_taken f (suc n) h =
+      ap (f (get_or xs n d) ||◌) (any_taken f n (omega arith)) ∙ or_swap (f (get_or xs n d)) (list_any f (take n xs))
+      ∙ sym (or_push (list_any f) f refl (λ _ _. refl) (take n xs) (get_or xs n d)) ∙ ap (list_any f) (sym (take-suc xs n d (omega arith)))
+
+  sum_taken : (f : A → ℕ) (n : ℕ) → n ≤ length xs → sum n (λ i. f (get_or xs i d)) ≡ sum_by f (take n xs)
+  unfolding sum
+  sum_taken f zero h = refl
+  sum_taken f (suc n) h = rw (← add-one n) (omega (arith, sum_taken f n (omega arith), sum_by_more f xs n d (omega arith)))
 
 sum_same : (n : ℕ) (f g : ℕ → ℕ) → ((i : ℕ) → i < n → f i ≡ g i) → sum n f ≡ sum n g
 unfolding sum
@@ -34,8 +57,8 @@ or-false-right false = refl
 module _ (d : Draft) where
   -- ---- the outcomes of tests 2 to 7
 
-  abbrev pub at : ℕ → model.Entry
-  at i = wanted_for (get_or d.entries i no_wanted)
+  abbrev pub flows : List Wanted
+  flows = take d.count d.entries
 
   abbrev pub miscounted : Bool
   miscounted = not (within 1 16 d.count)
@@ -44,21 +67,24 @@ module _ (d : Draft) where
   misframed = condition (model.frame_test d.slots d.frames d.buffer)
 
   abbrev pub misfits : Bool
-  misfits = any d.count (λ i. not (model.entry_fits d.slots (at i)))
+  misfits = list_any (λ e. not (model.entry_fits d.slots (wanted_for e))) flows
 
   abbrev pub repeats : Bool
-  repeats = any d.count (λ i. any i (λ j. model.same_pair (at j) (at i)))
+  repeats = any (length flows) (λ i. list_any (λ e. model.same_pair (wanted_for e) (wanted_for (get_or flows i no_wanted))) (take i flows))
 
   abbrev pub over-slots : Bool
-  over-slots = ltb d.slots (sum d.count (λ i. (at i).share))
+  over-slots = ltb d.slots (sum_by (λ e. e.share) flows)
 
   abbrev pub over-buffer : Bool
-  over-buffer = ltb d.buffer (sum d.count (λ i. (at i).cells))
+  over-buffer = ltb d.buffer (sum_by (λ e. e.cells) flows)
 
   -- ---- they are those of the plan
 
   abbrev P : model.Plan
   P = draft_for d
+
+  abbrev at : ℕ → model.Entry
+  at i = wanted_for (get_or d.entries i no_wanted)
 
   count_is : model.flow_count P ≡ d.count
   count_is = length-table d.count at
@@ -74,97 +100,77 @@ module _ (d : Draft) where
       ap (λ t. fail || false || not t) (eq-eqb (12 + 4 * n) (12 + 4 * n) refl) ∙ or-false-right (fail || false) ∙ or-false-right fail
       ∙ ap (λ k. not (within 1 16 k)) count_is
 
-  misfits-are : any (model.flow_count P) (λ i. not (model.entry_fits d.slots (model.entry P i))) ≡ misfits
-  misfits-are =
-      ap (λ n. any n (λ i. not (model.entry_fits d.slots (model.entry P i)))) count_is
-      ∙ any_same d.count _ _ (λ i h. ap (λ e. not (model.entry_fits d.slots e)) (entry_is i h))
-
-  repeats-are : any (model.flow_count P) (λ i. any i (λ j. model.same_pair (model.entry P j) (model.entry P i))) ≡ repeats
-  repeats-are =
-      ap (λ n. any n (λ i. any i (λ j. model.same_pair (model.entry P j) (model.entry P i)))) count_is
-      ∙ any_same d.count _ _ (λ i h. any_same i _ _ (λ j k. ap₂ model.same_pair (entry_is j (omega arith)) (entry_is i h)))
-
-  -- the sum of a field of the entries
-  sums-are : (f : model.Entry → ℕ) → sum (model.flow_count P) (λ i. f (model.entry P i)) ≡ sum d.count (λ i. f (at i))
-  sums-are f =
-      ap (λ n. sum n (λ i. f (model.entry P i))) count_is
-      ∙ sum_same d.count _ _ (λ i h. ap f (entry_is i h))
-
-  limits-are : first_of (number_tests P)
-      ≡ first_of (2 when miscounted ∷ 3 when misframed ∷ 4 when misfits ∷ 5 when repeats ∷ 6 when over-slots ∷ 7 when over-buffer ∷ [])
-  limits-are =
-      let shares = ap (ltb d.slots) (sums-are (λ e. e.share)) in
-      let cells = ap (ltb d.buffer) (sums-are (λ e. e.cells)) in
-      λ k. first_of (2 when counts-are k ∷ 3 when misframed ∷ 4 when misfits-are k ∷ 5 when repeats-are k ∷ 6 when shares k ∷ 7 when cells k ∷ [])
-
--- ---- the tests that are passed, up to one of them
-
-pub record Passed2 (d : Draft) : Type 0 where
-  pub counted : miscounted d ≡ false
-
-pub record Passed3 (d : Draft) : Type 0 where
-  pub to_2 : Passed2 d
-  pub framed : misframed d ≡ false
-
-pub record Passed4 (d : Draft) : Type 0 where
-  pub to_3 : Passed3 d
-  pub fitted : misfits d ≡ false
-
-pub record Passed5 (d : Draft) : Type 0 where
-  pub to_4 : Passed4 d
-  pub distinct : repeats d ≡ false
-
-pub record Passed6 (d : Draft) : Type 0 where
-  pub to_5 : Passed5 d
-  pub shared : over-slots d ≡ false
-
--- ---- the number, by the first test that applies
-
-pub gives-2 : (d : Draft) → miscounted d ≡ true → 2 ≡ first_of (number_tests (draft_for d))
-unfolding first_of
-gives-2 d e = rw (limits-are d, e)
-
-module _ {d : Draft} where
-  pub gives-3 : Passed2 d → misframed d ≡ true → 3 ≡ first_of (number_tests (draft_for d))
+  pub gives_2 : miscounted ≡ true → first_of (number_tests P) ≡ 2
   unfolding first_of
-  gives-3 p e = rw (limits-are d, p.counted, e)
+  gives_2 e = rw (counts-are ∙ e)
 
-  pub gives-4 : Passed3 d → misfits d ≡ true → 4 ≡ first_of (number_tests (draft_for d))
-  unfolding first_of
-  gives-4 p e = rw (limits-are d, p.to_2.counted, p.framed, e)
+  module _ (room : d.count ≤ length d.entries) where
+    misfits-are : any (model.flow_count P) (λ i. not (model.entry_fits d.slots (model.entry P i))) ≡ misfits
+    misfits-are =
+        ap (λ n. any n (λ i. not (model.entry_fits d.slots (model.entry P i)))) count_is
+        ∙ any_same d.count _ _ (λ i h. ap (λ e. not (model.entry_fits d.slots e)) (entry_is i h))
+        ∙ any_taken d.entries no_wanted (λ e. not (model.entry_fits d.slots (wanted_for e))) d.count room
 
-  pub gives-5 : Passed4 d → repeats d ≡ true → 5 ≡ first_of (number_tests (draft_for d))
-  unfolding first_of
-  gives-5 p e = let q = p.to_3 in rw (limits-are d, q.to_2.counted, q.framed, p.fitted, e)
+    repeats-are : any (model.flow_count P) (λ i. any i (λ j. model.same_pair (model.entry P j) (model.entry P i))) ≡ repeats
+    repeats-are =
+        ap (λ n. any n (λ i. any i (λ j. model.same_pair (model.entry P j) (model.entry P i)))) count_is
+        ∙ any_same d.count _ _
+        (λ i h. any_same i _ _ (λ j k. ap₂ model.same_pair (entry_is j (omega arith)) (entry_is i h))
+        ∙ any_taken d.entries no_wanted (λ e. model.same_pair (wanted_for e) (at i)) i (omega arith))
+        ∙ any_same d.count _ _ (λ i h. same-earlier i h)
+        ∙ ap (λ n. any n (λ i. list_any (λ e. model.same_pair (wanted_for e) (wanted_for (get_or flows i no_wanted))) (take i flows)))
+        (sym (length-take-le d.count d.entries room))
+      where
+        same-earlier : (i : ℕ) → i < d.count
+            → list_any (λ e. model.same_pair (wanted_for e) (wanted_for (get_or d.entries i no_wanted))) (take i d.entries)
+            ≡ list_any (λ e. model.same_pair (wanted_for e) (wanted_for (get_or flows i no_wanted))) (take i flows)
+        same-earlier i h =
+            let this = sym (get_or-take d.count d.entries i no_wanted h) in
+            let earlier = sym (take-take i d.count d.entries (omega arith)) in
+            λ k. list_any (λ e. model.same_pair (wanted_for e) (wanted_for (this k))) (earlier k)
 
-  pub gives-6 : Passed5 d → over-slots d ≡ true → 6 ≡ first_of (number_tests (draft_for d))
-  unfolding first_of
-  gives-6 p e = let q = p.to_4.to_3 in rw (limits-are d, q.to_2.counted, q.framed, p.to_4.fitted, p.distinct, e)
+    -- the sum of a field of the entries
+    sums-are : (f : model.Entry → ℕ) → sum (model.flow_count P) (λ i. f (model.entry P i)) ≡ sum_by (λ e. f (wanted_for e)) flows
+    sums-are f =
+        ap (λ n. sum n (λ i. f (model.entry P i))) count_is
+        ∙ sum_same d.count _ _ (λ i h. ap f (entry_is i h))
+        ∙ sum_taken d.entries no_wanted (λ e. f (wanted_for e)) d.count room
 
-  -- 7 or nothing, by the last test
-  pub gives-7 : Passed6 d → (b : Bool) → over-buffer d ≡ b → cond b 7 0 ≡ first_of (number_tests (draft_for d))
-  unfolding first_of
-  gives-7 p b e =
-      let r = p.to_5 in
-      let q = r.to_4.to_3 in
-      rw (limits-are d, q.to_2.counted, q.framed, r.to_4.fitted, r.distinct, p.shared, e)
+    pub limits_are : first_of (number_tests P)
+        ≡ first_of (2 when miscounted ∷ 3 when misframed ∷ 4 when misfits ∷ 5 when repeats ∷ 6 when over-slots ∷ 7 when over-buffer ∷ [])
+    limits_are =
+        let shares = ap (ltb d.slots) (sums-are (λ e. e.share)) in
+        let cells = ap (ltb d.buffer) (sums-are (λ e. e.cells)) in
+        λ k. first_of (2 when counts-are k ∷ 3 when misframed ∷ 4 when misfits-are k ∷ 5 when repeats-are k ∷ 6 when shares k ∷ 7 when cells k ∷ [])
 
-  -- ---- what the tests leave
+-- ---- what the tests leave
 
-  pub few-flows : Passed2 d → d.count ≤ 16
-  few-flows p = (in-range 1 16 d.count p.counted).1
+passes-none : {A : Type 0} (p : A → Bool) (xs : List A) (k : ℕ) (d : A) → k < length xs → list_any p xs ≡ false → p (get_or xs k d) ≡ false
+passes-none p xs k d l e = go (p (get_or xs k d)) refl
+  where
+    go : (b : Bool) → p (get_or xs k d) ≡ b → p (get_or xs k d) ≡ false
+    go true h = let z : true ≡ false = sym (or_at (list_any p) p refl (λ _ _. refl) xs k d l h) ∙ e in cc
+    go false h = h
 
-  -- shares and cells of entries that passed test 4 are small
-  pub small-entries : Passed4 d → SmallEntries d.entries d.count
-  small-entries p =
-      let T-most = or-false _ _ p.to_3.framed in
-      let N-in = or-false _ _ T-most.0 in
-      let F-in = or-false _ _ N-in.0 in
-      let slots = in-range 1 64 d.slots F-in.0 in
-      let entry-fits : (i : ℕ) → i < d.count → model.FittingEntry (draft_for d) (at d i)
-      = λ i l. fitting-entry (draft_for d) (at d i) (not-false _ (any_none d.count _ p.fitted i l)) in
-      record {
-        few = few-flows p.to_3.to_2;
-        shares = λ i l. omega (arith, (entry-fits i l).share_most, slots.1);
-        cells = λ i l. (entry-fits i l).cells_most;
-      }
+module _ (d : Draft) where
+  pub few_flows : miscounted d ≡ false → d.count ≤ 16
+  few_flows counted = (in-range 1 16 d.count counted).1
+
+  -- shares and cells of entries that passed test 4 are small, and so are their sums
+  module _ (counted : miscounted d ≡ false) (fitted : misfits d ≡ false) where
+    fits-at : (k : ℕ) (e : Wanted) → k < length (flows d) → model.FittingEntry (draft_for d) (wanted_for (get_or (flows d) k e))
+    fits-at k e l = fitting-entry (draft_for d) (wanted_for (get_or (flows d) k e)) (not-false _ (passes-none _ (flows d) k e l fitted))
+
+    few : length (flows d) ≤ 16
+    few = omega (arith, length-take d.count d.entries, few_flows counted)
+
+    pub few_cells : sum_by (λ e. e.cells) (flows d) ≤ 4080
+    few_cells = omega (arith, few, sum_by-le (λ e. e.cells) 255 (flows d) (λ k e l. (fits-at k e l).cells_most))
+
+    pub few_shares : misframed d ≡ false → sum_by (λ e. e.share) (flows d) ≤ 4080
+    few_shares framed =
+        let T-most = or-false _ _ framed in
+        let N-in = or-false _ _ T-most.0 in
+        let F-in = or-false _ _ N-in.0 in
+        let slots = in-range 1 64 d.slots F-in.0 in
+        omega (arith, few, sum_by-le (λ e. e.share) 255 (flows d) (λ k e l. omega (arith, (fits-at k e l).share_most, slots.1)))

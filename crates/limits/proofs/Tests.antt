@@ -14,9 +14,6 @@ is_false {r} e n = sym e ∙ not-true r n
 pub is_true : {r w : Bool} → r ≡ w → not r ≡ false → w ≡ true
 is_true {r} e n = sym e ∙ not-false r n
 
-pub not_is : {r w b : Bool} → r ≡ w → not r ≡ b → not w ≡ b
-not_is e n = ap not (sym e) ∙ n
-
 -- A loop that looks for a number below n that passes f: none below k does.
 pub record None (f : ℕ → Bool) (n k : ℕ) : Type 0 where
   pub within : k ≤ n

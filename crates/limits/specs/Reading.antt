@@ -1,5 +1,5 @@
 -- A plan as asked for, read as the model's. Assumes nothing.
-use Rattle.std.specs.Prelude.{ℕ, ◌≤◌, ◌<◌, List, get_or}
+use Rattle.std.specs.Prelude.{get_or}
 use Rattle.limits.specs.declared.Wanted.{Wanted}
 use Rattle.limits.specs.declared.Draft.{Draft}
 use Rattle.model.specs.Tables.{table}
@@ -14,9 +14,3 @@ no_wanted = record { share = 0; cells = 0; source = 0; destination = 0 }
 -- the plan of the first n entries: what stands past them has no effect
 abbrev pub draft_for : Draft → model.Plan
 draft_for d = record { slots = d.slots; frames = d.frames; buffer = d.buffer; entries = table d.count (λ i. wanted_for (get_or d.entries i no_wanted)) }
-
--- the first n entries have at most 16 places, and shares and cells of at most 255, so that their sums are small
-pub record SmallEntries (entries : List Wanted) (n : ℕ) : Type 0 where
-  pub few : n ≤ 16
-  pub shares : (i : ℕ) → i < n → (get_or entries i no_wanted).share ≤ 255
-  pub cells : (i : ℕ) → i < n → (get_or entries i no_wanted).cells ≤ 255

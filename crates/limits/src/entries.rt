@@ -1,107 +1,69 @@
 // Entries: test 4, test 5, and the sums of tests 6 and 7.
-ghost use Rattle.std.specs.Prelude.{◌≡◌, not, ◌≤◌, ◌<◌, get_or};
-ghost use Rattle.model.specs.Tables.{any, sum};
+ghost use Rattle.std.specs.Prelude.{◌≡◌, ◌<◌, ◌^◌, not, length, get_or, take};
+ghost use Rattle.std.specs.List.{list_any, sum_by};
+ghost use Rattle.model.specs.Tables.{any};
 ghost use Rattle.model.specs.Plan.{entry_fits, same_pair};
-ghost use Rattle.limits.specs.Reading.{wanted_for, no_wanted, SmallEntries};
+ghost use Rattle.limits.specs.Reading.{wanted_for, no_wanted};
 
 use crate::{Wanted, ranges};
 
-// The sums of some entries' shares and cells.
-#[derive(Clone, Copy)]
-pub(crate) struct Sums {
-    pub shares: usize,
-    pub cells: usize,
-}
-
 // Whether an entry keeps its limits in frames of so many slots.
+#[tactic(auto, using(std::proofs::lemmas::Bool::Decides::nat_tests), unfolding(model::specs::Plan::entry_fits))]
 fn fits(e: Wanted, slots: usize) -> bool
     ensures { result ≡ entry_fits slots (wanted_for e) }
 {
-    if !ranges::share_fits(slots, e.share) {
-        return false;
-    }
-    if !ranges::cells_fit(e.cells) {
-        return false;
-    }
-    if !ranges::node_fits(e.source) {
-        return false;
-    }
-    if !ranges::node_fits(e.destination) {
-        return false;
-    }
-    e.source != e.destination
+    ranges::share_fits(slots, e.share)
+        && ranges::cells_fit(e.cells)
+        && ranges::node_fits(e.source)
+        && ranges::node_fits(e.destination)
+        && e.source != e.destination
 }
 
 // Test 4: some entry breaks its limits.
-pub(crate) fn entries_out_of_range(entries: [Wanted; 16], count: usize, slots: usize) -> bool
-    requires { count ≤ 16 }
-    ensures { result ≡ any count (λ i. not (entry_fits slots (wanted_for (get_or entries i no_wanted)))) }
+pub(crate) fn entries_out_of_range(flows: &[Wanted], slots: usize) -> bool
+    ensures { result ≡ list_any (λ e. not (entry_fits slots (wanted_for e))) flows.now }
 {
-    let mut i = 0;
-    while i < count {
-        let e = entries[i];
-        if !fits(e, slots) {
-            return true;
-        }
-        i += 1;
-    }
-    false
+    flows.iter().any(|e| !fits(*e, slots))
 }
 
+#[tactic(auto, using(std::proofs::lemmas::Bool::Decides::nat_tests))]
 fn same_pair(a: Wanted, b: Wanted) -> bool
     ensures { result ≡ same_pair (wanted_for a) (wanted_for b) }
 {
-    if a.source != b.source {
-        return false;
-    }
-    a.destination == b.destination
+    a.source == b.source && a.destination == b.destination
 }
 
-// Whether an entry before entry i has the same source and destination.
-fn repeats(entries: [Wanted; 16], i: usize) -> bool
-    requires { i < 16 }
-    ensures { result ≡ any i (λ j. same_pair (wanted_for (get_or entries j no_wanted)) (wanted_for (get_or entries i no_wanted))) }
+// Whether an earlier entry has the same source and destination.
+fn repeats(earlier: &[Wanted], e: Wanted) -> bool
+    ensures { result ≡ list_any (λ d. same_pair (wanted_for d) (wanted_for e)) earlier.now }
 {
-    let e = entries[i];
-    let mut j = 0;
-    while j < i {
-        let d = entries[j];
-        if same_pair(d, e) {
-            return true;
-        }
-        j += 1;
-    }
-    false
+    earlier.iter().any(|d| same_pair(*d, e))
 }
 
 // Test 5: two entries with equal source and destination.
-pub(crate) fn any_repeats(entries: [Wanted; 16], count: usize) -> bool
-    requires { count ≤ 16 }
-    ensures { result ≡ any count (λ i. any i (λ j. same_pair (wanted_for (get_or entries j no_wanted)) (wanted_for (get_or entries i no_wanted)))) }
+pub(crate) fn any_repeats(flows: &[Wanted]) -> bool
+    ensures { result ≡ any (length flows.now) (λ i. list_any (λ d. same_pair (wanted_for d) (wanted_for (get_or flows.now i no_wanted))) (take i flows.now)) }
 {
-    let mut i = 0;
-    while i < count {
-        if repeats(entries, i) {
+    for (i, e) in flows.iter().enumerate() {
+        if repeats(&flows[..i], *e) {
             return true;
         }
-        i += 1;
     }
     false
 }
 
-// What the first `count` entries take together.
-pub(crate) fn totals(entries: [Wanted; 16], count: usize) -> Sums
-    requires { SmallEntries entries count }
-    ensures { (result.shares ≡ sum count (λ i. (get_or entries i no_wanted).share)) × (result.cells ≡ sum count (λ i. (get_or entries i no_wanted).cells)) }
+// The slots that the flows take together in a frame.
+pub(crate) fn shares_of(flows: &[Wanted]) -> usize
+    requires { sum_by (λ e. e.share) flows.now < 2 ^ 64 }
+    ensures { result ≡ sum_by (λ e. e.share) flows.now }
 {
-    let mut shares = 0;
-    let mut cells = 0;
-    let mut i = 0;
-    while i < count {
-        let e = entries[i];
-        shares += e.share;
-        cells += e.cells;
-        i += 1;
-    }
-    Sums { shares, cells }
+    flows.iter().map(|e| e.share).sum()
+}
+
+// The places that the flows take together in the next board's buffer.
+pub(crate) fn cells_of(flows: &[Wanted]) -> usize
+    requires { sum_by (λ e. e.cells) flows.now < 2 ^ 64 }
+    ensures { result ≡ sum_by (λ e. e.cells) flows.now }
+{
+    flows.iter().map(|e| e.cells).sum()
 }

@@ -3,16 +3,19 @@
 
 mod entries;
 mod ranges;
+mod refusal;
 
 ghost use Rattle.std.specs.Prelude.{◌≡◌, not};
 ghost use Rattle.model.specs.Tables.{within};
 ghost use Rattle.model.specs.Refusals.{first_of};
 ghost use Rattle.model.specs.WrittenPlan.{number_tests};
 ghost use Rattle.limits.specs.Reading.{draft_for};
+ghost use Rattle.limits.specs.Refusals.{refusal_number};
 
 pub use ranges::{
     buffer_fits, cells_fit, frames_fit, many_positions, node_fits, share_fits, slots_fit,
 };
+pub use refusal::Refusal;
 
 // The most flows of a plan.
 pub const MOST_FLOWS: usize = 16;
@@ -40,32 +43,32 @@ pub struct Draft {
 pub fn count_out_of_range(count: usize) -> bool
     ensures { result ≡ not (within 1 16 count) }
 {
-    !ranges::inside(1, MOST_FLOWS, count)
+    !(1..=MOST_FLOWS).contains(&count)
 }
 
-// Tests 2 to 7: the number of the first that applies, and 0 where none does.
-pub fn first_refusal(d: Draft) -> u8
-    ensures { result ≡ first_of (number_tests (draft_for d)) }
+// Tests 2 to 7: the first that applies is the refusal.
+#[tactic(auto, using(std::proofs::lemmas::Bool::Decides::nat_tests, crate::proofs::PlanLimits::limits_are, crate::proofs::PlanLimits::few_flows, crate::proofs::PlanLimits::gives_2, crate::proofs::PlanLimits::few_shares, crate::proofs::PlanLimits::few_cells), unfolding(model::specs::Refusals::first_of))]
+pub fn check(d: Draft) -> Result<(), Refusal>
+    ensures { refusal_number result ≡ first_of (number_tests (draft_for d)) }
 {
     if count_out_of_range(d.count) {
-        return 2;
+        return Err(Refusal::Counts);
     }
     if ranges::frames_out_of_range(d.slots, d.frames, d.buffer) {
-        return 3;
+        return Err(Refusal::Frame);
     }
-    let all = d.entries;
-    if entries::entries_out_of_range(all, d.count, d.slots) {
-        return 4;
+    let flows = &d.entries[..d.count];
+    if entries::entries_out_of_range(flows, d.slots) {
+        return Err(Refusal::Entries);
     }
-    if entries::any_repeats(all, d.count) {
-        return 5;
+    if entries::any_repeats(flows) {
+        return Err(Refusal::Pairs);
     }
-    let t = entries::totals(all, d.count);
-    if d.slots < t.shares {
-        return 6;
+    if d.slots < entries::shares_of(flows) {
+        return Err(Refusal::Shares);
     }
-    if d.buffer < t.cells {
-        return 7;
+    if d.buffer < entries::cells_of(flows) {
+        return Err(Refusal::Cells);
     }
-    0
+    Ok(())
 }

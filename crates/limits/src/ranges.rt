@@ -1,6 +1,5 @@
 // Ranges: a number between two limits, the limits one by one, and test 3.
 ghost use Rattle.std.specs.Prelude.{◌≡◌};
-ghost use Rattle.model.specs.Tables.{within};
 ghost use Rattle.model.specs.Refusals.{condition};
 ghost use Rattle.model.specs.Plan as model;
 
@@ -16,35 +15,25 @@ const MOST_CELLS: usize = 255;
 
 const LAST_NODE: usize = 63;
 
-// Whether x lies within low to high.
-pub(crate) fn inside(low: usize, high: usize, x: usize) -> bool
-    ensures { result ≡ within low high x }
-{
-    if x < low {
-        return false;
-    }
-    x <= high
-}
-
 // Whether F keeps its limits.
 pub fn slots_fit(slots: usize) -> bool
     ensures { result ≡ model.slots_fit slots }
 {
-    inside(1, MOST_SLOTS, slots)
+    (1..=MOST_SLOTS).contains(&slots)
 }
 
 // Whether W keeps its limits.
 pub fn frames_fit(frames: usize) -> bool
     ensures { result ≡ model.frames_fit frames }
 {
-    inside(2, MOST_FRAMES, frames)
+    (2..=MOST_FRAMES).contains(&frames)
 }
 
 // Whether N keeps its limits.
 pub fn buffer_fits(buffer: usize) -> bool
     ensures { result ≡ model.buffer_fits buffer }
 {
-    inside(1, MOST_BUFFER, buffer)
+    (1..=MOST_BUFFER).contains(&buffer)
 }
 
 // Whether T is above its limit.
@@ -58,35 +47,29 @@ pub fn many_positions(positions: usize) -> bool
 pub fn share_fits(slots: usize, share: usize) -> bool
     ensures { result ≡ model.share_fits slots share }
 {
-    inside(1, slots, share)
+    (1..=slots).contains(&share)
 }
 
 // Whether a flow's cells keep their limits.
 pub fn cells_fit(cells: usize) -> bool
     ensures { result ≡ model.cells_fit cells }
 {
-    inside(1, MOST_CELLS, cells)
+    (1..=MOST_CELLS).contains(&cells)
 }
 
 // Whether there is a node of this number.
 pub fn node_fits(node: usize) -> bool
     ensures { result ≡ model.node_fits node }
 {
-    inside(0, LAST_NODE, node)
+    (0..=LAST_NODE).contains(&node)
 }
 
 // RULES 2.3: test 3, on F, W and N, and on T.
 pub(crate) fn frames_out_of_range(slots: usize, frames: usize, buffer: usize) -> bool
     ensures { result ≡ condition (model.frame_test slots frames buffer) }
 {
-    if !slots_fit(slots) {
-        return true;
-    }
-    if !frames_fit(frames) {
-        return true;
-    }
-    if !buffer_fits(buffer) {
-        return true;
-    }
-    many_positions(slots * frames)
+    !slots_fit(slots)
+        || !frames_fit(frames)
+        || !buffer_fits(buffer)
+        || many_positions(slots * frames)
 }

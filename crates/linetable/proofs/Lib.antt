@@ -1,5 +1,4 @@
 mod Overlapping
 mod Texts
-mod Made
 mod Stored
 pub mod Places

@@ -9,7 +9,7 @@ ghost use Rattle.model.specs.Listing.{credit_line, refusal_line};
 ghost use Rattle.calls.specs.Lines.{number_line, Puts};
 ghost use Rattle.linetable.specs.Lines.{four, text_of, Kept, line_at, AllLines};
 
-use calls::wide;
+use std::array;
 
 // A line of four to seven bytes.
 #[derive(Clone, Copy)]
@@ -31,7 +31,7 @@ const IDLE: usize = 272;
 fn pack(a: u8, b: u8, c: u8, d: u8) -> u32
     ensures { four result ≡ a ∷ b ∷ c ∷ d ∷ [] }
 {
-    wide(a) + 256 * wide(b) + 65536 * wide(c) + 16777216 * wide(d)
+    u32::from_le_bytes([a, b, c, d])
 }
 
 // The line of a letter and a number.
@@ -85,13 +85,7 @@ fn line_at(k: usize) -> Line
 pub fn lines() -> [Line; 273]
     ensures { AllLines result }
 {
-    let mut all = [line_at(IDLE); 273];
-    let mut k = 0;
-    while k <= IDLE {
-        all[k] = line_at(k);
-        k += 1;
-    }
-    all
+    array::from_fn(line_at)
 }
 
 // Stores four bytes.
@@ -99,10 +93,7 @@ fn put_four(chunk: u32, out: &mut [u8], at: usize)
     requires { at + 3 < length out.old }
     ensures { out.new ≡ sets out.old at (four chunk) }
 {
-    out[at] = (chunk % 256) as u8;
-    out[at + 1] = (chunk / 256 % 256) as u8;
-    out[at + 2] = (chunk / 65536 % 256) as u8;
-    out[at + 3] = (chunk / 16777216) as u8;
+    out[at..at + 4].copy_from_slice(&chunk.to_le_bytes());
 }
 
 // Writes a line where the longest has room, and returns the place after it.
@@ -111,7 +102,7 @@ pub fn write(line: Line, out: &mut [u8], at: usize) -> usize
     ensures put { Puts (text_of line) out.old out.new at result }
     ensures most { result ≤ at + 7 }
 {
-    let past = (line.past % 4) as usize;
+    let past = usize::from(line.past % 4);
     put_four(line.last, out, at + past);
     put_four(line.first, out, at);
     at + past + 4

@@ -1,11 +1,11 @@
 -- What the next board can rely on, of the code: its buffer is never filled over, the link's tables say what is held and which number is expected, and on two
 -- boards in step a tile leaves the second after it came. Bursts count as their requests. Assumes nothing.
 use Prim.Native.Nat.{ℕ, ◌<◌}
-use mathlib.Core.Path.{◌≡◌, ap, ◌∙◌, subst}
+use mathlib.Core.Path.{◌≡◌, subst}
 use mathlib.Core.List.{List}
-use Rattle.plan.specs.declared.Outcome.{Outcome}
-use Rattle.plan.specs.declared.Verdict.TheVariants.{Accepted}
-use Rattle.plan.specs.Reading.{plan_for, read_of, Valid}
+use Rattle.std.specs.Prelude.{Ok}
+use Rattle.plan.specs.declared.Plan.{Plan}
+use Rattle.plan.specs.Reading.{ReadAs, Valid}
 use Rattle.plan.proofs.Laws.{is-plan}
 use Rattle.model.specs.Plan as model
 use Rattle.model.specs.Calls.{Call, History}
@@ -24,45 +24,45 @@ use Rattle.model.proofs.TwoHops.{leaves-after-it-came}
 use Rattle.link.specs.declared.Link.{Link}
 use Rattle.link.specs.Steps.{read_of as link_read}
 use Rattle.link.specs.Handed.{Handed}
-use Rattle.link.proofs.Demand3.{RunOf, run_of, passes_of}
+use Rattle.link.proofs.Demand3.{RunOf, run_of}
 
 -- bytes that `plan::read` accepts
-module _ (bytes : List ℕ) (o : Outcome) (is : o ≡ read_of bytes) (valid : o.verdict ≡ Accepted → Valid o.plan) (accepts : o.verdict ≡ Accepted) where
+module _ (bytes : List ℕ) (p : Plan) (is : ReadAs bytes (Ok p)) (valid : Valid p) where
   abbrev P : model.Plan
   P = model.plan_of bytes
 
   passes : model.refusal bytes ≡ 0
-  passes = passes_of bytes o is accepts
+  passes = is.0
 
   -- what holds of the link and the events of every run of the reference scheduler
   has : (Q : reference.Link → History → Type 0) → ((calls : List Call) → Q (run scheduler.reference P calls).state (run scheduler.reference P calls).history)
-      → {h : History} {l : Link} → Handed o.plan h l → Q (link_read l) h
+      → {h : History} {l : Link} → Handed p h l → Q (link_read l) h
   has Q runs {h} {l} g =
-      let plan_is = ap (λ (x : Outcome). plan_for x.plan) is ∙ is-plan bytes passes in
-      let made = subst (λ R. RunOf R h l) plan_is (run_of (valid accepts).accepted g) in
+      let plan_is = is-plan bytes p is in
+      let made = subst (λ R. RunOf R h l) plan_is (run_of valid.accepted g) in
       subst (λ (r : Played scheduler.reference). Q r.state r.history) made.played (runs made.calls)
 
   -- all streams together hold at most N, in every slot
-  pub code-never-overfull : {h : History} {l : Link} → Handed o.plan h l → (s : ℕ) → FitsBuffer P h s
+  pub code-never-overfull : {h : History} {l : Link} → Handed p h l → (s : ℕ) → FitsBuffer P h s
   code-never-overfull = has (λ l h. (s : ℕ) → FitsBuffer P h s) (reference-never-overfull bytes passes)
 
   -- the holdings that are read of the link are those that are counted, in every slot of the window
-  pub code-table-is-holding : {h : History} {l : Link} → Handed o.plan h l → (i : ℕ) → i < model.flow_count P → HoldingIs P (link_read l) h i
+  pub code-table-is-holding : {h : History} {l : Link} → Handed p h l → (i : ℕ) → i < model.flow_count P → HoldingIs P (link_read l) h i
   code-table-is-holding = has (λ l h. (i : ℕ) → i < model.flow_count P → HoldingIs P l h i) (table-is-holding bytes passes)
 
   -- and its numbers are the grants so far
-  pub code-number-is-count : {h : History} {l : Link} → Handed o.plan h l → (i : ℕ) → i < model.flow_count P
+  pub code-number-is-count : {h : History} {l : Link} → Handed p h l → (i : ℕ) → i < model.flow_count P
       → expected_on (link_read l) i ≡ expected_number P h i
   code-number-is-count = has (λ l h. (i : ℕ) → i < model.flow_count P → expected_on l i ≡ expected_number P h i) (number-is-count bytes passes)
 
 -- two boards in step, each with bytes that `plan::read` accepts
-pub code-leaves-after-it-came : (first : List ℕ) (o₁ : Outcome) → o₁ ≡ read_of first → (o₁.verdict ≡ Accepted → Valid o₁.plan) → o₁.verdict ≡ Accepted
-    → (second : List ℕ) (o₂ : Outcome) → o₂ ≡ read_of second → (o₂.verdict ≡ Accepted → Valid o₂.plan) → o₂.verdict ≡ Accepted
-    → InStep (model.plan_of first) (model.plan_of second) → {h₁ h₂ : History} {l₁ l₂ : Link} → Handed o₁.plan h₁ l₁ → Handed o₂.plan h₂ l₂
+pub code-leaves-after-it-came : (first : List ℕ) (p₁ : Plan) → ReadAs first (Ok p₁) → Valid p₁
+    → (second : List ℕ) (p₂ : Plan) → ReadAs second (Ok p₂) → Valid p₂
+    → InStep (model.plan_of first) (model.plan_of second) → {h₁ h₂ : History} {l₁ l₂ : Link} → Handed p₁ h₁ l₁ → Handed p₂ h₂ l₂
     → LeavesAfter (model.plan_of first) (model.plan_of second) h₁ h₂
-code-leaves-after-it-came first o₁ is₁ valid₁ accepts₁ second o₂ is₂ valid₂ accepts₂ step {h₁} {h₂} g₁ g₂ =
+code-leaves-after-it-came first p₁ is₁ valid₁ second p₂ is₂ valid₂ step {h₁} {h₂} g₁ g₂ =
     let P = model.plan_of first in
     let Q = model.plan_of second in
-    let leaves = leaves-after-it-came first second (passes_of first o₁ is₁ accepts₁) (passes_of second o₂ is₂ accepts₂) step in
-    has first o₁ is₁ valid₁ accepts₁ (λ l h. LeavesAfter P Q h h₂)
-    (λ calls₁. has second o₂ is₂ valid₂ accepts₂ (λ l h. LeavesAfter P Q (run scheduler.reference P calls₁).history h) (leaves calls₁) g₂) g₁
+    let leaves = leaves-after-it-came first second is₁.0 is₂.0 step in
+    has first p₁ is₁ valid₁ (λ l h. LeavesAfter P Q h h₂)
+    (λ calls₁. has second p₂ is₂ valid₂ (λ l h. LeavesAfter P Q (run scheduler.reference P calls₁).history h) (leaves calls₁) g₂) g₁

@@ -1,13 +1,12 @@
 -- Demand 3 of the code, that it lends in turn, and the numbers of the words that it grants: any list of calls on the link that fresh hands back for a plan
 -- that the reader accepts. Assumes nothing.
-use Prim.Native.Nat.{ℕ, zero, suc, ◌<◌}
+use Prim.Native.Nat.{ℕ, ◌<◌}
 use mathlib.Core.Path.{◌≡◌, refl, sym, ap, ◌∙◌, subst}
 use mathlib.Core.List.{List, ◌∷◌, [], ◌++◌}
 use mathlib.Core.Option.{some, none}
 use Rattle.plan.specs.declared.Plan.{Plan}
-use Rattle.plan.specs.declared.Outcome.{Outcome}
-use Rattle.plan.specs.declared.Verdict.TheVariants.{Accepted}
-use Rattle.plan.specs.Reading.{plan_for, read_of, verdict_for, Valid}
+use Rattle.std.specs.Prelude.{Ok}
+use Rattle.plan.specs.Reading.{plan_for, ReadAs, Valid}
 use Rattle.plan.proofs.Laws.{is-plan}
 use Rattle.calls.specs.Reading.{answer_to_request, answer_to_credit, answer_to_tick, answer_to_lend, answer_to_reset}
 use Rattle.model.specs.Plan as model
@@ -117,43 +116,30 @@ run_of ok (Handed.by_burst {h} {l} g xs ys r b) =
 
 -- ---- what holds of every run of the reference scheduler holds of the code
 
-verdict-of : (bytes : List ℕ) → (read_of bytes).verdict ≡ verdict_for (model.refusal bytes)
-unfolding read_of
-verdict-of bytes = refl
-
-accepted-passes : (r : ℕ) → verdict_for r ≡ Accepted → r ≡ 0
-unfolding verdict_for
-accepted-passes zero e = refl
-accepted-passes (suc r) e = cc
-
-pub passes_of : (bytes : List ℕ) (o : Outcome) → o ≡ read_of bytes → o.verdict ≡ Accepted → model.refusal bytes ≡ 0
-passes_of bytes o is accepts = accepted-passes (model.refusal bytes) (sym (ap (λ (x : Outcome). x.verdict) is ∙ verdict-of bytes) ∙ accepts)
-
 module _ (Q : model.Plan → History → Type 0) (runs : (P : model.Plan) → model.Accepted P → (calls : List Call) → Q P (run reference P calls).history) where
   handed-has : (p : Plan) → Valid p → {h : History} {l : Link} → Handed p h l → Q (plan_for p) h
   handed-has p valid g =
       let made = run_of valid.accepted g in
       subst (λ (r : Played reference). Q (plan_for p) r.history) made.played (runs (plan_for p) valid.accepted made.calls)
 
-  pub code-has : (bytes : List ℕ) (o : Outcome) → o ≡ read_of bytes → (o.verdict ≡ Accepted → Valid o.plan) → o.verdict ≡ Accepted
-      → {h : History} {l : Link} → Handed o.plan h l → Q (model.plan_of bytes) h
-  code-has bytes o is valid accepts {h} {l} g =
-      let passes = passes_of bytes o is accepts in
-      let plan_is = ap (λ (x : Outcome). plan_for x.plan) is ∙ is-plan bytes passes in
-      subst (λ P. Q P h) plan_is (handed-has o.plan (valid accepts) g)
+  pub code-has : (bytes : List ℕ) (p : Plan) → ReadAs bytes (Ok p) → Valid p
+      → {h : History} {l : Link} → Handed p h l → Q (model.plan_of bytes) h
+  code-has bytes p is valid {h} {l} g =
+      let plan_is = is-plan bytes p is in
+      subst (λ P. Q P h) plan_is (handed-has p valid g)
 
 -- Bytes that `plan::read` accepts, the link that `Link::fresh` hands back, and any list of calls, each on the link that the one before handed back:
 -- demand 3 of their events, for each flow of the plan.
-pub code_meets : (bytes : List ℕ) (o : Outcome) → o ≡ read_of bytes → (o.verdict ≡ Accepted → Valid o.plan) → o.verdict ≡ Accepted
-    → {h : History} {l : Link} → Handed o.plan h l → (i : ℕ) → i < model.flow_count (model.plan_of bytes) → Demand3 (model.plan_of bytes) i h
+pub code_meets : (bytes : List ℕ) (p : Plan) → ReadAs bytes (Ok p) → Valid p
+    → {h : History} {l : Link} → Handed p h l → (i : ℕ) → i < model.flow_count (model.plan_of bytes) → Demand3 (model.plan_of bytes) i h
 code_meets = code-has (λ P h. (i : ℕ) → i < model.flow_count P → Demand3 P i h) meets-accepted
 
 -- and RULES 21.10: lending in turn is fair
-pub code-fair : (bytes : List ℕ) (o : Outcome) → o ≡ read_of bytes → (o.verdict ≡ Accepted → Valid o.plan) → o.verdict ≡ Accepted
-    → {h : History} {l : Link} → Handed o.plan h l → FairOn (model.plan_of bytes) h
+pub code-fair : (bytes : List ℕ) (p : Plan) → ReadAs bytes (Ok p) → Valid p
+    → {h : History} {l : Link} → Handed p h l → FairOn (model.plan_of bytes) h
 code-fair = code-has FairOn fair-accepted
 
 -- and RULES 5.3: what a flow is granted by these calls counts up from 0 modulo 1,024, grant after grant
-pub code-numbers : (bytes : List ℕ) (o : Outcome) → o ≡ read_of bytes → (o.verdict ≡ Accepted → Valid o.plan) → o.verdict ≡ Accepted
-    → {h : History} {l : Link} → Handed o.plan h l → (i : ℕ) → i < model.flow_count (model.plan_of bytes) → InOrder (model.plan_of bytes) i h
+pub code-numbers : (bytes : List ℕ) (p : Plan) → ReadAs bytes (Ok p) → Valid p
+    → {h : History} {l : Link} → Handed p h l → (i : ℕ) → i < model.flow_count (model.plan_of bytes) → InOrder (model.plan_of bytes) i h
 code-numbers = code-has (λ P h. (i : ℕ) → i < model.flow_count P → InOrder P i h) numbers-accepted

@@ -9,7 +9,8 @@ use lib.Seq.{ext_get_or, get_or-set_same, get_or-set_other}
 use Rattle.window.proofs.Tabulated.{get_d-table, length-table, table_same}
 use Rattle.state.specs.Parts.{part, Beside, Apart}
 use Rattle.state.specs.State.{Whole}
-use Rattle.state.proofs.Parts.{part-beside, beside-part, part-of-with, stores, stores-are}
+use borrow.Rule.Slice.PartMut.{put_mid}
+use Rattle.state.proofs.Parts.{part-beside, beside-part, part-of-with, put-mid-part}
 use Rattle.link.specs.declared.Flow.{Flow}
 use Rattle.link.specs.Layout.{no_flow}
 use Rattle.link.specs.Parts.{flow_from, flow_bytes, flow_read, with_flow_at, flows_of}
@@ -64,6 +65,7 @@ flow-read s i f a b c =
     let first : 4416 + 4 * i + 0 ≡ 4416 + 4 * i = omega arith in
     rw first (λ k. record { injection = a k; remainder = b k; number = c k })
 
-pub flow-stored : (s : List ℕ) (i : ℕ) (f : Flow) → stores s (4416 + 4 * i) (flow_bytes f) ≡ with_flow_at s i f
+pub flow-stored : (s : List ℕ) (i n : ℕ) (f : Flow) (bytes : List ℕ) → Whole s → i < 16 → n ≡ 4 → bytes ≡ flow_bytes f
+    → put_mid (4416 + 4 * i) n s bytes ≡ with_flow_at s i f
 unfolding with_flow_at
-flow-stored s i f = stores-are s (4416 + 4 * i) (flow_bytes f)
+flow-stored s i n f bytes whole few four is = put-mid-part s (4416 + 4 * i) 4 n (flow_bytes f) bytes four is refl (omega (arith, whole))

@@ -3,6 +3,7 @@ use Prim.Native.Nat.{ℕ, zero, suc, ◌+◌, ◌%◌, ◌^◌, ◌≤◌, ◌<�
 use mathlib.Core.Path.{◌≡◌, refl, sym, ap, subst, ◌∙◌}
 use mathlib.Core.List.{List, ◌∷◌, []}
 use mathlib.Core.Option as option
+use Rattle.std.specs.Prelude.{Option, None, Some}
 use mathlib.Core.Bool.{Bool, true, false, not, ◌&&◌, ◌||◌, cond}
 use native.Mathlib.Nat.{mod-lt}
 use native.Mathlib.Omega.{arith}
@@ -163,35 +164,35 @@ module _ {l : Parts} {plan : Plan} {w : code.Window} (a : AtHand l plan w) (mask
         go zero some = absurd (some refl)
         go (suc r) some = record { link_is = refl; answer_is = refl; sound = a.sound }
 
-    module _ (z : n ≡ 0) {i : ℕ} (first : i ≡ first_taker (takes_in plan w l.held mask) plan.count l.turn) where
+    module _ (z : n ≡ 0) {o : Option ℕ} (first : o ≡ first_taker (takes_in plan w l.held mask) plan.count l.turn) where
       comes-to : lend (link_of l) mask ≡ lent_after (link_of l) in_turn
       comes-to = lend-is (link_of l) mask (sym (tests ∙ tests-are) ∙ z) ∙ ap (lent_after (link_of l)) turn-same
 
-      first_is : i ≡ flow_found plan.count in_turn
+      first_is : o ≡ flow_found plan.count in_turn
       unfolding first_taker
       first_is = first
 
-      pub lend-to-nobody : i ≡ plan.count → SteppedParts answer_to_lend (lend (link_of l) mask) l (Refused 18)
+      pub lend-to-nobody : o ≡ None → SteppedParts answer_to_lend (lend (link_of l) mask) l (Refused 18)
       unfolding lent_after
       lend-to-nobody end = rw comes-to (go in_turn first_is)
         where
-          go : (o : option.Option ℕ) → i ≡ flow_found plan.count o → SteppedParts answer_to_lend (lent_after (link_of l) o) l (Refused 18)
+          go : (p : option.Option ℕ) → o ≡ flow_found plan.count p → SteppedParts answer_to_lend (lent_after (link_of l) p) l (Refused 18)
           go option.none e = record { link_is = refl; answer_is = refl; sound = a.sound }
-          go (option.some k) e = absurd (omega (arith, mod-lt k some-here))
+          go (option.some k) e = cc
 
-      -- a flow was found
-      record Found : Type 0 where
+      -- flow i was found
+      record Found (i : ℕ) : Type 0 where
         number : ℕ
         is : in_turn ≡ option.some number
         flow_is : i ≡ number % plan.count
 
-      module _ (some : i ≡ plan.count → ⊥) where
-        was-found : Found
+      module _ {i : ℕ} (some : o ≡ Some i) where
+        was-found : Found i
         was-found = go in_turn refl
           where
-            go : (o : option.Option ℕ) → in_turn ≡ o → Found
-            go option.none e = absurd (some (first_is ∙ ap (flow_found plan.count) e))
-            go (option.some k) e = record { number = k; is = e; flow_is = first_is ∙ ap (flow_found plan.count) e }
+            go : (p : option.Option ℕ) → in_turn ≡ p → Found i
+            go option.none e = let z : o ≡ None = first_is ∙ ap (flow_found plan.count) e in cc
+            go (option.some k) e = let z : o ≡ Some (k % plan.count) = first_is ∙ ap (flow_found plan.count) e in record { number = k; is = e; flow_is = cc }
 
         pub taker-below : i < l.plan.count
         taker-below = omega (arith, was-found.flow_is, count_is, mod-lt was-found.number some-here)

@@ -1,20 +1,12 @@
--- The bits of a mask from a bit on, found by halving; and whether there is one at n or above. Assumes nothing.
-use Prim.Native.Nat.{ℕ, zero, suc, ◌+◌, ◌/◌, ◌^◌, ◌<◌}
-use mathlib.Core.Path.{◌≡◌, sym, ap, ◌∙◌}
+-- Whether a mask has a bit at n or above. Assumes nothing.
+use Prim.Native.Nat.{ℕ, zero, suc, ◌/◌, ◌^◌, ◌<◌}
+use mathlib.Core.Path.{◌≡◌}
 use mathlib.Core.Bool.{true, false}
-use native.Mathlib.Nat.{div-one, div-div-eq-div-mul, div-eq_of_lt, div-lt_iff_lt-mul, pow-suc}
+use native.Mathlib.Nat.{div-eq_of_lt, div-lt_iff_lt-mul, pow-suc}
 use native.Mathlib.Decide.{dec_lt}
-use native.Mathlib.Numerals.{add-one}
 use native.Mathlib.Omega.{arith}
 use lib.Dec.{leb}
 use borrow.Author.Tests.{le-leb, lt-leb}
-
--- all of them, and those from one bit on
-pub all-bits : (mask : ℕ) → mask ≡ mask / 2 ^ 0
-all-bits mask = sym (div-one mask)
-
-pub halved : (mask i : ℕ) → mask / 2 ^ i / 2 ≡ mask / 2 ^ (i + 1)
-halved mask i = div-div-eq-div-mul mask (2 ^ i) 2 ∙ ap (mask /◌) (sym (ap (2 ^◌) (add-one i) ∙ pow-suc 2 i))
 
 some-power : (n : ℕ) → 0 < 2 ^ n
 some-power zero = omega arith

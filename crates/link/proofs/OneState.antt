@@ -16,8 +16,9 @@ use Rattle.state.proofs.State.{held_at, owners-at, masks-at}
 use Rattle.link.specs.declared.Flow.{Flow}
 use Rattle.link.specs.declared.Link.{Link}
 use Rattle.link.specs.Layout.{no_flow}
-use Rattle.link.specs.Parts.{Parts, flow_from, flow_read, parts_in, parts_of}
-use Rattle.link.specs.Sound.{SoundLink}
+use Rattle.link.specs.Parts.{Parts, flow_from, flow_read, parts_in}
+use Rattle.link.specs.Links.{parts_of}
+use Rattle.link.specs.Links.{SoundLink}
 use Rattle.link.specs.Steps.{read_of}
 use Rattle.link.proofs.FlowBytes.{flows-at}
 use Rattle.link.proofs.Stored.{one-reading}

@@ -3,9 +3,9 @@ use Prim.Native.Nat.{ℕ, ◌<◌}
 use mathlib.Core.Path.{◌≡◌, sym, ap, ◌∙◌, subst}
 use mathlib.Core.List.{List}
 use mathlib.Core.Bool.{false}
-use Rattle.plan.specs.declared.Outcome.{Outcome}
-use Rattle.plan.specs.declared.Verdict.TheVariants.{Accepted}
-use Rattle.plan.specs.Reading.{plan_for, read_of, Valid}
+use Rattle.std.specs.Prelude.{Ok}
+use Rattle.plan.specs.declared.Plan.{Plan}
+use Rattle.plan.specs.Reading.{ReadAs, Valid}
 use Rattle.plan.proofs.Laws.{is-plan}
 use Rattle.calls.specs.Reading.{answer_to_credit, answer_to_lend}
 use Rattle.model.specs.Plan as model
@@ -36,31 +36,31 @@ use Rattle.link.specs.declared.Link.{Link}
 use Rattle.link.specs.declared.Step.{Step}
 use Rattle.link.specs.Steps.{read_of as link_read, Stepped}
 use Rattle.link.specs.Handed.{Handed}
-use Rattle.link.proofs.Demand3.{one-lend-answer, RunOf, run_of, passes_of}
+use Rattle.link.proofs.Demand3.{one-lend-answer, RunOf, run_of}
 
 -- bytes that `plan::read` accepts
-module _ (bytes : List ℕ) (o : Outcome) (is : o ≡ read_of bytes) (valid : o.verdict ≡ Accepted → Valid o.plan) (accepts : o.verdict ≡ Accepted) where
+module _ (bytes : List ℕ) (p : Plan) (is : ReadAs bytes (Ok p)) (valid : Valid p) where
   abbrev P : model.Plan
   P = model.plan_of bytes
 
   passes : model.refusal bytes ≡ 0
-  passes = passes_of bytes o is accepts
+  passes = is.0
 
-  run-made : {h : History} {l : Link} → Handed o.plan h l → RunOf P h l
-  run-made {h} {l} g = subst (λ R. RunOf R h l) (ap (λ (x : Outcome). plan_for x.plan) is ∙ is-plan bytes passes) (run_of (valid accepts).accepted g)
+  run-made : {h : History} {l : Link} → Handed p h l → RunOf P h l
+  run-made {h} {l} g = subst (λ R. RunOf R h l) (is-plan bytes p is) (run_of valid.accepted g)
 
   -- what holds of every run of the reference scheduler, and of any two
-  has : (Q : History → Type 0) → ((calls : List Call) → Q (run reference P calls).history) → {h : History} {l : Link} → Handed o.plan h l → Q h
+  has : (Q : History → Type 0) → ((calls : List Call) → Q (run reference P calls).history) → {h : History} {l : Link} → Handed p h l → Q h
   has Q runs g =
       let made = run-made g in
       subst (λ (r : Played reference). Q r.history) made.played (runs made.calls)
 
   both-have : (Q : History → History → Type 0) → ((calls₁ calls₂ : List Call) → Q (run reference P calls₁).history (run reference P calls₂).history)
-      → {h₁ h₂ : History} {l₁ l₂ : Link} → Handed o.plan h₁ l₁ → Handed o.plan h₂ l₂ → Q h₁ h₂
+      → {h₁ h₂ : History} {l₁ l₂ : Link} → Handed p h₁ l₁ → Handed p h₂ l₂ → Q h₁ h₂
   both-have Q runs {h₁} {h₂} g₁ g₂ = has (λ h. Q h h₂) (λ calls. has (Q (run reference P calls).history) (runs calls) g₂) g₁
 
   -- RULES 21.11: the neighbours can't move a flow's frames, bursts counted as their requests
-  pub code-unmoved : {h₁ h₂ : History} {l₁ l₂ : Link} → Handed o.plan h₁ l₁ → Handed o.plan h₂ l₂ → (i : ℕ) → i < model.flow_count P
+  pub code-unmoved : {h₁ h₂ : History} {l₁ l₂ : Link} → Handed p h₁ l₁ → Handed p h₂ l₂ → (i : ℕ) → i < model.flow_count P
       → (aligned : Aligned i h₁ h₂) → AsksUntil11 P i h₁ → AsksUntil11 P i h₂ → SameFrames P 1 aligned
   code-unmoved =
       both-have
@@ -70,7 +70,7 @@ module _ (bytes : List ℕ) (o : Outcome) (is : o ≡ read_of bytes) (valid : o.
   -- ---- sending ahead
 
   -- A lend of the code hands back r, answered with flow i, and a credit of i on its link hands back s: it is taken, if it is dated a position later than CP.
-  pub code-ahead-accepted : {h : History} {l : Link} → Handed o.plan h l → (mask i p : ℕ) (r s : Step) → Stepped answer_to_lend (lend (link_read l) mask) r
+  pub code-ahead-accepted : {h : History} {l : Link} → Handed p h l → (mask i p : ℕ) (r s : Step) → Stepped answer_to_lend (lend (link_read l) mask) r
       → r.answer ≡ answer_to_lend (accepted i) → Stepped answer_to_credit (credit (link_read r.link) i p) s → p < model.positions P
       → has_come P (ticks h) p ≡ false → s.answer ≡ answer_to_credit (accepted tt)
   code-ahead-accepted g mask i p r s lends answer credits below yet =
@@ -83,49 +83,49 @@ module _ (bytes : List ℕ) (o : Outcome) (is : o ≡ read_of bytes) (valid : o.
       credits.answer_is ∙ ap answer_to_credit (ap (λ k. (credit k i p).answer) lends.link_is ∙ takes loan below yet)
 
   -- A flow in turn books in order, and one that is ready at each request is in turn.
-  pub code-books-in-order : {h : History} {l : Link} → Handed o.plan h l → (i : ℕ) → i < model.flow_count P → EachSince (AsksAt InTurn P i) h → InOrder P i h
+  pub code-books-in-order : {h : History} {l : Link} → Handed p h l → (i : ℕ) → i < model.flow_count P → EachSince (AsksAt InTurn P i) h → InOrder P i h
   code-books-in-order =
       has (λ h. (i : ℕ) → i < model.flow_count P → EachSince (AsksAt InTurn P i) h → InOrder P i h) (books-in-order bytes passes)
 
-  pub code-ready-in-order : {h : History} {l : Link} → Handed o.plan h l → (i : ℕ) → i < model.flow_count P → EachSince (ReadyAt P i) h
+  pub code-ready-in-order : {h : History} {l : Link} → Handed p h l → (i : ℕ) → i < model.flow_count P → EachSince (ReadyAt P i) h
       → EachSince (AsksAt InTurn P i) h
   code-ready-in-order =
       has (λ h. (i : ℕ) → i < model.flow_count P → EachSince (ReadyAt P i) h → EachSince (AsksAt InTurn P i) h) (ready-in-order bytes passes)
 
   -- never late, never over, one to a slot; and never early
-  pub code-sends-in-time : {h : History} {l : Link} → Handed o.plan h l → (x : Sending h) → SentInTime P x
+  pub code-sends-in-time : {h : History} {l : Link} → Handed p h l → (x : Sending h) → SentInTime P x
   code-sends-in-time = has (λ h. (x : Sending h) → SentInTime P x) (sends-in-time reference meets bytes passes)
 
-  pub code-sends-well : {h : History} {l : Link} → Handed o.plan h l → (x : Sending h) → EachReady P x → SentWell P x
+  pub code-sends-well : {h : History} {l : Link} → Handed p h l → (x : Sending h) → EachReady P x → SentWell P x
   code-sends-well = has (λ h. (x : Sending h) → EachReady P x → SentWell P x) (sends-well reference meets bytes passes)
 
   -- ---- beside a run without any
 
-  pub code-nobody-moves : {h₁ h₂ : History} {l₁ l₂ : Link} → Handed o.plan h₁ l₁ → Handed o.plan h₂ l₂ → (x : WithAhead h₁ h₂)
+  pub code-nobody-moves : {h₁ h₂ : History} {l₁ l₂ : Link} → Handed p h₁ l₁ → Handed p h₂ l₂ → (x : WithAhead h₁ h₂)
       → GrantsAfter P x → ResetsAfter P x → NoneAcceptedAlone x → BookedAlike P x
   code-nobody-moves =
       both-have (λ h₁ h₂. (x : WithAhead h₁ h₂) → GrantsAfter P x → ResetsAfter P x → NoneAcceptedAlone x → BookedAlike P x) (nobody-moves bytes passes)
 
-  pub code-in-turn-nobody-moves : {h₁ h₂ : History} {l₁ l₂ : Link} → Handed o.plan h₁ l₁ → Handed o.plan h₂ l₂ → (x : WithAhead h₁ h₂)
+  pub code-in-turn-nobody-moves : {h₁ h₂ : History} {l₁ l₂ : Link} → Handed p h₁ l₁ → Handed p h₂ l₂ → (x : WithAhead h₁ h₂)
       → OfBooked P x → SendersInTurn P x → NoneAcceptedAlone x → BookedAlike P x
   code-in-turn-nobody-moves =
       both-have (λ h₁ h₂. (x : WithAhead h₁ h₂) → OfBooked P x → SendersInTurn P x → NoneAcceptedAlone x → BookedAlike P x) (in-turn-nobody-moves bytes passes)
 
   -- it is enough that they have room, or are in turn, in the run with tiles sent ahead
-  pub code-room-without : {h₁ h₂ : History} {l₁ l₂ : Link} → Handed o.plan h₁ l₁ → Handed o.plan h₂ l₂ → (x : WithAhead h₁ h₂)
+  pub code-room-without : {h₁ h₂ : History} {l₁ l₂ : Link} → Handed p h₁ l₁ → Handed p h₂ l₂ → (x : WithAhead h₁ h₂)
       → EachCome P (sending_of x) → NoneAcceptedAlone x → SendersHaveRoomThere P x → SendersHaveRoom P x
   code-room-without =
       both-have (λ h₁ h₂. (x : WithAhead h₁ h₂) → EachCome P (sending_of x) → NoneAcceptedAlone x → SendersHaveRoomThere P x → SendersHaveRoom P x)
       (room-without bytes passes)
 
-  pub code-in-turn-without : {h₁ h₂ : History} {l₁ l₂ : Link} → Handed o.plan h₁ l₁ → Handed o.plan h₂ l₂ → (x : WithAhead h₁ h₂)
+  pub code-in-turn-without : {h₁ h₂ : History} {l₁ l₂ : Link} → Handed p h₁ l₁ → Handed p h₂ l₂ → (x : WithAhead h₁ h₂)
       → EachCome P (sending_of x) → NoneAcceptedAlone x → SendersInTurnThere P x → SendersInTurn P x
   code-in-turn-without =
       both-have (λ h₁ h₂. (x : WithAhead h₁ h₂) → EachCome P (sending_of x) → NoneAcceptedAlone x → SendersInTurnThere P x → SendersInTurn P x)
       (in-turn-without bytes passes)
 
   -- bookings alike; and sent well, if each tile came before
-  pub code-sends-ahead : {h₁ h₂ : History} {l₁ l₂ : Link} → Handed o.plan h₁ l₁ → Handed o.plan h₂ l₂ → (x : WithAhead h₁ h₂)
+  pub code-sends-ahead : {h₁ h₂ : History} {l₁ l₂ : Link} → Handed p h₁ l₁ → Handed p h₂ l₂ → (x : WithAhead h₁ h₂)
       → EachCome P (sending_of x) → SendersHaveRoom P x → NoneAcceptedAlone x → BookedAlike P x × (EachReady P (sending_of x) → SentWell P (sending_of x))
   code-sends-ahead =
       both-have
@@ -134,7 +134,7 @@ module _ (bytes : List ℕ) (o : Outcome) (is : o ≡ read_of bytes) (valid : o.
       (sends-ahead bytes passes)
 
   -- in order
-  pub code-ahead-in-order : {h₁ h₂ : History} {l₁ l₂ : Link} → Handed o.plan h₁ l₁ → Handed o.plan h₂ l₂ → (x : WithAhead h₁ h₂)
+  pub code-ahead-in-order : {h₁ h₂ : History} {l₁ l₂ : Link} → Handed p h₁ l₁ → Handed p h₂ l₂ → (x : WithAhead h₁ h₂)
       → EachCome P (sending_of x) → SendersHaveRoom P x → NoneAcceptedAlone x → (i : ℕ) → FirstFirst P (sending_of x) i
       → LentOnlyAhead (sending_of x) i → LeaveInOrder P (sending_of x) i
   code-ahead-in-order =
@@ -145,12 +145,12 @@ module _ (bytes : List ℕ) (o : Outcome) (is : o ≡ read_of bytes) (valid : o.
 
   -- ---- by slots that are granted in order, and by shares of cells, whether or not there is room
 
-  pub code-in-order-nobody-moves : {h₁ h₂ : History} {l₁ l₂ : Link} → Handed o.plan h₁ l₁ → Handed o.plan h₂ l₂ → (x : WithAhead h₁ h₂)
+  pub code-in-order-nobody-moves : {h₁ h₂ : History} {l₁ l₂ : Link} → Handed p h₁ l₁ → Handed p h₂ l₂ → (x : WithAhead h₁ h₂)
       → OfBooked P x → SendersInOrder P x → NoneAcceptedAlone x → BookedAlike P x
   code-in-order-nobody-moves =
       both-have (λ h₁ h₂. (x : WithAhead h₁ h₂) → OfBooked P x → SendersInOrder P x → NoneAcceptedAlone x → BookedAlike P x) (in-order-nobody-moves bytes passes)
 
-  pub code-sends-by-order : {h₁ h₂ : History} {l₁ l₂ : Link} → Handed o.plan h₁ l₁ → Handed o.plan h₂ l₂ → (x : WithAhead h₁ h₂)
+  pub code-sends-by-order : {h₁ h₂ : History} {l₁ l₂ : Link} → Handed p h₁ l₁ → Handed p h₂ l₂ → (x : WithAhead h₁ h₂)
       → EachCome P (sending_of x) → SendersInOrder P x → NoneAcceptedAlone x → BookedAlike P x × (EachReady P (sending_of x) → SentWell P (sending_of x))
   code-sends-by-order =
       both-have
@@ -158,7 +158,7 @@ module _ (bytes : List ℕ) (o : Outcome) (is : o ≡ read_of bytes) (valid : o.
       → BookedAlike P x × (EachReady P (sending_of x) → SentWell P (sending_of x)))
       (sends-by-order bytes passes)
 
-  pub code-leave-by-order : {h₁ h₂ : History} {l₁ l₂ : Link} → Handed o.plan h₁ l₁ → Handed o.plan h₂ l₂ → (x : WithAhead h₁ h₂)
+  pub code-leave-by-order : {h₁ h₂ : History} {l₁ l₂ : Link} → Handed p h₁ l₁ → Handed p h₂ l₂ → (x : WithAhead h₁ h₂)
       → EachCome P (sending_of x) → SendersInOrder P x → NoneAcceptedAlone x → (i : ℕ) → FirstFirst P (sending_of x) i
       → LentOnlyAhead (sending_of x) i → LeaveInOrder P (sending_of x) i
   code-leave-by-order =
@@ -167,7 +167,7 @@ module _ (bytes : List ℕ) (o : Outcome) (is : o ≡ read_of bytes) (valid : o.
       → LentOnlyAhead (sending_of x) i → LeaveInOrder P (sending_of x) i)
       (leave-by-order bytes passes)
 
-  pub code-shares-order-senders : {h₁ h₂ : History} {l₁ l₂ : Link} → Handed o.plan h₁ l₁ → Handed o.plan h₂ l₂ → (x : WithAhead h₁ h₂)
+  pub code-shares-order-senders : {h₁ h₂ : History} {l₁ l₂ : Link} → Handed p h₁ l₁ → Handed p h₂ l₂ → (x : WithAhead h₁ h₂)
       → SendersHaveShares P x → SendersInOrder P x
   code-shares-order-senders =
       both-have (λ h₁ h₂. (x : WithAhead h₁ h₂) → SendersHaveShares P x → SendersInOrder P x) (shares-order-senders bytes passes)

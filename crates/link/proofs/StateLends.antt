@@ -42,7 +42,10 @@ use Rattle.link.specs.Started.{started_flows}
 use Rattle.link.specs.Steps.{Went, SteppedParts}
 use Rattle.link.specs.Updates.{link_with, with_turn, with_mark, with_holdings}
 use Rattle.link.proofs.FlowBytes.{flows-beside}
-use Rattle.link.proofs.Given.{bounds-in, bounds-out}
+use Rattle.link.proofs.Given.{in_hand, bounds-in, bounds-out}
+use Rattle.link.proofs.Lends.{taker-below}
+use Rattle.link.proofs.Plans.{count-some, count_most}
+use Rattle.std.specs.Prelude.{Option, Some}
 use Rattle.link.proofs.StateParts.{raised-rest, parts-raised}
 
 -- ---- the rows that are looked at
@@ -193,6 +196,20 @@ pub tests-of : {plan : Plan} {w : Window} {s : List ℕ} → StateIn plan w s �
     → n ≡ first_of (8 when leb (2 ^ plan.count) mask ∷ 17 when (not (eqb (owner_at (parts_in plan s) (get_or s 4496 0)) nobody) || marked) ∷ [])
 tests-of {plan} o mask marked e =
     e ∙ ap (λ (x : ℕ). first_of (8 when leb (2 ^ plan.count) mask ∷ 17 when (not (eqb x nobody) || marked) ∷ [])) (owner_of o)
+
+-- ---- what a search for a flow to lend to finds, read of the parts of the state
+
+module _ {plan : Plan} {w : Window} {s : List ℕ} (o : StateIn plan w s) (mask : ℕ) {from : ℕ} (turn : from ≡ get_or s 4498 0) {t : Option ℕ}
+    (found : t ≡ first_taker (takes_in plan w s mask) plan.count from) where
+  pub found-read : t ≡ first_taker (takes_in plan w (held_of s) mask) plan.count (get_or s 4498 0)
+  found-read =
+      let v = o.sound.parts.plan in
+      rw turn at found ∙ taker-same plan w s mask _ (count-some _ v) (count_most _ v)
+
+  -- it is one of the plan's flows
+  pub found-below : {n : ℕ} → n ≡ first_of (8 when leb (2 ^ plan.count) mask ∷ 17 when (not (eqb (get_or s (4096 + w.current) 0) nobody) || not (eqb (get_or s 4497 0) 0)) ∷ [])
+      → n ≡ 0 → {i : ℕ} → t ≡ Some i → i < plan.count
+  found-below tests zero is = taker-below (in_hand o) _ (tests-of o _ _ tests) zero found-read is
 
 -- ---- the owners, the masks and the flows of a reset
 

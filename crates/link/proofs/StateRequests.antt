@@ -31,8 +31,10 @@ use Rattle.state.proofs.Parts.{beside-set}
 use Rattle.state.proofs.State.{beside-mask}
 use Rattle.link.specs.declared.Flow.{Flow}
 use Rattle.link.specs.declared.request.Reply.{Reply}
-use Rattle.link.specs.declared.request.Sought.TheVariants.{At, Nowhere}
-use Rattle.link.specs.Sought.{sought_with}
+use Rattle.std.proofs.Common.{Result, Ok, Err}
+use Rattle.tables.specs.declared.Place.{Place}
+use Rattle.link.specs.declared.request.Missed.{Missed}
+use Rattle.link.specs.Sought.{sought_with, sought_in}
 use Rattle.link.specs.Layout.{size_for, no_flow}
 use Rattle.link.specs.Changes.{BookedIn}
 use Rattle.link.specs.Parts.{Parts, parts_in, flow_read, flows_of, with_flow_at, FitsBytes}
@@ -49,7 +51,7 @@ use Rattle.link.proofs.Requests.{granted-in-frame, position-few, granted-fits, s
 
 -- ---- what was found, from what the search comes to
 
-pub found_from : (would : Bool) (g : Found) {j c q : ℕ} → At j c q ≡ sought_with would g → found j c q ≡ g
+pub found_from : (would : Bool) (g : Found) {place : Place} → Ok place ≡ sought_with would g → found place.frame place.left place.position ≡ g
 found_from would (found j' c' q') e = cc
 found_from would (nowhere c') e = let z : ◌≡◌ {A = ℕ} 0 1 = cc in absurd (omega arith)
 
@@ -57,11 +59,12 @@ pub record Stopped (would : Bool) (g : Found) (c number : ℕ) : Type 0 where
   pub found_none : nowhere c ≡ g
   pub number_is : number ≡ first_of (newest_tests would c)
 
-pub nowhere-from : (would : Bool) (g : Found) {c number : ℕ} → Nowhere c number ≡ sought_with would g → Stopped would g c number
+pub nowhere-from : (would : Bool) (g : Found) {missed : Missed} → Err missed ≡ sought_with would g → Stopped would g missed.left missed.number
 nowhere-from would (found j' c' q') e = let z : ◌≡◌ {A = ℕ} 0 1 = cc in absurd (omega arith)
-nowhere-from would (nowhere c') {c} {number} e =
-    let same : c ≡ c' = cc in
-    let is : number ≡ first_of (newest_tests would c') = cc in
+nowhere-from would (nowhere c') {missed} e =
+    let is_that : missed ≡ record { left = c'; number = first_of (newest_tests would c') } = cc in
+    let same = ap (λ (m : Missed). m.left) is_that in
+    let is = ap (λ (m : Missed). m.number) is_that in
     record { found_none = ap nowhere same; number_is = is ∙ ap (λ (k : ℕ). first_of (newest_tests would k)) (sym same) }
 
 -- the same of an equal reply
@@ -150,6 +153,19 @@ module _ {p : Plan} {n : ℕ} {e : Entry} {w : Window} {f : Fields} {x : ℕ} {s
       -- it is sought of the word's flow, for the word's departure
       pub sought-of : sought (read_in p s) i f.departure ≡ sought (read_in p s) i (departure_of x)
       sought-of = ap (sought (read_in p s) i) (sym (departure-is x f o.fields_are))
+
+      -- what `seek` comes to is what is sought
+      module _ {g : Flow} (read : g ≡ flow_read s i) {y : Result Place Missed}
+          (ensures : (p : Plan) → SeekIn p e w i g f.departure s → y ≡ sought_in (read_in p s) i f.departure) where
+        sought-is : y ≡ sought_in (read_in p s) i (departure_of x)
+        sought-is = ensures p (seek-in read) ∙ ap (sought_with (would_be_valid (read_in p s) i)) sought-of
+
+        pub place-found : {place : Place} → y ≡ Ok place → found place.frame place.left place.position ≡ sought (read_in p s) i (departure_of x)
+        place-found is = found_from (would_be_valid (read_in p s) i) (sought (read_in p s) i (departure_of x)) (sym is ∙ sought-is)
+
+        pub none-found : {missed : Missed} → y ≡ Err missed
+            → Stopped (would_be_valid (read_in p s) i) (sought (read_in p s) i (departure_of x)) missed.left missed.number
+        none-found is = nowhere-from (would_be_valid (read_in p s) i) (sought (read_in p s) i (departure_of x)) (sym is ∙ sought-is)
 
       module _ {g : Flow} (read : g ≡ flow_read s i) (fits : FitsBytes g) where
         stored_is : g ≡ get_or (flows_of s) i no_flow

@@ -3,6 +3,7 @@ use Prim.Native.Nat.{ℕ, zero, suc, ◌+◌, ◌-◌, ◌/◌, ◌%◌, ◌^◌
 use mathlib.Core.Path.{◌≡◌, refl, sym, ap, ◌∙◌}
 use mathlib.Core.List.{List}
 use mathlib.Core.Option.{Option, some}
+use Rattle.std.specs.Prelude.{Some, None}
 use mathlib.Core.Bool.{Bool, true, false}
 use native.Mathlib.Nat.{mod-lt, mod-eq_of_lt, mod-add-mod}
 use native.Mathlib.Numerals.{add-one}
@@ -69,14 +70,14 @@ module _ {plan : Plan} {w : Window} {held : List ℕ} {mask from : ℕ} where
         passed_over zero some_left = absurd (omega arith)
         passed_over (suc m) some_left = let e : suc m - 1 ≡ m = omega arith in rw (e, test-is, fails)
 
-    pub found : 0 < left → takes_in plan w held mask i ≡ true → i ≡ first_taker (takes_in plan w held mask) plan.count from
+    pub found : 0 < left → takes_in plan w held mask i ≡ true → Some i ≡ first_taker (takes_in plan w held mask) plan.count from
     unfolding first_from first_taker
-    found more takes = g.flow_is ∙ ap (flow_found plan.count) (sym (hit left more) ∙ g.rest)
+    found more takes = ap Some g.flow_is ∙ ap (flow_found plan.count) (sym (hit left more) ∙ g.rest)
       where
         hit : (m : ℕ) → 0 < m → given_by plan w held mask m g.number ≡ some g.number
         hit zero some_left = absurd (omega arith)
         hit (suc m) some_left = rw (test-is, takes)
 
-    pub nobody : left ≡ 0 → plan.count ≡ first_taker (takes_in plan w held mask) plan.count from
+    pub nobody : left ≡ 0 → None ≡ first_taker (takes_in plan w held mask) plan.count from
     unfolding first_from first_taker
     nobody ended = ap (flow_found plan.count) (ap (λ m. given_by plan w held mask m g.number) (sym ended) ∙ g.rest)

@@ -3,7 +3,7 @@ use Rattle.std.specs.Prelude.{◌≡◌, List}
 use Rattle.model.specs.Burst as model
 use Rattle.link.specs.declared.Link.{Link}
 use Rattle.link.specs.Steps.{read_of}
-use Rattle.link.specs.Sound.{SoundLink}
+use Rattle.link.specs.Links.{SoundLink}
 
 -- l is the model's next link and sound again, and the lent records are the model's
 pub record Bursted (b : model.Burst) (l : Link) (records : List model.BurstRecord) : Type 0 where

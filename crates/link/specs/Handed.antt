@@ -15,7 +15,7 @@ use Rattle.model.specs.CountedBursts.{events_in}
 use Rattle.link.specs.declared.Link.{Link}
 use Rattle.link.specs.declared.Step.{Step}
 use Rattle.link.specs.Steps.{read_of}
-use Rattle.link.specs.Sound.{SoundLink}
+use Rattle.link.specs.Links.{SoundLink}
 use Rattle.link.specs.Steps.{Stepped}
 use Rattle.link.specs.Bursts.{Bursted}
 

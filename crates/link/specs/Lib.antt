@@ -2,6 +2,7 @@ pub mod Parts
 pub mod Layout
 pub mod Updates
 pub mod Reading
+pub mod Links
 pub mod Sound
 pub mod Steps
 pub mod Given

@@ -5,7 +5,6 @@ use Rattle.plan.specs.declared.Plan.{Plan}
 use Rattle.state.specs.Parts.{part, with_part}
 use Rattle.state.specs.State.{held_of, owners_of, masks_of}
 use Rattle.link.specs.declared.Flow.{Flow}
-use Rattle.link.specs.declared.Link.{Link}
 
 pub record Parts : Type 0 where
   pub plan : Plan
@@ -53,6 +52,3 @@ parts_in p s = record {
   marked = not (eqb (get_or s 4497 0) 0);
   turn = get_or s 4498 0;
 }
-
-abbrev pub parts_of : Link → Parts
-parts_of l = parts_in l.plan l.state

@@ -1,7 +1,6 @@
 -- The invariant of a link: what every call asks of it and ensures again. Assumes nothing.
 use Rattle.std.specs.Prelude.{ℕ, ◌≤◌, ◌<◌, ◌≡◌, List, length, get_or}
 use Rattle.state.specs.State.{Whole}
-use Rattle.link.specs.declared.Link.{Link}
 use Rattle.link.specs.Parts.{Parts, parts_in}
 use Rattle.link.specs.Layout.{FlowRow, size_for, size_of, flow_at, owner_at}
 use Rattle.tables.specs.Owners.{nobody, WordsOf}
@@ -38,6 +37,3 @@ pub record SoundState (plan : Plan) (s : List ℕ) : Type 0 where
   pub mark : get_or s 4497 0 ≤ 1
   pub bounds : Bounds (size_for plan) s
   pub parts : Sound (parts_in plan s)
-
-abbrev pub SoundLink : Link → Type 0
-SoundLink l = SoundState l.plan l.state

@@ -2,16 +2,14 @@
 ghost use Rattle.std.specs.Prelude.{◌≡◌};
 ghost use Rattle.model.specs.Credit as model;
 ghost use Rattle.calls.specs.Reading.{answer_to_credit};
-ghost use Rattle.link.specs.Sound.{SoundLink};
 ghost use Rattle.link.specs.Steps.{read_in, read_of, Went, Stepped, number_of, credit_answer};
 ghost use Rattle.link.specs.Given.{StateIn};
 
 use crate::{Answer, Link, Step};
 use plan::Plan;
-use state::{CURRENT, State};
+use state::State;
 use tables::holdings::lower_from;
 use window::Window;
-use window::positions::window;
 
 // A flow's cell falls free from a position on, on a state of a plan: what the flow holds falls by one from the position on, and the answer is 0;
 // or it is the refusal's number, and nothing changes.
@@ -47,12 +45,10 @@ fn told(number: u8) -> Answer
 impl Link {
     // A flow's cell falls free from a position on.
     pub fn credit(mut self, flow: usize, position: usize) -> Step
-        requires { SoundLink self }
         ensures { Stepped answer_to_credit (model.credit (read_of self) flow position) result }
     {
         let plan = self.plan;
-        let current = self.state[CURRENT];
-        let w = window(plan.slots, plan.frames, current as usize);
+        let w = self.window();
         let number = credit(&mut self.state, plan, w, flow, position);
         Step {
             link: self,

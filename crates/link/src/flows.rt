@@ -5,12 +5,6 @@ ghost use Rattle.link.specs.Parts.{flow_read, with_flow_at, FitsBytes};
 use crate::Flow;
 use state::{FLOWS, State};
 
-fn wide(b: u8) -> usize
-    ensures { (result ≡ b) × (result < 256) }
-{
-    b as usize
-}
-
 pub fn flow_at(s: &State, i: usize) -> Flow
     requires { i < 16 }
     ensures is { result ≡ flow_read s.now i }
@@ -18,9 +12,9 @@ pub fn flow_at(s: &State, i: usize) -> Flow
 {
     let at = FLOWS + 4 * i;
     Flow {
-        injection: wide(s[at]),
-        remainder: wide(s[at + 1]),
-        number: wide(s[at + 2]) + 256 * wide(s[at + 3]),
+        injection: usize::from(s[at]),
+        remainder: usize::from(s[at + 1]),
+        number: usize::from(u16::from_le_bytes([s[at + 2], s[at + 3]])),
     }
 }
 
@@ -29,8 +23,6 @@ pub fn put_flow(s: &mut State, i: usize, f: Flow)
     ensures { s.new ≡ with_flow_at s.old i f }
 {
     let at = FLOWS + 4 * i;
-    s[at] = f.injection as u8;
-    s[at + 1] = f.remainder as u8;
-    s[at + 2] = (f.number % 256) as u8;
-    s[at + 3] = (f.number / 256) as u8;
+    let [low, high] = (f.number as u16).to_le_bytes();
+    s[at..at + 4].copy_from_slice(&[f.injection as u8, f.remainder as u8, low, high]);
 }

@@ -5,7 +5,8 @@ ghost use Rattle.model.specs.Fresh as model;
 ghost use Rattle.state.specs.State.{Whole};
 ghost use Rattle.link.specs.Parts.{flows_of};
 ghost use Rattle.link.specs.Changes.{FlowsNow};
-ghost use Rattle.link.specs.Sound.{SoundState, SoundLink};
+ghost use Rattle.link.specs.Sound.{SoundState};
+ghost use Rattle.link.specs.Links.{SoundLink};
 ghost use Rattle.link.specs.Started.{no_flows, started_flows};
 ghost use Rattle.link.specs.Steps.{read_in, read_of};
 
@@ -27,10 +28,8 @@ fn no_flows(s: &mut State)
         remainder: 0,
         number: 0,
     };
-    let mut i = 0;
-    while i < 16 {
+    for i in 0..16 {
         put_flow(s, i, spare);
-        i += 1;
     }
 }
 
@@ -39,12 +38,10 @@ pub(crate) fn start_flows(s: &mut State, plan: Plan, frame: usize)
     requires { Valid plan × Whole s.old × (frame < 256) }
     ensures { FlowsNow s.old s.new (started_flows frame plan.entries plan.count (flows_of s.old)) }
 {
-    let mut i = 0;
-    while i < plan.count {
+    for i in 0..plan.count {
         let e = plan.entries[i];
         let f = flow_at(s, i);
-        put_flow(s, i, f.moved_to(frame, e.share as usize));
-        i += 1;
+        put_flow(s, i, f.moved_to(frame, usize::from(e.share)));
     }
 }
 

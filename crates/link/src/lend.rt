@@ -1,5 +1,5 @@
 // The lend of the idle slot.
-ghost use Rattle.std.specs.Prelude.{◌≡◌, ◌∷◌, [], not, ◌||◌, ◌/◌, ◌^◌, ◌<◌, leb, eqb};
+ghost use Rattle.std.specs.Prelude.{◌≡◌, ◌∷◌, [], not, ◌||◌, ◌/◌, ◌^◌, ◌<◌, ◌≤◌, leb, eqb};
 ghost use Rattle.model.specs.Refusals.{first_of, ◌when◌};
 ghost use Rattle.model.specs.Lend as model;
 ghost use Rattle.calls.specs.Reading.{answer_to_lend};
@@ -7,45 +7,29 @@ ghost use Rattle.plan.specs.Reading.{Valid};
 ghost use Rattle.window.specs.Window.{Proper};
 ghost use Rattle.tables.specs.Owners.{nobody};
 ghost use Rattle.link.specs.Given.{StateIn};
-ghost use Rattle.link.specs.Sound.{SoundLink};
 ghost use Rattle.link.specs.Steps.{read_in, read_of, Went, Stepped};
 ghost use Rattle.link.specs.Lend.{takes_in, first_taker};
 
 use crate::{Answer, Link, Step};
 use plan::Plan;
-use state::{CURRENT, MARK, NOBODY, OWNERS, State, TURN};
+use state::{MARK, NOBODY, OWNERS, State, TURN};
 use tables::holdings::{raise_from, room_from};
 use window::Window;
-use window::positions::{next, window};
-
-// The bits of a mask from bit n on.
-fn bits_from(mask: u16, n: usize) -> u16
-    ensures { result ≡ mask / 2 ^ n }
-{
-    let mut rest = mask;
-    let mut i = 0;
-    while i < n {
-        rest /= 2;
-        i += 1;
-    }
-    rest
-}
+use window::positions::next;
 
 // Whether a slot with this owner and this mark is booked or marked.
 pub(crate) fn booked_or_marked(owner: u8, marked: bool) -> bool
     ensures { result ≡ not (eqb owner nobody) || marked }
 {
-    if owner != NOBODY {
-        return true;
-    }
-    marked
+    owner != NOBODY || marked
 }
 
 // The refusal of a lend before its flows are looked at, and 0 where there is none: n flows, the owner of the current position, and its mark.
 fn refusal(count: usize, owner: u8, marked: bool, mask: u16) -> u8
+    requires { count ≤ 16 }
     ensures { result ≡ first_of (8 when leb (2 ^ count) mask ∷ 17 when (not (eqb owner nobody) || marked) ∷ []) }
 {
-    if bits_from(mask, count) != 0 {
+    if u32::from(mask) >> count != 0 {
         return 8;
     }
     if booked_or_marked(owner, marked) {
@@ -54,25 +38,21 @@ fn refusal(count: usize, owner: u8, marked: bool, mask: u16) -> u8
     0
 }
 
-// The first flow of a mask that can take the current slot, looking from a flow on and going round, or n where there is none.
-fn taker(s: &State, plan: Plan, w: Window, mask: u16, from: usize) -> usize
+// The first flow of a mask that can take the current slot, looking from a flow on and going round.
+fn taker(s: &State, plan: Plan, w: Window, mask: u16, from: usize) -> Option<usize>
     requires { Valid plan × Proper w × from < plan.count }
     ensures { result ≡ first_taker (takes_in plan w s.now mask) plan.count from }
 {
     let current = w.current;
     let mut i = from;
-    let mut left = plan.count;
-    while 0 < left {
+    for _ in 0..plan.count {
         let e = plan.entries[i];
-        if (mask >> i) % 2 == 1 {
-            if room_from(s, i, e.cells, w, current) {
-                return i;
-            }
+        if (mask >> i) % 2 == 1 && room_from(s, i, e.cells, w, current) {
+            return Some(i);
         }
         i = next(plan.count, i);
-        left -= 1;
     }
-    plan.count
+    None
 }
 
 // The current slot of a state, when nobody booked it, goes to a flow of a mask that has a quantum ready: in turn, to the first that can take it.
@@ -88,10 +68,9 @@ pub fn lend(s: &mut State, plan: Plan, w: Window, mask: u16) -> Answer
         return Answer::Refused(number);
     }
     let from = s[TURN];
-    let i = taker(s, plan, w, mask, from as usize);
-    if i == plan.count {
+    let Some(i) = taker(s, plan, w, mask, usize::from(from)) else {
         return Answer::Refused(18);
-    }
+    };
     raise_from(s, i, w, current);
     s[MARK] = 1;
     s[TURN] = next(plan.count, i) as u8;
@@ -101,12 +80,10 @@ pub fn lend(s: &mut State, plan: Plan, w: Window, mask: u16) -> Answer
 impl Link {
     // The current slot, when nobody booked it, goes to a flow of a mask that has a quantum ready.
     pub fn lend(mut self, mask: u16) -> Step
-        requires { SoundLink self }
         ensures { Stepped answer_to_lend (model.lend (read_of self) mask) result }
     {
         let plan = self.plan;
-        let current = self.state[CURRENT];
-        let w = window(plan.slots, plan.frames, current as usize);
+        let w = self.window();
         let answer = lend(&mut self.state, plan, w, mask);
         Step { link: self, answer }
     }

@@ -4,6 +4,7 @@
 
 ghost use Rattle.std.specs.Prelude.{◌≡◌, ◌<◌};
 ghost use Rattle.link.specs.Updates.{moved_to, granted_in};
+ghost use Rattle.link.specs.Sound.{SoundState};
 
 pub mod credit;
 mod fresh;
@@ -13,6 +14,7 @@ pub mod request;
 pub mod resume; // a state taken up again
 pub mod reset;
 pub mod tick;
+mod windows;
 
 use calls::Answer;
 use plan::Plan;
@@ -48,11 +50,12 @@ impl Flow {
     }
 }
 
-// A link: its plan, and the rest of it in one array of bytes.
+// A link: its plan, and the rest of it in one array of bytes, which is sound.
 #[derive(Clone, Copy)]
 pub struct Link {
     pub plan: Plan,
     pub state: State,
+    pub ghost sound: { SoundState plan state },
 }
 
 // What a call hands back.

@@ -7,7 +7,6 @@ ghost use Rattle.calls.specs.Reading.{answer_to_request};
 ghost use Rattle.unbooked.specs.Words.{InFrame};
 ghost use Rattle.link.specs.Parts.{parts_in};
 ghost use Rattle.link.specs.Changes.{BookedIn};
-ghost use Rattle.link.specs.Sound.{SoundLink};
 ghost use Rattle.link.specs.Steps.{read_in, read_of, Went, Stepped, reply_of, request_answer};
 ghost use Rattle.link.specs.Given.{SomePlan, SomeRequest, RequestIn, SeekIn, flow_or_zero, tests_of};
 ghost use Rattle.link.specs.Sought.{sought_in};
@@ -15,12 +14,11 @@ ghost use Rattle.link.specs.Sought.{sought_in};
 use crate::flows::{flow_at, put_flow};
 use crate::{Answer, Flow, Link, Step};
 use plan::Entry;
-use state::{CURRENT, OWNERS, State};
-use tables::Found;
+use state::{OWNERS, State};
+use tables::Place;
 use tables::holdings::raise_from;
 use tables::search::{find, late_rank, valid_in_newest};
 use window::Window;
-use window::positions::window;
 use word::Fields;
 
 // What a request comes to: 0 and the position granted, or the refusal and 0.
@@ -30,12 +28,11 @@ pub struct Reply {
     pub position: u8,
 }
 
-// What the search for a word's position comes to: the frame, what is left of the share, and the position; or no position: what is left, and
-// the refusal.
+// Where a search finds no position: what is left of the share, and the refusal.
 #[derive(Clone, Copy)]
-pub enum Sought {
-    At(usize, usize, usize),
-    Nowhere(usize, u8),
+pub(crate) struct Missed {
+    pub left: usize,
+    pub number: u8,
 }
 
 // A request that books nothing.
@@ -92,31 +89,32 @@ pub fn flow_or_zero(count: usize, i: usize) -> usize
 }
 
 // The search for flow i and a departure.
-fn seek(s: &State, e: Entry, w: Window, i: usize, flow: Flow, departure: usize) -> Sought
+fn seek(
+    s: &State,
+    e: Entry,
+    w: Window,
+    i: usize,
+    flow: Flow,
+    departure: usize,
+) -> Result<Place, Missed>
     requires { SomePlan (λ p. SeekIn p e w i flow departure s.now) }
     ensures { (p : Plan) → SeekIn p e w i flow departure s.now → result ≡ sought_in (read_in p s.now) i departure }
 {
     // the share is spent up to the newest frame: there is nothing to search, and no other word is refused as 11
     if flow.remainder == 0 && flow.injection == w.newest() {
-        return Sought::Nowhere(0, 11);
+        return Err(Missed {
+            left: 0,
+            number: 11,
+        });
     }
     let late = late_rank(s, i, e.cells, w);
-    let found = find(
-        s,
-        w,
-        late,
-        departure,
-        e.share as usize,
-        flow.injection,
-        flow.remainder,
-    );
-    match found {
-        Found::At(frame, left, position) => {
-            return Sought::At(frame, left, position);
-        }
-        Found::Nowhere(left) => {
-            return Sought::Nowhere(left, nowhere(valid_in_newest(s, w, late)));
-        }
+    let share = e.share as usize;
+    match find(s, w, late, departure, share, flow.injection, flow.remainder) {
+        Ok(place) => Ok(place),
+        Err(left) => Err(Missed {
+            left,
+            number: nowhere(valid_in_newest(s, w, late)),
+        }),
     }
 }
 
@@ -143,19 +141,18 @@ pub fn request(s: &mut State, count: usize, e: Entry, w: Window, fields: Fields)
     }
     let i = fields.flow as usize;
     let flow = flow_at(s, i);
-    let sought = seek(s, e, w, i, flow, fields.departure as usize);
-    match sought {
-        Sought::At(frame, left, position) => {
-            put_flow(s, i, flow.granted_in(frame, left));
-            book(s, w, i, frame, position);
-            return Reply {
+    match seek(s, e, w, i, flow, fields.departure as usize) {
+        Ok(place) => {
+            put_flow(s, i, flow.granted_in(place.frame, place.left));
+            book(s, w, i, place.frame, place.position);
+            Reply {
                 number: 0,
-                position: position as u8,
-            };
+                position: place.position as u8,
+            }
         }
-        Sought::Nowhere(left, number) => {
-            put_flow(s, i, flow.moved_to(w.newest(), left));
-            return refused(number);
+        Err(missed) => {
+            put_flow(s, i, flow.moved_to(w.newest(), missed.left));
+            refused(missed.number)
         }
     }
 }
@@ -174,15 +171,13 @@ fn told(word: u32, reply: Reply) -> Answer
 impl Link {
     // A word asks for a slot.
     pub fn request(mut self, word: u32) -> Step
-        requires { SoundLink self }
         ensures { Stepped answer_to_request (model.request (read_of self) word) result }
     {
         let plan = self.plan;
         let fields = word::split(word);
         let i = flow_or_zero(plan.count, fields.flow as usize);
         let e = plan.entries[i];
-        let current = self.state[CURRENT];
-        let w = window(plan.slots, plan.frames, current as usize);
+        let w = self.window();
         let reply = request(&mut self.state, plan.count, e, w, fields);
         Step {
             link: self,

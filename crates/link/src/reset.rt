@@ -8,19 +8,17 @@ ghost use Rattle.plan.specs.Reading.{Valid};
 ghost use Rattle.state.specs.State.{Whole, owners_of};
 ghost use Rattle.link.specs.Changes.{ResetTables};
 ghost use Rattle.link.specs.Given.{StateIn};
-ghost use Rattle.link.specs.Sound.{SoundLink};
 ghost use Rattle.link.specs.Steps.{read_in, read_of, Went, Stepped};
 ghost use Rattle.link.specs.Reset.{none_held_in, quiet_in};
 
 use crate::fresh::start_flows;
 use crate::{Answer, Link, Step};
 use plan::Plan;
-use state::{CURRENT, MARK, NOBODY, OWNERS, State, TURN, put_masks};
+use state::{MARK, NOBODY, OWNERS, State, TURN, put_masks};
 use tables::holdings::room_from;
 use tables::owners::{disown, unbooked_later};
 use unbooked::frames::every_slot;
 use window::Window;
-use window::positions::window;
 
 // Whether each of n flows holds nothing at the current position and at each later one: with one cell it would have room there.
 fn none_held(s: &State, count: usize, w: Window) -> bool
@@ -28,12 +26,10 @@ fn none_held(s: &State, count: usize, w: Window) -> bool
     ensures { result ≡ none_held_in (window_of w) count s.now }
 {
     let current = w.current;
-    let mut i = 0;
-    while i < count {
+    for i in 0..count {
         if !room_from(s, i, 1, w, current) {
             return false;
         }
-        i += 1;
     }
     true
 }
@@ -43,10 +39,7 @@ fn quiet(s: &State, count: usize, w: Window) -> bool
     requires { FlowsOf w count }
     ensures { result ≡ quiet_in (window_of w) count (owners_of s.now) s.now }
 {
-    if unbooked_later(s, w) {
-        return none_held(s, count, w);
-    }
-    false
+    unbooked_later(s, w) && none_held(s, count, w)
 }
 
 // Nobody owns a position of a state, and its flows start again in a frame.
@@ -80,12 +73,10 @@ pub fn reset(s: &mut State, plan: Plan, w: Window) -> Answer
 impl Link {
     // Every frame is recycled, when the link is quiet.
     pub fn reset(mut self) -> Step
-        requires { SoundLink self }
         ensures { Stepped answer_to_reset (model.reset (read_of self)) result }
     {
         let plan = self.plan;
-        let current = self.state[CURRENT];
-        let w = window(plan.slots, plan.frames, current as usize);
+        let w = self.window();
         let answer = reset(&mut self.state, plan, w);
         Step { link: self, answer }
     }

@@ -23,12 +23,10 @@ fn mask_owners(s: &mut State, w: Window)
 {
     let size = w.slots * w.frames;
     put_masks(s, every_slot(w.slots, w.frames));
-    let mut p = 0;
-    while p < size {
+    for p in 0..size {
         if s[OWNERS + p] != NOBODY {
             book(s, w, p / w.slots, p);
         }
-        p += 1;
     }
 }
 
@@ -36,12 +34,7 @@ fn mask_owners(s: &mut State, w: Window)
 fn unbound(s: &mut State)
     ensures { Unbounded s.old s.new }
 {
-    let end = BOUNDS + 16;
-    let mut q = BOUNDS;
-    while q < end {
-        s[q] = 255;
-        q += 1;
-    }
+    s[BOUNDS..BOUNDS + 16].fill(255);
 }
 
 // The owners of a state with their masks, its current position, its mark and its turn; the flows stay, and what they hold, of which no bound is known.

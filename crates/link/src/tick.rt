@@ -8,7 +8,6 @@ ghost use Rattle.tables.specs.Owners.{owner_of};
 ghost use Rattle.link.specs.Given.{StateIn};
 ghost use Rattle.link.specs.Parts.{flows_of};
 ghost use Rattle.link.specs.Changes.{FlowsNow, FrameLeft, ChangeIn};
-ghost use Rattle.link.specs.Sound.{SoundLink};
 ghost use Rattle.link.specs.Steps.{read_in, read_of, Went, Stepped};
 ghost use Rattle.link.specs.Updates.{left_heads};
 
@@ -20,7 +19,6 @@ use tables::holdings::carry_head;
 use tables::owners::empty_head;
 use tables::slot_masks::recycle_head;
 use window::Window;
-use window::positions::window;
 
 // The answer at a position with this owner.
 pub fn tick_answer(owner: u8) -> Answer
@@ -37,14 +35,12 @@ fn leave_head(s: &mut State, plan: Plan, head: usize, on: usize)
     requires { Valid plan × Whole s.old × (on < 256) }
     ensures { FlowsNow s.old s.new (left_heads plan head on (flows_of s.old)) }
 {
-    let mut i = 0;
-    while i < plan.count {
+    for i in 0..plan.count {
         let e = plan.entries[i];
         let f = flow_at(s, i);
         if f.injection == head {
-            put_flow(s, i, f.moved_to(on, e.share as usize));
+            put_flow(s, i, f.moved_to(on, usize::from(e.share)));
         }
-        i += 1;
     }
 }
 
@@ -78,12 +74,10 @@ pub fn tick(s: &mut State, plan: Plan, w: Window) -> Window
 impl Link {
     // The current position goes on by one.
     pub fn tick(mut self) -> Step
-        requires { SoundLink self }
         ensures { Stepped answer_to_tick (model.tick (read_of self)) result }
     {
         let plan = self.plan;
-        let current = self.state[CURRENT];
-        let w = window(plan.slots, plan.frames, current as usize);
+        let w = self.window();
         let on = tick(&mut self.state, plan, w);
         let next = on.current;
         let owner = self.state[OWNERS + next];

@@ -4,7 +4,7 @@ use mathlib.Core.Path.{◌≡◌, refl, sym, ap, ◌∙◌}
 use mathlib.Core.List.{List, ◌∷◌, [], ◌++◌}
 use mathlib.Core.Bool.{Bool, true, false, cond}
 use native.Mathlib.Omega.{arith}
-use lib.ListN.{length, get_or, replicate}
+use lib.ListN.{length, get_or}
 use lib.Dec.{ltb}
 use borrow.Author.Tests.{ltb-false, not-false}
 use Rattle.model.specs.Tables.{any, sum}
@@ -14,7 +14,11 @@ use Rattle.model.proofs.Tables.{get_d-table, table_same}
 use Rattle.mesh.specs.Mesh.{links, some_of}
 use Rattle.mesh.specs.Streams.{Stream, stream, share_on, load}
 use Rattle.mesh.specs.Admission.{over, refusal_before_links, refusal, FittingStream}
-use Rattle.mesh.specs.Reading.{stream_at, streams_of, link_at, loads_when}
+use Rattle.mesh.specs.Reading.{stream_at, streams_of, link_at, loads_of}
+use Rattle.std.specs.Prelude.{Result, Ok, Err}
+use Rattle.std.specs.Result.{IsErrAnd}
+use Rattle.mesh.specs.declared.Refusal.{Refusal}
+use Rattle.mesh.specs.Refusals.{number, refusal_number}
 use Rattle.mesh.specs.Loads.{SmallStreams, gathered_loads}
 use Rattle.mesh.proofs.Tests.{fitting, count_is, stream-is}
 use Rattle.mesh.proofs.Links.{some-over}
@@ -84,7 +88,7 @@ module _ (numbers : List ℕ) where
       sum_same (length numbers / 3) _ _ (λ i l. ap (share_on (link_at k)) (sym (stream-is numbers i l)))
       ∙ ap (λ n. sum n (λ i. share_on (link_at k) (stream (streams_of numbers) i))) (sym (count_is numbers))
 
-  pub loads_are : gathered_loads numbers (length numbers / 3) ≡ loads_when 0 (streams_of numbers)
+  pub loads_are : gathered_loads numbers (length numbers / 3) ≡ loads_of (streams_of numbers)
   loads_are = table_same 256 _ _ (λ k l. load_is k)
 
   pub small-streams : {F : ℕ} → Asked F (streams_of numbers) → SmallStreams numbers (length numbers / 3)
@@ -99,21 +103,30 @@ module _ (numbers : List ℕ) where
       fits : (i : ℕ) → i < length numbers / 3 → FittingStream F (stream_at numbers i)
       fits i l = rw (stream-is numbers i l) at (a.streams_fit i (omega (arith, count_is numbers)))
 
-pub no-loads : (streams : List Stream) (r : ℕ) → (r ≡ 0 → ⊥) → replicate 256 0 ≡ loads_when r streams
-no-loads streams zero some = absurd (some refl)
-no-loads streams (suc r) some = refl
-
 -- ---- the links
 
 -- the test of the table is the test of the links
-pub over-table : {F : ℕ} {streams : List Stream} {loads : List ℕ} → Asked F streams → loads ≡ loads_when 0 streams
+pub over-table : {F : ℕ} {streams : List Stream} {loads : List ℕ} → Asked F streams → loads ≡ loads_of streams
     → any 256 (λ k. ltb F (get_or loads k 0)) ≡ some_of (over F streams) links
 over-table {F} {streams} {loads} a e =
     any_same 256 _ _ (λ k l. ap (ltb F) (ap (λ xs. get_or xs k 0) e ∙ get_d-table 256 (λ k. load streams (link_at k)) k 0 l))
     ∙ sym (some-over F streams a.streams_fit)
 
 -- where no test before the links applies, and the table's test came out so
-pub refused-by-table : (F : ℕ) (streams : List Stream) (loads : List ℕ) → refusal_before_links F streams ≡ 0 → loads ≡ loads_when 0 streams → (b : Bool)
+pub refused-by-table : (F : ℕ) (streams : List Stream) (loads : List ℕ) → refusal_before_links F streams ≡ 0 → loads ≡ loads_of streams → (b : Bool)
     → any 256 (λ k. ltb F (get_or loads k 0)) ≡ b → cond b 25 0 ≡ refusal F streams
 refused-by-table F streams loads e same b came =
     ap (λ t. cond t 25 0) (sym came ∙ over-table (well-asked F streams e) same) ∙ refused-by-links F streams e
+
+-- ---- the code's refusals
+
+some-number : (r : Refusal) → number r ≡ 0 → ⊥
+some-number Refusal.Frame e = absurd (omega arith)
+some-number Refusal.Stream e = absurd (omega arith)
+some-number Refusal.Mesh e = absurd (omega arith)
+
+-- a test before the links applies: `?` passes it on, and it is the refusal
+pub refused-first : {A : Type 0} (F : ℕ) (streams : List Stream) (x : Result A Refusal) (r : Refusal) → IsErrAnd x (λ e. e ≡ r)
+    → number r ≡ refusal_before_links F streams → refusal_number x ≡ refusal F streams
+refused-first F streams (Ok a) r h n = absurd h
+refused-first F streams (Err e) r h n = ap number h ∙ n ∙ refused_before F streams (λ z. some-number r (n ∙ z))

@@ -1,6 +1,6 @@
 -- The places of one side of a line's nodes, and loads that are raised along it. Assumes nothing.
-use Prim.Native.Nat.{ℕ, zero, suc, ◌+◌, ◌-◌, ◌*◌, ◌/◌, ◌%◌, ◌≤◌, ◌<◌}
-use mathlib.Core.Path.{◌≡◌, refl, sym, ap, ◌∙◌}
+use Prim.Native.Nat.{ℕ, ◌+◌, ◌-◌, ◌/◌, ◌%◌, ◌≤◌, ◌<◌}
+use mathlib.Core.Path.{◌≡◌, sym, ap, ◌∙◌}
 use mathlib.Core.List.{List}
 use mathlib.Core.Bool.{true, false}
 use native.Mathlib.Decide.{dec_lt, dec_le}
@@ -55,25 +55,6 @@ one_place north k i e f g = omega arith
 one_place west k i e f g = omega arith
 one_place east k i e f g = omega arith
 one_place south k i e f g = omega arith
-
--- ---- places by the numbers of the sides
-
-module _ {side line step : ℕ} (l : line < 8) (m : step < 8) where
-  pub west-place : side ≡ 1 → Place side line step (4 * (8 * line + step) + 1)
-  west-place e = rw e (record { within = omega arith; side_is = omega arith; line_is = omega arith; step_is = omega arith })
-
-  pub east-place : side ≡ 2 → Place side line step (4 * (8 * line + step) + 2)
-  east-place e = rw e (record { within = omega arith; side_is = omega arith; line_is = omega arith; step_is = omega arith })
-
-  pub column-place : side < 4 → (side ≡ 1 → ⊥) → (side ≡ 2 → ⊥) → Place side line step (4 * (8 * step + line) + side)
-  column-place h not-west not-east = go side h not-west not-east
-    where
-      go : (s : ℕ) → s < 4 → (s ≡ 1 → ⊥) → (s ≡ 2 → ⊥) → Place s line step (4 * (8 * step + line) + s)
-      go zero h n o = record { within = omega arith; side_is = omega arith; line_is = omega arith; step_is = omega arith }
-      go (suc zero) h n o = absurd (n refl)
-      go (suc (suc zero)) h n o = absurd (o refl)
-      go (suc (suc (suc zero))) h n o = record { within = omega arith; side_is = omega arith; line_is = omega arith; step_is = omega arith }
-      go (suc (suc (suc (suc s)))) h n o = absurd (omega arith)
 
 -- ---- a line, step by step
 

@@ -1,11 +1,11 @@
 -- The tests before the links, on the streams of some numbers. Assumes nothing.
-use Prim.Native.Nat.{ℕ, ◌/◌, ◌≤◌, ◌<◌}
+use Prim.Native.Nat.{ℕ, ◌/◌, ◌<◌}
 use mathlib.Core.Path.{◌≡◌, ap, ◌∙◌}
 use mathlib.Core.List.{List, ◌∷◌, []}
-use mathlib.Core.Bool.{Bool, true, not, cond}
+use mathlib.Core.Bool.{Bool, true, not}
 use lib.ListN.{length}
 use lib.Dec.{ltb}
-use borrow.Author.Tests.{leb-true, lt-ltb, lt-leb, le-leb, le-ltb, eqb-false, not-true}
+use borrow.Author.Tests.{leb-true, eqb-false, not-true}
 use Rattle.model.specs.Tables.{any, within}
 use Rattle.model.specs.Refusals.{◌when◌, first_of}
 use Rattle.model.proofs.Tests.{and-true, within-true, any_same}
@@ -54,28 +54,9 @@ module _ (numbers : List ℕ) where
   abbrev pub misfitting : ℕ → Bool
   misfitting F = any count (λ i. not (stream_fits F (stream_at numbers i)))
 
-  tests-are : (F : ℕ) → refusal_before_links F (streams_of numbers) ≡ first_of (25 when ltb 64 count ∷ 3 when not (within 1 64 F) ∷ 4 when misfitting F ∷ [])
+  pub tests-are : (F : ℕ) → refusal_before_links F (streams_of numbers) ≡ first_of (25 when ltb 64 count ∷ 3 when not (within 1 64 F) ∷ 4 when misfitting F ∷ [])
   unfolding refusal_before_links
   tests-are F =
       let many = ap (ltb 64) count_is in
       let misfits = some-stream (λ s. not (stream_fits F s)) in
       λ k. first_of (25 when many k ∷ 3 when not (within 1 64 F) ∷ 4 when misfits k ∷ [])
-
-  module _ (F : ℕ) where
-    pub gives-25 : 64 < count → 25 ≡ refusal_before_links F (streams_of numbers)
-    unfolding first_of
-    gives-25 l = rw (tests-are F, lt-ltb 64 count l)
-
-    module _ (few : count ≤ 64) where
-      pub no_slot : F < 1 → 3 ≡ refusal_before_links F (streams_of numbers)
-      unfolding first_of
-      no_slot l = rw (tests-are F, le-ltb 64 count few, lt-leb 1 F l)
-
-      pub many-slots : 1 ≤ F → 64 < F → 3 ≡ refusal_before_links F (streams_of numbers)
-      unfolding first_of
-      many-slots one l = rw (tests-are F, le-ltb 64 count few, le-leb 1 F one, lt-leb F 64 l)
-
-      -- 4 or nothing, by the last test
-      pub gives-4 : 1 ≤ F → F ≤ 64 → (b : Bool) → misfitting F ≡ b → cond b 4 0 ≡ refusal_before_links F (streams_of numbers)
-      unfolding first_of
-      gives-4 one most b e = rw (tests-are F, le-ltb 64 count few, le-leb 1 F one, le-leb F 64 most, e)

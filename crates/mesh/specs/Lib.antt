@@ -7,3 +7,4 @@ pub mod Reading
 pub mod Loads
 pub mod EdgeCases
 pub mod Edges
+pub mod Refusals

@@ -1,5 +1,5 @@
 -- Numbers read as streams, and the table of loads. Assumes nothing.
-use Rattle.std.specs.Prelude.{ℕ, zero, suc, ◌+◌, ◌*◌, ◌/◌, ◌%◌, List, length, get_or, replicate}
+use Rattle.std.specs.Prelude.{ℕ, zero, suc, ◌+◌, ◌*◌, ◌/◌, ◌%◌, List, length, get_or}
 use Rattle.model.specs.Tables.{table}
 use Rattle.mesh.specs.Mesh.{Side, north, west, east, south, Link, link}
 use Rattle.mesh.specs.Streams.{Stream, stream_with, load}
@@ -23,7 +23,6 @@ side_at (suc (suc (suc k))) = south
 abbrev pub link_at : ℕ → Link
 link_at k = link (side_at (k % 4)) (k / 4)
 
--- the table of loads, if no test before the links gave a refusal; else nothing is carried anywhere
-abbrev pub loads_when : (refusal : ℕ) → List Stream → List ℕ
-loads_when zero streams = table 256 (λ k. load streams (link_at k))
-loads_when (suc r) streams = replicate 256 0
+-- the table of loads
+abbrev pub loads_of : List Stream → List ℕ
+loads_of streams = table 256 (λ k. load streams (link_at k))

@@ -4,21 +4,25 @@ ghost use Rattle.model.specs.Tables.{any};
 ghost use Rattle.mesh.specs.Admission as admission;
 ghost use Rattle.mesh.specs.Streams.{stream_with};
 ghost use Rattle.mesh.specs.Reading.{stream_at, streams_of};
+ghost use Rattle.mesh.specs.Refusals.{refusal_number};
+
+use crate::Refusal;
+
+// The most slots of a frame.
+const MOST_SLOTS: usize = 64;
+
+// The most streams.
+const MOST_STREAMS: usize = 64;
+
+// The node of the last board.
+const LAST_NODE: usize = 63;
 
 // Whether a stream keeps its limits in frames of so many slots.
+#[tactic(auto, unfolding(crate::specs::Admission::stream_fits))]
 fn fits(slots: usize, source: usize, destination: usize, share: usize) -> bool
     ensures { result ≡ admission.stream_fits slots (stream_with source destination share) }
 {
-    if share < 1 {
-        return false;
-    }
-    if slots < share {
-        return false;
-    }
-    if 63 < source {
-        return false;
-    }
-    if 63 < destination {
+    if !(1..=slots).contains(&share) || LAST_NODE < source || LAST_NODE < destination {
         return false;
     }
     source != destination
@@ -29,8 +33,7 @@ fn streams_out_of_range(slots: usize, numbers: &[usize], count: usize) -> bool
     requires { 3 * count ≤ length numbers.now }
     ensures { result ≡ any count (λ i. not (admission.stream_fits slots (stream_at numbers.now i))) }
 {
-    let mut i = 0;
-    while i < count {
+    for i in 0..count {
         if !fits(
             slots,
             numbers[3 * i],
@@ -39,27 +42,23 @@ fn streams_out_of_range(slots: usize, numbers: &[usize], count: usize) -> bool
         ) {
             return true;
         }
-        i += 1;
     }
     false
 }
 
-// The number of the first of these tests that applies, and 0 where none does.
-pub(crate) fn refusal_before_links(slots: usize, numbers: &[usize]) -> u8
-    ensures { result ≡ admission.refusal_before_links slots (streams_of numbers.now) }
+// The first of these tests that applies.
+pub(crate) fn check_before_links(slots: usize, numbers: &[usize]) -> Result<(), Refusal>
+    ensures { refusal_number result ≡ admission.refusal_before_links slots (streams_of numbers.now) }
 {
     let count = numbers.len() / 3;
-    if 64 < count {
-        return 25;
+    if MOST_STREAMS < count {
+        return Err(Refusal::Mesh);
     }
-    if slots < 1 {
-        return 3;
-    }
-    if 64 < slots {
-        return 3;
+    if !(1..=MOST_SLOTS).contains(&slots) {
+        return Err(Refusal::Frame);
     }
     if streams_out_of_range(slots, numbers, count) {
-        return 4;
+        return Err(Refusal::Stream);
     }
-    0
+    Ok(())
 }

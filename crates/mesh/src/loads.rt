@@ -1,27 +1,17 @@
 // The table of loads: four places for each board, one for each side, in the order of the nodes of the boards there.
-ghost use Rattle.std.specs.Prelude.{◌+◌, ◌≡◌, get_or, replicate, ltb};
+ghost use Rattle.std.specs.Prelude.{◌+◌, ◌≡◌, get_or, ltb};
 ghost use Rattle.model.specs.Tables.{any, table};
 ghost use Rattle.mesh.specs.Streams.{stream_with, share_on};
 ghost use Rattle.mesh.specs.Reading.{link_at};
 ghost use Rattle.mesh.specs.Loads.{Addable, Joining, SmallStreams, Spot, Place, in_line, raised, gathered_loads};
-
-// A table where no link has a load.
-pub(crate) fn zeros() -> [usize; 256]
-    ensures { result ≡ replicate 256 0 }
-{
-    [0usize; 256]
-}
 
 // The place of a board's side. The board is given by a line, a row for west and east and else a column, and by how far along the line it is.
 fn place(side: usize, line: usize, step: usize) -> usize
     requires { Spot side line step }
     ensures { Place side line step result }
 {
-    if side == 1 {
-        return 4 * (8 * line + step) + 1;
-    }
-    if side == 2 {
-        return 4 * (8 * line + step) + 2;
+    if side == 1 || side == 2 {
+        return 4 * (8 * line + step) + side;
     }
     4 * (8 * step + line) + side
 }
@@ -38,11 +28,8 @@ fn add_in_line(
     requires { Addable loads.old side line high share }
     ensures { loads.new ≡ raised (in_line side line low high) share loads.old }
 {
-    let mut step = low;
-    while step < high {
-        let at = place(side, line, step);
-        loads[at] = loads[at] + share;
-        step += 1;
+    for step in low..high {
+        loads[place(side, line, step)] += share;
     }
 }
 
@@ -66,16 +53,14 @@ pub(crate) fn gathered(numbers: &[usize], count: usize) -> [usize; 256]
     requires { SmallStreams numbers.now count }
     ensures { result ≡ gathered_loads numbers.now count }
 {
-    let mut loads = zeros();
-    let mut i = 0;
-    while i < count {
+    let mut loads = [0; 256];
+    for i in 0..count {
         add_stream(
             &mut loads,
             numbers[3 * i],
             numbers[3 * i + 1],
             numbers[3 * i + 2],
         );
-        i += 1;
     }
     loads
 }
@@ -84,12 +69,10 @@ pub(crate) fn gathered(numbers: &[usize], count: usize) -> [usize; 256]
 pub fn any_over(loads: &[usize; 256], slots: usize) -> bool
     ensures { result ≡ any 256 (λ k. ltb slots (get_or loads.now k 0)) }
 {
-    let mut k = 0;
-    while k < 256 {
-        if slots < loads[k] {
+    for load in loads {
+        if slots < *load {
             return true;
         }
-        k += 1;
     }
     false
 }

@@ -6,7 +6,6 @@ ghost use Rattle.std.specs.Prelude.{◌≤◌, length};
 use std::io::Print;
 use std::time::Clock;
 use timing::{clock, input, report};
-use tokens::Found;
 
 // Times that the streams are checked.
 const REPEATS: usize = 20000;
@@ -23,29 +22,30 @@ fn repeat(clock: &impl Clock, slots: usize, numbers: &mut [usize]) -> Checked
     requires { 3 ≤ length numbers.old }
 {
     let mut lowest = u64::MAX;
-    let mut sum = 0;
+    let mut sum = 0u64;
     for i in 0..REPEATS {
         numbers[2] = 1 + i % 2;
         let begin = clock::nanoseconds(clock);
         let answer = mesh::admit(slots, numbers);
-        lowest = clock::least(lowest, clock::since(clock, begin));
-        sum = std::num::wrapping_add_u64(sum, answer as u64);
+        lowest = lowest.min(clock::since(clock, begin));
+        let number = match answer {
+            Ok(()) => 0,
+            Err(refusal) => u64::from(refusal.number()),
+        };
+        sum = sum.wrapping_add(number);
     }
     Checked { lowest, sum }
 }
 
 // Measures the first numbers, F and the streams; false where there is no stream.
 fn measure(rt: &(impl Clock + Print), numbers: &mut [usize], count: usize) -> bool {
-    if count < 4 {
-        return false;
-    }
-    if numbers.len() < count {
+    if count < 4 || numbers.len() < count {
         return false;
     }
     let slots = numbers[0];
     let checked = repeat(rt, slots, &mut numbers[1..count]);
     report::print(rt, b"check ");
-    report::print_number(rt, clock::difference(checked.lowest, clock::cost(rt)));
+    report::print_number(rt, checked.lowest.saturating_sub(clock::cost(rt)));
     report::print(rt, b" ns\nanswers ");
     report::print_number(rt, checked.sum);
     report::print(rt, b"\n");
@@ -56,8 +56,7 @@ fn main(rt: HostRuntime) {
     let mut space = [0u8; 4000];
     let got = input::read_full(&mut rt.stdin(), &mut space);
     let mut numbers = [0usize; 256];
-    let found = tokens::read_numbers(&space[..got], &mut numbers);
-    let Found::Count(count) = found else {
+    let Ok(count) = tokens::read_numbers(&space[..got], &mut numbers) else {
         report::print(&rt, b"no streams\n");
         return;
     };

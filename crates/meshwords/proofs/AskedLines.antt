@@ -9,19 +9,13 @@ use lib.Seq.{take_all}
 use borrow.Author.Tests.{eq-eqb, ne_eqb}
 use Rattle.model.specs.Listing.{refusal_line}
 use Rattle.replies.specs.Lines.{cannot}
-use Rattle.mesh.specs.Streams.{Stream}
-use Rattle.mesh.specs.Admission.{refusal_before_links}
 use Rattle.mesh.specs.Reading.{streams_of}
-use Rattle.meshwords.specs.Answers.{admission_line, over_line, mesh_line, mesh_answer}
+use Rattle.meshwords.specs.Answers.{admission_line, mesh_line, mesh_answer}
 
 -- a refusal's line
 pub refused-line : (r n : ℕ) → r ≡ n → (r ≡ 0 → ⊥) → refusal_line r ≡ admission_line n
 refused-line zero n e some = absurd (some refl)
 refused-line (suc r) n e some = ap admission_line e
-
-pub over-refused : (F : ℕ) (streams : List Stream) (r : ℕ) → r ≡ refusal_before_links F streams → (r ≡ 0 → ⊥) → refusal_line r ≡ over_line (refusal_before_links F streams) F streams
-over-refused F streams zero e some = absurd (some refl)
-over-refused F streams (suc r) e some = ap (λ n. over_line n F streams) e
 
 module _ (over : Bool) (numbers : List ℕ) where
   pub slots-missing : length numbers ≡ 0 → cannot "F is missing" ≡ mesh_answer over numbers

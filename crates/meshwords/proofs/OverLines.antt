@@ -7,7 +7,7 @@ use native.Mathlib.Numerals.{add-one}
 use native.Mathlib.Omega.{arith}
 use lib.ListN.{get_or}
 use lib.Dec.{ltb}
-use borrow.Author.Tests.{not-true, not-false}
+use borrow.Author.Tests.{not-false}
 use Rattle.model.specs.Tables.{table, any}
 use Rattle.model.specs.Listing.{text}
 use Rattle.model.proofs.Tables.{get_d-table}
@@ -18,7 +18,7 @@ use Rattle.replies.specs.Lines.{spaced}
 use Rattle.mesh.specs.Mesh.{Link, keep, some_of, links}
 use Rattle.mesh.specs.Streams.{Stream, load}
 use Rattle.mesh.specs.Admission.{over, refusal_before_links, over_links, over_numbers}
-use Rattle.mesh.specs.Reading.{link_at, loads_when}
+use Rattle.mesh.specs.Reading.{link_at, loads_of}
 use Rattle.mesh.proofs.Links.{over-links-are}
 use Rattle.mesh.proofs.Admission.{well-asked, over-table}
 use Rattle.mesh.proofs.Admitted.{none_kept, nothing-kept}
@@ -99,7 +99,7 @@ some-link : (streams : List Stream) (ls : List Link) → (ls ≡ [] → ⊥)
 some-link streams [] some = absurd (some refl)
 some-link streams (l ∷ ls) some = refl
 
-module _ (F : ℕ) (streams : List Stream) (loads : List ℕ) (asked : refusal_before_links F streams ≡ 0) (same : loads ≡ loads_when 0 streams) where
+module _ (F : ℕ) (streams : List Stream) (loads : List ℕ) (asked : refusal_before_links F streams ≡ 0) (same : loads ≡ loads_of streams) where
   load_at : (k : ℕ) → k < 256 → load streams (link_at k) ≡ get_or loads k 0
   load_at k l = sym (ap (λ xs. get_or xs k 0) same ∙ get_d-table 256 (λ k. load streams (link_at k)) k 0 l)
 
@@ -123,8 +123,5 @@ module _ (F : ℕ) (streams : List Stream) (loads : List ℕ) (asked : refusal_b
 
 -- the line by the test of the table
 module _ (F : ℕ) (loads : List ℕ) {r : Bool} (test : r ≡ any 256 (λ k. ltb F (get_or loads k 0))) where
-  pub none-line : not r ≡ true → text "ok\n" ≡ table_line F loads
-  none-line e = rw (sym test ∙ not-true r e)
-
   pub some-line : not r ≡ false → text "over" ++ flat_map spaced (overload_numbers F loads 256) ++ text "\n" ≡ table_line F loads
   some-line e = rw (sym test ∙ not-false r e)

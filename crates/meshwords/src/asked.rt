@@ -11,11 +11,10 @@ fn say_admission(slots: usize, numbers: &[usize], out: &mut [u8]) -> usize
     requires { room ≤ length out.old }
     ensures { Says (answers.mesh_line false slots (streams_of numbers.now)) out.old out.new result }
 {
-    let refusal = mesh::admit(slots, numbers);
-    if refusal == 0 {
-        return replies::say(b"ok\n", out);
+    match mesh::admit(slots, numbers) {
+        Ok(()) => replies::say(b"ok\n", out),
+        Err(refusal) => replies::say_refusal(refusal.number(), out),
     }
-    replies::say_refusal(refusal, out)
 }
 
 // Answers F and streams, by the word.

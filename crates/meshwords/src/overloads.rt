@@ -26,9 +26,10 @@ fn put_if_over(slots: usize, k: usize, load: usize, out: &mut [u8], at: usize) -
     ensures most { result ≤ at + 63 }
 {
     if slots < load {
-        return put_link(k, load, out, at);
+        put_link(k, load, out, at)
+    } else {
+        at
     }
-    at
 }
 
 // Stores all links whose loads are above F.
@@ -38,10 +39,8 @@ fn put_over(slots: usize, loads: &[usize; 256], out: &mut [u8], at: usize) -> us
     ensures most { result ≤ at + 16128 }
 {
     let mut next = at;
-    let mut k = 0;
-    while k < 256 {
-        next = put_if_over(slots, k, loads[k], out, next);
-        k += 1;
+    for (k, load) in loads.iter().enumerate() {
+        next = put_if_over(slots, k, *load, out, next);
     }
     next
 }
@@ -64,11 +63,8 @@ pub(crate) fn say_over(slots: usize, numbers: &[usize], out: &mut [u8]) -> usize
     requires { room ≤ length out.old }
     ensures { Says (answers.mesh_line true slots (streams_of numbers.now)) out.old out.new result }
 {
-    let measured = mesh::measure(slots, numbers);
-    let refusal = measured.refusal;
-    if refusal != 0 {
-        return replies::say_refusal(refusal, out);
+    match mesh::measure(slots, numbers) {
+        Ok(table) => say_table(slots, &table, out),
+        Err(refusal) => replies::say_refusal(refusal.number(), out),
     }
-    let table = measured.table;
-    say_table(slots, &table, out)
 }

@@ -2,6 +2,8 @@
 use Prim.Native.Nat.{ℕ, ◌+◌, ◌*◌, ◌≤◌, ◌<◌}
 use mathlib.Core.Path.{◌≡◌, refl, sym, ap, ◌∙◌}
 use mathlib.Core.List.{List}
+use Rattle.std.specs.Prelude.{Some, None}
+use Rattle.std.specs.Prelude as rust
 use mathlib.Core.Option.{Option, some, none}
 use mathlib.Core.Bool.{Bool, true, false, ◌&&◌, cond}
 use native.Mathlib.Omega.{arith}
@@ -12,12 +14,11 @@ use borrow.Author.Tests.{le-leb, lt-leb, ne_eqb}
 use Rattle.model.specs.Plan.{field16}
 use Rattle.model.specs.Record.{RecordCall}
 use Rattle.model.specs.Calls as model
-use Rattle.calls.specs.declared.Record.{Record}
+use Rattle.calls.specs.declared.Call as calls
 use Rattle.calls.specs.Reading.{record_for, call_in}
 use Rattle.calls.proofs.Answers.{call-in}
 use Rattle.imagemodel.specs.Play.{other_call}
-use Rattle.nazgolv.specs.declared.records.Found.{Found}
-use Rattle.nazgolv.specs.declared.records.Found.TheVariants.{NoCall}
+use Rattle.nazgolv.specs.declared.Call.{Call}
 use Rattle.nazgolv.specs.Calls.{call_for, call_out, found_for}
 
 -- ---- what a record comes to, read back
@@ -29,19 +30,19 @@ call_back model.Call.tick = refl
 call_back (model.Call.lend mask) = refl
 call_back model.Call.reset = refl
 
-abbrev pub found_in : Found → Option model.Call
-found_in (Found.Call c) = some (call_for c)
-found_in NoCall = none
+abbrev pub found_in : rust.Option Call → Option model.Call
+found_in (Some c) = some (call_for c)
+found_in None = none
 
 found_back : (o : Option model.Call) → found_in (found_for o) ≡ o
 found_back (some c) = ap some (call_back c)
 found_back none = refl
 
 -- the call of a record that was found, and of one that domelink has too
-pub found_as : {o : Option model.Call} {r x : Found} → r ≡ found_for o → r ≡ x → o ≡ found_in x
+pub found_as : {o : Option model.Call} {r x : rust.Option Call} → r ≡ found_for o → r ≡ x → o ≡ found_in x
 found_as {o} e is = sym (found_back o) ∙ ap found_in (sym e ∙ is)
 
-pub read_as : {o : Option RecordCall} {r x : Record} → r ≡ record_for o → r ≡ x → o ≡ call_in x
+pub read_as : {o : Option RecordCall} {r x : rust.Option calls.Call} → r ≡ record_for o → r ≡ x → o ≡ call_in x
 read_as {o} e is = sym (call-in o) ∙ ap call_in (sym e ∙ is)
 
 -- ---- a lend or a reset, by its kind and two fields

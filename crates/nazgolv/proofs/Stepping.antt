@@ -13,7 +13,6 @@ use Rattle.model.specs.Link as model
 use Rattle.model.specs.WrittenPlan.{AllBytes}
 use Rattle.model.specs.Request as request
 use Rattle.model.specs.Credit as credit
-use Rattle.model.specs.Tick as tick
 use Rattle.model.specs.Lend as lend
 use Rattle.model.specs.Reset as reset
 use Rattle.calls.specs.Reading.{answer_to_request, answer_to_credit, answer_to_tick, answer_to_lend, answer_to_reset}
@@ -89,10 +88,6 @@ module _ {p : Plan} {w : Window} {s₀ : List ℕ} (o : StateIn p w s₀) where
   steps-credit i q {k = k} went is =
       stepped credit_number credit-answer-number (credit.credit (read_in p s₀) i q) (credit-told (read_in p s₀) i q went)
       (still-in o went (credit-current (read_in p s₀) i q)) (is ∙ credit-number k)
-
-  pub steps-tick : {v : Window} {s : List ℕ} {a : Answer} {r : ℕ} → Went answer_to_tick (tick.tick (read_in p s₀)) p s a → StateIn p v s
-      → r ≡ number_for a → StepsTo (on_link (read_in p s₀) Call.tick) p v s r
-  steps-tick = stepped tick_number tick-answer-number (tick.tick (read_in p s₀))
 
   pub steps-lend : (mask : ℕ) {s : List ℕ} {a : Answer} {r : ℕ} → Went answer_to_lend (lend.lend (read_in p s₀) mask) p s a
       → r ≡ number_for a → StepsTo (on_link (read_in p s₀) (Call.lend mask)) p w s r

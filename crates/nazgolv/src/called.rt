@@ -5,7 +5,7 @@ ghost use Rattle.nazgolv.specs.Calls.{call_for};
 use crate::Call;
 use crate::numbers::{leaves_all, refused};
 use crate::steps::step;
-use imagecheck::refusal;
+use imagecheck::check;
 use imagecodec::{read, write};
 use link::resume::empty;
 
@@ -14,9 +14,8 @@ use link::resume::empty;
 pub(crate) fn called(image: &mut [u8], call: Call) -> u64
     ensures { HandsBack (called_on image.old (call_for call)) result image.new }
 {
-    let number = refusal(image);
-    if number != 0 {
-        return refused(number);
+    if let Err(refusal) = check(image) {
+        return refused(refusal.number());
     }
     let mut state = empty();
     let kept = read(&mut state, image);

@@ -6,6 +6,7 @@ ghost use Rattle.std.specs.Prelude.{◌≡◌};
 ghost use Rattle.imagemodel.specs.ValidImage.{refusal_of};
 ghost use Rattle.imagemodel.specs.Exports.{HandsBack, fresh_on, request_on, credit_on, tick_on, lend_on, reset_on};
 ghost use Rattle.imagemodel.specs.Play.{PlaysBack, play_on};
+ghost use Rattle.nazgolv.specs.Calls.{call_also};
 
 mod called; // a call on an image
 mod numbers; // the number of an answer
@@ -14,13 +15,12 @@ mod records; // a record of a play
 mod steps; // a call on a state
 
 use called::called;
+use imagecheck::check;
 use imagecheck::layout::layout_of;
-use imagecheck::refusal;
 use imagecodec::{read, write};
 use link::Link;
 use link::resume::empty;
-use numbers::{refused, wide};
-use plan::Verdict;
+use numbers::refused;
 use played::play_all;
 
 // A call on a link.
@@ -36,27 +36,33 @@ pub enum Call {
     Reset,
 }
 
+impl From<calls::Call> for Call {
+    ghost from_gives = { λ call r. r ≡ call_also call };
+
+    fn from(call: calls::Call) -> Call {
+        match call {
+            calls::Call::Request(word) => Call::Request(word),
+            calls::Call::Credit(flow, position) => Call::Credit(flow, position),
+            calls::Call::Tick => Call::Tick,
+        }
+    }
+}
+
 // The image of a plan's fresh link.
 #[unsafe(no_mangle)]
 pub extern "C" fn nazgolv_fresh(plan: &[u8], image: &mut [u8]) -> u64
     ensures { HandsBack (fresh_on plan.now image.old) result image.new }
 {
-    let outcome = plan::read(plan);
-    let verdict = outcome.verdict;
-    match verdict {
-        Verdict::Refused(number) => {
-            return refused(number);
-        }
-        Verdict::Accepted => {
-            let plan = outcome.plan;
+    match plan::read(plan) {
+        Err(refusal) => refused(refusal.number()),
+        Ok(plan) => {
             let l = layout_of(plan);
             if image.len() < l.total {
                 return refused(21);
             }
             let link = Link::fresh(plan);
-            let kept = link.plan;
-            write(kept, &link.state, image);
-            return 0;
+            write(link.plan, &link.state, image);
+            0
         }
     }
 }
@@ -66,7 +72,10 @@ pub extern "C" fn nazgolv_fresh(plan: &[u8], image: &mut [u8]) -> u64
 pub extern "C" fn nazgolv_check(image: &[u8]) -> u64
     ensures { result ≡ refusal_of image.now }
 {
-    wide(refusal(image))
+    match check(image) {
+        Err(refusal) => u64::from(refusal.number()),
+        Ok(()) => 0,
+    }
 }
 
 // A word asks for a slot.
@@ -114,9 +123,8 @@ pub extern "C" fn nazgolv_reset(image: &mut [u8]) -> u64
 pub extern "C" fn nazgolv_play(image: &mut [u8], records: &[u8], out: &mut [u8]) -> u64
     ensures { PlaysBack (play_on image.old records.now out.old) result image.new out.new }
 {
-    let number = refusal(image);
-    if number != 0 {
-        return refused(number);
+    if let Err(refusal) = check(image) {
+        return refused(refusal.number());
     }
     if out.len() / 8 < (records.len() + 4) / 5 {
         return refused(19);

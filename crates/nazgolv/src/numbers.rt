@@ -7,34 +7,21 @@ ghost use Rattle.nazgolv.specs.Numbers.{number_for, leaves_all};
 use calls::Answer;
 use link::request::Reply;
 
-pub(crate) fn wide(byte: u8) -> u64
-    ensures { result ≡ byte }
-{
-    byte as u64
-}
+// How many numbers a call is answered by where it isn't refused: a refusal is so many times its number.
+const ANSWERS: u64 = 1 << 32;
 
 // The number of a refusal.
 pub(crate) fn refused(number: u8) -> u64
     ensures { result ≡ refusal_number number }
 {
-    wide(number) * 4294967296
+    ANSWERS * u64::from(number)
 }
 
 // Whether a number is that of a refusal that leaves the image as it was.
 pub(crate) fn leaves_all(number: u64) -> bool
     ensures { result ≡ leaves_all number }
 {
-    let refusal = number / 4294967296;
-    if refusal == 0 {
-        return false;
-    }
-    if refusal == 11 {
-        return false;
-    }
-    if refusal == 12 {
-        return false;
-    }
-    refusal != 20
+    !matches!(number / ANSWERS, 0 | 11 | 12 | 20)
 }
 
 // The number of an answer.
@@ -42,27 +29,11 @@ pub(crate) fn number_of(answer: Answer) -> u64
     ensures { result ≡ number_for answer }
 {
     match answer {
-        Answer::Granted(word) => {
-            return word as u64;
-        }
-        Answer::Accepted => {
-            return 0;
-        }
-        Answer::Booked(flow) => {
-            return wide(flow);
-        }
-        Answer::Idle => {
-            return 16;
-        }
-        Answer::Lent(flow) => {
-            return wide(flow);
-        }
-        Answer::Reset => {
-            return 0;
-        }
-        Answer::Refused(number) => {
-            return refused(number);
-        }
+        Answer::Granted(word) => u64::from(word),
+        Answer::Booked(flow) | Answer::Lent(flow) => u64::from(flow),
+        Answer::Accepted | Answer::Reset => 0,
+        Answer::Idle => 16,
+        Answer::Refused(number) => refused(number),
     }
 }
 
@@ -74,5 +45,5 @@ pub(crate) fn number_of_reply(word: u32, reply: Reply) -> u64
     if number != 0 {
         return refused(number);
     }
-    word::depart(word, reply.position) as u64
+    u64::from(word::depart(word, reply.position))
 }

@@ -8,7 +8,7 @@ ghost use Rattle.link.specs.Steps.{read_in};
 ghost use Rattle.nazgolv.specs.Steps.{StepsTo, PlaysTo};
 
 use crate::numbers::refused;
-use crate::records::{Found, record_at};
+use crate::records::record_at;
 use crate::steps::{Moved, step};
 use calls::RECORD;
 use fields::put_all;
@@ -17,6 +17,7 @@ use state::State;
 use window::Window;
 
 // Writes a number at a place, as four fields, and returns the place after it.
+// Stays: `four_fields` of RULES 12.9 has these four numbers, and `put_all` writes fields.
 fn put_number(x: u64, out: &mut [u8], at: usize) -> usize
     requires { at + 8 ≤ length out.old }
     ensures { Puts (eight x) out.old out.new at result }
@@ -36,7 +37,7 @@ fn play_one(s: &mut State, plan: Plan, w: Window, records: &[u8], at: usize) -> 
     ensures { StepsTo (made_on (read_in plan s.old) (call_of (take 5 (drop at records.now))))
         plan result.window s.new result.number }
 {
-    let Found::Call(call) = record_at(records, at) else {
+    let Some(call) = record_at(records, at) else {
         return Moved {
             window: w,
             number: refused(16),
@@ -52,12 +53,10 @@ pub(crate) fn play_all(s: &mut State, plan: Plan, start: Window, stream: &[u8], 
         plan s.new out.old out.new }
 {
     let mut w = start;
-    let mut at = 0;
     let mut end = 0;
-    while at < stream.len() {
-        let moved = play_one(s, plan, w, stream, at);
+    for k in 0..stream.len().div_ceil(RECORD) {
+        let moved = play_one(s, plan, w, stream, RECORD * k);
         w = moved.window;
         end = put_number(moved.number, out, end);
-        at += RECORD;
     }
 }

@@ -30,7 +30,7 @@ fn ask(s: &mut State, plan: Plan, w: Window, word: u32) -> u64
     ensures { StepsTo (on_link (read_in plan s.old) (model.Call.request word)) plan w s.new result }
 {
     let fields = word::split(word);
-    let i = flow_or_zero(plan.count, fields.flow as usize);
+    let i = flow_or_zero(plan.count, usize::from(fields.flow));
     let e = plan.entries[i];
     let reply = request(s, plan.count, e, w, fields);
     number_of_reply(word, reply)

@@ -1,13 +1,18 @@
 -- The plan that the reader stores is the model's plan of the bytes. Assumes nothing.
 use Prim.Native.Nat.{ℕ, ◌≤◌}
-use mathlib.Core.Path.{◌≡◌, ap, ◌∙◌}
+use mathlib.Core.Path.{◌≡◌, sym, ap, ◌∙◌}
 use mathlib.Core.List.{List}
 use native.Mathlib.Omega.{arith}
 use lib.ListN.{get_or}
+use Rattle.std.proofs.Common.{Result, Ok, Err}
+use Rattle.limits.specs.declared.refusal.Refusal.{Refusal}
+use Rattle.limits.specs.Refusals.{number}
+use Rattle.limits.proofs.Refusals.{some-number, one-number}
+use Rattle.plan.specs.declared.Plan.{Plan}
 use Rattle.model.specs.Plan as model
 use Rattle.model.proofs.Plan as of_plan
 use Rattle.model.proofs.Tables.{get_d-table, table-get_d, table_same}
-use Rattle.plan.specs.Reading.{entry_for, no_entry, plan_for, stored_entry, stored_entries, stored, plan_after, read_of}
+use Rattle.plan.specs.Reading.{entry_for, no_entry, plan_for, stored_entry, stored_entries, stored, ReadAs}
 
 pub reads-back : (P : model.Plan) → model.flow_count P ≤ 16 → plan_for (stored P) ≡ P
 unfolding stored stored_entries
@@ -18,6 +23,12 @@ reads-back P few =
     λ k. record { slots = P.slots; frames = P.frames; buffer = P.buffer; entries = entries k }
 
 -- the plan of bytes that are accepted, as the reader hands it over
-pub is-plan : (b : List ℕ) → model.refusal b ≡ 0 → plan_for (read_of b).plan ≡ model.plan_of b
-unfolding read_of plan_after
-is-plan b e = ap (λ r. plan_for (plan_after r (model.plan_of b))) e ∙ reads-back (model.plan_of b) (of_plan.accepted b e).flows_most
+pub is-plan : (b : List ℕ) (p : Plan) → ReadAs b (Ok p) → plan_for p ≡ model.plan_of b
+is-plan b p r = ap plan_for r.1 ∙ reads-back (model.plan_of b) (of_plan.accepted b r.0).flows_most
+
+-- the model gives one result for each list of bytes
+pub one-result : (b : List ℕ) (x y : Result Plan Refusal) → ReadAs b x → ReadAs b y → x ≡ y
+one-result b (Ok p) (Ok q) r s = ap Ok (r.1 ∙ sym s.1)
+one-result b (Ok p) (Err f) r s = let z : 0 ≡ number f = sym r.0 ∙ s in absurd (omega (arith, some-number f))
+one-result b (Err e) (Ok q) r s = let z : 0 ≡ number e = sym s.0 ∙ r in absurd (omega (arith, some-number e))
+one-result b (Err e) (Err f) r s = ap Err (one-number e f (sym r ∙ s))

@@ -1,8 +1,8 @@
--- What the reader answers, by the place where it returns. Assumes nothing.
-use Prim.Native.Nat.{ℕ, zero, suc, ◌-◌, ◌*◌, ◌<◌, ◌≤◌}
-use mathlib.Core.Path.{◌≡◌, refl, sym, ap, ◌∙◌, subst}
+-- What the reader comes to, by the place where it returns. Assumes nothing.
+use Prim.Native.Nat.{ℕ, ◌-◌, ◌*◌, ◌<◌, ◌≤◌}
+use mathlib.Core.Path.{◌≡◌, sym, ap, ◌∙◌, subst}
 use mathlib.Core.List.{List, ◌∷◌}
-use mathlib.Core.Bool.{true, false}
+use mathlib.Core.Bool.{Bool, true, false}
 use native.Mathlib.Decide.{dec_lt}
 use native.Mathlib.Omega.{arith}
 use lib.ListN.{length, get_or, take, drop, length-drop}
@@ -10,8 +10,6 @@ use lib.Seq.{take_all}
 use borrow.Author.Tests.{lt-ltb, le-ltb, eq-eqb, ne_eqb}
 use Rattle.plan.specs.declared.Entry.{Entry}
 use Rattle.plan.specs.declared.Plan.{Plan}
-use Rattle.plan.specs.declared.Outcome.{Outcome}
-use Rattle.plan.specs.declared.Verdict.TheVariants.{Accepted}
 use Rattle.plan.specs.declared.header.Header.{Header}
 use Rattle.model.specs.Tables.{table}
 use Rattle.model.specs.Refusals.{condition, first_of}
@@ -22,26 +20,8 @@ use Rattle.model.proofs.WrittenPlan.{same-header}
 use Rattle.model.proofs.Tables.{length-table, get_d-table, get_d-table-past, table_same}
 use Rattle.limits.specs.Reading.{draft_for}
 use Rattle.plan.specs.Reading.{header_for, entry_for, no_entry, plan_for, stored_entry, stored_entries, stored}
-use Rattle.plan.specs.Reading.{draft_of, verdict_for, plan_after, read_of, Valid}
+use Rattle.plan.specs.Reading.{draft_of, Valid}
 use Rattle.plan.proofs.Stored.{drafted}
-
--- what the reader promises of the outcome r of the bytes b
-abbrev pub Reads : List ℕ → Outcome → Type 0
-Reads b r = (r ≡ read_of b) × (r.verdict ≡ Accepted → Valid r.plan)
-
-pub accepted-is-0 : (n : ℕ) → verdict_for n ≡ Accepted → n ≡ 0
-unfolding verdict_for
-accepted-is-0 zero e = refl
-accepted-is-0 (suc n) e = let z : ◌≡◌ {A = ℕ} 0 1 = cc in absurd (omega arith)
-
--- a refusal
-pub refused-reads : (b : List ℕ) (r : Outcome) (n : ℕ) → 0 < n → model.refusal b ≡ n → r.verdict ≡ verdict_for n
-    → ((P : model.Plan) → r.plan ≡ plan_after n P) → Reads b r
-unfolding read_of
-refused-reads b r n pos e v p =
-    let verdict = v ∙ ap verdict_for (sym e) in
-    let plan = p (model.plan_of b) ∙ ap (λ k. plan_after k (model.plan_of b)) (sym e) in
-    (λ k. record { verdict = verdict k; plan = plan k }, λ z. absurd (omega (arith, accepted-is-0 n (sym v ∙ z))))
 
 -- ---- the refusal of the bytes, test by test
 
@@ -55,9 +35,9 @@ module _ (b : List ℕ) (long : 12 ≤ length b) where
   other_length d = rw (le-ltb (length b) 12 long, ne_eqb (length b) (model.header_of b).total d)
 
   module _ (same : length b ≡ (model.header_of b).total) where
-    pub other-count : condition (model.count_test (model.header_of b)) ≡ true → model.refusal b ≡ 2
+    pub other_count : condition (model.count_test (model.header_of b)) ≡ true → model.refusal b ≡ 2
     unfolding model.refusal first_of
-    other-count e = rw (le-ltb (length b) 12 long, eq-eqb (length b) (model.header_of b).total same, e)
+    other_count e = rw (le-ltb (length b) 12 long, eq-eqb (length b) (model.header_of b).total same, e)
 
     pub by_tests : model.refusal b ≡ first_of (model.count_test (model.header_of b) ∷ model.limit_tests (model.plan_of b))
     unfolding model.refusal first_of
@@ -71,6 +51,10 @@ pub record Counted (b : List ℕ) (h : Header) : Type 0 where
   pub long : 12 ≤ length b
   pub same : length b ≡ h.total
   pub counts : condition (model.count_test (header_for h)) ≡ false
+
+pub counted-by : {b : List ℕ} {h : Header} {broken : Bool} → header_for h ≡ model.header_of b → 12 ≤ length b → length b ≡ h.total
+    → broken ≡ condition (model.count_test (header_for h)) → broken ≡ false → Counted b h
+counted-by header long same test passed = record { header = header; long = long; same = same; counts = sym test ∙ passed }
 
 module _ {b : List ℕ} {h : Header} (k : Counted b h) where
   pub in_count : of_plan.Counted (header_for h)
@@ -130,7 +114,7 @@ module _ {b : List ℕ} {h : Header} (k : Counted b h) (es : List Entry) (entrie
       let parts = table_same n (λ i. entry_for (get_or es i no_entry)) from-part stored_at ∙ ap (λ j. table j from-part) count_is in
       λ j. record { slots = (k.header j).slots; frames = (k.header j).frames; buffer = (k.header j).buffer; entries = parts j }
 
-  stored_is : plan_from h es ≡ stored (model.plan_of b)
+  pub stored_is : plan_from h es ≡ stored (model.plan_of b)
   unfolding stored n from-part
   stored_is =
       let count : h.count ≡ model.flow_count (model.plan_of b) = count_is ∙ sym (length-table (model.header_of b).count (model.entry_of (drop 12 b))) in
@@ -148,7 +132,7 @@ module _ {b : List ℕ} {h : Header} (k : Counted b h) (es : List Entry) (entrie
       ap (λ xs. get_or xs i no_entry) entries-are
       ∙ get_d-table-past 16 (λ j. stored_entry (get_or (table n from-part) j model.no_entry)) i no_entry (omega arith)
 
-  valid-plan : model.refusal b ≡ 0 → Valid (plan_from h es)
+  pub valid-plan : model.refusal b ≡ 0 → Valid (plan_from h es)
   unfolding stored_entries n
   valid-plan e = record {
     accepted = subst model.Accepted (sym reads_as) (of_plan.accepted b e);
@@ -160,11 +144,3 @@ module _ {b : List ℕ} {h : Header} (k : Counted b h) (es : List Entry) (entrie
   pub number_is : first_of (number_tests (draft_for (draft_of (plan_from h es)))) ≡ model.refusal b
   unfolding n
   number_is = ap (λ P. first_of (number_tests P)) (drafted (plan_from h es) few ∙ reads_as) ∙ sym (refused-by k)
-
-  pub accepted-reads : first_of (number_tests (draft_for (draft_of (plan_from h es)))) ≡ 0 → Reads b (record { verdict = Accepted; plan = plan_from h es })
-  unfolding read_of verdict_for plan_after
-  accepted-reads z =
-      let e = sym number_is ∙ z in
-      let verdict = ap verdict_for (sym e) in
-      let plan = stored_is ∙ ap (λ j. plan_after j (model.plan_of b)) (sym e) in
-      (λ j. record { verdict = verdict j; plan = plan j }, λ q. valid-plan e)

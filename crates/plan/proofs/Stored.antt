@@ -1,5 +1,5 @@
--- The plan as it is stored, and what the reader answers of it. Assumes nothing.
-use Prim.Native.Nat.{ℕ, zero, suc, ◌+◌, ◌≤◌, ◌<◌}
+-- The plan as it is stored. Assumes nothing.
+use Prim.Native.Nat.{ℕ, ◌+◌, ◌≤◌, ◌<◌}
 use mathlib.Core.Path.{◌≡◌, refl, sym, ap, ◌∙◌}
 use mathlib.Core.List.{List}
 use mathlib.Core.Bool.{cond}
@@ -8,14 +8,13 @@ use native.Mathlib.Omega.{arith}
 use lib.ListN.{get_or, set, replicate}
 use lib.Dec.{ltb}
 use borrow.Author.Tests.{lt-ltb, le-ltb}
-use Rattle.plan.specs.declared.Verdict.TheVariants.{Refused}
 use Rattle.model.specs.Tables.{table}
 use Rattle.model.specs.Plan as model
 use Rattle.limits.specs.declared.Wanted.{Wanted}
 use Rattle.limits.specs.Reading.{wanted_for, no_wanted, draft_for}
 use Rattle.plan.specs.declared.Plan.{Plan}
-use Rattle.plan.specs.Reading.{entry_for, no_entry, no_entries, plan_for, stored_entry, stored_entries}
-use Rattle.plan.specs.Reading.{wanted_of, widened, draft_of, verdict_for, plan_after}
+use Rattle.plan.specs.Reading.{entry_for, no_entry, plan_for, stored_entry, stored_entries}
+use Rattle.plan.specs.Reading.{wanted_of, widened, draft_of}
 use Rattle.model.proofs.Tables.{get_d-table, get_d-table-past, table_same, set-table}
 
 -- ---- sixteen entries, filled one by one
@@ -61,15 +60,3 @@ drafted p few =
     let widen : ℕ → Wanted = λ i. wanted_of (get_or p.entries i no_entry) in
     let entries = table_same p.count _ (λ i. entry_for (get_or p.entries i no_entry)) (λ i l. ap wanted_for (get_d-table 16 widen i no_wanted (omega arith))) in
     λ k. record { slots = p.slots; frames = p.frames; buffer = p.buffer; entries = entries k }
-
--- ---- a refusal
-
-pub verdict-refused : (r : ℕ) → 0 < r → Refused r ≡ verdict_for r
-unfolding verdict_for
-verdict-refused zero h = absurd (omega arith)
-verdict-refused (suc r) h = refl
-
-pub plan-refused : (r : ℕ) → 0 < r → (P : model.Plan) → record { slots = 0; frames = 0; buffer = 0; count = 0; entries = no_entries } ≡ plan_after r P
-unfolding plan_after
-plan-refused zero h P = absurd (omega arith)
-plan-refused (suc r) h P = refl

@@ -6,10 +6,14 @@ use native.Mathlib.Omega.{arith}
 use lib.ListN.{length, take, drop, length-append, length-take, length-drop, drop_of_length-le}
 use lib.Seq.{sets, length-sets, take_at, drop_at, drop-drop, take_all}
 use borrow.Rule.Slice.PartMut.{put_mid}
-use Rattle.plan.specs.declared.Written.{Written}
-use Rattle.plan.specs.declared.Written.TheVariants.{Bytes, Refused}
+use Rattle.std.proofs.Common.{Result, Ok, Err, IfOk}
 use Rattle.plan.specs.declared.header.Header.{Header}
 use Rattle.limits.specs.declared.Draft.{Draft}
+use Rattle.limits.specs.declared.refusal.Refusal.{Refusal}
+use Rattle.limits.specs.declared.refusal.Refusal.TheVariants.{NoRoom}
+use Rattle.limits.specs.Refusals.{number}
+use Rattle.limits.proofs.Refusals.{some-number}
+use Rattle.model.specs.Calls.{Answer, accepted, refused}
 use Rattle.limits.specs.Reading.{draft_for}
 use Rattle.model.specs.Refusals.{first_of}
 use Rattle.model.specs.Plan as model
@@ -19,27 +23,27 @@ use Rattle.model.proofs.Tables.{length-table, get_d-table}
 use Rattle.model.proofs.WrittenPlan.{length-is, same_tests}
 use Rattle.model.proofs.WriteRefusals.{accepts, refused-writes, accepted-writes, by_number, no_room, with-room, within-limits, accepted-fits}
 use Rattle.plan.specs.Reading.{header_for}
-use Rattle.plan.specs.Writing.{answer_for, begun, flow_part, HeaderFits, ByteEntries}
+use Rattle.plan.specs.Writing.{answer_of, begun, flow_part, HeaderFits, ByteEntries}
 use Rattle.plan.proofs.FlowPart.{begun_more}
 
 -- ---- where the answer is a count of bytes
 
 module _ (P : model.Plan) (before : List ℕ) (n : ℕ) where
   -- the plan was not refused, and the count is that of its bytes
-  pub counted : answer_for (writer.written P before).answer ≡ Bytes n → (write_refusal P before ≡ 0) × (length (bytes_of P) ≡ n)
+  pub counted : (writer.written P before).answer ≡ accepted n → (write_refusal P before ≡ 0) × (length (bytes_of P) ≡ n)
   counted e = go (write_refusal P before) refl
     where
       go : (r : ℕ) → write_refusal P before ≡ r → (write_refusal P before ≡ 0) × (length (bytes_of P) ≡ n)
-      go zero z = (z, bytes_inside (ap (λ (w : writer.Written). answer_for w.answer) (sym (accepted-writes P before z)) ∙ e))
+      go zero z = (z, bytes_inside (ap (λ (w : writer.Written). w.answer) (sym (accepted-writes P before z)) ∙ e))
         where
-          bytes_inside : Bytes (length (bytes_of P)) ≡ Bytes n → length (bytes_of P) ≡ n
+          bytes_inside : accepted (length (bytes_of P)) ≡ accepted n → length (bytes_of P) ≡ n
           bytes_inside f = cc
-      go (suc r) z = absurd (never (ap (λ (w : writer.Written). answer_for w.answer) (sym (refused-writes P before (suc r) (omega arith) z)) ∙ e))
+      go (suc r) z = never (ap (λ (w : writer.Written). w.answer) (sym (refused-writes P before (suc r) (omega arith) z)) ∙ e)
         where
-          never : Refused (suc r) ≡ Bytes n → ⊥
-          never f = let o : ◌≡◌ {A = ℕ} 0 1 = cc in omega arith
+          never : ◌≡◌ {A = Answer ℕ} (refused (suc r)) (accepted n) → (write_refusal P before ≡ 0) × (length (bytes_of P) ≡ n)
+          never f = cc
 
-  count_most : answer_for (writer.written P before).answer ≡ Bytes n → (n ≤ 76) × (n ≤ length before)
+  count_most : (writer.written P before).answer ≡ accepted n → (n ≤ 76) × (n ≤ length before)
   count_most e =
       let c = counted e in
       let a = accepts P before c.0 in
@@ -49,29 +53,36 @@ module _ (P : model.Plan) (before : List ℕ) (n : ℕ) where
 -- ---- the promise
 
 -- what the writer promises of its answer and of the buffer, for a plan and a buffer
-abbrev pub Writes : model.Plan → (before : List ℕ) → Written → (after : List ℕ) → Type 0
+abbrev pub Writes : model.Plan → (before : List ℕ) → Result ℕ Refusal → (after : List ℕ) → Type 0
 Writes P before r after =
-    (r ≡ answer_for (writer.written P before).answer)
-    × ((after ≡ (writer.written P before).out) × ((n : ℕ) → r ≡ Bytes n → (n ≤ 76) × (n ≤ length before)))
+    (answer_of r ≡ (writer.written P before).answer)
+    × ((after ≡ (writer.written P before).out) × IfOk r (λ n. (n ≤ 76) × (n ≤ length before)))
 
-promised : (P : model.Plan) (before : List ℕ) {w : writer.Written} → writer.written P before ≡ w → {r : Written} {after : List ℕ}
-    → r ≡ answer_for w.answer → after ≡ w.out → Writes P before r after
-promised P before w e f =
-    let answer = e ∙ ap (λ (x : writer.Written). answer_for x.answer) (sym w) in
-    (answer, (f ∙ ap (λ (x : writer.Written). x.out) (sym w), λ n q. count_most P before n (sym answer ∙ q)))
+most : (P : model.Plan) (before : List ℕ) (r : Result ℕ Refusal) → answer_of r ≡ (writer.written P before).answer → IfOk r (λ n. (n ≤ 76) × (n ≤ length before))
+most P before (Ok n) e = count_most P before n (sym e)
+most P before (Err refusal) e = tt
+
+promised : (P : model.Plan) (before : List ℕ) {w : writer.Written} → writer.written P before ≡ w → (r : Result ℕ Refusal) {after : List ℕ}
+    → answer_of r ≡ w.answer → after ≡ w.out → Writes P before r after
+promised P before w r e f =
+    let answer = e ∙ ap (λ (x : writer.Written). x.answer) (sym w) in
+    (answer, (f ∙ ap (λ (x : writer.Written). x.out) (sym w), most P before r answer))
 
 -- ---- a refusal
 
-refused : (P : model.Plan) (before : List ℕ) (r : ℕ) → 0 < r → write_refusal P before ≡ r → Writes P before (Refused r) before
-refused P before r some e = promised P before (refused-writes P before r some e) refl refl
+refused-as : (P : model.Plan) (before : List ℕ) (r : Refusal) → write_refusal P before ≡ number r → Writes P before (Err r) before
+refused-as P before r e = promised P before (refused-writes P before (number r) (some-number r) e) (Err r) refl refl
 
-pub refused-by-number : (d : Draft) (before : List ℕ) (r : ℕ) → 0 < r → r ≡ first_of (number_tests (draft_for d)) → Writes (draft_for d) before (Refused r) before
-refused-by-number d before r some e = refused (draft_for d) before r some (by_number (draft_for d) before r some (sym e))
+pub refused-by-number : (d : Draft) (before : List ℕ) (r : Refusal) → number r ≡ first_of (number_tests (draft_for d)) → Writes (draft_for d) before (Err r) before
+refused-by-number d before r e = refused-as (draft_for d) before r (by_number (draft_for d) before (number r) (some-number r) (sym e))
 
 -- ---- a plan whose numbers pass tests 2 to 7
 
 pub record Passes (d : Draft) : Type 0 where
   pub tests : first_of (number_tests (draft_for d)) ≡ 0
+
+pub passes : (d : Draft) → 0 ≡ first_of (number_tests (draft_for d)) → Passes d
+passes d e = record { tests = sym e }
 
 -- the header that is stored for it, where it has n flows
 abbrev header_over : Draft → ℕ → Header
@@ -109,10 +120,10 @@ module _ {d : Draft} (p : Passes d) where
     bytes = λ i l. subst writer.ByteEntry (get_d-table d.count _ i model.no_entry l) (fits.entries_fit i (omega (arith, count_is d)));
   }
 
-  pub refused-19 : (before : List ℕ) → length before < 12 + 4 * d.count → Writes (draft_for d) before (Refused 19) before
+  pub refused-19 : (before : List ℕ) → length before < 12 + 4 * d.count → Writes (draft_for d) before (Err NoRoom) before
   refused-19 before h =
       let P = draft_for d in
-      refused P before 19 (omega arith) (no_room P before p.tests (omega (arith, total_is d)))
+      refused-as P before NoRoom (no_room P before p.tests (omega (arith, total_is d)))
 
 -- ---- the bytes that are stored
 
@@ -151,7 +162,7 @@ part-back a first more before middle e m =
 pub written : {d : Draft} (p : Passes d) (before middle part : List ℕ) → 12 + 4 * d.count ≤ length before
     → middle ≡ sets before 0 (header_bytes (header_for (header_with d)))
     → part ≡ begun (flow_part d.entries d.count) (take (length middle - 12) (drop 12 middle))
-    → Writes (draft_for d) before (Bytes (12 + 4 * d.count)) (put_mid 12 (length middle - 12) middle part)
+    → Writes (draft_for d) before (Ok (12 + 4 * d.count)) (put_mid 12 (length middle - 12) middle part)
 written {d} p before middle part room m e =
     let P = draft_for d in
     let header = header_bytes (header_for (header_with d)) in
@@ -160,4 +171,4 @@ written {d} p before middle part room m e =
     let w = accepted-writes P before (with-room P before p.tests long) in
     let middle-is = m ∙ begun_more [] header before (omega arith) in
     let put_back = ap (put_mid 12 (length middle - 12) middle) e ∙ part-back 12 header flows before middle refl middle-is in
-    promised P before w (ap Bytes (sym (total_is d))) (put_back ∙ ap (λ b. begun b before) (bytes_are d))
+    promised P before w (Ok (12 + 4 * d.count)) (ap accepted (sym (total_is d))) (put_back ∙ ap (λ b. begun b before) (bytes_are d))

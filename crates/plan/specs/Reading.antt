@@ -1,13 +1,12 @@
 -- The crate's types read as the model's, and the model's plan as it is stored. Assumes nothing.
-use Rattle.std.specs.Prelude.{ℕ, zero, suc, ◌≤◌, ◌≡◌, List, length, get_or, replicate}
+use Rattle.std.specs.Prelude.{ℕ, ◌≤◌, ◌≡◌, Result, Ok, Err, List, length, get_or}
 use Rattle.plan.specs.declared.Entry.{Entry}
 use Rattle.plan.specs.declared.Plan.{Plan}
-use Rattle.plan.specs.declared.Outcome.{Outcome}
-use Rattle.plan.specs.declared.Verdict.{Verdict}
-use Rattle.plan.specs.declared.Verdict.TheVariants.{Accepted, Refused}
 use Rattle.plan.specs.declared.header.Header.{Header}
 use Rattle.limits.specs.declared.Wanted.{Wanted}
 use Rattle.limits.specs.declared.Draft.{Draft}
+use Rattle.limits.specs.declared.refusal.Refusal.{Refusal}
+use Rattle.limits.specs.Refusals.{number}
 use Rattle.model.specs.Tables.{table}
 use Rattle.model.specs.Plan as model
 
@@ -31,10 +30,6 @@ plan_for p = record { slots = p.slots; frames = p.frames; buffer = p.buffer; ent
 abbrev pub stored_entry : model.Entry → Entry
 stored_entry e = record { share = e.share; cells = e.cells; source = e.source; destination = e.destination }
 
--- sixteen entries, all zero
-unfoldable pub no_entries : List Entry
-no_entries = replicate 16 no_entry
-
 -- sixteen entries, all zero after those given
 unfoldable pub stored_entries : List model.Entry → List Entry
 stored_entries es = table 16 (λ i. stored_entry (get_or es i model.no_entry))
@@ -55,18 +50,10 @@ draft_of p = record { slots = p.slots; frames = p.frames; buffer = p.buffer; cou
 
 -- ---- what the reader answers
 
--- the model's number of each verdict: 0 where the plan is accepted, else the refusal
-unfoldable pub verdict_for : ℕ → Verdict
-verdict_for zero = Accepted
-verdict_for (suc r) = Refused (suc r)
-
-unfoldable pub plan_after : ℕ → model.Plan → Plan
-plan_after zero P = stored P
-plan_after (suc r) P = record { slots = 0; frames = 0; buffer = 0; count = 0; entries = no_entries }
-
--- the verdict on a plan's bytes, and the plan beside it
-unfoldable pub read_of : List ℕ → Outcome
-read_of b = record { verdict = verdict_for (model.refusal b); plan = plan_after (model.refusal b) (model.plan_of b) }
+-- what a plan's bytes are read as: the plan where the model accepts it, and otherwise the refusal with the model's number
+abbrev pub ReadAs : List ℕ → Result Plan Refusal → Type 0
+ReadAs b (Ok plan) = (model.refusal b ≡ 0) × (plan ≡ stored (model.plan_of b))
+ReadAs b (Err refusal) = model.refusal b ≡ number refusal
 
 -- ---- a plan that the reader accepted
 

@@ -1,19 +1,19 @@
 -- What the writer answers, and what its parts leave. Assumes nothing.
-use Rattle.std.specs.Prelude.{ℕ, ◌≤◌, ◌<◌, length, get_or, drop}
+use Rattle.std.specs.Prelude.{ℕ, ◌≤◌, ◌<◌, Result, Ok, Err, length, get_or, drop}
 use mathlib.Core.List.{List, ◌++◌, flat_map}
-use Rattle.plan.specs.declared.Written.{Written}
-use Rattle.plan.specs.declared.Written.TheVariants.{Bytes, Refused}
 use Rattle.plan.specs.declared.header.Header.{Header}
 use Rattle.limits.specs.declared.Wanted.{Wanted}
+use Rattle.limits.specs.declared.refusal.Refusal.{Refusal}
+use Rattle.limits.specs.Refusals.{number}
 use Rattle.limits.specs.Reading.{wanted_for, no_wanted}
 use Rattle.model.specs.Tables.{table}
 use Rattle.model.specs.Calls.{Answer, accepted, refused}
 use Rattle.model.specs.WrittenPlan.{entry_bytes, ByteEntry}
 
--- the model's number and value of each answer: the count of bytes written, or the refusal
-abbrev pub answer_for : Answer ℕ → Written
-answer_for (accepted count) = Bytes count
-answer_for (refused number) = Refused number
+-- the model's answer, with its value or number for each case: the count of bytes written, or the refusal
+abbrev pub answer_of : Result ℕ Refusal → Answer ℕ
+answer_of (Ok count) = accepted count
+answer_of (Err refusal) = refused (number refusal)
 
 -- ---- the parts
 

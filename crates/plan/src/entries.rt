@@ -4,24 +4,19 @@ ghost use Rattle.std.proofs.lemmas.List.Edits.{sets};
 ghost use Rattle.model.specs.Plan.{entry_of, entries_of};
 ghost use Rattle.model.specs.WrittenPlan.{entry_bytes, ByteEntry};
 ghost use Rattle.limits.specs.Reading.{wanted_for};
-ghost use Rattle.plan.specs.Reading.{no_entries, entry_for, stored_entries};
+ghost use Rattle.plan.specs.Reading.{entry_for, stored_entries};
 ghost use Rattle.plan.specs.Writing.{ByteEntries, flow_part, begun};
 
 use crate::Entry;
 use limits::Wanted;
 
-// Sixteen entries, all zero.
-pub(crate) fn none() -> [Entry; 16]
-    ensures { result ≡ no_entries }
-{
-    let none = Entry {
-        share: 0,
-        cells: 0,
-        source: 0,
-        destination: 0,
-    };
-    [none; 16]
-}
+// What stands where there is no flow.
+const NO_ENTRY: Entry = Entry {
+    share: 0,
+    cells: 0,
+    source: 0,
+    destination: 0,
+};
 
 // The entry of flow i.
 fn entry(part: &[u8], i: usize) -> Entry
@@ -42,11 +37,9 @@ pub(crate) fn read_entries(part: &[u8], count: usize) -> [Entry; 16]
     requires { (count ≤ 16) × (4 * count ≤ length part.now) }
     ensures { result ≡ stored_entries (entries_of count part.now) }
 {
-    let mut all = none();
-    let mut i = 0;
-    while i < count {
+    let mut all = [NO_ENTRY; 16];
+    for i in 0..count {
         all[i] = entry(part, i);
-        i += 1;
     }
     all
 }
@@ -67,10 +60,7 @@ pub(crate) fn put_entries(entries: [Wanted; 16], count: usize, part: &mut [u8])
     requires { ByteEntries entries count × (4 * count ≤ length part.old) }
     ensures { part.new ≡ begun (flow_part entries count) part.old }
 {
-    let mut i = 0;
-    while i < count {
-        let e = entries[i];
-        put_entry(e, part, 4 * i);
-        i += 1;
+    for i in 0..count {
+        put_entry(entries[i], part, 4 * i);
     }
 }

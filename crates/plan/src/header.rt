@@ -18,18 +18,12 @@ pub(crate) struct Header {
     pub buffer: usize,
 }
 
-fn wide(byte: u8) -> usize
-    ensures { (result ≡ byte) × (result < 256) }
-{
-    byte as usize
-}
-
 // The field at a place.
 fn field(bytes: &[u8], at: usize) -> usize
     requires { at + 1 < length bytes.now }
     ensures { result ≡ field16 bytes.now at }
 {
-    wide(bytes[at]) + 256 * wide(bytes[at + 1])
+    usize::from(u16::from_le_bytes([bytes[at], bytes[at + 1]]))
 }
 
 pub(crate) fn read_header(bytes: &[u8]) -> Header
@@ -47,16 +41,11 @@ pub(crate) fn read_header(bytes: &[u8]) -> Header
 }
 
 // RULES 2.3: test 2, on n, the offset and the length.
+#[tactic(auto, using(std::proofs::lemmas::Bool::Decides::nat_tests))]
 pub(crate) fn count_out_of_range(h: Header) -> bool
     ensures { result ≡ condition (count_test (header_for h)) }
 {
-    if limits::count_out_of_range(h.count) {
-        return true;
-    }
-    if h.offset != 12 {
-        return true;
-    }
-    h.total != 12 + 4 * h.count
+    limits::count_out_of_range(h.count) || h.offset != 12 || h.total != 12 + 4 * h.count
 }
 
 // Stores a field at a place.

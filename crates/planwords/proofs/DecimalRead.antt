@@ -11,7 +11,7 @@ use lib.Dec.{eqb}
 use borrow.Author.Tests.{eqb-true, le-ltb, le-leb, ne_eqb}
 use Rattle.model.specs.Listing.{digit, decimal}
 use Rattle.model.proofs.Decimal.{decimal-one, decimal-more, value, decimal-read-back}
-use Rattle.tokens.specs.declared.Number.{Number}
+use Rattle.std.specs.Prelude.{Ok}
 use Rattle.tokens.specs.Pieces.{each}
 use Rattle.tokens.specs.Decimal.{is_digit, value_from, number_of}
 use Rattle.replies.proofs.DecimalLength.{length-one, length_more}
@@ -19,7 +19,6 @@ use Rattle.replies.proofs.DecimalLength.{length-one, length_more}
 -- ---- a test of each byte
 
 pub each_append : (f : ℕ → Bool) (xs ys : List ℕ) → each f xs ≡ true → each f ys ≡ true → each f (xs ++ ys) ≡ true
-unfolding each
 each_append f [] ys all more = more
 each_append f (x ∷ xs) ys all more = go (f x) refl all (λ rest. each_append f xs ys rest more)
   where
@@ -29,7 +28,6 @@ each_append f (x ∷ xs) ys all more = go (f x) refl all (λ rest. each_append f
 
 -- where one test passes another does
 pub each-so : (f g : ℕ → Bool) → ((b : ℕ) → f b ≡ true → g b ≡ true) → (l : List ℕ) → each f l ≡ true → each g l ≡ true
-unfolding each
 each-so f g so [] all = refl
 each-so f g so (b ∷ l) all = go (f b) refl all (each-so f g so l)
   where
@@ -63,7 +61,6 @@ pub record Digits (most n : ℕ) : Type 0 where
   pub all : each is_digit (decimal n) ≡ true
 
 one-digit : (k n : ℕ) → n < 10 → Digits (suc k) n
-unfolding each
 one-digit k n h = record {
   some = omega (arith, length-one n h);
   few = omega (arith, length-one n h);
@@ -71,7 +68,6 @@ one-digit k n h = record {
 }
 
 digits_of : (k n : ℕ) → n < 10 ^ suc k → Digits (suc k) n
-unfolding each
 digits_of zero n h = one-digit zero n (omega arith)
 digits_of (suc k) n h = go (dec_lt n 10) (digits_of k (n / 10))
   where
@@ -98,9 +94,9 @@ unfolding value_from
 same-value v [] = refl
 same-value v (b ∷ l) = same-value (v * 10 + (b - 48)) l
 
-pub decimal-read : (n : ℕ) → n < 1000000000 → number_of (decimal n) ≡ Number.Is n
+pub decimal-read : (n : ℕ) → n < 1000000000 → number_of (decimal n) ≡ Ok n
 unfolding number_of
 decimal-read n h =
     let d = nine-digits n h in
     let many = ne_eqb (length (decimal n)) 0 (λ e. absurd (omega (arith, d.some))) in
-    rw (many, d.all, le-ltb 9 (length (decimal n)) d.few) (ap Number.Is (same-value 0 (decimal n) ∙ decimal-read-back n))
+    rw (many, d.all, le-ltb 9 (length (decimal n)) d.few) (ap Ok (same-value 0 (decimal n) ∙ decimal-read-back n))

@@ -6,7 +6,7 @@ use mathlib.Core.Bool.{Bool, true, false, ◌&&◌}
 use native.Mathlib.Omega.{arith}
 use lib.ListN.{length, get_or, length-append}
 use Rattle.model.specs.Listing.{decimal}
-use Rattle.tokens.specs.declared.Found.{Found}
+use Rattle.std.specs.Prelude.{Ok}
 use Rattle.tokens.specs.Pieces.{is_space, before, pieces, each}
 use Rattle.tokens.specs.Decimal.{is_digit, number_then, numbers_in, found_then, found_in}
 use Rattle.replies.specs.Lines.{spaced}
@@ -31,7 +31,7 @@ others s = record { short = λ i. s.short (suc i) }
 
 -- a piece that begins a line: no blank is in it
 pub one_piece : (f : ℕ → Bool) → f 32 ≡ false → (w rest : List ℕ) (ps : List (List ℕ)) → each f w ≡ true → pieces rest ≡ [] ∷ ps → pieces (w ++ rest) ≡ w ∷ ps
-unfolding pieces each
+unfolding pieces
 one_piece f fails [] rest ps all e = e
 one_piece f fails (b ∷ w) rest ps all e = go (f b) refl all (λ more. one_piece f fails w rest ps more e)
   where
@@ -49,7 +49,7 @@ fields_are (n ∷ rest) s =
 -- ---- the numbers of the fields
 
 pub record ReadAs (fields : List (List ℕ)) (numbers : List ℕ) : Type 0 where
-  pub found : found_in fields ≡ Found.Count (length numbers)
+  pub found : found_in fields ≡ Ok (length numbers)
   pub are : numbers_in fields ≡ numbers
 
 pub decimals-read : (numbers : List ℕ) → AllShort numbers → ReadAs (map decimal numbers) numbers
@@ -60,14 +60,14 @@ decimals-read (n ∷ rest) s =
     let on = decimals-read rest (others s) in
     let one_more : 1 + length rest ≡ suc (length rest) = omega arith in
     record {
-      found = (λ k. found_then (first k) (on.found k)) ∙ ap Found.Count one_more;
+      found = (λ k. found_then (first k) (on.found k)) ∙ ap Ok one_more;
       are = λ k. number_then (first k) (on.are k);
     }
 
 -- where a test passes blanks and digits, it passes such numbers
 pub each-spaced : (f : ℕ → Bool) → f 32 ≡ true → ((b : ℕ) → is_digit b ≡ true → f b ≡ true) → (numbers : List ℕ) → AllShort numbers
     → each f (flat_map spaced numbers) ≡ true
-unfolding flat_map each
+unfolding flat_map
 each-spaced f blank digits [] s = refl
 each-spaced f blank digits (n ∷ rest) s =
     let number = each-so is_digit f digits (decimal n) (nine-digits n (s.short 0)).all in

@@ -9,18 +9,15 @@ use lib.ListN.{length, get_or, take, drop, replicate, length-drop, length-replic
 use lib.Seq.{take_at, take_all}
 use lib.Dec.{ltb}
 use borrow.Author.Tests.{lt-leb, lt-ltb, le-ltb, eq-eqb, ne_eqb}
-use Rattle.model.specs.Listing.{text, refusal_line}
 use Rattle.model.specs.Refusals.{first_of, ◌when◌}
 use Rattle.model.specs.Plan.{Plan, flow_count}
-use Rattle.model.specs.Calls.{Answer, accepted, refused}
+use Rattle.model.specs.Calls.{accepted, refused}
 use Rattle.model.specs.WrittenPlan.{bytes_of, number_tests, write_refusal, written_after, written}
 use Rattle.model.proofs.Tables.{length-table}
 use Rattle.model.proofs.WrittenPlan.{length-is}
-use Rattle.plan.specs.declared.Written as code
-use Rattle.plan.specs.Writing.{answer_for}
 use Rattle.limits.specs.declared.Draft.{Draft}
 use Rattle.limits.specs.Reading.{draft_for}
-use Rattle.replies.specs.Lines.{cannot, hex}
+use Rattle.replies.specs.Lines.{cannot}
 use Rattle.planwords.specs.Plans.{flows_asked, entry_asked, plan_asked, file_line, in_room, answer_to_room}
 use Rattle.planwords.specs.Drafts.{WholeFlows, draft_asked}
 use Rattle.planwords.proofs.DraftsAsked.{draft-is}
@@ -29,27 +26,13 @@ use Rattle.planwords.proofs.DraftsAsked.{draft-is}
 
 module _ (P : Plan) (b : List ℕ) where
   -- the bytes written are the plan's, and stand first in the buffer
-  pub written-first : (n : ℕ) → code.Written.Bytes n ≡ answer_for (written P b).answer → take n (written P b).out ≡ bytes_of P
+  pub written-first : (n : ℕ) → accepted n ≡ (written P b).answer → take n (written P b).out ≡ bytes_of P
   unfolding written written_after
   written-first n e = go (write_refusal P b) e
     where
-      go : (r : ℕ) → code.Written.Bytes n ≡ answer_for (written_after r P b).answer → take n (written_after r P b).out ≡ bytes_of P
+      go : (r : ℕ) → accepted n ≡ (written_after r P b).answer → take n (written_after r P b).out ≡ bytes_of P
       go zero p = let many : length (bytes_of P) ≡ n = cc in take_at (bytes_of P) (drop (length (bytes_of P)) b) n many
       go (suc r) p = let z : ◌≡◌ {A = ℕ} 0 1 = cc in absurd (omega arith)
-
-  pub bytes-said : (n : ℕ) → code.Written.Bytes n ≡ answer_for (written P b).answer → hex (bytes_of P) ++ text "\n" ≡ file_line (written P b).answer P
-  bytes-said n e = go (written P b).answer e
-    where
-      go : (a : Answer ℕ) → code.Written.Bytes n ≡ answer_for a → hex (bytes_of P) ++ text "\n" ≡ file_line a P
-      go (accepted count) p = refl
-      go (refused number) p = let z : ◌≡◌ {A = ℕ} 0 1 = cc in absurd (omega arith)
-
-  pub refusal-said : (n : ℕ) → code.Written.Refused n ≡ answer_for (written P b).answer → refusal_line n ≡ file_line (written P b).answer P
-  refusal-said n e = go (written P b).answer e
-    where
-      go : (a : Answer ℕ) → code.Written.Refused n ≡ answer_for a → refusal_line n ≡ file_line a P
-      go (accepted count) p = let z : ◌≡◌ {A = ℕ} 0 1 = cc in absurd (omega arith)
-      go (refused number) p = let same : n ≡ number = cc in ap refusal_line same
 
   -- more than sixteen flows are refused with 2
   many-refused : 16 < flow_count P → (written P b).answer ≡ refused 2

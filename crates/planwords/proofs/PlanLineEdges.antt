@@ -6,7 +6,6 @@ use Rattle.model.specs.Refusals.{first_of}
 use Rattle.model.specs.Listing.{digits, decimal}
 use Rattle.model.specs.Plan.{entry_fits, refusal}
 use Rattle.model.specs.WrittenPlan.{bytes_of, write_refusal, written_after, written}
-use Rattle.tokens.specs.Pieces.{each}
 use Rattle.tokens.specs.Hexadecimal.{hex_digit, found_bytes}
 use Rattle.replies.specs.Lines.{hex, fault_line}
 use Rattle.planwords.specs.Plans.{in_room, answer_to_room}
@@ -22,5 +21,5 @@ unfolding any sum first_of digits decimal entry_fits bytes_of write_refusal writ
 room-lines-hold = refl
 
 pub read-lines-hold : ReadsPass read_line_edges
-unfolding any sum first_of digits decimal entry_fits refusal flat_map each hex_digit found_bytes fault_line plan_numbers question read_line digits_line read_line_edges
+unfolding any sum first_of digits decimal entry_fits refusal flat_map hex_digit found_bytes fault_line plan_numbers question read_line digits_line read_line_edges
 read-lines-hold = refl

@@ -36,7 +36,7 @@ glyph-passes : (d : ℕ) → d < 16 → is_hex_digit (hex_glyph d) ≡ true
 glyph-passes d h = ap not (ap (λ x. eqb x 16) (digit-back d h) ∙ ne_eqb d 16 (λ e. absurd (omega arith)))
 
 pub hex-digits : (b : List ℕ) → AllBytes b → each is_hex_digit (hex b) ≡ true
-unfolding hex flat_map each
+unfolding hex flat_map
 hex-digits [] bytes = refl
 hex-digits (x ∷ b) bytes =
     let small : x < 256 = bytes.byte 0 in
@@ -109,7 +109,7 @@ module _ (P : Plan) (taken : refusal (bytes_of P) ≡ 0) where
 
   -- the line's fields are those numbers
   pub line-fields : fields_of (asking_line P) ≡ map decimal (plan_numbers P)
-  unfolding asking_line each
+  unfolding asking_line
   line-fields =
       let fields = fields_are (plan_numbers P) short-numbers in
       ap tail (one_piece (λ b. not (is_space b)) refl (text "plan") (flat_map spaced (plan_numbers P)) (map decimal (plan_numbers P)) plan-is-a-word fields)

@@ -117,7 +117,6 @@ numbers-back numbers w =
 
 -- a line of hexadecimal digits begins with one, or is empty
 no-such-line : (b : ℕ) (rest digits : List ℕ) → b ∷ rest ≡ digits ++ text "\n" → is_hex_digit b ≡ false → (b ≡ 10 → ⊥) → each is_hex_digit digits ≡ true → ⊥
-unfolding each
 no-such-line b rest [] e f n all = n (ap (λ l. get_or l 0 0) e)
 no-such-line b rest (d ∷ digits) e f n all =
     let same : b ≡ d = ap (λ l. get_or l 0 0) e in

@@ -1,9 +1,9 @@
 -- The word `read`: the numbers of a plan's bytes. Assumes nothing.
-use Rattle.std.specs.Prelude.{ℕ, zero, suc}
+use Rattle.std.specs.Prelude.{ℕ, zero, suc, Result, Ok, Err}
 use mathlib.Core.List.{List, ◌∷◌, [], ◌++◌, flat_map}
 use Rattle.model.specs.Listing.{text, refusal_line}
 use Rattle.model.specs.Plan.{Plan, Entry, plan_of, refusal}
-use Rattle.tokens.specs.declared.Found.{Found}
+use Rattle.tokens.specs.declared.Fault.{Fault}
 use Rattle.tokens.specs.Hexadecimal.{bytes_of, found_bytes}
 use Rattle.replies.specs.Lines.{spaced, fault_line}
 
@@ -23,9 +23,9 @@ unfoldable pub read_line : ℕ → Plan → List ℕ
 read_line zero P = question P
 read_line (suc r) P = refusal_line (suc r)
 
-abbrev pub bytes_line : Found → (bytes : List ℕ) → List ℕ
-bytes_line (Found.Count n) bytes = read_line (refusal bytes) (plan_of bytes)
-bytes_line (Found.Wrong fault) bytes = fault_line fault
+abbrev pub bytes_line : Result ℕ Fault → (bytes : List ℕ) → List ℕ
+bytes_line (Ok n) bytes = read_line (refusal bytes) (plan_of bytes)
+bytes_line (Err fault) bytes = fault_line fault
 
 -- RULES 20.5: the answer to what stands after `read`
 unfoldable pub digits_line : (digits : List ℕ) → List ℕ

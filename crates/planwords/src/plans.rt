@@ -1,5 +1,5 @@
 // The words `plan` and `room`: numbers that ask for a plan, answered by its bytes.
-ghost use Rattle.std.specs.Prelude.{◌+◌, ◌*◌, ◌/◌, ◌%◌, ◌-◌, ◌≤◌, min, ◌≡◌, length};
+ghost use Rattle.std.specs.Prelude.{◌+◌, ◌*◌, ◌/◌, ◌%◌, ◌-◌, ◌≤◌, ◌≡◌, length};
 ghost use Rattle.model.specs.Tables.{table};
 ghost use Rattle.model.specs.WrittenPlan as writer;
 ghost use Rattle.limits.specs.Reading.{draft_for};
@@ -7,7 +7,7 @@ ghost use Rattle.replies.specs.Lines as said;
 ghost use Rattle.planwords.specs.Plans as answers;
 ghost use Rattle.planwords.specs.Drafts.{WholeFlows, wanted_at, draft_asked};
 
-use plan::{Draft, Wanted, Written};
+use plan::{Draft, Wanted};
 
 // The longest plan: a header of 12 bytes and 16 entries of four.
 const LONGEST: usize = 76;
@@ -38,10 +38,8 @@ fn entries(numbers: &[usize], flows: usize) -> [Wanted; 16]
         destination: 0,
     };
     let mut all = [none; 16];
-    let mut i = 0;
-    while i < 16 && i < flows {
+    for i in 0..flows.min(16) {
         all[i] = wanted(numbers, i);
-        i += 1;
     }
     all
 }
@@ -67,24 +65,13 @@ fn say_written(draft: Draft, buffer: &mut [u8], out: &mut [u8]) -> usize
     requires { said.room ≤ length out.old }
     ensures { said.Says (answers.file_line (writer.written (draft_for draft) buffer.old).answer (draft_for draft)) out.old out.new result }
 {
-    let answer = plan::write(draft, buffer);
-    match answer {
-        Written::Refused(number) => replies::say_refusal(number, out),
-        Written::Bytes(count) => {
+    match plan::write(draft, buffer) {
+        Ok(count) => {
             let end = replies::put_hex(&buffer[..count], out, 0);
             replies::put(b"\n", out, end)
         }
+        Err(refusal) => replies::say_refusal(refusal.number(), out),
     }
-}
-
-// A buffer's size, as far as it makes a difference.
-fn useful(size: usize) -> usize
-    ensures { result ≡ min size 76 }
-{
-    if size < LONGEST {
-        return size;
-    }
-    LONGEST
 }
 
 // Answers numbers that ask for a plan in a buffer of so many bytes.
@@ -102,7 +89,7 @@ fn in_room(size: usize, numbers: &[usize], out: &mut [u8]) -> usize
         );
     }
     let mut buffer = [0u8; LONGEST];
-    let end = useful(size);
+    let end = size.min(LONGEST);
     say_written(asked(numbers), &mut buffer[..end], out)
 }
 

@@ -10,8 +10,7 @@ ghost use Rattle.tokens.specs.Pieces.{after_word};
 ghost use Rattle.replies.specs.Lines.{spaced, room, Says};
 ghost use Rattle.planwords.specs.Reads as answers;
 
-use plan::{Entry, Plan, Verdict};
-use tokens::Found;
+use plan::{Entry, Plan};
 
 fn put_entry(e: Entry, out: &mut [u8], at: usize) -> usize
     requires { at + 84 ≤ length out.old }
@@ -31,11 +30,8 @@ fn put_entries(entries: [Entry; 16], count: usize, out: &mut [u8], at: usize) ->
     ensures most { result ≤ at + 1344 }
 {
     let mut next = at;
-    let mut i = 0;
-    while i < count {
-        let e = entries[i];
-        next = put_entry(e, out, next);
-        i += 1;
+    for e in &entries[..count] {
+        next = put_entry(*e, out, next);
     }
     next
 }
@@ -68,14 +64,9 @@ fn say_plan(bytes: &[u8], out: &mut [u8]) -> usize
     requires { room ≤ length out.old }
     ensures { Says (answers.read_line (model.refusal bytes.now) (model.plan_of bytes.now)) out.old out.new result }
 {
-    let outcome = plan::read(bytes);
-    let verdict = outcome.verdict;
-    match verdict {
-        Verdict::Refused(number) => replies::say_refusal(number, out),
-        Verdict::Accepted => {
-            let plan = outcome.plan;
-            say_question(plan, out)
-        }
+    match plan::read(bytes) {
+        Ok(plan) => say_question(plan, out),
+        Err(refusal) => replies::say_refusal(refusal.number(), out),
     }
 }
 
@@ -85,10 +76,9 @@ fn say_digits(digits: &[u8], out: &mut [u8]) -> usize
     ensures { Says (answers.digits_line digits.now) out.old out.new result }
 {
     let mut bytes = [0u8; 2000];
-    let found = tokens::read_bytes(digits, &mut bytes);
-    match found {
-        Found::Wrong(fault) => replies::say_fault(fault, out),
-        Found::Count(count) => say_plan(&bytes[..count], out),
+    match tokens::read_bytes(digits, &mut bytes) {
+        Ok(count) => say_plan(&bytes[..count], out),
+        Err(fault) => replies::say_fault(fault, out),
     }
 }
 
@@ -98,10 +88,7 @@ fn after_word(line: &[u8]) -> usize
     ensures rest { drop result line.now ≡ after_word line.now }
 {
     let end = tokens::piece_end(line, 0);
-    if end < line.len() {
-        return end + 1;
-    }
-    line.len()
+    if end < line.len() { end + 1 } else { end }
 }
 
 // Answers a line whose word is `read`.

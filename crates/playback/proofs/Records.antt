@@ -6,8 +6,9 @@ use mathlib.Core.Option.{Option}
 use Rattle.plan.specs.declared.Plan.{Plan}
 use Rattle.calls.specs.declared.Answer.{Answer}
 use Rattle.calls.specs.declared.Answer.TheVariants.{Refused}
-use Rattle.calls.specs.declared.Record.{Record}
-use Rattle.calls.specs.declared.Record.TheVariants.{NoCall}
+use Rattle.std.specs.Prelude as rust
+use Rattle.std.specs.Prelude.{Some, None}
+use Rattle.calls.specs.declared.Call.{Call}
 use Rattle.calls.specs.declared.Call.TheVariants.{Request, Credit, Tick}
 use Rattle.calls.specs.Reading.{record_for, call_in, line_for, answer_to_request, answer_to_credit, answer_to_tick}
 use Rattle.calls.proofs.Answers.{call-in, line-of-request, line-of-credit, line-of-tick}
@@ -28,7 +29,7 @@ abbrev pub Made : Type 0
 Made = Option RecordCall
 
 -- a record that was read, by the call that it makes
-pub reads_as : (o : Made) (r : Record) → r ≡ record_for o → o ≡ call_in r
+pub reads_as : (o : Made) (r : rust.Option Call) → r ≡ record_for o → o ≡ call_in r
 reads_as o r e = sym (call-in o) ∙ ap call_in (sym e)
 
 -- ---- what it comes to
@@ -40,12 +41,12 @@ pub record Played (plan : Plan) (s : List ℕ) (o : Made) (w : Window) (t : List
   pub hand : StateIn plan w t
 
 -- no call: 16, and the link stays
-pub no-call-played : {plan : Plan} {w : Window} {s : List ℕ} → StateIn plan w s → Played plan s (call_in NoCall) w s (Refused 16)
+pub no-call-played : {plan : Plan} {w : Window} {s : List ℕ} → StateIn plan w s → Played plan s (call_in None) w s (Refused 16)
 no-call-played hand = record { link_is = refl; line_is = refl; hand = hand }
 
 module _ {plan : Plan} {w : Window} {s : List ℕ} (o : StateIn plan w s) {t : List ℕ} {answer : Answer} where
   pub played-request : (x : ℕ) → Went answer_to_request (request (read_in plan s) x) plan t answer
-      → Played plan s (call_in (Record.Call (Request x))) w t answer
+      → Played plan s (call_in (Some (Request x))) w t answer
   played-request x e = record {
     link_is = e.link_is;
     line_is = ap line_for e.answer_is ∙ line-of-request (request (read_in plan s) x).answer;
@@ -53,7 +54,7 @@ module _ {plan : Plan} {w : Window} {s : List ℕ} (o : StateIn plan w s) {t : L
   }
 
   pub played-credit : (i p : ℕ) → Went answer_to_credit (credit (read_in plan s) i p) plan t answer
-      → Played plan s (call_in (Record.Call (Credit i p))) w t answer
+      → Played plan s (call_in (Some (Credit i p))) w t answer
   played-credit i p e = record {
     link_is = e.link_is;
     line_is = ap line_for e.answer_is ∙ line-of-credit (credit (read_in plan s) i p).answer;
@@ -61,7 +62,7 @@ module _ {plan : Plan} {w : Window} {s : List ℕ} (o : StateIn plan w s) {t : L
   }
 
   pub played-tick : {on : Window} → Went answer_to_tick (tick (read_in plan s)) plan t answer → StateIn plan on t
-      → Played plan s (call_in (Record.Call Tick)) on t answer
+      → Played plan s (call_in (Some Tick)) on t answer
   played-tick e there = record {
     link_is = e.link_is;
     line_is = ap line_for e.answer_is ∙ line-of-tick (tick (read_in plan s)).answer;

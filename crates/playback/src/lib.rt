@@ -1,19 +1,17 @@
 // Call records of a slice played in place.
 #![tactic(auto)]
 
-ghost use Rattle.link.specs.Sound.{SoundLink};
+ghost use Rattle.link.specs.Links.{SoundLink};
 ghost use Rattle.link.specs.Steps.{read_of};
 ghost use Rattle.playback.specs.Playback.{PlayedRecords};
 
-use calls::{Call, LONGEST_LINE, RECORD, Record};
+use calls::{Call, LONGEST_LINE, RECORD};
 use linetable::{TICKS, lines, write_accepted, write_reply};
 use link::Link;
 use link::credit::credit;
 use link::request::{flow_or_zero, request};
 use link::tick::tick;
-use state::{CURRENT, OWNERS};
-use window::numbers::smaller;
-use window::positions::window;
+use state::OWNERS;
 
 // A link after some records, and how far they and their lines go.
 #[derive(Clone, Copy)]
@@ -27,22 +25,19 @@ pub struct Playback {
 
 // Plays the records of a slice and writes their lines from the start of `out` on: every whole record, or as many as `out` has room for,
 // seven bytes each.
-pub fn play(mut link: Link, records: &[u8], out: &mut [u8]) -> Playback
-    requires { SoundLink link }
+pub fn play(link: Link, records: &[u8], out: &mut [u8]) -> Playback
     ensures played_records { PlayedRecords (read_of link) records.now out.old
         (read_of result.link) result.used result.end out.new }
     ensures sound { SoundLink result.link }
 {
-    let used = RECORD * smaller(records.len() / RECORD, out.len() / LONGEST_LINE);
+    let count = (records.len() / RECORD).min(out.len() / LONGEST_LINE);
     let plan = link.plan;
-    let current = link.state[CURRENT];
-    let mut w = window(plan.slots, plan.frames, current as usize);
+    let mut w = link.window();
+    let mut state = link.state;
     let made = lines();
-    let mut at = 0;
     let mut end = 0;
-    while at < used {
-        at += RECORD;
-        let Record::Call(call) = calls::read(records, at - RECORD) else {
+    for k in 0..count {
+        let Some(call) = calls::read(records, RECORD * k) else {
             end = calls::write_refusal(16, out, end);
             continue;
         };
@@ -50,13 +45,11 @@ pub fn play(mut link: Link, records: &[u8], out: &mut [u8]) -> Playback
             Call::Request(word) => {
                 let fields = word::split(word);
                 let i = flow_or_zero(plan.count, fields.flow as usize);
-                let e = plan.entries[i];
-                let reply = request(&mut link.state, plan.count, e, w, fields);
-                let line = made[reply.position as usize];
-                end = write_reply(reply.number, line, out, end);
+                let reply = request(&mut state, plan.count, plan.entries[i], w, fields);
+                end = write_reply(reply.number, made[reply.position as usize], out, end);
             }
             Call::Credit(flow, position) => {
-                let number = credit(&mut link.state, plan, w, flow, position);
+                let number = credit(&mut state, plan, w, flow, position);
                 if number != 0 {
                     end = calls::write_refusal(number, out, end);
                 } else {
@@ -64,12 +57,16 @@ pub fn play(mut link: Link, records: &[u8], out: &mut [u8]) -> Playback
                 }
             }
             Call::Tick => {
-                w = tick(&mut link.state, plan, w);
-                let owner = link.state[OWNERS + w.current];
+                w = tick(&mut state, plan, w);
+                let owner = state[OWNERS + w.current];
                 let line = made[TICKS + owner as usize];
                 end = linetable::write(line, out, end);
             }
         }
     }
-    Playback { link, used, end }
+    Playback {
+        link: Link { plan, state },
+        used: RECORD * count,
+        end,
+    }
 }

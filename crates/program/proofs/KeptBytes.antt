@@ -4,7 +4,10 @@ use mathlib.Core.Path.{◌≡◌, refl, sym, ap, ◌∙◌, subst}
 use mathlib.Core.List.{List, ◌++◌, [], append-nil}
 use native.Mathlib.Omega.{arith}
 use lib.ListN.{length, get_or, take, drop, length-take, length-drop, length-append}
-use lib.Seq.{sets, length-sets}
+use lib.Seq.{sets, sets-eq, length-sets}
+use borrow.Author.Rules.{rules}
+use borrow.Rule.Slice.PartMut.{put_mid}
+use Rattle.std.proofs.lemmas.Slice.{overwrites}
 use Rattle.model.specs.Listing.{plan_length}
 use Rattle.program.specs.declared.Kept.{Kept}
 use Rattle.program.specs.State.{bytes_in, zeros, Keeps}
@@ -34,6 +37,10 @@ module _ {k : Kept} {bytes : List ℕ} (h : Keeps k bytes) where
 
   pub array_long : length k.bytes ≡ 76
   array_long = ap length h.bytes_are ∙ length-sets zeros 0 bytes ∙ zeros-long
+
+-- a part of a list that is written whole: its elements are stored there
+pub stored : (out bytes : List ℕ) (at n : ℕ) → n ≡ length bytes → at + n ≤ length out → put_mid at n out bytes ≡ sets out at bytes
+stored out bytes at n long fits = rw (sets-eq bytes out at (omega (arith, fits, long))) (search (rules, overwrites))
 
 pub nothing-kept : Keeps (record { bytes = zeros; count = 0 }) []
 nothing-kept = record { count_is = refl; bytes_are = refl; most = omega arith }

@@ -58,11 +58,6 @@ leaves-line {s} line {out} {out'} {state} {n} room w h = record {
 -- ---- a record that is cut off
 
 module _ (l : Link) (cut piece : List ℕ) where
-  -- there is none
-  pub none-cut-off : {out out' : List ℕ} {at : ℕ} {r : Progress} → cut ≡ [] → LeavesFed (playing l []) piece out at r out'
-      → LeavesFed (playing l cut) piece out at r out'
-  none-cut-off e = same-leaves (ap (λ b. stage_fed (playing l b) piece) (sym e)) (ap (λ b. written_fed (playing l b) piece) (sym e))
-
   -- is cut off still
   pub still-cut-off : {out : List ℕ} {state : State} → length (cut ++ piece) < 5 → Stands state (playing l (cut ++ piece))
       → LeavesFed (playing l cut) piece out 0 (record { state = state; written = 0 }) out

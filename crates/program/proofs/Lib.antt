@@ -1,12 +1,12 @@
 mod Lists
 mod KeptBytes
-mod Phases
 mod Ends
 mod WholeRecords
 mod PlayedOn
 mod Leaving
 mod PlanStages
 mod PlanRead
+mod PlanTaken
 pub mod Pieces
 pub mod Determined
 pub mod Demand3

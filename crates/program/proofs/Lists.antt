@@ -4,10 +4,9 @@ use mathlib.Core.Path.{◌≡◌, refl, sym, ap, ◌∙◌}
 use mathlib.Core.List.{List, ◌∷◌, [], ◌++◌, append_assoc}
 use native.Mathlib.Decide.{dec_le}
 use native.Mathlib.Nat.{zero-add, add-suc}
-use native.Mathlib.Numerals.{add-one}
 use native.Mathlib.Omega.{arith}
 use lib.ListN.{length, get_or, take, drop, set, length-take, length-drop, length-append, take-append-drop, get_or-append}
-use lib.Seq.{sets, sets-eq, take_all, take-suc, take-append_seam, take-set-le, drop-set-add, length-take-le}
+use lib.Seq.{sets, sets-eq, take_all, take-append_seam, take-set-le, drop-set-add}
 use Rattle.calls.proofs.Stores.{sets-append}
 
 -- ---- a front and what comes after it
@@ -48,13 +47,6 @@ module _ (b piece : List ℕ) (k : ℕ) where
 -- one run after another
 pub stored-after : (l xs ys : List ℕ) → sets (sets l 0 xs) (length xs) ys ≡ sets l 0 (xs ++ ys)
 stored-after l xs ys = ap (λ n. sets (sets l 0 xs) n ys) (sym (zero-add (length xs))) ∙ sets-append l 0 xs ys
-
--- one store more
-pub stored_more : (l p : List ℕ) (start i : ℕ) → i < length p → set (sets l start (take i p)) (start + i) (get_or p i 0) ≡ sets l start (take (i + 1) p)
-stored_more l p start i h =
-    let long : length (take i p) ≡ i = length-take-le i p (omega arith) in
-    ap (λ n. set (sets l start (take i p)) (start + n) (get_or p i 0)) (sym long) ∙ sets-append l start (take i p) (get_or p i 0 ∷ [])
-    ∙ ap (sets l start) (sym (ap (λ n. take n p) (add-one i) ∙ take-suc p i 0 h))
 
 -- the stores of a part that starts at a place are stores of the whole
 pub stored-behind : (at j : ℕ) (l vs : List ℕ) → take at l ++ sets (drop at l) j vs ≡ sets l (at + j) vs

@@ -11,8 +11,6 @@ use Rattle.model.specs.Link.{Link}
 use Rattle.model.specs.Fresh.{fresh}
 use Rattle.model.specs.Listing.{plan_line, plan_length, output_after}
 use Rattle.calls.proofs.Stores.{Written, out-in-room, next-in-room}
-use Rattle.plan.specs.declared.Verdict.TheVariants.{Accepted, Refused}
-use Rattle.plan.specs.Reading.{verdict_for}
 use Rattle.program.specs.declared.State.{State}
 use Rattle.program.specs.declared.Progress.{Progress}
 use Rattle.program.specs.Stage.{reading, playing, ended, whole_records, plan_open, stage_after, written_after, stage_with, stage_fed, written_fed}
@@ -20,16 +18,6 @@ use Rattle.program.specs.State.{Stands}
 use Rattle.program.specs.Parts.{Leaves, LeavesFed, LeavesPlan}
 use Rattle.program.proofs.PlanStages.{Never, There, stage-open, written-open, stage-never, written-never, stage-plan, written-plan}
 use Rattle.program.proofs.Leaving.{same-leaves, leaves_after, leaves-silent, leaves-line}
-
-pub accepted-is-0 : (n : ℕ) → verdict_for n ≡ Accepted → n ≡ 0
-unfolding verdict_for
-accepted-is-0 zero e = refl
-accepted-is-0 (suc r) e = cc
-
-refused-is : (n k : ℕ) → verdict_for n ≡ Refused k → (0 < n) × (n ≡ k)
-unfolding verdict_for
-refused-is zero k e = let z : ◌≡◌ {A = ℕ} 0 1 = cc in absurd (omega arith)
-refused-is (suc r) k e = (omega arith, cc)
 
 module _ (plan rest : List ℕ) where
   stage-refused : (n : ℕ) → 0 < n → ended ≡ stage_with n plan rest
@@ -42,12 +30,12 @@ module _ (plan rest : List ℕ) where
   output-refused zero h = absurd (omega arith)
   output-refused (suc r) h = refl
 
-  pub left-refused : {k : ℕ} {out out' : List ℕ} {state : State} {w : ℕ} → verdict_for (refusal plan) ≡ Refused k → 0 + 7 ≤ length out
+  pub left-refused : {k : ℕ} {out out' : List ℕ} {state : State} {w : ℕ} → 0 < k → refusal plan ≡ k → 0 + 7 ≤ length out
       → Written (plan_line k) out out' 0 w → Stands state ended → LeavesPlan plan rest out 0 (record { state = state; written = w }) out'
-  left-refused {k} e room w h =
-      let is = refused-is (refusal plan) k e in
-      let lines = ap plan_line (sym is.1) ∙ output-refused (refusal plan) is.0 in
-      same-leaves (stage-refused (refusal plan) is.0) lines (leaves-line (plan_line k) room w h)
+  left-refused {k} some e room w h =
+      let nonzero : 0 < refusal plan = rw e some in
+      let lines = ap plan_line (sym e) ∙ output-refused (refusal plan) nonzero in
+      same-leaves (stage-refused (refusal plan) nonzero) lines (leaves-line (plan_line k) room w h)
 
   pub left-accepted : {l : Link} {out out₁ out₂ : List ℕ} {at : ℕ} {r : Progress} → refusal plan ≡ 0 → l ≡ fresh (plan_of plan) → 0 + 7 ≤ length out
       → Written (plan_line 0) out out₁ 0 at → LeavesFed (playing l []) rest out₁ at r out₂ → LeavesPlan plan rest out 0 r out₂

@@ -8,20 +8,13 @@ use native.Mathlib.Decide.{dec_le}
 use native.Mathlib.Omega.{arith}
 use lib.ListN.{length, take, drop, length-append, get_or-append}
 use lib.Seq.{take-append-le, drop-append-le, take-length, drop-length}
-use lib.Dec.{ltb, leb}
-use borrow.Author.Tests.{lt-ltb, le-ltb, lt-leb, le-leb, ltb-true, ltb-false, not-true}
+use lib.Dec.{ltb}
+use borrow.Author.Tests.{lt-ltb, le-ltb, le-leb, ltb-true, ltb-false, not-true}
 use Rattle.model.specs.Tables.{within}
 use Rattle.model.specs.Plan.{refusal}
 use Rattle.model.specs.Listing.{plan_line, plan_length, plan_missing, output_after, output}
 use Rattle.model.proofs.Tests.{or-false, or-true, and-true, within-true}
 use Rattle.program.specs.Stage.{reading, ended, whole_records, plan_open, stage_with, stage_after, written_after}
-
-pub ltb-leb : (a b : ℕ) → ltb a b ≡ not (leb b a)
-ltb-leb a b = go (dec_le b a)
-  where
-    go : Dec (b ≤ a) → ltb a b ≡ not (leb b a)
-    go (yes h) = rw (le-ltb a b h, le-leb b a h)
-    go (no h) = rw (lt-ltb a b (omega arith), lt-leb b a (omega arith))
 
 open-missing : (a w b : Bool) → a || (w && b) ≡ true → a || b || not w ≡ true
 open-missing true w b e = refl

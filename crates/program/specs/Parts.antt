@@ -3,15 +3,13 @@ use Rattle.std.specs.Prelude.{ℕ, ◌+◌, ◌*◌, ◌/◌, ◌≤◌, ◌≡�
 use Rattle.std.proofs.lemmas.List.Edits.{sets}
 use Rattle.model.specs.Plan.{refusal}
 use Rattle.model.specs.Listing.{output_after}
-use Rattle.program.specs.declared.Kept.{Kept}
 use Rattle.program.specs.declared.Progress.{Progress}
 use Rattle.program.specs.Stage.{Stage, whole_records, stage_with, stage_fed, written_fed}
-use Rattle.program.specs.State.{bytes_in, Keeps, Stands}
+use Rattle.program.specs.State.{Stands}
 
--- What is kept is in order, and the lines of a piece have room.
-pub record Ready (kept : Kept) (piece out : List ℕ) : Type 0 where
-  pub kept_well : Keeps kept (bytes_in kept)
-  pub room : length piece ≤ 5 * (length out / 7)
+-- The lines of a piece have room.
+abbrev pub RoomFor : (piece out : List ℕ) → Type 0
+RoomFor piece out = length piece ≤ 5 * (length out / 7)
 
 -- The program stands at stage s, and these lines stand in what was `out` from `at` on.
 pub record Leaves (s : Stage) (lines out : List ℕ) (at : ℕ) (r : Progress) (out' : List ℕ) : Type 0 where

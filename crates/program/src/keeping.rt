@@ -3,7 +3,6 @@ ghost use Rattle.std.specs.Prelude.{◌++◌, [], ◌-◌, ◌≤◌, take};
 ghost use Rattle.program.specs.State.{bytes_in, Keeps};
 
 use crate::{Kept, LONGEST_PLAN};
-use window::numbers::smaller;
 
 pub(crate) fn none() -> Kept
     ensures { Keeps result [] }
@@ -23,13 +22,9 @@ pub(crate) fn filled(kept: Kept, to: usize, piece: &[u8]) -> Kept
     if to <= start {
         return kept;
     }
-    let more = smaller(to - start, piece.len());
+    let more = (to - start).min(piece.len());
     let mut bytes = kept.bytes;
-    let mut i = 0;
-    while i < more {
-        bytes[start + i] = piece[i];
-        i += 1;
-    }
+    bytes[start..start + more].copy_from_slice(&piece[..more]);
     Kept {
         bytes,
         count: start + more,

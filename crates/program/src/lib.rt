@@ -4,28 +4,15 @@
 mod keeping;
 mod plans;
 mod records;
-mod states;
 
 ghost use Rattle.program.specs.State.{stage_of, Regular};
 ghost use Rattle.program.specs.Promises.{Started, FedPiece, Finished};
 
 use calls::{LONGEST_LINE, RECORD};
 use link::Link;
-use window::numbers::smaller;
 
 // The bytes of the longest plan: a header of 12 bytes and 16 entries of four.
 pub const LONGEST_PLAN: usize = 76;
-
-// Where the program stands.
-#[derive(Clone, Copy)]
-pub enum Phase {
-    // Bytes of the plan are still to come.
-    Reading,
-    // The plan was accepted, and records are played.
-    Playing,
-    // Nothing more is read.
-    Ended,
-}
 
 // The bytes of a plan or of a record that is not whole yet, and zeros after them.
 #[derive(Clone, Copy)]
@@ -34,12 +21,15 @@ pub struct Kept {
     pub count: usize,
 }
 
-// The program after some input. The link is all zero where there is none.
+// The program after some input.
 #[derive(Clone, Copy)]
-pub struct State {
-    pub phase: Phase,
-    pub link: Link,
-    pub kept: Kept,
+pub enum State {
+    // Bytes of the plan are still to come: those that have come.
+    Reading(Kept),
+    // The plan was accepted, and records are played: the link, and the bytes of a record that is not whole yet.
+    Playing(Link, Kept),
+    // Nothing more is read.
+    Ended,
 }
 
 // What feeding a piece comes to.
@@ -63,7 +53,7 @@ pub(crate) struct Progress {
 pub fn start() -> State
     ensures { Started result }
 {
-    states::reading(states::no_link(), keeping::none())
+    State::Reading(keeping::none())
 }
 
 // Takes as much of a piece as `out` has room for, five bytes for each line of seven, and puts what is to be written at the start of `out`.
@@ -71,35 +61,17 @@ pub fn feed(state: State, piece: &[u8], out: &mut [u8]) -> Fed
     requires { Regular state }
     ensures { FedPiece (stage_of state) piece.now out.old result out.new }
 {
-    let used = smaller(piece.len(), RECORD * (out.len() / LONGEST_LINE));
+    let used = piece.len().min(RECORD * (out.len() / LONGEST_LINE));
     let part = &piece[..used];
-    let phase = state.phase;
-    let link = state.link;
-    let kept = state.kept;
-    match phase {
-        Phase::Reading => {
-            let left = plans::go_on(link, kept, part, out);
-            let state = left.state;
-            Fed {
-                state,
-                used,
-                written: left.written,
-            }
-        }
-        Phase::Playing => {
-            let left = records::go_on(link, kept, part, out);
-            let state = left.state;
-            Fed {
-                state,
-                used,
-                written: left.written,
-            }
-        }
-        Phase::Ended => Fed {
-            state,
-            used,
-            written: 0,
-        },
+    let left = match state {
+        State::Reading(kept) => plans::go_on(kept, part, out),
+        State::Playing(link, kept) => records::go_on(link, kept, part, out),
+        State::Ended => Progress { state, written: 0 },
+    };
+    Fed {
+        state: left.state,
+        used,
+        written: left.written,
     }
 }
 
@@ -108,12 +80,9 @@ pub fn finish(state: State, out: &mut [u8]) -> usize
     requires { Regular state }
     ensures { Finished (stage_of state) out.old result out.new }
 {
-    let phase = state.phase;
-    let link = state.link;
-    let kept = state.kept;
-    match phase {
-        Phase::Reading => calls::write_plan(1, out, 0),
-        Phase::Playing => records::last_line(link, kept, out),
-        Phase::Ended => 0,
+    match state {
+        State::Reading(_) => calls::write_plan(1, out, 0),
+        State::Playing(link, kept) => records::last_line(link, kept, out),
+        State::Ended => 0,
     }
 }

@@ -1,6 +1,6 @@
 -- The lines of numbers that ask about a programme. Assumes nothing.
 use Prim.Native.Nat.{ℕ, ◌+◌, ◌-◌, ◌*◌, ◌%◌, ◌≤◌}
-use mathlib.Core.Path.{◌≡◌, refl, sym, ap, ◌∙◌}
+use mathlib.Core.Path.{◌≡◌, sym, ap, ◌∙◌}
 use mathlib.Core.List.{List}
 use mathlib.Core.Bool.{true, false}
 use native.Mathlib.Decide.{dec_le}
@@ -9,16 +9,15 @@ use lib.ListN.{length, get_or, get_or-eq_default}
 use lib.Dec.{ltb}
 use borrow.Author.Tests.{eq-eqb, ne_eqb}
 use Rattle.model.specs.Tables.{table, any}
-use Rattle.model.specs.Calls.{Answer, accepted, refused}
 use Rattle.model.proofs.Tables.{length-table, get_d-table, table_same}
 use Rattle.week.specs.declared.Entry.{Entry as CodeEntry}
 use Rattle.week.specs.declared.Programme.{Programme}
-use Rattle.week.specs.Week.{AtMinute, plan, dark, plan_at}
-use Rattle.week.specs.Reading.{empty_entry, entry_for, entries_of, answer_for}
+use Rattle.week.specs.Week.{plan_at}
+use Rattle.week.specs.Reading.{empty_entry, entry_for, entries_of}
 use Rattle.week.proofs.Refusals.{many-refused}
 use Rattle.replies.specs.Lines.{cannot}
 use Rattle.programmewords.specs.Programmes.{minute_asked, entries_asked, entry_asked, programme_asked, programme_line, answer_to_programme}
-use Rattle.programmewords.specs.Asked.{WholeEntries, stored_entry, stored_asked, line_for}
+use Rattle.programmewords.specs.Asked.{WholeEntries, stored_entry, stored_asked}
 
 -- past the numbers there are only zeros
 pub past : (numbers : List ℕ) (count k : ℕ) → WholeEntries numbers count → count ≤ k → stored_entry numbers k ≡ empty_entry
@@ -32,12 +31,6 @@ unfolding stored_asked
 stored_is numbers count entries w e =
     let same : count ≡ entries_asked numbers = omega (arith, w.many) in
     λ t. record { count = same t; entries = e t }
-
--- the line of an answer as it is stored is that of the answer
-stored-line : (a : Answer AtMinute) → line_for (answer_for a) ≡ programme_line a
-stored-line (accepted (plan number)) = refl
-stored-line (accepted dark) = refl
-stored-line (refused number) = refl
 
 -- The stored programme has the answers of the one that is asked about: it is the same one, or both have too many entries.
 stored_answer : (numbers : List ℕ) → (minute : ℕ) → plan_at (entries_of (stored_asked numbers)) minute ≡ plan_at (programme_asked numbers) minute
@@ -72,8 +65,8 @@ module _ (numbers : List ℕ) where
 
     -- what runs, by the programme as it is stored
     pub narrow-line : any count (λ i. ltb 65535 (get_or numbers (1 + 3 * i + 2) 0)) ≡ false
-        → line_for (answer_for (plan_at (entries_of (stored_asked numbers)) (minute_asked numbers))) ≡ answer_to_programme numbers
+        → programme_line (plan_at (entries_of (stored_asked numbers)) (minute_asked numbers)) ≡ answer_to_programme numbers
     unfolding answer_to_programme
     narrow-line e =
-        stored-line (plan_at (entries_of (stored_asked numbers)) (minute_asked numbers)) ∙ ap programme_line (stored_answer numbers (minute_asked numbers))
+        ap programme_line (stored_answer numbers (minute_asked numbers))
         ∙ rw (ne_eqb (length numbers) 0 whole.1, eq-eqb ((length numbers - 1) % 3) 0 whole.2, ap (λ n. any n (λ i. ltb 65535 (get_or numbers (1 + 3 * i + 2) 0))) whole.0 ∙ e)

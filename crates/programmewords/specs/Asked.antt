@@ -1,11 +1,8 @@
--- Numbers as a stored programme, and the line of an answer as it is stored. Assumes nothing.
-use Rattle.std.specs.Prelude.{ℕ, ◌+◌, ◌*◌, ◌≡◌, List, ◌++◌, false, length, get_or, ltb}
+-- Numbers as a stored programme. Assumes nothing.
+use Rattle.std.specs.Prelude.{ℕ, ◌+◌, ◌*◌, ◌≡◌, List, false, length, get_or, ltb}
 use Rattle.model.specs.Tables.{table, any}
-use Rattle.model.specs.Listing.{text, refusal_line}
-use Rattle.replies.specs.Lines.{spaced}
 use Rattle.week.specs.declared.Entry.{Entry as CodeEntry}
 use Rattle.week.specs.declared.Programme.{Programme}
-use Rattle.week.specs.declared.AtMinute.{AtMinute as CodeAtMinute}
 use Rattle.programmewords.specs.Programmes.{entries_asked}
 
 -- a minute, and three numbers for each of so many entries
@@ -22,8 +19,3 @@ stored_entry numbers i = record { start = get_or numbers (1 + 3 * i) 0; end = ge
 -- a stored programme has 64 places, whatever is asked about
 unfoldable pub stored_asked : List ℕ → Programme
 stored_asked numbers = record { count = entries_asked numbers; entries = table 64 (stored_entry numbers) }
-
-abbrev pub line_for : CodeAtMinute → List ℕ
-line_for (CodeAtMinute.Plan number) = text "plan" ++ spaced number ++ text "\n"
-line_for CodeAtMinute.Dark = text "dark\n"
-line_for (CodeAtMinute.Refused number) = refusal_line number

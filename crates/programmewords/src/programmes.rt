@@ -3,10 +3,11 @@ ghost use Rattle.std.specs.Prelude.{◌+◌, ◌*◌, ◌≤◌, ◌≡◌, ◌+
 ghost use Rattle.model.specs.Tables.{table, any};
 ghost use Rattle.model.specs.Listing.{text};
 ghost use Rattle.replies.specs.Lines as said;
-ghost use Rattle.programmewords.specs.Programmes.{answer_to_programme};
-ghost use Rattle.programmewords.specs.Asked.{WholeEntries, NarrowPlans, stored_entry, stored_asked, line_for};
+ghost use Rattle.week.specs.Reading.{answer_of};
+ghost use Rattle.programmewords.specs.Programmes.{programme_line, answer_to_programme};
+ghost use Rattle.programmewords.specs.Asked.{WholeEntries, NarrowPlans, stored_entry, stored_asked};
 
-use week::{AtMinute, Entry, Programme};
+use week::{Entry, Programme, Refusal};
 
 // The largest number of a plan.
 const WIDEST: usize = 65535;
@@ -16,12 +17,10 @@ fn any_wide(numbers: &[usize], count: usize) -> bool
     requires { WholeEntries numbers.now count }
     ensures { result ≡ any count (λ i. ltb 65535 (get_or numbers.now (1 + 3 * i + 2) 0)) }
 {
-    let mut i = 0;
-    while i < count {
+    for i in 0..count {
         if WIDEST < numbers[1 + 3 * i + 2] {
             return true;
         }
-        i += 1;
     }
     false
 }
@@ -49,10 +48,8 @@ fn entries(numbers: &[usize], count: usize) -> [Entry; 64]
         plan: 0,
     };
     let mut all = [none; 64];
-    let mut i = 0;
-    while i < 64 && i < count {
+    for i in 0..count.min(week::MOST) {
         all[i] = entry_at(numbers, i);
-        i += 1;
     }
     all
 }
@@ -72,19 +69,19 @@ fn say_plan(number: u16, out: &mut [u8]) -> usize
     ensures { said.Says (text "plan" ++ said.spaced number ++ text "\n") out.old out.new result }
 {
     let word = replies::put(b"plan", out, 0);
-    let end = replies::put_number(number as usize, out, word);
+    let end = replies::put_number(usize::from(number), out, word);
     replies::put(b"\n", out, end)
 }
 
 // Says what runs.
-fn say_answer(answer: AtMinute, out: &mut [u8]) -> usize
+fn say_answer(answer: Result<Option<u16>, Refusal>, out: &mut [u8]) -> usize
     requires { said.room ≤ length out.old }
-    ensures { said.Says (line_for answer) out.old out.new result }
+    ensures { said.Says (programme_line (answer_of answer)) out.old out.new result }
 {
     match answer {
-        AtMinute::Plan(number) => say_plan(number, out),
-        AtMinute::Dark => replies::say(b"dark\n", out),
-        AtMinute::Refused(number) => replies::say_refusal(number, out),
+        Ok(Some(number)) => say_plan(number, out),
+        Ok(None) => replies::say(b"dark\n", out),
+        Err(refusal) => replies::say_refusal(refusal.number(), out),
     }
 }
 
@@ -103,7 +100,7 @@ pub fn programme(numbers: &[usize], out: &mut [u8]) -> usize
     requires { said.room ≤ length out.old }
     ensures { said.Says (answer_to_programme numbers.now) out.old out.new result }
 {
-    if numbers.len() == 0 {
+    if numbers.is_empty() {
         return replies::say(b"? the minute is missing\n", out);
     }
     if (numbers.len() - 1) % 3 != 0 {

@@ -6,7 +6,7 @@ use Rattle.model.specs.Refusals.{first_of}
 use Rattle.model.specs.Listing.{digits, decimal}
 use Rattle.model.specs.Plan.{entry_fits, refusal}
 use Rattle.model.specs.WrittenPlan.{bytes_of, write_refusal, written_after, written}
-use Rattle.tokens.specs.Pieces.{pieces, piece_length, each}
+use Rattle.tokens.specs.Pieces.{pieces, piece_length}
 use Rattle.tokens.specs.Decimal.{value_from, number_of, numbers_in, found_in}
 use Rattle.tokens.specs.Hexadecimal.{hex_digit, found_bytes}
 use Rattle.replies.specs.Lines.{hex, fault_line}
@@ -31,5 +31,5 @@ use Rattle.questions.specs.Input.{lines_of, answers_to}
 use Rattle.questions.specs.InputEdges.{Pass, input_edges}
 
 pub inputs-hold : Pass input_edges
-unfolding any sum first_from first_of digits decimal entry_fits refusal bytes_of write_refusal written_after written pieces piece_length each value_from number_of numbers_in found_in hex_digit found_bytes hex fault_line in_room answer_to_room plan_numbers question read_line digits_line keep some_of links uses load stream_fits refusal_before_links mesh_refusal over_links mesh_answer counted answer_to_count answer_to_extras answer_to_programme no_question refusal_of delayed answer_for answer_to_delay faults_of answer_to_faults week_faults_of answer_to_week_faults same_text words row_named answer_to_numbers answer_to answer_of lines_of answers_to flat_map input_edges
+unfolding any sum first_from first_of digits decimal entry_fits refusal bytes_of write_refusal written_after written pieces piece_length value_from number_of numbers_in found_in hex_digit found_bytes hex fault_line in_room answer_to_room plan_numbers question read_line digits_line keep some_of links uses load stream_fits refusal_before_links mesh_refusal over_links mesh_answer counted answer_to_count answer_to_extras answer_to_programme no_question refusal_of delayed answer_for answer_to_delay faults_of answer_to_faults week_faults_of answer_to_week_faults same_text words row_named answer_to_numbers answer_to answer_of lines_of answers_to flat_map input_edges
 inputs-hold = refl

@@ -8,7 +8,7 @@ use native.Mathlib.Omega.{arith}
 use lib.ListN.{length, take}
 use lib.Seq.{sets, length-take-le, take_all}
 use borrow.Author.Tests.{lt-ltb, le-ltb}
-use Rattle.tokens.specs.declared.Found.{Found}
+use Rattle.std.proofs.Common.{Ok}
 use Rattle.tokens.specs.Pieces.{fields_of, word_of}
 use Rattle.tokens.specs.Decimal.{numbers_in, found_in}
 use Rattle.tokens.proofs.NumbersCounted as counted
@@ -20,7 +20,7 @@ use Rattle.questions.specs.Promises.{line_of, Regular}
 
 -- ---- numbers that are kept
 
-module _ (line : List ℕ) {n : ℕ} (e : Found.Count n ≡ found_in (fields_of line)) where
+module _ (line : List ℕ) {n : ℕ} (e : Ok n ≡ found_in (fields_of line)) where
   pub count_fits : length line ≤ 4000 → n ≤ 2000
   count_fits short = omega (arith, counted.count_most line n e)
 

@@ -30,7 +30,7 @@ abbrev in_line : ℕ → Bool
 in_line b = not (is_newline b)
 
 one_line : (line : List ℕ) → each in_line line ≡ true → lines_of (line ++ text "\n") ≡ line ∷ []
-unfolding lines_of each
+unfolding lines_of
 one_line [] all = refl
 one_line (b ∷ line) all = go (in_line b) refl all (one_line line)
   where
@@ -46,7 +46,7 @@ answer-alone line all = ap (flat_map answer_of) (one_line line all) ∙ append-n
 -- ---- the two lines
 
 asking-in-line : (P : Plan) → refusal (bytes_of P) ≡ 0 → each in_line (asking_line P) ≡ true
-unfolding asking_line each
+unfolding asking_line
 asking-in-line P taken =
     let numbers = each-spaced in_line refl (λ b e. ap not (apart is_digit 10 refl b e)) (plan_numbers P) (short-numbers P taken) in
     each_append in_line (text "plan") (flat_map spaced (plan_numbers P)) refl numbers
@@ -56,7 +56,7 @@ unfolding hex_digit
 no-hex-newline = refl
 
 reading-in-line : (b : List ℕ) → AllBytes b → each in_line (reading_line b) ≡ true
-unfolding reading_line each
+unfolding reading_line
 reading-in-line b bytes =
     let digits = each-so is_hex_digit in_line (λ d e. ap not (apart is_hex_digit 10 no-hex-newline d e)) (hex b) (hex-digits b bytes) in
     each_append in_line (text "read ") (hex b) refl digits

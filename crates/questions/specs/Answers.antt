@@ -1,8 +1,8 @@
 -- The answer to a line: its word decides who answers. Assumes nothing.
-use Rattle.std.specs.Prelude.{ℕ, List, ◌∷◌, [], Bool, true, false, ◌&&◌, cond, length, ltb, eqb}
+use Rattle.std.specs.Prelude.{ℕ, List, ◌∷◌, [], Bool, true, false, ◌&&◌, cond, length, ltb, eqb, Result, Ok, Err}
 use Prim.Native.String.{String}
 use Rattle.model.specs.Listing.{text}
-use Rattle.tokens.specs.declared.Found.{Found}
+use Rattle.tokens.specs.declared.Fault.{Fault}
 use Rattle.tokens.specs.Pieces.{fields_of, word_of, after_word}
 use Rattle.tokens.specs.Decimal.{numbers_in, found_in}
 use Rattle.replies.specs.Lines.{cannot, fault_line}
@@ -73,9 +73,9 @@ answer_to_numbers NumberWord.Faults numbers = answer_to_faults numbers
 answer_to_numbers NumberWord.WeekFaults numbers = answer_to_week_faults numbers
 
 -- RULES 20.6.3: the first field that is no number comes before what the word asks for
-abbrev pub numbers_line : Found → NumberWord → (numbers : List ℕ) → List ℕ
-numbers_line (Found.Count n) word numbers = answer_to_numbers word numbers
-numbers_line (Found.Wrong fault) word numbers = fault_line fault
+abbrev pub numbers_line : Result ℕ Fault → NumberWord → (numbers : List ℕ) → List ℕ
+numbers_line (Ok n) word numbers = answer_to_numbers word numbers
+numbers_line (Err fault) word numbers = fault_line fault
 
 unfoldable pub answer_to : Word → (line : List ℕ) → List ℕ
 answer_to (OfNumbers word) line = numbers_line (found_in (fields_of line)) word (numbers_in (fields_of line))

@@ -6,7 +6,6 @@ ghost use Rattle.questions.specs.Answers as answers;
 
 use crate::keywords::{NumberWord, Word};
 use crate::{LONGEST, keywords};
-use tokens::Found;
 
 // Reads the numbers after a word that asks for some, and answers them. A line has at most half as many numbers as bytes.
 fn answer_counted(word: NumberWord, line: &[u8], out: &mut [u8]) -> usize
@@ -14,10 +13,9 @@ fn answer_counted(word: NumberWord, line: &[u8], out: &mut [u8]) -> usize
     ensures { said.Says (answers.answer_to (Word.OfNumbers word) line.now) out.old out.new result }
 {
     let mut numbers = [0usize; 2000];
-    let found = tokens::read_numbers(line, &mut numbers);
-    match found {
-        Found::Wrong(fault) => replies::say_fault(fault, out),
-        Found::Count(count) => keywords::answer_numbers(word, &numbers[..count], out),
+    match tokens::read_numbers(line, &mut numbers) {
+        Ok(count) => keywords::answer_numbers(word, &numbers[..count], out),
+        Err(fault) => replies::say_fault(fault, out),
     }
 }
 

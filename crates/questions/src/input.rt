@@ -57,8 +57,11 @@ pub fn feed(state: State, piece: &[u8], out: &mut [u8]) -> Fed
     let mut count = state.count;
     let mut used = 0;
     let mut written = 0;
-    while used < piece.len() && ROOM <= out.len() - written {
-        let taken = take_byte(piece[used], &mut line, count, out, written);
+    for byte in piece {
+        if out.len() - written < ROOM {
+            break;
+        }
+        let taken = take_byte(*byte, &mut line, count, out, written);
         count = taken.count;
         written = taken.written;
         used += 1;

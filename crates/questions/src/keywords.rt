@@ -4,7 +4,7 @@ ghost use Rattle.replies.specs.Lines as said;
 ghost use Rattle.questions.specs.Answers.{word_for, answer_to_numbers};
 
 // Words that are followed by numbers.
-#[derive(Clone, Copy)]
+#[derive(Clone, Copy, Debug, PartialEq, Eq)]
 pub(crate) enum NumberWord {
     Plan,
     Room,
@@ -18,7 +18,9 @@ pub(crate) enum NumberWord {
     WeekFaults,
 }
 
-#[derive(Clone, Copy)]
+// Stays: a text that is no word is answered too, so `Unknown` has an arm beside the others'; an Option of a word would be taken apart in the same
+// three arms.
+#[derive(Clone, Copy, Debug, PartialEq, Eq)]
 pub(crate) enum Word {
     OfNumbers(NumberWord),
     Read,
@@ -66,6 +68,7 @@ pub(crate) fn named(text: &[u8]) -> Word
 }
 
 // Answers a word and its numbers.
+#[tactic(auto, unfolding(crate::specs::Answers::answer_to_numbers))]
 pub(crate) fn answer_numbers(word: NumberWord, numbers: &[usize], out: &mut [u8]) -> usize
     requires { said.room ≤ length out.old }
     ensures { said.Says (answer_to_numbers word numbers.now) out.old out.new result }

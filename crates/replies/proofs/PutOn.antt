@@ -1,14 +1,15 @@
 -- Bytes put one after another, and answers that are put. Assumes nothing.
 use Prim.Native.Nat.{ℕ, ◌+◌, ◌*◌, ◌/◌, ◌%◌, ◌≤◌, ◌<◌}
 use mathlib.Core.Path.{◌≡◌, refl, sym, ap, ◌∙◌}
-use mathlib.Core.List.{List, ◌∷◌, [], ◌++◌, flat_map}
+use mathlib.Core.List.{List, ◌∷◌, [], ◌++◌, flat_map, append_assoc}
 use native.Mathlib.Numerals.{add-one}
 use native.Mathlib.Omega.{arith}
-use lib.ListN.{length, get_or, take, set}
-use lib.Seq.{take-suc, take-length}
+use lib.ListN.{length, get_or, take, drop, set}
+use lib.Seq.{sets, sets-eq, length-sets, take-suc, drop-drop}
+use borrow.Rule.Slice.PartMut.{put_mid}
 use Rattle.model.specs.Listing.{refusal_line}
 use Rattle.calls.specs.Lines.{Puts, out_with, next_after}
-use Rattle.calls.proofs.Stores.{puts_none, puts_one, puts-two, puts_then, puts-same, out-in-room, next-in-room}
+use Rattle.calls.proofs.Stores.{puts_none, puts-two, puts_then, puts-same, out-in-room, next-in-room}
 use Rattle.replies.specs.Lines.{hex_glyph, hex, Says}
 
 -- the place after what was put, said in another way
@@ -20,24 +21,14 @@ one_more bytes i h = sym (take-suc bytes i 0 h) ∙ ap (λ k. take k bytes) (sym
 
 -- ---- bytes as they are
 
-pub record PutTo (bytes before after : List ℕ) (at i : ℕ) : Type 0 where
-  pub most : i ≤ length bytes
-  pub puts : Puts (take i bytes) before after at (at + i)
-
-pub none-put : (bytes out : List ℕ) (at : ℕ) → PutTo bytes out out at 0
-none-put bytes out at = record { most = omega arith; puts = puts-to (omega arith) (puts_none out at) }
-
-module _ {bytes before after : List ℕ} {at i : ℕ} (s : PutTo bytes before after at i) where
-  pub one-put : i < length bytes → PutTo bytes before (set after (at + i) (get_or bytes i 0)) at (i + 1)
-  one-put h = record {
-    most = omega arith;
-    puts = puts-to (omega arith) (puts-same (one_more bytes i h) (puts_then s.puts (puts_one (get_or bytes i 0) after (at + i))));
-  }
-
-  pub all-put : length bytes ≤ i → Puts bytes before after at (at + length bytes)
-  all-put h =
-      let all : i ≡ length bytes = omega (arith, s.most) in
-      puts-to (ap (at +◌) all) (puts-same (ap (λ k. take k bytes) all ∙ take-length bytes) s.puts)
+-- a part of a slice is overwritten
+pub puts-part : (bytes out part : List ℕ) (at k : ℕ) → k ≡ length bytes → part ≡ bytes → at + length bytes ≤ length out
+    → Puts bytes out (put_mid at k out part) at (at + length bytes)
+puts-part bytes out part at k many same room =
+    let stored : put_mid at k out part ≡ sets out at bytes =
+    (λ j. take at out ++ (same j ++ drop (many j) (drop at out))) ∙ ap (λ l. take at out ++ (bytes ++ l)) (drop-drop (length bytes) at out ∙ ap (λ n. drop n out) (omega arith))
+    ∙ sym (append_assoc (take at out) bytes (drop (at + length bytes) out)) ∙ sym (sets-eq bytes out at room) in
+    record { stored = stored; up_to = refl; length_stays = ap length stored ∙ length-sets out at bytes }
 
 -- ---- two hexadecimal digits for each byte
 
@@ -68,11 +59,6 @@ module _ {bytes before after : List ℕ} {at i : ℕ} (s : HexTo bytes before af
         most = omega arith;
         puts = puts-to (omega arith) (puts-same (hex-more (take i bytes) (get_or bytes i 0) ∙ ap hex (one_more bytes i h)) (puts_then s.puts two));
       }
-
-  pub all-hex : length bytes ≤ i → Puts (hex bytes) before after at (at + 2 * length bytes)
-  all-hex h =
-      let all : i ≡ length bytes = omega (arith, s.most) in
-      puts-to (ap (λ k. at + 2 * k) all) (puts-same (ap (λ k. hex (take k bytes)) all ∙ ap hex (take-length bytes)) s.puts)
 
 -- ---- answers
 

@@ -11,12 +11,9 @@ pub fn put(bytes: &[u8], out: &mut [u8], at: usize) -> usize
     requires { at + length bytes.now ≤ length out.old }
     ensures { Puts bytes.now out.old out.new at result }
 {
-    let mut i = 0;
-    while i < bytes.len() {
-        out[at + i] = bytes[i];
-        i += 1;
-    }
-    at + bytes.len()
+    let end = at + bytes.len();
+    out[at..end].copy_from_slice(bytes);
+    end
 }
 
 // Stores a number's decimal digits.
@@ -56,10 +53,7 @@ fn hex_glyph(n: u8) -> u8
     requires { n < 16 }
     ensures { result ≡ hex_glyph n }
 {
-    if n < 10 {
-        return b'0' + n;
-    }
-    b'a' + (n - 10)
+    if n < 10 { b'0' + n } else { b'a' + (n - 10) }
 }
 
 // Stores two hexadecimal digits for each byte.
@@ -67,12 +61,9 @@ pub fn put_hex(bytes: &[u8], out: &mut [u8], at: usize) -> usize
     requires { at + 2 * length bytes.now ≤ length out.old }
     ensures { Puts (hex bytes.now) out.old out.new at result }
 {
-    let mut i = 0;
-    while i < bytes.len() {
-        let byte = bytes[i];
-        out[at + 2 * i] = hex_glyph(byte / 16);
-        out[at + 2 * i + 1] = hex_glyph(byte % 16);
-        i += 1;
+    for (i, byte) in bytes.iter().enumerate() {
+        out[at + 2 * i] = hex_glyph(*byte / 16);
+        out[at + 2 * i + 1] = hex_glyph(*byte % 16);
     }
     at + 2 * bytes.len()
 }
@@ -105,6 +96,7 @@ pub fn say_refusal(number: u8, out: &mut [u8]) -> usize
 }
 
 // Says what is wrong with a field.
+#[tactic(auto, unfolding(crate::specs::Lines::fault_line))]
 pub fn say_fault(fault: Fault, out: &mut [u8]) -> usize
     requires { 100 ≤ length out.old }
     ensures { Says (fault_line fault) out.old out.new result }

@@ -3,7 +3,6 @@ pub mod FirstShare
 pub mod SlotsLeft
 pub mod AllLists
 pub mod CountLoop
-pub mod Answers
 pub mod EachOnce
 pub mod Binomial
 pub mod ShareTest

@@ -1,11 +1,10 @@
 -- How many plans fit: numbers of lists, however they are come by. RULES 17.1 and 17.2. Assumes nothing.
-use Rattle.std.specs.Prelude.{ℕ, Bool, not, ◌||◌, cond}
+use Rattle.std.specs.Prelude.{ℕ, Bool, not, ◌||◌, cond, Option, Some, None}
 use Rattle.model.specs.Tables.{within, tally}
 use Rattle.model.specs.Refusals.{condition}
 use Rattle.model.specs.Calls.{Answer, accepted, refused}
 use Rattle.shares.specs.ShareLists.{share_lists, share_test}
 use Rattle.shares.specs.declared.Counted.{Counted}
-use Rattle.shares.specs.declared.Counted.TheVariants.{Lists, Refused}
 
 pub record Counts : Type 0 where
   pub accepts : ℕ
@@ -27,7 +26,7 @@ out_of_range F n = not (within 1 16 F) || not (within 1 8 n)
 unfoldable pub counted : (F n : ℕ) → Answer Counts
 counted F n = cond (out_of_range F n) (refused 26) (accepted (record { accepts = accepted_lists F n; refuses = refused_lists F n }))
 
--- the code's answer for the definition's, case by case
-abbrev pub counted_for : Answer Counts → Counted
-counted_for (accepted counts) = Lists counts.accepts counts.refuses
-counted_for (refused number) = Refused number
+-- the code's answer as the definition's: none is refusal 26
+abbrev pub answer_for : Option Counted → Answer Counts
+answer_for (Some c) = accepted (record { accepts = c.accepts; refuses = c.refuses })
+answer_for None = refused 26

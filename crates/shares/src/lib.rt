@@ -3,43 +3,35 @@
 
 mod lists;
 
-ghost use Rattle.std.specs.Prelude.{◌≡◌, not};
-ghost use Rattle.model.specs.Tables.{within};
+ghost use Rattle.std.specs.Prelude.{◌≡◌};
 ghost use Rattle.shares.specs.Counts as counts;
+ghost use Rattle.shares.specs.Counts.{answer_for};
 
-// What the share lists of so many flows come to in a frame.
-#[derive(Clone, Copy)]
-pub enum Counted {
-    // How many of them the share test accepts, and how many it refuses.
-    Lists { accepts: u64, refuses: u64 },
-    // Refusal 26: the frame or the flows are out of range.
-    Refused(u8),
+// The most slots of a frame.
+const MOST_SLOTS: usize = 16;
+
+// The most flows.
+const MOST_FLOWS: usize = 8;
+
+// The refusal of a frame or of flows that are out of range.
+pub const OUT_OF_RANGE: u8 = 26;
+
+// Of the share lists of so many flows in a frame, how many the share test accepts, and how many it refuses.
+#[derive(Clone, Copy, Debug, PartialEq, Eq)]
+pub struct Counted {
+    pub accepts: u64,
+    pub refuses: u64,
 }
 
-// Whether a number lies outside 1 to `most`.
-fn outside(most: usize, x: usize) -> bool
-    ensures { result ≡ not (within 1 most x) }
+// Counts the lists of so many shares in a frame of so many slots; none where the frame or the flows are out of range.
+#[tactic(auto, unfolding(crate::specs::Counts::counted))]
+pub fn count(slots: usize, flows: usize) -> Option<Counted>
+    ensures { answer_for result ≡ counts.counted slots flows }
 {
-    if x < 1 {
-        return true;
-    }
-    if most < x {
-        return true;
-    }
-    false
-}
-
-// Counts the lists of so many shares in a frame of so many slots.
-pub fn count(slots: usize, flows: usize) -> Counted
-    ensures { result ≡ counts.counted_for (counts.counted slots flows) }
-{
-    if outside(16, slots) {
-        return Counted::Refused(26);
-    }
-    if outside(8, flows) {
-        return Counted::Refused(26);
+    if !(1..=MOST_SLOTS).contains(&slots) || !(1..=MOST_FLOWS).contains(&flows) {
+        return None;
     }
     let accepts = lists::fitting(slots, flows);
-    let refuses = lists::all(slots as u64, flows) - accepts;
-    Counted::Lists { accepts, refuses }
+    let refuses = lists::all(slots as u64, flows as u32) - accepts;
+    Some(Counted { accepts, refuses })
 }

@@ -12,24 +12,16 @@ pub(crate) fn fitting(left: usize, flows: usize) -> u64
         return 1;
     }
     let mut count = 0;
-    let mut rest = 0;
-    while rest < left {
+    for rest in 0..left {
         count += fitting(rest, flows - 1);
-        rest += 1;
     }
     count
 }
 
 // How many lists of so many shares there are: each share is one of as many as the frame has slots.
-pub(crate) fn all(slots: u64, flows: usize) -> u64
+pub(crate) fn all(slots: u64, flows: u32) -> u64
     requires { (slots ≤ 16) × (flows ≤ 8) }
     ensures { result ≡ slots ^ flows }
 {
-    let mut lists = 1;
-    let mut i = 0;
-    while i < flows {
-        lists = lists * slots;
-        i += 1;
-    }
-    lists
+    slots.pow(flows)
 }

@@ -3,8 +3,6 @@ use Rattle.std.specs.Prelude.{ℕ, List, ◌++◌, not, cond, length, get_or, eq
 use Rattle.model.specs.Listing.{text, decimal, refusal_line}
 use Rattle.model.specs.Calls.{Answer, accepted, refused}
 use Rattle.shares.specs.Counts.{Counts, counted}
-use Rattle.shares.specs.declared.Counted.{Counted}
-use Rattle.shares.specs.declared.Counted.TheVariants.{Lists, Refused}
 use Rattle.replies.specs.Lines.{cannot, spaced}
 
 -- two numbers
@@ -21,8 +19,3 @@ unfoldable pub answer_to_count : (numbers : List ℕ) → List ℕ
 answer_to_count numbers =
     cond (not (eqb (length numbers) 2)) (cannot "the numbers are F and n")
     (count_line (counted (get_or numbers 0 0) (get_or numbers 1 0)))
-
--- the line of the code's answer
-abbrev pub line_for : Counted → List ℕ
-line_for (Lists accepts refuses) = two_line accepts refuses
-line_for (Refused number) = refusal_line number

@@ -2,10 +2,11 @@
 #![tactic(auto)]
 
 ghost use Rattle.std.specs.Prelude.{◌≤◌, length};
+ghost use Rattle.shares.specs.Counts.{answer_for};
 ghost use Rattle.replies.specs.Lines.{room, Says};
-ghost use Rattle.sharewords.specs.CountWord.{two_line, line_for, answer_to_count};
+ghost use Rattle.sharewords.specs.CountWord.{two_line, count_line, answer_to_count};
 
-use shares::Counted;
+use shares::{Counted, OUT_OF_RANGE};
 
 // Says two numbers.
 fn say_two(first: usize, second: usize, out: &mut [u8]) -> usize
@@ -18,13 +19,13 @@ fn say_two(first: usize, second: usize, out: &mut [u8]) -> usize
 }
 
 // Says what was counted, or the refusal.
-fn say_counted(answer: Counted, out: &mut [u8]) -> usize
+fn say_counted(answer: Option<Counted>, out: &mut [u8]) -> usize
     requires { room ≤ length out.old }
-    ensures { Says (line_for answer) out.old out.new result }
+    ensures { Says (count_line (answer_for answer)) out.old out.new result }
 {
     match answer {
-        Counted::Refused(number) => replies::say_refusal(number, out),
-        Counted::Lists { accepts, refuses } => say_two(accepts as usize, refuses as usize, out),
+        Some(Counted { accepts, refuses }) => say_two(accepts as usize, refuses as usize, out),
+        None => replies::say_refusal(OUT_OF_RANGE, out),
     }
 }
 
@@ -33,8 +34,8 @@ pub fn count(numbers: &[usize], out: &mut [u8]) -> usize
     requires { room ≤ length out.old }
     ensures { Says (answer_to_count numbers.now) out.old out.new result }
 {
-    if numbers.len() != 2 {
+    let &[slots, flows] = numbers else {
         return replies::say(b"? the numbers are F and n\n", out);
-    }
-    say_counted(shares::count(numbers[0], numbers[1]), out)
+    };
+    say_counted(shares::count(slots, flows), out)
 }

@@ -1,19 +1,21 @@
 -- What `show::write` leaves for a show without a refusal, and what `plan::read` reads of it. By their contracts. Assumes nothing.
 use Prim.Native.Nat.{ℕ, ◌≤◌}
-use mathlib.Core.Path.{◌≡◌, refl, ap, ◌∙◌}
+use mathlib.Core.Path.{◌≡◌, refl, sym, ap, ◌∙◌}
 use mathlib.Core.List.{List, map}
 use mathlib.Core.Bool.{true, false}
 use native.Mathlib.Omega.{arith}
 use lib.ListN.{length, take}
 use lib.Seq.{take_at}
-use Rattle.plan.specs.declared.Written.{Written}
-use Rattle.plan.specs.declared.Written.TheVariants.{Bytes, Refused}
-use Rattle.plan.specs.declared.Verdict.TheVariants.{Accepted}
-use Rattle.plan.specs.Reading.{stored, verdict_for, plan_after, read_of}
-use Rattle.plan.specs.Writing.{answer_for}
+use Rattle.std.proofs.Common.{Result, Ok, Err}
+use Rattle.limits.specs.declared.refusal.Refusal.{Refusal}
+use Rattle.limits.specs.declared.refusal.Refusal.TheVariants.{Counts}
+use Rattle.limits.specs.Refusals.{number}
+use Rattle.limits.proofs.Refusals.{one-number}
+use Rattle.plan.specs.Reading.{stored, ReadAs}
+use Rattle.plan.specs.Writing.{answer_of}
 use Rattle.model.specs.Plan as plan
 use Rattle.model.specs.Refusals.{first_of}
-use Rattle.model.specs.Calls.{refused}
+use Rattle.model.specs.Calls.{accepted, refused}
 use Rattle.model.specs.WrittenPlan as writer
 use Rattle.model.specs.WrittenPlan.{bytes_of, number_tests}
 use Rattle.model.proofs.WriteRefusals.{refused-writes, by_number}
@@ -38,22 +40,30 @@ unused-written show l out u =
     let P = link_plan show l in
     refused-writes P out 2 (omega arith) (by_number P out 2 (omega arith) (no_flow P (unused-plan show l u)))
 
-module _ {show : Show} {l : Link} {before after : List ℕ} {r : Written} (w : Wrote show l before r after) where
+-- what an answer of the writer is of the model's
+wrote-count : (r : Result ℕ Refusal) (n : ℕ) → answer_of r ≡ accepted n → r ≡ Ok n
+wrote-count (Ok m) n e = let same : m ≡ n = cc in ap Ok same
+wrote-count (Err f) n e = cc
+
+wrote-none : (r : Result ℕ Refusal) (f : Refusal) → answer_of r ≡ refused (number f) → r ≡ Err f
+wrote-none (Ok m) f e = cc
+wrote-none (Err g) f e = let same : number g ≡ number f = cc in ap Err (one-number g f same)
+
+module _ {show : Show} {l : Link} {before after : List ℕ} {r : Result ℕ Refusal} (w : Wrote show l before r after) where
   -- a link that is used, and 76 bytes of room: its plan is written, and the reader accepts it
   pub read-of-used : refusal show ≡ 0 → used show l ≡ true → 76 ≤ length before
-      → (r ≡ Bytes (length (bytes_of (link_plan show l)))) × (read_of (take (length (bytes_of (link_plan show l))) after) ≡ record { verdict = Accepted; plan = stored (link_plan show l) })
-  unfolding read_of verdict_for plan_after
+      → (r ≡ Ok (length (bytes_of (link_plan show l)))) × ReadAs (take (length (bytes_of (link_plan show l))) after) (Ok (stored (link_plan show l)))
   read-of-used none u room =
       let P = link_plan show l in
       let good = (planned show none).each_link l u in
       let whole = good.written_whole before (omega (arith, good.small)) in
       let bytes : take (length (bytes_of P)) after ≡ bytes_of P = ap (take (length (bytes_of P))) (w.left ∙ ap (λ (x : writer.Written). x.out) whole) ∙ take_at (bytes_of P) _ (length (bytes_of P)) refl in (
-        w.answered ∙ ap (λ (x : writer.Written). answer_for x.answer) whole,
-        ap read_of bytes ∙ (λ k. record { verdict = verdict_for (good.accepted_by_reader k); plan = plan_after (good.accepted_by_reader k) (good.read_back k) }),
+        wrote-count r (length (bytes_of P)) (w.answered ∙ ap (λ (x : writer.Written). x.answer) whole),
+        (ap plan.refusal bytes ∙ good.accepted_by_reader, ap stored (sym (ap plan.plan_of bytes ∙ good.read_back))),
       )
 
   -- any other link, whatever the show
-  pub unused-is-2 : used show l ≡ false → (r ≡ Refused 2) × (after ≡ before)
+  pub unused-is-2 : used show l ≡ false → (r ≡ Err Counts) × (after ≡ before)
   unused-is-2 u =
       let two = unused-written show l before u in
-      (w.answered ∙ ap (λ (x : writer.Written). answer_for x.answer) two, w.left ∙ ap (λ (x : writer.Written). x.out) two)
+      (wrote-none r Counts (w.answered ∙ ap (λ (x : writer.Written). x.answer) two), w.left ∙ ap (λ (x : writer.Written). x.out) two)

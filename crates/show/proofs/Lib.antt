@@ -1,3 +1,4 @@
+pub mod Refusals
 pub mod LinkFlows
 pub mod LinkPlans
 pub mod Places

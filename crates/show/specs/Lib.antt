@@ -5,3 +5,4 @@ pub mod Promises
 pub mod Claim
 pub mod Delay
 pub mod Edges
+pub mod Refusals

@@ -8,19 +8,17 @@ ghost use Rattle.show.specs.Reading.{show_of};
 ghost use Rattle.show.specs.Gathering.{added, joined, draft_over};
 
 use crate::{Dome, ways};
-use limits::{Draft, Wanted};
+use limits::{Draft, MOST_FLOWS, Wanted};
 
 // A number of a list, and 0 past its end.
 fn at(numbers: &[usize], i: usize) -> usize
     ensures { result ≡ get_or numbers.now i 0 }
 {
-    if i < numbers.len() {
-        return numbers[i];
-    }
-    0
+    numbers.get(i).copied().unwrap_or(0)
 }
 
 // A plan with no flow.
+#[tactic(auto, unfolding(crate::specs::Gathering::draft_over))]
 fn none(dome: Dome) -> Draft
     ensures { result ≡ draft_over dome [] }
 {
@@ -40,30 +38,25 @@ fn none(dome: Dome) -> Draft
 }
 
 // Sixteen flows with one of them stored; past the sixteenth nothing is.
-fn stored(flows: [Wanted; 16], at: usize, flow: Wanted) -> [Wanted; 16]
+fn stored(mut flows: [Wanted; 16], at: usize, flow: Wanted) -> [Wanted; 16]
     ensures { result ≡ set flows at flow }
 {
-    if at < 16 {
-        let mut all = flows;
-        all[at] = flow;
-        return all;
+    if at < MOST_FLOWS {
+        flows[at] = flow;
     }
     flows
 }
 
 // One flow more.
+#[tactic(auto, unfolding(crate::specs::Gathering::added))]
 fn with_flow(d: Draft, flow: Wanted) -> Draft
     requires { d.count < 18446744073709551615 }
     ensures { result ≡ added d flow }
 {
-    let before = d.entries;
-    let entries = stored(before, d.count, flow);
     Draft {
-        slots: d.slots,
-        frames: d.frames,
-        buffer: d.buffer,
         count: d.count + 1,
-        entries,
+        entries: stored(d.entries, d.count, flow),
+        ..d
     }
 }
 
@@ -72,12 +65,14 @@ fn cells_on(k: usize, destination: usize, cells: usize, last: usize) -> usize
     ensures { result ≡ cond (eqb (to (link_at k)) destination) last cells }
 {
     if mesh::link_to(k) == destination {
-        return last;
+        last
+    } else {
+        cells
     }
-    cells
 }
 
 // A stream's flow more, where it uses the link at a place.
+#[tactic(auto, unfolding(mesh::specs::Streams::uses))]
 fn with_stream(
     d: Draft,
     k: usize,
@@ -108,8 +103,7 @@ pub(crate) fn gathered(dome: Dome, numbers: &[usize], cells: &[usize], k: usize)
 {
     let count = numbers.len() / 3;
     let mut draft = none(dome);
-    let mut i = 0;
-    while i < count {
+    for i in 0..count {
         draft = with_stream(
             draft,
             k,
@@ -119,7 +113,6 @@ pub(crate) fn gathered(dome: Dome, numbers: &[usize], cells: &[usize], k: usize)
             at(cells, 2 * i),
             at(cells, 2 * i + 1),
         );
-        i += 1;
     }
     draft
 }

@@ -7,26 +7,14 @@ ghost use Rattle.mesh.specs.Reading.{link_at};
 fn ahead(line: usize, of: usize, first: usize, step: usize, last: usize) -> bool
     ensures { result ≡ eqb line of && (leb first step && ltb step last) }
 {
-    if line != of {
-        return false;
-    }
-    if step < first {
-        return false;
-    }
-    step < last
+    line == of && first <= step && step < last
 }
 
 // The same for links that lead to lower nodes.
 fn back(line: usize, of: usize, last: usize, step: usize, first: usize) -> bool
     ensures { result ≡ eqb line of && (ltb last step && leb step first) }
 {
-    if line != of {
-        return false;
-    }
-    if step <= last {
-        return false;
-    }
-    step <= first
+    line == of && last < step && step <= first
 }
 
 // Whether the link at a place is on the way from a source to a destination.
@@ -34,27 +22,22 @@ pub(crate) fn on_way(source: usize, destination: usize, k: usize) -> bool
     ensures { result ≡ on_way source destination (link_at k).side (link_at k).from }
 {
     let node = k / 4;
-    let side = k % 4;
-    if side == 0 {
-        return back(
+    match k % 4 {
+        0 => back(
             node % 8,
             destination % 8,
             destination / 8,
             node / 8,
             source / 8,
-        );
+        ),
+        1 => back(node / 8, source / 8, destination % 8, node % 8, source % 8),
+        2 => ahead(node / 8, source / 8, source % 8, node % 8, destination % 8),
+        _ => ahead(
+            node % 8,
+            destination % 8,
+            source / 8,
+            node / 8,
+            destination / 8,
+        ),
     }
-    if side == 1 {
-        return back(node / 8, source / 8, destination % 8, node % 8, source % 8);
-    }
-    if side == 2 {
-        return ahead(node / 8, source / 8, source % 8, node % 8, destination % 8);
-    }
-    ahead(
-        node % 8,
-        destination % 8,
-        source / 8,
-        node / 8,
-        destination / 8,
-    )
 }

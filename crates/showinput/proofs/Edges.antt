@@ -6,7 +6,7 @@ use Rattle.model.specs.Refusals.{first_of}
 use Rattle.model.specs.Plan.{entry_fits}
 use Rattle.model.specs.WrittenPlan.{bytes_of}
 use Rattle.model.specs.Listing.{digits, decimal}
-use Rattle.tokens.specs.Pieces.{pieces, piece_length, each}
+use Rattle.tokens.specs.Pieces.{pieces, piece_length}
 use Rattle.tokens.specs.Decimal.{value_from, number_of, numbers_in, found_in}
 use Rattle.mesh.specs.Mesh.{keep, some_of, links}
 use Rattle.mesh.specs.Streams.{uses, load}
@@ -18,5 +18,5 @@ use Rattle.showinput.specs.Input.{question_of, answer_to}
 use Rattle.showinput.specs.Edges.{Pass, input_edges}
 
 pub inputs-hold : Pass input_edges
-unfolding any sum first_of entry_fits bytes_of digits decimal flat_map pieces piece_length each value_from number_of numbers_in found_in keep some_of links uses load admission.stream_fits admission.refusal hex fault_line link_plan used first_number refusal link_line link_lines show_lines answer_to_show question_of answer_to input_edges
+unfolding any sum first_of entry_fits bytes_of digits decimal flat_map pieces piece_length value_from number_of numbers_in found_in keep some_of links uses load admission.stream_fits admission.refusal hex fault_line link_plan used first_number refusal link_line link_lines show_lines answer_to_show question_of answer_to input_edges
 inputs-hold = refl

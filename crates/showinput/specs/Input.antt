@@ -1,7 +1,7 @@
 -- The input of `domeshow`, and what is written for it. RULES 25.6. Assumes nothing.
-use Rattle.std.specs.Prelude.{ℕ, ◌-◌, List, cond, length, get_or, take, ltb, eqb}
+use Rattle.std.specs.Prelude.{ℕ, ◌-◌, List, cond, length, get_or, take, ltb, eqb, Result, Ok, Err}
 use Prim.Native.Char.{code}
-use Rattle.tokens.specs.declared.Found.{Found}
+use Rattle.tokens.specs.declared.Fault.{Fault}
 use Rattle.tokens.specs.Pieces.{fields_of}
 use Rattle.tokens.specs.Decimal.{numbers_in, found_in}
 use Rattle.replies.specs.Lines.{cannot, fault_line}
@@ -16,9 +16,9 @@ unfoldable pub question_of : (input : List ℕ) → List ℕ
 question_of input = cond (eqb (last_of input) (code "\n")) (take (length input - 1) input) input
 
 -- RULES 25.6: reasons on numbers come before what the word asks for
-abbrev pub numbers_line : Found → (numbers : List ℕ) → List ℕ
-numbers_line (Found.Count n) numbers = answer_to_show numbers
-numbers_line (Found.Wrong fault) numbers = fault_line fault
+abbrev pub numbers_line : Result ℕ Fault → (numbers : List ℕ) → List ℕ
+numbers_line (Ok n) numbers = answer_to_show numbers
+numbers_line (Err fault) numbers = fault_line fault
 
 abbrev pub question_line : (question : List ℕ) → List ℕ
 question_line question = numbers_line (found_in (fields_of question)) (numbers_in (fields_of question))

@@ -5,21 +5,13 @@ ghost use Rattle.showwords.specs.Links.{room};
 ghost use Rattle.showinput.specs.Input.{question_of, question_line, answer_to};
 
 use crate::LONGEST;
-use tokens::Found;
 
 // Where the question ends: a newline after it is no part of it.
 fn question_end(input: &[u8]) -> usize
     ensures few { result ≤ length input.now }
     ensures is { take result input.now ≡ question_of input.now }
 {
-    let count = input.len();
-    if count == 0 {
-        return 0;
-    }
-    if input[count - 1] == b'\n' {
-        return count - 1;
-    }
-    count
+    input.strip_suffix(b"\n").unwrap_or(input).len()
 }
 
 // Reads a question's numbers, and answers them. It has at most half as many numbers as bytes.
@@ -28,10 +20,9 @@ fn answer_short(question: &[u8], out: &mut [u8]) -> usize
     ensures { Says (question_line question.now) out.old out.new result }
 {
     let mut numbers = [0usize; 2000];
-    let found = tokens::read_numbers(question, &mut numbers);
-    match found {
-        Found::Wrong(fault) => replies::say_fault(fault, out),
-        Found::Count(count) => showwords::show(&numbers[..count], out),
+    match tokens::read_numbers(question, &mut numbers) {
+        Ok(count) => showwords::show(&numbers[..count], out),
+        Err(fault) => replies::say_fault(fault, out),
     }
 }
 

@@ -23,15 +23,14 @@ pub fn feed(state: State, piece: &[u8]) -> State
     requires { Regular state }
     ensures { Stands result (kept (input_of state ++ piece.now)) }
 {
+    let count = state.count;
+    let taken = piece.len().min(KEPT - count);
     let mut bytes = state.bytes;
-    let mut count = state.count;
-    let mut used = 0;
-    while used < piece.len() && count < KEPT {
-        bytes[count] = piece[used];
-        count += 1;
-        used += 1;
+    bytes[count..count + taken].copy_from_slice(&piece[..taken]);
+    State {
+        bytes,
+        count: count + taken,
     }
-    State { bytes, count }
 }
 
 // Puts the answer to the whole input at the start of `out`; how many bytes it has.

@@ -11,10 +11,9 @@ use Rattle.model.specs.Scheduler.{Played, reference}
 use Rattle.arrival.specs.SeveralLinks.{Ran, Board}
 use Rattle.model.specs.WrittenPlan as writer
 use Rattle.model.specs.WrittenPlan.{bytes_of}
-use Rattle.plan.specs.declared.Written.TheVariants.{Bytes}
-use Rattle.plan.specs.declared.Outcome.{Outcome}
+use Rattle.model.specs.Calls.{Answer, accepted}
 use Rattle.plan.specs.Reading.{plan_for}
-use Rattle.plan.specs.Writing.{answer_for}
+use Rattle.plan.specs.Writing.{answer_of}
 use Rattle.plan.proofs.Laws.{is-plan}
 use Rattle.link.proofs.Demand3.{run_of}
 use Rattle.mesh.specs.Mesh.{Link}
@@ -34,16 +33,16 @@ module _ (show : Show) (none : refusal show ≡ 0) where
       let P = link_plan show l in
       let good = (planned show none).each_link l u in
       let whole = good.written_whole x.before (omega (arith, good.small, x.room)) in
-      let said : Bytes x.count ≡ Bytes (length (bytes_of P)) = sym x.bytes ∙ x.wrote.answered ∙ ap (λ (w : writer.Written). answer_for w.answer) whole in
+      let said : ◌≡◌ {A = Answer ℕ} (accepted x.count) (accepted (length (bytes_of P))) = ap answer_of (sym x.bytes) ∙ x.wrote.answered ∙ ap (λ (w : writer.Written). w.answer) whole in
       let many : length (bytes_of P) ≡ x.count = cc in
       ap (take x.count) (x.wrote.left ∙ ap (λ (w : writer.Written). w.out) whole) ∙ take_at (bytes_of P) _ x.count many
 
   -- and the events those of a run of the reference scheduler on it
-  ran-there : {l : Link} (x : CodeLink show l) → plan.refusal (take x.count x.after) ≡ 0 → Ran reference (plan.plan_of (take x.count x.after)) x.events
-  ran-there x passes =
+  ran-there : {l : Link} (x : CodeLink show l) → Ran reference (plan.plan_of (take x.count x.after)) x.events
+  ran-there x =
       let bytes = take x.count x.after in
-      let run = run_of (x.valid x.accepts).accepted x.handed in
-      let same : plan_for x.outcome.plan ≡ plan.plan_of bytes = ap (λ (o : Outcome). plan_for o.plan) x.read ∙ is-plan bytes passes in
+      let run = run_of x.valid.accepted x.handed in
+      let same : plan_for x.accepted ≡ plan.plan_of bytes = is-plan bytes x.accepted x.read in
       subst (λ P. Ran reference P x.events) same (record { calls = run.calls; is = ap (λ (r : Played reference). r.history) run.played })
 
   module _ (i : ℕ) (below : i < length show.streams) {l : Link} (on : In l (way (show_stream show i).stream)) where
@@ -68,7 +67,7 @@ module _ (show : Show) (none : refusal show ≡ 0) where
             bytes = bytes;
             passes = passes;
             events = x.events;
-            ran = ran-there x passes;
+            ran = ran-there x;
             no_reset = x.unreset;
             stream = flow_on show l i;
             known = known;

@@ -1,5 +1,5 @@
 -- The boards of a show, played by the code: `show::write`, `plan::read`, `Link::fresh`, and any calls on the link by value. RULES 25.5. Assumes nothing.
-use Rattle.std.specs.Prelude.{ℕ, ◌≤◌, ◌<◌, ◌≡◌, List, ◌∷◌, [], length, take}
+use Rattle.std.specs.Prelude.{ℕ, ◌≤◌, ◌<◌, ◌≡◌, Result, Ok, List, ◌∷◌, [], length, take}
 use Rattle.model.specs.Tables.{tally}
 use Rattle.model.specs.Calls.{History}
 use Rattle.model.specs.History.{is_granted_reset}
@@ -7,11 +7,9 @@ use Rattle.model.specs.Scheduler.{reference}
 use Rattle.arrival.specs.SeveralLinks.{Board, plan_on}
 use Rattle.arrival.specs.CreditedByNext.{ModestFirst}
 use Rattle.arrival.specs.AllArrive.{AllAskedAlong}
-use Rattle.plan.specs.declared.Written.{Written}
-use Rattle.plan.specs.declared.Written.TheVariants.{Bytes}
-use Rattle.plan.specs.declared.Outcome.{Outcome}
-use Rattle.plan.specs.declared.Verdict.TheVariants.{Accepted}
-use Rattle.plan.specs.Reading.{read_of, Valid}
+use Rattle.limits.specs.declared.refusal.Refusal.{Refusal}
+use Rattle.plan.specs.declared.Plan.{Plan}
+use Rattle.plan.specs.Reading.{ReadAs, Valid}
 use Rattle.link.specs.declared.Link as code
 use Rattle.link.specs.Handed.{Handed}
 use Rattle.mesh.specs.Mesh.{Link}
@@ -25,18 +23,17 @@ use Rattle.show.specs.Promises.{Wrote}
 pub record CodeLink (show : Show) (l : Link) : Type 0 where
   pub before : List ℕ
   pub after : List ℕ
-  pub answer : Written
+  pub answer : Result ℕ Refusal
   pub room : 76 ≤ length before
   pub wrote : Wrote show l before answer after
   pub count : ℕ
-  pub bytes : answer ≡ Bytes count
-  pub outcome : Outcome
-  pub read : outcome ≡ read_of (take count after)
-  pub valid : outcome.verdict ≡ Accepted → Valid outcome.plan
-  pub accepts : outcome.verdict ≡ Accepted
+  pub bytes : answer ≡ Ok count
+  pub accepted : Plan
+  pub read : ReadAs (take count after) (Ok accepted)
+  pub valid : Valid accepted
   pub events : History
   pub link : code.Link
-  pub handed : Handed outcome.plan events link
+  pub handed : Handed accepted events link
   pub unreset : tally is_granted_reset events ≡ 0
 
 -- board b has this plan and these events, and its stream is stream i of the show

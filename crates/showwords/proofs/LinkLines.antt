@@ -8,10 +8,7 @@ use lib.ListN.{replicate}
 use Rattle.model.specs.Tables.{table}
 use Rattle.model.specs.Plan as plan
 use Rattle.model.specs.Listing.{refusal_line}
-use Rattle.model.specs.Calls.{Answer, accepted, refused}
-use Rattle.model.specs.WrittenPlan.{bytes_of, Written, written}
-use Rattle.plan.specs.declared.Written.TheVariants.{Bytes, Refused}
-use Rattle.plan.specs.Writing.{answer_for}
+use Rattle.model.specs.WrittenPlan.{Written, written}
 use Rattle.calls.specs.Lines.{Puts}
 use Rattle.calls.proofs.Stores.{puts_none, puts_then, puts-same}
 use Rattle.mesh.specs.Mesh.{Link}
@@ -21,23 +18,13 @@ use Rattle.show.proofs.LinkFlows.{table_more}
 use Rattle.show.proofs.Claim.{good-plan}
 use Rattle.show.proofs.ByContracts.{unused-written}
 use Rattle.showwords.specs.Answers.{verdict_line, nodes_text, plan_text, link_line, link_lines}
-use Rattle.showwords.specs.Links.{bytes_line, written_line}
+use Rattle.showwords.specs.Links.{written_line}
 
 -- ---- one line
 
 pub refused-verdict : (r : ℕ) → (r ≡ 0 → ⊥) → refusal_line r ≡ verdict_line r
 refused-verdict zero some = absurd (some refl)
 refused-verdict (suc r) some = refl
-
--- what the writer's answer comes to
-module _ (l : Link) (P : plan.Plan) where
-  pub bytes-said : (a : Answer ℕ) (n : ℕ) → Bytes n ≡ answer_for a → bytes_line l (bytes_of P) ≡ written_line a l P
-  bytes-said (accepted count) n e = refl
-  bytes-said (refused number) n e = let z : ◌≡◌ {A = ℕ} 0 1 = cc in absurd (omega arith)
-
-  pub none_said : (a : Answer ℕ) (n : ℕ) → Refused n ≡ answer_for a → [] ≡ written_line a l P
-  none_said (accepted count) n e = let z : ◌≡◌ {A = ℕ} 0 1 = cc in absurd (omega arith)
-  none_said (refused number) n e = refl
 
 module _ (show : Show) (l : Link) where
   abbrev P : plan.Plan

@@ -8,21 +8,22 @@ ghost use Rattle.calls.specs.Lines.{Puts};
 ghost use Rattle.replies.specs.Lines.{Says};
 ghost use Rattle.show.specs.Show as definition;
 ghost use Rattle.show.specs.Reading.{show_of};
+ghost use Rattle.show.specs.Refusals.{refusal_number};
 ghost use Rattle.showwords.specs.Answers.{verdict_line, show_lines, answer_to_show};
 ghost use Rattle.showwords.specs.Links.{room};
 
-use show::Dome;
+use show::{Dome, Refusal};
 
 // Stores the first line.
-fn put_verdict(refusal: u8, out: &mut [u8]) -> usize
+fn put_verdict(verdict: Result<(), Refusal>, out: &mut [u8]) -> usize
     requires { 7 ≤ length out.old }
-    ensures put { Puts (verdict_line refusal) out.old out.new 0 result }
+    ensures put { Puts (verdict_line (refusal_number verdict)) out.old out.new 0 result }
     ensures most { result ≤ 7 }
 {
-    if refusal == 0 {
-        return replies::put(b"ok\n", out, 0);
+    match verdict {
+        Ok(()) => replies::put(b"ok\n", out, 0),
+        Err(refusal) => calls::write_refusal(refusal.number(), out, 0),
     }
-    calls::write_refusal(refusal, out, 0)
 }
 
 // Says what a show comes to.
@@ -30,8 +31,8 @@ fn say_show(dome: Dome, numbers: &[usize], cells: &[usize], out: &mut [u8]) -> u
     requires { room ≤ length out.old }
     ensures { Says (show_lines (show_of dome numbers.now cells.now)) out.old out.new result }
 {
-    let refusal = show::refusal(dome, numbers, cells);
-    let first = put_verdict(refusal, out);
+    let verdict = show::check(dome, numbers, cells);
+    let first = put_verdict(verdict, out);
     links::put_links(dome, numbers, cells, out, first)
 }
 

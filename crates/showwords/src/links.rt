@@ -9,7 +9,7 @@ ghost use Rattle.show.specs.Reading.{show_of};
 ghost use Rattle.showwords.specs.Answers.{nodes_text, link_line, link_lines};
 ghost use Rattle.showwords.specs.Links.{bytes_line, written_line};
 
-use show::{Dome, Written};
+use show::Dome;
 
 // The longest plan: a header of 12 bytes and 16 entries of four.
 const LONGEST: usize = 76;
@@ -64,10 +64,9 @@ fn put_plan(
     ensures most { result ≤ at + 200 }
 {
     let mut buffer = [0u8; LONGEST];
-    let answer = show::write(dome, numbers, cells, k, &mut buffer);
-    match answer {
-        Written::Refused(number) => at,
-        Written::Bytes(count) => put_bytes(k, &buffer[..count], out, at),
+    match show::write(dome, numbers, cells, k, &mut buffer) {
+        Ok(count) => put_bytes(k, &buffer[..count], out, at),
+        Err(_) => at,
     }
 }
 
@@ -84,11 +83,10 @@ fn put_link(
     ensures put { Puts (link_line (show_of dome numbers.now cells.now) (link_at k)) out.old out.new at result }
     ensures most { result ≤ at + 200 }
 {
-    let number = show::link_refusal(dome, numbers, cells, k);
-    if number != 0 {
-        return put_refused(k, number, out, at);
+    match show::check_link(dome, numbers, cells, k) {
+        Ok(()) => put_plan(dome, numbers, cells, k, out, at),
+        Err(refusal) => put_refused(k, refusal.number(), out, at),
     }
-    put_plan(dome, numbers, cells, k, out, at)
 }
 
 // Stores the lines of all links.
@@ -104,10 +102,8 @@ pub(crate) fn put_links(
     ensures most { result ≤ at + 51200 }
 {
     let mut next = at;
-    let mut k = 0;
-    while k < PLACES {
+    for k in 0..PLACES {
         next = put_link(dome, numbers, cells, k, out, next);
-        k += 1;
     }
     next
 }

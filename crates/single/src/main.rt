@@ -4,15 +4,15 @@
 mod several;
 mod timed;
 
-ghost use Rattle.std.specs.Prelude.{◌≤◌};
+ghost use Rattle.std.specs.Prelude.{◌≤◌, length};
 ghost use Rattle.plan.specs.Reading.{Valid};
 
 use calls::Answer;
 use link::{Link, Step};
-use plan::{Plan, Verdict};
+use plan::Plan;
 use std::io::Print;
 use std::time::Clock;
-use timing::file::MOST;
+use timing::file::{Call, Kind, MOST};
 use timing::{clock, file, input, report};
 
 // Times that the file is played.
@@ -21,121 +21,102 @@ const REPEATS: usize = 200;
 // The bytes of the longest file that is played: a plan of 16 flows has 76 bytes, and a call has 5.
 const LONGEST: usize = 76 + 5 * MOST;
 
+// What stands at a place with no call.
+const NO_CALL: Call = Call {
+    kind: Kind::Tick,
+    word: 0,
+};
+
 // Plays the calls on a fresh link and keeps the lowest time of each streak, at its first call; the sum of all answers.
 fn play(
     clock: &impl Clock,
     plan: Plan,
-    kinds: &[u8; MOST],
-    words: &[u32; MOST],
+    calls: &[Call],
     lowest: &mut [u64; MOST],
-    count: usize,
     most: usize,
 ) -> u64
-    requires { Valid plan × (count ≤ 4096) }
+    requires { Valid plan × (length calls.now ≤ 4096) }
 {
-    let link = Link::fresh(plan);
     let mut step = Step {
-        link,
+        link: Link::fresh(plan),
         answer: Answer::Idle,
     };
-    let mut sum = 0;
+    let mut sum: u64 = 0;
     let mut from = 0;
-    while from < count {
-        let to = file::streak_end(kinds, from, count);
-        let t = timed::streak(clock, step, kinds[from], words, from, to, most);
+    // Stays: a step is as long as a streak, so that no range has the places.
+    while from < calls.len() {
+        let to = file::streak_end(calls, from);
+        let t = timed::streak(clock, step, calls[from].kind, &calls[from..to], most);
         step = t.step;
-        lowest[from] = clock::least(lowest[from], t.spent);
-        sum = std::num::wrapping_add_u64(sum, t.sum);
+        lowest[from] = lowest[from].min(t.spent);
+        sum = sum.wrapping_add(t.sum);
         from = to;
     }
     sum
 }
 
-// Plays the calls many times over; the sum of all answers.
-fn repeat(
-    clock: &impl Clock,
-    plan: Plan,
-    kinds: &[u8; MOST],
-    words: &[u32; MOST],
-    lowest: &mut [u64; MOST],
-    count: usize,
-    most: usize,
-) -> u64
-    requires { Valid plan × (count ≤ 4096) }
+// The lowest times of the streaks, and the sum of all answers.
+#[derive(Drop)]
+struct Lowest {
+    times: [u64; MOST],
+    sum: u64,
+}
+
+// Plays the calls many times over.
+fn repeat(clock: &impl Clock, plan: Plan, calls: &[Call], most: usize) -> Lowest
+    requires { Valid plan × (length calls.now ≤ 4096) }
 {
+    let mut times = [u64::MAX; MOST];
     let mut sum = 0;
     for _ in 0..REPEATS {
-        sum = play(clock, plan, kinds, words, lowest, count, most);
+        sum = play(clock, plan, calls, &mut times, most);
     }
-    sum
+    Lowest { times, sum }
 }
 
-// Prints a line for each kind of call, and one for requests in bursts and for bursts of no words.
-fn tell(
-    out: &impl Print,
-    kinds: &[u8; MOST],
-    lowest: &[u64; MOST],
-    in_bursts: &[u64; MOST],
-    floor: &[u64; MOST],
-    count: usize,
-    cost: u64,
-)
-    requires { count ≤ 4096 }
+// Plays the calls, and prints a line for each kind of call, and one for requests in bursts and for bursts of no words.
+fn measure(rt: &(impl Clock + Print), plan: Plan, calls: &[Call])
+    requires { Valid plan × (length calls.now ≤ 4096) }
 {
-    report::line(out, b"request", 1, kinds, lowest, count, cost);
-    report::line(out, b"burst", 1, kinds, in_bursts, count, cost);
-    report::line(out, b"floor", 1, kinds, floor, count, cost);
-    report::line(out, b"credit", 2, kinds, lowest, count, cost);
-    report::line(out, b"tick", 3, kinds, lowest, count, cost);
+    let cost = clock::cost(rt);
+    let single = repeat(rt, plan, calls, 1);
+    let several = repeat(rt, plan, calls, 16);
+    let floor = repeat(rt, plan, calls, 0);
+    report::line(rt, b"request", Kind::Request, calls, &single.times, cost);
+    report::line(rt, b"burst", Kind::Request, calls, &several.times, cost);
+    report::line(rt, b"floor", Kind::Request, calls, &floor.times, cost);
+    report::line(rt, b"credit", Kind::Credit, calls, &single.times, cost);
+    report::line(rt, b"tick", Kind::Tick, calls, &single.times, cost);
+    let _ = println!(rt; "answers {}\nin bursts {}", single.sum, several.sum);
 }
 
-// Plays the records, and prints.
-fn measure(rt: &(impl Clock + Print), plan: Plan, records: &[u8])
+// Takes the records apart, and measures their calls.
+fn split(rt: &(impl Clock + Print), plan: Plan, records: &[u8])
     requires { Valid plan }
 {
-    let mut kinds = [0u8; MOST];
-    let mut words = [0u32; MOST];
-    let mut lowest = [u64::MAX; MOST];
-    let count = file::split(records, &mut kinds, &mut words);
-    let cost = clock::cost(rt);
-    let sum = repeat(rt, plan, &kinds, &words, &mut lowest, count, 1);
-    let mut in_bursts = [u64::MAX; MOST];
-    let same = repeat(rt, plan, &kinds, &words, &mut in_bursts, count, 16);
-    let mut floor = [u64::MAX; MOST];
-    repeat(rt, plan, &kinds, &words, &mut floor, count, 0);
-    tell(rt, &kinds, &lowest, &in_bursts, &floor, count, cost);
-    report::print(rt, b"answers ");
-    report::print_number(rt, sum);
-    report::print(rt, b"\nin bursts ");
-    report::print_number(rt, same);
-    report::print(rt, b"\n");
+    let mut calls = [NO_CALL; MOST];
+    let count = file::split(records, &mut calls);
+    measure(rt, plan, &calls[..count]);
 }
 
-// Reads the plan at the start of the bytes, and measures the calls after it; false where no plan that is accepted stands there.
-fn begin(rt: &(impl Clock + Print), bytes: &[u8]) -> bool {
+// Reads the plan at the start of the bytes, and measures the calls after it; none where no plan that is accepted stands there.
+fn begin(rt: &(impl Clock + Print), bytes: &[u8]) -> Option<()> {
     if bytes.len() < 12 {
-        return false;
+        return None;
     }
-    let total = file::two_bytes(bytes, 0) as usize;
+    let total = usize::from(file::two_bytes(bytes, 0));
     if bytes.len() < total {
-        return false;
+        return None;
     }
-    let outcome = plan::read(&bytes[..total]);
-    let verdict = outcome.verdict;
-    match verdict {
-        Verdict::Refused(_) => false,
-        Verdict::Accepted => {
-            let plan = outcome.plan;
-            measure(rt, plan, &bytes[total..]);
-            true
-        }
-    }
+    let plan = plan::read(&bytes[..total]).ok()?;
+    split(rt, plan, &bytes[total..]);
+    Some(())
 }
 
 fn main(rt: HostRuntime) {
     let mut space = [0u8; LONGEST];
     let got = input::read_full(&mut rt.stdin(), &mut space);
-    if !begin(&rt, &space[..got]) {
-        report::print(&rt, b"no calls\n");
+    if begin(&rt, &space[..got]).is_none() {
+        let _ = println!(&rt; "no calls");
     }
 }

@@ -1,10 +1,8 @@
 // The records of a burst.
-ghost use Rattle.std.specs.Prelude.{◌+◌, ◌≤◌};
-ghost use Rattle.link.specs.Sound.{SoundLink};
 
 use burst::{BurstRecord, HandedBack};
 use link::Link;
-use timing::file::MOST;
+use timing::file::Call;
 
 // A record that asks for a word.
 fn unfilled(word: u32) -> BurstRecord {
@@ -16,25 +14,18 @@ fn unfilled(word: u32) -> BurstRecord {
 }
 
 // A link before any burst.
-pub(crate) fn none(link: Link) -> HandedBack
-    requires { SoundLink link }
-    ensures { SoundLink result.link }
-{
+pub(crate) fn none(link: Link) -> HandedBack {
     HandedBack {
         link,
         records: [unfilled(0); 20],
     }
 }
 
-// The records of so many words from a place on.
-pub(crate) fn asks(words: &[u32; MOST], from: usize, count: usize) -> [BurstRecord; 20]
-    requires { (from + count ≤ 4096) × (count ≤ 16) }
-{
+// The records of the words of some calls.
+pub(crate) fn asks(calls: &[Call]) -> [BurstRecord; 20] {
     let mut all = [unfilled(0); 20];
-    let mut i = 0;
-    while i < count {
-        all[i] = unfilled(words[from + i]);
-        i += 1;
+    for (record, call) in all.iter_mut().zip(calls) {
+        *record = unfilled(call.word);
     }
     all
 }
@@ -42,21 +33,16 @@ pub(crate) fn asks(words: &[u32; MOST], from: usize, count: usize) -> [BurstReco
 // An answer as a number: the granted word, or the refusal.
 fn number(record: BurstRecord) -> u64 {
     if record.result == 0 {
-        return (record.word / 1024) as u64 * 1024 + record.position as u64;
+        return u64::from(record.word / 1024) * 1024 + u64::from(record.position);
     }
-    record.result as u64
+    u64::from(record.result)
 }
 
-// The sum of the answers in the first records.
-pub(crate) fn answers(records: [BurstRecord; 20], count: usize) -> u64
-    requires { count ≤ 16 }
-{
-    let mut sum = 0;
-    let mut i = 0;
-    while i < count {
-        let record = records[i];
-        sum = std::num::wrapping_add_u64(sum, number(record));
-        i += 1;
+// The sum of the answers in some records.
+pub(crate) fn answers(records: &[BurstRecord]) -> u64 {
+    let mut sum: u64 = 0;
+    for record in records {
+        sum = sum.wrapping_add(number(*record));
     }
     sum
 }

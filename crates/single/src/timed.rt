@@ -1,15 +1,15 @@
 // Calls of one kind, by value, one after the other, and the time that they take.
-ghost use Rattle.std.specs.Prelude.{◌≤◌};
-ghost use Rattle.link.specs.Sound.{SoundLink};
 
 use crate::several;
 use burst::burst_first;
 use calls::Answer;
-use link::Step;
+use link::{Link, Step};
 use std::time::Clock;
 use timing::clock;
-use timing::file::MOST;
-use window::numbers::smaller;
+use timing::file::{Call, Kind};
+
+// The most requests of a burst.
+const BURST: usize = 16;
 
 // A link after some calls, with the last answer; the sum of their answers, and the nanoseconds that they took.
 #[derive(Clone, Copy)]
@@ -22,32 +22,29 @@ pub(crate) struct Timed {
 // An answer as a number.
 fn number(answer: Answer) -> u64 {
     match answer {
-        Answer::Granted(word) => word as u64,
-        Answer::Accepted => 1,
-        Answer::Booked(flow) => flow as u64,
+        Answer::Granted(word) => u64::from(word),
+        Answer::Booked(flow) | Answer::Lent(flow) => u64::from(flow),
         Answer::Idle => 16,
-        Answer::Lent(flow) => flow as u64,
-        Answer::Reset => 1,
-        Answer::Refused(number) => number as u64,
+        Answer::Accepted | Answer::Reset => 1,
+        Answer::Refused(number) => u64::from(number),
     }
 }
 
-// A sum of answers and one answer more. Every answer is used within the time, or the compiler could leave out what makes it.
-fn add(sum: u64, answer: Answer) -> u64 {
-    std::num::wrapping_add_u64(sum, number(answer))
-}
-
-fn requests(clock: &impl Clock, first: Step, words: &[u32; MOST], from: usize, to: usize) -> Timed
-    requires { SoundLink first.link × (to ≤ 4096) }
-    ensures { SoundLink result.step.link }
+// Makes calls one by one, each from its number. Every answer is used within the time, or the compiler could leave out what makes it.
+fn singles<F: Fn(Link, u32) -> Step>(
+    clock: &impl Clock,
+    first: Step,
+    calls: &[Call],
+    make: F,
+) -> Timed
+    requires { F.IsAlwaysCallable make }
 {
     let mut step = first;
-    let mut sum = 0;
+    let mut sum: u64 = 0;
     let begin = clock::nanoseconds(clock);
-    for i in from..to {
-        step = step.link.request(words[i]);
-        let answer = step.answer;
-        sum = add(sum, answer);
+    for call in calls {
+        step = make(step.link, call.word);
+        sum = sum.wrapping_add(number(step.answer));
     }
     let spent = clock::since(clock, begin);
     Timed { step, sum, spent }
@@ -63,94 +60,39 @@ fn position(word: u32) -> usize {
     (word / 256 % 65536) as usize
 }
 
-fn credits(clock: &impl Clock, first: Step, words: &[u32; MOST], from: usize, to: usize) -> Timed
-    requires { SoundLink first.link × (to ≤ 4096) }
-    ensures { SoundLink result.step.link }
-{
-    let mut step = first;
-    let mut sum = 0;
-    let begin = clock::nanoseconds(clock);
-    for i in from..to {
-        let word = words[i];
-        step = step.link.credit(flow(word), position(word));
-        let answer = step.answer;
-        sum = add(sum, answer);
-    }
-    let spent = clock::since(clock, begin);
-    Timed { step, sum, spent }
-}
-
-fn ticks(clock: &impl Clock, first: Step, from: usize, to: usize) -> Timed
-    requires { SoundLink first.link }
-    ensures { SoundLink result.step.link }
-{
-    let mut step = first;
-    let mut sum = 0;
-    let begin = clock::nanoseconds(clock);
-    for _ in from..to {
-        step = step.link.tick();
-        let answer = step.answer;
-        sum = add(sum, answer);
-    }
-    let spent = clock::since(clock, begin);
-    Timed { step, sum, spent }
-}
-
 // The requests of a streak as bursts of 16; the last may have fewer. No more than `most` words of each are asked: where that is 0, a burst is what it
 // takes to hand the link over and back.
-fn bursts(
-    clock: &impl Clock,
-    first: Step,
-    words: &[u32; MOST],
-    from: usize,
-    to: usize,
-    most: usize,
-) -> Timed
-    requires { SoundLink first.link × (to ≤ 4096) }
-    ensures { SoundLink result.step.link }
-{
+fn bursts(clock: &impl Clock, first: Step, calls: &[Call], most: usize) -> Timed {
     let mut back = several::none(first.link);
-    let mut sum = 0;
-    let mut at = from;
+    let mut sum: u64 = 0;
     let begin = clock::nanoseconds(clock);
-    while at < to {
-        let count = smaller(to - at, 16);
-        let asked = smaller(count, most);
-        back = burst_first(back.link, several::asks(words, at, asked), asked);
-        let records = back.records;
-        sum = std::num::wrapping_add_u64(sum, several::answers(records, asked));
-        at += count;
+    for part in calls.chunks(BURST) {
+        let asked = part.len().min(BURST).min(most);
+        back = burst_first(back.link, several::asks(&part[..asked]), asked);
+        sum = sum.wrapping_add(several::answers(&back.records[..asked]));
     }
     let spent = clock::since(clock, begin);
-    let link = back.link;
     let step = Step {
-        link,
+        link: back.link,
         answer: Answer::Idle,
     };
     Timed { step, sum, spent }
 }
 
-// Plays a streak: the calls of a kind from one place to another, requests in bursts of at most so many words, and one by one where that is 1.
+// Plays a streak, calls of one kind: requests in bursts of at most so many words, and one by one where that is 1.
 pub(crate) fn streak(
     clock: &impl Clock,
     step: Step,
-    kind: u8,
-    words: &[u32; MOST],
-    from: usize,
-    to: usize,
+    kind: Kind,
+    calls: &[Call],
     most: usize,
-) -> Timed
-    requires { SoundLink step.link × (to ≤ 4096) }
-    ensures { SoundLink result.step.link }
-{
-    if kind == 1 && most == 1 {
-        return requests(clock, step, words, from, to);
+) -> Timed {
+    match kind {
+        Kind::Request if most != 1 => bursts(clock, step, calls, most),
+        Kind::Request => singles(clock, step, calls, |link, word| link.request(word)),
+        Kind::Credit => singles(clock, step, calls, |link, word| {
+            link.credit(flow(word), position(word))
+        }),
+        Kind::Tick => singles(clock, step, calls, |link, _| link.tick()),
     }
-    if kind == 1 {
-        return bursts(clock, step, words, from, to, most);
-    }
-    if kind == 2 {
-        return credits(clock, step, words, from, to);
-    }
-    ticks(clock, step, from, to)
 }

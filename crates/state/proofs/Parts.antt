@@ -2,15 +2,16 @@
 -- Assumes nothing.
 use Prim.Native.Nat.{ℕ, zero, suc, ◌+◌, ◌-◌, ◌*◌, ◌/◌, ◌≤◌, ◌<◌}
 use mathlib.Core.Path.{◌≡◌, refl, sym, ap, ◌∙◌}
-use mathlib.Core.List.{List, ◌∷◌, []}
+use mathlib.Core.List.{List}
 use mathlib.Core.Bool.{false}
 use native.Mathlib.Decide.{dec_lt, dec_le}
 use native.Mathlib.Omega.{arith}
 use lib.ListN.{length, get_or, set, length-set, get_or-eq_default}
-use lib.Seq.{ext_get_or, get_or-set_same, get_or-set_other}
+use lib.Seq.{ext_get_or, get_or-set_other}
+use borrow.Rule.Slice.PartMut.{put_mid}
 use Rattle.window.specs.Ranges.{in_range, replaced}
 use Rattle.window.proofs.Tabulated.{get_d-table, length-table, table_same, table_of}
-use Rattle.window.proofs.Ranges.{in-range, before-range, past-range, length-replaced, replaced-at, replaced-off}
+use Rattle.window.proofs.Ranges.{in-range, before-range, past-range, length-replaced, replaced-at, replaced-off, replaced-mid}
 use Rattle.state.specs.Parts.{part, with_part, Beside, Apart, number_in, bytes_of}
 
 -- ---- a part read
@@ -130,45 +131,11 @@ pub with-own-part : (s : List ℕ) (a n : ℕ) → with_part s a n (part s a n) 
 with-own-part s a n =
     sym (with-part-is s a n (part s a n) s (record { long = refl; kept = λ k _. refl }) (λ k h _. sym (part_at s a n k h)))
 
--- stores at one place after the other, as straight code makes them: at a + k, a + k + 1, and so on
-abbrev pub stores_on : List ℕ → (a k : ℕ) → List ℕ → List ℕ
-stores_on s a k [] = s
-stores_on s a k (x ∷ xs) = stores_on (set s (a + k) x) a (suc k) xs
-
-abbrev pub stores : List ℕ → (a : ℕ) → List ℕ → List ℕ
-stores s a [] = s
-stores s a (x ∷ xs) = stores_on (set s a x) a 1 xs
-
-stores-on-are : (s : List ℕ) (a k : ℕ) (xs : List ℕ) → stores_on s a k xs ≡ with_part s (a + k) (length xs) xs
-stores-on-are s a k [] =
-    with-part-is s (a + k) 0 [] s (record { long = refl; kept = λ k _. refl }) (λ k b _. absurd (omega arith))
-stores-on-are s a k (x ∷ xs) =
-    stores-on-are (set s (a + k) x) a (suc k) xs ∙ with-part-is s (a + k) (suc (length xs)) (x ∷ xs) after (record {
-      long = length-with-part _ (a + suc k) (length xs) xs ∙ length-set s (a + k) x;
-      kept = λ q out. rest.kept q (λ low high. out (omega arith) (omega arith))
-          ∙ get_or-set_other s (a + k) q x 0 (λ z. out (omega arith) (omega arith));
-    }) inside
-  where
-    after : List ℕ
-    after = with_part (set s (a + k) x) (a + suc k) (length xs) xs
-
-    rest : Beside (a + suc k) (a + suc k + length xs) (set s (a + k) x) after
-    rest = beside-part (set s (a + k) x) (a + suc k) (length xs) xs
-
-    inside : (q : ℕ) → q < suc (length xs) → a + k + q < length s → get_or after (a + k + q) 0 ≡ get_or (x ∷ xs) q 0
-    inside zero b l =
-        let place : a + k + 0 ≡ a + k = omega arith in
-        rw place (rest.kept (a + k) (λ low high. absurd (omega arith)) ∙ get_or-set_same s (a + k) x 0 (omega arith))
-    inside (suc q) b l =
-        let place : a + k + suc q ≡ a + suc k + q = omega arith in
-        rw place (with-part-in (set s (a + k) x) (a + suc k) (length xs) xs q (omega arith) (rw length-set (omega arith)))
-
-pub stores-are : (s : List ℕ) (a : ℕ) (xs : List ℕ) → stores s a xs ≡ with_part s a (length xs) xs
-stores-are s a [] =
-    with-part-is s a 0 [] s (record { long = refl; kept = λ k _. refl }) (λ k b _. absurd (omega arith))
-stores-are s a (x ∷ xs) =
-    let place : a + 0 ≡ a = omega arith in
-    rw place at (stores-on-are s a 0 (x ∷ xs))
+-- what a write to the n elements from a on leaves
+pub put-mid-part : (s : List ℕ) (a n k : ℕ) (xs ys : List ℕ) → k ≡ n → ys ≡ xs → length xs ≡ n → a + n ≤ length s → put_mid a k s ys ≡ with_part s a n xs
+unfolding with_part
+put-mid-part s a n k xs ys wide written e l =
+    rw (wide, written) (replaced-mid a n _ s xs 0 e l (λ q h. let place : a + q - a ≡ q = omega arith in rw place refl))
 
 -- ---- a number in bytes
 

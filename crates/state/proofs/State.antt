@@ -1,18 +1,21 @@
 -- The parts of a state: a mask read after a mask was stored, and the masks as a list. Assumes nothing.
-use Prim.Native.Nat.{ℕ, ◌+◌, ◌-◌, ◌*◌, ◌≤◌, ◌<◌, ◌/◌, ◌%◌}
+use Prim.Native.Nat.{ℕ, ◌+◌, ◌-◌, ◌*◌, ◌≤◌, ◌<◌}
 use mathlib.Core.Path.{◌≡◌, refl, sym, ap, ◌∙◌}
 use mathlib.Core.List.{List, ◌∷◌, []}
 use native.Mathlib.Decide.{ℕ_discrete}
 use native.Mathlib.Omega.{arith}
 use native.Mathlib.Nat.{div-div-eq-div-mul}
 use lib.ListN.{length, get_or, set, length-set}
+use borrow.Rule.Slice.PartMut.{put_mid}
+use Rattle.std.proofs.Common.{w64}
+use Rattle.std.specs.Int.{from_le_bytes, to_le_bytes}
 use lib.Seq.{ext_get_or, get_or-set_same, get_or-set_other}
 use Rattle.window.specs.Ranges.{in_range, replaced}
 use Rattle.window.proofs.Tabulated.{get_d-table, length-table, table_same}
 use Rattle.state.specs.Parts.{part, with_part, Beside, Apart, number_in, bytes_of}
 use Rattle.state.specs.State.{Whole, held_of, with_held, owners_of, with_owners, mask_at, with_mask, masks_of, MasksNow}
 use Rattle.state.proofs.PartRanges.{replaced-in}
-use Rattle.state.proofs.Parts.{length_part, part_at, part-beside, part-with-inner, beside-wider, beside-both, beside-part, part-of-with, length-bytes, number-of-bytes, stores, stores-are}
+use Rattle.state.proofs.Parts.{length_part, part_at, part-beside, part-with-inner, beside-wider, beside-both, beside-part, part-of-with, length-bytes, number-of-bytes, put-mid-part}
 
 -- ---- what is held
 
@@ -172,22 +175,17 @@ module _ {masks before : List ℕ} where
 
 -- what the code reads, and what it stores
 pub mask-read : (s : List ℕ) (j : ℕ) → let a = 4352 + 8 * j in
-    get_or s a 0 + 256 * get_or s (a + 1) 0 + 65536 * get_or s (a + 2) 0 + 16777216 * get_or s (a + 3) 0 + 4294967296 * get_or s (a + 4) 0
-    + 1099511627776 * get_or s (a + 5) 0 + 281474976710656 * get_or s (a + 6) 0 + 72057594037927936 * get_or s (a + 7) 0 ≡ mask_at s j
+    from_le_bytes w64 (get_or s a 0 ∷ get_or s (a + 1) 0 ∷ get_or s (a + 2) 0 ∷ get_or s (a + 3) 0 ∷ get_or s (a + 4) 0 ∷ get_or s (a + 5) 0
+    ∷ get_or s (a + 6) 0 ∷ get_or s (a + 7) 0 ∷ []) ≡ mask_at s j
 unfolding mask_at part number_in
 mask-read s j = let first : 4352 + 8 * j + 0 ≡ 4352 + 8 * j = omega arith in rw first (omega arith)
 
--- the eight bytes of a mask, each taken out at once
-abbrev pub mask_bytes : ℕ → List ℕ
-mask_bytes x =
-    x % 256 ∷ x / 256 % 256 ∷ x / 65536 % 256 ∷ x / 16777216 % 256 ∷ x / 4294967296 % 256
-    ∷ x / 1099511627776 % 256 ∷ x / 281474976710656 % 256 ∷ x / 72057594037927936 % 256 ∷ []
-
-mask-bytes : (x : ℕ) → mask_bytes x ≡ bytes_of 8 x
+mask-bytes : (x : ℕ) → to_le_bytes w64 x ≡ bytes_of 8 x
 unfolding bytes_of
 mask-bytes x = simp div-div-eq-div-mul
 
-pub mask-stored : (s : List ℕ) (j x : ℕ) → stores s (4352 + 8 * j) (mask_bytes x) ≡ with_mask s j x
+pub mask-stored : (s : List ℕ) (j x : ℕ) → Whole s → j < 8 → {k : ℕ} {ys : List ℕ} → k ≡ 8 → ys ≡ to_le_bytes w64 x
+    → put_mid (4352 + 8 * j) k s ys ≡ with_mask s j x
 unfolding with_mask
-mask-stored s j x =
-    stores-are s (4352 + 8 * j) (mask_bytes x) ∙ ap (with_part s (4352 + 8 * j) 8) (mask-bytes x)
+mask-stored s j x whole h eight written =
+    put-mid-part s (4352 + 8 * j) 8 _ (bytes_of 8 x) _ eight (written ∙ mask-bytes x) (length-bytes 8 x) (omega (arith, whole))

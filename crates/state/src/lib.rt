@@ -32,26 +32,22 @@ pub const MARK: usize = 4497;
 
 pub const TURN: usize = 4498;
 
-fn wide(b: u8) -> u64
-    ensures { (result ≡ b) × (result < 256) }
-{
-    b as u64
-}
-
 // The mask of frame j.
 pub fn mask_at(s: &State, j: usize) -> u64
     requires { j < 8 }
     ensures { result ≡ mask_at s.now j }
 {
     let at = MASKS + 8 * j;
-    wide(s[at])
-        + 256 * wide(s[at + 1])
-        + 65536 * wide(s[at + 2])
-        + 16777216 * wide(s[at + 3])
-        + 4294967296 * wide(s[at + 4])
-        + 1099511627776 * wide(s[at + 5])
-        + 281474976710656 * wide(s[at + 6])
-        + 72057594037927936 * wide(s[at + 7])
+    u64::from_le_bytes([
+        s[at],
+        s[at + 1],
+        s[at + 2],
+        s[at + 3],
+        s[at + 4],
+        s[at + 5],
+        s[at + 6],
+        s[at + 7],
+    ])
 }
 
 // Stores the mask of frame j. That it fits eight bytes follows from its type, and is stated so that callers find it.
@@ -61,14 +57,7 @@ pub fn put_mask(s: &mut State, j: usize, x: u64)
     ensures fits { x < 18446744073709551616 }
 {
     let at = MASKS + 8 * j;
-    s[at] = (x % 256) as u8;
-    s[at + 1] = (x / 256 % 256) as u8;
-    s[at + 2] = (x / 65536 % 256) as u8;
-    s[at + 3] = (x / 16777216 % 256) as u8;
-    s[at + 4] = (x / 4294967296 % 256) as u8;
-    s[at + 5] = (x / 1099511627776 % 256) as u8;
-    s[at + 6] = (x / 281474976710656 % 256) as u8;
-    s[at + 7] = (x / 72057594037927936 % 256) as u8;
+    s[at..at + 8].copy_from_slice(&x.to_le_bytes());
 }
 
 // Stores the masks of all frames.
@@ -76,10 +65,8 @@ pub fn put_masks(s: &mut State, masks: [u64; 8])
     requires { Whole s.old × (length masks ≡ 8) }
     ensures { MasksNow s.old s.new masks }
 {
-    let mut j = 0;
-    while j < 8 {
-        put_mask(s, j, masks[j]);
-        j += 1;
+    for (j, mask) in masks.iter().enumerate() {
+        put_mask(s, j, *mask);
     }
 }
 
@@ -88,10 +75,5 @@ pub fn put_table(s: &mut State, first: usize, table: [u8; 256])
     requires { first + 256 ≤ 4499 }
     ensures { s.new ≡ with_part s.old first 256 table }
 {
-    let end = first + 256;
-    let mut q = first;
-    while q < end {
-        s[q] = table[q - first];
-        q += 1;
-    }
+    s[first..first + 256].copy_from_slice(&table);
 }

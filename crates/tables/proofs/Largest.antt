@@ -1,10 +1,11 @@
 -- The largest of some values, and what it tells of each; that of a range of holdings, found one at a step. Assumes nothing.
-use Prim.Native.Nat.{ℕ, zero, suc, ◌+◌, ◌-◌, ◌≤◌, ◌<◌, max}
+use Prim.Native.Nat.{ℕ, zero, suc, ◌+◌, ◌≤◌, ◌<◌, max}
 use mathlib.Core.Path.{◌≡◌, refl, sym, ◌∙◌}
 use mathlib.Core.List.{List}
 use native.Mathlib.Decide.{dec_lt, ℕ_discrete}
 use native.Mathlib.Omega.{arith}
-use lib.ListN.{get_or}
+use lib.ListN.{length, get_or}
+use Rattle.std.proofs.Common.{add-one}
 use lib.Dec.{ltb}
 use borrow.Author.Tests.{lt-ltb, le-ltb, ltb-true, ltb-false}
 use Rattle.window.specs.Ranges.{Miss, All}
@@ -57,43 +58,27 @@ module _ (f : ℕ → ℕ) (c : ℕ) where
     miss = λ r. largest-reached n some (ltb-false _ c r);
   }
 
--- ---- of a range of holdings, found one at a step
+-- ---- of a list, found one at a step
 
--- what is held at place a + k
-abbrev held_from : List ℕ → (a k : ℕ) → ℕ
-held_from held a k = get_or held (a + k) 0
+-- what stands at place k
+abbrev place_in : List ℕ → (k : ℕ) → ℕ
+place_in held k = get_or held k 0
 
--- most is the largest from a up to q, or 0 where there is none
-pub record LargestTo (held : List ℕ) (a e q most : ℕ) : Type 0 where
-  pub from : a ≤ q
-  pub to : q ≤ e
-  pub is : most ≡ largest (q - a) (held_from held a)
+-- most is the largest of the first k, or 0 where there is none
+pub record LargestTo (held : List ℕ) (k most : ℕ) : Type 0 where
+  pub to : k ≤ length held
+  pub is : most ≡ largest k (place_in held)
 
-pub range_none : (held : List ℕ) (a e : ℕ) → a ≤ e → LargestTo held a e a 0
-range_none held a e h = record {
-  from = omega arith;
-  to = h;
-  is = let none : a - a ≡ 0 = omega arith in rw none (sym (largest-none (held_from held a)));
-}
+pub largest-to-none : (held : List ℕ) → LargestTo held 0 0
+largest-to-none held = record { to = omega arith; is = sym (largest-none (place_in held)) }
 
-module _ {held : List ℕ} {a e q most : ℕ} (v : LargestTo held a e q most) where
-  pub range-more : q < e → {more : ℕ} → more ≡ max most (get_or held q 0) → LargestTo held a e (q + 1) more
-  range-more h z =
-      let on : q + 1 - a ≡ suc (q - a) = omega (arith, v.from) in
-      let place : a + (q - a) ≡ q = omega (arith, v.from) in
-      record {
-        from = omega (arith, v.from);
-        to = omega arith;
-        is = rw on (z ∙ rw (largest-one-more (q - a) (held_from held a), place, ← v.is));
-      }
+module _ {held : List ℕ} {k most : ℕ} (v : LargestTo held k most) where
+  pub largest-to-more : k < length held → {more : ℕ} → more ≡ max most (get_or held k 0) → LargestTo held (k + 1) more
+  largest-to-more h z = record { to = omega arith; is = rw add-one (z ∙ rw (largest-one-more k (place_in held), ← v.is)) }
 
-  -- it tells whether fewer than the cells are held at each place of a range that has one
-  pub range-done : a < e → e ≤ q → (cells : ℕ) → All (room_at held cells) a e (ltb most cells)
-  range-done some h cells =
-      let z : q ≡ e = omega (arith, v.to) in
-      let is = rw z at v.is in
-      let all = rw (← is) at (largest-below (held_from held a) cells (e - a) (omega arith)) in
-      record {
-        pass = λ r k l m. let place : a + (k - a) ≡ k = omega arith in rw place at (all.pass r (k - a) (omega arith) (omega arith));
-        miss = λ r. let x = all.miss r in record { at = a + x.at; from = omega arith; below = omega (arith, x.below); fails = x.fails };
-      }
+  pub largest-to-done : length held ≤ k → most ≡ largest (length held) (place_in held)
+  largest-to-done h = let z : k ≡ length held = omega (arith, v.to) in rw z at v.is
+
+  -- it tells whether fewer than the cells are held at each place of a list that has one
+  pub room-to-done : 0 < length held → length held ≤ k → (cells : ℕ) → All (room_at held cells) 0 (length held) (ltb most cells)
+  room-to-done some h cells = rw (largest-to-done h) (largest-below (place_in held) cells (length held) some)

@@ -13,6 +13,7 @@ pub mod Masks
 mod LaterPositions
 -- one pass over a row
 mod Padded
+mod Shifting
 mod PaddedFrom
 mod Lowered
 -- the search

@@ -1,12 +1,13 @@
 -- One pass over a range that lowers holdings and finds the largest of them then; what that tells of what was held; and what was lowered from
 -- p on, raised again. Assumes nothing.
-use Prim.Native.Nat.{ℕ, suc, ◌+◌, ◌-◌, ◌*◌, ◌%◌, ◌≤◌, ◌<◌, max}
-use mathlib.Core.Path.{◌≡◌, refl, sym, ap, ◌∙◌}
+use Prim.Native.Nat.{ℕ, ◌+◌, ◌*◌, ◌%◌, ◌≤◌, ◌<◌, max}
+use mathlib.Core.Path.{◌≡◌, refl, sym, ◌∙◌}
 use mathlib.Core.List.{List}
 use mathlib.Core.Bool.{Bool, true, false, true≢false, cond}
 use native.Mathlib.Decide.{dec_lt, ℕ_discrete}
 use native.Mathlib.Omega.{arith}
 use lib.ListN.{length, get_or, set}
+use Rattle.std.proofs.Common.{add-one}
 use lib.Dec.{ltb}
 use borrow.Author.Tests.{le-leb, lt-ltb}
 use Rattle.model.specs.Window.{every_from}
@@ -16,78 +17,44 @@ use Rattle.window.specs.Window.{window_of, size_of, Proper, from_in}
 use Rattle.window.proofs.Bytes.{wrapped-is}
 use Rattle.window.proofs.Ranks.{rank_in}
 use Rattle.window.proofs.FromOn.{from_is, from_past, every-from}
-use Rattle.window.proofs.Ranges.{past-range, replaced-at, replaced-off}
-use Rattle.window.proofs.RangeLoops.{Replacing, replacing-none, replacing-more}
+use Rattle.window.proofs.Ranges.{replaced-at}
 use Rattle.tables.specs.Rows.{row}
-use Rattle.tables.specs.Padded.{pad, Bytes}
+use Rattle.tables.specs.Padded.{pad}
 use Rattle.tables.specs.Holdings.{some_held, largest, most_held, shifted_row, shifted}
 use Rattle.state.proofs.Parts.{beside_back}
 use Rattle.tables.proofs.Places.{row_at, with-row-in, with-row-is, beside-row}
 use Rattle.tables.proofs.Rows.{length-row, length-with-row}
 use Rattle.tables.proofs.Largest.{largest-none, largest-one-more, largest-most}
-use Rattle.tables.proofs.Padded.{Counting, counting-first, counting-on, counted-pad}
+use Rattle.tables.proofs.Shifting.{AllBytes, Shifting, shifting-none, shifting-more, shifted-put}
 
 -- ---- the pass
 
-module _ (base from a e : ℕ) where
-  -- one fewer than y at a late place, and y at an early one
-  abbrev pub fewer_at : ℕ → ℕ → ℕ
-  fewer_at k y = wrapped (pad base from 0 255 (k - a)) y
+-- one fewer than what stands at place k of a list, where that is late
+abbrev pub fewer_in : (base from : ℕ) → List ℕ → ℕ → ℕ
+fewer_in base from h k = wrapped (pad base from 0 255 k) (get_or h k 0)
 
-  -- the same of what stands at a + k in a list
-  abbrev pub fewer_in : List ℕ → ℕ → ℕ
-  fewer_in h k = wrapped (pad base from 0 255 k) (get_or h (a + k) 0)
+-- the places up to k are lowered, and `most` is the largest of them then
+pub record Lowering (base from : ℕ) (before after : List ℕ) (most k x : ℕ) : Type 0 where
+  pub shifting : Shifting base from 255 before after k x
+  pub most_is : most ≡ largest k (fewer_in base from before)
 
-  -- the places from a up to q are lowered, and `most` is the largest of them then
-  pub record Lowering (before after : List ℕ) (most q x : ℕ) : Type 0 where
-    pub counting : Counting base a q x
-    pub replaced : Replacing fewer_at a e before after q
-    pub most_is : most ≡ largest (q - a) (fewer_in before)
-    pub bytes : Bytes before a q
+module _ {base from : ℕ} (low : base < 256) {before : List ℕ} where
+  pub lowering-none : {x : ℕ} → x < 256 → (x + base) % 256 ≡ 0 → Lowering base from before before 0 0 x
+  lowering-none b z = record { shifting = shifting-none low b z; most_is = sym (largest-none _) }
 
-  module _ (low : base < 256) where
-    pub lowering-none : a ≤ e → {h : List ℕ} {x : ℕ} → x ≡ (256 - base) % 256 → Lowering h h 0 a x
-    lowering-none ends z = record {
-      counting = counting-first _ _ _ low z;
-      replaced = replacing-none 0 ends;
-      most_is = let none : a - a ≡ 0 = omega arith in rw none (sym (largest-none _));
-      bytes = record { below = λ k h l. absurd (omega arith) };
+  module _ {after : List ℕ} {most k x : ℕ} (v : Lowering base from before after most k x) where
+    pub lowering-more : AllBytes before → k < length before → {by : ℕ} → by < 256 → by ≡ cond (ltb x from) 0 255
+        → {most' : ℕ} → most' ≡ max most ((get_or after k 0 + by) % 256)
+        → Lowering base from before (set after k ((get_or after k 0 + by) % 256)) most' (k + 1) ((x + 1) % 256)
+    lowering-more bytes more {by} fits is {most'} n = record {
+      shifting = shifting-more low bytes v.shifting more fits is;
+      most_is =
+          let put = shifted-put low bytes v.shifting more fits is in
+          rw add-one (n ∙ rw (put, v.most_is) (sym (largest-one-more k (fewer_in base from before))));
     }
 
-    module _ {before after : List ℕ} {most q x : ℕ} (v : Lowering before after most q x) (more : q < e) where
-      -- the next place is still as it was
-      as_before : get_or after q 0 ≡ get_or before q 0
-      as_before =
-          ap (λ (h : List ℕ). get_or h q 0) v.replaced.is
-          ∙ replaced-off _ _ before q 0 (past-range a q q (omega arith))
-
-      pub lowering-more : {was : ℕ} → was ≡ get_or after q 0 → was < 256 → {fewer most' x' : ℕ} → fewer ≡ wrapped (cond (ltb x from) 0 255) was
-          → most' ≡ max most fewer → x' ≡ (x + 1) % 256 → Lowering before (set after q fewer) most' (q + 1) x'
-      lowering-more {was} is byte {fewer} {most'} m n z = record {
-        counting = counting-on v.counting low v.replaced.from z;
-        replaced = replacing-more 0 v.replaced more (put ∙ ap (fewer_at q) is);
-        most_is = rw on (n ∙ both ∙ sym (largest-one-more (q - a) (fewer_in before)));
-        bytes = record { below = λ k h b. bytes k h b (ℕ_discrete k q) };
-      }
-        where
-          put : fewer ≡ fewer_at q was
-          put = m ∙ ap (λ by. wrapped by was) (counted-pad v.counting from 0 255)
-
-          on : q + 1 - a ≡ suc (q - a)
-          on = omega (arith, v.replaced.from)
-
-          place : a + (q - a) ≡ q
-          place = omega (arith, v.replaced.from)
-
-          both : max most fewer ≡ max (largest (q - a) (fewer_in before)) (fewer_in before (q - a))
-          both = rw (place, ← as_before, ← is, ← put, ← v.most_is)
-
-          bytes : (k : ℕ) → a ≤ k → k < q + 1 → Dec (k ≡ q) → get_or before k 0 < 256
-          bytes k h b (yes d) = rw (d, ← as_before, ← is) byte
-          bytes k h b (no d) = v.bytes.below k h (omega arith)
-
-    pub lowering-done : {before after : List ℕ} {most q x : ℕ} → Lowering before after most q x → e ≤ q → most ≡ largest (e - a) (fewer_in before)
-    lowering-done {before} {after} {most} {q} v ends = let z : q ≡ e = omega (arith, v.replaced.to) in rw z at v.most_is
+    pub lowering-done : length before ≤ k → most ≡ largest (length before) (fewer_in base from before)
+    lowering-done ends = let z : k ≡ length before = omega (arith, v.shifting.replaced.to) in rw z at v.most_is
 
 -- ---- what was lowered from p on
 
@@ -127,7 +94,7 @@ module _ (w : Window) (v : Proper w) (p : ℕ) (lp : p < size_of w) (h : List �
           absurd (omega arith)
       held q l r (no z) = lt-ltb 0 (get_or (row h i) q 0) (omega arith)
 
-  pub raised-again : Bytes h (256 * i) (256 * i + size_of w) → shifted (window_of w) 1 i p fewer ≡ h
+  pub raised-again : ((k : ℕ) → get_or h k 0 < 256) → shifted (window_of w) 1 i p fewer ≡ h
   raised-again bytes =
       sym (with-row-is fewer i (shifted_row (window_of w) 1 p (row fewer i)) h (beside_back (beside-row h i _)) at)
     where
@@ -143,4 +110,4 @@ module _ (w : Window) (v : Proper w) (p : ℕ) (lp : p < size_of w) (h : List �
           let first = lowered-at q b (rw (length-with-row h i _) at l) in
           let second = replaced-at from (λ q x. wrapped 1 x) (row fewer i) q 0 (omega (arith, length-row fewer i)) in
           rw (second, row_at fewer i q b, first)
-          (back q (from q) refl (dec_lt q (size_of w)) _ (λ d. bytes.below (256 * i + q) (omega arith) (omega arith)))
+          (back q (from q) refl (dec_lt q (size_of w)) _ (λ _. bytes (256 * i + q)))

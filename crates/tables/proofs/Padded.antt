@@ -1,6 +1,6 @@
 -- A byte that counts the places of a row round 256 tells the early ones from the late ones; and the least of bytes, some of them padded.
 -- Assumes nothing.
-use Prim.Native.Nat.{ℕ, ◌+◌, ◌-◌, ◌%◌, ◌≤◌, ◌<◌, min}
+use Prim.Native.Nat.{ℕ, ◌+◌, ◌%◌, ◌<◌, min}
 use mathlib.Core.Path.{◌≡◌, ap, ◌∙◌}
 use mathlib.Core.Bool.{Bool, cond}
 use native.Mathlib.Decide.{dec_lt}
@@ -12,19 +12,19 @@ use Rattle.tables.specs.Padded.{on_from, pad}
 
 -- ---- a byte that counts
 
--- x is how far place q lies on from a + base, going round 256
-pub record Counting (base a q x : ℕ) : Type 0 where
-  pub is : x ≡ on_from base (q - a)
+-- x is how far place k lies on from base, going round 256
+pub record Counting (base k x : ℕ) : Type 0 where
+  pub is : x ≡ on_from base k
 
-pub counting-first : (base a x : ℕ) → base < 256 → x ≡ (256 - base) % 256 → Counting base a a x
-counting-first base a x h e = record { is = omega arith }
+pub counting-first : (base x : ℕ) → base < 256 → x < 256 → (x + base) % 256 ≡ 0 → Counting base 0 x
+counting-first base x h b e = record { is = omega arith }
 
-module _ {base a q x : ℕ} (v : Counting base a q x) where
-  pub counting-on : base < 256 → a ≤ q → {y : ℕ} → y ≡ (x + 1) % 256 → Counting base a (q + 1) y
-  counting-on low from z = let e = v.is in record { is = omega arith }
+module _ {base k x : ℕ} (v : Counting base k x) where
+  pub counting-on : base < 256 → Counting base (k + 1) ((x + 1) % 256)
+  counting-on low = let e = v.is in record { is = omega arith }
 
   -- it tells which of the two the place is
-  pub counted-pad : (from early late : ℕ) → cond (ltb x from) early late ≡ pad base from early late (q - a)
+  pub counted-pad : (from early late : ℕ) → cond (ltb x from) early late ≡ pad base from early late k
   counted-pad from early late = ap (λ y. cond (ltb y from) early late) v.is
 
 -- ---- the least of bytes: above 0 while each of them is

@@ -1,8 +1,7 @@
 -- The search of a request over the tables: valid positions, what it comes to, read as the model's, and a frame's valid slots in one word.
 -- Assumes nothing.
-use Rattle.std.specs.Prelude.{ℕ, ◌+◌, ◌≡◌, List, Bool, not, ◌&&◌, ltb}
-use Rattle.tables.specs.declared.Found.{Found}
-use Rattle.tables.specs.declared.Found.TheVariants.{At, Nowhere}
+use Rattle.std.specs.Prelude.{ℕ, ◌+◌, ◌≡◌, List, Bool, not, ◌&&◌, ltb, Result, Ok, Err}
+use Rattle.tables.specs.declared.Place.{Place}
 use Rattle.tables.specs.Owners.{unbooked_at}
 use Rattle.tables.specs.Holdings.{room_at}
 use Rattle.unbooked.specs.Bits.{bit_at}
@@ -10,9 +9,9 @@ use Rattle.model.specs.Tables.{ahead}
 use Rattle.model.specs.Window.{Window, start, newest, passed, every_from}
 use Rattle.model.specs.Request as model
 
-abbrev pub found_of : Found → model.Found
-found_of (At frame left position) = model.found frame left position
-found_of (Nowhere left) = model.nowhere left
+abbrev pub found_of : Result Place ℕ → model.Found
+found_of (Ok place) = model.found place.frame place.left place.position
+found_of (Err left) = model.nowhere left
 
 -- RULES 6.2: position p is late enough for a flow with these cells and these holdings: it is not passed, and from it on the flow has room
 abbrev pub late_at : Window → (held : List ℕ) (cells p : ℕ) → Bool

@@ -13,29 +13,14 @@ ghost use Rattle.state.specs.State.{with_held};
 ghost use Rattle.tables.specs.Asked.{FlowAt, FlowsOf};
 ghost use Rattle.tables.specs.Owners.{everywhere};
 ghost use Rattle.tables.specs.Rows.{row, Sixteen, with_row, carried_rows};
-ghost use Rattle.tables.specs.Padded.{on_from, pad, Bytes};
+ghost use Rattle.tables.specs.Padded.{on_from, pad};
 ghost use Rattle.tables.specs.Holdings.{some_held, room_at, largest, most_held, shifted_row, shifted, carried, nothing_held};
 ghost use Rattle.tables.specs.Bounds.{raised, lowered};
 
 use state::{BOUNDS, ROW, State, put_table};
 use window::Window;
-use window::numbers::{
-    larger_byte, saturating_inc, select_below, smaller_byte, wrapping_add, wrapping_inc,
-    wrapping_neg,
-};
+use window::numbers::select_below;
 use window::positions::before;
-
-// One value at every place of the range from a to e.
-fn fill(s: &mut State, value: u8, a: usize, e: usize)
-    requires { (a ≤ e) × (e ≤ 4096) }
-    ensures { s.new ≡ replaced (in_range a e) (λ q x. value) s.old }
-{
-    let mut q = a;
-    while q < e {
-        s[q] = value;
-        q += 1;
-    }
-}
 
 // Whether fewer than the cells are held at every place of the range from a to e, which has one.
 fn room_in(s: &State, cells: u8, a: usize, e: usize) -> bool
@@ -43,10 +28,8 @@ fn room_in(s: &State, cells: u8, a: usize, e: usize) -> bool
     ensures { All (room_at s.now cells) a e result }
 {
     let mut most = 0u8;
-    let mut q = a;
-    while q < e {
-        most = larger_byte(most, s[q]);
-        q += 1;
+    for &held in &s[a..e] {
+        most = most.max(held);
     }
     most < cells
 }
@@ -56,14 +39,12 @@ fn last_full(s: &State, cells: u8, a: usize, e: usize) -> usize
     requires { (a ≤ e) × (e ≤ 4096) }
     ensures { LastIn (room_at s.now cells) a e result }
 {
-    let mut q = e;
-    while a < q {
-        if cells <= s[q - 1] {
-            return q;
+    for q in (a..e).rev() {
+        if cells <= s[q] {
+            return q + 1;
         }
-        q -= 1;
     }
-    q
+    a
 }
 
 // The rank from which on flow i has room at every position.
@@ -98,14 +79,11 @@ fn shift(s: &mut State, a: usize, e: usize, base: u8, from: u8, late: u8)
     requires { (a ≤ e) × (e ≤ 4096) }
     ensures { s.new ≡ replaced (in_range a e) (λ k x. wrapped (pad base from 0 late (k - a)) x) s.old }
 {
-    let mut q = a;
-    // how far q lies on from a + base, going round 256
-    let mut x = wrapping_neg(base);
-    while q < e {
-        let by = select_below(x, from, 0, late);
-        s[q] = wrapping_add(s[q], by);
-        x = wrapping_inc(x);
-        q += 1;
+    // how far the place lies on from a + base, going round 256
+    let mut x = base.wrapping_neg();
+    for held in &mut s[a..e] {
+        *held = held.wrapping_add(select_below(x, from, 0, late));
+        x = x.wrapping_add(1);
     }
 }
 
@@ -116,7 +94,7 @@ fn on_from_head(w: Window, p: usize) -> u8
     ensures { result ≡ on_from (base_of w) p }
 {
     let start = w.head * w.slots;
-    wrapping_add(p as u8, wrapping_neg(start as u8))
+    (p as u8).wrapping_sub(start as u8)
 }
 
 // Flow i's holdings from p on, each moved by a number modulo 256: 1 is one more, 255 one fewer.
@@ -136,13 +114,11 @@ fn held_in(s: &State, a: usize, e: usize, base: u8, from: u8) -> bool
     ensures { All (λ k. ltb 0 (max (get_or s.now k 0) (pad base from 255 0 (k - a)))) a e result }
 {
     let mut least = 255u8;
-    let mut q = a;
-    // how far q lies on from a + base, going round 256
-    let mut x = wrapping_neg(base);
-    while q < e {
-        least = smaller_byte(least, larger_byte(s[q], select_below(x, from, 255, 0)));
-        x = wrapping_inc(x);
-        q += 1;
+    // how far the place lies on from a + base, going round 256
+    let mut x = base.wrapping_neg();
+    for &held in &s[a..e] {
+        least = least.min(held.max(select_below(x, from, 255, 0)));
+        x = x.wrapping_add(1);
     }
     0 < least
 }
@@ -158,32 +134,19 @@ fn held_from(s: &State, i: usize, w: Window, p: usize) -> bool
     held_in(s, first, past, base as u8, on_from_head(w, p))
 }
 
-// The same byte: a parameter is known to be below 256, which an element of an array is not.
-fn byte(x: u8) -> u8
-    ensures { (result ≡ x) × (result < 256) }
-{
-    x
-}
-
-// The holdings of the range from a to e moved as by `shift` with 255, and the largest of them then. That holdings are bytes follows from
-// their type, and is stated so that callers find it.
+// The holdings of the range from a to e moved as by `shift` with 255, and the largest of them then.
 fn lower(s: &mut State, a: usize, e: usize, base: u8, from: u8) -> u8
     requires { (a ≤ e) × (e ≤ 4096) }
     ensures most { result ≡ largest (e - a) (λ k. wrapped (pad base from 0 255 k) (get_or s.old (a + k) 0)) }
     ensures shifts { s.new ≡ replaced (in_range a e) (λ k x. wrapped (pad base from 0 255 (k - a)) x) s.old }
-    ensures bytes { Bytes s.old a e }
 {
     let mut most = 0u8;
-    let mut q = a;
-    // how far q lies on from a + base, going round 256
-    let mut x = wrapping_neg(base);
-    while q < e {
-        let by = select_below(x, from, 0, 255);
-        let fewer = wrapping_add(byte(s[q]), by);
-        most = larger_byte(most, fewer);
-        s[q] = fewer;
-        x = wrapping_inc(x);
-        q += 1;
+    // how far the place lies on from a + base, going round 256
+    let mut x = base.wrapping_neg();
+    for held in &mut s[a..e] {
+        *held = held.wrapping_add(select_below(x, from, 0, 255));
+        most = most.max(*held);
+        x = x.wrapping_add(1);
     }
     most
 }
@@ -193,7 +156,6 @@ fn lower_all(s: &mut State, i: usize, w: Window, p: usize) -> u8
     requires { FlowAt w i p }
     ensures most { result ≡ most_held (size_of w) (shifted_row (window_of w) 255 p (row s.old i)) }
     ensures shifts { s.new ≡ shifted (window_of w) 255 i p s.old }
-    ensures bytes { Bytes s.old (256 * i) (256 * i + size_of w) }
 {
     let first = ROW * i;
     let past = first + w.slots * w.frames;
@@ -231,10 +193,11 @@ pub fn raise_from(s: &mut State, i: usize, w: Window, position: usize)
 {
     let bound = s[BOUNDS + i];
     shift_from(s, 1, i, w, position);
-    s[BOUNDS + i] = saturating_inc(bound);
+    s[BOUNDS + i] = bound.saturating_add(1);
 }
 
 // The table of a flow that holds nothing at any position.
+// Stays: the tables of a fresh link begin as `[0u8; 256]` and, in `unbooked`, as `[16u8; 256]`; decision 18 names both.
 fn unheld() -> [u8; 256]
     ensures { result ≡ everywhere 0 }
 {
@@ -254,10 +217,8 @@ pub fn hold_nothing(s: &mut State)
     requires { Sixteen s.old }
     ensures { s.new ≡ with_held s.old nothing_held }
 {
-    let mut i = 0;
-    while i < 16 {
+    for i in 0..16 {
         store(s, i, unheld());
-        i += 1;
     }
 }
 
@@ -266,12 +227,10 @@ fn carry(s: &mut State, count: usize, last: usize, a: usize, e: usize)
     requires { (count ≤ 16) × (last < 256) × (a ≤ e) × (e ≤ 256) }
     ensures { s.new ≡ carried_rows count last a e s.old }
 {
-    let mut i = 0;
-    while i < count {
+    for i in 0..count {
         let first = ROW * i;
         let value = s[first + last];
-        fill(s, value, first + a, first + e);
-        i += 1;
+        s[first + a..first + e].fill(value);
     }
 }
 

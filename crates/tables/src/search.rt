@@ -7,12 +7,11 @@ ghost use Rattle.tables.specs.Asked.{FlowWithin, MasksIn, FrameIn, SearchFrom};
 ghost use Rattle.tables.specs.Rows.{row};
 ghost use Rattle.tables.specs.Search.{found_of, late_at, valid_at, late_after, search_from, ValidSlots};
 
-use crate::Found;
+use crate::Place;
 use crate::holdings::room_rank;
 use state::{BOUNDS, State, mask_at};
 use unbooked::bits::{clear_below, lowest};
 use window::Window;
-use window::numbers::{larger, saturating_sub};
 use window::positions::next;
 
 // The rank from which on a position is late enough for a flow: it is not passed, and there is room from it on. Where the flow's bound is below
@@ -25,7 +24,7 @@ pub fn late_rank(s: &State, i: usize, cells: u8, w: Window) -> usize
     if s[BOUNDS + i] < cells {
         return after;
     }
-    larger(room_rank(s, i, cells, w), after)
+    room_rank(s, i, cells, w).max(after)
 }
 
 // The rank from which on a tile with a departure can leave: the one after the departure's, where that is later than CP.
@@ -46,36 +45,43 @@ fn valid_slots(s: &State, w: Window, low: usize, frame: usize) -> u64
 {
     clear_below(
         mask_at(s, frame),
-        saturating_sub(low, w.rank(frame * w.slots)),
+        low.saturating_sub(w.rank(frame * w.slots)),
     )
 }
 
 // The search from a frame and a remainder up to the newest frame, for a valid position, where the late positions are those of rank
 // `low` or more.
-fn search(s: &State, w: Window, low: usize, share: usize, first: usize, remainder: usize) -> Found
+fn search(
+    s: &State,
+    w: Window,
+    low: usize,
+    share: usize,
+    first: usize,
+    remainder: usize,
+) -> Result<Place, usize>
     requires { FrameIn w first s.now }
     ensures { found_of result ≡ search_from (window_of w) (valid_at (owners_of s.now) (ranks_from w low)) share first remainder }
 {
     let mut frame = first;
     let mut left = remainder;
     let newest = w.newest();
-    let mut found = Found::Nowhere(remainder);
     'search: loop {
         if 0 < left {
             let valid = valid_slots(s, w, low, frame);
             if valid != 0 {
-                found = Found::At(frame, left - 1, frame * w.slots + lowest(valid));
-                break 'search;
+                break 'search Ok(Place {
+                    frame,
+                    left: left - 1,
+                    position: frame * w.slots + lowest(valid),
+                });
             }
         }
         if frame == newest {
-            found = Found::Nowhere(left);
-            break 'search;
+            break 'search Err(left);
         }
         frame = next(w.frames, frame);
         left = share;
     }
-    found
 }
 
 // The search from a frame and a remainder up to the newest frame for a word with a departure, where the late positions are those of rank
@@ -88,12 +94,12 @@ pub fn find(
     share: usize,
     first: usize,
     remainder: usize,
-) -> Found
+) -> Result<Place, usize>
     requires { SearchFrom w departure first s.now }
     ensures { found_of result
         ≡ search_from (window_of w) (valid_at (owners_of s.now) (late_after (window_of w) departure (ranks_from w late))) share first remainder }
 {
-    let low = larger(leave_rank(w, departure), late);
+    let low = leave_rank(w, departure).max(late);
     search(s, w, low, share, first, remainder)
 }
 

@@ -1,62 +1,88 @@
 // A call file in memory: the calls, taken apart before anything is timed.
-ghost use Rattle.std.specs.Prelude.{◌≡◌, ◌+◌, ◌/◌, ◌<◌, ◌≤◌, min, length};
-ghost use Rattle.timing.specs.File.{two_bytes, Split, Streak};
+ghost use Rattle.std.specs.Prelude.{◌≡◌, ◌+◌, ◌*◌, ◌/◌, ◌<◌, ◌≤◌, min, length};
+ghost use Rattle.timing.specs.File.{two_bytes, kind_of, call_at, Split, Streak};
 
 // The most calls that are played.
 pub const MOST: usize = 4096;
 
-fn wide(byte: u8) -> u32
-    ensures { (result ≡ byte) × (result < 256) }
-{
-    byte as u32
+// The kinds of calls: the first byte of a record is 1, 2 or 3.
+#[derive(Clone, Copy, Debug, PartialEq, Eq)]
+pub enum Kind {
+    Request,
+    Credit,
+    Tick,
+}
+
+// A call: its kind, and the number of the four bytes after.
+#[derive(Clone, Copy, Debug, PartialEq, Eq)]
+pub struct Call {
+    pub kind: Kind,
+    pub word: u32,
 }
 
 // The number of two bytes, low byte first.
-pub fn two_bytes(bytes: &[u8], at: usize) -> u32
+pub fn two_bytes(bytes: &[u8], at: usize) -> u16
     requires { at + 1 < length bytes.now }
-    ensures is { result ≡ two_bytes bytes.now at }
-    ensures most { result < 65536 }
+    ensures { result ≡ two_bytes bytes.now at }
 {
-    wide(bytes[at]) + 256 * wide(bytes[at + 1])
+    u16::from_le_bytes([bytes[at], bytes[at + 1]])
+}
+
+// The kind that a byte stands for, if it does.
+fn kind_of(byte: u8) -> Option<Kind>
+    ensures { result ≡ kind_of byte }
+{
+    match byte {
+        1 => Some(Kind::Request),
+        2 => Some(Kind::Credit),
+        3 => Some(Kind::Tick),
+        _ => None,
+    }
+}
+
+// The call of a record, if it is of a kind.
+fn call_at(records: &[u8], k: usize) -> Option<Call>
+    requires { 5 * k + 5 ≤ length records.now }
+    ensures { result ≡ call_at records.now k }
+{
+    let kind = kind_of(records[5 * k])?;
+    let low = two_bytes(records, 5 * k + 1);
+    let high = two_bytes(records, 5 * k + 3);
+    let word = u32::from(low) + 65536 * u32::from(high);
+    Some(Call { kind, word })
 }
 
 // How many records are played of so many bytes.
 fn records_in(bytes: usize) -> usize
     ensures { result ≡ min (bytes / 5) 4096 }
 {
-    if MOST < bytes / 5 {
-        return MOST;
-    }
-    bytes / 5
+    (bytes / 5).min(MOST)
 }
 
-// Takes the records apart into their kinds and the numbers of the four bytes after, up to one that is of no kind; how many there are.
-pub fn split(records: &[u8], kinds: &mut [u8; MOST], words: &mut [u32; MOST]) -> usize
-    ensures { Split records.now kinds.old words.old kinds.new words.new result }
+// Takes the records apart into calls, up to one that is of no kind; how many there are.
+pub fn split(records: &[u8], calls: &mut [Call; MOST]) -> usize
+    ensures { Split records.now calls.old calls.new result }
 {
     let count = records_in(records.len());
-    let mut i = 0;
-    while i < count {
-        let kind = records[5 * i];
-        if kind == 0 || 3 < kind {
+    for i in 0..count {
+        let Some(call) = call_at(records, i) else {
             return i;
-        }
-        kinds[i] = kind;
-        words[i] = two_bytes(records, 5 * i + 1) + 65536 * two_bytes(records, 5 * i + 3);
-        i += 1;
+        };
+        calls[i] = call;
     }
     count
 }
 
 // The place after the streak that starts at a place: calls of one kind in a row.
-pub fn streak_end(kinds: &[u8; MOST], from: usize, count: usize) -> usize
-    requires { (from < count) × (count ≤ 4096) }
-    ensures { Streak kinds.now from count result }
+pub fn streak_end(calls: &[Call], from: usize) -> usize
+    requires { from < length calls.now }
+    ensures { Streak calls.now from result }
 {
-    let kind = kinds[from];
-    let mut to = from + 1;
-    while to < count && kinds[to] == kind {
-        to += 1;
+    let kind = calls[from].kind;
+    for to in from + 1..calls.len() {
+        if calls[to].kind != kind {
+            return to;
+        }
     }
-    to
+    calls.len()
 }

@@ -1,8 +1,7 @@
 // What is printed.
-ghost use Rattle.std.specs.Prelude.{◌<◌, ◌≤◌};
+ghost use Rattle.std.specs.Prelude.{◌<◌, ◌≤◌, length};
 
-use crate::file::MOST;
-use crate::{clock, file};
+use crate::file::{Call, Kind, MOST, streak_end};
 use std::io::Print;
 
 // Shorter streaks are played but not counted: the clock would take too much of the time.
@@ -15,21 +14,26 @@ struct Counted {
     spent: u64,
 }
 
-fn total(kind: u8, kinds: &[u8; MOST], lowest: &[u64; MOST], count: usize, cost: u64) -> Counted
-    requires { count ≤ 4096 }
+fn total(kind: Kind, calls: &[Call], lowest: &[u64; MOST], cost: u64) -> Counted
+    requires { length calls.now ≤ 4096 }
+    ensures { result.calls ≤ 4096 }
 {
-    let mut calls = 0;
-    let mut spent = 0;
+    let mut counted = 0;
+    let mut spent: u64 = 0;
     let mut from = 0;
-    while from < count {
-        let to = file::streak_end(kinds, from, count);
-        if kinds[from] == kind && SHORTEST <= to - from {
-            calls = std::num::wrapping_add_u64(calls, (to - from) as u64);
-            spent = std::num::wrapping_add_u64(spent, clock::difference(lowest[from], cost));
+    // Stays: a step is as long as a streak, so that no range has the places.
+    while from < calls.len() {
+        let to = streak_end(calls, from);
+        if calls[from].kind == kind && SHORTEST <= to - from {
+            counted += (to - from) as u64;
+            spent = spent.wrapping_add(lowest[from].saturating_sub(cost));
         }
         from = to;
     }
-    Counted { calls, spent }
+    Counted {
+        calls: counted,
+        spent,
+    }
 }
 
 // Prints bytes, if the output takes them.
@@ -42,41 +46,24 @@ pub fn print_number(out: &impl Print, number: u64) {
     let _ = out.print(number);
 }
 
-// The digit after the point of a quotient whose remainder is given. A remainder is below the number of calls, which is at most 4096; the test is there so that ten times the remainder is proved not to overflow.
-fn tenths(rest: u64, calls: u64) -> u64
-    requires { 0 < calls }
-{
-    if 1000000 < rest {
-        return 0;
-    }
-    10 * rest / calls
-}
-
-// Prints the nanoseconds of one call of a kind, with one digit after the point.
+// Prints the nanoseconds of one call of a kind, with one digit after the point, if the output takes them.
 pub fn line(
     out: &impl Print,
     name: &[u8],
-    kind: u8,
-    kinds: &[u8; MOST],
+    kind: Kind,
+    calls: &[Call],
     lowest: &[u64; MOST],
-    count: usize,
     cost: u64,
 )
-    requires { count ≤ 4096 }
+    requires { length calls.now ≤ 4096 }
 {
-    let t = total(kind, kinds, lowest, count, cost);
+    let t = total(kind, calls, lowest, cost);
     print(out, name);
     if t.calls == 0 {
         print(out, b" - ns (no streak of 8 calls)\n");
         return;
     }
     let whole = t.spent / t.calls;
-    let rest = t.spent % t.calls;
-    print(out, b" ");
-    print_number(out, whole);
-    print(out, b".");
-    print_number(out, tenths(rest, t.calls));
-    print(out, b" ns (");
-    print_number(out, t.calls);
-    print(out, b" counted)\n");
+    let tenth = 10 * (t.spent % t.calls) / t.calls;
+    let _ = println!(out; " {whole}.{tenth} ns ({} counted)", t.calls);
 }

@@ -6,7 +6,7 @@ use mathlib.Core.Bool.{Bool, true, false}
 use native.Mathlib.Numerals.{add-one}
 use native.Mathlib.Omega.{arith}
 use lib.ListN.{length, get_or, set}
-use lib.Seq.{sets, length-sets}
+use lib.Seq.{sets}
 use borrow.Author.Tests.{eqb-false, not-true}
 use Rattle.model.specs.Tables.{table, within}
 use Rattle.model.proofs.Tables.{length-table}
@@ -56,6 +56,3 @@ module _ {digits kept₀ kept : List ℕ} {i : ℕ} (s : BytesTo digits kept₀ 
         ∙ sets-append kept₀ 0 (table i (byte_at digits)) (byte_at digits i ∷ []) ∙ ap (sets kept₀ 0) (sym (table_more i (byte_at digits)))
         ∙ ap (λ k. sets kept₀ 0 (table k (byte_at digits))) (sym (add-one i));
   }
-
-  pub bytes-length : length kept ≡ length kept₀
-  bytes-length = ap length s.kept_are ∙ length-sets kept₀ 0 (table i (byte_at digits))

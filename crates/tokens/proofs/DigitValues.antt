@@ -2,7 +2,7 @@
 use Prim.Native.Nat.{ℕ, ◌+◌, ◌-◌, ◌*◌, ◌^◌, ◌≤◌, ◌<◌}
 use mathlib.Core.Path.{◌≡◌, refl, sym, ap, ◌∙◌}
 use mathlib.Core.List.{List}
-use native.Mathlib.Nat.{pow-suc, pow-le-pow_right}
+use native.Mathlib.Nat.{pow-suc}
 use native.Mathlib.Numerals.{add-one}
 use native.Mathlib.Omega.{arith}
 use lib.ListN.{length, get_or, drop, drop_of_length-le}
@@ -26,12 +26,6 @@ module _ {l : List ℕ} {value i : ℕ} (s : ValueTo l value i) where
     small = omega (arith, s.small, ap (10 ^◌) (add-one i), pow-suc 10 i);
     rest = ap (λ x. value_from (value * 10 + x) (drop (i + 1) l)) e ∙ sym (ap (value_from value) (from_place l i h)) ∙ s.rest;
   }
-
-  -- nine digits make no number that would not fit
-  pub value-fits : length l ≤ 9 → i < length l → value * 10 + 207 < 100000000000
-  value-fits most h =
-      let below : 10 ^ i ≤ 10 ^ 8 = pow-le-pow_right {n = 10} (omega arith) {i = i} {j = 8} (omega arith) in
-      omega (arith, s.small, below)
 
   pub all_digits : length l ≤ i → value ≡ value_from 0 l
   unfolding value_from

@@ -6,8 +6,6 @@ use native.Mathlib.Decide.{ℕ_discrete}
 use native.Mathlib.Omega.{arith}
 use lib.ListN.{length, get_or, set, length-set}
 use lib.Seq.{get_or-set_same, get_or-set_other}
-use Rattle.model.specs.Tables.{table}
-use Rattle.model.proofs.Tables.{table_same, table-get_d}
 
 -- the first i of n elements are f 0, f 1 and so on; d is what stands past the end
 pub record FilledTo {A : Type 0} (f : ℕ → A) (d : A) (n : ℕ) (all : List A) (i : ℕ) : Type 0 where
@@ -25,8 +23,3 @@ module _ {A : Type 0} {f : ℕ → A} {d : A} {n i : ℕ} {all : List A} (s : Fi
       go : (k : ℕ) → k < i + 1 → Dec (k ≡ i) → get_or (set all i a) k d ≡ f k
       go k l (yes z) = ap (λ j. get_or (set all i a) j d) z ∙ get_or-set_same all i a d (omega (arith, s.long)) ∙ e ∙ ap f (sym z)
       go k l (no z) = get_or-set_other all i k a d z ∙ s.at k (omega arith)
-
-  pub all-filled : n ≤ i → all ≡ table n f
-  all-filled h =
-      sym (table-get_d all d) ∙ ap (λ k. table k (λ j. get_or all j d)) s.long
-      ∙ table_same n _ f (λ k l. s.at k (omega arith))

@@ -1,8 +1,9 @@
 -- A line from a place on: its first piece, and the pieces after it. Assumes nothing.
-use Prim.Native.Nat.{ℕ, suc, ◌+◌, ◌≤◌, ◌<◌}
+use Prim.Native.Nat.{ℕ, suc, ◌+◌, ◌≤◌, ◌<◌, max}
 use mathlib.Core.Path.{◌≡◌, refl, ap, ◌∙◌}
 use mathlib.Core.List.{List, ◌∷◌, []}
 use mathlib.Core.Bool.{Bool, true, false, cond}
+use native.Mathlib.Decide.{dec_le}
 use native.Mathlib.Omega.{arith}
 use lib.ListN.{length, get_or, take, drop, drop_of_length-le}
 use borrow.Author.Tests.{eqb-true, eq-eqb, ne_eqb}
@@ -50,6 +51,15 @@ module _ {l : List ℕ} {from at : ℕ} (s : InPiece l from at) where
   ends-at-end h =
       let none : piece_length (drop at l) ≡ 0 = ap piece_length (drop_of_length-le l h) in
       omega (arith, s.end)
+
+  -- no byte of the line is left to pass
+  pub ends-past-end : length l ≤ at → (from ≤ length l → at ≤ length l) → max from (length l) ≡ from + piece_length (drop from l)
+  unfolding piece_length
+  ends-past-end h inside = go (dec_le from (length l))
+    where
+      go : Dec (from ≤ length l) → max from (length l) ≡ from + piece_length (drop from l)
+      go (yes k) = omega (arith, ends-at-end h, inside k)
+      go (no k) = let none : piece_length (drop from l) ≡ 0 = ap piece_length (drop_of_length-le l (omega arith)) in omega (arith, none)
 
 -- a piece ends within the line, before a space or at the line's end
 pub piece-within : (l : List ℕ) → piece_length l ≤ length l

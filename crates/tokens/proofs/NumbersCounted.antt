@@ -6,45 +6,45 @@ use mathlib.Core.Bool.{Bool, true, false}
 use native.Mathlib.Omega.{arith}
 use lib.ListN.{length, take, drop}
 use lib.Seq.{sets, sets-eq, take_at}
-use Rattle.tokens.specs.declared.Number.{Number}
-use Rattle.tokens.specs.declared.Found.{Found}
+use Rattle.std.proofs.Common.{Result, Ok, Err}
+use Rattle.tokens.specs.declared.Fault.{Fault}
 use Rattle.tokens.specs.Pieces.{is_space, pieces, tail, fields_of}
 use Rattle.tokens.specs.Decimal.{number_of, number_then, numbers_in, found_then, found_in}
 
 -- where no field is wrong, as many numbers are found as there are
-pub count_is : (fields : List (List ℕ)) (n : ℕ) → Found.Count n ≡ found_in fields → n ≡ length (numbers_in fields)
+pub count_is : (fields : List (List ℕ)) (n : ℕ) → Ok n ≡ found_in fields → n ≡ length (numbers_in fields)
 unfolding found_in numbers_in
 count_is [] n e = cc
 count_is (field ∷ rest) n e = go (number_of field) (found_in rest) (count_is rest) e
   where
-    go : (x : Number) (f : Found) → ((m : ℕ) → Found.Count m ≡ f → m ≡ length (numbers_in rest)) → Found.Count n ≡ found_then x f
+    go : (x : Result ℕ Fault) (f : Result ℕ Fault) → ((m : ℕ) → Ok m ≡ f → m ≡ length (numbers_in rest)) → Ok n ≡ found_then x f
         → n ≡ length (number_then x (numbers_in rest))
-    go (Number.Is k) (Found.Count m) fewer p = let more-one : n ≡ 1 + m = cc in omega (arith, fewer m refl)
-    go (Number.Is k) (Found.Wrong fault) fewer p = let z : ◌≡◌ {A = ℕ} 0 1 = cc in absurd (omega arith)
-    go (Number.Wrong fault) f fewer p = let z : ◌≡◌ {A = ℕ} 0 1 = cc in absurd (omega arith)
+    go (Ok k) (Ok m) fewer p = let more-one : n ≡ 1 + m = cc in omega (arith, fewer m refl)
+    go (Ok k) (Err fault) fewer p = let z : ◌≡◌ {A = ℕ} 0 1 = cc in absurd (omega arith)
+    go (Err fault) f fewer p = let z : ◌≡◌ {A = ℕ} 0 1 = cc in absurd (omega arith)
 
 -- ---- a number takes two bytes of its line, a digit and the space before it
 
 -- after a number the others are found
-others-found : (field : List ℕ) (rest : List (List ℕ)) (n : ℕ) → Found.Count n ≡ found_in (field ∷ rest) → (m : ℕ) × (Found.Count m ≡ found_in rest) × (n ≡ 1 + m)
+others-found : (field : List ℕ) (rest : List (List ℕ)) (n : ℕ) → Ok n ≡ found_in (field ∷ rest) → (m : ℕ) × (Ok m ≡ found_in rest) × (n ≡ 1 + m)
 unfolding found_in
 others-found field rest n e = go (number_of field) (found_in rest) refl e
   where
-    go : (x : Number) (f : Found) → found_in rest ≡ f → Found.Count n ≡ found_then x f → (m : ℕ) × (Found.Count m ≡ found_in rest) × (n ≡ 1 + m)
-    go (Number.Is k) (Found.Count m) q p = (m, sym q, cc)
-    go (Number.Is k) (Found.Wrong fault) q p = let z : ◌≡◌ {A = ℕ} 0 1 = cc in absurd (omega arith)
-    go (Number.Wrong fault) f q p = let z : ◌≡◌ {A = ℕ} 0 1 = cc in absurd (omega arith)
+    go : (x : Result ℕ Fault) (f : Result ℕ Fault) → found_in rest ≡ f → Ok n ≡ found_then x f → (m : ℕ) × (Ok m ≡ found_in rest) × (n ≡ 1 + m)
+    go (Ok k) (Ok m) q p = (m, sym q, cc)
+    go (Ok k) (Err fault) q p = let z : ◌≡◌ {A = ℕ} 0 1 = cc in absurd (omega arith)
+    go (Err fault) f q p = let z : ◌≡◌ {A = ℕ} 0 1 = cc in absurd (omega arith)
 
-empty-is-wrong : (rest : List (List ℕ)) (n : ℕ) → Found.Count n ≡ found_in ([] ∷ rest) → ⊥
+empty-is-wrong : (rest : List (List ℕ)) (n : ℕ) → Ok n ≡ found_in ([] ∷ rest) → ⊥
 unfolding found_in number_of
 empty-is-wrong rest n e = let z : ◌≡◌ {A = ℕ} 0 1 = cc in absurd (omega arith)
 
 -- of the pieces after a line's word, and of all its pieces
 record Most (line : List ℕ) : Type 0 where
-  pub after-word : (n : ℕ) → Found.Count n ≡ found_in (tail (pieces line)) → 2 * n ≤ length line
-  pub with_word : (n : ℕ) → Found.Count n ≡ found_in (pieces line) → 2 * n ≤ length line + 1
+  pub after-word : (n : ℕ) → Ok n ≡ found_in (tail (pieces line)) → 2 * n ≤ length line
+  pub with_word : (n : ℕ) → Ok n ≡ found_in (pieces line) → 2 * n ≤ length line + 1
 
-none_in : (n : ℕ) → Found.Count n ≡ found_in [] → n ≡ 0
+none_in : (n : ℕ) → Ok n ≡ found_in [] → n ≡ 0
 unfolding found_in
 none_in n e = cc
 
@@ -61,7 +61,7 @@ module _ (b : ℕ) (rest : List ℕ) (m : Most rest) where
 
   byte_more : (p : List ℕ) (ps : List (List ℕ)) → pieces rest ≡ p ∷ ps → pieces (b ∷ rest) ≡ (b ∷ p) ∷ ps → Most (b ∷ rest)
   byte_more p ps q e =
-      let others : (k : ℕ) → Found.Count k ≡ found_in ps → 2 * k ≤ length rest = λ k f. m.after-word k (f ∙ ap (λ l. found_in (tail l)) (sym q)) in
+      let others : (k : ℕ) → Ok k ≡ found_in ps → 2 * k ≤ length rest = λ k f. m.after-word k (f ∙ ap (λ l. found_in (tail l)) (sym q)) in
       record {
         after-word = λ n f. omega (arith, others n (f ∙ ap (λ l. found_in (tail l)) e));
         with_word = λ n f. let o = others-found (b ∷ p) ps n (f ∙ ap found_in e) in omega (arith, others o.0 o.1, o.2);
@@ -85,7 +85,7 @@ most (b ∷ rest) = go (is_space b) refl (pieces rest) refl (most rest)
     go false e (p ∷ ps) q m = byte_more b rest m p ps q (rw (e, q))
 
 -- so a line has at most half as many numbers as bytes
-pub count_most : (line : List ℕ) (n : ℕ) → Found.Count n ≡ found_in (fields_of line) → 2 * n ≤ length line
+pub count_most : (line : List ℕ) (n : ℕ) → Ok n ≡ found_in (fields_of line) → 2 * n ≤ length line
 count_most line = (most line).after-word
 
 -- ---- what is kept at the start of a list, if it has room there

@@ -5,24 +5,23 @@ use mathlib.Core.List.{List, ◌∷◌, [], ◌++◌, append-nil, append_assoc}
 use native.Mathlib.Nat.{add-zero, zero-add, add_assoc}
 use native.Mathlib.Omega.{arith}
 use lib.ListN.{length, get_or, take, drop, set, length-append, length-drop, drop_of_length-le}
-use lib.Seq.{sets, length-sets, drop-drop, get_or-drop}
+use lib.Seq.{sets, drop-drop, get_or-drop}
 use Rattle.calls.proofs.Stores.{sets-append}
 use Rattle.tokens.specs.declared.Fault.{Fault}
-use Rattle.tokens.specs.declared.Number.{Number}
-use Rattle.tokens.specs.declared.Found.{Found}
+use Rattle.std.proofs.Common.{Result, Ok, Err}
 use Rattle.tokens.specs.Pieces.{pieces, tail, fields_of, piece_length}
 use Rattle.tokens.specs.Decimal.{number_of, number_then, numbers_in, more, found_then, found_in}
 use Rattle.tokens.proofs.FirstPiece.{first_piece, piece-within, piece-before-space, after-space}
 
 -- ---- so many numbers more
 
-more-none : (f : Found) → more 0 f ≡ f
-more-none (Found.Count n) = ap Found.Count (zero-add n)
-more-none (Found.Wrong fault) = refl
+more-none : (f : Result ℕ Fault) → more 0 f ≡ f
+more-none (Ok n) = ap Ok (zero-add n)
+more-none (Err fault) = refl
 
-more-more : (k : ℕ) (f : Found) → more (k + 1) f ≡ more k (more 1 f)
-more-more k (Found.Count n) = ap Found.Count (add_assoc k 1 n)
-more-more k (Found.Wrong fault) = refl
+more-more : (k : ℕ) (f : Result ℕ Fault) → more (k + 1) f ≡ more k (more 1 f)
+more-more k (Ok n) = ap Ok (add_assoc k 1 n)
+more-more k (Err fault) = refl
 
 -- ---- what is read before a place of the line, at which a space stands, or the line's end
 
@@ -80,7 +79,7 @@ module _ {line kept₀ kept : List ℕ} {count at : ℕ} (s : ReadTo line kept�
     pub field-ends : (at + 1 ≤ end) × (end ≤ length line)
     field-ends = (omega (arith, ends), end-inside line (at + 1) end (omega arith) ends)
 
-    pub one-read : {n : ℕ} → Number.Is n ≡ number_of field → ReadTo line kept₀ (set kept count n) (count + 1) end
+    pub one-read : {n : ℕ} → Ok n ≡ number_of field → ReadTo line kept₀ (set kept count n) (count + 1) end
     unfolding numbers_in found_in
     one-read {n} e = record {
       before = s.before ++ (n ∷ []);
@@ -102,8 +101,8 @@ module _ {line kept₀ kept : List ℕ} {count at : ℕ} (s : ReadTo line kept�
     }
 
     -- a field that is no number
-    pub wrong-read : {fault : Fault} → Number.Wrong fault ≡ number_of field
-        → (Found.Wrong fault ≡ found_in (fields_of line)) × (kept ≡ sets kept₀ 0 (numbers_in (fields_of line)))
+    pub wrong-read : {fault : Fault} → Err fault ≡ number_of field
+        → (Err fault ≡ found_in (fields_of line)) × (kept ≡ sets kept₀ 0 (numbers_in (fields_of line)))
     unfolding numbers_in found_in
     wrong-read {fault} e =
         let none = s.numbers ∙ ap (λ fs. s.before ++ numbers_in fs) fields-there
@@ -112,15 +111,12 @@ module _ {line kept₀ kept : List ℕ} {count at : ℕ} (s : ReadTo line kept�
           s.kept_are ∙ ap (sets kept₀ 0) (sym none),
         )
 
-  pub kept-length : length kept ≡ length kept₀
-  kept-length = ap length s.kept_are ∙ length-sets kept₀ 0 s.before
-
   -- the line's end
-  pub all_read : length line ≤ at → (Found.Count count ≡ found_in (fields_of line)) × (kept ≡ sets kept₀ 0 (numbers_in (fields_of line)))
+  pub all_read : length line ≤ at → (Ok count ≡ found_in (fields_of line)) × (kept ≡ sets kept₀ 0 (numbers_in (fields_of line)))
   unfolding numbers_in found_in pieces
   all_read h =
       let rest : fields_of (drop at line) ≡ [] = ap fields_of (drop_of_length-le line h) in
       let none = s.numbers ∙ ap (λ fs. s.before ++ numbers_in fs) rest ∙ append-nil s.before in (
-        sym (s.found ∙ ap (λ fs. more count (found_in fs)) rest ∙ ap Found.Count (add-zero count)),
+        sym (s.found ∙ ap (λ fs. more count (found_in fs)) rest ∙ ap Ok (add-zero count)),
         s.kept_are ∙ ap (sets kept₀ 0) (sym none),
       )

@@ -1,9 +1,9 @@
 -- Hexadecimal digits of either case, two to a byte. Assumes nothing.
-use Rattle.std.specs.Prelude.{ℕ, ◌+◌, ◌-◌, ◌*◌, ◌/◌, ◌%◌, List, [], Bool, not, cond, length, get_or, eqb}
+use Rattle.std.specs.Prelude.{ℕ, ◌+◌, ◌-◌, ◌*◌, ◌/◌, ◌%◌, List, [], Bool, not, cond, length, get_or, eqb, Option, Some, None, Result, Ok, Err}
 use Prim.Native.Char.{code}
 use Rattle.model.specs.Tables.{table, within}
+use Rattle.tokens.specs.declared.Fault.{Fault}
 use Rattle.tokens.specs.declared.Fault.TheVariants.{NoHexDigit, OddDigits}
-use Rattle.tokens.specs.declared.Found.{Found}
 use Rattle.tokens.specs.Pieces.{each}
 
 -- a byte as a digit, 0 to 15, and 16 where it is none
@@ -17,6 +17,10 @@ hex_digit b =
 abbrev pub is_hex_digit : ℕ → Bool
 is_hex_digit b = not (eqb (hex_digit b) 16)
 
+-- a byte as a digit, if it is one
+abbrev pub digit_if : ℕ → Option ℕ
+digit_if b = cond (is_hex_digit b) (Some (hex_digit b)) None
+
 -- the byte of the digits 2i and 2i + 1
 abbrev pub byte_at : List ℕ → ℕ → ℕ
 byte_at digits i = 16 * hex_digit (get_or digits (2 * i) 0) + hex_digit (get_or digits (2 * i + 1) 0)
@@ -26,13 +30,13 @@ abbrev pub bytes_of : List ℕ → List ℕ
 bytes_of digits = table (length digits / 2) (byte_at digits)
 
 -- RULES 20.5 and 20.6: how many bytes some digits are, or what is wrong with them: a byte that is no digit, or a digit left over
-unfoldable pub found_bytes : List ℕ → Found
+unfoldable pub found_bytes : List ℕ → Result ℕ Fault
 found_bytes digits =
-    cond (not (each is_hex_digit digits)) (Found.Wrong NoHexDigit)
-    (cond (not (eqb (length digits % 2) 0)) (Found.Wrong OddDigits)
-    (Found.Count (length digits / 2)))
+    cond (not (each is_hex_digit digits)) (Err NoHexDigit)
+    (cond (not (eqb (length digits % 2) 0)) (Err OddDigits)
+    (Ok (length digits / 2)))
 
 -- the bytes that are kept: none where something is wrong
-abbrev pub kept_of : Found → List ℕ → List ℕ
-kept_of (Found.Count n) bytes = bytes
-kept_of (Found.Wrong fault) bytes = []
+abbrev pub kept_of : Result ℕ Fault → List ℕ → List ℕ
+kept_of (Ok n) bytes = bytes
+kept_of (Err fault) bytes = []

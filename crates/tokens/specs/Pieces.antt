@@ -1,5 +1,6 @@
 -- What stands between the blanks of a line. RULES 20.2. Assumes nothing.
-use Rattle.std.specs.Prelude.{ℕ, suc, ◌+◌, List, ◌∷◌, [], Bool, true, ◌&&◌, cond, take, drop, eqb}
+use Rattle.std.specs.Prelude.{ℕ, suc, ◌+◌, List, ◌∷◌, [], Bool, cond, take, drop, eqb}
+use Rattle.std.specs.List.{list_all}
 use Prim.Native.Char.{code}
 
 abbrev pub is_space : ℕ → Bool
@@ -36,6 +37,5 @@ abbrev pub after_word : List ℕ → List ℕ
 after_word line = drop (piece_length line + 1) line
 
 -- whether every byte passes a test
-unfoldable pub each : (ℕ → Bool) → List ℕ → Bool
-each f [] = true
-each f (b ∷ rest) = f b && each f rest
+abbrev pub each : (ℕ → Bool) → List ℕ → Bool
+each = list_all

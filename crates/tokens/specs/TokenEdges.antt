@@ -1,10 +1,9 @@
 -- Edges of a line's word, fields, numbers and digits, a table each. Assumes nothing.
-use Rattle.std.specs.Prelude.{ℕ, ◌≡◌, List, ◌∷◌, [], map}
+use Rattle.std.specs.Prelude.{ℕ, ◌≡◌, List, ◌∷◌, [], map, Result, Ok, Err}
 use Prim.Native.String.{String}
 use Rattle.model.specs.Listing.{text}
+use Rattle.tokens.specs.declared.Fault.{Fault}
 use Rattle.tokens.specs.declared.Fault.TheVariants.{Missing, NoDigit, LongNumber, NoHexDigit, OddDigits}
-use Rattle.tokens.specs.declared.Number.{Number}
-use Rattle.tokens.specs.declared.Found.{Found}
 use Rattle.tokens.specs.Pieces.{word_of, fields_of, after_word}
 use Rattle.tokens.specs.Decimal.{number_of, numbers_in, found_in}
 use Rattle.tokens.specs.Hexadecimal.{bytes_of, found_bytes}
@@ -43,10 +42,10 @@ pub record PartsPass (edges : List Parts) : Type 0 where
 
 pub record Field : Type 0 where
   pub field : String
-  pub number : Number
+  pub number : Result ℕ Fault
 
 abbrev is : String → ℕ → Field
-is field n = record { field = field; number = Number.Is n }
+is field n = record { field = field; number = Ok n }
 
 unfoldable pub field_edges : List Field
 field_edges =
@@ -57,16 +56,16 @@ field_edges =
     -- nine digits, zeros in front among them
     ∷ is "999999999" 999999999
     ∷ is "000000004" 4
-    ∷ record { field = "0000000004"; number = Number.Wrong LongNumber }
-    ∷ record { field = "1000000000"; number = Number.Wrong LongNumber }
-    ∷ record { field = ""; number = Number.Wrong Missing }
+    ∷ record { field = "0000000004"; number = Err LongNumber }
+    ∷ record { field = "1000000000"; number = Err LongNumber }
+    ∷ record { field = ""; number = Err Missing }
     -- a sign, a letter, and the two bytes beside the digits
-    ∷ record { field = "+4"; number = Number.Wrong NoDigit }
-    ∷ record { field = "4a"; number = Number.Wrong NoDigit }
-    ∷ record { field = "/"; number = Number.Wrong NoDigit }
-    ∷ record { field = ":"; number = Number.Wrong NoDigit }
+    ∷ record { field = "+4"; number = Err NoDigit }
+    ∷ record { field = "4a"; number = Err NoDigit }
+    ∷ record { field = "/"; number = Err NoDigit }
+    ∷ record { field = ":"; number = Err NoDigit }
     -- which is told before the number of digits
-    ∷ record { field = "1234567890x"; number = Number.Wrong NoDigit }
+    ∷ record { field = "1234567890x"; number = Err NoDigit }
     ∷ []
 
 abbrev pub FieldsPass : List Field → Type 0
@@ -76,17 +75,17 @@ FieldsPass edges = map (λ e. number_of (text e.field)) edges ≡ map (λ e. e.n
 
 pub record Numbered : Type 0 where
   pub line : String
-  pub found : Found
+  pub found : Result ℕ Fault
   pub numbers : List ℕ
 
 unfoldable pub numbered_edges : List Numbered
 numbered_edges =
-    record { line = "plan"; found = Found.Count 0; numbers = [] }
-    ∷ record { line = "plan 4 02 13"; found = Found.Count 3; numbers = 4 ∷ 2 ∷ 13 ∷ [] }
-    ∷ record { line = "plan "; found = Found.Wrong Missing; numbers = [] }
-    ∷ record { line = "plan 4 x  5"; found = Found.Wrong NoDigit; numbers = 4 ∷ [] }
-    ∷ record { line = "plan 4 5  x"; found = Found.Wrong Missing; numbers = 4 ∷ 5 ∷ [] }
-    ∷ record { line = "plan 1234567890 x"; found = Found.Wrong LongNumber; numbers = [] }
+    record { line = "plan"; found = Ok 0; numbers = [] }
+    ∷ record { line = "plan 4 02 13"; found = Ok 3; numbers = 4 ∷ 2 ∷ 13 ∷ [] }
+    ∷ record { line = "plan "; found = Err Missing; numbers = [] }
+    ∷ record { line = "plan 4 x  5"; found = Err NoDigit; numbers = 4 ∷ [] }
+    ∷ record { line = "plan 4 5  x"; found = Err Missing; numbers = 4 ∷ 5 ∷ [] }
+    ∷ record { line = "plan 1234567890 x"; found = Err LongNumber; numbers = [] }
     ∷ []
 
 pub record NumberedPass (edges : List Numbered) : Type 0 where
@@ -97,23 +96,23 @@ pub record NumberedPass (edges : List Numbered) : Type 0 where
 
 pub record Digits : Type 0 where
   pub digits : String
-  pub found : Found
+  pub found : Result ℕ Fault
 
 unfoldable pub digit_edges : List Digits
 digit_edges =
-    record { digits = ""; found = Found.Count 0 }
-    ∷ record { digits = "0aA9fF"; found = Found.Count 3 }
-    ∷ record { digits = "140"; found = Found.Wrong OddDigits }
+    record { digits = ""; found = Ok 0 }
+    ∷ record { digits = "0aA9fF"; found = Ok 3 }
+    ∷ record { digits = "140"; found = Err OddDigits }
     -- the bytes beside the digits and the letters, and a blank
-    ∷ record { digits = "0/"; found = Found.Wrong NoHexDigit }
-    ∷ record { digits = "0:"; found = Found.Wrong NoHexDigit }
-    ∷ record { digits = "0@"; found = Found.Wrong NoHexDigit }
-    ∷ record { digits = "0G"; found = Found.Wrong NoHexDigit }
-    ∷ record { digits = "0`"; found = Found.Wrong NoHexDigit }
-    ∷ record { digits = "0g"; found = Found.Wrong NoHexDigit }
-    ∷ record { digits = "0 "; found = Found.Wrong NoHexDigit }
+    ∷ record { digits = "0/"; found = Err NoHexDigit }
+    ∷ record { digits = "0:"; found = Err NoHexDigit }
+    ∷ record { digits = "0@"; found = Err NoHexDigit }
+    ∷ record { digits = "0G"; found = Err NoHexDigit }
+    ∷ record { digits = "0`"; found = Err NoHexDigit }
+    ∷ record { digits = "0g"; found = Err NoHexDigit }
+    ∷ record { digits = "0 "; found = Err NoHexDigit }
     -- which is told before an odd number of them
-    ∷ record { digits = "g"; found = Found.Wrong NoHexDigit }
+    ∷ record { digits = "g"; found = Err NoHexDigit }
     ∷ []
 
 abbrev pub DigitsPass : List Digits → Type 0

@@ -5,8 +5,7 @@ mod decimal;
 mod hexadecimal;
 mod pieces;
 
-ghost use Rattle.std.specs.Prelude.{◌≡◌};
-ghost use Rattle.model.specs.Tables.{within};
+ghost use Rattle.std.specs.Prelude.{◌≡◌, slice_set};
 
 pub use decimal::{read_number, read_numbers};
 pub use hexadecimal::read_bytes;
@@ -16,7 +15,7 @@ pub use pieces::piece_end;
 pub const MOST_DIGITS: usize = 9;
 
 // What is wrong with a field.
-#[derive(Clone, Copy)]
+#[derive(Clone, Copy, Debug, PartialEq, Eq)]
 pub enum Fault {
     // Nothing stands after a space.
     Missing,
@@ -30,26 +29,11 @@ pub enum Fault {
     OddDigits,
 }
 
-// What a number's field comes to.
-#[derive(Clone, Copy)]
-pub enum Number {
-    Is(usize),
-    Wrong(Fault),
-}
-
-// What a line's fields come to: how many numbers or bytes there are, or the first fault.
-#[derive(Clone, Copy)]
-pub enum Found {
-    Count(usize),
-    Wrong(Fault),
-}
-
-// Whether a byte lies within low to high.
-fn inside(low: u8, high: u8, byte: u8) -> bool
-    ensures { result ≡ within low high byte }
+// Keeps a value at its place, if there is such a place.
+fn keep<T: Copy>(value: T, kept: &mut [T], place: usize)
+    ensures { kept.new ≡ slice_set kept.old place value }
 {
-    if byte < low {
-        return false;
+    if place < kept.len() {
+        kept[place] = value;
     }
-    byte <= high
 }

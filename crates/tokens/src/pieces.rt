@@ -6,9 +6,10 @@ ghost use Rattle.tokens.specs.Pieces.{piece_length};
 pub fn piece_end(text: &[u8], from: usize) -> usize
     ensures { result ≡ from + piece_length (drop from text.now) }
 {
-    let mut at = from;
-    while at < text.len() && text[at] != b' ' {
-        at += 1;
+    for at in from..text.len() {
+        if text[at] == b' ' {
+            return at;
+        }
     }
-    at
+    from.max(text.len())
 }

@@ -37,10 +37,8 @@ use Rattle.link.specs.Steps.{read_in, number_of}
 use Rattle.link.proofs.FlowBytes.{flows-at}
 use Rattle.link.proofs.Readings.{read_count}
 use Rattle.link.proofs.Stored.{stored-reading}
-use Rattle.trace.specs.declared.told.Named.{Named}
 use Rattle.trace.specs.declared.told.Said.{Said}
 use Rattle.trace.specs.Trace.{bit, line_of, about, answered, flow_numbers, held_last, flow_line, nobodys, call_numbers, credit_line, flow_lines, tick_line, tick_lines, reset_lines, said_for}
-use Rattle.trace.specs.Written.{named_numbers}
 
 bit-back : (x : ℕ) → x ≤ 1 → x ≡ bit (not (eqb x 0))
 bit-back x h = go (ℕ_discrete x 0)
@@ -60,14 +58,9 @@ last-few {w} v e =
 
 -- ---- a line, said in another way
 
-pub line-told : (letter number value kind a b c d : ℕ) (l : model.Link) (i p : ℕ) {xs : List ℕ} → xs ≡ about l i p
-    → line_of letter (number ∷ value ∷ kind ∷ a ∷ b ∷ c ∷ d ∷ xs) ≡ answered letter number value (kind ∷ a ∷ b ∷ c ∷ d ∷ []) l i p
-unfolding answered
-line-told letter number value kind a b c d l i p e = ap (λ (xs : List ℕ). line_of letter (number ∷ value ∷ kind ∷ a ∷ b ∷ c ∷ d ∷ xs)) e
-
-pub answered-as : (l : model.Link) {a a' : Said} {c c' : Named} {i i' p p' : ℕ} → a ≡ a' → c ≡ c' → i ≡ i' → p ≡ p'
-    → answered a.letter a.number a.value (named_numbers c) l i p ≡ answered a'.letter a'.number a'.value (named_numbers c') l i' p'
-answered-as l e f g h = λ k. answered (e k).letter (e k).number (e k).value (named_numbers (f k)) l (g k) (h k)
+pub answered-as : (l : model.Link) {a a' : Said} {c c' : List ℕ} {i i' p p' : ℕ} → a ≡ a' → c ≡ c' → i ≡ i' → p ≡ p'
+    → answered a.letter a.number a.value c l i p ≡ answered a'.letter a'.number a'.value c' l i' p'
+answered-as l e f g h = λ k. answered (e k).letter (e k).number (e k).value (f k) l (g k) (h k)
 
 -- ---- a credit that is taken is dated a position
 

@@ -15,7 +15,7 @@ use Rattle.replies.specs.Lines.{spaced}
 use Rattle.trace.specs.Trace.{line_of}
 use Rattle.trace.specs.Written.{Lines}
 
-flat_append : {A : Type 0} (g : A → List ℕ) (xs ys : List A) → flat_map g (xs ++ ys) ≡ flat_map g xs ++ flat_map g ys
+pub flat_append : {A : Type 0} (g : A → List ℕ) (xs ys : List A) → flat_map g (xs ++ ys) ≡ flat_map g xs ++ flat_map g ys
 unfolding flat_map
 flat_append g [] ys = refl
 flat_append g (x ∷ xs) ys = ap (g x ++◌) (flat_append g xs ys) ∙ sym (append_assoc (g x) (flat_map g xs) (flat_map g ys))
@@ -59,11 +59,11 @@ module _ {numbers before middle : List ℕ} {at next k : ℕ} (v : NumbersTo num
 
 -- ---- a line
 
-pub one_line : (letter : ℕ) (numbers out : List ℕ) (at : ℕ) {after : List ℕ} {last : ℕ}
-    → Lines (flat_map spaced numbers) (set out at letter) after (at + 1) last (21 * length numbers)
-    → Lines (line_of letter numbers) out (set after last 10) at (last + 1) (21 * length numbers + 2)
+pub one_line : (letter : ℕ) (numbers out : List ℕ) (at : ℕ) {after : List ℕ} {last most : ℕ}
+    → Lines (flat_map spaced numbers) (set out at letter) after (at + 1) last most
+    → Lines (line_of letter numbers) out (set after last 10) at (last + 1) (most + 2)
 unfolding line_of
-one_line letter numbers out at {after} {last} v = record {
+one_line letter numbers out at {after} {last} {most} v = record {
   put = puts_then (puts_one letter out at) (puts_then v.put (puts_one 10 after last));
   short = omega (arith, v.short);
 }
@@ -76,6 +76,15 @@ lines-as e h v = record { put = puts-same e v.put; short = omega (arith, v.short
 pub lines_then : {xs ys before middle after : List ℕ} {at next last m n : ℕ}
     → Lines xs before middle at next m → Lines ys middle after next last n → Lines (xs ++ ys) before after at last (m + n)
 lines_then v u = record { put = puts_then v.put u.put; short = omega (arith, v.short, u.short) }
+
+-- the line of an answer, whose numbers come in three parts
+pub answer_line : (letter number value : ℕ) (call told out : List ℕ) (at : ℕ) {after : List ℕ} {last most : ℕ}
+    → Lines (flat_map spaced (number ∷ value ∷ []) ++ flat_map spaced call ++ flat_map spaced told) (set out at letter) after (at + 1) last most
+    → Lines (line_of letter (number ∷ value ∷ call ++ told)) out (set after last 10) at (last + 1) (most + 2)
+answer_line letter number value call told out at v =
+    let said : List ℕ = number ∷ value ∷ [] in
+    let joined = ap (λ (xs : List ℕ). xs ++ flat_map spaced told) (sym (flat_append spaced said call)) ∙ sym (flat_append spaced (said ++ call) told) in
+    one_line letter (said ++ call ++ told) out at (lines-as joined (omega arith) v)
 
 -- ---- the lines of the first i of n things, 86 bytes at most for each of them
 

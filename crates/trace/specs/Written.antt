@@ -1,21 +1,22 @@
 -- What a call on a state leaves, and what was written of it. Assumes nothing.
-use Rattle.std.specs.Prelude.{ℕ, ◌+◌, ◌≤◌, ◌<◌, ◌≡◌, List, ◌∷◌, [], length}
+use Rattle.std.specs.Prelude.{ℕ, ◌+◌, ◌≤◌, ◌<◌, ◌≡◌, List, length}
 use Rattle.plan.specs.declared.Plan.{Plan}
 use Rattle.window.specs.declared.Window.{Window}
 use Rattle.calls.specs.Lines.{Puts}
 use Rattle.link.specs.Given.{StateIn}
 use Rattle.link.specs.Steps.{read_in}
-use Rattle.trace.specs.declared.told.Named.{Named}
-use Rattle.trace.specs.declared.told.Part.{Part}
+use Rattle.trace.specs.declared.told.Kind.{Kind}
+use Rattle.trace.specs.declared.told.Kind.TheVariants.{Request, Credit, Tick, Lend, Reset, Burst}
 use Rattle.trace.specs.Trace.{Traced}
 
--- what is told of a flow and a position, as numbers
-abbrev pub part_numbers : Part → List ℕ
-part_numbers x = x.injection ∷ x.remainder ∷ x.number ∷ x.ahead ∷ x.owner ∷ x.held ∷ x.last ∷ []
-
--- a call's numbers
-abbrev pub named_numbers : Named → List ℕ
-named_numbers c = c.kind ∷ c.first ∷ c.second ∷ c.third ∷ c.fourth ∷ []
+-- RULES 26.5: the number of a kind of call
+abbrev pub kind_number : Kind → ℕ
+kind_number Request = 1
+kind_number Credit = 2
+kind_number Tick = 3
+kind_number Lend = 4
+kind_number Reset = 5
+kind_number Burst = 6
 
 -- room for all lines of a call
 abbrev pub room : ℕ

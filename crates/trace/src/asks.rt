@@ -3,11 +3,10 @@ ghost use Rattle.std.specs.Prelude.{◌+◌, ◌≤◌, ◌<◌, length, ◌≡�
 ghost use Rattle.window.specs.Window.{Proper};
 ghost use Rattle.link.specs.Given.{StateIn};
 ghost use Rattle.link.specs.Steps.{read_in};
-ghost use Rattle.trace.specs.Trace.{ask_line, reply_letter, traced_request, traced_word, traced_past};
-ghost use Rattle.trace.specs.Written.{Lines, Told};
-ghost use Rattle.model.specs.Word.{flow_of, quantum_of, departure_of, destination_of};
+ghost use Rattle.trace.specs.Trace.{ask_line, reply_letter, traced_request, traced_word, traced_past, word_numbers};
+ghost use Rattle.trace.specs.Written.{Lines, Told, kind_number};
 
-use crate::told::{Line, Named, answer_of, put_answer};
+use crate::told::{Kind, Line, Numbers, answer_of, put_answer};
 use burst::reply_to;
 use link::request::Reply;
 use plan::Plan;
@@ -15,17 +14,17 @@ use state::State;
 use window::Window;
 
 // The numbers of a word.
-fn word_of(kind: usize, word: u32) -> Named
-    ensures { result ≡ record { kind = kind; first = flow_of word; second = quantum_of word; third = departure_of word; fourth = destination_of word } }
+fn word_of(kind: Kind, word: u32) -> Numbers
+    ensures { result ≡ word_numbers (kind_number kind) word }
 {
     let fields = word::split(word);
-    Named {
-        kind,
-        first: fields.flow as usize,
-        second: fields.quantum as usize,
-        third: fields.departure as usize,
-        fourth: fields.destination as usize,
-    }
+    [
+        kind.number(),
+        usize::from(fields.flow),
+        usize::from(fields.quantum),
+        usize::from(fields.departure),
+        usize::from(fields.destination),
+    ]
 }
 
 // The position that a request's line is about.
@@ -37,14 +36,14 @@ fn place_of(w: Window, reply: Reply) -> usize
     if reply.number != 0 {
         return w.current;
     }
-    reply.position as usize
+    usize::from(reply.position)
 }
 
 // A word that was asked for: the letter and the kind of its line, and what its request came to.
 #[derive(Clone, Copy)]
 struct Asked {
     letter: u8,
-    kind: usize,
+    kind: Kind,
     word: u32,
     reply: Reply,
 }
@@ -52,17 +51,21 @@ struct Asked {
 // Writes the line of a word.
 fn put_ask(s: &State, plan: Plan, w: Window, asked: Asked, out: &mut [u8], at: usize) -> usize
     requires { StateIn plan w s.now × (at + 384 ≤ length out.old) }
-    ensures { Lines (ask_line asked.letter asked.kind asked.word (read_in plan s.now) asked.reply)
+    ensures { Lines (ask_line asked.letter (kind_number asked.kind) asked.word (read_in plan s.now) asked.reply)
         out.old out.new at result 384 }
 {
     let reply = asked.reply;
     let call = word_of(asked.kind, asked.word);
     let position = place_of(w, reply);
-    let said = answer_of(asked.letter, reply.number as usize, reply.position as usize);
+    let said = answer_of(
+        asked.letter,
+        usize::from(reply.number),
+        usize::from(reply.position),
+    );
     let line = Line {
         said,
         call,
-        flow: call.first,
+        flow: call[1],
         position,
     };
     put_answer(s, plan, w, line, out, at)
@@ -72,10 +75,7 @@ fn put_ask(s: &State, plan: Plan, w: Window, asked: Asked, out: &mut [u8], at: u
 fn letter_of(reply: Reply) -> u8
     ensures { result ≡ reply_letter reply.number }
 {
-    if reply.number != 0 {
-        return b'R';
-    }
-    b'G'
+    if reply.number != 0 { b'R' } else { b'G' }
 }
 
 // A request.
@@ -94,7 +94,7 @@ pub(crate) fn ask(
     let reply = reply_to(s, plan, w, word);
     let asked = Asked {
         letter: letter_of(reply),
-        kind: 1,
+        kind: Kind::Request,
         word,
         reply,
     };
@@ -117,7 +117,7 @@ pub(crate) fn ask_in_burst(
     let reply = reply_to(s, plan, w, word);
     let asked = Asked {
         letter: b'B',
-        kind: 6,
+        kind: Kind::Burst,
         word,
         reply,
     };
@@ -143,7 +143,7 @@ pub(crate) fn ask_past_burst(
     };
     let asked = Asked {
         letter: b'B',
-        kind: 6,
+        kind: Kind::Burst,
         word,
         reply,
     };

@@ -5,7 +5,7 @@ ghost use Rattle.link.specs.Steps.{read_in};
 ghost use Rattle.trace.specs.Trace.{traced_credit};
 ghost use Rattle.trace.specs.Written.{Told};
 
-use crate::told::{Line, answer_of, call_of, put_answer};
+use crate::told::{Kind, Line, answer_of, call_of, put_answer};
 use link::credit::credit;
 use plan::Plan;
 use state::State;
@@ -25,10 +25,10 @@ pub(crate) fn give(
         out.old out.new at result }
 {
     let number = credit(s, plan, w, flow, position);
-    let call = call_of(2, flow, position);
+    let call = call_of(Kind::Credit, flow, position);
     if number != 0 {
         let refused = Line {
-            said: answer_of(b'R', number as usize, 0),
+            said: answer_of(b'R', usize::from(number), 0),
             call,
             flow,
             position: w.current,

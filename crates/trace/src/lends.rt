@@ -5,7 +5,7 @@ ghost use Rattle.link.specs.Steps.{read_in};
 ghost use Rattle.trace.specs.Trace.{traced_lend};
 ghost use Rattle.trace.specs.Written.{Told};
 
-use crate::told::{Line, Said, call_of, put_answer, spoken};
+use crate::told::{Kind, Line, Said, call_of, put_answer, spoken};
 use link::lend::lend;
 use plan::Plan;
 use state::State;
@@ -15,10 +15,7 @@ use window::Window;
 fn lent_to(a: Said, count: usize) -> usize
     ensures { result ≡ cond (eqb a.number 0) a.value count }
 {
-    if a.number != 0 {
-        return count;
-    }
-    a.value
+    if a.number != 0 { count } else { a.value }
 }
 
 pub(crate) fn hand_on(
@@ -38,7 +35,7 @@ pub(crate) fn hand_on(
     let line = Line {
         said,
         flow: lent_to(said, plan.count),
-        call: call_of(4, mask as usize, 0),
+        call: call_of(Kind::Lend, usize::from(mask), 0),
         position: w.current,
     };
     put_answer(s, plan, w, line, out, at)

@@ -12,25 +12,23 @@ fn put_entry(e: Entry, out: &mut [u8], at: usize) -> usize
     ensures { Lines (entry_line (entry_for e)) out.old out.new at result 86 }
 {
     let numbers = [
-        e.share as usize,
-        e.cells as usize,
-        e.source as usize,
-        e.destination as usize,
+        usize::from(e.share),
+        usize::from(e.cells),
+        usize::from(e.source),
+        usize::from(e.destination),
     ];
     put_line(b'E', &numbers, out, at)
 }
 
 // Writes the lines of a plan's entries.
+#[tactic(auto, using(crate::proofs::LinkTold::count_most))]
 fn put_entries(plan: Plan, out: &mut [u8], at: usize) -> usize
     requires { Valid plan × (at + 1376 ≤ length out.old) }
     ensures { Lines (entry_lines (plan_for plan) plan.count) out.old out.new at result 1376 }
 {
     let mut next = at;
-    let mut i = 0;
-    while i < plan.count {
-        let e = plan.entries[i];
-        next = put_entry(e, out, next);
-        i += 1;
+    for e in &plan.entries[..plan.count] {
+        next = put_entry(*e, out, next);
     }
     next
 }

@@ -5,7 +5,7 @@ ghost use Rattle.link.specs.Steps.{read_in};
 ghost use Rattle.trace.specs.Trace.{traced_reset};
 ghost use Rattle.trace.specs.Written.{Told};
 
-use crate::told::{Line, call_of, put_answer, put_flows, spoken};
+use crate::told::{Kind, Line, call_of, put_answer, put_flows, spoken};
 use link::reset::reset;
 use plan::Plan;
 use state::State;
@@ -20,7 +20,7 @@ pub(crate) fn reset_step(s: &mut State, plan: Plan, w: Window, out: &mut [u8], a
     let said = spoken(answer);
     let line = Line {
         said,
-        call: call_of(5, 0, 0),
+        call: call_of(Kind::Reset, 0, 0),
         flow: plan.count,
         position: w.current,
     };

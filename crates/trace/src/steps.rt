@@ -21,31 +21,14 @@ pub fn step(s: &mut State, plan: Plan, w: Window, call: Call, out: &mut [u8], at
     ensures { Told (traced (read_in plan s.old) call) plan result.window s.new
         out.old out.new at result.end }
 {
-    match call {
-        Call::Request(word) => Reached {
-            window: w,
-            end: ask(s, plan, w, word, out, at),
-        },
-        Call::Word(word) => Reached {
-            window: w,
-            end: ask_in_burst(s, plan, w, word, out, at),
-        },
-        Call::Past(word) => Reached {
-            window: w,
-            end: ask_past_burst(s, plan, w, word, out, at),
-        },
-        Call::Credit(flow, position) => Reached {
-            window: w,
-            end: give(s, plan, w, flow, position, out, at),
-        },
-        Call::Tick => tick_step(s, plan, w, out, at),
-        Call::Lend(mask) => Reached {
-            window: w,
-            end: hand_on(s, plan, w, mask, out, at),
-        },
-        Call::Reset => Reached {
-            window: w,
-            end: reset_step(s, plan, w, out, at),
-        },
-    }
+    let end = match call {
+        Call::Request(word) => ask(s, plan, w, word, out, at),
+        Call::Word(word) => ask_in_burst(s, plan, w, word, out, at),
+        Call::Past(word) => ask_past_burst(s, plan, w, word, out, at),
+        Call::Credit(flow, position) => give(s, plan, w, flow, position, out, at),
+        Call::Tick => return tick_step(s, plan, w, out, at),
+        Call::Lend(mask) => hand_on(s, plan, w, mask, out, at),
+        Call::Reset => reset_step(s, plan, w, out, at),
+    };
+    Reached { window: w, end }
 }

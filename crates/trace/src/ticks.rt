@@ -6,7 +6,7 @@ ghost use Rattle.trace.specs.Trace.{tick_line, traced_tick};
 ghost use Rattle.trace.specs.Written.{Lines, Told};
 
 use crate::Reached;
-use crate::told::{Line, answer_of, byte_at, call_of, put_answer, put_flows};
+use crate::told::{Kind, Line, answer_of, byte_at, call_of, put_answer, put_flows};
 use link::tick::tick;
 use plan::Plan;
 use state::{OWNERS, State};
@@ -20,7 +20,7 @@ fn put_tick(s: &State, plan: Plan, w: Window, change: usize, out: &mut [u8], at:
     let owner = byte_at(s, OWNERS + w.current);
     let line = Line {
         said: answer_of(b'T', 0, owner),
-        call: call_of(3, change, 0),
+        call: call_of(Kind::Tick, change, 0),
         flow: plan.count,
         position: w.current,
     };

@@ -1,12 +1,14 @@
 // What is told of a link, and of a flow.
 ghost use Rattle.std.specs.Prelude.{◌+◌, ◌*◌, ◌≤◌, ◌<◌, ◌≡◌, length, get_or};
+ghost use mathlib.Core.List.{flat_map};
+ghost use Rattle.replies.specs.Lines.{spaced};
 ghost use Rattle.plan.specs.declared.Plan.{Plan};
 ghost use Rattle.link.specs.Given.{StateIn, SomePlan};
 ghost use Rattle.link.specs.Steps.{read_in};
-ghost use Rattle.trace.specs.Trace.{answered, burst_line, flow_line, flow_lines, flow_numbers, held_last, said_for};
-ghost use Rattle.trace.specs.Written.{Lines, Tellable, named_numbers, part_numbers};
+ghost use Rattle.trace.specs.Trace.{about, answered, burst_line, call_numbers, flow_line, flow_lines, flow_numbers, held_last, said_for};
+ghost use Rattle.trace.specs.Written.{Lines, Tellable, kind_number};
 
-use crate::written::put_line;
+use crate::written::{put_line, put_numbers};
 use calls::Answer;
 use link::flows::flow_at;
 use plan::Plan;
@@ -14,30 +16,45 @@ use state::{MARK, OWNERS, State, TURN};
 use window::Window;
 use window::positions::before;
 
-// A call's numbers: its kind, and what it has.
-#[derive(Clone, Copy)]
-pub(crate) struct Named {
-    pub(crate) kind: usize,
-    pub(crate) first: usize,
-    pub(crate) second: usize,
-    pub(crate) third: usize,
-    pub(crate) fourth: usize,
+// RULES 26.5: a call's numbers, its kind and what it has. Kinds are told by number.
+pub(crate) type Numbers = [usize; 5];
+
+// The kinds of calls.
+#[derive(Clone, Copy, Debug, PartialEq, Eq)]
+pub(crate) enum Kind {
+    Request,
+    Credit,
+    Tick,
+    Lend,
+    Reset,
+    Burst,
 }
 
-// A call that has no more than two numbers.
-pub(crate) fn call_of(kind: usize, first: usize, second: usize) -> Named
-    ensures { result ≡ record { kind = kind; first = first; second = second; third = 0; fourth = 0 } }
-{
-    Named {
-        kind,
-        first,
-        second,
-        third: 0,
-        fourth: 0,
+impl Kind {
+    // The number of a kind.
+    pub(crate) fn number(self) -> usize
+        ensures { result ≡ kind_number self }
+    {
+        match self {
+            Kind::Request => 1,
+            Kind::Credit => 2,
+            Kind::Tick => 3,
+            Kind::Lend => 4,
+            Kind::Reset => 5,
+            Kind::Burst => 6,
+        }
     }
 }
 
+// A call that has no more than two numbers.
+pub(crate) fn call_of(kind: Kind, first: usize, second: usize) -> Numbers
+    ensures { result ≡ call_numbers (kind_number kind) first second }
+{
+    [kind.number(), first, second, 0, 0]
+}
+
 // An answer: its letter, the refusal or 0, and what is answered.
+// Stays: a refusal has the field that is 0 where there is none, by RULES 26.4 and `said_for`.
 #[derive(Clone, Copy)]
 pub(crate) struct Said {
     pub(crate) letter: u8,
@@ -59,7 +76,7 @@ pub(crate) fn answer_of(letter: u8, number: usize, value: usize) -> Said
 #[derive(Clone, Copy)]
 pub(crate) struct Line {
     pub(crate) said: Said,
-    pub(crate) call: Named,
+    pub(crate) call: Numbers,
     pub(crate) flow: usize,
     pub(crate) position: usize,
 }
@@ -69,34 +86,14 @@ pub(crate) fn spoken(answer: Answer) -> Said
     ensures { result ≡ said_for answer }
 {
     match answer {
-        Answer::Granted(word) => {
-            return answer_of(b'G', 0, (word % 1024) as usize);
-        }
-        Answer::Accepted => {
-            return answer_of(b'C', 0, 0);
-        }
-        Answer::Booked(flow) => {
-            return answer_of(b'T', 0, flow as usize);
-        }
-        Answer::Idle => {
-            return answer_of(b'T', 0, 16);
-        }
-        Answer::Lent(flow) => {
-            return answer_of(b'L', 0, flow as usize);
-        }
-        Answer::Reset => {
-            return answer_of(b'Z', 0, 0);
-        }
-        Answer::Refused(number) => {
-            return answer_of(b'R', number as usize, 0);
-        }
+        Answer::Granted(word) => answer_of(b'G', 0, (word % 1024) as usize),
+        Answer::Accepted => answer_of(b'C', 0, 0),
+        Answer::Booked(flow) => answer_of(b'T', 0, usize::from(flow)),
+        Answer::Idle => answer_of(b'T', 0, 16),
+        Answer::Lent(flow) => answer_of(b'L', 0, usize::from(flow)),
+        Answer::Reset => answer_of(b'Z', 0, 0),
+        Answer::Refused(number) => answer_of(b'R', usize::from(number), 0),
     }
-}
-
-fn wide(byte: u8) -> usize
-    ensures { result ≡ byte }
-{
-    byte as usize
 }
 
 // The byte at a place of a state, as a number.
@@ -104,7 +101,7 @@ pub(crate) fn byte_at(s: &State, k: usize) -> usize
     requires { k < 4499 }
     ensures { result ≡ get_or s.now k 0 }
 {
-    wide(s[k])
+    usize::from(s[k])
 }
 
 // What flow i holds at the last position of the window.
@@ -116,34 +113,36 @@ fn last_held(s: &State, w: Window, i: usize) -> usize
     byte_at(s, 256 * i + last)
 }
 
-// What is told of a flow and a position.
-#[derive(Clone, Copy)]
-struct Part {
-    injection: usize,
-    remainder: usize,
-    number: usize,
-    ahead: usize,
-    owner: usize,
-    held: usize,
-    last: usize,
-}
-
 // What is told of flow i and position p.
-fn part_of(s: &State, w: Window, i: usize, p: usize) -> Part
+fn part_of(s: &State, w: Window, i: usize, p: usize) -> [usize; 7]
     requires { SomePlan (λ plan. StateIn plan w s.now) × (i < 16) × (p < 256) }
-    ensures { (plan : Plan) → StateIn plan w s.now → part_numbers result ≡ flow_numbers (read_in plan s.now) i p }
+    ensures { (plan : Plan) → StateIn plan w s.now → result ≡ flow_numbers (read_in plan s.now) i p }
 {
     let f = flow_at(s, i);
     let size = w.slots * w.frames;
-    Part {
-        injection: f.injection,
-        remainder: f.remainder,
-        number: f.number,
-        ahead: (p + size - w.current) % size,
-        owner: byte_at(s, OWNERS + p),
-        held: byte_at(s, 256 * i + p),
-        last: last_held(s, w, i),
+    [
+        f.injection,
+        f.remainder,
+        f.number,
+        (p + size - w.current) % size,
+        byte_at(s, OWNERS + p),
+        byte_at(s, 256 * i + p),
+        last_held(s, w, i),
+    ]
+}
+
+// Writes the numbers of the link, and those of the flow that a line is about if the plan has it.
+fn put_about(s: &State, plan: Plan, w: Window, line: Line, out: &mut [u8], at: usize) -> usize
+    requires { StateIn plan w s.now × (line.position < 256) × (at + 212 ≤ length out.old) }
+    ensures { Lines (flat_map spaced (about (read_in plan s.now) line.flow line.position)) out.old out.new at result 210 }
+{
+    let link = [w.current, byte_at(s, MARK), byte_at(s, TURN)];
+    let next = put_numbers(&link, out, at);
+    if plan.count <= line.flow {
+        return next;
     }
+    let part = part_of(s, w, line.flow, line.position);
+    put_numbers(&part, out, next)
 }
 
 // Writes the line of an answer, with the flow that it is about if the plan has it.
@@ -156,48 +155,16 @@ pub(crate) fn put_answer(
     at: usize,
 ) -> usize
     requires { Tellable plan w s.now line.position out.old at }
-    ensures { Lines (answered line.said.letter line.said.number line.said.value (named_numbers line.call)
+    ensures { Lines (answered line.said.letter line.said.number line.said.value line.call
         (read_in plan s.now) line.flow line.position) out.old out.new at result 384 }
 {
-    let a = line.said;
-    let mark = byte_at(s, MARK);
-    let turn = byte_at(s, TURN);
-    if plan.count <= line.flow {
-        let short = [
-            a.number,
-            a.value,
-            line.call.kind,
-            line.call.first,
-            line.call.second,
-            line.call.third,
-            line.call.fourth,
-            w.current,
-            mark,
-            turn,
-        ];
-        return put_line(a.letter, &short, out, at);
-    }
-    let f = part_of(s, w, line.flow, line.position);
-    let long = [
-        a.number,
-        a.value,
-        line.call.kind,
-        line.call.first,
-        line.call.second,
-        line.call.third,
-        line.call.fourth,
-        w.current,
-        mark,
-        turn,
-        f.injection,
-        f.remainder,
-        f.number,
-        f.ahead,
-        f.owner,
-        f.held,
-        f.last,
-    ];
-    put_line(a.letter, &long, out, at)
+    let said = [line.said.number, line.said.value];
+    out[at] = line.said.letter;
+    let call = put_numbers(&said, out, at + 1);
+    let about = put_numbers(&line.call, out, call);
+    let last = put_about(s, plan, w, line, out, about);
+    out[last] = b'\n';
+    last + 1
 }
 
 // Writes the line of flow i after a frame change or a reset.
@@ -217,10 +184,8 @@ pub(crate) fn put_flows(s: &State, plan: Plan, w: Window, out: &mut [u8], at: us
     ensures { Lines (flow_lines (read_in plan s.now) plan.count) out.old out.new at result 1376 }
 {
     let mut next = at;
-    let mut i = 0;
-    while i < plan.count {
+    for i in 0..plan.count {
         next = put_flow(s, w, i, out, next);
-        i += 1;
     }
     next
 }
@@ -239,7 +204,7 @@ pub fn write_burst(
 {
     let line = Line {
         said: answer_of(b'W', 0, 0),
-        call: call_of(6, count, 0),
+        call: call_of(Kind::Burst, count, 0),
         flow: plan.count,
         position: w.current,
     };

@@ -8,15 +8,13 @@ ghost use Rattle.trace.specs.Written.{Lines};
 use replies::put_number;
 
 // Writes numbers with a blank before each, 21 bytes at most for each of them.
-fn put_numbers(numbers: &[usize], out: &mut [u8], at: usize) -> usize
+pub(crate) fn put_numbers(numbers: &[usize], out: &mut [u8], at: usize) -> usize
     requires { at + 21 * length numbers.now ≤ length out.old }
     ensures { Lines (flat_map spaced numbers.now) out.old out.new at result (21 * length numbers.now) }
 {
     let mut next = at;
-    let mut k = 0;
-    while k < numbers.len() {
-        next = put_number(numbers[k], out, next);
-        k += 1;
+    for number in numbers {
+        next = put_number(*number, out, next);
     }
     next
 }

@@ -1,13 +1,16 @@
 -- The words of a link: made, with one replaced, and determined by their test. Assumes nothing.
 use Prim.Native.Nat.{ℕ, zero, suc, ◌+◌, ◌-◌, ◌*◌, ◌/◌, ◌≤◌, ◌<◌}
-use mathlib.Core.Path.{◌≡◌, refl, sym, ap, ◌∙◌}
+use mathlib.Core.Path.{◌≡◌, sym, ap, ◌∙◌}
 use mathlib.Core.List.{List}
 use mathlib.Core.Bool.{Bool, true, false, not, ◌&&◌, and-false, and-true, true≢false}
 use native.Mathlib.Decide.{dec_lt, ℕ_discrete}
 use native.Mathlib.Omega.{arith}
 use lib.Arith.{digits_div}
 use lib.Dec.{ltb, eqb, leb-suc-suc}
-use lib.ListN.{length, get_or, set, replicate, length-set, get_or-replicate, get_or-eq_default}
+use lib.ListN.{length, get_or, replicate, take, drop, length-set}
+use borrow.Author.Rules.{rules}
+use mathlib.Core.List.{◌++◌}
+use Rattle.std.proofs.lemmas.List.{places}
 use lib.Seq.{get_or-set_same, get_or-set_other, ext_get_or}
 use borrow.Author.Tests.{lt-ltb, le-ltb, eq-eqb, ne_eqb}
 use Rattle.model.specs.Tables.{bit}
@@ -113,40 +116,33 @@ module _ (F W : ℕ) where
         here i (yes d) = rw (all i d, and-true)
         here i (no d) = rw (le-ltb i F (omega arith))
 
--- ---- a word for each of W frames whose slots all pass
+-- ---- one word for each of W frames whose slots all pass, and no bit past them
 
-pub no_words : (F : ℕ) (t : ℕ → Bool) → Words F 0 t (replicate 8 0)
-no_words F t = record {
-  long = refl;
-  word = λ j. record { is = λ i. ap (λ (w : ℕ). bit_at w i) (zero-at j (dec_lt j 8)) ∙ no-bit i ∙ sym (no-frame F 0 t j i (omega arith)) };
-}
+pub whole_words : (F W : ℕ) {words : List ℕ} {word : ℕ} → W ≤ 8 → words ≡ replicate (length {A = ℕ} (take W (replicate 8 0))) word → Bits (λ i. ltb i F) word
+    → Words F W (λ p. true) (words ++ drop W (replicate 8 0))
+whole_words F W {words} {word} few e b = rw (e, taken) (record {
+  long = search (rules, places);
+  word = λ j. record { is = λ i. go j i (dec_lt j W) };
+})
   where
     zeros : List ℕ
     zeros = replicate 8 0
 
-    zero-at : (j : ℕ) → Dec (j < 8) → get_or zeros j 0 ≡ 0
-    zero-at j (yes h) = get_or-replicate 8 j 0 0 h
-    zero-at j (no h) = get_or-eq_default zeros 0 {n = j} (omega arith)
+    taken : length (take W zeros) ≡ W
+    taken = search (rules, places)
 
--- one frame more
-pub one_word_more : (F W : ℕ) {words : List ℕ} {word : ℕ} → W < 8 → Words F W (λ p. true) words → Bits (λ i. ltb i F) word
-    → Words F (W + 1) (λ p. true) (set words W word)
-one_word_more F W {words} {word} h v b = record {
-  long = length-set words W word ∙ v.long;
-  word = λ j. record { is = λ i. go j i (ℕ_discrete j W) };
-}
-  where
-    go : (j i : ℕ) → Dec (j ≡ W) → bit_at (get_or (set words W word) j 0) i ≡ slot_in F (W + 1) (λ p. true) j i
-    go j i (yes d) =
-        rw (d, get_or-set_same words W word 0 (omega (arith, v.long)), lt-ltb W (W + 1) (omega arith), and-true) (b.is i)
-    go j i (no d) =
-        ap (λ (w : ℕ). bit_at w i) (get_or-set_other words W j word 0 d)
-        ∙ (v.word j).is i
-        ∙ ap (λ x. x && ltb i F && true) (one_more (dec_lt j W))
-      where
-        one_more : Dec (j < W) → ltb j W ≡ ltb j (W + 1)
-        one_more (yes l) = lt-ltb j W l ∙ sym (lt-ltb j (W + 1) (omega arith))
-        one_more (no l) = le-ltb j W (omega arith) ∙ sym (le-ltb j (W + 1) (omega arith))
+    all : List ℕ
+    all = replicate W word ++ drop W zeros
+
+    there : (j : ℕ) → j < W → get_or all j 0 ≡ word
+    there j h = search (rules, places)
+
+    past : (j : ℕ) → W ≤ j → get_or all j 0 ≡ 0
+    past j h = grind (arith, places)
+
+    go : (j i : ℕ) → Dec (j < W) → bit_at (get_or all j 0) i ≡ slot_in F W (λ p. true) j i
+    go j i (yes h) = rw (there j h, lt-ltb j W h, and-true) (b.is i)
+    go j i (no h) = rw (past j (omega arith)) (no-bit i ∙ sym (no-frame F W (λ p. true) j i (omega arith)))
 
 -- ---- the words of a test, made
 

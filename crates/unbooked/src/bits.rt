@@ -32,5 +32,5 @@ pub fn without(word: u64, i: usize) -> u64
 pub fn lowest(word: u64) -> usize
     ensures { Lowest word result }
 {
-    u64::trailing_zeros(word) as usize
+    word.trailing_zeros() as usize
 }

@@ -12,10 +12,6 @@ pub fn every_slot(slots: usize, frames: usize) -> Unbooked
     ensures { Words slots frames (λ p. true) result }
 {
     let mut all = [0u64; 8];
-    let mut j = 0;
-    while j < frames {
-        all[j] = below(slots);
-        j += 1;
-    }
+    all[..frames].fill(below(slots));
     all
 }

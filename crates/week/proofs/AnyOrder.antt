@@ -6,31 +6,31 @@ use mathlib.Core.Bool.{Bool, true, false, not, ◌||◌, cond}
 use native.Mathlib.Omega.{arith}
 use lib.ListN.{length}
 use lib.Dec.{ltb}
+use Rattle.std.specs.List.{list_any}
 use Rattle.model.specs.Refusals.{first_of, ◌when◌}
 use Rattle.week.specs.Week.{Entry, week, runs, keeps_limits, share_minute, refusal, running, plan_or_dark, answered, plan_at}
-use Rattle.week.proofs.EntryTests.{or_swap, or-cross, some, pairs, some_is, pairs-are, share-either-way}
+use Rattle.week.proofs.EntryTests.{or_swap, or-cross, pairs, some_is, pairs-are, share-either-way}
 use Rattle.week.proofs.OneAtMost.{one_at_most, one-running}
 
 -- ---- in another order: `List.Permᴰ xs ys` is that ys has the entries of xs, each as often, in some order
 
-some-reordered : (f : Entry → Bool) {xs ys : List Entry} → Permᴰ xs ys → some f xs ≡ some f ys
-unfolding some
+some-reordered : (f : Entry → Bool) {xs ys : List Entry} → Permᴰ xs ys → list_any f xs ≡ list_any f ys
 some-reordered f Permᴰ.nil = refl
 some-reordered f (Permᴰ.cons e d) = ap₂ ◌||◌ (ap f e) (some-reordered f d)
-some-reordered f (Permᴰ.swap {a = a} {b = b} {l = l} e₁ e₂) = or_swap (f a) (f b) (some f l) ∙ ap₂ (λ x y. f x || (f y || some f l)) e₂ e₁
+some-reordered f (Permᴰ.swap {a = a} {b = b} {l = l} e₁ e₂) = or_swap (f a) (f b) (list_any f l) ∙ ap₂ (λ x y. f x || (f y || list_any f l)) e₂ e₁
 some-reordered f (Permᴰ.trans d₁ d₂) = some-reordered f d₁ ∙ some-reordered f d₂
 
 pairs-swapped : (a b : Entry) (rest : List Entry) → pairs (a ∷ b ∷ rest) ≡ pairs (b ∷ a ∷ rest)
-unfolding pairs some
+unfolding pairs
 pairs-swapped a b rest =
-    or-cross (share_minute a b) (some (share_minute a) rest) (some (share_minute b) rest) (pairs rest)
-    ∙ ap (λ t. (t || some (share_minute b) rest) || (some (share_minute a) rest || pairs rest)) (share-either-way a b)
+    or-cross (share_minute a b) (list_any (share_minute a) rest) (list_any (share_minute b) rest) (pairs rest)
+    ∙ ap (λ t. (t || list_any (share_minute b) rest) || (list_any (share_minute a) rest || pairs rest)) (share-either-way a b)
 
 pairs-reordered : {xs ys : List Entry} → Permᴰ xs ys → pairs xs ≡ pairs ys
 unfolding pairs
 pairs-reordered Permᴰ.nil = refl
 pairs-reordered (Permᴰ.cons {a = a} {l₂ = ys} e d) =
-    ap₂ ◌||◌ (some-reordered (share_minute a) d ∙ ap (λ x. some (share_minute x) ys) e) (pairs-reordered d)
+    ap₂ ◌||◌ (some-reordered (share_minute a) d ∙ ap (λ x. list_any (share_minute x) ys) e) (pairs-reordered d)
 pairs-reordered (Permᴰ.swap {a = a} {b = b} {l = l} e₁ e₂) = pairs-swapped a b l ∙ ap₂ (λ x y. pairs (x ∷ y ∷ l)) e₂ e₁
 pairs-reordered (Permᴰ.trans d₁ d₂) = pairs-reordered d₁ ∙ pairs-reordered d₂
 

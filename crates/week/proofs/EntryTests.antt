@@ -4,6 +4,7 @@ use mathlib.Core.Path.{◌≡◌, refl, ap, ap₂, ◌∙◌}
 use mathlib.Core.List.{List, ◌∷◌, []}
 use mathlib.Core.Bool.{Bool, true, false, ◌&&◌, ◌||◌}
 use lib.ListN.{length}
+use Rattle.std.specs.List.{list_any}
 use Rattle.model.specs.Tables.{any}
 use Rattle.model.proofs.Tests.{any_same}
 use Rattle.week.specs.Week.{Entry, week, entry, runs, share_minute, some_shared}
@@ -42,16 +43,12 @@ any-either (suc n) f g = ap (f n || g n ||◌) (any-either n f g) ∙ or-cross (
 
 -- ---- tests of a list's entries, one by one and two by two
 
-unfoldable pub some : (Entry → Bool) → List Entry → Bool
-some f [] = false
-some f (e ∷ rest) = f e || some f rest
-
 unfoldable pub pairs : List Entry → Bool
 pairs [] = false
-pairs (e ∷ rest) = some (share_minute e) rest || pairs rest
+pairs (e ∷ rest) = list_any (share_minute e) rest || pairs rest
 
-pub some_is : (f : Entry → Bool) (entries : List Entry) → any (length entries) (λ i. f (entry entries i)) ≡ some f entries
-unfolding any some
+pub some_is : (f : Entry → Bool) (entries : List Entry) → any (length entries) (λ i. f (entry entries i)) ≡ list_any f entries
+unfolding any
 some_is f [] = refl
 some_is f (e ∷ rest) = any-first (length rest) (λ i. f (entry (e ∷ rest) i)) ∙ ap (f e ||◌) (some_is f rest)
 

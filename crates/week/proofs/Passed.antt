@@ -1,19 +1,20 @@
 -- What a programme keeps that passes, and what is answered by the refusal. Assumes nothing.
-use Prim.Native.Nat.{ℕ, zero, suc, ◌≤◌}
-use mathlib.Core.Path.{◌≡◌, refl, ap, ◌∙◌}
+use Prim.Native.Nat.{ℕ, ◌≤◌}
+use mathlib.Core.Path.{◌≡◌, sym}
 use mathlib.Core.List.{List}
 use mathlib.Core.Bool.{◌||◌}
 use native.Mathlib.Omega.{arith}
 use lib.ListN.{length}
 use lib.Dec.{ltb}
 use borrow.Author.Tests.{ltb-true, ltb-false, not-false}
-use Rattle.model.specs.Calls.{accepted}
+use Rattle.model.specs.Calls.{accepted, refused}
 use Rattle.model.proofs.Tables.{length-table}
 use Rattle.model.proofs.Tests.{or-false, any_none, line-passed}
 use Rattle.week.specs.declared.Programme.{Programme}
-use Rattle.week.specs.declared.AtMinute.{AtMinute as CodeAtMinute}
-use Rattle.week.specs.Week.{Entry, week, entry, some_breaks_limits, refusal, AtMinute, running, plan_or_dark, answered, plan_at, Passed}
-use Rattle.week.specs.Reading.{stored, entries_of, answer_for}
+use Rattle.week.specs.declared.Refusal.{Refusal}
+use Rattle.week.specs.declared.Refusal.TheVariants.{Limits, Shared}
+use Rattle.week.specs.Week.{Entry, week, entry, some_breaks_limits, refusal, running, plan_or_dark, plan_at, Passed}
+use Rattle.week.specs.Reading.{stored, entries_of, number}
 use Rattle.week.proofs.OneEntry.{keeps-limits}
 
 pub passed : (entries : List Entry) (minute : ℕ) → refusal entries minute ≡ 0 → Passed entries minute
@@ -35,15 +36,12 @@ few-entries p minute e = omega (arith, (passed (entries_of p) minute e).few, len
 
 -- ---- the answer, by the refusal
 
-refusal-answers : (k : ℕ) (x : AtMinute) → (k ≡ 0 → ⊥) → CodeAtMinute.Refused k ≡ answer_for (answered k x)
-refusal-answers zero x h = absurd (h refl)
-refusal-answers (suc k) x h = refl
-
 module _ (entries : List Entry) (minute : ℕ) where
-  pub refused-answer : (r : ℕ) → r ≡ refusal entries minute → (r ≡ 0 → ⊥) → CodeAtMinute.Refused r ≡ answer_for (plan_at entries minute)
+  -- a programme that is refused, by the refusal's number
+  pub refused-answer : (e : Refusal) → number e ≡ refusal entries minute → refused (number e) ≡ plan_at entries minute
   unfolding plan_at
-  refused-answer r e h =
-      ap CodeAtMinute.Refused e ∙ refusal-answers (refusal entries minute) (plan_or_dark (running entries minute)) (λ z. h (e ∙ z))
+  refused-answer Limits h = rw (sym h)
+  refused-answer Shared h = rw (sym h)
 
   pub passing-answer : refusal entries minute ≡ 0 → accepted (plan_or_dark (running entries minute)) ≡ plan_at entries minute
   unfolding plan_at

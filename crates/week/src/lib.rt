@@ -7,7 +7,7 @@ mod shared;
 
 ghost use Rattle.std.specs.Prelude.{◌≡◌};
 ghost use Rattle.week.specs.Week.{plan_at, refusal};
-ghost use Rattle.week.specs.Reading.{entries_of, answer_for};
+ghost use Rattle.week.specs.Reading.{entries_of, number, refusal_number, answer_of};
 
 // The minutes of a week.
 pub const WEEK: usize = 10080;
@@ -16,7 +16,7 @@ pub const WEEK: usize = 10080;
 pub const MOST: usize = 64;
 
 // An entry: a showing's start and end in minutes of the week, and its plan. It runs at its start and up to the minute before its end.
-#[derive(Clone, Copy)]
+#[derive(Clone, Copy, Debug, PartialEq, Eq)]
 pub struct Entry {
     pub start: usize,
     pub end: usize,
@@ -30,42 +30,52 @@ pub struct Programme {
     pub entries: [Entry; 64],
 }
 
-// What runs at a minute: a plan by its number, or nothing; or the refusal.
-#[derive(Clone, Copy)]
-pub enum AtMinute {
-    Plan(u16),
-    Dark,
-    Refused(u8),
+// Why a programme or a minute is refused.
+#[derive(Clone, Copy, Debug, PartialEq, Eq)]
+pub enum Refusal {
+    // 28: an entry breaks its limits, there are too many entries, or the minute lies outside the week.
+    Limits,
+    // 29: two entries share a minute.
+    Shared,
 }
 
-// The number of the first test that a programme and a minute fail, and 0 where they pass.
-fn first_refusal(p: Programme, minute: usize) -> u8
-    ensures { result ≡ refusal (entries_of p) minute }
+impl Refusal {
+    // Its number.
+    pub fn number(self) -> u8
+        ensures { result ≡ number self }
+    {
+        match self {
+            Refusal::Limits => 28,
+            Refusal::Shared => 29,
+        }
+    }
+}
+
+// The tests of a programme and a minute, up to the first that fails.
+fn check(p: &Programme, minute: usize) -> Result<(), Refusal>
+    ensures { refusal_number result ≡ refusal (entries_of p.now) minute }
 {
     if MOST < p.count {
-        return 28;
+        return Err(Refusal::Limits);
     }
     if WEEK <= minute {
-        return 28;
+        return Err(Refusal::Limits);
     }
-    let all = p.entries;
-    if entries::any_breaks_limits(all, p.count) {
-        return 28;
+    let entries = &p.entries[..p.count];
+    if entries::any_breaks_limits(entries) {
+        return Err(Refusal::Limits);
     }
-    if shared::any_shared(all, p.count) {
-        return 29;
+    if shared::any_shared(entries) {
+        return Err(Refusal::Shared);
     }
-    0
+    Ok(())
 }
 
-// The plan that runs at a minute.
-pub fn plan_at(p: Programme, minute: usize) -> AtMinute
-    ensures { result ≡ answer_for (plan_at (entries_of p) minute) }
+// The plan that runs at a minute, or none where it is dark.
+pub fn plan_at(p: Programme, minute: usize) -> Result<Option<u16>, Refusal>
+    ensures { answer_of result ≡ plan_at (entries_of p) minute }
 {
-    let number = first_refusal(p, minute);
-    if number != 0 {
-        return AtMinute::Refused(number);
-    }
-    let all = p.entries;
-    search::plan_or_dark(all, p.count, minute)
+    check(&p, minute)?;
+    let entries = &p.entries[..p.count];
+    Ok(search::plan_or_dark(entries, minute))
 }

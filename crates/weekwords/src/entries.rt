@@ -1,5 +1,5 @@
 // The limits of a week's entries: of each by itself, and of two.
-ghost use Rattle.std.specs.Prelude.{◌+◌, ◌*◌, ◌≤◌, ◌<◌, max, ◌≡◌, length};
+ghost use Rattle.std.specs.Prelude.{◌+◌, ◌*◌, ◌≤◌, ◌≡◌, length};
 ghost use Rattle.calls.specs.Lines.{Puts};
 ghost use Rattle.week.specs.Week.{entry, share_minute};
 ghost use Rattle.faults.specs.Told.{each_below};
@@ -25,22 +25,10 @@ pub(crate) fn tell_entries(numbers: &[usize], count: usize, found: &mut [usize],
     ensures most { result ≤ at + 384 }
 {
     let mut next = at;
-    let mut i = 0;
-    while i < count {
+    for i in 0..count {
         next = tell_entry(numbers, i, found, next);
-        i += 1;
     }
     next
-}
-
-// The later of two minutes.
-fn later(one: usize, other: usize) -> usize
-    ensures { result ≡ max one other }
-{
-    if one < other {
-        return other;
-    }
-    one
 }
 
 // Whether two entries share a minute: at the later of their starts, a minute of the week, both run.
@@ -48,7 +36,7 @@ fn share_minute(numbers: &[usize], i: usize, j: usize) -> bool
     requires { (3 * i + 3 ≤ length numbers.now) × (3 * j + 3 ≤ length numbers.now) }
     ensures { result ≡ share_minute (entry (week_asked numbers.now) i) (entry (week_asked numbers.now) j) }
 {
-    let start = later(numbers[3 * i], numbers[3 * j]);
+    let start = numbers[3 * i].max(numbers[3 * j]);
     if week::WEEK <= start {
         return false;
     }
@@ -64,12 +52,10 @@ fn tell_shared(numbers: &[usize], j: usize, found: &mut [usize], at: usize) -> u
     ensures put { Puts (shared_faults (week_asked numbers.now) j) found.old found.new at result }
     ensures most { result ≤ at + 3 }
 {
-    let mut i = 0;
-    while i < j {
+    for i in 0..j {
         if share_minute(numbers, i, j) {
             return faults::tell_if(true, 29, i, j, found, at);
         }
-        i += 1;
     }
     at
 }
@@ -81,10 +67,8 @@ pub(crate) fn tell_pairs(numbers: &[usize], count: usize, found: &mut [usize], a
     ensures most { result ≤ at + 192 }
 {
     let mut next = at;
-    let mut j = 0;
-    while j < count {
+    for j in 0..count {
         next = tell_shared(numbers, j, found, next);
-        j += 1;
     }
     next
 }

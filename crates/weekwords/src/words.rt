@@ -1,5 +1,5 @@
 // The word `week-faults`: a week's entries, answered by the limits that they break.
-ghost use Rattle.std.specs.Prelude.{◌+◌, ◌*◌, ◌≤◌, min, ◌≡◌, length, get_or, ltb};
+ghost use Rattle.std.specs.Prelude.{◌+◌, ◌*◌, ◌≤◌, ◌≡◌, length, get_or, ltb};
 ghost use Rattle.model.specs.Tables.{any};
 ghost use Rattle.calls.specs.Lines.{Puts};
 ghost use Rattle.replies.specs.Lines as said;
@@ -17,24 +17,12 @@ fn some_wide(numbers: &[usize], count: usize) -> bool
     requires { length numbers.now ≡ 3 * count }
     ensures { result ≡ any count (λ i. ltb 65535 (get_or numbers.now (3 * i + 2) 0)) }
 {
-    let mut i = 0;
-    while i < count {
+    for i in 0..count {
         if WIDEST < numbers[3 * i + 2] {
             return true;
         }
-        i += 1;
     }
     false
-}
-
-// How many of the entries are looked at.
-fn seen(count: usize) -> usize
-    ensures { result ≡ min count 64 }
-{
-    if count < week::MOST {
-        return count;
-    }
-    week::MOST
 }
 
 // Finds the faults of entries, and stores them from the start on; how many numbers they have.
@@ -43,7 +31,7 @@ fn find(numbers: &[usize], count: usize, found: &mut [usize]) -> usize
     ensures put { Puts (faults_of (week_asked numbers.now)) found.old found.new 0 result }
     ensures most { result ≤ 579 }
 {
-    let first = seen(count);
+    let first = count.min(week::MOST);
     let after_entries = entries::tell_entries(numbers, first, found, 0);
     let after_count = faults::tell_if(week::MOST < count, 28, count, 2, found, after_entries);
     entries::tell_pairs(numbers, first, found, after_count)

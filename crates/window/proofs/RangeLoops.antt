@@ -1,9 +1,10 @@
 -- Loops over a range of positions, one at a step: elements replaced, a test of each, and a search back for the last that fails it.
 -- Assumes nothing.
-use Rattle.std.proofs.Common.{◌≡◌, ℕ, ◌+◌, ◌-◌, ◌<◌, ◌≤◌, Bool, true, false, List, get_or, set, sym, ◌∙◌, true≢false, arith}
+use Rattle.std.proofs.Common.{◌≡◌, ℕ, ◌+◌, ◌-◌, ◌<◌, ◌≤◌, Bool, true, false, List, length, get_or, set, sym, ◌∙◌, true≢false, arith}
 use native.Mathlib.Decide.{dec_le, ℕ_discrete}
+use borrow.Rule.Slice.PartMut.{put_mid, mid_of}
 use Rattle.window.specs.Ranges.{in_range, replaced, Miss, All, LastIn}
-use Rattle.window.proofs.Ranges.{replaced-none, replaced-more, replaced-done}
+use Rattle.window.proofs.Ranges.{replaced-none, replaced-more, replaced-done, replaced-inner, length-mid}
 
 -- ---- elements replaced: those from a up to q are
 
@@ -27,6 +28,12 @@ module _ {A : Type 0} where
 
       pub replacing-done : e ≤ q → after ≡ replaced (in_range a e) f before
       replacing-done h = replaced-done a q e f before after v.is (omega (arith, v.to))
+
+  -- the elements from a up to e, counted from the first of them
+  pub replacing-inner : (a e : ℕ) (xs : List A) (d : A) {f : ℕ → A → A} {ys : List A} {q : ℕ} → a ≤ e → e ≤ length xs
+      → Replacing f 0 (length (mid_of a (e - a) xs)) (mid_of a (e - a) xs) ys q → length (mid_of a (e - a) xs) ≤ q
+      → put_mid a (e - a) xs ys ≡ replaced (in_range a e) (λ k. f (k - a)) xs
+  replacing-inner a e xs d {f} {ys} h l v done = replaced-inner a e f xs ys d h l (replacing-done d v done)
 
 -- ---- a test of each: r says whether those from a up to q pass
 
@@ -73,6 +80,21 @@ module _ {t : ℕ → Bool} {a e : ℕ} where
           passes : s ≡ true → (x : ℕ) → a ≤ x → x < q + 1 → Dec (x ≡ q) → t x ≡ true
           passes p x h₁ h₂ (yes d) = rw d z
           passes p x h₁ h₂ (no d) = v.all.pass p x h₁ (omega arith)
+
+-- of the elements from a up to e, counted from the first of them
+pub all-inner : {A : Type 0} (a e : ℕ) (xs : List A) {t s : ℕ → Bool} {r : Bool} → a ≤ e → e ≤ length xs
+    → ((k : ℕ) → k < e - a → t k ≡ s (a + k)) → All t 0 (length (mid_of a (e - a) xs)) r → All s a e r
+all-inner a e xs h l same x =
+    let long = length-mid a e xs l in
+    record {
+      pass = λ y q b m.
+          let place : a + (q - a) ≡ q = omega arith in
+          rw place at (sym (same (q - a) (omega arith)) ∙ x.pass y (q - a) (omega arith) (omega arith));
+      miss = λ y.
+          let m = x.miss y in
+          let high : m.at < e - a = omega (arith, m.below) in
+          record { at = a + m.at; from = omega arith; below = omega arith; fails = sym (same m.at high) ∙ m.fails };
+    }
 
 -- ---- a search back: those from q up to e pass
 

@@ -1,9 +1,11 @@
 -- Ranges of positions: what lies in one, and elements of a list replaced. Assumes nothing.
-use Rattle.std.proofs.Common.{◌≡◌, ℕ, zero, suc, ◌+◌, ◌<◌, ◌≤◌, Bool, true, false, cond, ◌&&◌, ltb, leb, List, [], ◌∷◌, length, get_or, set, sym, refl, ap, ◌∙◌, arith, length-set, get_or-set_other, get_or-set_same, ext_get_or, le-ltb, lt-ltb, le-leb}
+use Rattle.std.proofs.Common.{◌≡◌, ℕ, zero, suc, ◌+◌, ◌-◌, ◌<◌, ◌≤◌, Bool, true, false, cond, ◌&&◌, ltb, leb, List, [], ◌∷◌, length, get_or, set, sym, refl, ap, ◌∙◌, rules, arith, length-set, get_or-set_other, get_or-set_same, ext_get_or, le-ltb, lt-ltb, le-leb}
 use mathlib.Core.Bool.{and-false}
 use native.Mathlib.Decide.{dec_lt, ℕ_discrete}
 use lib.ListN.{get_or-eq_default}
 use lib.Seq.{set-get_or}
+use borrow.Rule.Slice.PartMut.{put_mid, mid_of}
+use Rattle.std.proofs.lemmas.List.{places}
 use borrow.Author.Tests.{lt-leb}
 use Rattle.window.specs.Ranges.{in_range, replaced}
 
@@ -109,3 +111,41 @@ module _ {A : Type 0} where
   pub replaced-done : (a j e : ℕ) (f : ℕ → A → A) (xs ys : List A) → ys ≡ replaced (in_range a j) f xs → j ≡ e
       → ys ≡ replaced (in_range a e) f xs
   replaced-done a j e f xs ys q p = rw (← p) q
+
+  -- ---- what a write to the n elements from a on leaves
+
+  -- the elements from a on replaced, where there are n of them
+  pub replaced-mid : (a n : ℕ) (f : ℕ → A → A) (xs ys : List A) (d : A) → length ys ≡ n → a + n ≤ length xs
+      → ((k : ℕ) → k < n → get_or ys k d ≡ f (a + k) (get_or xs (a + k) d)) → put_mid a n xs ys ≡ replaced (in_range a (a + n)) f xs
+  replaced-mid a n f xs ys d e l same =
+      ext_get_or d _ _ (simp length-replaced (search (rules, places))) λ i b. go i (dec_lt i a) (dec_lt i (a + n))
+    where
+      go : (i : ℕ) → Dec (i < a) → Dec (i < a + n) → get_or (put_mid a n xs ys) i d ≡ get_or (replaced (in_range a (a + n)) f xs) i d
+      go i (yes h) m = search (rules, places) ∙ sym (replaced-off _ f xs i d (before-range a (a + n) i h))
+      go i (no h) (yes m) =
+          let place : i ≡ a + (i - a) = omega arith in
+          let there : get_or (put_mid a n xs ys) i d ≡ get_or ys (i - a) d = grind (arith, places) in
+          let put : get_or ys (i - a) d ≡ f (a + (i - a)) (get_or xs (a + (i - a)) d) = same (i - a) (omega arith) in
+          there ∙ rw (← place) at put ∙ sym (replaced-at _ f xs i d (omega arith) ∙ rw (in-range a (a + n) i (omega arith) m))
+      go i (no h) (no m) = grind (arith, places) ∙ sym (replaced-off _ f xs i d (past-range a (a + n) i (omega arith)))
+
+  -- ---- the elements from a up to e, counted from the first of them
+
+  pub length-mid : (a e : ℕ) (xs : List A) → e ≤ length xs → length (mid_of a (e - a) xs) ≡ e - a
+  length-mid a e xs l = search (rules, places)
+
+  pub mid-at : (a e : ℕ) (xs : List A) (k : ℕ) (d : A) → k < e - a → get_or (mid_of a (e - a) xs) k d ≡ get_or xs (a + k) d
+  mid-at a e xs k d h = search (rules, places)
+
+  pub replaced-inner : (a e : ℕ) (f : ℕ → A → A) (xs ys : List A) (d : A) → a ≤ e → e ≤ length xs
+      → ys ≡ replaced (in_range 0 (length (mid_of a (e - a) xs))) f (mid_of a (e - a) xs) → put_mid a (e - a) xs ys ≡ replaced (in_range a e) (λ k. f (k - a)) xs
+  replaced-inner a e f xs ys d h l is =
+      let last : a + (e - a) ≡ e = omega arith in
+      rw last at (replaced-mid a (e - a) (λ k. f (k - a)) xs ys d (ap length is ∙ length-replaced _ f _ ∙ length-mid a e xs l) (omega arith) (λ k b. go k b))
+    where
+      go : (k : ℕ) → k < e - a → get_or ys k d ≡ f (a + k - a) (get_or xs (a + k) d)
+      go k b =
+          let place : a + k - a ≡ k = omega arith in
+          rw (is, place, ← mid-at a e xs k d b)
+          (replaced-at _ f (mid_of a (e - a) xs) k d (omega (arith, length-mid a e xs l))
+          ∙ rw (in-range 0 (length (mid_of a (e - a) xs)) k (omega arith) (omega (arith, length-mid a e xs l))))

@@ -1,7 +1,7 @@
-// The window of a call: F, W, CP and the head frame; positions and frames going round; numbers.
+// The window of a call: F, W, CP and the head frame; positions and frames going round; and one of two bytes.
 #![tactic(auto)]
 
-pub mod numbers; // the smaller, the larger, and sums modulo 256
+pub mod numbers; // one of two bytes, by a bound
 pub mod positions; // positions and frames, going round
 
 // The window of a call: F, W and CP, and the head frame.

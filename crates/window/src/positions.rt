@@ -84,27 +84,20 @@ impl Window {
     {
         let current = self.current + 1;
         if current < self.head * self.slots + self.slots {
-            return Window {
-                slots: self.slots,
-                frames: self.frames,
-                current,
-                head: self.head,
-            };
+            return Window { current, ..self };
         }
         if self.head + 1 == self.frames {
             return Window {
-                slots: self.slots,
-                frames: self.frames,
                 current: 0,
                 head: 0,
+                ..self
             };
         }
         // past the last position of a frame is the first one of the next
         Window {
-            slots: self.slots,
-            frames: self.frames,
             current,
             head: self.head + 1,
+            ..self
         }
     }
 }

@@ -6,19 +6,12 @@ ghost use Rattle.model.specs.Word as model;
 ghost use Rattle.word.specs.Reading.{fields_of, joined_of};
 
 // The fields of a word, of 6, 6, 10 and 10 bits.
-#[derive(Clone, Copy)]
+#[derive(Clone, Copy, Debug, PartialEq, Eq)]
 pub struct Fields {
     pub destination: u8,
     pub flow: u8,
     pub quantum: u16,
     pub departure: u16,
-}
-
-// The word that fields join to, if each fits its width.
-#[derive(Clone, Copy)]
-pub enum Joined {
-    Word(u32),
-    TooWide,
 }
 
 pub fn split(word: u32) -> Fields
@@ -32,28 +25,21 @@ pub fn split(word: u32) -> Fields
     }
 }
 
-pub fn join(f: Fields) -> Joined
+// The word that fields join to, if each fits its width.
+#[tactic(auto, using(std::proofs::lemmas::Bool::Decides::nat_tests), unfolding(crate::specs::Reading::joined_of, model::specs::Word::fits))]
+pub fn join(f: Fields) -> Option<u32>
     ensures { result ≡ joined_of (fields_of f) }
 {
-    if 64 <= f.destination {
-        return Joined::TooWide;
+    if f.destination >= 64 || f.flow >= 64 || f.quantum >= 1024 || f.departure >= 1024 {
+        return None;
     }
-    if 64 <= f.flow {
-        return Joined::TooWide;
-    }
-    if 1024 <= f.quantum {
-        return Joined::TooWide;
-    }
-    if 1024 <= f.departure {
-        return Joined::TooWide;
-    }
-    let high = f.destination as u32 * 67108864 + f.flow as u32 * 1048576;
-    Joined::Word(high + f.quantum as u32 * 1024 + f.departure as u32)
+    let high = u32::from(f.destination) * 67108864 + u32::from(f.flow) * 1048576;
+    Some(high + u32::from(f.quantum) * 1024 + u32::from(f.departure))
 }
 
 // The same word but for its departure, a position of a window.
 pub fn depart(word: u32, position: u8) -> u32
     ensures { result ≡ model.depart word position }
 {
-    word / 1024 * 1024 + position as u32
+    word / 1024 * 1024 + u32::from(position)
 }

@@ -1,8 +1,5 @@
 use Rattle.questions.specs.Promises.{Regular}
 use Rattle.domeplan.proofs.rounds.Given as goal
 
-abbrev pub invariant-loop-now : goal.invariant-loop-now
-invariant-loop-now g l = Regular l.now.state
-
-abbrev pub decreases-loop-now : goal.decreases-loop-now
-decreases-loop-now g l = l.left
+abbrev pub invariant-rounds : goal.invariant-rounds
+invariant-rounds g l = Regular l.now

@@ -1,8 +1,5 @@
 use Rattle.showinput.specs.Promises.{Regular}
 use Rattle.domeshow.proofs.rounds.Given as goal
 
-abbrev pub invariant-loop-now : goal.invariant-loop-now
-invariant-loop-now g l = Regular l.now.state
-
-abbrev pub decreases-loop-now : goal.decreases-loop-now
-decreases-loop-now g l = l.left
+abbrev pub invariant-loop : goal.invariant-loop
+invariant-loop g l = Regular l.state

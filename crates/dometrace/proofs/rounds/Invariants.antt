@@ -1,9 +1,5 @@
 use Rattle.std.proofs.Common.{◌≤◌, length}
-use Rattle.link.specs.Sound.{SoundLink}
 use Rattle.dometrace.proofs.rounds.Given as goal
 
-abbrev pub invariant-loop-now : goal.invariant-loop-now
-invariant-loop-now g l = SoundLink l.now.link × (l.now.kept ≤ length l.space)
-
-abbrev pub decreases-loop-now : goal.decreases-loop-now
-decreases-loop-now g l = l.left
+abbrev pub invariant-loop : goal.invariant-loop
+invariant-loop g l = l.now.kept ≤ length l.space

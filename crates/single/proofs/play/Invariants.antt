@@ -1,9 +1,5 @@
-use Rattle.std.proofs.Common.{◌-◌, ◌≤◌}
-use Rattle.link.specs.Sound.{SoundLink}
+use Rattle.std.proofs.Common.{◌-◌, length}
 use Rattle.single.proofs.play.Given as goal
 
-abbrev pub invariant-loop-from : goal.invariant-loop-from
-invariant-loop-from g l = (l.from ≤ l.count) × SoundLink l.step.link
-
 abbrev pub decreases-loop-from : goal.decreases-loop-from
-decreases-loop-from g l = l.count - l.from
+decreases-loop-from g l = length l.calls - l.from

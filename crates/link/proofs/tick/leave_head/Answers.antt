@@ -20,7 +20,7 @@ flow_at-f-requires c = omega (arith, c.loop-i.invariant.few, c.loop-i-test.true)
 pub put_flow-requires : goal.put_flow-requires
 put_flow-requires c =
     let few : c.loop-i.i < 16 = omega (arith, c.loop-i.invariant.few, c.loop-i-test.true) in
-    rw c.moved_to.ensures (
+    rw (c.moved_to.ensures, c.from.ensures) (
       few,
       record {
         injection = c.requires.2;
@@ -37,7 +37,7 @@ loop-i-preserved c =
     elim c.if-f-head.branch [
       | then-f-head in_head ↦
           rw in_head.s-is (flowing-put c.loop-i.invariant c.loop-i-test.true
-          (in_head.moved_to.ensures ∙ left-moved a.plan a.head a.on i c.flow_at-f.result in_head.if-f-head.true ∙ ap (flow_left a.plan a.head a.on i) read)
+          (rw in_head.from.ensures at in_head.moved_to.ensures ∙ left-moved a.plan a.head a.on i c.flow_at-f.result in_head.if-f-head.true ∙ ap (flow_left a.plan a.head a.on i) read)
           in_head.put_flow.ensures)
       | else-f-head elsewhere ↦
           rw elsewhere.s-is (flowing-kept c.loop-i.invariant c.loop-i-test.true (left-kept a.plan a.head a.on i c.flow_at-f.result elsewhere.if-f-head.false read))

@@ -20,13 +20,13 @@ search-init c = record { there = search rules; walked = record { same = refl } }
 pub valid_slots-valid-requires : goal.valid_slots-valid-requires
 valid_slots-valid-requires c = record { masks = c.requires.masks; frame = c.search.invariant.there }
 
-pub overflow_mul-found : goal.overflow_mul-found
-overflow_mul-found c =
+pub overflow_mul-result : goal.overflow_mul-result
+overflow_mul-result c =
     let fits = frame-fits c.args.w.slots c.args.w.frames c.search.frame c.search.invariant.there in
     omega (arith, fits, c.requires.masks.proper.measures.positions_most)
 
-pub overflow_add-found : goal.overflow_add-found
-overflow_add-found c =
+pub overflow_add-result : goal.overflow_add-result
+overflow_add-result c =
     let fits = frame-fits c.args.w.slots c.args.w.frames c.search.frame c.search.invariant.there in
     omega (arith, fits, c.requires.masks.proper.measures.positions_most, c.lowest.ensures.at_most)
 

@@ -1,0 +1,19 @@
+use Rattle.std.proofs.Common.{ap, ◌∙◌, arith}
+use Rattle.link.specs.declared.request.Reply.{Reply}
+use Rattle.link.proofs.Stays.{request-current, still-in}
+use Rattle.trace.specs.Trace.{ask_line, reply_letter, traced_request}
+use Rattle.trace.proofs.Numbers.{lines-as}
+use Rattle.trace.proofs.asks.ask.Goals as goal
+
+pub put_ask-requires : goal.put_ask-requires
+put_ask-requires c = (still-in c.requires.0 c.reply_to-reply.ensures (request-current _ _), omega (arith, c.requires.1))
+
+pub returns : goal.returns
+unfolding traced_request
+returns c =
+    let went = c.reply_to-reply.ensures in
+    record {
+      link_is = went.link_is;
+      hand = still-in c.requires.0 went (request-current _ _);
+      lines_are = lines-as (λ k. ask_line ((c.letter_of.ensures ∙ ap (λ (r : Reply). reply_letter r.number) went.answer_is) k) 1 c.args.word (went.link_is k) (went.answer_is k)) (omega arith) c.put_ask.ensures;
+    }
