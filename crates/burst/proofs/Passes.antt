@@ -19,7 +19,6 @@ use Rattle.model.specs.Link as model
 use Rattle.model.specs.Request.{request}
 use Rattle.model.specs.Burst as reference
 use Rattle.model.specs.Burst.{filled, in_front, in_order, burst}
-use Rattle.plan.specs.declared.Plan.{Plan}
 use Rattle.window.specs.declared.Window.{Window}
 use Rattle.link.specs.declared.Link.{Link}
 use Rattle.link.specs.declared.request.Reply.{Reply}
@@ -30,7 +29,6 @@ use Rattle.link.proofs.Stays.{request-current, still-in}
 use Rattle.burst.specs.declared.BurstRecord.{BurstRecord}
 use Rattle.burst.specs.Reading.{ask_of, asks_of}
 use Rattle.burst.specs.First.{burst_of_first}
-use Rattle.burst.specs.Asked.{AskedInOrder}
 
 -- ---- on from the i-th record, by the model
 
@@ -70,13 +68,6 @@ reaches (suc j) (suc k) l (x ∷ xs) p q =
     let first = request l x.word in
     ap (in_front (filled x first.answer)) (reaches j k first.link xs (le_of_suc-le-suc p) (le_of_suc-le-suc q))
 
--- all of them, up to the last
-all-in-order : (n : ℕ) (l : model.Link) (xs : List reference.BurstRecord) → length xs ≡ n → up_to n l xs ≡ in_order l xs
-all-in-order n l xs e =
-    let whole : take n xs ≡ xs = take_all n xs (omega (arith, e)) in
-    let rest : drop n xs ≡ [] = drop_of_length-le xs (omega (arith, e)) in
-    rw (whole, rest) (λ k. record { link = (in_order l xs).link; records = append-nil (in_order l xs).records k })
-
 -- the first n of m records are those that a burst handles
 pub record Counts (m n : ℕ) : Type 0 where
   pub there : n ≤ m
@@ -94,13 +85,13 @@ enough n l xs c = go (dec_lt n 16)
     go (yes less) = let e = c.all less in reaches n 16 l xs (omega (arith, e)) (omega (arith, e, less))
     go (no full) = let e : n ≡ 16 = omega (arith, c.most) in ap (λ (k : ℕ). up_to k l xs) e
 
--- ---- the loop's variables between two turns: i, the state in hand and what the slice holds, where all records of xs are asked on from state s of plan p
+-- ---- the loop's variables between two turns: i, the link in hand and what the slice holds, where n records of xs are handled from l, whose window is w
 
-pub record Passing (p : Plan) (s : List ℕ) (w : Window) (xs : List BurstRecord) (state : List ℕ) (cur : List BurstRecord) (i : ℕ) : Type 0 where
-  pub hand : StateIn p w state
-  pub within : i ≤ length xs
+pub record Passing (l : Link) (w : Window) (xs : List BurstRecord) (n : ℕ) (state : List ℕ) (cur : List BurstRecord) (i : ℕ) : Type 0 where
+  pub hand : StateIn l.plan w state
+  pub within : i ≤ n
   pub long : length cur ≡ length xs
-  pub comes : onward i (length xs - i) (read_in p state) (asks_of cur) ≡ up_to (length xs) (read_in p s) (asks_of xs)
+  pub comes : onward i (n - i) (read_in l.plan state) (asks_of cur) ≡ up_to n (read_of l) (asks_of xs)
 
 one_more : (i : ℕ) → i + 1 ≡ suc i
 one_more i = omega arith
@@ -128,59 +119,59 @@ abbrev pub put : BurstRecord → Reply → BurstRecord
 put x u = record { word = x.word; result = u.number; position = u.position }
 
 -- the loop begins
-pub start : (p : Plan) (s : List ℕ) (w : Window) (xs : List BurstRecord) → StateIn p w s → Passing p s w xs s xs 0
-start p s w xs hand = record {
+pub start : (l : Link) (w : Window) (xs : List BurstRecord) (n : ℕ) → StateIn l.plan w l.state → Passing l w xs n l.state xs 0
+start l w xs n hand = record {
   hand = hand;
   within = omega arith;
   long = refl;
-  comes = ap (λ (k : ℕ). up_to k (read_in p s) (asks_of xs)) (all_left (length xs));
+  comes = ap (λ (k : ℕ). up_to k (read_of l) (asks_of xs)) (all_left n);
 }
 
-module _ {p : Plan} {s : List ℕ} {w : Window} {xs : List BurstRecord} {state : List ℕ} {cur : List BurstRecord} {i : ℕ} (t : Passing p s w xs state cur i) where
+module _ {l : Link} {w : Window} {xs : List BurstRecord} {n : ℕ} {state : List ℕ} {cur : List BurstRecord} {i : ℕ} (t : Passing l w xs n state cur i) where
   -- one record more is handled
-  pub next : (after : List ℕ) (u : Reply) → i < length xs
-      → Went reply_of (request (read_in p state) (get_or cur i none).word) p after u
-      → Passing p s w xs after (set cur i (put (get_or cur i none) u)) (i + 1)
-  next after u more is = record {
-    hand = still-in t.hand is (request-current (read_in p state) (get_or cur i none).word);
+  pub next : (after : List ℕ) (u : Reply) → i < n → n ≤ length xs
+      → Went reply_of (request (read_in l.plan state) (get_or cur i none).word) l.plan after u
+      → Passing l w xs n after (set cur i (put (get_or cur i none) u)) (i + 1)
+  next after u more fits is = record {
+    hand = still-in t.hand is (request-current (read_in l.plan state) (get_or cur i none).word);
     within = omega (arith, more);
     long = length-set cur i (put (get_or cur i none) u) ∙ t.long;
     comes =
-        ap (λ (j : ℕ). onward j left (read_in p after) (asks_of turned)) (one_more i)
+        ap (λ (j : ℕ). onward j left (read_in l.plan after) (asks_of turned)) (one_more i)
         ∙ ap (λ (m : model.Link). onward (suc i) left m (asks_of turned)) is.link_is
-        ∙ onward-turns i left (read_in p state) cur none (put (get_or cur i none) u) here shown
-        ∙ ap (λ (k : ℕ). onward i k (read_in p state) (asks_of cur)) (one_less (length xs) i more)
+        ∙ onward-turns i left (read_in l.plan state) cur none (put (get_or cur i none) u) here shown
+        ∙ ap (λ (k : ℕ). onward i k (read_in l.plan state) (asks_of cur)) (one_less n i more)
         ∙ t.comes;
   }
     where
       left : ℕ
-      left = length xs - (i + 1)
+      left = n - (i + 1)
 
       turned : List BurstRecord
       turned = set cur i (put (get_or cur i none) u)
 
       here : i < length cur
-      here = subst (λ (m : ℕ). i < m) (sym t.long) more
+      here = subst (λ (m : ℕ). i < m) (sym t.long) (omega (arith, more, fits))
 
-      shown : ask_of (put (get_or cur i none) u) ≡ filled (ask_of (get_or cur i none)) (request (read_in p state) (get_or cur i none).word).answer
+      shown : ask_of (put (get_or cur i none) u) ≡ filled (ask_of (get_or cur i none)) (request (read_in l.plan state) (get_or cur i none).word).answer
       shown =
           (λ k. ask_of (put (get_or cur i none) (is.answer_is k)))
-          ∙ reply-fills (ask_of (get_or cur i none)) (request (read_in p state) (get_or cur i none).word).answer
+          ∙ reply-fills (ask_of (get_or cur i none)) (request (read_in l.plan state) (get_or cur i none).word).answer
 
-  -- where the loop is left, the state and the records are those of the requests in order
-  pub done : length xs ≤ i → AskedInOrder (in_order (read_in p s) (asks_of xs)) p state (asks_of cur)
-  done over = record {
-    link_is = ap (λ (b : reference.Burst). b.link) whole;
+  -- where the loop is left, the link and the records are those of the burst
+  pub done : n ≤ i → Counts (length xs) n → (r : Link) → r.plan ≡ l.plan → r.state ≡ state → Bursted (burst (read_of l) (asks_of xs)) r (asks_of cur)
+  done over counts r plan_is state_is = record {
+    link_is = (λ k. read_in (plan_is k) (state_is k)) ∙ ap (λ (b : reference.Burst). b.link) whole;
     records_are = ap (λ (b : reference.Burst). b.records) whole;
-    sound = t.hand.sound;
+    sound = r.sound;
   }
     where
-      whole : record { link = read_in p state; records = asks_of cur } ≡ in_order (read_in p s) (asks_of xs)
+      whole : record { link = read_in l.plan state; records = asks_of cur } ≡ burst (read_of l) (asks_of xs)
       whole =
-          sym (onward-ends i (read_in p state) (asks_of cur))
-          ∙ ap (λ (k : ℕ). onward i k (read_in p state) (asks_of cur)) (none_left (length xs) i over)
+          sym (onward-ends i (read_in l.plan state) (asks_of cur))
+          ∙ ap (λ (k : ℕ). onward i k (read_in l.plan state) (asks_of cur)) (none_left n i over)
           ∙ t.comes
-          ∙ all-in-order (length xs) (read_in p s) (asks_of xs) (length-map xs ask_of)
+          ∙ enough n (read_of l) (asks_of xs) (subst (λ (m : ℕ). Counts m n) (sym (length-map xs ask_of)) counts)
 
 -- ---- the first records of an array
 
@@ -210,8 +201,11 @@ module _ (n : ℕ) (l : model.Link) (xs : List reference.BurstRecord) (c : Count
   long : length front ≡ n
   long = length-take-le n xs c.there
 
-  pub front-is : burst l front ≡ in_order l front
-  front-is = sym (enough n l front (front-counts n xs c)) ∙ all-in-order n l front long
+  front-is : burst l front ≡ in_order l front
+  front-is =
+      let whole : take n front ≡ front = take_all n front (omega (arith, long)) in
+      let rest : drop n front ≡ [] = drop_of_length-le front (omega (arith, long)) in
+      sym (enough n l front (front-counts n xs c)) ∙ rw (whole, rest) (λ k. record { link = (in_order l front).link; records = append-nil (in_order l front).records k })
 
   pub handled-all : burst_of_first n l xs ≡ burst l xs
   handled-all = ap (λ (b : reference.Burst). record { link = b.link; records = b.records ++ drop n xs }) front-is ∙ enough n l xs c
@@ -225,15 +219,9 @@ front-handled k l r xs ys b = record {
   sound = b.sound;
 }
 
--- where the first n are those that a burst handles, and are asked in order, it is a burst of all
-pub burst-by-front : (l r : Link) (xs ys : List BurstRecord) {n : ℕ} → Counts (length xs) n → r.plan ≡ l.plan
-    → AskedInOrder (in_order (read_of l) (asks_of (take n xs))) l.plan r.state (asks_of ys) → Bursted (burst (read_of l) (asks_of xs)) r (asks_of (ys ++ drop n xs))
-burst-by-front l r xs ys {n} c plan_is a =
+-- where the first n are those that a burst handles, it is a burst of all
+pub burst-by-front : (l r : Link) (xs ys : List BurstRecord) {n : ℕ} → Counts (length xs) n
+    → Bursted (burst (read_of l) (asks_of (take n xs))) r (asks_of ys) → Bursted (burst (read_of l) (asks_of xs)) r (asks_of (ys ++ drop n xs))
+burst-by-front l r xs ys {n} c b =
     let counts = subst (λ (m : ℕ). Counts m n) (sym (length-map xs ask_of)) c in
-    let front = ap (burst (read_of l)) (asks-front n xs) ∙ front-is n (read_of l) (asks_of xs) counts ∙ ap (in_order (read_of l)) (sym (asks-front n xs)) in
-    let first : Bursted (burst (read_of l) (asks_of (take n xs))) r (asks_of ys) = record {
-      link_is = ap (λ (p : Plan). read_in p r.state) plan_is ∙ a.link_is ∙ ap (λ (b : reference.Burst). b.link) (sym front);
-      records_are = a.records_are ∙ ap (λ (b : reference.Burst). b.records) (sym front);
-      sound = r.sound;
-    } in
-    subst (λ (x : reference.Burst). Bursted x r (asks_of (ys ++ drop n xs))) (handled-all n (read_of l) (asks_of xs) counts) (front-handled n l r xs ys first)
+    subst (λ (x : reference.Burst). Bursted x r (asks_of (ys ++ drop n xs))) (handled-all n (read_of l) (asks_of xs) counts) (front-handled n l r xs ys b)

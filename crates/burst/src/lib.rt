@@ -3,14 +3,12 @@
 
 ghost use Rattle.std.specs.Prelude.{◌≡◌, ◌≤◌, min};
 ghost use Rattle.model.specs.Burst as model;
-ghost use Rattle.model.specs.Burst.{in_order};
 ghost use Rattle.model.specs.Request as reference;
 ghost use Rattle.link.specs.Steps.{read_in, read_of, Went, reply_of};
 ghost use Rattle.link.specs.Given.{StateIn};
 ghost use Rattle.link.specs.Bursts.{Bursted};
 ghost use Rattle.burst.specs.Reading.{asks_of};
 ghost use Rattle.burst.specs.First.{burst_of_first};
-ghost use Rattle.burst.specs.Asked.{AskedInOrder};
 
 use link::Link;
 use link::request::{Reply, flow_or_zero, request};
@@ -47,27 +45,21 @@ fn handled(n: usize) -> usize
     n.min(MOST)
 }
 
-// The requests of all records, in order, on a state of a plan in its window: their answers are filled in.
-fn ask_all(s: &mut State, plan: Plan, w: Window, records: &mut [BurstRecord])
-    requires { StateIn plan w s.old }
-    ensures { AskedInOrder (in_order (read_in plan s.old) (asks_of records.old)) plan s.new (asks_of records.new) }
+// The requests of the first 16 records, in order: their answers are filled in, and all else of the slice stays.
+pub fn burst(link: Link, records: &mut [BurstRecord]) -> Link
+    ensures { Bursted (model.burst (read_of link) (asks_of records.old)) result (asks_of records.new) }
 {
-    for r in records {
-        let reply = reply_to(s, plan, w, r.word);
+    let plan = link.plan;
+    let w = link.window();
+    let mut state = link.state;
+    let n = handled(records.len());
+    // Stays: the loop is here. In a function on the lent state a burst without a word took 28 ns for each of 16, and so 12.
+    for r in &mut records[..n] {
+        let reply = reply_to(&mut state, plan, w, r.word);
         r.result = reply.number;
         r.position = reply.position;
     }
-}
-
-// The requests of the first 16 records, in order: their answers are filled in, and all else of the slice stays.
-pub fn burst(mut link: Link, records: &mut [BurstRecord]) -> Link
-    ensures { Bursted (model.burst (read_of link) (asks_of records.old)) result (asks_of records.new) }
-{
-    let n = handled(records.len());
-    let plan = link.plan;
-    let w = link.window();
-    ask_all(&mut link.state, plan, w, &mut records[..n]);
-    link
+    Link { plan, state }
 }
 
 // A link after a burst, and the array whose first records it was lent.
