@@ -102,7 +102,11 @@ fn measure(rt: &(impl Clock + Print), plan: Plan, calls: &Calls)
     line(rt, b"floor", Kind::Request, calls, &several, cost);
     line(rt, b"credit", Kind::Credit, calls, &single, cost);
     line(rt, b"tick", Kind::Tick, calls, &single, cost);
-    let _ = println!(rt; "answers {sum}\nin bursts {same}");
+    report::print(rt, b"answers ");
+    report::print_number(rt, sum);
+    report::print(rt, b"\nin bursts ");
+    report::print_number(rt, same);
+    report::print(rt, b"\n");
 }
 
 // Takes the records apart, and measures their calls.

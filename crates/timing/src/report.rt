@@ -63,5 +63,12 @@ pub fn line(
     }
     let whole = t.spent / t.calls;
     let tenth = 10 * (t.spent % t.calls) / t.calls;
-    let _ = println!(out; " {whole}.{tenth} ns ({} counted)", t.calls);
+    // Stays: a write for each part. An output that can't take one of them may take the next.
+    print(out, b" ");
+    print_number(out, whole);
+    print(out, b".");
+    print_number(out, tenth);
+    print(out, b" ns (");
+    print_number(out, t.calls);
+    print(out, b" counted)\n");
 }
