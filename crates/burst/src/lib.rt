@@ -53,7 +53,8 @@ pub fn burst(link: Link, records: &mut [BurstRecord]) -> Link
     let w = link.window();
     let mut state = link.state;
     let n = handled(records.len());
-    // Stays: the loop is here. In a function on the lent state a burst without a word took 28 ns for each of 16, and so 12.
+    // Stays: the loop is here, on a state of its own. In a function on the lent state a word took 2 to 6 ns more where the caller takes the records
+    // out before it reads them; where it reads them behind the link, a burst without a word took 28 ns for each of 16, and so 12.
     for r in &mut records[..n] {
         let reply = reply_to(&mut state, plan, w, r.word);
         r.result = reply.number;

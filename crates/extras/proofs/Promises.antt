@@ -158,6 +158,15 @@ promised x c a =
 pub answer-promised : (x : code.Extras) (c : Answered.Chosen) → answer_for (Some c) ≡ choose (extras_for x) → Promised (extras_for x) (chosen_for c)
 answer-promised x c e = promised (extras_for x) (chosen_for c) (sym e)
 
+-- a refusal is 27, and stands for a number outside the limits
+pub refused-is : (x : Extras) (number : ℕ) → choose x ≡ refused number → (number ≡ 27) × (outside x ≡ true)
+unfolding choose
+refused-is x number a = go (outside x) refl a
+  where
+    go : (b : Bool) → outside x ≡ b → cond b (refused 27) (accepted (model.best x)) ≡ refused number → (number ≡ 27) × (outside x ≡ true)
+    go true e r = (cc, e)
+    go false e r = absurd (let z : ◌≡◌ {A = ℕ} 0 1 = cc in omega arith)
+
 -- more than twelve layers are refused, whatever else is given
 pub many-refused : (x : Extras) → 12 < layer_count x → choose x ≡ refused 27
 unfolding choose outside

@@ -4,7 +4,7 @@
 mod several;
 mod timed;
 
-ghost use Rattle.std.specs.Prelude.{◌≤◌, length};
+ghost use Rattle.std.specs.Prelude.{◌≤◌};
 ghost use Rattle.plan.specs.Reading.{Valid};
 
 use calls::Answer;
@@ -12,7 +12,7 @@ use link::{Link, Step};
 use plan::Plan;
 use std::io::Print;
 use std::time::Clock;
-use timing::file::{Call, Kind, MOST};
+use timing::file::{Kind, MOST};
 use timing::{clock, file, input, report};
 
 // Times that the file is played.
@@ -21,21 +21,17 @@ const REPEATS: usize = 200;
 // The bytes of the longest file that is played: a plan of 16 flows has 76 bytes, and a call has 5.
 const LONGEST: usize = 76 + 5 * MOST;
 
-// What stands at a place with no call.
-const NO_CALL: Call = Call {
-    kind: Kind::Tick,
-    word: 0,
-};
+// The calls of a file, taken apart: the kind and the number of each of the first `count`.
+#[derive(Drop)]
+struct Calls {
+    kinds: [u8; MOST],
+    words: [u32; MOST],
+    count: usize,
+}
 
 // Plays the calls on a fresh link and keeps the lowest time of each streak, at its first call; the sum of all answers.
-fn play(
-    clock: &impl Clock,
-    plan: Plan,
-    calls: &[Call],
-    lowest: &mut [u64; MOST],
-    most: usize,
-) -> u64
-    requires { Valid plan × (length calls.now ≤ 4096) }
+fn play(clock: &impl Clock, plan: Plan, calls: &Calls, lowest: &mut [u64; MOST], most: usize) -> u64
+    requires { Valid plan × (calls.now.count ≤ 4096) }
 {
     let mut step = Step {
         link: Link::fresh(plan),
@@ -44,9 +40,12 @@ fn play(
     let mut sum: u64 = 0;
     let mut from = 0;
     // Stays: a step is as long as a streak, so that no range has the places.
-    while from < calls.len() {
-        let to = file::streak_end(calls, from);
-        let t = timed::streak(clock, step, calls[from].kind, &calls[from..to], most);
+    while from < calls.count {
+        let Some(kind) = file::kind_of(calls.kinds[from]) else {
+            break;
+        };
+        let to = file::streak_end(&calls.kinds, from, calls.count);
+        let t = timed::streak(clock, step, kind, &calls.words[from..to], most);
         step = t.step;
         lowest[from] = lowest[from].min(t.spent);
         sum = sum.wrapping_add(t.sum);
@@ -55,48 +54,72 @@ fn play(
     sum
 }
 
-// The lowest times of the streaks, and the sum of all answers.
-#[derive(Drop)]
-struct Lowest {
-    times: [u64; MOST],
-    sum: u64,
-}
-
-// Plays the calls many times over.
-fn repeat(clock: &impl Clock, plan: Plan, calls: &[Call], most: usize) -> Lowest
-    requires { Valid plan × (length calls.now ≤ 4096) }
+// Plays the calls many times over; the sum of all answers.
+fn repeat(
+    clock: &impl Clock,
+    plan: Plan,
+    calls: &Calls,
+    lowest: &mut [u64; MOST],
+    most: usize,
+) -> u64
+    requires { Valid plan × (calls.now.count ≤ 4096) }
 {
-    let mut times = [u64::MAX; MOST];
     let mut sum = 0;
     for _ in 0..REPEATS {
-        sum = play(clock, plan, calls, &mut times, most);
+        sum = play(clock, plan, calls, lowest, most);
     }
-    Lowest { times, sum }
+    sum
+}
+
+// Prints a line of the calls of a kind, with the lowest times of their streaks.
+fn line(out: &impl Print, name: &[u8], kind: Kind, calls: &Calls, lowest: &[u64; MOST], cost: u64)
+    requires { calls.now.count ≤ 4096 }
+{
+    report::line(
+        out,
+        name,
+        kind as u8,
+        &calls.kinds,
+        lowest,
+        calls.count,
+        cost,
+    );
 }
 
 // Plays the calls, and prints a line for each kind of call, and one for requests in bursts and for bursts of no words.
-fn measure(rt: &(impl Clock + Print), plan: Plan, calls: &[Call])
-    requires { Valid plan × (length calls.now ≤ 4096) }
+fn measure(rt: &(impl Clock + Print), plan: Plan, calls: &Calls)
+    requires { Valid plan × (calls.now.count ≤ 4096) }
 {
     let cost = clock::cost(rt);
-    let single = repeat(rt, plan, calls, 1);
-    let several = repeat(rt, plan, calls, 16);
-    let floor = repeat(rt, plan, calls, 0);
-    report::line(rt, b"request", Kind::Request, calls, &single.times, cost);
-    report::line(rt, b"burst", Kind::Request, calls, &several.times, cost);
-    report::line(rt, b"floor", Kind::Request, calls, &floor.times, cost);
-    report::line(rt, b"credit", Kind::Credit, calls, &single.times, cost);
-    report::line(rt, b"tick", Kind::Tick, calls, &single.times, cost);
-    let _ = println!(rt; "answers {}\nin bursts {}", single.sum, several.sum);
+    let mut single = [u64::MAX; MOST];
+    let sum = repeat(rt, plan, calls, &mut single, 1);
+    line(rt, b"request", Kind::Request, calls, &single, cost);
+    let mut several = [u64::MAX; MOST];
+    let same = repeat(rt, plan, calls, &mut several, 16);
+    line(rt, b"burst", Kind::Request, calls, &several, cost);
+    several.fill(u64::MAX);
+    repeat(rt, plan, calls, &mut several, 0);
+    line(rt, b"floor", Kind::Request, calls, &several, cost);
+    line(rt, b"credit", Kind::Credit, calls, &single, cost);
+    line(rt, b"tick", Kind::Tick, calls, &single, cost);
+    report::print(rt, b"answers ");
+    report::print_number(rt, sum);
+    report::print(rt, b"\nin bursts ");
+    report::print_number(rt, same);
+    report::print(rt, b"\n");
 }
 
 // Takes the records apart, and measures their calls.
 fn split(rt: &(impl Clock + Print), plan: Plan, records: &[u8])
     requires { Valid plan }
 {
-    let mut calls = [NO_CALL; MOST];
-    let count = file::split(records, &mut calls);
-    measure(rt, plan, &calls[..count]);
+    let mut calls = Calls {
+        kinds: [0; MOST],
+        words: [0; MOST],
+        count: 0,
+    };
+    calls.count = file::split(records, &mut calls.kinds, &mut calls.words);
+    measure(rt, plan, &calls);
 }
 
 // Reads the plan at the start of the bytes, and measures the calls after it; none where no plan that is accepted stands there.

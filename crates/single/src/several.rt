@@ -2,7 +2,6 @@
 
 use burst::{BurstRecord, HandedBack};
 use link::Link;
-use timing::file::Call;
 
 // A record that asks for a word.
 fn unfilled(word: u32) -> BurstRecord {
@@ -21,11 +20,11 @@ pub(crate) fn none(link: Link) -> HandedBack {
     }
 }
 
-// The records of the words of some calls.
-pub(crate) fn asks(calls: &[Call]) -> [BurstRecord; 20] {
+// The records of some words.
+pub(crate) fn asks(words: &[u32]) -> [BurstRecord; 20] {
     let mut all = [unfilled(0); 20];
-    for (record, call) in all.iter_mut().zip(calls) {
-        *record = unfilled(call.word);
+    for (record, word) in all.iter_mut().zip(words) {
+        *record = unfilled(*word);
     }
     all
 }

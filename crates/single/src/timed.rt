@@ -6,7 +6,7 @@ use calls::Answer;
 use link::{Link, Step};
 use std::time::Clock;
 use timing::clock;
-use timing::file::{Call, Kind};
+use timing::file::Kind;
 
 // The most requests of a burst.
 const BURST: usize = 16;
@@ -34,7 +34,7 @@ fn number(answer: Answer) -> u64 {
 fn singles<F: Fn(Link, u32) -> Step>(
     clock: &impl Clock,
     first: Step,
-    calls: &[Call],
+    words: &[u32],
     make: F,
 ) -> Timed
     requires { F.IsAlwaysCallable make }
@@ -42,8 +42,8 @@ fn singles<F: Fn(Link, u32) -> Step>(
     let mut step = first;
     let mut sum: u64 = 0;
     let begin = clock::nanoseconds(clock);
-    for call in calls {
-        step = make(step.link, call.word);
+    for word in words {
+        step = make(step.link, *word);
         sum = sum.wrapping_add(number(step.answer));
     }
     let spent = clock::since(clock, begin);
@@ -60,16 +60,31 @@ fn position(word: u32) -> usize {
     (word / 256 % 65536) as usize
 }
 
+// Makes credits one by one. Stays beside the others: with the call as a closure, or chosen in the loop, the link is copied once more for each credit.
+fn credits(clock: &impl Clock, first: Step, words: &[u32]) -> Timed {
+    let mut step = first;
+    let mut sum: u64 = 0;
+    let begin = clock::nanoseconds(clock);
+    for word in words {
+        step = step.link.credit(flow(*word), position(*word));
+        sum = sum.wrapping_add(number(step.answer));
+    }
+    let spent = clock::since(clock, begin);
+    Timed { step, sum, spent }
+}
+
 // The requests of a streak as bursts of 16; the last may have fewer. No more than `most` words of each are asked: where that is 0, a burst is what it
 // takes to hand the link over and back.
-fn bursts(clock: &impl Clock, first: Step, calls: &[Call], most: usize) -> Timed {
+fn bursts(clock: &impl Clock, first: Step, words: &[u32], most: usize) -> Timed {
     let mut back = several::none(first.link);
     let mut sum: u64 = 0;
     let begin = clock::nanoseconds(clock);
-    for part in calls.chunks(BURST) {
+    for part in words.chunks(BURST) {
         let asked = part.len().min(BURST).min(most);
         back = burst_first(back.link, several::asks(&part[..asked]), asked);
-        sum = sum.wrapping_add(several::answers(&back.records[..asked]));
+        // Stays: the records are taken out. Read in place, behind the link, they keep it from being handed on without a copy more.
+        let records = back.records;
+        sum = sum.wrapping_add(several::answers(&records[..asked]));
     }
     let spent = clock::since(clock, begin);
     let step = Step {
@@ -84,15 +99,13 @@ pub(crate) fn streak(
     clock: &impl Clock,
     step: Step,
     kind: Kind,
-    calls: &[Call],
+    words: &[u32],
     most: usize,
 ) -> Timed {
     match kind {
-        Kind::Request if most != 1 => bursts(clock, step, calls, most),
-        Kind::Request => singles(clock, step, calls, |link, word| link.request(word)),
-        Kind::Credit => singles(clock, step, calls, |link, word| {
-            link.credit(flow(word), position(word))
-        }),
-        Kind::Tick => singles(clock, step, calls, |link, _| link.tick()),
+        Kind::Request if most != 1 => bursts(clock, step, words, most),
+        Kind::Request => singles(clock, step, words, |link, word| link.request(word)),
+        Kind::Credit => credits(clock, step, words),
+        Kind::Tick => singles(clock, step, words, |link, _| link.tick()),
     }
 }

@@ -1,23 +1,16 @@
 // A call file in memory: the calls, taken apart before anything is timed.
 ghost use Rattle.std.specs.Prelude.{◌≡◌, ◌+◌, ◌*◌, ◌/◌, ◌<◌, ◌≤◌, min, length};
-ghost use Rattle.timing.specs.File.{two_bytes, kind_of, call_at, Split, Streak};
+ghost use Rattle.timing.specs.File.{two_bytes, kind_of, word_at, Split, Streak};
 
 // The most calls that are played.
 pub const MOST: usize = 4096;
 
-// The kinds of calls: the first byte of a record is 1, 2 or 3.
+// The kinds of calls, with the byte that stands for each.
 #[derive(Clone, Copy, Debug, PartialEq, Eq)]
 pub enum Kind {
-    Request,
-    Credit,
-    Tick,
-}
-
-// A call: its kind, and the number of the four bytes after.
-#[derive(Clone, Copy, Debug, PartialEq, Eq)]
-pub struct Call {
-    pub kind: Kind,
-    pub word: u32,
+    Request = 1,
+    Credit = 2,
+    Tick = 3,
 }
 
 // The number of two bytes, low byte first.
@@ -29,7 +22,7 @@ pub fn two_bytes(bytes: &[u8], at: usize) -> u16
 }
 
 // The kind that a byte stands for, if it does.
-fn kind_of(byte: u8) -> Option<Kind>
+pub fn kind_of(byte: u8) -> Option<Kind>
     ensures { result ≡ kind_of byte }
 {
     match byte {
@@ -40,16 +33,14 @@ fn kind_of(byte: u8) -> Option<Kind>
     }
 }
 
-// The call of a record, if it is of a kind.
-fn call_at(records: &[u8], k: usize) -> Option<Call>
+// The number of the four bytes after a record's kind.
+fn word_at(records: &[u8], k: usize) -> u32
     requires { 5 * k + 5 ≤ length records.now }
-    ensures { result ≡ call_at records.now k }
+    ensures { result ≡ word_at records.now k }
 {
-    let kind = kind_of(records[5 * k])?;
     let low = two_bytes(records, 5 * k + 1);
     let high = two_bytes(records, 5 * k + 3);
-    let word = u32::from(low) + 65536 * u32::from(high);
-    Some(Call { kind, word })
+    u32::from(low) + 65536 * u32::from(high)
 }
 
 // How many records are played of so many bytes.
@@ -59,30 +50,31 @@ fn records_in(bytes: usize) -> usize
     (bytes / 5).min(MOST)
 }
 
-// Takes the records apart into calls, up to one that is of no kind; how many there are.
-pub fn split(records: &[u8], calls: &mut [Call; MOST]) -> usize
-    ensures { Split records.now calls.old calls.new result }
+// Takes the records apart into their kinds and the numbers of the four bytes after, up to one that is of no kind; how many there are.
+pub fn split(records: &[u8], kinds: &mut [u8; MOST], words: &mut [u32; MOST]) -> usize
+    ensures { Split records.now kinds.old words.old kinds.new words.new result }
 {
     let count = records_in(records.len());
     for i in 0..count {
-        let Some(call) = call_at(records, i) else {
+        let kind = records[5 * i];
+        if kind_of(kind).is_none() {
             return i;
-        };
-        calls[i] = call;
+        }
+        kinds[i] = kind;
+        words[i] = word_at(records, i);
     }
     count
 }
 
-// The place after the streak that starts at a place: calls of one kind in a row.
-pub fn streak_end(calls: &[Call], from: usize) -> usize
-    requires { from < length calls.now }
-    ensures { Streak calls.now from result }
+// The place after the streak that starts at a place, of the first `count` calls: calls of one kind in a row.
+pub fn streak_end(kinds: &[u8], from: usize, count: usize) -> usize
+    requires { (from < count) × (count ≤ length kinds.now) }
+    ensures { Streak kinds.now from count result }
 {
-    let kind = calls[from].kind;
-    for to in from + 1..calls.len() {
-        if calls[to].kind != kind {
+    for to in from + 1..count {
+        if kinds[to] != kinds[from] {
             return to;
         }
     }
-    calls.len()
+    count
 }

@@ -1,7 +1,7 @@
 // What is printed.
-ghost use Rattle.std.specs.Prelude.{◌<◌, ◌≤◌, length};
+ghost use Rattle.std.specs.Prelude.{◌<◌, ◌≤◌};
 
-use crate::file::{Call, Kind, MOST, streak_end};
+use crate::file::{MOST, streak_end};
 use std::io::Print;
 
 // Shorter streaks are played but not counted: the clock would take too much of the time.
@@ -14,26 +14,23 @@ struct Counted {
     spent: u64,
 }
 
-fn total(kind: Kind, calls: &[Call], lowest: &[u64; MOST], cost: u64) -> Counted
-    requires { length calls.now ≤ 4096 }
+fn total(kind: u8, kinds: &[u8; MOST], lowest: &[u64; MOST], count: usize, cost: u64) -> Counted
+    requires { count ≤ 4096 }
     ensures { result.calls ≤ 4096 }
 {
-    let mut counted = 0;
+    let mut calls = 0;
     let mut spent: u64 = 0;
     let mut from = 0;
     // Stays: a step is as long as a streak, so that no range has the places.
-    while from < calls.len() {
-        let to = streak_end(calls, from);
-        if calls[from].kind == kind && SHORTEST <= to - from {
-            counted += (to - from) as u64;
+    while from < count {
+        let to = streak_end(kinds, from, count);
+        if kinds[from] == kind && SHORTEST <= to - from {
+            calls += (to - from) as u64;
             spent = spent.wrapping_add(lowest[from].saturating_sub(cost));
         }
         from = to;
     }
-    Counted {
-        calls: counted,
-        spent,
-    }
+    Counted { calls, spent }
 }
 
 // Prints bytes, if the output takes them.
@@ -50,14 +47,15 @@ pub fn print_number(out: &impl Print, number: u64) {
 pub fn line(
     out: &impl Print,
     name: &[u8],
-    kind: Kind,
-    calls: &[Call],
+    kind: u8,
+    kinds: &[u8; MOST],
     lowest: &[u64; MOST],
+    count: usize,
     cost: u64,
 )
-    requires { length calls.now ≤ 4096 }
+    requires { count ≤ 4096 }
 {
-    let t = total(kind, calls, lowest, cost);
+    let t = total(kind, kinds, lowest, count, cost);
     print(out, name);
     if t.calls == 0 {
         print(out, b" - ns (no streak of 8 calls)\n");
@@ -65,5 +63,12 @@ pub fn line(
     }
     let whole = t.spent / t.calls;
     let tenth = 10 * (t.spent % t.calls) / t.calls;
-    let _ = println!(out; " {whole}.{tenth} ns ({} counted)", t.calls);
+    // Stays: a write for each part. An output that can't take one of them may take the next.
+    print(out, b" ");
+    print_number(out, whole);
+    print(out, b".");
+    print_number(out, tenth);
+    print(out, b" ns (");
+    print_number(out, t.calls);
+    print(out, b" counted)\n");
 }

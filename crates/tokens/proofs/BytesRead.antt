@@ -1,13 +1,16 @@
 -- Bytes read from hexadecimal digits, one by one. Assumes nothing.
-use Prim.Native.Nat.{ℕ, zero, suc, ◌+◌, ◌≤◌, ◌<◌}
-use mathlib.Core.Path.{◌≡◌, refl, sym, ap, ◌∙◌}
+use Prim.Native.Nat.{ℕ, zero, suc, ◌+◌, ◌-◌, ◌≤◌, ◌<◌, min}
+use mathlib.Core.Path.{◌≡◌, refl, sym, ap, ◌∙◌, subst}
 use mathlib.Core.List.{List, ◌∷◌, [], ◌++◌}
 use mathlib.Core.Bool.{Bool, true, false}
+use native.Mathlib.Decide.{dec_le}
 use native.Mathlib.Numerals.{add-one}
 use native.Mathlib.Omega.{arith}
 use lib.ListN.{length, get_or, set}
-use lib.Seq.{sets}
+use lib.Seq.{sets, length-sets, set_out}
 use borrow.Author.Tests.{eqb-false, not-true}
+use Rattle.std.specs.Char.{is_ascii_hexdigit}
+use Rattle.std.proofs.lemmas.Bool.Decides.{nat_tests}
 use Rattle.model.specs.Tables.{table, within}
 use Rattle.model.proofs.Tables.{length-table}
 use Rattle.model.proofs.Tests.{within-true}
@@ -27,6 +30,11 @@ hex-most b = go (within 48 57 b) (within 65 70 b) (within 97 102 b) refl refl re
     go false true u p q r = rw (p, q) (omega (arith, within-true 65 70 b q))
     go false false true p q r = rw (p, q, r) (omega (arith, within-true 97 102 b r))
     go false false false p q r = rw (p, q, r) (omega arith)
+
+-- the library's test of a byte is the one here
+pub hexdigit_same : (b : ℕ) → is_ascii_hexdigit b ≡ is_hex_digit b
+unfolding hex_digit
+hexdigit_same b = grind (arith, nat_tests)
 
 -- where every byte is a digit, each is below 16
 pub digit-small : (digits : List ℕ) → each is_hex_digit digits ≡ true → (i : ℕ) → i < length digits → hex_digit (get_or digits i 0) < 16
@@ -56,3 +64,26 @@ module _ {digits kept₀ kept : List ℕ} {i : ℕ} (s : BytesTo digits kept₀ 
         ∙ sets-append kept₀ 0 (table i (byte_at digits)) (byte_at digits i ∷ []) ∙ ap (sets kept₀ 0) (sym (table_more i (byte_at digits)))
         ∙ ap (λ k. sets kept₀ 0 (table k (byte_at digits))) (sym (add-one i));
   }
+
+  bytes-length : length kept ≡ length kept₀
+  bytes-length = ap length s.kept_are ∙ length-sets kept₀ 0 (table i (byte_at digits))
+
+  -- past the last place nothing is kept
+  bytes_past : length kept₀ ≤ i → BytesTo digits kept₀ kept (i + 1)
+  bytes_past h = subst (λ k. BytesTo digits kept₀ k (i + 1)) (set_out kept i (byte_at digits i) (omega (arith, bytes-length))) (one_byte refl)
+
+bytes_to_end : {digits kept₀ kept : List ℕ} {i : ℕ} → BytesTo digits kept₀ kept i → length kept₀ ≤ i → (n : ℕ) → BytesTo digits kept₀ kept (n + i)
+bytes_to_end {digits} {kept₀} {kept} {i} s h zero = subst (BytesTo digits kept₀ kept) (omega arith) s
+bytes_to_end {digits} {kept₀} {kept} {i} s h (suc n) = subst (BytesTo digits kept₀ kept) (omega arith) (bytes_past (bytes_to_end s h n) (omega arith))
+
+-- all bytes that there is room for are kept
+pub all_bytes : {digits kept₀ kept : List ℕ} {i : ℕ} (count : ℕ) → BytesTo digits kept₀ kept i → i ≡ min count (length kept₀) → kept ≡ sets kept₀ 0 (table count (byte_at digits))
+all_bytes {digits} {kept₀} {kept} {i} count s e = go (dec_le count (length kept₀))
+  where
+    go : Dec (count ≤ length kept₀) → kept ≡ sets kept₀ 0 (table count (byte_at digits))
+    go (yes k) =
+        let all : BytesTo digits kept₀ kept count = subst (BytesTo digits kept₀ kept) (omega (arith, e, k)) s in
+        all.kept_are
+    go (no k) =
+        let all : BytesTo digits kept₀ kept count = subst (BytesTo digits kept₀ kept) (omega (arith, e, k)) (bytes_to_end s (omega (arith, e, k)) (count - i)) in
+        all.kept_are

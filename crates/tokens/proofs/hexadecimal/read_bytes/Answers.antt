@@ -1,8 +1,8 @@
-use Rattle.std.proofs.Common.{◌≡◌, ◌*◌, ◌+◌, true, arith}
+use Rattle.std.proofs.Common.{◌≡◌, ◌*◌, ◌+◌, ◌/◌, true, length, arith}
 use Rattle.std.proofs.lemmas.Bool.Decides.{nat_tests}
 use Rattle.tokens.specs.Pieces.{each}
 use Rattle.tokens.specs.Hexadecimal.{is_hex_digit, found_bytes}
-use Rattle.tokens.proofs.BytesRead.{digit-small, one_byte}
+use Rattle.tokens.proofs.BytesRead.{digit-small, one_byte, all_bytes}
 use Rattle.tokens.proofs.hexadecimal.read_bytes.Goals as goal
 
 pub returns-then-not-all_digits-clause-found : goal.returns-then-not-all_digits-clause-found
@@ -25,3 +25,6 @@ loop-i-preserved c = rw c.keep.ensures (one_byte c.loop-i.invariant c.pair.ensur
 pub returns-clause-found : goal.returns-clause-found
 unfolding found_bytes
 returns-clause-found c = grind (arith, nat_tests)
+
+pub returns-clause-kept : goal.returns-clause-kept
+returns-clause-kept c = all_bytes (length c.args.digits.now / 2) c.loop-i.invariant (grind arith)
