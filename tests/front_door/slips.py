@@ -83,10 +83,8 @@ def misfit(crate, steps):
     texts = {}
     for file, old, new in steps:
         text = texts.get(file, text_of(crate, file))
-        if not text or not file.startswith(("src/", "specs/", "proofs/")):
-            return "no file %s of src/, specs/ or proofs/" % file
-        if file.startswith("proofs/") and file == steps[0][0]:
-            return "%s comes before what is wrong" % file
+        if not text or not file.startswith(("src/", "specs/")):
+            return "no file %s of src/ or specs/" % file
         if text.count(old) != 1 or old == new:
             return "%r stands %d times in %s" % (old, text.count(old), file)
         texts[file] = text.replace(old, new)
@@ -118,12 +116,11 @@ def function_at(file, text, place):
 
 
 def functions(slip):
-    """The functions that a slip is in; None for what is in none.  What it
-    changes in proofs, so that these fit its form, is at no place of its own."""
+    """The functions that a slip is in; None for what is in none."""
     return {function_at(file, text_of(slip.crate, file),
                         text_of(slip.crate, file).find(old))
             if file.startswith("src/") else None
-            for file, old, _ in slip.steps if not file.startswith("proofs/")}
+            for file, old, _ in slip.steps}
 
 
 def at_its_type(crate, function):
