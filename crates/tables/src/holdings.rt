@@ -186,8 +186,8 @@ pub fn lower_from(s: &mut State, i: usize, w: Window, p: usize) -> bool
     true
 }
 
-// One more, up to 255.
-fn one_more(bound: u8) -> u8
+// The next byte, and 255 after 255.
+fn saturating_inc(bound: u8) -> u8
     ensures { result ≡ min (bound + 1) 255 }
 {
     bound.saturating_add(1)
@@ -200,7 +200,7 @@ pub fn raise_from(s: &mut State, i: usize, w: Window, position: usize)
 {
     let bound = s[BOUNDS + i];
     shift_from(s, 1, i, w, position);
-    s[BOUNDS + i] = one_more(bound);
+    s[BOUNDS + i] = saturating_inc(bound);
 }
 
 // The table of a flow that holds nothing at any position.
