@@ -71,7 +71,7 @@ LENT = re.compile(r"(\w+): &(?:'\w+ )?mut\b")
 TAKEN = re.compile(r"OnTrue result \(Appends \(W\.contents output\.old\) "
                    r"\(W\.contents output\.new\) \(take end out\.now\)\)$")
 # What the library says of lists and bytes, which are there.
-OF_THE_LIBRARY = {"List", "Appends", "IfOk", "IfSome", "OnOk", "Some"}
+OF_THE_LIBRARY = {"List", "Appends", "IfOk", "IfSome", "OnOk"}
 BOUND = re.compile(r"result(?:\.\w+)* [≤<] [^×≡]*$")
 # What is said of what a result holds, which says nothing where it holds none.
 HOLDS = re.compile(r"(?:IfOk|IfSome|OnOk) \(?result\b")

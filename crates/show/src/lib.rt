@@ -10,6 +10,7 @@ ghost use Rattle.plan.specs.Writing.{answer_of};
 ghost use Rattle.limits.specs.Refusals as link_refusals;
 ghost use Rattle.mesh.specs.Admission as admission;
 ghost use Rattle.mesh.specs.Reading.{link_at, streams_of};
+ghost use Rattle.mesh.specs.Refusals as mesh_refusals;
 ghost use Rattle.show.specs.declared.Refusal.{Refusal};
 ghost use Rattle.show.specs.Show as show;
 ghost use Rattle.show.specs.Reading.{show_of};
@@ -95,12 +96,19 @@ pub fn check_link(
     limits::check(draft)
 }
 
+// Tests the streams of a show over the mesh.
+fn check_streams(dome: Dome, numbers: &[usize]) -> Result<(), mesh::Refusal>
+    ensures { mesh_refusals.refusal_number result ≡ admission.refusal dome.slots (streams_of numbers.now) }
+{
+    mesh::admit(dome.slots, numbers)
+}
+
 // Tests a show: whether every link that is used has a plan.
 pub fn check(dome: Dome, numbers: &[usize], cells: &[usize]) -> Result<(), Refusal>
     ensures number { refusal_number result ≡ show.refusal (show_of dome numbers.now cells.now) }
     ensures comes_of { ComesOf (admission.refusal dome.slots (streams_of numbers.now)) result }
 {
-    mesh::admit(dome.slots, numbers)?;
+    check_streams(dome, numbers)?;
     for k in 0..PLACES {
         check_link(dome, numbers, cells, k)?;
     }

@@ -93,13 +93,13 @@ fn measure(rt: &(impl Clock + Print), plan: Plan, calls: &Calls)
     let cost = clock::cost(rt);
     let mut single = [u64::MAX; MOST];
     let sum = repeat(rt, plan, calls, &mut single, 1);
-    line(rt, b"request", Kind::Request, calls, &single, cost);
     let mut several = [u64::MAX; MOST];
     let same = repeat(rt, plan, calls, &mut several, 16);
+    let mut floor = [u64::MAX; MOST];
+    repeat(rt, plan, calls, &mut floor, 0);
+    line(rt, b"request", Kind::Request, calls, &single, cost);
     line(rt, b"burst", Kind::Request, calls, &several, cost);
-    several.fill(u64::MAX);
-    repeat(rt, plan, calls, &mut several, 0);
-    line(rt, b"floor", Kind::Request, calls, &several, cost);
+    line(rt, b"floor", Kind::Request, calls, &floor, cost);
     line(rt, b"credit", Kind::Credit, calls, &single, cost);
     line(rt, b"tick", Kind::Tick, calls, &single, cost);
     report::print(rt, b"answers ");

@@ -4,7 +4,7 @@
 // A change from p on, and a test of what is held from p on, is one pass over all T places; at those before p it changes nothing, and the test
 // uses a value that passes. A byte counts the places from the head frame's first position on, going round 256, and tells by one comparison
 // which of the two a place is.
-ghost use Rattle.std.specs.Prelude.{◌≡◌, cond, ◌+◌, ◌-◌, ◌*◌, ◌≤◌, ◌<◌, max, ltb, get_or};
+ghost use Rattle.std.specs.Prelude.{◌≡◌, cond, ◌+◌, ◌-◌, ◌*◌, ◌≤◌, ◌<◌, max, min, ltb, get_or};
 ghost use Rattle.model.specs.Window as model;
 ghost use Rattle.window.specs.Bytes.{wrapped};
 ghost use Rattle.window.specs.Ranges.{in_range, replaced, All, LastIn};
@@ -186,6 +186,13 @@ pub fn lower_from(s: &mut State, i: usize, w: Window, p: usize) -> bool
     true
 }
 
+// The next byte, and 255 after 255.
+fn saturating_inc(bound: u8) -> u8
+    ensures { result ≡ min (bound + 1) 255 }
+{
+    bound.saturating_add(1)
+}
+
 // One more from a position on for flow i, whose bound goes up with it.
 pub fn raise_from(s: &mut State, i: usize, w: Window, position: usize)
     requires { FlowAt w i position }
@@ -193,7 +200,7 @@ pub fn raise_from(s: &mut State, i: usize, w: Window, position: usize)
 {
     let bound = s[BOUNDS + i];
     shift_from(s, 1, i, w, position);
-    s[BOUNDS + i] = bound.saturating_add(1);
+    s[BOUNDS + i] = saturating_inc(bound);
 }
 
 // The table of a flow that holds nothing at any position.

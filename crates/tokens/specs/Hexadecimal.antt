@@ -1,5 +1,5 @@
 -- Hexadecimal digits of either case, two to a byte. Assumes nothing.
-use Rattle.std.specs.Prelude.{ℕ, ◌+◌, ◌-◌, ◌*◌, ◌/◌, ◌%◌, List, [], Bool, not, cond, length, get_or, eqb, Option, Some, None, Result, Ok, Err}
+use Rattle.std.specs.Prelude.{ℕ, ◌+◌, ◌-◌, ◌*◌, ◌/◌, ◌%◌, List, [], Bool, not, cond, length, get_or, eqb, Result, Ok, Err}
 use Prim.Native.Char.{code}
 use Rattle.model.specs.Tables.{table, within}
 use Rattle.tokens.specs.declared.Fault.{Fault}
@@ -16,10 +16,6 @@ hex_digit b =
 
 abbrev pub is_hex_digit : ℕ → Bool
 is_hex_digit b = not (eqb (hex_digit b) 16)
-
--- a byte as a digit, if it is one
-abbrev pub digit_if : ℕ → Option ℕ
-digit_if b = cond (is_hex_digit b) (Some (hex_digit b)) None
 
 -- the byte of the digits 2i and 2i + 1
 abbrev pub byte_at : List ℕ → ℕ → ℕ

@@ -1,8 +1,8 @@
 // Hexadecimal digits of either case, two to a byte.
-ghost use Rattle.std.specs.Prelude.{◌≡◌, ◌+◌, ◌*◌, ◌<◌, Some};
+ghost use Rattle.std.specs.Prelude.{◌≡◌, ◌+◌, ◌*◌, ◌<◌};
 ghost use Rattle.std.proofs.lemmas.List.Edits.{sets};
 ghost use Rattle.tokens.specs.Pieces.{each};
-ghost use Rattle.tokens.specs.Hexadecimal.{hex_digit, is_hex_digit, digit_if, bytes_of, found_bytes, kept_of};
+ghost use Rattle.tokens.specs.Hexadecimal.{hex_digit, is_hex_digit, bytes_of, found_bytes, kept_of};
 
 use crate::{Fault, keep};
 
@@ -10,7 +10,7 @@ use crate::{Fault, keep};
 #[tactic(auto, using(std::proofs::lemmas::Bool::Decides::nat_tests), unfolding(crate::specs::Hexadecimal::hex_digit))]
 fn digit(byte: u8) -> u8
     requires { hex_digit byte < 16 }
-    ensures { Some result ≡ digit_if byte }
+    ensures { result ≡ hex_digit byte }
 {
     match byte {
         ..=b'9' => byte - b'0',

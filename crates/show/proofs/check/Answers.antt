@@ -6,15 +6,15 @@ use Rattle.show.proofs.Places.{none_yet, none_more, found-one, none_at_all, refu
 use Rattle.show.proofs.Refusals.{some-mesh-number, of-mesh, of-link, comes-of-mesh, comes-of-link}
 use Rattle.show.proofs.check.Goals as goal
 
-pub returns-in_err-admit : goal.returns-in_err-admit
-returns-in_err-admit c =
+pub returns-in_err-check_streams : goal.returns-in_err-check_streams
+returns-in_err-check_streams c =
     let streams = ap (admission.refusal c.args.dome.slots) (streams_are c.args.dome c.args.numbers.now c.args.cells.now) in
-    let said = c.in_err-admit.ensures ∙ sym streams in
+    let said = c.in_err-check_streams.ensures ∙ sym streams in
     record {
       number =
           of-mesh _ _ c.from_residual.ensures.1 ∙ said
-          ∙ refused-by-mesh (show_of c.args.dome c.args.numbers.now c.args.cells.now) (λ z. some-mesh-number c.in_err-admit.field-0.0 (said ∙ z));
-      comes_of = comes-of-mesh _ _ _ c.from_residual.ensures.1 (sym c.in_err-admit.ensures);
+          ∙ refused-by-mesh (show_of c.args.dome c.args.numbers.now c.args.cells.now) (λ z. some-mesh-number c.in_err-check_streams.field-0.0 (said ∙ z));
+      comes_of = comes-of-mesh _ _ _ c.from_residual.ensures.1 (sym c.in_err-check_streams.ensures);
     }
 
 pub loop-k-init : goal.loop-k-init
@@ -27,8 +27,8 @@ returns-in_err-check_link c =
     record {
       number =
           of-link _ _ c.from_residual-in_err-check_link.ensures.1
-          ∙ found-one c.loop-k.invariant c.loop-k-test.true (streams ∙ sym c.in_ok-admit.ensures) c.in_err-check_link.ensures (λ z. omega (arith, some-number r));
-      comes_of = comes-of-link _ _ _ c.from_residual-in_err-check_link.ensures.1 (sym c.in_ok-admit.ensures);
+          ∙ found-one c.loop-k.invariant c.loop-k-test.true (streams ∙ sym c.in_ok-check_streams.ensures) c.in_err-check_link.ensures (λ z. omega (arith, some-number r));
+      comes_of = comes-of-link _ _ _ c.from_residual-in_err-check_link.ensures.1 (sym c.in_ok-check_streams.ensures);
     }
 
 pub loop-k-preserved : goal.loop-k-preserved
@@ -38,6 +38,6 @@ pub returns : goal.returns
 returns c =
     let streams = ap (admission.refusal c.args.dome.slots) (streams_are c.args.dome c.args.numbers.now c.args.cells.now) in
     record {
-      number = none_at_all c.loop-k.invariant c.loop-k-test.false (streams ∙ sym c.in_ok-admit.ensures);
-      comes_of = sym c.in_ok-admit.ensures;
+      number = none_at_all c.loop-k.invariant c.loop-k-test.false (streams ∙ sym c.in_ok-check_streams.ensures);
+      comes_of = sym c.in_ok-check_streams.ensures;
     }
